@@ -1,0 +1,62 @@
+-- FIRST, part 2 of document 01 (lr1/first). A set of tokens is a number (specs/Tokens of lookahead); e is the end of input, which stands for
+-- "nullable" as in the Rust. Assumes nothing: these are definitions.
+use Prim.Native.Nat.{ℕ, zero, suc, _+_, _*_, _^_}
+use mathlib.Core.Bool.{Bool, true, false, _&&_}
+use mathlib.Core.List.{List, [], _∷_}
+use lib.ListN.{getD, set, replicate}
+use lib.Dec.{eqb}
+use Rattle.repr.specs.Meaning.{Symbol, nonterminal, terminal, Production, Table}
+use Rattle.lookahead.specs.Tokens.{has, single, union, without}
+
+-- FIRST of two joined lists from their answers: what the first gives, and where it is nullable what the second gives
+unfoldable pub join : ℕ → ℕ → ℕ → ℕ
+join e a b = elim (has a e) [ true ↦ union (without a e) b | false ↦ a ]
+
+-- of one symbol, by the sets of the nonterminals
+unfoldable pub firstOf : List ℕ → Symbol → ℕ
+firstOf sets (terminal t) = single t
+firstOf sets (nonterminal n) = getD sets n 0
+
+-- of a list: terminals and nonterminals' tokens up to the first that is not nullable; end is in it exactly if all are nullable
+unfoldable pub first0 : ℕ → List ℕ → List Symbol → ℕ
+first0 e sets [] = single e
+first0 e sets (x ∷ xs) = join e (firstOf sets x) (first0 e sets xs)
+
+-- a lookahead in the place of end
+unfoldable pub first1 : ℕ → List ℕ → List Symbol → ℕ → ℕ
+first1 e sets xs ahead = elim (has (first0 e sets xs) e) [ true ↦ union (without (first0 e sets xs) e) ahead | false ↦ first0 e sets xs ]
+
+-- the nonterminal's set with what one production gives, and so for all productions in turn
+unfoldable pub grown : ℕ → List ℕ → Production → List ℕ
+grown e sets p = set sets (p .nonterminal) (union (getD sets (p .nonterminal) 0) (first0 e sets (p .symbols)))
+
+unfoldable pub round : ℕ → List ℕ → List Production → List ℕ
+round e sets [] = sets
+round e sets (p ∷ ps) = round e (grown e sets p) ps
+
+unfoldable pub same : List ℕ → List ℕ → Bool
+same [] [] = true
+same [] (y ∷ ys) = false
+same (x ∷ xs) [] = false
+same (x ∷ xs) (y ∷ ys) = eqb x y && same xs ys
+
+-- round after round until one changes nothing. f bounds the rounds: `settled` of proofs/Least shows that `rounds` never cuts, since a round that changes
+-- a set makes the sum of 32 numbers below 2 ^ 64 larger
+unfoldable pub settle : ℕ → ℕ → List ℕ → List Production → List ℕ
+settle zero e sets ps = sets
+settle (suc f) e sets ps = elim (same (round e sets ps) sets) [ true ↦ sets | false ↦ settle f e (round e sets ps) ps ]
+
+abbrev pub rounds : ℕ
+rounds = 32 * 2 ^ 64
+
+-- the least solution over all productions, a set for each nonterminal number; a nonterminal without productions has the empty set
+unfoldable pub firstSets : ℕ → List Production → List ℕ
+firstSets e ps = settle rounds e (replicate 32 0) ps
+
+-- FIRST of a list of symbols of a table
+unfoldable pub FIRST : Table → List Symbol → ℕ
+FIRST T xs = first0 (T .terminals) (firstSets (T .terminals) (T .productions)) xs
+
+-- "nullable" is asked through this one test
+unfoldable pub nullable : Table → List Symbol → Bool
+nullable T xs = has (FIRST T xs) (T .terminals)

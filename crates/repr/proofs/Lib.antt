@@ -1,0 +1,4 @@
+pub mod Lists
+pub mod Tests
+pub mod Listed
+pub mod Packed

@@ -1,0 +1,82 @@
+// Kinds of number, kept apart as in the Rust, and the productions of a table in a fixed number of words (specs/Packed).
+ghost use mathlib.Core.Path.{_≡_};
+ghost use mathlib.Core.Bool.{Bool, true, false};
+ghost use mathlib.Core.List.{List, map};
+ghost use Prim.Native.Nat.{ℕ, _+_, _*_, _≤_, _<_};
+ghost use lib.ListN.{length, getD};
+ghost use lib.Seq.{slice};
+ghost use Rattle.repr.specs.Listed.{symbolFits, listFits};
+ghost use Rattle.repr.specs.Packed.{Packed, symbolWords};
+
+// The number of a nonterminal.
+pub struct NonterminalString(pub u16);
+
+impl NonterminalString {
+    pub const LIMIT: u16 = 32;
+}
+
+// The number of a production.
+pub struct ProductionIndex(pub u16);
+
+impl ProductionIndex {
+    pub const LIMIT: u16 = 128;
+    // Symbols of one production.
+    pub const SYMBOLS: u16 = 16;
+    // Words of one production, and of all.
+    pub const WORDS: u16 = 36;
+
+    pub const ALL_WORDS: u16 = 4608;
+}
+
+// A word of a list, as a number.
+pub fn word(words: &[u16], at: usize) -> usize
+    requires { ⌜ at < length (now words) ⌝ }
+    ensures { λ r. ⌜ (r ≡ getD (now (words .entry)) at 0) × (r < 65536) ⌝ }
+{
+    words[at] as usize
+}
+
+// Whether a symbol is in range, of n nonterminals and t terminals.
+pub fn symbol_fits(n: usize, t: usize, kind: usize, number: usize) -> bool
+    ensures { λ r. ⌜ r ≡ symbolFits n t kind number ⌝ }
+{
+    if kind == 0 {
+        return number < n;
+    }
+    if kind == 1 {
+        return number < t;
+    }
+    false
+}
+
+// Whether a list holds whole symbols, each in range.
+pub fn list_fits(n: usize, t: usize, list: &[u16]) -> bool
+    ensures { λ r. ⌜ r ≡ listFits n t (now (list .entry)) ⌝ }
+{
+    let mut at: usize = 0;
+    while at < list.len() {
+        if list.len() - at < 2 {
+            return false;
+        }
+        let kind = word(list, at);
+        let number = word(list, at + 1);
+        if symbol_fits(n, t, kind, number) {
+            at += 2;
+        } else {
+            return false;
+        }
+    }
+    true
+}
+
+// A production's symbols, as a part of the packed words.
+pub fn symbols<'a>(grammar: &'a [u16], production: usize, productions: usize) -> &'a [u16]
+    requires { ⌜ Packed (now grammar) productions ⌝ }
+    requires { ⌜ production < productions ⌝ }
+    ensures { λ r. ⌜ now r ≡ symbolWords (now (grammar .entry)) production ⌝ }
+{
+    let from = production * 36 + 4;
+    let length = word(grammar, production * 36 + 1);
+    let past = from + 2 * length;
+    &grammar[from..past]
+}

@@ -1,0 +1,6 @@
+pub mod Words
+pub mod Decoded
+pub mod Refusals
+pub mod Reached
+pub mod Index
+pub mod TableB

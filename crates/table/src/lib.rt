@@ -1,0 +1,133 @@
+// The table a caller lends: its words' meaning (specs/Decoded), read from a table that is accepted. What accepts it is the crate table_check.
+ghost use mathlib.Core.Path.{_≡_};
+ghost use mathlib.Core.List.{List, [], _∷_};
+ghost use Prim.Native.Nat.{ℕ, _+_, _*_, _≤_, _<_};
+ghost use lib.ListN.{length, getD};
+ghost use Rattle.repr.specs.Meaning.{Table, stateAt};
+ghost use Rattle.repr.specs.Packed.{Packed, productionsIn};
+ghost use Rattle.table.specs.Words.{wordAt};
+ghost use Rattle.table.specs.Decoded.{meaning, itemsFrom, edgesFrom, productionsFrom};
+ghost use Rattle.table.specs.Refusals.{checkOf};
+ghost use Rattle.table.specs.Index.{CountsOf, ItemIndex, EdgeIndex, ProductionHead, ItemRead, EdgeRead, ProductionRead};
+
+// What the check of a table answers: refusal and place, by document 01's table of refusals.
+pub enum Checked {
+    Accepted,
+    Refused(u16, u16),
+}
+
+// Word k of record r.
+pub fn word(table: &[u16], r: usize, k: usize) -> usize
+    requires { ⌜ (r < 8192) × ((k < 4) × (r * 4 + k < length (now table))) ⌝ }
+    ensures { λ w. ⌜ (w ≡ wordAt (now (table .entry)) r k) × (w < 65536) ⌝ }
+{
+    table[r * 4 + k] as usize
+}
+
+// The counts of record 0.
+pub struct Counts {
+    pub nonterminals: usize,
+    pub terminals: usize,
+    pub states: usize,
+    pub productions: usize,
+}
+
+pub fn read_counts(table: &[u16]) -> Counts
+    requires { ⌜ checkOf (now table) ≡ Checked.Accepted ⌝ }
+    ensures { λ r. ⌜ CountsOf (meaning (now (table .entry))) (r .nonterminals) (r .terminals) (r .states) (r .productions) ⌝ }
+{
+    Counts {
+        nonterminals: word(table, 0, 0),
+        terminals: word(table, 0, 1),
+        states: word(table, 0, 2),
+        productions: word(table, 0, 3),
+    }
+}
+
+// The index of a state's first item.
+pub fn first_item(table: &[u16], state: usize) -> usize
+    requires { ⌜ checkOf (now table) ≡ Checked.Accepted ⌝ }
+    requires { ⌜ state < length (meaning (now table) .states) ⌝ }
+    ensures { λ r. ⌜ (itemsFrom (now (table .entry)) r ≡ stateAt (meaning (now (table .entry))) state .items) × ItemIndex (now (table .entry)) r ⌝ }
+{
+    let nonterminals = word(table, 0, 0);
+    word(table, 1 + nonterminals + state, 0)
+}
+
+// An item, and the index of the next.
+pub struct ItemRecord {
+    pub next: usize,
+    pub production: usize,
+    pub index: usize,
+}
+
+pub fn item(table: &[u16], at: usize) -> ItemRecord
+    requires { ⌜ checkOf (now table) ≡ Checked.Accepted ⌝ }
+    requires { ⌜ (at ≡ 0 → ⊥) × ItemIndex (now table) at ⌝ }
+    ensures { λ r. ⌜ ItemRead (now (table .entry)) at (r .next) (r .production) (r .index) ⌝ }
+{
+    ItemRecord {
+        next: word(table, at, 0),
+        production: word(table, at, 1),
+        index: word(table, at, 2),
+    }
+}
+
+// The index of a state's first edge.
+pub fn first_edge(table: &[u16], state: usize) -> usize
+    requires { ⌜ checkOf (now table) ≡ Checked.Accepted ⌝ }
+    requires { ⌜ state < length (meaning (now table) .states) ⌝ }
+    ensures { λ r. ⌜ (edgesFrom (now (table .entry)) r ≡ stateAt (meaning (now (table .entry))) state .edges) × EdgeIndex (now (table .entry)) r ⌝ }
+{
+    let nonterminals = word(table, 0, 0);
+    word(table, 1 + nonterminals + state, 1)
+}
+
+// An edge, and the index of the next.
+pub struct EdgeRecord {
+    pub next: usize,
+    pub kind: usize,
+    pub number: usize,
+    pub target: usize,
+}
+
+pub fn edge(table: &[u16], at: usize) -> EdgeRecord
+    requires { ⌜ checkOf (now table) ≡ Checked.Accepted ⌝ }
+    requires { ⌜ (at ≡ 0 → ⊥) × EdgeIndex (now table) at ⌝ }
+    ensures { λ r. ⌜ EdgeRead (now (table .entry)) at (r .next) (r .kind) (r .number) (r .target) ⌝ }
+{
+    EdgeRecord {
+        next: word(table, at, 0),
+        kind: word(table, at, 1),
+        number: word(table, at, 2),
+        target: word(table, at, 3),
+    }
+}
+
+// The index of a nonterminal's first production.
+pub fn first_production(table: &[u16], nonterminal: usize) -> usize
+    requires { ⌜ checkOf (now table) ≡ Checked.Accepted ⌝ }
+    requires { ⌜ nonterminal < length (meaning (now table) .nonterminals) ⌝ }
+    ensures { λ r. ⌜ (productionsFrom (now (table .entry)) r ≡ getD (meaning (now (table .entry)) .nonterminals) nonterminal []) × ProductionHead (now (table .entry)) r ⌝ }
+{
+    word(table, 1 + nonterminal, 0)
+}
+
+// A production's number, and the index of its nonterminal's next.
+pub struct ProductionRecord {
+    pub next: usize,
+    pub production: usize,
+}
+
+pub fn production(table: &[u16], at: usize) -> ProductionRecord
+    requires { ⌜ checkOf (now table) ≡ Checked.Accepted ⌝ }
+    requires { ⌜ (at ≡ 0 → ⊥) × ProductionHead (now table) at ⌝ }
+    ensures { λ r. ⌜ ProductionRead (now (table .entry)) at (r .next) (r .production) ⌝ }
+{
+    let nonterminals = word(table, 0, 0);
+    let states = word(table, 0, 2);
+    ProductionRecord {
+        next: word(table, at, 0),
+        production: at - (1 + nonterminals + states),
+    }
+}
