@@ -1,11 +1,11 @@
 -- Sets of tokens: document 01's tokens are the terminals 0 to T - 1 and T, the end of input. A set is a number, token k its bit k.
 -- Assumes nothing: these are definitions.
-use Prim.Native.Nat.{ℕ, zero, suc, _+_, _-_, _/_, _%_, _^_}
-use mathlib.Core.Bool.{Bool, true, false, _&&_, _||_, not}
-use mathlib.Core.List.{List, [], _∷_}
+use Prim.Native.Nat.{ℕ, suc, _-_, _/_, _%_, _^_}
+use mathlib.Core.Path.{_≡_}
+use mathlib.Core.Bool.{Bool, true, false}
+use mathlib.Core.List.{List}
 use lib.Bits.{bitAnd, bitOr}
 use lib.Dec.{eqb, ltb}
-use lib.ListN.{length}
 use Rattle.repr.specs.Lists.{below, keep}
 
 -- token k is in the set
@@ -37,3 +37,7 @@ members s = keep (has s) (below 64)
 -- `all` for e terminals: the tokens 0 to e
 unfoldable pub upTo : ℕ → ℕ
 upTo e = elim (ltb e 63) [ true ↦ 2 ^ suc e - 1 | false ↦ 2 ^ 64 - 1 ]
+
+-- every token of the one is a token of the other
+abbrev pub Within : ℕ → ℕ → Type 0
+Within a b = (k : ℕ) → has a k ≡ true → has b k ≡ true

@@ -2,3 +2,5 @@ pub mod Lists
 pub mod Tests
 pub mod Listed
 pub mod Packed
+pub mod Parts
+pub mod SameSymbol

@@ -1,13 +1,12 @@
 -- Laws of the tests of specs/Lists over a list, `some?`, `every?` and `first?`, and of `All` of specs/Meaning.
 -- An element is named by its index, `getD xs i d` with any default d; for numbers also by `mem`. Assumes nothing.
 use mathlib.Core.Path.{_≡_, refl, sym, ap, _∙_}
-use mathlib.Core.Bool.{Bool, true, false, _&&_, _||_, not, and-false}
-use mathlib.Core.List.{List, [], _∷_, _++_, map}
+use mathlib.Core.Bool.{Bool, true, false, _&&_, _||_}
+use mathlib.Core.List.{List, [], _∷_, _++_}
 use mathlib.Core.Option.{Option, none, some}
-use Prim.Native.Nat.{ℕ, zero, suc, _+_, _≤_, _<_}
+use Prim.Native.Nat.{ℕ, zero, suc, _<_}
 use native.Mathlib.Omega.{arith}
 use lib.ListN.{length, getD}
-use lib.Dec.{eqb, ltb}
 use borrow.Author.Tests.{ltb-true, lt-ltb}
 use Rattle.repr.specs.Lists.{below, mem, some?, every?, first?, joined}
 use Rattle.repr.specs.Meaning.{All}

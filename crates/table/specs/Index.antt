@@ -42,7 +42,7 @@ pub record EdgeRead (t : List ℕ) (at next kind number target : ℕ) : Type 0 w
   pub on : EdgeIndex t next
   pub later : (next ≡ 0 → ⊥) → at < next
   pub symbol : symbolFits (length (meaning t .nonterminals)) (meaning t .terminals) kind number ≡ true
-  pub target : target < length (meaning t .states)
+  pub inside : target < length (meaning t .states)
 
 pub record ProductionRead (t : List ℕ) (at next production : ℕ) : Type 0 where
   pub list : productionsFrom t at ≡ production ∷ productionsFrom t next

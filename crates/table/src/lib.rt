@@ -131,3 +131,13 @@ pub fn production(table: &[u16], at: usize) -> ProductionRecord
         production: at - (1 + nonterminals + states),
     }
 }
+
+// Writes the productions into words, as specs/Packed of repr has them.
+pub fn read_productions(table: &[u16], grammar: &mut [u16])
+    requires { ⌜ checkOf (now table) ≡ Checked.Accepted ⌝ }
+    requires { ⌜ length (now grammar) ≡ 4608 ⌝ }
+    ensures { λ _. ⌜ Packed (now (grammar .exit)) (length (meaning (now (table .entry)) .productions)) × (productionsIn (now (grammar .exit)) (length (meaning (now (table .entry)) .productions)) ≡ meaning (now (table .entry)) .productions) ⌝ }
+{
+    read_owners(table, grammar);
+    read_symbols(table, grammar);
+}

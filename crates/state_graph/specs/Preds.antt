@@ -1,0 +1,26 @@
+-- The predecessors of every state by every symbol, as the code keeps them: for symbol x (a nonterminal its number, a terminal n more than its number, n the number of nonterminals)
+-- and target state m two words from (x * 128 + m) * 2 on. Assumes nothing: these are definitions.
+use Prim.Native.Nat.{ℕ, zero, suc, _+_, _*_, _≤_, _<_}
+use mathlib.Core.Bool.{Bool, true, false, _&&_}
+use mathlib.Core.Path.{_≡_}
+use mathlib.Core.List.{List}
+use lib.ListN.{length, getD}
+use lib.Dec.{eqb}
+use Rattle.repr.specs.Lists.{some?}
+use Rattle.repr.specs.Meaning.{Symbol, sameSymbol, Edge, Table, stateAt}
+use Rattle.repr.specs.Listed.{symbolOfKind, symbolFits}
+use Rattle.state_graph.specs.States.{hasState}
+
+unfoldable pub rowOf : ℕ → ℕ → ℕ → ℕ
+rowOf n zero x = x
+rowOf n (suc k) x = n + x
+
+-- state p has an edge by the symbol into state m
+unfoldable pub hasEdge : Table → Symbol → ℕ → ℕ → Bool
+hasEdge T x m p = some? (λ e. sameSymbol x (e .symbol) && eqb (e .target) m) (stateAt T p .edges)
+
+pub record Preds (T : Table) (ws : List ℕ) : Type 0 where
+  pub long : (length (T .nonterminals) + T .terminals) * 256 ≤ length ws
+  pub exact : (k x m p : ℕ) → symbolFits (length (T .nonterminals)) (T .terminals) k x ≡ true → m < length (T .states) → p < 128
+      → hasState (getD ws ((rowOf (length (T .nonterminals)) k x * 128 + m) * 2) 0) (getD ws ((rowOf (length (T .nonterminals)) k x * 128 + m) * 2 + 1) 0) p
+      ≡ hasEdge T (symbolOfKind k x) m p
