@@ -1,13 +1,14 @@
 // FIRST sets (lr1/first/mod.rs). The productions stand in words (specs/Packed of repr), a list of symbols is kind and number each (specs/Listed).
 use lookahead::TokenSet;
+use repr::symbols;
+use repr::word;
 ghost use mathlib.Core.Path.{_≡_};
-ghost use mathlib.Core.Bool.{Bool, true, false};
-ghost use mathlib.Core.List.{List};
-ghost use Prim.Native.Nat.{ℕ, _≤_, _<_};
-ghost use lib.ListN.{length, getD};
-ghost use Rattle.repr.specs.Listed.{listed, listFits};
-ghost use Rattle.repr.specs.Packed.{Packed, productionsIn};
-ghost use Rattle.first.specs.First.{first0, first1, firstSets};
+ghost use mathlib.Core.Bool.{true, not};
+ghost use Prim.Native.Nat.{_≤_, _<_};
+ghost use lib.ListN.{length};
+ghost use Rattle.repr.specs.Listed.{symbolOfKind, symbolFits, listed, listFits};
+ghost use Rattle.repr.specs.Packed.{Packed, productionIn, productionsIn};
+ghost use Rattle.first.specs.First.{firstOf, first0, first1, grown, round, same, firstSets};
 
 // The sets, one for each nonterminal.
 pub struct FirstSets {
@@ -29,12 +30,39 @@ impl FirstSets {
     }
 }
 
+// FIRST of one symbol: the terminal itself, or the nonterminal's set. first0 asks either for the end of input; a terminal of a table never has it.
+fn symbol_first(map: &[u64; 32], kind: usize, number: usize) -> TokenSet
+    requires { ⌜ symbolFits 32 63 kind number ≡ true ⌝ }
+    ensures { λ r. ⌜ r .0 ≡ firstOf (now (map .entry)) (symbolOfKind kind number) ⌝ }
+{
+    if kind == 0 {
+        TokenSet(map[number])
+    } else {
+        TokenSet::from(number as u16)
+    }
+}
+
 // FIRST of a list of symbols; with the end of input in it exactly if the list may derive the empty string.
 pub fn first0(map: &[u64; 32], terminals: u16, symbols: &[u16]) -> TokenSet
     requires { ⌜ (terminals ≤ 63) × (listFits 32 63 (now symbols) ≡ true) ⌝ }
     ensures { λ r. ⌜ r .0 ≡ first0 terminals (now (map .entry)) (listed (now (symbols .entry))) ⌝ }
 {
-    TokenSet::new()
+    let mut result = TokenSet::new();
+    let mut at: usize = 0;
+    while at < symbols.len() {
+        let kind = word(symbols, at);
+        let number = word(symbols, at + 1);
+        let taken = symbol_first(map, kind, number).take_eof(terminals);
+        let nullable = taken.changed;
+        let set = taken.set;
+        result = result.union_with(set).set;
+        if !nullable {
+            return result;
+        }
+        at += 2;
+    }
+    // The list is empty, or of nonterminals each of which may derive the empty string.
+    result.insert_eof(terminals).set
 }
 
 // FIRST of a list that a token of the lookahead follows.
@@ -50,4 +78,37 @@ pub fn first1(map: &[u64; 32], terminals: u16, symbols: &[u16], lookahead: Token
     } else {
         rest
     }
+}
+
+// One production: its nonterminal's set with FIRST of its symbols, and whether that is more.
+fn grow_one(
+    grammar: &[u16],
+    production: usize,
+    productions: usize,
+    terminals: u16,
+    map: &mut [u64; 32],
+) -> bool
+    requires { ⌜ Packed (now grammar) productions × (production < productions) × (terminals ≤ 63) × (length (now map) ≡ 32) ⌝ }
+    ensures { λ r. ⌜ (now (map .exit) ≡ grown terminals (now (map .entry)) (productionIn (now (grammar .entry)) production)) × (r ≡ not (same (now (map .exit)) (now (map .entry)))) ⌝ }
+{
+    let nonterminal = word(grammar, production * 36);
+    let lookahead = first0(map, terminals, symbols(grammar, production, productions));
+    let united = TokenSet(map[nonterminal]).union_with(lookahead);
+    map[nonterminal] = united.set.0;
+    united.changed
+}
+
+// One round over all productions, in the order of their numbers; whether some set changed.
+fn grow(grammar: &[u16], productions: usize, terminals: u16, map: &mut [u64; 32]) -> bool
+    requires { ⌜ Packed (now grammar) productions × (terminals ≤ 63) × (length (now map) ≡ 32) ⌝ }
+    ensures { λ r. ⌜ (now (map .exit) ≡ round terminals (now (map .entry)) (productionsIn (now (grammar .entry)) productions)) × (r ≡ not (same (now (map .exit)) (now (map .entry)))) ⌝ }
+{
+    let mut changed = false;
+    let mut production: usize = 0;
+    while production < productions {
+        let more = grow_one(grammar, production, productions, terminals, map);
+        changed |= more;
+        production += 1;
+    }
+    changed
 }

@@ -1,0 +1,5 @@
+pub mod Trials
+pub mod Lister
+pub mod Words
+pub mod Advance
+pub mod Calls

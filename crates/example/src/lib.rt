@@ -1,0 +1,1 @@
+pub struct Example(pub u16);

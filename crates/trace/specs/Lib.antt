@@ -1,0 +1,4 @@
+pub mod Traced
+pub mod Shifting
+pub mod Shift
+pub mod Reduce

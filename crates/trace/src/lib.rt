@@ -1,0 +1,1 @@
+pub struct Tracer(pub u16);

@@ -1,0 +1,4 @@
+pub mod Graph
+pub mod Words
+pub mod Fits
+pub mod Index
