@@ -1,22 +1,21 @@
 -- What an accepted table keeps: sizes, counts, and that no record offends against a row (specs/Refusals). Assumes nothing.
-use mathlib.Core.Path.{_≡_, refl, sym, ap, _∙_}
+use mathlib.Core.Path.{_≡_, refl}
 use mathlib.Core.Bool.{Bool, true, false, _&&_, _||_, not}
 use mathlib.Core.List.{List, [], _∷_}
 use mathlib.Core.Option.{Option, none, some}
-use Prim.Native.Nat.{ℕ, zero, suc, _+_, _-_, _*_, _/_, _%_, _≤_, _<_}
+use Prim.Native.Nat.{ℕ, _+_, _-_, _*_, _%_, _≤_, _<_}
 use native.Mathlib.Omega.{arith}
 use lib.ListN.{length}
 use lib.Dec.{eqb, ltb, leb}
-use borrow.Author.Tests.{eqb-true, eqb-false, ltb-true, ltb-false, leb-true, leb-false, not-true, not-false, le-leb, lt-ltb}
+use borrow.Author.Tests.{eqb-true, eqb-false, ltb-true, ltb-false, leb-true, leb-false, not-false, le-leb, lt-ltb}
 use Rattle.repr.specs.Lists.{below, occurrences, joined, first?}
 use Rattle.repr.specs.Listed.{symbolFits}
-use Rattle.repr.proofs.Lists.{cases, clash}
+use Rattle.repr.proofs.Lists.{cases}
 use Rattle.repr.proofs.Tests.{first?-below-none}
 use Rattle.table.specs.Words.{wordAt, records, nonterminals, terminals, states, productions, stateArea, productionArea, loose, looseRecords, productionRecords, against}
 use Rattle.table.specs.Decoded.{productionChain, symbolChain}
 use Rattle.table.specs.Refusals.{row1, row2, row3, row4, row5, row6, row7, row8, isNonterminal, isState, isProduction, asSymbol, asItem, asEdge, offends, firstRow, checkOf}
-use Rattle.table.specs.declared.Checked.{Checked}
-use Rattle.table.specs.declared.Checked.the-variants.{Accepted, Refused}
+use Rattle.table.specs.declared.Checked.the-variants.{Accepted}
 use Rattle.table.proofs.Chains.{and-true, and-both, or-false, or-left, or-right}
 
 -- no record of the table offends

@@ -5,11 +5,10 @@ use mathlib.Core.List.{List, [], _∷_}
 use mathlib.Core.Logic.{_⊎_, inl, inr, ⊎-elim}
 use Prim.Native.Nat.{ℕ, zero, suc, _+_, _≤_, _<_}
 use native.Mathlib.Omega.{arith}
-use lib.ListN.{length, getD}
 use lib.Dec.{eqb, ltb, leb}
-use borrow.Author.Tests.{eqb-true, eqb-false, eq-eqb, ne-eqb, ltb-true, lt-ltb, le-ltb, leb-true, le-leb, lt-leb, not-true, not-false}
+use borrow.Author.Tests.{eqb-true, eqb-false, ne-eqb, ltb-true, lt-ltb, leb-true, le-leb, not-true, not-false}
 use Rattle.repr.specs.Lists.{mem, occurrences}
-use Rattle.repr.proofs.Lists.{cases, clash, mem-nil, mem-yes, mem-no, mem-cons-here, mem-cons-there, occurrences-nil, occurrences-yes, occurrences-no, occurrences-none}
+use Rattle.repr.proofs.Lists.{cases, clash, mem-nil, mem-no, mem-cons-here, mem-cons-there, occurrences-yes, occurrences-no, occurrences-none}
 use Rattle.table.specs.Words.{wordAt, records, loose, Area, productionRecords, looseRecords, names, against, chainBy, chain}
 
 -- two tests

@@ -1,7 +1,6 @@
 -- The definitions compute: document 01's inputs of refusals 1 to 8. Assumes nothing.
 use mathlib.Core.Path.{_≡_, refl}
-use Prim.Native.Nat.{ℕ}
-use mathlib.Core.List.{List, [], _∷_, map}
+use mathlib.Core.List.{[], _∷_, map}
 use lib.ListN.{set}
 use Rattle.repr.specs.Lists.{upFrom, below, mem, occurrences, first?, some?, joined}
 use Rattle.repr.specs.Listed.{symbolFits}
@@ -9,7 +8,6 @@ use Rattle.table.specs.Words.{wordAt, records, stateArea, productionArea
 use Rattle.table.specs.Decoded.{productionChain, symbolChain, itemChain, edgeChain}
 use Rattle.table.specs.Refusals.{row1, row2, isNonterminal, isState, isProduction, asSymbol, asItem, asEdge, row3, row4, row5, row6, row7, used, row8, offends, firstRow, checkOf}
 use Rattle.table.specs.TableB.{tableB}
-use Rattle.table.specs.declared.Checked.{Checked}
 use Rattle.table.specs.declared.Checked.the-variants.{Accepted, Refused}
 
 pub inputs : map checkOf (tableB ∷ (0 ∷ 0 ∷ 1 ∷ 0 ∷ []) ∷ set tableB 48 12 ∷ set tableB 24 0 ∷ set tableB 74 4 ∷ [] ∷ (1 ∷ []) ∷ [])

@@ -1,25 +1,25 @@
 -- The meaning of an accepted table (specs/Decoded): its sizes and parts, each production in one nonterminal's list, every number in range. Assumes nothing.
 use mathlib.Core.Path.{_≡_, refl, sym, ap, _∙_}
-use mathlib.Core.Bool.{Bool, true, false}
-use mathlib.Core.List.{List, [], _∷_, map}
+use mathlib.Core.Bool.{true, false}
+use mathlib.Core.List.{List, [], map}
 use mathlib.Core.Logic.{_↔_}
 use mathlib.Core.Option.{Option, none, some}
 use Prim.Native.Nat.{ℕ, zero, suc, _+_, _-_, _≤_, _<_}
 use native.Mathlib.Omega.{arith}
 use lib.ListN.{length, getD}
 use borrow.Author.Tests.{ltb-true}
-use Rattle.repr.specs.Lists.{below, mem, first?, joined, occurrences}
-use Rattle.repr.specs.Meaning.{Symbol, Production, Item, Edge, State, Table, noProduction, noState, productionAt, stateAt, SymbolFits, All, ProductionFits, ItemFits, EdgeFits, StateFits, TableFits}
+use Rattle.repr.specs.Lists.{below, mem, first?, joined}
+use Rattle.repr.specs.Meaning.{Production, Table, noProduction, noState, productionAt, stateAt, SymbolFits, All, ProductionFits, ItemFits, EdgeFits, StateFits, TableFits}
 use Rattle.repr.specs.Listed.{symbolOfKind, symbolFits}
 use Rattle.repr.proofs.Lists.{cases, clash, length-mapped, length-map-below, getD-map-below, mem-below, occurrences-none}
 use Rattle.repr.proofs.Tests.{first?-below, first?-below-none, some?-below-witness, mem-joined}
-use Rattle.table.specs.Words.{wordAt, records, nonterminals, terminals, states, productions, stateArea, productionArea, loose, productionRecords}
+use Rattle.table.specs.Words.{wordAt, nonterminals, terminals, states, productions, productionArea, loose, productionRecords}
 use Rattle.table.specs.Decoded.{productionChain, symbolChain, itemChain, edgeChain, symbolAt, itemAt, edgeAt, orZero, ownerOf, productionOf, stateOf, productionsOf, meaning}
 use Rattle.table.specs.Refusals.{asSymbol, asItem, asEdge, checkOf}
 use Rattle.table.specs.declared.Checked.the-variants.{Accepted}
 use Rattle.table.proofs.ListLaws.{mem-map-in, mem-map-out, all-map, joined-only}
-use Rattle.table.proofs.Chains.{Named, chain-member}
-use Rattle.table.proofs.Accepted.{Accepts, accepts, Areas, areas-of, production-once, production-short, symbol-range, edge-range, item-range, target-range}
+use Rattle.table.proofs.Chains.{chain-member}
+use Rattle.table.proofs.Accepted.{Accepts, accepts, areas-of, production-once, production-short, symbol-range, edge-range, item-range, target-range}
 use Rattle.table.proofs.Held.{symbol-inside, item-inside, edge-inside, symbol-of, item-of, edge-of}
 
 -- sizes and parts

@@ -1,21 +1,21 @@
 -- What each accessor reads from an accepted table (specs/Index): the first index of a chain, a record and the index of the next. Assumes nothing.
-use mathlib.Core.Path.{_≡_, refl, sym, ap, _∙_}
-use mathlib.Core.Bool.{Bool, true, false}
+use mathlib.Core.Path.{_≡_, sym, ap, _∙_}
+use mathlib.Core.Bool.{true, false}
 use mathlib.Core.List.{List, [], _∷_, map}
-use Prim.Native.Nat.{ℕ, zero, suc, _+_, _-_, _*_, _≤_, _<_}
+use Prim.Native.Nat.{ℕ, _+_, _-_, _*_, _≤_, _<_}
 use native.Mathlib.Omega.{arith}
 use lib.ListN.{length, getD}
 use lib.Dec.{eqb}
-use borrow.Author.Tests.{eqb-true, eqb-false}
-use Rattle.repr.specs.Meaning.{State, Table, stateAt}
+use borrow.Author.Tests.{eqb-true, eqb-false, le-leb, lt-ltb}
+use Rattle.repr.specs.Meaning.{State, stateAt}
 use Rattle.repr.proofs.Lists.{cases}
 use Rattle.table.specs.Words.{wordAt, records, nonterminals, terminals, states, productions, stateArea, productionArea, loose, looseRecords, productionRecords, against, names, chain}
 use Rattle.table.specs.Decoded.{productionChain, itemChain, edgeChain, itemAt, edgeAt, stateOf, productionsOf, meaning, itemsFrom, edgesFrom, productionsFrom}
-use Rattle.table.specs.Refusals.{isProduction, asItem, asEdge, checkOf}
+use Rattle.table.specs.Refusals.{isProduction, checkOf}
 use Rattle.table.specs.Index.{CountsOf, ItemIndex, EdgeIndex, ProductionHead, ItemRead, EdgeRead, ProductionRead}
 use Rattle.table.specs.declared.Checked.the-variants.{Accepted}
-use Rattle.table.proofs.Chains.{Named, named, names-good, good-of, chain-step, chain-from, loose-whole, production-whole}
-use Rattle.table.proofs.Accepted.{Accepts, accepts, Areas, areas-of, nonterminal-head, item-head, edge-head, production-next, production-in}
+use Rattle.table.proofs.Chains.{and-both, named, names-good, good-of, chain-step, chain-from, loose-whole, production-whole}
+use Rattle.table.proofs.Accepted.{Accepts, accepts, areas-of, nonterminal-head, item-head, edge-head, production-next, production-in}
 use Rattle.table.proofs.Held.{item-inside, edge-inside, item-first-as, edge-first-as, item-on, edge-on, item-next-as, edge-next-as, loose-small, loose-later}
 use Rattle.table.proofs.Decoding.{many-nonterminals, many-terminals, many-states, many-productions, nonterminal-at, state-at, fits, item-fits, edge-in-range, target-in-range}
 
@@ -38,7 +38,7 @@ loose-good : (t : List ℕ) (x : ℕ) → loose t ≤ x → x < records t → na
 unfolding looseRecords loose productionArea stateArea
 loose-good t x h l = names-good (looseRecords t) 0 x h l (omega arith)
 
-loose-past : (t : List ℕ) (x : ℕ) → loose t ≤ x → x < records t → against (looseRecords t) x (wordAt t x 0) ≡ false
+pub loose-past : (t : List ℕ) (x : ℕ) → loose t ≤ x → x < records t → against (looseRecords t) x (wordAt t x 0) ≡ false
     → chain t (looseRecords t) 0 x ≡ x ∷ chain t (looseRecords t) 0 (wordAt t x 0)
 loose-past t x h l e =
     let z : loose t ≡ 1 + nonterminals t + states t + productions t = areas-of t .loose-area in
@@ -105,7 +105,7 @@ module _ (t : List ℕ) (A : Accepts t) where
         (λ q. let z = eqb-true x 0 q in omega arith)
         (λ q. let n = named (productionRecords t) r x (good-of (productionRecords t) r x e (eqb-false x 0 q)) in omega (arith, A .areas, A .few-records));
     inside = λ ne. let n = named (productionRecords t) r x (good-of (productionRecords t) r x e ne) in
-        Rattle.table.proofs.Chains.and-both _ _ (borrow.Author.Tests.le-leb (productionArea t) x (n .inside)) (borrow.Author.Tests.lt-ltb x (loose t) (n .early));
+        and-both _ _ (le-leb (productionArea t) x (n .inside)) (lt-ltb x (loose t) (n .early));
   }
 
   pub production-first : (n x : ℕ) → n < nonterminals t → x ≡ wordAt t (1 + n) 0 → (productionsFrom t x ≡ getD (meaning t .nonterminals) n []) × ProductionHead t x

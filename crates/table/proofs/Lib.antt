@@ -5,3 +5,4 @@ pub mod Accepted
 pub mod Held
 pub mod Decoding
 pub mod Indexes
+pub mod Written

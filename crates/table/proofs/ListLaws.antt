@@ -1,15 +1,15 @@
 -- Laws of plain lists that the decoding needs: members of a mapped list, a number in two of the lists joined. Assumes nothing.
-use mathlib.Core.Path.{_≡_, refl, sym, ap, _∙_}
-use mathlib.Core.Bool.{Bool, true, false}
-use mathlib.Core.List.{List, [], _∷_, _++_, map}
-use Prim.Native.Nat.{ℕ, zero, suc, _+_, _≤_, _<_}
+use mathlib.Core.Path.{_≡_, sym, _∙_}
+use mathlib.Core.Bool.{true}
+use mathlib.Core.List.{List, [], _∷_, map}
+use Prim.Native.Nat.{ℕ, zero, suc, _≤_, _<_}
 use native.Mathlib.Omega.{arith}
 use lib.ListN.{length, getD}
-use lib.Dec.{eqb}
-use borrow.Author.Tests.{eqb-true, eqb-false, eq-eqb}
+use lib.Dec.{eqb, ltb}
+use borrow.Author.Tests.{eqb-true, eqb-false, ltb-true, ltb-false}
 use Rattle.repr.specs.Lists.{below, mem, occurrences, joined}
 use Rattle.repr.specs.Meaning.{All}
-use Rattle.repr.proofs.Lists.{cases, clash, length-below, getD-below, mem-nil, mem-yes, mem-no, mem-cons-here, mem-cons-there, occurrences-append, occurrences-some, joined-cons}
+use Rattle.repr.proofs.Lists.{cases, clash, length-below, getD-below, mem-nil, mem-no, mem-cons-here, mem-cons-there, occurrences-append, occurrences-some, joined-cons}
 
 pub mem-map-in : (f : ℕ → ℕ) (x : ℕ) (xs : List ℕ) → mem x xs ≡ true → mem (f x) (map f xs) ≡ true
 mem-map-in f x [] m = clash (mem x []) m (mem-nil x)
@@ -62,6 +62,6 @@ joined-only f y n i j o hi hj mi mj =
     (eqb-true i j)
     (λ q.
     let ne = eqb-false i j q in
-    cases (lib.Dec.ltb i j)
-    (λ l. let lt = borrow.Author.Tests.ltb-true i j l in let two = joined-two f y (below n) i j lt (omega arith) (at i hi mi) (at j hj mj) in absurd (omega arith))
-    (λ l. let le = borrow.Author.Tests.ltb-false i j l in let two = joined-two f y (below n) j i (omega arith) (omega arith) (at j hj mj) (at i hi mi) in absurd (omega arith)))
+    cases (ltb i j)
+    (λ l. let lt = ltb-true i j l in let two = joined-two f y (below n) i j lt (omega arith) (at i hi mi) (at j hj mj) in absurd (omega arith))
+    (λ l. let le = ltb-false i j l in let two = joined-two f y (below n) j i (omega arith) (omega arith) (at j hj mj) (at i hi mi) in absurd (omega arith)))

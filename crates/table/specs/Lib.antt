@@ -3,4 +3,5 @@ pub mod Decoded
 pub mod Refusals
 pub mod Reached
 pub mod Index
+pub mod Written
 pub mod TableB

@@ -3,12 +3,13 @@ ghost use mathlib.Core.Path.{_≡_};
 ghost use mathlib.Core.List.{List, [], _∷_};
 ghost use Prim.Native.Nat.{ℕ, _+_, _*_, _≤_, _<_};
 ghost use lib.ListN.{length, getD};
-ghost use Rattle.repr.specs.Meaning.{Table, stateAt};
+ghost use Rattle.repr.specs.Meaning.{Table, stateAt, productionAt};
 ghost use Rattle.repr.specs.Packed.{Packed, productionsIn};
 ghost use Rattle.table.specs.Words.{wordAt};
 ghost use Rattle.table.specs.Decoded.{meaning, itemsFrom, edgesFrom, productionsFrom};
 ghost use Rattle.table.specs.Refusals.{checkOf};
 ghost use Rattle.table.specs.Index.{CountsOf, ItemIndex, EdgeIndex, ProductionHead, ItemRead, EdgeRead, ProductionRead};
+ghost use Rattle.table.specs.Written.{symbolsFrom, SymbolIndex, SymbolRead, OwnerStored, OwnersIn, SymbolsStored, ProductionStored};
 
 // What the check of a table answers: refusal and place, by document 01's table of refusals.
 pub enum Checked {
@@ -129,6 +130,118 @@ pub fn production(table: &[u16], at: usize) -> ProductionRecord
     ProductionRecord {
         next: word(table, at, 0),
         production: at - (1 + nonterminals + states),
+    }
+}
+
+// The index of a production's first symbol.
+fn first_symbol(table: &[u16], production: usize) -> usize
+    requires { ⌜ checkOf (now table) ≡ Checked.Accepted ⌝ }
+    requires { ⌜ production < length (meaning (now table) .productions) ⌝ }
+    ensures { λ r. ⌜ (symbolsFrom (now (table .entry)) r ≡ productionAt (meaning (now (table .entry))) production .symbols) × SymbolIndex (now (table .entry)) r ⌝ }
+{
+    let nonterminals = word(table, 0, 0);
+    let states = word(table, 0, 2);
+    word(table, 1 + nonterminals + states + production, 1)
+}
+
+// A symbol, and the index of the next.
+struct SymbolRecord {
+    next: usize,
+    kind: usize,
+    number: usize,
+}
+
+fn symbol(table: &[u16], at: usize) -> SymbolRecord
+    requires { ⌜ checkOf (now table) ≡ Checked.Accepted ⌝ }
+    requires { ⌜ (at ≡ 0 → ⊥) × SymbolIndex (now table) at ⌝ }
+    ensures { λ r. ⌜ SymbolRead (now (table .entry)) at (r .next) (r .kind) (r .number) ⌝ }
+{
+    SymbolRecord {
+        next: word(table, at, 0),
+        kind: word(table, at, 1),
+        number: word(table, at, 2),
+    }
+}
+
+// Stores a nonterminal's number in each of its productions.
+fn read_owner(table: &[u16], grammar: &mut [u16], nonterminal: usize)
+    requires { ⌜ checkOf (now table) ≡ Checked.Accepted ⌝ }
+    requires { ⌜ (length (now grammar) ≡ 4608) × (nonterminal < length (meaning (now table) .nonterminals)) ⌝ }
+    ensures { λ _. ⌜ OwnerStored (now (table .entry)) (now (grammar .entry)) (now (grammar .exit)) nonterminal ⌝ }
+{
+    let mut at = first_production(table, nonterminal);
+    while at != 0 {
+        let read = production(table, at);
+        let owned = read.production;
+        grammar[owned * 36] = nonterminal as u16;
+        at = read.next;
+    }
+}
+
+// Stores in each production its nonterminal's number.
+fn read_owners(table: &[u16], grammar: &mut [u16])
+    requires { ⌜ checkOf (now table) ≡ Checked.Accepted ⌝ }
+    requires { ⌜ length (now grammar) ≡ 4608 ⌝ }
+    ensures { λ _. ⌜ OwnersIn (meaning (now (table .entry))) (now (grammar .exit)) ⌝ }
+{
+    let counts = read_counts(table);
+    let nonterminals = counts.nonterminals;
+    let mut n: usize = 0;
+    while n < nonterminals {
+        read_owner(table, grammar, n);
+        n += 1;
+    }
+}
+
+// Stores a production's symbols, and returns how many they are.
+fn store_symbols(table: &[u16], grammar: &mut [u16], production: usize) -> usize
+    requires { ⌜ checkOf (now table) ≡ Checked.Accepted ⌝ }
+    requires { ⌜ (length (now grammar) ≡ 4608) × (production < length (meaning (now table) .productions)) ⌝ }
+    ensures { λ r. ⌜ SymbolsStored (now (table .entry)) (now (grammar .entry)) (now (grammar .exit)) production r ⌝ }
+{
+    let mut at = first_symbol(table, production);
+    let mut count: usize = 0;
+    while at != 0 {
+        let read = symbol(table, at);
+        let put = production * 36 + 4 + 2 * count;
+        grammar[put] = read.kind as u16;
+        grammar[put + 1] = read.number as u16;
+        count += 1;
+        at = read.next;
+    }
+    count
+}
+
+// Stores a production's symbols, their number and its span.
+fn read_symbols_of(table: &[u16], grammar: &mut [u16], production: usize)
+    requires { ⌜ checkOf (now table) ≡ Checked.Accepted ⌝ }
+    requires { ⌜ (length (now grammar) ≡ 4608) × (production < length (meaning (now table) .productions)) ⌝ }
+    ensures { λ _. ⌜ ProductionStored (now (table .entry)) (now (grammar .entry)) (now (grammar .exit)) production ⌝ }
+{
+    let count = store_symbols(table, grammar, production);
+    let nonterminals = word(table, 0, 0);
+    let states = word(table, 0, 2);
+    let record = 1 + nonterminals + states + production;
+    let start = word(table, record, 2);
+    let end = word(table, record, 3);
+    let base = production * 36;
+    grammar[base + 1] = count as u16;
+    grammar[base + 2] = start as u16;
+    grammar[base + 3] = end as u16;
+}
+
+// Stores each production's symbols and span.
+fn read_symbols(table: &[u16], grammar: &mut [u16])
+    requires { ⌜ checkOf (now table) ≡ Checked.Accepted ⌝ }
+    requires { ⌜ OwnersIn (meaning (now table)) (now grammar) ⌝ }
+    ensures { λ _. ⌜ Packed (now (grammar .exit)) (length (meaning (now (table .entry)) .productions)) × (productionsIn (now (grammar .exit)) (length (meaning (now (table .entry)) .productions)) ≡ meaning (now (table .entry)) .productions) ⌝ }
+{
+    let counts = read_counts(table);
+    let productions = counts.productions;
+    let mut p: usize = 0;
+    while p < productions {
+        read_symbols_of(table, grammar, p);
+        p += 1;
     }
 }
 

@@ -1,3 +1,4 @@
+-- `table::word` meets its contract. Assumes nothing.
 use mathlib.Core.Path.{refl}
 use Prim.Native.Nat.{_+_, _*_}
 use Rattle.table.specs.Words.{wordAt}
@@ -5,30 +6,22 @@ use native.Mathlib.Omega.{arith}
 use borrow.Author.Needs.{needs}
 use Rattle.table.proofs.word.Statement.{statement}
 use Rattle.table.proofs.word.Tie as tie
-use Rattle.table.proofs.word.Reads as reads
-use Rattle.table.proofs.word.Lts as lts
 
--- src/lib.rt:24:11
 mul-result : tie.Need-mul-result
 mul-result c = search needs
 
--- src/lib.rt:24:11
 add-result : tie.Need-add-result
 add-result c = search needs
 
--- src/lib.rt:24:5
 mul-result-2 : tie.Need-mul-result-2
 mul-result-2 c = search needs
 
--- src/lib.rt:24:5
 shared-slice-read-result : tie.Need-shared-slice-read-result
 shared-slice-read-result c = search needs
 
--- src/lib.rt:24:5
 cast-result : tie.Need-cast-result
 cast-result c = omega (arith, c .shared-slice-known .given (c .before .args .r * 4 + c .before .args .k))
 
--- src/lib.rt:20:1
 returns : tie.Need-returns
 unfolding wordAt
 returns c = (refl, c .shared-slice-known .given (c .before .args .r * 4 + c .before .args .k) .fits)
