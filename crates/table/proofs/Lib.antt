@@ -1,5 +1,6 @@
 pub mod Computes
 pub mod Chains
+pub mod Reached
 pub mod ListLaws
 pub mod Accepted
 pub mod Held
