@@ -5,7 +5,10 @@ use mathlib.Core.Path.{_≡_}
 use mathlib.Core.List.{List, [], _∷_}
 use lib.ListN.{length, getD}
 use Rattle.repr.specs.Lists.{mem}
-use Rattle.repr.specs.Meaning.{Table}
+use Rattle.table.specs.Decoded.{meaning}
+use Rattle.table.specs.Refusals.{checkOf}
+use Rattle.table.specs.declared.Checked.the-variants.{Accepted}
+use Rattle.trace.specs.Shifting.{ShiftItems}
 use Rattle.repr.specs.Packed.{Packed, productionsIn}
 use Rattle.trace_graph.specs.Words.{edgesIn}
 use Rattle.trace.specs.Traced.{Trace}
@@ -20,3 +23,11 @@ unfoldable pub zeros : List ℕ → ℕ
 zeros [] = 0
 zeros (zero ∷ v) = suc (zeros v)
 zeros (suc x ∷ v) = zeros v
+
+-- what a trace works over: an accepted table, its productions packed, its shifting items
+pub record Tracing (t g : List ℕ) (productions n : ℕ) (starts codes : List ℕ) : Type 0 where
+  pub accepted : checkOf t ≡ Accepted
+  pub packed : Packed g productions
+  pub same : productionsIn g productions ≡ meaning t .productions
+  pub nonterminals : n ≡ length (meaning t .nonterminals)
+  pub items : ShiftItems (meaning t) starts codes

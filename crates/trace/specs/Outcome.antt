@@ -14,11 +14,11 @@ use Rattle.trace_graph.specs.Words.{edgeLimit, graphWords}
 use Rattle.trace_graph.specs.Fits.{itemFits}
 use Rattle.trace.specs.Shift.{shiftEdges}
 use Rattle.trace.specs.Reduce.{reduceEdges}
-use Rattle.trace.specs.declared.Traced.{Traced}
-use Rattle.trace.specs.declared.Traced.the-variants.{Edges, Refused}
+use Rattle.trace.specs.declared.Backtrace.{Backtrace}
+use Rattle.trace.specs.declared.Backtrace.the-variants.{Edges, Refused}
 
 pub data Outcome : Type 0 where
-  outcome : Traced → List ℕ → List ℕ → Outcome
+  outcome : Backtrace → List ℕ → List ℕ → Outcome
 
 -- new words in front of a list
 unfoldable pub inFront : List ℕ → List ℕ → List ℕ

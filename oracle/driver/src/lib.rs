@@ -1,0 +1,31 @@
+//! Runs of lalrpop's published modules on document 01's words.
+
+pub mod explain;
+pub mod generate;
+pub mod plain;
+#[cfg(feature = "port")]
+pub mod port;
+pub mod question;
+pub mod rust;
+pub mod side;
+pub mod table;
+
+/// Runs `f` on a thread with a large stack: the Rust's enumerator and tracing
+/// recurse.
+pub fn with_stack<A: Send>(f: impl FnOnce() -> A + Send) -> A {
+    std::thread::scope(|scope| {
+        let thread = std::thread::Builder::new().stack_size(1 << 30);
+        thread.spawn_scoped(scope, f).unwrap().join().unwrap()
+    })
+}
+
+/// A side by its name.
+pub fn side(name: &str) -> Box<dyn side::Side> {
+    match name {
+        "rust" => Box::new(rust::RustSide::default()),
+        "plain" => Box::new(plain::PlainSide),
+        #[cfg(feature = "port")]
+        "port" => Box::new(port::PortSide),
+        _ => panic!("no side {name}"),
+    }
+}

@@ -1,0 +1,294 @@
+//! The command. See README.md.
+
+use oracle::generate::{self, KINDS};
+use oracle::question::{self, Question, ask, text};
+use oracle::side::{Answer, Side};
+use oracle::table::table_b;
+use std::collections::BTreeMap;
+use std::io::{BufRead, Read, Write};
+use std::panic::{AssertUnwindSafe, catch_unwind};
+use std::time::{Duration, Instant};
+
+const USAGE: &str =
+    "oracle [SIDE]                           questions, a line each, on standard input
+oracle explain [SIDE]                   document 01's program over standard input
+oracle marked [SIDE]                    document 01's marked examples on table B
+oracle generate KIND SEED COUNT [SIDE]  cases as lines, with the side's answers
+oracle compare KIND SEED COUNT [A B]    asks two sides the same (KIND may be all)
+sides: rust, plain, and port if linked";
+
+fn main() {
+    let args: Vec<String> = std::env::args().skip(1).collect();
+    let failed = oracle::with_stack(|| run(&args.iter().map(|a| &a[..]).collect::<Vec<_>>()));
+    std::process::exit(failed as i32);
+}
+
+fn run(args: &[&str]) -> bool {
+    let number = |a: &str| a.parse::<u64>().expect(USAGE);
+    match *args {
+        ["explain"] => explain("rust"),
+        ["explain", side] => explain(side),
+        ["marked"] => marked("rust"),
+        ["marked", side] => marked(side),
+        ["generate", kind, seed, count] => list(kind, number(seed), number(count), "rust"),
+        ["generate", kind, seed, count, side] => list(kind, number(seed), number(count), side),
+        ["compare", kind, seed, count] => {
+            compare(kind, number(seed), number(count), "rust", "plain")
+        }
+        ["compare", kind, seed, count, a, b] => compare(kind, number(seed), number(count), a, b),
+        [] => lines("rust"),
+        [side @ ("rust" | "plain" | "port")] => lines(side),
+        _ => {
+            eprintln!("{USAGE}");
+            true
+        }
+    }
+}
+
+fn answer_text(answer: &Option<Answer>) -> String {
+    match answer {
+        Some(words) => format!("= {}", text(words)),
+        None => "= no run".into(),
+    }
+}
+
+/// `table WORDS` sets the table (first: table B); any other line is asked.
+fn lines(side: &str) -> bool {
+    let mut side = oracle::side(side);
+    let mut table = table_b();
+    let mut bad = false;
+    for line in std::io::stdin().lock().lines() {
+        let line = line.unwrap();
+        if line.is_empty() || line.starts_with(['#', '=']) {
+            continue;
+        }
+        if let Some(words) = line.strip_prefix("table") {
+            table = words
+                .split_whitespace()
+                .map(|w| w.parse().unwrap())
+                .collect();
+            continue;
+        }
+        match question::parse(&line) {
+            Some(q) => println!("{}", answer_text(&ask(&mut *side, &table, &q))),
+            None => {
+                println!("? {line}");
+                bad = true;
+            }
+        }
+    }
+    bad
+}
+
+fn explain(side: &str) -> bool {
+    let mut input = vec![];
+    std::io::stdin().lock().read_to_end(&mut input).unwrap();
+    print!(
+        "{}",
+        oracle::explain::explain(&mut *oracle::side(side), &input)
+    );
+    false
+}
+
+/// Document 01's marked examples, and the inputs of its table of refusals.
+fn marked(side: &str) -> bool {
+    let mut side = oracle::side(side);
+    let b = table_b();
+    let expected: [(&str, &str); 17] = [
+        ("check", "= 0"),
+        ("first0", "= 0 2"),
+        ("first0 0 0", "= 0 1"),
+        ("back 3 0 0 1 0 0 0", "= 0 0 2"),
+        ("back 3", "= 0 3"),
+        ("back 0 0 0", "= 0"),
+        (
+            "list-shift 3 0 1 / -",
+            "= 0 0 3 1 3 19 5 3 2 0 0 1 0 0 0 1 0 0 0 2 5 0 0 5 0",
+        ),
+        (
+            "list-reduce 3 0 3 / 0",
+            "= 0 0 3 1 3 19 5 3 2 0 0 1 0 0 0 1 0 0 0 0 3 0 0 5 0",
+        ),
+        (
+            "classify 3 0 0 0 0",
+            "= 0 2 3 3 1 0 19 5 3 2 0 0 1 0 0 0 1 0 0 0 2 5 0 0 5 0 \
+             19 5 3 2 0 0 1 0 0 0 1 0 0 0 0 3 0 0 5 0",
+        ),
+        (
+            "classify 3 0 0 1 0",
+            "= 0 1 3 3 0 19 5 3 2 0 0 1 0 0 0 1 0 0 0 2 5 0 0 5 0 \
+             19 5 3 2 0 0 1 0 0 0 1 0 0 0 0 3 0 0 5 0",
+        ),
+        ("classify 3 0 0 0 1", "= 0 0 0 3 0 0 0"),
+        ("classify 3 0 1 1 2", "= 0 0 1 3 0 0 0"),
+        (
+            "classify 3 0 1 0 0",
+            "= 0 5 3 3 4 0 9 0 9 19 5 3 2 0 0 1 0 0 0 1 0 0 0 0 3 0 0 5 0 0",
+        ),
+        ("classify 3 0 0 0 2", "= 10 0"),
+        ("observed 3 0 0 0 0", "= 0 0 0 1 0 0 0"),
+        ("choose 3 0 0 0 / 0", "= 0 1 0 2 1 0"),
+        ("list 1 0 / - / 0", "= 15 0"),
+    ];
+    let mut score = Score::default();
+    for (line, want) in expected {
+        let got = answer_text(&ask(&mut *side, &b, &question::parse(line).unwrap()));
+        println!("{line}\n  {got}");
+        score.count(got == want || got == "= no run", || {
+            format!("wanted {want}")
+        });
+    }
+    let damage: [(usize, u16, &str); 3] = [(48, 12, "= 3 12"), (24, 0, "= 4 7"), (74, 4, "= 7 18")];
+    for (at, word, want) in damage {
+        let mut t = b.clone();
+        t[at] = word;
+        let got = answer_text(&side.check(&t));
+        println!("table B, word {at} = {word}: check\n  {got}");
+        score.count(got == want || got == "= no run", || {
+            format!("wanted {want}")
+        });
+    }
+    score.count(
+        side.check(&[0, 0, 1, 0]).is_none_or(|a| a == [2, 0]),
+        || "2".into(),
+    );
+    if side.name() == "rust" {
+        drop(side);
+        let panics = oracle::rust::panics(&b, [3, 0, 0, 0, 2], (1, 0));
+        println!("the Rust panics where 10 and 15 stand: {panics:?}");
+        score.count(panics == (true, true), || "no panic".into());
+        score.count(oracle::rust::names_in_order(), || "names".into());
+    }
+    score.end()
+}
+
+fn cases(kind: &str, seed: u64, count: u64) -> impl Iterator<Item = oracle::question::Case> {
+    let kinds: Vec<String> = KINDS
+        .iter()
+        .chain(&["heavy"])
+        .filter(|k| **k == kind || kind == "all" && **k != "heavy")
+        .map(|k| k.to_string())
+        .collect();
+    assert!(!kinds.is_empty(), "kinds: all, heavy or {KINDS:?}");
+    kinds.into_iter().flat_map(move |k| {
+        // The few kinds that are the same for many seeds are not repeated.
+        let count = match &k[..] {
+            "limit" => count.min(14),
+            "classic" => count.min(480),
+            _ => count,
+        };
+        (seed..seed + count).filter_map(move |s| generate::case(&k, s))
+    })
+}
+
+fn list(kind: &str, seed: u64, count: u64, side: &str) -> bool {
+    let mut side = oracle::side(side);
+    let mut out = std::io::stdout().lock();
+    for case in cases(kind, seed, count) {
+        writeln!(out, "# {}\ntable {}", case.name, text(&case.table)).unwrap();
+        for q in &case.questions {
+            let answer = ask(&mut *side, &case.table, q);
+            writeln!(out, "{q}\n{}", answer_text(&answer)).unwrap();
+        }
+    }
+    false
+}
+
+#[derive(Default)]
+struct Score {
+    passed: u64,
+    failed: u64,
+}
+
+impl Score {
+    fn count(&mut self, good: bool, why: impl FnOnce() -> String) {
+        if good {
+            self.passed += 1;
+        } else {
+            self.failed += 1;
+            println!("FAILED: {}", why());
+        }
+    }
+
+    fn end(&self) -> bool {
+        println!("{} passed, {} failed", self.passed, self.failed);
+        // Nothing asked is nothing shown.
+        self.failed > 0 || self.passed == 0
+    }
+}
+
+/// What a question and its answer are counted as.
+fn row(q: &Question, answer: &Answer) -> String {
+    let verb = q.to_string().split(' ').next().unwrap().to_string();
+    match (&verb[..], answer[0]) {
+        ("classify", 0) => format!("{verb} class {}", answer[1]),
+        (v, 0) if v.starts_with("list") && answer[1] == 1 => format!("{verb} refused 13"),
+        (_, 0) => verb,
+        (_, n) => format!("{verb} refused {n}"),
+    }
+}
+
+fn compare(kind: &str, seed: u64, count: u64, a: &str, b: &str) -> bool {
+    let (mut a, mut b) = (oracle::side(a), oracle::side(b));
+    println!(
+        "{} and {}: kind {kind}, seeds {seed} to {}",
+        a.name(),
+        b.name(),
+        seed + count - 1
+    );
+    let mut score = Score::default();
+    let mut rows: BTreeMap<String, u64> = BTreeMap::new();
+    let (mut tables, mut unasked, mut silent) = (0, 0, 0);
+    let mut times = [Duration::ZERO; 2];
+    for case in cases(kind, seed, count) {
+        tables += 1;
+        for q in &case.questions {
+            let mut timed = |k: usize, side: &mut dyn Side| {
+                let start = Instant::now();
+                let answer = catch_unwind(AssertUnwindSafe(|| ask(side, &case.table, q)));
+                times[k] += start.elapsed();
+                // Words that no side gives.
+                answer.unwrap_or(Some(vec![u32::MAX, k as u32]))
+            };
+            let (x, y) = (timed(0, &mut *a), timed(1, &mut *b));
+            match (x, y) {
+                (Some(x), Some(y)) => {
+                    *rows.entry(row(q, &x)).or_default() += 1;
+                    score.count(x == y, || {
+                        let table = text(&case.table);
+                        let answers = [x, y].map(|w| text(w));
+                        format!(
+                            "{}\ntable {table}\n{q}\n= {}",
+                            case.name,
+                            answers.join("\n= ")
+                        )
+                    });
+                    if score.failed > 5 {
+                        return score.end();
+                    }
+                }
+                (None, None) => unasked += 1,
+                (x, _) => {
+                    silent += 1;
+                    let which = if x.is_some() { b.name() } else { a.name() };
+                    let verb = q.to_string().split(' ').next().unwrap().to_string();
+                    *rows
+                        .entry(format!("{verb} not answered by {which}"))
+                        .or_default() += 1;
+                }
+            }
+        }
+    }
+    for (row, n) in &rows {
+        println!("{n:>9}  {row}");
+    }
+    println!("{tables} tables; {silent} answered by one side, {unasked} by none");
+    println!(
+        "time: {} {:.2?}, {} {:.2?}",
+        a.name(),
+        times[0],
+        b.name(),
+        times[1]
+    );
+    score.end()
+}

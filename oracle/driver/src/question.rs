@@ -1,0 +1,154 @@
+//! Questions as values and as lines of text.
+
+use crate::side::*;
+use crate::table::Sym;
+
+#[derive(Clone, Debug, PartialEq, Eq)]
+pub enum Question {
+    Check,
+    First0(Vec<Sym>),
+    First1(Vec<Sym>, u64),
+    Back(u16, Vec<Sym>),
+    Shift(u16, (u16, u16)),
+    Reduce(u16, (u16, u16)),
+    /// Start item, any lookahead, graph words.
+    List((u16, u16), Option<u64>, Vec<u16>),
+    /// A listing over the graph that a trace gives (reduce if set), from a
+    /// state and the traced item.
+    ListTrace(bool, u16, (u16, u16), Option<u64>),
+    Classify([u16; 5]),
+    Choose([u16; 4], u64),
+    Observed([u16; 5]),
+    /// Two token sets and a token.
+    Sets(u64, u64, u16),
+    Item((u16, u16)),
+}
+
+/// A table with questions about it.
+#[derive(Clone, Debug, Default)]
+pub struct Case {
+    pub name: String,
+    pub table: Vec<u16>,
+    pub questions: Vec<Question>,
+}
+
+pub fn ask(side: &mut dyn Side, table: &[u16], question: &Question) -> Option<Answer> {
+    match question {
+        Question::Check => side.check(table),
+        Question::First0(s) => side.first0(table, s),
+        Question::First1(s, l) => side.first1(table, s, *l),
+        Question::Back(state, s) => side.trace_back(table, *state, s),
+        Question::Shift(state, item) => side.backtrace_shift(table, *state, *item),
+        Question::Reduce(state, item) => side.backtrace_reduce(table, *state, *item),
+        Question::List(start, l, graph) => side.examples(table, graph, *start, *l),
+        Question::ListTrace(reduce, state, item, l) => {
+            let traced = if *reduce {
+                side.backtrace_reduce(table, *state, *item)?
+            } else {
+                side.backtrace_shift(table, *state, *item)?
+            };
+            if traced[0] != 0 {
+                return Some(traced);
+            }
+            let graph: Vec<u16> = traced[1..].iter().map(|&w| w as u16).collect();
+            side.examples(table, &graph, *item, *l)
+        }
+        Question::Classify(c) => side.classify(table, *c),
+        Question::Choose(c, tokens) => side.choose(table, *c, *tokens),
+        Question::Observed(c) => side.observed(table, *c),
+        Question::Sets(a, b, token) => side.sets(table, *a, *b, *token),
+        Question::Item(item) => side.item(table, *item),
+    }
+}
+
+pub fn text<T: ToString>(words: impl IntoIterator<Item = T>) -> String {
+    let words: Vec<String> = words.into_iter().map(|w| w.to_string()).collect();
+    words.join(" ")
+}
+
+fn pairs(symbols: &[Sym]) -> String {
+    text(symbols.iter().flat_map(|s| [s.0, s.1]))
+}
+
+fn set(tokens: Option<u64>) -> String {
+    match tokens {
+        None => "-".into(),
+        Some(set) => text(members(set)),
+    }
+}
+
+impl std::fmt::Display for Question {
+    fn fmt(&self, f: &mut std::fmt::Formatter<'_>) -> std::fmt::Result {
+        let line = match self {
+            Question::Check => "check".into(),
+            Question::First0(s) => format!("first0 {}", pairs(s)),
+            Question::First1(s, l) => format!("first1 {} / {}", pairs(s), set(Some(*l))),
+            Question::Back(state, s) => format!("back {state} {}", pairs(s)),
+            Question::Shift(state, i) => format!("shift {state} {} {}", i.0, i.1),
+            Question::Reduce(state, i) => format!("reduce {state} {} {}", i.0, i.1),
+            Question::List(i, l, g) => {
+                format!("list {} {} / {} / {}", i.0, i.1, set(*l), text(g))
+            }
+            Question::ListTrace(reduce, state, i, l) => {
+                let which = if *reduce { "list-reduce" } else { "list-shift" };
+                format!("{which} {state} {} {} / {}", i.0, i.1, set(*l))
+            }
+            Question::Classify(c) => format!("classify {}", text(c)),
+            Question::Choose(c, l) => format!("choose {} / {}", text(c), set(Some(*l))),
+            Question::Observed(c) => format!("observed {}", text(c)),
+            Question::Sets(a, b, token) => {
+                format!("sets {token} / {} / {}", set(Some(*a)), set(Some(*b)))
+            }
+            Question::Item(i) => format!("item {} {}", i.0, i.1),
+        };
+        f.write_str(line.trim_end())
+    }
+}
+
+/// A line back into a question.
+pub fn parse(line: &str) -> Option<Question> {
+    let (verb, rest) = line.trim().split_once(' ').unwrap_or((line.trim(), ""));
+    let parts: Vec<&str> = rest.split('/').map(str::trim).collect();
+    let numbers = |i: usize| -> Option<Vec<u16>> {
+        parts
+            .get(i)?
+            .split_whitespace()
+            .map(|w| w.parse().ok())
+            .collect()
+    };
+    let symbols = |words: &[u16]| -> Option<Vec<Sym>> {
+        (words.len() % 2 == 0).then(|| words.chunks(2).map(|c| (c[0], c[1])).collect())
+    };
+    let tokens = |i: usize| -> Option<u64> {
+        let mut set = 0;
+        for t in numbers(i)? {
+            set |= 1u64.checked_shl(t as u32)?;
+        }
+        Some(set)
+    };
+    let lookahead = |i: usize| -> Option<Option<u64>> {
+        if *parts.get(i)? == "-" {
+            Some(None)
+        } else {
+            tokens(i).map(Some)
+        }
+    };
+    let first = numbers(0)?;
+    Some(match (verb, &first[..]) {
+        ("check", []) => Question::Check,
+        ("first0", s) => Question::First0(symbols(s)?),
+        ("first1", s) => Question::First1(symbols(s)?, tokens(1)?),
+        ("back", [state, s @ ..]) => Question::Back(*state, symbols(s)?),
+        ("shift", &[state, p, i]) => Question::Shift(state, (p, i)),
+        ("reduce", &[state, p, i]) => Question::Reduce(state, (p, i)),
+        ("list", &[p, i]) => Question::List((p, i), lookahead(1)?, numbers(2)?),
+        ("list-shift", &[s, p, i]) => Question::ListTrace(false, s, (p, i), lookahead(1)?),
+        ("list-reduce", &[s, p, i]) => Question::ListTrace(true, s, (p, i), lookahead(1)?),
+        ("classify", c) => Question::Classify(c.try_into().ok()?),
+        ("choose", c) => Question::Choose(c.try_into().ok()?, tokens(1)?),
+        ("sets", &[token]) => Question::Sets(tokens(1)?, tokens(2)?, token),
+        ("item", &[p, i]) => Question::Item((p, i)),
+        ("observed", c) => Question::Observed(c.try_into().ok()?),
+        _ => return None,
+    })
+}

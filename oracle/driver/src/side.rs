@@ -1,0 +1,208 @@
+//! One side of a comparison: the questions, and answers as words.
+
+use crate::table::{Refusal, Sym};
+
+/// Answer words. First 0 for an answer, or the refusal's number and place.
+///
+/// | question | after the 0 |
+/// |---|---|
+/// | check | nothing |
+/// | first0, first1 | the tokens, ascending |
+/// | trace_back | the states, ascending |
+/// | backtrace_shift, backtrace_reduce | number of edges, eight words an edge |
+/// | examples | 1 if refused by 13 else 0, count, number of examples; of each: trial, number of words, words |
+/// | classify | class, trials of action and reduce side, number of own words, own words, then for both examples: number of words (0 for none), words |
+/// | choose | number chosen; of each: token, class, number of own words, own words |
+/// | observed | the words |
+/// | sets | see `SETS` |
+/// | item | number of prefix symbols, the symbols; 1 and the cursor's symbol or 0; number of suffix symbols, the symbols; the nonterminal it can shift plus 1 or 0 |
+pub type Answer = Vec<u32>;
+
+/// What `sets` answers of two token sets a and b and a token; a set is two
+/// words, the low one first.
+pub const SETS: &str = "a's length, whether it has the token, whether the end; \
+    a after insert of the token and whether it changed; the same of insert_eof; \
+    of union_with b; a and b's intersection; a after take_eof and whether it had \
+    the end; whether a and b are disjoint, whether they meet; the set made from \
+    the token; all; eof; then a's members in order";
+
+/// None: this side does not answer the question, or cannot on this input.
+pub trait Side {
+    fn name(&self) -> &'static str;
+
+    fn check(&mut self, _table: &[u16]) -> Option<Answer> {
+        None
+    }
+    fn first0(&mut self, _table: &[u16], _symbols: &[Sym]) -> Option<Answer> {
+        None
+    }
+    /// `lookahead` and `tokens` are sets: bit i is token i.
+    fn first1(&mut self, _table: &[u16], _symbols: &[Sym], _lookahead: u64) -> Option<Answer> {
+        None
+    }
+    fn trace_back(&mut self, _table: &[u16], _state: u16, _symbols: &[Sym]) -> Option<Answer> {
+        None
+    }
+    fn backtrace_shift(
+        &mut self,
+        _table: &[u16],
+        _state: u16,
+        _item: (u16, u16),
+    ) -> Option<Answer> {
+        None
+    }
+    fn backtrace_reduce(
+        &mut self,
+        _table: &[u16],
+        _state: u16,
+        _item: (u16, u16),
+    ) -> Option<Answer> {
+        None
+    }
+    /// `graph` as document 01's words: a count, then eight an edge.
+    fn examples(
+        &mut self,
+        _table: &[u16],
+        _graph: &[u16],
+        _start: (u16, u16),
+        _lookahead: Option<u64>,
+    ) -> Option<Answer> {
+        None
+    }
+    fn classify(&mut self, _table: &[u16], _conflict: [u16; 5]) -> Option<Answer> {
+        None
+    }
+    /// `conflict` without its token.
+    fn choose(&mut self, _table: &[u16], _conflict: [u16; 4], _tokens: u64) -> Option<Answer> {
+        None
+    }
+    fn sets(&mut self, _table: &[u16], _a: u64, _b: u64, _token: u16) -> Option<Answer> {
+        None
+    }
+    fn item(&mut self, _table: &[u16], _item: (u16, u16)) -> Option<Answer> {
+        None
+    }
+    /// Of a conflict's two examples, as `classify` gives them.
+    fn observed(&mut self, _table: &[u16], _conflict: [u16; 5]) -> Option<Answer> {
+        None
+    }
+}
+
+pub fn refused(r: Refusal) -> Answer {
+    vec![r.number as u32, r.place as u32]
+}
+
+/// A token set's members, ascending.
+pub fn members(set: u64) -> impl Iterator<Item = u16> {
+    (0..64).filter(move |&i| set >> i & 1 == 1)
+}
+
+/// A token set as two words.
+pub fn halves(set: u64) -> [u32; 2] {
+    [set as u32, (set >> 32) as u32]
+}
+
+pub const MAX_EDGES: usize = 1_024;
+pub const MAX_TRIALS: u32 = 100_000;
+pub const MAX_EXAMPLES: usize = 192;
+
+/// Refusal 9 of a lent graph: numbers out of range, an edge twice (labels by
+/// their symbols). Gives the edges.
+pub fn graph_edges(table: &crate::table::Table, graph: &[u16]) -> Result<Vec<[u16; 8]>, Refusal> {
+    let bad = crate::table::refuse(9, 0);
+    let count = match graph.first() {
+        Some(&c) if c as usize <= MAX_EDGES && graph.len() > 8 * c as usize => c as usize,
+        _ => return bad,
+    };
+    let mut edges: Vec<[u16; 8]> = vec![];
+    let mut seen = std::collections::BTreeSet::new();
+    for w in graph[1..].chunks_exact(8).take(count) {
+        let e: [u16; 8] = w.try_into().unwrap();
+        let node = |w: &[u16]| match w[0] {
+            0 => (w[1] as usize) < table.nonterminals.len() && w[2] == 0,
+            1 => table.item_in_range((w[1], w[2])),
+            _ => false,
+        };
+        if !node(&e[..3]) || !node(&e[3..6]) || !table.item_in_range((e[6], e[7])) {
+            return bad;
+        }
+        let label = (&table.productions[e[6] as usize].symbols, e[7]);
+        if !seen.insert((e[..6].to_vec(), label)) {
+            return bad;
+        }
+        edges.push(e);
+    }
+    Ok(edges)
+}
+
+pub enum Step {
+    /// The trial with this number is an example.
+    Example(u32),
+    /// All trials were made; their number.
+    End(u32),
+    /// A trial past the limit would follow.
+    Limit,
+}
+
+/// A plain recount of a listing's trials over edges in the order added: at
+/// each node the edge added last goes first; a nonterminal stands once in a
+/// walk.
+pub struct Recount<'a> {
+    edges: &'a [[u16; 8]],
+    incoming: std::collections::BTreeMap<[u16; 3], Vec<usize>>,
+    /// Nodes of the walk, and how many edges into each were tried.
+    walk: Vec<([u16; 3], usize)>,
+    /// The walk's edges, and after an example its last edge.
+    pub path: Vec<usize>,
+    trials: u32,
+    on_example: bool,
+}
+
+impl<'a> Recount<'a> {
+    pub fn new(edges: &'a [[u16; 8]], start: (u16, u16)) -> Self {
+        let mut incoming = std::collections::BTreeMap::<[u16; 3], Vec<usize>>::new();
+        for (i, e) in edges.iter().enumerate().rev() {
+            incoming.entry([e[3], e[4], e[5]]).or_default().push(i);
+        }
+        Recount {
+            edges,
+            incoming,
+            walk: vec![([1, start.0, start.1], 0)],
+            path: vec![],
+            trials: 0,
+            on_example: false,
+        }
+    }
+
+    pub fn step(&mut self) -> Step {
+        if self.on_example {
+            self.path.pop();
+            self.on_example = false;
+        }
+        while let Some((node, tried)) = self.walk.last_mut() {
+            let next = self.incoming.get(&*node).and_then(|into| into.get(*tried));
+            *tried += 1;
+            let Some(&edge) = next else {
+                self.walk.pop();
+                self.path.pop();
+                continue;
+            };
+            if self.trials == MAX_TRIALS {
+                return Step::Limit;
+            }
+            self.trials += 1;
+            let e = self.edges[edge];
+            let source = [e[0], e[1], e[2]];
+            if source[0] == 1 {
+                self.path.push(edge);
+                self.on_example = true;
+                return Step::Example(self.trials);
+            }
+            if !self.walk.iter().any(|w| w.0 == source) {
+                self.path.push(edge);
+                self.walk.push((source, 0));
+            }
+        }
+        Step::End(self.trials)
+    }
+}

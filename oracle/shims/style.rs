@@ -1,0 +1,2 @@
+// Shim: styles of messages.
+pub use ascii_canvas::style::*;
