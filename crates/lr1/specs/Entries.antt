@@ -21,8 +21,8 @@ use Rattle.lr1.specs.declared.Walked.the-variants.{States, Refused as No
 
 -- an answer over the table's meaning, unless the check refuses
 unfoldable pub overTable {ℓ} : {A : Type ℓ} → (ℕ → ℕ → A) → (Table → A) → List ℕ → Checked → A
-overTable no yes t (Refused n r) = no n r
-overTable no yes t Accepted = yes (meaning t)
+overTable refuse answer t (Refused n r) = refuse n r
+overTable refuse answer t Accepted = answer (meaning t)
 
 -- the symbols of a lent list are whole and in range; else refusal 9
 unfoldable pub symbolsFit : Table → List ℕ → Bool

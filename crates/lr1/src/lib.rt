@@ -9,6 +9,9 @@ use table::Checked;
 use table::read_counts;
 use table::read_productions;
 ghost use mathlib.Core.Path.{_≡_};
+ghost use Prim.Native.Nat.{suc, _≤_, _^_};
+ghost use lib.Dec.{ltb};
+ghost use Rattle.first.specs.First.{join};
 ghost use Rattle.table.specs.Decoded.{meaning};
 ghost use Rattle.table.specs.Refusals.{checkOf};
 ghost use Rattle.lr1.specs.Entries.{first0In, first0Of, first1In, first1Of, walkOf, traceBackIn, traceBackOf};
@@ -53,13 +56,57 @@ fn first0_in(table: &[u16], symbols: &[u16]) -> First
     }
 }
 
+// Whether a set holds tokens of the table alone.
+fn tokens_fit(terminals: usize, set: TokenSet) -> bool
+    requires { ⌜ terminals ≤ 63 ⌝ }
+    ensures { λ r. ⌜ r ≡ ltb (set .0) (2 ^ suc terminals) ⌝ }
+{
+    if terminals < 63 {
+        set.0 < 1 << (terminals + 1)
+    } else {
+        true
+    }
+}
+
+// A lookahead in the place of the end of input.
+fn followed(terminals: usize, set: TokenSet, lookahead: TokenSet) -> TokenSet
+    requires { ⌜ terminals ≤ 63 ⌝ }
+    ensures { λ r. ⌜ r .0 ≡ join terminals (set .0) (lookahead .0) ⌝ }
+{
+    let taken = set.take_eof(terminals as u16);
+    if taken.changed {
+        let rest = taken.set;
+        rest.union_with(lookahead).set
+    } else {
+        set
+    }
+}
+
 // FIRST of a list that a token of the lookahead follows.
 pub fn first1(table: &[u16], lookahead: TokenSet, symbols: &[u16]) -> First
     ensures { λ r. ⌜ r ≡ first1Of (now (table .entry)) (now (symbols .entry)) (lookahead .0) ⌝ }
 {
-    match first0(table, symbols) {
+    match table_check::check(table) {
+        Checked::Refused(refusal, place) => First::Refused(refusal, place),
+        Checked::Accepted => first1_in(table, lookahead, symbols),
+    }
+}
+
+fn first1_in(table: &[u16], lookahead: TokenSet, symbols: &[u16]) -> First
+    requires { ⌜ checkOf (now table) ≡ Checked.Accepted ⌝ }
+    ensures { λ r. ⌜ r ≡ first1In (now (symbols .entry)) (lookahead .0) (meaning (now (table .entry))) ⌝ }
+{
+    let counts = read_counts(table);
+    let terminals = counts.terminals;
+    match first0_in(table, symbols) {
         First::Refused(refusal, place) => First::Refused(refusal, place),
-        First::Tokens(set) => first1_in(table, lookahead, set),
+        First::Tokens(set) => {
+            if tokens_fit(terminals, lookahead) {
+                First::Tokens(followed(terminals, set, lookahead))
+            } else {
+                First::Refused(9, 0)
+            }
+        }
     }
 }
 

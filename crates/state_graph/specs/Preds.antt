@@ -1,14 +1,15 @@
 -- The predecessors of every state by every symbol, as the code keeps them: for symbol x (a nonterminal its number, a terminal n more than its number, n the number of nonterminals)
 -- and target state m two words from (x * 128 + m) * 2 on. Assumes nothing: these are definitions.
-use Prim.Native.Nat.{ℕ, zero, suc, _+_, _*_, _≤_, _<_}
-use mathlib.Core.Bool.{Bool, true, false, _&&_}
+use Prim.Native.Nat.{ℕ, zero, suc, _+_, _*_, _/_, _%_, _≤_, _<_}
+use mathlib.Core.Bool.{Bool, true, false, _&&_, _||_}
 use mathlib.Core.Path.{_≡_}
 use mathlib.Core.List.{List}
-use lib.ListN.{length, getD}
+use lib.ListN.{length, getD, set}
 use lib.Dec.{eqb}
 use Rattle.repr.specs.Lists.{some?}
 use Rattle.repr.specs.Meaning.{Symbol, sameSymbol, Edge, Table, stateAt}
 use Rattle.repr.specs.Listed.{symbolOfKind, symbolFits}
+use Rattle.lookahead.specs.Tokens.{single, union}
 use Rattle.state_graph.specs.States.{hasState}
 
 unfoldable pub rowOf : ℕ → ℕ → ℕ → ℕ
@@ -24,3 +25,21 @@ pub record Preds (T : Table) (ws : List ℕ) : Type 0 where
   pub exact : (k x m p : ℕ) → symbolFits (length (T .nonterminals)) (T .terminals) k x ≡ true → m < length (T .states) → p < 128
       → hasState (getD ws ((rowOf (length (T .nonterminals)) k x * 128 + m) * 2) 0) (getD ws ((rowOf (length (T .nonterminals)) k x * 128 + m) * 2 + 1) 0) p
       ≡ hasEdge T (symbolOfKind k x) m p
+
+-- is state p marked at row x and target m
+unfoldable pub predHas : List ℕ → ℕ → ℕ → ℕ → Bool
+predHas ws x m p = hasState (getD ws ((x * 128 + m) * 2) 0) (getD ws ((x * 128 + m) * 2 + 1) 0) p
+
+-- state s marked in the two words from a place on
+unfoldable pub marked : List ℕ → ℕ → ℕ → List ℕ
+marked ws at s = set ws (at + s / 64) (union (getD ws (at + s / 64) 0) (single (s % 64)))
+
+-- an edge by symbol x into state m
+unfoldable pub into : Symbol → ℕ → Edge → Bool
+into x m e = sameSymbol x (e .symbol) && eqb (e .target) m
+
+-- beside what was marked, state s is marked for the edges es
+pub record Added (T : Table) (s : ℕ) (es : List Edge) (old new : List ℕ) : Type 0 where
+  pub exact : (k x m p : ℕ) → symbolFits (length (T .nonterminals)) (T .terminals) k x ≡ true → m < length (T .states) → p < 128
+      → predHas new (rowOf (length (T .nonterminals)) k x) m p
+      ≡ (predHas old (rowOf (length (T .nonterminals)) k x) m p || (eqb p s && some? (into (symbolOfKind k x) m) es))

@@ -1,9 +1,9 @@
 -- The state walk, part 3 of document 01 (lr1/state_graph.rs). Assumes nothing: these are definitions.
-use Prim.Native.Nat.{ℕ}
+use Prim.Native.Nat.{ℕ, _<_}
 use mathlib.Core.Bool.{Bool, true, false, _&&_}
 use mathlib.Core.Path.{_≡_}
 use mathlib.Core.List.{List, [], _∷_, List·Memᴰ}
-use lib.ListN.{length}
+use lib.ListN.{length, getD}
 use Rattle.repr.specs.Lists.{below, mem, keep, some?}
 use Rattle.repr.specs.Meaning.{Symbol, sameSymbol, Edge, Table, stateAt}
 
@@ -25,6 +25,10 @@ unfoldable pub walkBack : Table → List ℕ → List Symbol → List ℕ
 walkBack T ss [] = ss
 walkBack T ss (x ∷ xs) = predecessors T x (walkBack T ss xs)
 
--- `trace_back`: the states from which a path spells the symbols and ends at state s, ascending, once each (`walk-exact` of proofs/Exact)
+-- `trace_back`: the states from which a path spells the symbols and ends at state s, ascending, once each (`trace-exact` and `trace-ascending` of proofs/Exact)
 unfoldable pub traceBack : Table → ℕ → List Symbol → List ℕ
 traceBack T s xs = walkBack T (s ∷ []) xs
+
+-- ascending, so once each
+abbrev pub Ascending : List ℕ → Type 0
+Ascending ss = (i j : ℕ) → i < j → j < length ss → getD ss i 0 < getD ss j 0

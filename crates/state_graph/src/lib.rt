@@ -1,19 +1,26 @@
 // The walk back over edges (lr1/state_graph.rs), by sets of states.
 use lookahead::NextToken;
+use lookahead::TokenSet;
 use lookahead::TokenSetIter;
+use repr::word;
+use table::Checked;
 use table::edge;
 use table::first_edge;
+use table::read_counts;
 ghost use mathlib.Core.Path.{_≡_};
-ghost use mathlib.Core.Bool.{Bool, true, false};
+ghost use mathlib.Core.Bool.{Bool, true, false, _&&_, _||_};
 ghost use mathlib.Core.List.{List};
 ghost use Prim.Native.Nat.{ℕ, _+_, _*_, _≤_, _<_};
+ghost use lib.Dec.{eqb, ltb};
 ghost use lib.ListN.{length, getD, replicate};
+ghost use Rattle.repr.specs.Lists.{some?};
+ghost use Rattle.repr.specs.Meaning.{stateAt};
 ghost use Rattle.repr.specs.Listed.{listed, listFits};
 ghost use Rattle.table.specs.Decoded.{meaning};
 ghost use Rattle.table.specs.Refusals.{checkOf};
 ghost use Rattle.state_graph.specs.Walk.{walkBack, traceBack};
-ghost use Rattle.state_graph.specs.States.{statesIn};
-ghost use Rattle.state_graph.specs.Preds.{Preds};
+ghost use Rattle.state_graph.specs.States.{hasState, statesIn, NextIs};
+ghost use Rattle.state_graph.specs.Preds.{Preds, rowOf, predHas, marked, Added};
 
 // The number of a state.
 pub struct StateIndex(pub u16);
@@ -22,10 +29,134 @@ impl StateIndex {
     pub const LIMIT: u16 = 128;
 }
 
-// A set of states: 0 to 63 in `low`, 64 to 127 in `high`.
+// A set of states: 0 to 63 in `low`, 64 to 127 in `high`. Every operation is total: a state above 127 is not contained and not inserted.
 pub struct StateSet {
     pub low: u64,
     pub high: u64,
+}
+
+// The least state of a set, and the others.
+pub enum NextState {
+    State(usize, StateSet),
+    Done,
+}
+
+impl StateSet {
+    pub fn new() -> StateSet
+        ensures { λ r. ⌜ ((k : ℕ) → hasState (r .low) (r .high) k ≡ false) ⌝ }
+    {
+        StateSet { low: 0, high: 0 }
+    }
+
+    // The set of one state.
+    pub fn of(state: usize) -> StateSet
+        ensures { λ r. ⌜ ((k : ℕ) → hasState (r .low) (r .high) k ≡ ltb k 128 && eqb k state) ⌝ }
+    {
+        StateSet::new().insert(state)
+    }
+
+    pub fn insert(self, state: usize) -> StateSet
+        ensures { λ r. ⌜ ((k : ℕ) → hasState (r .low) (r .high) k ≡ hasState (self .low) (self .high) k || (ltb k 128 && eqb k state)) ⌝ }
+    {
+        if state < 64 {
+            return StateSet {
+                low: self.low | 1 << state,
+                high: self.high,
+            };
+        }
+        if state < 128 {
+            return StateSet {
+                low: self.low,
+                high: self.high | 1 << (state - 64),
+            };
+        }
+        self
+    }
+
+    pub fn contains(self, state: usize) -> bool
+        ensures { λ r. ⌜ r ≡ hasState (self .low) (self .high) state ⌝ }
+    {
+        if state < 64 {
+            return (self.low >> state) & 1 == 1;
+        }
+        if state < 128 {
+            return (self.high >> (state - 64)) & 1 == 1;
+        }
+        false
+    }
+
+    pub fn union(self, other: StateSet) -> StateSet
+        ensures { λ r. ⌜ ((k : ℕ) → hasState (r .low) (r .high) k ≡ hasState (self .low) (self .high) k || hasState (other .low) (other .high) k) ⌝ }
+    {
+        StateSet {
+            low: self.low | other.low,
+            high: self.high | other.high,
+        }
+    }
+
+    pub fn len(self) -> usize
+        ensures { λ r. ⌜ r ≡ length (statesIn (self .low) (self .high)) ⌝ }
+    {
+        TokenSet(self.low).len() + TokenSet(self.high).len()
+    }
+
+    // The states in order, one for each call.
+    pub fn next(self) -> NextState
+        ensures { λ r. ⌜ NextIs (self .low) (self .high) r ⌝ }
+    {
+        match TokenSetIter(self.low).next() {
+            NextToken::Token(s, rest) => NextState::State(
+                s as usize,
+                StateSet {
+                    low: rest.0,
+                    high: self.high,
+                },
+            ),
+            NextToken::Done => match TokenSetIter(self.high).next() {
+                NextToken::Token(s, rest) => NextState::State(
+                    64 + s as usize,
+                    StateSet {
+                        low: 0,
+                        high: rest.0,
+                    },
+                ),
+                NextToken::Done => NextState::Done,
+            },
+        }
+    }
+}
+
+// The row of a symbol.
+fn row_of(n: usize, kind: usize, number: usize) -> usize
+    requires { ⌜ (n < 1000000) × (number < 1000000) ⌝ }
+    ensures { λ r. ⌜ r ≡ rowOf n kind number ⌝ }
+{
+    if kind == 0 { number } else { n + number }
+}
+
+// State `state` marked in the two words from `at` on.
+fn mark(preds: &mut [u64], at: usize, state: usize)
+    requires { ⌜ (at + 1 < length (now preds)) × (state < 128) ⌝ }
+    ensures { λ _. ⌜ now (preds .exit) ≡ marked (now (preds .entry)) at state ⌝ }
+{
+    let i = at + state / 64;
+    preds[i] = preds[i] | 1 << (state % 64);
+}
+
+// The edges of one state.
+fn index_state(table: &[u16], preds: &mut [u64], n: usize, state: usize)
+    requires { ⌜ checkOf (now table) ≡ Checked.Accepted ⌝ }
+    requires { ⌜ (n ≡ length (meaning (now table) .nonterminals)) × (state < length (meaning (now table) .states)) × ((length (meaning (now table) .nonterminals) + meaning (now table) .terminals) * 256 ≤ length (now preds)) ⌝ }
+    ensures { λ _. ⌜ Added (meaning (now (table .entry))) state (stateAt (meaning (now (table .entry))) state .edges) (now (preds .entry)) (now (preds .exit)) ⌝ }
+{
+    let mut at = first_edge(table, state);
+    while at != 0 {
+        let e = edge(table, at);
+        let target = e.target;
+        let row = row_of(n, e.kind, e.number);
+        mark(preds, (row * 128 + target) * 2, state);
+        at = e.next;
+    }
 }
 
 // The predecessors of every state by every symbol, from the edges of the table: each edge is read once, and no walk reads a chain again.
@@ -33,7 +164,43 @@ pub fn index(table: &[u16], preds: &mut [u64])
     requires { ⌜ checkOf (now table) ≡ Checked.Accepted ⌝ }
     requires { ⌜ ((length (meaning (now table) .nonterminals) + meaning (now table) .terminals) * 256 ≤ length (now preds)) × (now preds ≡ replicate (length (now preds)) 0) ⌝ }
     ensures { λ _. ⌜ Preds (meaning (now (table .entry))) (now (preds .exit)) ⌝ }
-{}
+{
+    let counts = read_counts(table);
+    let n = counts.nonterminals;
+    let states = counts.states;
+    let mut s: usize = 0;
+    while s < states {
+        index_state(table, preds, n, s);
+        s += 1;
+    }
+}
+
+// The states with an edge by one symbol into the set: the two words of each of its states.
+fn step(preds: &[u64], n: usize, kind: usize, number: usize, set: StateSet) -> StateSet
+    requires { ⌜ (n < 1000000) × (number < 1000000) × (rowOf n kind number * 256 + 256 ≤ length (now preds)) ⌝ }
+    ensures { λ r. ⌜ ((p : ℕ) → p < 128 → hasState (r .low) (r .high) p ≡ some? (λ m. predHas (now (preds .entry)) (rowOf n kind number) m p) (statesIn (set .low) (set .high))) ⌝ }
+{
+    let row = row_of(n, kind, number);
+    let mut low: u64 = 0;
+    let mut high: u64 = 0;
+    let mut rest = set;
+    loop {
+        match rest.next() {
+            NextState::State(m, others) => {
+                let at = (row * 128 + m) * 2;
+                low = low | preds[at];
+                high = high | preds[at + 1];
+                rest = others;
+            }
+            NextState::Done => {
+                return StateSet {
+                    low: low,
+                    high: high,
+                };
+            }
+        }
+    }
+}
 
 // The states from which a path spells the symbols and ends in the set.
 pub fn walk_back(table: &[u16], preds: &[u64], set: StateSet, symbols: &[u16]) -> StateSet
@@ -42,7 +209,40 @@ pub fn walk_back(table: &[u16], preds: &[u64], set: StateSet, symbols: &[u16]) -
     requires { ⌜ (listFits (length (meaning (now table) .nonterminals)) (meaning (now table) .terminals) (now symbols) ≡ true) × ((s : ℕ) → hasState (set .low) (set .high) s ≡ true → s < length (meaning (now table) .states)) ⌝ }
     ensures { λ r. ⌜ statesIn (r .low) (r .high) ≡ walkBack (meaning (now (table .entry))) (statesIn (set .low) (set .high)) (listed (now (symbols .entry))) ⌝ }
 {
-    set
+    let counts = read_counts(table);
+    let n = counts.nonterminals;
+    let mut found = set;
+    let mut i = symbols.len() / 2;
+    while i > 0 {
+        i -= 1;
+        let kind = word(symbols, 2 * i);
+        let number = word(symbols, 2 * i + 1);
+        found = step(preds, n, kind, number, found);
+    }
+    found
+}
+
+// With the index in an array for at most 8 rows.
+fn trace_few(table: &[u16], state: usize, symbols: &[u16]) -> StateSet
+    requires { ⌜ checkOf (now table) ≡ Checked.Accepted ⌝ }
+    requires { ⌜ (state < length (meaning (now table) .states)) × (listFits (length (meaning (now table) .nonterminals)) (meaning (now table) .terminals) (now symbols) ≡ true) ⌝ }
+    requires { ⌜ length (meaning (now table) .nonterminals) + meaning (now table) .terminals ≤ 8 ⌝ }
+    ensures { λ r. ⌜ statesIn (r .low) (r .high) ≡ traceBack (meaning (now (table .entry))) state (listed (now (symbols .entry))) ⌝ }
+{
+    let mut preds = [0u64; 2048];
+    index(table, &mut preds);
+    walk_back(table, &preds, StateSet::of(state), symbols)
+}
+
+// For every table: at most 95 rows.
+fn trace_many(table: &[u16], state: usize, symbols: &[u16]) -> StateSet
+    requires { ⌜ checkOf (now table) ≡ Checked.Accepted ⌝ }
+    requires { ⌜ (state < length (meaning (now table) .states)) × (listFits (length (meaning (now table) .nonterminals)) (meaning (now table) .terminals) (now symbols) ≡ true) ⌝ }
+    ensures { λ r. ⌜ statesIn (r .low) (r .high) ≡ traceBack (meaning (now (table .entry))) state (listed (now (symbols .entry))) ⌝ }
+{
+    let mut preds = [0u64; 24320];
+    index(table, &mut preds);
+    walk_back(table, &preds, StateSet::of(state), symbols)
 }
 
 // `trace_back` of one state.
@@ -51,5 +251,10 @@ pub fn trace_back(table: &[u16], state: usize, symbols: &[u16]) -> StateSet
     requires { ⌜ (state < length (meaning (now table) .states)) × (listFits (length (meaning (now table) .nonterminals)) (meaning (now table) .terminals) (now symbols) ≡ true) ⌝ }
     ensures { λ r. ⌜ statesIn (r .low) (r .high) ≡ traceBack (meaning (now (table .entry))) state (listed (now (symbols .entry))) ⌝ }
 {
-    StateSet { low: 0, high: 0 }
+    let counts = read_counts(table);
+    if counts.nonterminals + counts.terminals <= 8 {
+        trace_few(table, state, symbols)
+    } else {
+        trace_many(table, state, symbols)
+    }
 }

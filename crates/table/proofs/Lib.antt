@@ -1,4 +1,5 @@
 pub mod Computes
+pub mod Exact
 pub mod Chains
 pub mod Reached
 pub mod ListLaws

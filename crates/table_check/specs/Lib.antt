@@ -1,1 +1,4 @@
 pub mod Marks
+pub mod Passed
+pub mod Known
+pub mod Faults

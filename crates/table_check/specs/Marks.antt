@@ -1,22 +1,19 @@
 -- What the parts of the check hold while it works. Assumes nothing: these are definitions.
-use Prim.Native.Nat.{ℕ, zero, suc, _+_, min, _<_}
+use Prim.Native.Nat.{ℕ, _+_, min, _<_}
 use mathlib.Core.Bool.{Bool, true, false}
 use mathlib.Core.Path.{_≡_}
-use mathlib.Core.List.{List, [], _∷_}
+use mathlib.Core.List.{List}
 use lib.ListN.{length, getD}
-use Rattle.repr.specs.Lists.{below, mem, occurrences, some?, joined}
-use Rattle.table.specs.Words.{wordAt, records, nonterminals, productions, productionArea, looseRecords, chain}
+use Rattle.repr.specs.Lists.{below, occurrences, joined}
+use Rattle.table.specs.Words.{records, nonterminals, productions, productionArea}
 use Rattle.table.specs.Decoded.{productionChain, symbolChain}
 use Rattle.table.specs.Refusals.{row1, row2}
+use Rattle.table.specs.Reached.{reachedBy}
 
 -- refusals 1 and 2 do not apply
 pub record Sized (t : List ℕ) : Type 0 where
   pub words : row1 t ≡ false
   pub counts : row2 t ≡ false
-
--- a chain of loose records that begins in word k of one of the n records from `first` on holds r
-unfoldable pub reachedBy : List ℕ → ℕ → ℕ → ℕ → ℕ → Bool
-reachedBy t first n k r = some? (λ i. mem r (chain t (looseRecords t) (first + i) (wordAt t (first + i) k))) (below n)
 
 unfoldable pub flag : Bool → ℕ
 flag true = 1

@@ -1,5 +1,22 @@
-// The trace graph (lr1/trace/trace_graph/mod.rs) in words.
+// The trace graph (lr1/trace/trace_graph/mod.rs) in words: part 4 of document 01.
+// The index of the edges into each node (specs/Index) is kept beside it, so that an equal edge is looked for among the edges into one node alone.
+use core::Item;
+use repr::symbols;
+use repr::word;
 ghost use mathlib.Core.Path.{_≡_};
+ghost use mathlib.Core.Bool.{true, _&&_};
+ghost use Prim.Native.Nat.{_+_, _≤_, _<_};
+ghost use lib.ListN.{length, getD, replicate};
+ghost use Rattle.repr.specs.Lists.{some?};
+ghost use Rattle.repr.specs.Packed.{Packed, productionsIn};
+ghost use Rattle.trace_graph.specs.declared.Inserted.the-variants.{Done, Full};
+ghost use Rattle.trace_graph.specs.Graph.{sameNode, labelOf, sameSets, sameEdge};
+ghost use Rattle.trace_graph.specs.Words.{place, nodeAt, edgeAt};
+ghost use Rattle.trace_graph.specs.Fits.{itemFits, edgeFits, graphFits};
+ghost use Rattle.trace_graph.specs.Index.{nodeNumber};
+ghost use Rattle.trace_graph.specs.Values.{nodeIs, edgeIs, sameValue, nodeValueFits, valueFits, SmallNode, SmallEdge, nodeRead, edgeRead, valueWords, written, firstEdges};
+ghost use Rattle.trace_graph.specs.Insert.{Graphed, linkedAt, Added, Overfull, fresh};
+ghost use Rattle.trace_graph.specs.Same.{sameWords};
 
 pub struct TraceGraph {
     pub edges: usize,
@@ -13,10 +30,358 @@ impl TraceGraph {
 
     pub const WORDS: usize = 8193;
 
+    // Nodes that a table can have, and words of a graph's index.
+    pub const NODES: usize = 2208;
+
+    pub const INDEX_WORDS: usize = 3232;
+
     // The empty graph.
     pub fn new() -> TraceGraph
         ensures { λ r. ⌜ r .edges ≡ 0 ⌝ }
     {
         TraceGraph { edges: 0 }
     }
+}
+
+// `TraceGraphNode`: of kind 0 the nonterminal `number`, of kind 1 the item at `index` of production `number`.
+pub struct Node {
+    pub kind: usize,
+    pub number: usize,
+    pub index: usize,
+}
+
+// An edge; its label is the symbol sets of the item at `index` of `production`.
+pub struct TraceEdge {
+    pub source: Node,
+    pub target: Node,
+    pub production: usize,
+    pub index: usize,
+}
+
+// Whether the edge is in the graph; Full is refusal 12.
+pub enum Inserted {
+    Done,
+    Full,
+}
+
+// The number of a node in the index.
+pub fn node_number(node: Node) -> usize
+    requires { ⌜ SmallNode node ⌝ }
+    ensures { λ r. ⌜ (r ≡ nodeNumber (nodeIs node)) × (r < 2208) ⌝ }
+{
+    if node.kind == 0 {
+        node.number
+    } else {
+        32 + (node.number * 17 + node.index)
+    }
+}
+
+// The node whose words begin at a place.
+pub fn read_node(graph: &[u16], at: usize) -> Node
+    requires { ⌜ at + 2 < length (now graph) ⌝ }
+    ensures { λ r. ⌜ (nodeIs r ≡ nodeAt (now (graph .entry)) at) × (r ≡ nodeRead (now (graph .entry)) at) ⌝ }
+{
+    let kind = word(graph, at);
+    let number = word(graph, at + 1);
+    let index = word(graph, at + 2);
+    Node {
+        kind: kind,
+        number: number,
+        index: index,
+    }
+}
+
+// Edge k.
+pub fn read_edge(graph: &[u16], k: usize) -> TraceEdge
+    requires { ⌜ (k < 1024) × (8193 ≤ length (now graph)) ⌝ }
+    ensures { λ r. ⌜ (edgeIs r ≡ edgeAt (now (graph .entry)) k) × (r ≡ edgeRead (now (graph .entry)) k) ⌝ }
+{
+    let at = k * TraceGraph::EDGE_WORDS + 1;
+    let source = read_node(graph, at);
+    let target = read_node(graph, at + 3);
+    let production = word(graph, at + 6);
+    let index = word(graph, at + 7);
+    TraceEdge {
+        source: source,
+        target: target,
+        production: production,
+        index: index,
+    }
+}
+
+// Writes edge k.
+pub fn write_edge(graph: &mut [u16], k: usize, edge: TraceEdge)
+    requires { ⌜ (k < 1024) × (8193 ≤ length (now graph)) ⌝ }
+    requires { ⌜ SmallEdge edge ⌝ }
+    ensures { λ _. ⌜ now (graph .exit) ≡ written (now (graph .entry)) k (valueWords edge) ⌝ }
+{
+    let at = k * TraceGraph::EDGE_WORDS + 1;
+    let source = edge.source;
+    let target = edge.target;
+    graph[at] = source.kind as u16;
+    graph[at + 1] = source.number as u16;
+    graph[at + 2] = source.index as u16;
+    graph[at + 3] = target.kind as u16;
+    graph[at + 4] = target.number as u16;
+    graph[at + 5] = target.index as u16;
+    graph[at + 6] = edge.production as u16;
+    graph[at + 7] = edge.index as u16;
+}
+
+// Whether two lists of words are equal.
+fn same_words(a: &[u16], b: &[u16]) -> bool
+    ensures { λ r. ⌜ r ≡ sameWords (now (a .entry)) (now (b .entry)) ⌝ }
+{
+    if a.len() != b.len() {
+        return false;
+    }
+    let mut at: usize = 0;
+    while at < a.len() {
+        if a[at] != b[at] {
+            return false;
+        }
+        at += 1;
+    }
+    true
+}
+
+// Whether the labels of item i of production p and item j of production q are equal: by their symbols, and not by production.
+pub fn same_label(
+    grammar: &[u16],
+    productions: usize,
+    p: usize,
+    i: usize,
+    q: usize,
+    j: usize,
+) -> bool
+    requires { ⌜ Packed (now grammar) productions ⌝ }
+    requires { ⌜ (itemFits (productionsIn (now grammar) productions) p i ≡ true) × (itemFits (productionsIn (now grammar) productions) q j ≡ true) ⌝ }
+    ensures { λ r. ⌜ r ≡ sameSets (labelOf (productionsIn (now (grammar .entry)) productions) (record { production = p; index = i })) (labelOf (productionsIn (now (grammar .entry)) productions) (record { production = q; index = j })) ⌝ }
+{
+    if p == q {
+        return i == j;
+    }
+    if i != j {
+        return false;
+    }
+    let a = symbols(grammar, p, productions);
+    let b = symbols(grammar, q, productions);
+    same_words(a, b)
+}
+
+// Whether two nodes have the same words.
+pub fn same_node(a: Node, b: Node) -> bool
+    ensures { λ r. ⌜ r ≡ sameValue a b ⌝ }
+{
+    if a.kind != b.kind {
+        return false;
+    }
+    if a.number != b.number {
+        return false;
+    }
+    a.index == b.index
+}
+
+// Whether edge k, which has the edge's target, is equal to the edge.
+fn same_edge(
+    grammar: &[u16],
+    productions: usize,
+    n: usize,
+    graph: &[u16],
+    k: usize,
+    edge: TraceEdge,
+) -> bool
+    requires { ⌜ Packed (now grammar) productions ⌝ }
+    requires { ⌜ (k < 1024) × (8193 ≤ length (now graph)) ⌝ }
+    requires { ⌜ (edgeFits n (productionsIn (now grammar) productions) (now graph) k ≡ true) × (valueFits n (productionsIn (now grammar) productions) edge ≡ true) ⌝ }
+    requires { ⌜ sameNode (nodeAt (now graph) (place k + 3)) (nodeIs (edge .target)) ≡ true ⌝ }
+    ensures { λ r. ⌜ r ≡ sameEdge (productionsIn (now (grammar .entry)) productions) (edgeIs edge) (edgeAt (now (graph .entry)) k) ⌝ }
+{
+    let other = read_edge(graph, k);
+    let a = edge.source;
+    let b = other.source;
+    if same_node(a, b) {
+        let p = edge.production;
+        let i = edge.index;
+        let q = other.production;
+        let j = other.index;
+        return same_label(grammar, productions, p, i, q, j);
+    }
+    false
+}
+
+// Whether an equal edge is among the first k edges: only those into the edge's target are looked at.
+pub fn find(
+    grammar: &[u16],
+    productions: usize,
+    n: usize,
+    graph: &[u16],
+    ix: &[u16],
+    k: usize,
+    edge: TraceEdge,
+) -> bool
+    requires { ⌜ Packed (now grammar) productions ⌝ }
+    requires { ⌜ Graphed n (productionsIn (now grammar) productions) (now graph) (now ix) k ⌝ }
+    requires { ⌜ valueFits n (productionsIn (now grammar) productions) edge ≡ true ⌝ }
+    ensures { λ r. ⌜ r ≡ some? (sameEdge (productionsIn (now (grammar .entry)) productions) (edgeIs edge)) (firstEdges (now (graph .entry)) k) ⌝ }
+{
+    let target = edge.target;
+    let number = node_number(target);
+    let mut next = word(ix, number);
+    while next != 0 {
+        if same_edge(grammar, productions, n, graph, next - 1, edge) {
+            return true;
+        }
+        next = word(ix, TraceGraph::NODES + (next - 1));
+    }
+    false
+}
+
+// Puts edge k in front of the list of its target, whose number is given.
+pub fn link(ix: &mut [u16], k: usize, number: usize)
+    requires { ⌜ (length (now ix) ≡ 3232) × ((k < 1024) × (number < 2208)) ⌝ }
+    ensures { λ _. ⌜ now (ix .exit) ≡ linkedAt (now (ix .entry)) k number ⌝ }
+{
+    let older = ix[number];
+    ix[TraceGraph::NODES + k] = older;
+    ix[number] = (k + 1) as u16;
+}
+
+// `add_edge`: puts the edge into the graph unless an equal one is there.
+pub fn insert(
+    grammar: &[u16],
+    productions: usize,
+    n: usize,
+    graph: &mut [u16],
+    ix: &mut [u16],
+    edge: TraceEdge,
+) -> Inserted
+    requires { ⌜ Packed (now grammar) productions ⌝ }
+    requires { ⌜ Graphed n (productionsIn (now grammar) productions) (now graph) (now ix) (getD (now graph) 0 0) ⌝ }
+    requires { ⌜ valueFits n (productionsIn (now grammar) productions) edge ≡ true ⌝ }
+    ensures { λ r. ⌜ (r ≡ Done → Added n (productionsIn (now (grammar .entry)) productions) (edgeIs edge) (now (graph .entry)) (now (graph .exit)) (now (ix .exit))) ⌝ }
+    ensures { λ r. ⌜ (r ≡ Full → Overfull (productionsIn (now (grammar .entry)) productions) (edgeIs edge) (now (graph .entry)) (now (ix .entry)) (now (graph .exit)) (now (ix .exit))) ⌝ }
+{
+    let count = word(graph, 0);
+    if find(grammar, productions, n, graph, ix, count, edge) {
+        return Inserted::Done;
+    }
+    if count == TraceGraph::EDGES {
+        return Inserted::Full;
+    }
+    write_edge(graph, count, edge);
+    graph[0] = (count + 1) as u16;
+    let target = edge.target;
+    let number = node_number(target);
+    link(ix, count, number);
+    Inserted::Done
+}
+
+// Whether a production and an index are those of an item.
+pub fn item_fits(grammar: &[u16], productions: usize, production: usize, index: usize) -> bool
+    requires { ⌜ Packed (now grammar) productions ⌝ }
+    ensures { λ r. ⌜ r ≡ itemFits (productionsIn (now (grammar .entry)) productions) production index ⌝ }
+{
+    if production < productions {
+        let item = Item {
+            production: production,
+            index: index,
+        };
+        return index <= item.length(grammar, productions);
+    }
+    false
+}
+
+// Whether a node is in range, of n nonterminals.
+pub fn node_fits(grammar: &[u16], productions: usize, n: usize, node: Node) -> bool
+    requires { ⌜ Packed (now grammar) productions ⌝ }
+    ensures { λ r. ⌜ r ≡ nodeValueFits n (productionsIn (now (grammar .entry)) productions) node ⌝ }
+{
+    let kind = node.kind;
+    let number = node.number;
+    let index = node.index;
+    if kind == 0 {
+        if number < n {
+            return index == 0;
+        }
+        return false;
+    }
+    if kind == 1 {
+        return item_fits(grammar, productions, number, index);
+    }
+    false
+}
+
+// Whether an edge is.
+pub fn edge_fits(grammar: &[u16], productions: usize, n: usize, edge: TraceEdge) -> bool
+    requires { ⌜ Packed (now grammar) productions ⌝ }
+    ensures { λ r. ⌜ r ≡ valueFits n (productionsIn (now (grammar .entry)) productions) edge ⌝ }
+{
+    let source = edge.source;
+    let target = edge.target;
+    if node_fits(grammar, productions, n, source) {
+        if node_fits(grammar, productions, n, target) {
+            let production = edge.production;
+            let index = edge.index;
+            return item_fits(grammar, productions, production, index);
+        }
+    }
+    false
+}
+
+// Whether edge k is in range and equals none before it; if so the index is brought up to it.
+fn check_edge(
+    grammar: &[u16],
+    productions: usize,
+    n: usize,
+    graph: &[u16],
+    ix: &mut [u16],
+    k: usize,
+) -> bool
+    requires { ⌜ Packed (now grammar) productions ⌝ }
+    requires { ⌜ Graphed n (productionsIn (now grammar) productions) (now graph) (now ix) k ⌝ }
+    requires { ⌜ k < 1024 ⌝ }
+    ensures { λ r. ⌜ r ≡ edgeFits n (productionsIn (now (grammar .entry)) productions) (now (graph .entry)) k && fresh (productionsIn (now (grammar .entry)) productions) (now (graph .entry)) k ⌝ }
+    ensures { λ r. ⌜ (r ≡ true → Graphed n (productionsIn (now (grammar .entry)) productions) (now (graph .entry)) (now (ix .exit)) (k + 1)) ⌝ }
+{
+    let edge = read_edge(graph, k);
+    if edge_fits(grammar, productions, n, edge) {
+        if find(grammar, productions, n, graph, ix, k, edge) {
+            return false;
+        }
+        let target = edge.target;
+        let number = node_number(target);
+        link(ix, k, number);
+        return true;
+    }
+    false
+}
+
+// Whether a lent graph is one (refusal 9): a count within the limit, every number in range, no edge twice. Makes its index in zeroed words.
+pub fn check_graph(
+    grammar: &[u16],
+    productions: usize,
+    n: usize,
+    graph: &[u16],
+    ix: &mut [u16],
+) -> bool
+    requires { ⌜ Packed (now grammar) productions ⌝ }
+    requires { ⌜ (n ≤ 32) × (8193 ≤ length (now graph)) ⌝ }
+    requires { ⌜ now ix ≡ replicate 3232 0 ⌝ }
+    ensures { λ r. ⌜ r ≡ graphFits n (productionsIn (now (grammar .entry)) productions) (now (graph .entry)) ⌝ }
+    ensures { λ r. ⌜ (r ≡ true → Graphed n (productionsIn (now (grammar .entry)) productions) (now (graph .entry)) (now (ix .exit)) (getD (now (graph .entry)) 0 0)) ⌝ }
+{
+    let count = word(graph, 0);
+    if count > TraceGraph::EDGES {
+        return false;
+    }
+    let mut k: usize = 0;
+    while k < count {
+        if check_edge(grammar, productions, n, graph, ix, k) {
+            k += 1;
+        } else {
+            return false;
+        }
+    }
+    true
 }

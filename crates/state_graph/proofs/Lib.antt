@@ -1,0 +1,4 @@
+pub mod Exact
+pub mod States
+pub mod Edges
+pub mod Steps

@@ -1,0 +1,11 @@
+pub mod Bools
+pub mod Labels
+pub mod Same
+pub mod Stores
+pub mod Words
+pub mod Fits
+pub mod Index
+pub mod Finds
+pub mod Inserts
+pub mod Checks
+pub mod Front
