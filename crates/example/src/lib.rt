@@ -1,6 +1,5 @@
 // Examples (lr1/example, and `example` and `first0` of lr1/trace/trace_graph/mod.rs), on a list of labels.
 use lookahead::TokenSet;
-
 ghost use mathlib.Core.Path.{_≡_};
 ghost use mathlib.Core.List.{List};
 ghost use Prim.Native.Nat.{ℕ, _≤_, _<_};
@@ -18,9 +17,13 @@ pub struct Example {
 impl Example {
     // Symbols, reductions and words of an example; words of a symbol and of a reduction.
     pub const SYMBOLS: usize = 528;
+
     pub const REDUCTIONS: usize = 33;
+
     pub const WORDS: usize = 1158;
+
     pub const SYMBOL_WORDS: usize = 2;
+
     pub const REDUCTION_WORDS: usize = 3;
 }
 
@@ -30,8 +33,7 @@ pub fn write_example(grammar: &[u16], productions: usize, labels: &[u16], buffer
     requires { ⌜ LabelsFit (productionsIn (now grammar) productions) (now labels) ⌝ }
     requires { ⌜ 1158 ≤ length (now buffer) ⌝ }
     ensures { λ _. ⌜ now (buffer .exit) ≡ inFront (exampleWords (productionsIn (now (grammar .entry)) productions) (labelsIn (now (labels .entry)))) (now (buffer .entry)) ⌝ }
-{
-}
+{}
 
 // How many places the symbol list of the example has.
 pub fn symbol_count(grammar: &[u16], productions: usize, labels: &[u16]) -> usize
@@ -43,7 +45,13 @@ pub fn symbol_count(grammar: &[u16], productions: usize, labels: &[u16]) -> usiz
 }
 
 // The tokens that the example expects next.
-pub fn first0(map: &[u64; 32], terminals: u16, grammar: &[u16], productions: usize, labels: &[u16]) -> TokenSet
+pub fn first0(
+    map: &[u64; 32],
+    terminals: u16,
+    grammar: &[u16],
+    productions: usize,
+    labels: &[u16],
+) -> TokenSet
     requires { ⌜ Packed (now grammar) productions × (terminals ≤ 63) ⌝ }
     requires { ⌜ LabelsFit (productionsIn (now grammar) productions) (now labels) ⌝ }
     ensures { λ r. ⌜ r .0 ≡ first0 terminals (now (map .entry)) (ahead (productionsIn (now (grammar .entry)) productions) (labelsIn (now (labels .entry)))) ⌝ }

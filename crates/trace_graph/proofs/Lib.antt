@@ -9,3 +9,4 @@ pub mod Finds
 pub mod Inserts
 pub mod Checks
 pub mod Front
+pub mod RoundTrip
