@@ -1,4 +1,11 @@
 pub mod Traced
+pub mod Seen
 pub mod Shifting
+pub mod Coded
 pub mod Shift
 pub mod Reduce
+pub mod Sound
+pub mod Holding
+pub mod Steps
+pub mod Ends
+pub mod Reducing

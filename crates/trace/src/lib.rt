@@ -1,1 +1,4 @@
-pub struct Tracer(pub u16);
+// Backward tracing (lr1/trace/mod.rs).
+pub mod reduce;
+pub mod shift;
+pub mod shifting;
