@@ -1,0 +1,6 @@
+pub mod Trials
+pub mod Lister
+pub mod Words
+pub mod Advance
+pub mod Calls
+pub mod Machine

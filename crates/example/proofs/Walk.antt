@@ -1,0 +1,256 @@
+-- One law for each way through the code of this crate (src/lib), label by label. Assumes nothing.
+use mathlib.Core.Path.{_≡_, refl, sym, ap, _∙_}
+use mathlib.Core.Bool.{Bool, true, false}
+use mathlib.Core.List.{List, [], _∷_, _++_, map, append-nil, append-assoc}
+use mathlib.Core.Option.{Option, none, some}
+use Prim.Native.Nat.{ℕ, zero, suc, _+_, _-_, _*_, _/_, _≤_, _<_}
+use native.Mathlib.Omega.{arith}
+use lib.ListN.{length, take, drop, drop-of-length-le}
+use lib.Seq.{take-all}
+use Rattle.repr.specs.Lists.{joined}
+use Rattle.repr.specs.Meaning.{Symbol, Production}
+use Rattle.repr.specs.Listed.{listed}
+use Rattle.repr.specs.Packed.{productionsIn, Packed}
+use Rattle.repr.proofs.Lists.{joined-nil, joined-append}
+use Rattle.lookahead.specs.Tokens.{has, union, without}
+use Rattle.first.specs.First.{join, first0}
+use Rattle.first.proofs.Join.{join-null, join-own, join-assoc, join-single-right, first0-nil, first0-append}
+use Rattle.example.specs.Example.{Label, setsOf, symbol, epsilon, prefixes, suffixes, atCursor, middle, symbols, reductions, symbolWords, exampleWords, cursorOf, ahead}
+use Rattle.example.specs.Labels.{labelsIn, LabelsFit}
+use Rattle.example.specs.Written.{labelAt, wordsOf, Part, aroundWords}
+use Rattle.example.proofs.Sizes.{Short, prefixes-cons, suffixes-cons, around, length-symbols, length-reductions, at-most-528, at-most-1158}
+use Rattle.example.proofs.Labels.{labels-step, labels-back, few-labels, short-in}
+use Rattle.example.proofs.Parts.{words-append, part-listed, part-length, listOf, first-cursor}
+use Rattle.example.proofs.Reductions.{reductions-around, around-nil, around-cons}
+
+-- sizes: at most 528 symbols, 33 reductions, 1,158 words
+
+pub example-symbols-few : (ps : List Production) (ws : List ℕ) → Short ps → LabelsFit ps ws → length (symbols ps (labelsIn ws)) ≤ 528
+example-symbols-few ps ws short F = at-most-528 ps short (labelsIn ws) (few-labels ws F)
+
+pub example-reductions-few : (ps : List Production) (ws : List ℕ) → LabelsFit ps ws → length (reductions ps (labelsIn ws)) ≤ 33
+example-reductions-few ps ws F = let a = length-reductions ps (labelsIn ws) in let b = few-labels ws F in omega arith
+
+pub example-words-few : (ps : List Production) (ws : List ℕ) → Short ps → LabelsFit ps ws → length (exampleWords ps (labelsIn ws)) ≤ 1158
+example-words-few ps ws short F = at-most-1158 ps short (labelsIn ws) (few-labels ws F)
+
+module _ (g : List ℕ) (n : ℕ) (P : Packed g n) (ws : List ℕ) (F : LabelsFit (productionsIn g n) ws) where
+  pub around-few : length (prefixes (productionsIn g n) (labelsIn ws)) + length (suffixes (productionsIn g n) (labelsIn ws)) ≤ 528
+  around-few = let a = around (productionsIn g n) (short-in g n P) (labelsIn ws) in let b = few-labels ws F in omega arith
+
+  pub symbols-528 : length (symbols (productionsIn g n) (labelsIn ws)) ≤ 528
+  symbols-528 = example-symbols-few (productionsIn g n) ws (short-in g n P) F
+
+  pub words-1158 : length (exampleWords (productionsIn g n) (labelsIn ws)) ≤ 1158
+  words-1158 = example-words-few (productionsIn g n) ws (short-in g n P) F
+
+module _ (ps : List Production) (ws : List ℕ) where
+  -- totals
+
+  pub prefix-none : (j : ℕ) → length (labelsIn ws) ≤ j → length (prefixes ps (drop j (labelsIn ws))) ≡ 0
+  unfolding prefixes
+  prefix-none j h = rw (drop-of-length-le (labelsIn ws) {i = j} h)
+
+  pub suffix-none : (j : ℕ) → length (labelsIn ws) ≤ j → length (suffixes ps (drop j (labelsIn ws))) ≡ 0
+  unfolding suffixes
+  suffix-none j h = rw (drop-of-length-le (labelsIn ws) {i = j} h)
+
+  -- twice the length of a label's prefix is that of its part
+  pub prefix-step : (j : ℕ) → j < length (labelsIn ws) → (part : List ℕ) → Part part (setsOf ps (labelAt ws j) .prefix)
+      → length part + 2 * length (prefixes ps (drop (j + 1) (labelsIn ws))) ≡ 2 * length (prefixes ps (drop j (labelsIn ws)))
+  prefix-step j h part P =
+      let a = part-length part (setsOf ps (labelAt ws j) .prefix) P in
+      let b = prefixes-cons ps (labelAt ws j) (drop (j + 1) (labelsIn ws)) in
+      rw (labels-step ws j h) (omega arith)
+
+  pub suffix-step : (j : ℕ) → j < length (labelsIn ws) → (part : List ℕ) → Part part (setsOf ps (labelAt ws j) .suffix)
+      → length part + 2 * length (suffixes ps (drop (j + 1) (labelsIn ws))) ≡ 2 * length (suffixes ps (drop j (labelsIn ws)))
+  suffix-step j h part P =
+      let a = part-length part (setsOf ps (labelAt ws j) .suffix) P in
+      let b = suffixes-cons ps (labelAt ws j) (drop (j + 1) (labelsIn ws)) in
+      rw (labels-step ws j h) (omega arith)
+
+  -- what is left of them is no more than all
+  pub prefix-left : (j : ℕ) → length (prefixes ps (drop j (labelsIn ws))) ≤ length (prefixes ps (labelsIn ws))
+  prefix-left j = go j (labelsIn ws)
+    where
+      go : (k : ℕ) (ls : List Label) → length (prefixes ps (drop k ls)) ≤ length (prefixes ps ls)
+      go zero ls = omega arith
+      go (suc k) [] = omega arith
+      go (suc k) (l ∷ ls) = let a = prefixes-cons ps l ls in let b = go k ls in omega arith
+
+  -- the cursor place
+
+  module _ (h : 0 < length (labelsIn ws)) (part : List ℕ) (C : Part part (cursorOf ps (labelsIn ws))) where
+    here : middle ps (labelsIn ws) ≡ atCursor (setsOf ps (labelAt ws 0) .cursor) (setsOf ps (labelAt ws 0) .prefix)
+    unfolding middle
+    here = ap (middle ps) (labels-step ws 0 h)
+
+    size : length part ≡ 2 * length (listOf (setsOf ps (labelAt ws 0) .cursor))
+    size = let a = part-length part (cursorOf ps (labelsIn ws)) C in let b = ap length (first-cursor ps ws h) in omega arith
+
+    pub middle-symbol : 0 < length part → middle ps (labelsIn ws) ≡ map symbol (cursorOf ps (labelsIn ws))
+    unfolding atCursor listOf
+    middle-symbol l = here ∙ go (setsOf ps (labelAt ws 0) .cursor) size ∙ ap (map symbol) (sym (first-cursor ps ws h))
+      where
+        go : (o : Option Symbol) → length part ≡ 2 * length (listOf o) → atCursor o (setsOf ps (labelAt ws 0) .prefix) ≡ map symbol (listOf o)
+        go none e = absurd (omega arith)
+        go (some x) e = refl
+
+    pub middle-one : 0 < length part → (length (middle ps (labelsIn ws)) ≡ 1) × (length part ≡ 2)
+    unfolding atCursor listOf
+    middle-one l = rw here (go (setsOf ps (labelAt ws 0) .cursor) size)
+      where
+        go : (o : Option Symbol) → length part ≡ 2 * length (listOf o) → (length (atCursor o (setsOf ps (labelAt ws 0) .prefix)) ≡ 1) × (length part ≡ 2)
+        go none e = absurd (omega arith)
+        go (some x) e = (refl, e)
+
+    pub middle-words : 0 < length part → joined symbolWords (middle ps (labelsIn ws)) ≡ part
+    unfolding wordsOf
+    middle-words l = ap (joined symbolWords) (middle-symbol l) ∙ sym (C .words)
+
+    module _ (none-there : length part ≤ 0) (before : List ℕ) (B : Part before (setsOf ps (labelAt ws 0) .prefix)) where
+      pub middle-none : 0 < length before → middle ps (labelsIn ws) ≡ []
+      unfolding atCursor listOf
+      middle-none l = here ∙ go (setsOf ps (labelAt ws 0) .cursor) (setsOf ps (labelAt ws 0) .prefix) size (part-length before (setsOf ps (labelAt ws 0) .prefix) B)
+        where
+          go : (o : Option Symbol) (xs : List Symbol) → length part ≡ 2 * length (listOf o) → length before ≡ 2 * length xs → atCursor o xs ≡ []
+          go (some x) xs e f = absurd (omega arith)
+          go none [] e f = absurd (omega arith)
+          go none (x ∷ xs) e f = refl
+
+      pub middle-mark : length before ≤ 0 → middle ps (labelsIn ws) ≡ epsilon ∷ []
+      unfolding atCursor listOf
+      middle-mark l = here ∙ go (setsOf ps (labelAt ws 0) .cursor) (setsOf ps (labelAt ws 0) .prefix) size (part-length before (setsOf ps (labelAt ws 0) .prefix) B)
+        where
+          go : (o : Option Symbol) (xs : List Symbol) → length part ≡ 2 * length (listOf o) → length before ≡ 2 * length xs → atCursor o xs ≡ epsilon ∷ []
+          go (some x) xs e f = absurd (omega arith)
+          go none (x ∷ xs) e f = absurd (omega arith)
+          go none [] e f = refl
+
+      pub none-words : 0 < length before → joined symbolWords (middle ps (labelsIn ws)) ≡ []
+      none-words l = ap (joined symbolWords) (middle-none l) ∙ joined-nil symbolWords
+
+      pub mark-words : length before ≤ 0 → joined symbolWords (middle ps (labelsIn ws)) ≡ 2 ∷ 0 ∷ []
+      unfolding joined symbolWords
+      mark-words l = ap (joined symbolWords) (middle-mark l)
+
+  -- the places of the symbol list
+  pub symbols-sum : (p m s : ℕ) → p ≡ length (prefixes ps (labelsIn ws)) → m ≡ length (middle ps (labelsIn ws)) → s ≡ length (suffixes ps (labelsIn ws))
+      → p + s + m ≡ length (symbols ps (labelsIn ws))
+  symbols-sum p m s ep em es = let a = length-symbols ps (labelsIn ws) in omega arith
+
+  -- prefixes, from the last label on
+
+  pub prefix-whole : (k : ℕ) → k ≡ length (labelsIn ws) → wordsOf (prefixes ps (take k (labelsIn ws))) ≡ wordsOf (prefixes ps (labelsIn ws))
+  prefix-whole k e = ap (λ (l : List Label). wordsOf (prefixes ps l)) (take-all k (labelsIn ws) (omega arith))
+
+  prefixes-last : (xs : List Label) (l : Label) → prefixes ps (xs ++ (l ∷ [])) ≡ setsOf ps l .prefix ++ prefixes ps xs
+  unfolding prefixes
+  prefixes-last [] l = sym (append-nil (setsOf ps l .prefix))
+  prefixes-last (x ∷ xs) l =
+      ap (λ (r : List Symbol). r ++ setsOf ps x .prefix) (prefixes-last xs l) ∙ append-assoc (setsOf ps l .prefix) (prefixes ps xs) (setsOf ps x .prefix)
+
+  pub prefix-turn : (k i j : ℕ) → k + 1 ≡ i → j ≡ k → i ≤ length (labelsIn ws) → (part : List ℕ) → Part part (setsOf ps (labelAt ws j) .prefix)
+      → wordsOf (prefixes ps (take i (labelsIn ws))) ≡ part ++ wordsOf (prefixes ps (take k (labelsIn ws)))
+  prefix-turn k i j e f l part P =
+      ap (λ (m : ℕ). wordsOf (prefixes ps (take m (labelsIn ws)))) (sym e)
+      ∙ ap (λ (l : List Label). wordsOf (prefixes ps l)) (labels-back ws k (omega arith))
+      ∙ ap wordsOf (prefixes-last (take k (labelsIn ws)) (labelAt ws k))
+      ∙ words-append (setsOf ps (labelAt ws k) .prefix) (prefixes ps (take k (labelsIn ws)))
+      ∙ ap (λ (m : ℕ). wordsOf (setsOf ps (labelAt ws m) .prefix) ++ wordsOf (prefixes ps (take k (labelsIn ws)))) (sym f)
+      ∙ ap (λ (l : List ℕ). l ++ wordsOf (prefixes ps (take k (labelsIn ws)))) (sym (P .words))
+
+  pub prefix-done : (k : ℕ) → k ≤ 0 → wordsOf (prefixes ps (take k (labelsIn ws))) ≡ []
+  unfolding prefixes wordsOf
+  prefix-done k h = let e : k ≡ 0 = omega arith in rw e (joined-nil symbolWords)
+
+  -- suffixes, from the first label on
+
+  pub suffix-turn : (j : ℕ) → j < length (labelsIn ws) → (part : List ℕ) → Part part (setsOf ps (labelAt ws j) .suffix)
+      → wordsOf (suffixes ps (drop j (labelsIn ws))) ≡ part ++ wordsOf (suffixes ps (drop (j + 1) (labelsIn ws)))
+  unfolding suffixes
+  suffix-turn j h part P =
+      ap (λ (l : List Label). wordsOf (suffixes ps l)) (labels-step ws j h)
+      ∙ words-append (setsOf ps (labelAt ws j) .suffix) (suffixes ps (drop (j + 1) (labelsIn ws)))
+      ∙ ap (λ (l : List ℕ). l ++ wordsOf (suffixes ps (drop (j + 1) (labelsIn ws)))) (sym (P .words))
+
+  pub suffix-done : (j : ℕ) → length (labelsIn ws) ≤ j → wordsOf (suffixes ps (drop j (labelsIn ws))) ≡ []
+  unfolding suffixes wordsOf
+  suffix-done j h = rw (drop-of-length-le (labelsIn ws) {i = j} h) (joined-nil symbolWords)
+
+  -- reductions, from the first label on
+
+  pub around-turn : (n j : ℕ) → j < length (labelsIn ws) → (s e x : ℕ) → s ≡ length (prefixes ps (drop (j + 1) (labelsIn ws)))
+      → e + length (suffixes ps (drop (j + 1) (labelsIn ws))) ≡ n → x ≡ labelAt ws j .nonterminal
+      → aroundWords ps n (drop j (labelsIn ws)) ≡ (s ∷ e ∷ x ∷ []) ++ aroundWords ps n (drop (j + 1) (labelsIn ws))
+  around-turn n j h s e x es ee ex =
+      let q : n - length (suffixes ps (drop (j + 1) (labelsIn ws))) ≡ e = omega arith in
+      ap (aroundWords ps n) (labels-step ws j h) ∙ around-cons ps n (labelAt ws j) (drop (j + 1) (labelsIn ws)) ∙ rw (q, es, ex)
+
+  -- the next label's span, from this one's and its two parts
+  pub around-next : (n j : ℕ) → j < length (labelsIn ws) → (s e : ℕ) → s ≡ length (prefixes ps (drop j (labelsIn ws))) → e + length (suffixes ps (drop j (labelsIn ws))) ≡ n
+      → (before after : List ℕ) → Part before (setsOf ps (labelAt ws j) .prefix) → Part after (setsOf ps (labelAt ws j) .suffix)
+      → (s - length before / 2 ≡ length (prefixes ps (drop (j + 1) (labelsIn ws)))) × (e + length after / 2 + length (suffixes ps (drop (j + 1) (labelsIn ws))) ≡ n)
+  around-next n j h s e es ee before after B A =
+      let b = prefix-step j h before B in
+      let a = suffix-step j h after A in
+      (omega arith, omega arith)
+
+  pub around-done : (n j : ℕ) → length (labelsIn ws) ≤ j → aroundWords ps n (drop j (labelsIn ws)) ≡ []
+  around-done n j h = rw (drop-of-length-le (labelsIn ws) {i = j} h) (around-nil ps n)
+
+-- the whole, part by part
+
+module _ (ps : List Production) (ls : List Label) where
+  abbrev pub afterSuffixes : List ℕ
+  afterSuffixes = aroundWords ps (length (symbols ps ls)) ls
+
+  abbrev pub afterMiddle : List ℕ
+  afterMiddle = wordsOf (suffixes ps ls) ++ aroundWords ps (length (symbols ps ls)) ls
+
+  abbrev pub afterPrefixes : List ℕ
+  afterPrefixes = joined symbolWords (middle ps ls) ++ afterMiddle
+
+  abbrev pub afterCounts : List ℕ
+  afterCounts = wordsOf (prefixes ps ls) ++ afterPrefixes
+
+  symbol-words : joined symbolWords (symbols ps ls) ≡ wordsOf (prefixes ps ls) ++ (joined symbolWords (middle ps ls) ++ wordsOf (suffixes ps ls))
+  unfolding symbols wordsOf
+  symbol-words =
+      joined-append symbolWords (map symbol (prefixes ps ls)) (middle ps ls ++ map symbol (suffixes ps ls))
+      ∙ ap (λ (l : List ℕ). joined symbolWords (map symbol (prefixes ps ls)) ++ l) (joined-append symbolWords (middle ps ls) (map symbol (suffixes ps ls)))
+
+  pub example-parts : (x y z : ℕ) → x ≡ length (symbols ps ls) → y ≡ length (prefixes ps ls) → z ≡ length ls → exampleWords ps ls ≡ (x ∷ y ∷ z ∷ []) ++ afterCounts
+  unfolding exampleWords aroundWords
+  example-parts x y z ex ey ez = rw (ex, ey, ez, symbol-words, reductions-around ps ls) (simp append-assoc)
+
+-- what the example expects next, part by part
+
+module _ (e : ℕ) (sets : List ℕ) (ps : List Production) (ws : List ℕ) where
+  pub ahead-start : (part : List ℕ) (r : ℕ) → Part part (cursorOf ps (labelsIn ws)) → r ≡ first0 e sets (listed part)
+      → join e r (first0 e sets (suffixes ps (drop 0 (labelsIn ws)))) ≡ first0 e sets (ahead ps (labelsIn ws))
+  unfolding ahead
+  ahead-start part r C er =
+      rw (er, part-listed part (cursorOf ps (labelsIn ws)) C) (sym (first0-append e sets (cursorOf ps (labelsIn ws)) (suffixes ps (labelsIn ws))))
+
+  pub ahead-stop : (r b : ℕ) (c : Bool) → c ≡ has r e → c ≡ false → r ≡ join e r b
+  ahead-stop r b c ec f = sym (join-own e r b (sym ec ∙ f))
+
+  pub ahead-more : (j : ℕ) → j < length (labelsIn ws) → (part : List ℕ) → Part part (setsOf ps (labelAt ws j) .suffix)
+      → (r t a u : ℕ) (c : Bool) → t ≡ without r e → c ≡ has r e → c ≡ true → a ≡ first0 e sets (listed part) → u ≡ union t a
+      → join e u (first0 e sets (suffixes ps (drop (j + 1) (labelsIn ws)))) ≡ join e r (first0 e sets (suffixes ps (drop j (labelsIn ws))))
+  unfolding suffixes
+  ahead-more j h part S r t a u c et ec yes-end ea eu =
+      let rest = first0 e sets (suffixes ps (drop (j + 1) (labelsIn ws))) in
+      let joined-is : u ≡ join e r a = eu ∙ rw et (sym (join-null e r a (sym ec ∙ yes-end))) in
+      let own : first0 e sets (setsOf ps (labelAt ws j) .suffix) ≡ a = ap (first0 e sets) (sym (part-listed part (setsOf ps (labelAt ws j) .suffix) S)) ∙ sym ea in
+      let next : first0 e sets (suffixes ps (drop j (labelsIn ws))) ≡ join e a rest =
+      ap (λ (l : List Label). first0 e sets (suffixes ps l)) (labels-step ws j h)
+      ∙ first0-append e sets (setsOf ps (labelAt ws j) .suffix) (suffixes ps (drop (j + 1) (labelsIn ws)))
+      ∙ ap (λ (k : ℕ). join e k rest) own in
+      ap (λ (k : ℕ). join e k rest) joined-is ∙ join-assoc e r a rest ∙ ap (join e r) (sym next)
+
+  pub ahead-end : (j r : ℕ) → length (labelsIn ws) ≤ j → r ≡ join e r (first0 e sets (suffixes ps (drop j (labelsIn ws))))
+  unfolding suffixes
+  ahead-end j r h = sym (rw (drop-of-length-le (labelsIn ws) {i = j} h, first0-nil e sets) (join-single-right e r))
