@@ -1,25 +1,25 @@
 -- What the words of a trace at work hold (specs/Holding) after a pair is entered and after an edge is added or does not fit; numbers read from the packed productions; the items of a
 -- pair are in range and can shift its nonterminal; edges by value that are in range. Assumes nothing.
 use mathlib.Core.Path.{_≡_, refl, sym, ap, _∙_}
-use mathlib.Core.Bool.{Bool, true, false, _&&_}
-use mathlib.Core.List.{List, [], _∷_, _++_, map, List·Memᴰ, List·Memᴰ·head, List·Memᴰ·tail}
-use Prim.Native.Nat.{ℕ, zero, suc, _+_, _*_, _-_, _/_, _%_, _≤_, _<_}
+use mathlib.Core.Bool.{Bool, true, false}
+use mathlib.Core.List.{List, [], _∷_, map, List·Memᴰ, List·Memᴰ·head, List·Memᴰ·tail}
+use Prim.Native.Nat.{ℕ, zero, suc, _+_, _*_, _-_, _≤_, _<_}
 use native.Mathlib.Nat.{le-of-suc-le-suc}
 use native.Mathlib.Omega.{arith}
 use native.Mathlib.Numerals.{add-one}
 use lib.ListN.{length, getD, set, length-append}
 use lib.Seq.{slice, slice-empty, slice-cons, getD-set-same, getD-set-other}
-use lib.Dec.{eqb, ltb, leb}
-use borrow.Author.Tests.{eqb-true, eqb-false, eq-eqb, ne-eqb, lt-ltb, le-leb}
-use Rattle.repr.specs.Lists.{mem, some?, keep}
-use Rattle.repr.specs.Meaning.{Item, Production, noProduction, Table, stateAt, productionAt, TableFits, ItemFits}
-use Rattle.repr.specs.Packed.{Packed, productionIn, productionsIn}
+use lib.Dec.{eqb}
+use borrow.Author.Tests.{eqb-true, eqb-false, lt-ltb}
+use Rattle.repr.specs.Lists.{some?, keep}
+use Rattle.repr.specs.Meaning.{Item, Production, noProduction, Table, stateAt, TableFits, ItemFits}
+use Rattle.repr.specs.Packed.{productionIn, productionsIn}
 use Rattle.repr.proofs.Lists.{cases, mem-no, mem-cons-here, mem-cons-there, keep-nil, keep-yes, keep-no, length-map-below, getD-map-below}
 use Rattle.table.specs.Decoded.{meaning}
 use Rattle.table.proofs.Decoding.{fits}
 use Rattle.trace_graph.specs.declared.Node.{Node as NodeValue}
-use Rattle.trace_graph.specs.declared.TraceEdge.{TraceEdge as EdgeValue}
-use Rattle.trace_graph.specs.Graph.{Node, atNonterminal, atItem, TraceEdge, sameItem, sameEdge, add}
+use Rattle.trace_graph.specs.declared.Inserted.the-variants.{Done, Full}
+use Rattle.trace_graph.specs.Graph.{Node, atNonterminal, atItem, TraceEdge, sameItem, sameEdge}
 use Rattle.trace_graph.specs.Words.{edgesIn, nodeOf}
 use Rattle.trace_graph.specs.Fits.{itemFits, nodeFits}
 use Rattle.trace_graph.specs.Values.{nodeIs, edgeIs, nodeValueFits, valueFits}
@@ -32,6 +32,13 @@ use Rattle.trace.proofs.Once.{add-new}
 use Rattle.trace.proofs.Fuel.{owner-lt}
 use Rattle.trace.proofs.Repeated.{distinct-nil, distinct-there, distinct-new}
 use Rattle.trace.proofs.Traced.{state-item, item-fits}
+
+-- an answer is one of the two
+pub done-full {ℓ} : {P : Type ℓ} → Done ≡ Full → P
+done-full e = let z : _≡_ {A = ℕ} 0 1 = cc in absurd (omega arith)
+
+pub full-done {ℓ} : {P : Type ℓ} → Full ≡ Done → P
+full-done e = let z : _≡_ {A = ℕ} 0 1 = cc in absurd (omega arith)
 
 -- entering a pair takes one zero away
 pub zeros-set : (v : List ℕ) (i : ℕ) → i < length v → getD v i 0 ≡ 0 → suc (zeros (set v i 1)) ≡ zeros v

@@ -1,8 +1,8 @@
 -- What each way through a turn of src/shift does: the edge of an item, the pairs that are followed, the states in turn. Assumes nothing.
 use mathlib.Core.Path.{_≡_, refl, sym, ap, _∙_}
-use mathlib.Core.Bool.{Bool, true, false}
-use mathlib.Core.List.{List, [], _∷_, map}
-use Prim.Native.Nat.{ℕ, zero, suc, _+_, _*_, _-_, _/_, _%_, _≤_, _<_}
+use mathlib.Core.Bool.{true}
+use mathlib.Core.List.{List, _∷_, map}
+use Prim.Native.Nat.{ℕ, zero, suc, _+_, _*_, _/_, _%_, _≤_, _<_}
 use native.Mathlib.Nat.{le-refl}
 use native.Mathlib.Omega.{arith}
 use native.Mathlib.Numerals.{add-one}
@@ -10,14 +10,12 @@ use lib.ListN.{length, getD, set}
 use lib.Seq.{slice}
 use lib.Dec.{ltb, leb}
 use borrow.Author.Tests.{lt-ltb, le-ltb, ltb-true, ltb-false}
-use Rattle.repr.specs.Lists.{mem}
-use Rattle.repr.specs.Meaning.{Item, Production, noProduction, Table, TableFits}
-use Rattle.repr.specs.Packed.{Packed, productionIn, productionsIn}
-use Rattle.repr.proofs.Lists.{cases, length-map-below, getD-map-below, mem-cons-here, mem-cons-there}
+use Rattle.repr.specs.Meaning.{Item, Production, noProduction, Table}
+use Rattle.repr.specs.Packed.{productionIn, productionsIn}
+use Rattle.repr.proofs.Lists.{cases, length-map-below, getD-map-below}
 use Rattle.table.specs.Decoded.{meaning}
-use Rattle.state_graph.specs.States.{statesIn}
 use Rattle.state_graph.proofs.Exact.{and-both}
-use Rattle.trace_graph.specs.Graph.{Node, atNonterminal, atItem, TraceEdge}
+use Rattle.trace_graph.specs.Graph.{atNonterminal, atItem}
 use Rattle.trace_graph.specs.Fits.{itemFits}
 use Rattle.trace_graph.specs.Values.{edgeIs, valueFits}
 use Rattle.trace_graph.specs.Insert.{Graphed, Added, Overfull}
@@ -26,10 +24,9 @@ use Rattle.trace.specs.Shift.{epsilonItem, epsilon}
 use Rattle.trace.specs.Shifting.{shifting, itemOf}
 use Rattle.trace.specs.Holding.{Holding, zeros, Tracing}
 use Rattle.trace.specs.Steps.{Steps, Exceeds, epsilonSource, epsilonEdge, itemEdge}
-use Rattle.trace.proofs.Seen.{pair-lt}
 use Rattle.trace.proofs.Grows.{Adds, grows-length, turn-nil, turn-cons, turn-grows, epsilon-past, epsilon-beginning, epsilon-entered, epsilonItem-grows, epsilon-grows}
 use Rattle.trace.proofs.Repeated.{epsilon-shifting}
-use Rattle.trace.proofs.HoldingLaws.{zeros-set, zeros-le, holding-enter, holding-add, holding-full, tracing-fits, tracing-many, tracing-owner, tracing-owner-lt, tracing-item, codes-end, codes-more, CodeOf, code-of, node-number-fits, node-item-fits, value-fits, node-number-is, node-item-is, edge-is}
+use Rattle.trace.proofs.HoldingLaws.{zeros-set, holding-enter, holding-add, holding-full, tracing-fits, tracing-owner, tracing-owner-lt, tracing-item, codes-end, codes-more, CodeOf, code-of, node-number-fits, node-item-fits, value-fits, node-number-is, node-item-is, edge-is}
 
 -- the edges that are put in
 
@@ -106,22 +103,6 @@ module _ (T : Table) (s m : ℕ) where
   pub step-exceeds : (f : ℕ) (i : Item) (is : List Item) (st : Trace) → 1024 < length (itemStep f i st .edges) → 1024 < length (inTurn (itemStep f) is (itemStep f i st) .edges)
   step-exceeds f i is st h = let q = grows-length (turn-grows (itemStep f) (step-adds f) is (itemStep f i st)) in omega arith
 
-  -- a pair that is entered already
-  pub pair-known : (g v : List ℕ) → s < 128 → m < 32 → (getD v (s * 32 + m) 0 ≡ 0 → ⊥) → (f : ℕ) → zeros v ≤ f → Steps (epsilon T f s m) g v g v
-  unfolding pair
-  pair-known g v hs hm ne f hf st h = rw (epsilon-entered T f s m st (h .entered (pair s m) (pair-lt s m hs hm) ne)) h
-
-  -- a pair that is not: with fuel for the zeros of v, there is fuel left for the zeros after
-  pub pair-new : (P : Trace → Type 0) (g v : List ℕ) → s < 128 → m < 32 → length v ≡ 4096 → getD v (s * 32 + m) 0 ≡ 0
-      → ((f : ℕ) → zeros (set v (s * 32 + m) 1) ≤ f → (st : Trace) → Holding g (set v (s * 32 + m) 1) st → P (itemTurn f st))
-      → (f : ℕ) → zeros v ≤ f → (st : Trace) → Holding g v st → P (epsilon T f s m st)
-  unfolding pair
-  pair-new P g v hs hm long z all zero hf st h = let q = zeros-set v (pair s m) (let l = pair-lt s m hs hm in omega arith) z in absurd (omega arith)
-  pair-new P g v hs hm long z all (suc f) hf st h =
-      let l = pair-lt s m hs hm in
-      let q = zeros-set v (pair s m) (omega arith) z in
-      rw (epsilon-shifting T f s m st (h .free (pair s m) l z)) (all f (omega arith) (enter s m st) (holding-enter g v st s m hs hm long h))
-
 -- the loop's invariant: what is left to do, from what the words hold, gives what the whole turn gives
 pub record Turn (t grammar : List ℕ) (productions n : ℕ) (starts codes : List ℕ) (s m past : ℕ) (g₀ ix₀ v₀ g ix v : List ℕ) (j : ℕ) : Type 0 where
   pub from : getD starts (pair s m) 0 ≤ j
@@ -145,8 +126,33 @@ module _ {t grammar : List ℕ} {productions n : ℕ} {starts codes : List ℕ} 
   pub few : (s m : ℕ) → s < length (T .states) → m < n → (s < 128) × (m < 32)
   few s m hs hm =
       let F = tracing-fits t grammar productions n starts codes R in
-      let a = F .few-states in let b = F .few-nonterminals in let e = R .nonterminals in
+      let a = F .few-states in
+      let b = F .few-nonterminals in
+      let e = R .nonterminals in
       (omega arith, omega arith)
+
+  module _ {s m : ℕ} (hs : s < length (T .states)) (hm : m < n) where
+    pub pair-few : s * 32 + m < 4096
+    pair-few = let w = few s m hs hm in let a = w .0 in let b = w .1 in omega arith
+
+    -- a pair that is entered already
+    pub pair-known : (g v : List ℕ) → (getD v (s * 32 + m) 0 ≡ 0 → ⊥) → (f : ℕ) → zeros v ≤ f → Steps (epsilon T f s m) g v g v
+    unfolding pair
+    pair-known g v ne f hf st h = rw (epsilon-entered T f s m st (h .entered (pair s m) pair-few ne)) h
+
+    -- a pair that is not: one zero less, and with fuel for the zeros of v there is fuel left for the zeros after
+    module _ (v : List ℕ) (long : length v ≡ 4096) (z : getD v (s * 32 + m) 0 ≡ 0) where
+      pub pair-fewer : (v′ : List ℕ) → zeros v′ ≤ zeros (set v (s * 32 + m) 1) → zeros v′ < zeros v
+      pair-fewer v′ h = let l = pair-few in let q = zeros-set v (s * 32 + m) (omega arith) z in omega arith
+
+      pub pair-new : (P : Trace → Type 0) (g : List ℕ) → ((f : ℕ) → zeros (set v (s * 32 + m) 1) ≤ f → (st : Trace) → Holding g (set v (s * 32 + m) 1) st → P (itemTurn T s m f st))
+          → (f : ℕ) → zeros v ≤ f → (st : Trace) → Holding g v st → P (epsilon T f s m st)
+      unfolding pair
+      pair-new P g all zero hf st h = let q = pair-fewer (set v (s * 32 + m) 1) (le-refl (zeros (set v (s * 32 + m) 1))) in absurd (omega arith)
+      pair-new P g all (suc f) hf st h =
+          let w = few s m hs hm in
+          let q = pair-fewer (set v (s * 32 + m) 1) (le-refl (zeros (set v (s * 32 + m) 1))) in
+          rw (epsilon-shifting T f s m st (h .free (pair s m) pair-few z)) (all f (omega arith) (enter s m st) (holding-enter g v st s m (w .0) (w .1) long h))
 
   pub turn-start : (s m past j : ℕ) (g ix v : List ℕ) → s < length (T .states) → m < n → past ≡ getD starts (s * 32 + m + 1) 0 → j ≡ getD starts (s * 32 + m) 0
       → Graphed n qs g ix (getD g 0 0) → Turn t grammar productions n starts codes s m past g ix v g ix v j
@@ -154,7 +160,7 @@ module _ {t grammar : List ℕ} {productions n : ℕ} {starts codes : List ℕ} 
   turn-start s m past j g ix v hs hm ep ej good =
       let w = few s m hs hm in
       let ep′ : past ≡ getD starts (suc (pair s m)) 0 = rw (add-one (s * 32 + m)) at ep in
-      let r = R .items .rising (pair s m) (pair-lt s m (w .0) (w .1)) in
+      let r = R .items .rising (pair s m) (pair-few hs hm) in
       record {
         from = omega arith;
         most = omega arith;
@@ -169,9 +175,9 @@ module _ {t grammar : List ℕ} {productions n : ℕ} {starts codes : List ℕ} 
 
   module _ {s m past : ℕ} {g₀ ix₀ v₀ g ix v : List ℕ} {j : ℕ} (hs : s < length (T .states)) (hm : m < n) (U : Turn t grammar productions n starts codes s m past g₀ ix₀ v₀ g ix v j) where
     pub turn-room : past ≤ length codes
+    unfolding pair
     turn-room =
-        let w = few s m hs hm in
-        let r = R .items .rising (pair s m) (pair-lt s m (w .0) (w .1)) in
+        let r = R .items .rising (pair s m) (pair-few hs hm) in
         let e = U .past-is in
         omega arith
 

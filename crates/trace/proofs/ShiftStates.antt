@@ -1,12 +1,12 @@
 -- The states that a walk found, traced in turn, and the first edge of a trace of a shift (src/shift). Assumes nothing.
 use mathlib.Core.Path.{_≡_, refl, sym, ap, _∙_}
-use mathlib.Core.Bool.{Bool, true, false}
-use mathlib.Core.List.{List, [], _∷_}
-use Prim.Native.Nat.{ℕ, _+_, _*_, _≤_, _<_}
+use mathlib.Core.Bool.{true}
+use mathlib.Core.List.{List}
+use Prim.Native.Nat.{ℕ, _*_, _≤_, _<_}
 use native.Mathlib.Omega.{arith}
 use lib.ListN.{length, getD}
 use Rattle.repr.specs.Lists.{mem}
-use Rattle.repr.specs.Meaning.{Item, Production, noProduction, Table}
+use Rattle.repr.specs.Meaning.{Item, Production, Table}
 use Rattle.repr.specs.Packed.{productionsIn}
 use Rattle.repr.proofs.Lists.{mem-cons-here, mem-cons-there}
 use Rattle.table.specs.Decoded.{meaning}

@@ -1,6 +1,6 @@
 -- What the functions of src/shift say of the words that they are lent. Assumes nothing: these are definitions.
 use Prim.Native.Nat.{ℕ, _<_}
-use mathlib.Core.Bool.{Bool, true, false}
+use mathlib.Core.Bool.{true, false}
 use mathlib.Core.List.{List}
 use lib.ListN.{length, getD}
 use lib.Dec.{ltb}

@@ -100,19 +100,19 @@ fn item_edge(
     ensures { λ r. ⌜ (r ≡ Full → Overfull (productionsIn (now (grammar .entry)) productions) (itemEdge (productionsIn (now (grammar .entry)) productions) (record { production = production; index = index })) (now (graph .entry)) (now (ix .entry)) (now (graph .exit)) (now (ix .exit))) ⌝ }
 {
     let owner = word(grammar, production * 36);
-    let source = Node {
+    let from = Node {
         kind: 0,
         number: owner,
         index: 0,
     };
-    let target = Node {
+    let to = Node {
         kind: 1,
         number: production,
         index: index,
     };
     let edge = TraceEdge {
-        source: source,
-        target: target,
+        source: from,
+        target: to,
         production: production,
         index: index,
     };
@@ -150,7 +150,7 @@ pub fn trace_epsilon_edges(
     while j < past {
         let code = word(codes, j);
         let production = code / 17;
-        let index = code % 17;
+        let cursor = code % 17;
         match epsilon_edge(
             grammar,
             productions,
@@ -158,7 +158,7 @@ pub fn trace_epsilon_edges(
             graph,
             ix,
             production,
-            index,
+            cursor,
             nonterminal,
         ) {
             Inserted::Done => {}
@@ -167,7 +167,7 @@ pub fn trace_epsilon_edges(
             }
         }
         j += 1;
-        if index > 0 {
+        if cursor > 0 {
             continue;
         }
         let owner = word(grammar, production * 36);

@@ -1,39 +1,30 @@
-use Rattle.trace.proofs.ShiftLaws.{fits-inside, edge-past, edge-beginning, edge-of-item, past-fits, beginning-fits, of-item-fits}
+-- `shift::epsilon_edge` meets its contract: in each case the value's edge is the edge of the item, and it is in range. Assumes nothing.
+use Rattle.trace.proofs.ShiftLaws.{fits-inside, edge-past, edge-beginning, past-fits, beginning-fits}
 use native.Mathlib.Omega.{arith}
 use borrow.Author.Needs.{needs}
 use Rattle.trace.proofs.shift.epsilon_edge.Statement.{statement}
 use Rattle.trace.proofs.shift.epsilon_edge.Tie as tie
-use Rattle.trace.proofs.shift.epsilon_edge.Reads as reads
-use Rattle.trace.proofs.shift.epsilon_edge.Lts as lts
-use Rattle.repr.proofs.word.Reads as word-reads
-use Rattle.trace_graph.proofs.insert.Reads as insert-reads
 
--- src/shift.rt:67:9
 insert-requires : tie.Need-insert-requires
 insert-requires c κs = let S = c .before .before .before .before .before .before in
     (S .pre .0, (S .pre .1 .0, past-fits (S .args .grammar .now) (S .args .productions) (S .args .production) (S .args .index) (S .args .nonterminal) (S .args .n) (S .pre .1 .1 .0) (S .pre .1 .1 .1 .0)))
 
--- src/shift.rt:67:9
 same-length : tie.Need-same-length
 same-length c = search needs
 
--- src/shift.rt:67:9
 same-length-2 : tie.Need-same-length-2
 same-length-2 c = search needs
 
--- src/shift.rt:67:9
 returns : tie.Need-returns
 returns c = let S = c .before .before .before .before .before .before .before .before .before .before .before in
     rw (edge-past (S .args .grammar .now) (S .args .productions) (S .args .production) (S .args .index) (S .args .nonterminal) (c .before .before .before .before .before .before .before .if1 .taken)) at (c .before .before .before .before .insert .ensures)
 
--- src/shift.rt:69:31
 mul-word : tie.Need-mul-word
 mul-word c = let S = c .before .before .before .before in
     let l = fits-inside (S .args .grammar .now) (S .args .productions) (S .args .production) (S .args .index) (S .pre .1 .1 .0) in
     let f = S .pre .0 .few in
     omega arith
 
--- src/shift.rt:69:9
 word-requires : tie.Need-word-requires
 word-requires c κs = let S = c .before .before .before .before in
     let l = fits-inside (S .args .grammar .now) (S .args .productions) (S .args .production) (S .args .index) (S .pre .1 .1 .0) in
@@ -41,20 +32,16 @@ word-requires c κs = let S = c .before .before .before .before in
     let e = S .pre .0 .long in
     omega arith
 
--- src/shift.rt:81:5
 insert-requires-2 : tie.Need-insert-requires-2
 insert-requires-2 c κs = let S = c .before .before .before .before .before .before .before in
     (S .pre .0, (S .pre .1 .0, beginning-fits (S .args .grammar .now) (S .args .productions) (S .args .production) (S .args .index) (S .args .nonterminal) (S .args .n) (c .before .before .word .result) (c .before .before .word .ensures .0) (S .pre .1 .1 .1 .1) (S .pre .1 .1 .0) (S .pre .1 .1 .1 .0)))
 
--- src/shift.rt:34:1
 same-length-3 : tie.Need-same-length-3
 same-length-3 c = search needs
 
--- src/shift.rt:34:1
 same-length-4 : tie.Need-same-length-4
 same-length-4 c = search needs
 
--- src/shift.rt:34:1
 returns-2 : tie.Need-returns-2
 returns-2 c = let S = c .before .before .before .before .before .before .before .before .before .before .before .before in
     rw (edge-beginning (S .args .grammar .now) (S .args .productions) (S .args .production) (S .args .index) (S .args .nonterminal) (c .before .before .before .before .before .before .before .word .result) (c .before .before .before .before .before .before .before .word .ensures .0) (S .pre .1 .1 .0) (c .before .before .before .before .before .before .before .before .if1 .left)) at (c .before .before .before .before .insert2 .ensures)
