@@ -7,6 +7,7 @@ pub mod plain;
 pub mod port;
 pub mod question;
 pub mod rust;
+pub mod sample;
 pub mod side;
 pub mod table;
 

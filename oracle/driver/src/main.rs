@@ -15,6 +15,8 @@ oracle explain [SIDE]                   document 01's program over standard inpu
 oracle marked [SIDE]                    document 01's marked examples on table B
 oracle generate KIND SEED COUNT [SIDE]  cases as lines, with the side's answers
 oracle compare KIND SEED COUNT [A B]    asks two sides the same (KIND may be all)
+oracle sample REQUESTS ANSWERS [KIND SEED COUNT]
+                                        writes the stored sample of the program replay, or one of some seeds
 sides: rust, plain, and port if linked";
 
 fn main() {
@@ -36,6 +38,15 @@ fn run(args: &[&str]) -> bool {
             compare(kind, number(seed), number(count), "rust", "plain")
         }
         ["compare", kind, seed, count, a, b] => compare(kind, number(seed), number(count), a, b),
+        ["sample", requests, answers] => {
+            let made = oracle::sample::sample(&mut *oracle::side("rust"));
+            sample(requests, answers, &made)
+        }
+        ["sample", requests, answers, kind, seed, count] => {
+            let (mut side, seed, count) = (oracle::side("rust"), number(seed), number(count));
+            let made = oracle::sample::cases(&mut *side, kind, seed, count);
+            sample(requests, answers, &made)
+        }
         [] => lines("rust"),
         [side @ ("rust" | "plain" | "port")] => lines(side),
         _ => {
@@ -191,6 +202,17 @@ fn list(kind: &str, seed: u64, count: u64, side: &str) -> bool {
             writeln!(out, "{q}\n{}", answer_text(&answer)).unwrap();
         }
     }
+    false
+}
+
+/// The stored sample of the program `replay`: its input and its output.
+fn sample(requests: &str, answers: &str, made: &oracle::sample::Sample) -> bool {
+    let bytes: Vec<u8> = made.requests.iter().flat_map(|w| w.to_le_bytes()).collect();
+    print!("{}", made.seeds);
+    let count = made.answers.lines().count();
+    println!("{count} requests, {} bytes", bytes.len());
+    std::fs::write(requests, bytes).unwrap();
+    std::fs::write(answers, &made.answers).unwrap();
     false
 }
 

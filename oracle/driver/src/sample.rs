@@ -1,0 +1,342 @@
+//! The stored sample: requests in words for the program `replay`, and the
+//! answers, one a line. The same on every run.
+
+use crate::generate;
+use crate::question::{Question, ask, text};
+use crate::side::{Answer, Side};
+use crate::table::{Sym, check, table_b};
+
+/// Kinds of cases with their first seed, number of seeds, and questions kept
+/// of each case.
+const KINDS: [(&str, u64, u64, usize); 6] = [
+    ("classic", 1, 28, 12),
+    ("random", 101, 24, 12),
+    ("bent", 201, 24, 12),
+    ("arbitrary", 301, 24, 12),
+    ("wide", 401, 4, 24),
+    ("damaged", 501, 120, 2),
+];
+/// A table above this number of words is asked only `check` and two more.
+const LARGE: usize = 4_000;
+
+pub struct Sample {
+    pub requests: Vec<u16>,
+    pub answers: String,
+    pub seeds: String,
+}
+
+/// Words after the table: a list, or a number or set and a list.
+struct More(Vec<u16>);
+
+fn list(symbols: &[Sym]) -> Vec<u16> {
+    symbols.iter().flat_map(|s| [s.0, s.1]).collect()
+}
+
+fn set_words(set: u64) -> Vec<u16> {
+    (0..4).map(|i| (set >> (16 * i)) as u16).collect()
+}
+
+fn request(q: &Question) -> Option<(u16, More)> {
+    Some(match q {
+        Question::Check => (1, More(vec![])),
+        Question::First0(s) => (2, More(list(s))),
+        Question::First1(s, l) => (3, More([set_words(*l), list(s)].concat())),
+        Question::Back(state, s) => (4, More([vec![*state], list(s)].concat())),
+        _ => return None,
+    })
+}
+
+struct Maker<'a> {
+    side: &'a mut dyn Side,
+    out: Sample,
+}
+
+impl Maker<'_> {
+    fn put(&mut self, op: u16, table: &[u16], more: &[u16], answer: &Answer) {
+        let w = &mut self.out.requests;
+        w.extend([op, table.len() as u16, (table.len() >> 16) as u16]);
+        w.extend(table);
+        w.push(more.len() as u16);
+        w.extend(more);
+        self.out.answers += &text(answer);
+        self.out.answers += "\n";
+    }
+
+    /// A question that the side answers; a table that it cannot hold is left
+    /// out.
+    fn ask(&mut self, table: &[u16], q: &Question) -> bool {
+        let Some((op, More(more))) = request(q) else {
+            return false;
+        };
+        let Some(answer) = ask(self.side, table, q) else {
+            return false;
+        };
+        self.put(op, table, &more, &answer);
+        true
+    }
+
+    fn check(&mut self, table: &[u16]) {
+        self.ask(table, &Question::Check);
+    }
+
+    /// A list of an odd number of words: no symbols, so 9 where the table is
+    /// accepted.
+    fn odd(&mut self, op: u16, table: &[u16], more: &[u16]) {
+        let answer = match check(table) {
+            Ok(()) => vec![9, 0],
+            Err(r) => crate::side::refused(r),
+        };
+        self.put(op, table, more, &answer);
+    }
+}
+
+/// Document 01's marked questions of parts 2 and 3, and lists, states and sets
+/// out of range.
+fn on_b(m: &mut Maker) {
+    let b = table_b();
+    let e: Sym = (0, 0);
+    let plus: Sym = (1, 0);
+    let lists: [&[Sym]; 8] = [
+        &[],
+        &[e],
+        &[plus],
+        &[(1, 1)],
+        &[e, plus, e],
+        &[(2, 0)],
+        &[(0, 1)],
+        &[e, (1, 2)],
+    ];
+    for s in lists {
+        m.ask(&b, &Question::First0(s.to_vec()));
+        for set in [0, 1, 4, 7, 8, 1 << 63, u64::MAX] {
+            m.ask(&b, &Question::First1(s.to_vec(), set));
+        }
+        for state in [0, 1, 2, 3, 4, 127, 128, 65_535] {
+            m.ask(&b, &Question::Back(state, s.to_vec()));
+        }
+    }
+    m.odd(2, &b, &[0]);
+    m.odd(2, &b, &[0, 0, 1]);
+    m.odd(3, &b, &[1, 0, 0, 0, 0]);
+    m.odd(3, &b, &[8, 0, 0, 0, 0, 0, 1]);
+    m.odd(4, &b, &[3, 0]);
+    m.odd(4, &b, &[4, 0]);
+    m.odd(4, &b, &[3, 0, 0, 1]);
+    m.odd(2, &[0, 0, 1, 0], &[0]);
+}
+
+/// Table B and records past it up to a number of words.
+fn padded(words: usize, fill: u16) -> Vec<u16> {
+    let mut t = table_b();
+    t.resize(words, fill);
+    t
+}
+
+/// Refusals 1 and 2: lengths and counts.
+fn lengths(m: &mut Maker) {
+    let b = table_b();
+    for words in [0, 1, 2, 3, 4, 5, 8, 92, 93, 94, 95, 96] {
+        m.check(&b[..words]);
+    }
+    for words in [97, 98, 99, 100] {
+        m.check(&padded(words, 65_535));
+    }
+    m.check(&padded(32_768, 65_535));
+    m.check(&padded(32_772, 65_535));
+    m.check(&vec![0; 32_768]);
+    m.check(&[0, 0, 1, 0]);
+    m.check(&[1, 0, 1, 0]);
+    // One nonterminal and one state, no production: the shortest table.
+    let short = [1, 0, 1, 0, 0, 0, 0, 0, 0, 0, 0, 0];
+    for words in [4, 8, 9, 11, 12] {
+        m.check(&short[..words]);
+    }
+    for (at, word) in [
+        (0, 33),
+        (1, 63),
+        (1, 64),
+        (2, 129),
+        (3, 1),
+        (3, 129),
+        (0, 65_535),
+    ] {
+        let mut t = short.to_vec();
+        t[at] = word;
+        m.check(&t);
+    }
+    // Each count at its end, over zeros; productions are then in no chain.
+    for (n, t, s, p) in [
+        (32, 63, 128, 0),
+        (32, 63, 128, 128),
+        (33, 63, 128, 0),
+        (32, 64, 128, 0),
+    ] {
+        let mut table = vec![0; 4 * (1 + n + s + p)];
+        table[..4].copy_from_slice(&[n as u16, t as u16, s as u16, p as u16]);
+        m.check(&table);
+        m.check(&table[..table.len() - 4]);
+    }
+    for k in 0..4 {
+        for word in [0, 1, 2, 3, 5, 32, 63, 64, 128, 129, 65_535] {
+            let mut t = b.clone();
+            t[k] = word;
+            m.check(&t);
+        }
+    }
+}
+
+/// Refusals 3 to 8: document 01's inputs, then every word of every record of
+/// table B with several values, then two of them at once.
+fn damage(m: &mut Maker) {
+    let b = table_b();
+    let mut with = |changes: &[(usize, u16)]| {
+        let mut t = b.clone();
+        for &(at, word) in changes {
+            t[at] = word;
+        }
+        m.check(&t);
+    };
+    for change in [(48, 12), (24, 0), (74, 4)] {
+        with(&[change]);
+    }
+    for at in 4..b.len() {
+        for word in [
+            0,
+            1,
+            b[at].wrapping_add(1),
+            (at / 4) as u16,
+            (b.len() / 4) as u16,
+        ] {
+            if word != b[at] {
+                with(&[(at, word)]);
+            }
+        }
+    }
+    for at in 4..b.len() {
+        with(&[(at, 65_535)]);
+        // A higher number lower down, and the other way round.
+        with(&[(at, 2), (7, 1)]);
+        with(&[(at, 2), (74, 4)]);
+        with(&[(at, 2), (93, 2)]);
+    }
+    // Refusal 5: 16 symbols and 17, of either production.
+    for production in [6, 7] {
+        for symbols in [16, 17] {
+            let mut t = b.clone();
+            t[4 * production + 1] = 24;
+            for i in 0..symbols {
+                let next = if i + 1 < symbols { 25 + i } else { 0 };
+                t.extend([next as u16, 1, 0, 0]);
+            }
+            m.check(&t);
+            // A wrong symbol and a spare word behind it.
+            let last = t.len() - 2;
+            t[last] = 2;
+            m.check(&t);
+            t[last] = 1;
+            t[last + 1] = 1;
+            m.check(&t);
+        }
+    }
+}
+
+/// A refused table is refused before a list, set or state is looked at.
+fn refused_first(m: &mut Maker) {
+    let b = table_b();
+    let changes: [&[(usize, u16)]; 8] = [
+        &[(0, 0)],
+        &[(48, 12)],
+        &[(24, 0)],
+        &[(33, 2)],
+        &[(74, 4)],
+        &[(7, 1)],
+        &[(7, 1), (74, 4)],
+        &[(33, 2), (24, 0)],
+    ];
+    for change in changes {
+        let mut t = b.clone();
+        for &(at, word) in change {
+            t[at] = word;
+        }
+        for s in [vec![], vec![(0, 0)], vec![(2, 9)]] {
+            m.ask(&t, &Question::First0(s.clone()));
+            m.ask(&t, &Question::First1(s.clone(), 1));
+            m.ask(&t, &Question::First1(s.clone(), u64::MAX));
+            m.ask(&t, &Question::Back(0, s.clone()));
+            m.ask(&t, &Question::Back(9, s));
+        }
+        m.odd(2, &t, &[0]);
+    }
+    m.ask(&b[..95], &Question::First1(vec![(0, 0)], 1));
+    m.ask(&b[..95], &Question::Back(0, vec![(0, 0)]));
+}
+
+/// S → a X, X without productions: FIRST of S is {a}, of X nothing.
+fn no_productions(m: &mut Maker) {
+    let t = [
+        [2, 1, 1, 1],
+        [4, 0, 0, 0],
+        [0, 0, 0, 0],
+        [0, 0, 0, 0],
+        [0, 5, 0, 0],
+        [6, 1, 0, 0],
+        [0, 0, 1, 0],
+    ]
+    .concat();
+    m.check(&t);
+    for s in [vec![(0, 0)], vec![(0, 1)], vec![(0, 1), (0, 0)], vec![]] {
+        m.ask(&t, &Question::First0(s.clone()));
+        m.ask(&t, &Question::First1(s.clone(), 3));
+        m.ask(&t, &Question::Back(0, s));
+    }
+}
+
+fn generated(m: &mut Maker, kind: &str, seed: u64, count: u64, keep: usize) {
+    m.out.seeds += &format!("{kind}: seeds {seed} to {}\n", seed + count - 1);
+    for case in (seed..seed + count).filter_map(|s| generate::case(kind, s)) {
+        let keep = if case.table.len() > LARGE {
+            keep.min(3)
+        } else {
+            keep
+        };
+        let asked: Vec<&Question> = (case.questions.iter())
+            .filter(|q| request(q).is_some())
+            .collect();
+        // Evenly over the questions, the check first.
+        let every = asked.len().div_ceil(keep).max(1);
+        for q in asked.iter().step_by(every) {
+            m.ask(&case.table, q);
+        }
+    }
+}
+
+fn maker(side: &mut dyn Side) -> Maker<'_> {
+    let out = Sample {
+        requests: vec![],
+        answers: String::new(),
+        seeds: String::new(),
+    };
+    Maker { side, out }
+}
+
+/// The stored sample.
+pub fn sample(side: &mut dyn Side) -> Sample {
+    let mut m = maker(side);
+    m.check(&table_b());
+    on_b(&mut m);
+    lengths(&mut m);
+    damage(&mut m);
+    refused_first(&mut m);
+    no_productions(&mut m);
+    for (kind, seed, count, keep) in KINDS {
+        generated(&mut m, kind, seed, count, keep);
+    }
+    m.out
+}
+
+/// All questions of some seeds of a kind, for a run that is not stored.
+pub fn cases(side: &mut dyn Side, kind: &str, seed: u64, count: u64) -> Sample {
+    let mut m = maker(side);
+    generated(&mut m, kind, seed, count, usize::MAX);
+    m.out
+}
