@@ -1,0 +1,4 @@
+pub mod Words
+pub mod Traces
+pub mod Ways
+pub mod Codes
