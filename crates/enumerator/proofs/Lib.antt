@@ -27,3 +27,7 @@ pub mod Handed
 pub mod Listed
 pub mod Sizes
 pub mod Marked
+pub mod StackWords
+pub mod Stepping
+pub mod Holding
+pub mod Following

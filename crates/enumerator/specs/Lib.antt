@@ -4,3 +4,4 @@ pub mod Words
 pub mod Advance
 pub mod Calls
 pub mod Machine
+pub mod Stacks

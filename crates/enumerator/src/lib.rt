@@ -1,6 +1,8 @@
 // Listing the examples of a trace graph (`PathEnumerator` and `FilteredPathEnumerator` of lr1/trace/trace_graph/mod.rs).
 use lookahead::TokenSet;
 
+pub mod machine;
+
 // Any lookahead that the listing filters by.
 pub enum Lookahead {
     Any,

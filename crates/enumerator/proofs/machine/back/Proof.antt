@@ -1,0 +1,85 @@
+-- `back` meets its contract, with the invariant `Turn` of Stepping: the stack that is left gives what the whole gives. Assumes nothing.
+use mathlib.Core.Path.{_≡_, refl, _∙_}
+use lib.ListN.{length}
+use Rattle.enumerator.proofs.StackWords.{stack-long}
+use Rattle.enumerator.proofs.Stepping.{Turn, back-first, back-over, back-deep, back-edge, back-older, back-found, back-again}
+use native.Mathlib.Omega.{arith}
+use Rattle.enumerator.proofs.machine.back.Statement.{statement}
+use Rattle.enumerator.proofs.machine.back.Tie as tie
+
+abbrev Inv-loop : tie.InvT-loop
+Inv-loop graph ix words₀ depth₀ words depth = (length words ≡ length words₀) × Turn graph words₀ words depth
+
+abbrev μ-loop : tie.MeasureT-loop
+μ-loop graph ix words₀ depth₀ words depth = depth
+
+word-requires : tie.Need-word-requires Inv-loop μ-loop
+word-requires c κs = omega (arith, stack-long (c .before .before .before .before .pre .1))
+
+loop-holds : tie.Need-loop-holds Inv-loop μ-loop
+loop-holds c = (refl, back-first (c .before .before .before .before .before .pre .1) (c .word .ensures .0))
+
+word-requires-2 : tie.Need-word-requires-2 Inv-loop μ-loop
+word-requires-2 c κs = omega (arith, back-deep (c .before .before .loop .inv .1))
+
+add-word : tie.Need-add-word Inv-loop μ-loop
+add-word c = omega (arith, back-edge (c .before .before .before .loop .inv .1) (c .before .before .loop-test .taken) (c .word2 .ensures .0), c .before .before .before .before .before .before .before .before .before .pre .0 .graphed .few)
+
+word-requires-3 : tie.Need-word-requires-3 Inv-loop μ-loop
+word-requires-3 c κs = omega (arith, back-edge (c .before .before .before .loop .inv .1) (c .before .before .loop-test .taken) (c .word2 .ensures .0), c .before .before .before .before .before .before .before .before .before .pre .0 .graphed .few, c .before .before .before .before .before .before .before .before .before .pre .0 .graphed .index .long)
+
+sub-replace : tie.Need-sub-replace Inv-loop μ-loop
+sub-replace c = omega arith
+
+replace-requires : tie.Need-replace-requires Inv-loop μ-loop
+replace-requires c κs =
+    let D = back-deep (c .before .before .before .before .before .before .loop .inv .1) in
+    (D .1 .0, (omega (arith, D .1 .1), back-older (c .before .before .before .before .before .before .loop .inv .1) (c .before .before .before .before .before .loop-test .taken) (c .before .before .before .word2 .ensures .0) (c .before .before .before .before .before .before .before .before .before .before .before .before .pre .0) (c .before .before .word3 .ensures .0) (c .before .if1 .taken)))
+
+same-length : tie.Need-same-length Inv-loop μ-loop
+same-length c = c .before .before .replace .kept .0 ∙ c .before .before .before .before .before .before .before .before .before .loop .inv .0
+
+returns : tie.Need-returns Inv-loop μ-loop
+returns c = back-found (c .before .before .before .before .before .before .before .before .before .loop .inv .1) (c .before .before .before .before .before .before .before .before .loop-test .taken) (c .before .before .before .before .before .before .word2 .ensures .0) (c .before .before .before .before .before .before .before .before .before .before .before .before .before .before .before .pre .0) (c .before .before .before .before .before .word3 .ensures .0) (c .before .before .before .before .if1 .taken) (c .before .before .replace .ensures)
+
+pop-requires : tie.Need-pop-requires Inv-loop μ-loop
+pop-requires c κs =
+    let D = back-deep (c .before .before .before .before .before .before .loop .inv .1) in
+    (D .1 .0, (omega (arith, D .0, c .before .before .before .before .before .loop-test .taken), omega (arith, D .1 .1)))
+
+sub-depth : tie.Need-sub-depth Inv-loop μ-loop
+sub-depth c = omega (arith, c .before .before .before .before .before .before .before .before .loop-test .taken)
+
+loop-less : tie.Need-loop-less Inv-loop μ-loop
+loop-less c = omega (arith, c .before .before .before .before .before .before .before .before .loop-test .taken)
+
+loop-again : tie.Need-loop-again Inv-loop μ-loop
+loop-again c = (c .before .before .pop .kept .0 ∙ c .before .before .before .before .before .before .before .before .before .loop .inv .0, back-again (c .before .before .before .before .before .before .before .before .before .loop .inv .1) (c .before .before .before .before .before .before .before .before .loop-test .taken) (c .before .before .before .before .before .before .word2 .ensures .0) (c .before .before .before .before .before .before .before .before .before .before .before .before .before .before .before .pre .0) (c .before .before .before .before .before .word3 .ensures .0) (c .before .before .before .before .if1 .left) (c .before .before .pop .ensures))
+
+same-length-2 : tie.Need-same-length-2 Inv-loop μ-loop
+same-length-2 c = c .before .loop .inv .0
+
+returns-2 : tie.Need-returns-2 Inv-loop μ-loop
+returns-2 c = back-over (c .before .loop .inv .1) (c .loop-test .left)
+
+pub back-spec : {M : Type 1} → statement M
+back-spec =
+    tie.close
+    (tie.spec
+    Inv-loop
+    μ-loop
+    word-requires
+    loop-holds
+    word-requires-2
+    add-word
+    word-requires-3
+    sub-replace
+    replace-requires
+    same-length
+    returns
+    pop-requires
+    sub-depth
+    loop-less
+    loop-again
+    same-length-2
+    returns-2)

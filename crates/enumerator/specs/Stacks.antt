@@ -1,0 +1,54 @@
+-- What the code of the machine (specs/Machine) is given and leaves: a graph with its index, and words that hold a stack, a path with its last edge first (specs/Words).
+-- Assumes nothing: these are definitions.
+use Prim.Native.Nat.{ℕ, _≤_, _<_}
+use mathlib.Core.Path.{_≡_}
+use mathlib.Core.Bool.{Bool, true, false}
+use mathlib.Core.List.{List, [], _∷_, _++_, reverse}
+use mathlib.Core.Option.{Option, none, some}
+use lib.ListN.{length, getD, take, drop}
+use Rattle.repr.specs.Meaning.{Production, noProduction}
+use Rattle.trace_graph.specs.Fits.{itemFits}
+use Rattle.trace_graph.specs.Insert.{Graphed}
+use Rattle.enumerator.specs.Words.{wordsOf}
+
+-- a graph's words that are in range, with their index, of a table no larger than the limits
+pub record Ground (g ix : List ℕ) : Type 0 where
+  pub nonterminals : ℕ
+  pub productions : List Production
+  pub graphed : Graphed nonterminals productions g ix (getD g 0 0)
+  pub few : length productions ≤ 128
+  pub short : (p : ℕ) → length (getD productions p noProduction .symbols) ≤ 16
+
+-- and an item of that table
+pub record Started (g ix : List ℕ) (production index : ℕ) : Type 0 where
+  pub ground : Ground g ix
+  pub fits : itemFits (ground .productions) production index ≡ true
+
+-- room for the edges that a count allows
+unfoldable pub Roomy : List ℕ → Type 0
+Roomy g = (8193 ≤ length g) × (getD g 0 0 ≤ 1024)
+
+-- edges below k
+unfoldable pub Within : ℕ → List ℕ → Type 0
+Within k [] = Unit {0}
+Within k (e ∷ st) = (e < k) × Within k st
+
+-- words of a stack of edges below k, no longer than a trial (`short-trial`)
+pub record Stacked (k : ℕ) (ws : List ℕ) : Type 0 where
+  pub stack : List ℕ
+  pub rest : List ℕ
+  pub words : ws ≡ wordsOf (reverse stack) ++ rest
+  pub short : length stack ≤ 33
+  pub edges : Within k stack
+
+-- the stack of the first d edges in the words
+unfoldable pub stackIn : List ℕ → ℕ → List ℕ
+stackIn ws d = reverse (take d (drop 1 ws))
+
+-- the answer of a step, and the words that it leaves: those of the next stack, or of none
+pub data Stepped : Type 0 where
+  stepped : Bool → List ℕ → Stepped
+
+unfoldable pub stepOf : Option (List ℕ) → List ℕ → Stepped
+stepOf none rest = stepped false (wordsOf [] ++ rest)
+stepOf (some st) rest = stepped true (wordsOf (reverse st) ++ rest)

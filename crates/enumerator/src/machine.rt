@@ -1,0 +1,266 @@
+// The machine that steps from trial to trial (`find_next_trace` and what it calls), over the words of a trial: the number of its edges, then its edges from the start item on, then zeros.
+use repr::word;
+use trace_graph::Node;
+use trace_graph::TraceGraph;
+use trace_graph::node_number;
+use trace_graph::read_node;
+use trace_graph::same_node;
+ghost use mathlib.Core.Path.{_≡_};
+ghost use mathlib.Core.Bool.{Bool, true, false, _&&_};
+ghost use mathlib.Core.List.{List, [], _∷_, _++_, reverse};
+ghost use Prim.Native.Nat.{ℕ, _+_, _-_, _≤_, _<_};
+ghost use lib.ListN.{length, getD, take, drop, replicate};
+ghost use lib.Dec.{ltb};
+ghost use Rattle.repr.specs.Lists.{mem};
+ghost use Rattle.trace_graph.specs.Graph.{atNonterminal, atItem, sameNode};
+ghost use Rattle.trace_graph.specs.Words.{edgesIn};
+ghost use Rattle.trace_graph.specs.Values.{nodeIs, nodeValueFits};
+ghost use Rattle.enumerator.specs.Trials.{endsOf, isExample};
+ghost use Rattle.enumerator.specs.Words.{wordsOf, sameWords, holdsTrial};
+ghost use Rattle.enumerator.specs.Machine.{back, seek, next, usedOf, trialFrom?};
+ghost use Rattle.enumerator.specs.Stacks.{Ground, Started, Roomy, Within, Stacked, stackIn, Stepped, stepped, stepOf};
+
+// One edge more.
+pub fn push(words: &mut [u16], edge: usize)
+    requires { ⌜ (32000 ≤ length (now words)) × ((getD (now words) 0 0 < 31999) × (edge < 1024)) ⌝ }
+    ensures { λ _. ⌜ ((p rest : List ℕ) → now (words .entry) ≡ wordsOf p ++ rest → now (words .exit) ≡ wordsOf (p ++ edge ∷ []) ++ rest) ⌝ }
+{
+    let depth = word(words, 0) + 1;
+    words[depth] = edge as u16;
+    words[0] = depth as u16;
+}
+
+// Another last edge.
+pub fn replace(words: &mut [u16], edge: usize)
+    requires { ⌜ (32000 ≤ length (now words)) × ((getD (now words) 0 0 < 32000) × (edge < 1024)) ⌝ }
+    ensures { λ _. ⌜ ((p : List ℕ) (e : ℕ) (rest : List ℕ) → now (words .entry) ≡ wordsOf (p ++ e ∷ []) ++ rest → now (words .exit) ≡ wordsOf (p ++ edge ∷ []) ++ rest) ⌝ }
+{
+    let depth = word(words, 0);
+    words[depth] = edge as u16;
+}
+
+// The last edge taken off; its word becomes 0.
+pub fn pop(words: &mut [u16])
+    requires { ⌜ (32000 ≤ length (now words)) × ((0 < getD (now words) 0 0) × (getD (now words) 0 0 < 32000)) ⌝ }
+    ensures { λ _. ⌜ ((p : List ℕ) (e : ℕ) (rest : List ℕ) → now (words .entry) ≡ wordsOf (p ++ e ∷ []) ++ rest → now (words .exit) ≡ wordsOf p ++ rest) ⌝ }
+{
+    let depth = word(words, 0);
+    words[depth] = 0;
+    words[0] = (depth - 1) as u16;
+}
+
+// The last edge gives way to the next older one into the same node; where there is none it is taken off, and the edge before it does.
+pub fn back(graph: &[u16], ix: &[u16], words: &mut [u16]) -> bool
+    requires { ⌜ Ground (now graph) (now ix) ⌝ }
+    requires { ⌜ Stacked (getD (now graph) 0 0) (now words) ⌝ }
+    ensures { λ r. ⌜ ((st rest : List ℕ) → now (words .entry) ≡ wordsOf (reverse st) ++ rest → stepped r (now (words .exit)) ≡ stepOf (back (endsOf (edgesIn (now (graph .entry)))) st) rest) ⌝ }
+{
+    let mut depth = word(words, 0);
+    while depth != 0 {
+        let edge = word(words, depth);
+        let older = word(ix, TraceGraph::NODES + edge);
+        if older != 0 {
+            replace(words, older - 1);
+            return true;
+        }
+        pop(words);
+        depth -= 1;
+    }
+    false
+}
+
+// Whether an edge comes from a nonterminal.
+fn comes_from(graph: &[u16], edge: usize, nonterminal: usize) -> bool
+    requires { ⌜ Roomy (now graph) ⌝ }
+    requires { ⌜ edge < getD (now graph) 0 0 ⌝ }
+    ensures { λ r. ⌜ r ≡ sameNode (endsOf (edgesIn (now (graph .entry))) .source edge) (atNonterminal nonterminal) ⌝ }
+{
+    let source = read_node(graph, edge * TraceGraph::EDGE_WORDS + 1);
+    if source.kind == 0 {
+        return source.number == nonterminal;
+    }
+    false
+}
+
+// Whether one of the first edges comes from a nonterminal.
+fn uses(graph: &[u16], words: &[u16], depth: usize, nonterminal: usize) -> bool
+    requires { ⌜ Roomy (now graph) ⌝ }
+    requires { ⌜ depth < length (now words) ⌝ }
+    requires { ⌜ Within (getD (now graph) 0 0) (stackIn (now words) depth) ⌝ }
+    ensures { λ r. ⌜ r ≡ mem nonterminal (usedOf (endsOf (edgesIn (now (graph .entry)))) (stackIn (now (words .entry)) depth)) ⌝ }
+{
+    let mut k = depth;
+    while k != 0 {
+        let edge = word(words, k);
+        if comes_from(graph, edge, nonterminal) {
+            return true;
+        }
+        k -= 1;
+    }
+    false
+}
+
+// One edge more, the latest into the node; where there is none, back.
+fn seek(graph: &[u16], ix: &[u16], words: &mut [u16], node: Node) -> bool
+    requires { ⌜ ((G : Ground (now graph) (now ix)) × (nodeValueFits (G .nonterminals) (G .productions) node ≡ true)) ⌝ }
+    requires { ⌜ Stacked (getD (now graph) 0 0) (now words) ⌝ }
+    ensures { λ r. ⌜ ((st rest : List ℕ) → now (words .entry) ≡ wordsOf (reverse st) ++ rest → stepped r (now (words .exit)) ≡ stepOf (seek (endsOf (edgesIn (now (graph .entry)))) (nodeIs node) (endsOf (edgesIn (now (graph .entry))) .count) st) rest) ⌝ }
+{
+    let number = node_number(node);
+    let latest = word(ix, number);
+    if latest == 0 {
+        return back(graph, ix, words);
+    }
+    push(words, latest - 1);
+    true
+}
+
+// The trial after the one that the words hold; after the empty words, the first from the start item.
+pub fn next(graph: &[u16], ix: &[u16], words: &mut [u16], production: usize, index: usize) -> bool
+    requires { ⌜ Started (now graph) (now ix) production index ⌝ }
+    requires { ⌜ Stacked (getD (now graph) 0 0) (now words) ⌝ }
+    ensures { λ r. ⌜ ((st rest : List ℕ) → now (words .entry) ≡ wordsOf (reverse st) ++ rest → stepped r (now (words .exit)) ≡ stepOf (next (endsOf (edgesIn (now (graph .entry)))) (atItem (record { production = production; index = index })) st) rest) ⌝ }
+{
+    let depth = word(words, 0);
+    if depth == 0 {
+        let start = Node {
+            kind: 1,
+            number: production,
+            index: index,
+        };
+        return seek(graph, ix, words, start);
+    }
+    let edge = word(words, depth);
+    let source = read_node(graph, edge * TraceGraph::EDGE_WORDS + 1);
+    if source.kind != 0 {
+        return back(graph, ix, words);
+    }
+    let nonterminal = source.number;
+    if uses(graph, words, depth - 1, nonterminal) {
+        return back(graph, ix, words);
+    }
+    seek(graph, ix, words, source)
+}
+
+// Whether the trial is an example: its last edge comes from an item.
+pub fn is_example(graph: &[u16], words: &[u16]) -> bool
+    requires { ⌜ Roomy (now graph) ⌝ }
+    requires { ⌜ Stacked (getD (now graph) 0 0) (now words) ⌝ }
+    ensures { λ r. ⌜ ((st rest : List ℕ) → now (words .entry) ≡ wordsOf (reverse st) ++ rest → r ≡ isExample (endsOf (edgesIn (now (graph .entry)))) (reverse st)) ⌝ }
+{
+    let depth = word(words, 0);
+    if depth == 0 {
+        return false;
+    }
+    let edge = word(words, depth);
+    let source = read_node(graph, edge * TraceGraph::EDGE_WORDS + 1);
+    source.kind != 0
+}
+
+// The words of no edge.
+pub fn clear(words: &mut [u16])
+    requires { ⌜ 32000 ≤ length (now words) ⌝ }
+    ensures { λ _. ⌜ now (words .exit) ≡ wordsOf [] ++ drop 32000 (now (words .entry)) ⌝ }
+{
+    let mut at: usize = 0;
+    while at < 32000 {
+        words[at] = 0;
+        at += 1;
+    }
+}
+
+// Whether the words from a place on, up to 32,000, are zero.
+fn only_zeros(words: &[u16], from: usize) -> bool
+    requires { ⌜ (32000 ≤ length (now words)) × (from ≤ 32000) ⌝ }
+    ensures { λ r. ⌜ r ≡ sameWords (drop from (take 32000 (now (words .entry)))) (replicate (32000 - from) 0) ⌝ }
+{
+    let mut at = from;
+    while at < 32000 {
+        if word(words, at) != 0 {
+            return false;
+        }
+        at += 1;
+    }
+    true
+}
+
+// Whether a number is an edge's, and the edge enters a node.
+fn enters(graph: &[u16], ix: &[u16], edge: usize, node: Node) -> bool
+    requires { ⌜ ((G : Ground (now graph) (now ix)) × (nodeValueFits (G .nonterminals) (G .productions) node ≡ true)) ⌝ }
+    ensures { λ r. ⌜ r ≡ (ltb edge (endsOf (edgesIn (now (graph .entry))) .count) && sameNode (endsOf (edgesIn (now (graph .entry))) .target edge) (nodeIs node)) ⌝ }
+{
+    let count = word(graph, 0);
+    if edge < count {
+        let target = read_node(graph, edge * TraceGraph::EDGE_WORDS + 4);
+        return same_node(target, node);
+    }
+    false
+}
+
+// Whether the first edges are a trial from the start item: each enters the node that the one before it comes from, a nonterminal that none before comes from.
+fn is_trial(
+    graph: &[u16],
+    ix: &[u16],
+    words: &[u16],
+    depth: usize,
+    production: usize,
+    index: usize,
+) -> bool
+    requires { ⌜ Started (now graph) (now ix) production index ⌝ }
+    requires { ⌜ (0 < depth) × (depth < length (now words)) ⌝ }
+    ensures { λ r. ⌜ r ≡ trialFrom? (endsOf (edgesIn (now (graph .entry)))) [] (atItem (record { production = production; index = index })) (take depth (drop 1 (now (words .entry)))) ⌝ }
+{
+    let mut node = Node {
+        kind: 1,
+        number: production,
+        index: index,
+    };
+    let mut at: usize = 0;
+    while at + 1 < depth {
+        let edge = word(words, at + 1);
+        if enters(graph, ix, edge, node) {
+            let source = read_node(graph, edge * TraceGraph::EDGE_WORDS + 1);
+            if source.kind != 0 {
+                return false;
+            }
+            let nonterminal = source.number;
+            if uses(graph, words, at, nonterminal) {
+                return false;
+            }
+            node = source;
+            at += 1;
+        } else {
+            return false;
+        }
+    }
+    let edge = word(words, depth);
+    enters(graph, ix, edge, node)
+}
+
+// Whether the words are those of a trial that is an example (refusal 9): no trial has more than 33 edges.
+pub fn holds_trial(
+    graph: &[u16],
+    ix: &[u16],
+    words: &[u16],
+    production: usize,
+    index: usize,
+) -> bool
+    requires { ⌜ Started (now graph) (now ix) production index ⌝ }
+    requires { ⌜ 32000 ≤ length (now words) ⌝ }
+    ensures { λ r. ⌜ r ≡ holdsTrial (endsOf (edgesIn (now (graph .entry)))) (atItem (record { production = production; index = index })) (now (words .entry)) ⌝ }
+{
+    let depth = word(words, 0);
+    if depth == 0 {
+        return false;
+    }
+    if depth > 33 {
+        return false;
+    }
+    if only_zeros(words, depth + 1) {
+        if is_trial(graph, ix, words, depth, production, index) {
+            return is_example(graph, words);
+        }
+        return false;
+    }
+    false
+}
