@@ -1,3 +1,4 @@
+-- `core::prefix` meets its contract. Assumes nothing.
 use mathlib.Core.Path.{_≡_, refl, ap, _∙_}
 use Rattle.repr.specs.Listed.{listed}
 use Rattle.repr.proofs.Parts.{symbols-long}
@@ -9,39 +10,30 @@ use Rattle.core.proofs.prefix.Tie as tie
 use Rattle.core.proofs.prefix.Reads as reads
 use Rattle.core.proofs.prefix.Lts as lts
 
--- src/lib.rt:113:16
 mul-from : tie.Need-mul-from
 mul-from c = search needs
 
--- src/lib.rt:113:16
 add-from : tie.Need-add-from
 add-from c = search needs
 
--- src/lib.rt:114:23
 mul-past : tie.Need-mul-past
 mul-past c = let S = c .before .before in let s = symbols-long _ _ _ (S .pre .0 .0) (S .pre .0 .1) in let q = S .pre .0 .0 .short _ (S .pre .0 .1) in omega (arith, s, q, S .pre .1)
 
--- src/lib.rt:114:16
 add-past : tie.Need-add-past
 add-past c = let S = c .before .before in let s = symbols-long _ _ _ (S .pre .0 .0) (S .pre .0 .1) in let q = S .pre .0 .0 .short _ (S .pre .0 .1) in omega (arith, s, q, S .pre .1, S .pre .0 .1, S .pre .0 .0 .few)
 
--- src/lib.rt:115:5
 mul-result : tie.Need-mul-result
 mul-result c = search needs
 
--- src/lib.rt:115:5
 sub-result : tie.Need-sub-result
 sub-result c = search needs
 
--- src/lib.rt:115:5
 part-result-start : tie.Need-part-result-start
 part-result-start c = search needs
 
--- src/lib.rt:115:5
 part-result-end : tie.Need-part-result-end
 part-result-end c = let S = c .before .before in let s = symbols-long _ _ _ (S .pre .0 .0) (S .pre .0 .1) in let q = S .pre .0 .0 .short _ (S .pre .0 .1) in omega (arith, s, q, S .pre .1, S .pre .0 .1, S .pre .0 .0 .few, S .pre .0 .0 .long)
 
--- src/lib.rt:108:1
 returns : tie.Need-returns
 returns c = let S = c .before .before .before in let e = prefix-part (S .args .grammar .now) _ (S .args .item .production) (S .args .item .index) _ (S .pre .0 .0) (S .pre .0 .1) (S .pre .1) refl in (e, ap listed e ∙ prefix-is _ _)
 

@@ -1,3 +1,4 @@
+-- `core::suffix` meets its contract. Assumes nothing.
 use Prim.Native.Nat.{_+_, _*_}
 use mathlib.Core.Path.{_≡_, refl, ap, _∙_}
 use Rattle.repr.specs.Listed.{listed}
@@ -11,75 +12,57 @@ use Rattle.core.proofs.suffix.Reads as reads
 use Rattle.core.proofs.suffix.Lts as lts
 use Rattle.core.proofs.Item.length.Reads as length-reads
 
--- src/lib.rt:124:9
 length-requires : tie.Need-length-requires
 length-requires c κs = search needs
 
--- src/lib.rt:125:17
 mul-start : tie.Need-mul-start
 mul-start c = search needs
 
--- src/lib.rt:125:17
 add-start : tie.Need-add-start
 add-start c = search needs
 
--- src/lib.rt:126:24
 mul-past : tie.Need-mul-past
 mul-past c = search needs
 
--- src/lib.rt:126:16
 add-past : tie.Need-add-past
 add-past c = search needs
 
--- src/lib.rt:129:28
 mul-from : tie.Need-mul-from
 mul-from c = search needs
 
--- src/lib.rt:129:20
 add-from : tie.Need-add-from
 add-from c = search needs
 
--- src/lib.rt:129:20
 add-from-2 : tie.Need-add-from-2
 add-from-2 c = search needs
 
--- src/lib.rt:130:9
 mul-result : tie.Need-mul-result
 mul-result c = search needs
 
--- src/lib.rt:130:9
 sub-result : tie.Need-sub-result
 sub-result c = search needs
 
--- src/lib.rt:130:9
 part-result-start : tie.Need-part-result-start
 part-result-start c = search needs
 
--- src/lib.rt:130:9
 part-result-end : tie.Need-part-result-end
 part-result-end c = search needs
 
--- src/lib.rt:132:9
 mul-result-2 : tie.Need-mul-result-2
 mul-result-2 c = search needs
 
--- src/lib.rt:132:9
 sub-result-2 : tie.Need-sub-result-2
 sub-result-2 c = search needs
 
--- src/lib.rt:132:9
 part-result-start-2 : tie.Need-part-result-start-2
 part-result-start-2 c = search needs
 
--- src/lib.rt:132:9
 part-result-end-2 : tie.Need-part-result-end-2
 part-result-end-2 c = search needs
 
--- src/lib.rt:119:1
 returns : tie.Need-returns
 returns c = let S = c .before .before .before .before .before in let s = symbols-long _ _ _ (S .pre .0 .0) (S .pre .0 .1) in let e = suffix-part (S .args .grammar .now) _ (S .args .item .production) (S .args .item .index) (c .before .before .before .length .result) _ _ (S .pre .0 .0) (S .pre .0 .1) (c .before .before .before .length .ensures .0 ∙ s) (c .before .if1 .taken) refl refl in (e, ap listed e ∙ suffix-is _ _)
 
--- src/lib.rt:119:1
 returns-2 : tie.Need-returns-2
 returns-2 c = let S = c .before .before .before .before .before in let e = suffix-none (S .args .grammar .now) _ (S .args .item .production) (S .args .item .index) (S .args .item .production * 36 + 4 + 2 * c .before .before .before .length .result) (S .pre .0 .0) (S .pre .0 .1) (rw (c .before .before .before .length .ensures .0) at (c .before .if1 .left)) in (e, ap listed e ∙ suffix-is _ _)
 

@@ -1,3 +1,4 @@
+-- `lihvemur::lihvemur_check` meets its contract. Assumes nothing.
 use Rattle.lihvemur.proofs.Numbered.{check-accepted, check-refused, first-tokens, first-refused, walk-states, walk-refused}
 use native.Mathlib.Omega.{arith}
 use borrow.Author.Needs.{needs}
@@ -7,23 +8,18 @@ use Rattle.lihvemur.proofs.lihvemur_check.Reads as reads
 use Rattle.lihvemur.proofs.lihvemur_check.Lts as lts
 use Rattle.lr1.proofs.check.Reads as check-reads
 
--- src/lib.rt:18:11
 check-requires : tie.Need-check-requires
 check-requires c κs = search needs
 
--- src/lib.rt:20:13
 enum-told : tie.Need-enum-told
 enum-told c = search needs
 
--- src/lib.rt:23:26
 enum-known-refusal : tie.Need-enum-known-refusal
 enum-known-refusal c = search needs
 
--- src/lib.rt:14:1
 returns : tie.Need-returns
 returns c = check-accepted _ _ (c .before .before .check .ensures) (c .enum-told .given .1)
 
--- src/lib.rt:14:1
 returns-2 : tie.Need-returns-2
 returns-2 c = check-refused _ _ (c .before .before .before .check .ensures) _ _ (c .before .refusal .given .1)
 

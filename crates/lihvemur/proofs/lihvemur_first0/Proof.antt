@@ -1,3 +1,4 @@
+-- `lihvemur::lihvemur_first0` meets its contract. Assumes nothing.
 use Rattle.lihvemur.proofs.Numbered.{check-accepted, check-refused, first-tokens, first-refused, walk-states, walk-refused}
 use native.Mathlib.Omega.{arith}
 use borrow.Author.Needs.{needs}
@@ -7,23 +8,18 @@ use Rattle.lihvemur.proofs.lihvemur_first0.Reads as reads
 use Rattle.lihvemur.proofs.lihvemur_first0.Lts as lts
 use Rattle.lr1.proofs.first0.Reads as first0-reads
 
--- src/lib.rt:39:11
 first0-requires : tie.Need-first0-requires
 first0-requires c κs = search needs
 
--- src/lib.rt:40:23
 enum-known-tokens : tie.Need-enum-known-tokens
 enum-known-tokens c = search needs
 
--- src/lib.rt:45:24
 enum-known-refusal : tie.Need-enum-known-refusal
 enum-known-refusal c = search needs
 
--- src/lib.rt:30:1
 returns : tie.Need-returns
 returns c = first-tokens _ _ _ (c .before .before .before .first0 .ensures) _ (c .before .tokens .given .1)
 
--- src/lib.rt:30:1
 returns-2 : tie.Need-returns-2
 returns-2 c = first-refused _ _ _ (c .before .before .before .first0 .ensures) _ _ (c .before .refusal .given .1)
 

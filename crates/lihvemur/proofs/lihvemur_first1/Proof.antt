@@ -1,3 +1,4 @@
+-- `lihvemur::lihvemur_first1` meets its contract. Assumes nothing.
 use Rattle.lihvemur.proofs.Numbered.{check-accepted, check-refused, first-tokens, first-refused, walk-states, walk-refused}
 use native.Mathlib.Omega.{arith}
 use borrow.Author.Needs.{needs}
@@ -7,23 +8,18 @@ use Rattle.lihvemur.proofs.lihvemur_first1.Reads as reads
 use Rattle.lihvemur.proofs.lihvemur_first1.Lts as lts
 use Rattle.lr1.proofs.first1.Reads as first1-reads
 
--- src/lib.rt:62:11
 first1-requires : tie.Need-first1-requires
 first1-requires c κs = search needs
 
--- src/lib.rt:63:23
 enum-known-tokens : tie.Need-enum-known-tokens
 enum-known-tokens c = search needs
 
--- src/lib.rt:68:24
 enum-known-refusal : tie.Need-enum-known-refusal
 enum-known-refusal c = search needs
 
--- src/lib.rt:52:1
 returns : tie.Need-returns
 returns c = first-tokens _ _ _ (c .before .before .before .first1 .ensures) _ (c .before .tokens .given .1)
 
--- src/lib.rt:52:1
 returns-2 : tie.Need-returns-2
 returns-2 c = first-refused _ _ _ (c .before .before .before .first1 .ensures) _ _ (c .before .refusal .given .1)
 

@@ -1,3 +1,4 @@
+-- `lihvemur::lihvemur_trace_back` meets its contract. Assumes nothing.
 use Rattle.lihvemur.proofs.Numbered.{check-accepted, check-refused, first-tokens, first-refused, walk-states, walk-refused}
 use native.Mathlib.Omega.{arith}
 use borrow.Author.Needs.{needs}
@@ -7,23 +8,18 @@ use Rattle.lihvemur.proofs.lihvemur_trace_back.Reads as reads
 use Rattle.lihvemur.proofs.lihvemur_trace_back.Lts as lts
 use Rattle.lr1.proofs.trace_back.Reads as trace-back-reads
 
--- src/lib.rt:86:11
 trace-back-requires : tie.Need-trace-back-requires
 trace-back-requires c κs = search needs
 
--- src/lib.rt:87:24
 enum-known-states : tie.Need-enum-known-states
 enum-known-states c = search needs
 
--- src/lib.rt:93:25
 enum-known-refusal : tie.Need-enum-known-refusal
 enum-known-refusal c = search needs
 
--- src/lib.rt:75:1
 returns : tie.Need-returns
 returns c = walk-states _ _ _ (c .before .before .before .trace-back .ensures) _ (c .before .states .given .1)
 
--- src/lib.rt:75:1
 returns-2 : tie.Need-returns-2
 returns-2 c = walk-refused _ _ _ (c .before .before .before .trace-back .ensures) _ _ (c .before .refusal .given .1)
 

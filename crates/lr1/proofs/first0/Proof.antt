@@ -1,3 +1,4 @@
+-- `lr1::first0` meets its contract. Assumes nothing.
 use mathlib.Core.Path.{_≡_, refl, sym, _∙_}
 use Rattle.lr1.specs.Entries.{first0Of, first1Of, traceBackOf, walkOf}
 use Rattle.lr1.proofs.Entered.{over-refused, over-accepted}
@@ -10,28 +11,22 @@ use Rattle.lr1.proofs.first0.Lts as lts
 use Rattle.lr1.proofs.first0_in.Reads as first0-in-reads
 use Rattle.table_check.proofs.check.Reads as check-reads
 
--- src/lib.rt:36:11
 check-requires : tie.Need-check-requires
 check-requires c κs = search needs
 
--- src/lib.rt:37:26
 enum-known-refusal : tie.Need-enum-known-refusal
 enum-known-refusal c = search needs
 
--- src/lib.rt:38:30
 enum-told : tie.Need-enum-told
 enum-told c = search needs
 
--- src/lib.rt:38:30
 first0-in-requires : tie.Need-first0-in-requires
 first0-in-requires c κs = sym (c .before .before .check .ensures) ∙ c .enum-told .given .1
 
--- src/lib.rt:33:1
 returns : tie.Need-returns
 unfolding first0Of
 returns c = over-refused _ _ _ _ _ _ (sym (c .before .before .before .check .ensures) ∙ c .before .refusal .given .1)
 
--- src/lib.rt:33:1
 returns-2 : tie.Need-returns-2
 unfolding first0Of
 returns-2 c = over-accepted _ _ _ _ (sym (c .before .before .before .check .ensures) ∙ c .before .enum-told .given .1) _ (c .first0-in .ensures)

@@ -1,3 +1,4 @@
+-- `lr1::first0_in` meets its contract. Assumes nothing.
 use mathlib.Core.Path.{_≡_, refl, sym, _∙_}
 use Rattle.lr1.proofs.Entered.{first0-yes, first0-no, list-wider}
 use native.Mathlib.Omega.{arith}
@@ -12,47 +13,36 @@ use Rattle.repr.proofs.list_fits.Reads as list-fits-reads
 use Rattle.table.proofs.read_counts.Reads as read-counts-reads
 use Rattle.table.proofs.read_productions.Reads as read-productions-reads
 
--- src/lib.rt:46:9
 read-counts-requires : tie.Need-read-counts-requires
 read-counts-requires c κs = search needs
 
--- src/lib.rt:48:8
 list-fits-requires : tie.Need-list-fits-requires
 list-fits-requires c κs = search needs
 
--- src/lib.rt:50:33
 slice-aggregate-read-productions : tie.Need-slice-aggregate-read-productions
 slice-aggregate-read-productions c = search needs
 
--- src/lib.rt:50:9
 read-productions-requires : tie.Need-read-productions-requires
 read-productions-requires c κs = search needs
 
--- src/lib.rt:51:35
 slice-aggregate-new : tie.Need-slice-aggregate-new
 slice-aggregate-new c = search needs
 
--- src/lib.rt:51:65
 cast-new : tie.Need-cast-new
 cast-new c = search needs
 
--- src/lib.rt:51:13
 new-requires : tie.Need-new-requires
 new-requires c κs = (rw (c .before .before .before .before .before .before .read-counts .ensures .productions) (c .before .before .read-productions .ensures .0), rw (c .before .before .before .before .before .before .read-counts .ensures .terminals) (c .before .before .before .before .before .before .read-counts .ensures .fits .few-terminals))
 
--- src/lib.rt:53:43
 cast-first0 : tie.Need-cast-first0
 cast-first0 c = search needs
 
--- src/lib.rt:53:23
 first0-requires : tie.Need-first0-requires
 first0-requires c κs = (rw (c .before .before .before .before .before .before .before .before .before .read-counts .ensures .terminals) (c .before .before .before .before .before .before .before .before .before .read-counts .ensures .fits .few-terminals), list-wider _ _ 32 63 _ (rw (c .before .before .before .before .before .before .before .before .before .read-counts .ensures .nonterminals) (c .before .before .before .before .before .before .before .before .before .read-counts .ensures .fits .few-nonterminals)) (rw (c .before .before .before .before .before .before .before .before .before .read-counts .ensures .terminals) (c .before .before .before .before .before .before .before .before .before .read-counts .ensures .fits .few-terminals)) (sym (c .before .before .before .before .before .before .before .before .list-fits .ensures) ∙ c .before .before .before .before .before .before .before .if1 .taken))
 
--- src/lib.rt:42:1
 returns : tie.Need-returns
 returns c = first0-yes _ _ _ _ (c .before .before .before .before .before .before .before .before .before .before .read-counts .ensures .nonterminals) (c .before .before .before .before .before .before .before .before .before .before .read-counts .ensures .terminals) _ (c .before .before .before .before .before .before .before .before .before .list-fits .ensures) (c .before .before .before .before .before .before .before .before .if1 .taken) _ _ (c .before .before .before .new .ensures) (rw (c .before .before .before .before .before .before .before .before .before .before .read-counts .ensures .productions) (c .before .before .before .before .before .before .read-productions .ensures .1)) _ (c .first0 .ensures)
 
--- src/lib.rt:42:1
 returns-2 : tie.Need-returns-2
 returns-2 c = first0-no _ _ _ _ (c .before .before .read-counts .ensures .nonterminals) (c .before .before .read-counts .ensures .terminals) _ (c .before .list-fits .ensures) (c .if1 .left)
 

@@ -1,3 +1,4 @@
+-- `lr1::first1_in` meets its contract. Assumes nothing.
 use mathlib.Core.Path.{_≡_, refl, sym, _∙_}
 use Rattle.lr1.proofs.Entered.{first1-refused, first1-yes, first1-no}
 use native.Mathlib.Omega.{arith}
@@ -11,39 +12,30 @@ use Rattle.lr1.proofs.followed.Reads as followed-reads
 use Rattle.lr1.proofs.tokens_fit.Reads as tokens-fit-reads
 use Rattle.table.proofs.read_counts.Reads as read-counts-reads
 
--- src/lib.rt:99:9
 read-counts-requires : tie.Need-read-counts-requires
 read-counts-requires c κs = search needs
 
--- src/lib.rt:101:11
 first0-in-requires : tie.Need-first0-in-requires
 first0-in-requires c κs = search needs
 
--- src/lib.rt:102:24
 enum-known-refusal : tie.Need-enum-known-refusal
 enum-known-refusal c = search needs
 
--- src/lib.rt:103:23
 enum-known-set : tie.Need-enum-known-set
 enum-known-set c = search needs
 
--- src/lib.rt:104:16
 tokens-fit-requires : tie.Need-tokens-fit-requires
 tokens-fit-requires c κs = search needs
 
--- src/lib.rt:105:31
 followed-requires : tie.Need-followed-requires
 followed-requires c κs = search needs
 
--- src/lib.rt:95:1
 returns : tie.Need-returns
 returns c = first1-refused _ _ _ _ _ (sym (c .before .before .before .first0-in .ensures) ∙ c .before .refusal .given .1)
 
--- src/lib.rt:95:1
 returns-2 : tie.Need-returns-2
 returns-2 c = first1-yes _ _ _ _ (c .before .before .before .before .before .before .before .read-counts .ensures .terminals) _ (sym (c .before .before .before .before .before .before .first0-in .ensures) ∙ c .before .before .before .before .set .given .1) _ (c .before .before .tokens-fit .ensures) (c .before .if1 .taken) _ (c .followed .ensures)
 
--- src/lib.rt:95:1
 returns-3 : tie.Need-returns-3
 returns-3 c = first1-no _ _ _ _ (c .before .before .before .before .before .before .read-counts .ensures .terminals) _ (sym (c .before .before .before .before .before .first0-in .ensures) ∙ c .before .before .before .set .given .1) _ (c .before .tokens-fit .ensures) (c .if1 .left)
 

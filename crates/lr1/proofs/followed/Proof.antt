@@ -1,3 +1,4 @@
+-- `lr1::followed` meets its contract. Assumes nothing.
 use mathlib.Core.Path.{_∙_}
 use Rattle.lr1.proofs.Entered.{join-kept, join-lone}
 use native.Mathlib.Omega.{arith}
@@ -9,23 +10,18 @@ use Rattle.lr1.proofs.followed.Lts as lts
 use Rattle.lookahead.proofs.TokenSet.take_eof.Reads as take-eof-reads
 use Rattle.lookahead.proofs.TokenSet.union_with.Reads as union-with-reads
 
--- src/lib.rt:76:30
 cast-take-eof : tie.Need-cast-take-eof
 cast-take-eof c = search needs
 
--- src/lib.rt:76:9
 take-eof-requires : tie.Need-take-eof-requires
 take-eof-requires c κs = search needs
 
--- src/lib.rt:79:9
 union-with-requires : tie.Need-union-with-requires
 union-with-requires c κs = search needs
 
--- src/lib.rt:72:1
 returns : tie.Need-returns
 returns c = c .before .union-with .ensures .0 ∙ join-kept _ _ _ _ _ (c .before .before .before .before .take-eof .ensures .1) (c .before .before .before .if1 .taken) (c .before .before .before .before .take-eof .ensures .0)
 
--- src/lib.rt:72:1
 returns-2 : tie.Need-returns-2
 returns-2 c = join-lone _ _ _ _ (c .before .take-eof .ensures .1) (c .if1 .left)
 

@@ -1,3 +1,4 @@
+-- `lr1::tokens_fit` meets its contract. Assumes nothing.
 use Rattle.lr1.proofs.Entered.{tokens-few, tokens-all}
 use native.Mathlib.Omega.{arith}
 use borrow.Author.Needs.{needs}
@@ -6,19 +7,15 @@ use Rattle.lr1.proofs.tokens_fit.Tie as tie
 use Rattle.lr1.proofs.tokens_fit.Reads as reads
 use Rattle.lr1.proofs.tokens_fit.Lts as lts
 
--- src/lib.rt:65:23
 add-result : tie.Need-add-result
 add-result c = search needs
 
--- src/lib.rt:65:17
 shl-result : tie.Need-shl-result
 shl-result c = search needs
 
--- src/lib.rt:60:1
 returns : tie.Need-returns
 returns c = tokens-few _ _ (c .before .if1 .taken)
 
--- src/lib.rt:60:1
 returns-2 : tie.Need-returns-2
 returns-2 c = tokens-all _ _ (c .if1 .left) (c .before .pre) (omega (arith, c .before .good))
 

@@ -1,3 +1,4 @@
+-- `lr1::trace_back_in` meets its contract. Assumes nothing.
 use mathlib.Core.Path.{_≡_, refl, sym, _∙_}
 use Rattle.lr1.specs.Entries.{walkOf}
 use Rattle.lr1.proofs.Entered.{walk-yes, walk-list, walk-state, fits-by}
@@ -11,33 +12,26 @@ use Rattle.repr.proofs.list_fits.Reads as list-fits-reads
 use Rattle.state_graph.proofs.trace_back.Reads as trace-back-reads
 use Rattle.table.proofs.read_counts.Reads as read-counts-reads
 
--- src/lib.rt:133:9
 read-counts-requires : tie.Need-read-counts-requires
 read-counts-requires c κs = search needs
 
--- src/lib.rt:134:18
 cast-number : tie.Need-cast-number
 cast-number c = search needs
 
--- src/lib.rt:136:12
 list-fits-requires : tie.Need-list-fits-requires
 list-fits-requires c κs = search needs
 
--- src/lib.rt:137:35
 trace-back-requires : tie.Need-trace-back-requires
 trace-back-requires c κs = (c .before .before .before .before .before .before .before .before .pre, (rw (c .before .before .before .before .before .read-counts .ensures .states) at (c .before .before .if1 .taken), rw (c .before .before .before .before .before .read-counts .ensures .nonterminals, c .before .before .before .before .before .read-counts .ensures .terminals) at (sym (c .before .list-fits .ensures) ∙ c .if2 .taken)))
 
--- src/lib.rt:137:13
 returns : tie.Need-returns
 unfolding walkOf
 returns c = walk-yes _ _ _ (rw (c .before .before .before .before .before .before .read-counts .ensures .states) at (c .before .before .before .if1 .taken)) (sym (fits-by _ _ _ _ (c .before .before .before .before .before .before .read-counts .ensures .nonterminals) (c .before .before .before .before .before .before .read-counts .ensures .terminals) _ (c .before .before .list-fits .ensures)) ∙ c .before .if2 .taken) _ (c .trace-back .ensures)
 
--- src/lib.rt:129:1
 returns-2 : tie.Need-returns-2
 unfolding walkOf
 returns-2 c = walk-list _ _ _ (rw (c .before .before .before .before .before .read-counts .ensures .states) at (c .before .before .if1 .taken)) (sym (fits-by _ _ _ _ (c .before .before .before .before .before .read-counts .ensures .nonterminals) (c .before .before .before .before .before .read-counts .ensures .terminals) _ (c .before .list-fits .ensures)) ∙ c .if2 .left)
 
--- src/lib.rt:129:1
 returns-3 : tie.Need-returns-3
 unfolding walkOf
 returns-3 c = walk-state _ _ _ (rw (c .before .before .before .read-counts .ensures .states) at (c .if1 .left))

@@ -1,3 +1,4 @@
+-- `repr::list_fits` meets its contract. Assumes nothing.
 use mathlib.Core.Path.{_≡_, refl, sym, _∙_}
 use Prim.Native.Nat.{_≤_, _-_, _+_}
 use lib.ListN.{length, drop}
@@ -18,51 +19,39 @@ Inv-loop n t list at₀ at = (at ≤ length list) × (listFits n t (drop at list
 abbrev μ-loop : tie.MeasureT-loop
 μ-loop n t list at₀ at = length list - at
 
--- src/lib.rt:57:5
 loop-holds : tie.Need-loop-holds Inv-loop μ-loop
 loop-holds c = (omega arith, refl)
 
--- src/lib.rt:58:12
 sub-if1 : tie.Need-sub-if1 Inv-loop μ-loop
 sub-if1 c = search needs
 
--- src/lib.rt:59:13
 returns : tie.Need-returns Inv-loop μ-loop
 returns c = sym (fits-half _ _ _ (c .before .before .loop .at) (c .before .loop-test .taken) (omega arith)) ∙ c .before .before .loop .inv .1
 
--- src/lib.rt:61:13
 word-requires : tie.Need-word-requires Inv-loop μ-loop
 word-requires c κs = search needs
 
--- src/lib.rt:62:33
 add-word : tie.Need-add-word Inv-loop μ-loop
 add-word c = search needs
 
--- src/lib.rt:62:13
 word-requires-2 : tie.Need-word-requires-2 Inv-loop μ-loop
 word-requires-2 c κs = search needs
 
--- src/lib.rt:63:12
 symbol-fits-requires : tie.Need-symbol-fits-requires Inv-loop μ-loop
 symbol-fits-requires c κs = search needs
 
--- src/lib.rt:64:13
 add-at : tie.Need-add-at Inv-loop μ-loop
 add-at c = search needs
 
--- src/lib.rt:57:5
 loop-less : tie.Need-loop-less Inv-loop μ-loop
 loop-less c = search needs
 
--- src/lib.rt:57:5
 loop-again : tie.Need-loop-again Inv-loop μ-loop
 loop-again c = (omega arith, sym (fits-good _ _ _ (c .before .before .before .before .before .before .loop .at) (omega arith) _ _ (c .before .before .before .word .ensures .0) (c .before .before .word2 .ensures .0) (sym (c .before .symbol-fits .ensures) ∙ c .if2 .taken)) ∙ c .before .before .before .before .before .before .loop .inv .1)
 
--- src/lib.rt:66:13
 returns-2 : tie.Need-returns-2 Inv-loop μ-loop
 returns-2 c = sym (fits-bad _ _ _ (c .before .before .before .before .before .before .loop .at) (omega arith) _ _ (c .before .before .before .word .ensures .0) (c .before .before .word2 .ensures .0) (sym (c .before .symbol-fits .ensures) ∙ c .if2 .left)) ∙ c .before .before .before .before .before .before .loop .inv .1
 
--- src/lib.rt:53:1
 returns-3 : tie.Need-returns-3 Inv-loop μ-loop
 returns-3 c = sym (fits-none _ _ _ (c .before .loop .at) (c .loop-test .left)) ∙ c .before .loop .inv .1
 

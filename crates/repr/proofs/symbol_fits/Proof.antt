@@ -1,3 +1,4 @@
+-- `repr::symbol_fits` meets its contract. Assumes nothing.
 use borrow.Author.Needs.{needs}
 use Rattle.repr.proofs.Listed.{kind-zero, kind-one, kind-other}
 use Rattle.repr.proofs.symbol_fits.Statement.{statement}
@@ -5,15 +6,12 @@ use Rattle.repr.proofs.symbol_fits.Tie as tie
 use Rattle.repr.proofs.symbol_fits.Reads as reads
 use Rattle.repr.proofs.symbol_fits.Lts as lts
 
--- src/lib.rt:44:9
 returns : tie.Need-returns
 returns c = kind-zero _ _ _ _ (c .if1 .taken)
 
--- src/lib.rt:47:9
 returns-2 : tie.Need-returns-2
 returns-2 c = kind-one _ _ _ _ (c .if2 .taken)
 
--- src/lib.rt:40:1
 returns-3 : tie.Need-returns-3
 returns-3 c = kind-other _ _ _ _ (c .before .if1 .left) (c .if2 .left)
 

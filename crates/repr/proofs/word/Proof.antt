@@ -1,3 +1,4 @@
+-- `repr::word` meets its contract. Assumes nothing.
 use mathlib.Core.Path.{refl}
 use native.Mathlib.Omega.{arith}
 use borrow.Author.Needs.{needs}
@@ -6,19 +7,15 @@ use Rattle.repr.proofs.word.Tie as tie
 use Rattle.repr.proofs.word.Reads as reads
 use Rattle.repr.proofs.word.Lts as lts
 
--- src/lib.rt:36:5
 mul-result : tie.Need-mul-result
 mul-result c = search needs
 
--- src/lib.rt:36:5
 shared-slice-read-result : tie.Need-shared-slice-read-result
 shared-slice-read-result c = search needs
 
--- src/lib.rt:36:5
 cast-result : tie.Need-cast-result
 cast-result c = omega (arith, c .shared-slice-known .given (c .before .args .at))
 
--- src/lib.rt:32:1
 returns : tie.Need-returns
 returns c = (refl, c .shared-slice-known .given (c .before .args .at) .fits)
 

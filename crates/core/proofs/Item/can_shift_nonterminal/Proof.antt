@@ -1,3 +1,4 @@
+-- `core::Item::can_shift_nonterminal` meets its contract. Assumes nothing.
 use mathlib.Core.Path.{_≡_, sym, _∙_}
 use Rattle.core.proofs.Items.{shifts-nonterminal, shifts-terminal, shifts-past}
 use native.Mathlib.Omega.{arith}
@@ -9,47 +10,36 @@ use Rattle.core.proofs.Item.can_shift_nonterminal.Lts as lts
 use Rattle.core.proofs.Item.length.Reads as length-reads
 use Rattle.repr.proofs.word.Reads as word-reads
 
--- src/lib.rt:97:20
 length-requires : tie.Need-length-requires
 length-requires c κs = search needs
 
--- src/lib.rt:98:22
 mul-at : tie.Need-mul-at
 mul-at c = search needs
 
--- src/lib.rt:98:22
 add-at : tie.Need-add-at
 add-at c = search needs
 
--- src/lib.rt:98:44
 mul-at-2 : tie.Need-mul-at-2
 mul-at-2 c = search needs
 
--- src/lib.rt:98:22
 add-at-2 : tie.Need-add-at-2
 add-at-2 c = search needs
 
--- src/lib.rt:99:16
 word-requires : tie.Need-word-requires
 word-requires c κs = search needs
 
--- src/lib.rt:100:38
 add-word : tie.Need-add-word
 add-word c = search needs
 
--- src/lib.rt:100:24
 word-requires-2 : tie.Need-word-requires-2
 word-requires-2 c κs = search needs
 
--- src/lib.rt:100:17
 returns : tie.Need-returns
 returns c = let S = c .before .before .before .before .before .before in shifts-nonterminal _ _ _ _ (S .pre .0) (S .pre .1) (rw (c .before .before .before .before .length .ensures .0) at (c .before .before .before .if1 .taken)) _ _ (sym (c .before .before .word .ensures .0) ∙ c .before .if2 .taken) (c .word2 .ensures .0)
 
--- src/lib.rt:86:5
 returns-2 : tie.Need-returns-2
 returns-2 c = let S = c .before .before .before .before .before in shifts-terminal _ _ _ _ (S .pre .0) (S .pre .1) (rw (c .before .before .before .length .ensures .0) at (c .before .before .if1 .taken)) _ (λ e. c .if2 .left (c .before .word .ensures .0 ∙ e))
 
--- src/lib.rt:86:5
 returns-3 : tie.Need-returns-3
 returns-3 c = shifts-past _ _ _ (rw (c .before .length .ensures .0) at (c .if1 .left))
 

@@ -1,3 +1,4 @@
+-- `core::Item::length` meets its contract. Assumes nothing.
 use mathlib.Core.Path.{_≡_, sym, _∙_}
 use Rattle.repr.proofs.Parts.{symbols-long}
 use native.Mathlib.Omega.{arith}
@@ -8,19 +9,15 @@ use Rattle.core.proofs.Item.length.Reads as reads
 use Rattle.core.proofs.Item.length.Lts as lts
 use Rattle.repr.proofs.word.Reads as word-reads
 
--- src/lib.rt:47:23
 mul-word : tie.Need-mul-word
 mul-word c = search needs
 
--- src/lib.rt:47:23
 add-word : tie.Need-add-word
 add-word c = search needs
 
--- src/lib.rt:47:9
 word-requires : tie.Need-word-requires
 word-requires c κs = search needs
 
--- src/lib.rt:42:5
 returns : tie.Need-returns
 returns c = let S = c .before .before in let h = S .pre .1 in let P = S .pre .0 in (c .word .ensures .0 ∙ sym (symbols-long _ _ _ P h), rw (c .word .ensures .0) (P .short _ h))
 

@@ -1,3 +1,4 @@
+-- `core::Item::symbol_sets` meets its contract. Assumes nothing.
 use Rattle.repr.proofs.Packed.{words-long}
 use Rattle.repr.proofs.Parts.{symbols-long}
 use Rattle.core.proofs.Items.{sets-at, sets-end}
@@ -9,23 +10,18 @@ use Rattle.core.proofs.Item.symbol_sets.Reads as reads
 use Rattle.core.proofs.Item.symbol_sets.Lts as lts
 use Rattle.core.proofs.Item.length.Reads as length-reads
 
--- src/lib.rt:69:13
 length-requires : tie.Need-length-requires
 length-requires c κs = search needs
 
--- src/lib.rt:75:25
 sub-t8 : tie.Need-sub-t8
 sub-t8 c = search needs
 
--- src/lib.rt:75:25
 sub-t9 : tie.Need-sub-t9
 sub-t9 c = search needs
 
--- src/lib.rt:64:5
 returns : tie.Need-returns
 returns c = let S = c .before .before .before in let w = words-long _ _ _ (S .pre .0 .0) (S .pre .0 .1) in let s = symbols-long _ _ _ (S .pre .0 .0) (S .pre .0 .1) in sets-at _ _ (c .before .length .result) (omega (arith, w, s, c .before .length .ensures .0)) (c .if1 .taken)
 
--- src/lib.rt:64:5
 returns-2 : tie.Need-returns-2
 returns-2 c = sets-end _ _ _ (c .before .length .ensures .0) (c .if1 .left)
 

@@ -1,3 +1,4 @@
+-- `core::SymbolSets::new` meets its contract. Assumes nothing.
 use Rattle.core.proofs.Items.{sets-none}
 use borrow.Author.Needs.{needs}
 use native.Mathlib.Omega.{arith}
@@ -6,7 +7,6 @@ use Rattle.core.proofs.SymbolSets.new.Tie as tie
 use Rattle.core.proofs.SymbolSets.new.Reads as reads
 use Rattle.core.proofs.SymbolSets.new.Lts as lts
 
--- src/lib.rt:23:5
 returns : tie.Need-returns
 returns c = λ ws. sets-none ws
 
