@@ -46,6 +46,6 @@ unfoldable pub inTurn {ℓ} : {A : Type ℓ} → (A → Trace → Trace) → Lis
 inTurn f [] st = st
 inTurn f (x ∷ xs) st = inTurn f xs (f x st)
 
--- the pairs of a state and a nonterminal, and one more: fuel for what enters each pair once (`fuel-enough` of proofs/Fuel)
+-- the pairs of a state and a nonterminal, and one more: fuel for what enters each pair once (`epsilon-pairs` and `reduce-pairs` of proofs/Fuel)
 abbrev pub pairs : ℕ
 pairs = 4097
