@@ -1,0 +1,63 @@
+-- The ways through the filter (`meets`, `passes`, `hands`), by specs/Filter. Assumes nothing.
+use Prim.Native.Nat.{ℕ}
+use mathlib.Core.Path.{_≡_, sym, ap, _∙_}
+use mathlib.Core.Bool.{Bool, true, false, _&&_, not}
+use mathlib.Core.List.{List, _++_, reverse, reverse-reverse}
+use mathlib.Core.Option.{Option, some}
+use lib.ListN.{getD}
+use lib.Dec.{eqb}
+use Rattle.repr.specs.Meaning.{Production}
+use Rattle.lookahead.specs.declared.TokenSet.{TokenSet}
+use Rattle.lookahead.specs.Tokens.{meet}
+use Rattle.first.specs.First.{first0}
+use Rattle.trace_graph.specs.Graph.{TraceEdge}
+use Rattle.example.specs.Example.{Label, ahead, meets}
+use Rattle.enumerator.specs.Trials.{Path, endsOf, isExample}
+use Rattle.enumerator.specs.Lister.{labelsOf}
+use Rattle.enumerator.specs.Words.{wordsOf}
+use Rattle.enumerator.specs.Advance.{setOf}
+use Rattle.enumerator.specs.Stacks.{Roomy, Stacked}
+use Rattle.enumerator.specs.declared.Lookahead.{Lookahead}
+use Rattle.enumerator.specs.declared.Lookahead.the-variants.{Any, Set}
+use Rattle.enumerator.proofs.Holding.{stacked-of}
+use Rattle.search.specs.Filter.{passesBy, handsBy}
+use Rattle.search.specs.Given.{Tried}
+
+-- the words are such as the machine asks
+pub tried-roomy : {ps : List Production} {g ws : List ℕ} → Tried ps g ws → Roomy g
+unfolding Roomy
+tried-roomy T = (T .long, T .few-edges)
+
+pub tried-stacked : {ps : List Production} {g ws : List ℕ} → Tried ps g ws → Stacked (getD g 0 0) ws
+tried-stacked T = stacked-of (T .path) (T .rest) (T .words) (T .few) (T .edges)
+
+module _ (e : ℕ) (sets : List ℕ) (ps : List Production) (es : List TraceEdge) where
+  -- `meets`
+  pub meets-is : (set x : ℕ) (r : Bool) (ls : List Label) (p : Path) → x ≡ first0 e sets (ahead ps ls) → r ≡ not (eqb (meet x set) 0) → ls ≡ labelsOf ps es p
+      → r ≡ passesBy e sets ps es (some set) p
+  unfolding passesBy meets
+  meets-is set x r ls p ex er el =
+      er ∙ ap (λ (y : ℕ). not (eqb (meet y set) 0)) ex ∙ ap (λ (l : List Label). not (eqb (meet (first0 e sets (ahead ps l)) set) 0)) el
+
+  -- `passes`
+  pub passes-any : (l : Lookahead) → l ≡ Any → (p : Path) → true ≡ passesBy e sets ps es (setOf l) p
+  unfolding passesBy setOf
+  passes-any l q p = sym (ap (λ (y : Lookahead). passesBy e sets ps es (setOf y) p) q)
+
+  pub passes-set : (l : Lookahead) (s : TokenSet) → l ≡ Set s → (r : Bool) (p : Path) → r ≡ passesBy e sets ps es (some (s .0)) p → r ≡ passesBy e sets ps es (setOf l) p
+  unfolding setOf
+  passes-set l s q r p h = h ∙ sym (ap (λ (y : Lookahead). passesBy e sets ps es (setOf y) p) q)
+
+  -- `hands`
+  module _ (o : Option ℕ) (b : Bool) (ws : List ℕ) (f : (st rest : List ℕ) → ws ≡ wordsOf (reverse st) ++ rest → b ≡ isExample (endsOf es) (reverse st)) (p rest : List ℕ) (w : ws ≡ wordsOf p ++ rest) where
+    example-is : b ≡ isExample (endsOf es) p
+    example-is =
+        f (reverse p) rest (w ∙ ap (λ (l : List ℕ). wordsOf l ++ rest) (sym (reverse-reverse p))) ∙ ap (λ (l : List ℕ). isExample (endsOf es) l) (reverse-reverse p)
+
+    pub hands-example : b ≡ true → (r : Bool) → r ≡ passesBy e sets ps es o p → r ≡ handsBy e sets ps es o p
+    unfolding handsBy
+    hands-example h r q = q ∙ sym (ap (λ (x : Bool). x && passesBy e sets ps es o p) (sym example-is ∙ h))
+
+    pub hands-other : b ≡ false → false ≡ handsBy e sets ps es o p
+    unfolding handsBy
+    hands-other h = sym (ap (λ (x : Bool). x && passesBy e sets ps es o p) (sym example-is ∙ h))

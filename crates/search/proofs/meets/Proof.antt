@@ -1,0 +1,51 @@
+-- `meets` meets its contract, by `meets-is`. Assumes nothing.
+use mathlib.Core.Path.{sym}
+use lib.ListN.{take}
+use lib.Seq.{length-take-le}
+use Rattle.repr.specs.Packed.{productionsIn}
+use Rattle.trace_graph.specs.Words.{edgesIn}
+use Rattle.example.specs.Labels.{labelsIn}
+use Rattle.search.proofs.Handing.{meets-is}
+use native.Mathlib.Omega.{arith}
+use borrow.Author.Needs.{needs}
+use Rattle.search.proofs.meets.Statement.{statement}
+use Rattle.search.proofs.meets.Tie as tie
+
+slice-aggregate-read-labels : tie.Need-slice-aggregate-read-labels
+slice-aggregate-read-labels c = search needs
+
+read-labels-requires : tie.Need-read-labels-requires
+read-labels-requires c κs = search needs
+
+array-share-prefix-labels : tie.Need-array-share-prefix-labels
+array-share-prefix-labels c = search needs
+
+slice-aggregate-first0 : tie.Need-slice-aggregate-first0
+slice-aggregate-first0 c =
+    let K = c .before .before .read-labels in
+    sym (length-take-le _ (K .last .1 .1 .1 .1 .0) (omega (arith, K .ensures .0 .0, K .kept .1 .1 .1 .1 .0)))
+
+first0-requires : tie.Need-first0-requires
+first0-requires c κs = search needs
+
+is-intersecting-requires : tie.Need-is-intersecting-requires
+is-intersecting-requires c κs = search needs
+
+returns : tie.Need-returns
+returns c =
+    let S = c .before .before .before .before .before .before .before .before .before in
+    λ p rest w.
+    meets-is (S .args .terminals) (S .args .map .now) (productionsIn (S .args .grammar .now) (S .args .productions)) (edgesIn (S .args .graph .now)) (S .args .set .0) (c .before .first0 .result .0) (c .is-intersecting .result)
+    (labelsIn (take (c .before .before .before .before .read-labels .result) (c .before .before .before .before .read-labels .last .1 .1 .1 .1 .0))) p (c .before .first0 .ensures) (c .is-intersecting .ensures) (c .before .before .before .before .read-labels .ensures .1 p rest w)
+
+pub meets-spec : {M : Type 1} → statement M
+meets-spec =
+    tie.close
+    (tie.spec
+    slice-aggregate-read-labels
+    read-labels-requires
+    array-share-prefix-labels
+    slice-aggregate-first0
+    first0-requires
+    is-intersecting-requires
+    returns)

@@ -1,0 +1,194 @@
+// The search of a listing from one trial handed out to the next (part 6 of document 01; `FilteredPathEnumerator` of lr1/trace/trace_graph/mod.rs): the labels of a trial, the filter, the count of trials.
+use enumerator::Lookahead;
+use enumerator::machine::clear;
+use enumerator::machine::is_example;
+use enumerator::machine::next;
+use example::first0;
+use lookahead::TokenSet;
+use repr::word;
+use trace_graph::Node;
+use trace_graph::read_edge;
+ghost use mathlib.Core.Path.{_≡_};
+ghost use mathlib.Core.Bool.{true};
+ghost use mathlib.Core.List.{List, [], _++_};
+ghost use mathlib.Core.Option.{some};
+ghost use Prim.Native.Nat.{ℕ, _-_, _≤_, _<_};
+ghost use lib.ListN.{length, take, drop};
+ghost use Rattle.repr.specs.Packed.{Packed, productionsIn};
+ghost use Rattle.trace_graph.specs.Graph.{atItem};
+ghost use Rattle.trace_graph.specs.Words.{edgesIn};
+ghost use Rattle.trace_graph.specs.Values.{nodeIs, nodeValueFits};
+ghost use Rattle.example.specs.Labels.{labelsIn, LabelsFit};
+ghost use Rattle.enumerator.specs.Trials.{endsOf, trials};
+ghost use Rattle.enumerator.specs.Lister.{trialLimit, nodeOwner, labelsOf, search};
+ghost use Rattle.enumerator.specs.Words.{wordsOf};
+ghost use Rattle.enumerator.specs.Advance.{setOf};
+ghost use Rattle.search.specs.declared.Searched.the-variants.{Over};
+ghost use Rattle.search.specs.Filter.{passesBy, handsBy};
+ghost use Rattle.search.specs.Given.{Searching, Tried};
+ghost use Rattle.search.specs.Found.{searched, searchedOf, laterThan};
+
+// What a search finds: an example with its number, the end with the number of all trials, or a trial past the 100,000th (refusal 13).
+pub enum Searched {
+    Hit(u32),
+    Out(u32),
+    Over,
+}
+
+impl Searched {
+    // Trials of one listing.
+    pub const TRIALS: u32 = 100000;
+}
+
+// The nonterminal of a node: an item's is its production's.
+fn node_owner(grammar: &[u16], productions: usize, node: Node) -> usize
+    requires { ⌜ Packed (now grammar) productions ⌝ }
+    requires { ⌜ ((n : ℕ) × (n ≤ 32) × (nodeValueFits n (productionsIn (now grammar) productions) node ≡ true)) ⌝ }
+    ensures { λ r. ⌜ (r ≡ nodeOwner (productionsIn (now (grammar .entry)) productions) (nodeIs node)) × (r < 32) ⌝ }
+{
+    let number = node.number;
+    if node.kind == 0 {
+        return number;
+    }
+    word(grammar, number * 36)
+}
+
+// Writes the labels of the trial that the words hold, three words each: the nonterminal that the edge comes from, the production and the index of its label; the edge into the start item first. Answers how many words.
+pub fn read_labels(
+    grammar: &[u16],
+    productions: usize,
+    graph: &[u16],
+    words: &[u16],
+    labels: &mut [u16],
+) -> usize
+    requires { ⌜ Packed (now grammar) productions ⌝ }
+    requires { ⌜ Tried (productionsIn (now grammar) productions) (now graph) (now words) ⌝ }
+    requires { ⌜ 99 ≤ length (now labels) ⌝ }
+    ensures { λ r. ⌜ (r ≤ 99) × LabelsFit (productionsIn (now (grammar .entry)) productions) (take r (now (labels .exit))) ⌝ }
+    ensures { λ r. ⌜ ((p rest : List ℕ) → now (words .entry) ≡ wordsOf p ++ rest → labelsIn (take r (now (labels .exit))) ≡ labelsOf (productionsIn (now (grammar .entry)) productions) (edgesIn (now (graph .entry))) p) ⌝ }
+{
+    let count = word(words, 0);
+    let mut at: usize = 0;
+    while at < count {
+        let edge = read_edge(graph, word(words, at + 1));
+        let source = edge.source;
+        let owner = node_owner(grammar, productions, source);
+        let place = 3 * at;
+        labels[place] = owner as u16;
+        labels[place + 1] = edge.production as u16;
+        labels[place + 2] = edge.index as u16;
+        at += 1;
+    }
+    3 * count
+}
+
+// Whether what the trial's example expects next meets a set.
+fn meets(
+    grammar: &[u16],
+    productions: usize,
+    terminals: u16,
+    map: &[u64; 32],
+    set: TokenSet,
+    graph: &[u16],
+    words: &[u16],
+) -> bool
+    requires { ⌜ Packed (now grammar) productions × (terminals ≤ 63) ⌝ }
+    requires { ⌜ Tried (productionsIn (now grammar) productions) (now graph) (now words) ⌝ }
+    ensures { λ r. ⌜ ((p rest : List ℕ) → now (words .entry) ≡ wordsOf p ++ rest → r ≡ passesBy terminals (now (map .entry)) (productionsIn (now (grammar .entry)) productions) (edgesIn (now (graph .entry))) (some (set .0)) p) ⌝ }
+{
+    let mut labels = [0u16; 99];
+    let size = read_labels(grammar, productions, graph, words, &mut labels);
+    let expected = first0(map, terminals, grammar, productions, &labels[..size]);
+    expected.is_intersecting(set)
+}
+
+// The filter: without a lookahead every example passes.
+pub fn passes(
+    grammar: &[u16],
+    productions: usize,
+    terminals: u16,
+    map: &[u64; 32],
+    lookahead: Lookahead,
+    graph: &[u16],
+    words: &[u16],
+) -> bool
+    requires { ⌜ Packed (now grammar) productions × (terminals ≤ 63) ⌝ }
+    requires { ⌜ Tried (productionsIn (now grammar) productions) (now graph) (now words) ⌝ }
+    ensures { λ r. ⌜ ((p rest : List ℕ) → now (words .entry) ≡ wordsOf p ++ rest → r ≡ passesBy terminals (now (map .entry)) (productionsIn (now (grammar .entry)) productions) (edgesIn (now (graph .entry))) (setOf lookahead) p) ⌝ }
+{
+    match lookahead {
+        Lookahead::Any => true,
+        Lookahead::Set(set) => meets(grammar, productions, terminals, map, set, graph, words),
+    }
+}
+
+// Whether the trial is handed out: an example that passes.
+fn hands(
+    grammar: &[u16],
+    productions: usize,
+    terminals: u16,
+    map: &[u64; 32],
+    ahead: Lookahead,
+    graph: &[u16],
+    words: &[u16],
+) -> bool
+    requires { ⌜ Packed (now grammar) productions × (terminals ≤ 63) ⌝ }
+    requires { ⌜ Tried (productionsIn (now grammar) productions) (now graph) (now words) ⌝ }
+    ensures { λ r. ⌜ ((p rest : List ℕ) → now (words .entry) ≡ wordsOf p ++ rest → r ≡ handsBy terminals (now (map .entry)) (productionsIn (now (grammar .entry)) productions) (edgesIn (now (graph .entry))) (setOf ahead) p) ⌝ }
+{
+    if is_example(graph, words) {
+        return passes(grammar, productions, terminals, map, ahead, graph, words);
+    }
+    false
+}
+
+// A trial past the limit: the words hold none.
+fn overrun(words: &mut [u16]) -> Searched
+    requires { ⌜ 32000 ≤ length (now words) ⌝ }
+    ensures { λ r. ⌜ searched r (now (words .exit)) ≡ searched Over (wordsOf [] ++ drop 32000 (now (words .entry))) ⌝ }
+{
+    clear(words);
+    Searched::Over
+}
+
+// From the trial that the words hold on, past `count` trials made: the next that is handed out.
+pub fn search(
+    grammar: &[u16],
+    productions: usize,
+    terminals: u16,
+    map: &[u64; 32],
+    lookahead: Lookahead,
+    graph: &[u16],
+    ix: &[u16],
+    words: &mut [u16],
+    production: usize,
+    index: usize,
+    count: u32,
+) -> Searched
+    requires { ⌜ Packed (now grammar) productions × (terminals ≤ 63) ⌝ }
+    requires { ⌜ Searching (productionsIn (now grammar) productions) (now graph) (now ix) (now words) production index ⌝ }
+    ensures { λ r. ⌜ ((p rest : List ℕ) → now (words .entry) ≡ wordsOf p ++ rest → searched r (now (words .exit)) ≡ searchedOf rest (search (handsBy terminals (now (map .entry)) (productionsIn (now (grammar .entry)) productions) (edgesIn (now (graph .entry))) (setOf lookahead)) (trialLimit - count) count (laterThan p (trials (endsOf (edgesIn (now (graph .entry)))) (atItem (record { production = production; index = index })))))) ⌝ }
+{
+    let mut made = count;
+    loop {
+        if next(graph, ix, words, production, index) {
+            if made >= Searched::TRIALS {
+                return overrun(words);
+            }
+            made += 1;
+            if hands(
+                grammar,
+                productions,
+                terminals,
+                map,
+                lookahead,
+                graph,
+                words,
+            ) {
+                return Searched::Hit(made);
+            }
+        } else {
+            return Searched::Out(made);
+        }
+    }
+}
