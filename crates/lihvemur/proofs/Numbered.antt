@@ -12,7 +12,13 @@ use Rattle.lr1.specs.declared.First.the-variants.{Tokens, Refused as NoTokens}
 use Rattle.lr1.specs.declared.Walked.{Walked}
 use Rattle.lr1.specs.declared.Walked.the-variants.{States, Refused as NoStates}
 use Rattle.lr1.specs.Entries.{Walk, states, refused, walkOf}
-use Rattle.lihvemur.specs.Exported.{numbers, checkNumbers, setNumbers, firstNumbers, stateNumbers, walkNumbers}
+use Rattle.lr1.specs.Edges.{EdgeOutcome, edgeOutcome}
+use Rattle.lr1.specs.declared.AddEdge.{AddEdge}
+use Rattle.lr1.specs.declared.AddEdge.the-variants.{Edges as GraphEdges, Refused as NoEdge}
+use Rattle.tracer.specs.Outcome.{Outcome, outcome}
+use Rattle.tracer.specs.declared.Backtrace.{Backtrace}
+use Rattle.tracer.specs.declared.Backtrace.the-variants.{Edges as TraceEdges, Refused as NoTrace}
+use Rattle.lihvemur.specs.Exported.{numbers, checkNumbers, setNumbers, firstNumbers, stateNumbers, walkNumbers, addNumbers, edgeNumbers, traceNumbers, backtraceNumbers}
 
 -- c: what the entry answers, d: what its contract says it is
 module _ (c d : Checked) (e : c ≡ d) where
@@ -41,3 +47,21 @@ module _ (old : List ℕ) (c : Walked) (d : Walk) (e : walkOf c ≡ d) where
   pub walk-refused : (n r : ℕ) → c ≡ NoStates n r → stateNumbers n r old ≡ walkNumbers old d
   unfolding walkNumbers walkOf
   walk-refused n r h = rw (sym e ∙ ap walkOf h)
+
+module _ (old : ℕ) (c : AddEdge) (graph : List ℕ) (d : EdgeOutcome) (e : edgeOutcome c graph ≡ d) where
+  pub edge-there : (count : ℕ) → c ≡ GraphEdges count → addNumbers 0 0 count graph ≡ edgeNumbers old d
+  unfolding edgeNumbers
+  edge-there count h = rw (sym e ∙ ap (λ (a : AddEdge). edgeOutcome a graph) h)
+
+  pub edge-refused : (n r : ℕ) → c ≡ NoEdge n r → addNumbers n r old graph ≡ edgeNumbers old d
+  unfolding edgeNumbers
+  edge-refused n r h = rw (sym e ∙ ap (λ (a : AddEdge). edgeOutcome a graph) h)
+
+module _ (old : ℕ) (c : Backtrace) (graph scratch : List ℕ) (d : Outcome) (e : outcome c graph scratch ≡ d) where
+  pub trace-made : (count : ℕ) → c ≡ TraceEdges count → traceNumbers 0 0 count graph scratch ≡ backtraceNumbers old d
+  unfolding backtraceNumbers
+  trace-made count h = rw (sym e ∙ ap (λ (a : Backtrace). outcome a graph scratch) h)
+
+  pub trace-refused : (n r : ℕ) → c ≡ NoTrace n r → traceNumbers n r old graph scratch ≡ backtraceNumbers old d
+  unfolding backtraceNumbers
+  trace-refused n r h = rw (sym e ∙ ap (λ (a : Backtrace). outcome a graph scratch) h)

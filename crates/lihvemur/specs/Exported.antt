@@ -1,4 +1,4 @@
--- What the exported functions answer in numbers: 0, or the refusal, whose place stands behind `place`. What is behind the other references changes only with answer 0.
+-- What the exported functions answer in numbers: 0, or the refusal, whose place stands behind `place`. A number behind another reference changes only with answer 0; lent words are those that the entry leaves.
 -- Assumes nothing: these are definitions.
 use Prim.Native.Nat.{ℕ, zero, suc}
 use mathlib.Core.List.{List}
@@ -10,6 +10,10 @@ use Rattle.lr1.specs.declared.First.the-variants.{Tokens, Refused as NoTokens}
 use Rattle.lr1.specs.declared.Walked.{Walked}
 use Rattle.lr1.specs.declared.Walked.the-variants.{States, Refused as NoStates}
 use Rattle.lr1.specs.Entries.{Walk, states, refused}
+use Rattle.lr1.specs.Edges.{EdgeOutcome, edgeOutcome}
+use Rattle.lr1.specs.declared.AddEdge.the-variants.{Edges as GraphEdges, Refused as NoEdge}
+use Rattle.tracer.specs.Outcome.{Outcome, outcome}
+use Rattle.tracer.specs.declared.Backtrace.the-variants.{Edges as TraceEdges, Refused as NoTrace}
 
 -- refusal and place
 pub data Numbers : Type 0 where
@@ -34,3 +38,19 @@ pub data StateNumbers : Type 0 where
 unfoldable pub walkNumbers : List ℕ → Walk → StateNumbers
 walkNumbers old (states ss) = stateNumbers 0 0 ss
 walkNumbers old (refused n r) = stateNumbers n r old
+
+-- refusal, place, number of edges and graph words
+pub data AddNumbers : Type 0 where
+  addNumbers : ℕ → ℕ → ℕ → List ℕ → AddNumbers
+
+unfoldable pub edgeNumbers : ℕ → EdgeOutcome → AddNumbers
+edgeNumbers old (edgeOutcome (GraphEdges count) graph) = addNumbers 0 0 count graph
+edgeNumbers old (edgeOutcome (NoEdge n r) graph) = addNumbers n r old graph
+
+-- refusal, place, number of edges, graph words and scratch words
+pub data TraceNumbers : Type 0 where
+  traceNumbers : ℕ → ℕ → ℕ → List ℕ → List ℕ → TraceNumbers
+
+unfoldable pub backtraceNumbers : ℕ → Outcome → TraceNumbers
+backtraceNumbers old (outcome (TraceEdges count) graph scratch) = traceNumbers 0 0 count graph scratch
+backtraceNumbers old (outcome (NoTrace n r) graph scratch) = traceNumbers n r old graph scratch

@@ -1,15 +1,21 @@
 // The static library: the public surface for C and Rust. A slice passes as a pointer and a length; each function answers 0, or the refusal, whose place it
-// writes behind `place`; a result behind another reference is written only with answer 0.
+// writes behind `place`; a number behind another reference is written only with answer 0. Lent graph and scratch words are left as the entry of lr1 leaves them.
 use lookahead::TokenSet;
+use lr1::AddEdge;
 use lr1::First;
 use lr1::Walked;
+use repr::ProductionIndex;
 use state_graph::StateIndex;
 use table::Checked;
+use trace_graph::Node;
+use tracer::Backtrace;
 ghost use mathlib.Core.Path.{_≡_};
 ghost use Rattle.table.specs.Refusals.{checkOf};
 ghost use Rattle.state_graph.specs.States.{statesIn};
 ghost use Rattle.lr1.specs.Entries.{first0Of, first1Of, traceBackOf};
-ghost use Rattle.lihvemur.specs.Exported.{numbers, checkNumbers, setNumbers, firstNumbers, stateNumbers, walkNumbers};
+ghost use Rattle.lr1.specs.Edges.{addEdgeOf};
+ghost use Rattle.tracer.specs.Outcome.{shiftOf, reduceOf};
+ghost use Rattle.lihvemur.specs.Exported.{numbers, checkNumbers, setNumbers, firstNumbers, stateNumbers, walkNumbers, addNumbers, edgeNumbers, traceNumbers, backtraceNumbers};
 
 #[no_mangle]
 pub extern "C" fn lihvemur_check(table: &[u16], place: &mut u16) -> u16
@@ -91,6 +97,101 @@ pub extern "C" fn lihvemur_trace_back(
             0
         }
         Walked::Refused(refusal, at) => {
+            *place = at;
+            refusal
+        }
+    }
+}
+
+// A node is kind (0 nonterminal, 1 item), its nonterminal or production, and 0 or the item's index; the label is the item at `index` of `production`.
+#[no_mangle]
+pub extern "C" fn lihvemur_add_edge(
+    table: &[u16],
+    source_kind: u16,
+    source: u16,
+    source_index: u16,
+    target_kind: u16,
+    target: u16,
+    target_index: u16,
+    production: u16,
+    index: u16,
+    graph: &mut [u16],
+    place: &mut u16,
+    edges: &mut u16,
+) -> u16
+    ensures { λ r. ⌜ addNumbers r (now (place .exit)) (now (edges .exit)) (now (graph .exit)) ≡ edgeNumbers (now (edges .entry)) (addEdgeOf (now (table .entry)) (record { source = record { kind = «source_kind»; number = source; index = «source_index» }; target = record { kind = «target_kind»; number = target; index = «target_index» }; production = production; index = index }) (now (graph .entry))) ⌝ }
+{
+    let from = Node {
+        kind: source_kind as usize,
+        number: source as usize,
+        index: source_index as usize,
+    };
+    let to = Node {
+        kind: target_kind as usize,
+        number: target as usize,
+        index: target_index as usize,
+    };
+    match lr1::add_edge(table, from, to, ProductionIndex(production), index, graph) {
+        AddEdge::Edges(count) => {
+            *place = 0;
+            *edges = count;
+            0
+        }
+        AddEdge::Refused(refusal, at) => {
+            *place = at;
+            refusal
+        }
+    }
+}
+
+#[no_mangle]
+pub extern "C" fn lihvemur_backtrace_shift(
+    table: &[u16],
+    state: u16,
+    production: u16,
+    index: u16,
+    graph: &mut [u16],
+    scratch: &mut [u16],
+    place: &mut u16,
+    edges: &mut u16,
+) -> u16
+    ensures { λ r. ⌜ traceNumbers r (now (place .exit)) (now (edges .exit)) (now (graph .exit)) (now (scratch .exit)) ≡ backtraceNumbers (now (edges .entry)) (shiftOf (now (table .entry)) state (record { production = production; index = index }) (now (graph .entry)) (now (scratch .entry))) ⌝ }
+{
+    let p = ProductionIndex(production);
+    match lr1::backtrace_shift(table, StateIndex(state), p, index, graph, scratch) {
+        Backtrace::Edges(count) => {
+            *place = 0;
+            *edges = count;
+            0
+        }
+        Backtrace::Refused(refusal, at) => {
+            *place = at;
+            refusal
+        }
+    }
+}
+
+#[no_mangle]
+pub extern "C" fn lihvemur_backtrace_reduce(
+    table: &[u16],
+    state: u16,
+    production: u16,
+    index: u16,
+    graph: &mut [u16],
+    scratch: &mut [u16],
+    place: &mut u16,
+    edges: &mut u16,
+) -> u16
+    ensures { λ r. ⌜ traceNumbers r (now (place .exit)) (now (edges .exit)) (now (graph .exit)) (now (scratch .exit)) ≡ backtraceNumbers (now (edges .entry)) (reduceOf (now (table .entry)) state (record { production = production; index = index }) (now (graph .entry)) (now (scratch .entry))) ⌝ }
+{
+    let p = ProductionIndex(production);
+    match lr1::backtrace_reduce(table, StateIndex(state), p, index, graph, scratch) {
+        Backtrace::Edges(count) => {
+            *place = 0;
+            *edges = count;
+            0
+        }
+        Backtrace::Refused(refusal, at) => {
             *place = at;
             refusal
         }

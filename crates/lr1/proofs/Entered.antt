@@ -10,12 +10,13 @@ use borrow.Author.Tests.{lt-ltb, le-ltb}
 use Rattle.repr.specs.Meaning.{Table, Production}
 use Rattle.repr.specs.Listed.{listed, listFits}
 use Rattle.repr.proofs.Listed.{symbol-wider}
-use Rattle.lookahead.specs.Tokens.{has, union, without}
+use Rattle.repr.specs.Packed.{productionsIn}
 use Rattle.table.specs.Decoded.{meaning}
 use Rattle.table.specs.Refusals.{checkOf}
 use Rattle.table.specs.declared.Checked.{Checked}
 use Rattle.table.specs.declared.Checked.the-variants.{Accepted, Refused}
-use Rattle.first.specs.First.{FIRST, first0, firstSets, join}
+use Rattle.first.specs.First.{FIRST, first0, first1, firstSets}
+use Rattle.first.proofs.Join.{first1-join}
 use Rattle.state_graph.specs.Walk.{traceBack}
 use Rattle.lr1.specs.Entries.{overTable, symbolsFit, tokensFit, first0In, first1In, Walk, states, refused, traceBackIn}
 use Rattle.lr1.specs.declared.First.{First}
@@ -30,67 +31,40 @@ module _ {A : Type 0} (refuse : ℕ → ℕ → A) (answer : Table → A) (t : L
   unfolding overTable
   over-accepted c e a h = rw e h
 
--- ---- first0
-module _ (ws : List ℕ) (T : Table) (n t : ℕ) (en : n ≡ length (T .nonterminals)) (et : t ≡ T .terminals) where
-  fit-is : listFits n t ws ≡ symbolsFit T ws
+-- ---- first0 and first1
+pub sets-read : (e : ℕ) (ps : List Production) (t m : ℕ) (g : List ℕ) → t ≡ e → m ≡ length ps → productionsIn g (length ps) ≡ ps → (map : List ℕ) → map ≡ firstSets t (productionsIn g m) → map ≡ firstSets e ps
+sets-read e ps t m g et em ep map h = h ∙ (λ j. firstSets (et j) ((ap (productionsIn g) em ∙ ep) j))
+
+module _ (ws : List ℕ) (T : Table) (n t : ℕ) (en : n ≡ length (T .nonterminals)) (et : t ≡ T .terminals) (b : Bool) (eb : b ≡ listFits n t ws) where
+  pub fits-by : b ≡ symbolsFit T ws
   unfolding symbolsFit
-  fit-is = rw (en, et)
+  fits-by = rw (← en, ← et) eb
 
-  pub first0-yes : (b : Bool) → b ≡ listFits n t ws → b ≡ true → (map : List ℕ) (ps : List Production) → map ≡ firstSets t ps → ps ≡ T .productions
-      → (s : ℕ) → s ≡ first0 t map (listed ws) → Tokens (record { 0 = s }) ≡ first0In ws T
+  pub first0-yes : b ≡ true → (map : List ℕ) → map ≡ firstSets (T .terminals) (T .productions) → (s : ℕ) → s ≡ first0 t map (listed ws) → Tokens (record { 0 = s }) ≡ first0In ws T
   unfolding first0In FIRST
-  first0-yes b e f map ps em ep s es = rw (sym fit-is ∙ sym e ∙ f, first0In, es, em, ep, et)
+  first0-yes f map em s es = rw (sym fits-by ∙ f, first0In, es, em, et)
 
-  pub first0-no : (b : Bool) → b ≡ listFits n t ws → b ≡ false → NoTokens 9 0 ≡ first0In ws T
+  pub first0-no : b ≡ false → NoTokens 9 0 ≡ first0In ws T
   unfolding first0In
-  first0-no b e f = rw (sym fit-is ∙ sym e ∙ f, first0In)
+  first0-no f = rw (sym fits-by ∙ f, first0In)
 
--- ---- first1
-module _ (ws : List ℕ) (ahead : ℕ) (T : Table) where
-  clash : {A : Type 0} (b : Bool) → b ≡ true → b ≡ false → A
-  clash b e f = let z : _≡_ {A = ℕ} 0 1 = cc in absurd (omega arith)
+  module _ (ahead : ℕ) where
+    pub first1-list : b ≡ false → NoTokens 9 0 ≡ first1In ws ahead T
+    unfolding first1In
+    first1-list f = rw (sym fits-by ∙ f, first1In)
 
-  -- by whether the list fits
-  fit-cases : {A : Type 0} → (symbolsFit T ws ≡ true → A) → (symbolsFit T ws ≡ false → A) → A
-  fit-cases {A} yes′ no′ = go (symbolsFit T ws) refl
-    where
-      go : (b : Bool) → symbolsFit T ws ≡ b → A
-      go true e = yes′ e
-      go false e = no′ e
+    module _ (f : b ≡ true) (d : Bool) (ed : d ≡ ltb ahead (2 ^ suc t)) where
+      set-is : d ≡ tokensFit T ahead
+      unfolding tokensFit
+      set-is = rw (← et) ed
 
-  tokens-of : symbolsFit T ws ≡ true → first0In ws T ≡ Tokens (record { 0 = FIRST T (listed ws) })
-  unfolding first0In
-  tokens-of e = rw (e, first0In)
+      pub first1-set : d ≡ false → NoTokens 9 0 ≡ first1In ws ahead T
+      unfolding first1In
+      first1-set h = rw (sym fits-by ∙ f, sym set-is ∙ h, first1In)
 
-  none-of : symbolsFit T ws ≡ false → first0In ws T ≡ NoTokens 9 0
-  unfolding first0In
-  none-of e = rw (e, first0In)
-
-  refused-of : symbolsFit T ws ≡ false → first1In ws ahead T ≡ NoTokens 9 0
-  unfolding first1In
-  refused-of e = rw (e, first1In)
-
-  pub first1-refused : (n r : ℕ) → first0In ws T ≡ NoTokens n r → NoTokens n r ≡ first1In ws ahead T
-  first1-refused n r e = fit-cases (λ f. let g = tokens-of f in let z : _≡_ {A = ℕ} 0 1 = cc in absurd (omega arith)) (λ f. let g = none-of f in let h = refused-of f in cc)
-
-  module _ (t : ℕ) (et : t ≡ T .terminals) (s : ℕ) (e : first0In ws T ≡ Tokens (record { 0 = s })) where
-    fitted : symbolsFit T ws ≡ true
-    fitted = fit-cases (λ f. f) (λ f. let g = none-of f in let z : _≡_ {A = ℕ} 0 1 = cc in absurd (omega arith))
-
-    set-is : s ≡ FIRST T (listed ws)
-    set-is = let g = tokens-of fitted in let h : Tokens (record { 0 = s }) ≡ Tokens (record { 0 = FIRST T (listed ws) }) = cc in ap (λ (a : First). of a) h
-      where
-        of : First → ℕ
-        of (Tokens x) = x .0
-        of (NoTokens n r) = 0
-
-    pub first1-yes : (b : Bool) → b ≡ ltb ahead (2 ^ suc t) → b ≡ true → (j : ℕ) → j ≡ join t s ahead → Tokens (record { 0 = j }) ≡ first1In ws ahead T
-    unfolding first1In tokensFit
-    first1-yes b eb f j ej = rw (fitted, ← et, sym eb ∙ f, first1In) (ap (λ (x : ℕ). Tokens (record { 0 = x })) (ej ∙ ap (λ (x : ℕ). join t x ahead) set-is ∙ ap (λ (e : ℕ). join e (FIRST T (listed ws)) ahead) et))
-
-    pub first1-no : (b : Bool) → b ≡ ltb ahead (2 ^ suc t) → b ≡ false → NoTokens 9 0 ≡ first1In ws ahead T
-    unfolding first1In tokensFit
-    first1-no b eb f = rw (fitted, ← et, sym eb ∙ f, first1In)
+      pub first1-yes : d ≡ true → (map : List ℕ) → map ≡ firstSets (T .terminals) (T .productions) → (s : ℕ) → s ≡ first1 t map (listed ws) ahead → Tokens (record { 0 = s }) ≡ first1In ws ahead T
+      unfolding first1In FIRST
+      first1-yes h map em s es = rw (sym fits-by ∙ f, sym set-is ∙ h, first1In, es, first1-join t map (listed ws) ahead, em, et)
 
 -- ---- the walk
 module _ (s : ℕ) (ws : List ℕ) (T : Table) where
@@ -106,23 +80,12 @@ module _ (s : ℕ) (ws : List ℕ) (T : Table) where
   unfolding traceBackIn
   walk-state h = rw (le-ltb s (length (T .states)) h, traceBackIn)
 
-pub fits-by : (ws : List ℕ) (T : Table) (n t : ℕ) → n ≡ length (T .nonterminals) → t ≡ T .terminals → (b : Bool) → b ≡ listFits n t ws → b ≡ symbolsFit T ws
-fits-by ws T n t en et b e = e ∙ fit-is ws T n t en et
-
 -- ---- a set's tokens
 pub tokens-few : (t s : ℕ) → t < 63 → ltb s (1 * 2 ^ (t + 1) % 18446744073709551616) ≡ ltb s (2 ^ suc t)
 tokens-few t s h = rw (lib.Pow.shl-exact {a = 1} 1 (t + 1) 64 (omega arith) (omega arith), native.Mathlib.Nat.one-mul, native.Mathlib.Numerals.add-one)
 
 pub tokens-all : (t s : ℕ) → 63 ≤ t → t ≤ 63 → s < 18446744073709551616 → true ≡ ltb s (2 ^ suc t)
 tokens-all t s a b h = let e : t ≡ 63 = omega arith in rw e (sym (lt-ltb s 18446744073709551616 h))
-
-pub join-kept : (e a b c : ℕ) (f : Bool) → f ≡ has a e → f ≡ true → c ≡ without a e → union c b ≡ join e a b
-unfolding join
-join-kept e a b c f ef t ec = rw (sym ef ∙ t, join, ec)
-
-pub join-lone : (e a b : ℕ) (f : Bool) → f ≡ has a e → f ≡ false → a ≡ join e a b
-unfolding join
-join-lone e a b f ef t = rw (sym ef ∙ t, join)
 
 -- ---- a list in range is so in a larger one
 and-both : (a b : Bool) → a && b ≡ true → (a ≡ true) × (b ≡ true)

@@ -1,19 +1,31 @@
-// The public surface. Every entry is total, refuses by document 01's table of refusals, and is equated with a definition of specs/Entries.
+// The public surface. Every entry is total, refuses by document 01's table of refusals, and is equated with a definition of specs/Entries, specs/Edges or tracer's specs/Outcome.
 // Parameters: table, then numbers, then lent lists.
 use first::FirstSets;
 use lookahead::TokenSet;
+use repr::ProductionIndex;
 use repr::list_fits;
+use repr::word;
 use state_graph::StateIndex;
 use state_graph::StateSet;
 use table::Checked;
 use table::read_counts;
 use table::read_productions;
+use trace_graph::Inserted;
+use trace_graph::Node;
+use trace_graph::TraceEdge;
+use trace_graph::TraceGraph;
+use trace_graph::check_graph;
+use trace_graph::edge_fits;
+use trace_graph::insert;
+use tracer::Backtrace;
 ghost use mathlib.Core.Path.{_≡_};
 ghost use Prim.Native.Nat.{suc, _≤_, _^_};
 ghost use lib.Dec.{ltb};
-ghost use Rattle.first.specs.First.{join};
+ghost use Rattle.first.specs.First.{firstSets};
 ghost use Rattle.table.specs.Decoded.{meaning};
 ghost use Rattle.table.specs.Refusals.{checkOf};
+ghost use Rattle.tracer.specs.Outcome.{outcome, shiftOf, reduceOf};
+ghost use Rattle.lr1.specs.Edges.{edgeOutcome, addEdgeIn, addEdgeOf};
 ghost use Rattle.lr1.specs.Entries.{first0In, first0Of, first1In, first1Of, walkOf, traceBackIn, traceBackOf};
 
 // Whether a table is accepted; else the refusal, 1 to 8, and its place.
@@ -39,6 +51,17 @@ pub fn first0(table: &[u16], symbols: &[u16]) -> First
     }
 }
 
+// FIRST of every nonterminal.
+fn first_sets(table: &[u16]) -> FirstSets
+    requires { ⌜ checkOf (now table) ≡ Checked.Accepted ⌝ }
+    ensures { λ r. ⌜ r .map ≡ firstSets (meaning (now (table .entry)) .terminals) (meaning (now (table .entry)) .productions) ⌝ }
+{
+    let counts = read_counts(table);
+    let mut grammar = [0u16; 4608];
+    read_productions(table, &mut grammar);
+    FirstSets::new(&grammar, counts.productions, counts.terminals as u16)
+}
+
 fn first0_in(table: &[u16], symbols: &[u16]) -> First
     requires { ⌜ checkOf (now table) ≡ Checked.Accepted ⌝ }
     ensures { λ r. ⌜ r ≡ first0In (now (symbols .entry)) (meaning (now (table .entry))) ⌝ }
@@ -46,9 +69,7 @@ fn first0_in(table: &[u16], symbols: &[u16]) -> First
     let counts = read_counts(table);
     let terminals = counts.terminals;
     if list_fits(counts.nonterminals, terminals, symbols) {
-        let mut grammar = [0u16; 4608];
-        read_productions(table, &mut grammar);
-        let sets = FirstSets::new(&grammar, counts.productions, terminals as u16);
+        let sets = first_sets(table);
         let map = sets.map;
         First::Tokens(first::first0(&map, terminals as u16, symbols))
     } else {
@@ -68,20 +89,6 @@ fn tokens_fit(terminals: usize, set: TokenSet) -> bool
     }
 }
 
-// A lookahead in the place of the end of input.
-fn followed(terminals: usize, set: TokenSet, lookahead: TokenSet) -> TokenSet
-    requires { ⌜ terminals ≤ 63 ⌝ }
-    ensures { λ r. ⌜ r .0 ≡ join terminals (set .0) (lookahead .0) ⌝ }
-{
-    let taken = set.take_eof(terminals as u16);
-    if taken.changed {
-        let rest = taken.set;
-        rest.union_with(lookahead).set
-    } else {
-        set
-    }
-}
-
 // FIRST of a list that a token of the lookahead follows.
 pub fn first1(table: &[u16], lookahead: TokenSet, symbols: &[u16]) -> First
     ensures { λ r. ⌜ r ≡ first1Of (now (table .entry)) (now (symbols .entry)) (lookahead .0) ⌝ }
@@ -97,17 +104,16 @@ fn first1_in(table: &[u16], lookahead: TokenSet, symbols: &[u16]) -> First
     ensures { λ r. ⌜ r ≡ first1In (now (symbols .entry)) (lookahead .0) (meaning (now (table .entry))) ⌝ }
 {
     let counts = read_counts(table);
+    let n = counts.nonterminals;
     let terminals = counts.terminals;
-    match first0_in(table, symbols) {
-        First::Refused(refusal, place) => First::Refused(refusal, place),
-        First::Tokens(set) => {
-            if tokens_fit(terminals, lookahead) {
-                First::Tokens(followed(terminals, set, lookahead))
-            } else {
-                First::Refused(9, 0)
-            }
+    if list_fits(n, terminals, symbols) {
+        if tokens_fit(terminals, lookahead) {
+            let sets = first_sets(table);
+            let map = sets.map;
+            return First::Tokens(first::first1(&map, terminals as u16, symbols, lookahead));
         }
     }
+    First::Refused(9, 0)
 }
 
 // States, ascending when gone through in order; else the refusal and its place.
@@ -138,4 +144,100 @@ fn trace_back_in(table: &[u16], state: StateIndex, symbols: &[u16]) -> Walked
         }
     }
     Walked::Refused(9, 0)
+}
+
+// What `add_edge` answers: the number of edges that the graph then has; else the refusal and its place.
+pub enum AddEdge {
+    Edges(u16),
+    Refused(u16, u16),
+}
+
+// Puts an edge, whose label is the item at `index` of `production`, into a graph that the caller lends, unless an equal one is there (part 4 of document 01).
+pub fn add_edge(
+    table: &[u16],
+    source: Node,
+    target: Node,
+    production: ProductionIndex,
+    index: u16,
+    graph: &mut [u16],
+) -> AddEdge
+    ensures { λ r. ⌜ edgeOutcome r (now (graph .exit)) ≡ addEdgeOf (now (table .entry)) (record { source = source; target = target; production = production .0; index = index }) (now (graph .entry)) ⌝ }
+{
+    match table_check::check(table) {
+        Checked::Refused(refusal, place) => AddEdge::Refused(refusal, place),
+        Checked::Accepted => {
+            let edge = TraceEdge {
+                source: source,
+                target: target,
+                production: production.0 as usize,
+                index: index as usize,
+            };
+            add_edge_in(table, edge, graph)
+        }
+    }
+}
+
+// The lowest refusal first: 9 for the edge itself comes before 11; only a graph that is long enough is looked into. No refusal changes a word.
+fn add_edge_in(table: &[u16], edge: TraceEdge, graph: &mut [u16]) -> AddEdge
+    requires { ⌜ checkOf (now table) ≡ Checked.Accepted ⌝ }
+    ensures { λ r. ⌜ edgeOutcome r (now (graph .exit)) ≡ addEdgeIn edge (now (graph .entry)) (meaning (now (table .entry))) ⌝ }
+{
+    let counts = read_counts(table);
+    let productions = counts.productions;
+    let n = counts.nonterminals;
+    let mut grammar = [0u16; 4608];
+    read_productions(table, &mut grammar);
+    if edge_fits(&grammar, productions, n, edge) {
+        if graph.len() < TraceGraph::WORDS {
+            return AddEdge::Refused(11, 0);
+        }
+        let mut ix = [0u16; 3232];
+        if check_graph(&grammar, productions, n, graph, &mut ix) {
+            return match insert(&grammar, productions, n, graph, &mut ix, edge) {
+                Inserted::Done => AddEdge::Edges(word(graph, 0) as u16),
+                Inserted::Full => AddEdge::Refused(12, 0),
+            };
+        }
+    }
+    AddEdge::Refused(9, 0)
+}
+
+// The trace of a shift, back from an item in a state (part 5 of document 01): its edges at the front of the graph, whose old words are not looked at.
+pub fn backtrace_shift(
+    table: &[u16],
+    state: StateIndex,
+    production: ProductionIndex,
+    index: u16,
+    graph: &mut [u16],
+    scratch: &mut [u16],
+) -> Backtrace
+    ensures { λ r. ⌜ outcome r (now (graph .exit)) (now (scratch .exit)) ≡ shiftOf (now (table .entry)) (state .0) (record { production = production .0; index = index }) (now (graph .entry)) (now (scratch .entry)) ⌝ }
+{
+    let s = state.0 as usize;
+    let p = production.0 as usize;
+    let i = index as usize;
+    match table_check::check(table) {
+        Checked::Refused(refusal, place) => Backtrace::Refused(refusal, place),
+        Checked::Accepted => tracer::shift_in(table, s, p, i, graph, scratch),
+    }
+}
+
+// The trace of a reduction, in the same way.
+pub fn backtrace_reduce(
+    table: &[u16],
+    state: StateIndex,
+    production: ProductionIndex,
+    index: u16,
+    graph: &mut [u16],
+    scratch: &mut [u16],
+) -> Backtrace
+    ensures { λ r. ⌜ outcome r (now (graph .exit)) (now (scratch .exit)) ≡ reduceOf (now (table .entry)) (state .0) (record { production = production .0; index = index }) (now (graph .entry)) (now (scratch .entry)) ⌝ }
+{
+    let s = state.0 as usize;
+    let p = production.0 as usize;
+    let i = index as usize;
+    match table_check::check(table) {
+        Checked::Refused(refusal, place) => Backtrace::Refused(refusal, place),
+        Checked::Accepted => tracer::reduce_in(table, s, p, i, graph, scratch),
+    }
 }

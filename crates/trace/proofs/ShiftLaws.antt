@@ -23,7 +23,7 @@ use Rattle.trace.specs.Traced.{Trace, pair, enter, addTo, ownerOf, canSh
 use Rattle.trace.specs.Shift.{epsilonItem, epsilon}
 use Rattle.trace.specs.Shifting.{shifting, itemOf}
 use Rattle.trace.specs.Holding.{Holding, zeros, Tracing}
-use Rattle.trace.specs.Steps.{Steps, Exceeds, epsilonSource, epsilonEdge, itemEdge}
+use Rattle.trace.specs.Steps.{Steps, Exceeds, epsilonSource, epsilonEdge}
 use Rattle.trace.proofs.Grows.{Adds, grows-length, turn-nil, turn-cons, turn-grows, epsilon-past, epsilon-beginning, epsilon-entered, epsilonItem-grows, epsilon-grows}
 use Rattle.trace.proofs.Repeated.{epsilon-shifting}
 use Rattle.trace.proofs.HoldingLaws.{zeros-set, holding-enter, holding-add, holding-full, tracing-fits, tracing-owner, tracing-owner-lt, tracing-item, codes-end, codes-more, CodeOf, code-of, node-number-fits, node-item-fits, value-fits, node-number-is, node-item-is, edge-is}
@@ -66,13 +66,6 @@ module _ (g : List ℕ) (productions p i m : ℕ) where
   edge-beginning x e f h =
       rw (source-beginning ps (record { production = p; index = i }) h, packed-owner g productions p (fits-inside g productions p i f), ← e) (edge-is _ _ _ _ p i (node-number-is x 0) (node-number-is m 0))
 
-  pub edge-of-item : (x : ℕ) → x ≡ getD g (p * 36) 0 → itemFits ps p i ≡ true
-      → edgeIs (record { source = record { kind = 0; number = x; index = 0 }; target = record { kind = 1; number = p; index = i }; production = p; index = i })
-      ≡ itemEdge ps (record { production = p; index = i })
-  unfolding itemEdge
-  edge-of-item x e f =
-      rw (packed-owner g productions p (fits-inside g productions p i f), ← e) (edge-is _ _ _ _ p i (node-number-is x 0) (node-item-is p i))
-
   -- in range
   pub past-fits : (n : ℕ) → itemFits ps p i ≡ true → m < n
       → valueFits n ps (record { source = record { kind = 1; number = p; index = i }; target = record { kind = 0; number = m; index = 0 }; production = p; index = i }) ≡ true
@@ -81,10 +74,6 @@ module _ (g : List ℕ) (productions p i m : ℕ) where
   pub beginning-fits : (n x : ℕ) → x ≡ getD g (p * 36) 0 → getD g (p * 36) 0 < n → itemFits ps p i ≡ true → m < n
       → valueFits n ps (record { source = record { kind = 0; number = x; index = 0 }; target = record { kind = 0; number = m; index = 0 }; production = p; index = i }) ≡ true
   beginning-fits n x e l f h = value-fits n ps _ _ p i (node-number-fits n ps x (omega arith)) (node-number-fits n ps m h) f
-
-  pub of-item-fits : (n x : ℕ) → x ≡ getD g (p * 36) 0 → getD g (p * 36) 0 < n → itemFits ps p i ≡ true
-      → valueFits n ps (record { source = record { kind = 0; number = x; index = 0 }; target = record { kind = 1; number = p; index = i }; production = p; index = i }) ≡ true
-  of-item-fits n x e l f = value-fits n ps _ _ p i (node-number-fits n ps x (omega arith)) (node-item-fits n ps p i f) f
 
 -- entering a pair
 

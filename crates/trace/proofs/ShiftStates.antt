@@ -20,10 +20,11 @@ use Rattle.trace_graph.specs.Insert.{Graphed, Added, Overfull}
 use Rattle.trace.specs.Traced.{Trace, addTo, ownerOf, inTurn, pairs}
 use Rattle.trace.specs.Shift.{epsilon}
 use Rattle.trace.specs.Holding.{Holding, zeros, Tracing}
-use Rattle.trace.specs.Steps.{Steps, Exceeds, itemEdge}
+use Rattle.trace.specs.Steps.{Steps, Exceeds}
+use Rattle.trace.specs.Reducing.{itemAt, edgeToItem}
 use Rattle.trace.proofs.Grows.{grows-length, turn-nil, turn-cons, turn-grows, epsilon-grows}
 use Rattle.trace.proofs.HoldingLaws.{zeros-le, holding-add, holding-full, tracing-owner, tracing-owner-lt}
-use Rattle.trace.proofs.ShiftLaws.{fits-inside, packed-owner}
+use Rattle.trace.proofs.ShiftLaws.{fits-inside}
 
 -- what is done for each state
 abbrev pub stateStep : Table → ℕ → ℕ → Trace → Trace
@@ -103,18 +104,18 @@ module _ {t grammar : List ℕ} {productions n : ℕ} {starts codes : List ℕ} 
   pub item-owner-lt : getD grammar (p * 36) 0 < n
   item-owner-lt = let e = item-owner in let l = tracing-owner-lt t grammar productions n starts codes R item in omega arith
 
-  item-edge : itemEdge qs item ≡ record { source = atNonterminal (ownerOf T item); target = atItem item; label = item }
-  unfolding itemEdge
-  item-edge = rw (packed-owner grammar productions p item-inside, item-owner)
+  item-edge : edgeToItem (getD grammar (p * 36) 0) (itemAt p i) ≡ record { source = atNonterminal (ownerOf T item); target = atItem item; label = item }
+  unfolding edgeToItem itemAt
+  item-edge = rw item-owner
 
   module _ (g v : List ℕ) (ss : List ℕ) where
-    pub shift-full : (ix g′ ix′ : List ℕ) → Overfull qs (itemEdge qs item) g ix g′ ix′ → Exceeds (whole ss) g v
+    pub shift-full : (ix g′ ix′ : List ℕ) → Overfull qs (edgeToItem (getD grammar (p * 36) 0) (itemAt p i)) g ix g′ ix′ → Exceeds (whole ss) g v
     shift-full ix g′ ix′ o st k =
         let many = holding-full T qs (R .same) (atNonterminal (ownerOf T item)) (atItem item) item g v st k ix g′ ix′ (rw item-edge at o) in
         let grown = grows-length (turn-grows (stateStep T (ownerOf T item)) (λ q. epsilon-grows T pairs q (ownerOf T item)) ss (addTo T (atNonterminal (ownerOf T item)) (atItem item) item st)) in
         omega arith
 
-    module _ (o : ℕ) (eo : o ≡ getD grammar (p * 36) 0) (g′ ix′ : List ℕ) (a : Added n qs (itemEdge qs item) g g′ ix′) where
+    module _ (o : ℕ) (eo : o ≡ getD grammar (p * 36) 0) (g′ ix′ : List ℕ) (a : Added n qs (edgeToItem (getD grammar (p * 36) 0) (itemAt p i)) g g′ ix′) where
       made : (st : Trace) → Holding g v st → Holding g′ v (addTo T (atNonterminal (ownerOf T item)) (atItem item) item st)
       made st k = holding-add T qs (R .same) (atNonterminal (ownerOf T item)) (atItem item) item g v st k n g′ ix′ (rw item-edge at a)
 

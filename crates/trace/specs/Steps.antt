@@ -23,7 +23,3 @@ epsilonSource ps i = elim (ltb 0 (i .index)) [ true ↦ atItem i | false ↦ atN
 
 unfoldable pub epsilonEdge : List Production → Item → ℕ → TraceEdge
 epsilonEdge ps i m = record { source = epsilonSource ps i; target = atNonterminal m; label = i }
-
--- the edge from an item's nonterminal to the item
-unfoldable pub itemEdge : List Production → Item → TraceEdge
-itemEdge ps i = record { source = atNonterminal (getD ps (i .production) noProduction .nonterminal); target = atItem i; label = i }

@@ -1,5 +1,7 @@
 // `backtrace_reduce` (lr1/trace/reduce), part 5 of document 01: the two tracing steps, which call each other. Each pair of a state and a nonterminal is entered
 // once, so the pairs that are left fall. A frame holds slices and numbers alone: the calls may nest as deep as there are pairs.
+use crate::shift::edge_to_item;
+use crate::shift::start;
 use core::Item;
 use core::prefix;
 use core::suffix;
@@ -35,7 +37,7 @@ ghost use Rattle.trace.specs.Traced.{Trace, prefixOf, suffixOf};
 ghost use Rattle.trace.specs.Reduce.{reduceItem, reduceState};
 ghost use Rattle.trace.specs.Holding.{zeros};
 ghost use Rattle.trace.specs.Ends.{flag, EndsTo, Ends};
-ghost use Rattle.trace.specs.Reducing.{Stepped, Overrun, Reducing, itemAt, edgeToItem, edgeToNonterminal};
+ghost use Rattle.trace.specs.Reducing.{Stepped, Overrun, Reducing, itemAt, edgeToNonterminal};
 
 // Whether an item's suffix may derive the empty string: 1 or 0.
 fn item_ends(
@@ -115,56 +117,12 @@ pub fn suffix_ends(
     }
 }
 
-// A start, as a number.
-fn start(starts: &[u32], at: usize) -> usize
-    requires { ⌜ at < length (now starts) ⌝ }
-    ensures { λ r. ⌜ r ≡ getD (now (starts .entry)) at 0 ⌝ }
-{
-    starts[at] as usize
-}
-
 // Whether a flag is set.
 fn flagged(flags: &[u8], at: usize) -> bool
     requires { ⌜ at < length (now flags) ⌝ }
     ensures { λ r. ⌜ r ≡ not (eqb (getD (now (flags .entry)) at 0) 0) ⌝ }
 {
     flags[at] != 0
-}
-
-// Adds the edge from an item's nonterminal to the item.
-fn edge_to_item(
-    grammar: &[u16],
-    productions: usize,
-    n: usize,
-    graph: &mut [u16],
-    ix: &mut [u16],
-    production: usize,
-    index: usize,
-) -> Inserted
-    requires { ⌜ Packed (now grammar) productions ⌝ }
-    requires { ⌜ Graphed n (productionsIn (now grammar) productions) (now graph) (now ix) (getD (now graph) 0 0) ⌝ }
-    requires { ⌜ (itemFits (productionsIn (now grammar) productions) production index ≡ true) × (getD (now grammar) (production * 36) 0 < n) ⌝ }
-    ensures { λ r. ⌜ (r ≡ Done → Added n (productionsIn (now (grammar .entry)) productions) (edgeToItem (getD (now (grammar .entry)) (production * 36) 0) (itemAt production index)) (now (graph .entry)) (now (graph .exit)) (now (ix .exit))) ⌝ }
-    ensures { λ r. ⌜ (r ≡ Full → Overfull (productionsIn (now (grammar .entry)) productions) (edgeToItem (getD (now (grammar .entry)) (production * 36) 0) (itemAt production index)) (now (graph .entry)) (now (ix .entry)) (now (graph .exit)) (now (ix .exit))) ⌝ }
-{
-    let owner = word(grammar, production * 36);
-    let source = Node {
-        kind: 0,
-        number: owner,
-        index: 0,
-    };
-    let target = Node {
-        kind: 1,
-        number: production,
-        index: index,
-    };
-    let edge = TraceEdge {
-        source: source,
-        target: target,
-        production: production,
-        index: index,
-    };
-    insert(grammar, productions, n, graph, ix, edge)
 }
 
 // Adds the edge into a nonterminal that an item can shift: where tracing goes on from the item's nonterminal, else from the item.

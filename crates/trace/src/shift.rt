@@ -22,10 +22,11 @@ ghost use Rattle.trace_graph.specs.Insert.{Graphed, Added, Overfull};
 ghost use Rattle.trace.specs.Traced.{addTo, ownerOf, inTurn, pairs};
 ghost use Rattle.trace.specs.Shift.{epsilon};
 ghost use Rattle.trace.specs.Holding.{zeros, Tracing};
-ghost use Rattle.trace.specs.Steps.{Steps, Exceeds, epsilonEdge, itemEdge};
+ghost use Rattle.trace.specs.Steps.{Steps, Exceeds, epsilonEdge};
+ghost use Rattle.trace.specs.Reducing.{itemAt, edgeToItem};
 
 // Where the items of a pair begin.
-fn start(starts: &[u32], pair: usize) -> usize
+pub fn start(starts: &[u32], pair: usize) -> usize
     requires { ⌜ pair < length (now starts) ⌝ }
     ensures { λ r. ⌜ r ≡ getD (now (starts .entry)) pair 0 ⌝ }
 {
@@ -83,8 +84,8 @@ fn epsilon_edge(
     insert(grammar, productions, n, graph, ix, edge)
 }
 
-// The edge from an item's nonterminal to the item.
-fn item_edge(
+// Adds the edge from an item's nonterminal to the item.
+pub fn edge_to_item(
     grammar: &[u16],
     productions: usize,
     n: usize,
@@ -96,8 +97,8 @@ fn item_edge(
     requires { ⌜ Packed (now grammar) productions ⌝ }
     requires { ⌜ Graphed n (productionsIn (now grammar) productions) (now graph) (now ix) (getD (now graph) 0 0) ⌝ }
     requires { ⌜ (itemFits (productionsIn (now grammar) productions) production index ≡ true) × (getD (now grammar) (production * 36) 0 < n) ⌝ }
-    ensures { λ r. ⌜ (r ≡ Done → Added n (productionsIn (now (grammar .entry)) productions) (itemEdge (productionsIn (now (grammar .entry)) productions) (record { production = production; index = index })) (now (graph .entry)) (now (graph .exit)) (now (ix .exit))) ⌝ }
-    ensures { λ r. ⌜ (r ≡ Full → Overfull (productionsIn (now (grammar .entry)) productions) (itemEdge (productionsIn (now (grammar .entry)) productions) (record { production = production; index = index })) (now (graph .entry)) (now (ix .entry)) (now (graph .exit)) (now (ix .exit))) ⌝ }
+    ensures { λ r. ⌜ (r ≡ Done → Added n (productionsIn (now (grammar .entry)) productions) (edgeToItem (getD (now (grammar .entry)) (production * 36) 0) (itemAt production index)) (now (graph .entry)) (now (graph .exit)) (now (ix .exit))) ⌝ }
+    ensures { λ r. ⌜ (r ≡ Full → Overfull (productionsIn (now (grammar .entry)) productions) (edgeToItem (getD (now (grammar .entry)) (production * 36) 0) (itemAt production index)) (now (graph .entry)) (now (ix .entry)) (now (graph .exit)) (now (ix .exit))) ⌝ }
 {
     let owner = word(grammar, production * 36);
     let from = Node {
@@ -267,7 +268,7 @@ pub fn shift_trace(
     ensures { λ r. ⌜ (r ≡ Done → Steps (λ st. inTurn (λ p u. epsilon (meaning (now (table .entry))) pairs p (ownerOf (meaning (now (table .entry))) (record { production = production; index = index })) u) (statesIn (states .low) (states .high)) (addTo (meaning (now (table .entry))) (atNonterminal (ownerOf (meaning (now (table .entry))) (record { production = production; index = index }))) (atItem (record { production = production; index = index })) (record { production = production; index = index }) st)) (now (graph .entry)) (now (visited .entry)) (now (graph .exit)) (now (visited .exit)) × Graphed n (productionsIn (now (grammar .entry)) productions) (now (graph .exit)) (now (ix .exit)) (getD (now (graph .exit)) 0 0)) ⌝ }
     ensures { λ r. ⌜ (r ≡ Full → Exceeds (λ st. inTurn (λ p u. epsilon (meaning (now (table .entry))) pairs p (ownerOf (meaning (now (table .entry))) (record { production = production; index = index })) u) (statesIn (states .low) (states .high)) (addTo (meaning (now (table .entry))) (atNonterminal (ownerOf (meaning (now (table .entry))) (record { production = production; index = index }))) (atItem (record { production = production; index = index })) (record { production = production; index = index }) st)) (now (graph .entry)) (now (visited .entry))) ⌝ }
 {
-    match item_edge(grammar, productions, n, graph, ix, production, index) {
+    match edge_to_item(grammar, productions, n, graph, ix, production, index) {
         Inserted::Done => {}
         Inserted::Full => {
             return Inserted::Full;

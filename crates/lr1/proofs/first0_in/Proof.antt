@@ -7,11 +7,10 @@ use Rattle.lr1.proofs.first0_in.Statement.{statement}
 use Rattle.lr1.proofs.first0_in.Tie as tie
 use Rattle.lr1.proofs.first0_in.Reads as reads
 use Rattle.lr1.proofs.first0_in.Lts as lts
-use Rattle.first.proofs.FirstSets.new.Reads as new-reads
 use Rattle.first.proofs.first0.Reads as first0-reads
+use Rattle.lr1.proofs.first_sets.Reads as first-sets-reads
 use Rattle.repr.proofs.list_fits.Reads as list-fits-reads
 use Rattle.table.proofs.read_counts.Reads as read-counts-reads
-use Rattle.table.proofs.read_productions.Reads as read-productions-reads
 
 read-counts-requires : tie.Need-read-counts-requires
 read-counts-requires c κs = search needs
@@ -19,29 +18,17 @@ read-counts-requires c κs = search needs
 list-fits-requires : tie.Need-list-fits-requires
 list-fits-requires c κs = search needs
 
-slice-aggregate-read-productions : tie.Need-slice-aggregate-read-productions
-slice-aggregate-read-productions c = search needs
-
-read-productions-requires : tie.Need-read-productions-requires
-read-productions-requires c κs = search needs
-
-slice-aggregate-new : tie.Need-slice-aggregate-new
-slice-aggregate-new c = search needs
-
-cast-new : tie.Need-cast-new
-cast-new c = search needs
-
-new-requires : tie.Need-new-requires
-new-requires c κs = (rw (c .before .before .before .before .before .before .read-counts .ensures .productions) (c .before .before .read-productions .ensures .0), rw (c .before .before .before .before .before .before .read-counts .ensures .terminals) (c .before .before .before .before .before .before .read-counts .ensures .fits .few-terminals))
+first-sets-requires : tie.Need-first-sets-requires
+first-sets-requires c κs = search needs
 
 cast-first0 : tie.Need-cast-first0
 cast-first0 c = search needs
 
 first0-requires : tie.Need-first0-requires
-first0-requires c κs = (rw (c .before .before .before .before .before .before .before .before .before .read-counts .ensures .terminals) (c .before .before .before .before .before .before .before .before .before .read-counts .ensures .fits .few-terminals), list-wider _ _ 32 63 _ (rw (c .before .before .before .before .before .before .before .before .before .read-counts .ensures .nonterminals) (c .before .before .before .before .before .before .before .before .before .read-counts .ensures .fits .few-nonterminals)) (rw (c .before .before .before .before .before .before .before .before .before .read-counts .ensures .terminals) (c .before .before .before .before .before .before .before .before .before .read-counts .ensures .fits .few-terminals)) (sym (c .before .before .before .before .before .before .before .before .list-fits .ensures) ∙ c .before .before .before .before .before .before .before .if1 .taken))
+first0-requires c κs = (rw (c .before .before .before .before .before .read-counts .ensures .terminals) (c .before .before .before .before .before .read-counts .ensures .fits .few-terminals), list-wider _ _ 32 63 _ (rw (c .before .before .before .before .before .read-counts .ensures .nonterminals) (c .before .before .before .before .before .read-counts .ensures .fits .few-nonterminals)) (rw (c .before .before .before .before .before .read-counts .ensures .terminals) (c .before .before .before .before .before .read-counts .ensures .fits .few-terminals)) (sym (c .before .before .before .before .list-fits .ensures) ∙ c .before .before .before .if1 .taken))
 
 returns : tie.Need-returns
-returns c = first0-yes _ _ _ _ (c .before .before .before .before .before .before .before .before .before .before .read-counts .ensures .nonterminals) (c .before .before .before .before .before .before .before .before .before .before .read-counts .ensures .terminals) _ (c .before .before .before .before .before .before .before .before .before .list-fits .ensures) (c .before .before .before .before .before .before .before .before .if1 .taken) _ _ (c .before .before .before .new .ensures) (rw (c .before .before .before .before .before .before .before .before .before .before .read-counts .ensures .productions) (c .before .before .before .before .before .before .read-productions .ensures .1)) _ (c .first0 .ensures)
+returns c = first0-yes _ _ _ _ (c .before .before .before .before .before .before .read-counts .ensures .nonterminals) (c .before .before .before .before .before .before .read-counts .ensures .terminals) _ (c .before .before .before .before .before .list-fits .ensures) (c .before .before .before .before .if1 .taken) _ (c .before .before .before .first-sets .ensures) _ (c .first0 .ensures)
 
 returns-2 : tie.Need-returns-2
 returns-2 c = first0-no _ _ _ _ (c .before .before .read-counts .ensures .nonterminals) (c .before .before .read-counts .ensures .terminals) _ (c .before .list-fits .ensures) (c .if1 .left)
@@ -52,11 +39,7 @@ first0-in-spec =
     (tie.spec
     read-counts-requires
     list-fits-requires
-    slice-aggregate-read-productions
-    read-productions-requires
-    slice-aggregate-new
-    cast-new
-    new-requires
+    first-sets-requires
     cast-first0
     first0-requires
     returns

@@ -31,10 +31,10 @@ use Rattle.trace.proofs.reduce.trace_reduce_item.Kinds as trace-reduce-
 use Rattle.trace.proofs.reduce.+trace_reduce_from_state+trace_reduce_item.Lts-trace_reduce_item as trace-reduce-item-lts
 use Rattle.repr.proofs.word.Reads as word-reads
 use Rattle.state_graph.proofs.StateSet.next.Reads as next-reads
-use Rattle.trace.proofs.reduce.edge_to_item.Reads as edge-to-item-reads
+use Rattle.trace.proofs.shift.edge_to_item.Reads as edge-to-item-reads
 use Rattle.trace.proofs.reduce.edge_to_nonterminal.Reads as edge-to-nonterminal-reads
 use Rattle.trace.proofs.reduce.flagged.Reads as flagged-reads
-use Rattle.trace.proofs.reduce.start.Reads as start-reads
+use Rattle.trace.proofs.shift.start.Reads as start-reads
 use Rattle.trace.proofs.reduce.states_before.Reads as states-before-reads
 use Rattle.trace.proofs.reduce.+trace_reduce_from_state+trace_reduce_item.{statement}
 use Rattle.trace.proofs.reduce.+trace_reduce_from_state+trace_reduce_item.Tie.{close}

@@ -1,11 +1,11 @@
--- `edge_to_item` adds its edge, which is in range. Assumes nothing.
+-- `shift::edge_to_item` adds its edge, which is in range. Assumes nothing.
 use Rattle.trace.proofs.ReduceLaws.{to-item-is}
 use Rattle.trace.proofs.EndsLaws.{fits-words}
 use Rattle.trace.proofs.HoldingLaws.{node-number-fits, node-item-fits, value-fits}
 use native.Mathlib.Omega.{arith}
 use borrow.Author.Needs.{needs}
-use Rattle.trace.proofs.reduce.edge_to_item.Statement.{statement}
-use Rattle.trace.proofs.reduce.edge_to_item.Tie as tie
+use Rattle.trace.proofs.shift.edge_to_item.Statement.{statement}
+use Rattle.trace.proofs.shift.edge_to_item.Tie as tie
 
 mul-word : tie.Need-mul-word
 mul-word c = let q = fits-words _ _ _ _ (c .before .before .before .pre .1 .1 .0) .0 in let f = c .before .before .before .pre .0 .few in omega arith
