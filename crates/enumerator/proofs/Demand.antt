@@ -9,7 +9,7 @@ use Rattle.table.specs.Decoded.{meaning}
 use Rattle.trace_graph.specs.Words.{edgesIn}
 use Rattle.enumerator.specs.Lister.{enough, plainThen, plainRun, plainLister}
 use Rattle.enumerator.specs.Advance.{outcome, setOf, openOf}
-use Rattle.enumerator.specs.Calls.{Lent, leftBy, listingBy, scratchBy, called, calls, lengths, leftAll}
+use Rattle.enumerator.specs.Calls.{Lent, leftBy, listingBy, scratchBy, called, calls, listingAfter, scratchAfter, lengths, leftAll}
 use Rattle.enumerator.specs.declared.Lookahead.{Lookahead}
 use Rattle.enumerator.specs.declared.Listing.{Listing}
 use Rattle.enumerator.specs.declared.Advanced.{Advanced}
@@ -22,15 +22,6 @@ goes : (t g : List ℕ) (l : Listing) (ws : List ℕ) (k : Lent) (ks : List Lent
     → calls t g l ws (k ∷ ks) ≡ record { answer = a; count = l′ .count; buffer = b } ∷ calls t g l′ (s ++ drop (k .scratch) ws) ks
 unfolding calls leftBy listingBy scratchBy
 goes t g l ws k ks a l′ s b e = rw e
-
--- the listing and the scratch that a list of calls leaves
-unfoldable pub listingAfter : List ℕ → List ℕ → Listing → List ℕ → List Lent → Listing
-listingAfter t g l ws [] = l
-listingAfter t g l ws (k ∷ ks) = listingAfter t g (listingBy (called t g l ws k)) (scratchBy (k .scratch) ws (called t g l ws k)) ks
-
-unfoldable pub scratchAfter : List ℕ → List ℕ → Listing → List ℕ → List Lent → List ℕ
-scratchAfter t g l ws [] = ws
-scratchAfter t g l ws (k ∷ ks) = scratchAfter t g (listingBy (called t g l ws k)) (scratchBy (k .scratch) ws (called t g l ws k)) ks
 
 -- the listing is where its words say, and the scratch is as long as it was
 pub record Behind (i : Item) (ahead : Lookahead) (g ws₀ : List ℕ) (l : Listing) (ws : List ℕ) : Type 0 where

@@ -38,6 +38,15 @@ calls t g l scratch [] = []
 calls t g l scratch (c ∷ cs) =
     leftBy (called t g l scratch c) ∷ calls t g (listingBy (called t g l scratch c)) (scratchBy (c .scratch) scratch (called t g l scratch c)) cs
 
+-- the listing and the scratch that a list of calls leaves
+unfoldable pub listingAfter : List ℕ → List ℕ → Listing → List ℕ → List Lent → Listing
+listingAfter t g l scratch [] = l
+listingAfter t g l scratch (c ∷ cs) = listingAfter t g (listingBy (called t g l scratch c)) (scratchBy (c .scratch) scratch (called t g l scratch c)) cs
+
+unfoldable pub scratchAfter : List ℕ → List ℕ → Listing → List ℕ → List Lent → List ℕ
+scratchAfter t g l scratch [] = scratch
+scratchAfter t g l scratch (c ∷ cs) = scratchAfter t g (listingBy (called t g l scratch c)) (scratchBy (c .scratch) scratch (called t g l scratch c)) cs
+
 -- what the plain lister says of the same calls: lengths alone go in
 unfoldable pub lengths : List ℕ → List ℕ → Lent → Call
 lengths g scratch c = record { graph = min (c .graph) (length g); scratch = min (c .scratch) (length scratch); buffer = length (c .buffer) }

@@ -1,0 +1,4 @@
+pub mod Asking
+pub mod Ends
+pub mod Ways
+pub mod Finding

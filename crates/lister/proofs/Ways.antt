@@ -1,0 +1,169 @@
+-- The ways through opening and through a call (specs/Advance of enumerator), a law for each. Assumes nothing.
+use Prim.Native.Nat.{ℕ, _-_, _≤_, _<_}
+use mathlib.Core.Path.{_≡_, sym, ap, _∙_}
+use mathlib.Core.Bool.{Bool, true, false, and-false}
+use mathlib.Core.List.{List}
+use lib.ListN.{length, getD}
+use lib.Dec.{leb}
+use borrow.Author.Tests.{le-leb, lt-leb}
+use Rattle.repr.specs.Meaning.{Production, Table}
+use Rattle.repr.specs.Packed.{Packed, productionsIn}
+use Rattle.table.specs.Index.{CountsOf}
+use Rattle.trace_graph.specs.Graph.{atItem, isNode}
+use Rattle.trace_graph.specs.Words.{edgesIn}
+use Rattle.trace_graph.specs.Fits.{itemFits}
+use Rattle.trace_graph.specs.Insert.{Graphed}
+use Rattle.example.proofs.Sizes.{short-of}
+use Rattle.enumerator.specs.Trials.{endsOf, trials}
+use Rattle.enumerator.specs.Lister.{enough, hands, trialLimit, search}
+use Rattle.enumerator.specs.Stacks.{Roomy, Started}
+use Rattle.enumerator.specs.Advance.{Outcome, outcome, setOf, startOf, asked, foundOutcome, restOf, lost, advanceIn, openIn}
+use Rattle.enumerator.specs.declared.Lookahead.{Lookahead}
+use Rattle.enumerator.specs.declared.Listing.{Listing}
+use Rattle.enumerator.specs.declared.Advanced.{Advanced}
+use Rattle.enumerator.specs.declared.Advanced.the-variants.{End, Refused}
+use Rattle.enumerator.specs.declared.Opened.the-variants.{Listing as Opens, Refused as NotOpened}
+use Rattle.enumerator.proofs.Outcomes.{advance-short, advance-ended, advance-open}
+use Rattle.enumerator.proofs.Nodes.{and-left}
+use Rattle.lister.specs.Context.{Read, Listable}
+
+-- what is read of an accepted table
+module _ {T : Table} {n e s p : ℕ} (C : CountsOf T n e s p) where
+  pub few-nonterminals : n ≤ 32
+  few-nonterminals = rw (C .nonterminals) (C .fits .few-nonterminals)
+
+  pub few-terminals : e ≤ 63
+  few-terminals = rw (C .terminals) (C .fits .few-terminals)
+
+  module _ (g : List ℕ) where
+    pub packed-of : Packed g (length (T .productions)) → Packed g p
+    packed-of P = rw (C .productions) P
+
+    module _ (q : productionsIn g (length (T .productions)) ≡ T .productions) where
+      pub read-of : Read T n e (productionsIn g p)
+      read-of = record { nonterminals = C .nonterminals; terminals = C .terminals; productions = ap (productionsIn g) (C .productions) ∙ q }
+
+      -- what a call goes on from
+      pub listable : {m : ℕ} {w ix : List ℕ} {production index : ℕ} → Graphed m (productionsIn g p) w ix (getD w 0 0) → itemFits (productionsIn g p) production index ≡ true
+          → Listable (productionsIn g p) w ix production index
+      listable {m} G f = record {
+        nonterminals = m;
+        graphed = G;
+        fits = f;
+        few = rw (read-of .productions) (C .fits .few-productions);
+        short = rw (read-of .productions) (short-of T (C .fits));
+      }
+
+pub roomy-of : {n : ℕ} {ps : List Production} {g ix : List ℕ} → Graphed n ps g ix (getD g 0 0) → Roomy g
+unfolding Roomy
+roomy-of G = (G .long, G .few)
+
+pub started : {ps : List Production} {g ix : List ℕ} {p i : ℕ} → Listable ps g ix p i → Started g ix p i
+started {ps} L = record {
+  ground = record { nonterminals = L .nonterminals; productions = ps; graphed = L .graphed; few = L .few; short = L .short };
+  fits = L .fits;
+}
+
+-- an item that is asked for fits
+pub asked-fits : {n e : ℕ} {ps : List Production} (T : Table) (R : Read T n e ps) (p i : ℕ) (a : Lookahead) (g : List ℕ) (b : Bool)
+    → b ≡ asked T (record { production = p; index = i }) (setOf a) g → b ≡ true → itemFits ps p i ≡ true
+unfolding asked
+asked-fits T R p i a g b eb t = ap (λ (l : List Production). itemFits l p i) (R .productions) ∙ and-left (itemFits (T .productions) p i) _ (sym eb ∙ t)
+
+-- opening
+module _ (T : Table) (p i : ℕ) (a : Lookahead) (g : List ℕ) (b : Bool) (eb : b ≡ asked T (record { production = p; index = i }) (setOf a) g) where
+  pub open-refused : b ≡ false → NotOpened 9 0 ≡ openIn (record { production = p; index = i }) a g T
+  unfolding openIn
+  open-refused f = rw (sym eb ∙ f, openIn)
+
+  module _ (t : b ≡ true) where
+    pub open-short : length g < 8193 → NotOpened 11 0 ≡ openIn (record { production = p; index = i }) a g T
+    unfolding openIn
+    open-short h = rw (sym eb ∙ t, lt-leb 8193 (length g) h, openIn)
+
+    module _ (h : 8193 ≤ length g) (c : Bool) (ec : c ≡ isNode (atItem (record { production = p; index = i })) (edgesIn g)) where
+      pub open-stray : c ≡ false → NotOpened 15 0 ≡ openIn (record { production = p; index = i }) a g T
+      unfolding openIn
+      open-stray f = rw (sym eb ∙ t, le-leb 8193 (length g) h, sym ec ∙ f, openIn)
+
+      pub open-fresh : c ≡ true → (o : Bool) → o ≡ true → Opens (record { production = p; index = i; lookahead = a; count = 0; «is_open» = o }) ≡ openIn (record { production = p; index = i }) a g T
+      unfolding openIn
+      open-fresh u o eo = rw (sym eb ∙ t, le-leb 8193 (length g) h, sym ec ∙ u, openIn, eo)
+
+-- a call
+enough-graph : (m s b : ℕ) → m < 8193 → enough (record { graph = m; scratch = s; buffer = b }) ≡ false
+unfolding enough
+enough-graph m s b h = rw (lt-leb 8193 m h)
+
+enough-scratch : (m s b : ℕ) → s < 32000 → enough (record { graph = m; scratch = s; buffer = b }) ≡ false
+unfolding enough
+enough-scratch m s b h = rw (lt-leb 32000 s h) (and-false (leb 8193 m))
+
+enough-buffer : (m s b : ℕ) → b < 1158 → enough (record { graph = m; scratch = s; buffer = b }) ≡ false
+unfolding enough
+enough-buffer m s b h = rw (lt-leb 1158 b h, and-false (leb 32000 s)) (and-false (leb 8193 m))
+
+enough-all : (m s b : ℕ) → 8193 ≤ m → 32000 ≤ s → 1158 ≤ b → enough (record { graph = m; scratch = s; buffer = b }) ≡ true
+unfolding enough
+enough-all m s b h k j = rw (le-leb 8193 m h, le-leb 32000 s k, le-leb 1158 b j)
+
+module _ (g : List ℕ) (l : Listing) (scratch buffer : List ℕ) (T : Table) where
+  -- an answer that leaves the listing
+  leaves : (x : Listing) (a b : Advanced) → (x ≡ l) × (a ≡ b) → outcome a x scratch buffer ≡ outcome b l scratch buffer
+  leaves x a b e = λ j. outcome (e .1 j) (e .0 j) scratch buffer
+
+  advance-refused : asked T (startOf l) (setOf (l .lookahead)) g ≡ false → advanceIn g l scratch buffer T ≡ outcome (Refused 9 0) l scratch buffer
+  unfolding advanceIn
+  advance-refused e = rw (e, advanceIn)
+
+  module _ (b : Bool) (eb : b ≡ asked T (record { production = l .production; index = l .index }) (setOf (l .lookahead)) g) (x : Listing) (a : Advanced) where
+    pub step-refused : b ≡ false → (x ≡ l) × (a ≡ Refused 9 0) → outcome a x scratch buffer ≡ advanceIn g l scratch buffer T
+    unfolding startOf
+    step-refused f e = leaves x a (Refused 9 0) e ∙ sym (advance-refused (sym eb ∙ f))
+
+    module _ (t : b ≡ true) (e : (x ≡ l) × (a ≡ Refused 11 0)) where
+      pub step-graph : length g < 8193 → outcome a x scratch buffer ≡ advanceIn g l scratch buffer T
+      unfolding startOf
+      step-graph h = leaves x a (Refused 11 0) e ∙ sym (advance-short g l scratch buffer T (sym eb ∙ t) (enough-graph (length g) (length scratch) (length buffer) h))
+
+      pub step-scratch : length scratch < 32000 → outcome a x scratch buffer ≡ advanceIn g l scratch buffer T
+      unfolding startOf
+      step-scratch h = leaves x a (Refused 11 0) e ∙ sym (advance-short g l scratch buffer T (sym eb ∙ t) (enough-scratch (length g) (length scratch) (length buffer) h))
+
+      pub step-buffer : length buffer < 1158 → outcome a x scratch buffer ≡ advanceIn g l scratch buffer T
+      unfolding startOf
+      step-buffer h = leaves x a (Refused 11 0) e ∙ sym (advance-short g l scratch buffer T (sym eb ∙ t) (enough-buffer (length g) (length scratch) (length buffer) h))
+
+  -- past 11
+  module _ (q : asked T (startOf l) (setOf (l .lookahead)) g ≡ true) (lg : 8193 ≤ length g) (ls : 32000 ≤ length scratch) (lb : 1158 ≤ length buffer)
+      (k : Bool) (ek : k ≡ lost (edgesIn g) l scratch) where
+    all : enough (record { graph = length g; scratch = length scratch; buffer = length buffer }) ≡ true
+    all = enough-all (length g) (length scratch) (length buffer) lg ls lb
+
+    advance-lost : lost (edgesIn g) l scratch ≡ true → advanceIn g l scratch buffer T ≡ outcome (Refused 9 0) l scratch buffer
+    unfolding advanceIn
+    advance-lost e = rw (q, all, e, advanceIn)
+
+    advance-stray : lost (edgesIn g) l scratch ≡ false → isNode (atItem (startOf l)) (edgesIn g) ≡ false → advanceIn g l scratch buffer T ≡ outcome (Refused 15 0) l scratch buffer
+    unfolding advanceIn
+    advance-stray e n = rw (q, all, e, n, advanceIn)
+
+    pub go-lost : k ≡ true → (x : Listing) (a : Advanced) → (x ≡ l) × (a ≡ Refused 9 0) → outcome a x scratch buffer ≡ advanceIn g l scratch buffer T
+    go-lost t x a e = leaves x a (Refused 9 0) e ∙ sym (advance-lost (sym ek ∙ t))
+
+    module _ (f : k ≡ false) (m : Bool) (em : m ≡ isNode (atItem (record { production = l .production; index = l .index })) (edgesIn g)) where
+      pub go-stray : m ≡ false → (x : Listing) (a : Advanced) → (x ≡ l) × (a ≡ Refused 15 0) → outcome a x scratch buffer ≡ advanceIn g l scratch buffer T
+      unfolding startOf
+      go-stray n x a e = leaves x a (Refused 15 0) e ∙ sym (advance-stray (sym ek ∙ f) (sym em ∙ n))
+
+      pub go-ended : m ≡ true → l .«is_open» ≡ false → (x : Listing) (a : Advanced) → (x ≡ l) × (a ≡ End) → outcome a x scratch buffer ≡ advanceIn g l scratch buffer T
+      unfolding startOf
+      go-ended y o x a e = leaves x a End e ∙ sym (advance-ended g l scratch buffer T q all (sym ek ∙ f) (sym em ∙ y) o)
+
+      pub go-found : m ≡ true → l .«is_open» ≡ true → (o : Outcome)
+          → o
+          ≡ foundOutcome T (edgesIn g) l scratch buffer
+          (search (hands T (edgesIn g) (setOf (l .lookahead))) (trialLimit - l .count) (l .count) (restOf (l .count) scratch (trials (endsOf (edgesIn g)) (atItem (startOf l)))))
+          → o ≡ advanceIn g l scratch buffer T
+      unfolding startOf
+      go-found y u o e = e ∙ sym (advance-open g l scratch buffer T q all (sym ek ∙ f) (sym em ∙ y) u)

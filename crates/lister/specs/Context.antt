@@ -1,0 +1,42 @@
+-- What the parts of a call are given of a table: its productions and numbers as read. Assumes nothing: these are definitions.
+use Prim.Native.Nat.{ℕ, zero, suc, _≤_, _^_}
+use mathlib.Core.Path.{_≡_}
+use mathlib.Core.Bool.{Bool, true}
+use mathlib.Core.List.{List, [], _++_}
+use mathlib.Core.Option.{Option, none, some}
+use lib.ListN.{length, getD, drop, replicate}
+use lib.Dec.{ltb}
+use Rattle.repr.specs.Meaning.{Production, noProduction, Table}
+use Rattle.first.specs.First.{firstSets}
+use Rattle.trace_graph.specs.Fits.{itemFits}
+use Rattle.trace_graph.specs.Insert.{Graphed}
+use Rattle.enumerator.specs.Words.{wordsOf}
+
+-- a table whose nonterminals, terminals and productions these are
+pub record Read (T : Table) (n e : ℕ) (ps : List Production) : Type 0 where
+  pub nonterminals : n ≡ length (T .nonterminals)
+  pub terminals : e ≡ T .terminals
+  pub productions : ps ≡ T .productions
+
+-- a lookahead is of tokens alone: `aheadFits` of specs/Advance over the number of terminals
+unfoldable pub aheadBy : ℕ → Option ℕ → Bool
+aheadBy terminals none = true
+aheadBy terminals (some s) = ltb s (2 ^ suc terminals)
+
+-- the FIRST sets where a lookahead is set; without one they are not asked
+unfoldable pub setsFor : Option ℕ → ℕ → List Production → List ℕ
+setsFor none e ps = replicate 32 0
+setsFor (some s) e ps = firstSets e ps
+
+-- the words that a search starts from: at count 0 those of no edge, whatever they hold
+unfoldable pub begun : ℕ → List ℕ → List ℕ
+begun zero ws = wordsOf [] ++ drop 32000 ws
+begun (suc c) ws = ws
+
+-- a graph in range with its index, and an item of a table no larger than the limits
+pub record Listable (ps : List Production) (g ix : List ℕ) (production index : ℕ) : Type 0 where
+  pub nonterminals : ℕ
+  pub graphed : Graphed nonterminals ps g ix (getD g 0 0)
+  pub fits : itemFits ps production index ≡ true
+  pub few : length ps ≤ 128
+  pub short : (p : ℕ) → length (getD ps p noProduction .symbols) ≤ 16

@@ -1,0 +1,416 @@
+// Opening and stepping a listing by value, over an accepted table: part 6 of document 01 (`lr0_examples`, `lr1_examples` and the iteration of lr1/trace/trace_graph/mod.rs).
+use enumerator::Advanced;
+use enumerator::Listing;
+use enumerator::Lookahead;
+use enumerator::Opened;
+use enumerator::machine::clear;
+use enumerator::machine::holds_trial;
+use example::write_example;
+use first::FirstSets;
+use lookahead::TokenSet;
+use repr::word;
+use search::Searched;
+use search::read_labels;
+use search::search;
+use table::Checked;
+use table::read_counts;
+use table::read_productions;
+use trace_graph::TraceGraph;
+use trace_graph::check_graph;
+use trace_graph::item_fits;
+use trace_graph::read_node;
+ghost use mathlib.Core.Path.{_≡_};
+ghost use mathlib.Core.Bool.{true, false};
+ghost use mathlib.Core.List.{List, _++_};
+ghost use Prim.Native.Nat.{ℕ, suc, _+_, _-_, _≤_, _<_, _^_};
+ghost use lib.ListN.{length, getD, replicate};
+ghost use lib.Dec.{ltb};
+ghost use Rattle.repr.specs.Meaning.{Table};
+ghost use Rattle.repr.specs.Packed.{Packed, productionsIn};
+ghost use Rattle.table.specs.Decoded.{meaning};
+ghost use Rattle.table.specs.Refusals.{checkOf};
+ghost use Rattle.trace_graph.specs.Graph.{atItem, sameNode, isNode};
+ghost use Rattle.trace_graph.specs.Words.{nodeAt, edgesIn};
+ghost use Rattle.trace_graph.specs.Insert.{Graphed};
+ghost use Rattle.example.specs.Example.{exampleWords};
+ghost use Rattle.enumerator.specs.Trials.{endsOf, trials};
+ghost use Rattle.enumerator.specs.Lister.{labelsOf, hands, trialLimit, search};
+ghost use Rattle.enumerator.specs.Words.{wordsOf};
+ghost use Rattle.enumerator.specs.Advance.{outcome, setOf, startOf, asked, moved, inFront, foundOutcome, restOf, lost, advanceIn, openIn};
+ghost use Rattle.enumerator.specs.Stacks.{Roomy, Started};
+ghost use Rattle.search.specs.Given.{Tried};
+ghost use Rattle.lister.specs.Context.{Read, Listable, aheadBy, setsFor, begun};
+
+// A listing moved on, and what the call answers.
+pub struct Stepped {
+    pub next: Listing,
+    pub answer: Advanced,
+}
+
+// Whether a set holds tokens of the table alone.
+fn tokens_fit(terminals: usize, set: TokenSet) -> bool
+    requires { ⌜ terminals ≤ 63 ⌝ }
+    ensures { λ r. ⌜ r ≡ ltb (set .0) (2 ^ suc terminals) ⌝ }
+{
+    if terminals < 63 {
+        set.0 < 1 << (terminals + 1)
+    } else {
+        true
+    }
+}
+
+// Whether any lookahead does.
+fn lookahead_fits(terminals: usize, lookahead: Lookahead) -> bool
+    requires { ⌜ terminals ≤ 63 ⌝ }
+    ensures { λ r. ⌜ r ≡ aheadBy terminals (setOf lookahead) ⌝ }
+{
+    match lookahead {
+        Lookahead::Any => true,
+        Lookahead::Set(set) => tokens_fit(terminals, set),
+    }
+}
+
+// Refusal 9 for the start item, the lookahead, and the graph if it is long enough; its index is made in zeroed words.
+fn asked(
+    grammar: &[u16],
+    productions: usize,
+    n: usize,
+    terminals: usize,
+    production: usize,
+    index: usize,
+    lookahead: Lookahead,
+    graph: &[u16],
+    ix: &mut [u16],
+) -> bool
+    requires { ⌜ Packed (now grammar) productions ⌝ }
+    requires { ⌜ (n ≤ 32) × (terminals ≤ 63) ⌝ }
+    requires { ⌜ now ix ≡ replicate 3232 0 ⌝ }
+    ensures { λ r. ⌜ ((T : Table) → Read T n terminals (productionsIn (now (grammar .entry)) productions) → r ≡ asked T (record { production = production; index = index }) (setOf lookahead) (now (graph .entry))) ⌝ }
+    ensures { λ r. ⌜ (r ≡ true → 8193 ≤ length (now (graph .entry)) → Graphed n (productionsIn (now (grammar .entry)) productions) (now (graph .entry)) (now (ix .exit)) (getD (now (graph .entry)) 0 0)) ⌝ }
+{
+    if item_fits(grammar, productions, production, index) {
+        if lookahead_fits(terminals, lookahead) {
+            if graph.len() < TraceGraph::WORDS {
+                return true;
+            }
+            return check_graph(grammar, productions, n, graph, ix);
+        }
+    }
+    false
+}
+
+// Whether the node whose words begin at a place is an item.
+fn is_item(graph: &[u16], at: usize, production: usize, index: usize) -> bool
+    requires { ⌜ at + 2 < length (now graph) ⌝ }
+    ensures { λ r. ⌜ r ≡ sameNode (atItem (record { production = production; index = index })) (nodeAt (now (graph .entry)) at) ⌝ }
+{
+    let node = read_node(graph, at);
+    if node.kind == 0 {
+        return false;
+    }
+    if production == node.number {
+        return index == node.index;
+    }
+    false
+}
+
+// Whether an item is a node of the graph: an end of one of its edges (refusal 15).
+fn is_node(graph: &[u16], production: usize, index: usize) -> bool
+    requires { ⌜ Roomy (now graph) ⌝ }
+    ensures { λ r. ⌜ r ≡ isNode (atItem (record { production = production; index = index })) (edgesIn (now (graph .entry))) ⌝ }
+{
+    let count = word(graph, 0);
+    let mut k: usize = 0;
+    while k < count {
+        let at = k * TraceGraph::EDGE_WORDS + 1;
+        if is_item(graph, at, production, index) {
+            return true;
+        }
+        if is_item(graph, at + 3, production, index) {
+            return true;
+        }
+        k += 1;
+    }
+    false
+}
+
+// `lr0_examples` and `lr1_examples`: a fresh listing, or refusal 9, 11 or 15.
+pub fn open_in(
+    table: &[u16],
+    production: u16,
+    index: u16,
+    lookahead: Lookahead,
+    graph: &[u16],
+) -> Opened
+    requires { ⌜ checkOf (now table) ≡ Checked.Accepted ⌝ }
+    ensures { λ r. ⌜ r ≡ openIn (record { production = production; index = index }) lookahead (now (graph .entry)) (meaning (now (table .entry))) ⌝ }
+{
+    let counts = read_counts(table);
+    let mut grammar = [0u16; 4608];
+    read_productions(table, &mut grammar);
+    let mut ix = [0u16; 3232];
+    if asked(
+        &grammar,
+        counts.productions,
+        counts.nonterminals,
+        counts.terminals,
+        production as usize,
+        index as usize,
+        lookahead,
+        graph,
+        &mut ix,
+    ) {
+        if graph.len() < TraceGraph::WORDS {
+            return Opened::Refused(11, 0);
+        }
+        if is_node(graph, production as usize, index as usize) {
+            return Opened::Listing(Listing {
+                production: production,
+                index: index,
+                lookahead: lookahead,
+                count: 0,
+                is_open: true,
+            });
+        }
+        return Opened::Refused(15, 0);
+    }
+    Opened::Refused(9, 0)
+}
+
+// The FIRST sets, where a lookahead is set.
+fn first_sets(
+    grammar: &[u16],
+    productions: usize,
+    terminals: u16,
+    lookahead: Lookahead,
+) -> FirstSets
+    requires { ⌜ Packed (now grammar) productions × (terminals ≤ 63) ⌝ }
+    ensures { λ r. ⌜ r .map ≡ setsFor (setOf lookahead) terminals (productionsIn (now (grammar .entry)) productions) ⌝ }
+{
+    match lookahead {
+        Lookahead::Any => FirstSets { map: [0u64; 32] },
+        Lookahead::Set(set) => FirstSets::new(grammar, productions, terminals),
+    }
+}
+
+// A fresh listing starts from the words of no edge, whatever the words hold.
+fn begin(words: &mut [u16], count: u32)
+    requires { ⌜ 32000 ≤ length (now words) ⌝ }
+    ensures { λ _. ⌜ now (words .exit) ≡ begun count (now (words .entry)) ⌝ }
+{
+    if count == 0 {
+        clear(words);
+    }
+}
+
+// Whether an open listing past count 0 is lent words that hold no example's trial (refusal 9).
+fn lost(l: Listing, graph: &[u16], ix: &[u16], words: &[u16]) -> bool
+    requires { ⌜ Started (now graph) (now ix) (l .production) (l .index) ⌝ }
+    requires { ⌜ 32000 ≤ length (now words) ⌝ }
+    ensures { λ r. ⌜ r ≡ lost (edgesIn (now (graph .entry))) l (now (words .entry)) ⌝ }
+{
+    if l.is_open {
+        if l.count == 0 {
+            return false;
+        }
+        let production = l.production as usize;
+        let index = l.index as usize;
+        if holds_trial(graph, ix, words, production, index) {
+            return false;
+        }
+        return true;
+    }
+    false
+}
+
+// The example of the trial that the words hold, at the front of the buffer.
+fn write_trial(
+    grammar: &[u16],
+    productions: usize,
+    graph: &[u16],
+    words: &[u16],
+    buffer: &mut [u16],
+)
+    requires { ⌜ Packed (now grammar) productions ⌝ }
+    requires { ⌜ Tried (productionsIn (now grammar) productions) (now graph) (now words) ⌝ }
+    requires { ⌜ 1158 ≤ length (now buffer) ⌝ }
+    ensures { λ _. ⌜ ((p rest : List ℕ) → now (words .entry) ≡ wordsOf p ++ rest → now (buffer .exit) ≡ inFront (exampleWords (productionsIn (now (grammar .entry)) productions) (labelsOf (productionsIn (now (grammar .entry)) productions) (edgesIn (now (graph .entry))) p)) (now (buffer .entry))) ⌝ }
+{
+    let mut labels = [0u16; 99];
+    let size = read_labels(grammar, productions, graph, words, &mut labels);
+    write_example(grammar, productions, &labels[..size], buffer);
+}
+
+// The listing with another count, open or not.
+fn moved(l: Listing, count: u32, is_open: bool) -> Listing
+    ensures { λ r. ⌜ r ≡ moved l count is_open ⌝ }
+{
+    let lookahead = l.lookahead;
+    Listing {
+        production: l.production,
+        index: l.index,
+        lookahead: lookahead,
+        count: count,
+        is_open: is_open,
+    }
+}
+
+// An answer that leaves the listing.
+fn unmoved(l: Listing, answer: Advanced) -> Stepped
+    ensures { λ r. ⌜ (r .next ≡ l) × (r .answer ≡ answer) ⌝ }
+{
+    Stepped {
+        next: l,
+        answer: answer,
+    }
+}
+
+// The search of an open listing: the next example, the end, or refusal 13.
+fn find_next(
+    l: Listing,
+    grammar: &[u16],
+    productions: usize,
+    terminals: u16,
+    graph: &[u16],
+    ix: &[u16],
+    scratch: &mut [u16],
+    buffer: &mut [u16],
+) -> Stepped
+    requires { ⌜ Packed (now grammar) productions × (terminals ≤ 63) ⌝ }
+    requires { ⌜ Listable (productionsIn (now grammar) productions) (now graph) (now ix) (l .production) (l .index) ⌝ }
+    requires { ⌜ (32000 ≤ length (now scratch)) × (1158 ≤ length (now buffer)) ⌝ }
+    requires { ⌜ (l .«is_open» ≡ true) × (lost (edgesIn (now graph)) l (now scratch) ≡ false) ⌝ }
+    ensures { λ r. ⌜ ((n : ℕ) (T : Table) → Read T n terminals (productionsIn (now (grammar .entry)) productions) → outcome (r .answer) (r .next) (now (scratch .exit)) (now (buffer .exit)) ≡ foundOutcome T (edgesIn (now (graph .entry))) l (now (scratch .entry)) (now (buffer .entry)) (search (hands T (edgesIn (now (graph .entry))) (setOf (l .lookahead))) (trialLimit - l .count) (l .count) (restOf (l .count) (now (scratch .entry)) (trials (endsOf (edgesIn (now (graph .entry)))) (atItem (startOf l)))))) ⌝ }
+{
+    let production = l.production as usize;
+    let index = l.index as usize;
+    let lookahead = l.lookahead;
+    let count = l.count;
+    let sets = first_sets(grammar, productions, terminals, lookahead);
+    let map = sets.map;
+    begin(scratch, count);
+    match search(
+        grammar,
+        productions,
+        terminals,
+        &map,
+        lookahead,
+        graph,
+        ix,
+        scratch,
+        production,
+        index,
+        count,
+    ) {
+        Searched::Hit(number) => {
+            write_trial(grammar, productions, graph, scratch, buffer);
+            Stepped {
+                next: moved(l, number, true),
+                answer: Advanced::Example,
+            }
+        }
+        Searched::Out(trials) => Stepped {
+            next: moved(l, trials, false),
+            answer: Advanced::End,
+        },
+        Searched::Over => Stepped {
+            next: moved(l, 100000, false),
+            answer: Advanced::Refused(13, 0),
+        },
+    }
+}
+
+// A call that is lent what refusal 11 asks: 9 for the words, 15, the end of an ended listing, the search.
+fn go_on(
+    l: Listing,
+    grammar: &[u16],
+    productions: usize,
+    terminals: u16,
+    graph: &[u16],
+    ix: &[u16],
+    scratch: &mut [u16],
+    buffer: &mut [u16],
+) -> Stepped
+    requires { ⌜ Packed (now grammar) productions × (terminals ≤ 63) ⌝ }
+    requires { ⌜ Listable (productionsIn (now grammar) productions) (now graph) (now ix) (l .production) (l .index) ⌝ }
+    requires { ⌜ (32000 ≤ length (now scratch)) × (1158 ≤ length (now buffer)) ⌝ }
+    ensures { λ r. ⌜ ((n : ℕ) (T : Table) → Read T n terminals (productionsIn (now (grammar .entry)) productions) → asked T (startOf l) (setOf (l .lookahead)) (now (graph .entry)) ≡ true → outcome (r .answer) (r .next) (now (scratch .exit)) (now (buffer .exit)) ≡ advanceIn (now (graph .entry)) l (now (scratch .entry)) (now (buffer .entry)) T) ⌝ }
+{
+    let production = l.production as usize;
+    let index = l.index as usize;
+    let strayed = lost(l, graph, ix, scratch);
+    let node = is_node(graph, production, index);
+    if strayed {
+        return unmoved(l, Advanced::Refused(9, 0));
+    }
+    if node {
+        if l.is_open {
+            return find_next(
+                l,
+                grammar,
+                productions,
+                terminals,
+                graph,
+                ix,
+                scratch,
+                buffer,
+            );
+        }
+        return unmoved(l, Advanced::End);
+    }
+    unmoved(l, Advanced::Refused(15, 0))
+}
+
+// `advance` by value: refusals 9, 11 and 15, the end, the next example, refusal 13.
+pub fn step_in(
+    l: Listing,
+    table: &[u16],
+    graph: &[u16],
+    scratch: &mut [u16],
+    buffer: &mut [u16],
+) -> Stepped
+    requires { ⌜ checkOf (now table) ≡ Checked.Accepted ⌝ }
+    ensures { λ r. ⌜ outcome (r .answer) (r .next) (now (scratch .exit)) (now (buffer .exit)) ≡ advanceIn (now (graph .entry)) l (now (scratch .entry)) (now (buffer .entry)) (meaning (now (table .entry))) ⌝ }
+{
+    let counts = read_counts(table);
+    let productions = counts.productions;
+    let terminals = counts.terminals;
+    let mut grammar = [0u16; 4608];
+    read_productions(table, &mut grammar);
+    let mut ix = [0u16; 3232];
+    let production = l.production as usize;
+    let index = l.index as usize;
+    let lookahead = l.lookahead;
+    if asked(
+        &grammar,
+        productions,
+        counts.nonterminals,
+        terminals,
+        production,
+        index,
+        lookahead,
+        graph,
+        &mut ix,
+    ) {
+        if graph.len() < TraceGraph::WORDS {
+            return unmoved(l, Advanced::Refused(11, 0));
+        }
+        if scratch.len() < 32000 {
+            return unmoved(l, Advanced::Refused(11, 0));
+        }
+        if buffer.len() < 1158 {
+            return unmoved(l, Advanced::Refused(11, 0));
+        }
+        return go_on(
+            l,
+            &grammar,
+            productions,
+            terminals as u16,
+            graph,
+            &ix,
+            scratch,
+            buffer,
+        );
+    }
+    unmoved(l, Advanced::Refused(9, 0))
+}
