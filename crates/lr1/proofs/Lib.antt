@@ -1,3 +1,2 @@
 pub mod Entered
 pub mod Graphs
-pub mod Marked

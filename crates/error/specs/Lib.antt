@@ -1,0 +1,10 @@
+pub mod Numbers
+pub mod Items
+pub mod Sides
+pub mod Sorted
+pub mod Judge
+pub mod Outcome
+pub mod Choose
+pub mod Kept
+pub mod Observed
+pub mod Order

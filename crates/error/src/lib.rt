@@ -1,0 +1,27 @@
+// Conflicts and what is said of them (`ConflictClassification` of lr1/error/mod.rs), in numbers.
+
+// A conflict as document 01 has it, five words: the action is 0 for a shift, its operand a terminal, or 1 for a reduce, its operand a production.
+pub struct Conflict {
+    pub state: u16,
+    pub production: u16,
+    pub action: u16,
+    pub operand: u16,
+    pub token: u16,
+}
+
+// A class with its own values; the examples stand in the lent buffers. A nonterminal; a nonterminal and a symbol's kind and number; two spans, the conflict's first.
+pub enum Class {
+    Naive,
+    Ambiguity,
+    Precedence(u16),
+    SuggestInline(u16),
+    SuggestQuestion(u16, u16, u16),
+    AmbiguousReduction(u16, u16, u16, u16),
+    InsufficientLookahead,
+}
+
+// What classifying answers: the class with the trials of the action side and of the reduce side; else the refusal and its place.
+pub enum Classified {
+    Class(Class, u32, u32),
+    Refused(u16, u16),
+}
