@@ -1,9 +1,9 @@
 -- Laws of judging (specs/Judge), one for each condition that part 8 of document 01 leaves to the Rust: precedence, ambiguous reduction, and the inline test's zip. Assumes nothing.
-use Prim.Native.Nat.{ℕ, zero, suc}
-use mathlib.Core.Path.{_≡_, refl, sym, ap, _∙_}
-use mathlib.Core.Bool.{Bool, true, false, _&&_}
+use Prim.Native.Nat.{ℕ, suc}
+use mathlib.Core.Path.{_≡_, refl, ap, _∙_}
+use mathlib.Core.Bool.{true, false}
 use mathlib.Core.List.{List, [], _∷_, _++_}
-use mathlib.Core.Option.{Option, none, some}
+use mathlib.Core.Option.{none, some}
 use lib.Dec.{eqb}
 use borrow.Author.Tests.{eq-eqb, ne-eqb}
 use Rattle.repr.specs.Meaning.{Symbol, nonterminal, terminal, sameSymbol, Production, Table, productionAt}
@@ -15,7 +15,7 @@ use Rattle.first.specs.First.{FIRST, nullable}
 use Rattle.example.specs.Example.{ExampleSymbol, symbol, epsilon}
 use Rattle.error.specs.declared.Class.the-variants.{Ambiguity, Precedence, AmbiguousReduction}
 use Rattle.error.specs.Sorted.{Pair}
-use Rattle.error.specs.Judge.{Example, Judged, withBoth, reductionAt, sameSymbols, isOperator, shiftAmbiguity, reduceAmbiguity, ambiguityOf, diverge}
+use Rattle.error.specs.Judge.{Example, withBoth, reductionAt, sameSymbols, isOperator, shiftAmbiguity, reduceAmbiguity, ambiguityOf, diverge}
 
 -- two lists of symbols are the same if the test says so, and only then
 

@@ -1,7 +1,7 @@
 -- Document 01's marked examples, shown of the definitions that the contracts cite: one statement over one list. Assumes nothing.
 use Prim.Native.Nat.{ℕ}
 use mathlib.Core.Path.{_≡_, refl}
-use mathlib.Core.Bool.{Bool, true, false, not}
+use mathlib.Core.Bool.{Bool, true}
 use mathlib.Core.List.{List, [], _∷_, _++_, map}
 use mathlib.Core.Option.{none, some}
 use lib.ListN.{length, replicate}
@@ -18,7 +18,7 @@ use Rattle.table.specs.declared.Checked.{Checked}
 use Rattle.table.specs.declared.Checked.the-variants.{Accepted, Refused as NotAccepted}
 use Rattle.first.specs.First.{join, firstOf, first0, grown, round, same, settle, firstSets, FIRST, nullable}
 use Rattle.state_graph.specs.Walk.{leads, predecessors, walkBack, traceBack}
-use Rattle.trace_graph.specs.Graph.{Node, atNonterminal, atItem, sameItem, sameNode, TraceEdge, labelOf, sameSymbols as alike, sameCursor, sameSets, sameEdge, add, isNode}
+use Rattle.trace_graph.specs.Graph.{atItem, sameItem, sameNode, TraceEdge, labelOf, sameSymbols as alike, sameCursor, sameSets, sameEdge, add, isNode}
 use Rattle.trace_graph.specs.Words.{place, nodeWords, edgeWords, graphWords, nodeOf, nodeAt, edgeAt as lentEdge, edgesIn}
 use Rattle.trace_graph.specs.Fits.{itemFits, nodeFits, edgeFits, once, graphFits}
 use Rattle.trace.specs.Traced.{untraced, pair, enter, addTo, ownerOf, symbolsOf, canShift, prefixOf, suffixOf, inTurn}
@@ -28,7 +28,7 @@ use Rattle.example.specs.Example.{setsOf, prefixes, suffixes, atCursor, middle,
 use Rattle.enumerator.specs.Trials.{trials}
 use Rattle.enumerator.specs.Lister.{Call, enough, nodeOwner, labelAt, labelsOf, passes, hands, says, search, example, end, Out, foundOut, foundThen, plainFind, plainOut, plainThen, plainRun, plainLister}
 use Rattle.error.specs.declared.Conflict.{Conflict}
-use Rattle.error.specs.Numbers.{classNumber, classValues, Reading, classed, refused}
+use Rattle.error.specs.Numbers.{classNumber, classValues, Reading, classed}
 use Rattle.error.specs.Items.{symbolBefore, symbolsBefore, productionBefore, placed, inOrder, productionOrder, cursorItems, allItems, isTerminal, shiftsToken, shiftItems}
 use Rattle.error.specs.Sides.{listingSide, withMore, examplesIn, shiftSideFrom, shiftSide, reduceItem as itemAtEnd, reduceSide, actionSideOf, bothSides, gather}
 use Rattle.error.specs.Sorted.{inserted, sortedFrom, sortedBy, product, firstPair}

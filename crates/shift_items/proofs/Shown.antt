@@ -1,26 +1,23 @@
 -- The wanted codes, production by production in their order, are the items that a conflict shifts (`shiftItems` of error's specs/Items). Assumes nothing.
 use mathlib.Core.Path.{_≡_, refl, sym, ap, _∙_}
-use mathlib.Core.Bool.{Bool, true, false, not, _&&_}
+use mathlib.Core.Bool.{Bool, _&&_}
 use mathlib.Core.List.{List, [], _∷_, _++_, map}
 use Prim.Native.Nat.{ℕ, zero, suc, _+_, _-_, _*_, _/_, _%_, _≤_, _<_}
 use native.Mathlib.Omega.{arith}
 use lib.ListN.{length, getD, take, replicate}
 use lib.Seq.{length-take-le, getD-take}
-use lib.Dec.{eqb}
 use Rattle.repr.specs.Lists.{keep, joined, below, upFrom, some?}
 use Rattle.repr.specs.Meaning.{Item, Table, TableFits, Production, noProduction, All, stateAt}
 use Rattle.repr.specs.Listed.{listed}
 use Rattle.repr.specs.Packed.{Packed, symbolWords, productionIn, productionsIn}
-use Rattle.repr.proofs.Lists.{cases, keep-nil, keep-yes, keep-no, keep-append, joined-nil, joined-cons, length-upFrom, getD-upFrom}
+use Rattle.repr.proofs.Lists.{cases, keep-nil, keep-yes, keep-no, keep-append, joined-nil, joined-cons}
 use Rattle.repr.proofs.Parts.{symbols-long}
-use Rattle.core.specs.Items.{symbolSets}
-use Rattle.table.specs.Decoded.{meaning}
 use Rattle.trace_graph.specs.Graph.{sameItem}
 use Rattle.trace.specs.Shifting.{itemOf}
 use Rattle.trace.specs.Coded.{Grammar, CodesOf}
 use Rattle.trace.proofs.Distinct.{code-item}
 use Rattle.trace.proofs.Codes.{codes-kept}
-use Rattle.error.specs.Items.{isTerminal, shiftsToken, cursorItems, allItems, productionOrder, shiftItems}
+use Rattle.error.specs.Items.{shiftsToken, cursorItems, allItems, productionOrder, shiftItems}
 use Rattle.shift_items.specs.Codes.{marked, codesOf, shiftsCode, wanted}
 use Rattle.shift_items.specs.Order.{Below, Ordered}
 use Rattle.shift_items.proofs.Before.{production-at}
