@@ -44,7 +44,7 @@ pub fn lr1_examples(
 }
 
 // The next example, by value.
-fn step(
+pub fn step(
     l: Listing,
     table: &[u16],
     graph: &[u16],

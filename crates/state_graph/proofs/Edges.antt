@@ -1,6 +1,6 @@
--- Laws of the predecessors in words (specs/Preds): a state marked, the edges of one state, those of every state below another. Assumes nothing.
+-- Laws of the predecessors in words (specs/Preds): rows, a state marked, places. Assumes nothing.
 use mathlib.Core.Path.{_≡_, refl, sym, ap, _∙_}
-use mathlib.Core.Bool.{Bool, true, false, _&&_, _||_, and-false, or-false}
+use mathlib.Core.Bool.{Bool, true, false, _&&_, _||_, or-false}
 use mathlib.Core.List.{List, []}
 use Prim.Native.Nat.{ℕ, zero, suc, _+_, _-_, _*_, _/_, _%_, _^_, _≤_, _<_}
 use native.Mathlib.Omega.{arith}
@@ -8,23 +8,20 @@ use lib.Bits.{bitOr}
 use lib.Dec.{eqb, ltb}
 use lib.ListN.{length, getD, set, replicate, length-set}
 use lib.Seq.{getD-set-same, getD-set-other}
-use borrow.Author.Tests.{eqb-true, eqb-false, eq-eqb, ne-eqb, ltb-true, ltb-false, lt-ltb, le-ltb}
+use borrow.Author.Tests.{eqb-true, eqb-false, eq-eqb, ne-eqb, ltb-true, ltb-false}
 use Rattle.repr.specs.Lists.{some?}
 use Rattle.repr.specs.Meaning.{Symbol, sameSymbol, Table, TableFits, stateAt}
 use Rattle.repr.specs.Listed.{symbolOfKind, symbolFits}
 use Rattle.repr.proofs.Lists.{cases}
-use Rattle.repr.proofs.Tests.{some?-nil, some?-cons}
 use Rattle.repr.proofs.Listed.{symbol-range}
 use Rattle.lookahead.specs.Tokens.{single, union}
 use Rattle.lookahead.proofs.Words.{shifted}
-use Rattle.table.specs.Decoded.{meaning, edgesFrom}
-use Rattle.table.specs.Index.{EdgeIndex, EdgeRead}
+use Rattle.table.specs.Decoded.{edgesFrom}
 use Rattle.table.specs.Words.{looseRecords}
 use Rattle.table.proofs.Chains.{chain-end}
 use Rattle.state_graph.specs.States.{hasState}
-use Rattle.state_graph.specs.Preds.{rowOf, hasEdge, Preds, predHas, marked, into, Added}
-use Rattle.state_graph.proofs.Exact.{no-edges}
-use Rattle.state_graph.proofs.States.{state-none, low-with, high-with}
+use Rattle.state_graph.specs.Preds.{rowOf, hasEdge, marked, into}
+use Rattle.state_graph.proofs.States.{low-with, high-with}
 
 -- rows
 
@@ -80,7 +77,7 @@ shifted-single s = shifted (s % 64) (omega arith)
 
 -- the two words of a place: those of another stay, its own have s besides
 module _ (ws : List ℕ) (j s : ℕ) (s< : s < 128) (in-range : j * 2 + 1 < length ws) where
-  marked-other : (i : ℕ) → (i ≡ j * 2 + s / 64 → ⊥) → getD (marked ws (j * 2) s) i 0 ≡ getD ws i 0
+  pub marked-other : (i : ℕ) → (i ≡ j * 2 + s / 64 → ⊥) → getD (marked ws (j * 2) s) i 0 ≡ getD ws i 0
   unfolding marked
   marked-other i ne = getD-set-other ws (j * 2 + s / 64) i (union (getD ws (j * 2 + s / 64) 0) (single (s % 64))) 0 ne
 
@@ -127,20 +124,13 @@ module _ (ws : List ℕ) (j s : ℕ) (s< : s < 128) (in-range : j * 2 + 1 < leng
       rw (b, marked-other (i * 2) (λ e. q (omega arith)), marked-other (i * 2 + 1) (λ e. q (omega arith)))
       (sym (or-false (hasState (getD ws (i * 2) 0) (getD ws (i * 2 + 1) 0) p))))
 
-place-same : (x m y n : ℕ) → m < 128 → n < 128 → eqb (x * 128 + m) (y * 128 + n) ≡ (eqb x y && eqb m n)
+pub place-same : (x m y n : ℕ) → m < 128 → n < 128 → eqb (x * 128 + m) (y * 128 + n) ≡ (eqb x y && eqb m n)
 place-same x m y n h l =
     cases (eqb x y)
     (λ a. let q = eqb-true x y a in rw (a, q) (cases (eqb m n)
     (λ b. let r = eqb-true m n b in rw (b) (eq-eqb (y * 128 + m) (y * 128 + n) (omega arith)))
     (λ b. let r = eqb-false m n b in rw (b) (ne-eqb (y * 128 + m) (y * 128 + n) (λ e. r (omega arith))))))
     (λ a. let q = eqb-false x y a in rw a (ne-eqb (x * 128 + m) (y * 128 + n) (λ e. q (omega arith))))
-
-pub marked-pred : (ws : List ℕ) (x m s y n p : ℕ) → s < 128 → m < 128 → n < 128 → (x * 128 + m) * 2 + 1 < length ws
-    → predHas (marked ws ((x * 128 + m) * 2) s) y n p ≡ (predHas ws y n p || ((eqb y x && eqb n m) && eqb p s))
-unfolding predHas
-marked-pred ws x m s y n p hs hm hn i =
-    marked-has ws (x * 128 + m) s hs i (y * 128 + n) p
-    ∙ ap (λ (b : Bool). hasState (getD ws ((y * 128 + n) * 2) 0) (getD ws ((y * 128 + n) * 2 + 1) 0) p || (b && eqb p s)) (place-same y n x m hn hm)
 
 -- the place of a row and a target is inside
 pub place-inside : (T : Table) (k x m l : ℕ) → TableFits T → symbolFits (length (T .nonterminals)) (T .terminals) k x ≡ true → m < length (T .states)
@@ -156,25 +146,7 @@ pub edges-none : (t : List ℕ) → edgesFrom t 0 ≡ []
 unfolding edgesFrom
 edges-none t = rw (chain-end t (looseRecords t) 0)
 
--- what is left to mark beside what is marked: the same as for the whole chain
-pub record Chained (t : List ℕ) (n s : ℕ) (ws₀ : List ℕ) (at₀ : ℕ) (ws : List ℕ) (at : ℕ) : Type 0 where
-  pub on : EdgeIndex t at
-  pub same-length : length ws ≡ length ws₀
-  pub same : (k x m p : ℕ) → symbolFits (length (meaning t .nonterminals)) (meaning t .terminals) k x ≡ true → m < length (meaning t .states) → p < 128
-      → (predHas ws (rowOf n k x) m p || (eqb p s && some? (into (symbolOfKind k x) m) (edgesFrom t at)))
-      ≡ (predHas ws₀ (rowOf n k x) m p || (eqb p s && some? (into (symbolOfKind k x) m) (edgesFrom t at₀)))
-
-pub chained-start : (t : List ℕ) (n s : ℕ) (ws : List ℕ) (at : ℕ) → EdgeIndex t at → Chained t n s ws at ws at
-chained-start t n s ws at i = record { on = i; same-length = refl; same = λ k x m p f l b. refl }
-
--- one edge read and marked
-shuffle : (a b o r : Bool) → ((a || (b && o)) || (o && r)) ≡ (a || (o && (b || r)))
-shuffle true b o r = refl
-shuffle false true true r = refl
-shuffle false true false r = refl
-shuffle false false o r = refl
-
-into-is : (n t k x m kind number target : ℕ) → symbolFits n t k x ≡ true → symbolFits n t kind number ≡ true
+pub into-is : (n t k x m kind number target : ℕ) → symbolFits n t k x ≡ true → symbolFits n t kind number ≡ true
     → (eqb (rowOf n k x) (rowOf n kind number) && eqb m target) ≡ into (symbolOfKind k x) m (record { symbol = symbolOfKind kind number; target = target })
 unfolding into
 into-is n t k x m kind number target f g = rw (row-same n t k x kind number f g) (ap (λ (b : Bool). sameSymbol (symbolOfKind k x) (symbolOfKind kind number) && b) (turned (eqb m target) refl))
@@ -183,97 +155,12 @@ into-is n t k x m kind number target f g = rw (row-same n t k x kind number f g)
     turned true e = e ∙ sym (eq-eqb target m (sym (eqb-true m target e)))
     turned false e = e ∙ sym (ne-eqb target m (λ q. eqb-false m target e (sym q)))
 
-pub chained-more : (t : List ℕ) (n s : ℕ) (ws₀ : List ℕ) (at₀ : ℕ) (ws : List ℕ) (at : ℕ) → Chained t n s ws₀ at₀ ws at
-    → (next kind number target row : ℕ) → EdgeRead t at next kind number target → row ≡ rowOf n kind number → n ≡ length (meaning t .nonterminals)
-    → TableFits (meaning t) → s < length (meaning t .states) → (length (meaning t .nonterminals) + meaning t .terminals) * 256 ≤ length ws₀
-    → (new : List ℕ) → new ≡ marked ws ((row * 128 + target) * 2) s → Chained t n s ws₀ at₀ new next
-chained-more t n s ws₀ at₀ ws at C next kind number target row R er en F hs room new e = record {
-  on = R .on;
-  same-length = ap length e ∙ marked-length ws ((row * 128 + target) * 2) s ∙ C .same-length;
-  same = one;
-}
-  where
-    one : (k x m p : ℕ) → symbolFits (length (meaning t .nonterminals)) (meaning t .terminals) k x ≡ true → m < length (meaning t .states) → p < 128
-        → (predHas new (rowOf n k x) m p || (eqb p s && some? (into (symbolOfKind k x) m) (edgesFrom t next)))
-        ≡ (predHas ws₀ (rowOf n k x) m p || (eqb p s && some? (into (symbolOfKind k x) m) (edgesFrom t at₀)))
-    one k x m p f l b =
-        let few = F .few-states in
-        let tin = R .inside in
-        let len = C .same-length in
-        let inside : (rowOf n kind number * 128 + target) * 2 + 1 < length ws = rw (en, len) (place-inside (meaning t) kind number target (length ws₀) F (R .symbol) (R .inside) room) in
-        let f′ : symbolFits n (meaning t .terminals) k x ≡ true = rw en f in
-        let g′ : symbolFits n (meaning t .terminals) kind number ≡ true = rw en (R .symbol) in
-        rw (e, er, marked-pred ws (rowOf n kind number) target s (rowOf n k x) m p (omega arith) (omega arith) (omega arith) inside, into-is n (meaning t .terminals) k x m kind number target f′ g′)
-        (shuffle (predHas ws (rowOf n k x) m p) (into (symbolOfKind k x) m (record { symbol = symbolOfKind kind number; target = target })) (eqb p s) (some? (into (symbolOfKind k x) m) (edgesFrom t next))
-        ∙ rw (← some?-cons (into (symbolOfKind k x) m) (record { symbol = symbolOfKind kind number; target = target }) (edgesFrom t next), ← (R .list)) (C .same k x m p f l b))
-
-pub chained-done : (t : List ℕ) (n s : ℕ) (ws₀ : List ℕ) (at₀ : ℕ) (ws : List ℕ) (at : ℕ) → Chained t n s ws₀ at₀ ws at → at ≡ 0 → n ≡ length (meaning t .nonterminals)
-    → edgesFrom t at₀ ≡ stateAt (meaning t) s .edges → Added (meaning t) s (stateAt (meaning t) s .edges) ws₀ ws
-chained-done t n s ws₀ at₀ ws at C e en el = record {
-  exact = λ k x m p f l b.
-      let same = rw (e, edges-none t, some?-nil (into (symbolOfKind k x) m), and-false (eqb p s), or-false (predHas ws (rowOf n k x) m p), el, en) at (C .same k x m p f l b) in
-      same;
-}
-
--- what is left of a chain
-unfoldable pub left : ℕ → ℕ
-left zero = 0
-left (suc r) = 8192 - r
-
-pub left-less : (r j : ℕ) → (r ≡ 0 → ⊥) → r < 8192 → ((j ≡ 0 → ⊥) → r < j) → left j < left r
-unfolding left
-left-less zero j ne h up = absurd (ne refl)
-left-less (suc r) zero ne h up = omega arith
-left-less (suc r) (suc j) ne h up = let u = up (λ (e : suc j ≡ 0). omega arith) in omega arith
-
--- the edges of the states below s
-pub record Below (T : Table) (s : ℕ) (ws : List ℕ) : Type 0 where
-  pub exact : (k x m p : ℕ) → symbolFits (length (T .nonterminals)) (T .terminals) k x ≡ true → m < length (T .states) → p < 128
-      → predHas ws (rowOf (length (T .nonterminals)) k x) m p ≡ (ltb p s && hasEdge T (symbolOfKind k x) m p)
-
 -- none in words of zeros
-zeros-zero : (n i : ℕ) → _≡_ {A = ℕ} (getD (replicate n 0) i 0) 0
+pub zeros-zero : (n i : ℕ) → _≡_ {A = ℕ} (getD (replicate n 0) i 0) 0
 zeros-zero zero i = refl
 zeros-zero (suc n) zero = refl
 zeros-zero (suc n) (suc i) = zeros-zero n i
 
-pub below-none : (T : Table) (ws : List ℕ) → ws ≡ replicate (length ws) 0 → Below T 0 ws
-unfolding predHas
-below-none T ws e = record {
-  exact = λ k x m p f l b.
-      let a : (i : ℕ) → getD ws i 0 ≡ 0 = λ i. ap (λ (l : List ℕ). getD l i 0) e ∙ zeros-zero (length ws) i in
-      let r = rowOf (length (T .nonterminals)) k x in
-      rw (a ((r * 128 + m) * 2), a ((r * 128 + m) * 2 + 1), state-none p, le-ltb p 0 (omega arith));
-}
-
 pub has-edge-into : (T : Table) (x : Symbol) (m p : ℕ) → hasEdge T x m p ≡ some? (into x m) (stateAt T p .edges)
 unfolding hasEdge into
 has-edge-into T x m p = refl
-
-pub below-more : (T : Table) (s : ℕ) (ws new : List ℕ) → Below T s ws → Added T s (stateAt T s .edges) ws new → Below T (s + 1) new
-below-more T s ws new B A = record {
-  exact = λ k x m p f l b. A .exact k x m p f l b ∙ rw (B .exact k x m p f l b, ← has-edge-into T (symbolOfKind k x) m s) (both k x m p);
-}
-  where
-    both : (k x m p : ℕ) → ((ltb p s && hasEdge T (symbolOfKind k x) m p) || (eqb p s && hasEdge T (symbolOfKind k x) m s)) ≡ (ltb p (s + 1) && hasEdge T (symbolOfKind k x) m p)
-    both k x m p =
-        cases (ltb p s)
-        (λ a. let h = ltb-true p s a in rw (a, lt-ltb p (s + 1) (omega arith), ne-eqb p s (omega arith)) (or-false (hasEdge T (symbolOfKind k x) m p)))
-        (λ a. let h = ltb-false p s a in rw a (cases (eqb p s)
-        (λ q. let e = eqb-true p s q in rw (q, lt-ltb p (s + 1) (omega arith), e))
-        (λ q. let e = eqb-false p s q in rw (q, le-ltb p (s + 1) (omega arith)))))
-
-pub below-all : (T : Table) (s : ℕ) (ws : List ℕ) → length (T .states) ≤ s → Below T s ws → (length (T .nonterminals) + T .terminals) * 256 ≤ length ws → Preds T ws
-unfolding predHas
-below-all T s ws h B room = record {
-  long = room;
-  exact = λ k x m p f l b. B .exact k x m p f l b ∙ all k x m p;
-}
-  where
-    all : (k x m p : ℕ) → (ltb p s && hasEdge T (symbolOfKind k x) m p) ≡ hasEdge T (symbolOfKind k x) m p
-    all k x m p =
-        cases (ltb p s)
-        (λ a. rw a)
-        (λ a.
-        let i = ltb-false p s a in
-        rw a (sym (has-edge-into T (symbolOfKind k x) m p ∙ rw (no-edges T p (omega arith)) (some?-nil (into (symbolOfKind k x) m)))))

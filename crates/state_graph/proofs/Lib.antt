@@ -1,4 +1,5 @@
 pub mod Exact
 pub mod States
 pub mod Edges
+pub mod Sources
 pub mod Steps

@@ -37,9 +37,3 @@ marked ws at s = set ws (at + s / 64) (union (getD ws (at + s / 64) 0) (single (
 -- an edge by symbol x into state m
 unfoldable pub into : Symbol → ℕ → Edge → Bool
 into x m e = sameSymbol x (e .symbol) && eqb (e .target) m
-
--- beside what was marked, state s is marked for the edges es
-pub record Added (T : Table) (s : ℕ) (es : List Edge) (old new : List ℕ) : Type 0 where
-  pub exact : (k x m p : ℕ) → symbolFits (length (T .nonterminals)) (T .terminals) k x ≡ true → m < length (T .states) → p < 128
-      → predHas new (rowOf (length (T .nonterminals)) k x) m p
-      ≡ (predHas old (rowOf (length (T .nonterminals)) k x) m p || (eqb p s && some? (into (symbolOfKind k x) m) es))

@@ -14,13 +14,15 @@ ghost use Prim.Native.Nat.{ℕ, _+_, _*_, _≤_, _<_};
 ghost use lib.Dec.{eqb, ltb};
 ghost use lib.ListN.{length, getD, replicate};
 ghost use Rattle.repr.specs.Lists.{some?};
-ghost use Rattle.repr.specs.Meaning.{stateAt};
 ghost use Rattle.repr.specs.Listed.{listed, listFits};
 ghost use Rattle.table.specs.Decoded.{meaning};
 ghost use Rattle.table.specs.Refusals.{checkOf};
 ghost use Rattle.state_graph.specs.Walk.{walkBack, traceBack};
 ghost use Rattle.state_graph.specs.States.{hasState, statesIn, NextIs};
-ghost use Rattle.state_graph.specs.Preds.{Preds, rowOf, predHas, marked, Added};
+ghost use Rattle.table.specs.Words.{records};
+ghost use Rattle.table.specs.Index.{EdgeIndex};
+ghost use Rattle.state_graph.specs.Preds.{Preds, rowOf, predHas, marked};
+ghost use Rattle.state_graph.specs.Sources.{noSource, united, Heads, Passed};
 
 // The number of a state.
 pub struct StateIndex(pub u16);
@@ -143,20 +145,125 @@ fn mark(preds: &mut [u64], at: usize, state: usize)
     preds[i] = preds[i] | 1 << (state % 64);
 }
 
-// The edges of one state.
-fn index_state(table: &[u16], preds: &mut [u64], n: usize, state: usize)
-    requires { ⌜ checkOf (now table) ≡ Checked.Accepted ⌝ }
-    requires { ⌜ (n ≡ length (meaning (now table) .nonterminals)) × (state < length (meaning (now table) .states)) × ((length (meaning (now table) .nonterminals) + meaning (now table) .terminals) * 256 ≤ length (now preds)) ⌝ }
-    ensures { λ _. ⌜ Added (meaning (now (table .entry))) state (stateAt (meaning (now (table .entry))) state .edges) (now (preds .entry)) (now (preds .exit)) ⌝ }
+// A set of states put into the two words from `at` on.
+fn unite(words: &mut [u64], at: usize, low: u64, high: u64)
+    requires { ⌜ at + 1 < length (now words) ⌝ }
+    ensures { λ _. ⌜ now (words .exit) ≡ united (now (words .entry)) at low high ⌝ }
 {
-    let mut at = first_edge(table, state);
-    while at != 0 {
-        let e = edge(table, at);
-        let target = e.target;
-        let row = row_of(n, e.kind, e.number);
-        mark(preds, (row * 128 + target) * 2, state);
-        at = e.next;
+    words[at] = words[at] | low;
+    words[at + 1] = words[at + 1] | high;
+}
+
+// Whether no state's chain comes to a record.
+fn no_source(sources: &[u64], r: usize) -> bool
+    requires { ⌜ (r < 8192) × (r * 2 + 1 < length (now sources)) ⌝ }
+    ensures { λ b. ⌜ b ≡ noSource (now (sources .entry)) r ⌝ }
+{
+    if sources[r * 2] == 0 {
+        return sources[r * 2 + 1] == 0;
     }
+    false
+}
+
+// Each state put where its chain begins.
+fn heads(table: &[u16], sources: &mut [u64], states: usize)
+    requires { ⌜ checkOf (now table) ≡ Checked.Accepted ⌝ }
+    requires { ⌜ (states ≡ length (meaning (now table) .states)) × (records (now table) * 2 ≤ length (now sources)) × (now sources ≡ replicate (length (now sources)) 0) ⌝ }
+    ensures { λ _. ⌜ Heads (now (table .entry)) states (now (sources .exit)) ⌝ }
+{
+    let mut s: usize = 0;
+    while s < states {
+        let head = first_edge(table, s);
+        if head == 0 {
+            s += 1;
+            continue;
+        }
+        mark(sources, head * 2, s);
+        s += 1;
+    }
+}
+
+// The edge at a record, for all the states whose chains come to it; they go on to the next.
+fn pass(table: &[u16], preds: &mut [u64], sources: &mut [u64], n: usize, r: usize)
+    requires { ⌜ checkOf (now table) ≡ Checked.Accepted ⌝ }
+    requires { ⌜ (n ≡ length (meaning (now table) .nonterminals)) × ((length (meaning (now table) .nonterminals) + meaning (now table) .terminals) * 256 ≤ length (now preds)) × (records (now table) * 2 ≤ length (now sources)) ⌝ }
+    requires { ⌜ (r ≡ 0 → ⊥) × EdgeIndex (now table) r ⌝ }
+    ensures { λ _. ⌜ Passed (now (table .entry)) n r (now (preds .entry)) (now (sources .entry)) (now (preds .exit)) (now (sources .exit)) ⌝ }
+{
+    let low = sources[r * 2];
+    let high = sources[r * 2 + 1];
+    let e = edge(table, r);
+    let target = e.target;
+    let next = e.next;
+    let row = row_of(n, e.kind, e.number);
+    unite(preds, (row * 128 + target) * 2, low, high);
+    if next != 0 {
+        unite(sources, next * 2, low, high);
+    }
+}
+
+// The records in order: a next index is larger than its record's number, so each edge is read once, however many states share it.
+fn sweep(table: &[u16], preds: &mut [u64], sources: &mut [u64], n: usize, states: usize)
+    requires { ⌜ checkOf (now table) ≡ Checked.Accepted ⌝ }
+    requires { ⌜ (n ≡ length (meaning (now table) .nonterminals)) × (states ≡ length (meaning (now table) .states)) × (records (now table) * 2 ≤ length (now sources)) × Heads (now table) states (now sources) ⌝ }
+    requires { ⌜ ((length (meaning (now table) .nonterminals) + meaning (now table) .terminals) * 256 ≤ length (now preds)) × (now preds ≡ replicate (length (now preds)) 0) ⌝ }
+    ensures { λ _. ⌜ Preds (meaning (now (table .entry))) (now (preds .exit)) ⌝ }
+{
+    let records = table.len() / 4;
+    let mut r: usize = 0;
+    while r < records {
+        if no_source(sources, r) {
+            r += 1;
+            continue;
+        }
+        pass(table, preds, sources, n, r);
+        r += 1;
+    }
+}
+
+fn index_over(table: &[u16], preds: &mut [u64], sources: &mut [u64])
+    requires { ⌜ checkOf (now table) ≡ Checked.Accepted ⌝ }
+    requires { ⌜ ((length (meaning (now table) .nonterminals) + meaning (now table) .terminals) * 256 ≤ length (now preds)) × (now preds ≡ replicate (length (now preds)) 0) ⌝ }
+    requires { ⌜ (records (now table) * 2 ≤ length (now sources)) × (now sources ≡ replicate (length (now sources)) 0) ⌝ }
+    ensures { λ _. ⌜ Preds (meaning (now (table .entry))) (now (preds .exit)) ⌝ }
+{
+    let counts = read_counts(table);
+    let n = counts.nonterminals;
+    let states = counts.states;
+    heads(table, sources, states);
+    sweep(table, preds, sources, n, states);
+}
+
+// With the sources in an array for at most 128 records.
+fn index_few(table: &[u16], preds: &mut [u64])
+    requires { ⌜ checkOf (now table) ≡ Checked.Accepted ⌝ }
+    requires { ⌜ ((length (meaning (now table) .nonterminals) + meaning (now table) .terminals) * 256 ≤ length (now preds)) × (now preds ≡ replicate (length (now preds)) 0) ⌝ }
+    requires { ⌜ length (now table) ≤ 512 ⌝ }
+    ensures { λ _. ⌜ Preds (meaning (now (table .entry))) (now (preds .exit)) ⌝ }
+{
+    let mut sources = [0u64; 256];
+    index_over(table, preds, &mut sources);
+}
+
+// The same for at most 1,024 records.
+fn index_some(table: &[u16], preds: &mut [u64])
+    requires { ⌜ checkOf (now table) ≡ Checked.Accepted ⌝ }
+    requires { ⌜ ((length (meaning (now table) .nonterminals) + meaning (now table) .terminals) * 256 ≤ length (now preds)) × (now preds ≡ replicate (length (now preds)) 0) ⌝ }
+    requires { ⌜ length (now table) ≤ 4096 ⌝ }
+    ensures { λ _. ⌜ Preds (meaning (now (table .entry))) (now (preds .exit)) ⌝ }
+{
+    let mut sources = [0u64; 2048];
+    index_over(table, preds, &mut sources);
+}
+
+// For every table: at most 8,192 records.
+fn index_many(table: &[u16], preds: &mut [u64])
+    requires { ⌜ checkOf (now table) ≡ Checked.Accepted ⌝ }
+    requires { ⌜ ((length (meaning (now table) .nonterminals) + meaning (now table) .terminals) * 256 ≤ length (now preds)) × (now preds ≡ replicate (length (now preds)) 0) ⌝ }
+    ensures { λ _. ⌜ Preds (meaning (now (table .entry))) (now (preds .exit)) ⌝ }
+{
+    let mut sources = [0u64; 16384];
+    index_over(table, preds, &mut sources);
 }
 
 // The predecessors of every state by every symbol, from the edges of the table: each edge is read once, and no walk reads a chain again.
@@ -165,13 +272,12 @@ pub fn index(table: &[u16], preds: &mut [u64])
     requires { ⌜ ((length (meaning (now table) .nonterminals) + meaning (now table) .terminals) * 256 ≤ length (now preds)) × (now preds ≡ replicate (length (now preds)) 0) ⌝ }
     ensures { λ _. ⌜ Preds (meaning (now (table .entry))) (now (preds .exit)) ⌝ }
 {
-    let counts = read_counts(table);
-    let n = counts.nonterminals;
-    let states = counts.states;
-    let mut s: usize = 0;
-    while s < states {
-        index_state(table, preds, n, s);
-        s += 1;
+    if table.len() <= 512 {
+        index_few(table, preds);
+    } else if table.len() <= 4096 {
+        index_some(table, preds);
+    } else {
+        index_many(table, preds);
     }
 }
 

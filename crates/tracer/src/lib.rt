@@ -404,7 +404,7 @@ fn trace_many(
 }
 
 // The trace, its graph in the words lent.
-fn build(
+pub fn build(
     table: &[u16],
     grammar: &[u16],
     productions: usize,

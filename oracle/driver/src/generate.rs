@@ -712,13 +712,41 @@ fn graphs(rng: &mut Rng) -> Option<Case> {
             1 => Some(1 << rng.below(table.terminals as usize + 1)),
             _ => Some(rng.set(table.terminals as usize + 1)),
         };
-        questions.push(Question::List((start[1], start[2]), set, words));
+        questions.push(Question::List((start[1], start[2]), set, words.clone()));
+        for _ in 0..2 {
+            questions.push(Question::Add(added(rng, &table, &edges), words.clone()));
+        }
     }
     Some(Case {
         name: String::new(),
         table: encode(rng, &table)?,
         questions,
     })
+}
+
+/// An edge to add: any one, or one of a graph's with one word or its label's
+/// production changed, or not changed.
+fn added(rng: &mut Rng, table: &Table, edges: &[[u16; 8]]) -> [u16; 8] {
+    let production = |rng: &mut Rng| rng.below(table.productions.len()) as u16;
+    if edges.is_empty() || rng.chance(4) {
+        let nt = rng.below(table.nonterminals.len()) as u16;
+        let (p, q) = (production(rng), production(rng));
+        return [1, p, 0, 0, nt, 0, q, 0];
+    }
+    let mut e = edges[rng.below(edges.len())];
+    match rng.below(4) {
+        0 => {}
+        1 => e[rng.below(8)] = rng.below(6) as u16,
+        _ => {
+            // Of equal symbols if there is another.
+            let of = |p: u16| &table.productions[p as usize].symbols;
+            let same: Vec<u16> = (0..table.productions.len() as u16)
+                .filter(|&p| of(p) == of(e[6]))
+                .collect();
+            e[6] = same[rng.below(same.len())];
+        }
+    }
+    e
 }
 
 /// A good table with words changed, taken away or added.
@@ -843,6 +871,13 @@ fn many_edges(edges: usize) -> Option<Case> {
             state.items.push((p, i));
         }
     }
+    // A graph with one edge less.
+    let full = edges - 1;
+    let items = (1..128).flat_map(|p| (1..16).map(move |i| (p, i)));
+    let mut graph = vec![full as u16];
+    for (p, i) in items.take(full) {
+        graph.extend([1, p, i, 0, 0, 0, p, i]);
+    }
     Some(Case {
         name: format!("{edges} edges"),
         table: table.encode(true, || 0)?,
@@ -855,6 +890,10 @@ fn many_edges(edges: usize) -> Option<Case> {
             Question::Classify([0, 0, 0, 0, 1]),
             Question::Choose([0, 0, 1, 0], 3),
             Question::Classify([0, 0, 1, 0, 0]),
+            Question::Add([1, 1, 1, 0, 0, 0, 1, 1], graph.clone()),
+            // The same label by its symbols.
+            Question::Add([1, 1, 1, 0, 0, 0, 127, 1], graph.clone()),
+            Question::Add([0, 0, 0, 1, 0, 0, 0, 0], graph),
         ],
     })
 }
@@ -1049,6 +1088,8 @@ fn deep_trace() -> Option<Case> {
         name: "4,096 pairs nested".into(),
         table: table.encode(true, || 0)?,
         questions: vec![
+            // All 4,096, one inside the other.
+            Question::Reduce(127, (0, 0)),
             Question::Reduce(126, (0, 2)),
             Question::Reduce(126, (0, 1)),
             Question::Shift(126, (0, 1)),

@@ -1,5 +1,7 @@
 //! Runs of lalrpop's published modules on document 01's words.
 
+#[cfg(feature = "port")]
+pub mod costs;
 pub mod explain;
 pub mod generate;
 pub mod plain;
@@ -20,13 +22,21 @@ pub fn with_stack<A: Send>(f: impl FnOnce() -> A + Send) -> A {
     })
 }
 
+/// The sides there are, the yardstick first.
+pub const SIDES: &[&str] = &[
+    "rust",
+    "plain",
+    #[cfg(feature = "port")]
+    "port",
+];
+
 /// A side by its name.
 pub fn side(name: &str) -> Box<dyn side::Side> {
     match name {
         "rust" => Box::new(rust::RustSide::default()),
         "plain" => Box::new(plain::PlainSide),
         #[cfg(feature = "port")]
-        "port" => Box::new(port::PortSide),
+        "port" => Box::new(port::PortSide::default()),
         _ => panic!("no side {name}"),
     }
 }

@@ -1,5 +1,6 @@
 //! The command. See README.md.
 
+use oracle::SIDES;
 use oracle::generate::{self, KINDS};
 use oracle::question::{self, Question, ask, text};
 use oracle::side::{Answer, Side};
@@ -14,9 +15,11 @@ const USAGE: &str =
 oracle explain [SIDE]                   document 01's program over standard input
 oracle marked [SIDE]                    document 01's marked examples on table B
 oracle generate KIND SEED COUNT [SIDE]  cases as lines, with the side's answers
-oracle compare KIND SEED COUNT [A B]    asks two sides the same (KIND may be all)
+oracle compare KIND SEED COUNT [SIDE ..] [only=VERB,..]
+                                        asks all sides, or those named, the same (KIND may be all)
 oracle sample REQUESTS ANSWERS [KIND SEED COUNT]
                                         writes the stored sample of the program replay, or one of some seeds
+oracle costs                            times of the Rust and the port, if linked, in markdown
 sides: rust, plain, and port if linked";
 
 fn main() {
@@ -34,10 +37,13 @@ fn run(args: &[&str]) -> bool {
         ["marked", side] => marked(side),
         ["generate", kind, seed, count] => list(kind, number(seed), number(count), "rust"),
         ["generate", kind, seed, count, side] => list(kind, number(seed), number(count), side),
-        ["compare", kind, seed, count] => {
-            compare(kind, number(seed), number(count), "rust", "plain")
+        ["compare", kind, seed, count, ref more @ ..] => {
+            let (only, sides): (Vec<&str>, Vec<&str>) =
+                more.iter().partition(|m| m.starts_with("only="));
+            let only: Vec<&str> = only.iter().flat_map(|o| o[5..].split(',')).collect();
+            let sides = if sides.is_empty() { SIDES } else { &sides };
+            compare(kind, number(seed), number(count), sides, &only)
         }
-        ["compare", kind, seed, count, a, b] => compare(kind, number(seed), number(count), a, b),
         ["sample", requests, answers] => {
             let made = oracle::sample::sample(&mut *oracle::side("rust"));
             sample(requests, answers, &made)
@@ -46,6 +52,11 @@ fn run(args: &[&str]) -> bool {
             let (mut side, seed, count) = (oracle::side("rust"), number(seed), number(count));
             let made = oracle::sample::cases(&mut *side, kind, seed, count);
             sample(requests, answers, &made)
+        }
+        #[cfg(feature = "port")]
+        ["costs"] => {
+            oracle::costs::costs();
+            false
         }
         [] => lines("rust"),
         [side @ ("rust" | "plain" | "port")] => lines(side),
@@ -250,67 +261,74 @@ fn row(q: &Question, answer: &Answer) -> String {
     }
 }
 
-fn compare(kind: &str, seed: u64, count: u64, a: &str, b: &str) -> bool {
-    let (mut a, mut b) = (oracle::side(a), oracle::side(b));
+/// Asks several sides the same; every answer is held to the first side's, or
+/// to the first that there is. `only` leaves out other verbs, if it names any.
+fn compare(kind: &str, seed: u64, count: u64, sides: &[&str], only: &[&str]) -> bool {
+    let mut sides: Vec<Box<dyn Side>> = sides.iter().map(|name| oracle::side(name)).collect();
+    let names: Vec<&str> = sides.iter().map(|s| s.name()).collect();
     println!(
-        "{} and {}: kind {kind}, seeds {seed} to {}",
-        a.name(),
-        b.name(),
+        "{}: kind {kind}, seeds {seed} to {}",
+        names.join(", "),
         seed + count - 1
     );
     let mut score = Score::default();
     let mut rows: BTreeMap<String, u64> = BTreeMap::new();
-    let (mut tables, mut unasked, mut silent) = (0, 0, 0);
-    let mut times = [Duration::ZERO; 2];
+    let (mut tables, mut unasked) = (0, 0);
+    let mut times = vec![Duration::ZERO; sides.len()];
     for case in cases(kind, seed, count) {
         tables += 1;
         for q in &case.questions {
-            let mut timed = |k: usize, side: &mut dyn Side| {
+            let verb = q.to_string().split(' ').next().unwrap().to_string();
+            if !only.is_empty() && !only.contains(&&verb[..]) {
+                continue;
+            }
+            let mut answers: Vec<(&str, Answer)> = vec![];
+            for (k, side) in sides.iter_mut().enumerate() {
                 let start = Instant::now();
-                let answer = catch_unwind(AssertUnwindSafe(|| ask(side, &case.table, q)));
+                let answer = catch_unwind(AssertUnwindSafe(|| ask(&mut **side, &case.table, q)));
                 times[k] += start.elapsed();
                 // Words that no side gives.
-                answer.unwrap_or(Some(vec![u32::MAX, k as u32]))
-            };
-            let (x, y) = (timed(0, &mut *a), timed(1, &mut *b));
-            match (x, y) {
-                (Some(x), Some(y)) => {
-                    *rows.entry(row(q, &x)).or_default() += 1;
-                    score.count(x == y, || {
-                        let table = text(&case.table);
-                        let answers = [x, y].map(|w| text(w));
-                        format!(
-                            "{}\ntable {table}\n{q}\n= {}",
-                            case.name,
-                            answers.join("\n= ")
-                        )
-                    });
-                    if score.failed > 5 {
-                        return score.end();
+                match answer.unwrap_or(Some(vec![u32::MAX, k as u32])) {
+                    Some(answer) => answers.push((names[k], answer)),
+                    None => {
+                        let line = format!("{verb} not answered by {}", names[k]);
+                        *rows.entry(line).or_default() += 1;
                     }
                 }
-                (None, None) => unasked += 1,
-                (x, _) => {
-                    silent += 1;
-                    let which = if x.is_some() { b.name() } else { a.name() };
-                    let verb = q.to_string().split(' ').next().unwrap().to_string();
-                    *rows
-                        .entry(format!("{verb} not answered by {which}"))
-                        .or_default() += 1;
-                }
+            }
+            let Some(((_, first), others)) = answers.split_first() else {
+                unasked += 1;
+                continue;
+            };
+            if !others.is_empty() {
+                *rows.entry(row(q, first)).or_default() += 1;
+            }
+            for (_, other) in others {
+                score.count(first == other, || {
+                    let lines = answers
+                        .iter()
+                        .map(|(n, a)| format!("\n= {} ({n})", text(a)));
+                    let table = text(&case.table);
+                    format!(
+                        "{}\ntable {table}\n{q}{}",
+                        case.name,
+                        lines.collect::<String>()
+                    )
+                });
+            }
+            if score.failed > 5 {
+                return score.end();
             }
         }
     }
     for (row, n) in &rows {
         println!("{n:>9}  {row}");
     }
-    println!("{tables} tables; {silent} answered by one side, {unasked} by none");
-    println!(
-        "time: {} {:.2?}, {} {:.2?}",
-        a.name(),
-        times[0],
-        b.name(),
-        times[1]
-    );
+    println!("{tables} tables; {unasked} questions answered by none");
+    let times = names
+        .iter()
+        .zip(&times)
+        .map(|(n, t)| format!("{n} {t:.2?}"));
+    println!("time: {}", times.collect::<Vec<_>>().join(", "));
     score.end()
 }

@@ -535,6 +535,19 @@ impl Side for PlainSide {
         ask(table, good, |p| traced(p.reduce(state, item)))
     }
 
+    fn add_edge(&mut self, table: &[u16], graph: &[u16], e: [u16; 8]) -> Option<Answer> {
+        let good = |t: &Table| edge_in_range(t, &e);
+        ask(table, good, |p| {
+            let mut trace = Trace {
+                edges: graph_edges(p.table, graph)?,
+                ..Trace::default()
+            };
+            let (from, to) = ([e[0], e[1], e[2]], [e[3], e[4], e[5]]);
+            p.add(&mut trace, from, to, (e[6], e[7]));
+            traced(trace.edges)
+        })
+    }
+
     fn examples(
         &mut self,
         table: &[u16],

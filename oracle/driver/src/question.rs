@@ -11,6 +11,8 @@ pub enum Question {
     Back(u16, Vec<Sym>),
     Shift(u16, (u16, u16)),
     Reduce(u16, (u16, u16)),
+    /// An edge's eight words, graph words.
+    Add([u16; 8], Vec<u16>),
     /// Start item, any lookahead, graph words.
     List((u16, u16), Option<u64>, Vec<u16>),
     /// A listing over the graph that a trace gives (reduce if set), from a
@@ -40,6 +42,7 @@ pub fn ask(side: &mut dyn Side, table: &[u16], question: &Question) -> Option<An
         Question::Back(state, s) => side.trace_back(table, *state, s),
         Question::Shift(state, item) => side.backtrace_shift(table, *state, *item),
         Question::Reduce(state, item) => side.backtrace_reduce(table, *state, *item),
+        Question::Add(edge, graph) => side.add_edge(table, graph, *edge),
         Question::List(start, l, graph) => side.examples(table, graph, *start, *l),
         Question::ListTrace(reduce, state, item, l) => {
             let traced = if *reduce {
@@ -86,6 +89,7 @@ impl std::fmt::Display for Question {
             Question::Back(state, s) => format!("back {state} {}", pairs(s)),
             Question::Shift(state, i) => format!("shift {state} {} {}", i.0, i.1),
             Question::Reduce(state, i) => format!("reduce {state} {} {}", i.0, i.1),
+            Question::Add(e, g) => format!("add {} / {}", text(e), text(g)),
             Question::List(i, l, g) => {
                 format!("list {} {} / {} / {}", i.0, i.1, set(*l), text(g))
             }
@@ -141,6 +145,7 @@ pub fn parse(line: &str) -> Option<Question> {
         ("back", [state, s @ ..]) => Question::Back(*state, symbols(s)?),
         ("shift", &[state, p, i]) => Question::Shift(state, (p, i)),
         ("reduce", &[state, p, i]) => Question::Reduce(state, (p, i)),
+        ("add", e) => Question::Add(e.try_into().ok()?, numbers(1)?),
         ("list", &[p, i]) => Question::List((p, i), lookahead(1)?, numbers(2)?),
         ("list-shift", &[s, p, i]) => Question::ListTrace(false, s, (p, i), lookahead(1)?),
         ("list-reduce", &[s, p, i]) => Question::ListTrace(true, s, (p, i), lookahead(1)?),

@@ -395,18 +395,22 @@ impl<'g> Rust<'g> {
             .collect()
     }
 
-    /// A graph from words that were checked.
-    pub fn graph(&self, edges: &[[u16; 8]]) -> TraceGraph<'g> {
-        let mut graph = TraceGraph::new();
+    pub fn add_edge(&self, graph: &mut TraceGraph<'g>, e: &[u16; 8]) {
         let node = |w: &[u16]| -> TraceGraphNode<'g> {
             match w[0] {
                 0 => nonterminal(w[1]).into(),
                 _ => self.item((w[1], w[2])).into(),
             }
         };
+        let label = self.item((e[6], e[7])).symbol_sets();
+        graph.add_edge(node(&e[..3]), node(&e[3..6]), label);
+    }
+
+    /// A graph from words that were checked.
+    pub fn graph(&self, edges: &[[u16; 8]]) -> TraceGraph<'g> {
+        let mut graph = TraceGraph::new();
         for e in edges {
-            let label = self.item((e[6], e[7])).symbol_sets();
-            graph.add_edge(node(&e[..3]), node(&e[3..6]), label);
+            self.add_edge(&mut graph, e);
         }
         graph
     }
@@ -822,6 +826,15 @@ impl Side for RustSide {
         let good = |t: &Table| (state as usize) < t.states.len() && t.item_in_range(item);
         self.ask(table, good, |r| {
             let graph = r.backtrace_reduce(state, item);
+            traced(r.edges(&graph))
+        })
+    }
+
+    fn add_edge(&mut self, table: &[u16], graph: &[u16], edge: [u16; 8]) -> Option<Answer> {
+        let good = |t: &Table| edge_in_range(t, &edge) && graph_edges(t, graph).is_ok();
+        self.ask(table, good, |r| {
+            let mut graph = r.graph(&graph_edges(r.table, graph)?);
+            r.add_edge(&mut graph, &edge);
             traced(r.edges(&graph))
         })
     }

@@ -16,8 +16,18 @@ const KINDS: [(&str, u64, u64, usize); 6] = [
     ("wide", 401, 4, 24),
     ("damaged", 501, 120, 2),
 ];
+/// The same of traces and edges added.
+const TRACES: [(&str, u64, u64, usize); 5] = [
+    ("classic", 1_001, 27, 5),
+    ("random", 1_101, 16, 5),
+    ("bent", 1_201, 16, 5),
+    ("arbitrary", 1_301, 16, 5),
+    ("graph", 1_401, 10, 6),
+];
 /// A table above this number of words is asked only `check` and two more.
 const LARGE: usize = 4_000;
+/// One above this number is not traced.
+const TRACED: usize = 300;
 
 pub struct Sample {
     pub requests: Vec<u16>,
@@ -36,12 +46,33 @@ fn set_words(set: u64) -> Vec<u16> {
     (0..4).map(|i| (set >> (16 * i)) as u16).collect()
 }
 
+/// Words lent where nothing else is said.
+const GRAPH: u16 = 8_193;
+const SCRATCH: u16 = 32_000;
+
+fn traces(q: &Question) -> bool {
+    matches!(
+        q,
+        Question::Shift(..) | Question::Reduce(..) | Question::Add(..)
+    )
+}
+
 fn request(q: &Question) -> Option<(u16, More)> {
     Some(match q {
         Question::Check => (1, More(vec![])),
         Question::First0(s) => (2, More(list(s))),
         Question::First1(s, l) => (3, More([set_words(*l), list(s)].concat())),
         Question::Back(state, s) => (4, More([vec![*state], list(s)].concat())),
+        Question::Shift(state, i) => (5, More(vec![*state, i.0, i.1, GRAPH, SCRATCH])),
+        Question::Reduce(state, i) => (6, More(vec![*state, i.0, i.1, GRAPH, SCRATCH])),
+        Question::Add(e, graph) => {
+            let mut more = [&e[..], &[GRAPH], graph].concat();
+            // The count says more edges than there are: none of those is good.
+            if graph.len() < 8 * graph[0] as usize + 1 {
+                more.extend([u16::MAX; 8]);
+            }
+            (7, More(more))
+        }
         _ => return None,
     })
 }
@@ -291,7 +322,151 @@ fn no_productions(m: &mut Maker) {
     }
 }
 
-fn generated(m: &mut Maker, kind: &str, seed: u64, count: u64, keep: usize) {
+/// Both traces of every item of B from every state, and numbers out of range.
+fn traces_on_b(m: &mut Maker) {
+    let b = table_b();
+    let items = [
+        (0, 0),
+        (0, 1),
+        (0, 2),
+        (0, 3),
+        (1, 0),
+        (1, 1),
+        (0, 4),
+        (1, 2),
+        (2, 0),
+        (65_535, 0),
+        (0, 65_535),
+    ];
+    for state in [0, 1, 2, 3, 4, 65_535] {
+        for item in items {
+            m.ask(&b, &Question::Shift(state, item));
+            m.ask(&b, &Question::Reduce(state, item));
+        }
+    }
+}
+
+/// Fewer or more words lent than a call asks for: 9 goes before 11, a refused
+/// table before both.
+fn lent(m: &mut Maker) {
+    let b = table_b();
+    let mut bad = table_b();
+    bad[48] = 12;
+    let short = [
+        (0, 0),
+        (8_192, 32_000),
+        (8_193, 31_999),
+        (8_192, 31_999),
+        (0, 32_008),
+        (8_200, 0),
+    ];
+    for (graph, scratch) in short {
+        for op in [5, 6] {
+            m.put(op, &b, &[3, 0, 1, graph, scratch], &vec![11, 0]);
+            m.put(op, &b, &[4, 0, 1, graph, scratch], &vec![9, 0]);
+            m.put(op, &b, &[3, 0, 4, graph, scratch], &vec![9, 0]);
+            m.put(op, &bad, &[4, 0, 1, graph, scratch], &vec![3, 12]);
+        }
+    }
+    let edge = [0, 0, 0, 1, 0, 1, 0, 1];
+    for graph in [0, 1, 8_192] {
+        let mut add = |table: &[u16], edge: [u16; 8], front: &[u16], answer: [u32; 2]| {
+            m.put(
+                7,
+                table,
+                &[&edge[..], &[graph], front].concat(),
+                &answer.into(),
+            );
+        };
+        add(&b, edge, &[0], [11, 0]);
+        // A graph that is too short is not looked at.
+        add(&b, edge, &[1_025], [11, 0]);
+        add(&b, [0, 1, 0, 1, 0, 1, 0, 1], &[0], [9, 0]);
+        add(&bad, edge, &[0], [3, 12]);
+    }
+    for (op, q) in [
+        (5, Question::Shift(3, (0, 1))),
+        (6, Question::Reduce(3, (0, 3))),
+    ] {
+        let answer = ask(m.side, &b, &q).unwrap();
+        let Some((_, More(mut more))) = request(&q) else {
+            continue;
+        };
+        more[3..].copy_from_slice(&[8_200, 32_008]);
+        m.put(op, &b, &more, &answer);
+    }
+}
+
+/// Edges added to graphs over B, good and bad.
+fn edges_added(m: &mut Maker) {
+    let b = table_b();
+    let shift = ask(m.side, &b, &Question::Shift(3, (0, 1))).unwrap();
+    let graph: Vec<u16> = shift[1..].iter().map(|&w| w as u16).collect();
+    let first: [u16; 8] = graph[1..9].try_into().unwrap();
+    let mut twice = graph.clone();
+    twice[0] += 1;
+    twice.extend(first);
+    let graphs = [&[0][..], &graph, &twice, &[1_025], &[65_535], &[1]];
+    for words in graphs {
+        let words = words.to_vec();
+        m.ask(&b, &Question::Add(first, words.clone()));
+        for at in 0..8 {
+            for word in [0, 1, 2, 3, 65_535] {
+                let mut e = first;
+                e[at] = word;
+                // Other graphs with a few of these.
+                if e != first && (words == graph || word == 3) {
+                    m.ask(&b, &Question::Add(e, words.clone()));
+                }
+            }
+        }
+    }
+    // Every word of a graph changed.
+    for at in 0..graph.len() {
+        for word in [0, 1, 2, 65_535] {
+            let mut words = graph.clone();
+            words[at] = word;
+            m.ask(&b, &Question::Add([0, 0, 0, 0, 0, 0, 1, 1], words));
+        }
+    }
+}
+
+/// 1,024 edges and 1,025, traced and added; 4,096 pairs nested.
+fn limits(m: &mut Maker) {
+    for seed in [7, 14, 5] {
+        let case = generate::case("limit", seed).unwrap();
+        m.out.seeds += &format!("{}\n", case.name);
+        let traced = |q: &&Question| matches!(q, Question::Shift(..) | Question::Reduce(..));
+        for q in case.questions.iter().filter(traced).take(3) {
+            m.ask(&case.table, q);
+        }
+    }
+    // One state, 128 productions with the same 16 symbols.
+    let mut t = vec![1, 1, 1, 128, 3, 0, 0, 0, 0, 0, 0, 0];
+    for p in 0..128 {
+        t.extend([if p < 127 { 4 + p } else { 0 }, 131, 0, 0]);
+    }
+    for i in 0..16 {
+        t.extend([if i < 15 { 132 + i } else { 0 }, 0, 0, 0]);
+    }
+    let items = (0..128).flat_map(|p| (1..16).map(move |i| (p, i)));
+    let mut graph = vec![1_024];
+    for (p, i) in items.take(1_024) {
+        graph.extend([1, p, i, 0, 0, 0, p, i]);
+    }
+    // An equal label by its symbols, then a new edge.
+    m.ask(&t, &Question::Add([1, 0, 1, 0, 0, 0, 9, 1], graph.clone()));
+    m.ask(&t, &Question::Add([1, 0, 1, 0, 0, 0, 9, 2], graph.clone()));
+    graph[0] = 1_023;
+    graph.truncate(8 * 1_023 + 1);
+    m.ask(&t, &Question::Add([1, 0, 1, 0, 0, 0, 9, 2], graph));
+}
+
+fn generated(
+    m: &mut Maker,
+    (kind, seed, count, keep): (&str, u64, u64, usize),
+    wanted: impl Fn(&Question) -> bool,
+) {
     m.out.seeds += &format!("{kind}: seeds {seed} to {}\n", seed + count - 1);
     for case in (seed..seed + count).filter_map(|s| generate::case(kind, s)) {
         let keep = if case.table.len() > LARGE {
@@ -300,10 +475,14 @@ fn generated(m: &mut Maker, kind: &str, seed: u64, count: u64, keep: usize) {
             keep
         };
         let asked: Vec<&Question> = (case.questions.iter())
-            .filter(|q| request(q).is_some())
+            .filter(|q| request(q).is_some() && wanted(q))
             .collect();
-        // Evenly over the questions, the check first.
-        let every = asked.len().div_ceil(keep).max(1);
+        let traced = asked.iter().any(|q| traces(q));
+        if traced && case.table.len() > TRACED && keep < usize::MAX {
+            continue;
+        }
+        // Evenly over the questions, the check first; traces of both sorts.
+        let every = asked.len().div_ceil(keep).max(1) | traced as usize;
         for q in asked.iter().step_by(every) {
             m.ask(&case.table, q);
         }
@@ -328,8 +507,15 @@ pub fn sample(side: &mut dyn Side) -> Sample {
     damage(&mut m);
     refused_first(&mut m);
     no_productions(&mut m);
-    for (kind, seed, count, keep) in KINDS {
-        generated(&mut m, kind, seed, count, keep);
+    for kind in KINDS {
+        generated(&mut m, kind, |q| !traces(q));
+    }
+    traces_on_b(&mut m);
+    lent(&mut m);
+    edges_added(&mut m);
+    limits(&mut m);
+    for kind in TRACES {
+        generated(&mut m, kind, traces);
     }
     m.out
 }
@@ -337,6 +523,6 @@ pub fn sample(side: &mut dyn Side) -> Sample {
 /// All questions of some seeds of a kind, for a run that is not stored.
 pub fn cases(side: &mut dyn Side, kind: &str, seed: u64, count: u64) -> Sample {
     let mut m = maker(side);
-    generated(&mut m, kind, seed, count, usize::MAX);
+    generated(&mut m, (kind, seed, count, usize::MAX), |_| true);
     m.out
 }

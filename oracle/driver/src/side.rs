@@ -9,7 +9,7 @@ use crate::table::{Refusal, Sym};
 /// | check | nothing |
 /// | first0, first1 | the tokens, ascending |
 /// | trace_back | the states, ascending |
-/// | backtrace_shift, backtrace_reduce | number of edges, eight words an edge |
+/// | backtrace_shift, backtrace_reduce, add_edge | number of edges, eight words an edge |
 /// | examples | 1 if refused by 13 else 0, count, number of examples; of each: trial, number of words, words |
 /// | classify | class, trials of action and reduce side, number of own words, own words, then for both examples: number of words (0 for none), words |
 /// | choose | number chosen; of each: token, class, number of own words, own words |
@@ -60,6 +60,9 @@ pub trait Side {
         None
     }
     /// `graph` as document 01's words: a count, then eight an edge.
+    fn add_edge(&mut self, _table: &[u16], _graph: &[u16], _edge: [u16; 8]) -> Option<Answer> {
+        None
+    }
     fn examples(
         &mut self,
         _table: &[u16],
@@ -118,12 +121,7 @@ pub fn graph_edges(table: &crate::table::Table, graph: &[u16]) -> Result<Vec<[u1
     let mut seen = std::collections::BTreeSet::new();
     for w in graph[1..].chunks_exact(8).take(count) {
         let e: [u16; 8] = w.try_into().unwrap();
-        let node = |w: &[u16]| match w[0] {
-            0 => (w[1] as usize) < table.nonterminals.len() && w[2] == 0,
-            1 => table.item_in_range((w[1], w[2])),
-            _ => false,
-        };
-        if !node(&e[..3]) || !node(&e[3..6]) || !table.item_in_range((e[6], e[7])) {
+        if !edge_in_range(table, &e) {
             return bad;
         }
         let label = (&table.productions[e[6] as usize].symbols, e[7]);
@@ -133,6 +131,15 @@ pub fn graph_edges(table: &crate::table::Table, graph: &[u16]) -> Result<Vec<[u1
         edges.push(e);
     }
     Ok(edges)
+}
+
+pub fn edge_in_range(table: &crate::table::Table, e: &[u16; 8]) -> bool {
+    let node = |w: &[u16]| match w[0] {
+        0 => (w[1] as usize) < table.nonterminals.len() && w[2] == 0,
+        1 => table.item_in_range((w[1], w[2])),
+        _ => false,
+    };
+    node(&e[..3]) && node(&e[3..6]) && table.item_in_range((e[6], e[7]))
 }
 
 pub enum Step {

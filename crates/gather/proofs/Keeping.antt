@@ -1,0 +1,171 @@
+-- A side's words with one example more (specs/Packing): the examples that they hold, and what holds of them (`Kept` of error/specs). Assumes nothing.
+use mathlib.Core.Path.{_≡_, refl, sym, ap, _∙_}
+use mathlib.Core.Bool.{true}
+use mathlib.Core.List.{List, [], _∷_, _++_, map, map-append, append-assoc}
+use Prim.Native.Nat.{ℕ, zero, suc, _+_, _*_, _/_, _%_, _≤_, _<_}
+use native.Mathlib.Omega.{arith}
+use lib.ListN.{length, getD, take, drop}
+use lib.Seq.{sets, length-sets, sets-eq, length-take-le, getD-take, getD-drop, take-at, drop-at, getD-at, drop-drop, take-nil, take-take, ext-getD}
+use lib.Dec.{ltb}
+use borrow.Author.Tests.{lt-ltb, le-leb, ltb-true, ltb-false}
+use Rattle.repr.specs.Lists.{below}
+use Rattle.repr.specs.Meaning.{Production, noProduction, All}
+use Rattle.repr.proofs.Lists.{cases, below-last, length-map-below, getD-map-below, length-mapped, getD-map}
+use Rattle.repr.proofs.Tests.{All-at}
+use Rattle.trace_graph.specs.Fits.{itemFits}
+use Rattle.example.specs.Example.{Label}
+use Rattle.example.specs.Labels.{LabelFits}
+use Rattle.example.specs.Written.{noLabel}
+use Rattle.example.proofs.Sizes.{Short}
+use Rattle.error.specs.Kept.{keptLabel, keptAt, kept, Kept}
+use Rattle.gather.specs.Packing.{packedLabel, packed, keptWith, Owned, Fitting}
+
+-- a part of a beginning
+
+back : (a m : ℕ) (xs : List ℕ) → take m (drop a xs) ≡ drop a (take (a + m) xs)
+back zero m xs = let z : m ≡ 0 + m = omega arith in ap (λ (k : ℕ). take k xs) z
+back (suc a) m [] = take-nil m ∙ sym (ap (drop (suc a)) (take-nil (suc a + m)))
+back (suc a) m (x ∷ xs) =
+    let z : suc a + m ≡ suc (a + m) = omega arith in
+    back a m xs ∙ sym (ap (λ (k : ℕ). drop (suc a) (take k (x ∷ xs))) z)
+
+mid : (n a m : ℕ) (xs ys : List ℕ) → take n xs ≡ take n ys → a + m ≤ n → take m (drop a xs) ≡ take m (drop a ys)
+mid n a m xs ys e h =
+    back a m xs ∙ ap (drop a) (sym (take-take (a + m) n xs h) ∙ ap (take (a + m)) e ∙ take-take (a + m) n ys h) ∙ sym (back a m ys)
+
+at-front : (n j : ℕ) (xs ys : List ℕ) → take n xs ≡ take n ys → j < n → getD xs j 0 ≡ getD ys j 0
+at-front n j xs ys e h = sym (getD-take n xs j 0 h) ∙ ap (λ (l : List ℕ). getD l j 0) e ∙ getD-take n ys j 0 h
+
+-- a label read back
+
+small-index : (ps : List Production) → Short ps → (l : Label) → LabelFits ps l → l .index ≤ 16
+small-index ps S l F = let a = F .index in let b = S (l .production) in omega arith
+
+pub packed-production : (l : Label) → l .index ≤ 16 → packedLabel l / 17 ≡ l .production
+unfolding packedLabel
+packed-production l h = omega arith
+
+pub packed-index : (l : Label) → l .index ≤ 16 → packedLabel l % 17 ≡ l .index
+unfolding packedLabel
+packed-index l h = omega arith
+
+label-read : (ps : List Production) (l : Label) → l .index ≤ 16 → Owned ps l → keptLabel ps (packedLabel l) ≡ l
+unfolding keptLabel Owned
+label-read ps l h o =
+    let a = packed-production l h in
+    let b = packed-index l h in
+    let c : getD ps (packedLabel l / 17) noProduction .nonterminal ≡ l .nonterminal = ap (λ (p : ℕ). getD ps p noProduction .nonterminal) a ∙ sym o in
+    λ j. record { nonterminal = c j; production = a j; index = b j }
+
+cons-same : {x y : Label} {xs ys : List Label} → x ≡ y → xs ≡ ys → _≡_ {A = List Label} (x ∷ xs) (y ∷ ys)
+cons-same e f = λ j. e j ∷ f j
+
+labels-read : (ps : List Production) → Short ps → (ls : List Label) → All (LabelFits ps) ls → All (Owned ps) ls → map (keptLabel ps) (map packedLabel ls) ≡ ls
+unfolding All
+labels-read ps S [] F O = refl
+labels-read ps S (l ∷ ls) F O = cons-same (label-read ps l (small-index ps S l (F .0)) (O .0)) (labels-read ps S ls (F .1) (O .1))
+
+-- the words with an example more
+
+module _ (ps : List Production) (ws ws′ : List ℕ) (k : ℕ) (ls : List Label) (K : Kept ps ws k) (room : k < 192) (F : Fitting ps ls) (e : ws′ ≡ keptWith ws k ls) where
+  packed-long : length (packed ls) ≡ suc (length ls)
+  unfolding packed
+  packed-long = ap suc (length-mapped packedLabel ls)
+
+  abbrev rest : List ℕ
+  rest = drop (k * 34 + length (packed ls)) ws
+
+  parts : ws′ ≡ take (k * 34) ws ++ (packed ls ++ rest)
+  unfolding keptWith
+  parts =
+      let a = packed-long in
+      let b = K .long in
+      let c = F .few in
+      e ∙ sets-eq (packed ls) ws (k * 34) (omega arith) ∙ append-assoc (take (k * 34) ws) (packed ls) rest
+
+  front-long : length (take (k * 34) ws) ≡ k * 34
+  front-long = let b = K .long in length-take-le (k * 34) ws (omega arith)
+
+  front : take (k * 34) ws′ ≡ take (k * 34) ws
+  front = ap (take (k * 34)) parts ∙ take-at (take (k * 34) ws) (packed ls ++ rest) (k * 34) front-long
+
+  behind : drop (k * 34) ws′ ≡ packed ls ++ rest
+  behind = ap (drop (k * 34)) parts ∙ drop-at (take (k * 34) ws) (packed ls ++ rest) (k * 34) front-long
+
+  count-word : getD ws′ (k * 34) 0 ≡ length ls
+  unfolding packed
+  count-word = ap (λ (l : List ℕ). getD l (k * 34) 0) parts ∙ getD-at (take (k * 34) ws) (length ls) (map packedLabel ls ++ rest) 0 (k * 34) front-long
+
+  label-words : take (length ls) (drop (k * 34 + 1) ws′) ≡ map packedLabel ls
+  unfolding packed
+  label-words =
+      ap (take (length ls)) (sym (drop-drop 1 (k * 34) ws′) ∙ ap (drop 1) behind)
+      ∙ take-at (map packedLabel ls) rest (length ls) (length-mapped packedLabel ls)
+
+  earlier-count : (i : ℕ) → i < k → getD ws′ (i * 34) 0 ≡ getD ws (i * 34) 0
+  earlier-count i h = at-front (k * 34) (i * 34) ws′ ws front (omega arith)
+
+  earlier : (i : ℕ) → i < k → keptAt ps ws′ i ≡ keptAt ps ws i
+  unfolding keptAt
+  earlier i h =
+      let m = K .few-labels i h in
+      ap (λ (x : ℕ). map (keptLabel ps) (take x (drop (i * 34 + 1) ws′))) (earlier-count i h)
+      ∙ ap (map (keptLabel ps)) (mid (k * 34) (i * 34 + 1) (getD ws (i * 34) 0) ws′ ws front (omega arith))
+
+  latest : Short ps → All (Owned ps) ls → keptAt ps ws′ k ≡ ls
+  unfolding keptAt
+  latest S O =
+      ap (λ (x : ℕ). map (keptLabel ps) (take x (drop (k * 34 + 1) ws′))) count-word
+      ∙ ap (map (keptLabel ps)) label-words
+      ∙ labels-read ps S ls (F .each) O
+
+  pub kept-more : Short ps → All (Owned ps) ls → kept ps ws′ (suc k) ≡ kept ps ws k ++ ls ∷ []
+  unfolding kept
+  kept-more S O =
+      ap (map (keptAt ps ws′)) (below-last k) ∙ map-append (keptAt ps ws′) (below k) (k ∷ [])
+      ∙ (λ j. same j ++ latest S O j ∷ [])
+    where
+      same : map (keptAt ps ws′) (below k) ≡ map (keptAt ps ws) (below k)
+      same =
+          ext-getD [] (map (keptAt ps ws′) (below k)) (map (keptAt ps ws) (below k))
+          (length-map-below (keptAt ps ws′) k ∙ sym (length-map-below (keptAt ps ws) k))
+          (λ i h.
+          let l : i < k = rw (length-map-below (keptAt ps ws′) k) at h in
+          getD-map-below (keptAt ps ws′) k i [] l ∙ earlier i l ∙ sym (getD-map-below (keptAt ps ws) k i [] l))
+
+  word-latest : (j : ℕ) → j < length ls → getD ws′ (k * 34 + 1 + j) 0 ≡ packedLabel (getD ls j noLabel)
+  word-latest j h =
+      sym (getD-drop (k * 34 + 1) ws′ j 0) ∙ sym (getD-take (length ls) (drop (k * 34 + 1) ws′) j 0 h)
+      ∙ ap (λ (l : List ℕ). getD l j 0) label-words ∙ getD-map packedLabel ls j noLabel 0 h
+
+  latest-fits : Short ps → (j : ℕ) → j < length ls → itemFits ps (getD ws′ (k * 34 + 1 + j) 0 / 17) (getD ws′ (k * 34 + 1 + j) 0 % 17) ≡ true
+  unfolding itemFits
+  latest-fits S j h =
+      let l = getD ls j noLabel in
+      let A = All-at (LabelFits ps) ls j noLabel (F .each) h in
+      let s = small-index ps S l A in
+      rw (word-latest j h, packed-production l s, packed-index l s, lt-ltb (l .production) (length ps) (A .production), le-leb (l .index) (length (getD ps (l .production) noProduction .symbols)) (A .index))
+
+  pub kept-again : Short ps → Kept ps ws′ (suc k)
+  unfolding keptWith
+  kept-again S = record {
+    long = rw (e, length-sets ws (k * 34) (packed ls)) (K .long);
+    few = room;
+    some-label = λ i h. cases (ltb i k)
+        (λ q. let l = ltb-true i k q in rw (earlier-count i l) (K .some-label i l))
+        (λ q. let l = ltb-false i k q in let z : i ≡ k = omega arith in rw (z, count-word) (F .some-label));
+    few-labels = λ i h. cases (ltb i k)
+        (λ q. let l = ltb-true i k q in rw (earlier-count i l) (K .few-labels i l))
+        (λ q. let l = ltb-false i k q in let z : i ≡ k = omega arith in rw (z, count-word) (F .few));
+    fits = λ i j h g. cases (ltb i k)
+        (λ q.
+        let l = ltb-true i k q in
+        let g′ : j < getD ws (i * 34) 0 = rw (earlier-count i l) at g in
+        let m = K .few-labels i l in
+        rw (at-front (k * 34) (i * 34 + 1 + j) ws′ ws front (omega arith)) (K .fits i j l g′))
+        (λ q.
+        let l = ltb-false i k q in
+        let z : i ≡ k = omega arith in
+        let g′ : j < length ls = rw (z, count-word) at g in
+        rw z (latest-fits S j g′));
+  }
