@@ -1,0 +1,4 @@
+-- The laws that the proofs share. Assumes nothing.
+pub mod Laws
+pub mod Numerals
+pub mod Texts

@@ -1,0 +1,93 @@
+-- `put_whole` meets its contract. Assumes nothing.
+use Rattle.lines.proofs.Laws.{put-as}
+use Prim.Native.Nat.{_+_, _*_}
+use mathlib.Core.Path.{_∙_}
+use Rattle.lines.proofs.Texts.{whole-put, rest-long}
+use borrow.Author.Needs.{needs}
+use native.Mathlib.Omega.{arith}
+use Rattle.lines.proofs.put_whole.Statement.{statement}
+use Rattle.lines.proofs.put_whole.Tie as tie
+use Rattle.lines.proofs.put_whole.Reads as reads
+use Rattle.lines.proofs.put_whole.Lts as lts
+use Rattle.lines.proofs.put.Reads as put-reads
+use Rattle.lines.proofs.put_after.Reads as put-after-reads
+use Rattle.lines.proofs.put_reductions.Reads as put-reductions-reads
+use Rattle.lines.proofs.put_symbols.Reads as put-symbols-reads
+use Rattle.repr.proofs.word.Reads as word-reads
+
+word-requires : tie.Need-word-requires
+word-requires c κs = omega (arith, c .before .before .pre .0 .long)
+
+put-requires : tie.Need-put-requires
+put-requires c κs = omega (arith, c .before .before .before .before .pre .1)
+
+put-after-requires : tie.Need-put-after-requires
+put-after-requires c κs = let p = c .before .before .before .put .ensures .place in let l = c .before .before .before .put .ensures .long in omega (arith, c .before .before .before .before .before .before .before .before .pre .1, p, l)
+
+put-after-requires-2 : tie.Need-put-after-requires-2
+put-after-requires-2 c κs = let p = c .before .before .before .before .before .before .before .put .ensures .place in let l = c .before .before .before .before .before .before .before .put .ensures .long in let k = c .before .before .before .put-after .ensures .0 .long in omega (arith, c .before .before .before .before .before .before .before .before .before .before .before .before .pre .1, p, l, k, c .before .before .before .put-after .ensures .1)
+
+sub-put-symbols : tie.Need-sub-put-symbols
+sub-put-symbols c = omega (arith, c .before .before .before .before .before .before .before .before .before .before .before .before .before .before .before .before .pre .0 .long)
+
+part-put-symbols-start : tie.Need-part-put-symbols-start
+part-put-symbols-start c = search needs
+
+part-put-symbols-end : tie.Need-part-put-symbols-end
+part-put-symbols-end c = omega (arith, c .before .before .before .before .before .before .before .before .before .before .before .before .before .before .before .before .pre .0 .long)
+
+put-symbols-requires : tie.Need-put-symbols-requires
+put-symbols-requires c κs = let p = c .before .before .before .before .before .before .before .before .before .before .before .before .put .ensures .place in let l = c .before .before .before .before .before .before .before .before .before .before .before .before .put .ensures .long in let k = c .before .before .before .before .before .before .before .before .put-after .ensures .0 .long in let j = c .before .before .before .before .put-after2 .ensures .0 .long in ((rest-long (2 * c .before .before .before .before .before .before .before .before .before .before .before .before .before .before .before .before .before .args .symbols) 3 (c .before .before .before .before .before .before .before .before .before .before .before .before .before .before .before .before .before .args .example .now) (omega (arith, c .before .before .before .before .before .before .before .before .before .before .before .before .before .before .before .before .before .pre .0 .long)), c .before .before .before .before .before .before .before .before .before .before .before .before .before .before .before .before .before .pre .0 .few-symbols), omega (arith, c .before .before .before .before .before .before .before .before .before .before .before .before .before .before .before .before .before .pre .1, c .before .before .before .before .before .before .before .before .before .before .before .before .before .before .before .before .before .pre .0 .few-symbols, p, l, k, j, c .before .before .before .before .before .before .before .before .put-after .ensures .1, c .before .before .before .before .put-after2 .ensures .1))
+
+mul-from : tie.Need-mul-from
+mul-from c = omega (arith, c .before .before .before .before .before .before .before .before .before .before .before .before .before .before .before .before .before .before .before .before .pre .0 .few-symbols)
+
+add-from : tie.Need-add-from
+add-from c = omega (arith, c .before .before .before .before .before .before .before .before .before .before .before .before .before .before .before .before .before .before .before .before .pre .0 .few-symbols)
+
+mul-put-reductions : tie.Need-mul-put-reductions
+mul-put-reductions c = omega (arith, c .before .before .before .before .before .before .before .before .before .before .before .before .before .before .before .before .before .before .before .before .before .pre .0 .few-symbols)
+
+sub-put-reductions : tie.Need-sub-put-reductions
+sub-put-reductions c = omega (arith, c .before .before .before .before .before .before .before .before .before .before .before .before .before .before .before .before .before .before .before .before .before .pre .0 .long)
+
+part-put-reductions-start : tie.Need-part-put-reductions-start
+part-put-reductions-start c = omega (arith, c .before .before .before .before .before .before .before .before .before .before .before .before .before .before .before .before .before .before .before .before .before .pre .0 .long)
+
+part-put-reductions-end : tie.Need-part-put-reductions-end
+part-put-reductions-end c = omega (arith, c .before .before .before .before .before .before .before .before .before .before .before .before .before .before .before .before .before .before .before .before .before .pre .0 .long)
+
+put-reductions-requires : tie.Need-put-reductions-requires
+put-reductions-requires c κs = let p = c .before .before .before .before .before .before .before .before .before .before .before .before .before .before .before .before .before .put .ensures .place in let l = c .before .before .before .before .before .before .before .before .before .before .before .before .before .before .before .before .before .put .ensures .long in let k = c .before .before .before .before .before .before .before .before .before .before .before .before .before .put-after .ensures .0 .long in let j = c .before .before .before .before .before .before .before .before .before .put-after2 .ensures .0 .long in let i = c .before .before .before .before .put-symbols .ensures .0 .long in ((rest-long (3 * c .before .before .before .before .before .before .before .before .before .before .before .before .before .before .before .before .before .before .before .before .before .before .args .reductions) (3 + c .before .before .before .before .before .before .before .before .before .before .before .before .before .before .before .before .before .before .before .before .before .before .args .symbols * 2) (c .before .before .before .before .before .before .before .before .before .before .before .before .before .before .before .before .before .before .before .before .before .before .args .example .now) (omega (arith, c .before .before .before .before .before .before .before .before .before .before .before .before .before .before .before .before .before .before .before .before .before .before .pre .0 .long)), c .before .before .before .before .before .before .before .before .before .before .before .before .before .before .before .before .before .before .before .before .before .before .pre .0 .few-reductions), omega (arith, c .before .before .before .before .before .before .before .before .before .before .before .before .before .before .before .before .before .before .before .before .before .before .pre .1, c .before .before .before .before .before .before .before .before .before .before .before .before .before .before .before .before .before .before .before .before .before .before .pre .0 .few-symbols, c .before .before .before .before .before .before .before .before .before .before .before .before .before .before .before .before .before .before .before .before .before .before .pre .0 .few-reductions, p, l, k, j, i, c .before .before .before .before .before .before .before .before .before .before .before .before .before .put-after .ensures .1, c .before .before .before .before .before .before .before .before .before .put-after2 .ensures .1, c .before .before .before .before .put-symbols .ensures .1))
+
+put-requires-2 : tie.Need-put-requires-2
+put-requires-2 c κs = let p = c .before .before .before .before .before .before .before .before .before .before .before .before .before .before .before .before .before .before .before .before .before .put .ensures .place in let l = c .before .before .before .before .before .before .before .before .before .before .before .before .before .before .before .before .before .before .before .before .before .put .ensures .long in let k = c .before .before .before .before .before .before .before .before .before .before .before .before .before .before .before .before .before .put-after .ensures .0 .long in let j = c .before .before .before .before .before .before .before .before .before .before .before .before .before .put-after2 .ensures .0 .long in let i = c .before .before .before .before .before .before .before .before .put-symbols .ensures .0 .long in let h = c .before .before .before .put-reductions .ensures .0 .long in omega (arith, c .before .before .before .before .before .before .before .before .before .before .before .before .before .before .before .before .before .before .before .before .before .before .before .before .before .before .pre .1, c .before .before .before .before .before .before .before .before .before .before .before .before .before .before .before .before .before .before .before .before .before .before .before .before .before .before .pre .0 .few-symbols, c .before .before .before .before .before .before .before .before .before .before .before .before .before .before .before .before .before .before .before .before .before .before .before .before .before .before .pre .0 .few-reductions, p, l, k, j, i, h, c .before .before .before .before .before .before .before .before .before .before .before .before .before .before .before .before .before .put-after .ensures .1, c .before .before .before .before .before .before .before .before .before .before .before .before .before .put-after2 .ensures .1, c .before .before .before .before .before .before .before .before .put-symbols .ensures .1, c .before .before .before .put-reductions .ensures .1)
+
+same-length : tie.Need-same-length
+same-length c = c .before .before .put2 .ensures .long ∙ c .before .before .before .before .before .before .put-reductions .ensures .0 .long ∙ c .before .before .before .before .before .before .before .before .before .before .before .put-symbols .ensures .0 .long ∙ c .before .before .before .before .before .before .before .before .before .before .before .before .before .before .before .before .put-after2 .ensures .0 .long ∙ c .before .before .before .before .before .before .before .before .before .before .before .before .before .before .before .before .before .before .before .before .put-after .ensures .0 .long ∙ c .before .before .before .before .before .before .before .before .before .before .before .before .before .before .before .before .before .before .before .before .before .before .before .before .put .ensures .long
+
+returns : tie.Need-returns
+returns c = let p = c .before .before .before .before .before .before .before .before .before .before .before .before .before .before .before .before .before .before .before .before .before .before .before .before .put .ensures .place in let q = c .before .before .put2 .ensures .place in (whole-put (c .before .before .before .before .before .before .before .before .before .before .before .before .before .before .before .before .before .before .before .before .before .before .before .before .before .before .before .before .before .pre .0) (c .before .before .before .before .before .before .before .before .before .before .before .before .before .before .before .before .before .before .before .before .before .before .before .before .before .before .word .ensures .0) (c .before .before .before .before .before .before .before .before .before .before .before .before .before .before .before .before .before .before .before .before .before .before .before .before .put .ensures) (put-as (c .before .before .before .before .before .before .before .before .before .before .before .before .before .before .before .before .before .before .before .before .put-after .ensures .0) (cc)) (put-as (c .before .before .before .before .before .before .before .before .before .before .before .before .before .before .before .before .put-after2 .ensures .0) (cc)) (c .before .before .before .before .before .before .before .before .before .before .before .put-symbols .ensures .0) (c .before .before .before .before .before .before .put-reductions .ensures .0) (c .before .before .put2 .ensures), omega (arith, c .before .before .before .before .before .before .before .before .before .before .before .before .before .before .before .before .before .before .before .before .before .before .before .before .before .before .before .before .before .pre .0 .few-symbols, c .before .before .before .before .before .before .before .before .before .before .before .before .before .before .before .before .before .before .before .before .before .before .before .before .before .before .before .before .before .pre .0 .few-reductions, p, q, c .before .before .before .before .before .before .before .before .before .before .before .before .before .before .before .before .before .before .before .before .put-after .ensures .1, c .before .before .before .before .before .before .before .before .before .before .before .before .before .before .before .before .put-after2 .ensures .1, c .before .before .before .before .before .before .before .before .before .before .before .put-symbols .ensures .1, c .before .before .before .before .before .before .put-reductions .ensures .1))
+
+pub put-whole-spec : {M : Type 1} → statement M
+put-whole-spec =
+    tie.close
+    (tie.spec
+    word-requires
+    put-requires
+    put-after-requires
+    put-after-requires-2
+    sub-put-symbols
+    part-put-symbols-start
+    part-put-symbols-end
+    put-symbols-requires
+    mul-from
+    add-from
+    mul-put-reductions
+    sub-put-reductions
+    part-put-reductions-start
+    part-put-reductions-end
+    put-reductions-requires
+    put-requires-2
+    same-length
+    returns)

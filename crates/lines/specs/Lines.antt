@@ -1,0 +1,101 @@
+-- The lines that the explaining program prints (document 01, Table B and its program run), as bytes. Assumes nothing: these are definitions.
+use Prim.Native.Nat.{ℕ, zero, suc, _+_, _*_, _/_, _%_, _≤_}
+use mathlib.Core.Path.{_≡_}
+use mathlib.Core.Bool.{Bool, true, false, _&&_}
+use mathlib.Core.List.{List, [], _∷_, _++_}
+use lib.ListN.{length, getD, take, drop}
+use lib.Dec.{eqb, leb, ltb}
+use Rattle.repr.specs.Lists.{joined}
+use Rattle.error.specs.Numbers.{Reading, classed, refused}
+
+-- decimal, without leading zeros; f bounds the digits, and 20 are enough for 64 bits (`numeral-digits` of proofs/Numerals)
+unfoldable pub numeralBy : ℕ → ℕ → List ℕ
+numeralBy zero n = []
+numeralBy (suc f) n = elim (ltb n 10) [ true ↦ (48 + n) ∷ [] | false ↦ numeralBy f (n / 10) ++ ((48 + n % 10) ∷ []) ]
+
+unfoldable pub numeral : ℕ → List ℕ
+numeral n = numeralBy 20 n
+
+-- a number after a space
+unfoldable pub spaced : ℕ → List ℕ
+spaced n = 32 ∷ numeral n
+
+-- kind/number after a space
+unfoldable pub symbolText : ℕ → ℕ → List ℕ
+symbolText k n = spaced k ++ (47 ∷ numeral n)
+
+-- start-end/nonterminal after a space
+unfoldable pub reductionText : ℕ → ℕ → ℕ → List ℕ
+reductionText a b n = spaced a ++ ((45 ∷ numeral b) ++ (47 ∷ numeral n))
+
+unfoldable pub symbolTexts : List ℕ → List ℕ
+symbolTexts [] = []
+symbolTexts (k ∷ []) = []
+symbolTexts (k ∷ n ∷ ws) = symbolText k n ++ symbolTexts ws
+
+unfoldable pub reductionTexts : List ℕ → List ℕ
+reductionTexts [] = []
+reductionTexts (a ∷ []) = []
+reductionTexts (a ∷ b ∷ []) = []
+reductionTexts (a ∷ b ∷ n ∷ ws) = reductionText a b n ++ reductionTexts ws
+
+-- an example's words are whole: its counts within the limits, and its symbols and reductions there
+unfoldable pub isWhole : List ℕ → Bool
+isWhole b = leb 3 (length b) && (leb (getD b 0 0) 528 && (leb (getD b 2 0) 33 && leb (3 + 2 * getD b 0 0 + 3 * getD b 2 0) (length b)))
+
+-- `a` or `r`, then length (places in the symbol list), cursor, symbols, reductions; nothing for words that are no example
+unfoldable pub wholeLine : ℕ → List ℕ → List ℕ
+wholeLine letter b =
+    letter
+    ∷ (spaced (getD b 0 0)
+    ++ (spaced (getD b 1 0)
+    ++ (symbolTexts (take (2 * getD b 0 0) (drop 3 b))
+    ++ (reductionTexts (take (3 * getD b 2 0) (drop (3 + 2 * getD b 0 0) b)) ++ (10 ∷ [])))))
+
+unfoldable pub exampleLine : ℕ → List ℕ → List ℕ
+exampleLine letter b = elim (isWhole b) [ false ↦ [] | true ↦ wholeLine letter b ]
+
+-- the class's own: nonterminal (2, 3), nonterminal and kind/number (4), four span words (5)
+unfoldable pub ownText : List ℕ → List ℕ
+ownText [] = []
+ownText (n ∷ []) = spaced n
+ownText (a ∷ b ∷ []) = spaced a ++ spaced b
+ownText (n ∷ k ∷ x ∷ []) = spaced n ++ symbolText k x
+ownText (a ∷ b ∷ c ∷ d ∷ vs) = spaced a ++ (spaced b ++ (spaced c ++ (spaced d ++ joined spaced vs)))
+
+-- conflict, class, trials of the action side and of the reduce side, the class's own
+unfoldable pub classLine : ℕ → ℕ → List ℕ → ℕ → ℕ → List ℕ
+classLine k c vs m n = numeral k ++ (spaced c ++ (spaced m ++ (spaced n ++ (ownText vs ++ (10 ∷ [])))))
+
+-- ` refused`
+abbrev pub refusedText : List ℕ
+refusedText = 32 ∷ 114 ∷ 101 ∷ 102 ∷ 117 ∷ 115 ∷ 101 ∷ 100 ∷ []
+
+unfoldable pub refusedLine : ℕ → ℕ → ℕ → List ℕ
+refusedLine k n p = numeral k ++ (refusedText ++ (spaced n ++ (spaced p ++ (10 ∷ []))))
+
+-- the examples shown with a class: naive none, class 5 the action's
+unfoldable pub exampleLines : ℕ → List ℕ → List ℕ → List ℕ
+exampleLines c action reduce = elim (eqb c 0) [
+  | true ↦ []
+  | false ↦ elim (eqb c 5) [ true ↦ exampleLine 97 action | false ↦ exampleLine 97 action ++ exampleLine 114 reduce ]
+]
+
+-- the lines of conflict k
+unfoldable pub linesOf : ℕ → Reading → List ℕ → List ℕ → List ℕ
+linesOf k (refused n p) action reduce = refusedLine k n p
+linesOf k (classed c vs m n) action reduce = classLine k c vs m n ++ exampleLines c action reduce
+
+-- text put into a list of bytes at a place, and the place after it; bytes past that are free
+pub record Put (old : List ℕ) (at : ℕ) (text new : List ℕ) (after : ℕ) : Type 0 where
+  pub front : take after new ≡ take at old ++ text
+  pub place : after ≡ at + length text
+  pub long : length new ≡ length old
+
+-- the counts of an example's words, which are whole
+pub record Counted (b : List ℕ) (symbols reductions : ℕ) : Type 0 where
+  pub symbols-are : symbols ≡ getD b 0 0
+  pub reductions-are : reductions ≡ getD b 2 0
+  pub few-symbols : symbols ≤ 528
+  pub few-reductions : reductions ≤ 33
+  pub long : 3 + 2 * symbols + 3 * reductions ≤ length b

@@ -1,0 +1,256 @@
+// The lines that the explaining program prints (document 01, its program run), from a conflict's outcome to bytes.
+use error::Class;
+use error::Classified;
+use repr::word;
+ghost use mathlib.Core.Path.{_≡_};
+ghost use mathlib.Core.List.{_++_, _∷_, []};
+ghost use Prim.Native.Nat.{_+_, _*_, _≤_, _<_};
+ghost use lib.ListN.{length, take, drop};
+ghost use Rattle.error.specs.Numbers.{classNumber, classValues, readingOf};
+ghost use Rattle.lines.specs.Lines.{Put, Counted, wholeLine, numeral, symbolText, reductionText, symbolTexts, reductionTexts, exampleLine, ownText, refusedText, refusedLine, classLine, exampleLines, linesOf};
+
+// A byte; the place after it.
+fn put(out: &mut [u8], at: usize, byte: u8) -> usize
+    requires { ⌜ at < length (now out) ⌝ }
+    ensures { λ r. ⌜ Put (now (out .entry)) at (byte ∷ []) (now (out .exit)) r ⌝ }
+{
+    out[at] = byte;
+    at + 1
+}
+
+// A text.
+fn put_text(out: &mut [u8], at: usize, text: &[u8]) -> usize
+    requires { ⌜ at + length (now text) ≤ length (now out) ⌝ }
+    ensures { λ r. ⌜ Put (now (out .entry)) at (now (text .entry)) (now (out .exit)) r ⌝ }
+{
+    let n = text.len();
+    let mut i: usize = 0;
+    while i < n {
+        out[at + i] = text[i];
+        i += 1;
+    }
+    at + n
+}
+
+// A number.
+fn put_number(out: &mut [u8], at: usize, n: u64) -> usize
+    requires { ⌜ at + 20 ≤ length (now out) ⌝ }
+    ensures { λ r. ⌜ Put (now (out .entry)) at (numeral n) (now (out .exit)) r × (r ≤ at + 20) ⌝ }
+{
+    let mut text = [0u8; 20];
+    let k = io::decimal(n, &mut text);
+    put_text(out, at, &text[..k])
+}
+
+// A byte, then a number: at most 21 bytes.
+fn put_after(out: &mut [u8], at: usize, byte: u8, n: u64) -> usize
+    requires { ⌜ at + 21 ≤ length (now out) ⌝ }
+    ensures { λ r. ⌜ Put (now (out .entry)) at (byte ∷ numeral n) (now (out .exit)) r × (r ≤ at + 21) ⌝ }
+{
+    let next = put(out, at, byte);
+    put_number(out, next, n)
+}
+
+// A symbol: kind/number.
+fn put_symbol(out: &mut [u8], at: usize, kind: usize, number: usize) -> usize
+    requires { ⌜ at + 42 ≤ length (now out) ⌝ }
+    ensures { λ r. ⌜ Put (now (out .entry)) at (symbolText kind number) (now (out .exit)) r × (r ≤ at + 42) ⌝ }
+{
+    let next = put_after(out, at, b' ', kind as u64);
+    put_after(out, next, b'/', number as u64)
+}
+
+// A reduction: start-end/nonterminal.
+fn put_reduction(out: &mut [u8], at: usize, start: usize, end: usize, nonterminal: usize) -> usize
+    requires { ⌜ at + 63 ≤ length (now out) ⌝ }
+    ensures { λ r. ⌜ Put (now (out .entry)) at (reductionText start end nonterminal) (now (out .exit)) r × (r ≤ at + 63) ⌝ }
+{
+    let middle = put_after(out, at, b' ', start as u64);
+    let next = put_after(out, middle, b'-', end as u64);
+    put_after(out, next, b'/', nonterminal as u64)
+}
+
+// The symbols of an example, from their words on.
+fn put_symbols(out: &mut [u8], at: usize, words: &[u16], n: usize) -> usize
+    requires { ⌜ (2 * n ≤ length (now words)) × (n ≤ 528) ⌝ }
+    requires { ⌜ at + 42 * n ≤ length (now out) ⌝ }
+    ensures { λ r. ⌜ Put (now (out .entry)) at (symbolTexts (take (2 * n) (now (words .entry)))) (now (out .exit)) r × (r ≤ at + 42 * n) ⌝ }
+{
+    let mut place = at;
+    let mut i: usize = 0;
+    while i < n {
+        let kind = word(words, i * 2);
+        let number = word(words, i * 2 + 1);
+        place = put_symbol(out, place, kind, number);
+        i += 1;
+    }
+    place
+}
+
+// The reductions of an example.
+fn put_reductions(out: &mut [u8], at: usize, words: &[u16], n: usize) -> usize
+    requires { ⌜ (3 * n ≤ length (now words)) × (n ≤ 33) ⌝ }
+    requires { ⌜ at + 63 * n ≤ length (now out) ⌝ }
+    ensures { λ r. ⌜ Put (now (out .entry)) at (reductionTexts (take (3 * n) (now (words .entry)))) (now (out .exit)) r × (r ≤ at + 63 * n) ⌝ }
+{
+    let mut place = at;
+    let mut i: usize = 0;
+    while i < n {
+        let start = word(words, i * 3);
+        let end = word(words, i * 3 + 1);
+        let nonterminal = word(words, i * 3 + 2);
+        place = put_reduction(out, place, start, end, nonterminal);
+        i += 1;
+    }
+    place
+}
+
+// The line of a whole example.
+fn put_whole(
+    out: &mut [u8],
+    at: usize,
+    letter: u8,
+    example: &[u16],
+    symbols: usize,
+    reductions: usize,
+) -> usize
+    requires { ⌜ Counted (now example) symbols reductions ⌝ }
+    requires { ⌜ at + 24299 ≤ length (now out) ⌝ }
+    ensures { λ r. ⌜ Put (now (out .entry)) at (wholeLine letter (now (example .entry))) (now (out .exit)) r × (r ≤ at + 24299) ⌝ }
+{
+    let cursor = word(example, 1);
+    let first = put(out, at, letter);
+    let second = put_after(out, first, b' ', symbols as u64);
+    let third = put_after(out, second, b' ', cursor as u64);
+    let fourth = put_symbols(out, third, &example[3..], symbols);
+    let from = 3 + symbols * 2;
+    let fifth = put_reductions(out, fourth, &example[from..], reductions);
+    put(out, fifth, b'\n')
+}
+
+// The line of an example, `a` or `r`; nothing for words that are no example.
+fn put_example(out: &mut [u8], at: usize, letter: u8, example: &[u16]) -> usize
+    requires { ⌜ at + 24299 ≤ length (now out) ⌝ }
+    ensures { λ r. ⌜ Put (now (out .entry)) at (exampleLine letter (now (example .entry))) (now (out .exit)) r × (r ≤ at + 24299) ⌝ }
+{
+    if example.len() < 3 {
+        return at;
+    }
+    let symbols = word(example, 0);
+    let reductions = word(example, 2);
+    if symbols > 528 {
+        return at;
+    }
+    if reductions > 33 {
+        return at;
+    }
+    if example.len() < 3 + symbols * 2 + reductions * 3 {
+        return at;
+    }
+    put_whole(out, at, letter, example, symbols, reductions)
+}
+
+// A class's own values.
+fn put_own(out: &mut [u8], at: usize, class: Class) -> usize
+    requires { ⌜ at + 84 ≤ length (now out) ⌝ }
+    ensures { λ r. ⌜ Put (now (out .entry)) at (ownText (classValues class)) (now (out .exit)) r × (r ≤ at + 84) ⌝ }
+{
+    match class {
+        Class::Naive => at,
+        Class::Ambiguity => at,
+        Class::Precedence(nonterminal) => put_after(out, at, b' ', nonterminal as u64),
+        Class::SuggestInline(nonterminal) => put_after(out, at, b' ', nonterminal as u64),
+        Class::SuggestQuestion(nonterminal, kind, number) => {
+            let next = put_after(out, at, b' ', nonterminal as u64);
+            put_symbol(out, next, kind as usize, number as usize)
+        }
+        Class::AmbiguousReduction(start, end, other_start, other_end) => {
+            let first = put_after(out, at, b' ', start as u64);
+            let second = put_after(out, first, b' ', end as u64);
+            let third = put_after(out, second, b' ', other_start as u64);
+            put_after(out, third, b' ', other_end as u64)
+        }
+        Class::InsufficientLookahead => at,
+    }
+}
+
+// Document 01's number of a class.
+pub fn class_number(class: Class) -> u16
+    ensures { λ r. ⌜ r ≡ classNumber class ⌝ }
+{
+    match class {
+        Class::Naive => 0,
+        Class::Ambiguity => 1,
+        Class::Precedence(_) => 2,
+        Class::SuggestInline(_) => 3,
+        Class::SuggestQuestion(_, _, _) => 4,
+        Class::AmbiguousReduction(_, _, _, _) => 5,
+        Class::InsufficientLookahead => 6,
+    }
+}
+
+// The first line of a class.
+fn put_class(
+    out: &mut [u8],
+    number: u64,
+    class: Class,
+    action_trials: u32,
+    reduce_trials: u32,
+) -> usize
+    requires { ⌜ 200 ≤ length (now out) ⌝ }
+    ensures { λ r. ⌜ Put (now (out .entry)) 0 (classLine number (classNumber class) (classValues class) «action_trials» «reduce_trials») (now (out .exit)) r × (r ≤ 168) ⌝ }
+{
+    let first = put_number(out, 0, number);
+    let second = put_after(out, first, b' ', class_number(class) as u64);
+    let third = put_after(out, second, b' ', action_trials as u64);
+    let fourth = put_after(out, third, b' ', reduce_trials as u64);
+    let last = put_own(out, fourth, class);
+    put(out, last, b'\n')
+}
+
+// The line of a refusal.
+pub fn refused_line(out: &mut [u8], number: u64, refusal: u16, place: u16) -> usize
+    requires { ⌜ 200 ≤ length (now out) ⌝ }
+    ensures { λ r. ⌜ Put (now (out .entry)) 0 (refusedLine number refusal place) (now (out .exit)) r ⌝ }
+{
+    let first = put_number(out, 0, number);
+    let second = put_text(out, first, b" refused");
+    let third = put_after(out, second, b' ', refusal as u64);
+    let fourth = put_after(out, third, b' ', place as u64);
+    put(out, fourth, b'\n')
+}
+
+// The examples shown with a class: naive none, class 5 the action's.
+fn put_examples(out: &mut [u8], at: usize, class: u16, action: &[u16], reduce: &[u16]) -> usize
+    requires { ⌜ at + 48598 ≤ length (now out) ⌝ }
+    ensures { λ r. ⌜ Put (now (out .entry)) at (exampleLines class (now (action .entry)) (now (reduce .entry))) (now (out .exit)) r ⌝ }
+{
+    if class == 0 {
+        return at;
+    }
+    let next = put_example(out, at, b'a', action);
+    if class == 5 {
+        return next;
+    }
+    put_example(out, next, b'r', reduce)
+}
+
+// The lines of a conflict, at the front of the bytes; their number.
+pub fn lines(
+    out: &mut [u8],
+    number: u64,
+    classified: Classified,
+    action: &[u16],
+    reduce: &[u16],
+) -> usize
+    requires { ⌜ 65536 ≤ length (now out) ⌝ }
+    ensures { λ r. ⌜ (take r (now (out .exit)) ≡ linesOf number (readingOf classified) (now (action .entry)) (now (reduce .entry))) × (r ≤ length (now (out .exit))) ⌝ }
+{
+    match classified {
+        Classified::Refused(refusal, place) => refused_line(out, number, refusal, place),
+        Classified::Class(class, action_trials, reduce_trials) => {
+            let next = put_class(out, number, class, action_trials, reduce_trials);
+            put_examples(out, next, class_number(class), action, reduce)
+        }
+    }
+}

@@ -1,0 +1,62 @@
+// Classifying and the observed symbols for callers (parts 8 and 10 of document 01). Every entry is total, refuses by document 01's table of refusals, and is equated with a definition of error/specs.
+use classifier::classify_in;
+use error::Classified;
+use error::Conflict;
+use repr::word;
+use table::Checked;
+ghost use mathlib.Core.Path.{_≡_};
+ghost use Rattle.error.specs.Numbers.{readingOf};
+ghost use Rattle.error.specs.Outcome.{outcome as classification, classifyOf};
+ghost use Rattle.error.specs.Observed.{wholeExample, observedOf};
+
+// The class of a conflict, its examples at the front of the two buffers; else the refusal and its place.
+pub fn classify(
+    table: &[u16],
+    conflict: Conflict,
+    scratch: &mut [u16],
+    action: &mut [u16],
+    reduce: &mut [u16],
+) -> Classified
+    ensures { λ r. ⌜ classification (readingOf r) (now (scratch .exit)) (now (action .exit)) (now (reduce .exit)) ≡ classifyOf (now (table .entry)) conflict (now (scratch .entry)) (now (action .entry)) (now (reduce .entry)) ⌝ }
+{
+    match table_check::check(table) {
+        Checked::Refused(refusal, place) => Classified::Refused(refusal, place),
+        Checked::Accepted => classify_in(table, conflict, scratch, action, reduce),
+    }
+}
+
+// Whether a buffer holds all that its three counts say, with the cursor within the symbols.
+fn whole_example(buffer: &[u16]) -> bool
+    ensures { λ r. ⌜ r ≡ wholeExample (now (buffer .entry)) ⌝ }
+{
+    if buffer.len() < 3 {
+        return false;
+    }
+    let symbols = word(buffer, 0);
+    let cursor = word(buffer, 1);
+    let reductions = word(buffer, 2);
+    if buffer.len() < 3 + 2 * symbols + 3 * reductions {
+        return false;
+    }
+    cursor <= symbols
+}
+
+// The symbols before the cursor (`report_error_not_lr1_core`), of the action's example if its cursor is at least the other's.
+pub fn observed<'a>(action: &'a [u16], reduce: &'a [u16]) -> &'a [u16]
+    ensures { λ r. ⌜ now r ≡ observedOf (now (action .entry)) (now (reduce .entry)) ⌝ }
+{
+    if whole_example(action) {
+        if whole_example(reduce) {
+            let a = word(action, 1);
+            let b = word(reduce, 1);
+            if a >= b {
+                let end = 3 + 2 * a;
+                return &action[3..end];
+            }
+            let end = 3 + 2 * b;
+            return &reduce[3..end];
+        }
+        return &action[..0];
+    }
+    &action[..0]
+}
