@@ -4,6 +4,9 @@
 pub mod costs;
 pub mod explain;
 pub mod generate;
+#[cfg(port_listing)]
+pub mod listing_costs;
+pub mod listings;
 pub mod plain;
 #[cfg(feature = "port")]
 pub mod port;

@@ -20,6 +20,7 @@ oracle compare KIND SEED COUNT [SIDE ..] [only=VERB,..]
 oracle sample REQUESTS ANSWERS [KIND SEED COUNT]
                                         writes the stored sample of the program replay, or one of some seeds
 oracle costs                            times of the Rust and the port, if linked, in markdown
+oracle listing-costs                    times of the port's `advance`, if linked, in markdown
 sides: rust, plain, and port if linked";
 
 fn main() {
@@ -56,6 +57,11 @@ fn run(args: &[&str]) -> bool {
         #[cfg(feature = "port")]
         ["costs"] => {
             oracle::costs::costs();
+            false
+        }
+        #[cfg(port_listing)]
+        ["listing-costs"] => {
+            oracle::listing_costs::costs(&mut *oracle::side("rust"));
             false
         }
         [] => lines("rust"),

@@ -77,13 +77,13 @@ fn request(q: &Question) -> Option<(u16, More)> {
     })
 }
 
-struct Maker<'a> {
-    side: &'a mut dyn Side,
-    out: Sample,
+pub struct Maker<'a> {
+    pub side: &'a mut dyn Side,
+    pub out: Sample,
 }
 
 impl Maker<'_> {
-    fn put(&mut self, op: u16, table: &[u16], more: &[u16], answer: &Answer) {
+    pub fn put(&mut self, op: u16, table: &[u16], more: &[u16], answer: &Answer) {
         let w = &mut self.out.requests;
         w.extend([op, table.len() as u16, (table.len() >> 16) as u16]);
         w.extend(table);
@@ -517,6 +517,7 @@ pub fn sample(side: &mut dyn Side) -> Sample {
     for kind in TRACES {
         generated(&mut m, kind, traces);
     }
+    crate::listings::listings(&mut m);
     m.out
 }
 

@@ -2,14 +2,14 @@
 use native.Mathlib.Omega.{arith}
 use mathlib.Core.Path.{_≡_, sym}
 use lib.Seq.{length-take-le}
-use Rattle.replay.proofs.Laws.{half-fits}
+use Rattle.little.proofs.Laws.{half-fits}
 use borrow.Author.Needs.{needs}
 use Rattle.replay.proofs.read_words.Statement.{statement}
 use Rattle.replay.proofs.read_words.Tie as tie
 use Rattle.replay.proofs.read_words.Reads as reads
 use Rattle.replay.proofs.read_words.Lts as lts
 use Rattle.io.proofs.read_full.Reads as read-full-reads
-use Rattle.replay.proofs.decode.Reads as decode-reads
+use Rattle.little.proofs.decode.Reads as decode-reads
 
 mul-m : tie.Need-mul-m
 mul-m c = search needs

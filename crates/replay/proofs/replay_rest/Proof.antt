@@ -1,7 +1,7 @@
 -- `replay::replay_rest` meets its contract. Assumes nothing.
-use native.Mathlib.Omega.{arith}
 use mathlib.Core.Path.{sym}
 use lib.Seq.{length-take-le}
+use native.Mathlib.Omega.{arith}
 use borrow.Author.Needs.{needs}
 use Rattle.replay.proofs.replay_rest.Statement.{statement}
 use Rattle.replay.proofs.replay_rest.Tie as tie
@@ -69,6 +69,12 @@ same-length-7 c = search needs
 same-length-8 : tie.Need-same-length-8
 same-length-8 c = search needs
 
+same-length-9 : tie.Need-same-length-9
+same-length-9 c = search needs
+
+same-length-10 : tie.Need-same-length-10
+same-length-10 c = search needs
+
 returns-4 : tie.Need-returns-4
 returns-4 c = search needs
 
@@ -95,4 +101,6 @@ replay-rest-spec =
     write-all-requires
     same-length-7
     same-length-8
+    same-length-9
+    same-length-10
     returns-4)

@@ -1,0 +1,68 @@
+-- `replay::put_numbers` meets its contract. Assumes nothing.
+use mathlib.Core.Path.{_≡_}
+use Prim.Native.Nat.{_-_, _≤_}
+use lib.ListN.{length, length-set}
+use borrow.Author.Needs.{needs}
+use native.Mathlib.Omega.{arith}
+use Rattle.replay.proofs.put_numbers.Statement.{statement}
+use Rattle.replay.proofs.put_numbers.Tie as tie
+use Rattle.replay.proofs.put_numbers.Reads as reads
+use Rattle.replay.proofs.put_numbers.Lts as lts
+use Rattle.replay.proofs.count_of.Reads as count-of-reads
+
+abbrev Inv-loop : tie.InvT-loop
+Inv-loop from to₀ i₀ to i = (i ≤ length from) × (length to ≡ length to₀)
+
+abbrev μ-loop : tie.MeasureT-loop
+μ-loop from to₀ i₀ to i = length from - i
+
+loop-holds : tie.Need-loop-holds Inv-loop μ-loop
+loop-holds c = search needs
+
+mul-count-of : tie.Need-mul-count-of Inv-loop μ-loop
+mul-count-of c = search needs
+
+shared-slice-read-count-of : tie.Need-shared-slice-read-count-of Inv-loop μ-loop
+shared-slice-read-count-of c = search needs
+
+count-of-requires : tie.Need-count-of-requires Inv-loop μ-loop
+count-of-requires c κs = search needs
+
+mul-to : tie.Need-mul-to Inv-loop μ-loop
+mul-to c = search needs
+
+slice-write-to : tie.Need-slice-write-to Inv-loop μ-loop
+slice-write-to c = search needs
+
+add-i : tie.Need-add-i Inv-loop μ-loop
+add-i c = search needs
+
+loop-less : tie.Need-loop-less Inv-loop μ-loop
+loop-less c = search needs
+
+loop-again : tie.Need-loop-again Inv-loop μ-loop
+loop-again c = search needs
+
+same-length : tie.Need-same-length Inv-loop μ-loop
+same-length c = search needs
+
+returns : tie.Need-returns Inv-loop μ-loop
+returns c = search needs
+
+pub put-numbers-spec : {M : Type 1} → statement M
+put-numbers-spec =
+    tie.close
+    (tie.spec
+    Inv-loop
+    μ-loop
+    loop-holds
+    mul-count-of
+    shared-slice-read-count-of
+    count-of-requires
+    mul-to
+    slice-write-to
+    add-i
+    loop-less
+    loop-again
+    same-length
+    returns)
