@@ -69,6 +69,20 @@ uint16_t lihvemur_examples(const uint16_t *table, size_t table_words, uint16_t p
                            const uint32_t *calls, size_t call_numbers, const uint16_t *graph, size_t graph_words,
                            uint16_t *scratch, size_t scratch_words, uint16_t *output, size_t output_words, size_t *made, uint16_t *place);
 
+/* The class of a conflict (docs/ANSWERS.md), five numbers: state, production, action (0 shift, 1 reduce), its terminal or production, token. With answer 0: `class`, its own
+ * values in one word (16 bits each, the first lowest, absent ones 0), the trials of the two sides, and the examples at the front of their buffers (class 0 none, class 5 the action's). */
+uint16_t lihvemur_classify(const uint16_t *table, size_t table_words, uint16_t state, uint16_t production, uint16_t action, uint16_t operand, uint16_t token,
+                           uint16_t *scratch, size_t scratch_words, uint16_t *action_example, size_t action_words, uint16_t *reduce_example, size_t reduce_words,
+                           uint16_t *class_number, uint64_t *values, uint32_t *action_trials, uint32_t *reduce_trials, uint16_t *place);
+
+/* Which tokens of a conflict's set to report, with their classes: six words an entry at the front of `entries` (token, class, up to four own values, zeros), their number
+ * behind `count` with answer 0. `entries` is lent 384 words, else the call is refused as one without scratch, by 11 at most. */
+uint16_t lihvemur_choose(const uint16_t *table, size_t table_words, uint16_t state, uint16_t production, uint16_t action, uint16_t operand, uint64_t tokens,
+                         uint16_t *scratch, size_t scratch_words, uint16_t *entries, size_t entry_words, size_t *count, uint16_t *place);
+
+/* The observed symbols: in which of two examples they lie (0 the action's, 1 the reduce's), and behind `words` how many words they have there from word 3 on. */
+uint16_t lihvemur_observed(const uint16_t *action, size_t action_words, const uint16_t *reduce, size_t reduce_words, size_t *words);
+
 #ifdef __cplusplus
 }
 #endif

@@ -1,2 +1,3 @@
 pub mod Numbered
 pub mod Listed
+pub mod Reported

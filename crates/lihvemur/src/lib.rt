@@ -1,5 +1,6 @@
 // The static library: the public surface for C and Rust. A slice passes as a pointer and a length; each function answers 0, or the refusal, whose place it
 // writes behind `place`; a number behind another reference is written only with answer 0 (count and openness of a listing always). Lent graph and scratch words are left as the entry leaves them.
+pub mod conflicts;
 pub mod examples;
 
 use lookahead::TokenSet;

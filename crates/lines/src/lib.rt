@@ -1,4 +1,5 @@
 // The lines that the explaining program prints (document 01, its program run), from a conflict's outcome to bytes.
+use entries::class_number;
 use error::Class;
 use error::Classified;
 use repr::word;
@@ -171,21 +172,6 @@ fn put_own(out: &mut [u8], at: usize, class: Class) -> usize
             put_after(out, third, b' ', other_end as u64)
         }
         Class::InsufficientLookahead => at,
-    }
-}
-
-// Document 01's number of a class.
-pub fn class_number(class: Class) -> u16
-    ensures { λ r. ⌜ r ≡ classNumber class ⌝ }
-{
-    match class {
-        Class::Naive => 0,
-        Class::Ambiguity => 1,
-        Class::Precedence(_) => 2,
-        Class::SuggestInline(_) => 3,
-        Class::SuggestQuestion(_, _, _) => 4,
-        Class::AmbiguousReduction(_, _, _, _) => 5,
-        Class::InsufficientLookahead => 6,
     }
 }
 

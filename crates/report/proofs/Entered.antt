@@ -1,9 +1,16 @@
--- The ways through `classify`, one law each. Assumes nothing.
-use mathlib.Core.Path.{_≡_}
-use mathlib.Core.List.{List}
-use Prim.Native.Nat.{ℕ}
+-- The ways through `classify` and `choose`, one law each. Assumes nothing.
+use mathlib.Core.Path.{_≡_, refl, sym, ap, _∙_}
+use mathlib.Core.Bool.{Bool, true, false}
+use mathlib.Core.List.{List, [], _∷_}
+use mathlib.Core.Option.{Option, none, some}
+use Prim.Native.Nat.{ℕ, zero, suc, _+_, _≤_, _<_}
+use native.Mathlib.Omega.{arith}
+use lib.ListN.{replicate}
+use Rattle.repr.specs.Lists.{below, first?}
+use Rattle.repr.proofs.Lists.{cases}
+use Rattle.table.specs.Words.{records}
 use Rattle.table.specs.Decoded.{meaning}
-use Rattle.table.specs.Refusals.{checkOf}
+use Rattle.table.specs.Refusals.{row1, row2, offends, firstRow, checkOf}
 use Rattle.table.specs.declared.Checked.{Checked}
 use Rattle.table.specs.declared.Checked.the-variants.{Accepted, Refused}
 use Rattle.error.specs.declared.Conflict.{Conflict}
@@ -11,12 +18,64 @@ use Rattle.error.specs.declared.Classified.{Classified}
 use Rattle.error.specs.declared.Classified.the-variants.{Refused as NotClassified}
 use Rattle.error.specs.Numbers.{readingOf}
 use Rattle.error.specs.Outcome.{Outcome, outcome, classifyIn, classifyBy, classifyOf}
+use Rattle.error.specs.Choose.{Choice, refused, Outcome as ChoiceOutcome, outcome as choosing, chooseIn, chooseBy, chooseOf}
+use Rattle.chooser.specs.Choosing.{choiceBy, choiceIn}
 
+-- ---- the number of a refusal is not 0
+unfoldable Numbered : Checked → Type 0
+Numbered Accepted = Unit
+Numbered (Refused n r) = 0 < n
+
+row-numbered : (t : List ℕ) (m : ℕ) (ns : List ℕ) → Numbered (firstRow t ns) → Numbered (firstRow t (suc m ∷ ns))
+unfolding firstRow Numbered
+row-numbered t m ns h = go (first? (offends (suc m) t) (below (records t))) refl
+  where
+    go : (o : Option ℕ) → first? (offends (suc m) t) (below (records t)) ≡ o → Numbered (firstRow t (suc m ∷ ns))
+    go none q = rw (q, firstRow) h
+    go (some r) q = rw (q, firstRow) (omega arith)
+
+rows-numbered : (t : List ℕ) → Numbered (firstRow t (3 ∷ 4 ∷ 5 ∷ 6 ∷ 7 ∷ 8 ∷ []))
+unfolding firstRow Numbered
+rows-numbered t =
+    row-numbered t 2 (4 ∷ 5 ∷ 6 ∷ 7 ∷ 8 ∷ [])
+    (row-numbered t 3 (5 ∷ 6 ∷ 7 ∷ 8 ∷ [])
+    (row-numbered t 4 (6 ∷ 7 ∷ 8 ∷ [])
+    (row-numbered t 5 (7 ∷ 8 ∷ [])
+    (row-numbered t 6 (8 ∷ [])
+    (row-numbered t 7 [] (tt {0}))))))
+
+check-numbered : (t : List ℕ) → Numbered (checkOf t)
+unfolding checkOf Numbered
+check-numbered t =
+    cases (row1 t)
+    (λ q. rw (q, checkOf) (omega arith))
+    (λ q. cases (row2 t) (λ k. rw (q, k, checkOf) (omega arith)) (λ k. rw (q, k, checkOf) (rows-numbered t)))
+
+refusal-numbered : (t : List ℕ) (n r : ℕ) → checkOf t ≡ Refused n r → 0 < n
+unfolding Numbered
+refusal-numbered t n r e = rw e at (check-numbered t)
+
+-- ---- classify
 module _ (t : List ℕ) (c : Conflict) (scratch action reduce : List ℕ) where
-  pub classify-refused : (n r : ℕ) → checkOf t ≡ Refused n r → outcome (readingOf (NotClassified n r)) scratch action reduce ≡ classifyOf t c scratch action reduce
+  pub classify-refused : (n r x y : ℕ) → checkOf t ≡ Refused n r → x ≡ n → y ≡ r → outcome (readingOf (NotClassified x y)) scratch action reduce ≡ classifyOf t c scratch action reduce
   unfolding classifyOf classifyBy readingOf
-  classify-refused n r e = rw e
+  classify-refused n r x y e ex ey = rw (e, ex, ey)
 
   pub classify-accepted : checkOf t ≡ Accepted → (o : Outcome) → o ≡ classifyIn c scratch action reduce (meaning t) → o ≡ classifyOf t c scratch action reduce
   unfolding classifyOf classifyBy
   classify-accepted e o h = rw e h
+
+-- ---- choose
+refused-choice : (n r k : ℕ) (ws : List ℕ) → 0 < n → choiceBy n r k ws ≡ refused n r
+unfolding choiceBy
+refused-choice zero r k ws h = absurd (omega arith)
+refused-choice (suc n) r k ws h = refl
+
+module _ (t : List ℕ) (c : Conflict) (tokens : ℕ) (scratch : List ℕ) where
+  pub choose-refused : (n r x y : ℕ) (ws : List ℕ) → checkOf t ≡ Refused n r → x ≡ n → y ≡ r → choosing (choiceIn (record { refusal = x; place = y; count = 0; entries = ws })) scratch ≡ chooseOf t c tokens scratch
+  unfolding chooseOf chooseBy choiceIn
+  choose-refused n r x y ws e ex ey = rw (e, ex, ey, refused-choice n r 0 ws (refusal-numbered t n r e))
+
+  pub choose-accepted : checkOf t ≡ Accepted → (o : ChoiceOutcome) → o ≡ chooseIn c tokens scratch (meaning t) → o ≡ chooseOf t c tokens scratch
+  unfolding chooseOf chooseBy
+  choose-accepted e o h = rw e h

@@ -49,16 +49,16 @@ module _ (a b : List ℕ) where
     none-reduce e = rw (ea, e, observedOf)
 
     module _ (eb : wholeExample b ≡ true) (ca cb : ℕ) (fa : ca ≡ getD a 1 0) (fb : cb ≡ getD b 1 0) where
-      pub action-part : cb ≤ ca → take (3 + 2 * ca - 3) (drop 3 a) ≡ observedOf a b
+      pub action-part : cb ≤ ca → (end : ℕ) → end ≡ 3 + 2 * ca → take (end - 3) (drop 3 a) ≡ observedOf a b
       unfolding observedOf beforeCursor
-      action-part h =
+      action-part h end ee =
           let k : getD b 1 0 ≤ getD a 1 0 = omega arith in
-          let w : 3 + 2 * ca - 3 ≡ 2 * getD a 1 0 = omega arith in
+          let w : end - 3 ≡ 2 * getD a 1 0 = omega arith in
           rw (ea, eb, le-leb _ _ k, observedOf, w)
 
-      pub reduce-part : ca < cb → take (3 + 2 * cb - 3) (drop 3 b) ≡ observedOf a b
+      pub reduce-part : ca < cb → (end : ℕ) → end ≡ 3 + 2 * cb → take (end - 3) (drop 3 b) ≡ observedOf a b
       unfolding observedOf beforeCursor
-      reduce-part h =
+      reduce-part h end ee =
           let k : getD a 1 0 < getD b 1 0 = omega arith in
-          let w : 3 + 2 * cb - 3 ≡ 2 * getD b 1 0 = omega arith in
+          let w : end - 3 ≡ 2 * getD b 1 0 = omega arith in
           rw (ea, eb, lt-leb _ _ k, observedOf, w)

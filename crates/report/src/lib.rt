@@ -1,13 +1,18 @@
-// Classifying and the observed symbols for callers (parts 8 and 10 of document 01). Every entry is total, refuses by document 01's table of refusals, and is equated with a definition of error/specs.
+// Classifying, choosing and the observed symbols for callers (parts 8 to 10 of document 01). Every entry is total, refuses by document 01's table of refusals, and is equated with a definition of error/specs.
+use chooser::Chosen;
+use chooser::choose_in;
 use classifier::classify_in;
 use error::Classified;
 use error::Conflict;
+use lookahead::TokenSet;
 use repr::word;
 use table::Checked;
 ghost use mathlib.Core.Path.{_≡_};
 ghost use Rattle.error.specs.Numbers.{readingOf};
 ghost use Rattle.error.specs.Outcome.{outcome as classification, classifyOf};
+ghost use Rattle.error.specs.Choose.{outcome as choosing, chooseOf};
 ghost use Rattle.error.specs.Observed.{wholeExample, observedOf};
+ghost use Rattle.chooser.specs.Choosing.{choiceIn};
 
 // The class of a conflict, its examples at the front of the two buffers; else the refusal and its place.
 pub fn classify(
@@ -22,6 +27,21 @@ pub fn classify(
     match table_check::check(table) {
         Checked::Refused(refusal, place) => Classified::Refused(refusal, place),
         Checked::Accepted => classify_in(table, conflict, scratch, action, reduce),
+    }
+}
+
+// The tokens of a conflict that are reported, with their classes; the set stands for the conflict's token.
+pub fn choose(table: &[u16], conflict: Conflict, tokens: TokenSet, scratch: &mut [u16]) -> Chosen
+    ensures { λ r. ⌜ choosing (choiceIn r) (now (scratch .exit)) ≡ chooseOf (now (table .entry)) conflict (tokens .0) (now (scratch .entry)) ⌝ }
+{
+    match table_check::check(table) {
+        Checked::Refused(refusal, place) => Chosen {
+            refusal: refusal,
+            place: place,
+            count: 0,
+            entries: [0; 384],
+        },
+        Checked::Accepted => choose_in(table, conflict, tokens, scratch),
     }
 }
 

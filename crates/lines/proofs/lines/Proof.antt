@@ -6,7 +6,7 @@ use Rattle.lines.proofs.lines.Statement.{statement}
 use Rattle.lines.proofs.lines.Tie as tie
 use Rattle.lines.proofs.lines.Reads as reads
 use Rattle.lines.proofs.lines.Lts as lts
-use Rattle.lines.proofs.class_number.Reads as class-number-reads
+use Rattle.entries.proofs.class_number.Reads as class-number-reads
 use Rattle.lines.proofs.put_class.Reads as put-class-reads
 use Rattle.lines.proofs.put_examples.Reads as put-examples-reads
 use Rattle.lines.proofs.refused_line.Reads as refused-line-reads

@@ -7,7 +7,7 @@ use Rattle.lines.proofs.put_class.Statement.{statement}
 use Rattle.lines.proofs.put_class.Tie as tie
 use Rattle.lines.proofs.put_class.Reads as reads
 use Rattle.lines.proofs.put_class.Lts as lts
-use Rattle.lines.proofs.class_number.Reads as class-number-reads
+use Rattle.entries.proofs.class_number.Reads as class-number-reads
 use Rattle.lines.proofs.put.Reads as put-reads
 use Rattle.lines.proofs.put_after.Reads as put-after-reads
 use Rattle.lines.proofs.put_number.Reads as put-number-reads

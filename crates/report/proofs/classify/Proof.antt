@@ -1,5 +1,5 @@
 -- `report::classify` meets its contract. Assumes nothing.
-use mathlib.Core.Path.{_≡_, sym, _∙_}
+use mathlib.Core.Path.{_≡_, refl, sym, _∙_}
 use Rattle.report.proofs.Entered.{classify-refused, classify-accepted}
 use native.Mathlib.Omega.{arith}
 use borrow.Author.Needs.{needs}
@@ -23,7 +23,7 @@ classify-in-requires : tie.Need-classify-in-requires
 classify-in-requires c κs = sym (c .before .before .before .before .before .check .ensures) ∙ c .before .before .before .enum-told .given .1
 
 returns : tie.Need-returns
-returns c = classify-refused _ _ _ _ _ _ _ (sym (c .before .before .before .check .ensures) ∙ c .before .refusal .given .1)
+returns c = classify-refused _ _ _ _ _ _ _ _ _ (sym (c .before .before .before .check .ensures) ∙ c .before .refusal .given .1) refl refl
 
 same-length : tie.Need-same-length
 same-length c = search needs

@@ -1,5 +1,5 @@
 -- `report::observed` meets its contract. Assumes nothing.
-use mathlib.Core.Path.{_≡_, sym, _∙_}
+use mathlib.Core.Path.{_≡_, refl, sym, _∙_}
 use Rattle.report.proofs.Seen.{whole-long, whole-words, none-action, none-reduce, action-part, reduce-part}
 use native.Mathlib.Omega.{arith}
 use borrow.Author.Needs.{needs}
@@ -38,7 +38,7 @@ part-result-end : tie.Need-part-result-end
 part-result-end c = let k = whole-words _ (sym (c .before .before .before .before .before .before .whole-example .ensures) ∙ c .before .before .before .before .before .if1 .taken) in let e = c .before .before .word .ensures .0 in omega arith
 
 returns : tie.Need-returns
-returns c = action-part _ _ (sym (c .before .before .before .before .before .before .before .whole-example .ensures) ∙ c .before .before .before .before .before .before .if1 .taken) (sym (c .before .before .before .before .before .whole-example2 .ensures) ∙ c .before .before .before .before .if2 .taken) _ _ (c .before .before .before .word .ensures .0) (c .before .before .word2 .ensures .0) (c .before .if3 .taken)
+returns c = action-part _ _ (sym (c .before .before .before .before .before .before .before .whole-example .ensures) ∙ c .before .before .before .before .before .before .if1 .taken) (sym (c .before .before .before .before .before .whole-example2 .ensures) ∙ c .before .before .before .before .if2 .taken) _ _ (c .before .before .before .word .ensures .0) (c .before .before .word2 .ensures .0) (omega (arith, c .before .if3 .taken)) _ refl
 
 mul-end-2 : tie.Need-mul-end-2
 mul-end-2 c = search needs
@@ -56,7 +56,7 @@ part-result-end-2 : tie.Need-part-result-end-2
 part-result-end-2 c = let k = whole-words _ (sym (c .before .before .before .before .whole-example2 .ensures) ∙ c .before .before .before .if2 .taken) in let e = c .before .word2 .ensures .0 in omega arith
 
 returns-2 : tie.Need-returns-2
-returns-2 c = reduce-part _ _ (sym (c .before .before .before .before .before .before .before .whole-example .ensures) ∙ c .before .before .before .before .before .before .if1 .taken) (sym (c .before .before .before .before .before .whole-example2 .ensures) ∙ c .before .before .before .before .if2 .taken) _ _ (c .before .before .before .word .ensures .0) (c .before .before .word2 .ensures .0) (c .before .if3 .left)
+returns-2 c = reduce-part _ _ (sym (c .before .before .before .before .before .before .before .whole-example .ensures) ∙ c .before .before .before .before .before .before .if1 .taken) (sym (c .before .before .before .before .before .whole-example2 .ensures) ∙ c .before .before .before .before .if2 .taken) _ _ (c .before .before .before .word .ensures .0) (c .before .before .word2 .ensures .0) (omega (arith, c .before .if3 .left)) _ refl
 
 slice-aggregate-result : tie.Need-slice-aggregate-result
 slice-aggregate-result c = search needs

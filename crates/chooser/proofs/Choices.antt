@@ -1,0 +1,221 @@
+-- What is chosen of the classes, and refusals 9 to 11 (error/specs/Choose). Assumes nothing.
+use mathlib.Core.Path.{_≡_, refl, sym, ap, _∙_}
+use mathlib.Core.Bool.{Bool, true, false, _&&_, not}
+use mathlib.Core.List.{List, [], _∷_, _++_, map}
+use Prim.Native.Nat.{ℕ, zero, suc, _+_, _-_, _*_, _^_, _≤_, _<_}
+use native.Mathlib.Omega.{arith}
+use lib.ListN.{length, take, drop, replicate, length-replicate}
+use lib.Seq.{drop-at}
+use lib.Dec.{eqb, ltb, leb}
+use borrow.Author.Tests.{ltb-true, ltb-false, leb-true, leb-false, lt-ltb, le-ltb, le-leb, lt-leb, eq-eqb, ne-eqb}
+use Rattle.repr.specs.Lists.{keep, below, upFrom}
+use Rattle.repr.specs.Meaning.{Table}
+use Rattle.repr.proofs.Lists.{keep-nil, keep-yes, keep-no, length-map-below, cases}
+use Rattle.lookahead.specs.Tokens.{has, members, upTo}
+use Rattle.lookahead.proofs.Laws.{upTo-few, upTo-all}
+use Rattle.error.specs.declared.Conflict.{Conflict}
+use Rattle.error.specs.Outcome.{zeroed, placeFits}
+use Rattle.error.specs.Choose.{Entry, Choice, chosen, refused, Outcome, outcome, Entries, entries, halts, isBetter, classesOf, naiveOnes, choiceFrom, choiceOf, setFits, setShiftsEnd, chooseIn}
+use Rattle.entries.specs.Entries.{entryIn, entriesIn}
+use Rattle.chooser.specs.declared.Step.{Step}
+use Rattle.chooser.specs.declared.Step.the-variants.{Counts, Halted}
+use Rattle.chooser.specs.declared.Chosen.{Chosen}
+use Rattle.chooser.specs.Choosing.{choiceBy, choiceIn, Sorted, sorted, stopped, Stepped, stepped, sortedIn, isNaive, addedTo, naiveCount}
+use Rattle.chooser.proofs.Halts.{classes-halt}
+
+-- how many naive ones
+
+pub count-shift : (a n : ℕ) → a ≡ 0 → n ≡ naiveCount a n
+unfolding naiveCount
+count-shift zero n e = refl
+count-shift (suc a) n e = absurd (omega arith)
+
+pub count-none : (a n : ℕ) → (a ≡ 0 → ⊥) → n ≡ 0 → 0 ≡ naiveCount a n
+unfolding naiveCount
+count-none zero n h e = absurd (h refl)
+count-none (suc a) zero h e = refl
+count-none (suc a) (suc n) h e = absurd (omega arith)
+
+pub count-one : (a n : ℕ) → (a ≡ 0 → ⊥) → (n ≡ 0 → ⊥) → 1 ≡ naiveCount a n
+unfolding naiveCount
+count-one zero n h e = absurd (h refl)
+count-one (suc a) zero h e = absurd (e refl)
+count-one (suc a) (suc n) h e = refl
+
+naive-entries : (action n : ℕ) (ws : List ℕ) → entriesIn ws (naiveCount action n) ≡ naiveOnes action (entriesIn ws n)
+unfolding naiveCount naiveOnes entriesIn below upFrom
+naive-entries zero n ws = refl
+naive-entries (suc k) zero ws = refl
+naive-entries (suc k) (suc n) ws = refl
+
+-- the better ones if there are any
+
+better-first : (action : ℕ) (es bs : List Entry) → (length bs ≡ 0 → ⊥) → bs ≡ choiceFrom action es bs
+unfolding choiceFrom
+better-first action es [] h = absurd (h refl)
+better-first action es (b ∷ bs) h = refl
+
+naive-is : (x : Entry) → isBetter x ≡ false → isNaive x ≡ true
+unfolding isNaive
+naive-is x h = ap not h
+
+naive-cons : (x : Entry) (xs : List Entry) → (keep isBetter xs ≡ [] → keep isNaive xs ≡ xs) → keep isBetter (x ∷ xs) ≡ [] → keep isNaive (x ∷ xs) ≡ x ∷ xs
+naive-cons x xs rec e = cases (isBetter x) better-way naive-way
+  where
+    better-way : isBetter x ≡ true → keep isNaive (x ∷ xs) ≡ x ∷ xs
+    better-way h =
+        let n : x ∷ keep isBetter xs ≡ [] = sym (keep-yes isBetter x xs h) ∙ e in
+        let z : _≡_ {A = ℕ} 0 1 = cc in absurd (omega arith)
+
+    naive-way : isBetter x ≡ false → keep isNaive (x ∷ xs) ≡ x ∷ xs
+    naive-way h = keep-yes isNaive x xs (naive-is x h) ∙ ap (λ (l : List Entry). x ∷ l) (rec (sym (keep-no isBetter x xs h) ∙ e))
+
+all-naive : (es : List Entry) → keep isBetter es ≡ [] → keep isNaive es ≡ es
+all-naive [] e = keep-nil isNaive
+all-naive (x ∷ xs) e = naive-cons x xs (all-naive xs) e
+
+entries-long : (ws : List ℕ) (n : ℕ) → length (entriesIn ws n) ≡ n
+unfolding entriesIn
+entries-long ws n = length-map-below (entryIn ws) n
+
+no-entries : (ws : List ℕ) → entriesIn ws 0 ≡ []
+unfolding entriesIn below upFrom
+no-entries ws = refl
+
+-- by what all tokens came to
+halt-choice : (action x : ℕ) (ws : List ℕ) (E : Entries) → (E ≡ halts 0 → ⊥) → stopped x ≡ addedTo [] [] E → choiceBy x 0 0 ws ≡ choiceOf action E
+unfolding addedTo choiceOf choiceBy
+halt-choice action zero ws (halts n) h e = let z : n ≡ 0 = cc in absurd (h (ap halts z))
+halt-choice action (suc x) ws (halts n) h e = let z : suc x ≡ n = cc in ap (λ (y : ℕ). refused y 0) z
+halt-choice action x ws (entries es) h e = let z : _≡_ {A = ℕ} 0 1 = cc in absurd (omega arith)
+
+better-choice : (action b a : ℕ) (better naive : List ℕ) (E : Entries) → (b ≡ 0 → ⊥) → sorted (entriesIn better b) (entriesIn naive a) ≡ addedTo [] [] E → choiceBy 0 0 b better ≡ choiceOf action E
+unfolding addedTo choiceOf choiceBy
+better-choice action b a better naive (halts n) h e = let z : _≡_ {A = ℕ} 0 1 = cc in absurd (omega arith)
+better-choice action b a better naive (entries es) h e =
+    let x : entriesIn better b ≡ keep isBetter es = cc in
+    let l = entries-long better b in
+    ap chosen (better-first action es (entriesIn better b) (λ z. h (sym l ∙ z)) ∙ ap (choiceFrom action es) x)
+
+naive-choice : (action b a : ℕ) (better naive : List ℕ) (E : Entries) → b ≡ 0 → sorted (entriesIn better b) (entriesIn naive a) ≡ addedTo [] [] E → choiceBy 0 0 (naiveCount action a) naive ≡ choiceOf action E
+unfolding addedTo choiceOf choiceBy choiceFrom
+naive-choice action b a better naive (halts n) h e = let z : _≡_ {A = ℕ} 0 1 = cc in absurd (omega arith)
+naive-choice action b a better naive (entries es) h e =
+    let x : entriesIn better b ≡ keep isBetter es = cc in
+    let y : entriesIn naive a ≡ keep isNaive es = cc in
+    let o : keep isBetter es ≡ [] = sym x ∙ ap (entriesIn better) h ∙ no-entries better in
+    ap chosen (naive-entries action a naive ∙ ap (naiveOnes action) (y ∙ all-naive es o) ∙ ap (choiceFrom action es) (sym o))
+
+stepped-left : (s t : Sorted) (v w : List ℕ) → stepped s v ≡ stepped t w → s ≡ t
+stepped-left s t v w e = cc
+
+stepped-right : (s t : Sorted) (v w : List ℕ) → stepped s v ≡ stepped t w → v ≡ w
+stepped-right s t v w e = cc
+
+module _ (T : Table) (c : Conflict) (set : ℕ) (w₀ w w′ better naive : List ℕ) (clear : w ≡ zeroed w₀) (r : Step)
+    (e : stepped (sortedIn r better naive) w′ ≡ stepped (addedTo [] [] (classesOf T c (members set))) w) where
+  left : sortedIn r better naive ≡ addedTo [] [] (classesOf T c (members set))
+  left = stepped-left (sortedIn r better naive) (addedTo [] [] (classesOf T c (members set))) w′ w e
+
+  right : w′ ≡ zeroed w₀
+  right = stepped-right (sortedIn r better naive) (addedTo [] [] (classesOf T c (members set))) w′ w e ∙ clear
+
+  pub chosen-halts : (x : ℕ) → r ≡ Halted x → (ws : List ℕ) → outcome (choiceIn (record { refusal = x; place = 0; count = 0; entries = ws })) w′ ≡ outcome (choiceOf (c .action) (classesOf T c (members set))) (zeroed w₀)
+  unfolding choiceIn sortedIn
+  chosen-halts x er ws =
+      let p = halt-choice (c .action) x ws (classesOf T c (members set)) (classes-halt T c (members set)) (ap (λ (y : Step). sortedIn y better naive) (sym er) ∙ left) in
+      λ j. outcome (p j) (right j)
+
+  module _ (b a : ℕ) (er : r ≡ Counts b a) where
+    pub chosen-better : (b ≡ 0 → ⊥) → outcome (choiceIn (record { refusal = 0; place = 0; count = b; entries = better })) w′ ≡ outcome (choiceOf (c .action) (classesOf T c (members set))) (zeroed w₀)
+    unfolding choiceIn sortedIn
+    chosen-better h =
+        let p = better-choice (c .action) b a better naive (classesOf T c (members set)) h (ap (λ (y : Step). sortedIn y better naive) (sym er) ∙ left) in
+        λ j. outcome (p j) (right j)
+
+    pub chosen-naive : b ≡ 0 → (n : ℕ) → n ≡ naiveCount (c .action) a → outcome (choiceIn (record { refusal = 0; place = 0; count = n; entries = naive })) w′ ≡ outcome (choiceOf (c .action) (classesOf T c (members set))) (zeroed w₀)
+    unfolding choiceIn sortedIn
+    chosen-naive h n en =
+        let p = ap (λ (k : ℕ). choiceBy 0 0 k naive) en ∙ naive-choice (c .action) b a better naive (classesOf T c (members set)) h (ap (λ (y : Step). sortedIn y better naive) (sym er) ∙ left) in
+        λ j. outcome (p j) (right j)
+
+-- refusals 9 to 11
+
+pow-pos : (k : ℕ) → 0 < 2 ^ k
+pow-pos zero = omega arith
+pow-pos (suc k) = let h = pow-pos k in omega arith
+
+most-is : (t : ℕ) → t ≤ 63 → suc (upTo t) ≡ 2 ^ suc t
+most-is t h = cases (ltb t 63) few all
+  where
+    few : ltb t 63 ≡ true → suc (upTo t) ≡ 2 ^ suc t
+    few e = let l = ltb-true t 63 e in let u = upTo-few t l in let p = pow-pos (suc t) in omega arith
+
+    all : ltb t 63 ≡ false → suc (upTo t) ≡ 2 ^ suc t
+    all e =
+        let l = ltb-false t 63 e in
+        let u = upTo-all t l in
+        let z : t ≡ 63 = omega arith in
+        let p = pow-pos 64 in
+        let q : suc (upTo t) ≡ 2 ^ 64 = omega arith in
+        q ∙ ap (λ (k : ℕ). 2 ^ suc k) (sym z)
+
+pub within-is : (s m t : ℕ) → t ≤ 63 → m ≡ upTo t → leb s m ≡ ltb s (2 ^ suc t)
+within-is s m t h e = cases (leb s m) yes-way not-way
+  where
+    yes-way : leb s m ≡ true → leb s m ≡ ltb s (2 ^ suc t)
+    yes-way q = let l = leb-true s m q in let p = most-is t h in q ∙ sym (lt-ltb s (2 ^ suc t) (omega arith))
+
+    not-way : leb s m ≡ false → leb s m ≡ ltb s (2 ^ suc t)
+    not-way q = let l = leb-false s m q in let p = most-is t h in q ∙ sym (le-ltb s (2 ^ suc t) (omega arith))
+
+pub end-shift : (a s t : ℕ) (r : Bool) → a ≡ 0 → r ≡ has s t → r ≡ (eqb a 0 && has s t)
+end-shift a s t r e q = rw (eq-eqb a 0 e) q
+
+pub end-other : (a s t : ℕ) → (a ≡ 0 → ⊥) → false ≡ (eqb a 0 && has s t)
+end-other a s t e = rw (ne-eqb a 0 e)
+
+refusal-is : (n : ℕ) (r : Chosen) → (r .refusal ≡ suc n) × (r .place ≡ 0) → choiceIn r ≡ refused (suc n) 0
+unfolding choiceIn choiceBy
+refusal-is n r e = λ j. choiceBy (e .0 j) (e .1 j) (r .count) (r .entries)
+
+module _ (T : Table) (c : Conflict) (set : ℕ) (w : List ℕ) where
+  pub not-placed : placeFits T c ≡ false → (r : Chosen) → (r .refusal ≡ 9) × (r .place ≡ 0) → outcome (choiceIn r) w ≡ chooseIn c set w T
+  unfolding chooseIn setFits
+  not-placed p r e = ap (λ (l : Choice). outcome l w) (refusal-is 8 r e) ∙ rw (p, chooseIn)
+
+  module _ (p : placeFits T c ≡ true) (t : ℕ) (et : t ≡ T .terminals) (v : Bool) (ev : v ≡ ltb set (2 ^ suc t)) where
+    within-T : v ≡ ltb set (2 ^ suc (T .terminals))
+    within-T = ev ∙ ap (λ (k : ℕ). ltb set (2 ^ suc k)) et
+
+    pub set-past : v ≡ false → (r : Chosen) → (r .refusal ≡ 9) × (r .place ≡ 0) → outcome (choiceIn r) w ≡ chooseIn c set w T
+    unfolding chooseIn setFits
+    set-past q r e = let f : ltb set (2 ^ suc (T .terminals)) ≡ false = sym within-T ∙ q in ap (λ (l : Choice). outcome l w) (refusal-is 8 r e) ∙ rw (p, f, chooseIn)
+
+    module _ (q : v ≡ true) where
+      pub set-fits : setFits T c set ≡ true
+      unfolding setFits
+      set-fits = let f : ltb set (2 ^ suc (T .terminals)) ≡ true = sym within-T ∙ q in rw (p, f)
+
+      module _ (u : Bool) (eu : u ≡ (eqb (c .action) 0 && has set t)) where
+        end-T : setShiftsEnd T c set ≡ u
+        unfolding setShiftsEnd
+        end-T = ap (λ (k : ℕ). eqb (c .action) 0 && has set k) (sym et) ∙ sym eu
+
+        pub shift-end : u ≡ true → (r : Chosen) → (r .refusal ≡ 10) × (r .place ≡ 0) → outcome (choiceIn r) w ≡ chooseIn c set w T
+        unfolding chooseIn
+        shift-end s r e = let f : setShiftsEnd T c set ≡ true = end-T ∙ s in ap (λ (l : Choice). outcome l w) (refusal-is 9 r e) ∙ rw (set-fits, f, chooseIn)
+
+        pub short-scratch : u ≡ false → length w < 32000 → (r : Chosen) → (r .refusal ≡ 11) × (r .place ≡ 0) → outcome (choiceIn r) w ≡ chooseIn c set w T
+        unfolding chooseIn
+        short-scratch s l r e = let f : setShiftsEnd T c set ≡ false = end-T ∙ s in ap (λ (l : Choice). outcome l w) (refusal-is 10 r e) ∙ rw (set-fits, f, lt-leb 32000 (length w) l, chooseIn)
+
+        pub chosen-whole : u ≡ false → 32000 ≤ length w → (o : Outcome) → o ≡ outcome (choiceOf (c .action) (classesOf T c (members set))) (zeroed w) → o ≡ chooseIn c set w T
+        unfolding chooseIn
+        chosen-whole s l o e = let f : setShiftsEnd T c set ≡ false = end-T ∙ s in rw (set-fits, f, le-leb 32000 (length w) l, chooseIn) e
+
+-- zeroed words stay so
+pub zeroed-again : (w₀ w : List ℕ) → w ≡ zeroed w₀ → w ≡ zeroed w
+unfolding zeroed
+zeroed-again w₀ w e =
+    e ∙ sym (ap (λ (l : List ℕ). replicate 32000 0 ++ l) (ap (drop 32000) e ∙ drop-at (replicate 32000 0) (drop 32000 w₀) 32000 (length-replicate {A = ℕ} 32000 0)))

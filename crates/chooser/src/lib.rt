@@ -1,0 +1,316 @@
+// Choosing which tokens of a conflict to report (`report_errors` of lr1/error/mod.rs without messages) over an accepted table: part 9 of document 01.
+use classifier::classify_gathered;
+use classifier::place_fits;
+use entries::is_naive;
+use entries::write_entry;
+use enumerator::machine::clear;
+use error::Classified;
+use error::Conflict;
+use first::FirstSets;
+use lookahead::TokenSet;
+use table::Checked;
+use table::read_counts;
+use table::read_productions;
+ghost use mathlib.Core.Path.{_≡_};
+ghost use mathlib.Core.Bool.{Bool, true, false, _&&_};
+ghost use mathlib.Core.List.{List, []};
+ghost use Prim.Native.Nat.{ℕ, suc, _+_, _^_, _≤_, _<_};
+ghost use lib.ListN.{length};
+ghost use lib.Dec.{eqb, ltb};
+ghost use Rattle.lookahead.specs.Tokens.{has, members};
+ghost use Rattle.table.specs.Decoded.{meaning};
+ghost use Rattle.table.specs.Refusals.{checkOf};
+ghost use Rattle.error.specs.Kept.{Read};
+ghost use Rattle.error.specs.Outcome.{zeroed};
+ghost use Rattle.error.specs.Choose.{outcome, setFits, classesOf, choiceOf, chooseIn};
+ghost use Rattle.entries.specs.Entries.{entriesIn};
+ghost use Rattle.chooser.specs.Choosing.{choiceIn, stepped, sortedIn, CountsWithin, tokenEntries, addedTo, naiveCount};
+
+// What choosing answers: the refusal, 0 if there is none, and its place; the number of tokens chosen; for each six words, its token, the number of its class, the class's own values, zeros.
+pub struct Chosen {
+    pub refusal: u16,
+    pub place: u16,
+    pub count: usize,
+    pub entries: [u16; 384],
+}
+
+// What a token comes to: the numbers of better and of naive classes so far; else the refusal, 12 to 14.
+enum Step {
+    Counts(usize, usize),
+    Halted(u16),
+}
+
+// One token: if the set has it, its class is written behind the better ones or behind the naive ones.
+fn choose_token(
+    table: &[u16],
+    grammar: &[u16],
+    productions: usize,
+    n: usize,
+    terminals: u16,
+    map: &[u64; 32],
+    conflict: Conflict,
+    tokens: TokenSet,
+    token: u16,
+    scratch: &mut [u16],
+    better: &mut [u16],
+    better_count: usize,
+    naive: &mut [u16],
+    naive_count: usize,
+) -> Step
+    requires { ⌜ Read (now table) (now grammar) productions n terminals (now map) ⌝ }
+    requires { ⌜ setFits (meaning (now table)) conflict (tokens .0) ≡ true ⌝ }
+    requires { ⌜ (32000 ≤ length (now scratch)) × (now scratch ≡ zeroed (now scratch)) ⌝ }
+    requires { ⌜ (token < 64) × («better_count» + «naive_count» ≤ token) ⌝ }
+    requires { ⌜ (length (now better) ≡ 384) × (length (now naive) ≡ 384) ⌝ }
+    ensures { λ r. ⌜ stepped (sortedIn r (now (better .exit)) (now (naive .exit))) (now (scratch .exit)) ≡ stepped (addedTo (entriesIn (now (better .entry)) «better_count») (entriesIn (now (naive .entry)) «naive_count») (tokenEntries (meaning (now (table .entry))) conflict (tokens .0) token)) (now (scratch .entry)) ⌝ }
+    ensures { λ r. ⌜ CountsWithin (token + 1) r ⌝ }
+{
+    if tokens.contains(token) {
+        let state = conflict.state;
+        let production = conflict.production;
+        let act = conflict.action;
+        let operand = conflict.operand;
+        let one = Conflict {
+            state: state,
+            production: production,
+            action: act,
+            operand: operand,
+            token: token,
+        };
+        let mut action = [0u16; 1158];
+        let mut reduce = [0u16; 1158];
+        match classify_gathered(
+            table,
+            grammar,
+            productions,
+            n,
+            terminals,
+            map,
+            one,
+            scratch,
+            &mut action,
+            &mut reduce,
+        ) {
+            Classified::Refused(refusal, place) => {
+                return Step::Halted(refusal);
+            }
+            Classified::Class(class, action_trials, reduce_trials) => {
+                if is_naive(class) {
+                    write_entry(naive, naive_count, token, class);
+                    return Step::Counts(better_count, naive_count + 1);
+                }
+                write_entry(better, better_count, token, class);
+                return Step::Counts(better_count + 1, naive_count);
+            }
+        }
+    }
+    Step::Counts(better_count, naive_count)
+}
+
+// Every token of the set in order.
+fn choose_tokens(
+    table: &[u16],
+    grammar: &[u16],
+    productions: usize,
+    n: usize,
+    terminals: u16,
+    map: &[u64; 32],
+    conflict: Conflict,
+    tokens: TokenSet,
+    scratch: &mut [u16],
+    better: &mut [u16],
+    naive: &mut [u16],
+) -> Step
+    requires { ⌜ Read (now table) (now grammar) productions n terminals (now map) ⌝ }
+    requires { ⌜ setFits (meaning (now table)) conflict (tokens .0) ≡ true ⌝ }
+    requires { ⌜ (32000 ≤ length (now scratch)) × (now scratch ≡ zeroed (now scratch)) ⌝ }
+    requires { ⌜ (length (now better) ≡ 384) × (length (now naive) ≡ 384) ⌝ }
+    ensures { λ r. ⌜ stepped (sortedIn r (now (better .exit)) (now (naive .exit))) (now (scratch .exit)) ≡ stepped (addedTo [] [] (classesOf (meaning (now (table .entry))) conflict (members (tokens .0)))) (now (scratch .entry)) ⌝ }
+{
+    let mut better_count: usize = 0;
+    let mut naive_count: usize = 0;
+    let mut token: u16 = 0;
+    while token < 64 {
+        match choose_token(
+            table,
+            grammar,
+            productions,
+            n,
+            terminals,
+            map,
+            conflict,
+            tokens,
+            token,
+            scratch,
+            better,
+            better_count,
+            naive,
+            naive_count,
+        ) {
+            Step::Counts(better_ones, naive_ones) => {
+                better_count = better_ones;
+                naive_count = naive_ones;
+                token += 1;
+            }
+            Step::Halted(refusal) => {
+                return Step::Halted(refusal);
+            }
+        }
+    }
+    Step::Counts(better_count, naive_count)
+}
+
+// How many naive ones are chosen: of a reduce/reduce only the first.
+fn naive_chosen(action: u16, count: usize) -> usize
+    ensures { λ r. ⌜ r ≡ naiveCount action count ⌝ }
+{
+    if action == 0 {
+        return count;
+    }
+    if count == 0 {
+        return 0;
+    }
+    1
+}
+
+// The better classes if there are any, else the naive ones.
+fn choose_gathered(
+    table: &[u16],
+    grammar: &[u16],
+    productions: usize,
+    n: usize,
+    terminals: u16,
+    map: &[u64; 32],
+    conflict: Conflict,
+    tokens: TokenSet,
+    scratch: &mut [u16],
+) -> Chosen
+    requires { ⌜ Read (now table) (now grammar) productions n terminals (now map) ⌝ }
+    requires { ⌜ setFits (meaning (now table)) conflict (tokens .0) ≡ true ⌝ }
+    requires { ⌜ 32000 ≤ length (now scratch) ⌝ }
+    ensures { λ r. ⌜ outcome (choiceIn r) (now (scratch .exit)) ≡ outcome (choiceOf (conflict .action) (classesOf (meaning (now (table .entry))) conflict (members (tokens .0)))) (zeroed (now (scratch .entry))) ⌝ }
+{
+    let mut better = [0u16; 384];
+    let mut naive = [0u16; 384];
+    clear(scratch);
+    match choose_tokens(
+        table,
+        grammar,
+        productions,
+        n,
+        terminals,
+        map,
+        conflict,
+        tokens,
+        scratch,
+        &mut better,
+        &mut naive,
+    ) {
+        Step::Halted(refusal) => Chosen {
+            refusal: refusal,
+            place: 0,
+            count: 0,
+            entries: naive,
+        },
+        Step::Counts(better_count, naive_count) => {
+            if better_count != 0 {
+                return Chosen {
+                    refusal: 0,
+                    place: 0,
+                    count: better_count,
+                    entries: better,
+                };
+            }
+            let action = conflict.action;
+            let count = naive_chosen(action, naive_count);
+            Chosen {
+                refusal: 0,
+                place: 0,
+                count: count,
+                entries: naive,
+            }
+        }
+    }
+}
+
+// The table's productions and FIRST sets are read once.
+fn choose_read(table: &[u16], conflict: Conflict, tokens: TokenSet, scratch: &mut [u16]) -> Chosen
+    requires { ⌜ checkOf (now table) ≡ Checked.Accepted ⌝ }
+    requires { ⌜ setFits (meaning (now table)) conflict (tokens .0) ≡ true ⌝ }
+    requires { ⌜ 32000 ≤ length (now scratch) ⌝ }
+    ensures { λ r. ⌜ outcome (choiceIn r) (now (scratch .exit)) ≡ outcome (choiceOf (conflict .action) (classesOf (meaning (now (table .entry))) conflict (members (tokens .0)))) (zeroed (now (scratch .entry))) ⌝ }
+{
+    let counts = read_counts(table);
+    let n = counts.nonterminals;
+    let productions = counts.productions;
+    let terminals = counts.terminals as u16;
+    let mut grammar = [0u16; 4608];
+    read_productions(table, &mut grammar);
+    let sets = FirstSets::new(&grammar, productions, terminals);
+    let map = sets.map;
+    choose_gathered(
+        table,
+        &grammar,
+        productions,
+        n,
+        terminals,
+        &map,
+        conflict,
+        tokens,
+        scratch,
+    )
+}
+
+// Part of refusal 9: no token of the set is past the end token.
+fn set_within(tokens: TokenSet, terminals: u16) -> bool
+    requires { ⌜ terminals ≤ 63 ⌝ }
+    ensures { λ r. ⌜ r ≡ ltb (tokens .0) (2 ^ suc terminals) ⌝ }
+{
+    let all = TokenSet::all(terminals);
+    let word = tokens.0;
+    let most = all.0;
+    word <= most
+}
+
+// Refusal 10: a shift with the end token in the set.
+fn set_shifts_end(conflict: Conflict, tokens: TokenSet, terminals: u16) -> bool
+    ensures { λ r. ⌜ r ≡ eqb (conflict .action) 0 && has (tokens .0) terminals ⌝ }
+{
+    if conflict.action == 0 {
+        return tokens.contains(terminals);
+    }
+    false
+}
+
+fn refuse(refusal: u16) -> Chosen
+    ensures { λ r. ⌜ (r .refusal ≡ refusal) × (r .place ≡ 0) ⌝ }
+{
+    Chosen {
+        refusal: refusal,
+        place: 0,
+        count: 0,
+        entries: [0; 384],
+    }
+}
+
+// `choose` over an accepted table: refusals 9 to 11 change nothing.
+pub fn choose_in(table: &[u16], conflict: Conflict, tokens: TokenSet, scratch: &mut [u16]) -> Chosen
+    requires { ⌜ checkOf (now table) ≡ Checked.Accepted ⌝ }
+    ensures { λ r. ⌜ outcome (choiceIn r) (now (scratch .exit)) ≡ chooseIn conflict (tokens .0) (now (scratch .entry)) (meaning (now (table .entry))) ⌝ }
+{
+    let counts = read_counts(table);
+    let terminals = counts.terminals as u16;
+    if place_fits(table, conflict) {
+        if set_within(tokens, terminals) {
+            if set_shifts_end(conflict, tokens, terminals) {
+                return refuse(10);
+            }
+            if scratch.len() < 32000 {
+                return refuse(11);
+            }
+            return choose_read(table, conflict, tokens, scratch);
+        }
+        return refuse(9);
+    }
+    refuse(9)
+}

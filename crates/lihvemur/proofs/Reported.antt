@@ -1,0 +1,196 @@
+-- The ways through the exported functions of classifying, one law each. Assumes nothing.
+use mathlib.Core.Path.{_≡_, refl, sym, ap, _∙_}
+use mathlib.Core.Bool.{Bool, true, false}
+use mathlib.Core.List.{List, [], _∷_, _++_}
+use Prim.Native.Nat.{ℕ, zero, suc, _+_, _*_, _-_, _≤_, _<_}
+use native.Mathlib.Omega.{arith}
+use lib.ListN.{length, getD, take, drop}
+use lib.Seq.{take-all, take-append-seam, drop-append-seam}
+use lib.Dec.{leb}
+use borrow.Author.Tests.{le-leb, lt-leb}
+use Rattle.repr.specs.Meaning.{Table}
+use Rattle.repr.proofs.Lists.{cases}
+use Rattle.table.specs.Decoded.{meaning}
+use Rattle.table.specs.Refusals.{checkOf}
+use Rattle.table.specs.declared.Checked.{Checked}
+use Rattle.table.specs.declared.Checked.the-variants.{Accepted, Refused as NotAccepted}
+use Rattle.error.specs.declared.Conflict.{Conflict}
+use Rattle.error.specs.declared.Class.{Class}
+use Rattle.error.specs.declared.Class.the-variants.{Naive, Ambiguity, Precedence, SuggestInline, SuggestQuestion, AmbiguousReduction, InsufficientLookahead}
+use Rattle.error.specs.declared.Classified.{Classified}
+use Rattle.error.specs.declared.Classified.the-variants.{Class as IsClass, Refused}
+use Rattle.error.specs.Numbers.{classNumber, classValues, readingOf}
+use Rattle.error.specs.Outcome.{Outcome, outcome}
+use Rattle.error.specs.Choose.{Choice, chosen, refused, Outcome as ChoiceOutcome, outcome as choosing, setFits, setShiftsEnd, chooseIn, chooseBy, chooseOf}
+use Rattle.error.specs.Observed.{wholeExample, observedOf}
+use Rattle.chooser.specs.declared.Chosen.{Chosen}
+use Rattle.entries.specs.Entries.{entriesIn}
+use Rattle.chooser.specs.Choosing.{choiceBy, choiceIn}
+use Rattle.lihvemur.specs.Reports.{packed, classNumbers, classifiedNumbers, written, left, choiceNumbers, chosenNumbers, shortNumbers, chooseNumbers, partNumbers, partIn, observedNumbers}
+use Rattle.report.proofs.Seen.{whole-long, none-action, none-reduce, action-part, reduce-part}
+
+-- ---- a class in numbers
+pub pack-is : (a b c d : ℕ) → a + 65536 * (b + 65536 * (c + 65536 * d)) ≡ packed (a ∷ b ∷ c ∷ d ∷ [])
+unfolding packed
+pack-is a b c d = omega arith
+
+module _ (k : Class) (r : ℕ) where
+  pub values-precedence : (n : ℕ) → k ≡ Precedence n → r ≡ packed (n ∷ 0 ∷ 0 ∷ 0 ∷ []) → r ≡ packed (classValues k)
+  unfolding packed classValues
+  values-precedence n e h = rw e h
+
+  pub values-inline : (n : ℕ) → k ≡ SuggestInline n → r ≡ packed (n ∷ 0 ∷ 0 ∷ 0 ∷ []) → r ≡ packed (classValues k)
+  unfolding packed classValues
+  values-inline n e h = rw e h
+
+  pub values-question : (n x y : ℕ) → k ≡ SuggestQuestion n x y → r ≡ packed (n ∷ x ∷ y ∷ 0 ∷ []) → r ≡ packed (classValues k)
+  unfolding packed classValues
+  values-question n x y e h = rw e h
+
+  pub values-reduction : (a b c d : ℕ) → k ≡ AmbiguousReduction a b c d → r ≡ packed (a ∷ b ∷ c ∷ d ∷ []) → r ≡ packed (classValues k)
+  unfolding packed classValues
+  values-reduction a b c d e h = rw e h
+
+-- ---- classify; o: what its contract says is the outcome
+module _ (class values m n : ℕ) (c : Classified) (scratch action reduce : List ℕ) (o : Outcome) (e : outcome (readingOf c) scratch action reduce ≡ o) where
+  pub classify-class : (k : Class) (x y x′ y′ number own : ℕ) → c ≡ IsClass k x y → x′ ≡ x → y′ ≡ y → number ≡ classNumber k → own ≡ packed (classValues k) → classNumbers 0 0 number own x′ y′ scratch action reduce ≡ classifiedNumbers class values m n o
+  unfolding classifiedNumbers readingOf
+  classify-class k x y x′ y′ number own h ex ey en ev = rw (ex, ey, sym e ∙ ap (λ (q : Classified). outcome (readingOf q) scratch action reduce) h, en, ev)
+
+  pub classify-refused : (x p : ℕ) → c ≡ Refused x p → classNumbers x p class values m n scratch action reduce ≡ classifiedNumbers class values m n o
+  unfolding classifiedNumbers readingOf
+  classify-refused x p h = rw (sym e ∙ ap (λ (q : Classified). outcome (readingOf q) scratch action reduce) h)
+
+-- ---- choose
+front-is : (ws d : List ℕ) → length ws ≡ 384 → take 384 (take 384 ws ++ d) ≡ ws
+front-is ws d h =
+    ap (λ (l : List ℕ). take 384 (l ++ d)) (take-all 384 ws (omega arith))
+    ∙ ap (λ (k : ℕ). take k (ws ++ d)) (sym h)
+    ∙ take-append-seam ws d
+
+rest-is : (ws d : List ℕ) → length ws ≡ 384 → drop 384 (take 384 ws ++ d) ≡ d
+rest-is ws d h =
+    ap (λ (l : List ℕ). drop 384 (l ++ d)) (take-all 384 ws (omega arith))
+    ∙ ap (λ (k : ℕ). drop k (ws ++ d)) (sym h)
+    ∙ drop-append-seam ws d
+
+-- with no scratch a choice is refused
+record Refuses (o : ChoiceOutcome) : Type 0 where
+  number : ℕ
+  place : ℕ
+  is : o ≡ choosing (refused number place) []
+
+module _ (c : Conflict) (tokens : ℕ) where
+  in-refuses : (T : Table) → Refuses (chooseIn c tokens [] T)
+  unfolding chooseIn
+  in-refuses T =
+      cases (setFits T c tokens)
+      (λ q.
+      cases (setShiftsEnd T c tokens)
+      (λ k. record { number = 10; place = 0; is = rw (q, k, chooseIn) })
+      (λ k. record { number = 11; place = 0; is = rw (q, k, chooseIn) }))
+      (λ q. record { number = 9; place = 0; is = rw (q, chooseIn) })
+
+  by-refuses : (t : List ℕ) (k : Checked) → Refuses (chooseBy t c tokens [] k)
+  unfolding chooseBy
+  by-refuses t (NotAccepted n r) = record { number = n; place = r; is = refl }
+  by-refuses t Accepted = in-refuses (meaning t)
+
+  none-refuses : (t : List ℕ) → Refuses (chooseOf t c tokens [])
+  unfolding chooseOf
+  none-refuses t = by-refuses t (checkOf t)
+
+choice-left : (x y : Choice) (s r : List ℕ) → choosing x s ≡ choosing y r → x ≡ y
+choice-left x y s r e = cc
+
+choice-right : (x y : Choice) (s r : List ℕ) → choosing x s ≡ choosing y r → s ≡ r
+choice-right x y s r e = cc
+
+module _ (count : ℕ) (old : List ℕ) where
+  by-refusal : (n p k : ℕ) (ws s : List ℕ) → (n ≡ 0 → ⊥) → choiceNumbers n p count old s ≡ chosenNumbers count old (choosing (choiceBy n p k ws) s)
+  unfolding choiceNumbers chosenNumbers choiceBy
+  by-refusal zero p k ws s ne = absurd (ne refl)
+  by-refusal (suc n) p k ws s ne = refl
+
+  by-answer : (n p k : ℕ) (ws s : List ℕ) → n ≡ 0 → length ws ≡ 384 → (entries : List ℕ) → entries ≡ take 384 ws ++ drop 384 old → choiceNumbers 0 0 k entries s ≡ chosenNumbers count old (choosing (choiceBy n p k ws) s)
+  unfolding choiceNumbers chosenNumbers choiceBy
+  by-answer zero p k ws s h l entries e =
+      let f : take 384 entries ≡ ws = ap (λ (x : List ℕ). take 384 x) e ∙ front-is ws (drop 384 old) l in
+      let g : drop 384 entries ≡ drop 384 old = ap (λ (x : List ℕ). drop 384 x) e ∙ rest-is ws (drop 384 old) l in
+      (λ j. written 0 (entriesIn (f j) k) (g j) s)
+  by-answer (suc n) p k ws s h l entries e = absurd (omega arith)
+
+  by-short : (n p k x y : ℕ) (ws s r : List ℕ) → choiceBy n p k ws ≡ refused x y → choiceNumbers n p count old s ≡ shortNumbers count old s (choosing (choiceBy n p k ws) r)
+  unfolding choiceNumbers shortNumbers choiceBy
+  by-short zero p k x y ws s r h = let z : _≡_ {A = ℕ} 0 1 = cc in absurd (omega arith)
+  by-short (suc n) p k x y ws s r h = refl
+
+  module _ (t : List ℕ) (c : Conflict) (tokens : ℕ) (scratch : List ℕ) (r : Chosen) (last : List ℕ) where
+    module _ (long : 384 ≤ length old) (e : choosing (choiceIn r) last ≡ chooseOf t c tokens scratch) where
+      long-is : chosenNumbers count old (choosing (choiceIn r) last) ≡ chooseNumbers count old t c tokens scratch
+      unfolding chooseNumbers
+      long-is = rw (le-leb _ _ long, chooseNumbers) (ap (chosenNumbers count old) e)
+
+      pub choose-refused : (r .refusal ≡ 0 → ⊥) → (p : ℕ) → p ≡ r .place → choiceNumbers (r .refusal) p count old last ≡ chooseNumbers count old t c tokens scratch
+      unfolding choiceIn
+      choose-refused ne p ep = ap (λ (x : ℕ). choiceNumbers (r .refusal) x count old last) ep ∙ by-refusal (r .refusal) (r .place) (r .count) (r .entries) last ne ∙ long-is
+
+      pub choose-chosen : r .refusal ≡ 0 → length (r .entries) ≡ 384 → (entries : List ℕ) → entries ≡ take 384 (r .entries) ++ drop 384 old → choiceNumbers 0 0 (r .count) entries last ≡ chooseNumbers count old t c tokens scratch
+      unfolding choiceIn
+      choose-chosen h l entries w = by-answer (r .refusal) (r .place) (r .count) (r .entries) last h l entries w ∙ long-is
+
+    pub choose-short : length old < 384 → choosing (choiceIn r) last ≡ chooseOf t c tokens [] → choiceNumbers (r .refusal) (r .place) count old (last ++ scratch) ≡ chooseNumbers count old t c tokens scratch
+    unfolding chooseNumbers choiceIn
+    choose-short short e =
+        let R = none-refuses c tokens t in
+        let f = e ∙ R .is in
+        let none = choice-right (choiceIn r) (refused (R .number) (R .place)) last [] f in
+        rw (lt-leb _ _ short, chooseNumbers)
+        (ap (λ (l : List ℕ). choiceNumbers (r .refusal) (r .place) count old (l ++ scratch)) none
+        ∙ by-short (r .refusal) (r .place) (r .count) (R .number) (R .place) (r .entries) scratch last (choice-left (choiceIn r) (refused (R .number) (R .place)) last [] f)
+        ∙ ap (shortNumbers count old scratch) e)
+
+-- ---- observed
+take-own : (k : ℕ) (xs : List ℕ) → take (length (take k xs)) xs ≡ take k xs
+take-own zero xs = refl
+take-own (suc k) [] = refl
+take-own (suc k) (x ∷ xs) = ap (λ (l : List ℕ). x ∷ l) (take-own k xs)
+
+empty-is : (xs : List ℕ) → length xs ≡ 0 → xs ≡ []
+empty-is [] e = refl
+empty-is (x ∷ xs) e = absurd (omega arith)
+
+module _ (a b part : List ℕ) (e : part ≡ observedOf a b) where
+  pub part-none : length part ≡ 0 → partNumbers (partIn a b 0 (length part)) (length part) ≡ observedNumbers (observedOf a b)
+  unfolding partIn observedNumbers
+  part-none h =
+      let p : take (length part) (drop 3 a) ≡ observedOf a b = ap (λ (k : ℕ). take k (drop 3 a)) h ∙ sym (empty-is part h) ∙ e in
+      (λ j. partNumbers (p j) (length (e j)))
+
+  module _ (ne : length part ≡ 0 → ⊥) where
+    both-whole : (wholeExample a ≡ true) × (wholeExample b ≡ true)
+    both-whole =
+        cases (wholeExample a)
+        (λ q. cases (wholeExample b) (λ k. (q, k)) (λ k. absurd (ne (ap length (e ∙ sym (none-reduce a b q k))))))
+        (λ q. absurd (ne (ap length (e ∙ sym (none-action a b q)))))
+
+    pub action-long : 3 ≤ length a
+    action-long = whole-long a (both-whole .0)
+
+    pub reduce-long : 3 ≤ length b
+    reduce-long = whole-long b (both-whole .1)
+
+    module _ (ca cb : ℕ) (fa : ca ≡ getD a 1 0) (fb : cb ≡ getD b 1 0) where
+      pub part-action : cb ≤ ca → partNumbers (partIn a b 0 (length part)) (length part) ≡ observedNumbers (observedOf a b)
+      unfolding partIn observedNumbers
+      part-action h =
+          let w = action-part a b (both-whole .0) (both-whole .1) ca cb fa fb h (3 + 2 * ca) refl in
+          let p : take (length part) (drop 3 a) ≡ observedOf a b = ap (λ (l : List ℕ). take (length l) (drop 3 a)) (e ∙ sym w) ∙ take-own (3 + 2 * ca - 3) (drop 3 a) ∙ w in
+          (λ j. partNumbers (p j) (length (e j)))
+
+      pub part-reduce : ca < cb → partNumbers (partIn a b 1 (length part)) (length part) ≡ observedNumbers (observedOf a b)
+      unfolding partIn observedNumbers
+      part-reduce h =
+          let w = reduce-part a b (both-whole .0) (both-whole .1) ca cb fa fb h (3 + 2 * cb) refl in
+          let p : take (length part) (drop 3 b) ≡ observedOf a b = ap (λ (l : List ℕ). take (length l) (drop 3 b)) (e ∙ sym w) ∙ take-own (3 + 2 * cb - 3) (drop 3 b) ∙ w in
+          (λ j. partNumbers (p j) (length (e j)))

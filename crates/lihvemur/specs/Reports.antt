@@ -1,0 +1,61 @@
+-- What the exported functions of classifying answer in numbers, as in Exported. Assumes nothing: these are definitions.
+use Prim.Native.Nat.{ℕ, zero, suc, _+_, _*_}
+use mathlib.Core.Bool.{true, false}
+use mathlib.Core.List.{List, [], _∷_}
+use lib.ListN.{length, take, drop}
+use lib.Dec.{leb}
+use Rattle.error.specs.declared.Conflict.{Conflict}
+use Rattle.error.specs.Numbers.{classed, refused}
+use Rattle.error.specs.Outcome.{Outcome, outcome}
+use Rattle.error.specs.Choose.{Entry, chosen, refused as notChosen, Outcome as ChoiceOutcome, outcome as choosing, chooseOf}
+use Rattle.entries.specs.Entries.{entriesIn}
+
+-- a class's own values in one word, 16 bits each, the first lowest
+unfoldable pub packed : List ℕ → ℕ
+packed [] = 0
+packed (v ∷ vs) = v + 65536 * packed vs
+
+-- refusal, place, class number, own values, trials of the two sides, scratch words, words of the two example buffers
+pub data ClassNumbers : Type 0 where
+  classNumbers : ℕ → ℕ → ℕ → ℕ → ℕ → ℕ → List ℕ → List ℕ → List ℕ → ClassNumbers
+
+-- class, values and trials as they were where the call is refused
+unfoldable pub classifiedNumbers : ℕ → ℕ → ℕ → ℕ → Outcome → ClassNumbers
+classifiedNumbers class values m n (outcome (classed k vs a r) scratch action reduce) = classNumbers 0 0 k (packed vs) a r scratch action reduce
+classifiedNumbers class values m n (outcome (refused x p) scratch action reduce) = classNumbers x p class values m n scratch action reduce
+
+-- with answer 0: place, the entries that are read in the first 384 words lent for them, the words after those, scratch words;
+-- with a refusal: refusal, place, number of entries, all the words lent for them, scratch words
+pub data ChoiceNumbers : Type 0 where
+  written : ℕ → List Entry → List ℕ → List ℕ → ChoiceNumbers
+  left : ℕ → ℕ → ℕ → List ℕ → List ℕ → ChoiceNumbers
+
+unfoldable pub choiceNumbers : ℕ → ℕ → ℕ → List ℕ → List ℕ → ChoiceNumbers
+choiceNumbers zero place count entries scratch = written place (entriesIn (take 384 entries) count) (drop 384 entries) scratch
+choiceNumbers (suc n) place count entries scratch = left (suc n) place count entries scratch
+
+unfoldable pub chosenNumbers : ℕ → List ℕ → ChoiceOutcome → ChoiceNumbers
+chosenNumbers count entries (choosing (chosen es) scratch) = written 0 es (drop 384 entries) scratch
+chosenNumbers count entries (choosing (notChosen n r) scratch) = left n r count entries scratch
+
+-- too few words for the entries: refused as with no scratch, 1 to 10 or else 11, and nothing changed
+unfoldable pub shortNumbers : ℕ → List ℕ → List ℕ → ChoiceOutcome → ChoiceNumbers
+shortNumbers count entries scratch (choosing (chosen es) s) = left 11 0 count entries scratch
+shortNumbers count entries scratch (choosing (notChosen n r) s) = left n r count entries scratch
+
+unfoldable pub chooseNumbers : ℕ → List ℕ → List ℕ → Conflict → ℕ → List ℕ → ChoiceNumbers
+chooseNumbers count entries t c tokens scratch = elim (leb 384 (length entries)) [
+  | true ↦ chosenNumbers count entries (chooseOf t c tokens scratch)
+  | false ↦ shortNumbers count entries scratch (chooseOf t c tokens [])
+]
+
+-- so many words from word 3 on of the action's buffer (0) or of the reduce's (1), and how many
+pub data PartNumbers : Type 0 where
+  partNumbers : List ℕ → ℕ → PartNumbers
+
+unfoldable pub partIn : List ℕ → List ℕ → ℕ → ℕ → List ℕ
+partIn action reduce zero words = take words (drop 3 action)
+partIn action reduce (suc k) words = take words (drop 3 reduce)
+
+unfoldable pub observedNumbers : List ℕ → PartNumbers
+observedNumbers part = partNumbers part (length part)
