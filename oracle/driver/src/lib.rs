@@ -4,7 +4,7 @@
 pub mod costs;
 pub mod explain;
 pub mod generate;
-#[cfg(port_listing)]
+#[cfg(feature = "port")]
 pub mod listing_costs;
 pub mod listings;
 pub mod plain;

@@ -59,7 +59,7 @@ fn run(args: &[&str]) -> bool {
             oracle::costs::costs();
             false
         }
-        #[cfg(port_listing)]
+        #[cfg(feature = "port")]
         ["listing-costs"] => {
             oracle::listing_costs::costs(&mut *oracle::side("rust"));
             false

@@ -80,10 +80,6 @@ unsafe extern "C" {
         place: &mut u16,
         edges: &mut u16,
     ) -> u16;
-}
-
-#[cfg(port_listing)]
-unsafe extern "C" {
     fn lihvemur_lr0_examples(
         table: *const u16,
         words: usize,
@@ -120,10 +116,52 @@ unsafe extern "C" {
         open: &mut bool,
         place: &mut u16,
     ) -> u16;
+    fn lihvemur_classify(
+        table: *const u16,
+        words: usize,
+        state: u16,
+        production: u16,
+        action: u16,
+        operand: u16,
+        token: u16,
+        scratch: *mut u16,
+        scratch_words: usize,
+        action_example: *mut u16,
+        action_words: usize,
+        reduce_example: *mut u16,
+        reduce_words: usize,
+        class: &mut u16,
+        values: &mut u64,
+        action_trials: &mut u32,
+        reduce_trials: &mut u32,
+        place: &mut u16,
+    ) -> u16;
+    fn lihvemur_choose(
+        table: *const u16,
+        words: usize,
+        state: u16,
+        production: u16,
+        action: u16,
+        operand: u16,
+        tokens: u64,
+        scratch: *mut u16,
+        scratch_words: usize,
+        entries: *mut u16,
+        entry_words: usize,
+        count: &mut usize,
+        place: &mut u16,
+    ) -> u16;
+    // In which of the two the symbols lie; nothing is refused.
+    fn lihvemur_observed(
+        action: *const u16,
+        action_words: usize,
+        reduce: *const u16,
+        reduce_words: usize,
+        words: &mut usize,
+    ) -> u16;
 }
 
 /// What `lihvemur_advance` answers at the end of a listing.
-#[cfg(port_listing)]
 const END: u16 = 16;
 
 pub fn first0(table: &[u16], symbols: &[u16], place: &mut u16, set: &mut u64) -> u16 {
@@ -195,8 +233,121 @@ pub fn add_edge(
     }
 }
 
+/// What a classification answers beside the lent words.
+#[derive(Clone, Copy, Debug, PartialEq, Eq)]
+pub struct Class {
+    pub number: u16,
+    /// Its own values, 16 bits each, the first lowest.
+    pub values: u64,
+    pub trials: [u32; 2],
+}
+
+impl Class {
+    /// No classification's: written only with answer 0.
+    pub const UNWRITTEN: Class = Class {
+        number: 0x5A5A,
+        values: 0x1234_5678_9ABC_DEF1,
+        trials: [u32::MAX, u32::MAX - 1],
+    };
+
+    fn own(&self) -> Vec<u16> {
+        let values = (0..4).map(|k| (self.values >> (16 * k)) as u16).collect();
+        own_values(self.number, values)
+    }
+}
+
+/// A class's own values, of four words whose others are 0.
+fn own_values(class: u16, mut words: Vec<u16>) -> Vec<u16> {
+    let count = match class {
+        2 | 3 => 1,
+        4 => 3,
+        5 => 4,
+        _ => 0,
+    };
+    assert!(class < 7 && words[count..].iter().all(|&w| w == 0));
+    words.truncate(count);
+    words
+}
+
+/// `examples`: the action's buffer and the reduce's.
+pub fn classify(
+    table: &[u16],
+    c: [u16; 5],
+    scratch: &mut [u16],
+    examples: [&mut [u16]; 2],
+    class: &mut Class,
+    place: &mut u16,
+) -> u16 {
+    let [action, reduce] = examples;
+    let [action_trials, reduce_trials] = &mut class.trials;
+    unsafe {
+        lihvemur_classify(
+            table.as_ptr(),
+            table.len(),
+            c[0],
+            c[1],
+            c[2],
+            c[3],
+            c[4],
+            scratch.as_mut_ptr(),
+            scratch.len(),
+            action.as_mut_ptr(),
+            action.len(),
+            reduce.as_mut_ptr(),
+            reduce.len(),
+            &mut class.number,
+            &mut class.values,
+            action_trials,
+            reduce_trials,
+            place,
+        )
+    }
+}
+
+pub fn choose(
+    table: &[u16],
+    c: [u16; 4],
+    tokens: u64,
+    scratch: &mut [u16],
+    entries: &mut [u16],
+    count: &mut usize,
+    place: &mut u16,
+) -> u16 {
+    unsafe {
+        lihvemur_choose(
+            table.as_ptr(),
+            table.len(),
+            c[0],
+            c[1],
+            c[2],
+            c[3],
+            tokens,
+            scratch.as_mut_ptr(),
+            scratch.len(),
+            entries.as_mut_ptr(),
+            entries.len(),
+            count,
+            place,
+        )
+    }
+}
+
+/// The observed symbols' words.
+fn observed<'a>(action: &'a [u16], reduce: &'a [u16]) -> &'a [u16] {
+    let mut words = usize::MAX;
+    let which = unsafe {
+        let (a, r) = (action.as_ptr(), reduce.as_ptr());
+        lihvemur_observed(a, action.len(), r, reduce.len(), &mut words)
+    };
+    match (which, words) {
+        (0, 0) => &action[..0],
+        (0, n) => &action[3..3 + n],
+        (1, n) => &reduce[3..3 + n],
+        _ => panic!("no buffer {which}"),
+    }
+}
+
 /// A listing in its parts.
-#[cfg(port_listing)]
 struct Listing {
     start: (u16, u16),
     lookahead: Option<u64>,
@@ -204,7 +355,6 @@ struct Listing {
     open: bool,
 }
 
-#[cfg(port_listing)]
 impl Listing {
     /// A fresh one, or the refusal.
     fn new(
@@ -264,8 +414,8 @@ impl Listing {
 }
 
 pub const GRAPH_WORDS: usize = 8_193;
-#[cfg(port_listing)]
-const EXAMPLE_WORDS: usize = 1_158;
+pub const EXAMPLE_WORDS: usize = 1_158;
+pub const ENTRY_WORDS: usize = 384;
 pub const SCRATCH_WORDS: usize = 32_000;
 /// Words past those that a call asks for; none may change.
 const PAST: usize = 7;
@@ -302,8 +452,12 @@ impl Lent {
 pub struct PortSide {
     graph: Lent,
     scratch: Lent,
-    #[cfg(port_listing)]
     example: Lent,
+    /// The action's and the reduce's.
+    examples: [Lent; 2],
+    entries: Lent,
+    /// What the next words that are lent hold.
+    fill: u16,
 }
 
 impl Default for PortSide {
@@ -311,8 +465,10 @@ impl Default for PortSide {
         PortSide {
             graph: Lent::new(GRAPH_WORDS, 3),
             scratch: Lent::new(SCRATCH_WORDS, 5),
-            #[cfg(port_listing)]
             example: Lent::new(EXAMPLE_WORDS, 9),
+            examples: [11, 13].map(|fill| Lent::new(EXAMPLE_WORDS, fill)),
+            entries: Lent::new(ENTRY_WORDS, 17),
+            fill: 0,
         }
     }
 }
@@ -323,6 +479,15 @@ fn answer(refusal: u16, place: u16, words: impl FnOnce() -> Answer) -> Option<An
         0 => [vec![0], words()].concat(),
         _ => vec![refusal as u32, place as u32],
     })
+}
+
+/// What a call that is refused so, or not, is refused by if it is lent too
+/// little.
+fn short_refusal(refusal: u16, place: u16) -> (u16, u16) {
+    match refusal {
+        1..=10 => (refusal, place),
+        _ => (11, 0),
+    }
 }
 
 fn list(symbols: &[Sym]) -> Vec<u16> {
@@ -353,16 +518,99 @@ impl PortSide {
         let refusal = backtrace(
             reduce, table, state, item, graph, scratch, &mut place, &mut edges,
         );
-        if [0, 12].contains(&refusal) {
-            let scratch = &mut self.scratch;
-            assert!(scratch.words[..SCRATCH_WORDS].iter().all(|&w| w == 0));
-            scratch.kept(SCRATCH_WORDS, "scratch");
-            // Not zero before the next call.
-            *scratch = Lent::new(SCRATCH_WORDS, edges);
-        } else {
-            self.scratch.kept(0, "scratch");
-        }
+        self.scratch_after(refusal);
         self.graph_answer(refusal, place, edges)
+    }
+
+    /// Scratch after a call: zeroed if it was accepted or refused by 12 to 14,
+    /// else as it was. Not zero before the next call.
+    fn scratch_after(&mut self, refusal: u16) {
+        if ![0, 12, 13, 14].contains(&refusal) {
+            return self.scratch.kept(0, "scratch");
+        }
+        let zeroed = &self.scratch.words[..SCRATCH_WORDS];
+        assert!(zeroed.iter().all(|&w| w == 0), "scratch is not zero");
+        self.scratch.kept(SCRATCH_WORDS, "scratch");
+        self.fill = self.fill.wrapping_add(1);
+        self.scratch = Lent::new(SCRATCH_WORDS, self.fill);
+    }
+
+    /// A classification: its class and how many words each example has, or the
+    /// refusal and its place. Accepted it writes the examples that its class
+    /// has, else no result and no example.
+    fn classified(
+        &mut self,
+        table: &[u16],
+        c: [u16; 5],
+    ) -> Result<(Class, [usize; 2]), (u16, u16)> {
+        let fill = self.fill;
+        self.examples = [fill, !fill].map(|fill| Lent::new(EXAMPLE_WORDS, fill));
+        let (mut class, mut place) = (Class::UNWRITTEN, u16::MAX);
+        let [action, reduce] = &mut self.examples;
+        let lent = [&mut action.words[..], &mut reduce.words[..]];
+        let scratch = &mut self.scratch.words;
+        let refusal = classify(table, c, scratch, lent, &mut class, &mut place);
+        self.scratch_after(refusal);
+        let shown = match (refusal, class.number) {
+            (0, 0) => [false, false],
+            (0, 5) => [true, false],
+            (0, _) => [true, true],
+            _ => [false, false],
+        };
+        let words = [0, 1].map(|k| {
+            let example = &mut self.examples[k];
+            let w = &example.words;
+            let words = match shown[k] {
+                true => 3 + 2 * w[0] as usize + 3 * w[2] as usize,
+                false => 0,
+            };
+            example.kept(words, ["action's example", "reduce's example"][k]);
+            words
+        });
+        self.classify_short(table, c, refusal, place);
+        if refusal == 0 {
+            assert!(place == 0);
+            return Ok((class, words));
+        }
+        assert!(class == Class::UNWRITTEN, "results of a refused call");
+        Err((refusal, place))
+    }
+
+    /// One word less than 11 asks for, of each loan: 1 to 10 as before, else
+    /// 11, and nothing is written.
+    fn classify_short(&mut self, table: &[u16], c: [u16; 5], refusal: u16, place: u16) {
+        let full = [SCRATCH_WORDS, EXAMPLE_WORDS, EXAMPLE_WORDS];
+        for short in 0..3 {
+            let [s, a, r] = [0, 1, 2].map(|k| full[k] - (k == short) as usize);
+            let (mut class, mut at) = (Class::UNWRITTEN, u16::MAX);
+            let [action, reduce] = &mut self.examples;
+            let lent = [&mut action.words[..a], &mut reduce.words[..r]];
+            let scratch = &mut self.scratch.words[..s];
+            let got = classify(table, c, scratch, lent, &mut class, &mut at);
+            assert_eq!((got, at), short_refusal(refusal, place));
+            assert!(class == Class::UNWRITTEN);
+            self.scratch.kept(0, "scratch");
+            for example in &mut self.examples {
+                example.kept(0, "example");
+            }
+        }
+    }
+
+    /// The same of choosing.
+    fn choose_short(&mut self, table: &[u16], c: [u16; 4], tokens: u64, refusal: u16, place: u16) {
+        for (s, e) in [
+            (SCRATCH_WORDS - 1, ENTRY_WORDS),
+            (SCRATCH_WORDS, ENTRY_WORDS - 1),
+        ] {
+            let (mut count, mut at) = (usize::MAX, u16::MAX);
+            let scratch = &mut self.scratch.words[..s];
+            let entries = &mut self.entries.words[..e];
+            let got = choose(table, c, tokens, scratch, entries, &mut count, &mut at);
+            assert_eq!((got, at), short_refusal(refusal, place));
+            assert!(count == usize::MAX);
+            self.scratch.kept(0, "scratch");
+            self.entries.kept(0, "entries");
+        }
     }
 
     /// A graph's words in front of others of which none is in range: those past
@@ -438,7 +686,6 @@ impl Side for PortSide {
     }
 
     /// Opened and moved on to its end, and once more.
-    #[cfg(port_listing)]
     fn examples(
         &mut self,
         table: &[u16],
@@ -483,5 +730,83 @@ impl Side for PortSide {
             words.extend(found);
             return answer(0, 0, || words);
         }
+    }
+
+    fn classify(&mut self, table: &[u16], conflict: [u16; 5]) -> Option<Answer> {
+        let (class, words) = match self.classified(table, conflict) {
+            Ok(answer) => answer,
+            Err((refusal, place)) => return answer(refusal, place, Vec::new),
+        };
+        let [a, r] = class.trials;
+        let mut out = vec![class.number as u32, a, r];
+        let [action, reduce] = &self.examples;
+        let examples = [&action.words[..words[0]], &reduce.words[..words[1]]];
+        for part in [&class.own()[..], examples[0], examples[1]] {
+            out.push(part.len() as u32);
+            out.extend(wide(part));
+        }
+        answer(0, 0, || out)
+    }
+
+    /// The words lent for entries: the first 384 may change, with a refusal
+    /// none.
+    fn choose(&mut self, table: &[u16], conflict: [u16; 4], tokens: u64) -> Option<Answer> {
+        self.entries = Lent::new(ENTRY_WORDS, self.fill);
+        let (mut count, mut place) = (usize::MAX, u16::MAX);
+        let (scratch, entries) = (&mut self.scratch.words, &mut self.entries.words);
+        let refusal = choose(
+            table, conflict, tokens, scratch, entries, &mut count, &mut place,
+        );
+        self.scratch_after(refusal);
+        let front = if refusal == 0 { ENTRY_WORDS } else { 0 };
+        self.entries.kept(front, "entries");
+        self.choose_short(table, conflict, tokens, refusal, place);
+        if refusal != 0 {
+            assert!(count == usize::MAX, "the count of a refused call");
+            return answer(refusal, place, Vec::new);
+        }
+        assert!(place == 0);
+        let mut out = vec![count as u32];
+        for entry in self.entries.words[..6 * count].chunks_exact(6) {
+            out.extend(wide(&entry[..2]));
+            let own = own_values(entry[1], entry[2..].to_vec());
+            out.push(own.len() as u32);
+            out.extend(wide(&own));
+        }
+        answer(0, 0, || out)
+    }
+
+    /// Of both examples whole and cut to their words; cut by one more, or with
+    /// a cursor past the symbols, a buffer gives no symbols.
+    fn observed(&mut self, table: &[u16], conflict: [u16; 5]) -> Option<Answer> {
+        let [a, r] = match self.classified(table, conflict) {
+            Ok((_, words)) => words,
+            Err((refusal, place)) => return answer(refusal, place, Vec::new),
+        };
+        if a == 0 || r == 0 {
+            return None;
+        }
+        let [action, reduce] = &self.examples;
+        let (action, reduce) = (&action.words[..], &reduce.words[..]);
+        let found = observed(action, reduce);
+        assert_eq!(observed(&action[..a], &reduce[..r]), found);
+        let past = |example: &[u16]| {
+            let mut words = example.to_vec();
+            words[1] = words[0] + 1;
+            words
+        };
+        for (x, y) in [
+            (&action[..a - 1], reduce),
+            (action, &reduce[..r - 1]),
+            (&past(action), reduce),
+            (action, &past(reduce)),
+        ] {
+            assert!(observed(x, y).is_empty());
+        }
+        let out = wide(found);
+        for example in &mut self.examples {
+            example.kept(0, "example");
+        }
+        answer(0, 0, || out)
     }
 }
