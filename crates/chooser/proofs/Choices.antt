@@ -1,26 +1,26 @@
 -- What is chosen of the classes, and refusals 9 to 11 (error/specs/Choose). Assumes nothing.
 use mathlib.Core.Path.{_≡_, refl, sym, ap, _∙_}
 use mathlib.Core.Bool.{Bool, true, false, _&&_, not}
-use mathlib.Core.List.{List, [], _∷_, _++_, map}
-use Prim.Native.Nat.{ℕ, zero, suc, _+_, _-_, _*_, _^_, _≤_, _<_}
+use mathlib.Core.List.{List, [], _∷_, _++_}
+use Prim.Native.Nat.{ℕ, zero, suc, _+_, _^_, _≤_, _<_}
 use native.Mathlib.Omega.{arith}
-use lib.ListN.{length, take, drop, replicate, length-replicate}
+use lib.ListN.{length, drop, replicate, length-replicate}
 use lib.Seq.{drop-at}
-use lib.Dec.{eqb, ltb, leb}
-use borrow.Author.Tests.{ltb-true, ltb-false, leb-true, leb-false, lt-ltb, le-ltb, le-leb, lt-leb, eq-eqb, ne-eqb}
+use lib.Dec.{eqb, ltb}
+use borrow.Author.Tests.{le-leb, lt-leb, eq-eqb, ne-eqb}
 use Rattle.repr.specs.Lists.{keep, below, upFrom}
 use Rattle.repr.specs.Meaning.{Table}
-use Rattle.repr.proofs.Lists.{keep-nil, keep-yes, keep-no, length-map-below, cases}
-use Rattle.lookahead.specs.Tokens.{has, members, upTo}
-use Rattle.lookahead.proofs.Laws.{upTo-few, upTo-all}
+use Rattle.repr.proofs.Lists.{keep-nil, keep-yes, keep-no, cases}
+use Rattle.lookahead.specs.Tokens.{has, members}
 use Rattle.error.specs.declared.Conflict.{Conflict}
 use Rattle.error.specs.Outcome.{zeroed, placeFits}
 use Rattle.error.specs.Choose.{Entry, Choice, chosen, refused, Outcome, outcome, Entries, entries, halts, isBetter, classesOf, naiveOnes, choiceFrom, choiceOf, setFits, setShiftsEnd, chooseIn}
-use Rattle.entries.specs.Entries.{entryIn, entriesIn}
+use Rattle.entries.specs.Entries.{entriesIn}
+use Rattle.entries.proofs.Laws.{entries-long}
 use Rattle.chooser.specs.declared.Step.{Step}
 use Rattle.chooser.specs.declared.Step.the-variants.{Counts, Halted}
 use Rattle.chooser.specs.declared.Chosen.{Chosen}
-use Rattle.chooser.specs.Choosing.{choiceBy, choiceIn, Sorted, sorted, stopped, Stepped, stepped, sortedIn, isNaive, addedTo, naiveCount}
+use Rattle.chooser.specs.Choosing.{choiceBy, choiceIn, Sorted, sorted, stopped, stepped, sortedIn, isNaive, addedTo, naiveCount}
 use Rattle.chooser.proofs.Halts.{classes-halt}
 
 -- how many naive ones
@@ -73,10 +73,6 @@ naive-cons x xs rec e = cases (isBetter x) better-way naive-way
 all-naive : (es : List Entry) → keep isBetter es ≡ [] → keep isNaive es ≡ es
 all-naive [] e = keep-nil isNaive
 all-naive (x ∷ xs) e = naive-cons x xs (all-naive xs) e
-
-entries-long : (ws : List ℕ) (n : ℕ) → length (entriesIn ws n) ≡ n
-unfolding entriesIn
-entries-long ws n = length-map-below (entryIn ws) n
 
 no-entries : (ws : List ℕ) → entriesIn ws 0 ≡ []
 unfolding entriesIn below upFrom
@@ -140,34 +136,6 @@ module _ (T : Table) (c : Conflict) (set : ℕ) (w₀ w w′ better naive : List
         λ j. outcome (p j) (right j)
 
 -- refusals 9 to 11
-
-pow-pos : (k : ℕ) → 0 < 2 ^ k
-pow-pos zero = omega arith
-pow-pos (suc k) = let h = pow-pos k in omega arith
-
-most-is : (t : ℕ) → t ≤ 63 → suc (upTo t) ≡ 2 ^ suc t
-most-is t h = cases (ltb t 63) few all
-  where
-    few : ltb t 63 ≡ true → suc (upTo t) ≡ 2 ^ suc t
-    few e = let l = ltb-true t 63 e in let u = upTo-few t l in let p = pow-pos (suc t) in omega arith
-
-    all : ltb t 63 ≡ false → suc (upTo t) ≡ 2 ^ suc t
-    all e =
-        let l = ltb-false t 63 e in
-        let u = upTo-all t l in
-        let z : t ≡ 63 = omega arith in
-        let p = pow-pos 64 in
-        let q : suc (upTo t) ≡ 2 ^ 64 = omega arith in
-        q ∙ ap (λ (k : ℕ). 2 ^ suc k) (sym z)
-
-pub within-is : (s m t : ℕ) → t ≤ 63 → m ≡ upTo t → leb s m ≡ ltb s (2 ^ suc t)
-within-is s m t h e = cases (leb s m) yes-way not-way
-  where
-    yes-way : leb s m ≡ true → leb s m ≡ ltb s (2 ^ suc t)
-    yes-way q = let l = leb-true s m q in let p = most-is t h in q ∙ sym (lt-ltb s (2 ^ suc t) (omega arith))
-
-    not-way : leb s m ≡ false → leb s m ≡ ltb s (2 ^ suc t)
-    not-way q = let l = leb-false s m q in let p = most-is t h in q ∙ sym (le-ltb s (2 ^ suc t) (omega arith))
 
 pub end-shift : (a s t : ℕ) (r : Bool) → a ≡ 0 → r ≡ has s t → r ≡ (eqb a 0 && has s t)
 end-shift a s t r e q = rw (eq-eqb a 0 e) q

@@ -12,11 +12,11 @@ use table::Checked;
 use table::read_counts;
 use table::read_productions;
 ghost use mathlib.Core.Path.{_≡_};
-ghost use mathlib.Core.Bool.{Bool, true, false, _&&_};
-ghost use mathlib.Core.List.{List, []};
-ghost use Prim.Native.Nat.{ℕ, suc, _+_, _^_, _≤_, _<_};
+ghost use mathlib.Core.Bool.{true, false, _&&_};
+ghost use mathlib.Core.List.{[]};
+ghost use Prim.Native.Nat.{_+_, _≤_, _<_};
 ghost use lib.ListN.{length};
-ghost use lib.Dec.{eqb, ltb};
+ghost use lib.Dec.{eqb};
 ghost use Rattle.lookahead.specs.Tokens.{has, members};
 ghost use Rattle.table.specs.Decoded.{meaning};
 ghost use Rattle.table.specs.Refusals.{checkOf};
@@ -261,17 +261,6 @@ fn choose_read(table: &[u16], conflict: Conflict, tokens: TokenSet, scratch: &mu
     )
 }
 
-// Part of refusal 9: no token of the set is past the end token.
-fn set_within(tokens: TokenSet, terminals: u16) -> bool
-    requires { ⌜ terminals ≤ 63 ⌝ }
-    ensures { λ r. ⌜ r ≡ ltb (tokens .0) (2 ^ suc terminals) ⌝ }
-{
-    let all = TokenSet::all(terminals);
-    let word = tokens.0;
-    let most = all.0;
-    word <= most
-}
-
 // Refusal 10: a shift with the end token in the set.
 fn set_shifts_end(conflict: Conflict, tokens: TokenSet, terminals: u16) -> bool
     ensures { λ r. ⌜ r ≡ eqb (conflict .action) 0 && has (tokens .0) terminals ⌝ }
@@ -301,7 +290,7 @@ pub fn choose_in(table: &[u16], conflict: Conflict, tokens: TokenSet, scratch: &
     let counts = read_counts(table);
     let terminals = counts.terminals as u16;
     if place_fits(table, conflict) {
-        if set_within(tokens, terminals) {
+        if tokens.fits(counts.terminals) {
             if set_shifts_end(conflict, tokens, terminals) {
                 return refuse(10);
             }

@@ -6,10 +6,12 @@ use mathlib.Core.Bool.{Bool, true, false, _&&_, not, and-true}
 use mathlib.Core.List.{List, [], _∷_, _++_, reverse, reverse-cons, reverse-reverse, List·Memᴰ}
 use lib.ListN.{length, getD, take, drop, replicate, length-take, length-drop, length-reverse, take-append-drop, drop-of-length-le}
 use lib.Seq.{length-take-le, drop-cons, getD-take, getD-drop, take-take}
-use lib.Dec.{ltb}
-use borrow.Author.Tests.{eq-eqb, ne-eqb, lt-ltb, le-ltb, ltb-true}
+use lib.Bits.{bitOr, or-add-and, and-le-l, and-le-r}
+use lib.Dec.{eqb, ltb}
+use borrow.Author.Tests.{eq-eqb, ne-eqb, eqb-true, eqb-false, lt-ltb, le-ltb, ltb-true}
 use Rattle.repr.specs.Lists.{mem}
 use Rattle.repr.specs.Meaning.{Production, Item}
+use Rattle.repr.proofs.Lists.{cases}
 use Rattle.trace_graph.specs.declared.Node.{Node as NodeValue}
 use Rattle.trace_graph.specs.Graph.{Node, atNonterminal, atItem, sameNode}
 use Rattle.trace_graph.specs.Words.{place, nodeAt}
@@ -79,6 +81,31 @@ module _ (ws : List ℕ) (long : 32000 ≤ length ws) (at : ℕ) where
 
     pub zeros-more : w ≡ 0 → zerosFrom ws at ≡ zerosFrom ws (at + 1)
     zeros-more z = split ∙ same-eq w 0 (drop (at + 1) (take 32000 ws)) (replicate (32000 - (at + 1)) 0) z
+
+-- `only_zeros`: what is gathered from a place up to another
+none-of : (a b : ℕ) → bitOr a b ≡ 0 → (a ≡ 0) × (b ≡ 0)
+none-of a b e = let s = or-add-and a b in let l = and-le-l a b in let r = and-le-r a b in (omega arith, omega arith)
+
+pub record Gathered (ws : List ℕ) (from at all : ℕ) : Type 0 where
+  pub within : at ≤ 32000
+  pub none : all ≡ 0 → zerosFrom ws at ≡ zerosFrom ws from
+  pub some : (all ≡ 0 → ⊥) → zerosFrom ws from ≡ false
+
+pub gathered-start : (ws : List ℕ) (from : ℕ) → from ≤ 32000 → Gathered ws from from 0
+gathered-start ws from h = record { within = h; none = λ e. refl; some = λ n. absurd (n refl) }
+
+pub gathered-more : (ws : List ℕ) → 32000 ≤ length ws → (from at all : ℕ) → Gathered ws from at all → at < 32000 → Gathered ws from (at + 1) (bitOr all (getD ws at 0))
+gathered-more ws long from at all G h = record {
+  within = omega arith;
+  none = λ e. let z = none-of all (getD ws at 0) e in sym (zeros-more ws long at h (getD ws at 0) refl (z .1)) ∙ G .none (z .0);
+  some = λ n. cases (eqb all 0) (λ q. let z = eqb-true all 0 q in sym (G .none z) ∙ zeros-not ws long at h (getD ws at 0) refl (λ w. n (rw (z, w)))) (λ q. G .some (eqb-false all 0 q));
+}
+
+pub gathered-end : (ws : List ℕ) → 32000 ≤ length ws → (from at all : ℕ) → Gathered ws from at all → 32000 ≤ at → eqb all 0 ≡ zerosFrom ws from
+gathered-end ws long from at all G h =
+    cases (eqb all 0)
+    (λ q. q ∙ sym (zeros-end ws long at h) ∙ G .none (eqb-true all 0 q))
+    (λ q. q ∙ sym (G .some (eqb-false all 0 q)))
 
 -- `enters`
 module _ {g ix : List ℕ} (B : Ground g ix) (v : NodeValue) (fits : nodeValueFits (B .nonterminals) (B .productions) v ≡ true) (e w : ℕ) (ew : w ≡ getD g 0 0) where

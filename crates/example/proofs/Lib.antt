@@ -4,3 +4,4 @@ pub mod Put
 pub mod Parts
 pub mod Reductions
 pub mod Walk
+pub mod LabelWords

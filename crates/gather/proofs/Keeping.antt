@@ -2,16 +2,17 @@
 use mathlib.Core.Path.{_≡_, refl, sym, ap, _∙_}
 use mathlib.Core.Bool.{true}
 use mathlib.Core.List.{List, [], _∷_, _++_, map, map-append, append-assoc}
-use Prim.Native.Nat.{ℕ, zero, suc, _+_, _*_, _/_, _%_, _≤_, _<_}
+use Prim.Native.Nat.{ℕ, suc, _+_, _*_, _/_, _%_, _≤_, _<_}
 use native.Mathlib.Omega.{arith}
 use lib.ListN.{length, getD, take, drop}
-use lib.Seq.{sets, length-sets, sets-eq, length-take-le, getD-take, getD-drop, take-at, drop-at, getD-at, drop-drop, take-nil, take-take, ext-getD}
+use lib.Seq.{length-sets, sets-eq, length-take-le, getD-take, getD-drop, take-at, drop-at, getD-at, drop-drop, ext-getD}
 use lib.Dec.{ltb}
 use borrow.Author.Tests.{lt-ltb, le-leb, ltb-true, ltb-false}
 use Rattle.repr.specs.Lists.{below}
 use Rattle.repr.specs.Meaning.{Production, noProduction, All}
 use Rattle.repr.proofs.Lists.{cases, below-last, length-map-below, getD-map-below, length-mapped, getD-map}
 use Rattle.repr.proofs.Tests.{All-at}
+use Rattle.repr.proofs.Fronts.{same-part, same-word}
 use Rattle.trace_graph.specs.Fits.{itemFits}
 use Rattle.example.specs.Example.{Label}
 use Rattle.example.specs.Labels.{LabelFits}
@@ -21,20 +22,6 @@ use Rattle.error.specs.Kept.{keptLabel, keptAt, kept, Kept}
 use Rattle.gather.specs.Packing.{packedLabel, packed, keptWith, Owned, Fitting}
 
 -- a part of a beginning
-
-back : (a m : ℕ) (xs : List ℕ) → take m (drop a xs) ≡ drop a (take (a + m) xs)
-back zero m xs = let z : m ≡ 0 + m = omega arith in ap (λ (k : ℕ). take k xs) z
-back (suc a) m [] = take-nil m ∙ sym (ap (drop (suc a)) (take-nil (suc a + m)))
-back (suc a) m (x ∷ xs) =
-    let z : suc a + m ≡ suc (a + m) = omega arith in
-    back a m xs ∙ sym (ap (λ (k : ℕ). drop (suc a) (take k (x ∷ xs))) z)
-
-mid : (n a m : ℕ) (xs ys : List ℕ) → take n xs ≡ take n ys → a + m ≤ n → take m (drop a xs) ≡ take m (drop a ys)
-mid n a m xs ys e h =
-    back a m xs ∙ ap (drop a) (sym (take-take (a + m) n xs h) ∙ ap (take (a + m)) e ∙ take-take (a + m) n ys h) ∙ sym (back a m ys)
-
-at-front : (n j : ℕ) (xs ys : List ℕ) → take n xs ≡ take n ys → j < n → getD xs j 0 ≡ getD ys j 0
-at-front n j xs ys e h = sym (getD-take n xs j 0 h) ∙ ap (λ (l : List ℕ). getD l j 0) e ∙ getD-take n ys j 0 h
 
 -- a label read back
 
@@ -103,14 +90,14 @@ module _ (ps : List Production) (ws ws′ : List ℕ) (k : ℕ) (ls : List Label
       ∙ take-at (map packedLabel ls) rest (length ls) (length-mapped packedLabel ls)
 
   earlier-count : (i : ℕ) → i < k → getD ws′ (i * 34) 0 ≡ getD ws (i * 34) 0
-  earlier-count i h = at-front (k * 34) (i * 34) ws′ ws front (omega arith)
+  earlier-count i h = same-word (k * 34) (i * 34) ws′ ws front (omega arith)
 
   earlier : (i : ℕ) → i < k → keptAt ps ws′ i ≡ keptAt ps ws i
   unfolding keptAt
   earlier i h =
       let m = K .few-labels i h in
       ap (λ (x : ℕ). map (keptLabel ps) (take x (drop (i * 34 + 1) ws′))) (earlier-count i h)
-      ∙ ap (map (keptLabel ps)) (mid (k * 34) (i * 34 + 1) (getD ws (i * 34) 0) ws′ ws front (omega arith))
+      ∙ ap (map (keptLabel ps)) (same-part (k * 34) (i * 34 + 1) (getD ws (i * 34) 0) ws′ ws front (omega arith))
 
   latest : Short ps → All (Owned ps) ls → keptAt ps ws′ k ≡ ls
   unfolding keptAt
@@ -162,7 +149,7 @@ module _ (ps : List Production) (ws ws′ : List ℕ) (k : ℕ) (ls : List Label
         let l = ltb-true i k q in
         let g′ : j < getD ws (i * 34) 0 = rw (earlier-count i l) at g in
         let m = K .few-labels i l in
-        rw (at-front (k * 34) (i * 34 + 1 + j) ws′ ws front (omega arith)) (K .fits i j l g′))
+        rw (same-word (k * 34) (i * 34 + 1 + j) ws′ ws front (omega arith)) (K .fits i j l g′))
         (λ q.
         let l = ltb-false i k q in
         let z : i ≡ k = omega arith in

@@ -179,7 +179,7 @@ fn gather_listing(
         shift,
     ) {
         Inserted::Done => {
-            let mut ix = [0u16; 3232];
+            let mut ix = [0u16; 5280];
             check_graph(grammar, productions, n, &graph, &mut ix);
             list_examples(
                 grammar,

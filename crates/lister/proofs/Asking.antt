@@ -1,13 +1,12 @@
 -- What is asked before the words are: the start item, the lookahead and the graph, refusal 9, a law for each way. Assumes nothing.
-use Prim.Native.Nat.{ℕ, zero, suc, _+_, _*_, _%_, _^_, _≤_, _<_}
-use native.Mathlib.Omega.{arith}
+use Prim.Native.Nat.{ℕ, zero, suc, _+_, _^_, _≤_, _<_}
 use mathlib.Core.Path.{_≡_, refl, sym, ap, _∙_}
 use mathlib.Core.Bool.{Bool, true, false}
 use mathlib.Core.List.{List, [], _++_}
 use mathlib.Core.Option.{Option, none, some}
 use lib.ListN.{length, drop, replicate}
 use lib.Dec.{ltb}
-use borrow.Author.Tests.{lt-ltb, le-leb, lt-leb}
+use borrow.Author.Tests.{le-leb, lt-leb}
 use Rattle.repr.specs.Meaning.{Production, Table}
 use Rattle.lookahead.specs.declared.TokenSet.{TokenSet}
 use Rattle.first.specs.First.{firstSets}
@@ -17,13 +16,6 @@ use Rattle.enumerator.specs.Advance.{setOf, aheadFits, lentGraphFits, asked}
 use Rattle.enumerator.specs.declared.Lookahead.{Lookahead}
 use Rattle.enumerator.specs.declared.Lookahead.the-variants.{Any, Set}
 use Rattle.lister.specs.Context.{Read, aheadBy, setsFor, begun}
-
--- a set's tokens
-pub tokens-few : (t s : ℕ) → t < 63 → ltb s (1 * 2 ^ (t + 1) % 18446744073709551616) ≡ ltb s (2 ^ suc t)
-tokens-few t s h = rw (lib.Pow.shl-exact {a = 1} 1 (t + 1) 64 (omega arith) (omega arith), native.Mathlib.Nat.one-mul, native.Mathlib.Numerals.add-one)
-
-pub tokens-all : (t s : ℕ) → 63 ≤ t → t ≤ 63 → s < 18446744073709551616 → true ≡ ltb s (2 ^ suc t)
-tokens-all t s a b h = let e : t ≡ 63 = omega arith in rw e (sym (lt-ltb s 18446744073709551616 h))
 
 -- by the lookahead
 module _ (a : Lookahead) (t : ℕ) where

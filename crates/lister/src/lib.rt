@@ -22,9 +22,8 @@ use trace_graph::read_node;
 ghost use mathlib.Core.Path.{_≡_};
 ghost use mathlib.Core.Bool.{true, false};
 ghost use mathlib.Core.List.{List, _++_};
-ghost use Prim.Native.Nat.{ℕ, suc, _+_, _-_, _≤_, _<_, _^_};
+ghost use Prim.Native.Nat.{ℕ, _+_, _-_, _≤_, _<_};
 ghost use lib.ListN.{length, getD, replicate};
-ghost use lib.Dec.{ltb};
 ghost use Rattle.repr.specs.Meaning.{Table};
 ghost use Rattle.repr.specs.Packed.{Packed, productionsIn};
 ghost use Rattle.table.specs.Decoded.{meaning};
@@ -47,26 +46,14 @@ pub struct Stepped {
     pub answer: Advanced,
 }
 
-// Whether a set holds tokens of the table alone.
-fn tokens_fit(terminals: usize, set: TokenSet) -> bool
-    requires { ⌜ terminals ≤ 63 ⌝ }
-    ensures { λ r. ⌜ r ≡ ltb (set .0) (2 ^ suc terminals) ⌝ }
-{
-    if terminals < 63 {
-        set.0 < 1 << (terminals + 1)
-    } else {
-        true
-    }
-}
-
-// Whether any lookahead does.
+// Whether any lookahead holds tokens of the table alone.
 fn lookahead_fits(terminals: usize, lookahead: Lookahead) -> bool
     requires { ⌜ terminals ≤ 63 ⌝ }
     ensures { λ r. ⌜ r ≡ aheadBy terminals (setOf lookahead) ⌝ }
 {
     match lookahead {
         Lookahead::Any => true,
-        Lookahead::Set(set) => tokens_fit(terminals, set),
+        Lookahead::Set(set) => set.fits(terminals),
     }
 }
 
@@ -84,7 +71,7 @@ fn asked(
 ) -> bool
     requires { ⌜ Packed (now grammar) productions ⌝ }
     requires { ⌜ (n ≤ 32) × (terminals ≤ 63) ⌝ }
-    requires { ⌜ now ix ≡ replicate 3232 0 ⌝ }
+    requires { ⌜ now ix ≡ replicate 5280 0 ⌝ }
     ensures { λ r. ⌜ ((T : Table) → Read T n terminals (productionsIn (now (grammar .entry)) productions) → r ≡ asked T (record { production = production; index = index }) (setOf lookahead) (now (graph .entry))) ⌝ }
     ensures { λ r. ⌜ (r ≡ true → 8193 ≤ length (now (graph .entry)) → Graphed n (productionsIn (now (grammar .entry)) productions) (now (graph .entry)) (now (ix .exit)) (getD (now (graph .entry)) 0 0)) ⌝ }
 {
@@ -148,7 +135,7 @@ pub fn open_in(
     let counts = read_counts(table);
     let mut grammar = [0u16; 4608];
     read_productions(table, &mut grammar);
-    let mut ix = [0u16; 3232];
+    let mut ix = [0u16; 5280];
     if asked(
         &grammar,
         counts.productions,
@@ -377,7 +364,7 @@ pub fn step_in(
     let terminals = counts.terminals;
     let mut grammar = [0u16; 4608];
     read_productions(table, &mut grammar);
-    let mut ix = [0u16; 3232];
+    let mut ix = [0u16; 5280];
     let production = l.production as usize;
     let index = l.index as usize;
     let lookahead = l.lookahead;

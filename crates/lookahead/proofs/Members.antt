@@ -59,7 +59,7 @@ kept-from t from n i h =
     let r : ((not (ltb k from) && ltb k (from + n)) && t k) ≡ true = ap (λ (b : Bool). b && t k) (sym (mem-upFrom k from n)) ∙ sym (mem-keep t k (upFrom from n)) ∙ m in
     cases (ltb k from) (λ e. absurd (true≢false (sym (rw e at r)))) (ltb-false k from)
 
-kept-ascend : (t : ℕ → Bool) (from n i j : ℕ) → i < j → j < length (keep t (upFrom from n)) → getD (keep t (upFrom from n)) i 0 < getD (keep t (upFrom from n)) j 0
+pub kept-ascend : (t : ℕ → Bool) (from n i j : ℕ) → i < j → j < length (keep t (upFrom from n)) → getD (keep t (upFrom from n)) i 0 < getD (keep t (upFrom from n)) j 0
 unfolding upFrom
 kept-ascend t from zero i j l h = absurd (omega (arith, ap length (keep-nil t)))
 kept-ascend t from (suc n) i j l h =

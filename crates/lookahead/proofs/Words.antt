@@ -120,3 +120,10 @@ module _ (s : ℕ) (ne : s ≡ 0 → ⊥) (h : s < 2 ^ 64) where
 
   pub next-token : Token (trailingZeros 64 s) (record { 0 = s - 1 * 2 ^ trailingZeros 64 s % 18446744073709551616 }) ≡ nextOf s
   next-token = rw (off s (trailingZeros 64 s) h (least .1)) (sym (nextOf-least s (omega arith) h))
+
+-- a set of tokens up to t alone
+pub tokens-few : (t s : ℕ) → t < 63 → ltb s (1 * 2 ^ (t + 1) % 18446744073709551616) ≡ ltb s (2 ^ suc t)
+tokens-few t s h = rw (shifted (t + 1) (omega arith), add-one t)
+
+pub tokens-all : (t s : ℕ) → 63 ≤ t → t ≤ 63 → s < 18446744073709551616 → true ≡ ltb s (2 ^ suc t)
+tokens-all t s a b h = let e : t ≡ 63 = omega arith in rw e (sym (lt-ltb s 18446744073709551616 h))

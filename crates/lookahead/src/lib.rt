@@ -3,7 +3,7 @@
 ghost use mathlib.Core.Path.{_≡_};
 ghost use mathlib.Core.Bool.{Bool, true, false, _&&_, _||_, not};
 ghost use mathlib.Core.List.{List, [], _∷_};
-ghost use Prim.Native.Nat.{ℕ, _≤_, _<_};
+ghost use Prim.Native.Nat.{ℕ, suc, _^_, _≤_, _<_};
 ghost use lib.ListN.{length};
 ghost use lib.Dec.{eqb, ltb};
 ghost use Rattle.lookahead.specs.Tokens.{has, single, union, meet, without, with, members, upTo};
@@ -110,6 +110,18 @@ impl TokenSet {
         ensures { λ r. ⌜ r ≡ has (self .0) terminals ⌝ }
     {
         self.contains(terminals)
+    }
+
+    // Whether the set holds terminals and the end of input alone.
+    pub fn fits(self, terminals: usize) -> bool
+        requires { ⌜ terminals ≤ 63 ⌝ }
+        ensures { λ r. ⌜ r ≡ ltb (self .0) (2 ^ suc terminals) ⌝ }
+    {
+        if terminals < 63 {
+            self.0 < 1 << (terminals + 1)
+        } else {
+            true
+        }
     }
 
     // If this set contains the end of input, removes it and says so.

@@ -2,7 +2,7 @@
 use mathlib.Core.Path.{_≡_, refl, sym, ap, _∙_}
 use mathlib.Core.Bool.{Bool, true, false, _&&_}
 use mathlib.Core.List.{List, [], _∷_}
-use Prim.Native.Nat.{ℕ, suc, _+_, _*_, _%_, _^_, _≤_, _<_}
+use Prim.Native.Nat.{ℕ, suc, _^_, _≤_, _<_}
 use native.Mathlib.Omega.{arith}
 use lib.ListN.{length}
 use lib.Dec.{ltb}
@@ -12,14 +12,12 @@ use Rattle.repr.specs.Listed.{listed, listFits}
 use Rattle.repr.proofs.Listed.{symbol-wider}
 use Rattle.repr.specs.Packed.{productionsIn}
 use Rattle.table.specs.Decoded.{meaning}
-use Rattle.table.specs.Refusals.{checkOf}
 use Rattle.table.specs.declared.Checked.{Checked}
 use Rattle.table.specs.declared.Checked.the-variants.{Accepted, Refused}
 use Rattle.first.specs.First.{FIRST, first0, first1, firstSets}
 use Rattle.first.proofs.Join.{first1-join}
 use Rattle.state_graph.specs.Walk.{traceBack}
-use Rattle.lr1.specs.Entries.{overTable, symbolsFit, tokensFit, first0In, first1In, Walk, states, refused, traceBackIn}
-use Rattle.lr1.specs.declared.First.{First}
+use Rattle.lr1.specs.Entries.{overTable, symbolsFit, tokensFit, first0In, first1In, states, refused, traceBackIn}
 use Rattle.lr1.specs.declared.First.the-variants.{Tokens, Refused as NoTokens}
 
 module _ {A : Type 0} (refuse : ℕ → ℕ → A) (answer : Table → A) (t : List ℕ) where
@@ -79,13 +77,6 @@ module _ (s : ℕ) (ws : List ℕ) (T : Table) where
   pub walk-state : length (T .states) ≤ s → refused 9 0 ≡ traceBackIn s ws T
   unfolding traceBackIn
   walk-state h = rw (le-ltb s (length (T .states)) h, traceBackIn)
-
--- ---- a set's tokens
-pub tokens-few : (t s : ℕ) → t < 63 → ltb s (1 * 2 ^ (t + 1) % 18446744073709551616) ≡ ltb s (2 ^ suc t)
-tokens-few t s h = rw (lib.Pow.shl-exact {a = 1} 1 (t + 1) 64 (omega arith) (omega arith), native.Mathlib.Nat.one-mul, native.Mathlib.Numerals.add-one)
-
-pub tokens-all : (t s : ℕ) → 63 ≤ t → t ≤ 63 → s < 18446744073709551616 → true ≡ ltb s (2 ^ suc t)
-tokens-all t s a b h = let e : t ≡ 63 = omega arith in rw e (sym (lt-ltb s 18446744073709551616 h))
 
 -- ---- a list in range is so in a larger one
 and-both : (a b : Bool) → a && b ≡ true → (a ≡ true) × (b ≡ true)

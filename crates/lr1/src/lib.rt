@@ -19,8 +19,6 @@ use trace_graph::edge_fits;
 use trace_graph::insert;
 use tracer::Backtrace;
 ghost use mathlib.Core.Path.{_≡_};
-ghost use Prim.Native.Nat.{suc, _≤_, _^_};
-ghost use lib.Dec.{ltb};
 ghost use Rattle.first.specs.First.{firstSets};
 ghost use Rattle.table.specs.Decoded.{meaning};
 ghost use Rattle.table.specs.Refusals.{checkOf};
@@ -77,18 +75,6 @@ fn first0_in(table: &[u16], symbols: &[u16]) -> First
     }
 }
 
-// Whether a set holds tokens of the table alone.
-fn tokens_fit(terminals: usize, set: TokenSet) -> bool
-    requires { ⌜ terminals ≤ 63 ⌝ }
-    ensures { λ r. ⌜ r ≡ ltb (set .0) (2 ^ suc terminals) ⌝ }
-{
-    if terminals < 63 {
-        set.0 < 1 << (terminals + 1)
-    } else {
-        true
-    }
-}
-
 // FIRST of a list that a token of the lookahead follows.
 pub fn first1(table: &[u16], lookahead: TokenSet, symbols: &[u16]) -> First
     ensures { λ r. ⌜ r ≡ first1Of (now (table .entry)) (now (symbols .entry)) (lookahead .0) ⌝ }
@@ -107,7 +93,7 @@ fn first1_in(table: &[u16], lookahead: TokenSet, symbols: &[u16]) -> First
     let n = counts.nonterminals;
     let terminals = counts.terminals;
     if list_fits(n, terminals, symbols) {
-        if tokens_fit(terminals, lookahead) {
+        if lookahead.fits(terminals) {
             let sets = first_sets(table);
             let map = sets.map;
             return First::Tokens(first::first1(&map, terminals as u16, symbols, lookahead));
@@ -191,7 +177,7 @@ fn add_edge_in(table: &[u16], edge: TraceEdge, graph: &mut [u16]) -> AddEdge
         if graph.len() < TraceGraph::WORDS {
             return AddEdge::Refused(11, 0);
         }
-        let mut ix = [0u16; 3232];
+        let mut ix = [0u16; 5280];
         if check_graph(&grammar, productions, n, graph, &mut ix) {
             return match insert(&grammar, productions, n, graph, &mut ix, edge) {
                 Inserted::Done => AddEdge::Edges(word(graph, 0) as u16),

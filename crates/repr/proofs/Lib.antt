@@ -4,3 +4,4 @@ pub mod Listed
 pub mod Packed
 pub mod Parts
 pub mod SameSymbol
+pub mod Fronts

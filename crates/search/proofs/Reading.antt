@@ -4,8 +4,8 @@ use native.Mathlib.Omega.{arith}
 use mathlib.Core.Path.{_≡_, refl, sym, ap, _∙_}
 use mathlib.Core.Bool.{true}
 use mathlib.Core.List.{List, [], _∷_, _++_, map, append-assoc, append-nil}
-use lib.ListN.{length, getD, set, take, drop, length-append, length-set}
-use lib.Seq.{length-take-le, take-suc, take-at, take-length, getD-take, getD-drop}
+use lib.ListN.{length, getD, set, take, drop, length-set}
+use lib.Seq.{take-suc, take-length, getD-take, getD-drop}
 use Rattle.repr.specs.Lists.{joined}
 use Rattle.repr.specs.Meaning.{Production, All}
 use Rattle.repr.specs.Packed.{Packed, productionsIn}
@@ -19,8 +19,7 @@ use Rattle.trace_graph.proofs.Words.{edge-read, fits-read}
 use Rattle.trace_graph.proofs.Fits.{Bounds, item-parts, source-fits, label-fits}
 use Rattle.example.specs.Example.{Label}
 use Rattle.example.specs.Labels.{labelsIn, LabelFits, LabelsFit}
-use Rattle.example.specs.Written.{putAt}
-use Rattle.example.proofs.Put.{stored-three}
+use Rattle.example.proofs.LabelWords.{labelWords, labels-read, words-count, front-more}
 use Rattle.enumerator.specs.Trials.{Path, noEdge}
 use Rattle.enumerator.specs.Lister.{nodeOwner, labelAt, labelsOf}
 use Rattle.enumerator.specs.Words.{wordsOf, pathIn}
@@ -30,20 +29,6 @@ use Rattle.enumerator.proofs.WordsOf.{path-in-words}
 use Rattle.enumerator.proofs.StackWords.{words-head, words-all, words-once}
 use Rattle.search.specs.Given.{Tried}
 use Rattle.search.proofs.Owner.{owner-small}
-
--- a label's words
-unfoldable pub labelWords : Label → List ℕ
-labelWords l = l .nonterminal ∷ l .production ∷ l .index ∷ []
-
-pub labels-back : (ls : List Label) → labelsIn (joined labelWords ls) ≡ ls
-unfolding labelsIn labelWords joined
-labels-back [] = refl
-labels-back (l ∷ ls) = ap (λ (r : List Label). l ∷ r) (labels-back ls)
-
-pub words-count : (ls : List Label) → length (joined labelWords ls) ≡ length ls + (length ls + length ls)
-unfolding labelWords joined
-words-count [] = refl
-words-count (l ∷ ls) = let r = words-count ls in omega arith
 
 -- an edge's label
 module _ (ps : List Production) (g : List ℕ) (e : ℕ) (h : e < getD g 0 0) (v : EdgeValue) (q : v ≡ edgeRead g e) where
@@ -111,15 +96,6 @@ module _ {ps : List Production} {g ws : List ℕ} (T : Tried ps g ws) where
   pub reading-first : {labels : List ℕ} {w : ℕ} → 99 ≤ length labels → w ≡ getD ws 0 0 → Reading ps g ws labels w labels 0
   unfolding labelsOf joined
   reading-first r e = record { tried = T; depth = e ∙ tried-depth; within = omega arith; size = refl; room = r; front = refl }
-
--- three words more
-front-more : (xs : List ℕ) (at a b c : ℕ) → at + 3 ≤ length xs → take (at + 3) (set (set (set xs at a) (at + 1) b) (at + 2) c) ≡ take at xs ++ (a ∷ b ∷ c ∷ [])
-unfolding putAt
-front-more xs at a b c h =
-    let three = a ∷ b ∷ c ∷ [] in
-    let s : length (take at xs ++ three) ≡ at + 3 = omega (arith, length-append (take at xs) three, length-take-le at xs (omega arith)) in
-    ap (take (at + 3)) (stored-three at a b c xs h ∙ sym (append-assoc (take at xs) three (drop (at + 3) xs)))
-    ∙ take-at (take at xs ++ three) (drop (at + 3) xs) (at + 3) s
 
 labels-more : (ps : List Production) (es : List TraceEdge) (p : Path) (e : ℕ) → joined labelWords (labelsOf ps es (p ++ e ∷ [])) ≡ joined labelWords (labelsOf ps es p) ++ labelWords (labelAt ps es e)
 unfolding labelsOf joined
@@ -192,7 +168,7 @@ module _ {ps : List Production} {g ws labels₀ : List ℕ} {count : ℕ} {label
     pub reading-labels : (p rest : List ℕ) → ws ≡ wordsOf p ++ rest → labelsIn (take (3 * count) labels) ≡ labelsOf ps (edgesIn g) p
     reading-labels p rest w =
         let o = words-once (R .tried .path) p (R .tried .rest) rest (sym (R .tried .words) ∙ w) in
-        ap labelsIn whole ∙ labels-back (labelsOf ps (edgesIn g) (R .tried .path)) ∙ ap (labelsOf ps (edgesIn g)) (o .0)
+        ap labelsIn whole ∙ labels-read (labelsOf ps (edgesIn g) (R .tried .path)) ∙ ap (labelsOf ps (edgesIn g)) (o .0)
 
 pub reading-fit : (gr : List ℕ) (m : ℕ) → Packed gr m → {g ws labels₀ : List ℕ} {count : ℕ} {labels : List ℕ} {at : ℕ} (R : Reading (productionsIn gr m) g ws labels₀ count labels at) → count ≤ at
     → (3 * count ≤ 99) × LabelsFit (productionsIn gr m) (take (3 * count) labels)
@@ -209,6 +185,6 @@ reading-fit gr m P {g = g} {count = count} {labels = labels} R end =
         some-label = omega (arith, T .some-edge);
         few = omega (arith, T .few);
         whole = (length ls, s);
-        each = rw (ap labelsIn w ∙ labels-back ls) (labels-each gr m P g (T .nonterminals) (T .few-nonterminals) (T .fits) (T .path) (T .edges));
+        each = rw (ap labelsIn w ∙ labels-read ls) (labels-each gr m P g (T .nonterminals) (T .few-nonterminals) (T .fits) (T .path) (T .edges));
       },
     )

@@ -14,9 +14,9 @@ use Rattle.repr.proofs.Lists.{cases, keep-nil, keep-yes, keep-no, keep-append, 
 use Rattle.repr.proofs.Parts.{symbols-long}
 use Rattle.trace_graph.specs.Graph.{sameItem}
 use Rattle.trace.specs.Shifting.{itemOf}
-use Rattle.trace.specs.Coded.{Grammar, CodesOf}
+use Rattle.shifting.specs.Coded.{Grammar, CodesOf}
 use Rattle.trace.proofs.Distinct.{code-item}
-use Rattle.trace.proofs.Codes.{codes-kept}
+use Rattle.shifting.proofs.Codes.{codes-kept}
 use Rattle.error.specs.Items.{shiftsToken, cursorItems, allItems, productionOrder, shiftItems}
 use Rattle.shift_items.specs.Codes.{marked, codesOf, shiftsCode, wanted}
 use Rattle.shift_items.specs.Order.{Below, Ordered}

@@ -4,6 +4,7 @@ use mathlib.Core.Bool.{Bool, true, false, _&&_, _||_, or-false}
 use mathlib.Core.List.{List, []}
 use Prim.Native.Nat.{ℕ, zero, suc, _+_, _-_, _*_, _/_, _%_, _^_, _≤_, _<_}
 use native.Mathlib.Omega.{arith}
+use native.Mathlib.Nat.{add-mul, mul-le-mul-right}
 use lib.Bits.{bitOr}
 use lib.Dec.{eqb, ltb}
 use lib.ListN.{length, getD, set, replicate, length-set}
@@ -20,7 +21,7 @@ use Rattle.table.specs.Decoded.{edgesFrom}
 use Rattle.table.specs.Words.{looseRecords}
 use Rattle.table.proofs.Chains.{chain-end}
 use Rattle.state_graph.specs.States.{hasState}
-use Rattle.state_graph.specs.Preds.{rowOf, hasEdge, marked, into}
+use Rattle.state_graph.specs.Preds.{rowOf, hasEdge, predWords, marked, into}
 use Rattle.state_graph.proofs.States.{low-with, high-with}
 
 -- rows
@@ -124,20 +125,34 @@ module _ (ws : List ℕ) (j s : ℕ) (s< : s < 128) (in-range : j * 2 + 1 < leng
       rw (b, marked-other (i * 2) (λ e. q (omega arith)), marked-other (i * 2 + 1) (λ e. q (omega arith)))
       (sym (or-false (hasState (getD ws (i * 2) 0) (getD ws (i * 2 + 1) 0) p))))
 
-pub place-same : (x m y n : ℕ) → m < 128 → n < 128 → eqb (x * 128 + m) (y * 128 + n) ≡ (eqb x y && eqb m n)
-place-same x m y n h l =
+-- places: rows of s
+
+row-before : (s x m y : ℕ) → x < y → m < s → x * s + m < y * s
+row-before s x m y h l =
+    let one = add-mul x 1 s in
+    let more : (x + 1) * s ≤ y * s = mul-le-mul-right s (omega arith) in
+    omega arith
+
+-- the two words of a place are inside the rows
+pub place-below : (rows s x m : ℕ) → x < rows → m < s → (x * s + m) * 2 + 1 < rows * s * 2
+place-below rows s x m h l = let b = row-before s x m rows h l in omega arith
+
+-- a place is one row's and one target's
+pub place-same : (s x m y n : ℕ) → m < s → n < s → eqb (x * s + m) (y * s + n) ≡ (eqb x y && eqb m n)
+place-same s x m y n h l =
     cases (eqb x y)
     (λ a. let q = eqb-true x y a in rw (a, q) (cases (eqb m n)
-    (λ b. let r = eqb-true m n b in rw (b) (eq-eqb (y * 128 + m) (y * 128 + n) (omega arith)))
-    (λ b. let r = eqb-false m n b in rw (b) (ne-eqb (y * 128 + m) (y * 128 + n) (λ e. r (omega arith))))))
-    (λ a. let q = eqb-false x y a in rw a (ne-eqb (x * 128 + m) (y * 128 + n) (λ e. q (omega arith))))
+    (λ b. let r = eqb-true m n b in rw (b) (eq-eqb (y * s + m) (y * s + n) (omega arith)))
+    (λ b. let r = eqb-false m n b in rw (b) (ne-eqb (y * s + m) (y * s + n) (λ e. r (omega arith))))))
+    (λ a. let q = eqb-false x y a in rw a (ne-eqb (x * s + m) (y * s + n) (cases (ltb x y)
+    (λ b. let r = row-before s x m y (ltb-true x y b) h in λ e. omega arith)
+    (λ b. let o = ltb-false x y b in let r = row-before s y n x (omega (arith, q)) l in λ e. omega arith))))
 
--- the place of a row and a target is inside
-pub place-inside : (T : Table) (k x m l : ℕ) → TableFits T → symbolFits (length (T .nonterminals)) (T .terminals) k x ≡ true → m < length (T .states)
-    → (length (T .nonterminals) + T .terminals) * 256 ≤ l → (rowOf (length (T .nonterminals)) k x * 128 + m) * 2 + 1 < l
-place-inside T k x m l F f h room =
-    let r = row-below (length (T .nonterminals)) (T .terminals) k x f in
-    let s = F .few-states in
+-- the place of a table's symbol and target is inside
+pub place-inside : (T : Table) (k x m l : ℕ) → symbolFits (length (T .nonterminals)) (T .terminals) k x ≡ true → m < length (T .states) → predWords T ≤ l
+    → (rowOf (length (T .nonterminals)) k x * length (T .states) + m) * 2 + 1 < l
+place-inside T k x m l f h room =
+    let b = place-below (length (T .nonterminals) + T .terminals) (length (T .states)) (rowOf (length (T .nonterminals)) k x) m (row-below (length (T .nonterminals)) (T .terminals) k x f) h in
     omega arith
 
 -- the edges of one state, in the order of its chain

@@ -1,19 +1,20 @@
 -- What the state walk of specs/Walk gives (document 01, part 3; acceptance F6, F7): exactly the states with a path, ascending; two lists of symbols joined;
 -- two sets joined; a repeated edge. Assumes nothing.
 use mathlib.Core.Path.{_≡_, refl, sym, ap, subst, _∙_}
-use mathlib.Core.Bool.{Bool, true, false, _&&_, _||_, not, true≢false, and-or-distrib-left}
+use mathlib.Core.Bool.{Bool, true, false, _&&_, _||_, true≢false, and-or-distrib-left}
 use mathlib.Core.List.{List, [], _∷_, _++_, List·Memᴰ, List·Memᴰ·head, List·Memᴰ·tail, List·Memᴰ·cases-cons, Memᴰ·cast}
 use mathlib.Core.Logic.{_↔_, ⊎-elim}
-use Prim.Native.Nat.{ℕ, zero, suc, _+_, _≤_, _<_}
+use Prim.Native.Nat.{ℕ, _+_, _≤_, _<_}
 use native.Mathlib.Omega.{arith}
 use lib.ListN.{length, getD, List·getD-eq-default}
 use lib.Dec.{eqb, ltb}
 use borrow.Author.Tests.{eqb-true, eqb-false, ltb-true, ltb-false}
 use Rattle.repr.specs.Lists.{upFrom, below, mem, keep, some?}
 use Rattle.repr.specs.Meaning.{Symbol, sameSymbol, Edge, State, Table, stateAt, noState}
-use Rattle.repr.proofs.Lists.{cases, clash, mem-nil, mem-cons, mem-append, mem-cons-here, mem-keep, mem-below, mem-at, mem-upFrom, keep-nil, keep-yes, keep-no, keep-agree}
+use Rattle.repr.proofs.Lists.{cases, clash, mem-nil, mem-cons, mem-append, mem-cons-here, mem-keep, mem-below, keep-agree}
 use Rattle.repr.proofs.Tests.{some?-nil, some?-yes, some?-no, some?-cons}
 use Rattle.repr.proofs.SameSymbol.{same-equal, same-refl}
+use Rattle.lookahead.proofs.Members.{kept-ascend}
 use Rattle.state_graph.specs.Walk.{Path, stay, go, Ascending, leads, predecessors, walkBack, traceBack}
 
 -- two tests that are true together are equal
@@ -72,27 +73,8 @@ pub mem-one : (k s : ℕ) → mem k (s ∷ []) ≡ true → k ≡ s
 mem-one k s e = cases (eqb k s) (eqb-true k s) (λ f. clash (mem k (s ∷ [])) e (mem-cons k s [] ∙ rw (f, mem-nil k)))
 
 -- the kept of a range ascend
-
-kept-from : (t : ℕ → Bool) (from n i : ℕ) → i < length (keep t (upFrom from n)) → from ≤ getD (keep t (upFrom from n)) i 0
-kept-from t from n i h =
-    let k = getD (keep t (upFrom from n)) i 0 in
-    let m : mem k (keep t (upFrom from n)) ≡ true = mem-at (keep t (upFrom from n)) i 0 h in
-    let r : ((not (ltb k from) && ltb k (from + n)) && t k) ≡ true = ap (λ (b : Bool). b && t k) (sym (mem-upFrom k from n)) ∙ sym (mem-keep t k (upFrom from n)) ∙ m in
-    cases (ltb k from) (λ e. absurd (true≢false (sym (rw e at r)))) (ltb-false k from)
-
 pub kept-ascending : (t : ℕ → Bool) (from n : ℕ) → Ascending (keep t (upFrom from n))
-unfolding upFrom
-kept-ascending t from zero i j l h = absurd (omega (arith, ap length (keep-nil t)))
-kept-ascending t from (suc n) i j l h =
-    let rest = kept-ascending t (suc from) n in
-    cases (t from)
-    (λ e. rw (keep-yes t from (upFrom (suc from) n) e) (here rest i j l (rw (keep-yes t from (upFrom (suc from) n) e) at h)))
-    (λ e. rw (keep-no t from (upFrom (suc from) n) e) (rest i j l (rw (keep-no t from (upFrom (suc from) n) e) at h)))
-  where
-    here : Ascending (keep t (upFrom (suc from) n)) → Ascending (from ∷ keep t (upFrom (suc from) n))
-    here rest i zero l h = absurd (omega arith)
-    here rest zero (suc j) l h = kept-from t (suc from) n j (omega arith)
-    here rest (suc i) (suc j) l h = rest i j (omega arith) (omega arith)
+kept-ascending t from n i j l h = kept-ascend t from n i j l h
 
 module _ (T : Table) where
   -- a number that is no state's has no edges

@@ -6,11 +6,11 @@ use Prim.Native.Nat.{ℕ, zero, suc, _+_, _-_, _*_, _/_, _≤_, _<_}
 use native.Mathlib.Omega.{arith}
 use lib.Bits.{bitOr}
 use lib.Dec.{eqb, ltb}
-use lib.ListN.{length, getD, set, replicate, length-set, length-replicate}
+use lib.ListN.{length, getD, set, replicate, length-set}
 use lib.Seq.{getD-set-same, getD-set-other}
 use borrow.Author.Tests.{eqb-true, eqb-false, ne-eqb, ltb-true, ltb-false, lt-ltb, le-ltb}
 use Rattle.repr.specs.Lists.{some?}
-use Rattle.repr.specs.Meaning.{Symbol, Table, TableFits, stateAt}
+use Rattle.repr.specs.Meaning.{Symbol, Table, stateAt}
 use Rattle.repr.specs.Listed.{symbolOfKind, symbolFits}
 use Rattle.repr.proofs.Lists.{cases, clash}
 use Rattle.repr.proofs.Tests.{some?-nil, some?-cons}
@@ -22,7 +22,7 @@ use Rattle.table.specs.declared.Checked.the-variants.{Accepted}
 use Rattle.table.proofs.Accepted.{accepts}
 use Rattle.table.proofs.Held.{edge-inside}
 use Rattle.state_graph.specs.States.{hasState}
-use Rattle.state_graph.specs.Preds.{rowOf, hasEdge, Preds, predHas, marked, into}
+use Rattle.state_graph.specs.Preds.{rowOf, hasEdge, Preds, predWords, predHas, marked, into}
 use Rattle.state_graph.specs.Sources.{hasSource, noSource, united, ahead, Heads, Passed}
 use Rattle.state_graph.proofs.Exact.{and-both, no-edges}
 use Rattle.state_graph.proofs.States.{state-none, state-or}
@@ -200,18 +200,18 @@ module _ (t : List ℕ) (s : ℕ) (ss : List ℕ) (H : Heads t s ss) (head : ℕ
 
 -- the records, one after another: what is marked, with what is ahead, is all
 
-pub record Sweep (t : List ℕ) (n : ℕ) (ws₀ ss₀ ws ss : List ℕ) (r : ℕ) : Type 0 where
+pub record Sweep (t : List ℕ) (n s : ℕ) (ws₀ ss₀ ws ss : List ℕ) (r : ℕ) : Type 0 where
   pub same-preds : length ws ≡ length ws₀
   pub same-sources : length ss ≡ length ss₀
   pub on : (j : ℕ) → noSource ss j ≡ false → (j ≡ 0 → ⊥) × EdgeIndex t j
   pub exact : (k x m p : ℕ) → symbolFits (length (meaning t .nonterminals)) (meaning t .terminals) k x ≡ true → m < length (meaning t .states) → p < 128
-      → (predHas ws (rowOf n k x) m p || ahead t ss (symbolOfKind k x) m p (records t - r) r) ≡ hasEdge (meaning t) (symbolOfKind k x) m p
+      → (predHas ws s (rowOf n k x) m p || ahead t ss (symbolOfKind k x) m p (records t - r) r) ≡ hasEdge (meaning t) (symbolOfKind k x) m p
 
-zero-preds : (ws : List ℕ) → ws ≡ replicate (length ws) 0 → (y m p : ℕ) → predHas ws y m p ≡ false
+zero-preds : (ws : List ℕ) → ws ≡ replicate (length ws) 0 → (s y m p : ℕ) → predHas ws s y m p ≡ false
 unfolding predHas
-zero-preds ws e y m p =
+zero-preds ws e s y m p =
     let a : (i : ℕ) → getD ws i 0 ≡ 0 = λ i. ap (λ (l : List ℕ). getD l i 0) e ∙ zeros-zero (length ws) i in
-    rw (a ((y * 128 + m) * 2), a ((y * 128 + m) * 2 + 1)) (state-none p)
+    rw (a ((y * s + m) * 2), a ((y * s + m) * 2 + 1)) (state-none p)
 
 all-states : (T : Table) (x : Symbol) (s m p : ℕ) → s ≡ length (T .states) → (ltb p s && hasEdge T x m p) ≡ hasEdge T x m p
 all-states T x s m p e =
@@ -221,22 +221,22 @@ all-states T x s m p e =
     let i = ltb-false p s a in
     rw a (sym (has-edge-into T x m p ∙ rw (no-edges T p (omega arith)) (some?-nil (into x m)))))
 
-pub sweep-start : (t : List ℕ) (n s : ℕ) (ws ss : List ℕ) → Heads t s ss → s ≡ length (meaning t .states) → ws ≡ replicate (length ws) 0 → Sweep t n ws ss ws ss 0
+pub sweep-start : (t : List ℕ) (n s : ℕ) (ws ss : List ℕ) → Heads t s ss → s ≡ length (meaning t .states) → ws ≡ replicate (length ws) 0 → Sweep t n s ws ss ws ss 0
 sweep-start t n s ws ss H es e = record {
   same-preds = refl;
   same-sources = refl;
   on = H .on;
   exact = λ k x m p f l b.
       let whole : records t - 0 ≡ records t = omega arith in
-      rw (zero-preds ws e (rowOf n k x) m p, whole) (H .exact (symbolOfKind k x) m p ∙ all-states (meaning t) (symbolOfKind k x) s m p es);
+      rw (zero-preds ws e s (rowOf n k x) m p, whole) (H .exact (symbolOfKind k x) m p ∙ all-states (meaning t) (symbolOfKind k x) s m p es);
 }
 
-united-pred : (ws : List ℕ) (x m l h y n p : ℕ) → m < 128 → n < 128 → (x * 128 + m) * 2 + 1 < length ws
-    → predHas (united ws ((x * 128 + m) * 2) l h) y n p ≡ (predHas ws y n p || ((eqb y x && eqb n m) && hasState l h p))
+united-pred : (ws : List ℕ) (s x m l h y n p : ℕ) → m < s → n < s → (x * s + m) * 2 + 1 < length ws
+    → predHas (united ws ((x * s + m) * 2) l h) s y n p ≡ (predHas ws s y n p || ((eqb y x && eqb n m) && hasState l h p))
 unfolding predHas
-united-pred ws x m l h y n p hm hn i =
-    united-has ws (x * 128 + m) l h i (y * 128 + n) p
-    ∙ ap (λ (b : Bool). hasState (getD ws ((y * 128 + n) * 2) 0) (getD ws ((y * 128 + n) * 2 + 1) 0) p || (b && hasState l h p)) (place-same y n x m hn hm)
+united-pred ws s x m l h y n p hm hn i =
+    united-has ws (x * s + m) l h i (y * s + n) p
+    ∙ ap (λ (b : Bool). hasState (getD ws ((y * s + n) * 2) 0) (getD ws ((y * s + n) * 2 + 1) 0) p || (b && hasState l h p)) (place-same s y n x m hn hm)
 
 weave : (a i c w z : Bool) → ((a || (i && c)) || (w || (c && z))) ≡ (a || ((c && (i || z)) || w))
 weave true i c w z = refl
@@ -250,16 +250,15 @@ weave false false true false false = refl
 weave false false false true z = refl
 weave false false false false z = refl
 
-module _ (t : List ℕ) (n : ℕ) (ws₀ ss₀ ws ss : List ℕ) (r : ℕ) (S : Sweep t n ws₀ ss₀ ws ss r) where
+module _ (t : List ℕ) (n s : ℕ) (ws₀ ss₀ ws ss : List ℕ) (r : ℕ) (S : Sweep t n s ws₀ ss₀ ws ss r) (en : n ≡ length (meaning t .nonterminals)) (es : s ≡ length (meaning t .states)) where
   -- none left
-  pub sweep-done : records t ≤ r → n ≡ length (meaning t .nonterminals) → (length (meaning t .nonterminals) + meaning t .terminals) * 256 ≤ length ws₀ → Preds (meaning t) ws
-  unfolding predHas
-  sweep-done h en room =
+  pub sweep-done : records t ≤ r → predWords (meaning t) ≤ length ws₀ → Preds (meaning t) ws
+  sweep-done h room =
       let l = S .same-preds in
       let none : records t - r ≡ 0 = omega arith in
       record {
         long = omega arith;
-        exact = λ k x m p f i b. rw (none, ahead-end t (symbolOfKind k x) m p ss r, or-false (predHas ws (rowOf n k x) m p), en) at (S .exact k x m p f i b);
+        exact = λ k x m p f i b. rw (none, ahead-end t (symbolOfKind k x) m p ss r, or-false (predHas ws s (rowOf n k x) m p), en, es) at (S .exact k x m p f i b);
       }
 
   module _ (inside : r < records t) where
@@ -267,7 +266,7 @@ module _ (t : List ℕ) (n : ℕ) (ws₀ ss₀ ws ss : List ℕ) (r : ℕ) (S : 
     one-left = omega arith
 
     -- a record that no chain comes to
-    pub sweep-skip : noSource ss r ≡ true → Sweep t n ws₀ ss₀ ws ss (r + 1)
+    pub sweep-skip : noSource ss r ≡ true → Sweep t n s ws₀ ss₀ ws ss (r + 1)
     sweep-skip none = record {
       same-preds = S .same-preds;
       same-sources = S .same-sources;
@@ -276,8 +275,7 @@ module _ (t : List ℕ) (n : ℕ) (ws₀ ss₀ ws ss : List ℕ) (r : ℕ) (S : 
           rw (one-left, ahead-step t (symbolOfKind k x) m p ss (records t - (r + 1)) r, no-source-has ss r p none) at (S .exact k x m p f i b);
     }
 
-    module _ (F : TableFits (meaning t)) (en : n ≡ length (meaning t .nonterminals)) (room : (length (meaning t .nonterminals) + meaning t .terminals) * 256 ≤ length ws₀)
-        (room′ : records t * 2 ≤ length ss₀) (ws′ ss′ : List ℕ) (P : Passed t n r ws ss ws′ ss′) where
+    module _ (room : predWords (meaning t) ≤ length ws₀) (room′ : records t * 2 ≤ length ss₀) (ws′ ss′ : List ℕ) (P : Passed t n s r ws ss ws′ ss′) where
       next-inside : (P .next ≡ 0 → ⊥) → P .next * 2 + 1 < length ss
       next-inside ne = let h = index-inside t (P .next) ne (P .edge .on) in let l = S .same-sources in omega arith
 
@@ -299,19 +297,18 @@ module _ (t : List ℕ) (n : ℕ) (ws₀ ss₀ ws ss : List ℕ) (r : ℕ) (S : 
 
       -- the states that are marked
       put : (k x m p : ℕ) → symbolFits (length (meaning t .nonterminals)) (meaning t .terminals) k x ≡ true → m < length (meaning t .states)
-          → predHas ws′ (rowOf n k x) m p
-          ≡ (predHas ws (rowOf n k x) m p || (into (symbolOfKind k x) m (record { symbol = symbolOfKind (P .kind) (P .number); target = P .target }) && hasSource ss r p))
+          → predHas ws′ s (rowOf n k x) m p
+          ≡ (predHas ws s (rowOf n k x) m p || (into (symbolOfKind k x) m (record { symbol = symbolOfKind (P .kind) (P .number); target = P .target }) && hasSource ss r p))
       unfolding hasSource
       put k x m p f l =
-          let few = F .few-states in
           let tin = P .edge .inside in
           let len = S .same-preds in
-          let here : (rowOf n (P .kind) (P .number) * 128 + P .target) * 2 + 1 < length ws =
-          rw (en, len) (place-inside (meaning t) (P .kind) (P .number) (P .target) (length ws₀) F (P .edge .symbol) (P .edge .inside) room) in
+          let here : (rowOf n (P .kind) (P .number) * s + P .target) * 2 + 1 < length ws =
+          rw (en, es, len) (place-inside (meaning t) (P .kind) (P .number) (P .target) (length ws₀) (P .edge .symbol) (P .edge .inside) room) in
           let f′ : symbolFits n (meaning t .terminals) k x ≡ true = rw en f in
           let g′ : symbolFits n (meaning t .terminals) (P .kind) (P .number) ≡ true = rw en (P .edge .symbol) in
           rw (P .marks)
-          (united-pred ws (rowOf n (P .kind) (P .number)) (P .target) (getD ss (r * 2) 0) (getD ss (r * 2 + 1) 0) (rowOf n k x) m p (omega arith) (omega arith) here
+          (united-pred ws s (rowOf n (P .kind) (P .number)) (P .target) (getD ss (r * 2) 0) (getD ss (r * 2 + 1) 0) (rowOf n k x) m p (omega arith) (omega arith) here
           ∙ rw (into-is n (meaning t .terminals) k x m (P .kind) (P .number) (P .target) f′ g′))
 
       on-next : (j : ℕ) → noSource ss′ j ≡ false → (j ≡ 0 → ⊥) × EdgeIndex t j
@@ -327,7 +324,7 @@ module _ (t : List ℕ) (n : ℕ) (ws₀ ss₀ ws ss : List ℕ) (r : ℕ) (S : 
           (sym (united-none ss (P .next) (getD ss (r * 2) 0) (getD ss (r * 2 + 1) 0) (next-inside ne) j (eqb-false j (P .next) w))
           ∙ sym (ap (λ (l : List ℕ). noSource l j) (P .goes ne)) ∙ b)))
 
-      pub sweep-pass : length ws′ ≡ length ws → length ss′ ≡ length ss → Sweep t n ws₀ ss₀ ws′ ss′ (r + 1)
+      pub sweep-pass : length ws′ ≡ length ws → length ss′ ≡ length ss → Sweep t n s ws₀ ss₀ ws′ ss′ (r + 1)
       sweep-pass lw ls = record {
         same-preds = lw ∙ S .same-preds;
         same-sources = ls ∙ S .same-sources;
@@ -336,11 +333,11 @@ module _ (t : List ℕ) (n : ℕ) (ws₀ ss₀ ws ss : List ℕ) (r : ℕ) (S : 
       }
         where
           one : (k x m p : ℕ) → symbolFits (length (meaning t .nonterminals)) (meaning t .terminals) k x ≡ true → m < length (meaning t .states) → p < 128
-              → (predHas ws′ (rowOf n k x) m p || ahead t ss′ (symbolOfKind k x) m p (records t - (r + 1)) (r + 1)) ≡ hasEdge (meaning t) (symbolOfKind k x) m p
+              → (predHas ws′ s (rowOf n k x) m p || ahead t ss′ (symbolOfKind k x) m p (records t - (r + 1)) (r + 1)) ≡ hasEdge (meaning t) (symbolOfKind k x) m p
           one k x m p f l b =
               let X = symbolOfKind k x in
               rw (put k x m p f l, gone X m p)
-              (weave (predHas ws (rowOf n k x) m p) (into X m (record { symbol = symbolOfKind (P .kind) (P .number); target = P .target })) (hasSource ss r p)
+              (weave (predHas ws s (rowOf n k x) m p) (into X m (record { symbol = symbolOfKind (P .kind) (P .number); target = P .target })) (hasSource ss r p)
               (ahead t ss X m p (records t - (r + 1)) (r + 1)) (some? (into X m) (edgesFrom t (P .next)))
               ∙ rw (
                 ← some?-cons (into X m) (record { symbol = symbolOfKind (P .kind) (P .number); target = P .target }) (edgesFrom t (P .next)),
@@ -371,12 +368,12 @@ pub some-low : (ss : List ℕ) (r : ℕ) → (getD ss (r * 2) 0 ≡ 0 → ⊥) �
 unfolding noSource
 some-low ss r ne = rw (ne-eqb (getD ss (r * 2) 0) 0 ne)
 
-module _ (t : List ℕ) (n r : ℕ) (ws ss ws′ ss′ : List ℕ) (next kind number target row : ℕ) (R : EdgeRead t r next kind number target) (er : row ≡ rowOf n kind number)
-    (e : ws′ ≡ united ws ((row * 128 + target) * 2) (getD ss (r * 2) 0) (getD ss (r * 2 + 1) 0)) where
-  by-row : ws′ ≡ united ws ((rowOf n kind number * 128 + target) * 2) (getD ss (r * 2) 0) (getD ss (r * 2 + 1) 0)
-  by-row = e ∙ ap (λ (y : ℕ). united ws ((y * 128 + target) * 2) (getD ss (r * 2) 0) (getD ss (r * 2 + 1) 0)) er
+module _ (t : List ℕ) (n s r : ℕ) (ws ss ws′ ss′ : List ℕ) (next kind number target row : ℕ) (R : EdgeRead t r next kind number target) (er : row ≡ rowOf n kind number)
+    (e : ws′ ≡ united ws ((row * s + target) * 2) (getD ss (r * 2) 0) (getD ss (r * 2 + 1) 0)) where
+  by-row : ws′ ≡ united ws ((rowOf n kind number * s + target) * 2) (getD ss (r * 2) 0) (getD ss (r * 2 + 1) 0)
+  by-row = e ∙ ap (λ (y : ℕ). united ws ((y * s + target) * 2) (getD ss (r * 2) 0) (getD ss (r * 2 + 1) 0)) er
 
-  pub pass-goes : (next ≡ 0 → ⊥) → ss′ ≡ united ss (next * 2) (getD ss (r * 2) 0) (getD ss (r * 2 + 1) 0) → Passed t n r ws ss ws′ ss′
+  pub pass-goes : (next ≡ 0 → ⊥) → ss′ ≡ united ss (next * 2) (getD ss (r * 2) 0) (getD ss (r * 2 + 1) 0) → Passed t n s r ws ss ws′ ss′
   pass-goes ne g = record {
     next = next;
     kind = kind;
@@ -388,7 +385,7 @@ module _ (t : List ℕ) (n r : ℕ) (ws ss ws′ ss′ : List ℕ) (next kind nu
     goes = λ _. g;
   }
 
-  pub pass-ends : next ≡ 0 → ss′ ≡ ss → Passed t n r ws ss ws′ ss′
+  pub pass-ends : next ≡ 0 → ss′ ≡ ss → Passed t n s r ws ss ws′ ss′
   pass-ends z g = record {
     next = next;
     kind = kind;
@@ -399,8 +396,3 @@ module _ (t : List ℕ) (n r : ℕ) (ws ss ws′ ss′ : List ℕ) (next kind nu
     ends = λ _. g;
     goes = λ ne. absurd (ne z);
   }
-
--- words of zeros for so many records
-pub sources-asked : (t : List ℕ) (n : ℕ) → records t * 2 ≤ n
-    → (records t * 2 ≤ length {A = ℕ} (replicate n 0)) × _≡_ {A = List ℕ} (replicate n 0) (replicate (length {A = ℕ} (replicate n 0)) 0)
-sources-asked t n h = let e = length-replicate {A = ℕ} n 0 in rw e (h, refl)

@@ -9,7 +9,7 @@ use lib.Dec.{eqb, ltb}
 use lib.ListN.{length, getD, length-append}
 use borrow.Author.Tests.{eqb-true, eqb-false, eq-eqb, ne-eqb, ltb-true, ltb-false, lt-ltb, le-ltb}
 use Rattle.repr.specs.Lists.{upFrom, below, mem, keep}
-use Rattle.repr.proofs.Lists.{cases, clash, length-below, length-upFrom, getD-below, getD-upFrom, mem-cons-here, mem-keep, mem-below, keep-nil, keep-yes, keep-no, keep-append, keep-agree, keep-none, length-keep, length-mapped}
+use Rattle.repr.proofs.Lists.{cases, clash, length-below, length-upFrom, getD-below, getD-upFrom, mem-keep, mem-below, keep-nil, keep-yes, keep-no, keep-append, keep-agree, keep-none, length-keep, length-mapped}
 use Rattle.lookahead.specs.Tokens.{has, single, union, without, members}
 use Rattle.lookahead.specs.Iterated.{firstOfThese, nextOf}
 use Rattle.lookahead.specs.declared.NextToken.the-variants.{Token, Done}
@@ -250,9 +250,6 @@ next-states l h s r e = e
 pub next-none : (l h : ℕ) → NextIs l h next.Done → statesIn l h ≡ []
 unfolding NextIs
 next-none l h e = e
-
-pub next-below : (l h s : ℕ) (r : StateSet) → NextIs l h (next.State s r) → s < 128
-next-below l h s r e = states-below l h s (ap (mem s) (next-states l h s r e) ∙ mem-cons-here s (statesIn (r .low) (r .high)))
 
 pub next-less : (l h s : ℕ) (r : StateSet) → NextIs l h (next.State s r) → length (statesIn (r .low) (r .high)) < length (statesIn l h)
 next-less l h s r e = omega (arith, ap length (next-states l h s r e))

@@ -4,6 +4,7 @@ use mathlib.Core.Bool.{Bool, true, false, _&&_, _||_, or-assoc, or-false}
 use mathlib.Core.List.{List, [], _∷_, append-nil}
 use Prim.Native.Nat.{ℕ, zero, suc, _+_, _-_, _*_, _/_, _≤_, _<_}
 use native.Mathlib.Omega.{arith}
+use native.Mathlib.Nat.{mul-le-mul}
 use lib.Dec.{eqb, ltb}
 use lib.ListN.{length, getD, drop, replicate, length-replicate}
 use borrow.Author.Tests.{eqb-true, eq-eqb}
@@ -15,14 +16,15 @@ use Rattle.repr.proofs.Parts.{length-listed}
 use Rattle.repr.proofs.Lists.{length-below, getD-below, keep-append, keep-none, keep-agree, length-upFrom, getD-upFrom, mem-cons-here, mem-cons-there}
 use Rattle.repr.proofs.Tests.{some?-nil, some?-cons, some?-member, some?-witness}
 use Rattle.repr.proofs.SameSymbol.{same-equal, same-refl}
+use Rattle.table.specs.Index.{CountsOf}
 use Rattle.state_graph.specs.Walk.{leads, predecessors, walkBack, traceBack}
 use lib.Bits.{bitOr}
 use Rattle.state_graph.specs.declared.StateSet.{StateSet}
 use Rattle.state_graph.specs.declared.NextState.the-variants.{State, Done}
 use Rattle.state_graph.specs.States.{hasState, statesIn, NextIs}
-use Rattle.state_graph.specs.Preds.{rowOf, hasEdge, Preds, predHas}
+use Rattle.state_graph.specs.Preds.{rowOf, hasEdge, Preds, predWords, predHas}
 use Rattle.state_graph.proofs.Exact.{both-ways, and-both, some?-member-intro, some?-member-elim, leads-edge, edge-leads, leads-outside, predecessors-inside, walk-nil, walk-cons}
-use Rattle.state_graph.proofs.Edges.{row-below, row-asked}
+use Rattle.state_graph.proofs.Edges.{place-inside, row-asked}
 use Rattle.state_graph.proofs.States.{state-none, state-or, states-has, states-one, range-two, next-states, next-none}
 
 -- tests that agree on the members
@@ -57,10 +59,9 @@ module _ (T : Table) where
   -- the words gathered over a set of states
   pub gathered : (ws : List ℕ) (k x p : ℕ) (ss : List ℕ) → Preds T ws → symbolFits (length (T .nonterminals)) (T .terminals) k x ≡ true → p < 128
       → ((m : ℕ) → mem m ss ≡ true → m < length (T .states))
-      → some? (λ m. predHas ws (rowOf (length (T .nonterminals)) k x) m p) ss ≡ leads T (symbolOfKind k x) ss p
-  unfolding predHas
+      → some? (λ m. predHas ws (length (T .states)) (rowOf (length (T .nonterminals)) k x) m p) ss ≡ leads T (symbolOfKind k x) ss p
   gathered ws k x p ss P f h inside =
-      some?-agree-on (λ m. predHas ws (rowOf (length (T .nonterminals)) k x) m p) (λ m. hasEdge T (symbolOfKind k x) m p) ss (λ m e. P .exact k x m p f (inside m e) h)
+      some?-agree-on (λ m. predHas ws (length (T .states)) (rowOf (length (T .nonterminals)) k x) m p) (λ m. hasEdge T (symbolOfKind k x) m p) ss (λ m e. P .exact k x m p f (inside m e) h)
       ∙ sym (leads-some (symbolOfKind k x) ss p)
 
 range-more : (t : ℕ → Bool) (n d : ℕ) → ((k : ℕ) → n ≤ k → t k ≡ false) → keep t (below (n + d)) ≡ keep t (below n)
@@ -85,25 +86,31 @@ stepped T x ss l h few f =
 
 -- the loop over a set of states: what is gathered, with what the states left give
 
-pub record Gathering (ws : List ℕ) (row l₀ h₀ low high l h : ℕ) : Type 0 where
-  pub same : (p : ℕ) → (hasState low high p || some? (λ m. predHas ws row m p) (statesIn l h)) ≡ some? (λ m. predHas ws row m p) (statesIn l₀ h₀)
+pub record Gathering (ws : List ℕ) (s row l₀ h₀ low high l h : ℕ) : Type 0 where
+  pub inside : (m : ℕ) → mem m (statesIn l h) ≡ true → (row * s + m) * 2 + 1 < length ws
+  pub same : (p : ℕ) → (hasState low high p || some? (λ m. predHas ws s row m p) (statesIn l h)) ≡ some? (λ m. predHas ws s row m p) (statesIn l₀ h₀)
 
-pub gathering-start : (ws : List ℕ) (row l h : ℕ) → Gathering ws row l h 0 0 l h
-gathering-start ws row l h = record { same = λ p. rw (state-none p) }
+pub gathering-start : (ws : List ℕ) (s row l h : ℕ) → ((m : ℕ) → mem m (statesIn l h) ≡ true → (row * s + m) * 2 + 1 < length ws) → Gathering ws s row l h 0 0 l h
+gathering-start ws s row l h i = record { inside = i; same = λ p. rw (state-none p) }
 
-module _ (ws : List ℕ) (row l₀ h₀ low high l h : ℕ) (G : Gathering ws row l₀ h₀ low high l h) where
-  pub gathering-more : (m : ℕ) (r : StateSet) → NextIs l h (State m r) → (i : ℕ) → i ≡ (row * 128 + m) * 2
-      → Gathering ws row l₀ h₀ (bitOr low (getD ws i 0)) (bitOr high (getD ws (i + 1) 0)) (r .low) (r .high)
+module _ (ws : List ℕ) (s row l₀ h₀ low high l h : ℕ) (G : Gathering ws s row l₀ h₀ low high l h) where
+  -- the two words of the least state are there
+  pub gathering-there : (m : ℕ) (r : StateSet) → NextIs l h (State m r) → (row * s + m) * 2 + 1 < length ws
+  gathering-there m r e = G .inside m (ap (mem m) (next-states l h m r e) ∙ mem-cons-here m (statesIn (r .low) (r .high)))
+
+  pub gathering-more : (m : ℕ) (r : StateSet) → NextIs l h (State m r) → (i : ℕ) → i ≡ (row * s + m) * 2
+      → Gathering ws s row l₀ h₀ (bitOr low (getD ws i 0)) (bitOr high (getD ws (i + 1) 0)) (r .low) (r .high)
   unfolding predHas
   gathering-more m r e i ei = record {
+    inside = λ k b. G .inside k (ap (mem k) (next-states l h m r e) ∙ mem-cons-there k m (statesIn (r .low) (r .high)) b);
     same = λ p.
-        rw (ei, state-or low high (getD ws ((row * 128 + m) * 2) 0) (getD ws ((row * 128 + m) * 2 + 1) 0) p)
-        (or-assoc (hasState low high p) (predHas ws row m p) (some? (λ m. predHas ws row m p) (statesIn (r .low) (r .high)))
-        ∙ rw (← some?-cons (λ m. predHas ws row m p) m (statesIn (r .low) (r .high)), ← next-states l h m r e) (G .same p));
+        rw (ei, state-or low high (getD ws ((row * s + m) * 2) 0) (getD ws ((row * s + m) * 2 + 1) 0) p)
+        (or-assoc (hasState low high p) (predHas ws s row m p) (some? (λ m. predHas ws s row m p) (statesIn (r .low) (r .high)))
+        ∙ rw (← some?-cons (λ m. predHas ws s row m p) m (statesIn (r .low) (r .high)), ← next-states l h m r e) (G .same p));
   }
 
-  pub gathering-done : NextIs l h Done → (p : ℕ) → hasState low high p ≡ some? (λ m. predHas ws row m p) (statesIn l₀ h₀)
-  gathering-done e p = sym (or-false (hasState low high p)) ∙ rw (next-none l h e, some?-nil (λ m. predHas ws row m p)) at (G .same p)
+  pub gathering-done : NextIs l h Done → (p : ℕ) → hasState low high p ≡ some? (λ m. predHas ws s row m p) (statesIn l₀ h₀)
+  gathering-done e p = sym (or-false (hasState low high p)) ∙ rw (next-none l h e, some?-nil (λ m. predHas ws s row m p)) at (G .same p)
 
 -- the walk, from the last symbol on
 
@@ -139,23 +146,23 @@ module _ (T : Table) (ws : List ℕ) (f : listFits (length (T .nonterminals)) (T
   walking-words l₀ h₀ l h i W p = let o = W .on in fits-at (length (T .nonterminals)) (T .terminals) ws f (i - 1) (omega arith) .0
 
   module _ (F : TableFits T) (ps : List ℕ) (P : Preds T ps) (l₀ h₀ l h i : ℕ) (W : Walking T ws l₀ h₀ l h i) (p : 0 < i)
-      (n k x : ℕ) (en : n ≡ length (T .nonterminals)) (ek : k ≡ getD ws (2 * (i - 1)) 0) (ex : x ≡ getD ws (2 * (i - 1) + 1) 0) where
+      (n s k x : ℕ) (en : n ≡ length (T .nonterminals)) (es : s ≡ length (T .states)) (ek : k ≡ getD ws (2 * (i - 1)) 0) (ex : x ≡ getD ws (2 * (i - 1) + 1) 0) where
     walking-symbol : symbolFits (length (T .nonterminals)) (T .terminals) k x ≡ true
     walking-symbol = let o = W .on in rw (ek, ex) (fits-at (length (T .nonterminals)) (T .terminals) ws f (i - 1) (omega arith) .1)
 
-    pub walking-asked : (n < 1000000) × (x < 1000000) × (rowOf n k x * 256 + 256 ≤ length ps)
-    walking-asked =
-        let a = row-asked T F k x walking-symbol n en in
-        let r = row-below (length (T .nonterminals)) (T .terminals) k x walking-symbol in
-        let q = P .long in
-        (a .0, a .1, rw en (omega arith))
+    pub walking-asked : (n < 1000000) × (x < 1000000)
+    walking-asked = row-asked T F k x walking-symbol n en
 
-    walking-step : (m j : ℕ) → ((q : ℕ) → q < 128 → hasState m j q ≡ some? (λ s. predHas ps (rowOf n k x) s q) (statesIn l h)) → statesIn m j ≡ predecessors T (symbolOfKind k x) (statesIn l h)
+    -- the two words of each state found are there
+    pub walking-there : (m : ℕ) → mem m (statesIn l h) ≡ true → (rowOf n k x * s + m) * 2 + 1 < length ps
+    walking-there m b = rw (en, es) (place-inside T k x m (length ps) walking-symbol (W .inside m b) (P .long))
+
+    walking-step : (m j : ℕ) → ((q : ℕ) → q < 128 → hasState m j q ≡ some? (λ t. predHas ps s (rowOf n k x) t q) (statesIn l h)) → statesIn m j ≡ predecessors T (symbolOfKind k x) (statesIn l h)
     walking-step m j found =
         stepped T (symbolOfKind k x) (statesIn l h) m j (F .few-states)
-        (λ q b. found q b ∙ rw en (gathered T ps k x q (statesIn l h) P walking-symbol b (W .inside)))
+        (λ q b. found q b ∙ rw (en, es) (gathered T ps k x q (statesIn l h) P walking-symbol b (W .inside)))
 
-    pub walking-more : (m j : ℕ) → ((q : ℕ) → q < 128 → hasState m j q ≡ some? (λ s. predHas ps (rowOf n k x) s q) (statesIn l h)) → Walking T ws l₀ h₀ m j (i - 1)
+    pub walking-more : (m j : ℕ) → ((q : ℕ) → q < 128 → hasState m j q ≡ some? (λ t. predHas ps s (rowOf n k x) t q) (statesIn l h)) → Walking T ws l₀ h₀ m j (i - 1)
     walking-more m j found =
         let o = W .on in
         let e : 2 * (i - 1) + 2 ≡ 2 * i = omega arith in
@@ -183,9 +190,17 @@ traced T F s i a b l h xs f e =
     e ∙ ap (λ (ss : List ℕ). walkBack T ss xs) (states-one a b s (omega arith) f)
 
 -- words of zeros, as an index of the table begins
-pub zeros-asked : (n a : ℕ) → a * 256 ≤ n → (a * 256 ≤ length {A = ℕ} (replicate n 0)) × _≡_ {A = List ℕ} (replicate n 0) (replicate (length {A = ℕ} (replicate n 0)) 0)
+pub zeros-asked : (n a : ℕ) → a ≤ n → (a ≤ length {A = ℕ} (replicate n 0)) × _≡_ {A = List ℕ} (replicate n 0) (replicate (length {A = ℕ} (replicate n 0)) 0)
 zeros-asked n a h = let e = length-replicate {A = ℕ} n 0 in rw e (h, refl)
 
--- at most 95 rows
-pub rows-few : (T : Table) → TableFits T → (length (T .nonterminals) + T .terminals) * 256 ≤ 24320
-rows-few T F = let a = F .few-nonterminals in let b = F .few-terminals in omega arith
+-- at most 95 rows of 128 states
+pub words-few : (T : Table) → TableFits T → predWords T ≤ 24320
+words-few T F =
+    let a = F .few-nonterminals in
+    let b = F .few-terminals in
+    let few : (length (T .nonterminals) + T .terminals) * length (T .states) ≤ 95 * 128 = mul-le-mul {n₂ = 95} {m₂ = 128} (omega arith) (F .few-states) in
+    omega arith
+
+-- as the code counts them
+pub words-counted : (T : Table) (n t s p : ℕ) → CountsOf T n t s p → (n + t) * s * 2 ≡ predWords T
+words-counted T n t s p C = rw (C .nonterminals, C .terminals, C .states)

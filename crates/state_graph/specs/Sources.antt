@@ -37,13 +37,13 @@ pub record Heads (t : List ℕ) (s : ℕ) (ss : List ℕ) : Type 0 where
   pub on : (r : ℕ) → noSource ss r ≡ false → (r ≡ 0 → ⊥) × EdgeIndex t r
   pub exact : (x : Symbol) (m p : ℕ) → ahead t ss x m p (records t) 0 ≡ (ltb p s && hasEdge (meaning t) x m p)
 
--- record r read as an edge: its sources are predecessors of its target, and sources of the next
-pub record Passed (t : List ℕ) (n r : ℕ) (ws ss ws′ ss′ : List ℕ) : Type 0 where
+-- record r read as an edge, with s states: its sources are predecessors of its target, and sources of the next
+pub record Passed (t : List ℕ) (n s r : ℕ) (ws ss ws′ ss′ : List ℕ) : Type 0 where
   pub next : ℕ
   pub kind : ℕ
   pub number : ℕ
   pub target : ℕ
   pub edge : EdgeRead t r next kind number target
-  pub marks : ws′ ≡ united ws ((rowOf n kind number * 128 + target) * 2) (getD ss (r * 2) 0) (getD ss (r * 2 + 1) 0)
+  pub marks : ws′ ≡ united ws ((rowOf n kind number * s + target) * 2) (getD ss (r * 2) 0) (getD ss (r * 2 + 1) 0)
   pub ends : next ≡ 0 → ss′ ≡ ss
   pub goes : (next ≡ 0 → ⊥) → ss′ ≡ united ss (next * 2) (getD ss (r * 2) 0) (getD ss (r * 2 + 1) 0)

@@ -13,7 +13,7 @@ ghost use mathlib.Core.List.{List};
 ghost use Prim.Native.Nat.{ℕ, _+_, _*_, _≤_, _<_};
 ghost use lib.Dec.{eqb, ltb};
 ghost use lib.ListN.{length, getD, replicate};
-ghost use Rattle.repr.specs.Lists.{some?};
+ghost use Rattle.repr.specs.Lists.{mem, some?};
 ghost use Rattle.repr.specs.Listed.{listed, listFits};
 ghost use Rattle.table.specs.Decoded.{meaning};
 ghost use Rattle.table.specs.Refusals.{checkOf};
@@ -21,7 +21,7 @@ ghost use Rattle.state_graph.specs.Walk.{walkBack, traceBack};
 ghost use Rattle.state_graph.specs.States.{hasState, statesIn, NextIs};
 ghost use Rattle.table.specs.Words.{records};
 ghost use Rattle.table.specs.Index.{EdgeIndex};
-ghost use Rattle.state_graph.specs.Preds.{Preds, rowOf, predHas, marked};
+ghost use Rattle.state_graph.specs.Preds.{Preds, predWords, rowOf, predHas, marked};
 ghost use Rattle.state_graph.specs.Sources.{noSource, united, Heads, Passed};
 
 // The number of a state.
@@ -184,11 +184,11 @@ fn heads(table: &[u16], sources: &mut [u64], states: usize)
 }
 
 // The edge at a record, for all the states whose chains come to it; they go on to the next.
-fn pass(table: &[u16], preds: &mut [u64], sources: &mut [u64], n: usize, r: usize)
+fn pass(table: &[u16], preds: &mut [u64], sources: &mut [u64], n: usize, states: usize, r: usize)
     requires { ⌜ checkOf (now table) ≡ Checked.Accepted ⌝ }
-    requires { ⌜ (n ≡ length (meaning (now table) .nonterminals)) × ((length (meaning (now table) .nonterminals) + meaning (now table) .terminals) * 256 ≤ length (now preds)) × (records (now table) * 2 ≤ length (now sources)) ⌝ }
+    requires { ⌜ (n ≡ length (meaning (now table) .nonterminals)) × (states ≡ length (meaning (now table) .states)) × (predWords (meaning (now table)) ≤ length (now preds)) × (records (now table) * 2 ≤ length (now sources)) ⌝ }
     requires { ⌜ (r ≡ 0 → ⊥) × EdgeIndex (now table) r ⌝ }
-    ensures { λ _. ⌜ Passed (now (table .entry)) n r (now (preds .entry)) (now (sources .entry)) (now (preds .exit)) (now (sources .exit)) ⌝ }
+    ensures { λ _. ⌜ Passed (now (table .entry)) n states r (now (preds .entry)) (now (sources .entry)) (now (preds .exit)) (now (sources .exit)) ⌝ }
 {
     let low = sources[r * 2];
     let high = sources[r * 2 + 1];
@@ -196,7 +196,7 @@ fn pass(table: &[u16], preds: &mut [u64], sources: &mut [u64], n: usize, r: usiz
     let target = e.target;
     let next = e.next;
     let row = row_of(n, e.kind, e.number);
-    unite(preds, (row * 128 + target) * 2, low, high);
+    unite(preds, (row * states + target) * 2, low, high);
     if next != 0 {
         unite(sources, next * 2, low, high);
     }
@@ -206,7 +206,7 @@ fn pass(table: &[u16], preds: &mut [u64], sources: &mut [u64], n: usize, r: usiz
 fn sweep(table: &[u16], preds: &mut [u64], sources: &mut [u64], n: usize, states: usize)
     requires { ⌜ checkOf (now table) ≡ Checked.Accepted ⌝ }
     requires { ⌜ (n ≡ length (meaning (now table) .nonterminals)) × (states ≡ length (meaning (now table) .states)) × (records (now table) * 2 ≤ length (now sources)) × Heads (now table) states (now sources) ⌝ }
-    requires { ⌜ ((length (meaning (now table) .nonterminals) + meaning (now table) .terminals) * 256 ≤ length (now preds)) × (now preds ≡ replicate (length (now preds)) 0) ⌝ }
+    requires { ⌜ (predWords (meaning (now table)) ≤ length (now preds)) × (now preds ≡ replicate (length (now preds)) 0) ⌝ }
     ensures { λ _. ⌜ Preds (meaning (now (table .entry))) (now (preds .exit)) ⌝ }
 {
     let records = table.len() / 4;
@@ -216,14 +216,14 @@ fn sweep(table: &[u16], preds: &mut [u64], sources: &mut [u64], n: usize, states
             r += 1;
             continue;
         }
-        pass(table, preds, sources, n, r);
+        pass(table, preds, sources, n, states, r);
         r += 1;
     }
 }
 
 fn index_over(table: &[u16], preds: &mut [u64], sources: &mut [u64])
     requires { ⌜ checkOf (now table) ≡ Checked.Accepted ⌝ }
-    requires { ⌜ ((length (meaning (now table) .nonterminals) + meaning (now table) .terminals) * 256 ≤ length (now preds)) × (now preds ≡ replicate (length (now preds)) 0) ⌝ }
+    requires { ⌜ (predWords (meaning (now table)) ≤ length (now preds)) × (now preds ≡ replicate (length (now preds)) 0) ⌝ }
     requires { ⌜ (records (now table) * 2 ≤ length (now sources)) × (now sources ≡ replicate (length (now sources)) 0) ⌝ }
     ensures { λ _. ⌜ Preds (meaning (now (table .entry))) (now (preds .exit)) ⌝ }
 {
@@ -237,7 +237,7 @@ fn index_over(table: &[u16], preds: &mut [u64], sources: &mut [u64])
 // With the sources in an array for at most 128 records.
 fn index_few(table: &[u16], preds: &mut [u64])
     requires { ⌜ checkOf (now table) ≡ Checked.Accepted ⌝ }
-    requires { ⌜ ((length (meaning (now table) .nonterminals) + meaning (now table) .terminals) * 256 ≤ length (now preds)) × (now preds ≡ replicate (length (now preds)) 0) ⌝ }
+    requires { ⌜ (predWords (meaning (now table)) ≤ length (now preds)) × (now preds ≡ replicate (length (now preds)) 0) ⌝ }
     requires { ⌜ length (now table) ≤ 512 ⌝ }
     ensures { λ _. ⌜ Preds (meaning (now (table .entry))) (now (preds .exit)) ⌝ }
 {
@@ -248,7 +248,7 @@ fn index_few(table: &[u16], preds: &mut [u64])
 // The same for at most 1,024 records.
 fn index_some(table: &[u16], preds: &mut [u64])
     requires { ⌜ checkOf (now table) ≡ Checked.Accepted ⌝ }
-    requires { ⌜ ((length (meaning (now table) .nonterminals) + meaning (now table) .terminals) * 256 ≤ length (now preds)) × (now preds ≡ replicate (length (now preds)) 0) ⌝ }
+    requires { ⌜ (predWords (meaning (now table)) ≤ length (now preds)) × (now preds ≡ replicate (length (now preds)) 0) ⌝ }
     requires { ⌜ length (now table) ≤ 4096 ⌝ }
     ensures { λ _. ⌜ Preds (meaning (now (table .entry))) (now (preds .exit)) ⌝ }
 {
@@ -259,7 +259,7 @@ fn index_some(table: &[u16], preds: &mut [u64])
 // For every table: at most 8,192 records.
 fn index_many(table: &[u16], preds: &mut [u64])
     requires { ⌜ checkOf (now table) ≡ Checked.Accepted ⌝ }
-    requires { ⌜ ((length (meaning (now table) .nonterminals) + meaning (now table) .terminals) * 256 ≤ length (now preds)) × (now preds ≡ replicate (length (now preds)) 0) ⌝ }
+    requires { ⌜ (predWords (meaning (now table)) ≤ length (now preds)) × (now preds ≡ replicate (length (now preds)) 0) ⌝ }
     ensures { λ _. ⌜ Preds (meaning (now (table .entry))) (now (preds .exit)) ⌝ }
 {
     let mut sources = [0u64; 16384];
@@ -269,7 +269,7 @@ fn index_many(table: &[u16], preds: &mut [u64])
 // The predecessors of every state by every symbol, from the edges of the table: each edge is read once, and no walk reads a chain again.
 pub fn index(table: &[u16], preds: &mut [u64])
     requires { ⌜ checkOf (now table) ≡ Checked.Accepted ⌝ }
-    requires { ⌜ ((length (meaning (now table) .nonterminals) + meaning (now table) .terminals) * 256 ≤ length (now preds)) × (now preds ≡ replicate (length (now preds)) 0) ⌝ }
+    requires { ⌜ (predWords (meaning (now table)) ≤ length (now preds)) × (now preds ≡ replicate (length (now preds)) 0) ⌝ }
     ensures { λ _. ⌜ Preds (meaning (now (table .entry))) (now (preds .exit)) ⌝ }
 {
     if table.len() <= 512 {
@@ -282,9 +282,17 @@ pub fn index(table: &[u16], preds: &mut [u64])
 }
 
 // The states with an edge by one symbol into the set: the two words of each of its states.
-fn step(preds: &[u64], n: usize, kind: usize, number: usize, set: StateSet) -> StateSet
-    requires { ⌜ (n < 1000000) × (number < 1000000) × (rowOf n kind number * 256 + 256 ≤ length (now preds)) ⌝ }
-    ensures { λ r. ⌜ ((p : ℕ) → p < 128 → hasState (r .low) (r .high) p ≡ some? (λ m. predHas (now (preds .entry)) (rowOf n kind number) m p) (statesIn (set .low) (set .high))) ⌝ }
+fn step(
+    preds: &[u64],
+    n: usize,
+    states: usize,
+    kind: usize,
+    number: usize,
+    set: StateSet,
+) -> StateSet
+    requires { ⌜ (n < 1000000) × (number < 1000000) ⌝ }
+    requires { ⌜ ((m : ℕ) → mem m (statesIn (set .low) (set .high)) ≡ true → (rowOf n kind number * states + m) * 2 + 1 < length (now preds)) ⌝ }
+    ensures { λ r. ⌜ ((p : ℕ) → p < 128 → hasState (r .low) (r .high) p ≡ some? (λ m. predHas (now (preds .entry)) states (rowOf n kind number) m p) (statesIn (set .low) (set .high))) ⌝ }
 {
     let row = row_of(n, kind, number);
     let mut low: u64 = 0;
@@ -293,7 +301,7 @@ fn step(preds: &[u64], n: usize, kind: usize, number: usize, set: StateSet) -> S
     loop {
         match rest.next() {
             NextState::State(m, others) => {
-                let at = (row * 128 + m) * 2;
+                let at = (row * states + m) * 2;
                 low = low | preds[at];
                 high = high | preds[at + 1];
                 rest = others;
@@ -317,38 +325,59 @@ pub fn walk_back(table: &[u16], preds: &[u64], set: StateSet, symbols: &[u16]) -
 {
     let counts = read_counts(table);
     let n = counts.nonterminals;
+    let states = counts.states;
     let mut found = set;
     let mut i = symbols.len() / 2;
     while i > 0 {
         i -= 1;
         let kind = word(symbols, 2 * i);
         let number = word(symbols, 2 * i + 1);
-        found = step(preds, n, kind, number, found);
+        found = step(preds, n, states, kind, number, found);
     }
     found
 }
 
-// With the index in an array for at most 8 rows.
+// With the index in words that are lent.
+fn trace_over(table: &[u16], preds: &mut [u64], state: usize, symbols: &[u16]) -> StateSet
+    requires { ⌜ checkOf (now table) ≡ Checked.Accepted ⌝ }
+    requires { ⌜ (state < length (meaning (now table) .states)) × (listFits (length (meaning (now table) .nonterminals)) (meaning (now table) .terminals) (now symbols) ≡ true) ⌝ }
+    requires { ⌜ (predWords (meaning (now table)) ≤ length (now preds)) × (now preds ≡ replicate (length (now preds)) 0) ⌝ }
+    ensures { λ r. ⌜ statesIn (r .low) (r .high) ≡ traceBack (meaning (now (table .entry))) state (listed (now (symbols .entry))) ⌝ }
+{
+    index(table, preds);
+    walk_back(table, preds, StateSet::of(state), symbols)
+}
+
+// With the index in an array of at most 512 words.
 fn trace_few(table: &[u16], state: usize, symbols: &[u16]) -> StateSet
     requires { ⌜ checkOf (now table) ≡ Checked.Accepted ⌝ }
     requires { ⌜ (state < length (meaning (now table) .states)) × (listFits (length (meaning (now table) .nonterminals)) (meaning (now table) .terminals) (now symbols) ≡ true) ⌝ }
-    requires { ⌜ length (meaning (now table) .nonterminals) + meaning (now table) .terminals ≤ 8 ⌝ }
+    requires { ⌜ predWords (meaning (now table)) ≤ 512 ⌝ }
     ensures { λ r. ⌜ statesIn (r .low) (r .high) ≡ traceBack (meaning (now (table .entry))) state (listed (now (symbols .entry))) ⌝ }
 {
-    let mut preds = [0u64; 2048];
-    index(table, &mut preds);
-    walk_back(table, &preds, StateSet::of(state), symbols)
+    let mut preds = [0u64; 512];
+    trace_over(table, &mut preds, state, symbols)
 }
 
-// For every table: at most 95 rows.
+// The same for at most 4,096 words.
+fn trace_some(table: &[u16], state: usize, symbols: &[u16]) -> StateSet
+    requires { ⌜ checkOf (now table) ≡ Checked.Accepted ⌝ }
+    requires { ⌜ (state < length (meaning (now table) .states)) × (listFits (length (meaning (now table) .nonterminals)) (meaning (now table) .terminals) (now symbols) ≡ true) ⌝ }
+    requires { ⌜ predWords (meaning (now table)) ≤ 4096 ⌝ }
+    ensures { λ r. ⌜ statesIn (r .low) (r .high) ≡ traceBack (meaning (now (table .entry))) state (listed (now (symbols .entry))) ⌝ }
+{
+    let mut preds = [0u64; 4096];
+    trace_over(table, &mut preds, state, symbols)
+}
+
+// For every table: at most 95 rows of 128 states.
 fn trace_many(table: &[u16], state: usize, symbols: &[u16]) -> StateSet
     requires { ⌜ checkOf (now table) ≡ Checked.Accepted ⌝ }
     requires { ⌜ (state < length (meaning (now table) .states)) × (listFits (length (meaning (now table) .nonterminals)) (meaning (now table) .terminals) (now symbols) ≡ true) ⌝ }
     ensures { λ r. ⌜ statesIn (r .low) (r .high) ≡ traceBack (meaning (now (table .entry))) state (listed (now (symbols .entry))) ⌝ }
 {
     let mut preds = [0u64; 24320];
-    index(table, &mut preds);
-    walk_back(table, &preds, StateSet::of(state), symbols)
+    trace_over(table, &mut preds, state, symbols)
 }
 
 // `trace_back` of one state.
@@ -358,8 +387,13 @@ pub fn trace_back(table: &[u16], state: usize, symbols: &[u16]) -> StateSet
     ensures { λ r. ⌜ statesIn (r .low) (r .high) ≡ traceBack (meaning (now (table .entry))) state (listed (now (symbols .entry))) ⌝ }
 {
     let counts = read_counts(table);
-    if counts.nonterminals + counts.terminals <= 8 {
+    let rows = counts.nonterminals + counts.terminals;
+    let states = counts.states;
+    let words = rows * states * 2;
+    if words <= 512 {
         trace_few(table, state, symbols)
+    } else if words <= 4096 {
+        trace_some(table, state, symbols)
     } else {
         trace_many(table, state, symbols)
     }

@@ -11,15 +11,15 @@ use borrow.Author.Tests.{ne-eqb, lt-ltb, le-ltb, le-leb, lt-leb, ltb-false, leb-
 use Rattle.repr.specs.Lists.{below, first?, occurrences, joined}
 use Rattle.repr.proofs.Lists.{cases}
 use Rattle.repr.proofs.Tests.{first?-yes, first?-no, first?-below-none}
-use Rattle.table.specs.Words.{wordAt, records, productions, states, stateArea, productionArea, loose, looseRecords, productionRecords, against, chain}
+use Rattle.table.specs.Words.{wordAt, records, productions, stateArea, productionArea, loose, looseRecords, productionRecords, against, chain}
 use Rattle.table.specs.Decoded.{orZero, productionChain, symbolChain}
 use Rattle.table.specs.Refusals.{isNonterminal, isState, isProduction, asSymbol, asItem, asEdge, row3, row4, row5, row6, row7, row8, used, offends, firstRow}
 use Rattle.table.proofs.Exact.{row-some, row-none}
 use Rattle.table.proofs.Reached.{reached-loose, symbol-is, item-is, edge-is, reached-symbol, reached-item, reached-edge}
-use Rattle.table.specs.Reached.{reachedBy}
-use Rattle.table_check.specs.Marks.{flag, Marks}
-use Rattle.table_check.specs.Faults.{choose, indexBad, symbolBad, itemBad, rangeBad, spareBad, tried, faultAt, nonterminalFault, stateFault, productionFault, looseFault, firstBy}
-use Rattle.table_check.proofs.FirstRow.{lowest, Rising, Best, by-some, by-none, by-accepted, by-refused}
+use Rattle.table_check.specs.Passed.{Reaching}
+use Rattle.table_check.specs.Faults.{choose, indexBad, symbolBad, itemBad, rangeBad, spareBad, tried, faultAt, nonterminalFault, stateFault, productionFault, looseFault, firstBy, Best}
+use Rattle.table_check.proofs.Passed.{marked}
+use Rattle.table_check.proofs.FirstRow.{lowest, Rising, by-some, by-none, by-accepted, by-refused}
 use Rattle.table.specs.declared.Checked.the-variants.{Accepted, Refused}
 
 -- ---- six tests in order
@@ -192,24 +192,12 @@ module _ (t : List ℕ) (r : ℕ) where
       let l = productions-before t in
       sym (place-rows t r false false false s i e (nonterminal-no t r (omega arith)) (state-high t r (omega arith)) (production-high t r a) (sym es) (sym ei) (sym ee))
 
--- ---- what is gathered
-flag-one : (b : Bool) → eqb (flag b) 1 ≡ b
-unfolding flag
-flag-one true = refl
-flag-one false = refl
-
-marked-is : (t : List ℕ) (first n k : ℕ) (ms : List ℕ) (r : ℕ) → Marks t first n k ms → r < records t → eqb (getD ms r 0) 1 ≡ reachedBy t first n k r
-unfolding Marks
-marked-is t first n k ms r m h = rw (m r h) (flag-one (reachedBy t first n k r))
-
-pub marked-symbol : (t ms : List ℕ) (r : ℕ) → Marks t (productionArea t) (productions t) 1 ms → r < records t → (b : Bool) → b ≡ eqb (getD ms r 0) 1 → b ≡ asSymbol t r
-marked-symbol t ms r m h b e = e ∙ marked-is t (productionArea t) (productions t) 1 ms r m h ∙ sym (symbol-is t r)
-
-pub marked-item : (t ms : List ℕ) (r : ℕ) → Marks t (stateArea t) (states t) 0 ms → r < records t → (b : Bool) → b ≡ eqb (getD ms r 0) 1 → b ≡ asItem t r
-marked-item t ms r m h b e = e ∙ marked-is t (stateArea t) (states t) 0 ms r m h ∙ sym (item-is t r)
-
-pub marked-edge : (t ms : List ℕ) (r : ℕ) → Marks t (stateArea t) (states t) 1 ms → r < records t → (b : Bool) → b ≡ eqb (getD ms r 0) 1 → b ≡ asEdge t r
-marked-edge t ms r m h b e = e ∙ marked-is t (stateArea t) (states t) 1 ms r m h ∙ sym (edge-is t r)
+-- ---- what a loose record is reached as, from the marks where all before it are passed
+module _ (t : List ℕ) (r : ℕ) (ss is es : List ℕ) (R : Reaching t r ss is es) (low : loose t ≤ r) where
+  pub fault-marked : (s i e : Bool) → s ≡ eqb (getD ss r 0) 1 → i ≡ eqb (getD is r 0) 1 → e ≡ eqb (getD es r 0) 1 → looseFault t r s i e ≡ faultAt t r
+  fault-marked s i e ps pi pe =
+      fault-loose t r low s i e (ps ∙ marked (R .symbols) ∙ sym (symbol-is t r)) (pi ∙ marked (R .items) ∙ sym (item-is t r))
+      (pe ∙ marked (R .edges) ∙ sym (edge-is t r))
 
 -- ---- the length as far as seventeen
 module _ (t : List ℕ) (room : loose t ≤ records t) where

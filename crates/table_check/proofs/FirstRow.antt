@@ -15,7 +15,7 @@ use Rattle.repr.proofs.Tests.{first?-nil, first?-yes, first?-no, first?-below-i
 use Rattle.table.specs.Decoded.{orZero}
 use Rattle.table.proofs.Exact.{none-in}
 use Rattle.table.specs.declared.Checked.the-variants.{Accepted, Refused}
-use Rattle.table_check.specs.Faults.{firstBy, better}
+use Rattle.table_check.specs.Faults.{firstBy, better, Best}
 
 -- ---- the lowest row of one record
 unfoldable pub lowest : (ℕ → Bool) → List ℕ → ℕ
@@ -52,14 +52,6 @@ lowest-above off m (n ∷ ns) h ne =
     omega arith)
 
 -- ---- the answer from the best so far
-pub record Best (f : ℕ → ℕ) (r row place : ℕ) : Type 0 where
-  pub none : row ≡ 0 → (j : ℕ) → j < r → f j ≡ 0
-  pub within : place ≤ r
-  pub inside : (row ≡ 0 → ⊥) → place < r
-  pub is : (row ≡ 0 → ⊥) → f place ≡ row
-  pub least : (row ≡ 0 → ⊥) → (j : ℕ) → j < r → (f j ≡ 0 → ⊥) → row ≤ f j
-  pub early : (row ≡ 0 → ⊥) → (j : ℕ) → j < place → (f j ≡ 0 → ⊥) → row < f j
-
 pub best-start : (f : ℕ → ℕ) → Best f 0 0 0
 best-start f = record {
   none = λ e j h. absurd (omega arith);

@@ -4,14 +4,15 @@ use mathlib.Core.Bool.{Bool, true, false, not}
 use mathlib.Core.List.{List}
 use Prim.Native.Nat.{ℕ, _+_, _*_, _-_, _/_, _%_, _≤_, _<_}
 use native.Mathlib.Omega.{arith}
-use lib.ListN.{length}
+use lib.ListN.{length, replicate, length-replicate}
 use lib.Dec.{eqb, ltb}
 use borrow.Author.Tests.{eq-eqb, ne-eqb, eqb-true, eqb-false, lt-ltb, le-ltb, ltb-false, le-leb, not-false}
 use Rattle.table.specs.Words.{wordAt, records, stateArea, productionArea, loose, names, against}
 use Rattle.table.specs.Refusals.{row1, row2}
 use Rattle.table.proofs.Chains.{or-false, names-before, names-past}
-use Rattle.table_check.specs.Marks.{Sized, Marks, Held, Lengths}
+use Rattle.table_check.specs.Marks.{Sized, Held, Lengths}
 use Rattle.table_check.specs.Known.{AreasOf, Known, area}
+use Rattle.table_check.specs.Passed.{Blank, Passed, Reaching}
 use Rattle.table_check.specs.declared.areas.Areas.{Areas}
 
 -- ---- row 1
@@ -166,20 +167,22 @@ module _ (from past r x : ℕ) where
   unfolding against
   against-named ne b e = rw (ne-eqb _ _ ne, e)
 
+-- ---- blank marks
+pub blank : {t : List ℕ} (n : ℕ) → records t ≤ n → Blank t (replicate n 0)
+blank n h = record { room = rw (length-replicate {A = ℕ} n 0) h; blank = rw (length-replicate {A = ℕ} n 0) }
+
 -- ---- what was gathered, by the areas
-pub gathered : (t : List ℕ) (a : Areas) → AreasOf t a → (ss is es hs ls : List ℕ)
-    → Marks t (a .«productions_at») (a .productions) 1 ss → Marks t (a .«states_at») (a .states) 0 is → Marks t (a .«states_at») (a .states) 1 es → Held t hs → Lengths t ls
-    → length ss ≡ 8192 → length is ≡ 8192 → length es ≡ 8192 → length hs ≡ 128 → length ls ≡ 128 → Known t a ss is es hs ls
-gathered t a A ss is es hs ls s i e h l s′ i′ e′ h′ l′ = record {
-  areas = A;
-  symbols = rw (← A .productionsAt, ← A .productions) s;
-  items = rw (← A .statesAt, ← A .states) i;
-  edges = rw (← A .statesAt, ← A .states) e;
-  held = h;
-  lengths = l;
-  symbolsLong = s′;
-  itemsLong = i′;
-  edgesLong = e′;
-  heldLong = h′;
-  lengthsLong = l′;
-}
+module _ (t : List ℕ) (a : Areas) (A : AreasOf t a) where
+  pub gathered : (hs ls : List ℕ) → Held t hs → Lengths t ls → length hs ≡ 128 → length ls ≡ 128 → Known t a hs ls
+  gathered hs ls h l h′ l′ = record { areas = A; held = h; lengths = l; heldLong = h′; lengthsLong = l′ }
+
+  pub reaching : (ss is es : List ℕ)
+      → Passed t (a .«productions_at») (a .productions) 1 (a .productions) (loose t) ss
+      → Passed t (a .«states_at») (a .states) 0 (a .states) (loose t) is
+      → Passed t (a .«states_at») (a .states) 1 (a .states) (loose t) es
+      → Reaching t (loose t) ss is es
+  reaching ss is es s i e = record {
+    symbols = rw (← A .productionsAt, ← A .productions) s;
+    items = rw (← A .statesAt, ← A .states) i;
+    edges = rw (← A .statesAt, ← A .states) e;
+  }

@@ -146,13 +146,15 @@ module _ (t : List ℕ) (r : ℕ) (s i e : Bool) where
       loose-4 z b w = rw (x, y, z, w)
 
 -- ---- its tests
-pub index-any : (t : List ℕ) (r : ℕ) (s i e b : Bool) → against (looseRecords t) r (wordAt t r 0) ≡ b → s || (i || e) ≡ true → b ≡ indexBad t r s i e
-unfolding indexBad
-index-any t r s i e b h o = rw (o, h)
+pub index-any : (s i e b : Bool) → s || (i || e) ≡ true → b ≡ (s || (i || e)) && b
+index-any s i e b o = rw o
 
-pub index-none : (t : List ℕ) (r : ℕ) (s i e : Bool) → s ≡ false → i ≡ false → e ≡ false → false ≡ indexBad t r s i e
+pub index-none : (s i e b : Bool) → s ≡ false → i ≡ false → e ≡ false → false ≡ (s || (i || e)) && b
+index-none s i e b p q o = rw (p, q, o)
+
+pub index-is : (t : List ℕ) (r : ℕ) (s i e bad b : Bool) → bad ≡ against (looseRecords t) r (wordAt t r 0) → b ≡ (s || (i || e)) && bad → indexBad t r s i e ≡ b
 unfolding indexBad
-index-none t r s i e p q o = rw (p, q, o)
+index-is t r s i e bad b h q = rw (← h, q)
 
 module _ (t : List ℕ) (r kind number n m : ℕ) (s e b : Bool) (ek : kind ≡ wordAt t r 1) (ex : number ≡ wordAt t r 2) (en : n ≡ wordAt t 0 0) (em : m ≡ wordAt t 0 1)
     (h : b ≡ symbolFits n m kind number) where

@@ -1,5 +1,6 @@
 -- The lowest row against which one record offends, as the check finds it: by what the record is. Assumes nothing: these are definitions.
-use Prim.Native.Nat.{ℕ, _-_, min}
+use Prim.Native.Nat.{ℕ, _-_, min, _≤_, _<_}
+use mathlib.Core.Path.{_≡_}
 use mathlib.Core.Bool.{Bool, true, false, _&&_, _||_, not}
 use mathlib.Core.List.{List, [], _∷_}
 use mathlib.Core.Option.{none, some}
@@ -76,3 +77,12 @@ firstBy off k (n ∷ ns) = elim (first? (off n) (below k)) [ some r ↦ Refused 
 -- a row that comes before the best so far; 0 is none
 unfoldable pub better : ℕ → ℕ → Bool
 better m row = not (eqb m 0) && (eqb row 0 || ltb m row)
+
+-- of the first r records: the lowest row that one meets by f, 0 for none, and the first record that meets it
+pub record Best (f : ℕ → ℕ) (r row place : ℕ) : Type 0 where
+  pub none : row ≡ 0 → (j : ℕ) → j < r → f j ≡ 0
+  pub within : place ≤ r
+  pub inside : (row ≡ 0 → ⊥) → place < r
+  pub is : (row ≡ 0 → ⊥) → f place ≡ row
+  pub least : (row ≡ 0 → ⊥) → (j : ℕ) → j < r → (f j ≡ 0 → ⊥) → row ≤ f j
+  pub early : (row ≡ 0 → ⊥) → (j : ℕ) → j < place → (f j ≡ 0 → ⊥) → row < f j

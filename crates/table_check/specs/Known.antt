@@ -3,8 +3,8 @@ use Prim.Native.Nat.{ℕ, _+_, _*_, _-_, min, _≤_}
 use mathlib.Core.Path.{_≡_}
 use mathlib.Core.List.{List, [], _∷_}
 use lib.ListN.{length, getD, set}
-use Rattle.table.specs.Words.{wordAt, records, states, productions, stateArea, productionArea, loose, Area}
-use Rattle.table_check.specs.Marks.{Marks, Held, Lengths}
+use Rattle.table.specs.Words.{wordAt, records, stateArea, productionArea, loose, Area}
+use Rattle.table_check.specs.Marks.{Held, Lengths}
 use Rattle.table_check.specs.declared.areas.Areas.{Areas}
 
 abbrev pub area : ℕ → ℕ → Area
@@ -33,16 +33,10 @@ unfoldable pub bump : ℕ → List ℕ → List ℕ → List ℕ
 bump at hs [] = hs
 bump at hs (r ∷ rs) = bump at (set hs (r - at) (min 2 (getD hs (r - at) 0 + 1))) rs
 
--- what is gathered before the records are looked at
-pub record Known (t : List ℕ) (a : Areas) (ss is es hs ls : List ℕ) : Type 0 where
+-- what is gathered of the productions before the records are looked at
+pub record Known (t : List ℕ) (a : Areas) (hs ls : List ℕ) : Type 0 where
   pub areas : AreasOf t a
-  pub symbols : Marks t (productionArea t) (productions t) 1 ss
-  pub items : Marks t (stateArea t) (states t) 0 is
-  pub edges : Marks t (stateArea t) (states t) 1 es
   pub held : Held t hs
   pub lengths : Lengths t ls
-  pub symbolsLong : length ss ≡ 8192
-  pub itemsLong : length is ≡ 8192
-  pub edgesLong : length es ≡ 8192
   pub heldLong : length hs ≡ 128
   pub lengthsLong : length ls ≡ 128

@@ -1,26 +1,18 @@
 -- What the parts of the check hold while it works. Assumes nothing: these are definitions.
 use Prim.Native.Nat.{ℕ, _+_, min, _<_}
-use mathlib.Core.Bool.{Bool, true, false}
+use mathlib.Core.Bool.{false}
 use mathlib.Core.Path.{_≡_}
 use mathlib.Core.List.{List}
 use lib.ListN.{length, getD}
 use Rattle.repr.specs.Lists.{below, occurrences, joined}
-use Rattle.table.specs.Words.{records, nonterminals, productions, productionArea}
+use Rattle.table.specs.Words.{nonterminals, productions, productionArea}
 use Rattle.table.specs.Decoded.{productionChain, symbolChain}
 use Rattle.table.specs.Refusals.{row1, row2}
-use Rattle.table.specs.Reached.{reachedBy}
 
 -- refusals 1 and 2 do not apply
 pub record Sized (t : List ℕ) : Type 0 where
   pub words : row1 t ≡ false
   pub counts : row2 t ≡ false
-
-unfoldable pub flag : Bool → ℕ
-flag true = 1
-flag false = 0
-
-unfoldable pub Marks : List ℕ → ℕ → ℕ → ℕ → List ℕ → Type 0
-Marks t first n k ms = (r : ℕ) → r < records t → getD ms r 0 ≡ flag (reachedBy t first n k r)
 
 -- how many of the nonterminals' chains hold each production, as far as two
 unfoldable pub Held : List ℕ → List ℕ → Type 0

@@ -5,8 +5,8 @@ use crate::loose;
 ghost use mathlib.Core.Bool.{Bool};
 ghost use mathlib.Core.Path.{_≡_};
 ghost use Prim.Native.Nat.{ℕ, _<_, _≤_};
-ghost use lib.ListN.{length, getD};
-ghost use lib.Dec.{eqb};
+ghost use lib.ListN.{length};
+ghost use Rattle.table.specs.Words.{wordAt, looseRecords, against};
 ghost use Rattle.table_check.specs.Marks.{Held, Lengths};
 ghost use Rattle.table_check.specs.Known.{AreasOf, Known};
 ghost use Rattle.table_check.specs.Faults.{faultAt, nonterminalFault, stateFault, productionFault, looseFault};
@@ -77,21 +77,23 @@ fn production_fault(table: &[u16], a: Areas, held: &[u8], lengths: &[u8], r: usi
     0
 }
 
-// Rows 3, 6, 7 and 8, by what the record is reached as; reached as nothing, it offends against none.
-fn loose_fault(
+// Rows 3, 6, 7 and 8, by what the record is reached as; reached as nothing, it offends against none. `bad`: its next index is against the rule.
+pub fn loose_fault(
     table: &[u16],
     a: Areas,
     lengths: &[u8],
     r: usize,
+    bad: bool,
     symbol: bool,
     item: bool,
     edge: bool,
 ) -> u16
     requires { ⌜ AreasOf (now table) a ⌝ }
     requires { ⌜ (r < a .records) × ((length (now lengths) ≡ 128) × Lengths (now table) (now lengths)) ⌝ }
+    requires { ⌜ bad ≡ against (looseRecords (now table)) r (wordAt (now table) r 0) ⌝ }
     ensures { λ f. ⌜ f ≡ looseFault (now (table .entry)) r symbol item edge ⌝ }
 {
-    if loose::index_fault(table, a, r, symbol, item, edge) {
+    if loose::index_fault(bad, symbol, item, edge) {
         return 3;
     }
     if loose::symbol_fault(table, a, r, symbol, edge) {
@@ -106,27 +108,10 @@ fn loose_fault(
     0
 }
 
-// Whether record r is marked.
-fn marked(marks: &[u8], r: usize) -> bool
-    requires { ⌜ r < length (now marks) ⌝ }
-    ensures { λ b. ⌜ b ≡ eqb (getD (now (marks .entry)) r 0) 1 ⌝ }
-{
-    marks[r] == 1
-}
-
-// The lowest row that record r meets, or 0.
-pub fn fault(
-    table: &[u16],
-    a: Areas,
-    symbols: &[u8],
-    items: &[u8],
-    edges: &[u8],
-    held: &[u8],
-    lengths: &[u8],
-    r: usize,
-) -> u16
-    requires { ⌜ Known (now table) a (now symbols) (now items) (now edges) (now held) (now lengths) ⌝ }
-    requires { ⌜ r < a .records ⌝ }
+// The lowest row that a record before the loose ones meets, or 0.
+pub fn area_fault(table: &[u16], a: Areas, held: &[u8], lengths: &[u8], r: usize) -> u16
+    requires { ⌜ Known (now table) a (now held) (now lengths) ⌝ }
+    requires { ⌜ r < a .«loose_at» ⌝ }
     ensures { λ f. ⌜ f ≡ faultAt (now (table .entry)) r ⌝ }
 {
     if r == 0 {
@@ -138,11 +123,5 @@ pub fn fault(
     if r < a.productions_at {
         return state_fault(table, a, r);
     }
-    if r < a.loose_at {
-        return production_fault(table, a, held, lengths, r);
-    }
-    let symbol = marked(symbols, r);
-    let item = marked(items, r);
-    let edge = marked(edges, r);
-    loose_fault(table, a, lengths, r, symbol, item, edge)
+    production_fault(table, a, held, lengths, r)
 }

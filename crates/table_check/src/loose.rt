@@ -1,16 +1,15 @@
 // Rows 3, 6, 7 and 8 of a loose record, by what it is reached as: symbol, item, edge.
-use crate::areas;
 use crate::areas::Areas;
 use repr::symbol_fits;
 use table::word;
-ghost use mathlib.Core.Bool.{Bool, _&&_};
+ghost use mathlib.Core.Bool.{Bool, _&&_, _||_};
 ghost use mathlib.Core.Path.{_≡_};
 ghost use Prim.Native.Nat.{ℕ, _<_};
 ghost use lib.ListN.{length};
 ghost use Rattle.table.specs.Refusals.{used};
 ghost use Rattle.table_check.specs.Marks.{Lengths};
 ghost use Rattle.table_check.specs.Known.{AreasOf};
-ghost use Rattle.table_check.specs.Faults.{indexBad, symbolBad, itemBad, rangeBad, spareBad};
+ghost use Rattle.table_check.specs.Faults.{symbolBad, itemBad, rangeBad, spareBad};
 
 // Whether word k of record r, which is to be spare, is not 0.
 pub fn spare(table: &[u16], a: Areas, r: usize, k: usize) -> bool
@@ -24,13 +23,10 @@ pub fn spare(table: &[u16], a: Areas, r: usize, k: usize) -> bool
     true
 }
 
-// Row 3: the next index.
-pub fn index_fault(table: &[u16], a: Areas, r: usize, symbol: bool, item: bool, edge: bool) -> bool
-    requires { ⌜ AreasOf (now table) a ⌝ }
-    requires { ⌜ r < a .records ⌝ }
-    ensures { λ b. ⌜ b ≡ indexBad (now (table .entry)) r symbol item edge ⌝ }
+// Row 3: the next index, which is `bad` or not.
+pub fn index_fault(bad: bool, symbol: bool, item: bool, edge: bool) -> bool
+    ensures { λ b. ⌜ b ≡ (symbol || (item || edge)) && bad ⌝ }
 {
-    let bad = areas::bad_loose_index(table, a, r, 0);
     if symbol {
         return bad;
     }

@@ -1,24 +1,19 @@
-// Marks the records that chains of loose records reach. A next index is larger than its record's number, so one pass over the records in order follows every chain,
-// however many heads share it.
+// Marks the records that chains of loose records reach: the heads first, then the next of each marked record, record by record. A next index is larger than its
+// record's number, so one pass over the records in order follows every chain, however many heads share it.
 use crate::areas;
 use table::word;
+ghost use mathlib.Core.Bool.{true};
+ghost use mathlib.Core.List.{List};
 ghost use mathlib.Core.Path.{_≡_};
 ghost use Prim.Native.Nat.{ℕ, _+_, _≤_, _<_};
-ghost use lib.ListN.{length, replicate};
-ghost use Rattle.table.specs.Words.{loose, records};
-ghost use Rattle.table_check.specs.Marks.{Sized, Marks};
-ghost use Rattle.table_check.specs.Passed.{Passed};
-
-// The first loose record: the areas before it are as long as record 0 says.
-fn first_loose(table: &[u16]) -> usize
-    requires { ⌜ Sized (now table) ⌝ }
-    ensures { λ r. ⌜ r ≡ loose (now (table .entry)) ⌝ }
-{
-    1 + word(table, 0, 0) + word(table, 0, 2) + word(table, 0, 3)
-}
+ghost use lib.ListN.{length, getD};
+ghost use lib.Dec.{eqb};
+ghost use Rattle.table.specs.Words.{wordAt, loose, records, looseRecords, names};
+ghost use Rattle.table_check.specs.Marks.{Sized};
+ghost use Rattle.table_check.specs.Passed.{Blank, Passed};
 
 // The heads in word k of the n records from `first` on; `from` and `past` bound the loose records.
-fn mark_heads(
+pub fn mark_heads(
     table: &[u16],
     first: usize,
     n: usize,
@@ -29,7 +24,7 @@ fn mark_heads(
 )
     requires { ⌜ Sized (now table) ⌝ }
     requires { ⌜ (from ≡ loose (now table)) × (past ≡ records (now table)) ⌝ }
-    requires { ⌜ (first + n ≤ loose (now table)) × ((k < 2) × (now marks ≡ replicate 8192 0)) ⌝ }
+    requires { ⌜ (first + n ≤ loose (now table)) × ((k < 2) × Blank (now table) (now marks)) ⌝ }
     ensures { λ _. ⌜ Passed (now (table .entry)) first n k n (loose (now (table .entry))) (now (marks .exit)) ⌝ }
 {
     let mut i: usize = 0;
@@ -43,37 +38,30 @@ fn mark_heads(
     }
 }
 
-// The next of each marked record, in order; from whatever heads the marks began.
-fn mark_chains(table: &[u16], from: usize, past: usize, marks: &mut [u8])
-    requires { ⌜ Sized (now table) ⌝ }
-    requires { ⌜ (from ≡ loose (now table)) × ((past ≡ records (now table)) × (length (now marks) ≡ 8192)) ⌝ }
-    ensures { λ _. ⌜
-        ((first n k : ℕ)
-        → Passed (now (table .entry)) first n k n (loose (now (table .entry))) (now (marks .entry))
-        → Passed (now (table .entry)) first n k n (records (now (table .entry))) (now (marks .exit)))
-        ⌝ }
+// Whether record r is marked.
+pub fn marked(marks: &[u8], r: usize) -> bool
+    requires { ⌜ r < length (now marks) ⌝ }
+    ensures { λ b. ⌜ b ≡ eqb (getD (now (marks .entry)) r 0) 1 ⌝ }
 {
-    let mut r = from;
-    while r < past {
-        let m = marks[r];
-        if m == 1 {
-            let x = word(table, r, 0);
-            if areas::names(from, past, r, x) {
-                marks[x] = 1;
-            }
-        }
-        r += 1;
-    }
+    marks[r] == 1
 }
 
-// From the heads in word k of the n records from `first` on.
-pub fn mark(table: &[u16], first: usize, n: usize, k: usize, marks: &mut [u8])
-    requires { ⌜ Sized (now table) ⌝ }
-    requires { ⌜ (first + n ≤ loose (now table)) × ((k < 2) × (now marks ≡ replicate 8192 0)) ⌝ }
-    ensures { λ _. ⌜ Marks (now (table .entry)) first n k (now (marks .exit)) ⌝ }
+// The same; if so, its next index x, which is by the rule, is marked too. From whatever heads the marks began.
+pub fn mark_next(marks: &mut [u8], r: usize, x: usize) -> bool
+    requires { ⌜ (r < length (now marks)) × (x < length (now marks)) ⌝ }
+    ensures { λ b. ⌜ b ≡ eqb (getD (now (marks .entry)) r 0) 1 ⌝ }
+    ensures { λ _. ⌜
+        ((t : List ℕ) (first n k : ℕ)
+        → x ≡ wordAt t r 0
+        → names (looseRecords t) r x ≡ true
+        → Passed t first n k n r (now (marks .entry))
+        → Passed t first n k n (r + 1) (now (marks .exit)))
+        ⌝ }
 {
-    let from = first_loose(table);
-    let past = table.len() / 4;
-    mark_heads(table, first, n, k, from, past, marks);
-    mark_chains(table, from, past, marks);
+    let m = marks[r];
+    if m == 1 {
+        marks[x] = 1;
+        return true;
+    }
+    false
 }

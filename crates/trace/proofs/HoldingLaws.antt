@@ -26,8 +26,7 @@ use Rattle.trace_graph.specs.Values.{nodeIs, edgeIs, nodeValueFits, valueFits}
 use Rattle.trace_graph.specs.Insert.{Added, Overfull}
 use Rattle.trace.specs.Traced.{Trace, pair, enter, addTo, ownerOf, canShift}
 use Rattle.trace.specs.Shifting.{distinctFrom, distinct, shifting, itemOf, ShiftItems}
-use Rattle.trace.specs.Holding.{Holding, zeros, Tracing}
-use Rattle.trace.proofs.Seen.{pair-lt}
+use Rattle.trace.specs.Holding.{Holding, Flags, zeros, Tracing}
 use Rattle.trace.proofs.Once.{add-new}
 use Rattle.trace.proofs.Fuel.{owner-lt}
 use Rattle.trace.proofs.Repeated.{distinct-nil, distinct-there, distinct-new}
@@ -56,10 +55,22 @@ zeros-le [] = omega arith
 zeros-le (zero ∷ v) = let h = zeros-le v in omega arith
 zeros-le (suc x ∷ v) = let h = zeros-le v in omega arith
 
+-- the pair of a state of the table is among the table's pairs, and so it has a flag
+pub pair-inside : (T : Table) (s n : ℕ) → s < length (T .states) → n < 32 → pair s n < length (T .states) * 32
+unfolding pair
+pair-inside T s n hs hn = omega arith
+
+pub pair-flag : (T : Table) (v : List ℕ) → Flags T v → (s n : ℕ) → s < length (T .states) → n < 32 → pair s n < length v
+pair-flag T v F s n hs hn = let a = F .enough in let b = pair-inside T s n hs hn in omega arith
+
+-- flags are as many after a step
+pub flags-kept : (T : Table) (v v′ : List ℕ) → length v′ ≡ length v → Flags T v → Flags T v′
+flags-kept T v v′ e F = record { enough = rw e (F .enough); few = rw e (F .few) }
+
 -- a pair is entered
-pub holding-enter : (g v : List ℕ) (st : Trace) (s n : ℕ) → s < 128 → n < 32 → length v ≡ 4096 → Holding g v st → Holding g (set v (pair s n) 1) (enter s n st)
+pub holding-enter : (g v : List ℕ) (st : Trace) (s n : ℕ) → pair s n < length v → Holding g v st → Holding g (set v (pair s n) 1) (enter s n st)
 unfolding enter
-holding-enter g v st s n hs hn long h = record {
+holding-enter g v st s n inside h = record {
   edges = h .edges;
   entered = λ k hk ne.
       cases (eqb k (pair s n))
@@ -68,8 +79,7 @@ holding-enter g v st s n hs hn long h = record {
   free = λ k hk z.
       cases (eqb k (pair s n))
       (λ e.
-      let p = pair-lt s n hs hn in
-      let w = rw (eqb-true k (pair s n) e, getD-set-same v (pair s n) 1 0 (omega arith)) at z in
+      let w = rw (eqb-true k (pair s n) e, getD-set-same v (pair s n) 1 0 inside) at z in
       absurd (omega arith))
       (λ e. mem-no k (pair s n) (st .seen) e ∙ h .free k hk (sym (getD-set-other v (pair s n) k 1 0 (eqb-false k (pair s n) e)) ∙ z));
 }
@@ -175,8 +185,7 @@ pub record CodeOf (T : Table) (n c : ℕ) : Type 0 where
 pub code-of : (T : Table) (starts codes : List ℕ) (s n j : ℕ) → TableFits T → ShiftItems T starts codes → s < length (T .states) → n < 32
     → getD starts (pair s n) 0 ≤ j → j < getD starts (suc (pair s n)) 0 → CodeOf T n (getD codes j 0)
 code-of T starts codes s n j fits S hs hn from past =
-    let hs′ : s < 128 = (let w = fits .few-states in omega arith) in
-    let r = S .rising (pair s n) (pair-lt s n hs′ hn) in
+    let r = S .rising (pair s n) (pair-inside T s n hs hn) in
     let m = shifting-member T s n (itemOf (getD codes j 0)) (rw (← (S .exact s n hs hn)) (slice-member (getD starts (pair s n) 0) (getD starts (suc (pair s n)) 0) j codes from past (r .1))) in
     record {
       item = state-item T fits s (itemOf (getD codes j 0)) (m .0);

@@ -5,11 +5,6 @@ pub mod Fuel
 pub mod Repeated
 pub mod Traced
 pub mod Distinct
-pub mod Codes
-pub mod Spread
-pub mod Written
-pub mod ItemFlags
-pub mod StatePairs
 pub mod HoldingLaws
 pub mod ShiftLaws
 pub mod ShiftStates

@@ -15,6 +15,7 @@ use Rattle.core.specs.Items.{Sets}
 use Rattle.state_graph.proofs.Exact.{both-ways, and-both}
 use Rattle.trace_graph.specs.Graph.{Node, atNonterminal, atItem, sameItem, sameNode, TraceEdge, labelOf, sameSymbols, sameCursor, sameSets, sameEdge, add}
 use Rattle.trace_graph.specs.Fits.{once}
+use Rattle.trace_graph.proofs.Labels.{node-equal, cursor-equal}
 
 -- items, nodes and labels that are the same are equal
 
@@ -29,13 +30,6 @@ item-equal a b e =
 pub item-same : (a : Item) → sameItem a a ≡ true
 unfolding sameItem
 item-same a = rw (eq-eqb (a .production) (a .production) refl, eq-eqb (a .index) (a .index) refl)
-
-pub node-equal : (v w : Node) → sameNode v w ≡ true → v ≡ w
-unfolding sameNode
-node-equal (atNonterminal n) (atNonterminal m) e = ap {B = Node} atNonterminal (eqb-true n m e)
-node-equal (atNonterminal n) (atItem b) e = absurd (true≢false (sym e))
-node-equal (atItem a) (atNonterminal m) e = absurd (true≢false (sym e))
-node-equal (atItem a) (atItem b) e = ap {B = Node} atItem (item-equal a b e)
 
 pub node-same : (v : Node) → sameNode v v ≡ true
 unfolding sameNode
@@ -57,13 +51,6 @@ symbols-same : (xs : List Symbol) → sameSymbols xs xs ≡ true
 unfolding sameSymbols
 symbols-same [] = refl
 symbols-same (x ∷ xs) = let r = symbols-same xs in rw (same-refl x) r
-
-cursor-equal : (x y : Option Symbol) → sameCursor x y ≡ true → x ≡ y
-unfolding sameCursor
-cursor-equal none none e = refl
-cursor-equal none (some y) e = absurd (true≢false (sym e))
-cursor-equal (some x) none e = absurd (true≢false (sym e))
-cursor-equal (some x) (some y) e = ap {B = Option Symbol} some (same-equal x y e)
 
 cursor-same : (x : Option Symbol) → sameCursor x x ≡ true
 unfolding sameCursor

@@ -130,9 +130,6 @@ module _ (T : Table) (s m at : ℕ) (place : at ≡ s * 32 + m) (hs : s < 128) (
   unfolding pair
   at-pair = place
 
-  pub at-lt : at < 4096
-  at-lt = rw at-pair (pair-lt s m hs hm)
-
   -- entered before
   pub state-known : (n : ℕ) (ps : List Production) (ix : List ℕ) → (getD v at 0 ≡ 0 → ⊥) → Graphed n ps g ix (getD g 0 0) → Stepped n ps (λ (f : ℕ) (st : Trace). reduceState T f s m st) g v g ix v
   state-known n ps ix ne good = record {
@@ -140,9 +137,9 @@ module _ (T : Table) (s m at : ℕ) (place : at ≡ s * 32 + m) (hs : s < 128) (
     good = good;
   }
 
-  module _ (long : length v ≡ 4096) (new : getD v at 0 ≡ 0) (all : List Item) (items : all ≡ shifting T s m) where
+  module _ (inside : at < length v) (new : getD v at 0 ≡ 0) (all : List Item) (items : all ≡ shifting T s m) where
     pub state-zeros : suc (zeros (set v at 1)) ≡ zeros v
-    state-zeros = zeros-set v at (let q = at-lt in omega arith) new
+    state-zeros = zeros-set v at inside new
 
     -- what holds of the turn at every fuel that is enough after entering holds of the step
     entering : (P : Trace → Type 0) → ((f : ℕ) (st : Trace) → zeros (set v at 1) ≤ f → Holding g (set v at 1) st → P (inTurn (onItem T s m f) all st))
@@ -151,7 +148,7 @@ module _ (T : Table) (s m at : ℕ) (place : at ≡ s * 32 + m) (hs : s < 128) (
     entering P turn (suc f) st h H =
         let z = state-zeros in
         rw (reduce-shifting T f s m st (H .free (pair s m) (pair-lt s m hs hm) (rw at-pair at new)))
-        (rw items at (turn f (enter s m st) (omega arith) (rw (← at-pair) at (holding-enter g v st s m hs hm long H))))
+        (rw items at (turn f (enter s m st) (omega arith) (rw (← at-pair) at (holding-enter g v st s m (rw at-pair at inside) H))))
 
     pub state-done : (n : ℕ) (ps : List Production) (g′ ix′ v′ : List ℕ) → Left (onItem T s m) all [] g (set v at 1) g′ v′ → Graphed n ps g′ ix′ (getD g′ 0 0)
         → Stepped n ps (λ (f : ℕ) (st : Trace). reduceState T f s m st) g v g′ ix′ v′

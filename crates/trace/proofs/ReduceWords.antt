@@ -27,12 +27,12 @@ use Rattle.trace_graph.specs.Insert.{Graphed, Added, Overfull}
 use Rattle.trace.specs.Traced.{Trace, pair, ownerOf, canShift, prefixOf, suffixOf}
 use Rattle.trace.specs.Shifting.{shifting, itemOf}
 use Rattle.trace.specs.Reduce.{reduceItem, reduceState}
-use Rattle.trace.specs.Holding.{Holding, zeros, Tracing}
+use Rattle.trace.specs.Holding.{Holding, Flags, zeros, Tracing}
 use Rattle.trace.specs.Ends.{flag, Ends}
 use Rattle.trace.specs.Reducing.{Stepped, Overrun, Reducing, itemAt, edgeToItem, edgeToNonterminal}
 use Rattle.trace.proofs.Seen.{pair-lt}
 use Rattle.trace.proofs.Fuel.{back-inside}
-use Rattle.trace.proofs.HoldingLaws.{zeros-set, tracing-fits, tracing-owner, tracing-owner-lt, tracing-item, codes-end, codes-more, CodeOf, code-of}
+use Rattle.trace.proofs.HoldingLaws.{zeros-set, pair-inside, pair-flag, tracing-fits, tracing-owner, tracing-owner-lt, tracing-item, codes-end, codes-more, CodeOf, code-of}
 use Rattle.trace.proofs.Turns.{Left, Turn, turn-next}
 use Rattle.trace.proofs.EndsLaws.{flag-set, flag-clear, flag-tells, fits-words}
 use Rattle.trace.proofs.ReduceLaws.{fromState, onItem, item-full, item-done, item-over, off-holds, off-over, on-full, on-holds, on-over, state-known, state-done, state-over}
@@ -78,10 +78,14 @@ module _ {t g : List ℕ} {productions n : ℕ} {starts codes ends preds : List 
     pub pair-small : s * 32 + m < 4096
     pair-small = let a = few-states s (h .0) in let b = few-nonterminals m (h .1) in omega arith
 
+    pub pair-has-flag : (v : List ℕ) → Flags (meaning t) v → s * 32 + m < length v
+    unfolding pair
+    pair-has-flag v F = pair-flag (meaning t) v F s m (h .0) (few-nonterminals m (h .1))
+
     pub part-of : Part starts codes (s * 32 + m)
     unfolding pair
     part-of =
-        let a = pair-small in
+        let a = pair-inside (meaning t) s m (h .0) (few-nonterminals m (h .1)) in
         let l = R .tracing .items .long in
         let r = R .tracing .items .rising (s * 32 + m) a in
         let e : suc (s * 32 + m) ≡ s * 32 + m + 1 = omega arith in
@@ -161,11 +165,11 @@ module _ {t g : List ℕ} {productions n : ℕ} {starts codes ends preds : List 
         (λ y. on-full (meaning t) n (productionsIn g productions) (R .tracing .same) s m (itemOf c) (K .shifts) (getD g (c / 17 * 36) 0) (K .owner) graph v on y null ix graph′ ix′ a)
         (λ y. off-over (meaning t) n (productionsIn g productions) (R .tracing .same) s m (itemOf c) (K .shifts) (getD g (c / 17 * 36) 0) (K .owner) graph v on y null ix graph′ ix′ a)
 
-    module _ {v₁ : List ℕ} (h : (s < length (meaning t .states)) × (m < n)) (long : length v₁ ≡ 4096) (new : getD v₁ (s * 32 + m) 0 ≡ 0) (entered : v₀ ≡ set v₁ (s * 32 + m) 1) (items : all ≡ shifting (meaning t) s m) where
+    module _ {v₁ : List ℕ} (h : (s < length (meaning t .states)) × (m < n)) (F : Flags (meaning t) v₁) (new : getD v₁ (s * 32 + m) 0 ≡ 0) (entered : v₀ ≡ set v₁ (s * 32 + m) 1) (items : all ≡ shifting (meaning t) s m) where
       over : ((f : ℕ) (st : Trace) → zeros v ≤ f → Holding graph v st → 1024 < length (onItem (meaning t) s m f (itemOf c) st .edges))
           → Overrun (λ (f : ℕ) (st : Trace). reduceState (meaning t) f s m st) g₀ v₁
       over many =
-          state-over (meaning t) s m (s * 32 + m) refl (few-states s (h .0)) (few-nonterminals m (h .1)) g₀ v₁ long new all items
+          state-over (meaning t) s m (s * 32 + m) refl (few-states s (h .0)) (few-nonterminals m (h .1)) g₀ v₁ (pair-has-flag s m h v₁ F) new all items
           (itemOf c) (map itemOf (slice (j + 1) past codes)) graph v (rw entered at (opened .left)) many
 
       pub state-full : (graph′ ix′ : List ℕ) → Overfull (productionsIn g productions) (edgeToNonterminal on (getD g (c / 17 * 36) 0) m (itemAt (c / 17) (c % 17))) graph ix graph′ ix′
@@ -182,10 +186,10 @@ module _ {t g : List ℕ} {productions n : ℕ} {starts codes ends preds : List 
   -- the turn of the state step at its end
   pub state-end : (s m : ℕ) {all : List Item} {g₀ ix₀ v₀ graph ix v v₁ : List ℕ} (past j : ℕ)
       → Turn (onItem (meaning t) s m) all (map itemOf (slice j past codes)) n (productionsIn g productions) g₀ ix₀ v₀ graph ix v → j ≡ past
-      → (s < length (meaning t .states)) × (m < n) → length v₁ ≡ 4096 → getD v₁ (s * 32 + m) 0 ≡ 0 → v₀ ≡ set v₁ (s * 32 + m) 1 → all ≡ shifting (meaning t) s m
+      → (s < length (meaning t .states)) × (m < n) → Flags (meaning t) v₁ → getD v₁ (s * 32 + m) 0 ≡ 0 → v₀ ≡ set v₁ (s * 32 + m) 1 → all ≡ shifting (meaning t) s m
       → Stepped n (productionsIn g productions) (λ (f : ℕ) (st : Trace). reduceState (meaning t) f s m st) g₀ v₁ graph ix v
-  state-end s m {all} {g₀} {ix₀} {v₀} {graph} {ix} {v} {v₁} past j W e h long new entered items =
-      state-done (meaning t) s m (s * 32 + m) refl (few-states s (h .0)) (few-nonterminals m (h .1)) g₀ v₁ long new all items n (productionsIn g productions) graph ix v
+  state-end s m {all} {g₀} {ix₀} {v₀} {graph} {ix} {v} {v₁} past j W e h F new entered items =
+      state-done (meaning t) s m (s * 32 + m) refl (few-states s (h .0)) (few-nonterminals m (h .1)) g₀ v₁ (pair-has-flag s m h v₁ F) new all items n (productionsIn g productions) graph ix v
       (rw (codes-end j past codes e, entered) at (W .left)) (W .good)
 
   -- entered before
@@ -195,12 +199,11 @@ module _ {t g : List ℕ} {productions n : ℕ} {starts codes ends preds : List 
       state-known (meaning t) s m (s * 32 + m) refl (few-states s (h .0)) (few-nonterminals m (h .1)) graph v n (productionsIn g productions) ix (flag-set (getD v (s * 32 + m) 0) b e y) good
 
   -- a pair that is entered takes one from the zeros: v₁ before it is entered, v after some of the turn
-  module _ (s m : ℕ) (v₁ v₀ v : List ℕ) (b : Bool) (h : (s < length (meaning t .states)) × (m < n)) (long : length v₁ ≡ 4096) (e : b ≡ not (eqb (getD v₁ (s * 32 + m) 0) 0)) (off : b ≡ false)
+  module _ (s m : ℕ) (v₁ v₀ v : List ℕ) (b : Bool) (h : (s < length (meaning t .states)) × (m < n)) (F : Flags (meaning t) v₁) (e : b ≡ not (eqb (getD v₁ (s * 32 + m) 0) 0)) (off : b ≡ false)
       (entered : v₀ ≡ set v₁ (s * 32 + m) 1) (fewer : zeros v ≤ zeros v₀) where
     pair-less : zeros v < zeros v₁
     pair-less =
-        let x = pair-small s m h in
-        let z = zeros-set v₁ (s * 32 + m) (omega arith) (flag-clear (getD v₁ (s * 32 + m) 0) b e off) in
+        let z = zeros-set v₁ (s * 32 + m) (pair-has-flag s m h v₁ F) (flag-clear (getD v₁ (s * 32 + m) 0) b e off) in
         let w : zeros v ≤ zeros (set v₁ (s * 32 + m) 1) = rw entered at fewer in
         omega arith
 

@@ -22,11 +22,11 @@ use Rattle.trace_graph.specs.Insert.{Graphed, Added, Overfull}
 use Rattle.trace.specs.Traced.{Trace, pair, enter, addTo, ownerOf, canShift, inTurn, pairs}
 use Rattle.trace.specs.Shift.{epsilonItem, epsilon}
 use Rattle.trace.specs.Shifting.{shifting, itemOf}
-use Rattle.trace.specs.Holding.{Holding, zeros, Tracing}
+use Rattle.trace.specs.Holding.{Holding, Flags, zeros, Tracing}
 use Rattle.trace.specs.Steps.{Steps, Exceeds, epsilonSource, epsilonEdge}
 use Rattle.trace.proofs.Grows.{Adds, grows-length, turn-nil, turn-cons, turn-grows, epsilon-past, epsilon-beginning, epsilon-entered, epsilonItem-grows, epsilon-grows}
 use Rattle.trace.proofs.Repeated.{epsilon-shifting}
-use Rattle.trace.proofs.HoldingLaws.{zeros-set, holding-enter, holding-add, holding-full, tracing-fits, tracing-owner, tracing-owner-lt, tracing-item, codes-end, codes-more, CodeOf, code-of, node-number-fits, node-item-fits, value-fits, node-number-is, node-item-is, edge-is}
+use Rattle.trace.proofs.HoldingLaws.{zeros-set, pair-inside, pair-flag, holding-enter, holding-add, holding-full, tracing-fits, tracing-owner, tracing-owner-lt, tracing-item, codes-end, codes-more, CodeOf, code-of, node-number-fits, node-item-fits, value-fits, node-number-is, node-item-is, edge-is}
 
 -- the edges that are put in
 
@@ -124,24 +124,31 @@ module _ {t grammar : List ℕ} {productions n : ℕ} {starts codes : List ℕ} 
     pub pair-few : s * 32 + m < 4096
     pair-few = let w = few s m hs hm in let a = w .0 in let b = w .1 in omega arith
 
+    pub pair-start : s * 32 + m + 1 < length starts
+    unfolding pair
+    pair-start = let a = pair-inside T s m hs (few s m hs hm .1) in let b = R .items .long in omega arith
+
+    pub pair-has-flag : (v : List ℕ) → Flags T v → s * 32 + m < length v
+    unfolding pair
+    pair-has-flag v F = pair-flag T v F s m hs (few s m hs hm .1)
+
     -- a pair that is entered already
     pub pair-known : (g v : List ℕ) → (getD v (s * 32 + m) 0 ≡ 0 → ⊥) → (f : ℕ) → zeros v ≤ f → Steps (epsilon T f s m) g v g v
     unfolding pair
     pair-known g v ne f hf st h = rw (epsilon-entered T f s m st (h .entered (pair s m) pair-few ne)) h
 
     -- a pair that is not: one zero less, and with fuel for the zeros of v there is fuel left for the zeros after
-    module _ (v : List ℕ) (long : length v ≡ 4096) (z : getD v (s * 32 + m) 0 ≡ 0) where
+    module _ (v : List ℕ) (F : Flags T v) (z : getD v (s * 32 + m) 0 ≡ 0) where
       pub pair-fewer : (v′ : List ℕ) → zeros v′ ≤ zeros (set v (s * 32 + m) 1) → zeros v′ < zeros v
-      pair-fewer v′ h = let l = pair-few in let q = zeros-set v (s * 32 + m) (omega arith) z in omega arith
+      pair-fewer v′ h = let q = zeros-set v (s * 32 + m) (pair-has-flag v F) z in omega arith
 
       pub pair-new : (P : Trace → Type 0) (g : List ℕ) → ((f : ℕ) → zeros (set v (s * 32 + m) 1) ≤ f → (st : Trace) → Holding g (set v (s * 32 + m) 1) st → P (itemTurn T s m f st))
           → (f : ℕ) → zeros v ≤ f → (st : Trace) → Holding g v st → P (epsilon T f s m st)
       unfolding pair
       pair-new P g all zero hf st h = let q = pair-fewer (set v (s * 32 + m) 1) (le-refl (zeros (set v (s * 32 + m) 1))) in absurd (omega arith)
       pair-new P g all (suc f) hf st h =
-          let w = few s m hs hm in
           let q = pair-fewer (set v (s * 32 + m) 1) (le-refl (zeros (set v (s * 32 + m) 1))) in
-          rw (epsilon-shifting T f s m st (h .free (pair s m) pair-few z)) (all f (omega arith) (enter s m st) (holding-enter g v st s m (w .0) (w .1) long h))
+          rw (epsilon-shifting T f s m st (h .free (pair s m) pair-few z)) (all f (omega arith) (enter s m st) (holding-enter g v st s m (pair-has-flag v F) h))
 
   pub turn-start : (s m past j : ℕ) (g ix v : List ℕ) → s < length (T .states) → m < n → past ≡ getD starts (s * 32 + m + 1) 0 → j ≡ getD starts (s * 32 + m) 0
       → Graphed n qs g ix (getD g 0 0) → Turn t grammar productions n starts codes s m past g ix v g ix v j
@@ -149,7 +156,7 @@ module _ {t grammar : List ℕ} {productions n : ℕ} {starts codes : List ℕ} 
   turn-start s m past j g ix v hs hm ep ej good =
       let w = few s m hs hm in
       let ep′ : past ≡ getD starts (suc (pair s m)) 0 = rw (add-one (s * 32 + m)) at ep in
-      let r = R .items .rising (pair s m) (pair-few hs hm) in
+      let r = R .items .rising (pair s m) (pair-inside T s m hs (w .1)) in
       record {
         from = omega arith;
         most = omega arith;
@@ -166,7 +173,7 @@ module _ {t grammar : List ℕ} {productions n : ℕ} {starts codes : List ℕ} 
     pub turn-room : past ≤ length codes
     unfolding pair
     turn-room =
-        let r = R .items .rising (pair s m) (pair-few hs hm) in
+        let r = R .items .rising (pair s m) (pair-inside T s m hs (few s m hs hm .1)) in
         let e = U .past-is in
         omega arith
 

@@ -59,10 +59,10 @@ module _ {T : Table} {ps : List Production} {n m : ℕ} where
           sym (turn-cons (stateStep T m) s (statesIn (r .low) (r .high)) (q .0)) ∙ ap (λ (ss : List ℕ). inTurn (stateStep T m) ss (q .0)) (sym (next-states l h s r e)) ∙ q .2
 
       -- the number of pairs is fuel enough
-      enough : length v₀ ≡ 4096 → zeros v ≤ pairs
+      enough : length v₀ ≤ 4096 → zeros v ≤ pairs
       enough long = let a = zeros-le v in let b = U .v-len in omega arith
 
-      pub rounds-more : length v₀ ≡ 4096 → (g′ ix′ v′ : List ℕ) → ((f : ℕ) → zeros v ≤ f → Steps (epsilon T f s m) g v g′ v′) → Graphed n ps g′ ix′ (getD g′ 0 0)
+      pub rounds-more : length v₀ ≤ 4096 → (g′ ix′ v′ : List ℕ) → ((f : ℕ) → zeros v ≤ f → Steps (epsilon T f s m) g v g′ v′) → Graphed n ps g′ ix′ (getD g′ 0 0)
           → length v′ ≡ length v → length g′ ≡ length g → length ix′ ≡ length ix → Rounds T ps n m l₀ h₀ g₀ ix₀ v₀ (r .low) (r .high) g′ ix′ v′
       rounds-more long g′ ix′ v′ call good lv lg li = record {
         inside = λ k hk. U .inside k (rw (next-states l h s r e) (mem-cons-there k s (statesIn (r .low) (r .high)) hk));
@@ -73,7 +73,7 @@ module _ {T : Table} {ps : List Production} {n m : ℕ} where
         same = λ st k. let q = U .same st k in (epsilon T pairs s m (q .0), call pairs (enough long) (q .0) (q .1), opened st k);
       }
 
-      pub rounds-full : length v₀ ≡ 4096 → ((f : ℕ) → zeros v ≤ f → Exceeds (epsilon T f s m) g v) → Exceeds (inTurn (stateStep T m) (statesIn l₀ h₀)) g₀ v₀
+      pub rounds-full : length v₀ ≤ 4096 → ((f : ℕ) → zeros v ≤ f → Exceeds (epsilon T f s m) g v) → Exceeds (inTurn (stateStep T m) (statesIn l₀ h₀)) g₀ v₀
       rounds-full long call st k =
           let q = U .same st k in
           let many = call pairs (enough long) (q .0) (q .1) in

@@ -1,7 +1,6 @@
 pub mod Traced
 pub mod Seen
 pub mod Shifting
-pub mod Coded
 pub mod Shift
 pub mod Reduce
 pub mod Sound

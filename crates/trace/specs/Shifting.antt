@@ -28,7 +28,7 @@ itemOf c = record { production = c / 17; index = c % 17 }
 
 -- of state s and nonterminal n the items stand from starts (s * 32 + n) up to the next start
 pub record ShiftItems (T : Table) (starts codes : List ℕ) : Type 0 where
-  pub long : length starts ≡ 4097
-  pub rising : (k : ℕ) → k < 4096 → (getD starts k 0 ≤ getD starts (suc k) 0) × (getD starts (suc k) 0 ≤ length codes)
+  pub long : length (T .states) * 32 < length starts
+  pub rising : (k : ℕ) → k < length (T .states) * 32 → (getD starts k 0 ≤ getD starts (suc k) 0) × (getD starts (suc k) 0 ≤ length codes)
   pub exact : (s n : ℕ) → s < length (T .states) → n < 32 → map itemOf (slice (getD starts (pair s n) 0) (getD starts (suc (pair s n)) 0) codes) ≡ shifting T s n
   pub small : (s n j : ℕ) → s < length (T .states) → n < 32 → getD starts (pair s n) 0 ≤ j → j < getD starts (suc (pair s n)) 0 → getD codes j 0 < 2176

@@ -1,4 +1,3 @@
 // Backward tracing (lr1/trace/mod.rs).
 pub mod reduce;
 pub mod shift;
-pub mod shifting;

@@ -35,7 +35,7 @@ ghost use Rattle.trace_graph.specs.Fits.{itemFits};
 ghost use Rattle.trace_graph.specs.Insert.{Graphed, Added, Overfull};
 ghost use Rattle.trace.specs.Traced.{Trace, prefixOf, suffixOf};
 ghost use Rattle.trace.specs.Reduce.{reduceItem, reduceState};
-ghost use Rattle.trace.specs.Holding.{zeros};
+ghost use Rattle.trace.specs.Holding.{Flags, zeros};
 ghost use Rattle.trace.specs.Ends.{flag, EndsTo, Ends};
 ghost use Rattle.trace.specs.Reducing.{Stepped, Overrun, Reducing, itemAt, edgeToNonterminal};
 
@@ -219,7 +219,7 @@ pub fn trace_reduce_item(
 ) -> Inserted
     requires { ⌜ Reducing (now table) (now grammar) productions n (now starts) (now codes) (now ends) (now preds) ⌝ }
     requires { ⌜ Graphed n (productionsIn (now grammar) productions) (now graph) (now ix) (getD (now graph) 0 0) ⌝ }
-    requires { ⌜ (length (now visited) ≡ 4096) × ((state < length (meaning (now table) .states)) × (itemFits (productionsIn (now grammar) productions) production index ≡ true)) ⌝ }
+    requires { ⌜ Flags (meaning (now table)) (now visited) × ((state < length (meaning (now table) .states)) × (itemFits (productionsIn (now grammar) productions) production index ≡ true)) ⌝ }
     ensures { λ r. ⌜ (r ≡ Done → Stepped n (productionsIn (now (grammar .entry)) productions) (λ (f : ℕ) (st : Trace). reduceItem (meaning (now (table .entry))) (λ (p m : ℕ) (u : Trace). reduceState (meaning (now (table .entry))) f p m u) state (itemAt production index) st) (now (graph .entry)) (now (visited .entry)) (now (graph .exit)) (now (ix .exit)) (now (visited .exit))) ⌝ }
     ensures { λ r. ⌜ (r ≡ Full → Overrun (λ (f : ℕ) (st : Trace). reduceItem (meaning (now (table .entry))) (λ (p m : ℕ) (u : Trace). reduceState (meaning (now (table .entry))) f p m u) state (itemAt production index) st) (now (graph .entry)) (now (visited .entry))) ⌝ }
     ensures { λ r. ⌜ zeros (now (visited .exit)) ≤ zeros (now (visited .entry)) ⌝ }
@@ -283,7 +283,7 @@ pub fn trace_reduce_from_state(
 ) -> Inserted
     requires { ⌜ Reducing (now table) (now grammar) productions n (now starts) (now codes) (now ends) (now preds) ⌝ }
     requires { ⌜ Graphed n (productionsIn (now grammar) productions) (now graph) (now ix) (getD (now graph) 0 0) ⌝ }
-    requires { ⌜ (length (now visited) ≡ 4096) × ((state < length (meaning (now table) .states)) × (nonterminal < n)) ⌝ }
+    requires { ⌜ Flags (meaning (now table)) (now visited) × ((state < length (meaning (now table) .states)) × (nonterminal < n)) ⌝ }
     ensures { λ r. ⌜ (r ≡ Done → Stepped n (productionsIn (now (grammar .entry)) productions) (λ (f : ℕ) (st : Trace). reduceState (meaning (now (table .entry))) f state nonterminal st) (now (graph .entry)) (now (visited .entry)) (now (graph .exit)) (now (ix .exit)) (now (visited .exit))) ⌝ }
     ensures { λ r. ⌜ (r ≡ Full → Overrun (λ (f : ℕ) (st : Trace). reduceState (meaning (now (table .entry))) f state nonterminal st) (now (graph .entry)) (now (visited .entry))) ⌝ }
     ensures { λ r. ⌜ zeros (now (visited .exit)) ≤ zeros (now (visited .entry)) ⌝ }

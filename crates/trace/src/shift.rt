@@ -21,7 +21,7 @@ ghost use Rattle.trace_graph.specs.Fits.{itemFits};
 ghost use Rattle.trace_graph.specs.Insert.{Graphed, Added, Overfull};
 ghost use Rattle.trace.specs.Traced.{addTo, ownerOf, inTurn, pairs};
 ghost use Rattle.trace.specs.Shift.{epsilon};
-ghost use Rattle.trace.specs.Holding.{zeros, Tracing};
+ghost use Rattle.trace.specs.Holding.{Flags, zeros, Tracing};
 ghost use Rattle.trace.specs.Steps.{Steps, Exceeds, epsilonEdge};
 ghost use Rattle.trace.specs.Reducing.{itemAt, edgeToItem};
 
@@ -136,7 +136,7 @@ pub fn trace_epsilon_edges(
 ) -> Inserted
     requires { ⌜ Tracing (now table) (now grammar) productions n (now starts) (now codes) ⌝ }
     requires { ⌜ Graphed n (productionsIn (now grammar) productions) (now graph) (now ix) (getD (now graph) 0 0) ⌝ }
-    requires { ⌜ (length (now visited) ≡ 4096) × ((state < length (meaning (now table) .states)) × (nonterminal < n)) ⌝ }
+    requires { ⌜ Flags (meaning (now table)) (now visited) × ((state < length (meaning (now table) .states)) × (nonterminal < n)) ⌝ }
     ensures { λ r. ⌜ (r ≡ Done → ((f : ℕ) → zeros (now (visited .entry)) ≤ f → Steps (epsilon (meaning (now (table .entry))) f state nonterminal) (now (graph .entry)) (now (visited .entry)) (now (graph .exit)) (now (visited .exit))) × Graphed n (productionsIn (now (grammar .entry)) productions) (now (graph .exit)) (now (ix .exit)) (getD (now (graph .exit)) 0 0)) ⌝ }
     ensures { λ r. ⌜ (r ≡ Full → (f : ℕ) → zeros (now (visited .entry)) ≤ f → Exceeds (epsilon (meaning (now (table .entry))) f state nonterminal) (now (graph .entry)) (now (visited .entry))) ⌝ }
     ensures { λ r. ⌜ zeros (now (visited .exit)) ≤ zeros (now (visited .entry)) ⌝ }
@@ -210,7 +210,7 @@ fn trace_states(
 ) -> Inserted
     requires { ⌜ Tracing (now table) (now grammar) productions n (now starts) (now codes) ⌝ }
     requires { ⌜ Graphed n (productionsIn (now grammar) productions) (now graph) (now ix) (getD (now graph) 0 0) ⌝ }
-    requires { ⌜ (length (now visited) ≡ 4096) × (nonterminal < n) ⌝ }
+    requires { ⌜ Flags (meaning (now table)) (now visited) × (nonterminal < n) ⌝ }
     requires { ⌜ ((s : ℕ) → mem s (statesIn (states .low) (states .high)) ≡ true → s < length (meaning (now table) .states)) ⌝ }
     ensures { λ r. ⌜ (r ≡ Done → Steps (inTurn (λ p u. epsilon (meaning (now (table .entry))) pairs p nonterminal u) (statesIn (states .low) (states .high))) (now (graph .entry)) (now (visited .entry)) (now (graph .exit)) (now (visited .exit)) × Graphed n (productionsIn (now (grammar .entry)) productions) (now (graph .exit)) (now (ix .exit)) (getD (now (graph .exit)) 0 0)) ⌝ }
     ensures { λ r. ⌜ (r ≡ Full → Exceeds (inTurn (λ p u. epsilon (meaning (now (table .entry))) pairs p nonterminal u) (statesIn (states .low) (states .high))) (now (graph .entry)) (now (visited .entry))) ⌝ }
@@ -263,7 +263,7 @@ pub fn shift_trace(
 ) -> Inserted
     requires { ⌜ Tracing (now table) (now grammar) productions n (now starts) (now codes) ⌝ }
     requires { ⌜ Graphed n (productionsIn (now grammar) productions) (now graph) (now ix) (getD (now graph) 0 0) ⌝ }
-    requires { ⌜ (length (now visited) ≡ 4096) × (itemFits (productionsIn (now grammar) productions) production index ≡ true) ⌝ }
+    requires { ⌜ Flags (meaning (now table)) (now visited) × (itemFits (productionsIn (now grammar) productions) production index ≡ true) ⌝ }
     requires { ⌜ ((s : ℕ) → mem s (statesIn (states .low) (states .high)) ≡ true → s < length (meaning (now table) .states)) ⌝ }
     ensures { λ r. ⌜ (r ≡ Done → Steps (λ st. inTurn (λ p u. epsilon (meaning (now (table .entry))) pairs p (ownerOf (meaning (now (table .entry))) (record { production = production; index = index })) u) (statesIn (states .low) (states .high)) (addTo (meaning (now (table .entry))) (atNonterminal (ownerOf (meaning (now (table .entry))) (record { production = production; index = index }))) (atItem (record { production = production; index = index })) (record { production = production; index = index }) st)) (now (graph .entry)) (now (visited .entry)) (now (graph .exit)) (now (visited .exit)) × Graphed n (productionsIn (now (grammar .entry)) productions) (now (graph .exit)) (now (ix .exit)) (getD (now (graph .exit)) 0 0)) ⌝ }
     ensures { λ r. ⌜ (r ≡ Full → Exceeds (λ st. inTurn (λ p u. epsilon (meaning (now (table .entry))) pairs p (ownerOf (meaning (now (table .entry))) (record { production = production; index = index })) u) (statesIn (states .low) (states .high)) (addTo (meaning (now (table .entry))) (atNonterminal (ownerOf (meaning (now (table .entry))) (record { production = production; index = index }))) (atItem (record { production = production; index = index })) (record { production = production; index = index }) st)) (now (graph .entry)) (now (visited .entry))) ⌝ }

@@ -16,13 +16,13 @@ use Rattle.trace_graph.specs.declared.TraceEdge.{TraceEdge as EdgeValue}
 use Rattle.trace_graph.specs.Graph.{TraceEdge, sameEdge}
 use Rattle.trace_graph.specs.Words.{edgeLimit, place, nodeAt, edgeAt}
 use Rattle.trace_graph.specs.Fits.{edgeFits, once, graphFits}
-use Rattle.trace_graph.specs.Index.{nodeNumber}
-use Rattle.trace_graph.specs.Values.{nodeIs, edgeIs, valueFits, SmallNode, edgeRead, firstEdges}
+use Rattle.trace_graph.specs.Index.{nodeNumber, bucketOf}
+use Rattle.trace_graph.specs.Values.{nodeIs, edgeIs, valueFits, SmallEdge, edgeRead, firstEdges}
 use Rattle.trace_graph.specs.Insert.{Graphed, linkedAt, fresh}
 use Rattle.trace_graph.proofs.Bools.{both, and-left, and-right, never}
 use Rattle.trace_graph.proofs.Labels.{edge-sym}
 use Rattle.trace_graph.proofs.Words.{edge-read, edge-target, value-target, fits-read, first-none, first-more, edges-first}
-use Rattle.trace_graph.proofs.Fits.{bounds, small-node, target-fits}
+use Rattle.trace_graph.proofs.Fits.{bounds, value-small}
 use Rattle.trace_graph.proofs.Index.{index-none}
 use Rattle.trace_graph.proofs.Inserts.{graphed-count, graphed-linked}
 
@@ -109,8 +109,8 @@ module _ {g : List ℕ} {m n : ℕ} {ws ix : List ℕ} {k : ℕ} {w : EdgeValue}
     pub check-fits : valueFits n (productionsIn g m) w ≡ true
     check-fits = sym (L .fits) ∙ y
 
-    pub check-small : SmallNode (w .target)
-    check-small = small-node n (productionsIn g m) (bounds g m (L .packed) n (L .graph .nonterminals)) (w .target) (target-fits n (productionsIn g m) w check-fits)
+    pub check-small : SmallEdge w × (w .production < m)
+    check-small = value-small g m (L .packed) n (L .graph .nonterminals) w check-fits
 
     module _ {r : Bool} (er : r ≡ some? (sameEdge (productionsIn g m) (edgeIs w)) (firstEdges ws k)) where
       fresh-is : (edgeFits n (productionsIn g m) ws k && fresh (productionsIn g m) ws k) ≡ not r
@@ -123,17 +123,18 @@ module _ {g : List ℕ} {m n : ℕ} {ws ix : List ℕ} {k : ℕ} {w : EdgeValue}
       pub check-new : r ≡ false → true ≡ (edgeFits n (productionsIn g m) ws k && fresh (productionsIn g m) ws k)
       check-new z = sym (fresh-is ∙ rw z)
 
-      pub check-linked : {number : ℕ} {ix′ : List ℕ} → number ≡ nodeNumber (nodeIs (w .target)) → ix′ ≡ linkedAt ix k number → Graphed n (productionsIn g m) ws ix′ (k + 1)
-      check-linked {number} en ex =
+      pub check-linked : {number bucket : ℕ} {ix′ : List ℕ} → number ≡ nodeNumber (nodeIs (w .target)) → (bucket ≡ bucketOf (productionsIn g m) (edgeIs w)) × (bucket < 1024) → ix′ ≡ linkedAt ix k number bucket
+          → Graphed n (productionsIn g m) ws ix′ (k + 1)
+      check-linked {number} {bucket} en eb ex =
           let t : nodeIs (w .target) ≡ nodeAt ws (place k + 3) = sym (value-target w) ∙ ap (λ (f : TraceEdge). f .target) whole ∙ edge-target ws k in
-          rw ex (graphed-linked n (productionsIn g m) ws ix k (L .graph) (bounds g m (L .packed) n (L .graph .nonterminals)) (L .low) (fits-is ∙ y) number (en ∙ ap nodeNumber t))
+          rw ex (graphed-linked n (productionsIn g m) ws ix k (L .graph) (bounds g m (L .packed) n (L .graph .nonterminals)) (L .low) (fits-is ∙ y) number bucket (en ∙ ap nodeNumber t) (eb .0 ∙ ap (bucketOf (productionsIn g m)) whole) (eb .1))
 
 -- the turns of `check_graph`
 pub record Checked (n : ℕ) (ps : List Production) (ws ix : List ℕ) (k : ℕ) : Type 0 where
   pub good : Graphed n ps ws ix k
   pub new : (j : ℕ) → j < k → fresh ps ws j ≡ true
 
-pub checked-first : (g : List ℕ) (m n : ℕ) (ws ix : List ℕ) → Packed g m → n ≤ 32 → 8193 ≤ length ws → ix ≡ replicate 3232 0 → Checked n (productionsIn g m) ws ix 0
+pub checked-first : (g : List ℕ) (m n : ℕ) (ws ix : List ℕ) → Packed g m → n ≤ 32 → 8193 ≤ length ws → ix ≡ replicate 5280 0 → Checked n (productionsIn g m) ws ix 0
 checked-first g m n ws ix P h l e = record {
   good = record {
     nonterminals = h;

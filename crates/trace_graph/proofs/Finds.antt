@@ -1,4 +1,4 @@
--- The ways through `same_edge` and `find`: an equal edge is looked for among the edges into one node. Assumes nothing.
+-- The ways through `same_edge` and `find`: an equal edge is looked for among the edges in one bucket. Assumes nothing.
 use mathlib.Core.Path.{_≡_, sym, ap, _∙_}
 use mathlib.Core.Bool.{Bool, true, false, _&&_}
 use mathlib.Core.List.{List}
@@ -6,20 +6,22 @@ use Prim.Native.Nat.{ℕ, suc, _+_, _-_, _<_}
 use native.Mathlib.Omega.{arith}
 use native.Mathlib.Decide.{ℕ-discrete}
 use lib.ListN.{getD}
+use borrow.Author.Tests.{eqb-false}
 use Rattle.repr.specs.Lists.{some?}
 use Rattle.repr.specs.Meaning.{Production}
 use Rattle.repr.specs.Packed.{Packed, productionsIn}
 use Rattle.trace_graph.specs.declared.TraceEdge.{TraceEdge as EdgeValue}
-use Rattle.trace_graph.specs.Graph.{Node, sameNode, TraceEdge, labelOf, sameSets, sameEdge}
-use Rattle.trace_graph.specs.Words.{place, nodeAt, edgeAt}
+use Rattle.trace_graph.specs.Graph.{labelOf, sameSets, sameEdge}
+use Rattle.trace_graph.specs.Words.{edgeAt}
 use Rattle.trace_graph.specs.Fits.{itemFits, edgeFits}
-use Rattle.trace_graph.specs.Index.{nodeNumber}
-use Rattle.trace_graph.specs.Values.{nodeIs, edgeIs, sameValue, valueFits, SmallNode, edgeRead, firstEdges}
+use Rattle.trace_graph.specs.Index.{bucketOf, inBucket}
+use Rattle.trace_graph.specs.Values.{edgeIs, sameValue, valueFits, edgeRead, firstEdges}
 use Rattle.trace_graph.specs.Insert.{Graphed}
-use Rattle.trace_graph.proofs.Labels.{node-sym, edge-other}
-use Rattle.trace_graph.proofs.Words.{edge-read, edge-target, value-target, fits-read}
-use Rattle.trace_graph.proofs.Fits.{bounds, same-value, small-node, source-fits, target-fits, label-fits, value-range}
-use Rattle.trace_graph.proofs.Index.{Turn, turn-first, turn-end, turn-into, turn-less, turn-found, turn-again}
+use Rattle.trace_graph.proofs.Bools.{never}
+use Rattle.trace_graph.proofs.Words.{edge-read, fits-read}
+use Rattle.trace_graph.proofs.Fits.{same-value, source-fits, target-fits, label-fits}
+use Rattle.trace_graph.proofs.Buckets.{same-bucket}
+use Rattle.trace_graph.proofs.Index.{Turn, turn-first, turn-end, turn-less, turn-found, turn-again}
 
 -- an edge read from a graph in range
 pub read-fits : (n : ℕ) (ps : List Production) (ws : List ℕ) (k : ℕ) (w : EdgeValue) → w ≡ edgeRead ws k → edgeFits n ps ws k ≡ true → valueFits n ps w ≡ true
@@ -30,7 +32,6 @@ pub record Compared (n : ℕ) (ps : List Production) (ws : List ℕ) (k : ℕ) (
   pub read : w ≡ edgeRead ws k
   pub here : edgeFits n ps ws k ≡ true
   pub fits : valueFits n ps v ≡ true
-  pub into : sameNode (nodeAt ws (place k + 3)) (nodeIs (v .target)) ≡ true
 
 -- the ways through it
 module _ {n : ℕ} {ps : List Production} {ws : List ℕ} {k : ℕ} {v w : EdgeValue} (C : Compared n ps ws k v w) where
@@ -40,46 +41,53 @@ module _ {n : ℕ} {ps : List Production} {ws : List ℕ} {k : ℕ} {v w : EdgeV
   pub right-label : itemFits ps (w .production) (w .index) ≡ true
   right-label = label-fits n ps w (read-fits n ps ws k w (C .read) (C .here))
 
-  edge-is : sameEdge ps (edgeIs v) (edgeAt ws k) ≡ (sameValue (v .source) (w .source) && sameSets (labelOf ps (record { production = v .production; index = v .index })) (labelOf ps (record { production = w .production; index = w .index })))
+  edge-is : sameEdge ps (edgeIs v) (edgeAt ws k) ≡ (sameValue (v .source) (w .source) && (sameValue (v .target) (w .target) && sameSets (labelOf ps (record { production = v .production; index = v .index })) (labelOf ps (record { production = w .production; index = w .index }))))
   unfolding sameEdge edgeIs
   edge-is =
-      let same = same-value n ps (v .source) (w .source) (source-fits n ps v (C .fits)) (source-fits n ps w (read-fits n ps ws k w (C .read) (C .here))) in
+      let here = read-fits n ps ws k w (C .read) (C .here) in
+      let sources = same-value n ps (v .source) (w .source) (source-fits n ps v (C .fits)) (source-fits n ps w here) in
+      let targets = same-value n ps (v .target) (w .target) (target-fits n ps v (C .fits)) (target-fits n ps w here) in
       let whole : edgeAt ws k ≡ edgeIs w = sym (ap edgeIs (C .read) ∙ edge-read ws k) in
-      let one : sameNode (nodeIs (v .target)) (nodeIs (w .target)) ≡ true =
-      node-sym (nodeIs (v .target)) (nodeIs (w .target)) ∙ ap (λ (u : Node). sameNode u (nodeIs (v .target))) (sym (sym (edge-target ws k) ∙ ap (λ (f : TraceEdge). f .target) whole)) ∙ C .into in
-      rw (whole, one, same)
+      rw (whole, sources, targets)
 
-  pub edge-no : {r : Bool} → r ≡ sameValue (v .source) (w .source) → r ≡ false → false ≡ sameEdge ps (edgeIs v) (edgeAt ws k)
-  edge-no q z = sym (edge-is ∙ rw (sym q ∙ z))
+  module _ {r : Bool} (q : r ≡ sameValue (v .source) (w .source)) where
+    pub edge-source : r ≡ false → false ≡ sameEdge ps (edgeIs v) (edgeAt ws k)
+    edge-source z = sym (edge-is ∙ rw (sym q ∙ z))
 
-  pub edge-yes : {r l : Bool} → r ≡ sameValue (v .source) (w .source) → r ≡ true
-      → l ≡ sameSets (labelOf ps (record { production = v .production; index = v .index })) (labelOf ps (record { production = w .production; index = w .index }))
-      → l ≡ sameEdge ps (edgeIs v) (edgeAt ws k)
-  edge-yes q z p = p ∙ sym (edge-is ∙ rw (sym q ∙ z))
+    module _ (y : r ≡ true) {t : Bool} (p : t ≡ sameValue (v .target) (w .target)) where
+      pub edge-target-no : t ≡ false → false ≡ sameEdge ps (edgeIs v) (edgeAt ws k)
+      edge-target-no z = sym (edge-is ∙ rw (sym q ∙ y, sym p ∙ z))
+
+      pub edge-yes : {l : Bool} → t ≡ true → l ≡ sameSets (labelOf ps (record { production = v .production; index = v .index })) (labelOf ps (record { production = w .production; index = w .index }))
+          → l ≡ sameEdge ps (edgeIs v) (edgeAt ws k)
+      edge-yes z e = e ∙ sym (edge-is ∙ rw (sym q ∙ y, sym p ∙ z))
 
 -- what `find` is given
-pub record Sought (g : List ℕ) (m n : ℕ) (ws ix : List ℕ) (k : ℕ) (v : EdgeValue) : Type 0 where
+pub record Sought (g : List ℕ) (m n : ℕ) (ws ix : List ℕ) (k : ℕ) (v : EdgeValue) (b : ℕ) : Type 0 where
   pub packed : Packed g m
   pub graph : Graphed n (productionsIn g m) ws ix k
   pub fits : valueFits n (productionsIn g m) v ≡ true
+  pub bucket : b ≡ bucketOf (productionsIn g m) (edgeIs v)
+  pub low : b < 1024
 
 -- the ways through it
-module _ {g : List ℕ} {m n : ℕ} {ws ix : List ℕ} {k : ℕ} {v : EdgeValue} (W : Sought g m n ws ix k v) where
-  pub find-number : SmallNode (v .target)
-  find-number = small-node n (productionsIn g m) (bounds g m (W .packed) n (W .graph .nonterminals)) (v .target) (target-fits n (productionsIn g m) v (W .fits))
+module _ {g : List ℕ} {m n : ℕ} {ws ix : List ℕ} {k : ℕ} {v : EdgeValue} {b : ℕ} (W : Sought g m n ws ix k v b) where
+  -- an edge in another bucket is not equal
+  other : (j : ℕ) → j < k → inBucket (productionsIn g m) ws b j ≡ false → sameEdge (productionsIn g m) (edgeIs v) (edgeAt ws j) ≡ false
+  unfolding inBucket edgeIs edgeAt edgeRead
+  other j h s =
+      never (sameEdge (productionsIn g m) (edgeIs v) (edgeAt ws j)) (λ q.
+      let here : valueFits n (productionsIn g m) (edgeRead ws j) ≡ true = fits-read n (productionsIn g m) ws j ∙ W .graph .fits j h in
+      let e = same-bucket (productionsIn g m) (edgeIs v) (edgeAt ws j) (label-fits n (productionsIn g m) v (W .fits)) (label-fits n (productionsIn g m) (edgeRead ws j) here) q in
+      eqb-false (bucketOf (productionsIn g m) (edgeAt ws j)) b s (sym (W .bucket ∙ e)))
 
-  other : (j : ℕ) → sameNode (nodeAt ws (place j + 3)) (nodeIs (v .target)) ≡ false → sameEdge (productionsIn g m) (edgeIs v) (edgeAt ws j) ≡ false
-  other j s = edge-other (productionsIn g m) (edgeIs v) (edgeAt ws j) (rw (edge-target ws j, value-target v) s)
+  pub find-first : {next : ℕ} → next ≡ getD ix (3232 + b) 0 → Turn ws ix 4256 (inBucket (productionsIn g m) ws b) (sameEdge (productionsIn g m) (edgeIs v)) k next
+  find-first {next} ex =
+      turn-first ws ix 4256 (inBucket (productionsIn g m) ws b) (sameEdge (productionsIn g m) (edgeIs v)) k other next (rw ex (W .graph .index .bucketed b (W .low)))
 
-  pub find-first : {number next : ℕ} → number ≡ nodeNumber (nodeIs (v .target)) → next ≡ getD ix number 0
-      → Turn ws ix (nodeIs (v .target)) (sameEdge (productionsIn g m) (edgeIs v)) k next
-  find-first {next = next} en ex =
-      let l = W .graph .index .linked (nodeIs (v .target)) (value-range n (productionsIn g m) (v .target) (target-fits n (productionsIn g m) v (W .fits))) in
-      turn-first ws ix (nodeIs (v .target)) (sameEdge (productionsIn g m) (edgeIs v)) other k next (rw (ex, en) l)
-
-  module _ {next : ℕ} (T : Turn ws ix (nodeIs (v .target)) (sameEdge (productionsIn g m) (edgeIs v)) k next) where
+  module _ {next : ℕ} (T : Turn ws ix 4256 (inBucket (productionsIn g m) ws b) (sameEdge (productionsIn g m) (edgeIs v)) k next) where
     pub find-end : next ≡ 0 → false ≡ some? (sameEdge (productionsIn g m) (edgeIs v)) (firstEdges ws k)
-    find-end e = turn-end ws ix (nodeIs (v .target)) (sameEdge (productionsIn g m) (edgeIs v)) other k next T e
+    find-end e = turn-end ws ix 4256 (inBucket (productionsIn g m) ws b) (sameEdge (productionsIn g m) (edgeIs v)) k other next T e
 
     module _ (ne : next ≡ 0 → ⊥) where
       one : next ≡ suc (next - 1)
@@ -95,15 +103,12 @@ module _ {g : List ℕ} {m n : ℕ} {ws ix : List ℕ} {k : ℕ} {v : EdgeValue}
       pub find-low : next - 1 < 1024
       find-low = omega (arith, one, T .below, W .graph .few)
 
-      pub find-into : sameNode (nodeAt ws (place (next - 1) + 3)) (nodeIs (v .target)) ≡ true
-      find-into = turn-into ws ix (nodeIs (v .target)) (sameEdge (productionsIn g m) (edgeIs v)) other k next (next - 1) T one
-
-      pub find-less : {j : ℕ} → j ≡ getD ix (2208 + (next - 1)) 0 → j < next
-      find-less q = omega (arith, one, turn-less ws ix (nodeIs (v .target)) (sameEdge (productionsIn g m) (edgeIs v)) other k next (next - 1) T one)
+      pub find-less : {j : ℕ} → j ≡ getD ix (4256 + (next - 1)) 0 → j < next
+      find-less q = omega (arith, one, turn-less ws ix 4256 (inBucket (productionsIn g m) ws b) (sameEdge (productionsIn g m) (edgeIs v)) k other next (next - 1) T one)
 
       module _ {r : Bool} (p : r ≡ sameEdge (productionsIn g m) (edgeIs v) (edgeAt ws (next - 1))) where
         pub find-found : r ≡ true → true ≡ some? (sameEdge (productionsIn g m) (edgeIs v)) (firstEdges ws k)
-        find-found h = turn-found ws ix (nodeIs (v .target)) (sameEdge (productionsIn g m) (edgeIs v)) other k next (next - 1) T one (sym p ∙ h)
+        find-found h = turn-found ws ix 4256 (inBucket (productionsIn g m) ws b) (sameEdge (productionsIn g m) (edgeIs v)) k other next (next - 1) T one (sym p ∙ h)
 
-        pub find-again : r ≡ false → {j : ℕ} → j ≡ getD ix (2208 + (next - 1)) 0 → Turn ws ix (nodeIs (v .target)) (sameEdge (productionsIn g m) (edgeIs v)) k j
-        find-again h {j} q = turn-again ws ix (nodeIs (v .target)) (sameEdge (productionsIn g m) (edgeIs v)) other k next (next - 1) T one j q (sym p ∙ h)
+        pub find-again : r ≡ false → {j : ℕ} → j ≡ getD ix (4256 + (next - 1)) 0 → Turn ws ix 4256 (inBucket (productionsIn g m) ws b) (sameEdge (productionsIn g m) (edgeIs v)) k j
+        find-again h {j} q = turn-again ws ix 4256 (inBucket (productionsIn g m) ws b) (sameEdge (productionsIn g m) (edgeIs v)) k other next (next - 1) T one j q (sym p ∙ h)

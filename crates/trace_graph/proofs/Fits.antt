@@ -231,3 +231,7 @@ module _ (n : ℕ) (ps : List Production) (v : EdgeValue) where
   pub label-decides : nodeValueFits n ps (v .source) ≡ true → nodeValueFits n ps (v .target) ≡ true → itemFits ps (v .production) (v .index) ≡ valueFits n ps v
   unfolding valueFits
   label-decides e f = rw (e, f)
+
+-- an edge of a packed table in range is small, and its label's production is one of the table's
+pub value-small : (g : List ℕ) (m : ℕ) → Packed g m → (n : ℕ) → n ≤ 32 → (v : EdgeValue) → valueFits n (productionsIn g m) v ≡ true → SmallEdge v × (v .production < m)
+value-small g m P n h v e = (small-edge n (productionsIn g m) v e (bounds g m P n h), item-below g m P (v .production) (v .index) (label-fits n (productionsIn g m) v e))

@@ -1,4 +1,4 @@
--- Laws of the index (specs/Index): the edges into a node, the links along them, and an edge put in front. Assumes nothing.
+-- Laws of the index (specs/Index): the edges that pass a test, the links along them, and an edge put in front. Assumes nothing.
 use mathlib.Core.Path.{_≡_, refl, sym, ap, _∙_}
 use mathlib.Core.Bool.{Bool, true, false, _&&_, _||_, or-false, or-true}
 use mathlib.Core.List.{List, [], _∷_}
@@ -7,52 +7,52 @@ use native.Mathlib.Omega.{arith}
 use lib.ListN.{length, getD, set, replicate, length-set, length-replicate, getD-replicate}
 use lib.Seq.{getD-set-same, getD-set-other}
 use lib.Dec.{eqb, ltb}
-use borrow.Author.Tests.{eqb-true, eqb-false, ltb-true, ltb-false, lt-ltb, le-ltb}
+use borrow.Author.Tests.{eqb-true, eqb-false, eq-eqb, ltb-true, ltb-false, lt-ltb, le-ltb}
 use Rattle.repr.specs.Lists.{mem, some?}
 use Rattle.repr.specs.Meaning.{Production, Item}
 use Rattle.repr.proofs.Lists.{cases, clash, mem-nil, mem-yes, mem-no}
 use Rattle.repr.proofs.Tests.{some?-append, some?-yes, some?-no, some?-nil}
 use Rattle.trace_graph.specs.Graph.{Node, atNonterminal, atItem, sameNode, TraceEdge}
 use Rattle.trace_graph.specs.Words.{place, nodeAt, edgeAt}
-use Rattle.trace_graph.specs.Index.{nodeNumber, into, Linked, InRange, Indexed}
+use Rattle.trace_graph.specs.Index.{nodeNumber, bucketOf, into, inBucket, newest, Linked, InRange, Indexed}
 use Rattle.trace_graph.specs.Values.{firstEdges}
-use Rattle.trace_graph.specs.Insert.{linkedAt}
+use Rattle.trace_graph.specs.Insert.{chained, linkedAt}
 use Rattle.trace_graph.proofs.Labels.{node-equal, node-same}
 use Rattle.trace_graph.proofs.Words.{first-none, first-more}
 use Rattle.trace_graph.proofs.Fits.{Bounds}
 
--- the edges into a node
+-- the edges that pass a test
 
-module _ (ws : List ℕ) (v : Node) where
-  pub into-none : into ws v 0 ≡ []
-  unfolding into
-  into-none = refl
+module _ (u : ℕ → Bool) where
+  pub newest-none : newest u 0 ≡ []
+  unfolding newest
+  newest-none = refl
 
-  pub into-yes : (k : ℕ) → sameNode (nodeAt ws (place k + 3)) v ≡ true → into ws v (suc k) ≡ k ∷ into ws v k
-  unfolding into
-  into-yes k e = rw (e, into)
+  pub newest-yes : (k : ℕ) → u k ≡ true → newest u (suc k) ≡ k ∷ newest u k
+  unfolding newest
+  newest-yes k e = rw (e, newest)
 
-  pub into-no : (k : ℕ) → sameNode (nodeAt ws (place k + 3)) v ≡ false → into ws v (suc k) ≡ into ws v k
-  unfolding into
-  into-no k e = rw (e, into)
+  pub newest-no : (k : ℕ) → u k ≡ false → newest u (suc k) ≡ newest u k
+  unfolding newest
+  newest-no k e = rw (e, newest)
 
-  -- exactly those below k whose target is v
-  pub mem-into : (j k : ℕ) → mem j (into ws v k) ≡ (ltb j k && sameNode (nodeAt ws (place j + 3)) v)
-  mem-into j zero = rw into-none (mem-nil j ∙ rw (le-ltb j 0 (omega arith)))
-  mem-into j (suc k) =
-      let rest = mem-into j k in
+  -- exactly those below k that pass
+  pub mem-newest : (j k : ℕ) → mem j (newest u k) ≡ (ltb j k && u j)
+  mem-newest j zero = rw newest-none (mem-nil j ∙ rw (le-ltb j 0 (omega arith)))
+  mem-newest j (suc k) =
+      let rest = mem-newest j k in
       cases (eqb j k)
       (λ q.
       let e = eqb-true j k q in
-      cases (sameNode (nodeAt ws (place k + 3)) v)
-      (λ s. rw (into-yes k s) (mem-yes j k (into ws v k) q ∙ rw (lt-ltb j (suc k) (omega arith), e, s)))
-      (λ s. rw (into-no k s) (rest ∙ rw (le-ltb j k (omega arith), lt-ltb j (suc k) (omega arith), e, s))))
+      cases (u k)
+      (λ s. rw (newest-yes k s) (mem-yes j k (newest u k) q ∙ rw (lt-ltb j (suc k) (omega arith), e, s)))
+      (λ s. rw (newest-no k s) (rest ∙ rw (le-ltb j k (omega arith), lt-ltb j (suc k) (omega arith), e, s))))
       (λ q.
       let ne = eqb-false j k q in
       let same : ltb j k ≡ ltb j (suc k) = cases (ltb j k) (λ l. let h = ltb-true j k l in l ∙ sym (lt-ltb j (suc k) (omega arith))) (λ l. let h = ltb-false j k l in l ∙ sym (le-ltb j (suc k) (away ne h))) in
-      cases (sameNode (nodeAt ws (place k + 3)) v)
-      (λ s. rw (into-yes k s) (mem-no j k (into ws v k) q ∙ rest ∙ rw same))
-      (λ s. rw (into-no k s) (rest ∙ rw same)))
+      cases (u k)
+      (λ s. rw (newest-yes k s) (mem-no j k (newest u k) q ∙ rest ∙ rw same))
+      (λ s. rw (newest-no k s) (rest ∙ rw same)))
     where
       away : {i l : ℕ} → (i ≡ l → ⊥) → l ≤ i → suc l ≤ i
       away {i} {l} ne h = go (native.Mathlib.Decide.decLe (suc l) i)
@@ -61,62 +61,59 @@ module _ (ws : List ℕ) (v : Node) where
           go (yes q) = q
           go (no q) = absurd (ne (omega arith))
 
-  -- descending: behind an edge are those before it
-  pub into-tail : (i k : ℕ) (is : List ℕ) → into ws v k ≡ i ∷ is → (i < k) × ((is ≡ into ws v i) × (sameNode (nodeAt ws (place i + 3)) v ≡ true))
-  into-tail i zero is e = let z : _≡_ {A = ℕ} 0 1 = cc into-none in absurd (omega arith)
-  into-tail i (suc k) is e =
-      cases (sameNode (nodeAt ws (place k + 3)) v)
-      (λ s.
-      let f = sym (into-yes k s) ∙ e in
-      let p : k ≡ i = cc in
-      let q : into ws v k ≡ is = cc in
-      (omega arith, (sym q ∙ ap (into ws v) p, ap (λ (j : ℕ). sameNode (nodeAt ws (place j + 3)) v) (sym p) ∙ s)))
-      (λ s. let r = into-tail i k is (sym (into-no k s) ∙ e) in (omega (arith, r .0), r .1))
+-- tests that agree below k
+pub newest-kept : (u u′ : ℕ → Bool) (k : ℕ) → ((j : ℕ) → j < k → u′ j ≡ u j) → newest u′ k ≡ newest u k
+newest-kept u u′ zero h = newest-none u′ ∙ sym (newest-none u)
+newest-kept u u′ (suc k) h =
+    let rest = newest-kept u u′ k (λ j l. h j (omega arith)) in
+    let t = h k (omega arith) in
+    cases (u k)
+    (λ s. newest-yes u′ k (t ∙ s) ∙ rw rest (sym (newest-yes u k s)))
+    (λ s. newest-no u′ k (t ∙ s) ∙ rest ∙ sym (newest-no u k s))
 
--- edges below k unchanged
-pub into-kept : (ws ws′ : List ℕ) (v : Node) (k : ℕ) → ((j : ℕ) → j < k → nodeAt ws′ (place j + 3) ≡ nodeAt ws (place j + 3)) → into ws′ v k ≡ into ws v k
-into-kept ws ws′ v zero h = into-none ws′ v ∙ sym (into-none ws v)
-into-kept ws ws′ v (suc k) h =
-    let rest = into-kept ws ws′ v k (λ j l. h j (omega arith)) in
-    let t = ap (λ (u : Node). sameNode u v) (h k (omega arith)) in
-    cases (sameNode (nodeAt ws (place k + 3)) v)
-    (λ s. into-yes ws′ v k (t ∙ s) ∙ rw rest (sym (into-yes ws v k s)))
-    (λ s. into-no ws′ v k (t ∙ s) ∙ rest ∙ sym (into-no ws v k s))
+-- an edge that is kept passes the same tests
+pub into-kept : (ws ws′ : List ℕ) (v : Node) (j : ℕ) → nodeAt ws′ (place j + 3) ≡ nodeAt ws (place j + 3) → into ws′ v j ≡ into ws v j
+unfolding into
+into-kept ws ws′ v j e = rw e
+
+pub bucket-kept : (ps : List Production) (ws ws′ : List ℕ) (b j : ℕ) → edgeAt ws′ j ≡ edgeAt ws j → inBucket ps ws′ b j ≡ inBucket ps ws b j
+unfolding inBucket
+bucket-kept ps ws ws′ b j e = rw e
 
 -- links
 
-module _ (ws ix : List ℕ) (v : Node) where
-  linked-cons : (h k : ℕ) (ks : List ℕ) → Linked ix h (k ∷ ks) → (h ≡ suc k) × Linked ix (getD ix (2208 + k) 0) ks
+module _ (ix : List ℕ) (links : ℕ) (u : ℕ → Bool) where
+  linked-cons : (h k : ℕ) (ks : List ℕ) → Linked ix links h (k ∷ ks) → (h ≡ suc k) × Linked ix links (getD ix (links + k) 0) ks
   unfolding Linked
   linked-cons h k ks l = l
 
-  linked-nil : (h : ℕ) → Linked ix h [] → h ≡ 0
+  linked-nil : (h : ℕ) → Linked ix links h [] → h ≡ 0
   unfolding Linked
   linked-nil h l = l
 
-  -- a link is to the latest edge into the node
-  pub linked-top : (h k : ℕ) → Linked ix h (into ws v k) → (h ≤ k) × (into ws v k ≡ into ws v h)
-  linked-top h zero l = let z = linked-nil h (rw (into-none ws v) at l) in (omega arith, ap (into ws v) (sym z))
+  -- a link is to the latest edge that passes
+  pub linked-top : (h k : ℕ) → Linked ix links h (newest u k) → (h ≤ k) × (newest u k ≡ newest u h)
+  linked-top h zero l = let z = linked-nil h (rw (newest-none u) at l) in (omega arith, ap (newest u) (sym z))
   linked-top h (suc k) l =
-      cases (sameNode (nodeAt ws (place k + 3)) v)
-      (λ s. let e = linked-cons h k (into ws v k) (rw (into-yes ws v k s) at l) .0 in (omega arith, ap (into ws v) (sym e)))
-      (λ s. let r = linked-top h k (rw (into-no ws v k s) at l) in (omega (arith, r .0), into-no ws v k s ∙ r .1))
+      cases (u k)
+      (λ s. let e = linked-cons h k (newest u k) (rw (newest-yes u k s) at l) .0 in (omega arith, ap (newest u) (sym e)))
+      (λ s. let r = linked-top h k (rw (newest-no u k s) at l) in (omega (arith, r .0), newest-no u k s ∙ r .1))
 
-  -- what a link says, and the link behind it
-  pub linked-step : (i : ℕ) → Linked ix (suc i) (into ws v (suc i)) → (sameNode (nodeAt ws (place i + 3)) v ≡ true) × Linked ix (getD ix (2208 + i) 0) (into ws v i)
+  -- the link behind a link
+  pub linked-step : (i : ℕ) → Linked ix links (suc i) (newest u (suc i)) → Linked ix links (getD ix (links + i) 0) (newest u i)
   linked-step i l =
-      cases (sameNode (nodeAt ws (place i + 3)) v)
-      (λ s. (s, linked-cons (suc i) i (into ws v i) (rw (into-yes ws v i s) at l) .1))
-      (λ s. let r = linked-top (suc i) i (rw (into-no ws v i s) at l) in absurd (omega (arith, r .0)))
+      cases (u i)
+      (λ s. linked-cons (suc i) i (newest u i) (rw (newest-yes u i s) at l) .1)
+      (λ s. let r = linked-top (suc i) i (rw (newest-no u i s) at l) in absurd (omega (arith, r .0)))
 
-  -- a test that only edges into the node pass is passed by none between a link and k
-  pub linked-some : (t : TraceEdge → Bool) → ((j : ℕ) → sameNode (nodeAt ws (place j + 3)) v ≡ false → t (edgeAt ws j) ≡ false)
-      → (h k : ℕ) → Linked ix h (into ws v k) → some? t (firstEdges ws k) ≡ some? t (firstEdges ws h)
-  linked-some t f h zero l = let z = linked-nil h (rw (into-none ws v) at l) in ap (λ (j : ℕ). some? t (firstEdges ws j)) (sym z)
-  linked-some t f h (suc k) l =
-      cases (sameNode (nodeAt ws (place k + 3)) v)
-      (λ s. let e = linked-cons h k (into ws v k) (rw (into-yes ws v k s) at l) .0 in ap (λ (j : ℕ). some? t (firstEdges ws j)) (sym e))
-      (λ s. some-no t ws k (f k s) ∙ linked-some t f h k (rw (into-no ws v k s) at l))
+  -- a test that only edges of the chain pass is passed by none between a link and k
+  pub linked-some : (ws : List ℕ) (t : TraceEdge → Bool) (h k : ℕ) → ((j : ℕ) → j < k → u j ≡ false → t (edgeAt ws j) ≡ false)
+      → Linked ix links h (newest u k) → some? t (firstEdges ws k) ≡ some? t (firstEdges ws h)
+  linked-some ws t h zero f l = let z = linked-nil h (rw (newest-none u) at l) in ap (λ (j : ℕ). some? t (firstEdges ws j)) (sym z)
+  linked-some ws t h (suc k) f l =
+      cases (u k)
+      (λ s. let e = linked-cons h k (newest u k) (rw (newest-yes u k s) at l) .0 in ap (λ (j : ℕ). some? t (firstEdges ws j)) (sym e))
+      (λ s. some-no t ws k (f k (omega arith) s) ∙ linked-some ws t h k (λ j m. f j (omega arith)) (rw (newest-no u k s) at l))
     where
       some-no : (t : TraceEdge → Bool) (ws : List ℕ) (k : ℕ) → t (edgeAt ws k) ≡ false → some? t (firstEdges ws (suc k)) ≡ some? t (firstEdges ws k)
       some-no t ws k e = rw (first-more ws k) (some?-append t (firstEdges ws k) (edgeAt ws k ∷ []) ∙ rw (some?-no t (edgeAt ws k) [] e, some?-nil t) (or-false (some? t (firstEdges ws k))))
@@ -128,54 +125,97 @@ some-last t ws k =
     ∙ cases (t (edgeAt ws k)) (λ e. rw (some?-yes t (edgeAt ws k) [] e, e)) (λ e. rw (some?-no t (edgeAt ws k) [] e, some?-nil t, e)))
 
 -- links along edges below k that are unchanged
-pub linked-kept : (ws ix ix′ : List ℕ) (v : Node) (h k : ℕ) → ((j : ℕ) → j < k → getD ix′ (2208 + j) 0 ≡ getD ix (2208 + j) 0) → Linked ix h (into ws v k) → Linked ix′ h (into ws v k)
+pub linked-kept : (ix ix′ : List ℕ) (links : ℕ) (u : ℕ → Bool) (h k : ℕ) → ((j : ℕ) → j < k → getD ix′ (links + j) 0 ≡ getD ix (links + j) 0) → Linked ix links h (newest u k) → Linked ix′ links h (newest u k)
 unfolding Linked
-linked-kept ws ix ix′ v h zero f l = rw (into-none ws v) (rw (into-none ws v) at l)
-linked-kept ws ix ix′ v h (suc k) f l =
-    cases (sameNode (nodeAt ws (place k + 3)) v)
+linked-kept ix ix′ links u h zero f l = rw (newest-none u) (rw (newest-none u) at l)
+linked-kept ix ix′ links u h (suc k) f l =
+    cases (u k)
     (λ s.
-    let p = rw (into-yes ws v k s) at l in
-    rw (into-yes ws v k s) (p .0, rw (f k (omega arith)) (linked-kept ws ix ix′ v (getD ix (2208 + k) 0) k (λ j m. f j (omega arith)) (p .1))))
-    (λ s. rw (into-no ws v k s) (linked-kept ws ix ix′ v h k (λ j m. f j (omega arith)) (rw (into-no ws v k s) at l)))
+    let p = rw (newest-yes u k s) at l in
+    rw (newest-yes u k s) (p .0, rw (f k (omega arith)) (linked-kept ix ix′ links u (getD ix (links + k) 0) k (λ j m. f j (omega arith)) (p .1))))
+    (λ s. rw (newest-no u k s) (linked-kept ix ix′ links u h k (λ j m. f j (omega arith)) (rw (newest-no u k s) at l)))
 
 -- the turns of `find`: what is left to do gives what the whole gives
-pub record Turn (ws ix : List ℕ) (v : Node) (t : TraceEdge → Bool) (k next : ℕ) : Type 0 where
+pub record Turn (ws ix : List ℕ) (links : ℕ) (u : ℕ → Bool) (t : TraceEdge → Bool) (k next : ℕ) : Type 0 where
   pub below : next ≤ k
-  pub linked : Linked ix next (into ws v next)
+  pub linked : Linked ix links next (newest u next)
   pub same : some? t (firstEdges ws next) ≡ some? t (firstEdges ws k)
 
-module _ (ws ix : List ℕ) (v : Node) (t : TraceEdge → Bool) (f : (j : ℕ) → sameNode (nodeAt ws (place j + 3)) v ≡ false → t (edgeAt ws j) ≡ false) where
-  pub turn-first : (k next : ℕ) → Linked ix next (into ws v k) → Turn ws ix v t k next
-  turn-first k next l =
-      let r = linked-top ws ix v next k l in
-      record { below = r .0; linked = rw (r .1) at l; same = sym (linked-some ws ix v t f next k l) }
+module _ (ws ix : List ℕ) (links : ℕ) (u : ℕ → Bool) (t : TraceEdge → Bool) (k : ℕ) (f : (j : ℕ) → j < k → u j ≡ false → t (edgeAt ws j) ≡ false) where
+  pub turn-first : (next : ℕ) → Linked ix links next (newest u k) → Turn ws ix links u t k next
+  turn-first next l =
+      let r = linked-top ix links u next k l in
+      record { below = r .0; linked = rw (r .1) at l; same = sym (linked-some ix links u ws t next k f l) }
 
-  pub turn-end : (k next : ℕ) → Turn ws ix v t k next → next ≡ 0 → false ≡ some? t (firstEdges ws k)
-  turn-end k next T e = sym (some?-nil t) ∙ (rw (e, first-none ws) at (T .same))
+  pub turn-end : (next : ℕ) → Turn ws ix links u t k next → next ≡ 0 → false ≡ some? t (firstEdges ws k)
+  turn-end next T e = sym (some?-nil t) ∙ (rw (e, first-none ws) at (T .same))
 
-  module _ (k next i : ℕ) (T : Turn ws ix v t k next) (e : next ≡ suc i) where
-    step : (sameNode (nodeAt ws (place i + 3)) v ≡ true) × Linked ix (getD ix (2208 + i) 0) (into ws v i)
-    step = linked-step ws ix v i (rw e at (T .linked))
+  module _ (next i : ℕ) (T : Turn ws ix links u t k next) (e : next ≡ suc i) where
+    step : Linked ix links (getD ix (links + i) 0) (newest u i)
+    step = linked-step ix links u i (rw e at (T .linked))
 
-    pub turn-into : sameNode (nodeAt ws (place i + 3)) v ≡ true
-    turn-into = step .0
-
-    pub turn-less : getD ix (2208 + i) 0 ≤ i
-    turn-less = linked-top ws ix v (getD ix (2208 + i) 0) i (step .1) .0
+    pub turn-less : getD ix (links + i) 0 ≤ i
+    turn-less = linked-top ix links u (getD ix (links + i) 0) i step .0
 
     pub turn-found : t (edgeAt ws i) ≡ true → true ≡ some? t (firstEdges ws k)
     turn-found h = sym (sym (rw e at (T .same)) ∙ some-last t ws i ∙ rw h (or-true (some? t (firstEdges ws i))))
 
-    pub turn-again : (j : ℕ) → j ≡ getD ix (2208 + i) 0 → t (edgeAt ws i) ≡ false → Turn ws ix v t k j
+    pub turn-again : (j : ℕ) → j ≡ getD ix (links + i) 0 → t (edgeAt ws i) ≡ false → Turn ws ix links u t k j
     turn-again j q h =
         let b = T .below in
-        let l : Linked ix j (into ws v i) = rw q (step .1) in
-        let r = linked-top ws ix v j i l in
+        let l : Linked ix links j (newest u i) = rw q step in
+        let r = linked-top ix links u j i l in
         record {
           below = omega (arith, r .0);
           linked = rw (r .1) at l;
-          same = sym (linked-some ws ix v t f j i l) ∙ sym (some-last t ws i ∙ rw h (or-false (some? t (firstEdges ws i)))) ∙ (rw e at (T .same));
+          same = sym (linked-some ix links u ws t j i (λ m g. f m (omega arith)) l) ∙ sym (some-last t ws i ∙ rw h (or-false (some? t (firstEdges ws i)))) ∙ (rw e at (T .same));
         }
+
+-- an edge put in front of a chain
+
+module _ (ix : List ℕ) (links head k : ℕ) where
+  pub chained-long : length (chained ix links head k) ≡ length ix
+  unfolding chained
+  chained-long = length-set (set ix (links + k) (getD ix head 0)) head (k + 1) ∙ length-set ix (links + k) (getD ix head 0)
+
+  -- the other words
+  chained-other : (i : ℕ) → (i ≡ head → ⊥) → (i ≡ links + k → ⊥) → getD (chained ix links head k) i 0 ≡ getD ix i 0
+  unfolding chained
+  chained-other i a b =
+      getD-set-other (set ix (links + k) (getD ix head 0)) head i (k + 1) 0 a
+      ∙ getD-set-other ix (links + k) i (getD ix head 0) 0 b
+
+  -- a chain of other words is kept
+  pub chain-apart : (u : ℕ → Bool) (links′ head′ m : ℕ) → (head′ ≡ head → ⊥) → (head′ ≡ links + k → ⊥) → ((j : ℕ) → j < m → (links′ + j ≡ head → ⊥) × (links′ + j ≡ links + k → ⊥))
+      → Linked ix links′ (getD ix head′ 0) (newest u m) → Linked (chained ix links head k) links′ (getD (chained ix links head k) head′ 0) (newest u m)
+  chain-apart u links′ head′ m a b f l =
+      rw (chained-other head′ a b) (linked-kept ix (chained ix links head k) links′ u (getD ix head′ 0) m (λ j h. let g = f j h in chained-other (links′ + j) (g .0) (g .1)) l)
+
+  -- the heads lie below the links, all within the words
+  module _ (low : head < links) (room : links + k < length ix) where
+    chained-head : getD (chained ix links head k) head 0 ≡ suc k
+    unfolding chained
+    chained-head =
+        getD-set-same (set ix (links + k) (getD ix head 0)) head (k + 1) 0 (rw (length-set ix (links + k) (getD ix head 0)) (omega arith))
+        ∙ omega arith
+
+    chained-link : getD (chained ix links head k) (links + k) 0 ≡ getD ix head 0
+    unfolding chained
+    chained-link =
+        getD-set-other (set ix (links + k) (getD ix head 0)) head (links + k) (k + 1) 0 (λ q. omega arith)
+        ∙ getD-set-same ix (links + k) (getD ix head 0) 0 room
+
+    -- the chain that edge k joins
+    pub chain-joined : (u : ℕ → Bool) → u k ≡ true → Linked ix links (getD ix head 0) (newest u k)
+        → Linked (chained ix links head k) links (getD (chained ix links head k) head 0) (newest u (suc k))
+    unfolding Linked
+    chain-joined u s l =
+        rw (newest-yes u k s) (chained-head, rw chained-link (linked-kept ix (chained ix links head k) links u (getD ix head 0) k (λ j h. chained-other (links + j) (λ q. omega arith) (λ q. omega arith)) l))
+
+    -- another chain by the same links
+    pub chain-beside : (u : ℕ → Bool) (head′ : ℕ) → head′ < links → (head′ ≡ head → ⊥) → u k ≡ false → Linked ix links (getD ix head′ 0) (newest u k)
+        → Linked (chained ix links head k) links (getD (chained ix links head k) head′ 0) (newest u (suc k))
+    chain-beside u head′ h ne s l = rw (newest-no u k s) (chain-apart u links head′ k ne (λ q. omega arith) (λ j m. (λ q. omega arith, λ q. omega arith)) l)
 
 -- numbers of nodes in range
 
@@ -201,54 +241,58 @@ module _ (n : ℕ) (ps : List Production) (B : Bounds n ps) where
       make x y = rw (x, y)
 
   -- no edges
-  pub index-none : (ws ix : List ℕ) → ix ≡ replicate 3232 0 → Indexed n ps ws ix 0
+  pub index-none : (ws ix : List ℕ) → ix ≡ replicate 5280 0 → Indexed n ps ws ix 0
   unfolding Linked
   index-none ws ix e = record {
-    long = ap length e ∙ length-replicate {A = ℕ} 3232 0;
-    linked = λ v h. rw (into-none ws v) (ap (λ (l : List ℕ). getD l (nodeNumber v) 0) e ∙ getD-replicate {A = ℕ} 3232 (nodeNumber v) 0 0 (omega (arith, number-small v h)));
-  }
-
-  -- edge k put in front of its target's list
-  pub index-linked : (ws ix : List ℕ) (k number : ℕ) → k < 1024 → InRange n ps (nodeAt ws (place k + 3)) → number ≡ nodeNumber (nodeAt ws (place k + 3)) → Indexed n ps ws ix k
-      → Indexed n ps ws (linkedAt ix k number) (suc k)
-  unfolding linkedAt Linked
-  index-linked ws ix k number hk hr en I = record {
-    long = length-set (set ix (2208 + k) (getD ix number 0)) number (k + 1) ∙ length-set ix (2208 + k) (getD ix number 0) ∙ I .long;
-    linked = λ v h. cases (sameNode (nodeAt ws (place k + 3)) v) (front v h) (other v h);
+    long = ap length e ∙ length-replicate {A = ℕ} 5280 0;
+    linked = λ v h. rw (newest-none (into ws v)) (empty (nodeNumber v) (omega (arith, number-small v h)));
+    bucketed = λ b h. rw (newest-none (inBucket ps ws b)) (empty (3232 + b) (omega arith));
   }
     where
-      low : number < 2208
-      low = rw en (number-small (nodeAt ws (place k + 3)) hr)
+      empty : (i : ℕ) → i < 5280 → getD ix i 0 ≡ 0
+      empty i h = ap (λ (l : List ℕ). getD l i 0) e ∙ getD-replicate {A = ℕ} 5280 i 0 0 h
 
-      new : List ℕ
-      new = set (set ix (2208 + k) (getD ix number 0)) number (k + 1)
+  -- edge k put in front of its target's chain and of its bucket's
+  module _ (ws ix : List ℕ) (k number bucket : ℕ) (hk : k < 1024) (hr : InRange n ps (nodeAt ws (place k + 3))) (I : Indexed n ps ws ix k)
+      (en : number ≡ nodeNumber (nodeAt ws (place k + 3))) (eb : bucket ≡ bucketOf ps (edgeAt ws k)) (hb : bucket < 1024) where
+    mid : List ℕ
+    mid = chained ix 2208 number k
 
-      kept : (j : ℕ) → j < k → getD new (2208 + j) 0 ≡ getD ix (2208 + j) 0
-      kept j l =
-          getD-set-other (set ix (2208 + k) (getD ix number 0)) number (2208 + j) (k + 1) 0 (λ q. omega (arith, low))
-          ∙ getD-set-other ix (2208 + k) (2208 + j) (getD ix number 0) 0 (λ q. omega arith)
+    low : number < 2208
+    low = rw en (number-small (nodeAt ws (place k + 3)) hr)
 
-      behind : getD new (2208 + k) 0 ≡ getD ix number 0
-      behind =
-          getD-set-other (set ix (2208 + k) (getD ix number 0)) number (2208 + k) (k + 1) 0 (λ q. omega (arith, low))
-          ∙ getD-set-same ix (2208 + k) (getD ix number 0) 0 (omega (arith, I .long))
+    mid-long : length mid ≡ 5280
+    unfolding mid
+    mid-long = chained-long ix 2208 number k ∙ I .long
 
-      head : getD new number 0 ≡ suc k
-      head =
-          getD-set-same (set ix (2208 + k) (getD ix number 0)) number (k + 1) 0 (rw (length-set ix (2208 + k) (getD ix number 0)) (omega (arith, I .long, low)))
-          ∙ omega arith
+    nodes : (v : Node) → InRange n ps v → Linked mid 2208 (getD mid (nodeNumber v) 0) (newest (into ws v) (suc k))
+    unfolding mid into
+    nodes v h =
+        let room : 2208 + k < length ix = omega (arith, I .long) in
+        cases (sameNode (nodeAt ws (place k + 3)) v)
+        (λ s.
+        let m : nodeNumber v ≡ number = ap nodeNumber (sym (node-equal (nodeAt ws (place k + 3)) v s)) ∙ sym en in
+        rw m (chain-joined ix 2208 number k low room (into ws v) s (rw m at (I .linked v h))))
+        (λ s.
+        let far : nodeNumber v ≡ number → ⊥ = λ q. clash (sameNode (nodeAt ws (place k + 3)) v) (node-same (nodeAt ws (place k + 3)) v (number-one (nodeAt ws (place k + 3)) v hr h (sym en ∙ sym q))) s in
+        chain-beside ix 2208 number k low room (into ws v) (nodeNumber v) (number-small v h) far s (I .linked v h))
 
-      front : (v : Node) → InRange n ps v → sameNode (nodeAt ws (place k + 3)) v ≡ true → Linked new (getD new (nodeNumber v) 0) (into ws v (suc k))
-      front v h s =
-          let e = node-equal (nodeAt ws (place k + 3)) v s in
-          let m : nodeNumber v ≡ number = ap nodeNumber (sym e) ∙ sym en in
-          rw (into-yes ws v k s) (ap (λ (j : ℕ). getD new j 0) m ∙ head, rw behind (rw m at (linked-kept ws ix new v (getD ix (nodeNumber v) 0) k kept (I .linked v h))))
+    buckets : (b : ℕ) → b < 1024 → Linked mid 4256 (getD mid (3232 + b) 0) (newest (inBucket ps ws b) k)
+    unfolding mid
+    buckets b h =
+        let l = low in
+        chain-apart ix 2208 number k (inBucket ps ws b) 4256 (3232 + b) k (λ q. omega arith) (λ q. omega arith) (λ j m. (λ q. omega arith, λ q. omega arith)) (I .bucketed b h)
 
-      other : (v : Node) → InRange n ps v → sameNode (nodeAt ws (place k + 3)) v ≡ false → Linked new (getD new (nodeNumber v) 0) (into ws v (suc k))
-      other v h s =
-          let far : nodeNumber v ≡ number → ⊥ = λ q. clash (sameNode (nodeAt ws (place k + 3)) v) (node-same (nodeAt ws (place k + 3)) v (number-one (nodeAt ws (place k + 3)) v hr h (sym en ∙ sym q))) s in
-          let m = number-small v h in
-          let w : getD new (nodeNumber v) 0 ≡ getD ix (nodeNumber v) 0 =
-          getD-set-other (set ix (2208 + k) (getD ix number 0)) number (nodeNumber v) (k + 1) 0 far
-          ∙ getD-set-other ix (2208 + k) (nodeNumber v) (getD ix number 0) 0 (λ q. omega arith) in
-          rw (into-no ws v k s, w) (linked-kept ws ix new v (getD ix (nodeNumber v) 0) k kept (I .linked v h))
+    pub index-linked : Indexed n ps ws (linkedAt ix k number bucket) (suc k)
+    unfolding linkedAt mid inBucket
+    index-linked = record {
+      long = chained-long mid 4256 (3232 + bucket) k ∙ mid-long;
+      linked = λ v h. let m = number-small v h in chain-apart mid 4256 (3232 + bucket) k (into ws v) 2208 (nodeNumber v) (suc k) (λ q. omega arith) (λ q. omega arith) (λ j l. (λ q. omega arith, λ q. omega arith)) (nodes v h);
+      bucketed = λ b h.
+          let room : 4256 + k < length mid = omega (arith, mid-long) in
+          cases (eqb (bucketOf ps (edgeAt ws k)) b)
+          (λ s. let m : b ≡ bucket = sym (eqb-true (bucketOf ps (edgeAt ws k)) b s) ∙ sym eb in rw m (chain-joined mid 4256 (3232 + bucket) k (omega arith) room (inBucket ps ws bucket) (rw m at s) (rw m at (buckets b h))))
+          (λ s.
+          let ne = eqb-false (bucketOf ps (edgeAt ws k)) b s in
+          chain-beside mid 4256 (3232 + bucket) k (omega arith) room (inBucket ps ws b) (3232 + b) (omega arith) (λ q. ne (sym eb ∙ omega arith)) s (buckets b h));
+    }

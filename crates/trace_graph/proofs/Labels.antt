@@ -15,7 +15,7 @@ use Rattle.repr.specs.Meaning.{Symbol, sameSymbol, Item, Production}
 use Rattle.repr.proofs.SameSymbol.{same-equal, same-refl}
 use Rattle.core.specs.Items.{Sets, first, symbolSets}
 use Rattle.trace_graph.specs.Graph.{Node, atNonterminal, atItem, sameItem, sameNode, TraceEdge, labelOf, sameSymbols, sameCursor, sameSets, sameEdge}
-use Rattle.trace_graph.proofs.Bools.{both, and-left, and-right, agree, never}
+use Rattle.trace_graph.proofs.Bools.{both, and-left, and-right, agree}
 
 -- symbols
 
@@ -34,7 +34,7 @@ unfolding sameSymbols
 symbols-refl [] = refl
 symbols-refl (x ∷ xs) = both _ _ (same-refl x) (symbols-refl xs)
 
-cursor-equal : (x y : Option Symbol) → sameCursor x y ≡ true → x ≡ y
+pub cursor-equal : (x y : Option Symbol) → sameCursor x y ≡ true → x ≡ y
 unfolding sameCursor
 cursor-equal none none e = refl
 cursor-equal none (some y) e = absurd (true≢false (sym e))
@@ -158,7 +158,3 @@ edge-sym ps e f = agree _ _ (turn e f) (turn f e)
   where
     turn : (a b : TraceEdge) → sameEdge ps a b ≡ true → sameEdge ps b a ≡ true
     turn a b h = let p = edge-parts ps a b h in edge-same ps b a (sym (p .0)) (sym (p .1 .0)) (sym (p .1 .1))
-
--- edges with other targets are not equal
-pub edge-other : (ps : List Production) (e f : TraceEdge) → sameNode (f .target) (e .target) ≡ false → sameEdge ps e f ≡ false
-edge-other ps e f h = never _ (λ q. absurd (true≢false (sym (node-same (f .target) (e .target) (sym (edge-parts ps e f q .1 .0))) ∙ h)))

@@ -4,6 +4,7 @@ pub mod Same
 pub mod Stores
 pub mod Words
 pub mod Fits
+pub mod Buckets
 pub mod Index
 pub mod Finds
 pub mod Inserts

@@ -1,28 +1,53 @@
--- The edges into each node, newest first, as the code keeps them: 2,208 words, one for each node (a nonterminal n: n; an item: 32 + production * 17 + index), which hold 0 or one more than the number of the
--- latest edge into the node; then 1,024 words, one for each edge, which hold the next older edge into the same node in the same way. Assumes nothing: these are definitions.
-use Prim.Native.Nat.{ℕ, zero, suc, _+_, _*_, _<_}
+-- The edges in chains, newest first, as the code keeps them beside a graph. By target, for the listing: 2,208 words, one for each node (a nonterminal n: n; an item: 32 + production * 17 + index), which hold 0 or one more
+-- than the number of the latest edge into the node; then 1,024 words, one for each edge, which hold the next older edge into the same node in the same way. By bucket, to look for an equal edge: 1,024 words, one for each
+-- bucket, and 1,024 words, one for each edge, alike. Assumes nothing: these are definitions.
+use Prim.Native.Nat.{ℕ, zero, suc, _+_, _*_, _%_, _<_}
 use mathlib.Core.Bool.{Bool, true, false}
 use mathlib.Core.Path.{_≡_}
 use mathlib.Core.List.{List, [], _∷_}
 use lib.ListN.{length, getD}
-use Rattle.repr.specs.Meaning.{Production, Item}
-use Rattle.trace_graph.specs.Graph.{Node, atNonterminal, atItem, sameNode}
-use Rattle.trace_graph.specs.Words.{place, nodeAt}
+use lib.Dec.{eqb}
+use Rattle.repr.specs.Meaning.{Symbol, nonterminal, terminal, Production, noProduction, Item}
+use Rattle.trace_graph.specs.Graph.{Node, atNonterminal, atItem, sameNode, TraceEdge}
+use Rattle.trace_graph.specs.Words.{place, nodeAt, edgeAt}
 use Rattle.trace_graph.specs.Fits.{itemFits}
 
 unfoldable pub nodeNumber : Node → ℕ
 nodeNumber (atNonterminal n) = n
 nodeNumber (atItem i) = 32 + (i .production * 17 + i .index)
 
--- of the first k edges those into v, newest first
-unfoldable pub into : List ℕ → Node → ℕ → List ℕ
-into ws v zero = []
-into ws v (suc k) = elim (sameNode (nodeAt ws (place k + 3)) v) [ true ↦ k ∷ into ws v k | false ↦ into ws v k ]
+unfoldable pub symbolNumber : Symbol → ℕ
+symbolNumber (nonterminal n) = n
+symbolNumber (terminal n) = 32 + n
 
--- the edges that are linked from a word on
-unfoldable pub Linked : List ℕ → ℕ → List ℕ → Type 0
-Linked ix h [] = h ≡ 0
-Linked ix h (k ∷ ks) = (h ≡ suc k) × Linked ix (getD ix (2208 + k) 0) ks
+-- symbols mixed into a number
+unfoldable pub mixed : ℕ → List Symbol → ℕ
+mixed h [] = h
+mixed h (x ∷ xs) = mixed ((h * 211 + symbolNumber x) % 65536) xs
+
+-- the bucket of an edge: of what makes edges equal, so of the label's symbols and not of its production's number. The factors spread edges that differ in one part.
+unfoldable pub bucketOf : List Production → TraceEdge → ℕ
+bucketOf ps e =
+    mixed ((nodeNumber (e .source) * 3001 + (nodeNumber (e .target) * 613 + e .label .index * 89)) % 65536) (getD ps (e .label .production) noProduction .symbols)
+    % 1024
+
+-- edge j is into v
+unfoldable pub into : List ℕ → Node → ℕ → Bool
+into ws v j = sameNode (nodeAt ws (place j + 3)) v
+
+-- edge j is in bucket b
+unfoldable pub inBucket : List Production → List ℕ → ℕ → ℕ → Bool
+inBucket ps ws b j = eqb (bucketOf ps (edgeAt ws j)) b
+
+-- of the first k edges those that pass a test, newest first
+unfoldable pub newest : (ℕ → Bool) → ℕ → List ℕ
+newest t zero = []
+newest t (suc k) = elim (t k) [ true ↦ k ∷ newest t k | false ↦ newest t k ]
+
+-- the edges that are linked from a word on, by the words of the edges from `links` on
+unfoldable pub Linked : List ℕ → ℕ → ℕ → List ℕ → Type 0
+Linked ix links h [] = h ≡ 0
+Linked ix links h (k ∷ ks) = (h ≡ suc k) × Linked ix links (getD ix (links + k) 0) ks
 
 -- a node of a table with n nonterminals and productions ps
 unfoldable pub InRange : ℕ → List Production → Node → Type 0
@@ -31,5 +56,6 @@ InRange n ps (atItem i) = itemFits ps (i .production) (i .index) ≡ true
 
 -- the index of the first k edges of ws
 pub record Indexed (n : ℕ) (ps : List Production) (ws ix : List ℕ) (k : ℕ) : Type 0 where
-  pub long : length ix ≡ 3232
-  pub linked : (v : Node) → InRange n ps v → Linked ix (getD ix (nodeNumber v) 0) (into ws v k)
+  pub long : length ix ≡ 5280
+  pub linked : (v : Node) → InRange n ps v → Linked ix 2208 (getD ix (nodeNumber v) 0) (newest (into ws v) k)
+  pub bucketed : (b : ℕ) → b < 1024 → Linked ix 4256 (getD ix (3232 + b) 0) (newest (inBucket ps ws b) k)

@@ -21,9 +21,13 @@ pub record Graphed (n : ℕ) (ps : List Production) (ws ix : List ℕ) (k : ℕ)
   pub fits : (j : ℕ) → j < k → edgeFits n ps ws j ≡ true
   pub index : Indexed n ps ws ix k
 
--- edge k put in front of the list of the node with that number
-unfoldable pub linkedAt : List ℕ → ℕ → ℕ → List ℕ
-linkedAt ix k number = set (set ix (2208 + k) (getD ix number 0)) number (k + 1)
+-- edge k put in front of the chain that begins at the word `head` and goes on by the words from `links` on
+unfoldable pub chained : List ℕ → ℕ → ℕ → ℕ → List ℕ
+chained ix links head k = set (set ix (links + k) (getD ix head 0)) head (k + 1)
+
+-- edge k put in front of the chain of the node with that number, and of its bucket's
+unfoldable pub linkedAt : List ℕ → ℕ → ℕ → ℕ → List ℕ
+linkedAt ix k number bucket = chained (chained ix 2208 number k) 4256 (3232 + bucket) k
 
 -- a graph whose count is k, with an edge more
 unfoldable pub oneMore : List ℕ → ℕ → TraceEdge → List ℕ

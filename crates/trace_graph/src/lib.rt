@@ -1,5 +1,5 @@
 // The trace graph (lr1/trace/trace_graph/mod.rs) in words: part 4 of document 01.
-// The index of the edges into each node (specs/Index) is kept beside it, so that an equal edge is looked for among the edges into one node alone.
+// An index (specs/Index) is kept beside it: of the edges into each node, for the listing, and of the edges in each bucket, so that an equal edge is looked for in one bucket alone.
 use core::Item;
 use repr::symbols;
 use repr::word;
@@ -8,14 +8,15 @@ ghost use mathlib.Core.Bool.{true, _&&_};
 ghost use Prim.Native.Nat.{_+_, _≤_, _<_};
 ghost use lib.ListN.{length, getD, replicate};
 ghost use Rattle.repr.specs.Lists.{some?};
+ghost use Rattle.repr.specs.Listed.{listed, listFits};
 ghost use Rattle.repr.specs.Packed.{Packed, productionsIn};
 ghost use Rattle.trace_graph.specs.declared.Inserted.the-variants.{Done, Full};
-ghost use Rattle.trace_graph.specs.Graph.{sameNode, labelOf, sameSets, sameEdge};
-ghost use Rattle.trace_graph.specs.Words.{place, nodeAt, edgeAt};
+ghost use Rattle.trace_graph.specs.Graph.{labelOf, sameSets, sameEdge};
+ghost use Rattle.trace_graph.specs.Words.{nodeAt, edgeAt};
 ghost use Rattle.trace_graph.specs.Fits.{itemFits, edgeFits, graphFits};
-ghost use Rattle.trace_graph.specs.Index.{nodeNumber};
+ghost use Rattle.trace_graph.specs.Index.{nodeNumber, mixed, bucketOf};
 ghost use Rattle.trace_graph.specs.Values.{nodeIs, edgeIs, sameValue, nodeValueFits, valueFits, SmallNode, SmallEdge, nodeRead, edgeRead, valueWords, written, firstEdges};
-ghost use Rattle.trace_graph.specs.Insert.{Graphed, linkedAt, Added, Overfull, fresh};
+ghost use Rattle.trace_graph.specs.Insert.{Graphed, chained, linkedAt, Added, Overfull, fresh};
 ghost use Rattle.trace_graph.specs.Same.{sameWords};
 
 pub struct TraceGraph {
@@ -30,10 +31,17 @@ impl TraceGraph {
 
     pub const WORDS: usize = 8193;
 
-    // Nodes that a table can have, and words of a graph's index.
+    // Nodes that a table can have, buckets, and words of a graph's index.
     pub const NODES: usize = 2208;
 
-    pub const INDEX_WORDS: usize = 3232;
+    pub const BUCKETS: usize = 1024;
+
+    pub const INDEX_WORDS: usize = 5280;
+
+    // Where the words of the buckets begin in the index, and behind them the links within buckets.
+    const BUCKET_HEADS: usize = 3232;
+
+    const BUCKET_LINKS: usize = 4256;
 
     // The empty graph.
     pub fn new() -> TraceGraph
@@ -182,7 +190,7 @@ pub fn same_node(a: Node, b: Node) -> bool
     a.index == b.index
 }
 
-// Whether edge k, which has the edge's target, is equal to the edge.
+// Whether edge k is equal to the edge.
 fn same_edge(
     grammar: &[u16],
     productions: usize,
@@ -194,23 +202,58 @@ fn same_edge(
     requires { ⌜ Packed (now grammar) productions ⌝ }
     requires { ⌜ (k < 1024) × (8193 ≤ length (now graph)) ⌝ }
     requires { ⌜ (edgeFits n (productionsIn (now grammar) productions) (now graph) k ≡ true) × (valueFits n (productionsIn (now grammar) productions) edge ≡ true) ⌝ }
-    requires { ⌜ sameNode (nodeAt (now graph) (place k + 3)) (nodeIs (edge .target)) ≡ true ⌝ }
     ensures { λ r. ⌜ r ≡ sameEdge (productionsIn (now (grammar .entry)) productions) (edgeIs edge) (edgeAt (now (graph .entry)) k) ⌝ }
 {
     let other = read_edge(graph, k);
     let a = edge.source;
     let b = other.source;
     if same_node(a, b) {
-        let p = edge.production;
-        let i = edge.index;
-        let q = other.production;
-        let j = other.index;
-        return same_label(grammar, productions, p, i, q, j);
+        let c = edge.target;
+        let d = other.target;
+        if same_node(c, d) {
+            let p = edge.production;
+            let i = edge.index;
+            let q = other.production;
+            let j = other.index;
+            return same_label(grammar, productions, p, i, q, j);
+        }
     }
     false
 }
 
-// Whether an equal edge is among the first k edges: only those into the edge's target are looked at.
+// A list of symbols mixed into a number.
+fn mix(list: &[u16], start: usize) -> usize
+    requires { ⌜ (start < 65536) × (listFits 32 63 (now list) ≡ true) ⌝ }
+    ensures { λ r. ⌜ (r ≡ mixed start (listed (now (list .entry)))) × (r < 65536) ⌝ }
+{
+    let mut sum = start;
+    let mut at: usize = 0;
+    while at < list.len() {
+        let kind = word(list, at);
+        let number = word(list, at + 1);
+        sum = (sum * 211 + (kind * 32 + number)) % 65536;
+        at += 2;
+    }
+    sum
+}
+
+// The bucket of an edge.
+fn bucket_of(grammar: &[u16], productions: usize, edge: TraceEdge) -> usize
+    requires { ⌜ Packed (now grammar) productions ⌝ }
+    requires { ⌜ SmallEdge edge × (edge .production < productions) ⌝ }
+    ensures { λ r. ⌜ (r ≡ bucketOf (productionsIn (now (grammar .entry)) productions) (edgeIs edge)) × (r < 1024) ⌝ }
+{
+    let source = edge.source;
+    let target = edge.target;
+    let from = node_number(source);
+    let to = node_number(target);
+    let start = (from * 3001 + (to * 613 + edge.index * 89)) % 65536;
+    let production = edge.production;
+    let label = symbols(grammar, production, productions);
+    mix(label, start) % TraceGraph::BUCKETS
+}
+
+// Whether an equal edge is among the first k edges: only those in the edge's bucket are looked at.
 pub fn find(
     grammar: &[u16],
     productions: usize,
@@ -219,32 +262,46 @@ pub fn find(
     ix: &[u16],
     k: usize,
     edge: TraceEdge,
+    bucket: usize,
 ) -> bool
     requires { ⌜ Packed (now grammar) productions ⌝ }
     requires { ⌜ Graphed n (productionsIn (now grammar) productions) (now graph) (now ix) k ⌝ }
     requires { ⌜ valueFits n (productionsIn (now grammar) productions) edge ≡ true ⌝ }
+    requires { ⌜ (bucket ≡ bucketOf (productionsIn (now grammar) productions) (edgeIs edge)) × (bucket < 1024) ⌝ }
     ensures { λ r. ⌜ r ≡ some? (sameEdge (productionsIn (now (grammar .entry)) productions) (edgeIs edge)) (firstEdges (now (graph .entry)) k) ⌝ }
 {
-    let target = edge.target;
-    let number = node_number(target);
-    let mut next = word(ix, number);
+    let mut next = word(ix, TraceGraph::BUCKET_HEADS + bucket);
     while next != 0 {
         if same_edge(grammar, productions, n, graph, next - 1, edge) {
             return true;
         }
-        next = word(ix, TraceGraph::NODES + (next - 1));
+        next = word(ix, TraceGraph::BUCKET_LINKS + (next - 1));
     }
     false
 }
 
-// Puts edge k in front of the list of its target, whose number is given.
-pub fn link(ix: &mut [u16], k: usize, number: usize)
-    requires { ⌜ (length (now ix) ≡ 3232) × ((k < 1024) × (number < 2208)) ⌝ }
-    ensures { λ _. ⌜ now (ix .exit) ≡ linkedAt (now (ix .entry)) k number ⌝ }
+// Puts edge k in front of the chain that begins at the word `head`, whose links begin at `links`.
+fn chain(ix: &mut [u16], links: usize, head: usize, k: usize)
+    requires { ⌜ (length (now ix) ≡ 5280) × ((k < 1024) × ((links ≤ 4256) × (head < 5280))) ⌝ }
+    ensures { λ _. ⌜ now (ix .exit) ≡ chained (now (ix .entry)) links head k ⌝ }
 {
-    let older = ix[number];
-    ix[TraceGraph::NODES + k] = older;
-    ix[number] = (k + 1) as u16;
+    let older = ix[head];
+    ix[links + k] = older;
+    ix[head] = (k + 1) as u16;
+}
+
+// Puts edge k in front of the chains of its target, whose number is given, and of its bucket.
+pub fn link(ix: &mut [u16], k: usize, number: usize, bucket: usize)
+    requires { ⌜ (length (now ix) ≡ 5280) × ((k < 1024) × ((number < 2208) × (bucket < 1024))) ⌝ }
+    ensures { λ _. ⌜ now (ix .exit) ≡ linkedAt (now (ix .entry)) k number bucket ⌝ }
+{
+    chain(ix, TraceGraph::NODES, number, k);
+    chain(
+        ix,
+        TraceGraph::BUCKET_LINKS,
+        TraceGraph::BUCKET_HEADS + bucket,
+        k,
+    );
 }
 
 // `add_edge`: puts the edge into the graph unless an equal one is there.
@@ -263,7 +320,8 @@ pub fn insert(
     ensures { λ r. ⌜ (r ≡ Full → Overfull (productionsIn (now (grammar .entry)) productions) (edgeIs edge) (now (graph .entry)) (now (ix .entry)) (now (graph .exit)) (now (ix .exit))) ⌝ }
 {
     let count = word(graph, 0);
-    if find(grammar, productions, n, graph, ix, count, edge) {
+    let bucket = bucket_of(grammar, productions, edge);
+    if find(grammar, productions, n, graph, ix, count, edge, bucket) {
         return Inserted::Done;
     }
     if count == TraceGraph::EDGES {
@@ -273,7 +331,7 @@ pub fn insert(
     graph[0] = (count + 1) as u16;
     let target = edge.target;
     let number = node_number(target);
-    link(ix, count, number);
+    link(ix, count, number, bucket);
     Inserted::Done
 }
 
@@ -346,12 +404,13 @@ fn check_edge(
 {
     let edge = read_edge(graph, k);
     if edge_fits(grammar, productions, n, edge) {
-        if find(grammar, productions, n, graph, ix, k, edge) {
+        let bucket = bucket_of(grammar, productions, edge);
+        if find(grammar, productions, n, graph, ix, k, edge, bucket) {
             return false;
         }
         let target = edge.target;
         let number = node_number(target);
-        link(ix, k, number);
+        link(ix, k, number, bucket);
         return true;
     }
     false
@@ -367,7 +426,7 @@ pub fn check_graph(
 ) -> bool
     requires { ⌜ Packed (now grammar) productions ⌝ }
     requires { ⌜ (n ≤ 32) × (8193 ≤ length (now graph)) ⌝ }
-    requires { ⌜ now ix ≡ replicate 3232 0 ⌝ }
+    requires { ⌜ now ix ≡ replicate 5280 0 ⌝ }
     ensures { λ r. ⌜ r ≡ graphFits n (productionsIn (now (grammar .entry)) productions) (now (graph .entry)) ⌝ }
     ensures { λ r. ⌜ (r ≡ true → Graphed n (productionsIn (now (grammar .entry)) productions) (now (graph .entry)) (now (ix .exit)) (getD (now (graph .entry)) 0 0)) ⌝ }
 {

@@ -1,16 +1,38 @@
--- How many words the items that can shift a nonterminal are given, and that the answers of a trial differ. Assumes nothing.
+-- The arrays that a trace works in, how many words they have, and that the answers of a trial differ. Assumes nothing.
 use mathlib.Core.Path.{_≡_, refl, sym, ap, _∙_}
 use mathlib.Core.Bool.{Bool, true, false, not}
+use mathlib.Core.List.{List}
 use Prim.Native.Nat.{ℕ, _*_, _≤_, _<_}
 use native.Mathlib.Omega.{arith}
 use lib.ListN.{length, replicate, length-replicate}
+use Rattle.repr.specs.Meaning.{Table, TableFits}
+use Rattle.trace.specs.Shifting.{ShiftItems}
 use Rattle.trace_graph.specs.declared.Inserted.{Inserted}
 use Rattle.trace_graph.specs.declared.Inserted.the-variants.{Done, Full}
 use Rattle.tracer.specs.declared.Tried.{Tried}
 use Rattle.tracer.specs.declared.Tried.the-variants.{Made, Over, Lacking}
+use Rattle.tracer.specs.Built.{Room, Lent}
 
-pub codes-short : (n : ℕ) → n ≤ 1000000 → length {A = ℕ} (replicate n 0) ≤ 1000000
-codes-short n h = rw (length-replicate {A = ℕ} n 0) h
+-- arrays of zeros that are long enough for a table: those for at most 16 states, and those for every number of states
+arrays : (T : Table) (a b v : ℕ) → length (T .states) * 32 < a → b ≤ 1000000 → length (T .states) * 32 ≤ v → v ≤ 4096 → Room T (replicate a 0) (replicate b 0) (replicate v 0)
+arrays T a b v ha hb hv few =
+    let e = length-replicate {A = ℕ} v 0 in
+    record {
+      places = rw (length-replicate {A = ℕ} a 0) ha;
+      few = rw (length-replicate {A = ℕ} b 0) hb;
+      flags = record { enough = rw e hv; few = rw e few };
+      clear = ap (λ (k : ℕ). replicate k 0) (sym e);
+    }
+
+pub arrays-few : (T : Table) → length (T .states) ≤ 16 → Room T (replicate 513 0) (replicate 1024 0) (replicate 512 0)
+arrays-few T h = arrays T 513 1024 512 (omega arith) (omega arith) (omega arith) (omega arith)
+
+pub arrays-all : (T : Table) (b : ℕ) → TableFits T → b ≤ 1000000 → Room T (replicate 4097 0) (replicate b 0) (replicate 4096 0)
+arrays-all T b F hb = let l = F .few-states in arrays T 4097 b 4096 (omega arith) hb (omega arith) (omega arith)
+
+-- and the items written in them
+pub lent : {T : Table} {starts codes starts′ codes′ v : List ℕ} → Room T starts codes v → ShiftItems T starts′ codes′ → Lent T starts′ codes′ v
+lent M I = record { items = I; flags = M .flags; clear = M .clear }
 
 -- 2,176 words a state are never too few
 pub codes-enough : (b : Bool) (states : ℕ) → states ≤ 128 → (b ≡ false → length {A = ℕ} (replicate 278528 0) < states * 2176) → b ≡ true

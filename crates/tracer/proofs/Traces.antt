@@ -2,9 +2,9 @@
 use mathlib.Core.Path.{_≡_, refl, sym, ap, _∙_}
 use mathlib.Core.Bool.{Bool, true, false}
 use mathlib.Core.List.{List, []}
-use Prim.Native.Nat.{ℕ, _+_, _*_, _≤_, _<_}
+use Prim.Native.Nat.{ℕ, zero, suc, _+_, _*_, _≤_, _<_}
 use native.Mathlib.Omega.{arith}
-use lib.ListN.{length, getD, take, set, replicate, length-set, length-replicate, getD-replicate}
+use lib.ListN.{length, getD, take, set, replicate, length-set}
 use lib.Seq.{getD-set-same}
 use Rattle.repr.specs.Lists.{mem}
 use Rattle.repr.specs.Meaning.{Item, Table}
@@ -25,7 +25,6 @@ use Rattle.trace_graph.proofs.Index.{index-none}
 use Rattle.trace.specs.Traced.{Trace, untraced, addTo, ownerOf, prefixOf, inTurn, pairs}
 use Rattle.trace.specs.Shift.{epsilon, shiftTrace, shiftEdges}
 use Rattle.trace.specs.Reduce.{reduceItem, reduceState, reduceTrace, reduceEdges}
-use Rattle.trace.specs.Shifting.{ShiftItems}
 use Rattle.trace.specs.Holding.{Holding, Tracing, zeros}
 use Rattle.trace.specs.Ends.{Ends}
 use Rattle.trace.specs.Steps.{Steps, Exceeds}
@@ -33,15 +32,21 @@ use Rattle.trace.specs.Reducing.{Stepped, Overrun, Reducing, itemAt}
 use Rattle.trace.proofs.HoldingLaws.{zeros-le}
 use Rattle.trace.proofs.EndsLaws.{fits-words, prefix-fits, before-is}
 use Rattle.trace.proofs.Fuel.{back-inside}
-use Rattle.tracer.specs.Built.{Asked, Built, edgesBy}
+use Rattle.tracer.specs.Built.{Asked, Lent, Built, edgesBy}
 use Rattle.tracer.proofs.Words.{built}
 
+-- a word of zeros, and past their end
+zeros-at : (n k : ℕ) → _≡_ {A = ℕ} (getD (replicate n 0) k 0) 0
+zeros-at zero k = refl
+zeros-at (suc n) zero = refl
+zeros-at (suc n) (suc k) = zeros-at n k
+
 -- nothing traced yet
-pub holding-none : (ws v : List ℕ) → getD ws 0 0 ≡ 0 → v ≡ replicate 4096 0 → Holding ws v untraced
+pub holding-none : (ws v : List ℕ) → getD ws 0 0 ≡ 0 → v ≡ replicate (length v) 0 → Holding ws v untraced
 unfolding untraced
 holding-none ws v z e = record {
   edges = edges-first ws ∙ ap (firstEdges ws) z ∙ first-none ws;
-  entered = λ k h ne. absurd (ne (ap (λ (l : List ℕ). getD l k 0) e ∙ getD-replicate {A = ℕ} 4096 k 0 0 h));
+  entered = λ k h ne. absurd (ne (ap (λ (l : List ℕ). getD l k 0) e ∙ zeros-at (length v) k));
   free = λ k h q. mem-nil k;
 }
 
@@ -58,10 +63,10 @@ module _ {t g : List ℕ} {productions n s p i : ℕ} (A : Asked t g productions
   pub prefix-asked : (ws : List ℕ) → ws ≡ take (2 * i) (symbolWords g p) → listFits (length (meaning t .nonterminals)) (meaning t .terminals) ws ≡ true
   prefix-asked ws e = prefix-fits g productions p (A .packed) (asked-words .0) (meaning t) i ws (fits t (A .accepted)) (sym (A .same)) e
 
-  pub tracing : {starts codes : List ℕ} → ShiftItems (meaning t) starts codes → Tracing t g productions n starts codes
-  tracing I = record { accepted = A .accepted; packed = A .packed; same = A .same; nonterminals = A .nonterminals; items = I }
+  pub tracing : {starts codes v : List ℕ} → Lent (meaning t) starts codes v → Tracing t g productions n starts codes
+  tracing L = record { accepted = A .accepted; packed = A .packed; same = A .same; nonterminals = A .nonterminals; items = L .items }
 
-  pub empty-graph : (ws ix : List ℕ) → 8193 ≤ length ws → ix ≡ replicate 3232 0 → Graphed n (productionsIn g productions) (set ws 0 0) ix (getD (set ws 0 0) 0 0)
+  pub empty-graph : (ws ix : List ℕ) → 8193 ≤ length ws → ix ≡ replicate 5280 0 → Graphed n (productionsIn g productions) (set ws 0 0) ix (getD (set ws 0 0) 0 0)
   empty-graph ws ix h e =
       let z = emptied ws h in
       rw z (record {
@@ -79,7 +84,7 @@ module _ {t g : List ℕ} {productions n s p i : ℕ} (A : Asked t g productions
   pub found-in : (ls : List ℕ) → ls ≡ traceBack (meaning t) s (prefixOf (meaning t) (itemAt p i)) → (k : ℕ) → mem k ls ≡ true → k < length (meaning t .states)
   found-in ls e k h = back-inside (meaning t) (fits t (A .accepted)) s (A .state) (prefixOf (meaning t) (itemAt p i)) k (rw e at h)
 
-  module _ (ls g₀ v₀ : List ℕ) (e : ls ≡ traceBack (meaning t) s (prefixOf (meaning t) (itemAt p i))) (z : getD g₀ 0 0 ≡ 0) (ev : v₀ ≡ replicate 4096 0) where
+  module _ (ls g₀ v₀ : List ℕ) (e : ls ≡ traceBack (meaning t) s (prefixOf (meaning t) (itemAt p i))) (z : getD g₀ 0 0 ≡ 0) (ev : v₀ ≡ replicate (length v₀) 0) where
     pub shift-made : (g′ ix′ v′ : List ℕ)
         → Steps (λ st. inTurn (λ q u. epsilon (meaning t) pairs q (ownerOf (meaning t) (record { production = p; index = i })) u) ls (addTo (meaning t) (atNonterminal (ownerOf (meaning t) (record { production = p; index = i }))) (atItem (record { production = p; index = i })) (record { production = p; index = i }) st)) g₀ v₀ g′ v′
         → Graphed n (productionsIn g productions) g′ ix′ (getD g′ 0 0) → Built (shiftEdges (meaning t) s (record { production = p; index = i })) g′
@@ -91,16 +96,13 @@ module _ {t g : List ℕ} {productions n s p i : ℕ} (A : Asked t g productions
     unfolding shiftEdges shiftTrace itemAt
     shift-over X = rw e at (X untraced (holding-none g₀ v₀ z ev))
 
-  pub reducing : {starts codes ends preds : List ℕ} (terminals : ℕ) → ShiftItems (meaning t) starts codes → terminals ≡ meaning t .terminals
+  pub reducing : {starts codes v ends preds : List ℕ} (terminals : ℕ) → Lent (meaning t) starts codes v → terminals ≡ meaning t .terminals
       → ((T : Table) → T .productions ≡ productionsIn g productions → T .terminals ≡ terminals → Ends T ends) → Preds (meaning t) preds → Reducing t g productions n starts codes ends preds
-  reducing terminals I e f P = record { tracing = tracing I; suffixes = f (meaning t) (sym (A .same)) (sym e); predecessors = P }
+  reducing terminals L e f P = record { tracing = tracing L; suffixes = f (meaning t) (sym (A .same)) (sym e); predecessors = P }
 
-  module _ (g₀ v₀ : List ℕ) (z : getD g₀ 0 0 ≡ 0) (ev : v₀ ≡ replicate 4096 0) where
+  module _ (g₀ v₀ : List ℕ) (z : getD g₀ 0 0 ≡ 0) (few : length v₀ ≤ 4096) (ev : v₀ ≡ replicate (length v₀) 0) where
     fuel : zeros v₀ ≤ pairs
-    fuel =
-        let l = zeros-le v₀ in
-        let m : length v₀ ≡ 4096 = ap (λ (l : List ℕ). length l) ev ∙ length-replicate {A = ℕ} 4096 0 in
-        omega arith
+    fuel = let l = zeros-le v₀ in omega arith
 
     pub reduce-made : (g′ ix′ v′ : List ℕ)
         → Stepped n (productionsIn g productions) (λ (f : ℕ) (st : Trace). reduceItem (meaning t) (λ (q m : ℕ) (u : Trace). reduceState (meaning t) f q m u) s (itemAt p i) st) g₀ v₀ g′ ix′ v′

@@ -1,20 +1,19 @@
--- The words of a graph that was built in scratch are those of its edges; copying and zeroing. Assumes nothing.
+-- The words of a graph that was built in scratch are those of its edges; zeroing. Assumes nothing.
 use mathlib.Core.Path.{_≡_, refl, sym, ap, _∙_}
-use mathlib.Core.Bool.{true}
 use mathlib.Core.List.{List, [], _∷_, _++_, append-nil}
 use Prim.Native.Nat.{ℕ, zero, suc, _+_, _*_, _≤_, _<_}
 use native.Mathlib.Omega.{arith}
 use native.Mathlib.Numerals.{add-one}
-use lib.ListN.{length, getD, take, drop, set, replicate}
+use lib.ListN.{length, getD, take, drop, replicate}
 use lib.Seq.{take-suc, take-add, drop-cons, drop-drop, drop-append-add}
 use Rattle.repr.specs.Lists.{joined}
 use Rattle.repr.specs.Meaning.{Production}
 use Rattle.repr.proofs.Lists.{joined-nil, joined-cons, joined-append}
 use Rattle.trace_graph.specs.Graph.{TraceEdge}
-use Rattle.trace_graph.specs.Words.{edgeLimit, place, edgeWords, graphWords, edgeAt, edgesIn}
+use Rattle.trace_graph.specs.Words.{place, edgeWords, graphWords, edgeAt, edgesIn}
 use Rattle.trace_graph.specs.Values.{firstEdges, edgeRead, nodeRead, valueWords}
 use Rattle.trace_graph.specs.Insert.{Graphed}
-use Rattle.trace_graph.proofs.Words.{edge-read, fits-read, own-value, value-words, edgeValue, edges-first, first-none, first-more, first-long}
+use Rattle.trace_graph.proofs.Words.{edge-read, fits-read, own-value, value-words, edgeValue, edges-first, first-none, first-more}
 use Rattle.trace_graph.proofs.Front.{edges-long, joined-long}
 use Rattle.tracer.specs.Built.{Built}
 use Rattle.tracer.specs.Outcome.{zeroed}
@@ -69,16 +68,6 @@ built {ws = ws} es G e =
       few = rw (← c) (G .few);
       words = ap (λ (k : ℕ). take (k * 8 + 1) ws) (sym c) ∙ front G (getD ws 0 0) (omega arith) ∙ same c (sym (edges-first ws) ∙ e);
     }
-
--- copying: a turn of the loop
-copy-suc : (i : ℕ) (a d : List ℕ) → i < length a → i < length d → set (take i a ++ drop i d) i (getD a i 0) ≡ take (suc i) a ++ drop (suc i) d
-copy-suc i [] d h l = absurd (omega arith)
-copy-suc i (x ∷ a) [] h l = absurd (omega arith)
-copy-suc zero (x ∷ a) (y ∷ d) h l = refl
-copy-suc (suc i) (x ∷ a) (y ∷ d) h l = ap (λ (t : List ℕ). x ∷ t) (copy-suc i a d (omega arith) (omega arith))
-
-pub copy-more : (i : ℕ) (a d : List ℕ) → i < length a → i < length d → set (take i a ++ drop i d) i (getD a i 0) ≡ take (i + 1) a ++ drop (i + 1) d
-copy-more i a d h l = copy-suc i a d h l ∙ ap (λ (k : ℕ). take k a ++ drop k d) (sym (add-one i))
 
 pub zeroed-is : (k : ℕ) (s s₀ : List ℕ) → k ≡ 32000 → s ≡ replicate k 0 ++ drop k s₀ → s ≡ zeroed s₀
 unfolding zeroed

@@ -3,6 +3,8 @@ use core::Item;
 use core::prefix;
 use first::FirstSets;
 use repr::word;
+use shifting::shift_items;
+use slices::copy_words;
 use state_graph::trace_back;
 use table::Checked;
 use table::read_counts;
@@ -10,24 +12,22 @@ use table::read_productions;
 use trace::reduce::suffix_ends;
 use trace::reduce::trace_reduce_item;
 use trace::shift::shift_trace;
-use trace::shifting::shift_items;
 use trace_graph::Inserted;
 use trace_graph::item_fits;
 ghost use mathlib.Core.Path.{_≡_};
 ghost use mathlib.Core.Bool.{true, false};
 ghost use mathlib.Core.List.{_++_};
 ghost use Prim.Native.Nat.{ℕ, _+_, _*_, _≤_, _<_};
-ghost use lib.ListN.{length, getD, take, drop};
+ghost use lib.ListN.{length, getD, take, drop, replicate};
 ghost use Rattle.table.specs.Decoded.{meaning};
 ghost use Rattle.table.specs.Refusals.{checkOf};
-ghost use Rattle.state_graph.specs.Preds.{Preds};
+ghost use Rattle.state_graph.specs.Preds.{predWords};
 ghost use Rattle.trace_graph.specs.declared.Inserted.the-variants.{Done, Full};
 ghost use Rattle.trace.specs.Shift.{shiftEdges};
 ghost use Rattle.trace.specs.Reduce.{reduceEdges};
-ghost use Rattle.trace.specs.Shifting.{ShiftItems};
 ghost use Rattle.tracer.specs.declared.Tried.the-variants as tried;
 ghost use Rattle.tracer.specs.Outcome.{outcome, zeroed, edgesOutcome, traceIn};
-ghost use Rattle.tracer.specs.Built.{Asked, Built, edgesBy};
+ghost use Rattle.tracer.specs.Built.{Asked, Room, Lent, Built, edgesBy};
 
 // What a trace answers: its number of edges, which are in the graph; else the refusal and its place.
 pub enum Backtrace {
@@ -54,18 +54,6 @@ fn zero(scratch: &mut [u16])
     }
 }
 
-// The first words of one slice copied to the front of another.
-fn copy_words(from: &[u16], to: &mut [u16], n: usize)
-    requires { ⌜ (n ≤ length (now from)) × (n ≤ length (now to)) ⌝ }
-    ensures { λ _. ⌜ now (to .exit) ≡ take n (now (from .entry)) ++ drop n (now (to .entry)) ⌝ }
-{
-    let mut i: usize = 0;
-    while i < n {
-        to[i] = from[i];
-        i += 1;
-    }
-}
-
 // `backtrace_shift`: back to the states in which the item begins, and on from there.
 fn trace_shift(
     table: &[u16],
@@ -74,20 +62,20 @@ fn trace_shift(
     n: usize,
     starts: &[u32],
     codes: &[u16],
+    visited: &mut [u8],
     graph: &mut [u16],
     state: usize,
     production: usize,
     index: usize,
 ) -> Inserted
     requires { ⌜ Asked (now table) (now grammar) productions n state production index ⌝ }
-    requires { ⌜ ShiftItems (meaning (now table)) (now starts) (now codes) ⌝ }
+    requires { ⌜ Lent (meaning (now table)) (now starts) (now codes) (now visited) ⌝ }
     requires { ⌜ 8193 ≤ length (now graph) ⌝ }
     ensures { λ r. ⌜ (r ≡ Done → Built (shiftEdges (meaning (now (table .entry))) state (record { production = production; index = index })) (now (graph .exit))) ⌝ }
     ensures { λ r. ⌜ (r ≡ Full → 1024 < length (shiftEdges (meaning (now (table .entry))) state (record { production = production; index = index }))) ⌝ }
 {
     graph[0] = 0;
-    let mut ix = [0u16; 3232];
-    let mut visited = [0u8; 4096];
+    let mut ix = [0u16; 5280];
     let item = Item {
         production: production,
         index: index,
@@ -102,14 +90,14 @@ fn trace_shift(
         codes,
         graph,
         &mut ix,
-        &mut visited,
+        visited,
         states,
         production,
         index,
     )
 }
 
-// `backtrace_reduce` over the predecessors of every state.
+// `backtrace_reduce`, the predecessors of every state in the words that are lent.
 fn reduce_over(
     table: &[u16],
     grammar: &[u16],
@@ -117,15 +105,16 @@ fn reduce_over(
     n: usize,
     starts: &[u32],
     codes: &[u16],
-    preds: &[u64],
+    visited: &mut [u8],
+    preds: &mut [u64],
     graph: &mut [u16],
     state: usize,
     production: usize,
     index: usize,
 ) -> Inserted
     requires { ⌜ Asked (now table) (now grammar) productions n state production index ⌝ }
-    requires { ⌜ ShiftItems (meaning (now table)) (now starts) (now codes) ⌝ }
-    requires { ⌜ Preds (meaning (now table)) (now preds) ⌝ }
+    requires { ⌜ Lent (meaning (now table)) (now starts) (now codes) (now visited) ⌝ }
+    requires { ⌜ (predWords (meaning (now table)) ≤ length (now preds)) × (now preds ≡ replicate (length (now preds)) 0) ⌝ }
     requires { ⌜ 8193 ≤ length (now graph) ⌝ }
     ensures { λ r. ⌜ (r ≡ Done → Built (reduceEdges (meaning (now (table .entry))) state (record { production = production; index = index })) (now (graph .exit))) ⌝ }
     ensures { λ r. ⌜ (r ≡ Full → 1024 < length (reduceEdges (meaning (now (table .entry))) state (record { production = production; index = index }))) ⌝ }
@@ -136,9 +125,9 @@ fn reduce_over(
     let map = sets.map;
     let mut ends = [0u8; 2176];
     suffix_ends(grammar, productions, terminals, &map, &mut ends);
+    state_graph::index(table, preds);
     graph[0] = 0;
-    let mut ix = [0u16; 3232];
-    let mut visited = [0u8; 4096];
+    let mut ix = [0u16; 5280];
     trace_reduce_item(
         table,
         grammar,
@@ -150,14 +139,14 @@ fn reduce_over(
         preds,
         graph,
         &mut ix,
-        &mut visited,
+        visited,
         state,
         production,
         index,
     )
 }
 
-// With the predecessors in an array for at most 8 rows.
+// For a table whose predecessors take at most 512 words.
 fn reduce_few(
     table: &[u16],
     grammar: &[u16],
@@ -165,20 +154,20 @@ fn reduce_few(
     n: usize,
     starts: &[u32],
     codes: &[u16],
+    visited: &mut [u8],
     graph: &mut [u16],
     state: usize,
     production: usize,
     index: usize,
 ) -> Inserted
     requires { ⌜ Asked (now table) (now grammar) productions n state production index ⌝ }
-    requires { ⌜ ShiftItems (meaning (now table)) (now starts) (now codes) ⌝ }
-    requires { ⌜ length (meaning (now table) .nonterminals) + meaning (now table) .terminals ≤ 8 ⌝ }
+    requires { ⌜ Lent (meaning (now table)) (now starts) (now codes) (now visited) ⌝ }
+    requires { ⌜ predWords (meaning (now table)) ≤ 512 ⌝ }
     requires { ⌜ 8193 ≤ length (now graph) ⌝ }
     ensures { λ r. ⌜ (r ≡ Done → Built (reduceEdges (meaning (now (table .entry))) state (record { production = production; index = index })) (now (graph .exit))) ⌝ }
     ensures { λ r. ⌜ (r ≡ Full → 1024 < length (reduceEdges (meaning (now (table .entry))) state (record { production = production; index = index }))) ⌝ }
 {
-    let mut preds = [0u64; 2048];
-    state_graph::index(table, &mut preds);
+    let mut preds = [0u64; 512];
     reduce_over(
         table,
         grammar,
@@ -186,7 +175,8 @@ fn reduce_few(
         n,
         starts,
         codes,
-        &preds,
+        visited,
+        &mut preds,
         graph,
         state,
         production,
@@ -194,27 +184,28 @@ fn reduce_few(
     )
 }
 
-// For every table: at most 95 rows.
-fn reduce_many(
+// For one whose predecessors take at most 4,096.
+fn reduce_some(
     table: &[u16],
     grammar: &[u16],
     productions: usize,
     n: usize,
     starts: &[u32],
     codes: &[u16],
+    visited: &mut [u8],
     graph: &mut [u16],
     state: usize,
     production: usize,
     index: usize,
 ) -> Inserted
     requires { ⌜ Asked (now table) (now grammar) productions n state production index ⌝ }
-    requires { ⌜ ShiftItems (meaning (now table)) (now starts) (now codes) ⌝ }
+    requires { ⌜ Lent (meaning (now table)) (now starts) (now codes) (now visited) ⌝ }
+    requires { ⌜ predWords (meaning (now table)) ≤ 4096 ⌝ }
     requires { ⌜ 8193 ≤ length (now graph) ⌝ }
     ensures { λ r. ⌜ (r ≡ Done → Built (reduceEdges (meaning (now (table .entry))) state (record { production = production; index = index })) (now (graph .exit))) ⌝ }
     ensures { λ r. ⌜ (r ≡ Full → 1024 < length (reduceEdges (meaning (now (table .entry))) state (record { production = production; index = index }))) ⌝ }
 {
-    let mut preds = [0u64; 24320];
-    state_graph::index(table, &mut preds);
+    let mut preds = [0u64; 4096];
     reduce_over(
         table,
         grammar,
@@ -222,7 +213,45 @@ fn reduce_many(
         n,
         starts,
         codes,
-        &preds,
+        visited,
+        &mut preds,
+        graph,
+        state,
+        production,
+        index,
+    )
+}
+
+// For every table: at most 95 rows of 128 states.
+fn reduce_many(
+    table: &[u16],
+    grammar: &[u16],
+    productions: usize,
+    n: usize,
+    starts: &[u32],
+    codes: &[u16],
+    visited: &mut [u8],
+    graph: &mut [u16],
+    state: usize,
+    production: usize,
+    index: usize,
+) -> Inserted
+    requires { ⌜ Asked (now table) (now grammar) productions n state production index ⌝ }
+    requires { ⌜ Lent (meaning (now table)) (now starts) (now codes) (now visited) ⌝ }
+    requires { ⌜ 8193 ≤ length (now graph) ⌝ }
+    ensures { λ r. ⌜ (r ≡ Done → Built (reduceEdges (meaning (now (table .entry))) state (record { production = production; index = index })) (now (graph .exit))) ⌝ }
+    ensures { λ r. ⌜ (r ≡ Full → 1024 < length (reduceEdges (meaning (now (table .entry))) state (record { production = production; index = index }))) ⌝ }
+{
+    let mut preds = [0u64; 24320];
+    reduce_over(
+        table,
+        grammar,
+        productions,
+        n,
+        starts,
+        codes,
+        visited,
+        &mut preds,
         graph,
         state,
         production,
@@ -238,45 +267,65 @@ fn trace_reduce(
     n: usize,
     starts: &[u32],
     codes: &[u16],
+    visited: &mut [u8],
     graph: &mut [u16],
     state: usize,
     production: usize,
     index: usize,
 ) -> Inserted
     requires { ⌜ Asked (now table) (now grammar) productions n state production index ⌝ }
-    requires { ⌜ ShiftItems (meaning (now table)) (now starts) (now codes) ⌝ }
+    requires { ⌜ Lent (meaning (now table)) (now starts) (now codes) (now visited) ⌝ }
     requires { ⌜ 8193 ≤ length (now graph) ⌝ }
     ensures { λ r. ⌜ (r ≡ Done → Built (reduceEdges (meaning (now (table .entry))) state (record { production = production; index = index })) (now (graph .exit))) ⌝ }
     ensures { λ r. ⌜ (r ≡ Full → 1024 < length (reduceEdges (meaning (now (table .entry))) state (record { production = production; index = index }))) ⌝ }
 {
     let counts = read_counts(table);
-    if counts.nonterminals + counts.terminals <= 8 {
-        reduce_few(
+    let rows = counts.nonterminals + counts.terminals;
+    let states = counts.states;
+    let words = rows * states * 2;
+    if words <= 512 {
+        return reduce_few(
             table,
             grammar,
             productions,
             n,
             starts,
             codes,
+            visited,
             graph,
             state,
             production,
             index,
-        )
-    } else {
-        reduce_many(
-            table,
-            grammar,
-            productions,
-            n,
-            starts,
-            codes,
-            graph,
-            state,
-            production,
-            index,
-        )
+        );
     }
+    if words <= 4096 {
+        return reduce_some(
+            table,
+            grammar,
+            productions,
+            n,
+            starts,
+            codes,
+            visited,
+            graph,
+            state,
+            production,
+            index,
+        );
+    }
+    reduce_many(
+        table,
+        grammar,
+        productions,
+        n,
+        starts,
+        codes,
+        visited,
+        graph,
+        state,
+        production,
+        index,
+    )
 }
 
 // The one trace or the other.
@@ -287,6 +336,7 @@ fn trace_with(
     n: usize,
     starts: &[u32],
     codes: &[u16],
+    visited: &mut [u8],
     graph: &mut [u16],
     state: usize,
     production: usize,
@@ -294,7 +344,7 @@ fn trace_with(
     shift: bool,
 ) -> Inserted
     requires { ⌜ Asked (now table) (now grammar) productions n state production index ⌝ }
-    requires { ⌜ ShiftItems (meaning (now table)) (now starts) (now codes) ⌝ }
+    requires { ⌜ Lent (meaning (now table)) (now starts) (now codes) (now visited) ⌝ }
     requires { ⌜ 8193 ≤ length (now graph) ⌝ }
     ensures { λ r. ⌜ (r ≡ Done → Built (edgesBy shift (meaning (now (table .entry))) state (record { production = production; index = index })) (now (graph .exit))) ⌝ }
     ensures { λ r. ⌜ (r ≡ Full → 1024 < length (edgesBy shift (meaning (now (table .entry))) state (record { production = production; index = index }))) ⌝ }
@@ -307,6 +357,7 @@ fn trace_with(
             n,
             starts,
             codes,
+            visited,
             graph,
             state,
             production,
@@ -320,6 +371,7 @@ fn trace_with(
             n,
             starts,
             codes,
+            visited,
             graph,
             state,
             production,
@@ -328,8 +380,88 @@ fn trace_with(
     }
 }
 
-// With the items that can shift a nonterminal in a small array, which most tables need no more than.
+// In the words that are lent, if they are enough for the items that can shift a nonterminal.
+fn trace_lent(
+    table: &[u16],
+    grammar: &[u16],
+    productions: usize,
+    n: usize,
+    starts: &mut [u32],
+    codes: &mut [u16],
+    visited: &mut [u8],
+    graph: &mut [u16],
+    state: usize,
+    production: usize,
+    index: usize,
+    shift: bool,
+) -> Tried
+    requires { ⌜ Asked (now table) (now grammar) productions n state production index ⌝ }
+    requires { ⌜ Room (meaning (now table)) (now starts) (now codes) (now visited) ⌝ }
+    requires { ⌜ 8193 ≤ length (now graph) ⌝ }
+    ensures { λ r. ⌜ (r ≡ tried.Made → Built (edgesBy shift (meaning (now (table .entry))) state (record { production = production; index = index })) (now (graph .exit))) ⌝ }
+    ensures { λ r. ⌜ (r ≡ tried.Over → 1024 < length (edgesBy shift (meaning (now (table .entry))) state (record { production = production; index = index }))) ⌝ }
+{
+    if !shift_items(table, grammar, productions, starts, codes) {
+        return Tried::Lacking;
+    }
+    match trace_with(
+        table,
+        grammar,
+        productions,
+        n,
+        starts,
+        codes,
+        visited,
+        graph,
+        state,
+        production,
+        index,
+        shift,
+    ) {
+        Inserted::Done => Tried::Made,
+        Inserted::Full => Tried::Over,
+    }
+}
+
+// In words for at most 16 states, which cost little to make.
 fn trace_few(
+    table: &[u16],
+    grammar: &[u16],
+    productions: usize,
+    n: usize,
+    graph: &mut [u16],
+    state: usize,
+    production: usize,
+    index: usize,
+    shift: bool,
+) -> Tried
+    requires { ⌜ Asked (now table) (now grammar) productions n state production index ⌝ }
+    requires { ⌜ length (meaning (now table) .states) ≤ 16 ⌝ }
+    requires { ⌜ 8193 ≤ length (now graph) ⌝ }
+    ensures { λ r. ⌜ (r ≡ tried.Made → Built (edgesBy shift (meaning (now (table .entry))) state (record { production = production; index = index })) (now (graph .exit))) ⌝ }
+    ensures { λ r. ⌜ (r ≡ tried.Over → 1024 < length (edgesBy shift (meaning (now (table .entry))) state (record { production = production; index = index }))) ⌝ }
+{
+    let mut starts = [0u32; 513];
+    let mut codes = [0u16; 1024];
+    let mut visited = [0u8; 512];
+    trace_lent(
+        table,
+        grammar,
+        productions,
+        n,
+        &mut starts,
+        &mut codes,
+        &mut visited,
+        graph,
+        state,
+        production,
+        index,
+        shift,
+    )
+}
+
+// In words for every number of states, with 8,192 items, which most tables need no more than.
+fn trace_some(
     table: &[u16],
     grammar: &[u16],
     productions: usize,
@@ -347,25 +479,21 @@ fn trace_few(
 {
     let mut starts = [0u32; 4097];
     let mut codes = [0u16; 8192];
-    if !shift_items(table, grammar, productions, &mut starts, &mut codes) {
-        return Tried::Lacking;
-    }
-    match trace_with(
+    let mut visited = [0u8; 4096];
+    trace_lent(
         table,
         grammar,
         productions,
         n,
-        &starts,
-        &codes,
+        &mut starts,
+        &mut codes,
+        &mut visited,
         graph,
         state,
         production,
         index,
         shift,
-    ) {
-        Inserted::Done => Tried::Made,
-        Inserted::Full => Tried::Over,
-    }
+    )
 }
 
 // For every table: 2,176 items a state.
@@ -387,6 +515,7 @@ fn trace_many(
 {
     let mut starts = [0u32; 4097];
     let mut codes = [0u16; 278528];
+    let mut visited = [0u8; 4096];
     shift_items(table, grammar, productions, &mut starts, &mut codes);
     trace_with(
         table,
@@ -395,6 +524,7 @@ fn trace_many(
         n,
         &starts,
         &codes,
+        &mut visited,
         graph,
         state,
         production,
@@ -403,7 +533,51 @@ fn trace_many(
     )
 }
 
-// The trace, its graph in the words lent.
+// In the first of the larger words that are enough.
+fn trace_large(
+    table: &[u16],
+    grammar: &[u16],
+    productions: usize,
+    n: usize,
+    graph: &mut [u16],
+    state: usize,
+    production: usize,
+    index: usize,
+    shift: bool,
+) -> Inserted
+    requires { ⌜ Asked (now table) (now grammar) productions n state production index ⌝ }
+    requires { ⌜ 8193 ≤ length (now graph) ⌝ }
+    ensures { λ r. ⌜ (r ≡ Done → Built (edgesBy shift (meaning (now (table .entry))) state (record { production = production; index = index })) (now (graph .exit))) ⌝ }
+    ensures { λ r. ⌜ (r ≡ Full → 1024 < length (edgesBy shift (meaning (now (table .entry))) state (record { production = production; index = index }))) ⌝ }
+{
+    match trace_some(
+        table,
+        grammar,
+        productions,
+        n,
+        graph,
+        state,
+        production,
+        index,
+        shift,
+    ) {
+        Tried::Made => Inserted::Done,
+        Tried::Over => Inserted::Full,
+        Tried::Lacking => trace_many(
+            table,
+            grammar,
+            productions,
+            n,
+            graph,
+            state,
+            production,
+            index,
+            shift,
+        ),
+    }
+}
+
+// The trace, its graph in the words lent. A table of few states does not make the larger words, nor room for them.
 pub fn build(
     table: &[u16],
     grammar: &[u16],
@@ -420,6 +594,21 @@ pub fn build(
     ensures { λ r. ⌜ (r ≡ Done → Built (edgesBy shift (meaning (now (table .entry))) state (record { production = production; index = index })) (now (graph .exit))) ⌝ }
     ensures { λ r. ⌜ (r ≡ Full → 1024 < length (edgesBy shift (meaning (now (table .entry))) state (record { production = production; index = index }))) ⌝ }
 {
+    let counts = read_counts(table);
+    let states = counts.states;
+    if states > 16 {
+        return trace_large(
+            table,
+            grammar,
+            productions,
+            n,
+            graph,
+            state,
+            production,
+            index,
+            shift,
+        );
+    }
     match trace_few(
         table,
         grammar,
@@ -433,7 +622,7 @@ pub fn build(
     ) {
         Tried::Made => Inserted::Done,
         Tried::Over => Inserted::Full,
-        Tried::Lacking => trace_many(
+        Tried::Lacking => trace_large(
             table,
             grammar,
             productions,

@@ -11,7 +11,7 @@ use Rattle.chooser.proofs.choose_in.Lts as lts
 use Rattle.chooser.proofs.choose_read.Reads as choose-read-reads
 use Rattle.chooser.proofs.refuse.Reads as refuse-reads
 use Rattle.chooser.proofs.set_shifts_end.Reads as set-shifts-end-reads
-use Rattle.chooser.proofs.set_within.Reads as set-within-reads
+use Rattle.lookahead.proofs.TokenSet.fits.Reads as fits-reads
 use Rattle.classifier.proofs.place_fits.Reads as place-fits-reads
 use Rattle.table.proofs.read_counts.Reads as read-counts-reads
 
@@ -28,8 +28,8 @@ place-fits-requires : tie.Need-place-fits-requires
 place-fits-requires c κs = search needs
 
 -- src/lib.rt:304:12
-set-within-requires : tie.Need-set-within-requires
-set-within-requires c κs = search needs
+fits-requires : tie.Need-fits-requires
+fits-requires c κs = search needs
 
 -- src/lib.rt:305:16
 set-shifts-end-requires : tie.Need-set-shifts-end-requires
@@ -41,7 +41,7 @@ refuse-requires c κs = search needs
 
 -- src/lib.rt:306:17
 returns : tie.Need-returns
-returns c = shift-end _ (c .before .before .before .before .before .before .before .before .before .before .before .args .conflict) _ _ (sym (c .before .before .before .before .before .before .place-fits .ensures) ∙ c .before .before .before .before .before .if1 .taken) _ (c .before .before .before .before .before .before .before .before .read-counts .ensures .terminals) _ (c .before .before .before .before .set-within .ensures) (c .before .before .before .if2 .taken) _ (c .before .before .set-shifts-end .ensures) (c .before .if3 .taken) _ (c .refuse .ensures)
+returns c = shift-end _ (c .before .before .before .before .before .before .before .before .before .before .before .args .conflict) _ _ (sym (c .before .before .before .before .before .before .place-fits .ensures) ∙ c .before .before .before .before .before .if1 .taken) _ (c .before .before .before .before .before .before .before .before .read-counts .ensures .terminals) _ (c .before .before .before .before .fits2 .ensures) (c .before .before .before .if2 .taken) _ (c .before .before .set-shifts-end .ensures) (c .before .if3 .taken) _ (c .refuse .ensures)
 
 -- src/lib.rt:309:17
 refuse-requires-2 : tie.Need-refuse-requires-2
@@ -49,11 +49,11 @@ refuse-requires-2 c κs = search needs
 
 -- src/lib.rt:309:17
 returns-2 : tie.Need-returns-2
-returns-2 c = short-scratch _ (c .before .before .before .before .before .before .before .before .before .before .before .before .args .conflict) _ _ (sym (c .before .before .before .before .before .before .before .place-fits .ensures) ∙ c .before .before .before .before .before .before .if1 .taken) _ (c .before .before .before .before .before .before .before .before .before .read-counts .ensures .terminals) _ (c .before .before .before .before .before .set-within .ensures) (c .before .before .before .before .if2 .taken) _ (c .before .before .before .set-shifts-end .ensures) (c .before .before .if3 .left) (c .before .if4 .taken) _ (c .refuse2 .ensures)
+returns-2 c = short-scratch _ (c .before .before .before .before .before .before .before .before .before .before .before .before .args .conflict) _ _ (sym (c .before .before .before .before .before .before .before .place-fits .ensures) ∙ c .before .before .before .before .before .before .if1 .taken) _ (c .before .before .before .before .before .before .before .before .before .read-counts .ensures .terminals) _ (c .before .before .before .before .before .fits2 .ensures) (c .before .before .before .before .if2 .taken) _ (c .before .before .before .set-shifts-end .ensures) (c .before .before .if3 .left) (c .before .if4 .taken) _ (c .refuse2 .ensures)
 
 -- src/lib.rt:311:13
 choose-read-requires : tie.Need-choose-read-requires
-choose-read-requires c κs = (c .before .before .before .before .before .before .before .before .before .before .before .before .pre, (set-fits _ (c .before .before .before .before .before .before .before .before .before .before .before .before .args .conflict) _ (c .before .before .before .before .before .before .before .before .before .before .before .before .args .scratch .now) (sym (c .before .before .before .before .before .before .before .place-fits .ensures) ∙ c .before .before .before .before .before .before .if1 .taken) _ (c .before .before .before .before .before .before .before .before .before .read-counts .ensures .terminals) _ (c .before .before .before .before .before .set-within .ensures) (c .before .before .before .before .if2 .taken), c .before .if4 .left))
+choose-read-requires c κs = (c .before .before .before .before .before .before .before .before .before .before .before .before .pre, (set-fits _ (c .before .before .before .before .before .before .before .before .before .before .before .before .args .conflict) _ (c .before .before .before .before .before .before .before .before .before .before .before .before .args .scratch .now) (sym (c .before .before .before .before .before .before .before .place-fits .ensures) ∙ c .before .before .before .before .before .before .if1 .taken) _ (c .before .before .before .before .before .before .before .before .before .read-counts .ensures .terminals) _ (c .before .before .before .before .before .fits2 .ensures) (c .before .before .before .before .if2 .taken), c .before .if4 .left))
 
 -- src/lib.rt:311:13
 same-length : tie.Need-same-length
@@ -61,7 +61,7 @@ same-length c = search needs
 
 -- src/lib.rt:311:13
 returns-3 : tie.Need-returns-3
-returns-3 c = chosen-whole _ (c .before .before .before .before .before .before .before .before .before .before .before .before .before .before .before .args .conflict) _ _ (sym (c .before .before .before .before .before .before .before .before .before .before .place-fits .ensures) ∙ c .before .before .before .before .before .before .before .before .before .if1 .taken) _ (c .before .before .before .before .before .before .before .before .before .before .before .before .read-counts .ensures .terminals) _ (c .before .before .before .before .before .before .before .before .set-within .ensures) (c .before .before .before .before .before .before .before .if2 .taken) _ (c .before .before .before .before .before .before .set-shifts-end .ensures) (c .before .before .before .before .before .if3 .left) (c .before .before .before .before .if4 .left) _ (c .before .before .choose-read .ensures)
+returns-3 c = chosen-whole _ (c .before .before .before .before .before .before .before .before .before .before .before .before .before .before .before .args .conflict) _ _ (sym (c .before .before .before .before .before .before .before .before .before .before .place-fits .ensures) ∙ c .before .before .before .before .before .before .before .before .before .if1 .taken) _ (c .before .before .before .before .before .before .before .before .before .before .before .before .read-counts .ensures .terminals) _ (c .before .before .before .before .before .before .before .before .fits2 .ensures) (c .before .before .before .before .before .before .before .if2 .taken) _ (c .before .before .before .before .before .before .set-shifts-end .ensures) (c .before .before .before .before .before .if3 .left) (c .before .before .before .before .if4 .left) _ (c .before .before .choose-read .ensures)
 
 -- src/lib.rt:313:9
 refuse-requires-3 : tie.Need-refuse-requires-3
@@ -69,7 +69,7 @@ refuse-requires-3 c κs = search needs
 
 -- src/lib.rt:313:9
 returns-4 : tie.Need-returns-4
-returns-4 c = set-past _ (c .before .before .before .before .before .before .before .before .before .args .conflict) _ _ (sym (c .before .before .before .before .place-fits .ensures) ∙ c .before .before .before .if1 .taken) _ (c .before .before .before .before .before .before .read-counts .ensures .terminals) _ (c .before .before .set-within .ensures) (c .before .if2 .left) _ (c .refuse3 .ensures)
+returns-4 c = set-past _ (c .before .before .before .before .before .before .before .before .before .args .conflict) _ _ (sym (c .before .before .before .before .place-fits .ensures) ∙ c .before .before .before .if1 .taken) _ (c .before .before .before .before .before .before .read-counts .ensures .terminals) _ (c .before .before .fits2 .ensures) (c .before .if2 .left) _ (c .refuse3 .ensures)
 
 -- src/lib.rt:315:5
 refuse-requires-4 : tie.Need-refuse-requires-4
@@ -86,7 +86,7 @@ choose-in-spec =
     read-counts-requires
     cast-terminals
     place-fits-requires
-    set-within-requires
+    fits-requires
     set-shifts-end-requires
     refuse-requires
     returns

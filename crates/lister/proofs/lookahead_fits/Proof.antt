@@ -10,15 +10,15 @@ enum-told c = search needs
 enum-known-lookahead : tie.Need-enum-known-lookahead
 enum-known-lookahead c = search needs
 
-tokens-fit-requires : tie.Need-tokens-fit-requires
-tokens-fit-requires c κs = search needs
+fits-requires : tie.Need-fits-requires
+fits-requires c κs = search needs
 
 returns : tie.Need-returns
 returns c = ahead-any _ _ (c .enum-told .given .1)
 
 returns-2 : tie.Need-returns-2
-returns-2 c = ahead-set _ _ _ (c .before .before .lookahead .given .1) _ (c .tokens-fit .ensures)
+returns-2 c = ahead-set _ _ _ (c .before .before .lookahead .given .1) _ (c .fits2 .ensures)
 
 pub lookahead-fits-spec : {M : Type 1} → statement M
 lookahead-fits-spec =
-    tie.close (tie.spec enum-told enum-known-lookahead tokens-fit-requires returns returns-2)
+    tie.close (tie.spec enum-told enum-known-lookahead fits-requires returns returns-2)

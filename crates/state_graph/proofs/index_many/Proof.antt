@@ -1,5 +1,6 @@
 -- `index_many`: 16,384 words are enough for every table. Assumes nothing.
-use Rattle.state_graph.proofs.Sources.{sources-asked, records-few}
+use Rattle.state_graph.proofs.Sources.{records-few}
+use Rattle.state_graph.proofs.Steps.{zeros-asked}
 use native.Mathlib.Omega.{arith}
 use borrow.Author.Needs.{needs}
 use Rattle.state_graph.proofs.index_many.Statement.{statement}
@@ -12,7 +13,7 @@ slice-aggregate-index-over : tie.Need-slice-aggregate-index-over
 slice-aggregate-index-over c = search needs
 
 index-over-requires : tie.Need-index-over-requires
-index-over-requires c κs = let q = records-few (c .before .before .before .before .args .table .now) (c .before .before .before .before .pre .0) in (c .before .before .before .before .pre .0, (c .before .before .before .before .pre .1, sources-asked _ 16384 (omega arith)))
+index-over-requires c κs = let q = records-few (c .before .before .before .before .args .table .now) (c .before .before .before .before .pre .0) in (c .before .before .before .before .pre .0, (c .before .before .before .before .pre .1, zeros-asked 16384 _ (omega arith)))
 
 same-length : tie.Need-same-length
 same-length c = search needs

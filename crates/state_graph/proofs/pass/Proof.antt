@@ -19,12 +19,12 @@ use Rattle.table.proofs.edge.Reads as edge-reads
 
 -- the two words of the edge that is read are there
 placed : (c : tie.After-edge) {row : ℕ} → row ≡ rowOf (c .before .before .before .before .before .before .args .n) (c .edge .result .kind) (c .edge .result .number)
-    → (row * 128 + c .edge .result .target) * 2 + 1 < length (c .before .before .before .before .before .before .args .preds .now)
+    → (row * c .before .before .before .before .before .before .args .states + c .edge .result .target) * 2 + 1 < length (c .before .before .before .before .before .before .args .preds .now)
 placed c {row} e =
     let S = c .before .before .before .before .before .before in
-    rw (e, S .pre .1 .0 .0)
+    rw (e, S .pre .1 .0 .0, S .pre .1 .0 .1)
     (place-inside (meaning (S .args .table .now)) (c .edge .result .kind) (c .edge .result .number) (c .edge .result .target) (length (S .args .preds .now))
-    (fits (S .args .table .now) (S .pre .0)) (c .edge .ensures .symbol) (c .edge .ensures .inside) (S .pre .1 .0 .1))
+    (c .edge .ensures .symbol) (c .edge .ensures .inside) (S .pre .1 .0 .2))
 
 mul-low : tie.Need-mul-low
 mul-low c = search needs
@@ -33,7 +33,7 @@ mul-low-2 : tie.Need-mul-low-2
 mul-low-2 c = search needs
 
 slice-read-low : tie.Need-slice-read-low
-slice-read-low c = let h = index-inside _ _ (c .before .before .before .before .pre .1 .1 .0) (c .before .before .before .before .pre .1 .1 .1) in omega (arith, c .before .before .before .before .pre .1 .0 .2)
+slice-read-low c = let h = index-inside _ _ (c .before .before .before .before .pre .1 .1 .0) (c .before .before .before .before .pre .1 .1 .1) in omega (arith, c .before .before .before .before .pre .1 .0 .3)
 
 mul-high : tie.Need-mul-high
 mul-high c = search needs
@@ -45,7 +45,7 @@ mul-high-2 : tie.Need-mul-high-2
 mul-high-2 c = search needs
 
 slice-read-high : tie.Need-slice-read-high
-slice-read-high c = let h = index-inside _ _ (c .before .before .before .before .before .pre .1 .1 .0) (c .before .before .before .before .before .pre .1 .1 .1) in omega (arith, c .before .before .before .before .before .pre .1 .0 .2)
+slice-read-high c = let h = index-inside _ _ (c .before .before .before .before .before .pre .1 .1 .0) (c .before .before .before .before .before .pre .1 .1 .1) in omega (arith, c .before .before .before .before .before .pre .1 .0 .3)
 
 edge-requires : tie.Need-edge-requires
 edge-requires c κs = search needs
@@ -69,7 +69,7 @@ mul-unite-3 : tie.Need-mul-unite-3
 mul-unite-3 c = search needs
 
 unite-requires-2 : tie.Need-unite-requires-2
-unite-requires-2 c κs = let h = index-inside _ _ (c .before .if1 .taken) (c .before .before .before .before .before .before .before .edge .ensures .on) in omega (arith, c .before .before .before .before .before .before .before .before .before .before .before .before .before .pre .1 .0 .2)
+unite-requires-2 c κs = let h = index-inside _ _ (c .before .if1 .taken) (c .before .before .before .before .before .before .before .edge .ensures .on) in omega (arith, c .before .before .before .before .before .before .before .before .before .before .before .before .before .pre .1 .0 .3)
 
 same-length : tie.Need-same-length
 same-length c = search needs
@@ -78,13 +78,13 @@ same-length-2 : tie.Need-same-length-2
 same-length-2 c = search needs
 
 returns : tie.Need-returns
-returns c = pass-goes _ _ _ _ _ _ _ _ _ _ _ _ (c .before .before .before .before .before .before .before .before .before .before .edge .ensures) (c .before .before .before .before .before .before .before .before .before .row-of .ensures) (c .before .before .before .before .before .before .before .unite .ensures) (c .before .before .before .before .if1 .taken) (c .before .before .unite2 .ensures)
+returns c = pass-goes _ _ _ _ _ _ _ _ _ _ _ _ _ (c .before .before .before .before .before .before .before .before .before .before .edge .ensures) (c .before .before .before .before .before .before .before .before .before .row-of .ensures) (c .before .before .before .before .before .before .before .unite .ensures) (c .before .before .before .before .if1 .taken) (c .before .before .unite2 .ensures)
 
 same-length-3 : tie.Need-same-length-3
 same-length-3 c = search needs
 
 returns-2 : tie.Need-returns-2
-returns-2 c = pass-ends _ _ _ _ _ _ _ _ _ _ _ _ (c .before .before .before .before .before .before .edge .ensures) (c .before .before .before .before .before .row-of .ensures) (c .before .before .before .unite .ensures) (c .if1 .left) refl
+returns-2 c = pass-ends _ _ _ _ _ _ _ _ _ _ _ _ _ (c .before .before .before .before .before .before .edge .ensures) (c .before .before .before .before .before .row-of .ensures) (c .before .before .before .unite .ensures) (c .if1 .left) refl
 
 pub pass-spec : {M : Type 1} → statement M
 pass-spec =

@@ -5,36 +5,32 @@ use Prim.Native.Nat.{_+_, _*_, _<_}
 use lib.ListN.{length}
 use Rattle.state_graph.specs.States.{statesIn, NextIs}
 use Rattle.state_graph.specs.declared.NextState.the-variants.{State}
-use Rattle.state_graph.proofs.States.{next-below, next-less}
-use Rattle.state_graph.proofs.Steps.{Gathering, gathering-start, gathering-more, gathering-done}
+use Rattle.state_graph.proofs.States.{next-less}
+use Rattle.state_graph.proofs.Steps.{Gathering, gathering-start, gathering-there, gathering-more, gathering-done}
 use borrow.Author.Needs.{needs}
 use native.Mathlib.Omega.{arith}
 use Rattle.state_graph.proofs.step.Statement.{statement}
 use Rattle.state_graph.proofs.step.Tie as tie
 
 abbrev Inv-loop : tie.InvT-loop
-Inv-loop preds n kind number row low₀ high₀ rest₀ low high rest = Gathering preds row (rest₀ .low) (rest₀ .high) low high (rest .low) (rest .high)
+Inv-loop preds n states kind number row low₀ high₀ rest₀ low high rest = Gathering preds states row (rest₀ .low) (rest₀ .high) low high (rest .low) (rest .high)
 
 abbrev μ-loop : tie.MeasureT-loop
-μ-loop preds n kind number row low₀ high₀ rest₀ low high rest = length (statesIn (rest .low) (rest .high))
+μ-loop preds n states kind number row low₀ high₀ rest₀ low high rest = length (statesIn (rest .low) (rest .high))
 
--- the least state is below 128, so its two words are there
+-- the two words of the least state are there
 told : (c : tie.After-known-told Inv-loop μ-loop) → NextIs (c .before .before .before .before .loop .rest .low) (c .before .before .before .before .loop .rest .high) (State (c .before .m .given .0 .0) (c .before .m .given .0 .1 .0))
 told c = rw (c .before .m .given .1) at (c .before .before .before .next .ensures)
 
 inside : (c : tie.After-known-told Inv-loop μ-loop)
-    → (c .before .before .before .before .before .row-of .result * 128 + c .before .m .given .0 .0) * 2 + 1 < length (c .before .before .before .before .before .before .before .args .preds .now)
-inside c =
-    let b = next-below (c .before .before .before .before .loop .rest .low) (c .before .before .before .before .loop .rest .high) (c .before .m .given .0 .0) (c .before .m .given .0 .1 .0) (told c) in
-    let e = c .before .before .before .before .before .row-of .ensures in
-    let p = c .before .before .before .before .before .before .before .pre in
-    omega arith
+    → (c .before .before .before .before .before .row-of .result * c .before .before .before .before .before .before .before .args .states + c .before .m .given .0 .0) * 2 + 1 < length (c .before .before .before .before .before .before .before .args .preds .now)
+inside c = gathering-there _ _ _ _ _ _ _ _ _ (c .before .before .before .before .loop .inv) (c .before .m .given .0 .0) (c .before .m .given .0 .1 .0) (told c)
 
 row-of-requires : tie.Need-row-of-requires Inv-loop μ-loop
 row-of-requires c κs = search needs
 
 loop-holds : tie.Need-loop-holds Inv-loop μ-loop
-loop-holds c = gathering-start (c .before .before .args .preds .now) (c .row-of .result) (c .before .before .args .set .low) (c .before .before .args .set .high)
+loop-holds c = gathering-start (c .before .before .args .preds .now) (c .before .before .args .states) (c .row-of .result) (c .before .before .args .set .low) (c .before .before .args .set .high) (rw (c .row-of .ensures) (c .before .before .pre .1))
 
 next-requires : tie.Need-next-requires Inv-loop μ-loop
 next-requires c κs = search needs
@@ -70,13 +66,13 @@ loop-less : tie.Need-loop-less Inv-loop μ-loop
 loop-less c = next-less (c .before .before .before .before .before .before .loop .rest .low) (c .before .before .before .before .before .before .loop .rest .high) (c .before .before .before .m .given .0 .0) (c .before .before .before .m .given .0 .1 .0) (told (c .before .before))
 
 loop-again : tie.Need-loop-again Inv-loop μ-loop
-loop-again c = gathering-more _ _ _ _ _ _ _ _ (c .before .before .before .before .before .before .loop .inv) (c .before .before .before .m .given .0 .0) (c .before .before .before .m .given .0 .1 .0) (told (c .before .before)) _ refl
+loop-again c = gathering-more _ _ _ _ _ _ _ _ _ (c .before .before .before .before .before .before .loop .inv) (c .before .before .before .m .given .0 .0) (c .before .before .before .m .given .0 .1 .0) (told (c .before .before)) _ refl
 
 enum-told : tie.Need-enum-told Inv-loop μ-loop
 enum-told c = search needs
 
 returns : tie.Need-returns Inv-loop μ-loop
-returns c = λ p l. rw (← (c .before .before .before .before .row-of .ensures)) (gathering-done _ _ _ _ _ _ _ _ (c .before .before .before .loop .inv) (rw (c .enum-told .given .1) at (c .before .before .next .ensures)) p)
+returns c = λ p l. rw (← (c .before .before .before .before .row-of .ensures)) (gathering-done _ _ _ _ _ _ _ _ _ (c .before .before .before .loop .inv) (rw (c .enum-told .given .1) at (c .before .before .next .ensures)) p)
 
 pub step-spec : {M : Type 1} → statement M
 step-spec =

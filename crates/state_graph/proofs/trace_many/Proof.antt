@@ -1,40 +1,21 @@
--- `trace_many`: the index in 24,320 words, which are enough for every table, and the walk from one state. Assumes nothing.
-use Prim.Native.Nat.{_+_}
-use lib.ListN.{length}
+-- `trace_many`: 24,320 words are enough for every table. Assumes nothing.
 use Rattle.table.specs.Decoded.{meaning}
 use Rattle.table.proofs.Decoding.{fits}
-use Rattle.state_graph.proofs.Steps.{traced, one-inside, zeros-asked, rows-few}
+use Rattle.state_graph.proofs.Steps.{zeros-asked, words-few}
 use borrow.Author.Needs.{needs}
 use Rattle.state_graph.proofs.trace_many.Statement.{statement}
 use Rattle.state_graph.proofs.trace_many.Tie as tie
 
-slice-aggregate-index : tie.Need-slice-aggregate-index
-slice-aggregate-index c = search needs
+slice-aggregate-trace-over : tie.Need-slice-aggregate-trace-over
+slice-aggregate-trace-over c = search needs
 
-index-requires : tie.Need-index-requires
-index-requires c κs = (c .before .before .before .pre .0, zeros-asked 24320 (length (meaning (c .before .before .before .args .table .now) .nonterminals) + meaning (c .before .before .before .args .table .now) .terminals) (rows-few (meaning (c .before .before .before .args .table .now)) (fits (c .before .before .before .args .table .now) (c .before .before .before .pre .0))))
-
-slice-aggregate-walk-back : tie.Need-slice-aggregate-walk-back
-slice-aggregate-walk-back c = search needs
-
-of-requires : tie.Need-of-requires
-of-requires c κs = search needs
-
-walk-back-requires : tie.Need-walk-back-requires
-walk-back-requires c κs = (c .before .before .before .before .before .before .before .pre .0, (c .before .before .before .index .ensures, (c .before .before .before .before .before .before .before .pre .1 .1, one-inside _ _ (c .before .before .before .before .before .before .before .args .state) _ (c .before .before .before .before .before .before .before .pre .1 .0) (c .of .ensures))))
+trace-over-requires : tie.Need-trace-over-requires
+trace-over-requires c κs =
+    let S = c .before .before .before in
+    (S .pre .0, (S .pre .1, zeros-asked 24320 _ (words-few (meaning (S .args .table .now)) (fits (S .args .table .now) (S .pre .0)))))
 
 returns : tie.Need-returns
-returns c =
-    let S = c .before .before .before .before .before .before .before .before in
-    traced (meaning (S .args .table .now)) (fits (S .args .table .now) (S .pre .0)) (S .args .state) (S .pre .1 .0) _ _ _ _ _ (c .before .of .ensures) (c .walk-back .ensures)
+returns c = search needs
 
 pub trace-many-spec : {M : Type 1} → statement M
-trace-many-spec =
-    tie.close
-    (tie.spec
-    slice-aggregate-index
-    index-requires
-    slice-aggregate-walk-back
-    of-requires
-    walk-back-requires
-    returns)
+trace-many-spec = tie.close (tie.spec slice-aggregate-trace-over trace-over-requires returns)

@@ -16,29 +16,33 @@ read-edge-requires c κs = search needs
 edge-fits-requires : tie.Need-edge-fits-requires
 edge-fits-requires c κs = search needs
 
+bucket-of-requires : tie.Need-bucket-of-requires
+bucket-of-requires c κs = (c .before .before .before .before .before .before .pre .0, check-small (looked (c .before)) (c .if1 .taken))
+
 find-requires : tie.Need-find-requires
-find-requires c κs = let S = c .before .before .before .before .before .before .before in (S .pre .0, (S .pre .1 .0, check-fits (looked (c .before .before)) (c .before .if1 .taken)))
+find-requires c κs = let S = c .before .before .before .before .before .before .before .before in (S .pre .0, (S .pre .1 .0, (check-fits (looked (c .before .before .before)) (c .before .before .if1 .taken), c .before .bucket-of .ensures)))
 
 same-length : tie.Need-same-length
 same-length c = search needs
 
 returns : tie.Need-returns
-returns c = (check-twice (looked (c .before .before .before .before)) (c .before .before .before .if1 .taken) (c .before .find .ensures) (c .if2 .taken), λ z. absurd (true≢false (sym z)))
+returns c = (check-twice (looked (c .before .before .before .before .before)) (c .before .before .before .before .if1 .taken) (c .before .find .ensures) (c .if2 .taken), λ z. absurd (true≢false (sym z)))
 
 node-number-requires : tie.Need-node-number-requires
-node-number-requires c κs = check-small (looked (c .before .before .before .before .before)) (c .before .before .before .before .if1 .taken)
+node-number-requires c κs = check-small (looked (c .before .before .before .before .before .before)) (c .before .before .before .before .before .if1 .taken) .0 .target
 
 link-requires : tie.Need-link-requires
-link-requires c κs = search needs
+link-requires c κs = let S = c .before .before .before .before .before .before .before .before .before .before .before .before .before in (S .pre .1 .0 .index .long, (S .pre .1 .1, (c .before .node-number .ensures .1, c .before .before .before .before .before .before .bucket-of .ensures .1)))
 
 same-length-2 : tie.Need-same-length-2
 same-length-2 c = search needs
 
 returns-2 : tie.Need-returns-2
 returns-2 c =
-    let L = looked (c .before .before .before .before .before .before .before .before .before .before) in (
-      check-new L (c .before .before .before .before .before .before .before .before .before .if1 .taken) (c .before .before .before .before .before .before .before .find .ensures) (c .before .before .before .before .before .before .if2 .left),
-      λ _. check-linked L (c .before .before .before .before .before .before .before .before .before .if1 .taken) (c .before .before .before .before .before .before .before .find .ensures) (c .before .before .before .before .node-number .ensures .0) (c .before .before .link .ensures),
+    let L = looked (c .before .before .before .before .before .before .before .before .before .before .before) in
+    let y = c .before .before .before .before .before .before .before .before .before .before .if1 .taken in (
+      check-new L y (c .before .before .before .before .before .before .before .find .ensures) (c .before .before .before .before .before .before .if2 .left),
+      λ _. check-linked L y (c .before .before .before .before .before .before .before .find .ensures) (c .before .before .before .before .node-number .ensures .0) (c .before .before .before .before .before .before .before .before .before .bucket-of .ensures) (c .before .before .link .ensures),
     )
 
 returns-3 : tie.Need-returns-3
@@ -50,6 +54,7 @@ check-edge-spec =
     (tie.spec
     read-edge-requires
     edge-fits-requires
+    bucket-of-requires
     find-requires
     same-length
     returns

@@ -51,7 +51,7 @@ same-length : tie.Need-same-length Inv-loop μ-loop
 same-length c =
     let S = c .before .before .before .before .before .before .before .before .before .before .before .before in
     let A = S .args in
-    c .before .before .before .check-edge .kept .1 .1 .1 .1 .0 ∙ c .before .before .before .before .before .before .loop .inv .0 .good .index .long ∙ sym (ap length (S .pre .1 .1) ∙ length-replicate {A = ℕ} 3232 0)
+    c .before .before .before .check-edge .kept .1 .1 .1 .1 .0 ∙ c .before .before .before .before .before .before .loop .inv .0 .good .index .long ∙ sym (ap length (S .pre .1 .1) ∙ length-replicate {A = ℕ} 5280 0)
 
 returns-2 : tie.Need-returns-2 Inv-loop μ-loop
 returns-2 c =
@@ -63,7 +63,7 @@ same-length-2 : tie.Need-same-length-2 Inv-loop μ-loop
 same-length-2 c =
     let S = c .before .before .before .before .before .before .before in
     let A = S .args in
-    c .before .loop .inv .0 .good .index .long ∙ sym (ap length (S .pre .1 .1) ∙ length-replicate {A = ℕ} 3232 0)
+    c .before .loop .inv .0 .good .index .long ∙ sym (ap length (S .pre .1 .1) ∙ length-replicate {A = ℕ} 5280 0)
 
 returns-3 : tie.Need-returns-3 Inv-loop μ-loop
 returns-3 c =

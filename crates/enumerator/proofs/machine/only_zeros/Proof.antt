@@ -1,37 +1,37 @@
--- `only_zeros` meets its contract, with the invariant that the words from the place on are zero where all are. Assumes nothing.
-use Prim.Native.Nat.{_-_, _≤_}
-use mathlib.Core.Path.{_≡_, refl, sym, _∙_}
-use Rattle.enumerator.proofs.Holding.{zerosFrom, zeros-end, zeros-not, zeros-more}
+-- `only_zeros` meets its contract, with the invariant that nothing is gathered exactly if the words up to the place are zero. Assumes nothing.
+use Prim.Native.Nat.{_-_}
+use Rattle.enumerator.proofs.Holding.{Gathered, gathered-start, gathered-more, gathered-end}
 use native.Mathlib.Omega.{arith}
+use borrow.Author.Needs.{needs}
 use Rattle.enumerator.proofs.machine.only_zeros.Statement.{statement}
 use Rattle.enumerator.proofs.machine.only_zeros.Tie as tie
 
 abbrev Inv-loop : tie.InvT-loop
-Inv-loop words from at₀ at = (at ≤ 32000) × (zerosFrom words at ≡ zerosFrom words from)
+Inv-loop words from all₀ at₀ all at = Gathered words from at all
 
 abbrev μ-loop : tie.MeasureT-loop
-μ-loop words from at₀ at = 32000 - at
+μ-loop words from all₀ at₀ all at = 32000 - at
 
 loop-holds : tie.Need-loop-holds Inv-loop μ-loop
-loop-holds c = (c .before .pre .1, refl)
+loop-holds c = gathered-start _ _ (c .pre .1)
 
-word-requires : tie.Need-word-requires Inv-loop μ-loop
-word-requires c κs = omega (arith, c .loop-test .taken, c .before .before .before .pre .0)
+mul-all : tie.Need-mul-all Inv-loop μ-loop
+mul-all c = search needs
 
-returns : tie.Need-returns Inv-loop μ-loop
-returns c = sym (zeros-not (c .before .before .before .before .before .args .words .now) (c .before .before .before .before .before .pre .0) (c .before .before .before .loop .at) (c .before .before .loop-test .taken) (c .before .word .result) (c .before .word .ensures .0) (c .if1 .taken)) ∙ c .before .before .before .loop .inv .1
+shared-slice-read-all : tie.Need-shared-slice-read-all Inv-loop μ-loop
+shared-slice-read-all c = search needs
 
 add-at : tie.Need-add-at Inv-loop μ-loop
-add-at c = omega (arith, c .before .before .loop-test .taken)
+add-at c = search needs
 
 loop-less : tie.Need-loop-less Inv-loop μ-loop
-loop-less c = omega (arith, c .before .before .loop-test .taken)
+loop-less c = search needs
 
 loop-again : tie.Need-loop-again Inv-loop μ-loop
-loop-again c = (omega (arith, c .before .before .loop-test .taken), sym (zeros-more (c .before .before .before .before .before .args .words .now) (c .before .before .before .before .before .pre .0) (c .before .before .before .loop .at) (c .before .before .loop-test .taken) (c .before .word .result) (c .before .word .ensures .0) (c .if1 .left)) ∙ c .before .before .before .loop .inv .1)
+loop-again c = gathered-more (c .before .before .before .args .words .now) (c .before .before .before .pre .0) _ _ _ (c .before .before .loop .inv) (c .before .loop-test .taken)
 
-returns-2 : tie.Need-returns-2 Inv-loop μ-loop
-returns-2 c = sym (zeros-end (c .before .before .before .args .words .now) (c .before .before .before .pre .0) (c .before .loop .at) (c .loop-test .left)) ∙ c .before .loop .inv .1
+returns : tie.Need-returns Inv-loop μ-loop
+returns c = gathered-end (c .before .before .args .words .now) (c .before .before .pre .0) _ _ _ (c .before .loop .inv) (c .loop-test .left)
 
 pub only-zeros-spec : {M : Type 1} → statement M
 only-zeros-spec =
@@ -40,9 +40,9 @@ only-zeros-spec =
     Inv-loop
     μ-loop
     loop-holds
-    word-requires
-    returns
+    mul-all
+    shared-slice-read-all
     add-at
     loop-less
     loop-again
-    returns-2)
+    returns)

@@ -1,10 +1,10 @@
 -- `mark::mark_heads` meets its contract. The loop's invariant: the first i heads are passed. Assumes nothing.
 use borrow.Author.Needs.{needs}
 use native.Mathlib.Omega.{arith}
-use Prim.Native.Nat.{ℕ, _-_, _≤_}
-use mathlib.Core.Path.{_≡_, refl, sym, ap, _∙_}
+use Prim.Native.Nat.{_-_, _≤_}
+use mathlib.Core.Path.{_≡_, refl}
 use mathlib.Core.Logic.{⊎-elim}
-use lib.ListN.{length, length-replicate}
+use lib.ListN.{length, length-set}
 use Rattle.table.proofs.Reached.{loose-named}
 use Rattle.table.specs.Words.{loose}
 use Rattle.table_check.specs.Passed.{Passed}
@@ -14,13 +14,13 @@ use Rattle.table_check.proofs.mark.mark_heads.Statement.{statement}
 use Rattle.table_check.proofs.mark.mark_heads.Tie as tie
 
 abbrev Inv-loop : tie.InvT-loop
-Inv-loop table first n k from past marks₀ i₀ marks i = (i ≤ n) × Passed table first n k i (loose table) marks
+Inv-loop table first n k from past marks₀ i₀ marks i = (i ≤ n) × ((length marks ≡ length marks₀) × Passed table first n k i (loose table) marks)
 
 abbrev μ-loop : tie.MeasureT-loop
 μ-loop table first n k from past marks₀ i₀ marks i = n - i
 
 loop-holds : tie.Need-loop-holds Inv-loop μ-loop
-loop-holds c = (omega arith, none-yet 8192 _ refl (c .before .before .pre .1 .1 .1 .1))
+loop-holds c = (omega arith, (refl, none-yet _ (c .before .before .pre .1 .1 .1 .1)))
 
 add-r : tie.Need-add-r Inv-loop μ-loop
 add-r c = search needs
@@ -37,9 +37,8 @@ names-requires c κs = search needs
 slice-write-marks : tie.Need-slice-write-marks Inv-loop μ-loop
 slice-write-marks c =
     let S = c .before .before .before .before .before .before .before in
-    let R = room _ (S .pre .0) in
     let N = loose-named _ _ _ (tested _ _ _ _ _ (S .pre .1 .0 .0) (S .pre .1 .0 .1) (c .before .names .ensures) (c .if1 .taken)) in
-    omega (arith, N .early, R .few, c .before .before .before .before .loop .inv .1 .long)
+    omega (arith, N .early, c .before .before .before .before .loop .inv .1 .1 .long)
 
 add-i : tie.Need-add-i Inv-loop μ-loop
 add-i c = search needs
@@ -50,23 +49,23 @@ loop-less c = search needs
 loop-again : tie.Need-loop-again Inv-loop μ-loop
 loop-again c =
     let S = c .before .before .before .before .before .before .before in
-    let P = c .before .before .before .before .loop .inv .1 in
-    let R = room _ (S .pre .0) in
+    let inv = c .before .before .before .before .loop .inv in
+    let P = inv .1 .1 in
     let x = c .before .before .word .result in (
       omega arith,
       ⊎-elim
-          (λ w. rw (w .1) (head-yes P R x (c .before .before .before .loop-test .taken) (omega arith) (c .before .before .word .ensures .0) (tested _ _ _ _ _ (S .pre .1 .0 .0) (S .pre .1 .0 .1) (c .before .names .ensures) (w .0 .taken))))
-          (λ w. rw (w .1) (head-no P x (c .before .before .word .ensures .0) (tested _ _ _ _ _ (S .pre .1 .0 .0) (S .pre .1 .0 .1) (c .before .names .ensures) (w .0 .left))))
+          (λ w. (rw (w .1) (simp length-set (inv .1 .0)), rw (w .1) (head-yes P x (c .before .before .before .loop-test .taken) (omega arith) (c .before .before .word .ensures .0) (tested _ _ _ _ _ (S .pre .1 .0 .0) (S .pre .1 .0 .1) (c .before .names .ensures) (w .0 .taken)))))
+          (λ w. (rw (w .1) (inv .1 .0), rw (w .1) (head-no P x (c .before .before .word .ensures .0) (tested _ _ _ _ _ (S .pre .1 .0 .0) (S .pre .1 .0 .1) (c .before .names .ensures) (w .0 .left)))))
           (c .if1 .came),
     )
 
 same-length : tie.Need-same-length Inv-loop μ-loop
-same-length c = c .before .loop .inv .1 .long ∙ sym (ap length (c .before .before .before .before .pre .1 .1 .1 .1) ∙ length-replicate {A = ℕ} 8192 0)
+same-length c = c .before .loop .inv .1 .0
 
 returns : tie.Need-returns Inv-loop μ-loop
 returns c =
     let e : c .before .loop .i ≡ c .before .before .before .before .args .n = omega arith in
-    rw e at (c .before .loop .inv .1)
+    rw e at (c .before .loop .inv .1 .1)
 
 pub mark-heads-spec : {M : Type 1} → statement M
 mark-heads-spec =

@@ -1,77 +1,65 @@
--- `scan::scan` meets its contract. The invariant: the row and place so far are the best of the records passed. Assumes nothing.
+-- `scan::scan` meets its contract: the best of all records is the answer. Assumes nothing.
 use Rattle.table_check.proofs.Faults.{pass-accepted, pass-refused}
-use Rattle.table_check.proofs.FirstRow.{Best, best-start, best-better, best-kept}
-use Rattle.table_check.specs.Faults.{faultAt}
-use Rattle.table.specs.Words.{records}
-use Prim.Native.Nat.{_-_, _≤_}
-use mathlib.Core.Logic.{⊎-elim}
-use mathlib.Core.Path.{sym, _∙_}
-use borrow.Author.Needs.{needs}
+use mathlib.Core.Path.{refl}
 use native.Mathlib.Omega.{arith}
+use borrow.Author.Needs.{needs}
 use Rattle.table_check.proofs.scan.scan.Statement.{statement}
 use Rattle.table_check.proofs.scan.scan.Tie as tie
 
-abbrev Inv-loop : tie.InvT-loop
-Inv-loop table a symbols items edges held lengths records row₀ place₀ r₀ row place r = (r ≤ records) × Best (faultAt table) r row place
+scan-areas-requires : tie.Need-scan-areas-requires
+scan-areas-requires c κs = search needs
 
-abbrev μ-loop : tie.MeasureT-loop
-μ-loop table a symbols items edges held lengths records row₀ place₀ r₀ row place r = records - r
+scan-loose-requires : tie.Need-scan-loose-requires
+scan-loose-requires c κs =
+    let S = c .before .before .before .before .before .before .before .before .before .before in
+    let K = S .pre .0 in
+    (K .areas, ((K .lengthsLong, K .lengths), (S .pre .1, c .before .before .before .scan-areas .ensures)))
 
-loop-holds : tie.Need-loop-holds Inv-loop μ-loop
-loop-holds c = (omega arith, best-start _)
+same-length : tie.Need-same-length
+same-length c = search needs
 
-fault-requires : tie.Need-fault-requires Inv-loop μ-loop
-fault-requires c κs = (c .before .before .before .before .before .before .before .before .pre, c .loop-test .taken)
+same-length-2 : tie.Need-same-length-2
+same-length-2 c = search needs
 
-betters-requires : tie.Need-betters-requires Inv-loop μ-loop
-betters-requires c κs = search needs
+same-length-3 : tie.Need-same-length-3
+same-length-3 c = search needs
 
-add-r : tie.Need-add-r Inv-loop μ-loop
-add-r c =
-    let A = c .before .before .before .before .before .before .before .before .before .before .before .pre .areas in
-    omega (arith, c .before .before .before .loop-test .taken)
-
-loop-less : tie.Need-loop-less Inv-loop μ-loop
-loop-less c = omega (arith, c .before .before .before .loop-test .taken)
-
-loop-again : tie.Need-loop-again Inv-loop μ-loop
-loop-again c = let b = c .before .before .before .before .loop .inv .1 in (
-  omega (arith, c .before .before .before .loop-test .taken),
-  ⊎-elim
-      (λ w. rw (w .1, w .2) (best-better _ _ _ _ _ b (c .before .before .fault .ensures) (sym (c .before .betters .ensures) ∙ w .0 .taken)))
-      (λ w. rw (w .1, w .2) (best-kept _ _ _ _ _ b (c .before .before .fault .ensures) (sym (c .before .betters .ensures) ∙ w .0 .left)))
-      (c .if1 .came),
-)
-
-returns : tie.Need-returns Inv-loop μ-loop
+returns : tie.Need-returns
 returns c =
-    let A = c .before .before .before .before .before .before .before .before .before .pre .areas in
-    pass-accepted _ (omega arith) _ _ _ (omega (arith, c .before .loop-test .left, c .before .before .loop .inv .0)) (c .if2 .taken)
-    (c .before .before .loop .inv .1)
+    let A = c .before .before .before .before .before .before .before .before .before .before .before .before .before .before .before .before .before .before .before .pre .0 .areas in
+    pass-accepted _ (omega (arith, A .room, A .looseAt, A .records)) _ _ _ refl (c .if1 .taken) (c .before .before .before .before .before .before .before .before .scan-loose .ensures)
 
-cast-t16 : tie.Need-cast-t16 Inv-loop μ-loop
-cast-t16 c =
-    let A = c .before .before .before .before .before .before .before .before .before .pre .areas in
-    omega (arith, c .before .before .loop .inv .0, c .before .before .loop .inv .1 .within)
+cast-t17 : tie.Need-cast-t17
+cast-t17 c =
+    let A = c .before .before .before .before .before .before .before .before .before .before .before .before .before .before .before .before .before .before .before .before .pre .0 .areas in
+    omega (arith, A .few, A .records, c .before .before .before .before .before .before .before .before .before .scan-loose .ensures .within)
 
-returns-2 : tie.Need-returns-2 Inv-loop μ-loop
+same-length-4 : tie.Need-same-length-4
+same-length-4 c = search needs
+
+same-length-5 : tie.Need-same-length-5
+same-length-5 c = search needs
+
+same-length-6 : tie.Need-same-length-6
+same-length-6 c = search needs
+
+returns-2 : tie.Need-returns-2
 returns-2 c =
-    let A = c .before .before .before .before .before .before .before .before .before .pre .areas in
-    pass-refused _ (omega arith) _ _ _ (omega (arith, c .before .loop-test .left, c .before .before .loop .inv .0)) (c .if2 .left)
-    (c .before .before .loop .inv .1)
+    let A = c .before .before .before .before .before .before .before .before .before .before .before .before .before .before .before .before .before .before .before .before .pre .0 .areas in
+    pass-refused _ (omega (arith, A .room, A .looseAt, A .records)) _ _ _ refl (c .before .if1 .left) (c .before .before .before .before .before .before .before .before .before .scan-loose .ensures)
 
 pub scan-spec : {M : Type 1} → statement M
 scan-spec =
     tie.close
     (tie.spec
-    Inv-loop
-    μ-loop
-    loop-holds
-    fault-requires
-    betters-requires
-    add-r
-    loop-less
-    loop-again
+    scan-areas-requires
+    scan-loose-requires
+    same-length
+    same-length-2
+    same-length-3
     returns
-    cast-t16
+    cast-t17
+    same-length-4
+    same-length-5
+    same-length-6
     returns-2)

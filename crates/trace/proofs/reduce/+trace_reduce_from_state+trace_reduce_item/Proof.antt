@@ -17,10 +17,11 @@ use Rattle.state_graph.specs.States.{statesIn}
 use Rattle.state_graph.proofs.States.{next-less}
 use Rattle.trace.specs.Shifting.{shifting, itemOf}
 use Rattle.trace.specs.Holding.{zeros}
+use Rattle.trace.proofs.HoldingLaws.{flags-kept}
 use Rattle.trace.proofs.Turns.{Turn, turn-start}
 use Rattle.trace.proofs.EndsLaws.{flag-clear}
 use Rattle.trace.proofs.ReduceLaws.{fromState, onItem}
-use Rattle.trace.proofs.ReduceWords.{Known, item-owner, pair-small, part-of, part-items, item-known, state-off, state-on, state-full, state-stop, state-end, state-there, pair-le, pair-measure, found-inside, item-next, item-end, item-stop, item-none, rest-inside, not-both}
+use Rattle.trace.proofs.ReduceWords.{Known, item-owner, pair-small, pair-has-flag, part-of, part-items, item-known, state-off, state-on, state-full, state-stop, state-end, state-there, pair-le, pair-measure, found-inside, item-next, item-end, item-stop, item-none, rest-inside, not-both}
 use borrow.Fn.Kinds.{In}
 use borrow.Fn.PlainCycle.{Measures, is, falls, and}
 use Rattle.trace.proofs.reduce.trace_reduce_from_state.Reads as trace-reduce-from-state
@@ -125,9 +126,7 @@ trace-reduce-from-state-add-at t c =
 trace-reduce-from-state-flagged-requires : (t : ℕ) → trace-reduce-from-state-lts.Need-flagged-requires (trace-reduce-from-state-given t) (trace-reduce-from-state-at t) trace-reduce-from-state.Post trace-reduce-from-state-Inv-loop trace-reduce-from-state-μ-loop
 trace-reduce-from-state-flagged-requires t c κs =
     let S = c .before .before .before .before .before .before .before .before .before .before in
-    let q = pair-small (S .pre .1 .0) _ _ (S .pre .1 .1 .1 .1) in
-    let l = S .pre .1 .1 .1 .0 in
-    omega arith
+    pair-has-flag (S .pre .1 .0) _ _ (S .pre .1 .1 .1 .1) _ (S .pre .1 .1 .1 .0)
 
 trace-reduce-from-state-same-length : (t : ℕ) → trace-reduce-from-state-lts.Need-same-length (trace-reduce-from-state-given t) (trace-reduce-from-state-at t) trace-reduce-from-state.Post trace-reduce-from-state-Inv-loop trace-reduce-from-state-μ-loop
 trace-reduce-from-state-same-length t c = search needs
@@ -140,9 +139,7 @@ trace-reduce-from-state-returns t c =
 trace-reduce-from-state-slice-write-visited : (t : ℕ) → trace-reduce-from-state-lts.Need-slice-write-visited (trace-reduce-from-state-given t) (trace-reduce-from-state-at t) trace-reduce-from-state.Post trace-reduce-from-state-Inv-loop trace-reduce-from-state-μ-loop
 trace-reduce-from-state-slice-write-visited t c =
     let S = c .before .before .before .before .before .before .before .before .before .before .before .before in
-    let q = pair-small (S .pre .1 .0) _ _ (S .pre .1 .1 .1 .1) in
-    let l = S .pre .1 .1 .1 .0 in
-    omega arith
+    pair-has-flag (S .pre .1 .0) _ _ (S .pre .1 .1 .1 .1) _ (S .pre .1 .1 .1 .0)
 
 trace-reduce-from-state-add-start : (t : ℕ) → trace-reduce-from-state-lts.Need-add-start (trace-reduce-from-state-given t) (trace-reduce-from-state-at t) trace-reduce-from-state.Post trace-reduce-from-state-Inv-loop trace-reduce-from-state-μ-loop
 trace-reduce-from-state-add-start t c =
@@ -234,7 +231,7 @@ trace-reduce-from-state-trace-reduce-item-requires : (t : ℕ) → trace-reduce-
 trace-reduce-from-state-trace-reduce-item-requires t c κs =
     let S = c .before .before .before .before .before .before .before .before .before .before .before .before .before .before .before .before .before .before .before .before .before .before .before .before .before .before .before .before .before .before .before in
     let R = S .pre .1 .0 in
-    (pair-measure R (S .args .state) (S .args .nonterminal) (S .args .visited .now) _ _ _ (S .pre .1 .1 .1 .1) (S .pre .1 .1 .1 .0) (c .before .before .before .before .before .before .before .before .before .before .before .before .before .before .before .before .before .before .before .before .flagged .ensures) (c .before .before .before .before .before .before .before .before .before .before .before .before .before .before .before .before .before .before .before .if1 .left) refl (c .before .before .before .before .before .before .before .before .before .before .before .before .before .before .before .before .loop .inv .2 .left .fewer) _ (S .pre .0), (R, (c .before .before .before .before .before .before .before .before .before .before .edge-to-nonterminal .ensures .0 (c .before .before .before .before .enum-told .given .1) .good, (c .before .before .before .before .before .before .before .before .before .before .before .before .before .before .before .before .loop .inv .2 .v-len ∙ simp length-set (S .pre .1 .1 .1 .0), (S .pre .1 .1 .1 .1 .0, from-known t (c .before .before .before .before .before .before .before .before .before .before .before .before .before .before) .item)))))
+    (pair-measure R (S .args .state) (S .args .nonterminal) (S .args .visited .now) _ _ _ (S .pre .1 .1 .1 .1) (S .pre .1 .1 .1 .0) (c .before .before .before .before .before .before .before .before .before .before .before .before .before .before .before .before .before .before .before .before .flagged .ensures) (c .before .before .before .before .before .before .before .before .before .before .before .before .before .before .before .before .before .before .before .if1 .left) refl (c .before .before .before .before .before .before .before .before .before .before .before .before .before .before .before .before .loop .inv .2 .left .fewer) _ (S .pre .0), (R, (c .before .before .before .before .before .before .before .before .before .before .edge-to-nonterminal .ensures .0 (c .before .before .before .before .enum-told .given .1) .good, (flags-kept _ (S .args .visited .now) _ (c .before .before .before .before .before .before .before .before .before .before .before .before .before .before .before .before .loop .inv .2 .v-len ∙ simp length-set) (S .pre .1 .1 .1 .0), (S .pre .1 .1 .1 .1 .0, from-known t (c .before .before .before .before .before .before .before .before .before .before .before .before .before .before) .item)))))
 
 trace-reduce-from-state-enum-told-3 : (t : ℕ) → trace-reduce-from-state-lts.Need-enum-told-3 (trace-reduce-from-state-given t) (trace-reduce-from-state-at t) trace-reduce-from-state.Post trace-reduce-from-state-Inv-loop trace-reduce-from-state-μ-loop
 trace-reduce-from-state-enum-told-3 t c = search needs
@@ -375,7 +372,7 @@ trace-reduce-item-trace-reduce-from-state-requires t c κs =
     let e = c .before .before .before .before .before .before .before .before .before .word .ensures .0 in
     let w = c .before .before .before .before .before .before .before .loop .inv .0 .left .fewer in
     let m = S .pre .0 in
-    (omega arith, (R, (c .before .before .before .before .before .before .before .loop .inv .0 .good, (c .before .before .before .before .before .before .before .loop .inv .0 .v-len ∙ S .pre .1 .1 .1 .0, (rest-inside _ _ _ _ _ (rw (c .before .before .before .before .p .given .1) at (c .before .before .before .before .before .before .next .ensures)) (c .before .before .before .before .before .before .before .loop .inv .1) .0, omega arith)))))
+    (omega arith, (R, (c .before .before .before .before .before .before .before .loop .inv .0 .good, (flags-kept _ _ _ (c .before .before .before .before .before .before .before .loop .inv .0 .v-len) (S .pre .1 .1 .1 .0), (rest-inside _ _ _ _ _ (rw (c .before .before .before .before .p .given .1) at (c .before .before .before .before .before .before .next .ensures)) (c .before .before .before .before .before .before .before .loop .inv .1) .0, omega arith)))))
 
 trace-reduce-item-enum-told-3 : (t : ℕ) → trace-reduce-item-lts.Need-enum-told-3 (trace-reduce-item-given t) (trace-reduce-item-at t) trace-reduce-item.Post trace-reduce-item-Inv-loop trace-reduce-item-μ-loop
 trace-reduce-item-enum-told-3 t c = search needs

@@ -6,8 +6,8 @@ use Prim.Native.Nat.{ℕ, _-_, _<_}
 use native.Mathlib.Nat.{le-refl}
 use lib.ListN.{length, length-set}
 use Rattle.trace.specs.Holding.{Holding, zeros}
-use Rattle.trace.proofs.HoldingLaws.{done-full, full-done}
-use Rattle.trace.proofs.ShiftLaws.{Turn, pair-few, pair-known, pair-fewer, pair-new, turn-start, turn-room, turn-done, turn-small, turn-item, turn-owner-lt, turn-past, turn-followed, turn-full, turn-follow-full}
+use Rattle.trace.proofs.HoldingLaws.{flags-kept, done-full, full-done}
+use Rattle.trace.proofs.ShiftLaws.{Turn, pair-few, pair-start, pair-has-flag, pair-known, pair-fewer, pair-new, turn-start, turn-room, turn-done, turn-small, turn-item, turn-owner-lt, turn-past, turn-followed, turn-full, turn-follow-full}
 use borrow.Fn.Kinds.{In}
 use borrow.Fn.PlainCycle.{Measures, is, falls, and}
 use Rattle.trace.proofs.shift.trace_epsilon_edges.Reads as trace-epsilon-edges
@@ -57,23 +57,23 @@ trace-epsilon-edges-add-pair : (t : ℕ) → trace-epsilon-edges-lts.Need-add-pa
 trace-epsilon-edges-add-pair t c = let S = c .before .before .before .before .before .before .before in let l = pair-few (S .pre .1 .0) (S .pre .1 .1 .1 .1 .0) (S .pre .1 .1 .1 .1 .1) in omega arith
 
 trace-epsilon-edges-slice-read-if1 : (t : ℕ) → trace-epsilon-edges-lts.Need-slice-read-if1 (trace-epsilon-edges-given t) (trace-epsilon-edges-at t) trace-epsilon-edges.Post trace-epsilon-edges-Inv-loop trace-epsilon-edges-μ-loop
-trace-epsilon-edges-slice-read-if1 t c = let S = c .before .before .before .before .before .before .before .before in let l = pair-few (S .pre .1 .0) (S .pre .1 .1 .1 .1 .0) (S .pre .1 .1 .1 .1 .1) in let k = (S .pre .1 .1 .1 .0) in omega arith
+trace-epsilon-edges-slice-read-if1 t c = let S = c .before .before .before .before .before .before .before .before in let l = pair-has-flag (S .pre .1 .0) (S .pre .1 .1 .1 .1 .0) (S .pre .1 .1 .1 .1 .1) _ (S .pre .1 .1 .1 .0) in omega arith
 
 trace-epsilon-edges-returns : (t : ℕ) → trace-epsilon-edges-lts.Need-returns (trace-epsilon-edges-given t) (trace-epsilon-edges-at t) trace-epsilon-edges.Post trace-epsilon-edges-Inv-loop trace-epsilon-edges-μ-loop
 trace-epsilon-edges-returns t c = let S = c .before .before .before .before .before .before .before .before .before in
     ((λ _. (pair-known (S .pre .1 .0) (S .pre .1 .1 .1 .1 .0) (S .pre .1 .1 .1 .1 .1) (S .args .graph .now) (S .args .visited .now) (c .if1 .taken), S .pre .1 .1 .0)), ((λ e. done-full e), le-refl _))
 
 trace-epsilon-edges-slice-write-visited : (t : ℕ) → trace-epsilon-edges-lts.Need-slice-write-visited (trace-epsilon-edges-given t) (trace-epsilon-edges-at t) trace-epsilon-edges.Post trace-epsilon-edges-Inv-loop trace-epsilon-edges-μ-loop
-trace-epsilon-edges-slice-write-visited t c = let S = c .before .before .before .before .before .before .before .before .before in let l = pair-few (S .pre .1 .0) (S .pre .1 .1 .1 .1 .0) (S .pre .1 .1 .1 .1 .1) in let k = (S .pre .1 .1 .1 .0) in omega arith
+trace-epsilon-edges-slice-write-visited t c = let S = c .before .before .before .before .before .before .before .before .before in let l = pair-has-flag (S .pre .1 .0) (S .pre .1 .1 .1 .1 .0) (S .pre .1 .1 .1 .1 .1) _ (S .pre .1 .1 .1 .0) in omega arith
 
 trace-epsilon-edges-add-start : (t : ℕ) → trace-epsilon-edges-lts.Need-add-start (trace-epsilon-edges-given t) (trace-epsilon-edges-at t) trace-epsilon-edges.Post trace-epsilon-edges-Inv-loop trace-epsilon-edges-μ-loop
 trace-epsilon-edges-add-start t c = let S = c .before .before .before .before .before .before .before .before .before in let l = pair-few (S .pre .1 .0) (S .pre .1 .1 .1 .1 .0) (S .pre .1 .1 .1 .1 .1) in omega arith
 
 trace-epsilon-edges-start-requires : (t : ℕ) → trace-epsilon-edges-lts.Need-start-requires (trace-epsilon-edges-given t) (trace-epsilon-edges-at t) trace-epsilon-edges.Post trace-epsilon-edges-Inv-loop trace-epsilon-edges-μ-loop
-trace-epsilon-edges-start-requires t c κs = let S = c .before .before .before .before .before .before .before .before .before in let l = pair-few (S .pre .1 .0) (S .pre .1 .1 .1 .1 .0) (S .pre .1 .1 .1 .1 .1) in let k = S .pre .1 .0 .items .long in omega arith
+trace-epsilon-edges-start-requires t c κs = let S = c .before .before .before .before .before .before .before .before .before in let l = pair-start (S .pre .1 .0) (S .pre .1 .1 .1 .1 .0) (S .pre .1 .1 .1 .1 .1) in omega arith
 
 trace-epsilon-edges-start-requires-2 : (t : ℕ) → trace-epsilon-edges-lts.Need-start-requires-2 (trace-epsilon-edges-given t) (trace-epsilon-edges-at t) trace-epsilon-edges.Post trace-epsilon-edges-Inv-loop trace-epsilon-edges-μ-loop
-trace-epsilon-edges-start-requires-2 t c κs = let S = c .before .before .before .before .before .before .before .before .before .before in let l = pair-few (S .pre .1 .0) (S .pre .1 .1 .1 .1 .0) (S .pre .1 .1 .1 .1 .1) in let k = S .pre .1 .0 .items .long in omega arith
+trace-epsilon-edges-start-requires-2 t c κs = let S = c .before .before .before .before .before .before .before .before .before .before in let l = pair-start (S .pre .1 .0) (S .pre .1 .1 .1 .1 .0) (S .pre .1 .1 .1 .1 .1) in omega arith
 
 trace-epsilon-edges-loop-holds : (t : ℕ) → trace-epsilon-edges-lts.Need-loop-holds (trace-epsilon-edges-given t) (trace-epsilon-edges-at t) trace-epsilon-edges.Post trace-epsilon-edges-Inv-loop trace-epsilon-edges-μ-loop
 trace-epsilon-edges-loop-holds t c = let S = c .before .before .before .before .before .before .before .before .before .before .before in
@@ -126,7 +126,7 @@ trace-epsilon-edges-trace-epsilon-edges-requires t c κs = let S = c .before .be
     let e = S .pre .0 in
     let o = turn-owner-lt (S .pre .1 .0) (S .pre .1 .1 .1 .1 .0) (S .pre .1 .1 .1 .1 .1) (c .before .before .before .before .before .before .before .before .before .before .before .before .before .before .before .before .loop .inv) (c .before .before .before .before .before .before .before .before .before .before .before .before .before .before .before .loop-test .taken) _ (c .before .before .before .before .before .before .before .before .before .before .before .before .before .before .word .ensures .0) in
     let l : length (c .before .before .before .before .before .before .before .before .before .before .before .before .before .before .before .before .loop .visited) ≡ length (S .args .visited .now) = c .before .before .before .before .before .before .before .before .before .before .before .before .before .before .before .before .loop .inv .v-len ∙ simp length-set in
-    (omega arith, ((S .pre .1 .0), (c .before .before .before .before .before .before .before .before .before .before .before .epsilon-edge .ensures .0 (c .before .before .before .before .before .enum-told .given .1) .good, (l ∙ (S .pre .1 .1 .1 .0), ((S .pre .1 .1 .1 .1 .0), rw (c .before .before .before .word2 .ensures .0) o)))))
+    (omega arith, ((S .pre .1 .0), (c .before .before .before .before .before .before .before .before .before .before .before .epsilon-edge .ensures .0 (c .before .before .before .before .before .enum-told .given .1) .good, (flags-kept _ _ _ l (S .pre .1 .1 .1 .0), ((S .pre .1 .1 .1 .1 .0), rw (c .before .before .before .word2 .ensures .0) o)))))
 
 trace-epsilon-edges-enum-told-3 : (t : ℕ) → trace-epsilon-edges-lts.Need-enum-told-3 (trace-epsilon-edges-given t) (trace-epsilon-edges-at t) trace-epsilon-edges.Post trace-epsilon-edges-Inv-loop trace-epsilon-edges-μ-loop
 trace-epsilon-edges-enum-told-3 t c = search needs

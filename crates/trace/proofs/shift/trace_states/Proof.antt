@@ -5,7 +5,7 @@ use Rattle.repr.specs.Packed.{productionsIn}
 use Rattle.table.specs.Decoded.{meaning}
 use Rattle.state_graph.specs.States.{statesIn}
 use Rattle.state_graph.proofs.States.{next-less}
-use Rattle.trace.proofs.HoldingLaws.{done-full, full-done}
+use Rattle.trace.proofs.HoldingLaws.{flags-kept, done-full, full-done}
 use Rattle.trace.proofs.ShiftStates.{Rounds, rounds-start, rounds-done, rounds-inside, rounds-more, rounds-full}
 use borrow.Author.Needs.{needs}
 use Rattle.trace.proofs.shift.trace_states.Statement.{statement}
@@ -31,7 +31,7 @@ enum-known-state c = search needs
 
 trace-epsilon-edges-requires : tie.Need-trace-epsilon-edges-requires Inv-loop μ-loop
 trace-epsilon-edges-requires c κs = let S = c .before .before .before .before .before .before .before .before .before .before .before .before .before .before .before in
-    (S .pre .0, (c .before .before .before .before .before .before .before .loop .inv .good, (c .before .before .before .before .before .before .before .loop .inv .v-len ∙ S .pre .1 .1 .0 .0, (rounds-inside (c .before .before .before .before .before .before .before .loop .inv) (c .before .before .before .before .state .given .0 .0) (c .before .before .before .before .state .given .0 .1 .0) (rw (c .before .before .before .before .state .given .1) at (c .before .before .before .before .before .before .next .ensures)), S .pre .1 .1 .0 .1))))
+    (S .pre .0, (c .before .before .before .before .before .before .before .loop .inv .good, (flags-kept _ _ _ (c .before .before .before .before .before .before .before .loop .inv .v-len) (S .pre .1 .1 .0 .0), (rounds-inside (c .before .before .before .before .before .before .before .loop .inv) (c .before .before .before .before .state .given .0 .0) (c .before .before .before .before .state .given .0 .1 .0) (rw (c .before .before .before .before .state .given .1) at (c .before .before .before .before .before .before .next .ensures)), S .pre .1 .1 .0 .1))))
 
 enum-told : tie.Need-enum-told Inv-loop μ-loop
 enum-told c = search needs
@@ -50,14 +50,14 @@ same-length-3 c = c .before .before .before .before .before .before .before .bef
 
 returns : tie.Need-returns Inv-loop μ-loop
 returns c = let S = c .before .before .before .before .before .before .before .before .before .before .before .before .before .before .before .before .before .before .before .before .before .before .before .before in
-    ((λ e. full-done e), (λ _. rounds-full (c .before .before .before .before .before .before .before .before .before .before .before .before .before .before .before .before .loop .inv) (c .before .before .before .before .before .before .before .before .before .before .before .before .before .state .given .0 .0) (c .before .before .before .before .before .before .before .before .before .before .before .before .before .state .given .0 .1 .0) (rw (c .before .before .before .before .before .before .before .before .before .before .before .before .before .state .given .1) at (c .before .before .before .before .before .before .before .before .before .before .before .before .before .before .before .next .ensures)) (S .pre .1 .1 .0 .0) (c .before .before .before .before .before .before .before .before .trace-epsilon-edges .ensures .1 .0 (c .enum-told2 .given .1))))
+    ((λ e. full-done e), (λ _. rounds-full (c .before .before .before .before .before .before .before .before .before .before .before .before .before .before .before .before .loop .inv) (c .before .before .before .before .before .before .before .before .before .before .before .before .before .state .given .0 .0) (c .before .before .before .before .before .before .before .before .before .before .before .before .before .state .given .0 .1 .0) (rw (c .before .before .before .before .before .before .before .before .before .before .before .before .before .state .given .1) at (c .before .before .before .before .before .before .before .before .before .before .before .before .before .before .before .next .ensures)) (S .pre .1 .1 .0 .0 .few) (c .before .before .before .before .before .before .before .before .trace-epsilon-edges .ensures .1 .0 (c .enum-told2 .given .1))))
 
 loop-less : tie.Need-loop-less Inv-loop μ-loop
 loop-less c = next-less (c .before .before .before .before .before .before .before .before .before .before .before .before .before .before .before .before .loop .rest .low) (c .before .before .before .before .before .before .before .before .before .before .before .before .before .before .before .before .loop .rest .high) (c .before .before .before .before .before .before .before .before .before .before .before .before .before .state .given .0 .0) (c .before .before .before .before .before .before .before .before .before .before .before .before .before .state .given .0 .1 .0) (rw (c .before .before .before .before .before .before .before .before .before .before .before .before .before .state .given .1) at (c .before .before .before .before .before .before .before .before .before .before .before .before .before .before .before .next .ensures))
 
 loop-again : tie.Need-loop-again Inv-loop μ-loop
 loop-again c = let S = c .before .before .before .before .before .before .before .before .before .before .before .before .before .before .before .before .before .before .before .before .before .before .before .before in
-    rounds-more (c .before .before .before .before .before .before .before .before .before .before .before .before .before .before .before .before .loop .inv) (c .before .before .before .before .before .before .before .before .before .before .before .before .before .state .given .0 .0) (c .before .before .before .before .before .before .before .before .before .before .before .before .before .state .given .0 .1 .0) (rw (c .before .before .before .before .before .before .before .before .before .before .before .before .before .state .given .1) at (c .before .before .before .before .before .before .before .before .before .before .before .before .before .before .before .next .ensures)) (S .pre .1 .1 .0 .0) _ _ _ (c .before .before .before .before .before .before .before .before .trace-epsilon-edges .ensures .0 (c .enum-told .given .1) .0) (c .before .before .before .before .before .before .before .before .trace-epsilon-edges .ensures .0 (c .enum-told .given .1) .1) (c .before .before .before .before .before .before .before .before .trace-epsilon-edges .kept .1 .1 .1 .1 .1 .1 .1 .1 .0) (c .before .before .before .before .before .before .before .before .trace-epsilon-edges .kept .1 .1 .1 .1 .1 .1 .0) (c .before .before .before .before .before .before .before .before .trace-epsilon-edges .kept .1 .1 .1 .1 .1 .1 .1 .0)
+    rounds-more (c .before .before .before .before .before .before .before .before .before .before .before .before .before .before .before .before .loop .inv) (c .before .before .before .before .before .before .before .before .before .before .before .before .before .state .given .0 .0) (c .before .before .before .before .before .before .before .before .before .before .before .before .before .state .given .0 .1 .0) (rw (c .before .before .before .before .before .before .before .before .before .before .before .before .before .state .given .1) at (c .before .before .before .before .before .before .before .before .before .before .before .before .before .before .before .next .ensures)) (S .pre .1 .1 .0 .0 .few) _ _ _ (c .before .before .before .before .before .before .before .before .trace-epsilon-edges .ensures .0 (c .enum-told .given .1) .0) (c .before .before .before .before .before .before .before .before .trace-epsilon-edges .ensures .0 (c .enum-told .given .1) .1) (c .before .before .before .before .before .before .before .before .trace-epsilon-edges .kept .1 .1 .1 .1 .1 .1 .1 .1 .0) (c .before .before .before .before .before .before .before .before .trace-epsilon-edges .kept .1 .1 .1 .1 .1 .1 .0) (c .before .before .before .before .before .before .before .before .trace-epsilon-edges .kept .1 .1 .1 .1 .1 .1 .1 .0)
 
 enum-told-3 : tie.Need-enum-told-3 Inv-loop μ-loop
 enum-told-3 c = search needs

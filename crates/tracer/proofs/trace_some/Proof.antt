@@ -1,0 +1,36 @@
+-- `trace_some` meets its contract. Assumes nothing.
+use Rattle.table.proofs.Decoding.{fits}
+use Rattle.tracer.proofs.Codes.{arrays-all}
+use native.Mathlib.Omega.{arith}
+use borrow.Author.Needs.{needs}
+use Rattle.tracer.proofs.trace_some.Statement.{statement}
+use Rattle.tracer.proofs.trace_some.Tie as tie
+
+slice-aggregate-trace-lent : tie.Need-slice-aggregate-trace-lent
+slice-aggregate-trace-lent c = search needs
+
+slice-aggregate-trace-lent-2 : tie.Need-slice-aggregate-trace-lent-2
+slice-aggregate-trace-lent-2 c = search needs
+
+slice-aggregate-trace-lent-3 : tie.Need-slice-aggregate-trace-lent-3
+slice-aggregate-trace-lent-3 c = search needs
+
+trace-lent-requires : tie.Need-trace-lent-requires
+trace-lent-requires c κs = let S = c .before .before .before .before .before .before .before in (S .pre .0, (arrays-all _ 8192 (fits _ (S .pre .0 .accepted)) (omega arith), S .pre .1))
+
+same-length : tie.Need-same-length
+same-length c = c .before .before .before .before .before .trace-lent .kept .1 .1 .1 .1 .1 .1 .1 .0
+
+returns : tie.Need-returns
+returns c = c .before .before .before .before .before .trace-lent .ensures
+
+pub trace-some-spec : {M : Type 1} → statement M
+trace-some-spec =
+    tie.close
+    (tie.spec
+    slice-aggregate-trace-lent
+    slice-aggregate-trace-lent-2
+    slice-aggregate-trace-lent-3
+    trace-lent-requires
+    same-length
+    returns)
