@@ -76,7 +76,7 @@ uint16_t lihvemur_classify(const uint16_t *table, size_t table_words, uint16_t s
                            uint16_t *class_number, uint64_t *values, uint32_t *action_trials, uint32_t *reduce_trials, uint16_t *place);
 
 /* Which tokens of a conflict's set to report, with their classes: six words an entry at the front of `entries` (token, class, up to four own values, zeros), their number
- * behind `count` with answer 0; of the 384 words those past the entries are free. `entries` is lent 384 words, else the call is refused as one without scratch, by 11 at most. */
+ * behind `count` with answer 0; no word past the entries changes. `entries` is lent 384 words, else the call is refused as one without scratch, by 11 at most. */
 uint16_t lihvemur_choose(const uint16_t *table, size_t table_words, uint16_t state, uint16_t production, uint16_t action, uint16_t operand, uint64_t tokens,
                          uint16_t *scratch, size_t scratch_words, uint16_t *entries, size_t entry_words, size_t *count, uint16_t *place);
 

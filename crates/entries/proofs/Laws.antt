@@ -1,20 +1,21 @@
--- Classes in words, and the words with one entry more (specs/Chosen). Assumes nothing.
+-- Classes in words, the words with one entry more, and entries copied (specs/Entries). Assumes nothing.
 use mathlib.Core.Path.{_≡_, refl, sym, ap, _∙_}
-use mathlib.Core.Bool.{Bool, true, false}
-use mathlib.Core.List.{List, [], _∷_, _++_, map, map-append, append-assoc}
+use mathlib.Core.Bool.{true, false}
+use mathlib.Core.List.{List, [], _∷_, _++_, map, map-append, append-assoc, append-nil}
 use Prim.Native.Nat.{ℕ, zero, suc, _+_, _*_, _≤_, _<_}
 use native.Mathlib.Omega.{arith}
-use lib.ListN.{length, getD, take, drop, set}
-use lib.Seq.{sets, length-sets, sets-eq, length-take-le, getD-take, take-at, drop-at, getD-drop, drop-drop, take-nil, take-take, ext-getD}
+use lib.ListN.{length, getD, take, drop, set, length-append}
+use lib.Seq.{sets, length-sets, sets-eq, length-take-le, getD-take, take-at, drop-at, getD-drop, drop-drop, ext-getD}
 use lib.Dec.{eqb}
-use Rattle.repr.specs.Lists.{below}
-use Rattle.repr.proofs.Lists.{below-last, length-map-below, getD-map-below}
+use Rattle.repr.specs.Lists.{upFrom, below, joined}
+use Rattle.repr.proofs.Lists.{below-last, length-map-below, getD-map-below, joined-nil, joined-cons, joined-append}
+use Rattle.repr.proofs.Fronts.{same-part, same-word}
 use Rattle.error.specs.declared.Class.{Class}
 use Rattle.error.specs.declared.Class.the-variants.{Naive, Ambiguity, Precedence, SuggestInline, SuggestQuestion, AmbiguousReduction, InsufficientLookahead}
 use Rattle.error.specs.Numbers.{classNumber, classValues}
 use Rattle.error.specs.Choose.{Entry}
 use Rattle.entries.specs.declared.Numbered.{Numbered}
-use Rattle.entries.specs.Entries.{classWords, numberedWords, withEntry, valueCount, entryIn, entriesIn}
+use Rattle.entries.specs.Entries.{classWords, numberedWords, withEntry, valueCount, entryIn, entriesIn, entryWords}
 
 pub five : (a b c d e : ℕ) → numberedWords (record { number = a; first = b; second = c; third = d; fourth = e }) ≡ a ∷ b ∷ c ∷ d ∷ e ∷ []
 unfolding numberedWords
@@ -84,18 +85,22 @@ pub not-insufficient : false ≡ eqb (classNumber InsufficientLookahead) 0
 unfolding classNumber
 not-insufficient = refl
 
--- six stores are an entry
-pub entry-written : (ws : List ℕ) (count token : ℕ) (v : Numbered) (class : Class) → numberedWords v ≡ classWords class
-    → set (set (set (set (set (set ws (count * 6) token) (count * 6 + 1) (v .number)) (count * 6 + 2) (v .first)) (count * 6 + 3) (v .second)) (count * 6 + 4) (v .third)) (count * 6 + 5) (v .fourth)
-    ≡ withEntry ws count token class
-unfolding withEntry numberedWords
-entry-written ws count token v class e =
-    let z1 : count * 6 + 1 ≡ suc (count * 6) = omega arith in
-    let z2 : count * 6 + 2 ≡ suc (suc (count * 6)) = omega arith in
-    let z3 : count * 6 + 3 ≡ suc (suc (suc (count * 6))) = omega arith in
-    let z4 : count * 6 + 4 ≡ suc (suc (suc (suc (count * 6)))) = omega arith in
-    let z5 : count * 6 + 5 ≡ suc (suc (suc (suc (suc (count * 6))))) = omega arith in
-    rw (z1, z2, z3, z4, z5) (ap (λ (l : List ℕ). sets ws (count * 6) (token ∷ l)) e)
+-- six stores are an entry's words
+pub words-written : (ws : List ℕ) (k token : ℕ) (v : Numbered)
+    → set (set (set (set (set (set ws (k * 6) token) (k * 6 + 1) (v .number)) (k * 6 + 2) (v .first)) (k * 6 + 3) (v .second)) (k * 6 + 4) (v .third)) (k * 6 + 5) (v .fourth)
+    ≡ sets ws (k * 6) (token ∷ numberedWords v)
+unfolding numberedWords
+words-written ws k token v =
+    let z1 : k * 6 + 1 ≡ suc (k * 6) = omega arith in
+    let z2 : k * 6 + 2 ≡ suc (suc (k * 6)) = omega arith in
+    let z3 : k * 6 + 3 ≡ suc (suc (suc (k * 6))) = omega arith in
+    let z4 : k * 6 + 4 ≡ suc (suc (suc (suc (k * 6)))) = omega arith in
+    let z5 : k * 6 + 5 ≡ suc (suc (suc (suc (suc (k * 6))))) = omega arith in
+    rw (z1, z2, z3, z4, z5)
+
+pub entry-written : (ws ws′ v : List ℕ) (count token : ℕ) (class : Class) → v ≡ classWords class → ws′ ≡ sets ws (count * 6) (token ∷ v) → ws′ ≡ withEntry ws count token class
+unfolding withEntry
+entry-written ws ws′ v count token class e w = w ∙ ap (λ (l : List ℕ). sets ws (count * 6) (token ∷ l)) e
 
 -- the entry read back
 
@@ -130,20 +135,6 @@ values-read (AmbiguousReduction a b c d) rest = refl
 values-read InsufficientLookahead rest = refl
 
 -- a part of a beginning
-
-back : (a m : ℕ) (xs : List ℕ) → take m (drop a xs) ≡ drop a (take (a + m) xs)
-back zero m xs = let z : m ≡ 0 + m = omega arith in ap (λ (k : ℕ). take k xs) z
-back (suc a) m [] = take-nil m ∙ sym (ap (drop (suc a)) (take-nil (suc a + m)))
-back (suc a) m (x ∷ xs) =
-    let z : suc a + m ≡ suc (a + m) = omega arith in
-    back a m xs ∙ sym (ap (λ (k : ℕ). drop (suc a) (take k (x ∷ xs))) z)
-
-mid : (n a m : ℕ) (xs ys : List ℕ) → take n xs ≡ take n ys → a + m ≤ n → take m (drop a xs) ≡ take m (drop a ys)
-mid n a m xs ys e h =
-    back a m xs ∙ ap (drop a) (sym (take-take (a + m) n xs h) ∙ ap (take (a + m)) e ∙ take-take (a + m) n ys h) ∙ sym (back a m ys)
-
-at-front : (n j : ℕ) (xs ys : List ℕ) → take n xs ≡ take n ys → j < n → getD xs j 0 ≡ getD ys j 0
-at-front n j xs ys e h = sym (getD-take n xs j 0 h) ∙ ap (λ (l : List ℕ). getD l j 0) e ∙ getD-take n ys j 0 h
 
 few-values : (k : ℕ) → valueCount k ≤ 4
 unfolding valueCount
@@ -190,11 +181,11 @@ module _ (ws ws′ : List ℕ) (k token : ℕ) (class : Class) (long : length ws
   earlier : (i : ℕ) → i < k → entryIn ws′ i ≡ entryIn ws i
   unfolding entryIn
   earlier i h =
-      let a = at-front (k * 6) (i * 6) ws′ ws front (omega arith) in
-      let b = at-front (k * 6) (i * 6 + 1) ws′ ws front (omega arith) in
+      let a = same-word (k * 6) (i * 6) ws′ ws front (omega arith) in
+      let b = same-word (k * 6) (i * 6 + 1) ws′ ws front (omega arith) in
       let f = few-values (getD ws (i * 6 + 1) 0) in
       let v : take (valueCount (getD ws′ (i * 6 + 1) 0)) (drop (i * 6 + 2) ws′) ≡ take (valueCount (getD ws (i * 6 + 1) 0)) (drop (i * 6 + 2) ws) =
-      ap (λ (x : ℕ). take (valueCount x) (drop (i * 6 + 2) ws′)) b ∙ mid (k * 6) (i * 6 + 2) (valueCount (getD ws (i * 6 + 1) 0)) ws′ ws front (omega arith) in
+      ap (λ (x : ℕ). take (valueCount x) (drop (i * 6 + 2) ws′)) b ∙ same-part (k * 6) (i * 6 + 2) (valueCount (getD ws (i * 6 + 1) 0)) ws′ ws front (omega arith) in
       λ j. record { token = a j; class = b j; values = v j }
 
   latest : entryIn ws′ k ≡ entryOf token class
@@ -222,3 +213,79 @@ module _ (ws ws′ : List ℕ) (k token : ℕ) (class : Class) (long : length ws
           (λ i h.
           let l : i < k = rw (length-map-below (entryIn ws′) k) at h in
           getD-map-below (entryIn ws′) k i noEntry l ∙ earlier i l ∙ sym (getD-map-below (entryIn ws) k i noEntry l))
+
+-- an entry's words
+
+pub count-none : (k : ℕ) → (k ≡ 2 → ⊥) → (k ≡ 3 → ⊥) → (k ≡ 4 → ⊥) → (k ≡ 5 → ⊥) → 0 ≡ valueCount k
+unfolding valueCount
+count-none zero a b c d = refl
+count-none (suc zero) a b c d = refl
+count-none (suc (suc zero)) a b c d = absurd (a refl)
+count-none (suc (suc (suc zero))) a b c d = absurd (b refl)
+count-none (suc (suc (suc (suc zero)))) a b c d = absurd (c refl)
+count-none (suc (suc (suc (suc (suc zero))))) a b c d = absurd (d refl)
+count-none (suc (suc (suc (suc (suc (suc k)))))) a b c d = refl
+
+pub value-own : (ws : List ℕ) (at n i : ℕ) → i < n → getD ws (at + i) 0 ≡ getD (take n (drop at ws)) i 0
+value-own ws at n i h = sym (getD-take n (drop at ws) i 0 h ∙ getD-drop at ws i 0)
+
+pub value-past : (n i : ℕ) (ws : List ℕ) → n ≤ i → 0 ≡ getD (take n ws) i 0
+value-past zero i ws h = refl
+value-past (suc n) i [] h = refl
+value-past (suc n) zero (w ∷ ws) h = absurd (omega arith)
+value-past (suc n) (suc i) (w ∷ ws) h = value-past n i ws (omega arith)
+
+pub class-read : (ws : List ℕ) (k class n a b c d : ℕ) (v : List ℕ) → class ≡ getD ws (k * 6 + 1) 0 → n ≡ valueCount class
+    → a ≡ getD (take n (drop (k * 6 + 2) ws)) 0 0 → b ≡ getD (take n (drop (k * 6 + 2) ws)) 1 0 → c ≡ getD (take n (drop (k * 6 + 2) ws)) 2 0 → d ≡ getD (take n (drop (k * 6 + 2) ws)) 3 0
+    → v ≡ class ∷ a ∷ b ∷ c ∷ d ∷ [] → getD ws (k * 6) 0 ∷ v ≡ entryWords (entryIn ws k)
+unfolding entryWords entryIn
+class-read ws k class n a b c d v e en ea eb ec ed ev = rw (ev, ea, eb, ec, ed, en, e)
+
+-- so many entries' words
+
+pub entries-long : (ws : List ℕ) (n : ℕ) → length (entriesIn ws n) ≡ n
+unfolding entriesIn
+entries-long ws n = length-map-below (entryIn ws) n
+
+entries-last : (ws : List ℕ) (k : ℕ) → entriesIn ws (suc k) ≡ entriesIn ws k ++ entryIn ws k ∷ []
+unfolding entriesIn
+entries-last ws k = ap (map (entryIn ws)) (below-last k) ∙ map-append (entryIn ws) (below k) (k ∷ [])
+
+six-long : (e : Entry) → length (entryWords e) ≡ 6
+unfolding entryWords
+six-long e = refl
+
+joined-long : (es : List Entry) → length (joined entryWords es) ≡ 6 * length es
+joined-long [] = ap length (joined-nil entryWords)
+joined-long (e ∷ es) =
+    let l = joined-long es in
+    let s = six-long e in
+    let a = length-append (entryWords e) (joined entryWords es) in
+    let j = ap length (joined-cons entryWords e es) in
+    omega arith
+
+pub copied-first : (ws old : List ℕ) → old ≡ joined entryWords (entriesIn ws 0) ++ drop (6 * 0) old
+unfolding entriesIn below upFrom joined
+copied-first ws old = refl
+
+module _ (ws old to : List ℕ) (k : ℕ) (room : 6 * k + 6 ≤ length old) (long : length to ≡ length old) (e : to ≡ joined entryWords (entriesIn ws k) ++ drop (6 * k) old) where
+  so-far : length (joined entryWords (entriesIn ws k)) ≡ k * 6
+  so-far = let j = joined-long (entriesIn ws k) in let l = entries-long ws k in omega arith
+
+  one-more : joined entryWords (entriesIn ws (k + 1)) ≡ joined entryWords (entriesIn ws k) ++ entryWords (entryIn ws k)
+  one-more =
+      let z : k + 1 ≡ suc k = omega arith in
+      ap (λ (i : ℕ). joined entryWords (entriesIn ws i)) z ∙ ap (joined entryWords) (entries-last ws k)
+      ∙ joined-append entryWords (entriesIn ws k) (entryIn ws k ∷ [])
+      ∙ ap (λ (l : List ℕ). joined entryWords (entriesIn ws k) ++ l) (joined-cons entryWords (entryIn ws k) [] ∙ ap (λ (l : List ℕ). entryWords (entryIn ws k) ++ l) (joined-nil entryWords) ∙ append-nil (entryWords (entryIn ws k)))
+
+  pub copied-more : (to′ x : List ℕ) → x ≡ entryWords (entryIn ws k) → to′ ≡ sets to (k * 6) x → to′ ≡ joined entryWords (entriesIn ws (k + 1)) ++ drop (6 * (k + 1)) old
+  copied-more to′ x ex w =
+      let l : length x ≡ 6 = ap length ex ∙ six-long (entryIn ws k) in
+      let p : take (k * 6) to ≡ joined entryWords (entriesIn ws k) = ap (take (k * 6)) e ∙ take-at (joined entryWords (entriesIn ws k)) (drop (6 * k) old) (k * 6) so-far in
+      let d : drop (k * 6) to ≡ drop (6 * k) old = ap (drop (k * 6)) e ∙ drop-at (joined entryWords (entriesIn ws k)) (drop (6 * k) old) (k * 6) so-far in
+      let n : 6 * k + length x ≡ 6 * (k + 1) = omega arith in
+      let q : drop (k * 6 + length x) to ≡ drop (6 * (k + 1)) old =
+      sym (drop-drop (length x) (k * 6) to) ∙ ap (drop (length x)) d ∙ drop-drop (length x) (6 * k) old ∙ ap (λ (i : ℕ). drop i old) n in
+      let f : joined entryWords (entriesIn ws k) ++ x ≡ joined entryWords (entriesIn ws (k + 1)) = ap (λ (y : List ℕ). joined entryWords (entriesIn ws k) ++ y) ex ∙ sym one-more in
+      w ∙ sets-eq x to (k * 6) (omega arith) ∙ (λ j. p j ++ x ++ q j) ∙ ap (λ (y : List ℕ). y ++ drop (6 * (k + 1)) old) f

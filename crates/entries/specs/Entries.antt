@@ -45,3 +45,7 @@ entryIn ws k = record { token = getD ws (k * 6) 0; class = getD ws (k * 6 + 1) 0
 
 unfoldable pub entriesIn : List ℕ → ℕ → List Entry
 entriesIn ws n = map (entryIn ws) (below n)
+
+-- an entry in six words: its token, its class, its values filled up with zeros to four
+unfoldable pub entryWords : Entry → List ℕ
+entryWords e = e .token ∷ e .class ∷ getD (e .values) 0 0 ∷ getD (e .values) 1 0 ∷ getD (e .values) 2 0 ∷ getD (e .values) 3 0 ∷ []

@@ -1,12 +1,14 @@
 // Classes in words: a token with its class, as choosing (part 9 of document 01) answers it by value.
 use error::Class;
 ghost use mathlib.Core.Path.{_≡_};
-ghost use mathlib.Core.List.{[], _∷_};
-ghost use Prim.Native.Nat.{_<_};
-ghost use lib.ListN.{length};
+ghost use mathlib.Core.List.{[], _∷_, _++_};
+ghost use Prim.Native.Nat.{_*_, _≤_, _<_};
+ghost use lib.ListN.{length, getD, take, drop};
+ghost use lib.Seq.{sets};
 ghost use lib.Dec.{eqb};
 ghost use Rattle.error.specs.Numbers.{classNumber};
-ghost use Rattle.entries.specs.Entries.{classWords, numberedWords, withEntry};
+ghost use Rattle.repr.specs.Lists.{joined};
+ghost use Rattle.entries.specs.Entries.{classWords, numberedWords, withEntry, valueCount, entryIn, entriesIn, entryWords};
 
 // Document 01's number of a class.
 pub fn class_number(class: Class) -> u16
@@ -70,19 +72,80 @@ fn number_class(class: Class) -> Numbered
     }
 }
 
-// Entry `count`: the token with its class.
-pub fn write_entry(entries: &mut [u16], count: usize, token: u16, class: Class)
-    requires { ⌜ (count < 64) × (length (now entries) ≡ 384) ⌝ }
-    ensures { λ _. ⌜ now (entries .exit) ≡ withEntry (now (entries .entry)) count token class ⌝ }
+// Entry k in six words: token and class.
+fn write_words(entries: &mut [u16], k: usize, token: u16, words: Numbered)
+    requires { ⌜ (k < 64) × (384 ≤ length (now entries)) ⌝ }
+    ensures { λ _. ⌜ now (entries .exit) ≡ sets (now (entries .entry)) (k * 6) (token ∷ numberedWords words) ⌝ }
 {
-    let words = number_class(class);
-    let at = count * 6;
+    let at = k * 6;
     entries[at] = token;
     entries[at + 1] = words.number;
     entries[at + 2] = words.first;
     entries[at + 3] = words.second;
     entries[at + 4] = words.third;
     entries[at + 5] = words.fourth;
+}
+
+// Entry `count`: the token with its class.
+pub fn write_entry(entries: &mut [u16], count: usize, token: u16, class: Class)
+    requires { ⌜ (count < 64) × (length (now entries) ≡ 384) ⌝ }
+    ensures { λ _. ⌜ now (entries .exit) ≡ withEntry (now (entries .entry)) count token class ⌝ }
+{
+    let words = number_class(class);
+    write_words(entries, count, token, words);
+}
+
+// How many values a class of a number has.
+fn value_count(class: u16) -> usize
+    ensures { λ r. ⌜ r ≡ valueCount class ⌝ }
+{
+    match class {
+        2 => 1,
+        3 => 1,
+        4 => 3,
+        5 => 4,
+        _ => 0,
+    }
+}
+
+// Value i of `count` that start at word `at`, 0 past them.
+fn value_at(entries: &[u16], at: usize, count: usize, i: usize) -> u16
+    requires { ⌜ (at ≤ 380) × (i < 4) × (length (now entries) ≡ 384) ⌝ }
+    ensures { λ r. ⌜ r ≡ getD (take count (drop at (now (entries .entry)))) i 0 ⌝ }
+{
+    if i < count {
+        return entries[at + i];
+    }
+    0
+}
+
+// The class of entry k, zeros past its own values.
+fn read_class(entries: &[u16], k: usize) -> Numbered
+    requires { ⌜ (k < 64) × (length (now entries) ≡ 384) ⌝ }
+    ensures { λ r. ⌜ getD (now (entries .entry)) (k * 6) 0 ∷ numberedWords r ≡ entryWords (entryIn (now (entries .entry)) k) ⌝ }
+{
+    let at = k * 6 + 2;
+    let class = entries[k * 6 + 1];
+    let count = value_count(class);
+    let first = value_at(entries, at, count, 0);
+    let second = value_at(entries, at, count, 1);
+    let third = value_at(entries, at, count, 2);
+    let fourth = value_at(entries, at, count, 3);
+    five_words(class, first, second, third, fourth)
+}
+
+// So many entries copied to the front of `to`, six words each; no other word changes.
+pub fn copy_entries(from: &[u16], to: &mut [u16], count: usize)
+    requires { ⌜ (count ≤ 64) × (length (now from) ≡ 384) × (384 ≤ length (now to)) ⌝ }
+    ensures { λ _. ⌜ now (to .exit) ≡ joined entryWords (entriesIn (now (from .entry)) count) ++ drop (6 * count) (now (to .entry)) ⌝ }
+{
+    let mut k: usize = 0;
+    while k < count {
+        let token = from[k * 6];
+        let words = read_class(from, k);
+        write_words(to, k, token, words);
+        k += 1;
+    }
 }
 
 // Whether a class is naive.

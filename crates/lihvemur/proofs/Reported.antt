@@ -1,15 +1,17 @@
 -- The ways through the exported functions of classifying, one law each. Assumes nothing.
-use mathlib.Core.Path.{_≡_, refl, sym, ap, _∙_}
+use mathlib.Core.Path.{_≡_, refl, sym, ap, _∙_, subst}
 use mathlib.Core.Bool.{Bool, true, false}
 use mathlib.Core.List.{List, [], _∷_, _++_}
 use Prim.Native.Nat.{ℕ, zero, suc, _+_, _*_, _-_, _≤_, _<_}
 use native.Mathlib.Omega.{arith}
 use lib.ListN.{length, getD, take, drop}
-use lib.Seq.{take-all, take-append-seam, drop-append-seam}
 use lib.Dec.{leb}
 use borrow.Author.Tests.{le-leb, lt-leb}
+use Rattle.repr.specs.Lists.{keep, joined}
 use Rattle.repr.specs.Meaning.{Table}
-use Rattle.repr.proofs.Lists.{cases}
+use Rattle.repr.proofs.Lists.{cases, length-keep}
+use Rattle.lookahead.specs.Tokens.{members}
+use Rattle.lookahead.proofs.Members.{members-few}
 use Rattle.table.specs.Decoded.{meaning}
 use Rattle.table.specs.Refusals.{checkOf}
 use Rattle.table.specs.declared.Checked.{Checked}
@@ -21,12 +23,14 @@ use Rattle.error.specs.declared.Classified.{Classified}
 use Rattle.error.specs.declared.Classified.the-variants.{Class as IsClass, Refused}
 use Rattle.error.specs.Numbers.{classNumber, classValues, readingOf}
 use Rattle.error.specs.Outcome.{Outcome, outcome}
-use Rattle.error.specs.Choose.{Choice, chosen, refused, Outcome as ChoiceOutcome, outcome as choosing, setFits, setShiftsEnd, chooseIn, chooseBy, chooseOf}
+use Rattle.error.specs.Sides.{Gathered, sides, halted, gather}
+use Rattle.error.specs.Choose.{Entry, Choice, chosen, refused, Outcome as ChoiceOutcome, outcome as choosing, atToken, Entries, entries, halts, then, classesOf, isBetter, naiveOnes, choiceFrom, choiceOf, setFits, setShiftsEnd, chooseIn, chooseBy, chooseOf}
 use Rattle.error.specs.Observed.{wholeExample, observedOf}
 use Rattle.chooser.specs.declared.Chosen.{Chosen}
-use Rattle.entries.specs.Entries.{entriesIn}
+use Rattle.entries.specs.Entries.{entriesIn, entryWords}
+use Rattle.entries.proofs.Laws.{entries-long}
 use Rattle.chooser.specs.Choosing.{choiceBy, choiceIn}
-use Rattle.lihvemur.specs.Reports.{packed, classNumbers, classifiedNumbers, written, left, choiceNumbers, chosenNumbers, shortNumbers, chooseNumbers, partNumbers, partIn, observedNumbers}
+use Rattle.lihvemur.specs.Reports.{packed, classNumbers, classifiedNumbers, choiceNumbers, chosenNumbers, shortNumbers, chooseNumbers, partNumbers, partIn, observedNumbers}
 use Rattle.report.proofs.Seen.{whole-long, none-action, none-reduce, action-part, reduce-part}
 
 -- ---- a class in numbers
@@ -62,18 +66,6 @@ module _ (class values m n : ℕ) (c : Classified) (scratch action reduce : List
   classify-refused x p h = rw (sym e ∙ ap (λ (q : Classified). outcome (readingOf q) scratch action reduce) h)
 
 -- ---- choose
-front-is : (ws d : List ℕ) → length ws ≡ 384 → take 384 (take 384 ws ++ d) ≡ ws
-front-is ws d h =
-    ap (λ (l : List ℕ). take 384 (l ++ d)) (take-all 384 ws (omega arith))
-    ∙ ap (λ (k : ℕ). take k (ws ++ d)) (sym h)
-    ∙ take-append-seam ws d
-
-rest-is : (ws d : List ℕ) → length ws ≡ 384 → drop 384 (take 384 ws ++ d) ≡ d
-rest-is ws d h =
-    ap (λ (l : List ℕ). drop 384 (l ++ d)) (take-all 384 ws (omega arith))
-    ∙ ap (λ (k : ℕ). drop k (ws ++ d)) (sym h)
-    ∙ drop-append-seam ws d
-
 -- with no scratch a choice is refused
 record Refuses (o : ChoiceOutcome) : Type 0 where
   number : ℕ
@@ -100,6 +92,75 @@ module _ (c : Conflict) (tokens : ℕ) where
   unfolding chooseOf
   none-refuses t = by-refuses t (checkOf t)
 
+-- at most 64 are chosen, one a token
+abbrev FewClasses : ℕ → Entries → Type 0
+FewClasses n (entries es) = length es ≤ n
+FewClasses n (halts x) = Unit {0}
+
+abbrev Few : Choice → Type 0
+Few (chosen es) = length es ≤ 64
+Few (refused n p) = Unit {0}
+
+abbrev FewIn : ChoiceOutcome → Type 0
+FewIn (choosing x s) = Few x
+
+few-from : (action : ℕ) (es bs : List Entry) → length es ≤ 64 → length bs ≤ 64 → length (choiceFrom action es bs) ≤ 64
+unfolding choiceFrom naiveOnes
+few-from zero es [] h k = h
+few-from (suc action) [] [] h k = omega arith
+few-from (suc action) (e ∷ es) [] h k = omega arith
+few-from action es (b ∷ bs) h k = k
+
+few-choice : (action : ℕ) (R : Entries) → FewClasses 64 R → Few (choiceOf action R)
+unfolding choiceOf
+few-choice action (halts n) h = tt
+few-choice action (entries es) h = let k = length-keep isBetter es in few-from action es (keep isBetter es) h (omega arith)
+
+module _ (c : Conflict) (tokens : ℕ) where
+  few-then : (T : Table) (k n : ℕ) (G : Gathered) (R : Entries) → FewClasses n R → FewClasses (suc n) (then T c k G R)
+  unfolding then
+  few-then T k n (halted x) R h = tt
+  few-then T k n (sides xs i ys j) (halts x) h = tt
+  few-then T k n (sides xs i ys j) (entries es) h = omega arith
+
+  few-classes : (T : Table) (ks : List ℕ) → FewClasses (length ks) (classesOf T c ks)
+  unfolding classesOf
+  few-classes T [] = omega arith
+  few-classes T (k ∷ ks) = few-then T k (length ks) (gather T (atToken c k)) (classesOf T c ks) (few-classes T ks)
+
+  few-more : (m n : ℕ) (R : Entries) → m ≤ n → FewClasses m R → FewClasses n R
+  few-more m n (entries es) h k = omega arith
+  few-more m n (halts x) h k = tt
+
+  few-in : (T : Table) (w : List ℕ) → FewIn (chooseIn c tokens w T)
+  unfolding chooseIn
+  few-in T w =
+      let f = few-choice (c .action) (classesOf T c (members tokens)) (few-more (length (members tokens)) 64 (classesOf T c (members tokens)) (members-few tokens) (few-classes T (members tokens))) in
+      cases (setFits T c tokens)
+      (λ q.
+      cases (setShiftsEnd T c tokens)
+      (λ k. rw (q, k, chooseIn) tt)
+      (λ k. cases (leb 32000 (length w)) (λ l. rw (q, k, l, chooseIn) f) (λ l. rw (q, k, l, chooseIn) tt)))
+      (λ q. rw (q, chooseIn) tt)
+
+  few-by : (t w : List ℕ) (k : Checked) → FewIn (chooseBy t c tokens w k)
+  unfolding chooseBy
+  few-by t w (NotAccepted n r) = tt
+  few-by t w Accepted = few-in (meaning t) w
+
+  few-of : (t w : List ℕ) → FewIn (chooseOf t c tokens w)
+  unfolding chooseOf
+  few-of t w = few-by t w (checkOf t)
+
+few-count : (n p k : ℕ) (ws : List ℕ) → n ≡ 0 → Few (choiceBy n p k ws) → k ≤ 64
+unfolding choiceBy
+few-count zero p k ws h f = let l = entries-long ws k in omega arith
+few-count (suc n) p k ws h f = absurd (omega arith)
+
+pub choose-few : (t : List ℕ) (c : Conflict) (tokens : ℕ) (scratch : List ℕ) (r : Chosen) (last : List ℕ) → choosing (choiceIn r) last ≡ chooseOf t c tokens scratch → r .refusal ≡ 0 → r .count ≤ 64
+unfolding choiceIn
+choose-few t c tokens scratch r last e h = few-count (r .refusal) (r .place) (r .count) (r .entries) h (subst FewIn (sym e) (few-of c tokens t scratch))
+
 choice-left : (x y : Choice) (s r : List ℕ) → choosing x s ≡ choosing y r → x ≡ y
 choice-left x y s r e = cc
 
@@ -108,20 +169,20 @@ choice-right x y s r e = cc
 
 module _ (count : ℕ) (old : List ℕ) where
   by-refusal : (n p k : ℕ) (ws s : List ℕ) → (n ≡ 0 → ⊥) → choiceNumbers n p count old s ≡ chosenNumbers count old (choosing (choiceBy n p k ws) s)
-  unfolding choiceNumbers chosenNumbers choiceBy
+  unfolding chosenNumbers choiceBy
   by-refusal zero p k ws s ne = absurd (ne refl)
   by-refusal (suc n) p k ws s ne = refl
 
-  by-answer : (n p k : ℕ) (ws s : List ℕ) → n ≡ 0 → length ws ≡ 384 → (entries : List ℕ) → entries ≡ take 384 ws ++ drop 384 old → choiceNumbers 0 0 k entries s ≡ chosenNumbers count old (choosing (choiceBy n p k ws) s)
-  unfolding choiceNumbers chosenNumbers choiceBy
-  by-answer zero p k ws s h l entries e =
-      let f : take 384 entries ≡ ws = ap (λ (x : List ℕ). take 384 x) e ∙ front-is ws (drop 384 old) l in
-      let g : drop 384 entries ≡ drop 384 old = ap (λ (x : List ℕ). drop 384 x) e ∙ rest-is ws (drop 384 old) l in
-      (λ j. written 0 (entriesIn (f j) k) (g j) s)
-  by-answer (suc n) p k ws s h l entries e = absurd (omega arith)
+  by-answer : (n p k : ℕ) (ws s : List ℕ) → n ≡ 0 → (to : List ℕ) → to ≡ joined entryWords (entriesIn ws k) ++ drop (6 * k) old → choiceNumbers 0 0 k to s ≡ chosenNumbers count old (choosing (choiceBy n p k ws) s)
+  unfolding chosenNumbers choiceBy
+  by-answer zero p k ws s h to e =
+      let l : k ≡ length (entriesIn ws k) = sym (entries-long ws k) in
+      let f : to ≡ joined entryWords (entriesIn ws k) ++ drop (6 * length (entriesIn ws k)) old = e ∙ ap (λ (i : ℕ). joined entryWords (entriesIn ws k) ++ drop (6 * i) old) l in
+      (λ j. choiceNumbers 0 0 (l j) (f j) s)
+  by-answer (suc n) p k ws s h to e = absurd (omega arith)
 
   by-short : (n p k x y : ℕ) (ws s r : List ℕ) → choiceBy n p k ws ≡ refused x y → choiceNumbers n p count old s ≡ shortNumbers count old s (choosing (choiceBy n p k ws) r)
-  unfolding choiceNumbers shortNumbers choiceBy
+  unfolding shortNumbers choiceBy
   by-short zero p k x y ws s r h = let z : _≡_ {A = ℕ} 0 1 = cc in absurd (omega arith)
   by-short (suc n) p k x y ws s r h = refl
 
@@ -135,9 +196,9 @@ module _ (count : ℕ) (old : List ℕ) where
       unfolding choiceIn
       choose-refused ne p ep = ap (λ (x : ℕ). choiceNumbers (r .refusal) x count old last) ep ∙ by-refusal (r .refusal) (r .place) (r .count) (r .entries) last ne ∙ long-is
 
-      pub choose-chosen : r .refusal ≡ 0 → length (r .entries) ≡ 384 → (entries : List ℕ) → entries ≡ take 384 (r .entries) ++ drop 384 old → choiceNumbers 0 0 (r .count) entries last ≡ chooseNumbers count old t c tokens scratch
+      pub choose-chosen : r .refusal ≡ 0 → (to : List ℕ) → to ≡ joined entryWords (entriesIn (r .entries) (r .count)) ++ drop (6 * r .count) old → choiceNumbers 0 0 (r .count) to last ≡ chooseNumbers count old t c tokens scratch
       unfolding choiceIn
-      choose-chosen h l entries w = by-answer (r .refusal) (r .place) (r .count) (r .entries) last h l entries w ∙ long-is
+      choose-chosen h to w = by-answer (r .refusal) (r .place) (r .count) (r .entries) last h to w ∙ long-is
 
     pub choose-short : length old < 384 → choosing (choiceIn r) last ≡ chooseOf t c tokens [] → choiceNumbers (r .refusal) (r .place) count old (last ++ scratch) ≡ chooseNumbers count old t c tokens scratch
     unfolding chooseNumbers choiceIn

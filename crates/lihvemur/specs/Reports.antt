@@ -1,14 +1,15 @@
 -- What the exported functions of classifying answer in numbers, as in Exported. Assumes nothing: these are definitions.
 use Prim.Native.Nat.{ℕ, zero, suc, _+_, _*_}
 use mathlib.Core.Bool.{true, false}
-use mathlib.Core.List.{List, [], _∷_}
+use mathlib.Core.List.{List, [], _∷_, _++_}
 use lib.ListN.{length, take, drop}
 use lib.Dec.{leb}
+use Rattle.repr.specs.Lists.{joined}
 use Rattle.error.specs.declared.Conflict.{Conflict}
 use Rattle.error.specs.Numbers.{classed, refused}
 use Rattle.error.specs.Outcome.{Outcome, outcome}
-use Rattle.error.specs.Choose.{Entry, chosen, refused as notChosen, Outcome as ChoiceOutcome, outcome as choosing, chooseOf}
-use Rattle.entries.specs.Entries.{entriesIn}
+use Rattle.error.specs.Choose.{chosen, refused as notChosen, Outcome as ChoiceOutcome, outcome as choosing, chooseOf}
+use Rattle.entries.specs.Entries.{entryWords}
 
 -- a class's own values in one word, 16 bits each, the first lowest
 unfoldable pub packed : List ℕ → ℕ
@@ -24,24 +25,19 @@ unfoldable pub classifiedNumbers : ℕ → ℕ → ℕ → ℕ → Outcome → C
 classifiedNumbers class values m n (outcome (classed k vs a r) scratch action reduce) = classNumbers 0 0 k (packed vs) a r scratch action reduce
 classifiedNumbers class values m n (outcome (refused x p) scratch action reduce) = classNumbers x p class values m n scratch action reduce
 
--- with answer 0: place, the entries that are read in the first 384 words lent for them, the words after those, scratch words;
--- with a refusal: refusal, place, number of entries, all the words lent for them, scratch words
+-- refusal, place, number of entries, all the words lent for them, scratch words
 pub data ChoiceNumbers : Type 0 where
-  written : ℕ → List Entry → List ℕ → List ℕ → ChoiceNumbers
-  left : ℕ → ℕ → ℕ → List ℕ → List ℕ → ChoiceNumbers
+  choiceNumbers : ℕ → ℕ → ℕ → List ℕ → List ℕ → ChoiceNumbers
 
-unfoldable pub choiceNumbers : ℕ → ℕ → ℕ → List ℕ → List ℕ → ChoiceNumbers
-choiceNumbers zero place count entries scratch = written place (entriesIn (take 384 entries) count) (drop 384 entries) scratch
-choiceNumbers (suc n) place count entries scratch = left (suc n) place count entries scratch
-
+-- the entries' words at the front, the other words as they were; all as they were where the call is refused
 unfoldable pub chosenNumbers : ℕ → List ℕ → ChoiceOutcome → ChoiceNumbers
-chosenNumbers count entries (choosing (chosen es) scratch) = written 0 es (drop 384 entries) scratch
-chosenNumbers count entries (choosing (notChosen n r) scratch) = left n r count entries scratch
+chosenNumbers count entries (choosing (chosen es) scratch) = choiceNumbers 0 0 (length es) (joined entryWords es ++ drop (6 * length es) entries) scratch
+chosenNumbers count entries (choosing (notChosen n r) scratch) = choiceNumbers n r count entries scratch
 
 -- too few words for the entries: refused as with no scratch, 1 to 10 or else 11, and nothing changed
 unfoldable pub shortNumbers : ℕ → List ℕ → List ℕ → ChoiceOutcome → ChoiceNumbers
-shortNumbers count entries scratch (choosing (chosen es) s) = left 11 0 count entries scratch
-shortNumbers count entries scratch (choosing (notChosen n r) s) = left n r count entries scratch
+shortNumbers count entries scratch (choosing (chosen es) s) = choiceNumbers 11 0 count entries scratch
+shortNumbers count entries scratch (choosing (notChosen n r) s) = choiceNumbers n r count entries scratch
 
 unfoldable pub chooseNumbers : ℕ → List ℕ → List ℕ → Conflict → ℕ → List ℕ → ChoiceNumbers
 chooseNumbers count entries t c tokens scratch = elim (leb 384 (length entries)) [

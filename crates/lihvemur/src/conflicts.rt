@@ -1,5 +1,6 @@
 // Classifying, choosing and the observed symbols for C and Rust (parts 8 to 10 of document 01). A conflict passes as its five numbers.
 use entries::class_number;
+use entries::copy_entries;
 use error::Class;
 use error::Classified;
 use error::Conflict;
@@ -9,9 +10,7 @@ use report::classify;
 use report::observed;
 use repr::word;
 ghost use mathlib.Core.Path.{_≡_};
-ghost use mathlib.Core.List.{[], _∷_, _++_};
-ghost use Prim.Native.Nat.{_≤_};
-ghost use lib.ListN.{length, take, drop};
+ghost use mathlib.Core.List.{[], _∷_};
 ghost use Rattle.error.specs.Numbers.{classValues};
 ghost use Rattle.error.specs.Outcome.{classifyOf};
 ghost use Rattle.error.specs.Observed.{observedOf};
@@ -82,19 +81,7 @@ pub extern "C" fn lihvemur_classify(
     }
 }
 
-// The first words of one slice copied to the front of another.
-fn copy_words(from: &[u16], to: &mut [u16], n: usize)
-    requires { ⌜ (n ≤ length (now from)) × (n ≤ length (now to)) ⌝ }
-    ensures { λ _. ⌜ now (to .exit) ≡ take n (now (from .entry)) ++ drop n (now (to .entry)) ⌝ }
-{
-    let mut i: usize = 0;
-    while i < n {
-        to[i] = from[i];
-        i += 1;
-    }
-}
-
-// Six words an entry at the front of `entries`, which is lent at least 384 words: else the refusal that no scratch gets, 1 to 11.
+// Six words an entry at the front of `entries`, no other word changed. It is lent at least 384 words: else the refusal that no scratch gets, 1 to 11.
 #[no_mangle]
 pub extern "C" fn lihvemur_choose(
     table: &[u16],
@@ -129,8 +116,9 @@ pub extern "C" fn lihvemur_choose(
         return refusal;
     }
     let words = chosen.entries;
-    copy_words(&words, entries, 384);
-    *count = chosen.count;
+    let n = chosen.count;
+    copy_entries(&words, entries, n);
+    *count = n;
     *place = 0;
     0
 }

@@ -2,14 +2,14 @@
 use mathlib.Core.Path.{_≡_, refl, sym}
 use Prim.Native.Nat.{ℕ}
 use lib.ListN.{length}
-use Rattle.lihvemur.proofs.Reported.{choose-refused, choose-chosen, choose-short}
+use Rattle.lihvemur.proofs.Reported.{choose-refused, choose-few, choose-chosen, choose-short}
 use native.Mathlib.Omega.{arith}
 use borrow.Author.Needs.{needs}
 use Rattle.lihvemur.proofs.conflicts.lihvemur_choose.Statement.{statement}
 use Rattle.lihvemur.proofs.conflicts.lihvemur_choose.Tie as tie
 use Rattle.lihvemur.proofs.conflicts.lihvemur_choose.Reads as reads
 use Rattle.lihvemur.proofs.conflicts.lihvemur_choose.Lts as lts
-use Rattle.lihvemur.proofs.conflicts.copy_words.Reads as copy-words-reads
+use Rattle.entries.proofs.copy_entries.Reads as copy-entries-reads
 use Rattle.report.proofs.choose.Reads as choose-reads
 
 slice-relend-prefix-choose : tie.Need-slice-relend-prefix-choose
@@ -36,11 +36,14 @@ same-length-2 c = search needs
 returns-2 : tie.Need-returns-2
 returns-2 c = choose-refused _ _ _ _ _ _ (c .before .before .before .choose2 .result) _ (omega (arith, c .before .before .before .before .before .if1 .left)) (c .before .before .before .choose2 .ensures) (c .if2 .taken) _ refl
 
-slice-aggregate-copy-words : tie.Need-slice-aggregate-copy-words
-slice-aggregate-copy-words c = search needs
+slice-aggregate-copy-entries : tie.Need-slice-aggregate-copy-entries
+slice-aggregate-copy-entries c = search needs
 
-copy-words-requires : tie.Need-copy-words-requires
-copy-words-requires c κs = ((let q : _≡_ {A = ℕ} 384 (length (c .before .before .before .before .before .before .choose2 .result .entries)) = cc (slice-aggregate-copy-words (c .before)) in omega arith), omega (arith, c .before .before .before .before .before .before .before .before .if1 .left))
+copy-entries-requires : tie.Need-copy-entries-requires
+copy-entries-requires c κs =
+    let few = choose-few _ _ _ _ (c .before .before .before .before .before .before .choose2 .result) _ (c .before .before .before .before .before .before .choose2 .ensures) (c .before .before .before .if2 .left) in
+    let long : _≡_ {A = ℕ} 384 (length (c .before .before .before .before .before .before .choose2 .result .entries)) = cc (slice-aggregate-copy-entries (c .before)) in
+    (omega arith, sym long, omega (arith, c .before .before .before .before .before .before .before .before .if1 .left))
 
 same-length-3 : tie.Need-same-length-3
 same-length-3 c = search needs
@@ -49,7 +52,7 @@ same-length-4 : tie.Need-same-length-4
 same-length-4 c = search needs
 
 returns-3 : tie.Need-returns-3
-returns-3 c = choose-chosen _ _ _ _ _ _ (c .before .before .before .before .before .before .before .before .before .choose2 .result) _ (omega (arith, c .before .before .before .before .before .before .before .before .before .before .before .if1 .left)) (c .before .before .before .before .before .before .before .before .before .choose2 .ensures) (c .before .before .before .before .before .before .if2 .left) (let q : _≡_ {A = ℕ} 384 (length (c .before .before .before .before .before .before .before .before .before .choose2 .result .entries)) = cc (slice-aggregate-copy-words (c .before .before .before .before)) in sym q) _ (c .before .before .copy-words .ensures)
+returns-3 c = choose-chosen _ _ _ _ _ _ (c .before .before .before .before .before .before .before .before .before .choose2 .result) _ (omega (arith, c .before .before .before .before .before .before .before .before .before .before .before .if1 .left)) (c .before .before .before .before .before .before .before .before .before .choose2 .ensures) (c .before .before .before .before .before .before .if2 .left) _ (c .before .before .copy-entries .ensures)
 
 pub lihvemur-choose-spec : {M : Type 1} → statement M
 lihvemur-choose-spec =
@@ -63,8 +66,8 @@ lihvemur-choose-spec =
     choose-requires-2
     same-length-2
     returns-2
-    slice-aggregate-copy-words
-    copy-words-requires
+    slice-aggregate-copy-entries
+    copy-entries-requires
     same-length-3
     same-length-4
     returns-3)
