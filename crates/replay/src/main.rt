@@ -5,11 +5,20 @@
 // 7 add_edge (the edge's eight words, how many words of the graph are lent, then the words at its front);
 // 8 the next example of any listing (production, index, whether it is filtered, the set's four words, count low and high, whether it is open, how many words of graph, scratch and buffer are lent, number of graph words, whether the scratch is kept as the request before left it, the words at the graph's front, the words at the scratch's front);
 // 9 examples (production, index, whether it is filtered, the set's four words, how many words of graph, scratch and output are lent, number of numbers of the list of calls, the numbers, the words at the graph's front).
-// An answer: 0 and its numbers (of a graph: number of edges, eight words an edge), or the refusal and its place. Op 8: answer and place, count, openness, digests of scratch and buffer, the buffer's first 16 words; op 9: 0 and the number of calls, or the refusal and its place, digests of scratch and output, the output's first 24 words; scratch is sevens if it is not kept, and the buffer or output zeros. An unknown op, or one with too few further words, gets `?`; a request that is cut short or too long for the buffers ends the run.
+// 10 classify (the conflict's five words, how many words of scratch, of the action's and of the reduce's example buffer are lent);
+// 11 choose (state, production, action, operand, the set's four words, how many words of scratch are lent);
+// 12 observed (number of words of the first buffer, its words, then the second's).
+// An answer: 0 and its numbers (of a graph: number of edges, eight words an edge), or the refusal and its place. Op 8: answer and place, count, openness, digests of scratch and buffer, the buffer's first 16 words; op 9: 0 and the number of calls, or the refusal and its place, digests of scratch and output, the output's first 24 words; scratch is sevens if it is not kept, and the buffer or output zeros.
+// Op 10: 0, class, the class's own values, trials of the action and of the reduce side, or the refusal and its place; digests of scratch and both buffers; the words of each example that the class has (part 8). Op 11: 0, number of tokens chosen, six words each, or the refusal and its place; digest of scratch. Op 12: 0 and the words of the part. Scratch and buffers are sevens before. An unknown op, or one with too few further words, gets `?`; a request that is cut short or too long for the buffers ends the run.
 // The table's buffer holds one record more than document 01 accepts, so that refusal 1 for 32,772 words can be asked. Graph and scratch are as the request before left them.
+use chooser::Chosen;
+use entries::class_number;
 use enumerator::Advanced;
 use enumerator::Listing;
 use enumerator::Lookahead;
+use error::Class;
+use error::Classified;
+use error::Conflict;
 use libc::STDOUT_FILENO;
 use lister::Stepped;
 use listing::Listed;
@@ -18,6 +27,7 @@ use lookahead::TokenSet;
 use lr1::AddEdge;
 use lr1::First;
 use lr1::Walked;
+use report::observed;
 use repr::ProductionIndex;
 use repr::word;
 use state_graph::StateIndex;
@@ -462,6 +472,173 @@ fn ask_examples(table: &[u16], more: &[u16], graph: &mut [u16], scratch: &mut [u
     say_listed(answer, scratch, &output);
 }
 
+// A class and its own values, as many as it has.
+fn say_class(class: Class) {
+    say_next(class_number(class) as u64);
+    match class {
+        Class::Naive => {}
+        Class::Ambiguity => {}
+        Class::Precedence(nonterminal) => say_next(nonterminal as u64),
+        Class::SuggestInline(nonterminal) => say_next(nonterminal as u64),
+        Class::SuggestQuestion(nonterminal, kind, number) => {
+            say_next(nonterminal as u64);
+            say_next(kind as u64);
+            say_next(number as u64);
+        }
+        Class::AmbiguousReduction(start, end, other_start, other_end) => {
+            say_next(start as u64);
+            say_next(end as u64);
+            say_next(other_start as u64);
+            say_next(other_end as u64);
+        }
+        Class::InsufficientLookahead => {}
+    }
+}
+
+// An example's words, by its own counts.
+fn say_example(buffer: &[u16]) {
+    if buffer.len() >= 3 {
+        let symbols = word(buffer, 0);
+        let reductions = word(buffer, 2);
+        say_words(buffer, 3 + 2 * symbols + 3 * reductions);
+    }
+}
+
+// The examples that a class has: none if it is naive, the action's of an ambiguous reduction, else both.
+fn say_examples(class: Class, action: &[u16], reduce: &[u16]) {
+    let number = class_number(class);
+    if number != 0 {
+        say_example(action);
+        if number != 5 {
+            say_example(reduce);
+        }
+    }
+}
+
+fn say_digests(scratch: &[u16], action: &[u16], reduce: &[u16]) {
+    say_next(digest(scratch));
+    say_next(digest(action));
+    say_next(digest(reduce));
+}
+
+fn say_classified(answer: Classified, scratch: &[u16], action: &[u16], reduce: &[u16]) {
+    match answer {
+        Classified::Class(class, action_trials, reduce_trials) => {
+            io::print_decimal(STDOUT_FILENO, 0);
+            say_class(class);
+            say_next(action_trials as u64);
+            say_next(reduce_trials as u64);
+            say_digests(scratch, action, reduce);
+            say_examples(class, action, reduce);
+        }
+        Classified::Refused(refusal, place) => {
+            say_refused(refusal, place);
+            say_digests(scratch, action, reduce);
+        }
+    }
+}
+
+fn classify_lent(
+    table: &[u16],
+    conflict: Conflict,
+    scratch: &mut [u16],
+    scratch_words: usize,
+    action: &mut [u16],
+    action_words: usize,
+    reduce: &mut [u16],
+    reduce_words: usize,
+) -> Classified {
+    let s = least(scratch_words, scratch.len());
+    let a = least(action_words, action.len());
+    let r = least(reduce_words, reduce.len());
+    report::classify(
+        table,
+        conflict,
+        &mut scratch[..s],
+        &mut action[..a],
+        &mut reduce[..r],
+    )
+}
+
+// A conflict from its four words and its token.
+fn conflict_of(more: &[u16], token: u16) -> Conflict
+    requires { ⌜ 4 ≤ length (now more) ⌝ }
+{
+    Conflict {
+        state: more[0],
+        production: more[1],
+        action: more[2],
+        operand: more[3],
+        token: token,
+    }
+}
+
+// Op 10.
+fn ask_classify(table: &[u16], more: &[u16], scratch: &mut [u16]) {
+    if more.len() != 8 {
+        io::write_all(STDOUT_FILENO, b"?");
+        return;
+    }
+    let conflict = conflict_of(more, more[4]);
+    let s = word(more, 5);
+    let a = word(more, 6);
+    let r = word(more, 7);
+    let mut action = [7u16; 1160];
+    let mut reduce = [7u16; 1160];
+    fill(scratch);
+    let answer = classify_lent(table, conflict, scratch, s, &mut action, a, &mut reduce, r);
+    say_classified(answer, scratch, &action, &reduce);
+}
+
+// Six words a token chosen; there is room for 64.
+fn say_chosen(answer: Chosen, scratch: &[u16]) {
+    let refusal = answer.refusal;
+    if refusal == 0 {
+        let entries = answer.entries;
+        let count = answer.count;
+        io::print_decimal(STDOUT_FILENO, 0);
+        say_next(count as u64);
+        say_words(&entries, least(count, 64) * 6);
+    } else {
+        say_refused(refusal, answer.place);
+    }
+    say_next(digest(scratch));
+}
+
+// Op 11.
+fn ask_choose(table: &[u16], more: &[u16], scratch: &mut [u16]) {
+    if more.len() != 9 {
+        io::write_all(STDOUT_FILENO, b"?");
+        return;
+    }
+    let conflict = conflict_of(more, 0);
+    let set = set_of(&more[4..]);
+    let s = least(word(more, 8), scratch.len());
+    fill(scratch);
+    let answer = report::choose(table, conflict, TokenSet(set), &mut scratch[..s]);
+    say_chosen(answer, scratch);
+}
+
+fn say_observed<'a>(action: &'a [u16], reduce: &'a [u16]) {
+    let part = observed(action, reduce);
+    io::print_decimal(STDOUT_FILENO, 0);
+    say_words(part, part.len());
+}
+
+// Op 12.
+fn ask_observed(more: &[u16]) {
+    if more.len() < 1 {
+        io::write_all(STDOUT_FILENO, b"?");
+        return;
+    }
+    let to = 1 + word(more, 0);
+    if more.len() < to {
+        io::write_all(STDOUT_FILENO, b"?");
+        return;
+    }
+    say_observed(&more[1..to], &more[to..]);
+}
+
 fn ask(op: u16, table: &[u16], more: &[u16], graph: &mut [u16], scratch: &mut [u16]) {
     if op == 1 {
         say_checked(lr1::check(table));
@@ -481,6 +658,12 @@ fn ask(op: u16, table: &[u16], more: &[u16], graph: &mut [u16], scratch: &mut [u
         ask_advance(table, more, graph, scratch);
     } else if op == 9 {
         ask_examples(table, more, graph, scratch);
+    } else if op == 10 {
+        ask_classify(table, more, scratch);
+    } else if op == 11 {
+        ask_choose(table, more, scratch);
+    } else if op == 12 {
+        ask_observed(more);
     } else {
         io::write_all(STDOUT_FILENO, b"?");
     }

@@ -1,0 +1,72 @@
+-- `replay::classify_lent` meets its contract. Assumes nothing.
+use mathlib.Core.Path.{sym}
+use lib.Seq.{length-take-le}
+use native.Mathlib.Omega.{arith}
+use borrow.Author.Needs.{needs}
+use Rattle.replay.proofs.classify_lent.Statement.{statement}
+use Rattle.replay.proofs.classify_lent.Tie as tie
+use Rattle.replay.proofs.classify_lent.Reads as reads
+use Rattle.replay.proofs.classify_lent.Lts as lts
+use Rattle.replay.proofs.least.Reads as least-reads
+use Rattle.report.proofs.classify.Reads as classify-reads
+
+least-requires : tie.Need-least-requires
+least-requires c κs = search needs
+
+least-requires-2 : tie.Need-least-requires-2
+least-requires-2 c κs = search needs
+
+least-requires-3 : tie.Need-least-requires-3
+least-requires-3 c κs = search needs
+
+slice-relend-prefix-classify : tie.Need-slice-relend-prefix-classify
+slice-relend-prefix-classify c = search needs
+
+slice-aggregate-classify : tie.Need-slice-aggregate-classify
+slice-aggregate-classify c = sym (length-take-le _ _ (omega arith))
+
+slice-relend-prefix-classify-2 : tie.Need-slice-relend-prefix-classify-2
+slice-relend-prefix-classify-2 c = search needs
+
+slice-aggregate-classify-2 : tie.Need-slice-aggregate-classify-2
+slice-aggregate-classify-2 c = sym (length-take-le _ _ (omega arith))
+
+slice-relend-prefix-classify-3 : tie.Need-slice-relend-prefix-classify-3
+slice-relend-prefix-classify-3 c = search needs
+
+slice-aggregate-classify-3 : tie.Need-slice-aggregate-classify-3
+slice-aggregate-classify-3 c = sym (length-take-le _ _ (omega arith))
+
+classify-requires : tie.Need-classify-requires
+classify-requires c κs = search needs
+
+same-length : tie.Need-same-length
+same-length c = search needs
+
+same-length-2 : tie.Need-same-length-2
+same-length-2 c = search needs
+
+same-length-3 : tie.Need-same-length-3
+same-length-3 c = search needs
+
+returns : tie.Need-returns
+returns c = search needs
+
+pub classify-lent-spec : {M : Type 1} → statement M
+classify-lent-spec =
+    tie.close
+    (tie.spec
+    least-requires
+    least-requires-2
+    least-requires-3
+    slice-relend-prefix-classify
+    slice-aggregate-classify
+    slice-relend-prefix-classify-2
+    slice-aggregate-classify-2
+    slice-relend-prefix-classify-3
+    slice-aggregate-classify-3
+    classify-requires
+    same-length
+    same-length-2
+    same-length-3
+    returns)
