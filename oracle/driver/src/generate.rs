@@ -3,6 +3,7 @@
 
 use crate::plain::Firsts;
 use crate::question::{Case, Question};
+use crate::side::{graph_words, members};
 use crate::table::*;
 use std::collections::BTreeMap;
 
@@ -53,6 +54,9 @@ pub const KINDS: [&str; 8] = [
     "limit",
 ];
 
+/// Kinds that are no part of `all`: they take long.
+pub const ALONE: [&str; 2] = ["heavy", "most"];
+
 /// None where a seed gives nothing (an automaton too large).
 pub fn case(kind: &str, seed: u64) -> Option<Case> {
     let mut rng = Rng::new(seed ^ 0x6c61_6c72);
@@ -66,7 +70,8 @@ pub fn case(kind: &str, seed: u64) -> Option<Case> {
         "damaged" => damaged(&mut rng),
         "limit" => limit(&mut rng, seed),
         "heavy" => heavy(seed),
-        _ => panic!("kinds: {KINDS:?}"),
+        "most" => most(seed),
+        _ => panic!("kinds: {KINDS:?}, {ALONE:?}"),
     }?;
     case.name = format!("{kind} {seed} {}", case.name).trim_end().into();
     Some(case)
@@ -412,7 +417,7 @@ fn questions(rng: &mut Rng, table: &Table, conflicts: &[([u16; 4], u64)]) -> Vec
         }
     }
     for &(c, tokens) in conflicts {
-        for token in crate::side::members(tokens).take(4) {
+        for token in members(tokens).take(4) {
             let full = [c[0], c[1], c[2], c[3], token];
             out.push(Question::Classify(full));
             out.push(Question::Observed(full));
@@ -500,7 +505,7 @@ fn bent(rng: &mut Rng, seed: u64) -> Option<Case> {
 fn any_conflicts(rng: &mut Rng, table: &Table, count: usize) -> Vec<([u16; 4], u64)> {
     let mut tried = try_conflicts(rng, table, 6 * count);
     let dull = |&([a, b, c, d], tokens): &([u16; 4], u64)| {
-        let classes = crate::side::members(tokens).take(4);
+        let classes = members(tokens).take(4);
         !classes
             .filter_map(|t| crate::plain::class(table, [a, b, c, d, t]))
             .any(|class| class > 0)
@@ -662,6 +667,12 @@ fn wide(rng: &mut Rng) -> Option<Case> {
     finish(rng, &table, &conflicts)
 }
 
+/// An edge in words.
+fn edge(from: [u16; 3], to: [u16; 3], label: (u16, u16)) -> [u16; 8] {
+    let words = [&from[..], &to, &[label.0, label.1]].concat();
+    words.try_into().unwrap()
+}
+
 /// Graphs made by hand, mostly good.
 fn graphs(rng: &mut Rng) -> Option<Case> {
     let table = arbitrary_table(rng, false);
@@ -691,17 +702,14 @@ fn graphs(rng: &mut Rng) -> Option<Case> {
         for k in 0..rng.from_to(0, 14) {
             let to = if k == 0 { start } else { node(rng) };
             let (from, label) = (node(rng), item(rng));
-            let e = [
-                from[0], from[1], from[2], to[0], to[1], to[2], label[1], label[2],
-            ];
+            let e = edge(from, to, (label[1], label[2]));
             let symbols = |e: &[u16; 8]| (&table.productions[e[6] as usize].symbols, e[7]);
             let twice = (edges.iter()).any(|o| o[..6] == e[..6] && symbols(o) == symbols(&e));
             if !twice || rng.chance(60) {
                 edges.push(e);
             }
         }
-        let mut words = vec![edges.len() as u16];
-        words.extend(edges.concat());
+        let mut words = graph_words(&edges);
         if rng.chance(12) {
             let at = rng.below(words.len());
             words[at] = rng.below(20) as u16;
@@ -820,64 +828,83 @@ fn damaged(rng: &mut Rng) -> Option<Case> {
 
 // Limits and one past them.
 
+/// Seeds 0 to 6 at the limits, 7 to 13 past them, and so on; with 4 and 5 their
+/// own.
 fn limit(rng: &mut Rng, seed: u64) -> Option<Case> {
     let past = (seed / 7 % 2) as usize;
-    let mut case = match seed % 7 {
-        0 => many_edges(1_024 + past),
-        1 => many_edges(193 + past),
-        2 => many_trials(rng, 100_000 + past as u32, 5),
-        3 => many_trials(rng, 100_000 + past as u32, 0),
-        4 => deep_graph(),
-        5 => deep_trace(),
+    let mut case = match (seed % 7, past) {
+        (0, _) => many_edges(1_024 + past),
+        (1, _) => many_edges(193 + past),
+        (2, _) => many_trials(rng, 100_000 + past as u32, 5),
+        (3, _) => many_trials(rng, 100_000 + past as u32, 0),
+        (4, 0) => return deep_graph(),
+        (5, 0) => return deep_trace(),
+        (4, _) => return many_chosen(192),
+        (5, _) => return many_chosen(193),
         _ => trials_graph(rng, 100_000 + past as u32),
     }?;
-    case.name = format!(
-        "{} {}",
-        case.name,
-        if past == 1 { "(past)" } else { "(at)" }
-    );
+    case.name += [" (at)", " (past)"][past];
     Some(case)
+}
+
+/// 128 productions of one nonterminal X: X = t, and 127 of 16 X each.
+fn one_nonterminal() -> Table {
+    let mut table = empty_table(1, 1);
+    add_production(&mut table, 0, vec![(1, 0)]);
+    for _ in 1..128 {
+        add_production(&mut table, 0, vec![(0, 0); 16]);
+    }
+    table
+}
+
+/// No productions and no states.
+fn empty_table(terminals: u16, nonterminals: usize) -> Table {
+    Table {
+        terminals,
+        nonterminals: vec![vec![]; nonterminals],
+        ..Table::default()
+    }
+}
+
+/// One more production, its number.
+fn add_production(table: &mut Table, nonterminal: u16, symbols: Vec<Sym>) -> u16 {
+    let p = table.productions.len() as u16;
+    table.nonterminals[nonterminal as usize].push(p);
+    table.productions.push(Production {
+        nonterminal,
+        symbols,
+        span: (0, 0),
+    });
+    p
+}
+
+/// A state whose edges on all symbols lead to state `to`.
+fn leading_to(table: &Table, items: &[(u16, u16)], to: u16) -> State {
+    let nonterminals = (0..table.nonterminals.len() as u16).map(|n| (0, n));
+    let symbols = nonterminals.chain((0..table.terminals).map(|t| (1, t)));
+    State {
+        items: items.to_vec(),
+        edges: symbols.map(|s| (s, to)).collect(),
+    }
 }
 
 /// One state, with edges to itself; item 0 is X = (*) t, every other item
 /// shifts X behind an X, so that tracing the shift gives one edge and one more
 /// for each other item.
 fn many_edges(edges: usize) -> Option<Case> {
-    let mut table = Table {
-        terminals: 1,
-        nonterminals: vec![(0..128).collect()],
-        states: vec![State::default()],
-        ..Table::default()
-    };
-    for p in 0..128 {
-        table.productions.push(Production {
-            nonterminal: 0,
-            symbols: if p == 0 {
-                vec![(1, 0)]
-            } else {
-                vec![(0, 0); 16]
-            },
-            span: (0, 0),
-        });
-    }
-    let state = &mut table.states[0];
-    state.edges = vec![((0, 0), 0), ((1, 0), 0)];
-    state.items.push((0, 0));
-    'full: for p in 1..128 {
-        for i in 1..16 {
-            if state.items.len() == edges {
-                break 'full;
-            }
-            state.items.push((p, i));
-        }
-    }
+    let mut table = one_nonterminal();
+    let others = (1..128).flat_map(|p| (1..16).map(move |i| (p, i)));
+    table.states.push(State {
+        items: [(0, 0)]
+            .into_iter()
+            .chain(others.clone())
+            .take(edges)
+            .collect(),
+        edges: vec![((0, 0), 0), ((1, 0), 0)],
+    });
     // A graph with one edge less.
-    let full = edges - 1;
-    let items = (1..128).flat_map(|p| (1..16).map(move |i| (p, i)));
-    let mut graph = vec![full as u16];
-    for (p, i) in items.take(full) {
-        graph.extend([1, p, i, 0, 0, 0, p, i]);
-    }
+    let lent = others.map(|(p, i)| edge([1, p, i], [0, 0, 0], (p, i)));
+    let graph = graph_words(&lent.take(edges - 1).collect::<Vec<_>>());
     Some(Case {
         name: format!("{edges} edges"),
         table: table.encode(true, || 0)?,
@@ -888,6 +915,7 @@ fn many_edges(edges: usize) -> Option<Case> {
             Question::ListTrace(true, 0, (0, 1), Some(1)),
             Question::Classify([0, 0, 0, 0, 0]),
             Question::Classify([0, 0, 0, 0, 1]),
+            Question::Choose([0, 0, 0, 0], 1),
             Question::Choose([0, 0, 1, 0], 3),
             Question::Classify([0, 0, 1, 0, 0]),
             Question::Add([1, 1, 1, 0, 0, 0, 1, 1], graph.clone()),
@@ -895,6 +923,57 @@ fn many_edges(edges: usize) -> Option<Case> {
             Question::Add([1, 1, 1, 0, 0, 0, 127, 1], graph.clone()),
             Question::Add([0, 0, 0, 1, 0, 0, 0, 0], graph),
         ],
+    })
+}
+
+/// One state, with edges to itself, in which one token of a set has so many
+/// examples: token 1 for the shift of X = (*) 1, token 2 for the end of Z = 2
+/// behind which a Z follows. Every other token has one at most; Y and V are
+/// such others.
+fn many_chosen(examples: usize) -> Option<Case> {
+    let mut table = empty_table(3, 5);
+    let [x, y, z, v, w] = [0, 1, 2, 3, 4];
+    add_production(&mut table, x, vec![(1, 1)]);
+    add_production(&mut table, y, vec![(1, 0)]);
+    let ends = add_production(&mut table, z, vec![(1, 2)]);
+    let other = add_production(&mut table, v, vec![(1, 2)]);
+    let mut items = vec![(0, 0), (1, 0), (ends, 1), (other, 1)];
+    for (behind, ahead) in [(y, 1), (z, 0), (v, 0), (v, 1), (v, 2)] {
+        let symbols = vec![(1, 0), (0, behind), (1, ahead)];
+        items.push((add_production(&mut table, w, symbols), 1));
+    }
+    // Behind the last Z of a production none follows.
+    for (nt, last) in [(x, 16), (z, 15)] {
+        let mut left = examples;
+        while left > 0 {
+            let p = add_production(&mut table, w, vec![(0, nt); 16]);
+            let here = (1..last).take(left);
+            left -= here.len();
+            items.extend(here.map(|i| (p, i)));
+        }
+    }
+    let state = leading_to(&table, &items, 0);
+    table.states.push(state);
+    let mut questions = vec![];
+    for (c, tokens) in [
+        ([0, other, 0, 0], 0b011),
+        ([0, other, 0, 0], 0b101),
+        ([0, ends, 0, 0], 0b101),
+        ([0, ends, 0, 0], 0b111),
+        ([0, other, 1, ends], 0b1011),
+        ([0, other, 1, ends], 0b0101),
+        ([0, ends, 1, other], 0b1101),
+        ([0, ends, 1, ends], 0b0110),
+    ] {
+        questions.push(Question::Choose(c, tokens));
+        for t in members(tokens) {
+            questions.push(Question::Classify([c[0], c[1], c[2], c[3], t]));
+        }
+    }
+    Some(Case {
+        name: format!("{examples} examples of one token of a set"),
+        table: table.encode(true, || 0)?,
+        questions,
     })
 }
 
@@ -921,20 +1000,10 @@ fn trial_chain(trials: u32) -> Vec<(u16, Option<u16>)> {
 /// One state, with edges to itself, whose traces make so many trials; up to
 /// `examples` of the edges from nonterminal 31 come from items instead.
 fn many_trials(rng: &mut Rng, trials: u32, examples: usize) -> Option<Case> {
-    let mut table = Table {
-        terminals: 2,
-        nonterminals: vec![vec![]; 32],
-        states: vec![State::default()],
-        ..Table::default()
-    };
+    let mut table = empty_table(2, 32);
     let mut add = |nonterminal: u16, symbols: Vec<Sym>| {
-        let p = table.productions.len() as u16;
-        table.nonterminals[nonterminal as usize].push(p);
-        table.productions.push(Production {
-            nonterminal,
-            symbols,
-            span: (p, p + 1),
-        });
+        let p = add_production(&mut table, nonterminal, symbols);
+        table.productions[p as usize].span = (p, p + 1);
         p
     };
     let mut items = vec![];
@@ -953,11 +1022,8 @@ fn many_trials(rng: &mut Rng, trials: u32, examples: usize) -> Option<Case> {
     }
     add(30, vec![]);
     rng.shuffle(&mut items);
-    table.states[0].items = items;
-    table.states[0].edges = (0..32)
-        .map(|n| ((0, n), 0))
-        .chain([((1, 0), 0), ((1, 1), 0)])
-        .collect();
+    let state = leading_to(&table, &items, 0);
+    table.states.push(state);
     Some(Case {
         name: format!("{trials} trials, examples by {from_items} items"),
         table: table.encode(true, || 0)?,
@@ -970,6 +1036,8 @@ fn many_trials(rng: &mut Rng, trials: u32, examples: usize) -> Option<Case> {
             Question::ListTrace(true, 0, (0, 1), Some(2)),
             Question::Classify([0, 0, 0, 0, 0]),
             Question::Classify([0, 0, 1, 0, 1]),
+            Question::Choose([0, 0, 0, 0], 3),
+            Question::Choose([0, 0, 0, 0], 2),
             Question::Choose([0, 0, 1, 0], 7),
         ],
     })
@@ -977,19 +1045,10 @@ fn many_trials(rng: &mut Rng, trials: u32, examples: usize) -> Option<Case> {
 
 /// The same by a lent graph, with some edges from items.
 fn trials_graph(rng: &mut Rng, trials: u32) -> Option<Case> {
-    let mut table = Table {
-        terminals: 1,
-        nonterminals: vec![vec![]; 32],
-        states: vec![State::default()],
-        ..Table::default()
-    };
-    for p in 0..8u16 {
-        table.nonterminals[0].push(p);
-        table.productions.push(Production {
-            nonterminal: 0,
-            symbols: vec![(1, 0); p as usize],
-            span: (0, 0),
-        });
+    let mut table = empty_table(1, 32);
+    table.states.push(State::default());
+    for length in 0..8 {
+        add_production(&mut table, 0, vec![(1, 0); length]);
     }
     let mut edges = vec![];
     for (k, (from, to)) in trial_chain(trials).into_iter().enumerate() {
@@ -999,20 +1058,10 @@ fn trials_graph(rng: &mut Rng, trials: u32) -> Option<Case> {
             [0, from, 0]
         };
         let to = to.map_or([1, 0, 0], |to| [0, to, 0]);
-        edges.push([
-            from[0],
-            from[1],
-            from[2],
-            to[0],
-            to[1],
-            to[2],
-            k as u16 % 8,
-            0,
-        ]);
+        edges.push(edge(from, to, (k as u16 % 8, 0)));
     }
     rng.shuffle(&mut edges);
-    let mut words = vec![edges.len() as u16];
-    words.extend(edges.concat());
+    let words = graph_words(&edges);
     Some(Case {
         name: format!("{trials} trials of a lent graph"),
         table: table.encode(true, || 0)?,
@@ -1022,18 +1071,9 @@ fn trials_graph(rng: &mut Rng, trials: u32) -> Option<Case> {
 
 /// A lent graph with 33 labels of 16 symbols.
 fn deep_graph() -> Option<Case> {
-    let mut table = Table {
-        terminals: 1,
-        nonterminals: vec![vec![]; 32],
-        states: vec![State::default()],
-        ..Table::default()
-    };
-    table.nonterminals[0].push(0);
-    table.productions.push(Production {
-        nonterminal: 0,
-        symbols: vec![(1, 0); 16],
-        span: (0, 0),
-    });
+    let mut table = empty_table(1, 32);
+    table.states.push(State::default());
+    add_production(&mut table, 0, vec![(1, 0); 16]);
     let mut questions = vec![];
     for index in [0, 7, 16] {
         let mut edges = vec![[0, 0, 0, 1, 0, 16, 0, index]];
@@ -1041,8 +1081,7 @@ fn deep_graph() -> Option<Case> {
             edges.push([0, nt, 0, 0, nt - 1, 0, 0, index]);
         }
         edges.push([1, 0, 3, 0, 31, 0, 0, index]);
-        let mut words = vec![edges.len() as u16];
-        words.extend(edges.concat());
+        let words = graph_words(&edges);
         questions.push(Question::List((0, 16), None, words.clone()));
         questions.push(Question::List((0, 16), Some(1), words.clone()));
         questions.push(Question::List((0, 16), Some(2), words));
@@ -1058,21 +1097,10 @@ fn deep_graph() -> Option<Case> {
 /// unit productions lead through all nonterminals, then one behind a terminal
 /// leads to the state before.
 fn deep_trace() -> Option<Case> {
-    let mut table = Table {
-        terminals: 2,
-        nonterminals: (0..32).map(|n| vec![n]).collect(),
-        ..Table::default()
-    };
-    for nt in 0..32u16 {
-        table.productions.push(Production {
-            nonterminal: nt,
-            symbols: if nt == 0 {
-                vec![(1, 0), (0, 31)]
-            } else {
-                vec![(0, nt - 1)]
-            },
-            span: (0, 0),
-        });
+    let mut table = empty_table(2, 32);
+    add_production(&mut table, 0, vec![(1, 0), (0, 31)]);
+    for nt in 1..32 {
+        add_production(&mut table, nt, vec![(0, nt - 1)]);
     }
     let items: Vec<(u16, u16)> = (0..32).map(|p| (p, (p == 0) as u16)).collect();
     for s in 0..128u16 {
@@ -1105,22 +1133,7 @@ fn deep_trace() -> Option<Case> {
 /// largest take the Rust long.
 fn heavy(seed: u64) -> Option<Case> {
     let count = (100usize << seed.min(7)).min(7_000);
-    let mut table = Table {
-        terminals: 1,
-        nonterminals: vec![(0..128).collect()],
-        ..Table::default()
-    };
-    for p in 0..128 {
-        table.productions.push(Production {
-            nonterminal: 0,
-            symbols: if p == 0 {
-                vec![(1, 0)]
-            } else {
-                vec![(0, 0); 16]
-            },
-            span: (0, 0),
-        });
-    }
+    let mut table = one_nonterminal();
     let items: Vec<(u16, u16)> = (0..count).map(|i| (1 + (i % 127) as u16, 15)).collect();
     for s in 0..128u16 {
         let to = (s + 1) % 128;
@@ -1136,5 +1149,44 @@ fn heavy(seed: u64) -> Option<Case> {
             Question::Reduce(0, (0, 1)),
             Question::Classify([0, 0, 1, 0, 0]),
         ],
+    })
+}
+
+/// The most trials of one classification that were found: 2,000 shift items of
+/// one token, each with a listing of 81,919 to 98,302 trials and no example.
+/// The seed is the number of states, all alike (128 at most); the edges of all
+/// lead to the first. Not among `KINDS`.
+///
+/// All of 2,048 shift items would leave no place for a nonterminal in any
+/// production, and so one trial to each. Here 15 nonterminals stand in a ring:
+/// two productions of each begin with the one before, of the first three, so
+/// that the walks double at each step. The other productions have nothing but
+/// the token.
+fn most(seed: u64) -> Option<Case> {
+    let mut table = empty_table(1, 15);
+    let mut items = vec![];
+    for nt in 0..15 {
+        for copy in 0..if nt == 0 { 3 } else { 2 } {
+            let behind = vec![(1, 0); 15 - copy];
+            let symbols = [vec![(0, (nt + 14) % 15)], behind].concat();
+            let p = add_production(&mut table, nt, symbols);
+            items.push((p, 0));
+        }
+    }
+    while table.productions.len() < 128 {
+        add_production(&mut table, 14, vec![(1, 0); 16]);
+    }
+    for (p, production) in (0..).zip(&table.productions) {
+        let ahead = (0..).zip(&production.symbols).filter(|(_, s)| s.0 == 1);
+        items.extend(ahead.map(|(i, _)| (p, i)));
+    }
+    for _ in 0..seed.clamp(1, 128) {
+        let state = leading_to(&table, &items, 0);
+        table.states.push(state);
+    }
+    Some(Case {
+        name: format!("2,000 listings, {} states", table.states.len()),
+        table: table.encode(true, || 0)?,
+        questions: vec![Question::Classify([0, 0, 0, 0, 0])],
     })
 }

@@ -1,15 +1,16 @@
 //! Runs of lalrpop's published modules on document 01's words.
 
+pub mod conflicts;
 #[cfg(feature = "port")]
 pub mod costs;
 pub mod explain;
 pub mod generate;
-#[cfg(feature = "port")]
-pub mod listing_costs;
 pub mod listings;
 pub mod plain;
 #[cfg(feature = "port")]
 pub mod port;
+#[cfg(feature = "port")]
+pub mod port_side;
 pub mod question;
 pub mod rust;
 pub mod sample;
@@ -39,7 +40,7 @@ pub fn side(name: &str) -> Box<dyn side::Side> {
         "rust" => Box::new(rust::RustSide::default()),
         "plain" => Box::new(plain::PlainSide),
         #[cfg(feature = "port")]
-        "port" => Box::new(port::PortSide::default()),
+        "port" => Box::new(port_side::PortSide::default()),
         _ => panic!("no side {name}"),
     }
 }

@@ -11,7 +11,7 @@ use std::collections::BTreeSet;
 
 /// The words that the program `replay` has.
 const GRAPH: usize = 8_200;
-const SCRATCH: usize = 32_008;
+pub const SCRATCH: usize = 32_008;
 const BUFFER: usize = 2_000;
 const OUTPUT: usize = 32_008;
 /// The words that a call asks for: graph, scratch, buffer.
@@ -174,11 +174,11 @@ fn advance(
     })
 }
 
-fn digest(words: &[u16]) -> u32 {
+pub fn digest(words: &[u16]) -> u32 {
     (words.iter()).fold(1u64, |d, &w| (d * 31 + w as u64) % 65_521) as u32
 }
 
-fn wide(words: &[u16]) -> impl Iterator<Item = u32> + '_ {
+pub fn wide(words: &[u16]) -> impl Iterator<Item = u32> + '_ {
     words.iter().map(|&w| w as u32)
 }
 

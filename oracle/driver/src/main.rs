@@ -1,7 +1,7 @@
 //! The command. See README.md.
 
 use oracle::SIDES;
-use oracle::generate::{self, KINDS};
+use oracle::generate::{self, ALONE, KINDS};
 use oracle::question::{self, Question, ask, text};
 use oracle::side::{Answer, Side};
 use oracle::table::table_b;
@@ -19,8 +19,8 @@ oracle compare KIND SEED COUNT [SIDE ..] [only=VERB,..]
                                         asks all sides, or those named, the same (KIND may be all)
 oracle sample REQUESTS ANSWERS [KIND SEED COUNT]
                                         writes the stored sample of the program replay, or one of some seeds
-oracle costs                            times of the Rust and the port, if linked, in markdown
-oracle listing-costs                    times of the port's `advance`, if linked, in markdown
+oracle costs [PART ..]                  times of the Rust and the port, if linked, in markdown: the tables of docs/COSTS.md
+                                        (PART: traces, listings, conflicts; or longest, which takes long)
 sides: rust, plain, and port if linked";
 
 fn main() {
@@ -55,13 +55,8 @@ fn run(args: &[&str]) -> bool {
             sample(requests, answers, &made)
         }
         #[cfg(feature = "port")]
-        ["costs"] => {
-            oracle::costs::costs();
-            false
-        }
-        #[cfg(feature = "port")]
-        ["listing-costs"] => {
-            oracle::listing_costs::costs(&mut *oracle::side("rust"));
+        ["costs", ref parts @ ..] if parts.iter().all(|p| oracle::costs::PARTS.contains(p)) => {
+            oracle::costs::costs(parts);
             false
         }
         [] => lines("rust"),
@@ -191,21 +186,20 @@ fn marked(side: &str) -> bool {
 }
 
 fn cases(kind: &str, seed: u64, count: u64) -> impl Iterator<Item = oracle::question::Case> {
-    let kinds: Vec<String> = KINDS
-        .iter()
-        .chain(&["heavy"])
-        .filter(|k| **k == kind || kind == "all" && **k != "heavy")
-        .map(|k| k.to_string())
+    let kinds: Vec<&str> = KINDS
+        .into_iter()
+        .chain(ALONE.into_iter().filter(|_| kind != "all"))
+        .filter(|k| *k == kind || kind == "all")
         .collect();
-    assert!(!kinds.is_empty(), "kinds: all, heavy or {KINDS:?}");
+    assert!(!kinds.is_empty(), "kinds: all, {KINDS:?} or {ALONE:?}");
     kinds.into_iter().flat_map(move |k| {
         // The few kinds that are the same for many seeds are not repeated.
-        let count = match &k[..] {
+        let count = match k {
             "limit" => count.min(14),
             "classic" => count.min(480),
             _ => count,
         };
-        (seed..seed + count).filter_map(move |s| generate::case(&k, s))
+        (seed..seed + count).filter_map(move |s| generate::case(k, s))
     })
 }
 

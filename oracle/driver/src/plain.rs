@@ -461,10 +461,6 @@ fn ask(
     })
 }
 
-fn good_set(t: &Table, set: u64) -> bool {
-    members(set).all(|m| m <= t.terminals)
-}
-
 fn good_list(t: &Table, symbols: &[Sym]) -> bool {
     symbols.iter().all(|&s| t.symbol_in_range(s))
 }
@@ -473,17 +469,7 @@ fn traced(edges: Vec<[u16; 8]>) -> Result<Answer, Refusal> {
     if edges.len() > MAX_EDGES {
         return refuse(12, 0);
     }
-    let words = edges.concat();
-    Ok([
-        vec![edges.len() as u32],
-        words.iter().map(|&w| w as u32).collect(),
-    ]
-    .concat())
-}
-
-fn own_words(out: &mut Answer, own: &[u16]) {
-    out.push(own.len() as u32);
-    out.extend(own.iter().map(|&w| w as u32));
+    Ok(wide(&graph_words(&edges)).collect())
 }
 
 impl Side for PlainSide {
@@ -525,14 +511,15 @@ impl Side for PlainSide {
         })
     }
 
-    fn backtrace_shift(&mut self, table: &[u16], state: u16, item: (u16, u16)) -> Option<Answer> {
+    fn backtrace(&mut self, reduce: bool, table: &[u16], (state, item): Traced) -> Option<Answer> {
         let good = |t: &Table| (state as usize) < t.states.len() && t.item_in_range(item);
-        ask(table, good, |p| traced(p.shift(state, item)))
-    }
-
-    fn backtrace_reduce(&mut self, table: &[u16], state: u16, item: (u16, u16)) -> Option<Answer> {
-        let good = |t: &Table| (state as usize) < t.states.len() && t.item_in_range(item);
-        ask(table, good, |p| traced(p.reduce(state, item)))
+        ask(table, good, |p| {
+            traced(if reduce {
+                p.reduce(state, item)
+            } else {
+                p.shift(state, item)
+            })
+        })
     }
 
     fn add_edge(&mut self, table: &[u16], graph: &[u16], e: [u16; 8]) -> Option<Answer> {
@@ -580,7 +567,7 @@ impl Side for PlainSide {
             |p| {
                 let j = p.classify(conflict)?;
                 let mut out = vec![j.class, j.trials.0, j.trials.1];
-                own_words(&mut out, &j.own);
+                with_length(&mut out, &j.own);
                 for example in [j.action, j.reduce] {
                     let words = example.map_or(vec![], |e| e.words());
                     out.push(words.len() as u32);
@@ -625,7 +612,7 @@ impl Side for PlainSide {
                 let mut out = vec![chosen.len() as u32];
                 for (t, j) in chosen {
                     out.extend([t as u32, j.class]);
-                    own_words(&mut out, &j.own);
+                    with_length(&mut out, &j.own);
                 }
                 Ok(out)
             },

@@ -40,16 +40,12 @@ pub fn ask(side: &mut dyn Side, table: &[u16], question: &Question) -> Option<An
         Question::First0(s) => side.first0(table, s),
         Question::First1(s, l) => side.first1(table, s, *l),
         Question::Back(state, s) => side.trace_back(table, *state, s),
-        Question::Shift(state, item) => side.backtrace_shift(table, *state, *item),
-        Question::Reduce(state, item) => side.backtrace_reduce(table, *state, *item),
+        Question::Shift(state, item) => side.backtrace(false, table, (*state, *item)),
+        Question::Reduce(state, item) => side.backtrace(true, table, (*state, *item)),
         Question::Add(edge, graph) => side.add_edge(table, graph, *edge),
         Question::List(start, l, graph) => side.examples(table, graph, *start, *l),
         Question::ListTrace(reduce, state, item, l) => {
-            let traced = if *reduce {
-                side.backtrace_reduce(table, *state, *item)?
-            } else {
-                side.backtrace_shift(table, *state, *item)?
-            };
+            let traced = side.backtrace(*reduce, table, (*state, *item))?;
             if traced[0] != 0 {
                 return Some(traced);
             }

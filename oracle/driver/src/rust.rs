@@ -255,7 +255,7 @@ pub struct Listing {
 }
 
 impl<'g> Rust<'g> {
-    fn item(&self, (production, index): (u16, u16)) -> Lr0Item<'g> {
+    pub fn item(&self, (production, index): (u16, u16)) -> Lr0Item<'g> {
         Item::lr0(self.productions[production as usize], index as usize)
     }
 
@@ -267,7 +267,7 @@ impl<'g> Rust<'g> {
         }
     }
 
-    fn token_set(&self, set: u64) -> TokenSet {
+    pub fn token_set(&self, set: u64) -> TokenSet {
         let mut out = TokenSet::new();
         for t in members(set) {
             out.insert(self.token(t));
@@ -360,14 +360,15 @@ impl<'g> Rust<'g> {
         back.iter().map(|s| s.0 as u16).collect()
     }
 
-    pub fn backtrace_shift(&self, state: u16, item: (u16, u16)) -> TraceGraph<'g> {
+    /// `backtrace_reduce` if `reduce`, else `backtrace_shift`.
+    pub fn backtrace(&self, reduce: bool, (state, item): Traced) -> TraceGraph<'g> {
         let tracer = Tracer::new(&self.first_sets, &self.states);
-        tracer.backtrace_shift(StateIndex(state as usize), self.item(item))
-    }
-
-    pub fn backtrace_reduce(&self, state: u16, item: (u16, u16)) -> TraceGraph<'g> {
-        let tracer = Tracer::new(&self.first_sets, &self.states);
-        tracer.backtrace_reduce(StateIndex(state as usize), self.item(item))
+        let (state, item) = (StateIndex(state as usize), self.item(item));
+        if reduce {
+            tracer.backtrace_reduce(state, item)
+        } else {
+            tracer.backtrace_shift(state, item)
+        }
     }
 
     /// A graph's edges as words, in the order added. A label is a part of a
@@ -466,13 +467,8 @@ impl<'g> Rust<'g> {
                     };
                     assert!(!more);
                     // The Rust's own iterators give the same.
-                    let whole: Vec<Example> = match lookahead {
-                        None => graph.lr0_examples(item).collect(),
-                        Some(l) => {
-                            let item = item.with_lookahead(l);
-                            graph.lr1_examples(&self.first_sets, &item).collect()
-                        }
-                    };
+                    let mut whole = vec![];
+                    self.each_example(graph, item, lookahead.as_ref(), |e| whole.push(e));
                     assert!(whole.iter().eq(found.iter().map(|f| &f.1)));
                     return Ok(Listing {
                         found,
@@ -480,6 +476,23 @@ impl<'g> Rust<'g> {
                         ended: true,
                     });
                 }
+            }
+        }
+    }
+
+    /// The examples of an item by the Rust's own iterators.
+    pub fn each_example(
+        &self,
+        graph: &TraceGraph<'g>,
+        item: Lr0Item<'g>,
+        lookahead: Option<&TokenSet>,
+        f: impl FnMut(Example),
+    ) {
+        match lookahead {
+            None => graph.lr0_examples(item).for_each(f),
+            Some(l) => {
+                let item = item.with_lookahead(l.clone());
+                graph.lr1_examples(&self.first_sets, &item).for_each(f)
             }
         }
     }
@@ -534,7 +547,7 @@ impl<'g> Rust<'g> {
 
     fn reduce_side(&self, c: [u16; 5], p: u16) -> Result<(Vec<Example>, u32), Stop> {
         let item = (p, self.table.productions[p as usize].symbols.len() as u16);
-        let graph = self.backtrace_reduce(c[0], item);
+        let graph = self.backtrace(true, (c[0], item));
         let mut side = vec![];
         let trials = self.side_of(&graph, item, Some(1 << c[4]), &mut side)?;
         Ok((side, trials))
@@ -552,7 +565,7 @@ impl<'g> Rust<'g> {
                 let (mut side, mut trials) = (vec![], 0);
                 for item in judge.shift_items(&conflict) {
                     let item = (item.production.action.index() as u16, item.index as u16);
-                    let graph = self.backtrace_shift(c[0], item);
+                    let graph = self.backtrace(false, (c[0], item));
                     trials += self.side_of(&graph, item, None, &mut side)?;
                 }
                 (side, trials)
@@ -569,12 +582,10 @@ impl<'g> Rust<'g> {
         Ok((judge.classify(&conflict), action_trials, reduce_trials))
     }
 
-    /// Only the Rust's `classify`, for timing: its class. Ask `classify` first
-    /// whether a limit is met.
-    pub fn classify_alone(&self, c: [u16; 5]) -> Result<u16, Stop> {
-        let conflict = self.conflict(c)?;
-        let mut judge = Judge::new(self.grammar, &self.states, &[]);
-        Ok(judge.classify(&conflict).class)
+    /// The Rust's context of classifying, with FIRST in it; for timing what is
+    /// asked of it alone. Ask `classify` first whether a limit is met.
+    pub fn judge<'a>(&'a self) -> Judge<'a, 'g> {
+        Judge::new(self.grammar, &self.states, &[])
     }
 
     /// The conflicts that `report_errors` reports of one conflict with a set
@@ -724,15 +735,6 @@ pub struct RustSide {
     last: Option<(Vec<u16>, Rc<Table>, Option<Held>)>,
 }
 
-fn wide(words: &[u16]) -> impl Iterator<Item = u32> + '_ {
-    words.iter().map(|&w| w as u32)
-}
-
-fn with_length(out: &mut Answer, words: &[u16]) {
-    out.push(words.len() as u32);
-    out.extend(wide(words));
-}
-
 impl RustSide {
     /// The answer to a question about a table: refusals 1 to 8, then 9 where
     /// `good` fails, then the Rust's.
@@ -767,17 +769,11 @@ impl RustSide {
     }
 }
 
-fn good_set(table: &Table, set: u64) -> bool {
-    members(set).all(|t| t <= table.terminals)
-}
-
 fn traced(edges: Vec<[u16; 8]>) -> Result<Answer, Stop> {
     if edges.len() > MAX_EDGES {
         return refused(12);
     }
-    let mut out = vec![edges.len() as u32];
-    out.extend(wide(&edges.concat()));
-    Ok(out)
+    Ok(wide(&graph_words(&edges)).collect())
 }
 
 impl Side for RustSide {
@@ -814,20 +810,9 @@ impl Side for RustSide {
         })
     }
 
-    fn backtrace_shift(&mut self, table: &[u16], state: u16, item: (u16, u16)) -> Option<Answer> {
-        let good = |t: &Table| (state as usize) < t.states.len() && t.item_in_range(item);
-        self.ask(table, good, |r| {
-            let graph = r.backtrace_shift(state, item);
-            traced(r.edges(&graph))
-        })
-    }
-
-    fn backtrace_reduce(&mut self, table: &[u16], state: u16, item: (u16, u16)) -> Option<Answer> {
-        let good = |t: &Table| (state as usize) < t.states.len() && t.item_in_range(item);
-        self.ask(table, good, |r| {
-            let graph = r.backtrace_reduce(state, item);
-            traced(r.edges(&graph))
-        })
+    fn backtrace(&mut self, reduce: bool, table: &[u16], from: Traced) -> Option<Answer> {
+        let good = |t: &Table| (from.0 as usize) < t.states.len() && t.item_in_range(from.1);
+        self.ask(table, good, |r| traced(r.edges(&r.backtrace(reduce, from))))
     }
 
     fn add_edge(&mut self, table: &[u16], graph: &[u16], edge: [u16; 8]) -> Option<Answer> {

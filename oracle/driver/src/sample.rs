@@ -42,7 +42,7 @@ fn list(symbols: &[Sym]) -> Vec<u16> {
     symbols.iter().flat_map(|s| [s.0, s.1]).collect()
 }
 
-fn set_words(set: u64) -> Vec<u16> {
+pub fn set_words(set: u64) -> Vec<u16> {
     (0..4).map(|i| (set >> (16 * i)) as u16).collect()
 }
 
@@ -518,6 +518,7 @@ pub fn sample(side: &mut dyn Side) -> Sample {
         generated(&mut m, kind, traces);
     }
     crate::listings::listings(&mut m);
+    crate::conflicts::conflicts(&mut m);
     m.out
 }
 
@@ -525,5 +526,6 @@ pub fn sample(side: &mut dyn Side) -> Sample {
 pub fn cases(side: &mut dyn Side, kind: &str, seed: u64, count: u64) -> Sample {
     let mut m = maker(side);
     generated(&mut m, (kind, seed, count, usize::MAX), |_| true);
+    crate::conflicts::cases(&mut m, kind, seed, count);
     m.out
 }

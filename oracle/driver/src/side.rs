@@ -1,6 +1,6 @@
 //! One side of a comparison: the questions, and answers as words.
 
-use crate::table::{Refusal, Sym};
+use crate::table::{Refusal, Sym, Table, refuse};
 
 /// Answer words. First 0 for an answer, or the refusal's number and place.
 ///
@@ -9,7 +9,7 @@ use crate::table::{Refusal, Sym};
 /// | check | nothing |
 /// | first0, first1 | the tokens, ascending |
 /// | trace_back | the states, ascending |
-/// | backtrace_shift, backtrace_reduce, add_edge | number of edges, eight words an edge |
+/// | backtrace, add_edge | number of edges, eight words an edge |
 /// | examples | 1 if refused by 13 else 0, count, number of examples; of each: trial, number of words, words |
 /// | classify | class, trials of action and reduce side, number of own words, own words, then for both examples: number of words (0 for none), words |
 /// | choose | number chosen; of each: token, class, number of own words, own words |
@@ -25,6 +25,9 @@ pub const SETS: &str = "a's length, whether it has the token, whether the end; \
     of union_with b; a and b's intersection; a after take_eof and whether it had \
     the end; whether a and b are disjoint, whether they meet; the set made from \
     the token; all; eof; then a's members in order";
+
+/// The state and the item that a trace starts from.
+pub type Traced = (u16, (u16, u16));
 
 /// None: this side does not answer the question, or cannot on this input.
 pub trait Side {
@@ -43,20 +46,8 @@ pub trait Side {
     fn trace_back(&mut self, _table: &[u16], _state: u16, _symbols: &[Sym]) -> Option<Answer> {
         None
     }
-    fn backtrace_shift(
-        &mut self,
-        _table: &[u16],
-        _state: u16,
-        _item: (u16, u16),
-    ) -> Option<Answer> {
-        None
-    }
-    fn backtrace_reduce(
-        &mut self,
-        _table: &[u16],
-        _state: u16,
-        _item: (u16, u16),
-    ) -> Option<Answer> {
+    /// `backtrace_reduce` if `reduce`, else `backtrace_shift`.
+    fn backtrace(&mut self, _reduce: bool, _table: &[u16], _from: Traced) -> Option<Answer> {
         None
     }
     /// `graph` as document 01's words: a count, then eight an edge.
@@ -100,6 +91,31 @@ pub fn members(set: u64) -> impl Iterator<Item = u16> {
     (0..64).filter(move |&i| set >> i & 1 == 1)
 }
 
+/// Whether a set's tokens are in range.
+pub fn good_set(table: &Table, set: u64) -> bool {
+    members(set).all(|t| t <= table.terminals)
+}
+
+pub fn wide(words: &[u16]) -> impl Iterator<Item = u32> + '_ {
+    words.iter().map(|&w| w as u32)
+}
+
+/// The number of words, then the words.
+pub fn with_length(out: &mut Answer, words: &[u16]) {
+    out.push(words.len() as u32);
+    out.extend(wide(words));
+}
+
+/// Kind and number of each symbol.
+pub fn symbol_words(symbols: &[Sym]) -> Vec<u16> {
+    symbols.iter().flat_map(|s| [s.0, s.1]).collect()
+}
+
+/// A graph of these edges: their count, then eight words an edge.
+pub fn graph_words(edges: &[[u16; 8]]) -> Vec<u16> {
+    [&[edges.len() as u16], edges.as_flattened()].concat()
+}
+
 /// A token set as two words.
 pub fn halves(set: u64) -> [u32; 2] {
     [set as u32, (set >> 32) as u32]
@@ -111,8 +127,8 @@ pub const MAX_EXAMPLES: usize = 192;
 
 /// Refusal 9 of a lent graph: numbers out of range, an edge twice (labels by
 /// their symbols). Gives the edges.
-pub fn graph_edges(table: &crate::table::Table, graph: &[u16]) -> Result<Vec<[u16; 8]>, Refusal> {
-    let bad = crate::table::refuse(9, 0);
+pub fn graph_edges(table: &Table, graph: &[u16]) -> Result<Vec<[u16; 8]>, Refusal> {
+    let bad = refuse(9, 0);
     let count = match graph.first() {
         Some(&c) if c as usize <= MAX_EDGES && graph.len() > 8 * c as usize => c as usize,
         _ => return bad,
@@ -133,7 +149,7 @@ pub fn graph_edges(table: &crate::table::Table, graph: &[u16]) -> Result<Vec<[u1
     Ok(edges)
 }
 
-pub fn edge_in_range(table: &crate::table::Table, e: &[u16; 8]) -> bool {
+pub fn edge_in_range(table: &Table, e: &[u16; 8]) -> bool {
     let node = |w: &[u16]| match w[0] {
         0 => (w[1] as usize) < table.nonterminals.len() && w[2] == 0,
         1 => table.item_in_range((w[1], w[2])),
