@@ -1,10 +1,10 @@
 -- The ways through the functions of this crate: refusals 9 to 11, what was gathered, what was judged (error/specs/Outcome). Assumes nothing.
 use mathlib.Core.Path.{_≡_, refl, sym, ap, _∙_}
 use mathlib.Core.Bool.{Bool, true, false, _&&_}
-use mathlib.Core.List.{List}
+use mathlib.Core.List.{List, [], _++_}
 use Prim.Native.Nat.{ℕ, zero, suc, _+_, _≤_, _<_}
 use native.Mathlib.Omega.{arith}
-use lib.ListN.{length}
+use lib.ListN.{length, drop}
 use lib.Dec.{eqb, ltb, leb}
 use borrow.Author.Tests.{lt-ltb, le-ltb, le-leb, lt-leb, eq-eqb, ne-eqb}
 use Rattle.repr.specs.Meaning.{Production, Table}
@@ -26,6 +26,8 @@ use Rattle.error.specs.Outcome.{Outcome, outcome, zeroed, operandFits, placeFit
 use Rattle.gather.specs.declared.Gathered.{Gathered as GatheredValue}
 use Rattle.gather.specs.declared.Gathered.the-variants.{Sides, Halted}
 use Rattle.gather.specs.Answers.{gatheredIn, GatherOutcome, both, KeptBoth}
+use Rattle.gather.proofs.Both.{zeroed-twice}
+use Rattle.enumerator.specs.Words.{wordsOf}
 use Rattle.classifier.specs.Ranges.{operandIn}
 use Rattle.judge.specs.Judging.{Judgement, judgedWords, shownOf}
 
@@ -135,6 +137,14 @@ module _ (T : Table) (c : Conflict) (w₀ action reduce : List ℕ) (r : Gathere
       let y : action′ ≡ shown (T .productions) (J .action) action = cc in
       let z : reduce′ ≡ shown (T .productions) (J .reduce) reduce = cc in
       (λ i. outcome (classed (classNumber (x i)) (classValues (x i)) m l) (v i) (y i) (z i)) ∙ ap (gatheredOutcome T c w₀ action reduce) e
+
+-- over words that were zeroed before
+pub gathered-again : (T : Table) (c : Conflict) (w₀ w action reduce : List ℕ) (G : Gathered) → w ≡ wordsOf [] ++ drop 32000 w₀ → gatheredOutcome T c w action reduce G ≡ gatheredOutcome T c w₀ action reduce G
+unfolding gatheredOutcome judgedOutcome
+gathered-again T c w₀ w action reduce (halted n) e = ap (λ (l : List ℕ). outcome (refused n 0) l action reduce) (zeroed-twice w₀ w e)
+gathered-again T c w₀ w action reduce (sides as′ m rs n) e =
+    let j = judged T c as′ rs in
+    ap (λ (l : List ℕ). outcome (classed (classNumber (j .class)) (classValues (j .class)) m n) l (shown (T .productions) (j .action) action) (shown (T .productions) (j .reduce) reduce)) (zeroed-twice w₀ w e)
 
 -- the whole
 

@@ -1,4 +1,5 @@
 // Classifying a conflict (`classify` of lr1/error/mod.rs) over an accepted table: part 8 of document 01.
+use enumerator::machine::clear;
 use error::Classified;
 use error::Conflict;
 use first::FirstSets;
@@ -9,17 +10,17 @@ use table::Checked;
 use table::read_counts;
 use table::read_productions;
 ghost use mathlib.Core.Path.{_≡_};
-ghost use mathlib.Core.Bool.{Bool, true, false, _&&_};
-ghost use mathlib.Core.List.{List};
-ghost use Prim.Native.Nat.{ℕ, _+_, _*_, _≤_, _<_};
-ghost use lib.ListN.{length, getD};
+ghost use mathlib.Core.Bool.{true, false, _&&_};
+ghost use Prim.Native.Nat.{_≤_, _<_};
+ghost use lib.ListN.{length};
 ghost use lib.Dec.{eqb};
 ghost use Rattle.table.specs.Decoded.{meaning};
 ghost use Rattle.table.specs.Refusals.{checkOf};
 ghost use Rattle.error.specs.Numbers.{readingOf};
 ghost use Rattle.error.specs.Sides.{gather};
 ghost use Rattle.error.specs.Kept.{Read};
-ghost use Rattle.error.specs.Outcome.{outcome, operandFits, placeFits, conflictFits, shiftsEnd, gatheredOutcome, classifyIn};
+ghost use Rattle.error.specs.Outcome.{outcome, placeFits, conflictFits, gatheredOutcome, classifyIn};
+ghost use Rattle.gather.specs.Listing.{Clear};
 ghost use Rattle.classifier.specs.Ranges.{operandIn};
 
 // The action's terminal or production in range: part of refusal 9.
@@ -83,7 +84,7 @@ pub fn classify_gathered(
 ) -> Classified
     requires { ⌜ Read (now table) (now grammar) productions n terminals (now map) ⌝ }
     requires { ⌜ conflictFits (meaning (now table)) conflict ≡ true ⌝ }
-    requires { ⌜ (32000 ≤ length (now scratch)) × ((1158 ≤ length (now action)) × (1158 ≤ length (now reduce))) ⌝ }
+    requires { ⌜ Clear (now scratch) × ((1158 ≤ length (now action)) × (1158 ≤ length (now reduce))) ⌝ }
     ensures { λ r. ⌜ outcome (readingOf r) (now (scratch .exit)) (now (action .exit)) (now (reduce .exit)) ≡ gatheredOutcome (meaning (now (table .entry))) conflict (now (scratch .entry)) (now (action .entry)) (now (reduce .entry)) (gather (meaning (now (table .entry))) conflict) ⌝ }
 {
     let mut actions = [0u16; 6528];
@@ -142,6 +143,7 @@ fn classify_read(
     read_productions(table, &mut grammar);
     let sets = FirstSets::new(&grammar, productions, terminals);
     let map = sets.map;
+    clear(scratch);
     classify_gathered(
         table,
         &grammar,

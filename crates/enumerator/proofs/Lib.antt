@@ -29,5 +29,6 @@ pub mod Sizes
 pub mod Marked
 pub mod StackWords
 pub mod Stepping
+pub mod Counting
 pub mod Holding
 pub mod Following

@@ -27,7 +27,7 @@ use Rattle.enumerator.proofs.Nodes.{same-eq}
 use Rattle.enumerator.proofs.Edges.{edges-count, source-at, target-at}
 use Rattle.enumerator.proofs.Steps.{below-lt, back-end, back-some, back-none, seek-some, seek-none, used-end, used-item, used-in, next-first, next-item, next-on, next-in}
 use Rattle.enumerator.proofs.Linked.{latest, older}
-use Rattle.enumerator.proofs.StackWords.{words-head, stack-once, stack-depth, stack-long, empty, top-words, top-depth, top-short, under-within, under-read, stack-more, upper, upper-below, upper-stack, upper-is}
+use Rattle.enumerator.proofs.StackWords.{words-head, stack-once, stack-depth, stack-long, empty, top-words, top-depth, top-short, under-within, stack-more, upper, upper-below, upper-stack, upper-is}
 
 abbrev pub ends : List ℕ → Ends
 ends g = endsOf (edgesIn g)
@@ -308,9 +308,6 @@ module _ (g : List ℕ) (production index : ℕ) {ws : List ℕ} (S : Stacked (g
     pub next-edge : x < getD g 0 0
     next-edge = upper-below S ed ne ex
 
-    pub next-under : Within (getD g 0 0) (stackIn ws (d - 1))
-    next-under = rw (under-read S (upper S ed ne ex) d ed) (under-within S (upper S ed ne ex))
-
     module _ (v : NodeValue) (q : nodeIs v ≡ nodeAt g (x * 8 + 1)) (r : Bool) (ws′ : List ℕ) where
       pub next-at-item : (v .kind ≡ 0 → ⊥) → Meets (back (ends g)) r ws′ → Meets (next (ends g) start) r ws′
       next-at-item z f st rest w =
@@ -319,24 +316,21 @@ module _ (g : List ℕ) (production index : ℕ) {ws : List ℕ} (S : Stacked (g
           renamed (back (ends g) st) (next (ends g) start st) rest
           (ap (next (ends g) start) e ∙ next-item (ends g) start x (upper S ed ne ex .under) (i .0) (source-value g x v next-edge q ∙ i .1) ∙ ap (back (ends g)) (sym e)) (f st rest w)
 
-      module _ (z : v .kind ≡ 0) {u : Bool} (eu : u ≡ mem (v .number) (usedOf (ends g) (stackIn ws (d - 1)))) where
+      module _ (z : v .kind ≡ 0) where
         source-is : ends g .source x ≡ atNonterminal (v .number)
         source-is = source-value g x v next-edge q ∙ value-nonterminal v z
 
-        used-is : u ≡ mem (v .number) (usedOf (ends g) (upper S ed ne ex .under))
-        used-is = eu ∙ ap (λ (l : List ℕ). mem (v .number) (usedOf (ends g) l)) (under-read S (upper S ed ne ex) d ed)
-
-        pub next-used : u ≡ true → Meets (back (ends g)) r ws′ → Meets (next (ends g) start) r ws′
+        pub next-used : mem (v .number) (usedOf (ends g) (upper S ed ne ex .under)) ≡ true → Meets (back (ends g)) r ws′ → Meets (next (ends g) start) r ws′
         next-used t f st rest w =
             let e = upper-is S ed ne ex st rest w in
             renamed (back (ends g) st) (next (ends g) start st) rest
-            (ap (next (ends g) start) e ∙ next-on (ends g) start x (upper S ed ne ex .under) (v .number) source-is (sym used-is ∙ t) ∙ ap (back (ends g)) (sym e)) (f st rest w)
+            (ap (next (ends g) start) e ∙ next-on (ends g) start x (upper S ed ne ex .under) (v .number) source-is t ∙ ap (back (ends g)) (sym e)) (f st rest w)
 
-        pub next-new : u ≡ false → Meets (seek (ends g) (nodeIs v) (ends g .count)) r ws′ → Meets (next (ends g) start) r ws′
+        pub next-new : mem (v .number) (usedOf (ends g) (upper S ed ne ex .under)) ≡ false → Meets (seek (ends g) (nodeIs v) (ends g .count)) r ws′ → Meets (next (ends g) start) r ws′
         next-new t f st rest w =
             let e = upper-is S ed ne ex st rest w in
             renamed (seek (ends g) (nodeIs v) (ends g .count) st) (next (ends g) start st) rest
-            (ap (next (ends g) start) e ∙ next-in (ends g) start x (upper S ed ne ex .under) (v .number) source-is (sym used-is ∙ t)
+            (ap (next (ends g) start) e ∙ next-in (ends g) start x (upper S ed ne ex .under) (v .number) source-is t
             ∙ ap (λ (y : Node). seek (ends g) y (ends g .count) (x ∷ upper S ed ne ex .under)) (sym (value-nonterminal v z))
             ∙ ap (seek (ends g) (nodeIs v) (ends g .count)) (sym e)) (f st rest w)
 

@@ -5,3 +5,4 @@ pub mod Advance
 pub mod Calls
 pub mod Machine
 pub mod Stacks
+pub mod Counts

@@ -17,8 +17,9 @@ ghost use Rattle.trace_graph.specs.Words.{edgesIn};
 ghost use Rattle.trace_graph.specs.Values.{nodeIs, nodeValueFits};
 ghost use Rattle.enumerator.specs.Trials.{endsOf, isExample};
 ghost use Rattle.enumerator.specs.Words.{wordsOf, sameWords, holdsTrial};
-ghost use Rattle.enumerator.specs.Machine.{back, seek, next, usedOf, trialFrom?};
+ghost use Rattle.enumerator.specs.Machine.{onWalk, back, seek, next, usedOf, trialFrom?};
 ghost use Rattle.enumerator.specs.Stacks.{Ground, Started, Roomy, Within, Stacked, stackIn, Stepped, stepped, stepOf};
+ghost use Rattle.enumerator.specs.Counts.{Counted, WalkCounted, EdgesCounted};
 
 // One edge more.
 pub fn push(words: &mut [u16], edge: usize)
@@ -49,11 +50,63 @@ pub fn pop(words: &mut [u16])
     words[0] = (depth - 1) as u16;
 }
 
-// The last edge gives way to the next older one into the same node; where there is none it is taken off, and the edge before it does.
-pub fn back(graph: &[u16], ix: &[u16], words: &mut [u16]) -> bool
+// An edge joins the walk: the nonterminal that it comes from counts one more. A walk has at most 33 edges, so a byte holds a count.
+fn join(graph: &[u16], edge: usize, counts: &mut [u8])
+    requires { ⌜ ((ix : List ℕ) × Ground (now graph) ix) ⌝ }
+    requires { ⌜ edge < getD (now graph) 0 0 ⌝ }
+    requires { ⌜ ((us : List ℕ) × (length us ≤ 33) × Counted us (now counts)) ⌝ }
+    ensures { λ _. ⌜ ((us : List ℕ) → Counted us (now (counts .entry)) → Counted (onWalk (endsOf (edgesIn (now (graph .entry))) .source edge) us) (now (counts .exit))) ⌝ }
+{
+    let source = read_node(graph, edge * TraceGraph::EDGE_WORDS + 1);
+    if source.kind != 0 {
+        return;
+    }
+    let nonterminal = source.number;
+    counts[nonterminal] = counts[nonterminal] + 1;
+}
+
+// The last edge leaves the walk: the nonterminal that it comes from counts one fewer.
+fn leave(graph: &[u16], words: &[u16], counts: &mut [u8])
+    requires { ⌜ ((ix : List ℕ) × Ground (now graph) ix) ⌝ }
+    requires { ⌜ Stacked (getD (now graph) 0 0) (now words) ⌝ }
+    requires { ⌜ EdgesCounted (now graph) (now words) (now counts) ⌝ }
+    ensures { λ _. ⌜ WalkCounted (now (graph .entry)) (now (words .entry)) (now (counts .exit)) ⌝ }
+{
+    let depth = word(words, 0);
+    if depth == 0 {
+        return;
+    }
+    let edge = word(words, depth);
+    let source = read_node(graph, edge * TraceGraph::EDGE_WORDS + 1);
+    if source.kind != 0 {
+        return;
+    }
+    let nonterminal = source.number;
+    counts[nonterminal] = counts[nonterminal] - 1;
+}
+
+// The counts of the walk that the words hold, from none counted.
+pub fn count_walk(graph: &[u16], words: &[u16], counts: &mut [u8])
+    requires { ⌜ ((ix : List ℕ) × Ground (now graph) ix) ⌝ }
+    requires { ⌜ Stacked (getD (now graph) 0 0) (now words) ⌝ }
+    requires { ⌜ Counted [] (now counts) ⌝ }
+    ensures { λ _. ⌜ WalkCounted (now (graph .entry)) (now (words .entry)) (now (counts .exit)) ⌝ }
+{
+    let depth = word(words, 0);
+    let mut at: usize = 0;
+    while at + 1 < depth {
+        join(graph, word(words, at + 1), counts);
+        at += 1;
+    }
+}
+
+// The last edge gives way to the next older one into the same node; where there is none it is taken off, the edge before it leaves the walk, and gives way.
+pub fn back(graph: &[u16], ix: &[u16], words: &mut [u16], counts: &mut [u8]) -> bool
     requires { ⌜ Ground (now graph) (now ix) ⌝ }
     requires { ⌜ Stacked (getD (now graph) 0 0) (now words) ⌝ }
+    requires { ⌜ WalkCounted (now graph) (now words) (now counts) ⌝ }
     ensures { λ r. ⌜ ((st rest : List ℕ) → now (words .entry) ≡ wordsOf (reverse st) ++ rest → stepped r (now (words .exit)) ≡ stepOf (back (endsOf (edgesIn (now (graph .entry)))) st) rest) ⌝ }
+    ensures { λ _. ⌜ WalkCounted (now (graph .entry)) (now (words .exit)) (now (counts .exit)) ⌝ }
 {
     let mut depth = word(words, 0);
     while depth != 0 {
@@ -64,6 +117,7 @@ pub fn back(graph: &[u16], ix: &[u16], words: &mut [u16]) -> bool
             return true;
         }
         pop(words);
+        leave(graph, words, counts);
         depth -= 1;
     }
     false
@@ -100,26 +154,38 @@ fn uses(graph: &[u16], words: &[u16], depth: usize, nonterminal: usize) -> bool
     false
 }
 
-// One edge more, the latest into the node; where there is none, back.
-fn seek(graph: &[u16], ix: &[u16], words: &mut [u16], node: Node) -> bool
+// One edge more, the latest into the node, where the edges before it are counted; where there is none, back.
+fn seek(graph: &[u16], ix: &[u16], words: &mut [u16], node: Node, counts: &mut [u8]) -> bool
     requires { ⌜ ((G : Ground (now graph) (now ix)) × (nodeValueFits (G .nonterminals) (G .productions) node ≡ true)) ⌝ }
     requires { ⌜ Stacked (getD (now graph) 0 0) (now words) ⌝ }
+    requires { ⌜ EdgesCounted (now graph) (now words) (now counts) ⌝ }
     ensures { λ r. ⌜ ((st rest : List ℕ) → now (words .entry) ≡ wordsOf (reverse st) ++ rest → stepped r (now (words .exit)) ≡ stepOf (seek (endsOf (edgesIn (now (graph .entry)))) (nodeIs node) (endsOf (edgesIn (now (graph .entry))) .count) st) rest) ⌝ }
+    ensures { λ _. ⌜ WalkCounted (now (graph .entry)) (now (words .exit)) (now (counts .exit)) ⌝ }
 {
     let number = node_number(node);
     let latest = word(ix, number);
     if latest == 0 {
-        return back(graph, ix, words);
+        leave(graph, words, counts);
+        return back(graph, ix, words, counts);
     }
     push(words, latest - 1);
     true
 }
 
 // The trial after the one that the words hold; after the empty words, the first from the start item.
-pub fn next(graph: &[u16], ix: &[u16], words: &mut [u16], production: usize, index: usize) -> bool
+pub fn next(
+    graph: &[u16],
+    ix: &[u16],
+    words: &mut [u16],
+    production: usize,
+    index: usize,
+    counts: &mut [u8],
+) -> bool
     requires { ⌜ Started (now graph) (now ix) production index ⌝ }
     requires { ⌜ Stacked (getD (now graph) 0 0) (now words) ⌝ }
+    requires { ⌜ WalkCounted (now graph) (now words) (now counts) ⌝ }
     ensures { λ r. ⌜ ((st rest : List ℕ) → now (words .entry) ≡ wordsOf (reverse st) ++ rest → stepped r (now (words .exit)) ≡ stepOf (next (endsOf (edgesIn (now (graph .entry)))) (atItem (record { production = production; index = index })) st) rest) ⌝ }
+    ensures { λ _. ⌜ WalkCounted (now (graph .entry)) (now (words .exit)) (now (counts .exit)) ⌝ }
 {
     let depth = word(words, 0);
     if depth == 0 {
@@ -128,18 +194,19 @@ pub fn next(graph: &[u16], ix: &[u16], words: &mut [u16], production: usize, ind
             number: production,
             index: index,
         };
-        return seek(graph, ix, words, start);
+        return seek(graph, ix, words, start, counts);
     }
     let edge = word(words, depth);
     let source = read_node(graph, edge * TraceGraph::EDGE_WORDS + 1);
     if source.kind != 0 {
-        return back(graph, ix, words);
+        return back(graph, ix, words, counts);
     }
     let nonterminal = source.number;
-    if uses(graph, words, depth - 1, nonterminal) {
-        return back(graph, ix, words);
+    if counts[nonterminal] != 0 {
+        return back(graph, ix, words, counts);
     }
-    seek(graph, ix, words, source)
+    join(graph, edge, counts);
+    seek(graph, ix, words, source, counts)
 }
 
 // Whether the trial is an example: its last edge comes from an item.

@@ -136,6 +136,20 @@ unfolding Clear
 cleared-clear w₀ w e =
     e ∙ sym (ap (λ (l : List ℕ). wordsOf [] ++ l) (ap (drop 32000) e ∙ drop-at (wordsOf []) (drop 32000 w₀) 32000 (words-long [] (omega arith))))
 
+-- words that are zero are as if they were cleared
+pub clear-words : (w : List ℕ) → Clear w → w ≡ wordsOf [] ++ drop 32000 w
+unfolding Clear
+clear-words w K = K
+
+pub zeroed-clear : (w : List ℕ) → w ≡ zeroed w → Clear w
+unfolding Clear zeroed
+zeroed-clear w e = e ∙ sym (ap (λ (l : List ℕ). l ++ drop 32000 w) zero-words)
+
+-- zeroing again changes nothing
+pub zeroed-twice : (w₀ w : List ℕ) → w ≡ wordsOf [] ++ drop 32000 w₀ → zeroed w ≡ zeroed w₀
+unfolding zeroed
+zeroed-twice w₀ w e = ap (λ (l : List ℕ). replicate 32000 0 ++ l) (ap (drop 32000) e ∙ drop-at (wordsOf []) (drop 32000 w₀) 32000 (words-long [] (omega arith)))
+
 both-stopped : (A B : Side) (x : ℕ) → stopped x ≡ A → halted x ≡ bothSides A B
 unfolding bothSides
 both-stopped A B x e = ap (λ (l : Side). bothSides l B) e

@@ -13,14 +13,12 @@ use trace_graph::Inserted;
 use trace_graph::check_graph;
 use tracer::build;
 ghost use mathlib.Core.Path.{_≡_};
-ghost use mathlib.Core.Bool.{Bool, true, false};
-ghost use mathlib.Core.List.{List, [], _∷_, _++_};
-ghost use mathlib.Core.Option.{Option, none, some};
+ghost use mathlib.Core.Bool.{true, false};
+ghost use mathlib.Core.List.{List, [], _++_};
 ghost use Prim.Native.Nat.{ℕ, _+_, _-_, _*_, _≤_, _<_};
-ghost use lib.ListN.{length, getD, take, drop};
+ghost use lib.ListN.{length};
 ghost use Rattle.repr.specs.Packed.{Packed, productionsIn};
 ghost use Rattle.table.specs.Decoded.{meaning};
-ghost use Rattle.lookahead.specs.Tokens.{single};
 ghost use Rattle.trace_graph.specs.Words.{edgesIn};
 ghost use Rattle.trace_graph.specs.Fits.{itemFits};
 ghost use Rattle.tracer.specs.Built.{edgesBy};
@@ -30,7 +28,7 @@ ghost use Rattle.enumerator.specs.Words.{wordsOf};
 ghost use Rattle.enumerator.specs.Advance.{setOf};
 ghost use Rattle.error.specs.Sides.{listingSide, shiftSide, reduceSide, actionSideOf, gather};
 ghost use Rattle.error.specs.Kept.{Read, kept, Kept};
-ghost use Rattle.error.specs.Outcome.{conflictFits, operandFits, zeroed};
+ghost use Rattle.error.specs.Outcome.{conflictFits, zeroed};
 ghost use Rattle.search.specs.Given.{Tried};
 ghost use Rattle.gather.specs.Packing.{keptWith, Packable, Fitting};
 ghost use Rattle.gather.specs.Listing.{onto, listedBy, Clear, Listable};
@@ -353,7 +351,7 @@ fn gather_action(
     }
 }
 
-// Both sides: the action's is worked first, the reduce's even if the first is empty. The first 32,000 words of scratch are zero afterwards.
+// Both sides: the action's is worked first, the reduce's even if the first is empty. The first 32,000 words of scratch are zero before and afterwards.
 pub fn gather(
     table: &[u16],
     grammar: &[u16],
@@ -368,11 +366,10 @@ pub fn gather(
 ) -> Gathered
     requires { ⌜ Read (now table) (now grammar) productions n terminals (now map) ⌝ }
     requires { ⌜ conflictFits (meaning (now table)) conflict ≡ true ⌝ }
-    requires { ⌜ (32000 ≤ length (now scratch)) × ((6528 ≤ length (now action)) × (6528 ≤ length (now reduce))) ⌝ }
+    requires { ⌜ Clear (now scratch) × ((6528 ≤ length (now action)) × (6528 ≤ length (now reduce))) ⌝ }
     ensures { λ r. ⌜ both (gatheredIn (meaning (now (table .entry)) .productions) r (now (action .exit)) (now (reduce .exit))) (now (scratch .exit)) ≡ both (gather (meaning (now (table .entry))) conflict) (zeroed (now (scratch .entry))) ⌝ }
     ensures { λ r. ⌜ KeptBoth (meaning (now (table .entry)) .productions) r (now (action .exit)) (now (reduce .exit)) ⌝ }
 {
-    clear(scratch);
     match gather_action(
         table,
         grammar,

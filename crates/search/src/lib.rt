@@ -1,6 +1,7 @@
 // The search of a listing from one trial handed out to the next (part 6 of document 01; `FilteredPathEnumerator` of lr1/trace/trace_graph/mod.rs): the labels of a trial, the filter, the count of trials.
 use enumerator::Lookahead;
 use enumerator::machine::clear;
+use enumerator::machine::count_walk;
 use enumerator::machine::is_example;
 use enumerator::machine::next;
 use example::first0;
@@ -169,9 +170,11 @@ pub fn search(
     requires { ⌜ Searching (productionsIn (now grammar) productions) (now graph) (now ix) (now words) production index ⌝ }
     ensures { λ r. ⌜ ((p rest : List ℕ) → now (words .entry) ≡ wordsOf p ++ rest → searched r (now (words .exit)) ≡ searchedOf rest (search (handsBy terminals (now (map .entry)) (productionsIn (now (grammar .entry)) productions) (edgesIn (now (graph .entry))) (setOf lookahead)) (trialLimit - count) count (laterThan p (trials (endsOf (edgesIn (now (graph .entry)))) (atItem (record { production = production; index = index })))))) ⌝ }
 {
+    let mut counts = [0u8; 32];
+    count_walk(graph, words, &mut counts);
     let mut made = count;
     loop {
-        if next(graph, ix, words, production, index) {
+        if next(graph, ix, words, production, index, &mut counts) {
             if made >= Searched::TRIALS {
                 return overrun(words);
             }
