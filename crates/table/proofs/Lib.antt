@@ -8,3 +8,4 @@ pub mod Held
 pub mod Decoding
 pub mod Indexes
 pub mod Written
+pub mod Quads

@@ -5,3 +5,4 @@ pub mod Reached
 pub mod Index
 pub mod Written
 pub mod TableB
+pub mod Quads

@@ -6,6 +6,7 @@ ghost use lib.ListN.{length, getD};
 ghost use Rattle.repr.specs.Meaning.{Table, stateAt, productionAt};
 ghost use Rattle.repr.specs.Packed.{Packed, productionsIn};
 ghost use Rattle.table.specs.Words.{wordAt};
+ghost use Rattle.table.specs.Quads.{putQuad};
 ghost use Rattle.table.specs.Decoded.{meaning, itemsFrom, edgesFrom, productionsFrom};
 ghost use Rattle.table.specs.Refusals.{checkOf};
 ghost use Rattle.table.specs.Index.{CountsOf, ItemIndex, EdgeIndex, ProductionHead, ItemRead, EdgeRead, ProductionRead};
@@ -23,6 +24,18 @@ pub fn word(table: &[u16], r: usize, k: usize) -> usize
     ensures { λ w. ⌜ (w ≡ wordAt (now (table .entry)) r k) × (w < 65536) ⌝ }
 {
     table[r * 4 + k] as usize
+}
+
+// Puts record r.
+pub fn put(table: &mut [u16], r: usize, a: usize, b: usize, c: usize, d: usize)
+    requires { ⌜ (r < 8192) × (r * 4 + 3 < length (now table)) ⌝ }
+    requires { ⌜ (a < 65536) × ((b < 65536) × ((c < 65536) × (d < 65536))) ⌝ }
+    ensures { λ _. ⌜ now (table .exit) ≡ putQuad (now (table .entry)) r a b c d ⌝ }
+{
+    table[r * 4] = a as u16;
+    table[r * 4 + 1] = b as u16;
+    table[r * 4 + 2] = c as u16;
+    table[r * 4 + 3] = d as u16;
 }
 
 // The counts of record 0.
