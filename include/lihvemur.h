@@ -29,26 +29,26 @@ enum {
 uint16_t lihvemur_check(const uint16_t *table, size_t table_words, uint16_t *place);
 
 /* FIRST of a list of symbols, kind and number each (0 a nonterminal, 1 a terminal); the set behind `set` with answer 0. */
-uint16_t lihvemur_first0(const uint16_t *table, size_t table_words, const uint16_t *symbols, size_t symbol_words, uint16_t *place, uint64_t *set);
+uint16_t lihvemur_first0(const uint16_t *table, size_t table_words, const uint16_t *symbols, size_t symbol_words, uint64_t *set, uint16_t *place);
 
 /* The same, a token of `lookahead` following. */
-uint16_t lihvemur_first1(const uint16_t *table, size_t table_words, uint64_t lookahead, const uint16_t *symbols, size_t symbol_words, uint16_t *place, uint64_t *set);
+uint16_t lihvemur_first1(const uint16_t *table, size_t table_words, uint64_t lookahead, const uint16_t *symbols, size_t symbol_words, uint64_t *set, uint16_t *place);
 
 /* The states from which a path spells the symbols and ends at `state`: 0 to 63 in `low`, 64 to 127 in `high`. */
-uint16_t lihvemur_trace_back(const uint16_t *table, size_t table_words, uint16_t state, const uint16_t *symbols, size_t symbol_words, uint16_t *place, uint64_t *low, uint64_t *high);
+uint16_t lihvemur_trace_back(const uint16_t *table, size_t table_words, uint16_t state, const uint16_t *symbols, size_t symbol_words, uint64_t *low, uint64_t *high, uint16_t *place);
 
 /* Adds an edge to a graph, unless an equal one is there; the number of edges behind `edges`. A node is kind (0 nonterminal, 1 item), number (nonterminal or production), index (0, or the item's). */
 uint16_t lihvemur_add_edge(const uint16_t *table, size_t table_words,
                            uint16_t source_kind, uint16_t source, uint16_t source_index,
                            uint16_t target_kind, uint16_t target, uint16_t target_index,
                            uint16_t production, uint16_t index,
-                           uint16_t *graph, size_t graph_words, uint16_t *place, uint16_t *edges);
+                           uint16_t *graph, size_t graph_words, uint16_t *edges, uint16_t *place);
 
 /* The trace graph of an item in a state: count and edges at the front of `graph`, `scratch` zeroed, the number of edges behind `edges`. */
 uint16_t lihvemur_backtrace_shift(const uint16_t *table, size_t table_words, uint16_t state, uint16_t production, uint16_t index,
-                                  uint16_t *graph, size_t graph_words, uint16_t *scratch, size_t scratch_words, uint16_t *place, uint16_t *edges);
+                                  uint16_t *graph, size_t graph_words, uint16_t *scratch, size_t scratch_words, uint16_t *edges, uint16_t *place);
 uint16_t lihvemur_backtrace_reduce(const uint16_t *table, size_t table_words, uint16_t state, uint16_t production, uint16_t index,
-                                   uint16_t *graph, size_t graph_words, uint16_t *scratch, size_t scratch_words, uint16_t *place, uint16_t *edges);
+                                   uint16_t *graph, size_t graph_words, uint16_t *scratch, size_t scratch_words, uint16_t *edges, uint16_t *place);
 
 /* Opens a listing of the examples of an item over a graph: 0, or the refusal. A fresh listing has count 0 and is open; nothing else is to be handed out.
  * `lihvemur_lr1_examples` keeps the examples whose next tokens meet `lookahead`. */

@@ -40,8 +40,8 @@ pub extern "C" fn lihvemur_check(table: &[u16], place: &mut u16) -> u16
 pub extern "C" fn lihvemur_first0(
     table: &[u16],
     symbols: &[u16],
-    place: &mut u16,
     set: &mut u64,
+    place: &mut u16,
 ) -> u16
     ensures { λ r. ⌜ setNumbers r (now (place .exit)) (now (set .exit)) ≡ firstNumbers (now (set .entry)) (first0Of (now (table .entry)) (now (symbols .entry))) ⌝ }
 {
@@ -63,8 +63,8 @@ pub extern "C" fn lihvemur_first1(
     table: &[u16],
     lookahead: u64,
     symbols: &[u16],
-    place: &mut u16,
     set: &mut u64,
+    place: &mut u16,
 ) -> u16
     ensures { λ r. ⌜ setNumbers r (now (place .exit)) (now (set .exit)) ≡ firstNumbers (now (set .entry)) (first1Of (now (table .entry)) (now (symbols .entry)) lookahead) ⌝ }
 {
@@ -86,9 +86,9 @@ pub extern "C" fn lihvemur_trace_back(
     table: &[u16],
     state: u16,
     symbols: &[u16],
-    place: &mut u16,
     low: &mut u64,
     high: &mut u64,
+    place: &mut u16,
 ) -> u16
     ensures { λ r. ⌜ stateNumbers r (now (place .exit)) (statesIn (now (low .exit)) (now (high .exit))) ≡ walkNumbers (statesIn (now (low .entry)) (now (high .entry))) (traceBackOf (now (table .entry)) state (now (symbols .entry))) ⌝ }
 {
@@ -119,8 +119,8 @@ pub extern "C" fn lihvemur_add_edge(
     production: u16,
     index: u16,
     graph: &mut [u16],
-    place: &mut u16,
     edges: &mut u16,
+    place: &mut u16,
 ) -> u16
     ensures { λ r. ⌜ addNumbers r (now (place .exit)) (now (edges .exit)) (now (graph .exit)) ≡ edgeNumbers (now (edges .entry)) (addEdgeOf (now (table .entry)) (record { source = record { kind = «source_kind»; number = source; index = «source_index» }; target = record { kind = «target_kind»; number = target; index = «target_index» }; production = production; index = index }) (now (graph .entry))) ⌝ }
 {
@@ -155,8 +155,8 @@ pub extern "C" fn lihvemur_backtrace_shift(
     index: u16,
     graph: &mut [u16],
     scratch: &mut [u16],
-    place: &mut u16,
     edges: &mut u16,
+    place: &mut u16,
 ) -> u16
     ensures { λ r. ⌜ traceNumbers r (now (place .exit)) (now (edges .exit)) (now (graph .exit)) (now (scratch .exit)) ≡ backtraceNumbers (now (edges .entry)) (shiftOf (now (table .entry)) state (record { production = production; index = index }) (now (graph .entry)) (now (scratch .entry))) ⌝ }
 {
@@ -182,8 +182,8 @@ pub extern "C" fn lihvemur_backtrace_reduce(
     index: u16,
     graph: &mut [u16],
     scratch: &mut [u16],
-    place: &mut u16,
     edges: &mut u16,
+    place: &mut u16,
 ) -> u16
     ensures { λ r. ⌜ traceNumbers r (now (place .exit)) (now (edges .exit)) (now (graph .exit)) (now (scratch .exit)) ≡ backtraceNumbers (now (edges .entry)) (reduceOf (now (table .entry)) state (record { production = production; index = index }) (now (graph .entry)) (now (scratch .entry))) ⌝ }
 {

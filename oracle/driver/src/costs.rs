@@ -208,7 +208,7 @@ impl Lent {
     fn trace(&mut self, reduce: bool, table: &[u16], from: Traced) -> [u16; 2] {
         let (mut place, mut edges) = (0, 0);
         let (graph, scratch) = (&mut self.graph, &mut self.scratch);
-        let refusal = port::backtrace(reduce, table, from, graph, scratch, &mut place, &mut edges);
+        let refusal = port::backtrace(reduce, table, from, graph, scratch, &mut edges, &mut place);
         [refusal, edges]
     }
 }

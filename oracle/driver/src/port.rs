@@ -43,26 +43,26 @@ macro_rules! entries {
 
 entries! {
     check is lihvemur_check(table: &[u16], place: &mut u16);
-    first0 is lihvemur_first0(table: &[u16], symbols: &[u16], place: &mut u16, set: &mut u64);
+    first0 is lihvemur_first0(table: &[u16], symbols: &[u16], set: &mut u64, place: &mut u16);
     first1 is lihvemur_first1(
-        table: &[u16], lookahead: u64, symbols: &[u16], place: &mut u16, set: &mut u64
+        table: &[u16], lookahead: u64, symbols: &[u16], set: &mut u64, place: &mut u16
     );
     trace_back is lihvemur_trace_back(
-        table: &[u16], state: u16, symbols: &[u16], place: &mut u16, low: &mut u64, high: &mut u64
+        table: &[u16], state: u16, symbols: &[u16], low: &mut u64, high: &mut u64, place: &mut u16
     );
     add_edge is lihvemur_add_edge(
         table: &[u16],
         [source_kind, source, source_index, target_kind, target, target_index, production, index]:
             [u16; 8],
-        graph: &mut [u16], place: &mut u16, edges: &mut u16
+        graph: &mut [u16], edges: &mut u16, place: &mut u16
     );
     backtrace_shift is lihvemur_backtrace_shift(
         table: &[u16], state: u16, (production, index): (u16, u16),
-        graph: &mut [u16], scratch: &mut [u16], place: &mut u16, edges: &mut u16
+        graph: &mut [u16], scratch: &mut [u16], edges: &mut u16, place: &mut u16
     );
     backtrace_reduce is lihvemur_backtrace_reduce(
         table: &[u16], state: u16, (production, index): (u16, u16),
-        graph: &mut [u16], scratch: &mut [u16], place: &mut u16, edges: &mut u16
+        graph: &mut [u16], scratch: &mut [u16], edges: &mut u16, place: &mut u16
     );
     lr0_examples is lihvemur_lr0_examples(
         table: &[u16], (production, index): (u16, u16), graph: &[u16], place: &mut u16
@@ -106,15 +106,15 @@ pub fn backtrace(
     (state, item): Traced,
     graph: &mut [u16],
     scratch: &mut [u16],
-    place: &mut u16,
     edges: &mut u16,
+    place: &mut u16,
 ) -> u16 {
     let trace = if reduce {
         backtrace_reduce
     } else {
         backtrace_shift
     };
-    trace(table, state, item, graph, scratch, place, edges)
+    trace(table, state, item, graph, scratch, edges, place)
 }
 
 /// What a classification answers beside the lent words.

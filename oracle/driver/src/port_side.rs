@@ -240,20 +240,20 @@ impl Side for PortSide {
 
     fn first0(&mut self, table: &[u16], symbols: &[Sym]) -> Option<Answer> {
         let (mut place, mut set) = (0, 0);
-        let refusal = first0(table, &symbol_words(symbols), &mut place, &mut set);
+        let refusal = first0(table, &symbol_words(symbols), &mut set, &mut place);
         answer((refusal, place), || tokens(set))
     }
 
     fn first1(&mut self, table: &[u16], symbols: &[Sym], ahead: u64) -> Option<Answer> {
         let (mut place, mut set) = (0, 0);
-        let refusal = first1(table, ahead, &symbol_words(symbols), &mut place, &mut set);
+        let refusal = first1(table, ahead, &symbol_words(symbols), &mut set, &mut place);
         answer((refusal, place), || tokens(set))
     }
 
     fn trace_back(&mut self, table: &[u16], state: u16, symbols: &[Sym]) -> Option<Answer> {
         let (mut place, mut low, mut high) = (0, 0, 0);
         let symbols = symbol_words(symbols);
-        let refusal = trace_back(table, state, &symbols, &mut place, &mut low, &mut high);
+        let refusal = trace_back(table, state, &symbols, &mut low, &mut high, &mut place);
         answer((refusal, place), || {
             tokens(low).chain(tokens(high).map(|s| 64 + s))
         })
@@ -264,7 +264,7 @@ impl Side for PortSide {
     fn backtrace(&mut self, reduce: bool, table: &[u16], from: Traced) -> Option<Answer> {
         let (mut place, mut edges) = (0, 0);
         let (graph, scratch) = (&mut self.graph.words, &mut self.scratch.words);
-        let refusal = backtrace(reduce, table, from, graph, scratch, &mut place, &mut edges);
+        let refusal = backtrace(reduce, table, from, graph, scratch, &mut edges, &mut place);
         self.scratch_after(refusal);
         self.graph_answer(refusal, place, edges)
     }
@@ -273,7 +273,7 @@ impl Side for PortSide {
         self.lend_graph(graph);
         let (mut place, mut edges) = (0, 0);
         let lent = &mut self.graph.words;
-        let refusal = add_edge(table, edge, lent, &mut place, &mut edges);
+        let refusal = add_edge(table, edge, lent, &mut edges, &mut place);
         self.graph_answer(refusal, place, edges)
     }
 

@@ -61,7 +61,7 @@ fn edges_added(name: &str, table: &[u16], edges: &[[u16; 8]]) {
     let last = edges[edges.len() - 1];
     let mut lent = words.clone();
     let (mut place, mut count) = (0, 0);
-    let mut add = || port::add_edge(table, last, &mut lent, &mut place, &mut count);
+    let mut add = || port::add_edge(table, last, &mut lent, &mut count, &mut place);
     assert_eq!(add(), 0);
     let port = least(&mut || {
         black_box(add());
@@ -88,7 +88,7 @@ fn walked(name: &str, table: &[u16], state: u16, symbols: &[Sym]) {
     let (mut place, mut low, mut high) = (0, 0, 0);
     let port = least(&mut || {
         black_box(port::trace_back(
-            table, state, &list, &mut place, &mut low, &mut high,
+            table, state, &list, &mut low, &mut high, &mut place,
         ));
     });
     drop(held);
@@ -102,7 +102,7 @@ fn first(name: &str, table: &[u16], symbols: &[Sym]) {
     let list = symbol_words(symbols);
     let (mut place, mut set) = (0, 0);
     let port = least(&mut || {
-        black_box(port::first0(table, &list, &mut place, &mut set));
+        black_box(port::first0(table, &list, &mut set, &mut place));
     });
     let rust = least(&mut || {
         black_box(r.first0(symbols));
