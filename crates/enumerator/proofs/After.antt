@@ -8,13 +8,12 @@ use mathlib.Core.List.{List, [], _∷_, map, reverse, List·Memᴰ, List·Memᴰ
 use mathlib.Core.Option.{Option, none, some}
 use lib.ListN.{length, drop}
 use Rattle.trace_graph.specs.Graph.{Node}
-use Rattle.enumerator.specs.Trials.{Path, Ends, trials, Distinct}
+use Rattle.enumerator.specs.Trials.{Path, Ends, trials, Distinct, Small}
 use Rattle.enumerator.specs.Words.{sameWords, after}
 use Rattle.enumerator.specs.Machine.{next, Run}
 use Rattle.enumerator.proofs.Paths.{all-in}
 use Rattle.enumerator.proofs.SameWords.{same-words-eq, eq-same-words, ne-same-words}
 use Rattle.enumerator.proofs.Order.{each-once}
-use Rattle.enumerator.proofs.Exact.{Small}
 use Rattle.enumerator.proofs.Run.{next-runs}
 
 pub after-here : (p q : Path) (qs : List Path) → sameWords p q ≡ true → after p (q ∷ qs) ≡ qs

@@ -16,6 +16,8 @@ use Rattle.enumerator.specs.Words.{pathIn, holdsTrial, after}
 use Rattle.enumerator.specs.Lister.{Call, enough, hands, says, trialLimit, search}
 use Rattle.enumerator.specs.Advance.{outcome, setOf, startOf, foundOutcome, restOf, lost, advanceIn, advanceBy, advanceOf}
 use Rattle.enumerator.specs.Calls.{Lent, called, lengths}
+use Rattle.enumerator.specs.Opening.{listing, Ready}
+use Rattle.enumerator.specs.Behind.{trialsIn, Fit}
 use Rattle.enumerator.specs.declared.Lookahead.{Lookahead}
 use Rattle.enumerator.specs.declared.Listing.{Listing}
 use Rattle.enumerator.specs.declared.Advanced.the-variants.{End, Refused}
@@ -25,26 +27,15 @@ use Rattle.enumerator.proofs.Edges.{few-edges}
 use Rattle.enumerator.proofs.After.{drop-in, drop-more, after-trial}
 use Rattle.enumerator.proofs.WordsOf.{path-in-words, words-hold}
 use Rattle.enumerator.proofs.Taken.{edges-taken, asked-taken, asked-graph}
-use Rattle.enumerator.proofs.Scratch.{Kept, kept-taken}
+use Rattle.enumerator.proofs.Scratch.{Kept, kept-taken, front-holds, rest-front, rest-zeroed}
 use Rattle.enumerator.proofs.Outcomes.{advance-short, advance-ended, advance-open}
-use Rattle.enumerator.proofs.Opening.{listing, Ready}
 
--- the trials and the test of a listing over a graph's words
-abbrev pub trialsIn : Item → List ℕ → List Path
-trialsIn i g = trials (endsOf (edgesIn g)) (atItem i)
-
+-- the test and the words of a listing over a graph's words
 abbrev pub handsIn : List ℕ → Lookahead → List ℕ → Path → Bool
 handsIn t ahead g = hands (meaning t) (edgesIn g) (setOf ahead)
 
 abbrev pub saysIn : List ℕ → List ℕ → Path → List ℕ
 saysIn t g = says (meaning t) (edgesIn g)
-
--- an open listing past count 0: the words hold the trial of its number, an example
-unfoldable pub Fit : Item → List ℕ → ℕ → Bool → List ℕ → Type 0
-Fit i g c false ws = Unit {0}
-Fit i g zero true ws = Unit {0}
-Fit i g (suc m) true ws =
-    (p : Path) × (drop m (trialsIn i g) ≡ p ∷ drop (suc m) (trialsIn i g)) × (isExample (endsOf (edgesIn g)) p ≡ true) × Kept p ws
 
 enough-parts : (c : Call) → enough c ≡ true → (8193 ≤ c .graph) × (32000 ≤ c .scratch) × (1158 ≤ c .buffer)
 unfolding enough
@@ -65,29 +56,36 @@ module _ (t : List ℕ) (i : Item) (ahead : Lookahead) (g : List ℕ) (R : Ready
   fit-short m p d = let s = short-trial (endsOf (edgesIn g)) (atItem i) p (drop-in m (trialsIn i g) p (drop (suc m) (trialsIn i g)) d) in omega arith
 
   -- the words lose nothing
-  not-lost : (c : ℕ) (o : Bool) (ws : List ℕ) (m : ℕ) → Fit i g c o ws → 32000 ≤ m → lost (edgesIn g) (listing i ahead c o) (take m ws) ≡ false
+  not-lost : (ws₀ : List ℕ) (c : ℕ) (o : Bool) (ws : List ℕ) (m : ℕ) → Fit i g ws₀ c o ws → 32000 ≤ m → lost (edgesIn g) (listing i ahead c o) (take m ws) ≡ false
   unfolding Fit Kept lost startOf
-  not-lost c false ws m f h = refl
-  not-lost zero true ws m f h = refl
-  not-lost (suc c) true ws m (p, d, x, k) h =
-      let q = kept-taken p ws m (fit-short c p d) h k in
+  not-lost ws₀ c false ws m f h = refl
+  not-lost ws₀ zero true ws m f h = refl
+  not-lost ws₀ (suc c) true ws m (p, d, x, k) h =
+      let q = kept-taken p ws m (fit-short c p d) h (front-holds p ws ws₀ k) in
       let w : holdsTrial (endsOf (edgesIn g)) (atItem i) (take m ws) ≡ true =
       ap (holdsTrial (endsOf (edgesIn g)) (atItem i)) (q .1)
       ∙ words-hold (endsOf (edgesIn g)) (atItem i) p (q .0) (drop-in c (trialsIn i g) p (drop (suc c) (trialsIn i g)) d) x in
       rw w (and-false (not (eqb (suc c) 0)))
 
   -- what is left are the trials past the count
-  rest-is : (c : ℕ) (ws : List ℕ) (m : ℕ) → Fit i g c true ws → 32000 ≤ m → restOf c (take m ws) (trialsIn i g) ≡ drop c (trialsIn i g)
+  rest-is : (ws₀ : List ℕ) (c : ℕ) (ws : List ℕ) (m : ℕ) → Fit i g ws₀ c true ws → 32000 ≤ m → restOf c (take m ws) (trialsIn i g) ≡ drop c (trialsIn i g)
   unfolding Fit Kept restOf
-  rest-is zero ws m f h = refl
-  rest-is (suc c) ws m (p, d, x, k) h =
-      let q = kept-taken p ws m (fit-short c p d) h k in
+  rest-is ws₀ zero ws m f h = refl
+  rest-is ws₀ (suc c) ws m (p, d, x, k) h =
+      let q = kept-taken p ws m (fit-short c p d) h (front-holds p ws ws₀ k) in
       ap (λ (w : Path). after w (trialsIn i g)) (ap pathIn (q .1) ∙ path-in-words p (q .0)) ∙ after-trial (endsOf (edgesIn g)) (atItem i) c p (drop (suc c) (trialsIn i g)) d
 
-  pub fit-count : (c : ℕ) (ws : List ℕ) → Fit i g c true ws → c ≤ length (trialsIn i g)
+  pub fit-count : (ws₀ : List ℕ) (c : ℕ) (ws : List ℕ) → Fit i g ws₀ c true ws → c ≤ length (trialsIn i g)
   unfolding Fit
-  fit-count zero ws f = omega arith
-  fit-count (suc c) ws (p, d, x, k) = drop-more c (trialsIn i g) p (drop (suc c) (trialsIn i g)) d
+  fit-count ws₀ zero ws f = omega arith
+  fit-count ws₀ (suc c) ws (p, d, x, k) = drop-more c (trialsIn i g) p (drop (suc c) (trialsIn i g)) d
+
+  -- behind the first 32,000 words the scratch is as it was
+  pub fit-rest : (ws₀ : List ℕ) (c : ℕ) (o : Bool) (ws : List ℕ) → Fit i g ws₀ c o ws → drop 32000 ws ≡ drop 32000 ws₀
+  unfolding Fit
+  fit-rest ws₀ c false ws f = ap (drop 32000) f ∙ rest-zeroed ws₀
+  fit-rest ws₀ zero true ws f = ap (drop 32000) f
+  fit-rest ws₀ (suc c) true ws (p, d, x, k) = ap (drop 32000) k ∙ rest-front p ws₀ (fit-short c p d)
 
   -- one call
   called-in : (l : Listing) (ws : List ℕ) (k : Lent) → called t g l ws k ≡ advanceIn (take (k .graph) g) l (take (k .scratch) ws) (k .buffer) (meaning t)
@@ -127,7 +125,7 @@ module _ (t : List ℕ) (i : Item) (ahead : Lookahead) (g : List ℕ) (R : Ready
           (asked-taken (meaning t) i (setOf ahead) (k .graph) g (R .long) (R .asks)) (ap enough (lent-lengths g ws ws₀ k len) ∙ e) refl
           (ap (isNode (atItem i)) same-edges ∙ R .node) refl
 
-      pub call-open : Fit i g c true ws
+      pub call-open : Fit i g ws₀ c true ws
           → called t g (listing i ahead c true) ws k
           ≡ foundOutcome (meaning t) (edgesIn g) (listing i ahead c true) (take (k .scratch) ws) (k .buffer)
           (search (handsIn t ahead g) (trialLimit - c) c (drop c (trialsIn i g)))
@@ -136,6 +134,6 @@ module _ (t : List ℕ) (i : Item) (ahead : Lookahead) (g : List ℕ) (R : Ready
           called-in (listing i ahead c true) ws k
           ∙ advance-open (take (k .graph) g) (listing i ahead c true) (take (k .scratch) ws) (k .buffer) (meaning t)
           (asked-taken (meaning t) i (setOf ahead) (k .graph) g (R .long) (R .asks)) (ap enough (lent-lengths g ws ws₀ k len) ∙ e)
-          (ap (λ (es : List TraceEdge). lost es (listing i ahead c true) (take (k .scratch) ws)) same-edges ∙ not-lost c true ws (k .scratch) f scratch-lent)
+          (ap (λ (es : List TraceEdge). lost es (listing i ahead c true) (take (k .scratch) ws)) same-edges ∙ not-lost ws₀ c true ws (k .scratch) f scratch-lent)
           (ap (isNode (atItem i)) same-edges ∙ R .node) refl
-          ∙ rw (same-edges, rest-is c ws (k .scratch) f scratch-lent)
+          ∙ rw (same-edges, rest-is ws₀ c ws (k .scratch) f scratch-lent)

@@ -14,9 +14,8 @@ use Rattle.repr.proofs.Tests.{every?-below}
 use Rattle.trace_graph.specs.Graph.{atNonterminal, TraceEdge}
 use Rattle.trace_graph.specs.Words.{edgeLimit, place, nodeOf, nodeAt, edgeAt, edgesIn}
 use Rattle.trace_graph.specs.Fits.{nodeFits, edgeFits, once, graphFits}
-use Rattle.enumerator.specs.Trials.{noEdge, endsOf}
+use Rattle.enumerator.specs.Trials.{noEdge, endsOf, Small}
 use Rattle.enumerator.proofs.Nodes.{and-left, and-right}
-use Rattle.enumerator.proofs.Exact.{Small}
 
 pub edges-count : (ws : List ℕ) → length (edgesIn ws) ≡ getD ws 0 0
 unfolding edgesIn

@@ -10,14 +10,10 @@ use lib.Dec.{eqb}
 use borrow.Author.Tests.{eqb-true, eqb-false}
 use Rattle.repr.specs.Lists.{mem}
 use Rattle.trace_graph.specs.Graph.{Node, atNonterminal, atItem, sameNode}
-use Rattle.enumerator.specs.Trials.{Path, Ends, TrialFrom, IsTrial, AllPaths, level, within, trialsFrom, walkFuel, trials}
+use Rattle.enumerator.specs.Trials.{Path, Ends, TrialFrom, IsTrial, AllPaths, level, within, trialsFrom, walkFuel, trials, Small}
 use Rattle.enumerator.proofs.Nodes.{same-eq, same-refl}
 use Rattle.enumerator.proofs.Level.{level-hit, level-miss, within-on, within-in, free, free-lt, free-all}
 use Rattle.enumerator.proofs.Paths.{all-in, all-append, all-map, all-weak}
-
--- every nonterminal that an edge comes from is below 32: what a checked graph gives (`small-of` of proofs/Small)
-abbrev pub Small : Ends → Type 0
-Small G = (e n : ℕ) → e < G .count → G .source e ≡ atNonterminal n → n < 32
 
 module _ (G : Ends) where
   -- e can go before each way on that ch gives at it

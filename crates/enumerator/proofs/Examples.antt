@@ -6,9 +6,9 @@ use mathlib.Core.List.{List, [], _∷_, List·Memᴰ, List·Memᴰ·head, List·
 use Rattle.repr.specs.Lists.{keep}
 use Rattle.repr.proofs.Lists.{keep-nil, keep-yes, keep-no, clash}
 use Rattle.trace_graph.specs.Graph.{Node}
-use Rattle.enumerator.specs.Trials.{Path, Ends, Before, AllPaths, Increasing, IsTrial, trials}
+use Rattle.enumerator.specs.Trials.{Path, Ends, Before, AllPaths, Increasing, IsTrial, trials, Small}
 use Rattle.enumerator.proofs.Order.{increasing}
-use Rattle.enumerator.proofs.Exact.{Small, sound, complete}
+use Rattle.enumerator.proofs.Exact.{sound, complete}
 
 all-keep : (P : Path → Type 0) (t : Path → Bool) (ps : List Path) → AllPaths P ps → AllPaths P (keep t ps)
 all-keep P t [] a = rw (keep-nil t) tt

@@ -5,13 +5,12 @@ use mathlib.Core.Bool.{Bool, true, false}
 use mathlib.Core.List.{List, [], _∷_, _++_, map, reverse, reverse-reverse, List·Memᴰ, List·Memᴰ·head, List·Memᴰ·tail}
 use mathlib.Core.Option.{Option, none, some}
 use Rattle.trace_graph.specs.Graph.{Node}
-use Rattle.enumerator.specs.Trials.{Path, Ends, trials}
+use Rattle.enumerator.specs.Trials.{Path, Ends, trials, Small}
 use Rattle.enumerator.specs.Words.{wordsOf, sameWords, after}
 use Rattle.enumerator.specs.Machine.{next, Run}
 use Rattle.enumerator.specs.Stacks.{stepped, stepOf}
 use Rattle.enumerator.proofs.Run.{next-runs}
 use Rattle.enumerator.proofs.After.{after-here, after-later, next-after}
-use Rattle.enumerator.proofs.Exact.{Small}
 
 after-in : (p q : Path) (ts : List Path) → List·Memᴰ q (after p ts) → List·Memᴰ q ts
 unfolding after

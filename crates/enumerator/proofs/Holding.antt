@@ -19,7 +19,7 @@ use Rattle.trace_graph.specs.Index.{InRange}
 use Rattle.trace_graph.specs.Values.{nodeIs, nodeRead, edgeRead, sameValue, nodeValueFits}
 use Rattle.trace_graph.proofs.Fits.{value-range, same-value, source-fits, target-fits}
 use Rattle.trace_graph.proofs.Words.{node-read}
-use Rattle.enumerator.specs.Trials.{Path, Ends, TrialFrom, trials, isExample}
+use Rattle.enumerator.specs.Trials.{Path, Ends, TrialFrom, trials, isExample, Small}
 use Rattle.enumerator.specs.Words.{scratchWords, wordsOf, pathIn, sameWords, holdsTrial}
 use Rattle.enumerator.specs.Machine.{usedOf, goesOn, trialFrom?}
 use Rattle.enumerator.specs.Stacks.{Ground, Started, Within, Stacked, stackIn}
@@ -27,7 +27,7 @@ use Rattle.enumerator.proofs.Nodes.{and-left}
 use Rattle.enumerator.proofs.Edges.{edges-count, source-at, target-at}
 use Rattle.enumerator.proofs.Steps.{used-end, used-in}
 use Rattle.enumerator.proofs.SameWords.{same-words-eq}
-use Rattle.enumerator.proofs.Exact.{Small, sound, complete}
+use Rattle.enumerator.proofs.Exact.{sound, complete}
 use Rattle.enumerator.proofs.Short.{short-trial}
 use Rattle.enumerator.proofs.Tested.{passes-trial, holds-test}
 use Rattle.enumerator.proofs.StackWords.{stack-more}

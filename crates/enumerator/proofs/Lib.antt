@@ -3,6 +3,7 @@ pub mod Level
 pub mod Paths
 pub mod Order
 pub mod Exact
+pub mod Unique
 pub mod Short
 pub mod Examples
 pub mod SameWords
@@ -21,10 +22,9 @@ pub mod Outcomes
 pub mod Opening
 pub mod Calling
 pub mod Moving
-pub mod Demand
-pub mod Told
+pub mod Meeting
 pub mod Handed
-pub mod Listed
+pub mod Demand
 pub mod Sizes
 pub mod Marked
 pub mod StackWords

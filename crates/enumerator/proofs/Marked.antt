@@ -24,9 +24,10 @@ use Rattle.trace_graph.specs.Fits.{itemFits, nodeFits, edgeFits, once, graphFit
 use Rattle.example.specs.Example.{setsOf, prefixes, suffixes, atCursor, middle, symbols, spans, reductions, symbolWords, reductionWords, exampleWords, cursorOf, ahead, meets}
 use Rattle.enumerator.specs.Trials.{trials}
 use Rattle.enumerator.specs.Lister.{Call, enough, nodeOwner, labelAt, labelsOf, passes, hands, says, search, example, end, Out, foundOut, foundThen, plainFind, plainOut, plainThen, plainRun, plainLister}
+use Rattle.enumerator.specs.Told.{pathLister, handed, ends}
 use Rattle.enumerator.specs.Advance.{setOf, aheadFits, lentGraphFits, asked}
 use Rattle.enumerator.specs.declared.Lookahead.the-variants.{Any, Set}
-use Rattle.enumerator.proofs.Opening.{Ready}
+use Rattle.enumerator.specs.Opening.{Ready}
 
 abbrev item : ℕ → ℕ → Item
 item p i = record { production = p; index = i }
@@ -70,6 +71,23 @@ pub marked-listings :
     ∷ []
 unfolding upFrom below mem some? every? first? joined symbolOfKind sameSymbol has single union meet without first symbolSets join firstOf first0 grown round same settle firstSets wordAt records stateArea productionArea loose productionRecords looseRecords names against chainBy chain productionChain symbolChain itemChain edgeChain symbolAt itemAt edgeAt orZero ownerOf productionOf stateOf productionsOf meaning sameItem sameNode setsOf prefixes suffixes atCursor middle symbols spans reductions symbolWords reductionWords exampleWords cursorOf ahead meets trials enough nodeOwner labelAt labelsOf passes hands says search foundOut foundThen plainFind plainOut plainThen plainRun plainLister
 marked-listings = refl
+
+-- the listings end: of three calls the second says so, after the one path that is an example
+pub marked-ends :
+    ends (pathLister (meaning tableB) shiftB (item 0 1) none (whole ∷ whole ∷ whole ∷ []))
+    ∷ ends (pathLister (meaning tableB) reduceB (item 0 3) (some 1) (whole ∷ whole ∷ whole ∷ []))
+    ∷ []
+    ≡ true ∷ true ∷ []
+unfolding upFrom below mem some? every? first? joined symbolOfKind sameSymbol has single union meet without first symbolSets join firstOf first0 grown round same settle firstSets wordAt records stateArea productionArea loose productionRecords looseRecords names against chainBy chain productionChain symbolChain itemChain edgeChain symbolAt itemAt edgeAt orZero ownerOf productionOf stateOf productionsOf meaning sameItem sameNode setsOf prefixes suffixes atCursor middle symbols spans reductions symbolWords reductionWords exampleWords cursorOf ahead meets trials enough nodeOwner labelAt labelsOf passes hands says search foundOut foundThen plainFind plainOut plainThen plainRun pathLister
+marked-ends = refl
+
+pub marked-paths :
+    handed (pathLister (meaning tableB) shiftB (item 0 1) none (whole ∷ whole ∷ whole ∷ []))
+    ∷ handed (pathLister (meaning tableB) reduceB (item 0 3) (some 1) (whole ∷ whole ∷ whole ∷ []))
+    ∷ []
+    ≡ ((0 ∷ 1 ∷ []) ∷ []) ∷ ((0 ∷ 1 ∷ []) ∷ []) ∷ []
+unfolding upFrom below mem some? every? first? joined symbolOfKind sameSymbol has single union meet without first symbolSets join firstOf first0 grown round same settle firstSets wordAt records stateArea productionArea loose productionRecords looseRecords names against chainBy chain productionChain symbolChain itemChain edgeChain symbolAt itemAt edgeAt orZero ownerOf productionOf stateOf productionsOf meaning sameItem sameNode setsOf prefixes suffixes atCursor middle symbols spans reductions symbolWords reductionWords exampleWords cursorOf ahead meets trials enough nodeOwner labelAt labelsOf passes hands says search foundOut foundThen plainFind plainOut plainThen plainRun pathLister
+marked-paths = refl
 
 -- the two graphs as a caller lends them
 abbrev pub shiftWords : List ℕ

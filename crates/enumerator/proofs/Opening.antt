@@ -18,29 +18,18 @@ use Rattle.table.proofs.Decoding.{fits}
 use Rattle.trace_graph.specs.Graph.{atItem, isNode}
 use Rattle.trace_graph.specs.Words.{edgesIn}
 use Rattle.trace_graph.specs.Fits.{itemFits, graphFits}
-use Rattle.enumerator.specs.Trials.{endsOf}
+use Rattle.enumerator.specs.Trials.{endsOf, Small}
+use Rattle.enumerator.specs.Opening.{listing, Ready}
 use Rattle.enumerator.specs.Advance.{setOf, aheadFits, lentGraphFits, asked, openIn, openBy, openOf}
 use Rattle.enumerator.specs.declared.Lookahead.{Lookahead}
 use Rattle.enumerator.specs.declared.Listing.{Listing}
 use Rattle.enumerator.specs.declared.Opened.{Opened}
 use Rattle.enumerator.specs.declared.Opened.the-variants.{Listing as Opens, Refused as NotOpened}
 use Rattle.enumerator.proofs.Nodes.{and-both}
-use Rattle.enumerator.proofs.Exact.{Small}
 use Rattle.enumerator.proofs.Edges.{small-of}
 use Rattle.enumerator.proofs.Taken.{fits-long, asked-graph}
 
--- a listing with its count, open or not
-abbrev pub listing : Item → Lookahead → ℕ → Bool → Listing
-listing i ahead c o = record { production = i .production; index = i .index; lookahead = ahead; count = c; «is_open» = o }
-
--- what opening asks
-pub record Ready (t : List ℕ) (i : Item) (ahead : Lookahead) (g : List ℕ) : Type 0 where
-  pub accepted : checkOf t ≡ Accepted
-  pub asks : asked (meaning t) i (setOf ahead) g ≡ true
-  pub long : 8193 ≤ length g
-  pub node : isNode (atItem i) (edgesIn g) ≡ true
-
--- the same, part by part
+-- what opening asks, part by part
 pub ready : (t : List ℕ) (i : Item) (ahead : Lookahead) (g : List ℕ) → checkOf t ≡ Accepted → itemFits (meaning t .productions) (i .production) (i .index) ≡ true
     → aheadFits (meaning t) (setOf ahead) ≡ true → 8193 ≤ length g → graphFits (length (meaning t .nonterminals)) (meaning t .productions) g ≡ true
     → isNode (atItem i) (edgesIn g) ≡ true → Ready t i ahead g

@@ -7,12 +7,11 @@ use mathlib.Core.Bool.{Bool, true, false}
 use mathlib.Core.List.{List, [], _∷_, _++_, map, reverse, reverseAux, append-nil}
 use Rattle.repr.specs.Lists.{mem}
 use Rattle.trace_graph.specs.Graph.{Node, atNonterminal, atItem, sameNode}
-use Rattle.enumerator.specs.Trials.{Ends, level, within, trialsFrom, walkFuel, trials}
+use Rattle.enumerator.specs.Trials.{Ends, level, within, trialsFrom, walkFuel, trials, Small}
 use Rattle.enumerator.specs.Machine.{onWalk, below, back, seek, usedOf, onward, next, Run}
 use Rattle.enumerator.proofs.Nodes.{same-eq}
 use Rattle.enumerator.proofs.Level.{level-hit, level-miss, within-on, within-in, free, free-lt, free-all}
 use Rattle.enumerator.proofs.Steps.{seek-hit, seek-miss, onward-on, onward-in}
-use Rattle.enumerator.proofs.Exact.{Small}
 
 -- the stack of a path over a stack
 abbrev pub onto : List ℕ → List ℕ → List ℕ

@@ -8,11 +8,11 @@ use lib.Dec.{ltb}
 use borrow.Author.Tests.{lt-ltb, ltb-true, not-true}
 use Rattle.repr.specs.Lists.{mem, some?}
 use Rattle.trace_graph.specs.Graph.{Node, atNonterminal, atItem, sameNode}
-use Rattle.enumerator.specs.Trials.{Path, Ends, TrialFrom, trials, isExample}
+use Rattle.enumerator.specs.Trials.{Path, Ends, TrialFrom, trials, isExample, Small}
 use Rattle.enumerator.specs.Words.{scratchWords, wordsOf, pathIn, sameWords, holdsTrial}
 use Rattle.enumerator.specs.Machine.{goesOn, trialFrom?}
 use Rattle.enumerator.proofs.Nodes.{and-left, and-right, same-eq, same-refl}
-use Rattle.enumerator.proofs.Exact.{Small, sound, complete}
+use Rattle.enumerator.proofs.Exact.{sound, complete}
 use Rattle.enumerator.proofs.SameWords.{found-of-member, member-of-found}
 
 module _ (G : Ends) where

@@ -5,12 +5,11 @@ use mathlib.Core.Bool.{Bool, true, false}
 use mathlib.Core.List.{List, [], _∷_, map, reverse, reverse-reverse}
 use mathlib.Core.Option.{Option, none, some}
 use Rattle.trace_graph.specs.Graph.{Node}
-use Rattle.enumerator.specs.Trials.{Path, Ends, trials}
+use Rattle.enumerator.specs.Trials.{Path, Ends, trials, Small}
 use Rattle.enumerator.specs.Words.{pathIn, holdsTrial}
 use Rattle.enumerator.specs.Lister.{hit, out, over, search}
 use Rattle.enumerator.specs.Advance.{restOf}
 use Rattle.enumerator.specs.Machine.{next, Run, walk, stackFrom}
-use Rattle.enumerator.proofs.Exact.{Small}
 use Rattle.enumerator.proofs.Run.{next-runs}
 use Rattle.enumerator.proofs.After.{next-after}
 use Rattle.enumerator.proofs.Search.{search-hit, search-on}

@@ -9,11 +9,11 @@ use lib.ListN.{length, take, drop, replicate, length-append, length-replicate, t
 use lib.Seq.{take-at}
 use Rattle.repr.specs.Lists.{some?}
 use Rattle.trace_graph.specs.Graph.{Node}
-use Rattle.enumerator.specs.Trials.{Path, Ends, IsTrial, trials, isExample}
+use Rattle.enumerator.specs.Trials.{Path, Ends, IsTrial, trials, isExample, Small}
 use Rattle.enumerator.specs.Words.{scratchWords, wordsOf, pathIn, sameWords, holdsTrial}
 use Rattle.enumerator.proofs.Nodes.{and-left, and-right}
 use Rattle.enumerator.proofs.Short.{short-trial}
-use Rattle.enumerator.proofs.Exact.{Small, sound, complete}
+use Rattle.enumerator.proofs.Exact.{sound, complete}
 use Rattle.enumerator.proofs.SameWords.{same-words-eq, eq-same-words, found-of-member, member-of-found}
 
 pub words-long : (p : Path) → length p ≤ 31999 → length (wordsOf p) ≡ 32000

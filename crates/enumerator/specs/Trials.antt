@@ -3,7 +3,8 @@
 use Prim.Native.Nat.{ℕ, zero, suc, _+_, _≤_, _<_}
 use mathlib.Core.Path.{_≡_}
 use mathlib.Core.Bool.{Bool, true, false}
-use mathlib.Core.List.{List, [], _∷_, _++_, map}
+use mathlib.Core.Logic.{_↔_}
+use mathlib.Core.List.{List, [], _∷_, _++_, map, List·Memᴰ}
 use lib.ListN.{getD, length}
 use Rattle.repr.specs.Lists.{mem}
 use Rattle.repr.specs.Meaning.{Item}
@@ -90,3 +91,12 @@ Increasing (p ∷ ps) = AllPaths (Before p) ps × Increasing ps
 abbrev pub Distinct : List Path → Type 0
 Distinct [] = Unit {0}
 Distinct (p ∷ ps) = AllPaths (λ q. p ≡ q → ⊥) ps × Distinct ps
+
+-- what a graph that fits gives (`small-of` of proofs/Edges): every nonterminal that an edge comes from is below 32
+abbrev pub Small : Ends → Type 0
+Small G = (e n : ℕ) → e < G .count → G .source e ≡ atNonterminal n → n < 32
+
+-- a list of all trials and of nothing else, in document 01's order: there is one only (`trials-only` of proofs/Unique)
+pub record Enumerates (G : Ends) (start : Node) (ps : List Path) : Type 0 where
+  pub order : Increasing ps
+  pub members : (p : Path) → List·Memᴰ p ps ↔ IsTrial G start p

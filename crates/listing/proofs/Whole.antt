@@ -40,7 +40,7 @@ module _ (t : List ℕ) (i : Item) (ahead : Lookahead) (cs g scratch out : List 
   unfolding listBy endedOf finished
   all-made l e s x h =
       ap (finished (length cs / 3)) h
-      ∙ ap (λ (ls : List Left). listed (Calls (length cs / 3)) (scratchAfter t g l scratch (lentsIn cs out)) (recordsOf ls ++ drop (outputWords cs) out)) (demand t i ahead g l e scratch (lentsIn cs out))
+      ∙ ap (λ (ls : List Left). listed (Calls (length cs / 3)) (scratchAfter t g l scratch (lentsIn cs out)) (recordsOf ls ++ drop (outputWords cs) out)) (demand t i ahead g l e scratch (lentsIn cs out) .same)
 
   module _ (k : ℕ) (ek : k ≡ callsRefusal cs (length out)) (o : Opened) (eo : o ≡ openOf t i ahead g) where
     pub opening-refused : (n r : ℕ) → o ≡ NotOpened n r → k ≡ 0 → listed (NotListed n r) scratch out ≡ listOf t i ahead cs g scratch out

@@ -12,12 +12,11 @@ use Rattle.trace_graph.specs.Graph.{Node, atItem}
 use Rattle.trace_graph.specs.Words.{edgesIn}
 use Rattle.trace_graph.proofs.Fits.{productions-long}
 use Rattle.example.proofs.Labels.{short-in}
-use Rattle.enumerator.specs.Trials.{Path, Ends, endsOf, trials}
+use Rattle.enumerator.specs.Trials.{Path, Ends, endsOf, trials, Small}
 use Rattle.enumerator.specs.Lister.{hit, out, over, search}
 use Rattle.enumerator.specs.Words.{wordsOf}
 use Rattle.enumerator.specs.Machine.{next, Run, walk}
 use Rattle.enumerator.specs.Stacks.{Ground, Started, Stacked, stepped, stepOf}
-use Rattle.enumerator.proofs.Exact.{Small}
 use Rattle.enumerator.proofs.Run.{next-runs}
 use Rattle.enumerator.proofs.After.{next-after}
 use Rattle.enumerator.proofs.Short.{short-trial}
