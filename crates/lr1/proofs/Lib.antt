@@ -1,2 +1,3 @@
 pub mod Entered
 pub mod Graphs
+pub mod Textbook
