@@ -12,9 +12,9 @@ use table::Checked;
 use table_check::check;
 ghost use mathlib.Core.Path.{_≡_};
 ghost use Prim.Native.Nat.{_+_, _*_, _≤_, _<_};
-ghost use lib.ListN.{length, take};
+ghost use lib.ListN.{length};
 ghost use Rattle.error.specs.Outcome.{classifyOf};
-ghost use Rattle.explain.specs.Printed.{conflictAt, printed};
+ghost use Rattle.explain.specs.Printed.{conflictAt, Prints};
 
 // One line for a refusal of the table (number 0) or of a conflict.
 fn say_refused(number: u64, refusal: u16, place: u16) -> bool {
@@ -34,7 +34,7 @@ fn conflict_lines(
     out: &mut [u8],
 ) -> usize
     requires { ⌜ 65536 ≤ length (now out) ⌝ }
-    ensures { λ r. ⌜ (take r (now (out .exit)) ≡ printed number (classifyOf (now (table .entry)) conflict (now (scratch .entry)) (now (action .entry)) (now (reduce .entry)))) × (r ≤ length (now (out .exit))) ⌝ }
+    ensures { λ r. ⌜ Prints number (classifyOf (now (table .entry)) conflict (now (scratch .entry)) (now (action .entry)) (now (reduce .entry))) (now (out .exit)) r ⌝ }
 {
     let classified = classify(table, conflict, scratch, action, reduce);
     lines(out, number, classified, action, reduce)

@@ -2,19 +2,17 @@
 use Prim.Native.Nat.{ℕ, zero, suc, _+_, _-_, _*_, _≤_, _<_}
 use native.Mathlib.Omega.{arith}
 use mathlib.Core.Path.{_≡_, refl, sym, ap, _∙_, subst}
-use mathlib.Core.Bool.{Bool, true, false, _&&_}
 use mathlib.Core.List.{List, [], _∷_, _++_, append-assoc, append-nil}
-use lib.Dec.{eqb, leb}
 use lib.ListN.{length, getD, take, drop, length-drop}
 use lib.Seq.{take-add, drop-cons, take-all, length-take-le}
-use borrow.Author.Tests.{le-leb, lt-leb, eq-eqb, ne-eqb}
+use borrow.Author.Tests.{eq-eqb, ne-eqb}
 use Rattle.repr.specs.Lists.{joined}
 use Rattle.error.specs.Numbers.{classNumber, classValues, readingOf}
 use Rattle.error.specs.declared.Class.{Class}
 use Rattle.error.specs.declared.Class.the-variants.{Naive, Ambiguity, Precedence, SuggestInline, SuggestQuestion, AmbiguousReduction, InsufficientLookahead}
 use Rattle.error.specs.declared.Classified.{Classified}
 use Rattle.error.specs.declared.Classified.the-variants.{Class as IsClass, Refused}
-use Rattle.lines.specs.Lines.{Put, Counted, numeral, spaced, symbolText, reductionText, symbolTexts, reductionTexts, isWhole, wholeLine, exampleLine, ownText, classLine, refusedText, refusedLine, exampleLines, linesOf}
+use Rattle.lines.specs.Lines.{Put, Shown, ReadingShown, numeral, spaced, symbolText, reductionText, symbolTexts, reductionTexts, exampleLine, ownText, classLine, refusedText, refusedLine, exampleLines, linesOf}
 use Rattle.lines.proofs.Laws.{put-nothing, put-then, put-as, put-all, put-within}
 
 pub symbol-put : {a b c : List ℕ} {at m r : ℕ} (k n : ℕ) → Put a at (32 ∷ numeral k) b m → Put b m (47 ∷ numeral n) c r → Put a at (symbolText k n) c r
@@ -180,64 +178,19 @@ rest-is k l = let e = length-drop k l in take-all (length l - k) (drop k l) (ome
 pub rest-long : (m k : ℕ) (l : List ℕ) → k + m ≤ length l → m ≤ length (take (length l - k) (drop k l))
 rest-long m k l h = let e = length-drop k l in let f = ap length (rest-is k l) in omega (arith, e, f)
 
-pub whole-put : {a b c d e f g : List ℕ} {at m₁ m₂ m₃ m₄ m₅ r : ℕ} {letter cursor s q : ℕ} {example : List ℕ} → Counted example s q → cursor ≡ getD example 1 0
+pub example-put : {a b c d e f g : List ℕ} {at m₁ m₂ m₃ m₄ m₅ r : ℕ} {letter cursor s q : ℕ} (example : List ℕ) → s ≡ getD example 0 0 → cursor ≡ getD example 1 0 → q ≡ getD example 2 0
     → Put a at (letter ∷ []) b m₁ → Put b m₁ (32 ∷ numeral s) c m₂ → Put c m₂ (32 ∷ numeral cursor) d m₃
     → Put d m₃ (symbolTexts (take (2 * s) (take (length example - 3) (drop 3 example)))) e m₄
     → Put e m₄ (reductionTexts (take (3 * q) (take (length example - (3 + s * 2)) (drop (3 + s * 2) example)))) f m₅
-    → Put f m₅ (10 ∷ []) g r → Put a at (wholeLine letter example) g r
-unfolding wholeLine spaced
-whole-put {s = s} {q} {example} C ec P Q R S T U =
-    let es = C .symbols-are in
-    let eq = C .reductions-are in
+    → Put f m₅ (10 ∷ []) g r → Put a at (exampleLine letter example) g r
+unfolding exampleLine spaced
+example-put {s = s} {q} example es ec eq P Q R S T U =
     let en : 3 + s * 2 ≡ 3 + 2 * getD example 0 0 = omega arith in
     let Q' = put-as Q (ap (λ (k : ℕ). 32 ∷ numeral k) es) in
     let R' = put-as R (ap (λ (k : ℕ). 32 ∷ numeral k) ec) in
     let S' = put-as S (ap (λ (l : List ℕ). symbolTexts (take (2 * s) l)) (rest-is 3 example) ∙ ap (λ (k : ℕ). symbolTexts (take (2 * k) (drop 3 example))) es) in
     let T' = put-as T (ap (λ (l : List ℕ). reductionTexts (take (3 * q) l)) (rest-is (3 + s * 2) example) ∙ ap (λ (k : ℕ). reductionTexts (take (3 * k) (drop (3 + s * 2) example))) eq ∙ ap (λ (k : ℕ). reductionTexts (take (3 * getD example 2 0) (drop k example))) en) in
     put-then P (put-then Q' (put-then R' (put-then S' (put-then T' U))))
-
-none-put : (a : List ℕ) (at letter : ℕ) (b : List ℕ) → isWhole b ≡ false → Put a at (exampleLine letter b) a at × (at ≤ at + 24299)
-unfolding exampleLine
-none-put a at letter b e = (rw (e, exampleLine) (put-nothing a at), omega arith)
-
-short : (b : List ℕ) → length b < 3 → isWhole b ≡ false
-unfolding isWhole
-short b h = rw (lt-leb 3 (length b) h)
-
-many : (b : List ℕ) → 3 ≤ length b → 528 < getD b 0 0 → isWhole b ≡ false
-unfolding isWhole
-many b h m = rw (le-leb 3 (length b) h, lt-leb (getD b 0 0) 528 m)
-
-more : (b : List ℕ) → 3 ≤ length b → getD b 0 0 ≤ 528 → 33 < getD b 2 0 → isWhole b ≡ false
-unfolding isWhole
-more b h m n = rw (le-leb 3 (length b) h, le-leb (getD b 0 0) 528 m, lt-leb (getD b 2 0) 33 n)
-
-cut : (b : List ℕ) → 3 ≤ length b → getD b 0 0 ≤ 528 → getD b 2 0 ≤ 33 → length b < 3 + 2 * getD b 0 0 + 3 * getD b 2 0 → isWhole b ≡ false
-unfolding isWhole
-cut b h m n l = rw (le-leb 3 (length b) h, le-leb (getD b 0 0) 528 m, le-leb (getD b 2 0) 33 n, lt-leb (3 + 2 * getD b 0 0 + 3 * getD b 2 0) (length b) l)
-
-whole : (b : List ℕ) → 3 ≤ length b → getD b 0 0 ≤ 528 → getD b 2 0 ≤ 33 → 3 + 2 * getD b 0 0 + 3 * getD b 2 0 ≤ length b → isWhole b ≡ true
-unfolding isWhole
-whole b h m n l = rw (le-leb 3 (length b) h, le-leb (getD b 0 0) 528 m, le-leb (getD b 2 0) 33 n, le-leb (3 + 2 * getD b 0 0 + 3 * getD b 2 0) (length b) l)
-
-pub example-short : (a : List ℕ) (at letter : ℕ) (b : List ℕ) → length b < 3 → Put a at (exampleLine letter b) a at × (at ≤ at + 24299)
-example-short a at letter b h = none-put a at letter b (short b h)
-
-pub example-symbols : (a : List ℕ) (at letter : ℕ) (b : List ℕ) {x : ℕ} → 3 ≤ length b → x ≡ getD b 0 0 → 528 < x → Put a at (exampleLine letter b) a at × (at ≤ at + 24299)
-example-symbols a at letter b h e m = none-put a at letter b (many b h (omega (arith, e, m)))
-
-pub example-reductions : (a : List ℕ) (at letter : ℕ) (b : List ℕ) {x y : ℕ} → 3 ≤ length b → x ≡ getD b 0 0 → x ≤ 528 → y ≡ getD b 2 0 → 33 < y → Put a at (exampleLine letter b) a at × (at ≤ at + 24299)
-example-reductions a at letter b h e m f n = none-put a at letter b (more b h (omega (arith, e, m)) (omega (arith, f, n)))
-
-pub example-cut : (a : List ℕ) (at letter : ℕ) (b : List ℕ) {x y : ℕ} → 3 ≤ length b → x ≡ getD b 0 0 → x ≤ 528 → y ≡ getD b 2 0 → y ≤ 33 → length b < 3 + x * 2 + y * 3 → Put a at (exampleLine letter b) a at × (at ≤ at + 24299)
-example-cut a at letter b h e m f n l = none-put a at letter b (cut b h (omega (arith, e, m)) (omega (arith, f, n)) (omega (arith, e, f, l)))
-
-pub example-counted : (b : List ℕ) {x y : ℕ} → x ≡ getD b 0 0 → x ≤ 528 → y ≡ getD b 2 0 → y ≤ 33 → 3 + x * 2 + y * 3 ≤ length b → Counted b x y
-example-counted b e m f n l = record { symbols-are = e; reductions-are = f; few-symbols = m; few-reductions = n; long = omega (arith, l) }
-
-pub example-put : {a c : List ℕ} {at r : ℕ} (letter : ℕ) {b : List ℕ} {x y : ℕ} → Counted b x y → 3 ≤ length b → Put a at (wholeLine letter b) c r → Put a at (exampleLine letter b) c r
-unfolding exampleLine
-example-put letter {b = b} C h P = let es = C .symbols-are in let er = C .reductions-are in let ms = C .few-symbols in let mr = C .few-reductions in let l = C .long in rw (whole b h (omega arith) (omega arith) (omega arith), exampleLine) P
 
 -- which examples are shown
 pub examples-naive : (a : List ℕ) (at k : ℕ) (x y : List ℕ) → k ≡ 0 → Put a at (exampleLines k x y) a at
@@ -263,3 +216,7 @@ unfolding linesOf readingOf
 lines-class n x y e f P Q =
     let W = put-then P (put-as Q (ap (λ (z : ℕ). exampleLines z x y) f)) in
     (rw e (put-all W), put-within W)
+
+pub class-shown : {k : Classified} {i j v : ℕ} {x y : List ℕ} {q : Class} → k ≡ IsClass q i j → v ≡ classNumber q → ReadingShown (readingOf k) x y → Shown v x y
+unfolding ReadingShown readingOf
+class-shown {x = x} {y} e f S = subst (λ (n : ℕ). Shown n x y) (sym f) (rw e at S)

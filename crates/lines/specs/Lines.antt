@@ -1,10 +1,10 @@
 -- The lines that the explaining program prints (document 01, Table B and its program run), as bytes. Assumes nothing: these are definitions.
 use Prim.Native.Nat.{ℕ, zero, suc, _+_, _*_, _/_, _%_, _≤_}
 use mathlib.Core.Path.{_≡_}
-use mathlib.Core.Bool.{Bool, true, false, _&&_}
+use mathlib.Core.Bool.{true, false}
 use mathlib.Core.List.{List, [], _∷_, _++_}
 use lib.ListN.{length, getD, take, drop}
-use lib.Dec.{eqb, leb, ltb}
+use lib.Dec.{eqb, ltb}
 use Rattle.repr.specs.Lists.{joined}
 use Rattle.error.specs.Numbers.{Reading, classed, refused}
 
@@ -39,21 +39,14 @@ reductionTexts (a ∷ []) = []
 reductionTexts (a ∷ b ∷ []) = []
 reductionTexts (a ∷ b ∷ n ∷ ws) = reductionText a b n ++ reductionTexts ws
 
--- an example's words are whole: its counts within the limits, and its symbols and reductions there
-unfoldable pub isWhole : List ℕ → Bool
-isWhole b = leb 3 (length b) && (leb (getD b 0 0) 528 && (leb (getD b 2 0) 33 && leb (3 + 2 * getD b 0 0 + 3 * getD b 2 0) (length b)))
-
--- `a` or `r`, then length (places in the symbol list), cursor, symbols, reductions; nothing for words that are no example
-unfoldable pub wholeLine : ℕ → List ℕ → List ℕ
-wholeLine letter b =
+-- `a` or `r`, then length (places in the symbol list), cursor, symbols, reductions
+unfoldable pub exampleLine : ℕ → List ℕ → List ℕ
+exampleLine letter b =
     letter
     ∷ (spaced (getD b 0 0)
     ++ (spaced (getD b 1 0)
     ++ (symbolTexts (take (2 * getD b 0 0) (drop 3 b))
     ++ (reductionTexts (take (3 * getD b 2 0) (drop (3 + 2 * getD b 0 0) b)) ++ (10 ∷ [])))))
-
-unfoldable pub exampleLine : ℕ → List ℕ → List ℕ
-exampleLine letter b = elim (isWhole b) [ false ↦ [] | true ↦ wholeLine letter b ]
 
 -- the class's own: nonterminal (2, 3), nonterminal and kind/number (4), four span words (5)
 unfoldable pub ownText : List ℕ → List ℕ
@@ -92,10 +85,17 @@ pub record Put (old : List ℕ) (at : ℕ) (text new : List ℕ) (after : ℕ) :
   pub place : after ≡ at + length text
   pub long : length new ≡ length old
 
--- the counts of an example's words, which are whole
-pub record Counted (b : List ℕ) (symbols reductions : ℕ) : Type 0 where
-  pub symbols-are : symbols ≡ getD b 0 0
-  pub reductions-are : reductions ≡ getD b 2 0
-  pub few-symbols : symbols ≤ 528
-  pub few-reductions : reductions ≤ 33
-  pub long : 3 + 2 * symbols + 3 * reductions ≤ length b
+-- an example's words are whole: its counts within document 01's limits, and all its symbols and reductions there
+pub record Whole (b : List ℕ) : Type 0 where
+  pub few-symbols : getD b 0 0 ≤ 528
+  pub few-reductions : getD b 2 0 ≤ 33
+  pub long : 3 + 2 * getD b 0 0 + 3 * getD b 2 0 ≤ length b
+
+-- the examples that are shown with class c are whole: both of classes 1 to 4 and 6, the action's of class 5
+pub record Shown (c : ℕ) (action reduce : List ℕ) : Type 0 where
+  pub action-whole : (c ≡ 0 → ⊥) → Whole action
+  pub reduce-whole : (c ≡ 0 → ⊥) → (c ≡ 5 → ⊥) → Whole reduce
+
+unfoldable pub ReadingShown : Reading → List ℕ → List ℕ → Type 0
+ReadingShown (refused n p) action reduce = Unit {0}
+ReadingShown (classed c vs m n) action reduce = Shown c action reduce

@@ -8,7 +8,7 @@ ghost use mathlib.Core.List.{_++_, _∷_, []};
 ghost use Prim.Native.Nat.{_+_, _*_, _≤_, _<_};
 ghost use lib.ListN.{length, take, drop};
 ghost use Rattle.error.specs.Numbers.{classNumber, classValues, readingOf};
-ghost use Rattle.lines.specs.Lines.{Put, Counted, wholeLine, numeral, symbolText, reductionText, symbolTexts, reductionTexts, exampleLine, ownText, refusedText, refusedLine, classLine, exampleLines, linesOf};
+ghost use Rattle.lines.specs.Lines.{Put, Whole, Shown, ReadingShown, numeral, symbolText, reductionText, symbolTexts, reductionTexts, exampleLine, ownText, refusedText, refusedLine, classLine, exampleLines, linesOf};
 
 // A byte; the place after it.
 fn put(out: &mut [u8], at: usize, byte: u8) -> usize
@@ -106,20 +106,15 @@ fn put_reductions(out: &mut [u8], at: usize, words: &[u16], n: usize) -> usize
     place
 }
 
-// The line of a whole example.
-fn put_whole(
-    out: &mut [u8],
-    at: usize,
-    letter: u8,
-    example: &[u16],
-    symbols: usize,
-    reductions: usize,
-) -> usize
-    requires { ⌜ Counted (now example) symbols reductions ⌝ }
+// The line of an example, `a` or `r`.
+fn put_example(out: &mut [u8], at: usize, letter: u8, example: &[u16]) -> usize
+    requires { ⌜ Whole (now example) ⌝ }
     requires { ⌜ at + 24299 ≤ length (now out) ⌝ }
-    ensures { λ r. ⌜ Put (now (out .entry)) at (wholeLine letter (now (example .entry))) (now (out .exit)) r × (r ≤ at + 24299) ⌝ }
+    ensures { λ r. ⌜ Put (now (out .entry)) at (exampleLine letter (now (example .entry))) (now (out .exit)) r × (r ≤ at + 24299) ⌝ }
 {
+    let symbols = word(example, 0);
     let cursor = word(example, 1);
+    let reductions = word(example, 2);
     let first = put(out, at, letter);
     let second = put_after(out, first, b' ', symbols as u64);
     let third = put_after(out, second, b' ', cursor as u64);
@@ -127,28 +122,6 @@ fn put_whole(
     let from = 3 + symbols * 2;
     let fifth = put_reductions(out, fourth, &example[from..], reductions);
     put(out, fifth, b'\n')
-}
-
-// The line of an example, `a` or `r`; nothing for words that are no example.
-fn put_example(out: &mut [u8], at: usize, letter: u8, example: &[u16]) -> usize
-    requires { ⌜ at + 24299 ≤ length (now out) ⌝ }
-    ensures { λ r. ⌜ Put (now (out .entry)) at (exampleLine letter (now (example .entry))) (now (out .exit)) r × (r ≤ at + 24299) ⌝ }
-{
-    if example.len() < 3 {
-        return at;
-    }
-    let symbols = word(example, 0);
-    let reductions = word(example, 2);
-    if symbols > 528 {
-        return at;
-    }
-    if reductions > 33 {
-        return at;
-    }
-    if example.len() < 3 + symbols * 2 + reductions * 3 {
-        return at;
-    }
-    put_whole(out, at, letter, example, symbols, reductions)
 }
 
 // A class's own values.
@@ -208,6 +181,7 @@ pub fn refused_line(out: &mut [u8], number: u64, refusal: u16, place: u16) -> us
 
 // The examples shown with a class: naive none, class 5 the action's.
 fn put_examples(out: &mut [u8], at: usize, class: u16, action: &[u16], reduce: &[u16]) -> usize
+    requires { ⌜ Shown class (now action) (now reduce) ⌝ }
     requires { ⌜ at + 48598 ≤ length (now out) ⌝ }
     ensures { λ r. ⌜ Put (now (out .entry)) at (exampleLines class (now (action .entry)) (now (reduce .entry))) (now (out .exit)) r ⌝ }
 {
@@ -229,6 +203,7 @@ pub fn lines(
     action: &[u16],
     reduce: &[u16],
 ) -> usize
+    requires { ⌜ ReadingShown (readingOf classified) (now action) (now reduce) ⌝ }
     requires { ⌜ 65536 ≤ length (now out) ⌝ }
     ensures { λ r. ⌜ (take r (now (out .exit)) ≡ linesOf number (readingOf classified) (now (action .entry)) (now (reduce .entry))) × (r ≤ length (now (out .exit))) ⌝ }
 {

@@ -1,6 +1,7 @@
 -- `conflict_lines` meets its contract. Assumes nothing.
 use mathlib.Core.Path.{ap, _∙_}
 use Rattle.explain.specs.Printed.{printed}
+use Rattle.explain.proofs.Whole.{outcome-shown, reading-shown}
 use native.Mathlib.Omega.{arith}
 use borrow.Author.Needs.{needs}
 use Rattle.explain.proofs.conflict_lines.Statement.{statement}
@@ -14,7 +15,7 @@ classify-requires : tie.Need-classify-requires
 classify-requires c κs = search needs
 
 lines-requires : tie.Need-lines-requires
-lines-requires c κs = search needs
+lines-requires c κs = (reading-shown (c .before .before .before .before .before .before .before .before .before .classify .ensures) (outcome-shown _ _ _ _ _), search needs)
 
 same-length : tie.Need-same-length
 same-length c = search needs
@@ -30,7 +31,7 @@ same-length-4 c = search needs
 
 returns : tie.Need-returns
 unfolding printed
-returns c = (c .before .before .lines .ensures .0 ∙ ap (printed (c .before .before .before .before .before .before .before .before .before .before .before .before .before .before .before .before .before .before .before .before .before .args .number)) (c .before .before .before .before .before .before .before .before .before .before .before .before .classify .ensures), c .before .before .lines .ensures .1)
+returns c = record { text = c .before .before .lines .ensures .0 ∙ ap (printed (c .before .before .before .before .before .before .before .before .before .before .before .before .before .before .before .before .before .before .before .before .before .args .number)) (c .before .before .before .before .before .before .before .before .before .before .before .before .classify .ensures); whole = outcome-shown _ _ _ _ _; within = c .before .before .lines .ensures .1 }
 
 pub conflict-lines-spec : {M : Type 1} → statement M
 conflict-lines-spec =

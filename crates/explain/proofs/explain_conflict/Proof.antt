@@ -17,7 +17,7 @@ slice-reshare-prefix-write-all : tie.Need-slice-reshare-prefix-write-all
 slice-reshare-prefix-write-all c = search needs
 
 slice-aggregate-write-all : tie.Need-slice-aggregate-write-all
-slice-aggregate-write-all c = sym (length-take-le _ _ (c .before .before .before .before .before .before .before .before .before .conflict-lines .ensures .1))
+slice-aggregate-write-all c = sym (length-take-le _ _ (c .before .before .before .before .before .before .before .before .before .conflict-lines .ensures .within))
 
 write-all-requires : tie.Need-write-all-requires
 write-all-requires c κs = search needs

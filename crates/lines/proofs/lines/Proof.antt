@@ -1,5 +1,5 @@
 -- `lines` meets its contract. Assumes nothing.
-use Rattle.lines.proofs.Texts.{lines-refused, lines-class}
+use Rattle.lines.proofs.Texts.{lines-refused, lines-class, class-shown}
 use native.Mathlib.Omega.{arith}
 use borrow.Author.Needs.{needs}
 use Rattle.lines.proofs.lines.Statement.{statement}
@@ -27,7 +27,7 @@ class-number-requires : tie.Need-class-number-requires
 class-number-requires c κs = search needs
 
 put-examples-requires : tie.Need-put-examples-requires
-put-examples-requires c κs = search needs
+put-examples-requires c κs = (class-shown (c .before .before .before .before .before .before .before .classified2 .given .1) (c .class-number .ensures) (c .before .before .before .before .before .before .before .before .before .before .before .before .pre .0), search needs)
 
 same-length : tie.Need-same-length
 same-length c = search needs

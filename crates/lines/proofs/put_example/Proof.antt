@@ -1,67 +1,121 @@
 -- `put_example` meets its contract. Assumes nothing.
-use Rattle.lines.proofs.Texts.{example-short, example-symbols, example-reductions, example-cut, example-counted, example-put}
+use Rattle.lines.proofs.Laws.{put-as}
+use Prim.Native.Nat.{_+_, _*_}
+use mathlib.Core.Path.{_∙_}
+use Rattle.lines.proofs.Texts.{example-put, rest-long}
 use borrow.Author.Needs.{needs}
 use native.Mathlib.Omega.{arith}
 use Rattle.lines.proofs.put_example.Statement.{statement}
 use Rattle.lines.proofs.put_example.Tie as tie
 use Rattle.lines.proofs.put_example.Reads as reads
 use Rattle.lines.proofs.put_example.Lts as lts
-use Rattle.lines.proofs.put_whole.Reads as put-whole-reads
+use Rattle.lines.proofs.put.Reads as put-reads
+use Rattle.lines.proofs.put_after.Reads as put-after-reads
+use Rattle.lines.proofs.put_reductions.Reads as put-reductions-reads
+use Rattle.lines.proofs.put_symbols.Reads as put-symbols-reads
 use Rattle.repr.proofs.word.Reads as word-reads
 
-returns : tie.Need-returns
-returns c = example-short _ _ _ _ (c .if1 .taken)
-
+-- src/lib.rt:115:9
 word-requires : tie.Need-word-requires
-word-requires c κs = omega (arith, c .if1 .left)
+word-requires c κs = omega (arith, c .before .before .pre .0 .long)
 
+-- src/lib.rt:116:9
 word-requires-2 : tie.Need-word-requires-2
-word-requires-2 c κs = omega (arith, c .before .if1 .left)
+word-requires-2 c κs = omega (arith, c .before .before .before .pre .0 .long)
 
-returns-2 : tie.Need-returns-2
-returns-2 c = example-symbols _ _ _ _ (c .before .before .before .if1 .left) (c .before .before .word .ensures .0) (c .if2 .taken)
+-- src/lib.rt:117:9
+word-requires-3 : tie.Need-word-requires-3
+word-requires-3 c κs = omega (arith, c .before .before .before .before .pre .0 .long)
 
-returns-3 : tie.Need-returns-3
-returns-3 c = example-reductions _ _ _ _ (c .before .before .before .before .if1 .left) (c .before .before .before .word .ensures .0) (c .before .if2 .left) (c .before .before .word2 .ensures .0) (c .if3 .taken)
+-- src/lib.rt:118:9
+put-requires : tie.Need-put-requires
+put-requires c κs = omega (arith, c .before .before .before .before .before .before .pre .1)
 
-mul-if4 : tie.Need-mul-if4
-mul-if4 c = omega (arith, c .before .if2 .left)
+-- src/lib.rt:119:9
+put-after-requires : tie.Need-put-after-requires
+put-after-requires c κs = let p = c .before .before .before .put .ensures .place in let l = c .before .before .before .put .ensures .long in omega (arith, c .before .before .before .before .before .before .before .before .before .before .pre .1, p, l)
 
-add-if4 : tie.Need-add-if4
-add-if4 c = omega (arith, c .before .if2 .left)
+-- src/lib.rt:120:9
+put-after-requires-2 : tie.Need-put-after-requires-2
+put-after-requires-2 c κs = let p = c .before .before .before .before .before .before .before .put .ensures .place in let l = c .before .before .before .before .before .before .before .put .ensures .long in let k = c .before .before .before .put-after .ensures .0 .long in omega (arith, c .before .before .before .before .before .before .before .before .before .before .before .before .before .before .pre .1, p, l, k, c .before .before .before .put-after .ensures .1)
 
-mul-if4-2 : tie.Need-mul-if4-2
-mul-if4-2 c = omega (arith, c .if3 .left)
+-- src/lib.rt:121:42
+sub-put-symbols : tie.Need-sub-put-symbols
+sub-put-symbols c = omega (arith, c .before .before .before .before .before .before .before .before .before .before .before .before .before .before .before .before .before .before .pre .0 .long)
 
-add-if4-2 : tie.Need-add-if4-2
-add-if4-2 c = omega (arith, c .before .if2 .left, c .if3 .left)
+-- src/lib.rt:121:42
+part-put-symbols-start : tie.Need-part-put-symbols-start
+part-put-symbols-start c = search needs
 
-returns-4 : tie.Need-returns-4
-returns-4 c = example-cut _ _ _ _ (c .before .before .before .before .before .if1 .left) (c .before .before .before .before .word .ensures .0) (c .before .before .if2 .left) (c .before .before .before .word2 .ensures .0) (c .before .if3 .left) (c .if4 .taken)
+-- src/lib.rt:121:42
+part-put-symbols-end : tie.Need-part-put-symbols-end
+part-put-symbols-end c = omega (arith, c .before .before .before .before .before .before .before .before .before .before .before .before .before .before .before .before .before .before .pre .0 .long)
 
-put-whole-requires : tie.Need-put-whole-requires
-put-whole-requires c κs = (example-counted _ (c .before .before .before .before .before .word .ensures .0) (c .before .before .before .if2 .left) (c .before .before .before .before .word2 .ensures .0) (c .before .before .if3 .left) (c .before .if4 .left), c .before .before .before .before .before .before .before .before .before .pre)
+-- src/lib.rt:121:9
+put-symbols-requires : tie.Need-put-symbols-requires
+put-symbols-requires c κs = let p = c .before .before .before .before .before .before .before .before .before .before .before .before .put .ensures .place in let l = c .before .before .before .before .before .before .before .before .before .before .before .before .put .ensures .long in let k = c .before .before .before .before .before .before .before .before .put-after .ensures .0 .long in let j = c .before .before .before .before .put-after2 .ensures .0 .long in ((rest-long (2 * c .before .before .before .before .before .before .before .before .before .before .before .before .before .before .before .before .word .result) 3 (c .before .before .before .before .before .before .before .before .before .before .before .before .before .before .before .before .before .before .before .args .example .now) (omega (arith, c .before .before .before .before .before .before .before .before .before .before .before .before .before .before .before .before .before .before .before .pre .0 .long, c .before .before .before .before .before .before .before .before .before .before .before .before .before .before .before .before .word .ensures .0)), omega (arith, c .before .before .before .before .before .before .before .before .before .before .before .before .before .before .before .before .before .before .before .pre .0 .few-symbols, c .before .before .before .before .before .before .before .before .before .before .before .before .before .before .before .before .word .ensures .0)), omega (arith, c .before .before .before .before .before .before .before .before .before .before .before .before .before .before .before .before .before .before .before .pre .1, c .before .before .before .before .before .before .before .before .before .before .before .before .before .before .before .before .before .before .before .pre .0 .few-symbols, c .before .before .before .before .before .before .before .before .before .before .before .before .before .before .before .before .word .ensures .0, p, l, k, j, c .before .before .before .before .before .before .before .before .put-after .ensures .1, c .before .before .before .before .put-after2 .ensures .1))
 
+-- src/lib.rt:122:20
+mul-from : tie.Need-mul-from
+mul-from c = omega (arith, c .before .before .before .before .before .before .before .before .before .before .before .before .before .before .before .before .before .before .before .before .before .before .pre .0 .few-symbols, c .before .before .before .before .before .before .before .before .before .before .before .before .before .before .before .before .before .before .before .word .ensures .0)
+
+-- src/lib.rt:122:16
+add-from : tie.Need-add-from
+add-from c = omega (arith, c .before .before .before .before .before .before .before .before .before .before .before .before .before .before .before .before .before .before .before .before .before .before .pre .0 .few-symbols, c .before .before .before .before .before .before .before .before .before .before .before .before .before .before .before .before .before .before .before .word .ensures .0)
+
+-- src/lib.rt:123:45
+mul-put-reductions : tie.Need-mul-put-reductions
+mul-put-reductions c = omega (arith, c .before .before .before .before .before .before .before .before .before .before .before .before .before .before .before .before .before .before .before .before .before .before .before .pre .0 .few-symbols, c .before .before .before .before .before .before .before .before .before .before .before .before .before .before .before .before .before .before .before .before .word .ensures .0)
+
+-- src/lib.rt:123:45
+sub-put-reductions : tie.Need-sub-put-reductions
+sub-put-reductions c = omega (arith, c .before .before .before .before .before .before .before .before .before .before .before .before .before .before .before .before .before .before .before .before .before .before .before .pre .0 .long, c .before .before .before .before .before .before .before .before .before .before .before .before .before .before .before .before .before .before .before .before .word .ensures .0)
+
+-- src/lib.rt:123:45
+part-put-reductions-start : tie.Need-part-put-reductions-start
+part-put-reductions-start c = omega (arith, c .before .before .before .before .before .before .before .before .before .before .before .before .before .before .before .before .before .before .before .before .before .before .before .pre .0 .long, c .before .before .before .before .before .before .before .before .before .before .before .before .before .before .before .before .before .before .before .before .word .ensures .0)
+
+-- src/lib.rt:123:45
+part-put-reductions-end : tie.Need-part-put-reductions-end
+part-put-reductions-end c = omega (arith, c .before .before .before .before .before .before .before .before .before .before .before .before .before .before .before .before .before .before .before .before .before .before .before .pre .0 .long, c .before .before .before .before .before .before .before .before .before .before .before .before .before .before .before .before .before .before .before .before .word .ensures .0)
+
+-- src/lib.rt:123:9
+put-reductions-requires : tie.Need-put-reductions-requires
+put-reductions-requires c κs = let p = c .before .before .before .before .before .before .before .before .before .before .before .before .before .before .before .before .before .put .ensures .place in let l = c .before .before .before .before .before .before .before .before .before .before .before .before .before .before .before .before .before .put .ensures .long in let k = c .before .before .before .before .before .before .before .before .before .before .before .before .before .put-after .ensures .0 .long in let j = c .before .before .before .before .before .before .before .before .before .put-after2 .ensures .0 .long in let i = c .before .before .before .before .put-symbols .ensures .0 .long in ((rest-long (3 * c .before .before .before .before .before .before .before .before .before .before .before .before .before .before .before .before .before .before .before .word3 .result) (3 + c .before .before .before .before .before .before .before .before .before .before .before .before .before .before .before .before .before .before .before .before .before .word .result * 2) (c .before .before .before .before .before .before .before .before .before .before .before .before .before .before .before .before .before .before .before .before .before .before .before .before .args .example .now) (omega (arith, c .before .before .before .before .before .before .before .before .before .before .before .before .before .before .before .before .before .before .before .before .before .before .before .before .pre .0 .long, c .before .before .before .before .before .before .before .before .before .before .before .before .before .before .before .before .before .before .before .before .before .word .ensures .0, c .before .before .before .before .before .before .before .before .before .before .before .before .before .before .before .before .before .before .before .word3 .ensures .0)), omega (arith, c .before .before .before .before .before .before .before .before .before .before .before .before .before .before .before .before .before .before .before .before .before .before .before .before .pre .0 .few-reductions, c .before .before .before .before .before .before .before .before .before .before .before .before .before .before .before .before .before .before .before .word3 .ensures .0)), omega (arith, c .before .before .before .before .before .before .before .before .before .before .before .before .before .before .before .before .before .before .before .before .before .before .before .before .pre .1, c .before .before .before .before .before .before .before .before .before .before .before .before .before .before .before .before .before .before .before .before .before .before .before .before .pre .0 .few-symbols, c .before .before .before .before .before .before .before .before .before .before .before .before .before .before .before .before .before .before .before .before .before .before .before .before .pre .0 .few-reductions, c .before .before .before .before .before .before .before .before .before .before .before .before .before .before .before .before .before .before .before .before .before .word .ensures .0, c .before .before .before .before .before .before .before .before .before .before .before .before .before .before .before .before .before .before .before .word3 .ensures .0, p, l, k, j, i, c .before .before .before .before .before .before .before .before .before .before .before .before .before .put-after .ensures .1, c .before .before .before .before .before .before .before .before .before .put-after2 .ensures .1, c .before .before .before .before .put-symbols .ensures .1))
+
+-- src/lib.rt:124:5
+put-requires-2 : tie.Need-put-requires-2
+put-requires-2 c κs = let p = c .before .before .before .before .before .before .before .before .before .before .before .before .before .before .before .before .before .before .before .before .before .put .ensures .place in let l = c .before .before .before .before .before .before .before .before .before .before .before .before .before .before .before .before .before .before .before .before .before .put .ensures .long in let k = c .before .before .before .before .before .before .before .before .before .before .before .before .before .before .before .before .before .put-after .ensures .0 .long in let j = c .before .before .before .before .before .before .before .before .before .before .before .before .before .put-after2 .ensures .0 .long in let i = c .before .before .before .before .before .before .before .before .put-symbols .ensures .0 .long in let h = c .before .before .before .put-reductions .ensures .0 .long in omega (arith, c .before .before .before .before .before .before .before .before .before .before .before .before .before .before .before .before .before .before .before .before .before .before .before .before .before .before .before .before .pre .1, c .before .before .before .before .before .before .before .before .before .before .before .before .before .before .before .before .before .before .before .before .before .before .before .before .before .before .before .before .pre .0 .few-symbols, c .before .before .before .before .before .before .before .before .before .before .before .before .before .before .before .before .before .before .before .before .before .before .before .before .before .before .before .before .pre .0 .few-reductions, c .before .before .before .before .before .before .before .before .before .before .before .before .before .before .before .before .before .before .before .before .before .before .before .before .before .word .ensures .0, c .before .before .before .before .before .before .before .before .before .before .before .before .before .before .before .before .before .before .before .before .before .before .before .word3 .ensures .0, p, l, k, j, i, h, c .before .before .before .before .before .before .before .before .before .before .before .before .before .before .before .before .before .put-after .ensures .1, c .before .before .before .before .before .before .before .before .before .before .before .before .before .put-after2 .ensures .1, c .before .before .before .before .before .before .before .before .put-symbols .ensures .1, c .before .before .before .put-reductions .ensures .1)
+
+-- src/lib.rt:110:1
 same-length : tie.Need-same-length
-same-length c = c .before .before .put-whole .ensures .0 .long
+same-length c = c .before .before .put2 .ensures .long ∙ c .before .before .before .before .before .before .put-reductions .ensures .0 .long ∙ c .before .before .before .before .before .before .before .before .before .before .before .put-symbols .ensures .0 .long ∙ c .before .before .before .before .before .before .before .before .before .before .before .before .before .before .before .before .put-after2 .ensures .0 .long ∙ c .before .before .before .before .before .before .before .before .before .before .before .before .before .before .before .before .before .before .before .before .put-after .ensures .0 .long ∙ c .before .before .before .before .before .before .before .before .before .before .before .before .before .before .before .before .before .before .before .before .before .before .before .before .put .ensures .long
 
-returns-5 : tie.Need-returns-5
-returns-5 c = (example-put (c .before .before .before .before .before .before .before .before .before .before .before .before .args .letter) (example-counted _ (c .before .before .before .before .before .before .before .before .word .ensures .0) (c .before .before .before .before .before .before .if2 .left) (c .before .before .before .before .before .before .before .word2 .ensures .0) (c .before .before .before .before .before .if3 .left) (c .before .before .before .before .if4 .left)) (c .before .before .before .before .before .before .before .before .before .if1 .left) (c .before .before .put-whole .ensures .0), c .before .before .put-whole .ensures .1)
+-- src/lib.rt:110:1
+returns : tie.Need-returns
+returns c = let p = c .before .before .before .before .before .before .before .before .before .before .before .before .before .before .before .before .before .before .before .before .before .before .before .before .put .ensures .place in let q = c .before .before .put2 .ensures .place in (example-put (c .before .before .before .before .before .before .before .before .before .before .before .before .before .before .before .before .before .before .before .before .before .before .before .before .before .before .before .before .before .before .before .args .example .now) (c .before .before .before .before .before .before .before .before .before .before .before .before .before .before .before .before .before .before .before .before .before .before .before .before .before .before .before .before .word .ensures .0) (c .before .before .before .before .before .before .before .before .before .before .before .before .before .before .before .before .before .before .before .before .before .before .before .before .before .before .before .word2 .ensures .0) (c .before .before .before .before .before .before .before .before .before .before .before .before .before .before .before .before .before .before .before .before .before .before .before .before .before .before .word3 .ensures .0) (c .before .before .before .before .before .before .before .before .before .before .before .before .before .before .before .before .before .before .before .before .before .before .before .before .put .ensures) (put-as (c .before .before .before .before .before .before .before .before .before .before .before .before .before .before .before .before .before .before .before .before .put-after .ensures .0) (cc)) (put-as (c .before .before .before .before .before .before .before .before .before .before .before .before .before .before .before .before .put-after2 .ensures .0) (cc)) (c .before .before .before .before .before .before .before .before .before .before .before .put-symbols .ensures .0) (c .before .before .before .before .before .before .put-reductions .ensures .0) (c .before .before .put2 .ensures), omega (arith, c .before .before .before .before .before .before .before .before .before .before .before .before .before .before .before .before .before .before .before .before .before .before .before .before .before .before .before .before .before .before .before .pre .0 .few-symbols, c .before .before .before .before .before .before .before .before .before .before .before .before .before .before .before .before .before .before .before .before .before .before .before .before .before .before .before .before .before .before .before .pre .0 .few-reductions, c .before .before .before .before .before .before .before .before .before .before .before .before .before .before .before .before .before .before .before .before .before .before .before .before .before .before .before .before .word .ensures .0, c .before .before .before .before .before .before .before .before .before .before .before .before .before .before .before .before .before .before .before .before .before .before .before .before .before .before .word3 .ensures .0, p, q, c .before .before .before .before .before .before .before .before .before .before .before .before .before .before .before .before .before .before .before .before .put-after .ensures .1, c .before .before .before .before .before .before .before .before .before .before .before .before .before .before .before .before .put-after2 .ensures .1, c .before .before .before .before .before .before .before .before .before .before .before .put-symbols .ensures .1, c .before .before .before .before .before .before .put-reductions .ensures .1))
 
 pub put-example-spec : {M : Type 1} → statement M
 put-example-spec =
     tie.close
     (tie.spec
-    returns
     word-requires
     word-requires-2
-    returns-2
-    returns-3
-    mul-if4
-    add-if4
-    mul-if4-2
-    add-if4-2
-    returns-4
-    put-whole-requires
+    word-requires-3
+    put-requires
+    put-after-requires
+    put-after-requires-2
+    sub-put-symbols
+    part-put-symbols-start
+    part-put-symbols-end
+    put-symbols-requires
+    mul-from
+    add-from
+    mul-put-reductions
+    sub-put-reductions
+    part-put-reductions-start
+    part-put-reductions-end
+    put-reductions-requires
+    put-requires-2
     same-length
-    returns-5)
+    returns)

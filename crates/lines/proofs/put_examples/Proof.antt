@@ -13,7 +13,7 @@ returns : tie.Need-returns
 returns c = examples-naive _ _ _ _ _ (omega (arith, c .if1 .taken))
 
 put-example-requires : tie.Need-put-example-requires
-put-example-requires c κs = omega (arith, c .before .before .before .before .before .pre)
+put-example-requires c κs = (c .before .before .before .before .before .pre .0 .action-whole (c .before .if1 .left), omega (arith, c .before .before .before .before .before .pre .1))
 
 same-length : tie.Need-same-length
 same-length c = c .before .before .before .put-example .ensures .0 .long
@@ -22,7 +22,7 @@ returns-2 : tie.Need-returns-2
 returns-2 c = examples-action _ (c .before .before .before .before .before .before .before .before .before .args .action .now) (c .before .before .before .before .before .before .before .before .before .args .reduce .now) (c .before .before .before .before .before .if1 .left) (c .if2 .taken) (c .before .before .before .put-example .ensures .0)
 
 put-example-requires-2 : tie.Need-put-example-requires-2
-put-example-requires-2 c κs = let l = c .before .before .before .before .put-example .ensures .0 .long in omega (arith, c .before .before .before .before .before .before .before .before .before .before .pre, c .before .before .before .before .put-example .ensures .1, l)
+put-example-requires-2 c κs = let l = c .before .before .before .before .put-example .ensures .0 .long in (c .before .before .before .before .before .before .before .before .before .before .pre .0 .reduce-whole (c .before .before .before .before .before .before .if1 .left) (c .before .if2 .left), omega (arith, c .before .before .before .before .before .before .before .before .before .before .pre .1, c .before .before .before .before .put-example .ensures .1, l))
 
 same-length-2 : tie.Need-same-length-2
 same-length-2 c = c .before .before .put-example2 .ensures .0 .long ∙ c .before .before .before .before .before .before .before .put-example .ensures .0 .long
