@@ -1,10 +1,14 @@
-/* Lihvemur: the exported entries of the static library (rt staticlib lihvemur: target/staticlib/liblihvemur.a).
+/* Lihvemur: the exported entries of the static library (rt staticlib lihvemur: target/staticlib/liblihvemur.a). tests/c/entries.c calls each.
  *
  * A list of words passes as a pointer and its number of words; a list of no words needs a pointer that is not null all the same.
- * Every function answers 0, or the number of a refusal (docs/ANSWERS.md says what each means) and writes the refusal's place behind `place`.
- * A result behind another pointer is written only where this header says so. No function keeps a pointer, and none needs more than 8 MiB of stack.
+ * Buffers lent to one call must not overlap: what a call may write (a list that is not const, a result) shares no byte with anything else that it is lent. No function keeps a pointer.
  *
- * Lengths: a table at most 32,768 words; scratch 32,000; an example's buffer 1,158; a graph 8,193 (refusal 11 where lent less).
+ * A function answers 0, or the number of a refusal (docs/ANSWERS.md says what each means), and writes the refusal's place behind `place`, its last parameter.
+ * Three numbers are no refusals: LIHVEMUR_END of `lihvemur_advance`, the same in the records of `lihvemur_examples`, and the answer of `lihvemur_observed`, 0 or 1, which refuses nothing.
+ * A result behind another pointer is written only with answer 0, unless this header says otherwise.
+ *
+ * Stack: a trace, and so a class or a choice, calls on itself, at most 4,096 times nested; there 3,235 KiB were the least that sufficed. A thread of 2 MiB is too small; 8 MiB suffice for every call.
+ *
  * A set of tokens is a word, token k its bit k; the end of input is the token after the last terminal.
  */
 #ifndef LIHVEMUR_H
@@ -19,10 +23,16 @@ extern "C" {
 #endif
 
 enum {
-    LIHVEMUR_SCRATCH_WORDS = 32000,
-    LIHVEMUR_EXAMPLE_WORDS = 1158,
-    LIHVEMUR_GRAPH_WORDS = 8193,
-    LIHVEMUR_END = 16 /* lihvemur_advance: the listing has ended */
+    LIHVEMUR_TABLE_WORDS = 32768,   /* a table at most (refusal 1) */
+    LIHVEMUR_SCRATCH_WORDS = 32000, /* scratch at least (refusal 11) */
+    LIHVEMUR_EXAMPLE_WORDS = 1158,  /* an example's buffer at least (11) */
+    LIHVEMUR_GRAPH_WORDS = 8193,    /* a graph at least (11): a count, then its edges */
+    LIHVEMUR_EDGE_WORDS = 8,        /* an edge of a graph */
+    LIHVEMUR_ENTRIES_WORDS = 384,   /* the entries of a choice at least (11) */
+    LIHVEMUR_ENTRY_WORDS = 6,       /* one of them */
+    LIHVEMUR_CALL_NUMBERS = 3,      /* a call in the list of lihvemur_examples */
+    LIHVEMUR_RECORD_WORDS = 3,      /* what is recorded of it in front of its buffer */
+    LIHVEMUR_END = 16               /* the listing has ended: no refusal */
 };
 
 /* Refusals 1 to 8 of a table. */
@@ -69,14 +79,14 @@ uint16_t lihvemur_examples(const uint16_t *table, size_t table_words, uint16_t p
                            const uint32_t *calls, size_t call_numbers, const uint16_t *graph, size_t graph_words,
                            uint16_t *scratch, size_t scratch_words, uint16_t *output, size_t output_words, size_t *made, uint16_t *place);
 
-/* The class of a conflict (docs/ANSWERS.md), five numbers: state, production, action (0 shift, 1 reduce), its terminal or production, token. With answer 0: `class`, its own
+/* The class of a conflict (docs/ANSWERS.md), five numbers: state, production, action (0 shift, 1 reduce), its terminal or production, token. With answer 0: `class_number`, the class's own
  * values in one word (16 bits each, the first lowest, absent ones 0), the trials of the two sides, and the examples at the front of their buffers (class 0 none, class 5 the action's). */
 uint16_t lihvemur_classify(const uint16_t *table, size_t table_words, uint16_t state, uint16_t production, uint16_t action, uint16_t operand, uint16_t token,
                            uint16_t *scratch, size_t scratch_words, uint16_t *action_example, size_t action_words, uint16_t *reduce_example, size_t reduce_words,
                            uint16_t *class_number, uint64_t *values, uint32_t *action_trials, uint32_t *reduce_trials, uint16_t *place);
 
-/* Which tokens of a conflict's set to report, with their classes: six words an entry at the front of `entries` (token, class, up to four own values, zeros), their number
- * behind `count` with answer 0; no word past the entries changes. `entries` is lent 384 words, else the call is refused as one without scratch, by 11 at most. */
+/* Which tokens of a conflict's set to report, with their classes: LIHVEMUR_ENTRY_WORDS an entry at the front of `entries` (token, class, up to four own values, zeros), their number
+ * behind `count` with answer 0; no word past the entries changes. `entries` is lent LIHVEMUR_ENTRIES_WORDS, else the call is refused as one without scratch, by 11 at most. */
 uint16_t lihvemur_choose(const uint16_t *table, size_t table_words, uint16_t state, uint16_t production, uint16_t action, uint16_t operand, uint64_t tokens,
                          uint16_t *scratch, size_t scratch_words, uint16_t *entries, size_t entry_words, size_t *count, uint16_t *place);
 
