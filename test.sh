@@ -1,6 +1,36 @@
 #!/usr/bin/env bash
-# Proves every crate from nothing, tries every must-fail edit, runs every program against its stored output. The last line is 'N passed, 0 failed'.
+# The test command: layout, stored edits, `rt ci` (proves every crate from nothing, tries every must-fail edit, runs every program against its stored output), the C entries, the tables.
+# The last line is that of `rt ci`, 'N passed, 0 failed', held back until what comes after it has passed too; where anything fails it is another.
 set -euo pipefail
 cd "$(dirname "$0")"
+
+held=$(mktemp)
+finish() {
+    local status=$?
+    rm -f "$held"
+    [ "$status" -eq 0 ] || echo "test.sh: FAILED"
+}
+trap finish EXIT
+
+# Passes on what it reads, but for the last line, which goes to a file.
+hold_back() {
+    local last line
+    IFS= read -r last || return 1
+    while IFS= read -r line; do
+        printf '%s\n' "$last"
+        last=$line
+    done
+    printf '%s\n' "$last" >"$1"
+}
+
 rt fmt --check
-rt ci
+tests/edits-stand.sh
+if ! rt ci | hold_back "$held"; then
+    cat "$held"
+    exit 1
+fi
+rt staticlib lihvemur
+cc -std=c11 -Wall -Wextra -Werror -Iinclude tests/c/entries.c target/staticlib/liblihvemur.a -o target/c-entries
+target/c-entries
+tables/check.sh
+cat "$held"
