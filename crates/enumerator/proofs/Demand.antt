@@ -57,6 +57,6 @@ demand t i ahead g l e scratch cs =
     let r = opened t i ahead g l e in
     record {
       same = ap (λ (x : Listing). calls t g x scratch cs) (r .1) ∙ same-answers t i ahead g (r .0) scratch cs 0 true scratch refl refl;
-      handed = handed-out (meaning t) (edgesIn g) i (setOf ahead) (ready-small t i ahead g (r .0)) (map (lengths g scratch) cs);
+      handed = handed-out (meaning t) (edgesIn g) i (setOf ahead) (map (lengths g scratch) cs) (ready-small t i ahead g (r .0));
       behind = rw (r .1) (behind t i ahead g (r .0) scratch cs 0 true scratch refl refl);
     }

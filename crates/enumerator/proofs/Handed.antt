@@ -4,13 +4,13 @@ use native.Mathlib.Omega.{arith}
 use mathlib.Core.Path.{_≡_, refl, sym, ap, _∙_, subst}
 use mathlib.Core.Logic.{_⊎_, inl, inr, _↔_}
 use mathlib.Core.Bool.{Bool, true, false, _&&_, not, true≢false}
-use mathlib.Core.List.{List, [], _∷_, _++_, map, append-nil, append-assoc, append-cancel-right, List·Memᴰ, List·Memᴰ·not-nil, List·Memᴰ·cases-cons, Memᴰ·append-left}
+use mathlib.Core.List.{List, [], _∷_, _++_, map, append-nil, append-assoc, append-cancel-right, List·Memᴰ, List·Memᴰ·head, List·Memᴰ·tail, List·Memᴰ·not-nil, List·Memᴰ·cases-cons, Memᴰ·append-left}
 use mathlib.Core.Option.{Option, none, some}
 use lib.ListN.{length, take, drop, take-append-drop}
 use lib.Seq.{take-length, drop-length}
 use lib.Dec.{eqb}
 use borrow.Author.Tests.{eqb-false}
-use Rattle.repr.specs.Lists.{keep}
+use Rattle.repr.specs.Lists.{keep, every?}
 use Rattle.repr.specs.Meaning.{Table, Item}
 use Rattle.repr.proofs.Lists.{cases, clash, keep-nil, keep-yes, keep-no, keep-append}
 use Rattle.trace_graph.specs.Graph.{atItem, TraceEdge}
@@ -139,18 +139,20 @@ module _ (t : Path → Bool) (ts : List Path) where
       by ih true = (ih .0, (refl, tt, ih .1))
       by ih false = (ih .0, (refl, refl, ih .1))
 
-  -- what was handed out up to count c and what is handed out from there on: all up to the count after
+  -- what was handed out up to count c and what is handed out from there on: all up to the count after, which is at most 100,000
   Told : ℕ → List Out → Type 0
-  Told c os = Numbered ts c os × (keep t (take c ts) ++ handed os ≡ keep t (take (countAfter c os) ts))
+  Told c os = Numbered ts c os × (keep t (take c ts) ++ handed os ≡ keep t (take (countAfter c os) ts)) × (countAfter c os ≤ trialLimit)
 
   Tells : List Call → Type 0
   Tells cs = (c : ℕ) → c ≤ length ts → c ≤ trialLimit → Told c (run cs (ready c))
 
   -- of a closed listing
-  told-shut : (cs : List Call) (c n : ℕ) → keep t (drop c ts) ≡ keep t (drop n ts) → keep t (take c ts) ++ handed (run cs (shut n)) ≡ keep t (take (countAfter n (run cs (shut n))) ts)
-  told-shut cs c n e =
+  told-shut : (cs : List Call) (c n : ℕ) → keep t (drop c ts) ≡ keep t (drop n ts) → n ≤ trialLimit
+      → (keep t (take c ts) ++ handed (run cs (shut n)) ≡ keep t (take (countAfter n (run cs (shut n))) ts)) × (countAfter n (run cs (shut n)) ≤ trialLimit)
+  told-shut cs c n e l =
       let q = quiet cs n in
-      rw (q .0, closed-count n (run cs (shut n)) (q .1)) (kept-upTo t c n ts [] e)
+      let z = closed-count n (run cs (shut n)) (q .1) in
+      (rw (q .0, z) (kept-upTo t c n ts [] e), omega arith)
 
   next-told : (cs : List Call) → Tells cs → (c : ℕ) → c ≤ trialLimit → (F : Found) → Finds t ts (trialLimit - c) c F → Told c (foundOut plainly F ∷ run cs (foundThen F))
   unfolding Told Finds Tells shut ready run foundOut foundThen
@@ -160,20 +162,62 @@ module _ (t : Path → Bool) (ts : List Path) where
         ((m, a, v, b), q .0),
         sym (append-assoc (keep t (take c ts)) (p ∷ []) (handed (run cs (ready n))))
             ∙ ap (λ (r : List Path). r ++ handed (run cs (ready n))) (kept-upTo t c n ts (p ∷ []) k) ∙ q .1,
+        q .2,
       )
-  next-told cs ih c h (out n) (a, k) = ((a, quiet cs n .1), told-shut cs c n (k ∙ sym (ap (λ (x : ℕ). keep t (drop x ts)) a ∙ ap (keep t) (drop-length ts) ∙ keep-nil t)))
+  next-told cs ih c h (out n) (a, z, k) =
+      let r = told-shut cs c n (k ∙ sym (ap (λ (x : ℕ). keep t (drop x ts)) a ∙ ap (keep t) (drop-length ts) ∙ keep-nil t)) (omega arith) in
+      ((a, quiet cs n .1), r .0, r .1)
   next-told cs ih c h over (l, k) =
       let s : c + (trialLimit - c) ≡ trialLimit = omega arith in
-      ((refl, omega arith, quiet cs trialLimit .1), told-shut cs c trialLimit (k ∙ ap (λ (x : ℕ). keep t (drop x ts)) s))
+      let r = told-shut cs c trialLimit (k ∙ ap (λ (x : ℕ). keep t (drop x ts)) s) (omega arith) in
+      ((refl, omega arith, quiet cs trialLimit .1), r .0, r .1)
 
   tells : (cs : List Call) → Tells cs
   unfolding Told Tells ready run plainRun plainOut plainThen plainFind
-  tells [] c h l = (tt, append-nil (keep t (take c ts)))
+  tells [] c h l = (tt, append-nil (keep t (take c ts)), l)
   tells (k ∷ cs) c h l = by (tells cs) (enough k)
     where
       by : Tells cs → (b : Bool) → Told c (plainOut t plainly ts b true (ready c) ∷ run cs (plainThen t plainly ts b true (ready c)))
-      by ih false = let q = ih c h l in ((refl, refl, q .0), q .1)
+      by ih false = let q = ih c h l in ((refl, refl, q .0), q .1, q .2)
       by ih true = next-told cs ih c l (search t (trialLimit - c) c (drop c ts)) (finds t ts (trialLimit - c) c (drop c ts) refl h)
+
+  -- a run of calls that are all lent enough: each gets an example, or the listing ends, or 13 comes
+  Runs : List Call → ℕ → Type 0
+  Runs cs c = (length (handed (run cs (ready c))) ≡ length cs) ⊎ ((ends (run cs (ready c)) ≡ true) ⊎ (List·Memᴰ (refused 13) (answers (run cs (ready c))) × (trialLimit < length ts)))
+
+  next-runs : (k : Call) (cs : List Call) → ((c : ℕ) → c ≤ length ts → c ≤ trialLimit → Runs cs c) → (c : ℕ) → c ≤ trialLimit → (F : Found)
+      → Finds t ts (trialLimit - c) c F → plainFind t plainly ts (ready c) ≡ F → enough k ≡ true → Runs (k ∷ cs) c
+  unfolding Runs Finds ready shut run plainRun plainOut plainThen foundOut foundThen
+  next-runs k cs ih c h (hit n p) (m, a, v, z, b, y, q) f e =
+      let w = drop-more m ts p (drop n ts) b in
+      rw (e, plainOut, plainThen, f, foundOut, foundThen) (more (ih n (omega arith) (omega arith)))
+    where
+      os : List Out
+      os = plainRun t plainly ts cs (record { count = n; isOpen = true })
+
+      more : (length (handed os) ≡ length cs) ⊎ ((ends os ≡ true) ⊎ (List·Memᴰ (refused 13) (answers os) × (trialLimit < length ts)))
+          → (length (p ∷ handed os) ≡ length (k ∷ cs)) ⊎ ((ends os ≡ true) ⊎ (List·Memᴰ (refused 13) (example p ∷ answers os) × (trialLimit < length ts)))
+      more (inl x) = inl (omega arith)
+      more (inr (inl x)) = inr (inl x)
+      more (inr (inr x)) = inr (inr (List·Memᴰ·tail (x .0), x .1))
+  next-runs k cs ih c h (out n) (a, z, q) f e = rw (e, plainOut, plainThen, f, foundOut, foundThen) (inr (inl refl))
+  next-runs k cs ih c h over (l, q) f e = rw (e, plainOut, plainThen, f, foundOut, foundThen) (inr (inr (List·Memᴰ·head refl, omega arith)))
+
+  runs : (cs : List Call) → every? enough cs ≡ true → (c : ℕ) → c ≤ length ts → c ≤ trialLimit → Runs cs c
+  unfolding Runs ready run plainRun plainFind every?
+  runs [] e c h l = inl refl
+  runs (k ∷ cs) e c h l =
+      let ih = runs cs in
+      let b = enough k in
+      next-runs k cs (ih (rest (enough k) e)) c l (search t (trialLimit - c) c (drop c ts)) (finds t ts (trialLimit - c) c (drop c ts) refl h) refl (first (enough k) e)
+    where
+      first : (b : Bool) → elim b as (λ x. Bool) [ true ↦ every? enough cs | false ↦ false ] ≡ true → b ≡ true
+      first true e = refl
+      first false e = absurd (true≢false (sym e))
+
+      rest : (b : Bool) → elim b as (λ x. Bool) [ true ↦ every? enough cs | false ↦ false ] ≡ true → every? enough cs ≡ true
+      rest true e = e
+      rest false e = absurd (true≢false (sym e))
 
 -- a filter takes out exactly those that fail it
 keep-both : (t u : Path → Bool) (ps : List Path) → keep (λ p. t p && u p) ps ≡ keep u (keep t ps)
@@ -212,20 +256,33 @@ increasing-front : (ps qs : List Path) → Increasing (ps ++ qs) → Increasing 
 increasing-front [] qs i = tt
 increasing-front (p ∷ ps) qs i = (all-front (Before p) ps qs (i .0), increasing-front ps qs (i .1))
 
--- of any calls over edges that come from nonterminals below 32
-module _ (T : Table) (es : List TraceEdge) (start : Item) (a : Option ℕ) (small : Small (endsOf es)) (cs : List Call) where
+-- of any calls
+module _ (T : Table) (es : List TraceEdge) (start : Item) (a : Option ℕ) (cs : List Call) where
   all-trials : List Path
   all-trials = trials (endsOf es) (atItem start)
 
   paths : List Out
   paths = pathLister T es start a cs
 
-  told : Numbered all-trials 0 paths × (handed paths ≡ keep (hands T es a) (take (countAfter 0 paths) all-trials))
+  told : Numbered all-trials 0 paths × (handed paths ≡ keep (hands T es a) (take (countAfter 0 paths) all-trials)) × (countAfter 0 paths ≤ trialLimit)
   unfolding all-trials paths pathLister Tells Told ready run
   told =
       let ts = trials (endsOf es) (atItem start) in
       let r = tells (hands T es a) ts cs 0 (omega arith) (omega arith) in
-      (r .0, ap (λ (l : List Path). l ++ handed (plainRun (hands T es a) plainly ts cs fresh)) (sym (keep-nil (hands T es a))) ∙ r .1)
+      (r .0, ap (λ (l : List Path). l ++ handed (plainRun (hands T es a) plainly ts cs fresh)) (sym (keep-nil (hands T es a))) ∙ r .1, r .2)
+
+  ran : every? enough cs ≡ true → (length (handed paths) ≡ length cs) ⊎ ((ends paths ≡ true) ⊎ (List·Memᴰ (refused 13) (answers paths) × (trialLimit < length all-trials)))
+  unfolding all-trials paths pathLister Runs ready run
+  ran e = runs (hands T es a) (trials (endsOf es) (atItem start)) cs e 0 (omega arith) (omega arith)
+
+  pub said : plainLister T es start a cs ≡ map (spoken (says T es)) (pathLister T es start a cs)
+  unfolding plainLister pathLister
+  said = spoken-run (hands T es a) (says T es) (trials (endsOf es) (atItem start)) cs fresh
+
+  pub up-to : (handed (pathLister T es start a cs) ≡ keep (hands T es a) (take (countAfter 0 (pathLister T es start a cs)) (trials (endsOf es) (atItem start))))
+      × (countAfter 0 (pathLister T es start a cs) ≤ trialLimit)
+  unfolding all-trials paths
+  up-to = (told .1, told .2)
 
   past : List Path
   past = keep (hands T es a) (drop (countAfter 0 paths) all-trials)
@@ -240,31 +297,62 @@ module _ (T : Table) (es : List TraceEdge) (start : Item) (a : Option ℕ) (smal
       ∙ ap (λ (n : ℕ). keep (hands T es a) (take n all-trials)) (ends-count all-trials 0 paths (told .0) e)
       ∙ ap (keep (hands T es a)) (take-length all-trials)
 
-  nothing-else : (p : Path) → List·Memᴰ p (keep (hands T es a) all-trials) → IsHanded T es start a p
-  unfolding all-trials
-  nothing-else p m =
-      let r = examples-exact (endsOf es) (atItem start) small (hands T es a) p .0 m in
-      to-hand T es start a p (r .0) (r .1)
+  limit-out : List·Memᴰ (refused 13) (answers paths) → handed paths ≡ keep (hands T es a) (take trialLimit all-trials)
+  limit-out m = told .1 ∙ ap (λ (n : ℕ). keep (hands T es a) (take n all-trials)) (stops-count all-trials 0 paths (told .0) m)
 
-  pub handed-out : Handed T es start a cs
-  unfolding all-trials paths plainLister pathLister
-  handed-out = record {
-    words = spoken-run (hands T es a) (says T es) all-trials cs fresh;
-    trials-are = trials-are (endsOf es) (atItem start) small;
-    trials-only = trials-only (endsOf es) (atItem start) small;
-    numbered = told .0;
-    order = increasing-front (handed paths) past (subst Increasing (sym begins) (examples-ordered (endsOf es) (atItem start) (hands T es a)));
-    only = λ p m. nothing-else p (subst (λ (l : List Path). List·Memᴰ p l) begins (Memᴰ·append-left past m));
-    so-far = told .1;
-    left = past;
-    beginning = begins;
-    all = all-out;
-    exactly = λ e p. (
-      λ m. nothing-else p (subst (λ (l : List Path). List·Memᴰ p l) (all-out e) m),
-      λ h. subst (λ (l : List Path). List·Memᴰ p l) (sym (all-out e))
-          (examples-exact (endsOf es) (atItem start) small (hands T es a) p .1 (h .trial, of-handed T es start a p h)),
-    );
-    limit = λ e. told .1 ∙ ap (λ (n : ℕ). keep (hands T es a) (take n all-trials)) (stops-count all-trials 0 paths (told .0) e);
-    filtered = hands-both T es a all-trials;
-    misses = passes-meets T es a;
-  }
+  -- where every call is lent enough: an example for each, or all of at most 100,000 trials and the end, or 13
+  pub full-run : every? enough cs ≡ true
+      → (length (handed (pathLister T es start a cs)) ≡ length cs)
+      ⊎ (((ends (pathLister T es start a cs) ≡ true) × (countAfter 0 (pathLister T es start a cs) ≡ length (trials (endsOf es) (atItem start)))
+      × (length (trials (endsOf es) (atItem start)) ≤ trialLimit) × (handed (pathLister T es start a cs) ≡ keep (hands T es a) (trials (endsOf es) (atItem start))))
+      ⊎ ((ends (pathLister T es start a cs) ≡ false) × (trialLimit < length (trials (endsOf es) (atItem start)))
+      × (handed (pathLister T es start a cs) ≡ keep (hands T es a) (take trialLimit (trials (endsOf es) (atItem start))))))
+  unfolding all-trials paths
+  full-run e = by (ran e)
+    where
+      by : (length (handed paths) ≡ length cs) ⊎ ((ends paths ≡ true) ⊎ (List·Memᴰ (refused 13) (answers paths) × (trialLimit < length all-trials)))
+          → (length (handed paths) ≡ length cs)
+          ⊎ (((ends paths ≡ true) × (countAfter 0 paths ≡ length all-trials) × (length all-trials ≤ trialLimit) × (handed paths ≡ keep (hands T es a) all-trials))
+          ⊎ ((ends paths ≡ false) × (trialLimit < length all-trials) × (handed paths ≡ keep (hands T es a) (take trialLimit all-trials))))
+      by (inl x) = inl x
+      by (inr (inl x)) =
+          let n = ends-count all-trials 0 paths (told .0) x in
+          let l = told .2 in
+          inr (inl (x, n, omega arith, all-out x))
+      by (inr (inr x)) = inr (inr (
+        cases (ends paths)
+            (λ y. let n = ends-count all-trials 0 paths (told .0) y in let l = told .2 in let m = x .1 in absurd (omega arith)) (λ y. y),
+        x .1,
+        limit-out (x .0),
+      ))
+
+  module _ (small : Small (endsOf es)) where
+    nothing-else : (p : Path) → List·Memᴰ p (keep (hands T es a) all-trials) → IsHanded T es start a p
+    unfolding all-trials
+    nothing-else p m =
+        let r = examples-exact (endsOf es) (atItem start) small (hands T es a) p .0 m in
+        to-hand T es start a p (r .0) (r .1)
+
+    pub handed-out : Handed T es start a cs
+    unfolding all-trials paths
+    handed-out = record {
+      words = said;
+      trials-are = trials-are (endsOf es) (atItem start) small;
+      trials-only = trials-only (endsOf es) (atItem start) small;
+      numbered = told .0;
+      bounded = told .2;
+      order = increasing-front (handed paths) past (subst Increasing (sym begins) (examples-ordered (endsOf es) (atItem start) (hands T es a)));
+      only = λ p m. nothing-else p (subst (λ (l : List Path). List·Memᴰ p l) begins (Memᴰ·append-left past m));
+      so-far = told .1;
+      left = past;
+      beginning = begins;
+      all = all-out;
+      exactly = λ e p. (
+        λ m. nothing-else p (subst (λ (l : List Path). List·Memᴰ p l) (all-out e) m),
+        λ h. subst (λ (l : List Path). List·Memᴰ p l) (sym (all-out e))
+            (examples-exact (endsOf es) (atItem start) small (hands T es a) p .1 (h .trial, of-handed T es start a p h)),
+      );
+      limit = limit-out;
+      filtered = hands-both T es a all-trials;
+      misses = passes-meets T es a;
+    }

@@ -24,12 +24,12 @@ module _ (t : Path → Bool) (ts : List Path) where
   unfoldable pub Finds : ℕ → ℕ → Found → Type 0
   Finds l c (hit n p) =
       (m : ℕ) × (n ≡ suc m) × (c ≤ m) × (n ≤ c + l) × (drop m ts ≡ p ∷ drop n ts) × (t p ≡ true) × (keep t (drop c ts) ≡ p ∷ keep t (drop n ts))
-  Finds l c (out n) = (n ≡ length ts) × (keep t (drop c ts) ≡ [])
+  Finds l c (out n) = (n ≡ length ts) × (n ≤ c + l) × (keep t (drop c ts) ≡ [])
   Finds l c over = (c + l < length ts) × (keep t (drop c ts) ≡ keep t (drop (c + l) ts))
 
   pub finds : (l c : ℕ) (rest : List Path) → drop c ts ≡ rest → c ≤ length ts → Finds l c (search t l c rest)
   unfolding Finds search
-  finds l c [] d h = (drop-end c ts h d, ap (keep t) d ∙ keep-nil t)
+  finds l c [] d h = (drop-end c ts h d, omega arith, ap (keep t) d ∙ keep-nil t)
   finds zero c (p ∷ rest) d h = let z = drop-more c ts p rest d in let s : c + 0 ≡ c = omega arith in (omega arith, rw s)
   finds (suc l) c (p ∷ rest) d h = by (t p) refl (finds l (suc c) rest (drop-tail c ts p rest d) (drop-more c ts p rest d))
     where
@@ -44,7 +44,7 @@ module _ (t : Path → Bool) (ts : List Path) where
 
       carry : (F : Found) → t p ≡ false → Finds l (suc c) F → Finds (suc l) c F
       carry (hit n q) e (m, a, v, z, b, y, k) = (m, a, omega arith, omega arith, b, y, skip e ∙ k)
-      carry (out n) e (a, k) = (a, skip e ∙ k)
+      carry (out n) e (a, z, k) = (a, omega arith, skip e ∙ k)
       carry over e (m, k) = let s : c + suc l ≡ suc c + l = omega arith in (omega arith, rw s (skip e ∙ k))
 
       by : (b : Bool) → t p ≡ b → Finds l (suc c) (search t l (suc c) rest) → Finds (suc l) c (search t (suc l) c (p ∷ rest))

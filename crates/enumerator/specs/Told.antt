@@ -102,6 +102,7 @@ pub record Handed (T : Table) (es : List TraceEdge) (start : Item) (a : Option �
   pub trials-only : (ps : List Path) → Enumerates (endsOf es) (atItem start) ps → ps ≡ trials (endsOf es) (atItem start)
   -- each count is its trial's number, at the end that of all trials, at 13 it is 100,000
   pub numbered : Numbered (trials (endsOf es) (atItem start)) 0 (pathLister T es start a cs)
+  pub bounded : countAfter 0 (pathLister T es start a cs) ≤ trialLimit
   -- the paths come in order, each to hand out
   pub order : Increasing (handed (pathLister T es start a cs))
   pub only : (p : Path) → List·Memᴰ p (handed (pathLister T es start a cs)) → IsHanded T es start a p

@@ -5,3 +5,4 @@ pub mod Sorted
 pub mod Items
 pub mod Judged
 pub mod Marked
+pub mod Listing

@@ -1,6 +1,7 @@
 pub mod Numbers
 pub mod Items
 pub mod Sides
+pub mod Listing
 pub mod Sorted
 pub mod Judge
 pub mod Outcome
