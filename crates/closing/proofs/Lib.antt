@@ -1,0 +1,3 @@
+pub mod Grammar
+pub mod Fed
+pub mod Rest
