@@ -11,7 +11,7 @@ use Rattle.repr.specs.Meaning.{Item}
 use Rattle.table.specs.Decoded.{meaning}
 use Rattle.trace_graph.specs.Graph.{atItem, TraceEdge, isNode}
 use Rattle.trace_graph.specs.Words.{edgesIn}
-use Rattle.enumerator.specs.Trials.{Path, endsOf, trials, isExample}
+use Rattle.enumerator.specs.Trials.{Path, endsOf}
 use Rattle.enumerator.specs.Words.{pathIn, holdsTrial, after}
 use Rattle.enumerator.specs.Lister.{Call, enough, hands, says, trialLimit, search}
 use Rattle.enumerator.specs.Advance.{outcome, setOf, startOf, foundOutcome, restOf, lost, advanceIn, advanceBy, advanceOf}

@@ -2,21 +2,21 @@
 use Prim.Native.Nat.{ℕ, _-_, _+_, _≤_, _<_}
 use native.Mathlib.Omega.{arith}
 use mathlib.Core.Path.{_≡_, refl, sym, ap, _∙_, subst}
-use mathlib.Core.Logic.{_⊎_, inl, inr, _↔_}
-use mathlib.Core.Bool.{Bool, true, false, _&&_, not, true≢false}
+use mathlib.Core.Logic.{_⊎_, inl, inr}
+use mathlib.Core.Bool.{Bool, true, false, _&&_, true≢false}
 use mathlib.Core.List.{List, [], _∷_, _++_, map, append-nil, append-assoc, append-cancel-right, List·Memᴰ, List·Memᴰ·head, List·Memᴰ·tail, List·Memᴰ·not-nil, List·Memᴰ·cases-cons, Memᴰ·append-left}
-use mathlib.Core.Option.{Option, none, some}
+use mathlib.Core.Option.{Option}
 use lib.ListN.{length, take, drop, take-append-drop}
 use lib.Seq.{take-length, drop-length}
 use lib.Dec.{eqb}
 use borrow.Author.Tests.{eqb-false}
 use Rattle.repr.specs.Lists.{keep, every?}
 use Rattle.repr.specs.Meaning.{Table, Item}
-use Rattle.repr.proofs.Lists.{cases, clash, keep-nil, keep-yes, keep-no, keep-append}
+use Rattle.repr.proofs.Lists.{cases, keep-nil, keep-yes, keep-no, keep-append}
 use Rattle.trace_graph.specs.Graph.{atItem, TraceEdge}
 use Rattle.enumerator.specs.Trials.{Path, Before, endsOf, trials, isExample, IsTrial, AllPaths, Increasing, Small}
-use Rattle.enumerator.specs.Lister.{Call, enough, labelsOf, passes, hands, says, trialLimit, Found, hit, out, over, search, Answer, example, end, refused, Out, Plain, fresh, foundOut, foundThen, plainFind, plainOut, plainThen, plainRun, plainLister}
-use Rattle.enumerator.specs.Told.{plainly, pathLister, spoken, handed, ends, endsAt, answers, countAfter, EndsAgain, Closed, NumberedAt, Numbered, Meets, IsHanded, Handed}
+use Rattle.enumerator.specs.Lister.{Call, enough, passes, hands, says, trialLimit, Found, hit, out, over, search, Answer, example, end, refused, Out, Plain, fresh, foundOut, foundThen, plainFind, plainOut, plainThen, plainRun, plainLister}
+use Rattle.enumerator.specs.Told.{plainly, pathLister, spoken, handed, ends, endsAt, answers, countAfter, EndsAgain, Closed, NumberedAt, Numbered, IsHanded, Handed}
 use Rattle.enumerator.proofs.Nodes.{and-left, and-right, and-both}
 use Rattle.enumerator.proofs.After.{drop-more}
 use Rattle.enumerator.proofs.Search.{Finds, finds}

@@ -27,10 +27,8 @@ Fit i g ws₀ zero true ws = ws ≡ ws₀
 Fit i g ws₀ (suc m) true ws =
     (p : Path) × (drop m (trialsIn i g) ≡ p ∷ drop (suc m) (trialsIn i g)) × (isExample (endsOf (edgesIn g)) p ≡ true) × (ws ≡ inFront (wordsOf p) ws₀)
 
--- the listing is where its words say, and the scratch is as long as it was
-pub record Behind (i : Item) (ahead : Lookahead) (g ws₀ : List ℕ) (l : Listing) (ws : List ℕ) : Type 0 where
-  pub count : ℕ
-  pub isOpen : Bool
-  pub listed : l ≡ listing i ahead count isOpen
-  pub fit : Fit i g ws₀ count isOpen ws
+-- the listing l and the scratch ws that calls leave with count c, open or not
+pub record Behind (i : Item) (ahead : Lookahead) (g ws₀ : List ℕ) (c : ℕ) (o : Bool) (l : Listing) (ws : List ℕ) : Type 0 where
+  pub listed : l ≡ listing i ahead c o
+  pub fit : Fit i g ws₀ c o ws
   pub long : length ws ≡ length ws₀

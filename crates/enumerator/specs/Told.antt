@@ -61,6 +61,16 @@ abbrev pub countAfter : ℕ → List Out → ℕ
 countAfter c [] = c
 countAfter c (o ∷ os) = countAfter (o .count) os
 
+abbrev pub openAt : Answer → Bool → Bool
+openAt (example p) o = o
+openAt end o = false
+openAt (refused n) o = elim (eqb n 13) [ true ↦ false | false ↦ o ]
+
+-- whether the listing is open after the calls, o before them: the end and 13 close it
+abbrev pub openAfter : Bool → List Out → Bool
+openAfter o [] = o
+openAfter o (x ∷ xs) = openAfter (openAt (x .answer) o) xs
+
 -- "after the end or 13, it ends again with its count", or is lent too little
 abbrev pub EndsAgain : Answer → Type 0
 EndsAgain (example p) = ⊥

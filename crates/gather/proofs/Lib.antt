@@ -5,3 +5,4 @@ pub mod Turns
 pub mod Traces
 pub mod Shifts
 pub mod Both
+pub mod Opened
