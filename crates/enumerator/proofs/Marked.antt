@@ -2,11 +2,11 @@
 -- and that table and graphs are such as opening asks for. Assumes nothing.
 use Prim.Native.Nat.{ℕ}
 use native.Mathlib.Omega.{arith}
-use mathlib.Core.Path.{_≡_, refl, ap, _∙_}
+use mathlib.Core.Path.{_≡_, refl, ap, _∙_, subst}
 use mathlib.Core.Bool.{true}
-use mathlib.Core.List.{List, [], _∷_, _++_}
+use mathlib.Core.List.{List, [], _∷_, _++_, map, List·Memᴰ, List·Memᴰ·eq-of-singleton}
 use mathlib.Core.Option.{none, some}
-use lib.ListN.{length, replicate}
+use lib.ListN.{length, replicate, length-replicate}
 use Rattle.repr.specs.Lists.{upFrom, below, mem, occurrences, some?, every?, first?, joined}
 use Rattle.repr.specs.Listed.{symbolOfKind, symbolFits}
 use Rattle.repr.specs.Meaning.{Item, sameSymbol}
@@ -22,12 +22,15 @@ use Rattle.trace_graph.specs.Graph.{Node, atNonterminal, atItem, sameItem, same
 use Rattle.trace_graph.specs.Words.{place, nodeWords, edgeWords, graphWords, nodeOf, nodeAt, edgeAt as lentEdge, edgesIn}
 use Rattle.trace_graph.specs.Fits.{itemFits, nodeFits, edgeFits, once, graphFits}
 use Rattle.example.specs.Example.{setsOf, prefixes, suffixes, atCursor, middle, symbols, spans, reductions, symbolWords, reductionWords, exampleWords, cursorOf, ahead, meets}
-use Rattle.enumerator.specs.Trials.{trials}
+use Rattle.enumerator.specs.Trials.{Path, trials}
 use Rattle.enumerator.specs.Lister.{Call, enough, nodeOwner, labelAt, labelsOf, passes, hands, says, search, example, end, Out, foundOut, foundThen, plainFind, plainOut, plainThen, plainRun, plainLister}
-use Rattle.enumerator.specs.Told.{pathLister, handed, ends}
+use Rattle.enumerator.specs.Told.{pathLister, handed, ends, IsHanded, Handed}
 use Rattle.enumerator.specs.Advance.{setOf, aheadFits, lentGraphFits, asked}
 use Rattle.enumerator.specs.declared.Lookahead.the-variants.{Any, Set}
-use Rattle.enumerator.specs.Opening.{Ready}
+use Rattle.enumerator.specs.Calls.{Lent, lengths}
+use Rattle.enumerator.specs.Opening.{listing, Ready}
+use Rattle.enumerator.proofs.Opening.{opens}
+use Rattle.enumerator.proofs.Demand.{demand}
 
 abbrev item : ℕ → ℕ → Item
 item p i = record { production = p; index = i }
@@ -133,3 +136,31 @@ ready-reduce =
     let n : isNode (atItem (item 0 3)) reduceB ≡ true = cc marked-nodes in
     let l : length reduceWords ≡ 8193 = cc marked-lengths in
     record { accepted = marked-check; asks = cc marked-asks; long = omega arith; node = ap (isNode (atItem (item 0 3))) e ∙ n }
+
+-- demand 3 on table B: three calls that are lent what 11 asks
+scratchB : List ℕ
+scratchB = replicate 32000 0
+
+lentB : Lent
+lentB = record { graph = 8193; scratch = 32000; buffer = replicate 1158 0 }
+
+lent-lengths : map (lengths shiftWords scratchB) (lentB ∷ lentB ∷ lentB ∷ []) ≡ whole ∷ whole ∷ whole ∷ []
+unfolding lengths scratchB lentB
+lent-lengths =
+    let l : length shiftWords ≡ 8193 = cc marked-lengths in
+    rw (l, length-replicate {A = ℕ} 32000 0, length-replicate {A = ℕ} 1158 0)
+
+handed-B : Handed (meaning tableB) shiftB (item 0 1) none (whole ∷ whole ∷ whole ∷ [])
+unfolding setOf
+handed-B =
+    let e : edgesIn shiftWords ≡ shiftB = cc marked-edges in
+    let D = demand tableB (item 0 1) Any shiftWords (listing (item 0 1) Any 0 true) (opens tableB (item 0 1) Any shiftWords ready-shift) scratchB (lentB ∷ lentB ∷ lentB ∷ []) in
+    subst (λ (es : List TraceEdge). Handed (meaning tableB) es (item 0 1) none (whole ∷ whole ∷ whole ∷ [])) e
+    (subst (λ (ks : List Call). Handed (meaning tableB) (edgesIn shiftWords) (item 0 1) none ks) lent-lengths (D .handed))
+
+-- the listing ends, so the example that it handed out is the only path that there is to hand out
+pub marked-only : (p : Path) → IsHanded (meaning tableB) shiftB (item 0 1) none p → p ≡ 0 ∷ 1 ∷ []
+marked-only p h =
+    let e : ends (pathLister (meaning tableB) shiftB (item 0 1) none (whole ∷ whole ∷ whole ∷ [])) ≡ true = cc marked-ends in
+    let q : handed (pathLister (meaning tableB) shiftB (item 0 1) none (whole ∷ whole ∷ whole ∷ [])) ≡ (0 ∷ 1 ∷ []) ∷ [] = cc marked-paths in
+    List·Memᴰ·eq-of-singleton (subst (λ (l : List Path). List·Memᴰ p l) q (handed-B .exactly e p .1 h))

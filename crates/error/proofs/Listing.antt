@@ -2,8 +2,8 @@
 -- off its answers (part 8 of document 01, `listingSide` of specs/Sides). Assumes nothing.
 use Prim.Native.Nat.{ℕ, _+_, _≤_, _<_}
 use native.Mathlib.Omega.{arith}
-use mathlib.Core.Path.{_≡_, refl, sym, ap, _∙_}
-use mathlib.Core.Logic.{_⊎_, ⊎-elim}
+use mathlib.Core.Path.{_≡_, sym, ap, _∙_}
+use mathlib.Core.Logic.{⊎-elim}
 use mathlib.Core.Bool.{Bool, true, false}
 use mathlib.Core.List.{List, _++_, map}
 use mathlib.Core.Option.{Option}
@@ -20,7 +20,7 @@ use Rattle.enumerator.specs.Trials.{Path, endsOf, trials}
 use Rattle.enumerator.specs.Lister.{Call, enough, hands, says, labelsOf, trialLimit, Out, plainLister}
 use Rattle.enumerator.specs.Told.{pathLister, spoken, handed, ends, countAfter}
 use Rattle.enumerator.proofs.Handed.{full-run, up-to, said}
-use Rattle.error.specs.Sides.{exampleLimit, Side, gathered, stopped, listingSide}
+use Rattle.error.specs.Sides.{exampleLimit, gathered, stopped, listingSide}
 use Rattle.error.specs.Listing.{sideTold}
 
 -- a beginning keeps no more

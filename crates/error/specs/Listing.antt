@@ -1,6 +1,6 @@
 -- One listing of a side read off the plain lister (part 8 of document 01): what `listingSide` of specs/Sides is by `listing-side` of proofs/Listing. Assumes nothing: these are definitions.
 use Prim.Native.Nat.{ℕ, _+_}
-use mathlib.Core.Bool.{Bool, true, false}
+use mathlib.Core.Bool.{true, false}
 use mathlib.Core.List.{List, map}
 use lib.ListN.{length}
 use lib.Dec.{ltb}
