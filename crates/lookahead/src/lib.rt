@@ -1,5 +1,5 @@
 // Token sets (lr1/lookahead.rs): one word, bit k for token k. The terminals are 0 to T - 1, and T is the end of input; what the Rust takes from
-// thread-local storage, the number of terminals, is an argument. Every operation is total: a token above 63 is not contained and not inserted.
+// thread-local storage, the number of terminals, is an argument. `fits` asks for at most 63 terminals; every other operation is total: a token above 63 is not contained and not inserted.
 ghost use mathlib.Core.Path.{_≡_};
 ghost use mathlib.Core.Bool.{Bool, true, false, _&&_, _||_, not};
 ghost use mathlib.Core.List.{List, [], _∷_};
