@@ -1,13 +1,184 @@
 #!/bin/sh
-# Explains each table of this folder with the built programs, and compares with what is stored beside it.
+# Tries the two built programs, words and explain, on the tables of this folder and on inputs made here, and compares what they write.
+# Where an expected output comes from: TABLE.out is what the Rust's explaining program writes for that table (`oracle explain`, oracle/README.md),
+# and so is every expected line below that is not a refusal; the refusals are document 01's rows, applied by hand where they stand.
 cd "$(dirname "$0")/.." || exit 1
+work=$(mktemp -d) || exit 1
+trap 'rm -rf "$work"' EXIT
 failed=0
-for t in tables/*.txt; do
-    if target/bin/words <"$t" | target/bin/explain | cmp -s - "${t%.txt}.out"; then
-        echo "same: $t"
+
+verdict() { # name, status
+    if [ "$2" -eq 0 ]; then
+        echo "same: $1"
     else
-        echo "differs: $t"
+        echo "differs: $1"
         failed=1
     fi
+}
+
+# Words of standard input are explained as the file `expected` says, and nothing is said on standard error.
+explains() { # name
+    target/bin/explain <"$work/input" >"$work/output" 2>"$work/said"
+    cmp -s "$work/output" "$work/expected" && [ ! -s "$work/said" ]
+    verdict "$1" $?
+}
+
+# Text typed as a table, as words.
+typed() {
+    target/bin/words >"$work/input" 2>"$work/unread" && [ ! -s "$work/unread" ]
+}
+
+# Table B of document 01, its 96 words; a word may be put at a place.
+table_b() { # place, word
+    sed 's/#.*//' tables/table_b.txt | awk -v at="${1:--2}" -v word="${2:-0}" '
+        { for (i = 1; i <= NF; i++) if (k < 97) { print (k == at + 1 ? word : $i); k++ } }'
+}
+
+for t in tables/*.txt; do
+    typed <"$t"
+    cp "${t%.txt}.out" "$work/expected"
+    explains "$t"
 done
+
+# Bad tables: document 01's own inputs of refusals 2, 3, 4 and 7; a place is record * 4 + word.
+refused_table() { # refusal, place, changed place, word
+    table_b "$3" "$4" | typed
+    echo "0 refused $1 $2" >"$work/expected"
+    explains "table B, word $3 = $4"
+}
+echo '1 0 0 1 0' | typed
+echo '0 refused 2 0' >"$work/expected"
+explains "one record 0 0 1 0"
+refused_table 3 12 48 12
+refused_table 4 7 24 0
+refused_table 7 18 74 4
+
+# Inputs that end before their table does, and counts that no table has: refusal 1.
+echo '0 refused 1 0' >"$work/expected"
+: >"$work/input"
+explains "no input"
+printf '\030' >"$work/input"
+explains "one byte"
+table_b | typed
+whole=$(wc -c <"$work/input")
+cp "$work/input" "$work/b"
+for n in 2 3 "$((whole - 1))"; do
+    head -c "$n" "$work/b" >"$work/input"
+    explains "the first $n bytes of table B"
+done
+echo 0 | typed
+explains "no record"
+{ echo 8193; awk 'BEGIN { for (i = 0; i < 8193 * 4; i++) print 0 }'; } | typed
+explains "8,193 records"
+
+# Conflicts of table B. Its class and lines of 3 0 0 0 0 are document 01's program run.
+precedence() { # how many
+    awk -v n="$1" 'BEGIN { for (k = 1; k <= n; k++) {
+        print k " 2 3 3 0"
+        print "a 5 3 0/0 1/0 0/0 1/0 0/0 2-5/0 0-5/0"
+        print "r 5 3 0/0 1/0 0/0 1/0 0/0 0-3/0 0-5/0"
+    } }'
+}
+conflicts() { # how many, and what follows them
+    { table_b; awk -v n="$1" 'BEGIN { for (k = 0; k < n; k++) print "3 0 0 0 0" }'; echo "$2"; } | typed
+}
+conflicts 0 ''
+: >"$work/expected"
+explains "no conflict"
+conflicts 5000 ''
+precedence 5000 >"$work/expected"
+explains "5,000 conflicts"
+# one cut short is 9, and the last
+for cut in '3' '3 0 0 0'; do
+    conflicts 4096 "$cut"
+    { precedence 4096; echo '4097 refused 9 0'; } >"$work/expected"
+    explains "4,096 conflicts and $cut"
+done
+conflicts 1 ''
+cp "$work/input" "$work/one"
+{ cat "$work/one"; printf '\003'; } >"$work/input"
+{ precedence 1; echo '2 refused 9 0'; } >"$work/expected"
+explains "a conflict and one byte"
+# 9 and 10 refuse one conflict and not the next
+conflicts 1 '4 0 0 0 0  3 0 0 0 2  3 0 0 0 0'
+{ precedence 1; echo '2 refused 9 0'; echo '3 refused 10 0'; precedence 1 | sed 's/^1 /4 /'; } >"$work/expected"
+explains "refusals 9 and 10 between conflicts"
+
+# One state, one terminal a. A production N = a, and productions of 16 times N whose items at 1 to 15 all shift N there: each is an edge from an item to N, so an example.
+wide() { # how many productions of 16 symbols
+    awk -v p="$1" 'BEGIN {
+        symbols = 3 + p + 1; items = symbols + 17; last = items + p * 15
+        print last + 1
+        print 1, 1, 1, p + 1
+        print 3, 0, 0, 0
+        print items, 0, 0, 0
+        print (p > 0 ? 4 : 0), symbols + 16, 0, 0
+        for (k = 1; k <= p; k++) print (k < p ? 3 + k + 1 : 0), symbols, 0, 0
+        for (k = 1; k <= 16; k++) print (k < 16 ? symbols + k : 0), 0, 0, 0
+        print 0, 1, 0, 0
+        for (k = 1; k <= p; k++) for (i = 1; i <= 15; i++) print items + (k - 1) * 15 + i, k, i, 0
+        print 0, 0, 0, 0
+        print "0 0 0 0 0"
+    }'
+}
+# 69 * 15 + 1 edges are more than 1,024
+wide 69 | typed
+echo '1 refused 12 0' >"$work/expected"
+explains "1,036 edges"
+# 13 * 15 examples are more than 192
+wide 13 | typed
+echo '1 refused 14 0' >"$work/expected"
+explains "195 examples"
+
+# One state, eight nonterminals, a production M = N for each two of them and N = a: every nonterminal has an edge from each, so 13,700 walks of distinct ones from the first, each with eight edges into its end.
+{
+    awk 'BEGIN {
+        n = 8; first = n + 2; symbols = first + n * n + 1; items = symbols + n + 1; last = items + n * n
+        print last + 1
+        print n, 1, 1, n * n + 1
+        for (m = 0; m < n; m++) print first + m * n, 0, 0, 0
+        print items, 0, 0, 0
+        for (m = 0; m < n; m++) for (k = 0; k < n; k++) print (k < n - 1 ? first + m * n + k + 1 : (m == n - 1 ? first + n * n : 0)), symbols + k, 0, 0
+        print 0, symbols + n, 0, 0
+        for (k = 0; k < n; k++) print 0, 0, k, 0
+        print 0, 1, 0, 0
+        for (k = 0; k < n * n; k++) print items + k + 1, k, 0, 0
+        print 0, n * n, 0, 0
+        print "0 0 0 0 0"
+    }'
+} | typed
+echo '1 refused 13 0' >"$work/expected"
+explains "109,601 trials"
+
+# What fails is said on standard error: a full device, and a folder in place of a file.
+says() { # name, part of what is said
+    grep -q "$2" "$work/said"
+    verdict "$1" $?
+}
+target/bin/explain <"$work/one" >/dev/full 2>"$work/said"
+says "explain to a full device" 'standard output'
+target/bin/words <tables/table_b.txt >/dev/full 2>"$work/said"
+says "words to a full device" 'standard output'
+target/bin/explain <tables >"$work/output" 2>"$work/said"
+says "explain of a folder" 'standard input'
+[ ! -s "$work/output" ]
+verdict "explain of a folder, nothing written" $?
+target/bin/words <tables >"$work/input" 2>"$work/said"
+says "words of a folder" 'standard input'
+echo '0 refused 1 0' >"$work/expected"
+explains "words of a folder, explained"
+./explain.sh tables >"$work/output" 2>"$work/said"
+[ $? -ne 0 ] && grep -q 'standard input' "$work/said"
+verdict "explain.sh fails for a folder" $?
+./explain.sh tables/table_b.txt >/dev/full 2>"$work/said"
+[ $? -ne 0 ] && grep -q 'standard output' "$work/said"
+verdict "explain.sh fails at a full device" $?
+# a byte that cannot be read: its place is said, the conflicts before it are shown, and the next is refused as cut
+{ cat tables/table_b.txt; echo 'x'; } >"$work/typed"
+./explain.sh "$work/typed" >"$work/output" 2>"$work/said"
+[ $? -ne 0 ] && grep -q 'cannot read this' "$work/said"
+verdict "explain.sh fails at an unreadable byte" $?
+{ precedence 1; echo '2 refused 9 0'; } | cmp -s - "$work/output"
+verdict "the conflicts before it are shown" $?
+
 exit $failed

@@ -1,13 +1,13 @@
 // The explaining program (document 01, Table B and its program run): reads a table and conflicts from standard input as little-endian words, and prints of each conflict its class and the two readings.
-// A bad table is said in one line, and nothing more is read. A write that fails ends the run.
+// A bad table is said in one line, and nothing more is read. A read or a write that fails is said on standard error and ends the run.
 use error::Conflict;
-use libc::STDIN_FILENO;
-use libc::STDOUT_FILENO;
 use lines::lines;
 use lines::refused_line;
 use little::decode;
 use report::classify;
 use repr::word;
+use streams::read;
+use streams::write;
 use table::Checked;
 use table_check::check;
 ghost use mathlib.Core.Path.{_≡_};
@@ -20,7 +20,7 @@ ghost use Rattle.explain.specs.Printed.{conflictAt, Prints};
 fn say_refused(number: u64, refusal: u16, place: u16) -> bool {
     let mut out = [0u8; 200];
     let n = refused_line(&mut out, number, refusal, place);
-    io::write_all(STDOUT_FILENO, &out[..n])
+    write(&out[..n])
 }
 
 // The lines of one conflict, at the front of the bytes; their number.
@@ -53,7 +53,7 @@ fn explain_conflict(
     requires { ⌜ 65536 ≤ length (now out) ⌝ }
 {
     let n = conflict_lines(table, number, conflict, scratch, action, reduce, out);
-    io::write_all(STDOUT_FILENO, &out[..n])
+    write(&out[..n])
 }
 
 // Conflict k of some words, five each.
@@ -110,7 +110,11 @@ fn explain_piece(
     requires { ⌜ (40960 ≤ length (now bytes)) × (20480 ≤ length (now words)) ⌝ }
     requires { ⌜ (first < 1152921504606846976) × (65536 ≤ length (now out)) ⌝ }
 {
-    let got = io::read_full(STDIN_FILENO, &mut bytes[..40960]);
+    let input = read(&mut bytes[..40960]);
+    if input.failed {
+        return false;
+    }
+    let got = input.got;
     decode(&bytes[..got], words);
     let count = got / 10;
     if !explain_some(table, words, count, first, out) {
@@ -145,8 +149,11 @@ fn explain(records: usize, bytes: &mut [u8], table: &mut [u16])
     requires { ⌜ (records ≤ 8192) × ((65536 ≤ length (now bytes)) × (32768 ≤ length (now table))) ⌝ }
 {
     let size = records * 8;
-    let got = io::read_full(STDIN_FILENO, &mut bytes[..size]);
-    if got < size {
+    let input = read(&mut bytes[..size]);
+    if input.failed {
+        return;
+    }
+    if input.got < size {
         say_refused(0, 1, 0);
         return;
     }
@@ -164,8 +171,11 @@ fn explain(records: usize, bytes: &mut [u8], table: &mut [u16])
 fn explain_input(bytes: &mut [u8], table: &mut [u16])
     requires { ⌜ (65536 ≤ length (now bytes)) × (32768 ≤ length (now table)) ⌝ }
 {
-    let got = io::read_full(STDIN_FILENO, &mut bytes[..2]);
-    if got < 2 {
+    let input = read(&mut bytes[..2]);
+    if input.failed {
+        return;
+    }
+    if input.got < 2 {
         say_refused(0, 1, 0);
         return;
     }

@@ -1,8 +1,8 @@
 // A table typed as text becomes words: reads numbers in decimal, white space between them and comments from `#` to the end of a line, and writes them as little-endian 16-bit words.
-// At a byte that cannot be read it says where that is on standard error, and writes one lone byte after the words before it, so that whatever reads them sees that they are cut. A write that fails ends the run.
+// At a byte that cannot be read it says where that is on standard error, and writes one lone byte after the words before it, so that whatever reads them sees that they are cut; so it does where a read fails. A write that fails is said too, and ends the run.
 use libc::STDERR_FILENO;
-use libc::STDIN_FILENO;
-use libc::STDOUT_FILENO;
+use streams::read;
+use streams::write;
 ghost use mathlib.Core.Path.{_≡_};
 ghost use Prim.Native.Nat.{_+_, _*_, _≤_, _<_};
 ghost use lib.ListN.{length};
@@ -209,7 +209,7 @@ fn say_unreadable(line: u64, column: u64) {
     io::write_all(STDERR_FILENO, b" column ");
     io::print_decimal(STDERR_FILENO, column);
     io::write_all(STDERR_FILENO, b": cannot read this\n");
-    io::write_all(STDOUT_FILENO, b"\0");
+    write(b"\0");
 }
 
 // The number at the very end.
@@ -220,7 +220,7 @@ fn write_last(reader: Reader) {
         let mut out = [0u8; 2];
         out[0] = (number % 256) as u8;
         out[1] = (number / 256) as u8;
-        io::write_all(STDOUT_FILENO, &out[..2]);
+        write(&out[..2]);
     }
 }
 
@@ -231,7 +231,7 @@ fn write_piece(turn: Turn, whole: bool, out: &[u8]) -> bool
     let n = turn.place;
     let next = turn.reader;
     let readable = turn.readable;
-    let went = io::write_all(STDOUT_FILENO, &out[..n]);
+    let went = write(&out[..n]);
     if went {} else {
         return false;
     }
@@ -252,7 +252,15 @@ fn read_piece(reader: Reader, bytes: &mut [u8], out: &mut [u8]) -> Piece
     requires { ⌜ (length (now bytes) ≡ 65536) × (131072 ≤ length (now out)) ⌝ }
     ensures { λ p. ⌜ Near (readerOf reader) (readerOf (p .reader)) 65536 ⌝ }
 {
-    let got = io::read_full(STDIN_FILENO, bytes);
+    let input = read(bytes);
+    if input.failed {
+        write(b"\0");
+        return Piece {
+            more: false,
+            reader: reader,
+        };
+    }
+    let got = input.got;
     let turn = words_of(reader, &bytes[..got], out);
     let next = turn.reader;
     let more = write_piece(turn, got == 65536, out);

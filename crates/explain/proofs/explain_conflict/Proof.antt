@@ -8,19 +8,19 @@ use Rattle.explain.proofs.explain_conflict.Tie as tie
 use Rattle.explain.proofs.explain_conflict.Reads as reads
 use Rattle.explain.proofs.explain_conflict.Lts as lts
 use Rattle.explain.proofs.conflict_lines.Reads as conflict-lines-reads
-use Rattle.io.proofs.write_all.Reads as write-all-reads
+use Rattle.streams.proofs.write.Reads as write-reads
 
 conflict-lines-requires : tie.Need-conflict-lines-requires
 conflict-lines-requires c κs = search needs
 
-slice-reshare-prefix-write-all : tie.Need-slice-reshare-prefix-write-all
-slice-reshare-prefix-write-all c = search needs
+slice-reshare-prefix-write : tie.Need-slice-reshare-prefix-write
+slice-reshare-prefix-write c = search needs
 
-slice-aggregate-write-all : tie.Need-slice-aggregate-write-all
-slice-aggregate-write-all c = sym (length-take-le _ _ (c .before .before .before .before .before .before .before .before .before .conflict-lines .ensures .within))
+slice-aggregate-write : tie.Need-slice-aggregate-write
+slice-aggregate-write c = sym (length-take-le _ _ (c .before .before .before .before .before .before .before .before .before .conflict-lines .ensures .within))
 
-write-all-requires : tie.Need-write-all-requires
-write-all-requires c κs = search needs
+write-requires : tie.Need-write-requires
+write-requires c κs = search needs
 
 same-length : tie.Need-same-length
 same-length c = search needs
@@ -42,9 +42,9 @@ explain-conflict-spec =
     tie.close
     (tie.spec
     conflict-lines-requires
-    slice-reshare-prefix-write-all
-    slice-aggregate-write-all
-    write-all-requires
+    slice-reshare-prefix-write
+    slice-aggregate-write
+    write-requires
     same-length
     same-length-2
     same-length-3

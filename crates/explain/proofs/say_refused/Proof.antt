@@ -8,7 +8,7 @@ use Rattle.explain.proofs.say_refused.Statement.{statement}
 use Rattle.explain.proofs.say_refused.Tie as tie
 use Rattle.explain.proofs.say_refused.Reads as reads
 use Rattle.explain.proofs.say_refused.Lts as lts
-use Rattle.io.proofs.write_all.Reads as write-all-reads
+use Rattle.streams.proofs.write.Reads as write-reads
 use Rattle.lines.proofs.refused_line.Reads as refused-line-reads
 
 slice-aggregate-refused-line : tie.Need-slice-aggregate-refused-line
@@ -20,11 +20,11 @@ refused-line-requires c κs = search needs
 array-share-prefix-out : tie.Need-array-share-prefix-out
 array-share-prefix-out c = let w = put-within (c .before .refused-line .ensures) in let l = c .before .refused-line .ensures .long in omega (arith, w, l)
 
-slice-aggregate-write-all : tie.Need-slice-aggregate-write-all
-slice-aggregate-write-all c = sym (length-take-le _ _ (put-within (c .before .before .refused-line .ensures)))
+slice-aggregate-write : tie.Need-slice-aggregate-write
+slice-aggregate-write c = sym (length-take-le _ _ (put-within (c .before .before .refused-line .ensures)))
 
-write-all-requires : tie.Need-write-all-requires
-write-all-requires c κs = search needs
+write-requires : tie.Need-write-requires
+write-requires c κs = search needs
 
 returns : tie.Need-returns
 returns c = search needs
@@ -36,6 +36,6 @@ say-refused-spec =
     slice-aggregate-refused-line
     refused-line-requires
     array-share-prefix-out
-    slice-aggregate-write-all
-    write-all-requires
+    slice-aggregate-write
+    write-requires
     returns)

@@ -7,15 +7,15 @@ use Rattle.words.proofs.write_piece.Statement.{statement}
 use Rattle.words.proofs.write_piece.Tie as tie
 use Rattle.words.proofs.write_piece.Reads as reads
 use Rattle.words.proofs.write_piece.Lts as lts
-use Rattle.io.proofs.write_all.Reads as write-all-reads
+use Rattle.streams.proofs.write.Reads as write-reads
 use Rattle.words.proofs.say_unreadable.Reads as say-unreadable-reads
 use Rattle.words.proofs.write_last.Reads as write-last-reads
 
-slice-aggregate-write-all : tie.Need-slice-aggregate-write-all
-slice-aggregate-write-all c = sym (length-take-le _ _ (c .before .before .before .pre))
+slice-aggregate-write : tie.Need-slice-aggregate-write
+slice-aggregate-write c = sym (length-take-le _ _ (c .before .before .before .pre))
 
-write-all-requires : tie.Need-write-all-requires
-write-all-requires c κs = search needs
+write-requires : tie.Need-write-requires
+write-requires c κs = search needs
 
 returns : tie.Need-returns
 returns c = search needs
@@ -39,8 +39,8 @@ pub write-piece-spec : {M : Type 1} → statement M
 write-piece-spec =
     tie.close
     (tie.spec
-    slice-aggregate-write-all
-    write-all-requires
+    slice-aggregate-write
+    write-requires
     returns
     say-unreadable-requires
     returns-2
