@@ -13,7 +13,7 @@ use Rattle.repr.specs.Listed.{symbolOfKind, listed}
 use Rattle.repr.specs.Packed.{symbolWords, Packed}
 use Rattle.repr.proofs.Packed.{words-long}
 use Rattle.repr.proofs.Parts.{listed-take, listed-drop, listed-at, symbols-long, word-of}
-use Rattle.core.specs.Items.{Sets, noSets, first, symbolSets, isNonterminal, shiftsNonterminal, setsIn}
+use Rattle.core.specs.Items.{Sets, noSets, first, symbolSets, counts, held, countsOf, isNonterminal, shiftsNonterminal, setsIn}
 
 pub sets-none : (ws : List ℕ) → setsIn ws 0 0 0 ≡ noSets
 unfolding setsIn noSets first listed
@@ -39,6 +39,36 @@ sets-at ws i n l h = rw (listed-take i ws, listed-take 1 (drop (2 * i) ws), list
 pub sets-end : (ws : List ℕ) (i n : ℕ) → n ≡ length (listed ws) → n ≤ i → setsIn ws i 0 0 ≡ symbolSets (listed ws) i
 unfolding setsIn symbolSets first listed
 sets-end ws i n l h = rw (listed-take i ws, drop-of-length-le (listed ws) {i = i} (omega arith), drop-of-length-le (listed ws) {i = suc i} (omega arith)) refl
+
+-- how many symbols each part has
+held-first : (xs : List Symbol) → 0 < length xs → held (first xs) ≡ 1
+unfolding held first
+held-first [] h = absurd (omega arith)
+held-first (x ∷ xs) h = refl
+
+held-none : (xs : List Symbol) → length xs ≡ 0 → held (first xs) ≡ 0
+unfolding held first
+held-none [] h = refl
+held-none (x ∷ xs) h = absurd (omega arith)
+
+alike : {a b c x y z : ℕ} → a ≡ x → b ≡ y → c ≡ z → counts a b c ≡ counts x y z
+alike p q r = (cc)
+
+pub counts-at : (xs : List Symbol) (i n x : ℕ) → n ≡ length xs → i < n → x + i + 1 ≡ n → counts i 1 x ≡ countsOf (symbolSets xs i)
+unfolding countsOf symbolSets
+counts-at xs i n x l h e =
+    let a = length-take-le i xs (omega arith) in
+    let b = lib.ListN.length-drop i xs in
+    let d = lib.ListN.length-drop (suc i) xs in
+    alike (omega arith) (sym (held-first (drop i xs) (omega arith))) (omega arith)
+
+pub counts-end : (xs : List Symbol) (i : ℕ) → i ≡ length xs → counts i 0 0 ≡ countsOf (symbolSets xs i)
+unfolding countsOf symbolSets
+counts-end xs i l =
+    let a = length-take-le i xs (omega arith) in
+    let b = lib.ListN.length-drop i xs in
+    let d = lib.ListN.length-drop (suc i) xs in
+    alike (omega arith) (sym (held-none (drop i xs) (omega arith))) (omega arith)
 
 -- the cursor's symbol, by kind
 pub shifts-past : (xs : List Symbol) (i k : ℕ) → length xs ≤ i → false ≡ shiftsNonterminal xs i k

@@ -26,6 +26,17 @@ first (x ∷ xs) = some x
 unfoldable pub symbolSets : List Symbol → ℕ → Sets
 symbolSets xs i = record { prefix = take i xs; cursor = first (drop i xs); suffix = drop (suc i) xs }
 
+-- how many symbols stand before the cursor, at it (0 or 1) and after it
+pub data Counts : Type 0 where
+  counts : ℕ → ℕ → ℕ → Counts
+
+unfoldable pub held : Option Symbol → ℕ
+held none = 0
+held (some x) = 1
+
+unfoldable pub countsOf : Sets → Counts
+countsOf s = counts (length (s .prefix)) (held (s .cursor)) (length (s .suffix))
+
 unfoldable pub isNonterminal : ℕ → Option Symbol → Bool
 isNonterminal n none = false
 isNonterminal n (some (nonterminal m)) = eqb m n

@@ -9,7 +9,7 @@ ghost use lib.ListN.{length, getD, take, drop};
 ghost use lib.Dec.{ltb, eqb};
 ghost use Rattle.repr.specs.Listed.{listed};
 ghost use Rattle.repr.specs.Packed.{Packed, symbolWords};
-ghost use Rattle.core.specs.Items.{noSets, symbolSets, shiftsNonterminal, setsIn};
+ghost use Rattle.core.specs.Items.{noSets, symbolSets, counts, countsOf, shiftsNonterminal, setsIn};
 
 // The number of symbols before the cursor, at it and after it.
 pub struct SymbolSets {
@@ -65,6 +65,7 @@ impl Item {
         requires { ⌜ Packed (now grammar) productions × (self .production < productions) ⌝ }
         requires { ⌜ self .index ≤ length (listed (symbolWords (now grammar) (self .production))) ⌝ }
         ensures { λ r. ⌜ setsIn (symbolWords (now (grammar .entry)) (self .production)) (r .prefix) (r .cursor) (r .suffix) ≡ symbolSets (listed (symbolWords (now (grammar .entry)) (self .production))) (self .index) ⌝ }
+        ensures { λ r. ⌜ counts (r .prefix) (r .cursor) (r .suffix) ≡ countsOf (symbolSets (listed (symbolWords (now (grammar .entry)) (self .production))) (self .index)) ⌝ }
     {
         let length = self.length(grammar, productions);
         let index = self.index;

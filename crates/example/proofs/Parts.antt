@@ -15,7 +15,7 @@ use Rattle.repr.proofs.Lists.{length-mapped, joined-append, clash}
 use Rattle.repr.proofs.Listed.{drop-two, fits-head}
 use Rattle.repr.proofs.Packed.{words-long}
 use Rattle.repr.proofs.Parts.{listed-at, symbols-long, word-of}
-use Rattle.core.specs.Items.{Sets, first, symbolSets}
+use Rattle.core.specs.Items.{Sets, first, symbolSets, Counts, countsOf}
 use Rattle.example.specs.Example.{symbol, symbolWords, setsOf, cursorOf}
 use Rattle.example.specs.Labels.{labelsIn, LabelsFit}
 use Rattle.example.specs.Written.{labelAt, wordsOf, Part}
@@ -101,6 +101,9 @@ module _ (g : List ℕ) (n : ℕ) (P : Packed g n) (ws : List ℕ) (F : LabelsFi
 
   sets : symbolSets (listed (packed.symbolWords g p)) i ≡ setsOf (productionsIn g n) (labelAt ws j)
   sets = item-sets g n ws F j h p i ep ei
+
+  pub sets-counted : (x : Counts) → x ≡ countsOf (symbolSets (listed (packed.symbolWords g p)) i) → x ≡ countsOf (setsOf (productionsIn g n) (labelAt ws j))
+  sets-counted x e = e ∙ ap countsOf sets
 
   pub prefix-is : (r : List ℕ) → r ≡ take (2 * i) (packed.symbolWords g p) → listed r ≡ symbolSets (listed (packed.symbolWords g p)) i .prefix
       → Part r (setsOf (productionsIn g n) (labelAt ws j) .prefix)

@@ -12,6 +12,7 @@ use Rattle.repr.specs.Meaning.{Symbol, Production}
 use Rattle.repr.specs.Listed.{listed}
 use Rattle.repr.specs.Packed.{productionsIn, Packed}
 use Rattle.repr.proofs.Lists.{joined-nil, joined-append}
+use Rattle.core.specs.Items.{counts, held, countsOf}
 use Rattle.lookahead.specs.Tokens.{has, union, without}
 use Rattle.first.specs.First.{join, first0}
 use Rattle.first.proofs.Join.{join-null, join-own, join-assoc, join-single-right, first0-nil, first0-append}
@@ -81,17 +82,53 @@ module _ (ps : List Production) (ws : List ℕ) where
 
   -- the cursor place
 
-  module _ (h : 0 < length (labelsIn ws)) (part : List ℕ) (C : Part part (cursorOf ps (labelsIn ws))) where
-    here : middle ps (labelsIn ws) ≡ atCursor (setsOf ps (labelAt ws 0) .cursor) (setsOf ps (labelAt ws 0) .prefix)
-    unfolding middle
-    here = ap (middle ps) (labels-step ws 0 h)
+  here : 0 < length (labelsIn ws) → middle ps (labelsIn ws) ≡ atCursor (setsOf ps (labelAt ws 0) .cursor) (setsOf ps (labelAt ws 0) .prefix)
+  unfolding middle
+  here h = ap (middle ps) (labels-step ws 0 h)
 
+  -- how many places it has, by the counts of the first label's parts
+  module _ (h : 0 < length (labelsIn ws)) (before at after : ℕ) (e : counts before at after ≡ countsOf (setsOf ps (labelAt ws 0))) where
+    before-is : before ≡ length (setsOf ps (labelAt ws 0) .prefix)
+    unfolding countsOf
+    before-is = cc
+
+    at-is : at ≡ held (setsOf ps (labelAt ws 0) .cursor)
+    unfolding countsOf
+    at-is = cc
+
+    pub counted-one : 0 < at → 1 ≡ length (middle ps (labelsIn ws))
+    unfolding atCursor held
+    counted-one l = rw (here h) (go (setsOf ps (labelAt ws 0) .cursor) at-is)
+      where
+        go : (o : Option Symbol) → at ≡ held o → 1 ≡ length (atCursor o (setsOf ps (labelAt ws 0) .prefix))
+        go none q = absurd (omega arith)
+        go (some x) q = refl
+
+    pub counted-none : at ≤ 0 → 0 < before → 0 ≡ length (middle ps (labelsIn ws))
+    unfolding atCursor held
+    counted-none n l = rw (here h) (go (setsOf ps (labelAt ws 0) .cursor) (setsOf ps (labelAt ws 0) .prefix) at-is before-is)
+      where
+        go : (o : Option Symbol) (xs : List Symbol) → at ≡ held o → before ≡ length xs → 0 ≡ length (atCursor o xs)
+        go (some x) xs q r = absurd (omega arith)
+        go none [] q r = absurd (omega arith)
+        go none (x ∷ xs) q r = refl
+
+    pub counted-mark : at ≤ 0 → before ≤ 0 → 1 ≡ length (middle ps (labelsIn ws))
+    unfolding atCursor held
+    counted-mark n l = rw (here h) (go (setsOf ps (labelAt ws 0) .cursor) (setsOf ps (labelAt ws 0) .prefix) at-is before-is)
+      where
+        go : (o : Option Symbol) (xs : List Symbol) → at ≡ held o → before ≡ length xs → 1 ≡ length (atCursor o xs)
+        go (some x) xs q r = absurd (omega arith)
+        go none (x ∷ xs) q r = absurd (omega arith)
+        go none [] q r = refl
+
+  module _ (h : 0 < length (labelsIn ws)) (part : List ℕ) (C : Part part (cursorOf ps (labelsIn ws))) where
     size : length part ≡ 2 * length (listOf (setsOf ps (labelAt ws 0) .cursor))
     size = let a = part-length part (cursorOf ps (labelsIn ws)) C in let b = ap length (first-cursor ps ws h) in omega arith
 
     pub middle-symbol : 0 < length part → middle ps (labelsIn ws) ≡ map symbol (cursorOf ps (labelsIn ws))
     unfolding atCursor listOf
-    middle-symbol l = here ∙ go (setsOf ps (labelAt ws 0) .cursor) size ∙ ap (map symbol) (sym (first-cursor ps ws h))
+    middle-symbol l = here h ∙ go (setsOf ps (labelAt ws 0) .cursor) size ∙ ap (map symbol) (sym (first-cursor ps ws h))
       where
         go : (o : Option Symbol) → length part ≡ 2 * length (listOf o) → atCursor o (setsOf ps (labelAt ws 0) .prefix) ≡ map symbol (listOf o)
         go none e = absurd (omega arith)
@@ -99,7 +136,7 @@ module _ (ps : List Production) (ws : List ℕ) where
 
     pub middle-one : 0 < length part → (length (middle ps (labelsIn ws)) ≡ 1) × (length part ≡ 2)
     unfolding atCursor listOf
-    middle-one l = rw here (go (setsOf ps (labelAt ws 0) .cursor) size)
+    middle-one l = rw (here h) (go (setsOf ps (labelAt ws 0) .cursor) size)
       where
         go : (o : Option Symbol) → length part ≡ 2 * length (listOf o) → (length (atCursor o (setsOf ps (labelAt ws 0) .prefix)) ≡ 1) × (length part ≡ 2)
         go none e = absurd (omega arith)
@@ -112,7 +149,7 @@ module _ (ps : List Production) (ws : List ℕ) where
     module _ (none-there : length part ≤ 0) (before : List ℕ) (B : Part before (setsOf ps (labelAt ws 0) .prefix)) where
       pub middle-none : 0 < length before → middle ps (labelsIn ws) ≡ []
       unfolding atCursor listOf
-      middle-none l = here ∙ go (setsOf ps (labelAt ws 0) .cursor) (setsOf ps (labelAt ws 0) .prefix) size (part-length before (setsOf ps (labelAt ws 0) .prefix) B)
+      middle-none l = here h ∙ go (setsOf ps (labelAt ws 0) .cursor) (setsOf ps (labelAt ws 0) .prefix) size (part-length before (setsOf ps (labelAt ws 0) .prefix) B)
         where
           go : (o : Option Symbol) (xs : List Symbol) → length part ≡ 2 * length (listOf o) → length before ≡ 2 * length xs → atCursor o xs ≡ []
           go (some x) xs e f = absurd (omega arith)
@@ -121,7 +158,7 @@ module _ (ps : List Production) (ws : List ℕ) where
 
       pub middle-mark : length before ≤ 0 → middle ps (labelsIn ws) ≡ epsilon ∷ []
       unfolding atCursor listOf
-      middle-mark l = here ∙ go (setsOf ps (labelAt ws 0) .cursor) (setsOf ps (labelAt ws 0) .prefix) size (part-length before (setsOf ps (labelAt ws 0) .prefix) B)
+      middle-mark l = here h ∙ go (setsOf ps (labelAt ws 0) .cursor) (setsOf ps (labelAt ws 0) .prefix) size (part-length before (setsOf ps (labelAt ws 0) .prefix) B)
         where
           go : (o : Option Symbol) (xs : List Symbol) → length part ≡ 2 * length (listOf o) → length before ≡ 2 * length xs → atCursor o xs ≡ epsilon ∷ []
           go (some x) xs e f = absurd (omega arith)

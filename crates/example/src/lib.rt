@@ -141,10 +141,11 @@ fn middle_count(grammar: &[u16], productions: usize, labels: &[u16]) -> usize
     requires { ⌜ LabelsFit (productionsIn (now grammar) productions) (now labels) ⌝ }
     ensures { λ r. ⌜ r ≡ length (middle (productionsIn (now (grammar .entry)) productions) (labelsIn (now (labels .entry)))) ⌝ }
 {
-    if cursor_part(grammar, productions, labels).len() > 0 {
+    let sets = item(labels, 0).symbol_sets(grammar, productions);
+    if sets.cursor > 0 {
         return 1;
     }
-    if prefix_part(grammar, productions, labels, 0).len() > 0 {
+    if sets.prefix > 0 {
         return 0;
     }
     1
