@@ -9,6 +9,7 @@ use lib.Dec.{eqb, ltb}
 use lib.ListN.{length, getD, replicate, length-append, length-replicate, List·getD-append, List·getD-eq-default}
 use lib.Seq.{getD-append-add}
 use borrow.Author.Tests.{eqb-true, eqb-false, eq-eqb, ne-eqb, ltb-true, ltb-false}
+use Rattle.lookahead.proofs.Growing.{getD-none}
 use Rattle.repr.specs.Lists.{below, joined}
 use Rattle.repr.specs.Meaning.{Symbol, nonterminal, terminal, Item, Table, productionAt, SymbolFits, All, TableFits}
 use Rattle.repr.proofs.Lists.{cases, clash, length-map-below, getD-map-below}
@@ -16,7 +17,6 @@ use Rattle.lookahead.specs.Tokens.{has, union, Within}
 use Rattle.lookahead.proofs.Laws.{has-none, has-union, union-lt}
 use Rattle.lookahead.proofs.Sets.{within-union-left, within-union-right}
 use Rattle.first.specs.First.{FIRST}
-use Rattle.first.proofs.Least.{getD-none}
 use Rattle.build.specs.Canonical.{Set, rest, InFirst, Closed, given, added}
 use Rattle.build.specs.States.{places, tokens, from, Move, givesOf, gives, grown, round, closure}
 use Rattle.build.specs.Aheads.{aheadOf, aheadMoves, aheads, spreadAt, spread}

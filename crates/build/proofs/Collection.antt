@@ -11,11 +11,11 @@ use lib.Dec.{eqb, ltb}
 use lib.ListN.{length, getD, length-append, List·getD-append}
 use lib.Seq.{getD-append-seam}
 use borrow.Author.Tests.{eqb-true, eqb-false, eq-eqb, ltb-true, ltb-false, lt-ltb, le-ltb}
+use Rattle.slices.proofs.Same.{same-words-eq, eq-same-words}
+use Rattle.slices.specs.Same.{sameWords}
 use Rattle.repr.specs.Meaning.{Symbol, Edge, Table, TableFits, sameSymbol}
 use Rattle.repr.proofs.Lists.{cases, clash}
 use Rattle.repr.proofs.SameSymbol.{same-equal, same-refl}
-use Rattle.first.specs.First.{same}
-use Rattle.first.proofs.Least.{same-true, same-equal as lists-equal}
 use Rattle.build.specs.Canonical.{Set, Closed, given, Moved, Goto, Start, Reached, Viable, Inhabited}
 use Rattle.build.specs.States.{places, moved, goto, nothing?, place, add, tried, Taken, take, Collected, built, halted, collect, build, startState, targetOf}
 use Rattle.build.proofs.Rounds.{Sized}
@@ -24,11 +24,11 @@ use Rattle.build.proofs.Goto.{goto-sized, goto-exact, start-sized, star
 
 -- a number, or the next one
 
-place-here : (S R : List ℕ) (Rs : List (List ℕ)) → same S R ≡ true → place S (R ∷ Rs) ≡ 0
+place-here : (S R : List ℕ) (Rs : List (List ℕ)) → sameWords S R ≡ true → place S (R ∷ Rs) ≡ 0
 unfolding place
 place-here S R Rs h = rw (h, place)
 
-place-there : (S R : List ℕ) (Rs : List (List ℕ)) → same S R ≡ false → place S (R ∷ Rs) ≡ suc (place S Rs)
+place-there : (S R : List ℕ) (Rs : List (List ℕ)) → sameWords S R ≡ false → place S (R ∷ Rs) ≡ suc (place S Rs)
 unfolding place
 place-there S R Rs h = rw (h, place)
 
@@ -37,26 +37,26 @@ unfolding place
 place-le S [] = omega arith
 place-le S (R ∷ Rs) =
     let r = place-le S Rs in
-    cases (same S R) (λ t. rw (place-here S R Rs t) (omega arith)) (λ t. rw (place-there S R Rs t) (omega arith))
+    cases (sameWords S R) (λ t. rw (place-here S R Rs t) (omega arith)) (λ t. rw (place-there S R Rs t) (omega arith))
 
 place-found : (S : List ℕ) (Rs : List (List ℕ)) → place S Rs < length Rs → getD Rs (place S Rs) [] ≡ S
 place-found S [] h = absurd (omega arith)
 place-found S (R ∷ Rs) h =
     let r = place-found S Rs in
-    cases (same S R)
-    (λ t. rw (place-here S R Rs t) (sym (same-true S R t)))
+    cases (sameWords S R)
+    (λ t. rw (place-here S R Rs t) (sym (same-words-eq S R t)))
     (λ t. rw (place-there S R Rs t) (r (omega (arith, rw (place-there S R Rs t) at h))))
 
 place-new : (S : List ℕ) (Rs : List (List ℕ)) → length Rs ≤ place S Rs → (t : ℕ) → t < length Rs → getD Rs t [] ≡ S → ⊥
 place-new S [] h t l e = omega arith
 place-new S (R ∷ Rs) h t l e =
     let r = place-new S Rs in
-    cases (same S R)
+    cases (sameWords S R)
     (λ u. omega (arith, rw (place-here S R Rs u) at h))
     (λ u. by r (omega (arith, rw (place-there S R Rs u) at h)) u t l e)
   where
-    by : (length Rs ≤ place S Rs → (t : ℕ) → t < length Rs → getD Rs t [] ≡ S → ⊥) → length Rs ≤ place S Rs → same S R ≡ false → (t : ℕ) → t < suc (length Rs) → getD (R ∷ Rs) t [] ≡ S → ⊥
-    by r h u zero l e = clash (same S R) (lists-equal S R (sym e)) u
+    by : (length Rs ≤ place S Rs → (t : ℕ) → t < length Rs → getD Rs t [] ≡ S → ⊥) → length Rs ≤ place S Rs → sameWords S R ≡ false → (t : ℕ) → t < suc (length Rs) → getD (R ∷ Rs) t [] ≡ S → ⊥
+    by r h u zero l e = clash (sameWords S R) (eq-same-words S R (sym e)) u
     by r h u (suc t) l e = r h t (omega arith) e
 
 -- more states: those of before keep their numbers

@@ -6,10 +6,11 @@ use mathlib.Core.List.{List, [], _∷_, _++_, map}
 use Prim.Native.Nat.{ℕ, _/_, _%_}
 use lib.Dec.{eqb}
 use lib.ListN.{length, getD}
+use Rattle.slices.specs.Same.{sameWords}
 use Rattle.repr.specs.Lists.{upFrom, below, keep, every?, joined}
 use Rattle.repr.specs.Meaning.{Symbol, nonterminal, terminal, sameSymbol, Edge, Table}
 use Rattle.lookahead.specs.Tokens.{has, single, union, without, meet, members}
-use Rattle.first.specs.First.{join, firstOf, first0, grown, round, same, settle, firstSets, FIRST}
+use Rattle.first.specs.First.{join, firstOf, first0, grown, round, settle, firstSets, FIRST}
 use Rattle.build.specs.Canonical.{Clash}
 use Rattle.build.specs.States
 use Rattle.build.specs.States.{Collected, built, halted, build, collect, take, tried, add, place, nothing?, startState, goto, moved, movedTo, begins, closure, moves, moveTo, givesOf, clashes, clashesOf, reduces, shifts}
@@ -57,7 +58,7 @@ pub sum-states : statesOf (build tableSum 0)
     ∷ (at 1 0 5 ∷ at 1 2 5 ∷ at 2 0 5 ∷ [])
     ∷ (at 1 1 5 ∷ at 1 3 5 ∷ [])
     ∷ []
-unfolding build collect take tried add place nothing? startState goto moved movedTo begins closure moves moveTo givesOf States.grown States.round States.settle every? joined below upFrom sameSymbol FIRST first0 firstOf firstSets settle same round grown join has single union without keep clashes clashesOf reduces shifts meet members
+unfolding build collect take tried add place nothing? startState goto moved movedTo begins closure moves moveTo givesOf States.grown States.round States.settle every? joined below upFrom sameSymbol FIRST first0 firstOf firstSets settle sameWords round grown join has single union without keep clashes clashesOf reduces shifts meet members
 sum-states = refl
 
 pub sum-edges : edgesOf (build tableSum 0)
@@ -67,7 +68,7 @@ pub sum-edges : edgesOf (build tableSum 0)
     ∷ (edge (nonterminal 1) 4 ∷ edge (terminal 1) 2 ∷ [])
     ∷ (edge (terminal 0) 3 ∷ [])
     ∷ []
-unfolding build collect take tried add place nothing? startState goto moved movedTo begins closure moves moveTo givesOf States.grown States.round States.settle every? joined below upFrom sameSymbol FIRST first0 firstOf firstSets settle same round grown join has single union without keep clashes clashesOf reduces shifts meet members
+unfolding build collect take tried add place nothing? startState goto moved movedTo begins closure moves moveTo givesOf States.grown States.round States.settle every? joined below upFrom sameSymbol FIRST first0 firstOf firstSets settle sameWords round grown join has single union without keep clashes clashesOf reduces shifts meet members
 sum-edges = refl
 
 pub sum-conflicts : clashesAll tableSum (build tableSum 0)
@@ -77,7 +78,7 @@ pub sum-conflicts : clashesAll tableSum (build tableSum 0)
     ∷ []
     ∷ (word 1 0 0 0 ∷ [])
     ∷ []
-unfolding build collect take tried add place nothing? startState goto moved movedTo begins closure moves moveTo givesOf States.grown States.round States.settle every? joined below upFrom sameSymbol FIRST first0 firstOf firstSets settle same round grown join has single union without keep clashes clashesOf reduces shifts meet members
+unfolding build collect take tried add place nothing? startState goto moved movedTo begins closure moves moveTo givesOf States.grown States.round States.settle every? joined below upFrom sameSymbol FIRST first0 firstOf firstSets settle sameWords round grown join has single union without keep clashes clashesOf reduces shifts meet members
 sum-conflicts = refl
 
 -- Z → S, S → C C, C → c C, C → d (Aho, Sethi, Ullman, example 4.42): ten states, none merged
@@ -105,7 +106,7 @@ pub lazy-states : statesOf (build tableLazy 0)
     ∷ (at 2 2 3 ∷ [])
     ∷ (at 2 2 4 ∷ [])
     ∷ []
-unfolding build collect take tried add place nothing? startState goto moved movedTo begins closure moves moveTo givesOf States.grown States.round States.settle every? joined below upFrom sameSymbol FIRST first0 firstOf firstSets settle same round grown join has single union without keep clashes clashesOf reduces shifts meet members
+unfolding build collect take tried add place nothing? startState goto moved movedTo begins closure moves moveTo givesOf States.grown States.round States.settle every? joined below upFrom sameSymbol FIRST first0 firstOf firstSets settle sameWords round grown join has single union without keep clashes clashesOf reduces shifts meet members
 lazy-states = refl
 
 pub lazy-edges : edgesOf (build tableLazy 0)
@@ -120,7 +121,7 @@ pub lazy-edges : edgesOf (build tableLazy 0)
     ∷ []
     ∷ []
     ∷ []
-unfolding build collect take tried add place nothing? startState goto moved movedTo begins closure moves moveTo givesOf States.grown States.round States.settle every? joined below upFrom sameSymbol FIRST first0 firstOf firstSets settle same round grown join has single union without keep clashes clashesOf reduces shifts meet members
+unfolding build collect take tried add place nothing? startState goto moved movedTo begins closure moves moveTo givesOf States.grown States.round States.settle every? joined below upFrom sameSymbol FIRST first0 firstOf firstSets settle sameWords round grown join has single union without keep clashes clashesOf reduces shifts meet members
 lazy-edges = refl
 
 pub lazy-conflicts : clashesAll tableLazy (build tableLazy 0)
@@ -135,7 +136,7 @@ pub lazy-conflicts : clashesAll tableLazy (build tableLazy 0)
     ∷ []
     ∷ []
     ∷ []
-unfolding build collect take tried add place nothing? startState goto moved movedTo begins closure moves moveTo givesOf States.grown States.round States.settle every? joined below upFrom sameSymbol FIRST first0 firstOf firstSets settle same round grown join has single union without keep clashes clashesOf reduces shifts meet members
+unfolding build collect take tried add place nothing? startState goto moved movedTo begins closure moves moveTo givesOf States.grown States.round States.settle every? joined below upFrom sameSymbol FIRST first0 firstOf firstSets settle sameWords round grown join has single union without keep clashes clashesOf reduces shifts meet members
 lazy-conflicts = refl
 
 -- Z → S, S → S, S → a: reductions against one another
@@ -155,7 +156,7 @@ pub loop-states : statesOf (build tableLoop 0)
     ∷ (at 0 1 2 ∷ at 1 1 2 ∷ [])
     ∷ (at 2 1 2 ∷ [])
     ∷ []
-unfolding build collect take tried add place nothing? startState goto moved movedTo begins closure moves moveTo givesOf States.grown States.round States.settle every? joined below upFrom sameSymbol FIRST first0 firstOf firstSets settle same round grown join has single union without keep clashes clashesOf reduces shifts meet members
+unfolding build collect take tried add place nothing? startState goto moved movedTo begins closure moves moveTo givesOf States.grown States.round States.settle every? joined below upFrom sameSymbol FIRST first0 firstOf firstSets settle sameWords round grown join has single union without keep clashes clashesOf reduces shifts meet members
 loop-states = refl
 
 pub loop-edges : edgesOf (build tableLoop 0)
@@ -163,7 +164,7 @@ pub loop-edges : edgesOf (build tableLoop 0)
     ∷ []
     ∷ []
     ∷ []
-unfolding build collect take tried add place nothing? startState goto moved movedTo begins closure moves moveTo givesOf States.grown States.round States.settle every? joined below upFrom sameSymbol FIRST first0 firstOf firstSets settle same round grown join has single union without keep clashes clashesOf reduces shifts meet members
+unfolding build collect take tried add place nothing? startState goto moved movedTo begins closure moves moveTo givesOf States.grown States.round States.settle every? joined below upFrom sameSymbol FIRST first0 firstOf firstSets settle sameWords round grown join has single union without keep clashes clashesOf reduces shifts meet members
 loop-edges = refl
 
 pub loop-conflicts : clashesAll tableLoop (build tableLoop 0)
@@ -171,7 +172,7 @@ pub loop-conflicts : clashesAll tableLoop (build tableLoop 0)
     ∷ (word 0 1 1 1 ∷ [])
     ∷ []
     ∷ []
-unfolding build collect take tried add place nothing? startState goto moved movedTo begins closure moves moveTo givesOf States.grown States.round States.settle every? joined below upFrom sameSymbol FIRST first0 firstOf firstSets settle same round grown join has single union without keep clashes clashesOf reduces shifts meet members
+unfolding build collect take tried add place nothing? startState goto moved movedTo begins closure moves moveTo givesOf States.grown States.round States.settle every? joined below upFrom sameSymbol FIRST first0 firstOf firstSets settle sameWords round grown join has single union without keep clashes clashesOf reduces shifts meet members
 loop-conflicts = refl
 
 -- Z → S, S → A S b, S → c, A → nothing: reductions of an empty production
@@ -199,7 +200,7 @@ pub gone-states : statesOf (build tableGone 0)
     ∷ (at 1 2 1 ∷ [])
     ∷ (at 1 3 1 ∷ [])
     ∷ []
-unfolding build collect take tried add place nothing? startState goto moved movedTo begins closure moves moveTo givesOf States.grown States.round States.settle every? joined below upFrom sameSymbol FIRST first0 firstOf firstSets settle same round grown join has single union without keep clashes clashesOf reduces shifts meet members
+unfolding build collect take tried add place nothing? startState goto moved movedTo begins closure moves moveTo givesOf States.grown States.round States.settle every? joined below upFrom sameSymbol FIRST first0 firstOf firstSets settle sameWords round grown join has single union without keep clashes clashesOf reduces shifts meet members
 gone-states = refl
 
 pub gone-edges : edgesOf (build tableGone 0)
@@ -214,7 +215,7 @@ pub gone-edges : edgesOf (build tableGone 0)
     ∷ (edge (terminal 0) 9 ∷ [])
     ∷ []
     ∷ []
-unfolding build collect take tried add place nothing? startState goto moved movedTo begins closure moves moveTo givesOf States.grown States.round States.settle every? joined below upFrom sameSymbol FIRST first0 firstOf firstSets settle same round grown join has single union without keep clashes clashesOf reduces shifts meet members
+unfolding build collect take tried add place nothing? startState goto moved movedTo begins closure moves moveTo givesOf States.grown States.round States.settle every? joined below upFrom sameSymbol FIRST first0 firstOf firstSets settle sameWords round grown join has single union without keep clashes clashesOf reduces shifts meet members
 gone-edges = refl
 
 pub gone-conflicts : clashesAll tableGone (build tableGone 0)
@@ -229,7 +230,7 @@ pub gone-conflicts : clashesAll tableGone (build tableGone 0)
     ∷ []
     ∷ []
     ∷ []
-unfolding build collect take tried add place nothing? startState goto moved movedTo begins closure moves moveTo givesOf States.grown States.round States.settle every? joined below upFrom sameSymbol FIRST first0 firstOf firstSets settle same round grown join has single union without keep clashes clashesOf reduces shifts meet members
+unfolding build collect take tried add place nothing? startState goto moved movedTo begins closure moves moveTo givesOf States.grown States.round States.settle every? joined below upFrom sameSymbol FIRST first0 firstOf firstSets settle sameWords round grown join has single union without keep clashes clashesOf reduces shifts meet members
 gone-conflicts = refl
 
 -- S → A X, A → a, and X has no production: FIRST(X end) is empty, so A → . a is no item of state 0 and no edge leaves it on a
@@ -248,7 +249,7 @@ pub dead-states : statesOf (build tableDead 0)
     ∷ (at 0 1 2 ∷ [])
     ∷ (at 0 2 2 ∷ [])
     ∷ []
-unfolding build collect take tried add place nothing? startState goto moved movedTo begins closure moves moveTo givesOf States.grown States.round States.settle every? joined below upFrom sameSymbol FIRST first0 firstOf firstSets settle same round grown join has single union without keep clashes clashesOf reduces shifts meet members
+unfolding build collect take tried add place nothing? startState goto moved movedTo begins closure moves moveTo givesOf States.grown States.round States.settle every? joined below upFrom sameSymbol FIRST first0 firstOf firstSets settle sameWords round grown join has single union without keep clashes clashesOf reduces shifts meet members
 dead-states = refl
 
 pub dead-edges : edgesOf (build tableDead 0)
@@ -256,7 +257,7 @@ pub dead-edges : edgesOf (build tableDead 0)
     ∷ (edge (nonterminal 2) 2 ∷ [])
     ∷ []
     ∷ []
-unfolding build collect take tried add place nothing? startState goto moved movedTo begins closure moves moveTo givesOf States.grown States.round States.settle every? joined below upFrom sameSymbol FIRST first0 firstOf firstSets settle same round grown join has single union without keep clashes clashesOf reduces shifts meet members
+unfolding build collect take tried add place nothing? startState goto moved movedTo begins closure moves moveTo givesOf States.grown States.round States.settle every? joined below upFrom sameSymbol FIRST first0 firstOf firstSets settle sameWords round grown join has single union without keep clashes clashesOf reduces shifts meet members
 dead-edges = refl
 
 pub dead-conflicts : clashesAll tableDead (build tableDead 0)
@@ -264,5 +265,5 @@ pub dead-conflicts : clashesAll tableDead (build tableDead 0)
     ∷ []
     ∷ []
     ∷ []
-unfolding build collect take tried add place nothing? startState goto moved movedTo begins closure moves moveTo givesOf States.grown States.round States.settle every? joined below upFrom sameSymbol FIRST first0 firstOf firstSets settle same round grown join has single union without keep clashes clashesOf reduces shifts meet members
+unfolding build collect take tried add place nothing? startState goto moved movedTo begins closure moves moveTo givesOf States.grown States.round States.settle every? joined below upFrom sameSymbol FIRST first0 firstOf firstSets settle sameWords round grown join has single union without keep clashes clashesOf reduces shifts meet members
 dead-conflicts = refl

@@ -9,14 +9,17 @@ use lib.Dec.{eqb, ltb}
 use lib.ListN.{length, getD, length-set}
 use lib.Seq.{getD-set-same, getD-set-other}
 use borrow.Author.Tests.{eqb-true, eqb-false, eq-eqb, ne-eqb}
+use Rattle.repr.proofs.Tests.{All-member}
+use Rattle.lookahead.proofs.Growing.{Inside, inside-refl, inside-trans, inside-antisym, total, total-inside, total-few}
+use Rattle.slices.proofs.Same.{same-words-eq}
+use Rattle.slices.specs.Same.{sameWords}
 use Rattle.repr.specs.Meaning.{All}
 use Rattle.repr.proofs.Lists.{cases}
 use Rattle.lookahead.specs.Tokens.{has, union, Within}
 use Rattle.lookahead.proofs.Laws.{union-lt}
 use Rattle.lookahead.proofs.Sets.{within-refl, within-union-left, within-same-union}
-use Rattle.first.specs.First.{join, same}
+use Rattle.first.specs.First.{join}
 use Rattle.first.proofs.Join.{join-lt}
-use Rattle.first.proofs.Least.{Inside, inside-refl, inside-trans, inside-antisym, same-true, total, total-inside, total-few, All-member}
 use Rattle.build.specs.States.{Move, givesOf, gives, grown, round, settle}
 
 -- N sets, each a word of 64 bits
@@ -105,12 +108,12 @@ round-inside e N S (m ∷ ms) z k =
 
 -- round after round
 
-pub settle-stop : (f e : ℕ) (S : List ℕ) (ms : List Move) → same (round e S ms) S ≡ true → settle f e S ms ≡ S
+pub settle-stop : (f e : ℕ) (S : List ℕ) (ms : List Move) → sameWords (round e S ms) S ≡ true → settle f e S ms ≡ S
 unfolding settle
 settle-stop zero e S ms h = refl
 settle-stop (suc f) e S ms h = rw (h, settle)
 
-pub settle-again : (f e : ℕ) (S : List ℕ) (ms : List Move) → same (round e S ms) S ≡ false → settle (suc f) e S ms ≡ settle f e (round e S ms) ms
+pub settle-again : (f e : ℕ) (S : List ℕ) (ms : List Move) → sameWords (round e S ms) S ≡ false → settle (suc f) e S ms ≡ settle f e (round e S ms) ms
 unfolding settle
 settle-again f e S ms h = rw (h, settle)
 
@@ -119,7 +122,7 @@ pub settle-keeps {ℓ} : (P : List ℕ → Type ℓ) (e : ℕ) (ms : List Move) 
 unfolding settle
 settle-keeps P e ms next zero S p = p
 settle-keeps P e ms next (suc f) S p =
-    cases (same (round e S ms) S)
+    cases (sameWords (round e S ms) S)
     (λ t. subst P (sym (settle-stop (suc f) e S ms t)) p)
     (λ t. subst P (sym (settle-again f e S ms t)) (settle-keeps P e ms next f (round e S ms) (next S p)))
 
@@ -127,7 +130,7 @@ module _ (e N : ℕ) (ms : List Move) (k : All (MoveFits N) ms) where
   total-lt : (S : List ℕ) → Sized N S → total S < suc (N * 2 ^ 64)
   total-lt S z = let h : total S + length S ≤ length S * 2 ^ 64 = total-few (2 ^ 64) S (z .fits) in omega (arith, rw (z .long) at h)
 
-  pub round-less : (S : List ℕ) → Sized N S → same (round e S ms) S ≡ false → suc (N * 2 ^ 64) - total (round e S ms) < suc (N * 2 ^ 64) - total S
+  pub round-less : (S : List ℕ) → Sized N S → sameWords (round e S ms) S ≡ false → suc (N * 2 ^ 64) - total (round e S ms) < suc (N * 2 ^ 64) - total S
   round-less S z h =
       let y = round-sized e N S ms z k in
       omega (arith, total-inside S (round e S ms) (z .long ∙ sym (y .long)) (round-inside e N S ms z k) h, total-lt (round e S ms) y)
@@ -135,15 +138,15 @@ module _ (e N : ℕ) (ms : List Move) (k : All (MoveFits N) ms) where
   pub settle-fixed : (f : ℕ) (S : List ℕ) → Sized N S → suc (N * 2 ^ 64) - total S ≤ f → round e (settle f e S ms) ms ≡ settle f e S ms
   settle-fixed zero S z h = absurd (omega (arith, total-lt S z))
   settle-fixed (suc f) S z h =
-      cases (same (round e S ms) S)
-      (λ t. rw (settle-stop (suc f) e S ms t) (same-true (round e S ms) S t))
+      cases (sameWords (round e S ms) S)
+      (λ t. rw (settle-stop (suc f) e S ms t) (same-words-eq (round e S ms) S t))
       (λ t. rw (settle-again f e S ms t) (settle-fixed f (round e S ms) (round-sized e N S ms z k) (omega (arith, round-less S z t))))
 
   settle-enough : (f g : ℕ) (S : List ℕ) → Sized N S → suc (N * 2 ^ 64) - total S ≤ f → suc (N * 2 ^ 64) - total S ≤ g → settle f e S ms ≡ settle g e S ms
   settle-enough zero g S z h l = absurd (omega (arith, total-lt S z))
   settle-enough (suc f) zero S z h l = absurd (omega (arith, total-lt S z))
   settle-enough (suc f) (suc g) S z h l =
-      cases (same (round e S ms) S)
+      cases (sameWords (round e S ms) S)
       (λ t. settle-stop (suc f) e S ms t ∙ sym (settle-stop (suc g) e S ms t))
       (λ t.
       settle-again f e S ms t
@@ -151,7 +154,7 @@ module _ (e N : ℕ) (ms : List Move) (k : All (MoveFits N) ms) where
       ∙ sym (settle-again g e S ms t))
 
   -- from any sets on the way the same is reached
-  pub loop-more : (S : List ℕ) → Sized N S → same (round e S ms) S ≡ false → settle (suc (N * 2 ^ 64)) e (round e S ms) ms ≡ settle (suc (N * 2 ^ 64)) e S ms
+  pub loop-more : (S : List ℕ) → Sized N S → sameWords (round e S ms) S ≡ false → settle (suc (N * 2 ^ 64)) e (round e S ms) ms ≡ settle (suc (N * 2 ^ 64)) e S ms
   loop-more S z h =
       let l = round-less S z h in
       let g : ℕ = suc (N * 2 ^ 64) - total S in

@@ -6,10 +6,11 @@ use mathlib.Core.List.{List, [], _∷_, _++_, map}
 use mathlib.Core.Option.{Option, none, some}
 use lib.ListN.{length, getD, set, replicate, drop}
 use lib.Dec.{eqb, ltb}
+use Rattle.slices.specs.Same.{sameWords}
 use Rattle.repr.specs.Lists.{below, keep, every?, joined, some?}
 use Rattle.repr.specs.Meaning.{Symbol, nonterminal, terminal, sameSymbol, Item, Edge, Table, productionAt}
 use Rattle.lookahead.specs.Tokens.{has, single, union, meet, members}
-use Rattle.first.specs.First.{join, FIRST, same}
+use Rattle.first.specs.First.{join, FIRST}
 use Rattle.build.specs.Canonical.{Clash}
 
 -- how many items a state has room for, the tokens of one
@@ -54,7 +55,7 @@ round e S (m ∷ ms) = round e (grown e S m) ms
 -- rounds until one changes nothing; `settled` of proofs/Rounds shows that the fuel of `closure` never cuts
 unfoldable pub settle : ℕ → ℕ → List ℕ → List Move → List ℕ
 settle zero e S ms = S
-settle (suc f) e S ms = elim (same (round e S ms) S) [ true ↦ S | false ↦ settle f e (round e S ms) ms ]
+settle (suc f) e S ms = elim (sameWords (round e S ms) S) [ true ↦ S | false ↦ settle f e (round e S ms) ms ]
 
 unfoldable pub closure : Table → List ℕ → List ℕ
 closure T S = settle (suc (places T * 2 ^ 64)) (T .terminals) S (moves T)
@@ -80,7 +81,7 @@ startState T start = closure T (set (replicate (places T) 0) (17 * start) (singl
 -- the number of a state, that of the next one where it is new: lookaheads are compared too
 unfoldable pub place : List ℕ → List (List ℕ) → ℕ
 place S [] = 0
-place S (R ∷ Rs) = elim (same S R) [ true ↦ 0 | false ↦ suc (place S Rs) ]
+place S (R ∷ Rs) = elim (sameWords S R) [ true ↦ 0 | false ↦ suc (place S Rs) ]
 
 unfoldable pub add : List ℕ → List (List ℕ) → List (List ℕ)
 add S Rs = elim (ltb (place S Rs) (length Rs)) [ true ↦ Rs | false ↦ Rs ++ S ∷ [] ]

@@ -1,19 +1,20 @@
 -- What is chosen of the classes, and refusals 9 to 11 (error/specs/Choose). Assumes nothing.
 use mathlib.Core.Path.{_≡_, refl, sym, ap, _∙_}
 use mathlib.Core.Bool.{Bool, true, false, _&&_, not}
-use mathlib.Core.List.{List, [], _∷_, _++_}
-use Prim.Native.Nat.{ℕ, zero, suc, _+_, _^_, _≤_, _<_}
+use mathlib.Core.List.{List, [], _∷_}
+use Prim.Native.Nat.{ℕ, zero, suc, _^_, _≤_, _<_}
 use native.Mathlib.Omega.{arith}
-use lib.ListN.{length, drop, replicate, length-replicate}
-use lib.Seq.{drop-at}
+use lib.ListN.{length}
 use lib.Dec.{eqb, ltb}
 use borrow.Author.Tests.{le-leb, lt-leb, eq-eqb, ne-eqb}
+use Rattle.repr.specs.Sizes.{classifyScratch}
+use Rattle.slices.specs.Lent.{zeroed}
 use Rattle.repr.specs.Lists.{keep, below, upFrom}
 use Rattle.repr.specs.Meaning.{Table}
 use Rattle.repr.proofs.Lists.{keep-nil, keep-yes, keep-no, cases}
 use Rattle.lookahead.specs.Tokens.{has, members}
 use Rattle.error.specs.declared.Conflict.{Conflict}
-use Rattle.error.specs.Outcome.{zeroed, placeFits}
+use Rattle.error.specs.Outcome.{placeFits}
 use Rattle.error.specs.Choose.{Entry, Choice, chosen, refused, Outcome, outcome, Entries, entries, halts, isBetter, classesOf, naiveOnes, choiceFrom, choiceOf, setFits, setShiftsEnd, chooseIn}
 use Rattle.entries.specs.Entries.{entriesIn}
 use Rattle.entries.proofs.Laws.{entries-long}
@@ -108,28 +109,28 @@ stepped-left s t v w e = cc
 stepped-right : (s t : Sorted) (v w : List ℕ) → stepped s v ≡ stepped t w → v ≡ w
 stepped-right s t v w e = cc
 
-module _ (T : Table) (c : Conflict) (set : ℕ) (w₀ w w′ better naive : List ℕ) (clear : w ≡ zeroed w₀) (r : Step)
+module _ (T : Table) (c : Conflict) (set : ℕ) (w₀ w w′ better naive : List ℕ) (clear : w ≡ zeroed classifyScratch w₀) (r : Step)
     (e : stepped (sortedIn r better naive) w′ ≡ stepped (addedTo [] [] (classesOf T c (members set))) w) where
   left : sortedIn r better naive ≡ addedTo [] [] (classesOf T c (members set))
   left = stepped-left (sortedIn r better naive) (addedTo [] [] (classesOf T c (members set))) w′ w e
 
-  right : w′ ≡ zeroed w₀
+  right : w′ ≡ zeroed classifyScratch w₀
   right = stepped-right (sortedIn r better naive) (addedTo [] [] (classesOf T c (members set))) w′ w e ∙ clear
 
-  pub chosen-halts : (x : ℕ) → r ≡ Halted x → (ws : List ℕ) → outcome (choiceIn (record { refusal = x; place = 0; count = 0; entries = ws })) w′ ≡ outcome (choiceOf (c .action) (classesOf T c (members set))) (zeroed w₀)
+  pub chosen-halts : (x : ℕ) → r ≡ Halted x → (ws : List ℕ) → outcome (choiceIn (record { refusal = x; place = 0; count = 0; entries = ws })) w′ ≡ outcome (choiceOf (c .action) (classesOf T c (members set))) (zeroed classifyScratch w₀)
   unfolding choiceIn sortedIn
   chosen-halts x er ws =
       let p = halt-choice (c .action) x ws (classesOf T c (members set)) (classes-halt T c (members set)) (ap (λ (y : Step). sortedIn y better naive) (sym er) ∙ left) in
       λ j. outcome (p j) (right j)
 
   module _ (b a : ℕ) (er : r ≡ Counts b a) where
-    pub chosen-better : (b ≡ 0 → ⊥) → outcome (choiceIn (record { refusal = 0; place = 0; count = b; entries = better })) w′ ≡ outcome (choiceOf (c .action) (classesOf T c (members set))) (zeroed w₀)
+    pub chosen-better : (b ≡ 0 → ⊥) → outcome (choiceIn (record { refusal = 0; place = 0; count = b; entries = better })) w′ ≡ outcome (choiceOf (c .action) (classesOf T c (members set))) (zeroed classifyScratch w₀)
     unfolding choiceIn sortedIn
     chosen-better h =
         let p = better-choice (c .action) b a better naive (classesOf T c (members set)) h (ap (λ (y : Step). sortedIn y better naive) (sym er) ∙ left) in
         λ j. outcome (p j) (right j)
 
-    pub chosen-naive : b ≡ 0 → (n : ℕ) → n ≡ naiveCount (c .action) a → outcome (choiceIn (record { refusal = 0; place = 0; count = n; entries = naive })) w′ ≡ outcome (choiceOf (c .action) (classesOf T c (members set))) (zeroed w₀)
+    pub chosen-naive : b ≡ 0 → (n : ℕ) → n ≡ naiveCount (c .action) a → outcome (choiceIn (record { refusal = 0; place = 0; count = n; entries = naive })) w′ ≡ outcome (choiceOf (c .action) (classesOf T c (members set))) (zeroed classifyScratch w₀)
     unfolding choiceIn sortedIn
     chosen-naive h n en =
         let p = ap (λ (k : ℕ). choiceBy 0 0 k naive) en ∙ naive-choice (c .action) b a better naive (classesOf T c (members set)) h (ap (λ (y : Step). sortedIn y better naive) (sym er) ∙ left) in
@@ -174,16 +175,10 @@ module _ (T : Table) (c : Conflict) (set : ℕ) (w : List ℕ) where
         unfolding chooseIn
         shift-end s r e = let f : setShiftsEnd T c set ≡ true = end-T ∙ s in ap (λ (l : Choice). outcome l w) (refusal-is 9 r e) ∙ rw (set-fits, f, chooseIn)
 
-        pub short-scratch : u ≡ false → length w < 32000 → (r : Chosen) → (r .refusal ≡ 11) × (r .place ≡ 0) → outcome (choiceIn r) w ≡ chooseIn c set w T
+        pub short-scratch : u ≡ false → length w < classifyScratch → (r : Chosen) → (r .refusal ≡ 11) × (r .place ≡ 0) → outcome (choiceIn r) w ≡ chooseIn c set w T
         unfolding chooseIn
-        short-scratch s l r e = let f : setShiftsEnd T c set ≡ false = end-T ∙ s in ap (λ (l : Choice). outcome l w) (refusal-is 10 r e) ∙ rw (set-fits, f, lt-leb 32000 (length w) l, chooseIn)
+        short-scratch s l r e = let f : setShiftsEnd T c set ≡ false = end-T ∙ s in ap (λ (l : Choice). outcome l w) (refusal-is 10 r e) ∙ rw (set-fits, f, lt-leb classifyScratch (length w) l, chooseIn)
 
-        pub chosen-whole : u ≡ false → 32000 ≤ length w → (o : Outcome) → o ≡ outcome (choiceOf (c .action) (classesOf T c (members set))) (zeroed w) → o ≡ chooseIn c set w T
+        pub chosen-whole : u ≡ false → classifyScratch ≤ length w → (o : Outcome) → o ≡ outcome (choiceOf (c .action) (classesOf T c (members set))) (zeroed classifyScratch w) → o ≡ chooseIn c set w T
         unfolding chooseIn
-        chosen-whole s l o e = let f : setShiftsEnd T c set ≡ false = end-T ∙ s in rw (set-fits, f, le-leb 32000 (length w) l, chooseIn) e
-
--- zeroed words stay so
-pub zeroed-again : (w₀ w : List ℕ) → w ≡ zeroed w₀ → w ≡ zeroed w
-unfolding zeroed
-zeroed-again w₀ w e =
-    e ∙ sym (ap (λ (l : List ℕ). replicate 32000 0 ++ l) (ap (drop 32000) e ∙ drop-at (replicate 32000 0) (drop 32000 w₀) 32000 (length-replicate {A = ℕ} 32000 0)))
+        chosen-whole s l o e = let f : setShiftsEnd T c set ≡ false = end-T ∙ s in rw (set-fits, f, le-leb classifyScratch (length w) l, chooseIn) e

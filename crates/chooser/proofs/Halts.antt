@@ -7,19 +7,19 @@ use Prim.Native.Nat.{ℕ, zero, suc, _+_}
 use native.Mathlib.Omega.{arith}
 use lib.ListN.{length, take}
 use lib.Dec.{ltb}
+use Rattle.repr.specs.Sizes.{edgeLimit, trialLimit, exampleLimit}
 use Rattle.repr.specs.Lists.{keep}
 use Rattle.repr.specs.Meaning.{Item, Table}
 use Rattle.lookahead.specs.Tokens.{single}
 use Rattle.trace_graph.specs.Graph.{TraceEdge, atItem}
-use Rattle.trace_graph.specs.Words.{edgeLimit}
 use Rattle.trace.specs.Shift.{shiftEdges}
 use Rattle.trace.specs.Reduce.{reduceEdges}
 use Rattle.example.specs.Example.{Label}
 use Rattle.enumerator.specs.Trials.{Path, endsOf, trials}
-use Rattle.enumerator.specs.Lister.{hands, labelsOf, trialLimit}
+use Rattle.enumerator.specs.Lister.{hands, labelsOf}
 use Rattle.error.specs.declared.Conflict.{Conflict}
 use Rattle.error.specs.Items.{shiftItems}
-use Rattle.error.specs.Sides.{exampleLimit, Side, gathered, stopped, listingSide, withMore, examplesIn, shiftSideFrom, shiftSide, reduceItem, reduceSide, actionSideOf, Gathered, sides, halted, bothSides, gather}
+use Rattle.error.specs.Sides.{Side, gathered, stopped, listingSide, withMore, examplesIn, shiftSideFrom, shiftSide, reduceItem, reduceSide, actionSideOf, Gathered, sides, halted, bothSides, gather}
 use Rattle.error.specs.Choose.{Entries, entries, halts, then, classesOf, atToken}
 
 listing-by : (a b d : Bool) (g : List (List Label)) (n : ℕ)

@@ -7,6 +7,8 @@ use native.Mathlib.Omega.{arith}
 use lib.ListN.{length}
 use lib.Dec.{eqb, ltb, leb}
 use borrow.Author.Tests.{ltb-true, le-leb}
+use Rattle.repr.specs.Sizes.{classifyScratch, entriesRoom}
+use Rattle.slices.specs.Lent.{zeroed}
 use Rattle.repr.specs.Lists.{keep, below, upFrom}
 use Rattle.repr.specs.Meaning.{Table}
 use Rattle.repr.proofs.Lists.{keep-nil, keep-yes, keep-no, keep-append, cases}
@@ -19,7 +21,7 @@ use Rattle.error.specs.declared.Classified.the-variants.{Class as IsClass, Refu
 use Rattle.error.specs.Numbers.{classNumber, classValues, classed, refused, readingOf}
 use Rattle.error.specs.Sides.{Gathered, sides, halted, gather}
 use Rattle.error.specs.Judge.{Judged, judged}
-use Rattle.error.specs.Outcome.{Outcome, outcome, zeroed, placeFits, conflictFits, shown, judgedOutcome, gatheredOutcome}
+use Rattle.error.specs.Outcome.{Outcome, outcome, placeFits, conflictFits, shown, judgedOutcome, gatheredOutcome}
 use Rattle.error.specs.Choose.{Entry, Entries, entries, halts, then, atToken, entryOf, isBetter, classesOf, setFits}
 use Rattle.entries.specs.Entries.{entriesIn, withEntry}
 use Rattle.entries.proofs.Laws.{entries-more, entry-long}
@@ -55,10 +57,10 @@ entryBy k class = record { token = k; class = classNumber class; values = classV
 -- what one classification says of its token
 module _ (T : Table) (c : Conflict) (k : ℕ) (w w′ a a′ b b′ : List ℕ) (r : Classified) where
   refused-by : (G : Gathered) (x p : ℕ) → r ≡ Refused x p → outcome (readingOf r) w′ a′ b′ ≡ gatheredOutcome T (atToken c k) w a b G
-      → (then T c k G (entries []) ≡ halts x) × (w′ ≡ zeroed w)
+      → (then T c k G (entries []) ≡ halts x) × (w′ ≡ zeroed classifyScratch w)
   unfolding readingOf gatheredOutcome judgedOutcome then
   refused-by (halted n) x p er e =
-      let f : outcome (refused x p) w′ a′ b′ ≡ outcome (refused n 0) (zeroed w) a b = ap (λ (y : Classified). outcome (readingOf y) w′ a′ b′) (sym er) ∙ e in
+      let f : outcome (refused x p) w′ a′ b′ ≡ outcome (refused n 0) (zeroed classifyScratch w) a b = ap (λ (y : Classified). outcome (readingOf y) w′ a′ b′) (sym er) ∙ e in
       let z : n ≡ x = cc in
       (ap halts z, cc)
   refused-by (sides xs m ys n) x p er e =
@@ -66,14 +68,14 @@ module _ (T : Table) (c : Conflict) (k : ℕ) (w w′ a a′ b b′ : List ℕ) 
       let z : _≡_ {A = ℕ} 0 1 = cc in absurd (omega arith)
 
   classed-by : (G : Gathered) (class : Class) (i j : ℕ) → r ≡ IsClass class i j → outcome (readingOf r) w′ a′ b′ ≡ gatheredOutcome T (atToken c k) w a b G
-      → (then T c k G (entries []) ≡ entries (entryBy k class ∷ [])) × (w′ ≡ zeroed w)
+      → (then T c k G (entries []) ≡ entries (entryBy k class ∷ [])) × (w′ ≡ zeroed classifyScratch w)
   unfolding readingOf gatheredOutcome judgedOutcome then entryOf
   classed-by (halted n) class i j er e =
-      let f : outcome (classed (classNumber class) (classValues class) i j) w′ a′ b′ ≡ outcome (refused n 0) (zeroed w) a b = ap (λ (y : Classified). outcome (readingOf y) w′ a′ b′) (sym er) ∙ e in
+      let f : outcome (classed (classNumber class) (classValues class) i j) w′ a′ b′ ≡ outcome (refused n 0) (zeroed classifyScratch w) a b = ap (λ (y : Classified). outcome (readingOf y) w′ a′ b′) (sym er) ∙ e in
       let z : _≡_ {A = ℕ} 0 1 = cc in absurd (omega arith)
   classed-by (sides xs m ys n) class i j er e =
       let J = judged T (atToken c k) xs ys in
-      let f : outcome (classed (classNumber class) (classValues class) i j) w′ a′ b′ ≡ outcome (classed (classNumber (J .class)) (classValues (J .class)) m n) (zeroed w) (shown (T .productions) (J .action) a) (shown (T .productions) (J .reduce) b) = ap (λ (y : Classified). outcome (readingOf y) w′ a′ b′) (sym er) ∙ e in
+      let f : outcome (classed (classNumber class) (classValues class) i j) w′ a′ b′ ≡ outcome (classed (classNumber (J .class)) (classValues (J .class)) m n) (zeroed classifyScratch w) (shown (T .productions) (J .action) a) (shown (T .productions) (J .reduce) b) = ap (λ (y : Classified). outcome (readingOf y) w′ a′ b′) (sym er) ∙ e in
       let x : classNumber (J .class) ≡ classNumber class = cc in
       let y : classValues (J .class) ≡ classValues class = cc in
       ((λ l. entries (record { token = k; class = x l; values = y l } ∷ [])), cc)
@@ -100,7 +102,7 @@ module _ (T : Table) (c : Conflict) (set k : ℕ) (w better naive : List ℕ) (b
   token-out h =
       (ap (λ (l : Sorted). stepped l w) (sym (added-none (entriesIn better b) (entriesIn naive a)) ∙ ap (addedTo (entriesIn better b) (entriesIn naive a)) (sym (token-entries-out T c set k h))), omega arith)
 
-  module _ (h : has set k ≡ true) (clear : w ≡ zeroed w) (w′ x x′ y y′ : List ℕ) (r : Classified) (e : outcome (readingOf r) w′ x′ y′ ≡ gatheredOutcome T (oneAt c k) w x y (gather T (oneAt c k))) where
+  module _ (h : has set k ≡ true) (clear : w ≡ zeroed classifyScratch w) (w′ x x′ y y′ : List ℕ) (r : Classified) (e : outcome (readingOf r) w′ x′ y′ ≡ gatheredOutcome T (oneAt c k) w x y (gather T (oneAt c k))) where
     token-in : tokenEntries T c set k ≡ then T c k (gather T (atToken c k)) (entries [])
     token-in = token-entries-in T c set k h
 
@@ -123,7 +125,7 @@ module _ (T : Table) (c : Conflict) (set k : ℕ) (w better naive : List ℕ) (b
           ap (stepped (sorted (entriesIn better b ++ keep isBetter (E ∷ [])) (entriesIn naive a ++ keep isNaive (E ∷ [])))) z
           ∙ ap (λ (l : Entries). stepped (addedTo (entriesIn better b) (entriesIn naive a) l) w) (sym (token-in ∙ R .0))
 
-      pub token-naive : (t : Bool) → t ≡ eqb (classNumber class) 0 → t ≡ true → (naive′ : List ℕ) → length naive ≡ 384 → k < 64 → naive′ ≡ withEntry naive a k class → Goal (Counts b (a + 1)) better naive′ w′
+      pub token-naive : (t : Bool) → t ≡ eqb (classNumber class) 0 → t ≡ true → (naive′ : List ℕ) → length naive ≡ entriesRoom → k < 64 → naive′ ≡ withEntry naive a k class → Goal (Counts b (a + 1)) better naive′ w′
       unfolding sortedIn CountsWithin isNaive isBetter keep
       token-naive t et tt naive′ long room ew =
           let q : eqb (classNumber class) 0 ≡ true = sym et ∙ tt in
@@ -134,7 +136,7 @@ module _ (T : Table) (c : Conflict) (set k : ℕ) (w better naive : List ℕ) (b
           let g : entriesIn better b ≡ entriesIn better b ++ keep isBetter (E ∷ []) = sym (append-nil (entriesIn better b)) ∙ ap (λ (l : List Entry). entriesIn better b ++ l) (sym p) in
           ((λ l. stepped (sorted (g l) (f l)) w′) ∙ added, omega arith)
 
-      pub token-better : (t : Bool) → t ≡ eqb (classNumber class) 0 → t ≡ false → (better′ : List ℕ) → length better ≡ 384 → k < 64 → better′ ≡ withEntry better b k class → Goal (Counts (b + 1) a) better′ naive w′
+      pub token-better : (t : Bool) → t ≡ eqb (classNumber class) 0 → t ≡ false → (better′ : List ℕ) → length better ≡ entriesRoom → k < 64 → better′ ≡ withEntry better b k class → Goal (Counts (b + 1) a) better′ naive w′
       unfolding sortedIn CountsWithin isNaive isBetter keep
       token-better t et tt better′ long room ew =
           let q : eqb (classNumber class) 0 ≡ false = sym et ∙ tt in

@@ -4,10 +4,14 @@ use classifier::place_fits;
 use entries::is_naive;
 use entries::write_entry;
 use enumerator::machine::clear;
+use error::Class;
 use error::Classified;
 use error::Conflict;
+use example::Example;
 use first::FirstSets;
 use lookahead::TokenSet;
+use repr::NonterminalString;
+use repr::ProductionIndex;
 use table::Checked;
 use table::read_counts;
 use table::read_productions;
@@ -17,11 +21,12 @@ ghost use mathlib.Core.List.{[]};
 ghost use Prim.Native.Nat.{_+_, _≤_, _<_};
 ghost use lib.ListN.{length};
 ghost use lib.Dec.{eqb};
+ghost use Rattle.repr.specs.Sizes.{classifyScratch, entriesRoom};
+ghost use Rattle.slices.specs.Lent.{zeroed};
 ghost use Rattle.lookahead.specs.Tokens.{has, members};
 ghost use Rattle.table.specs.Decoded.{meaning};
 ghost use Rattle.table.specs.Refusals.{checkOf};
 ghost use Rattle.error.specs.Kept.{Read};
-ghost use Rattle.error.specs.Outcome.{zeroed};
 ghost use Rattle.error.specs.Choose.{outcome, setFits, classesOf, choiceOf, chooseIn};
 ghost use Rattle.entries.specs.Entries.{entriesIn};
 ghost use Rattle.chooser.specs.Choosing.{choiceIn, stepped, sortedIn, CountsWithin, tokenEntries, addedTo, naiveCount};
@@ -31,7 +36,7 @@ pub struct Chosen {
     pub refusal: u16,
     pub place: u16,
     pub count: usize,
-    pub entries: [u16; 384],
+    pub entries: [u16; Class::ALL_WORDS],
 }
 
 // What a token comes to: the numbers of better and of naive classes so far; else the refusal, 12 to 14.
@@ -47,7 +52,7 @@ fn choose_token(
     productions: usize,
     n: usize,
     terminals: u16,
-    map: &[u64; 32],
+    map: &[u64; NonterminalString::LIMIT],
     conflict: Conflict,
     tokens: TokenSet,
     token: u16,
@@ -59,9 +64,9 @@ fn choose_token(
 ) -> Step
     requires { ⌜ Read (now table) (now grammar) productions n terminals (now map) ⌝ }
     requires { ⌜ setFits (meaning (now table)) conflict (tokens .0) ≡ true ⌝ }
-    requires { ⌜ (32000 ≤ length (now scratch)) × (now scratch ≡ zeroed (now scratch)) ⌝ }
+    requires { ⌜ (classifyScratch ≤ length (now scratch)) × (now scratch ≡ zeroed classifyScratch (now scratch)) ⌝ }
     requires { ⌜ (token < 64) × («better_count» + «naive_count» ≤ token) ⌝ }
-    requires { ⌜ (length (now better) ≡ 384) × (length (now naive) ≡ 384) ⌝ }
+    requires { ⌜ (length (now better) ≡ entriesRoom) × (length (now naive) ≡ entriesRoom) ⌝ }
     ensures { λ r. ⌜ stepped (sortedIn r (now (better .exit)) (now (naive .exit))) (now (scratch .exit)) ≡ stepped (addedTo (entriesIn (now (better .entry)) «better_count») (entriesIn (now (naive .entry)) «naive_count») (tokenEntries (meaning (now (table .entry))) conflict (tokens .0) token)) (now (scratch .entry)) ⌝ }
     ensures { λ r. ⌜ CountsWithin (token + 1) r ⌝ }
 {
@@ -77,8 +82,8 @@ fn choose_token(
             operand: operand,
             token: token,
         };
-        let mut action = [0u16; 1158];
-        let mut reduce = [0u16; 1158];
+        let mut action = [0u16; Example::WORDS];
+        let mut reduce = [0u16; Example::WORDS];
         match classify_gathered(
             table,
             grammar,
@@ -114,7 +119,7 @@ fn choose_tokens(
     productions: usize,
     n: usize,
     terminals: u16,
-    map: &[u64; 32],
+    map: &[u64; NonterminalString::LIMIT],
     conflict: Conflict,
     tokens: TokenSet,
     scratch: &mut [u16],
@@ -123,8 +128,8 @@ fn choose_tokens(
 ) -> Step
     requires { ⌜ Read (now table) (now grammar) productions n terminals (now map) ⌝ }
     requires { ⌜ setFits (meaning (now table)) conflict (tokens .0) ≡ true ⌝ }
-    requires { ⌜ (32000 ≤ length (now scratch)) × (now scratch ≡ zeroed (now scratch)) ⌝ }
-    requires { ⌜ (length (now better) ≡ 384) × (length (now naive) ≡ 384) ⌝ }
+    requires { ⌜ (classifyScratch ≤ length (now scratch)) × (now scratch ≡ zeroed classifyScratch (now scratch)) ⌝ }
+    requires { ⌜ (length (now better) ≡ entriesRoom) × (length (now naive) ≡ entriesRoom) ⌝ }
     ensures { λ r. ⌜ stepped (sortedIn r (now (better .exit)) (now (naive .exit))) (now (scratch .exit)) ≡ stepped (addedTo [] [] (classesOf (meaning (now (table .entry))) conflict (members (tokens .0)))) (now (scratch .entry)) ⌝ }
 {
     let mut better_count: usize = 0;
@@ -180,18 +185,18 @@ fn choose_gathered(
     productions: usize,
     n: usize,
     terminals: u16,
-    map: &[u64; 32],
+    map: &[u64; NonterminalString::LIMIT],
     conflict: Conflict,
     tokens: TokenSet,
     scratch: &mut [u16],
 ) -> Chosen
     requires { ⌜ Read (now table) (now grammar) productions n terminals (now map) ⌝ }
     requires { ⌜ setFits (meaning (now table)) conflict (tokens .0) ≡ true ⌝ }
-    requires { ⌜ 32000 ≤ length (now scratch) ⌝ }
-    ensures { λ r. ⌜ outcome (choiceIn r) (now (scratch .exit)) ≡ outcome (choiceOf (conflict .action) (classesOf (meaning (now (table .entry))) conflict (members (tokens .0)))) (zeroed (now (scratch .entry))) ⌝ }
+    requires { ⌜ classifyScratch ≤ length (now scratch) ⌝ }
+    ensures { λ r. ⌜ outcome (choiceIn r) (now (scratch .exit)) ≡ outcome (choiceOf (conflict .action) (classesOf (meaning (now (table .entry))) conflict (members (tokens .0)))) (zeroed classifyScratch (now (scratch .entry))) ⌝ }
 {
-    let mut better = [0u16; 384];
-    let mut naive = [0u16; 384];
+    let mut better = [0u16; Class::ALL_WORDS];
+    let mut naive = [0u16; Class::ALL_WORDS];
     clear(scratch);
     match choose_tokens(
         table,
@@ -237,14 +242,14 @@ fn choose_gathered(
 fn choose_read(table: &[u16], conflict: Conflict, tokens: TokenSet, scratch: &mut [u16]) -> Chosen
     requires { ⌜ checkOf (now table) ≡ Checked.Accepted ⌝ }
     requires { ⌜ setFits (meaning (now table)) conflict (tokens .0) ≡ true ⌝ }
-    requires { ⌜ 32000 ≤ length (now scratch) ⌝ }
-    ensures { λ r. ⌜ outcome (choiceIn r) (now (scratch .exit)) ≡ outcome (choiceOf (conflict .action) (classesOf (meaning (now (table .entry))) conflict (members (tokens .0)))) (zeroed (now (scratch .entry))) ⌝ }
+    requires { ⌜ classifyScratch ≤ length (now scratch) ⌝ }
+    ensures { λ r. ⌜ outcome (choiceIn r) (now (scratch .exit)) ≡ outcome (choiceOf (conflict .action) (classesOf (meaning (now (table .entry))) conflict (members (tokens .0)))) (zeroed classifyScratch (now (scratch .entry))) ⌝ }
 {
     let counts = read_counts(table);
     let n = counts.nonterminals;
     let productions = counts.productions;
     let terminals = counts.terminals as u16;
-    let mut grammar = [0u16; 4608];
+    let mut grammar = [0u16; ProductionIndex::ALL_WORDS];
     read_productions(table, &mut grammar);
     let sets = FirstSets::new(&grammar, productions, terminals);
     let map = sets.map;
@@ -278,7 +283,7 @@ fn refuse(refusal: u16) -> Chosen
         refusal: refusal,
         place: 0,
         count: 0,
-        entries: [0; 384],
+        entries: [0; Class::ALL_WORDS],
     }
 }
 
@@ -294,7 +299,7 @@ pub fn choose_in(table: &[u16], conflict: Conflict, tokens: TokenSet, scratch: &
             if set_shifts_end(conflict, tokens, terminals) {
                 return refuse(10);
             }
-            if scratch.len() < 32000 {
+            if scratch.len() < Conflict::SCRATCH {
                 return refuse(11);
             }
             return choose_read(table, conflict, tokens, scratch);

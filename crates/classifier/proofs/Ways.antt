@@ -7,6 +7,9 @@ use native.Mathlib.Omega.{arith}
 use lib.ListN.{length, drop}
 use lib.Dec.{eqb, ltb, leb}
 use borrow.Author.Tests.{lt-ltb, le-ltb, le-leb, lt-leb, eq-eqb, ne-eqb}
+use Rattle.repr.specs.Sizes.{classifyScratch, exampleRoom}
+use Rattle.slices.proofs.Lent.{zeroed-twice}
+use Rattle.slices.specs.Lent.{zeroed}
 use Rattle.repr.specs.Meaning.{Production, Table}
 use Rattle.repr.specs.Packed.{Packed, productionsIn}
 use Rattle.table.specs.Decoded.{meaning}
@@ -22,11 +25,11 @@ use Rattle.error.specs.Numbers.{classNumber, classValues, classed, refused, rea
 use Rattle.error.specs.Sides.{Gathered, sides, halted, gather}
 use Rattle.error.specs.Judge.{Judged, judged}
 use Rattle.error.specs.Kept.{Read, kept, Kept}
-use Rattle.error.specs.Outcome.{Outcome, outcome, zeroed, operandFits, placeFits, conflictFits, shiftsEnd, shown, judgedOutcome, gatheredOutcome, classifyIn}
+use Rattle.error.specs.Outcome.{Outcome, outcome, operandFits, placeFits, conflictFits, shiftsEnd, shown, judgedOutcome, gatheredOutcome, classifyIn}
 use Rattle.gather.specs.declared.Gathered.{Gathered as GatheredValue}
 use Rattle.gather.specs.declared.Gathered.the-variants.{Sides, Halted}
 use Rattle.gather.specs.Answers.{gatheredIn, GatherOutcome, both, KeptBoth}
-use Rattle.gather.proofs.Both.{zeroed-twice}
+use Rattle.gather.proofs.Both.{cleared}
 use Rattle.enumerator.specs.Words.{wordsOf}
 use Rattle.classifier.specs.Ranges.{operandIn}
 use Rattle.judge.specs.Judging.{Judgement, judgedWords, shownOf}
@@ -117,12 +120,12 @@ pub kept-both : (ps : List Production) (r : GatheredValue) (as′ rs : List ℕ)
 unfolding KeptBoth
 kept-both ps r as′ rs n m k l e h = rw e at h
 
-module _ (T : Table) (c : Conflict) (w₀ action reduce : List ℕ) (r : GatheredValue) (as′ rs w′ : List ℕ) (a : both (gatheredIn (T .productions) r as′ rs) w′ ≡ both (gather T c) (zeroed w₀)) where
+module _ (T : Table) (c : Conflict) (w₀ action reduce : List ℕ) (r : GatheredValue) (as′ rs w′ : List ℕ) (a : both (gatheredIn (T .productions) r as′ rs) w′ ≡ both (gather T c) (zeroed classifyScratch w₀)) where
   pub gathered-halts : (x : ℕ) → r ≡ Halted x → outcome (readingOf (Refused x 0)) w′ action reduce ≡ gatheredOutcome T c w₀ action reduce (gather T c)
   unfolding readingOf gatheredIn gatheredOutcome
   gathered-halts x er =
-      let e : halted x ≡ gather T c = ap (λ (y : GatheredValue). gatheredIn (T .productions) y as′ rs) (sym er) ∙ both-left (gatheredIn (T .productions) r as′ rs) (gather T c) w′ (zeroed w₀) a in
-      ap (λ (l : List ℕ). outcome (refused x 0) l action reduce) (both-right (gatheredIn (T .productions) r as′ rs) (gather T c) w′ (zeroed w₀) a)
+      let e : halted x ≡ gather T c = ap (λ (y : GatheredValue). gatheredIn (T .productions) y as′ rs) (sym er) ∙ both-left (gatheredIn (T .productions) r as′ rs) (gather T c) w′ (zeroed classifyScratch w₀) a in
+      ap (λ (l : List ℕ). outcome (refused x 0) l action reduce) (both-right (gatheredIn (T .productions) r as′ rs) (gather T c) w′ (zeroed classifyScratch w₀) a)
       ∙ ap (gatheredOutcome T c w₀ action reduce) e
 
   pub gathered-judged : (n m k l : ℕ) → r ≡ Sides n m k l → (class : Class) (action′ reduce′ : List ℕ)
@@ -131,20 +134,20 @@ module _ (T : Table) (c : Conflict) (w₀ action reduce : List ℕ) (r : Gathere
   unfolding readingOf gatheredIn gatheredOutcome judgedOutcome shownOf
   gathered-judged n m k l er class action′ reduce′ j =
       let J = judged T c (kept (T .productions) as′ n) (kept (T .productions) rs k) in
-      let e : sides (kept (T .productions) as′ n) m (kept (T .productions) rs k) l ≡ gather T c = ap (λ (y : GatheredValue). gatheredIn (T .productions) y as′ rs) (sym er) ∙ both-left (gatheredIn (T .productions) r as′ rs) (gather T c) w′ (zeroed w₀) a in
-      let v = both-right (gatheredIn (T .productions) r as′ rs) (gather T c) w′ (zeroed w₀) a in
+      let e : sides (kept (T .productions) as′ n) m (kept (T .productions) rs k) l ≡ gather T c = ap (λ (y : GatheredValue). gatheredIn (T .productions) y as′ rs) (sym er) ∙ both-left (gatheredIn (T .productions) r as′ rs) (gather T c) w′ (zeroed classifyScratch w₀) a in
+      let v = both-right (gatheredIn (T .productions) r as′ rs) (gather T c) w′ (zeroed classifyScratch w₀) a in
       let x : class ≡ J .class = cc in
       let y : action′ ≡ shown (T .productions) (J .action) action = cc in
       let z : reduce′ ≡ shown (T .productions) (J .reduce) reduce = cc in
       (λ i. outcome (classed (classNumber (x i)) (classValues (x i)) m l) (v i) (y i) (z i)) ∙ ap (gatheredOutcome T c w₀ action reduce) e
 
 -- over words that were zeroed before
-pub gathered-again : (T : Table) (c : Conflict) (w₀ w action reduce : List ℕ) (G : Gathered) → w ≡ wordsOf [] ++ drop 32000 w₀ → gatheredOutcome T c w action reduce G ≡ gatheredOutcome T c w₀ action reduce G
+pub gathered-again : (T : Table) (c : Conflict) (w₀ w action reduce : List ℕ) (G : Gathered) → w ≡ wordsOf [] ++ drop classifyScratch w₀ → gatheredOutcome T c w action reduce G ≡ gatheredOutcome T c w₀ action reduce G
 unfolding gatheredOutcome judgedOutcome
-gathered-again T c w₀ w action reduce (halted n) e = ap (λ (l : List ℕ). outcome (refused n 0) l action reduce) (zeroed-twice w₀ w e)
+gathered-again T c w₀ w action reduce (halted n) e = ap (λ (l : List ℕ). outcome (refused n 0) l action reduce) (zeroed-twice classifyScratch w₀ w (cleared w₀ w e))
 gathered-again T c w₀ w action reduce (sides as′ m rs n) e =
     let j = judged T c as′ rs in
-    ap (λ (l : List ℕ). outcome (classed (classNumber (j .class)) (classValues (j .class)) m n) l (shown (T .productions) (j .action) action) (shown (T .productions) (j .reduce) reduce)) (zeroed-twice w₀ w e)
+    ap (λ (l : List ℕ). outcome (classed (classNumber (j .class)) (classValues (j .class)) m n) l (shown (T .productions) (j .action) action) (shown (T .productions) (j .reduce) reduce)) (zeroed-twice classifyScratch w₀ w (cleared w₀ w e))
 
 -- the whole
 
@@ -173,18 +176,18 @@ module _ (T : Table) (c : Conflict) (scratch action reduce : List ℕ) where
         no-end : eqb (c .action) 0 && eqb (c .token) (T .terminals) ≡ false
         no-end = ap (λ (x : ℕ). eqb (c .action) 0 && eqb (c .token) x) (sym (C .terminals)) ∙ sym e ∙ i
 
-        pub short-scratch : length scratch < 32000 → outcome (readingOf (Refused 11 0)) scratch action reduce ≡ classifyIn c scratch action reduce T
+        pub short-scratch : length scratch < classifyScratch → outcome (readingOf (Refused 11 0)) scratch action reduce ≡ classifyIn c scratch action reduce T
         unfolding readingOf classifyIn shiftsEnd
-        short-scratch l = rw (conflict-fits, no-end, lt-leb 32000 (length scratch) l, classifyIn)
+        short-scratch l = rw (conflict-fits, no-end, lt-leb classifyScratch (length scratch) l, classifyIn)
 
-        pub short-action : 32000 ≤ length scratch → length action < 1158 → outcome (readingOf (Refused 11 0)) scratch action reduce ≡ classifyIn c scratch action reduce T
+        pub short-action : classifyScratch ≤ length scratch → length action < exampleRoom → outcome (readingOf (Refused 11 0)) scratch action reduce ≡ classifyIn c scratch action reduce T
         unfolding readingOf classifyIn shiftsEnd
-        short-action k l = rw (conflict-fits, no-end, le-leb 32000 (length scratch) k, lt-leb 1158 (length action) l, classifyIn)
+        short-action k l = rw (conflict-fits, no-end, le-leb classifyScratch (length scratch) k, lt-leb exampleRoom (length action) l, classifyIn)
 
-        pub short-reduce : 32000 ≤ length scratch → 1158 ≤ length action → length reduce < 1158 → outcome (readingOf (Refused 11 0)) scratch action reduce ≡ classifyIn c scratch action reduce T
+        pub short-reduce : classifyScratch ≤ length scratch → exampleRoom ≤ length action → length reduce < exampleRoom → outcome (readingOf (Refused 11 0)) scratch action reduce ≡ classifyIn c scratch action reduce T
         unfolding readingOf classifyIn shiftsEnd
-        short-reduce k m l = rw (conflict-fits, no-end, le-leb 32000 (length scratch) k, le-leb 1158 (length action) m, lt-leb 1158 (length reduce) l, classifyIn)
+        short-reduce k m l = rw (conflict-fits, no-end, le-leb classifyScratch (length scratch) k, le-leb exampleRoom (length action) m, lt-leb exampleRoom (length reduce) l, classifyIn)
 
-        pub classified : 32000 ≤ length scratch → 1158 ≤ length action → 1158 ≤ length reduce → (o : Outcome) → o ≡ gatheredOutcome T c scratch action reduce (gather T c) → o ≡ classifyIn c scratch action reduce T
+        pub classified : classifyScratch ≤ length scratch → exampleRoom ≤ length action → exampleRoom ≤ length reduce → (o : Outcome) → o ≡ gatheredOutcome T c scratch action reduce (gather T c) → o ≡ classifyIn c scratch action reduce T
         unfolding classifyIn shiftsEnd
-        classified k m l o q′ = rw (conflict-fits, no-end, le-leb 32000 (length scratch) k, le-leb 1158 (length action) m, le-leb 1158 (length reduce) l, classifyIn) q′
+        classified k m l o q′ = rw (conflict-fits, no-end, le-leb classifyScratch (length scratch) k, le-leb exampleRoom (length action) m, le-leb exampleRoom (length reduce) l, classifyIn) q′

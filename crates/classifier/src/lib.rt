@@ -2,10 +2,13 @@
 use enumerator::machine::clear;
 use error::Classified;
 use error::Conflict;
+use example::Example;
 use first::FirstSets;
 use gather::Gathered;
 use gather::gather;
 use judge::judge;
+use repr::NonterminalString;
+use repr::ProductionIndex;
 use table::Checked;
 use table::read_counts;
 use table::read_productions;
@@ -14,6 +17,7 @@ ghost use mathlib.Core.Bool.{true, false, _&&_};
 ghost use Prim.Native.Nat.{_≤_, _<_};
 ghost use lib.ListN.{length};
 ghost use lib.Dec.{eqb};
+ghost use Rattle.repr.specs.Sizes.{classifyScratch, exampleRoom};
 ghost use Rattle.table.specs.Decoded.{meaning};
 ghost use Rattle.table.specs.Refusals.{checkOf};
 ghost use Rattle.error.specs.Numbers.{readingOf};
@@ -76,7 +80,7 @@ pub fn classify_gathered(
     productions: usize,
     n: usize,
     terminals: u16,
-    map: &[u64; 32],
+    map: &[u64; NonterminalString::LIMIT],
     conflict: Conflict,
     scratch: &mut [u16],
     action: &mut [u16],
@@ -84,11 +88,11 @@ pub fn classify_gathered(
 ) -> Classified
     requires { ⌜ Read (now table) (now grammar) productions n terminals (now map) ⌝ }
     requires { ⌜ conflictFits (meaning (now table)) conflict ≡ true ⌝ }
-    requires { ⌜ Clear (now scratch) × ((1158 ≤ length (now action)) × (1158 ≤ length (now reduce))) ⌝ }
+    requires { ⌜ Clear (now scratch) × ((exampleRoom ≤ length (now action)) × (exampleRoom ≤ length (now reduce))) ⌝ }
     ensures { λ r. ⌜ outcome (readingOf r) (now (scratch .exit)) (now (action .exit)) (now (reduce .exit)) ≡ gatheredOutcome (meaning (now (table .entry))) conflict (now (scratch .entry)) (now (action .entry)) (now (reduce .entry)) (gather (meaning (now (table .entry))) conflict) ⌝ }
 {
-    let mut actions = [0u16; 6528];
-    let mut reduces = [0u16; 6528];
+    let mut actions = [0u16; Conflict::SIDE_WORDS];
+    let mut reduces = [0u16; Conflict::SIDE_WORDS];
     match gather(
         table,
         grammar,
@@ -132,14 +136,14 @@ fn classify_read(
 ) -> Classified
     requires { ⌜ checkOf (now table) ≡ Checked.Accepted ⌝ }
     requires { ⌜ conflictFits (meaning (now table)) conflict ≡ true ⌝ }
-    requires { ⌜ (32000 ≤ length (now scratch)) × ((1158 ≤ length (now action)) × (1158 ≤ length (now reduce))) ⌝ }
+    requires { ⌜ (classifyScratch ≤ length (now scratch)) × ((exampleRoom ≤ length (now action)) × (exampleRoom ≤ length (now reduce))) ⌝ }
     ensures { λ r. ⌜ outcome (readingOf r) (now (scratch .exit)) (now (action .exit)) (now (reduce .exit)) ≡ gatheredOutcome (meaning (now (table .entry))) conflict (now (scratch .entry)) (now (action .entry)) (now (reduce .entry)) (gather (meaning (now (table .entry))) conflict) ⌝ }
 {
     let counts = read_counts(table);
     let n = counts.nonterminals;
     let productions = counts.productions;
     let terminals = counts.terminals as u16;
-    let mut grammar = [0u16; 4608];
+    let mut grammar = [0u16; ProductionIndex::ALL_WORDS];
     read_productions(table, &mut grammar);
     let sets = FirstSets::new(&grammar, productions, terminals);
     let map = sets.map;
@@ -179,13 +183,13 @@ pub fn classify_in(
         if shifts_end(conflict, terminals) {
             return Classified::Refused(10, 0);
         }
-        if scratch.len() < 32000 {
+        if scratch.len() < Conflict::SCRATCH {
             return Classified::Refused(11, 0);
         }
-        if action.len() < 1158 {
+        if action.len() < Example::WORDS {
             return Classified::Refused(11, 0);
         }
-        if reduce.len() < 1158 {
+        if reduce.len() < Example::WORDS {
             return Classified::Refused(11, 0);
         }
         return classify_read(table, conflict, scratch, action, reduce);

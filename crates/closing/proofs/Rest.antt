@@ -10,12 +10,14 @@ use lib.Dec.{eqb, ltb}
 use lib.ListN.{length, getD, set, take, drop, replicate, length-append, length-set, length-drop, length-take, List·getD-append, List·getD-eq-default}
 use lib.Seq.{drop-cons, getD-append-add, getD-take, getD-drop, drop-length, getD-set-same, getD-set-other, ext-getD}
 use borrow.Author.Tests.{eqb-true, eqb-false, eq-eqb, ne-eqb, ltb-true, ltb-false}
+use Rattle.lookahead.proofs.Growing.{total}
+use Rattle.slices.proofs.Same.{same-words-eq}
+use Rattle.slices.specs.Same.{sameWords}
 use Rattle.repr.specs.Lists.{upFrom, below, joined}
 use Rattle.repr.specs.Meaning.{Symbol, nonterminal, terminal, Production, Table, productionAt, TableFits}
 use Rattle.repr.proofs.Lists.{cases, clash, below-last, joined-nil, joined-cons}
 use Rattle.lookahead.specs.Tokens.{union}
-use Rattle.first.specs.First.{FIRST, same}
-use Rattle.first.proofs.Least.{same-true, same-equal, total}
+use Rattle.first.specs.First.{FIRST}
 use Rattle.build.specs.States.{places, from, Move, givesOf, gives, grown, round, settle, closure}
 use Rattle.build.specs.Aheads.{aheadOf, aheadMoves, aheads, spread}
 use Rattle.build.proofs.Members.{mem-less}
@@ -28,16 +30,16 @@ use Rattle.closing.proofs.Grammar.{production-at}
 
 -- two lists, word by word
 
-pub same-differs : (xs ys : List ℕ) (i : ℕ) → i < length xs → i < length ys → (getD xs i 0 ≡ getD ys i 0 → ⊥) → same (drop i xs) (drop i ys) ≡ same xs ys → false ≡ same xs ys
-unfolding same
+pub same-differs : (xs ys : List ℕ) (i : ℕ) → i < length xs → i < length ys → (getD xs i 0 ≡ getD ys i 0 → ⊥) → sameWords (drop i xs) (drop i ys) ≡ sameWords xs ys → false ≡ sameWords xs ys
+unfolding sameWords
 same-differs xs ys i h l n q = sym (sym q ∙ rw (drop-cons xs i 0 h, drop-cons ys i 0 l, ne-eqb (getD xs i 0) (getD ys i 0) n))
 
-pub same-on : (xs ys : List ℕ) (i : ℕ) → i < length xs → i < length ys → getD xs i 0 ≡ getD ys i 0 → same (drop i xs) (drop i ys) ≡ same xs ys → same (drop (i + 1) xs) (drop (i + 1) ys) ≡ same xs ys
-unfolding same
+pub same-on : (xs ys : List ℕ) (i : ℕ) → i < length xs → i < length ys → getD xs i 0 ≡ getD ys i 0 → sameWords (drop i xs) (drop i ys) ≡ sameWords xs ys → sameWords (drop (i + 1) xs) (drop (i + 1) ys) ≡ sameWords xs ys
+unfolding sameWords
 same-on xs ys i h l e q = rw (add-one i) (sym (rw (drop-cons xs i 0 h, drop-cons ys i 0 l, eq-eqb (getD xs i 0) (getD ys i 0) e)) ∙ q)
 
-pub same-end : (xs ys : List ℕ) (i : ℕ) → length xs ≡ i → length ys ≡ i → same (drop i xs) (drop i ys) ≡ same xs ys → true ≡ same xs ys
-unfolding same
+pub same-end : (xs ys : List ℕ) (i : ℕ) → length xs ≡ i → length ys ≡ i → sameWords (drop i xs) (drop i ys) ≡ sameWords xs ys → true ≡ sameWords xs ys
+unfolding sameWords
 same-end xs ys i h l q = sym (sym q ∙ rw (← h, drop-length xs, h, ← l, drop-length ys))
 
 -- behind a front
@@ -48,8 +50,8 @@ set-behind (x ∷ S) A n v =
     let e : suc (length S) + n ≡ suc (length S + n) = omega arith in
     rw e (ap (λ (l : List ℕ). x ∷ l) (set-behind S A n v))
 
-same-behind : (S A B : List ℕ) → same (S ++ A) (S ++ B) ≡ same A B
-unfolding same
+same-behind : (S A B : List ℕ) → sameWords (S ++ A) (S ++ B) ≡ sameWords A B
+unfolding sameWords
 same-behind [] A B = refl
 same-behind (x ∷ S) A B = rw (eq-eqb x x refl) (same-behind S A B)
 
@@ -238,7 +240,7 @@ module _ (T : Table) (g : List ℕ) (k e : ℕ) (sets : List ℕ) (G : Grammar T
       round-fed T (take (17 * k) K) (given .long) A ∙ ap (λ (l : List ℕ). take (17 * k) K ++ l) (sym (
       q₂ ∙ rw (q₁, ← G .many, ← items-front T K A (below (17 * k)) (17 * k) (λ y m. mem-less (17 * k) y m))))
 
-  quiet : (v : Bool) → c′ ≡ v → same (round (T .terminals) (S ++ A) (aheadMoves T)) (S ++ A) ≡ not v
+  quiet : (v : Bool) → c′ ≡ v → sameWords (round (T .terminals) (S ++ A) (aheadMoves T)) (S ++ A) ≡ not v
   quiet v y = rw (next, same-behind S A₂ A) (sym eb ∙ by b (sym ec ∙ y))
     where
       by : (w : Bool) → not w ≡ v → w ≡ not v
@@ -261,7 +263,7 @@ module _ (T : Table) (g : List ℕ) (k e : ℕ) (sets : List ℕ) (G : Grammar T
 
       stop : c′ ≡ false → Turn T (take (17 * k) K) A₂ c′
       stop y =
-          let s : take (17 * k) K ++ A₂ ≡ take (17 * k) K ++ A = sym next ∙ same-true (round (T .terminals) (take (17 * k) K ++ A) (aheadMoves T)) (take (17 * k) K ++ A) (quiet false y) in
+          let s : take (17 * k) K ++ A₂ ≡ take (17 * k) K ++ A = sym next ∙ same-words-eq (round (T .terminals) (take (17 * k) K ++ A) (aheadMoves T)) (take (17 * k) K ++ A) (quiet false y) in
           record {
             sized = sized′;
             same = rw s (turn .same);
@@ -274,4 +276,4 @@ module _ (T : Table) (g : List ℕ) (k e : ℕ) (sets : List ℕ) (G : Grammar T
       let n : 17 * k + 32 ≡ places T + 32 = omega (arith, G .many) in
       rw (t, n, ← next) (cases c′
       (λ y. rw y (omega (arith, round-less (T .terminals) (places T + 32) (aheadMoves T) (aheads-fit T (G .fits)) (take (17 * k) K ++ A) (turn .sized) (quiet true y))))
-      (λ y. rw (y, same-true (round (T .terminals) (take (17 * k) K ++ A) (aheadMoves T)) (take (17 * k) K ++ A) (quiet false y)) (omega arith)))
+      (λ y. rw (y, same-words-eq (round (T .terminals) (take (17 * k) K ++ A) (aheadMoves T)) (take (17 * k) K ++ A) (quiet false y)) (omega arith)))

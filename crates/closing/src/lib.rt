@@ -9,10 +9,10 @@ ghost use mathlib.Core.Path.{_≡_};
 ghost use mathlib.Core.List.{List, _++_};
 ghost use Prim.Native.Nat.{ℕ, _+_, _*_, _≤_, _<_};
 ghost use lib.ListN.{length, getD, take, drop};
+ghost use Rattle.slices.specs.Same.{sameWords};
 ghost use Rattle.repr.specs.Lists.{below};
 ghost use Rattle.repr.specs.Meaning.{Table};
 ghost use Rattle.repr.specs.Packed.{Packed, productionIn};
-ghost use Rattle.first.specs.First.{same};
 ghost use Rattle.build.specs.States.{closure};
 ghost use Rattle.build.specs.Aheads.{aheads};
 ghost use Rattle.closing.specs.Grammar.{Grammar, Held, codeIn};
@@ -119,7 +119,7 @@ fn feed_firsts(
 // Whether two lists of sets are the same.
 fn same_sets(left: &[u64; 32], right: &[u64; 32]) -> bool
     requires { ⌜ (length (now left) ≡ 32) × (length (now right) ≡ 32) ⌝ }
-    ensures { λ r. ⌜ r ≡ same (now (left .entry)) (now (right .entry)) ⌝ }
+    ensures { λ r. ⌜ r ≡ sameWords (now (left .entry)) (now (right .entry)) ⌝ }
 {
     let mut n: usize = 0;
     while n < 32 {

@@ -8,6 +8,7 @@ use native.Mathlib.Omega.{arith}
 use lib.ListN.{length, getD, take, drop, drop-of-length-le}
 use lib.Seq.{take-all, drop-drop, length-take-le}
 use lib.Dec.{eqb}
+use Rattle.repr.specs.Sizes.{productionPlace}
 use Rattle.repr.specs.Meaning.{Symbol, nonterminal, terminal}
 use Rattle.repr.specs.Listed.{symbolOfKind, listed}
 use Rattle.repr.specs.Packed.{symbolWords, Packed}
@@ -76,34 +77,34 @@ unfolding shiftsNonterminal symbolSets first isNonterminal
 shifts-past xs i k h = rw (drop-of-length-le xs {i = i} h)
 
 module _ (g : List ℕ) (n p i : ℕ) (P : Packed g n) (h : p < n) (l : i < length (listed (symbolWords g p))) (k : ℕ) where
-  here : drop i (listed (symbolWords g p)) ≡ symbolOfKind (getD g (p * 36 + 4 + 2 * i) 0) (getD g (p * 36 + 4 + 2 * i + 1) 0) ∷ drop (suc i) (listed (symbolWords g p))
+  here : drop i (listed (symbolWords g p)) ≡ symbolOfKind (getD g (productionPlace p + 4 + 2 * i) 0) (getD g (productionPlace p + 4 + 2 * i + 1) 0) ∷ drop (suc i) (listed (symbolWords g p))
   here =
       let s = symbols-long g n p P h in
       let w = words-long g n p P h in
-      let e : p * 36 + 4 + 2 * i + 1 ≡ p * 36 + 4 + (2 * i + 1) = omega arith in
+      let e : productionPlace p + 4 + 2 * i + 1 ≡ productionPlace p + 4 + (2 * i + 1) = omega arith in
       listed-at (symbolWords g p) i (omega arith)
       ∙ rw (word-of g n p (2 * i) P h (omega arith), word-of g n p (2 * i + 1) P h (omega arith), e)
 
-  pub shifts-nonterminal : (x : ℕ) → getD g (p * 36 + 4 + 2 * i) 0 ≡ 0 → x ≡ getD g (p * 36 + 4 + 2 * i + 1) 0 → eqb x k ≡ shiftsNonterminal (listed (symbolWords g p)) i k
+  pub shifts-nonterminal : (x : ℕ) → getD g (productionPlace p + 4 + 2 * i) 0 ≡ 0 → x ≡ getD g (productionPlace p + 4 + 2 * i + 1) 0 → eqb x k ≡ shiftsNonterminal (listed (symbolWords g p)) i k
   unfolding shiftsNonterminal symbolSets first isNonterminal symbolOfKind
   shifts-nonterminal x z e = rw (here, z, e)
 
-  pub shifts-terminal : (getD g (p * 36 + 4 + 2 * i) 0 ≡ 0 → ⊥) → false ≡ shiftsNonterminal (listed (symbolWords g p)) i k
+  pub shifts-terminal : (getD g (productionPlace p + 4 + 2 * i) 0 ≡ 0 → ⊥) → false ≡ shiftsNonterminal (listed (symbolWords g p)) i k
   unfolding shiftsNonterminal symbolSets first isNonterminal symbolOfKind
-  shifts-terminal ne = rw here (go (getD g (p * 36 + 4 + 2 * i) 0) ne)
+  shifts-terminal ne = rw here (go (getD g (productionPlace p + 4 + 2 * i) 0) ne)
     where
-      go : (c : ℕ) → (c ≡ 0 → ⊥) → false ≡ isNonterminal k (some (symbolOfKind c (getD g (p * 36 + 4 + 2 * i + 1) 0)))
+      go : (c : ℕ) → (c ≡ 0 → ⊥) → false ≡ isNonterminal k (some (symbolOfKind c (getD g (productionPlace p + 4 + 2 * i + 1) 0)))
       go zero a = absurd (a refl)
       go (suc c) a = refl
 
 -- parts of the packed words
-pub prefix-part : (g : List ℕ) (n p i past : ℕ) → Packed g n → p < n → i ≤ length (listed (symbolWords g p)) → past ≡ p * 36 + 4 + 2 * i
-    → take (past - (p * 36 + 4)) (drop (p * 36 + 4) g) ≡ take (2 * i) (symbolWords g p)
+pub prefix-part : (g : List ℕ) (n p i past : ℕ) → Packed g n → p < n → i ≤ length (listed (symbolWords g p)) → past ≡ productionPlace p + 4 + 2 * i
+    → take (past - (productionPlace p + 4)) (drop (productionPlace p + 4) g) ≡ take (2 * i) (symbolWords g p)
 unfolding symbolWords
 prefix-part g n p i past P h l e =
     let s = symbols-long g n p P h in
-    let z : past - (p * 36 + 4) ≡ 2 * i = omega arith in
-    rw z (sym (lib.Seq.take-take (2 * i) (2 * getD g (p * 36 + 1) 0) (drop (p * 36 + 4) g) (omega arith)))
+    let z : past - (productionPlace p + 4) ≡ 2 * i = omega arith in
+    rw z (sym (lib.Seq.take-take (2 * i) (2 * getD g (productionPlace p + 1) 0) (drop (productionPlace p + 4) g) (omega arith)))
 
 pub prefix-is : (ws : List ℕ) (i : ℕ) → listed (take (2 * i) ws) ≡ symbolSets (listed ws) i .prefix
 unfolding symbolSets
@@ -120,14 +121,14 @@ drop-of-take m k l = rw (lib.Seq.take-add m k l) (go (native.Mathlib.Decide.decL
     go (yes q) = lib.Seq.drop-at (take m l) (take k (drop m l)) m (length-take-le m l q)
     go (no q) = rw (drop-of-length-le l {i = m} (omega arith), take-all m l (omega arith), lib.Seq.take-nil k, mathlib.Core.List.append-nil l) (drop-of-length-le l {i = m} (omega arith))
 
-pub suffix-part : (g : List ℕ) (n p i k from past : ℕ) → Packed g n → p < n → k ≡ getD g (p * 36 + 1) 0 → i < k → from ≡ p * 36 + 4 + 2 * i + 2 → past ≡ p * 36 + 4 + 2 * k
+pub suffix-part : (g : List ℕ) (n p i k from past : ℕ) → Packed g n → p < n → k ≡ getD g (productionPlace p + 1) 0 → i < k → from ≡ productionPlace p + 4 + 2 * i + 2 → past ≡ productionPlace p + 4 + 2 * k
     → take (past - from) (drop from g) ≡ drop (2 * i + 2) (symbolWords g p)
 unfolding symbolWords
 suffix-part g n p i k from past P h ek l ef ep =
     let z : past - from ≡ 2 * (k - i - 1) = omega arith in
     let y : 2 * k ≡ 2 * i + 2 + 2 * (k - i - 1) = omega arith in
-    let x : from ≡ p * 36 + 4 + (2 * i + 2) = omega arith in
-    rw (z, ← ek, y, drop-of-take (2 * i + 2) (2 * (k - i - 1)) (drop (p * 36 + 4) g), lib.Seq.drop-drop (2 * i + 2) (p * 36 + 4) g, x) refl
+    let x : from ≡ productionPlace p + 4 + (2 * i + 2) = omega arith in
+    rw (z, ← ek, y, drop-of-take (2 * i + 2) (2 * (k - i - 1)) (drop (productionPlace p + 4) g), lib.Seq.drop-drop (2 * i + 2) (productionPlace p + 4) g, x) refl
 
 pub suffix-none : (g : List ℕ) (n p i past : ℕ) → Packed g n → p < n → length (listed (symbolWords g p)) ≤ i → take (past - past) (drop past g) ≡ drop (2 * i + 2) (symbolWords g p)
 suffix-none g n p i past P h l =

@@ -1,4 +1,5 @@
 // Items and their symbol sets (lr1/core/mod.rs). An item is a production and an index; its symbols are parts of the packed words (specs/Packed of repr).
+use repr::ProductionIndex;
 use repr::symbols;
 use repr::word;
 ghost use mathlib.Core.Path.{_≡_};
@@ -38,13 +39,16 @@ pub struct Item {
 }
 
 impl Item {
+    // Items of all productions.
+    pub const LIMIT: usize = ProductionIndex::LIMIT * ProductionIndex::INDEXES;
+
     // How many symbols the production has.
     pub fn length(self, grammar: &[u16], productions: usize) -> usize
         requires { ⌜ Packed (now grammar) productions × (self .production < productions) ⌝ }
         ensures { λ r. ⌜ (r ≡ length (listed (symbolWords (now (grammar .entry)) (self .production)))) × (r ≤ 16) ⌝ }
     {
         let production = self.production;
-        word(grammar, production * 36 + 1)
+        word(grammar, production * ProductionIndex::WORDS + 1)
     }
 
     pub fn can_shift(self, grammar: &[u16], productions: usize) -> bool
@@ -96,7 +100,7 @@ impl Item {
         let production = self.production;
         let index = self.index;
         if index < self.length(grammar, productions) {
-            let at = production * 36 + 4 + 2 * index;
+            let at = production * ProductionIndex::WORDS + 4 + 2 * index;
             if word(grammar, at) == 0 {
                 return word(grammar, at + 1) == nonterminal;
             }
@@ -111,7 +115,7 @@ pub fn prefix<'a>(grammar: &'a [u16], productions: usize, item: Item) -> &'a [u1
     requires { ⌜ item .index ≤ length (listed (symbolWords (now grammar) (item .production))) ⌝ }
     ensures { λ r. ⌜ (now r ≡ take (2 * item .index) (symbolWords (now (grammar .entry)) (item .production))) × (listed (now r) ≡ symbolSets (listed (symbolWords (now (grammar .entry)) (item .production))) (item .index) .prefix) ⌝ }
 {
-    let from = item.production * 36 + 4;
+    let from = item.production * ProductionIndex::WORDS + 4;
     let past = from + 2 * item.index;
     &grammar[from..past]
 }
@@ -123,7 +127,7 @@ pub fn suffix<'a>(grammar: &'a [u16], productions: usize, item: Item) -> &'a [u1
     ensures { λ r. ⌜ (now r ≡ drop (2 * item .index + 2) (symbolWords (now (grammar .entry)) (item .production))) × (listed (now r) ≡ symbolSets (listed (symbolWords (now (grammar .entry)) (item .production))) (item .index) .suffix) ⌝ }
 {
     let length = item.length(grammar, productions);
-    let start = item.production * 36 + 4;
+    let start = item.production * ProductionIndex::WORDS + 4;
     let past = start + 2 * length;
     let index = item.index;
     if index < length {

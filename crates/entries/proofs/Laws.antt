@@ -7,6 +7,7 @@ use native.Mathlib.Omega.{arith}
 use lib.ListN.{length, getD, take, drop, set, length-append}
 use lib.Seq.{sets, length-sets, sets-eq, length-take-le, getD-take, take-at, drop-at, getD-drop, drop-drop, ext-getD}
 use lib.Dec.{eqb}
+use Rattle.repr.specs.Sizes.{entryRoom, entryPlace, entriesRoom}
 use Rattle.repr.specs.Lists.{upFrom, below, joined}
 use Rattle.repr.proofs.Lists.{below-last, length-map-below, getD-map-below, joined-nil, joined-cons, joined-append}
 use Rattle.repr.proofs.Fronts.{same-part, same-word}
@@ -87,20 +88,20 @@ not-insufficient = refl
 
 -- six stores are an entry's words
 pub words-written : (ws : List ℕ) (k token : ℕ) (v : Numbered)
-    → set (set (set (set (set (set ws (k * 6) token) (k * 6 + 1) (v .number)) (k * 6 + 2) (v .first)) (k * 6 + 3) (v .second)) (k * 6 + 4) (v .third)) (k * 6 + 5) (v .fourth)
-    ≡ sets ws (k * 6) (token ∷ numberedWords v)
+    → set (set (set (set (set (set ws (entryPlace k) token) (entryPlace k + 1) (v .number)) (entryPlace k + 2) (v .first)) (entryPlace k + 3) (v .second)) (entryPlace k + 4) (v .third)) (entryPlace k + 5) (v .fourth)
+    ≡ sets ws (entryPlace k) (token ∷ numberedWords v)
 unfolding numberedWords
 words-written ws k token v =
-    let z1 : k * 6 + 1 ≡ suc (k * 6) = omega arith in
-    let z2 : k * 6 + 2 ≡ suc (suc (k * 6)) = omega arith in
-    let z3 : k * 6 + 3 ≡ suc (suc (suc (k * 6))) = omega arith in
-    let z4 : k * 6 + 4 ≡ suc (suc (suc (suc (k * 6)))) = omega arith in
-    let z5 : k * 6 + 5 ≡ suc (suc (suc (suc (suc (k * 6))))) = omega arith in
+    let z1 : entryPlace k + 1 ≡ suc (entryPlace k) = omega arith in
+    let z2 : entryPlace k + 2 ≡ suc (suc (entryPlace k)) = omega arith in
+    let z3 : entryPlace k + 3 ≡ suc (suc (suc (entryPlace k))) = omega arith in
+    let z4 : entryPlace k + 4 ≡ suc (suc (suc (suc (entryPlace k)))) = omega arith in
+    let z5 : entryPlace k + 5 ≡ suc (suc (suc (suc (suc (entryPlace k))))) = omega arith in
     rw (z1, z2, z3, z4, z5)
 
-pub entry-written : (ws ws′ v : List ℕ) (count token : ℕ) (class : Class) → v ≡ classWords class → ws′ ≡ sets ws (count * 6) (token ∷ v) → ws′ ≡ withEntry ws count token class
+pub entry-written : (ws ws′ v : List ℕ) (count token : ℕ) (class : Class) → v ≡ classWords class → ws′ ≡ sets ws (entryPlace count) (token ∷ v) → ws′ ≡ withEntry ws count token class
 unfolding withEntry
-entry-written ws ws′ v count token class e w = w ∙ ap (λ (l : List ℕ). sets ws (count * 6) (token ∷ l)) e
+entry-written ws ws′ v count token class e w = w ∙ ap (λ (l : List ℕ). sets ws (entryPlace count) (token ∷ l)) e
 
 -- the entry read back
 
@@ -152,51 +153,51 @@ noEntry = record { token = 0; class = 0; values = [] }
 abbrev pub entryOf : ℕ → Class → Entry
 entryOf token class = record { token = token; class = classNumber class; values = classValues class }
 
-module _ (ws ws′ : List ℕ) (k token : ℕ) (class : Class) (long : length ws ≡ 384) (room : k < 64) (e : ws′ ≡ withEntry ws k token class) where
+module _ (ws ws′ : List ℕ) (k token : ℕ) (class : Class) (long : length ws ≡ entriesRoom) (room : k < 64) (e : ws′ ≡ withEntry ws k token class) where
   abbrev rest : List ℕ
-  rest = drop (k * 6 + length (token ∷ classWords class)) ws
+  rest = drop (entryPlace k + length (token ∷ classWords class)) ws
 
-  parts : ws′ ≡ take (k * 6) ws ++ ((token ∷ classWords class) ++ rest)
+  parts : ws′ ≡ take (entryPlace k) ws ++ ((token ∷ classWords class) ++ rest)
   unfolding withEntry
   parts =
       let a = five-long class in
-      e ∙ sets-eq (token ∷ classWords class) ws (k * 6) (omega arith) ∙ append-assoc (take (k * 6) ws) (token ∷ classWords class) rest
+      e ∙ sets-eq (token ∷ classWords class) ws (entryPlace k) (omega arith) ∙ append-assoc (take (entryPlace k) ws) (token ∷ classWords class) rest
 
-  pub entry-long : length ws′ ≡ 384
+  pub entry-long : length ws′ ≡ entriesRoom
   unfolding withEntry
-  entry-long = ap (λ (l : List ℕ). length l) e ∙ length-sets ws (k * 6) (token ∷ classWords class) ∙ long
+  entry-long = ap (λ (l : List ℕ). length l) e ∙ length-sets ws (entryPlace k) (token ∷ classWords class) ∙ long
 
-  front-long : length (take (k * 6) ws) ≡ k * 6
-  front-long = length-take-le (k * 6) ws (omega arith)
+  front-long : length (take (entryPlace k) ws) ≡ entryPlace k
+  front-long = length-take-le (entryPlace k) ws (omega arith)
 
-  front : take (k * 6) ws′ ≡ take (k * 6) ws
-  front = ap (take (k * 6)) parts ∙ take-at (take (k * 6) ws) ((token ∷ classWords class) ++ rest) (k * 6) front-long
+  front : take (entryPlace k) ws′ ≡ take (entryPlace k) ws
+  front = ap (take (entryPlace k)) parts ∙ take-at (take (entryPlace k) ws) ((token ∷ classWords class) ++ rest) (entryPlace k) front-long
 
-  behind : drop (k * 6) ws′ ≡ token ∷ (classWords class ++ rest)
-  behind = ap (drop (k * 6)) parts ∙ drop-at (take (k * 6) ws) ((token ∷ classWords class) ++ rest) (k * 6) front-long
+  behind : drop (entryPlace k) ws′ ≡ token ∷ (classWords class ++ rest)
+  behind = ap (drop (entryPlace k)) parts ∙ drop-at (take (entryPlace k) ws) ((token ∷ classWords class) ++ rest) (entryPlace k) front-long
 
-  word-at : (j : ℕ) → getD ws′ (k * 6 + j) 0 ≡ getD (token ∷ (classWords class ++ rest)) j 0
-  word-at j = sym (getD-drop (k * 6) ws′ j 0) ∙ ap (λ (l : List ℕ). getD l j 0) behind
+  word-at : (j : ℕ) → getD ws′ (entryPlace k + j) 0 ≡ getD (token ∷ (classWords class ++ rest)) j 0
+  word-at j = sym (getD-drop (entryPlace k) ws′ j 0) ∙ ap (λ (l : List ℕ). getD l j 0) behind
 
   earlier : (i : ℕ) → i < k → entryIn ws′ i ≡ entryIn ws i
   unfolding entryIn
   earlier i h =
-      let a = same-word (k * 6) (i * 6) ws′ ws front (omega arith) in
-      let b = same-word (k * 6) (i * 6 + 1) ws′ ws front (omega arith) in
-      let f = few-values (getD ws (i * 6 + 1) 0) in
-      let v : take (valueCount (getD ws′ (i * 6 + 1) 0)) (drop (i * 6 + 2) ws′) ≡ take (valueCount (getD ws (i * 6 + 1) 0)) (drop (i * 6 + 2) ws) =
-      ap (λ (x : ℕ). take (valueCount x) (drop (i * 6 + 2) ws′)) b ∙ same-part (k * 6) (i * 6 + 2) (valueCount (getD ws (i * 6 + 1) 0)) ws′ ws front (omega arith) in
+      let a = same-word (entryPlace k) (entryPlace i) ws′ ws front (omega arith) in
+      let b = same-word (entryPlace k) (entryPlace i + 1) ws′ ws front (omega arith) in
+      let f = few-values (getD ws (entryPlace i + 1) 0) in
+      let v : take (valueCount (getD ws′ (entryPlace i + 1) 0)) (drop (entryPlace i + 2) ws′) ≡ take (valueCount (getD ws (entryPlace i + 1) 0)) (drop (entryPlace i + 2) ws) =
+      ap (λ (x : ℕ). take (valueCount x) (drop (entryPlace i + 2) ws′)) b ∙ same-part (entryPlace k) (entryPlace i + 2) (valueCount (getD ws (entryPlace i + 1) 0)) ws′ ws front (omega arith) in
       λ j. record { token = a j; class = b j; values = v j }
 
   latest : entryIn ws′ k ≡ entryOf token class
   unfolding entryIn
   latest =
-      let z : k * 6 ≡ k * 6 + 0 = omega arith in
-      let a : getD ws′ (k * 6) 0 ≡ token = ap (λ (x : ℕ). getD ws′ x 0) z ∙ word-at 0 in
-      let b : getD ws′ (k * 6 + 1) 0 ≡ classNumber class = word-at 1 ∙ number-read class rest in
-      let d : drop (k * 6 + 2) ws′ ≡ drop 1 (classWords class ++ rest) = sym (drop-drop 2 (k * 6) ws′) ∙ ap (drop 2) behind in
-      let v : take (valueCount (getD ws′ (k * 6 + 1) 0)) (drop (k * 6 + 2) ws′) ≡ classValues class =
-      ap (λ (x : ℕ). take (valueCount x) (drop (k * 6 + 2) ws′)) b ∙ ap (take (valueCount (classNumber class))) d ∙ values-read class rest in
+      let z : entryPlace k ≡ entryPlace k + 0 = omega arith in
+      let a : getD ws′ (entryPlace k) 0 ≡ token = ap (λ (x : ℕ). getD ws′ x 0) z ∙ word-at 0 in
+      let b : getD ws′ (entryPlace k + 1) 0 ≡ classNumber class = word-at 1 ∙ number-read class rest in
+      let d : drop (entryPlace k + 2) ws′ ≡ drop 1 (classWords class ++ rest) = sym (drop-drop 2 (entryPlace k) ws′) ∙ ap (drop 2) behind in
+      let v : take (valueCount (getD ws′ (entryPlace k + 1) 0)) (drop (entryPlace k + 2) ws′) ≡ classValues class =
+      ap (λ (x : ℕ). take (valueCount x) (drop (entryPlace k + 2) ws′)) b ∙ ap (take (valueCount (classNumber class))) d ∙ values-read class rest in
       λ j. record { token = a j; class = b j; values = v j }
 
   -- the entries with one more
@@ -235,9 +236,9 @@ value-past (suc n) i [] h = refl
 value-past (suc n) zero (w ∷ ws) h = absurd (omega arith)
 value-past (suc n) (suc i) (w ∷ ws) h = value-past n i ws (omega arith)
 
-pub class-read : (ws : List ℕ) (k class n a b c d : ℕ) (v : List ℕ) → class ≡ getD ws (k * 6 + 1) 0 → n ≡ valueCount class
-    → a ≡ getD (take n (drop (k * 6 + 2) ws)) 0 0 → b ≡ getD (take n (drop (k * 6 + 2) ws)) 1 0 → c ≡ getD (take n (drop (k * 6 + 2) ws)) 2 0 → d ≡ getD (take n (drop (k * 6 + 2) ws)) 3 0
-    → v ≡ class ∷ a ∷ b ∷ c ∷ d ∷ [] → getD ws (k * 6) 0 ∷ v ≡ entryWords (entryIn ws k)
+pub class-read : (ws : List ℕ) (k class n a b c d : ℕ) (v : List ℕ) → class ≡ getD ws (entryPlace k + 1) 0 → n ≡ valueCount class
+    → a ≡ getD (take n (drop (entryPlace k + 2) ws)) 0 0 → b ≡ getD (take n (drop (entryPlace k + 2) ws)) 1 0 → c ≡ getD (take n (drop (entryPlace k + 2) ws)) 2 0 → d ≡ getD (take n (drop (entryPlace k + 2) ws)) 3 0
+    → v ≡ class ∷ a ∷ b ∷ c ∷ d ∷ [] → getD ws (entryPlace k) 0 ∷ v ≡ entryWords (entryIn ws k)
 unfolding entryWords entryIn
 class-read ws k class n a b c d v e en ea eb ec ed ev = rw (ev, ea, eb, ec, ed, en, e)
 
@@ -255,7 +256,7 @@ six-long : (e : Entry) → length (entryWords e) ≡ 6
 unfolding entryWords
 six-long e = refl
 
-joined-long : (es : List Entry) → length (joined entryWords es) ≡ 6 * length es
+joined-long : (es : List Entry) → length (joined entryWords es) ≡ entryRoom * length es
 joined-long [] = ap length (joined-nil entryWords)
 joined-long (e ∷ es) =
     let l = joined-long es in
@@ -264,12 +265,12 @@ joined-long (e ∷ es) =
     let j = ap length (joined-cons entryWords e es) in
     omega arith
 
-pub copied-first : (ws old : List ℕ) → old ≡ joined entryWords (entriesIn ws 0) ++ drop (6 * 0) old
+pub copied-first : (ws old : List ℕ) → old ≡ joined entryWords (entriesIn ws 0) ++ drop (entryRoom * 0) old
 unfolding entriesIn below upFrom joined
 copied-first ws old = refl
 
-module _ (ws old to : List ℕ) (k : ℕ) (room : 6 * k + 6 ≤ length old) (long : length to ≡ length old) (e : to ≡ joined entryWords (entriesIn ws k) ++ drop (6 * k) old) where
-  so-far : length (joined entryWords (entriesIn ws k)) ≡ k * 6
+module _ (ws old to : List ℕ) (k : ℕ) (room : entryRoom * k + 6 ≤ length old) (long : length to ≡ length old) (e : to ≡ joined entryWords (entriesIn ws k) ++ drop (entryRoom * k) old) where
+  so-far : length (joined entryWords (entriesIn ws k)) ≡ entryPlace k
   so-far = let j = joined-long (entriesIn ws k) in let l = entries-long ws k in omega arith
 
   one-more : joined entryWords (entriesIn ws (k + 1)) ≡ joined entryWords (entriesIn ws k) ++ entryWords (entryIn ws k)
@@ -279,13 +280,13 @@ module _ (ws old to : List ℕ) (k : ℕ) (room : 6 * k + 6 ≤ length old) (lon
       ∙ joined-append entryWords (entriesIn ws k) (entryIn ws k ∷ [])
       ∙ ap (λ (l : List ℕ). joined entryWords (entriesIn ws k) ++ l) (joined-cons entryWords (entryIn ws k) [] ∙ ap (λ (l : List ℕ). entryWords (entryIn ws k) ++ l) (joined-nil entryWords) ∙ append-nil (entryWords (entryIn ws k)))
 
-  pub copied-more : (to′ x : List ℕ) → x ≡ entryWords (entryIn ws k) → to′ ≡ sets to (k * 6) x → to′ ≡ joined entryWords (entriesIn ws (k + 1)) ++ drop (6 * (k + 1)) old
+  pub copied-more : (to′ x : List ℕ) → x ≡ entryWords (entryIn ws k) → to′ ≡ sets to (entryPlace k) x → to′ ≡ joined entryWords (entriesIn ws (k + 1)) ++ drop (entryRoom * (k + 1)) old
   copied-more to′ x ex w =
       let l : length x ≡ 6 = ap length ex ∙ six-long (entryIn ws k) in
-      let p : take (k * 6) to ≡ joined entryWords (entriesIn ws k) = ap (take (k * 6)) e ∙ take-at (joined entryWords (entriesIn ws k)) (drop (6 * k) old) (k * 6) so-far in
-      let d : drop (k * 6) to ≡ drop (6 * k) old = ap (drop (k * 6)) e ∙ drop-at (joined entryWords (entriesIn ws k)) (drop (6 * k) old) (k * 6) so-far in
-      let n : 6 * k + length x ≡ 6 * (k + 1) = omega arith in
-      let q : drop (k * 6 + length x) to ≡ drop (6 * (k + 1)) old =
-      sym (drop-drop (length x) (k * 6) to) ∙ ap (drop (length x)) d ∙ drop-drop (length x) (6 * k) old ∙ ap (λ (i : ℕ). drop i old) n in
+      let p : take (entryPlace k) to ≡ joined entryWords (entriesIn ws k) = ap (take (entryPlace k)) e ∙ take-at (joined entryWords (entriesIn ws k)) (drop (entryRoom * k) old) (entryPlace k) so-far in
+      let d : drop (entryPlace k) to ≡ drop (entryRoom * k) old = ap (drop (entryPlace k)) e ∙ drop-at (joined entryWords (entriesIn ws k)) (drop (entryRoom * k) old) (entryPlace k) so-far in
+      let n : entryRoom * k + length x ≡ entryRoom * (k + 1) = omega arith in
+      let q : drop (entryPlace k + length x) to ≡ drop (entryRoom * (k + 1)) old =
+      sym (drop-drop (length x) (entryPlace k) to) ∙ ap (drop (length x)) d ∙ drop-drop (length x) (entryRoom * k) old ∙ ap (λ (i : ℕ). drop i old) n in
       let f : joined entryWords (entriesIn ws k) ++ x ≡ joined entryWords (entriesIn ws (k + 1)) = ap (λ (y : List ℕ). joined entryWords (entriesIn ws k) ++ y) ex ∙ sym one-more in
-      w ∙ sets-eq x to (k * 6) (omega arith) ∙ (λ j. p j ++ x ++ q j) ∙ ap (λ (y : List ℕ). y ++ drop (6 * (k + 1)) old) f
+      w ∙ sets-eq x to (entryPlace k) (omega arith) ∙ (λ j. p j ++ x ++ q j) ∙ ap (λ (y : List ℕ). y ++ drop (entryRoom * (k + 1)) old) f

@@ -1,9 +1,10 @@
 -- A token with its class in six words: token, class number, up to four own values, zeros.
 -- Assumes nothing: these are definitions.
-use Prim.Native.Nat.{ℕ, zero, suc, _+_, _*_, _≤_}
+use Prim.Native.Nat.{ℕ, zero, suc, _+_, _≤_}
 use mathlib.Core.Path.{_≡_}
 use mathlib.Core.List.{List, [], _∷_, map}
 use lib.ListN.{length, getD, take, drop}
+use Rattle.repr.specs.Sizes.{entryPlace}
 use Rattle.repr.specs.Lists.{below}
 use lib.Seq.{sets}
 use Rattle.error.specs.declared.Class.{Class}
@@ -27,7 +28,7 @@ numberedWords v = v .number ∷ v .first ∷ v .second ∷ v .third ∷ v .fourt
 
 -- entry k written
 unfoldable pub withEntry : List ℕ → ℕ → ℕ → Class → List ℕ
-withEntry ws k token class = sets ws (k * 6) (token ∷ classWords class)
+withEntry ws k token class = sets ws (entryPlace k) (token ∷ classWords class)
 
 -- how many values a class of a number has
 unfoldable pub valueCount : ℕ → ℕ
@@ -41,7 +42,7 @@ valueCount (suc (suc (suc (suc (suc (suc k)))))) = 0
 
 -- entry k
 unfoldable pub entryIn : List ℕ → ℕ → Entry
-entryIn ws k = record { token = getD ws (k * 6) 0; class = getD ws (k * 6 + 1) 0; values = take (valueCount (getD ws (k * 6 + 1) 0)) (drop (k * 6 + 2) ws) }
+entryIn ws k = record { token = getD ws (entryPlace k) 0; class = getD ws (entryPlace k + 1) 0; values = take (valueCount (getD ws (entryPlace k + 1) 0)) (drop (entryPlace k + 2) ws) }
 
 unfoldable pub entriesIn : List ℕ → ℕ → List Entry
 entriesIn ws n = map (entryIn ws) (below n)

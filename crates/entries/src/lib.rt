@@ -6,6 +6,7 @@ ghost use Prim.Native.Nat.{_*_, _≤_, _<_};
 ghost use lib.ListN.{length, getD, take, drop};
 ghost use lib.Seq.{sets};
 ghost use lib.Dec.{eqb};
+ghost use Rattle.repr.specs.Sizes.{entryRoom, entryPlace, entriesRoom};
 ghost use Rattle.error.specs.Numbers.{classNumber};
 ghost use Rattle.repr.specs.Lists.{joined};
 ghost use Rattle.entries.specs.Entries.{classWords, numberedWords, withEntry, valueCount, entryIn, entriesIn, entryWords};
@@ -74,10 +75,10 @@ fn number_class(class: Class) -> Numbered
 
 // Entry k in six words: token and class.
 fn write_words(entries: &mut [u16], k: usize, token: u16, words: Numbered)
-    requires { ⌜ (k < 64) × (384 ≤ length (now entries)) ⌝ }
-    ensures { λ _. ⌜ now (entries .exit) ≡ sets (now (entries .entry)) (k * 6) (token ∷ numberedWords words) ⌝ }
+    requires { ⌜ (k < 64) × (entriesRoom ≤ length (now entries)) ⌝ }
+    ensures { λ _. ⌜ now (entries .exit) ≡ sets (now (entries .entry)) (entryPlace k) (token ∷ numberedWords words) ⌝ }
 {
-    let at = k * 6;
+    let at = k * Class::ENTRY_WORDS;
     entries[at] = token;
     entries[at + 1] = words.number;
     entries[at + 2] = words.first;
@@ -88,7 +89,7 @@ fn write_words(entries: &mut [u16], k: usize, token: u16, words: Numbered)
 
 // Entry `count`: the token with its class.
 pub fn write_entry(entries: &mut [u16], count: usize, token: u16, class: Class)
-    requires { ⌜ (count < 64) × (length (now entries) ≡ 384) ⌝ }
+    requires { ⌜ (count < 64) × (length (now entries) ≡ entriesRoom) ⌝ }
     ensures { λ _. ⌜ now (entries .exit) ≡ withEntry (now (entries .entry)) count token class ⌝ }
 {
     let words = number_class(class);
@@ -110,7 +111,7 @@ fn value_count(class: u16) -> usize
 
 // Value i of `count` that start at word `at`, 0 past them.
 fn value_at(entries: &[u16], at: usize, count: usize, i: usize) -> u16
-    requires { ⌜ (at ≤ 380) × (i < 4) × (length (now entries) ≡ 384) ⌝ }
+    requires { ⌜ (at ≤ 380) × (i < 4) × (length (now entries) ≡ entriesRoom) ⌝ }
     ensures { λ r. ⌜ r ≡ getD (take count (drop at (now (entries .entry)))) i 0 ⌝ }
 {
     if i < count {
@@ -121,11 +122,11 @@ fn value_at(entries: &[u16], at: usize, count: usize, i: usize) -> u16
 
 // The class of entry k, zeros past its own values.
 fn read_class(entries: &[u16], k: usize) -> Numbered
-    requires { ⌜ (k < 64) × (length (now entries) ≡ 384) ⌝ }
-    ensures { λ r. ⌜ getD (now (entries .entry)) (k * 6) 0 ∷ numberedWords r ≡ entryWords (entryIn (now (entries .entry)) k) ⌝ }
+    requires { ⌜ (k < 64) × (length (now entries) ≡ entriesRoom) ⌝ }
+    ensures { λ r. ⌜ getD (now (entries .entry)) (entryPlace k) 0 ∷ numberedWords r ≡ entryWords (entryIn (now (entries .entry)) k) ⌝ }
 {
-    let at = k * 6 + 2;
-    let class = entries[k * 6 + 1];
+    let at = k * Class::ENTRY_WORDS + 2;
+    let class = entries[k * Class::ENTRY_WORDS + 1];
     let count = value_count(class);
     let first = value_at(entries, at, count, 0);
     let second = value_at(entries, at, count, 1);
@@ -136,12 +137,12 @@ fn read_class(entries: &[u16], k: usize) -> Numbered
 
 // So many entries copied to the front of `to`, six words each; no other word changes.
 pub fn copy_entries(from: &[u16], to: &mut [u16], count: usize)
-    requires { ⌜ (count ≤ 64) × (length (now from) ≡ 384) × (384 ≤ length (now to)) ⌝ }
-    ensures { λ _. ⌜ now (to .exit) ≡ joined entryWords (entriesIn (now (from .entry)) count) ++ drop (6 * count) (now (to .entry)) ⌝ }
+    requires { ⌜ (count ≤ 64) × (length (now from) ≡ entriesRoom) × (entriesRoom ≤ length (now to)) ⌝ }
+    ensures { λ _. ⌜ now (to .exit) ≡ joined entryWords (entriesIn (now (from .entry)) count) ++ drop (entryRoom * count) (now (to .entry)) ⌝ }
 {
     let mut k: usize = 0;
     while k < count {
-        let token = from[k * 6];
+        let token = from[k * Class::ENTRY_WORDS];
         let words = read_class(from, k);
         write_words(to, k, token, words);
         k += 1;

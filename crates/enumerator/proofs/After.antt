@@ -7,12 +7,13 @@ use mathlib.Core.Bool.{Bool, true, false}
 use mathlib.Core.List.{List, [], _∷_, map, reverse, List·Memᴰ, List·Memᴰ·head, List·Memᴰ·tail, List·Memᴰ·not-nil, List·Memᴰ·cases-cons}
 use mathlib.Core.Option.{Option, none, some}
 use lib.ListN.{length, drop}
+use Rattle.slices.proofs.Same.{same-words-eq, eq-same-words, ne-same-words}
+use Rattle.slices.specs.Same.{sameWords}
 use Rattle.trace_graph.specs.Graph.{Node}
 use Rattle.enumerator.specs.Trials.{Path, Ends, trials, Distinct, Small}
-use Rattle.enumerator.specs.Words.{sameWords, after}
+use Rattle.enumerator.specs.Words.{after}
 use Rattle.enumerator.specs.Machine.{next, Run}
 use Rattle.enumerator.proofs.Paths.{all-in}
-use Rattle.enumerator.proofs.SameWords.{same-words-eq, eq-same-words, ne-same-words}
 use Rattle.enumerator.proofs.Order.{each-once}
 use Rattle.enumerator.proofs.Run.{next-runs}
 

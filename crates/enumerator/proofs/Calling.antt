@@ -7,13 +7,14 @@ use mathlib.Core.List.{List, _∷_}
 use lib.ListN.{length, take, drop, length-take}
 use lib.Dec.{leb, eqb}
 use borrow.Author.Tests.{leb-true}
+use Rattle.repr.specs.Sizes.{graphRoom, scratchWords, trialLimit, exampleRoom}
 use Rattle.repr.specs.Meaning.{Item}
 use Rattle.table.specs.Decoded.{meaning}
 use Rattle.trace_graph.specs.Graph.{atItem, TraceEdge, isNode}
 use Rattle.trace_graph.specs.Words.{edgesIn}
 use Rattle.enumerator.specs.Trials.{Path, endsOf}
-use Rattle.enumerator.specs.Words.{pathIn, holdsTrial, after}
-use Rattle.enumerator.specs.Lister.{Call, enough, hands, says, trialLimit, search}
+use Rattle.enumerator.specs.Words.{pathIn, holdsTrial, after, pathRoom}
+use Rattle.enumerator.specs.Lister.{Call, enough, hands, says, search}
 use Rattle.enumerator.specs.Advance.{outcome, setOf, startOf, foundOutcome, restOf, lost, advanceIn, advanceBy, advanceOf}
 use Rattle.enumerator.specs.Calls.{Lent, called, lengths}
 use Rattle.enumerator.specs.Opening.{listing, Ready}
@@ -37,13 +38,13 @@ handsIn t ahead g = hands (meaning t) (edgesIn g) (setOf ahead)
 abbrev pub saysIn : List ℕ → List ℕ → Path → List ℕ
 saysIn t g = says (meaning t) (edgesIn g)
 
-enough-parts : (c : Call) → enough c ≡ true → (8193 ≤ c .graph) × (32000 ≤ c .scratch) × (1158 ≤ c .buffer)
+enough-parts : (c : Call) → enough c ≡ true → (graphRoom ≤ c .graph) × (scratchWords ≤ c .scratch) × (exampleRoom ≤ c .buffer)
 unfolding enough
 enough-parts c e =
-    let r = and-right (leb 8193 (c .graph)) (leb 32000 (c .scratch) && leb 1158 (c .buffer)) e in (
-      leb-true 8193 (c .graph) (and-left (leb 8193 (c .graph)) (leb 32000 (c .scratch) && leb 1158 (c .buffer)) e),
-      leb-true 32000 (c .scratch) (and-left (leb 32000 (c .scratch)) (leb 1158 (c .buffer)) r),
-      leb-true 1158 (c .buffer) (and-right (leb 32000 (c .scratch)) (leb 1158 (c .buffer)) r),
+    let r = and-right (leb graphRoom (c .graph)) (leb scratchWords (c .scratch) && leb exampleRoom (c .buffer)) e in (
+      leb-true graphRoom (c .graph) (and-left (leb graphRoom (c .graph)) (leb scratchWords (c .scratch) && leb exampleRoom (c .buffer)) e),
+      leb-true scratchWords (c .scratch) (and-left (leb scratchWords (c .scratch)) (leb exampleRoom (c .buffer)) r),
+      leb-true exampleRoom (c .buffer) (and-right (leb scratchWords (c .scratch)) (leb exampleRoom (c .buffer)) r),
     )
 
 lent-lengths : (g ws ws₀ : List ℕ) (k : Lent) → length ws ≡ length ws₀
@@ -52,11 +53,11 @@ unfolding lengths
 lent-lengths g ws ws₀ k e = rw (length-take (k .graph) g, length-take (k .scratch) ws, e)
 
 module _ (t : List ℕ) (i : Item) (ahead : Lookahead) (g : List ℕ) (R : Ready t i ahead g) where
-  fit-short : (m : ℕ) (p : Path) → drop m (trialsIn i g) ≡ p ∷ drop (suc m) (trialsIn i g) → length p ≤ 31999
+  fit-short : (m : ℕ) (p : Path) → drop m (trialsIn i g) ≡ p ∷ drop (suc m) (trialsIn i g) → length p ≤ pathRoom
   fit-short m p d = let s = short-trial (endsOf (edgesIn g)) (atItem i) p (drop-in m (trialsIn i g) p (drop (suc m) (trialsIn i g)) d) in omega arith
 
   -- the words lose nothing
-  not-lost : (ws₀ : List ℕ) (c : ℕ) (o : Bool) (ws : List ℕ) (m : ℕ) → Fit i g ws₀ c o ws → 32000 ≤ m → lost (edgesIn g) (listing i ahead c o) (take m ws) ≡ false
+  not-lost : (ws₀ : List ℕ) (c : ℕ) (o : Bool) (ws : List ℕ) (m : ℕ) → Fit i g ws₀ c o ws → scratchWords ≤ m → lost (edgesIn g) (listing i ahead c o) (take m ws) ≡ false
   unfolding Fit Kept lost startOf
   not-lost ws₀ c false ws m f h = refl
   not-lost ws₀ zero true ws m f h = refl
@@ -68,7 +69,7 @@ module _ (t : List ℕ) (i : Item) (ahead : Lookahead) (g : List ℕ) (R : Ready
       rw w (and-false (not (eqb (suc c) 0)))
 
   -- what is left are the trials past the count
-  rest-is : (ws₀ : List ℕ) (c : ℕ) (ws : List ℕ) (m : ℕ) → Fit i g ws₀ c true ws → 32000 ≤ m → restOf c (take m ws) (trialsIn i g) ≡ drop c (trialsIn i g)
+  rest-is : (ws₀ : List ℕ) (c : ℕ) (ws : List ℕ) (m : ℕ) → Fit i g ws₀ c true ws → scratchWords ≤ m → restOf c (take m ws) (trialsIn i g) ≡ drop c (trialsIn i g)
   unfolding Fit Kept restOf
   rest-is ws₀ zero ws m f h = refl
   rest-is ws₀ (suc c) ws m (p, d, x, k) h =
@@ -81,11 +82,11 @@ module _ (t : List ℕ) (i : Item) (ahead : Lookahead) (g : List ℕ) (R : Ready
   fit-count ws₀ (suc c) ws (p, d, x, k) = drop-more c (trialsIn i g) p (drop (suc c) (trialsIn i g)) d
 
   -- behind the first 32,000 words the scratch is as it was
-  pub fit-rest : (ws₀ : List ℕ) (c : ℕ) (o : Bool) (ws : List ℕ) → Fit i g ws₀ c o ws → drop 32000 ws ≡ drop 32000 ws₀
+  pub fit-rest : (ws₀ : List ℕ) (c : ℕ) (o : Bool) (ws : List ℕ) → Fit i g ws₀ c o ws → drop scratchWords ws ≡ drop scratchWords ws₀
   unfolding Fit
-  fit-rest ws₀ c false ws f = ap (drop 32000) f ∙ rest-zeroed ws₀
-  fit-rest ws₀ zero true ws f = ap (drop 32000) f
-  fit-rest ws₀ (suc c) true ws (p, d, x, k) = ap (drop 32000) k ∙ rest-front p ws₀ (fit-short c p d)
+  fit-rest ws₀ c false ws f = ap (drop scratchWords) f ∙ rest-zeroed ws₀
+  fit-rest ws₀ zero true ws f = ap (drop scratchWords) f
+  fit-rest ws₀ (suc c) true ws (p, d, x, k) = ap (drop scratchWords) k ∙ rest-front p ws₀ (fit-short c p d)
 
   -- one call
   called-in : (l : Listing) (ws : List ℕ) (k : Lent) → called t g l ws k ≡ advanceIn (take (k .graph) g) l (take (k .scratch) ws) (k .buffer) (meaning t)
@@ -102,7 +103,7 @@ module _ (t : List ℕ) (i : Item) (ahead : Lookahead) (g : List ℕ) (R : Ready
         (asked-taken (meaning t) i (setOf ahead) (k .graph) g (R .long) (R .asks)) (ap enough (lent-lengths g ws ws₀ k len) ∙ e)
 
     module _ (e : enough (lengths g ws₀ k) ≡ true) where
-      pub lent-parts : (8193 ≤ k .graph) × (32000 ≤ length (take (k .scratch) ws)) × (1158 ≤ length (k .buffer))
+      pub lent-parts : (graphRoom ≤ k .graph) × (scratchWords ≤ length (take (k .scratch) ws)) × (exampleRoom ≤ length (k .buffer))
       unfolding lengths
       lent-parts =
           let r = enough-parts (lengths g ws₀ k) e in
@@ -114,7 +115,7 @@ module _ (t : List ℕ) (i : Item) (ahead : Lookahead) (g : List ℕ) (R : Ready
           edges-taken (k .graph) g (lent-parts .0)
           (few-edges (length (meaning t .nonterminals)) (meaning t .productions) g (asked-graph (meaning t) i (setOf ahead) g (R .long) (R .asks)))
 
-      scratch-lent : 32000 ≤ k .scratch
+      scratch-lent : scratchWords ≤ k .scratch
       scratch-lent = let a = length-take (k .scratch) ws in omega (arith, lent-parts .1)
 
       pub call-ended : called t g (listing i ahead c false) ws k ≡ outcome End (listing i ahead c false) (take (k .scratch) ws) (k .buffer)

@@ -1,5 +1,5 @@
 -- The counts of the nonterminals on the walk (specs/Counts), as an edge joins it or leaves it. Assumes nothing.
-use Prim.Native.Nat.{ℕ, zero, suc, _+_, _*_, _-_, _≤_, _<_}
+use Prim.Native.Nat.{ℕ, zero, suc, _+_, _-_, _≤_, _<_}
 use native.Mathlib.Omega.{arith}
 use mathlib.Core.Path.{_≡_, refl, sym, ap, _∙_, subst}
 use mathlib.Core.Bool.{true, false}
@@ -8,6 +8,7 @@ use lib.ListN.{length, getD, set, take, drop, replicate, length-set, length-take
 use lib.Seq.{getD-set-same, getD-set-other}
 use lib.Dec.{eqb}
 use borrow.Author.Tests.{eqb-true, eqb-false, eq-eqb, ne-eqb}
+use Rattle.repr.specs.Sizes.{edgePlace, reductionLimit}
 use Rattle.repr.specs.Lists.{mem, occurrences}
 use Rattle.repr.proofs.Lists.{cases, occurrences-nil, occurrences-yes, occurrences-no, occurrences-none, occurrences-some}
 use Rattle.repr.specs.Meaning.{Production}
@@ -55,7 +56,7 @@ counted-set us vs ms n x C h e other = record {
 }
 
 module _ {ms : List ℕ} {n x : ℕ} (h : n < 32) (ex : x ≡ getD ms n 0) where
-  pub counted-small : {us : List ℕ} → Counted us ms → length us ≤ 33 → x < 255
+  pub counted-small : {us : List ℕ} → Counted us ms → length us ≤ reductionLimit → x < 255
   counted-small {us} C l = omega (arith, C .times n h, few-times n us)
 
   pub counted-more : {us : List ℕ} → Counted us ms → Counted (n ∷ us) (set ms n (x + 1))
@@ -80,7 +81,7 @@ range-nonterminal : (n : ℕ) (ps : List Production) (m : ℕ) → InRange n ps 
 unfolding InRange
 range-nonterminal n ps m h = h
 
-pub source-few : {g ix : List ℕ} (B : Ground g ix) {e : ℕ} {v : NodeValue} → e < getD g 0 0 → v ≡ nodeRead g (e * 8 + 1) → v .kind ≡ 0 → v .number < 32
+pub source-few : {g ix : List ℕ} (B : Ground g ix) {e : ℕ} {v : NodeValue} → e < getD g 0 0 → v ≡ nodeRead g (edgePlace e) → v .kind ≡ 0 → v .number < 32
 source-few B {v = v} h q z =
     let r = range-nonterminal (B .nonterminals) (B .productions) (v .number) (rw (value-nonterminal v z) at (value-range (B .nonterminals) (B .productions) v (source-value-fits B h q))) in
     omega (arith, r, B .graphed .nonterminals)
@@ -95,7 +96,7 @@ used-few G (e ∷ st) = go (used-few G st) (G .source e)
     go ih (atNonterminal n) = omega arith
 
 -- `join`
-module _ (g : List ℕ) (e : ℕ) (v : NodeValue) (h : e < getD g 0 0) (q : nodeIs v ≡ nodeAt g (e * 8 + 1)) where
+module _ (g : List ℕ) (e : ℕ) (v : NodeValue) (h : e < getD g 0 0) (q : nodeIs v ≡ nodeAt g (edgePlace e)) where
   pub join-item : (v .kind ≡ 0 → ⊥) → (us : List ℕ) {ms : List ℕ} → Counted us ms → Counted (onWalk (ends g .source e) us) ms
   unfolding onWalk
   join-item ne us {ms} C = subst (λ (y : Node). Counted (onWalk y us) ms) (sym (source-value g e v h q ∙ value-item v ne .1)) C
@@ -158,7 +159,7 @@ module _ (g : List ℕ) {ws : List ℕ} (S : Stacked (getD g 0 0) ws) {d : ℕ} 
         edges-by g under (S .rest) (f (reverse under) (U .edge) (S .rest) (top-words S U)) (top-counted W)
 
     -- what `join` is given, and what it leaves
-    pub join-given : {ms : List ℕ} → WalkCounted g ws ms → (us : List ℕ) × (length us ≤ 33) × Counted us ms
+    pub join-given : {ms : List ℕ} → WalkCounted g ws ms → (us : List ℕ) × (length us ≤ reductionLimit) × Counted us ms
     join-given W =
         (usedOf (ends g) under, omega (arith, used-few (ends g) under, ap length (upper-stack S ed ne ex), S .short), top-counted W)
 
@@ -167,7 +168,7 @@ module _ (g : List ℕ) {ws : List ℕ} (S : Stacked (getD g 0 0) ws) {d : ℕ} 
     join-top W f = edges-by g (x ∷ under) (S .rest) some-words (f (usedOf (ends g) under) (top-counted W))
 
     -- `leave`
-    module _ (v : NodeValue) (q : nodeIs v ≡ nodeAt g (x * 8 + 1)) {ms : List ℕ} (E : EdgesCounted g ws ms) where
+    module _ (v : NodeValue) (q : nodeIs v ≡ nodeAt g (edgePlace x)) {ms : List ℕ} (E : EdgesCounted g ws ms) where
       all-counted : Counted (usedOf (ends g) (x ∷ under)) ms
       all-counted = E .edges (x ∷ under) (S .rest) some-words
 
@@ -234,7 +235,7 @@ module _ (g : List ℕ) {ws : List ℕ} (S : Stacked (getD g 0 0) ws) {d : ℕ} 
         let e : at ≡ d - 1 = omega (arith, J .low) in
         walk-by g (S .stack) (S .rest) (S .words) (subst (λ (l : List ℕ). Counted (usedOf (ends g) l) ms) (ap (stackIn ws) e ∙ walk-read) (J .counted))
 
-    pub joined-given : (us : List ℕ) × (length us ≤ 33) × Counted us ms
+    pub joined-given : (us : List ℕ) × (length us ≤ reductionLimit) × Counted us ms
     joined-given =
         (usedOf (ends g) (stackIn ws at), omega (arith, used-few (ends g) (stackIn ws at), stack-few ws at, J .low, stack-depth S, S .short), J .counted)
 

@@ -4,11 +4,12 @@ use mathlib.Core.Path.{_≡_, refl, ap, _∙_}
 use mathlib.Core.Bool.{Bool, true, false}
 use mathlib.Core.List.{List, [], _∷_, _++_, map}
 use lib.ListN.{length, drop}
+use Rattle.repr.specs.Sizes.{trialLimit}
 use Rattle.repr.specs.Meaning.{Item}
 use Rattle.table.specs.Decoded.{meaning}
 use Rattle.trace_graph.specs.Words.{edgesIn}
 use Rattle.enumerator.specs.Trials.{Path}
-use Rattle.enumerator.specs.Lister.{enough, trialLimit, Found, hit, out, over, search, Out, foundOut, foundThen, plainFind, plainOut, plainThen, plainRun, plainLister}
+use Rattle.enumerator.specs.Lister.{enough, Found, hit, out, over, search, Out, foundOut, foundThen, plainFind, plainOut, plainThen, plainRun, plainLister}
 use Rattle.enumerator.specs.Advance.{outcome, setOf, openOf}
 use Rattle.enumerator.specs.Calls.{Lent, leftBy, listingBy, scratchBy, called, calls, listingAfter, scratchAfter, lengths, leftAll}
 use Rattle.enumerator.specs.Opening.{listing, Ready}

@@ -7,12 +7,13 @@ use mathlib.Core.List.{List}
 use lib.ListN.{length, getD}
 use lib.Dec.{ltb, leb, eqb}
 use borrow.Author.Tests.{ltb-true, leb-true}
+use Rattle.repr.specs.Sizes.{edgeLimit, edgePlace}
 use Rattle.repr.specs.Lists.{below, every?}
 use Rattle.repr.specs.Meaning.{Production}
 use Rattle.repr.proofs.Lists.{length-map-below, getD-map-below}
 use Rattle.repr.proofs.Tests.{every?-below}
 use Rattle.trace_graph.specs.Graph.{atNonterminal, TraceEdge}
-use Rattle.trace_graph.specs.Words.{edgeLimit, place, nodeOf, nodeAt, edgeAt, edgesIn}
+use Rattle.trace_graph.specs.Words.{nodeOf, nodeAt, edgeAt, edgesIn}
 use Rattle.trace_graph.specs.Fits.{nodeFits, edgeFits, once, graphFits}
 use Rattle.enumerator.specs.Trials.{noEdge, endsOf, Small}
 use Rattle.enumerator.proofs.Nodes.{and-left, and-right}
@@ -25,17 +26,17 @@ pub edges-at : (ws : List ℕ) (k : ℕ) → k < getD ws 0 0 → getD (edgesIn w
 unfolding edgesIn
 edges-at ws k h = getD-map-below (edgeAt ws) (getD ws 0 0) k noEdge h
 
-pub source-at : (ws : List ℕ) (k : ℕ) → k < getD ws 0 0 → endsOf (edgesIn ws) .source k ≡ nodeAt ws (place k)
+pub source-at : (ws : List ℕ) (k : ℕ) → k < getD ws 0 0 → endsOf (edgesIn ws) .source k ≡ nodeAt ws (edgePlace k)
 unfolding edgeAt
 source-at ws k h = ap (λ (e : TraceEdge). e .source) (edges-at ws k h)
 
-pub target-at : (ws : List ℕ) (k : ℕ) → k < getD ws 0 0 → endsOf (edgesIn ws) .target k ≡ nodeAt ws (place k + 3)
+pub target-at : (ws : List ℕ) (k : ℕ) → k < getD ws 0 0 → endsOf (edgesIn ws) .target k ≡ nodeAt ws (edgePlace k + 3)
 unfolding edgeAt
 target-at ws k h = ap (λ (e : TraceEdge). e .target) (edges-at ws k h)
 
 -- what a graph that fits is
 module _ (n : ℕ) (ps : List Production) (ws : List ℕ) (fits : graphFits n ps ws ≡ true) where
-  pub few-edges : getD ws 0 0 ≤ 1024
+  pub few-edges : getD ws 0 0 ≤ edgeLimit
   unfolding graphFits
   few-edges = leb-true (getD ws 0 0) edgeLimit (and-left (leb (getD ws 0 0) edgeLimit) _ fits)
 
@@ -49,9 +50,9 @@ module _ (n : ℕ) (ps : List Production) (ws : List ℕ) (fits : graphFits n ps
   unfolding graphFits
   no-edge-twice = and-right (every? (edgeFits n ps ws) (below (getD ws 0 0))) (once ps (edgesIn ws)) (and-right (leb (getD ws 0 0) edgeLimit) _ fits)
 
-  source-fits : (k : ℕ) → k < getD ws 0 0 → nodeFits n ps (getD ws (place k) 0) (getD ws (place k + 1) 0) (getD ws (place k + 2) 0) ≡ true
+  source-fits : (k : ℕ) → k < getD ws 0 0 → nodeFits n ps (getD ws (edgePlace k) 0) (getD ws (edgePlace k + 1) 0) (getD ws (edgePlace k + 2) 0) ≡ true
   unfolding edgeFits
-  source-fits k h = and-left (nodeFits n ps (getD ws (place k) 0) (getD ws (place k + 1) 0) (getD ws (place k + 2) 0)) _ (edge-fits k h)
+  source-fits k h = and-left (nodeFits n ps (getD ws (edgePlace k) 0) (getD ws (edgePlace k + 1) 0) (getD ws (edgePlace k + 2) 0)) _ (edge-fits k h)
 
 nonterminal-fits : (n : ℕ) (ps : List Production) (k a b m : ℕ) → nodeFits n ps k a b ≡ true → nodeOf k a b ≡ atNonterminal m → m < n
 unfolding nodeFits nodeOf
@@ -64,5 +65,5 @@ pub small-of : (n : ℕ) (ps : List Production) (ws : List ℕ) → graphFits n 
 unfolding nodeAt
 small-of n ps ws fits few e m h q =
     let l : e < getD ws 0 0 = omega (arith, edges-count ws) in
-    let s = nonterminal-fits n ps (getD ws (place e) 0) (getD ws (place e + 1) 0) (getD ws (place e + 2) 0) m (source-fits n ps ws fits e l) (sym (source-at ws e l) ∙ q) in
+    let s = nonterminal-fits n ps (getD ws (edgePlace e) 0) (getD ws (edgePlace e + 1) 0) (getD ws (edgePlace e + 2) 0) m (source-fits n ps ws fits e l) (sym (source-at ws e l) ∙ q) in
     omega arith

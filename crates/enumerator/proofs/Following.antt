@@ -4,9 +4,10 @@ use mathlib.Core.Path.{_≡_, refl, sym, ap, _∙_, subst}
 use mathlib.Core.Bool.{Bool, true, false}
 use mathlib.Core.List.{List, [], _∷_, _++_, map, reverse, reverse-reverse, List·Memᴰ, List·Memᴰ·head, List·Memᴰ·tail}
 use mathlib.Core.Option.{Option, none, some}
+use Rattle.slices.specs.Same.{sameWords}
 use Rattle.trace_graph.specs.Graph.{Node}
 use Rattle.enumerator.specs.Trials.{Path, Ends, trials, Small}
-use Rattle.enumerator.specs.Words.{wordsOf, sameWords, after}
+use Rattle.enumerator.specs.Words.{wordsOf, after}
 use Rattle.enumerator.specs.Machine.{next, Run}
 use Rattle.enumerator.specs.Stacks.{stepped, stepOf}
 use Rattle.enumerator.proofs.Run.{next-runs}

@@ -10,12 +10,13 @@ use lib.ListN.{length, take, drop, take-append-drop}
 use lib.Seq.{take-length, drop-length}
 use lib.Dec.{eqb}
 use borrow.Author.Tests.{eqb-false}
+use Rattle.repr.specs.Sizes.{trialLimit}
 use Rattle.repr.specs.Lists.{keep, every?}
 use Rattle.repr.specs.Meaning.{Table, Item}
 use Rattle.repr.proofs.Lists.{cases, keep-nil, keep-yes, keep-no, keep-append}
 use Rattle.trace_graph.specs.Graph.{atItem, TraceEdge}
 use Rattle.enumerator.specs.Trials.{Path, Before, endsOf, trials, isExample, IsTrial, AllPaths, Increasing, Small}
-use Rattle.enumerator.specs.Lister.{Call, enough, passes, hands, says, trialLimit, Found, hit, out, over, search, Answer, example, end, refused, Out, Plain, fresh, foundOut, foundThen, plainFind, plainOut, plainThen, plainRun, plainLister}
+use Rattle.enumerator.specs.Lister.{Call, enough, passes, hands, says, Found, hit, out, over, search, Answer, example, end, refused, Out, Plain, fresh, foundOut, foundThen, plainFind, plainOut, plainThen, plainRun, plainLister}
 use Rattle.enumerator.specs.Told.{plainly, pathLister, spoken, handed, ends, endsAt, answers, countAfter, EndsAgain, Closed, NumberedAt, Numbered, IsHanded, Handed}
 use Rattle.enumerator.proofs.Nodes.{and-left, and-right, and-both}
 use Rattle.enumerator.proofs.After.{drop-more}

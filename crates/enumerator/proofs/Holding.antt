@@ -9,24 +9,26 @@ use lib.Seq.{length-take-le, drop-cons, getD-take, getD-drop, take-take}
 use lib.Bits.{bitOr, or-add-and, and-le-l, and-le-r}
 use lib.Dec.{eqb, ltb}
 use borrow.Author.Tests.{eq-eqb, ne-eqb, eqb-true, eqb-false, lt-ltb, le-ltb, ltb-true}
+use Rattle.repr.specs.Sizes.{edgeRoom, edgePlace, scratchWords, reductionLimit}
+use Rattle.slices.proofs.Same.{same-words-eq}
+use Rattle.slices.specs.Same.{sameWords}
 use Rattle.repr.specs.Lists.{mem}
 use Rattle.repr.specs.Meaning.{Production, Item}
 use Rattle.repr.proofs.Lists.{cases}
 use Rattle.trace_graph.specs.declared.Node.{Node as NodeValue}
 use Rattle.trace_graph.specs.Graph.{Node, atNonterminal, atItem, sameNode}
-use Rattle.trace_graph.specs.Words.{place, nodeAt}
+use Rattle.trace_graph.specs.Words.{nodeAt}
 use Rattle.trace_graph.specs.Index.{InRange}
 use Rattle.trace_graph.specs.Values.{nodeIs, nodeRead, edgeRead, sameValue, nodeValueFits}
 use Rattle.trace_graph.proofs.Fits.{value-range, same-value, source-fits, target-fits}
 use Rattle.trace_graph.proofs.Words.{node-read}
 use Rattle.enumerator.specs.Trials.{Path, Ends, TrialFrom, trials, isExample, Small}
-use Rattle.enumerator.specs.Words.{scratchWords, wordsOf, pathIn, sameWords, holdsTrial}
+use Rattle.enumerator.specs.Words.{wordsOf, pathIn, holdsTrial, pathRoom}
 use Rattle.enumerator.specs.Machine.{usedOf, goesOn, trialFrom?}
 use Rattle.enumerator.specs.Stacks.{Ground, Started, Within, Stacked, stackIn}
 use Rattle.enumerator.proofs.Nodes.{and-left}
 use Rattle.enumerator.proofs.Edges.{edges-count, source-at, target-at}
 use Rattle.enumerator.proofs.Steps.{used-end, used-in}
-use Rattle.enumerator.proofs.SameWords.{same-words-eq}
 use Rattle.enumerator.proofs.Exact.{sound, complete}
 use Rattle.enumerator.proofs.Short.{short-trial}
 use Rattle.enumerator.proofs.Tested.{passes-trial, holds-test}
@@ -53,55 +55,55 @@ same-front (x ∷ p) xs ys = same-eq x x (p ++ xs) (p ++ ys) refl ∙ same-front
 
 -- the words from a place on, and as many zeros
 abbrev pub zerosFrom : List ℕ → ℕ → Bool
-zerosFrom ws at = sameWords (drop at (take 32000 ws)) (replicate (32000 - at) 0)
+zerosFrom ws at = sameWords (drop at (take scratchWords ws)) (replicate (scratchWords - at) 0)
 
-module _ (ws : List ℕ) (long : 32000 ≤ length ws) (at : ℕ) where
-  front-long : length (take 32000 ws) ≡ 32000
-  front-long = length-take-le 32000 ws long
+module _ (ws : List ℕ) (long : scratchWords ≤ length ws) (at : ℕ) where
+  front-long : length (take scratchWords ws) ≡ scratchWords
+  front-long = length-take-le scratchWords ws long
 
-  pub zeros-end : 32000 ≤ at → zerosFrom ws at ≡ true
+  pub zeros-end : scratchWords ≤ at → zerosFrom ws at ≡ true
   zeros-end h =
-      let z : 32000 - at ≡ 0 = omega arith in
-      let l : length (take 32000 ws) ≤ at = omega (arith, front-long) in
-      ap (λ (xs : List ℕ). sameWords xs (replicate (32000 - at) 0)) (drop-of-length-le (take 32000 ws) l)
+      let z : scratchWords - at ≡ 0 = omega arith in
+      let l : length (take scratchWords ws) ≤ at = omega (arith, front-long) in
+      ap (λ (xs : List ℕ). sameWords xs (replicate (scratchWords - at) 0)) (drop-of-length-le (take scratchWords ws) l)
       ∙ ap (λ (k : ℕ). sameWords [] (replicate k 0)) z ∙ same-none
 
-  module _ (h : at < 32000) (w : ℕ) (ew : w ≡ getD ws at 0) where
-    split : zerosFrom ws at ≡ sameWords (w ∷ drop (at + 1) (take 32000 ws)) (0 ∷ replicate (32000 - (at + 1)) 0)
+  module _ (h : at < scratchWords) (w : ℕ) (ew : w ≡ getD ws at 0) where
+    split : zerosFrom ws at ≡ sameWords (w ∷ drop (at + 1) (take scratchWords ws)) (0 ∷ replicate (scratchWords - (at + 1)) 0)
     split =
-        let z : 32000 - at ≡ suc (32000 - (at + 1)) = omega arith in
+        let z : scratchWords - at ≡ suc (scratchWords - (at + 1)) = omega arith in
         let s : suc at ≡ at + 1 = omega arith in
-        let l : at < length (take 32000 ws) = omega (arith, front-long) in
-        ap (λ (xs : List ℕ). sameWords xs (replicate (32000 - at) 0))
-        (drop-cons (take 32000 ws) at 0 l ∙ ap (λ (x : ℕ). x ∷ drop (suc at) (take 32000 ws)) (getD-take 32000 ws at 0 h ∙ sym ew) ∙ ap (λ (k : ℕ). w ∷ drop k (take 32000 ws)) s)
-        ∙ ap (λ (k : ℕ). sameWords (w ∷ drop (at + 1) (take 32000 ws)) (replicate k 0)) z
+        let l : at < length (take scratchWords ws) = omega (arith, front-long) in
+        ap (λ (xs : List ℕ). sameWords xs (replicate (scratchWords - at) 0))
+        (drop-cons (take scratchWords ws) at 0 l ∙ ap (λ (x : ℕ). x ∷ drop (suc at) (take scratchWords ws)) (getD-take scratchWords ws at 0 h ∙ sym ew) ∙ ap (λ (k : ℕ). w ∷ drop k (take scratchWords ws)) s)
+        ∙ ap (λ (k : ℕ). sameWords (w ∷ drop (at + 1) (take scratchWords ws)) (replicate k 0)) z
 
     pub zeros-not : (w ≡ 0 → ⊥) → zerosFrom ws at ≡ false
-    zeros-not n = split ∙ same-ne w 0 (drop (at + 1) (take 32000 ws)) (replicate (32000 - (at + 1)) 0) n
+    zeros-not n = split ∙ same-ne w 0 (drop (at + 1) (take scratchWords ws)) (replicate (scratchWords - (at + 1)) 0) n
 
     pub zeros-more : w ≡ 0 → zerosFrom ws at ≡ zerosFrom ws (at + 1)
-    zeros-more z = split ∙ same-eq w 0 (drop (at + 1) (take 32000 ws)) (replicate (32000 - (at + 1)) 0) z
+    zeros-more z = split ∙ same-eq w 0 (drop (at + 1) (take scratchWords ws)) (replicate (scratchWords - (at + 1)) 0) z
 
 -- `only_zeros`: what is gathered from a place up to another
 none-of : (a b : ℕ) → bitOr a b ≡ 0 → (a ≡ 0) × (b ≡ 0)
 none-of a b e = let s = or-add-and a b in let l = and-le-l a b in let r = and-le-r a b in (omega arith, omega arith)
 
 pub record Gathered (ws : List ℕ) (from at all : ℕ) : Type 0 where
-  pub within : at ≤ 32000
+  pub within : at ≤ scratchWords
   pub none : all ≡ 0 → zerosFrom ws at ≡ zerosFrom ws from
   pub some : (all ≡ 0 → ⊥) → zerosFrom ws from ≡ false
 
-pub gathered-start : (ws : List ℕ) (from : ℕ) → from ≤ 32000 → Gathered ws from from 0
+pub gathered-start : (ws : List ℕ) (from : ℕ) → from ≤ scratchWords → Gathered ws from from 0
 gathered-start ws from h = record { within = h; none = λ e. refl; some = λ n. absurd (n refl) }
 
-pub gathered-more : (ws : List ℕ) → 32000 ≤ length ws → (from at all : ℕ) → Gathered ws from at all → at < 32000 → Gathered ws from (at + 1) (bitOr all (getD ws at 0))
+pub gathered-more : (ws : List ℕ) → scratchWords ≤ length ws → (from at all : ℕ) → Gathered ws from at all → at < scratchWords → Gathered ws from (at + 1) (bitOr all (getD ws at 0))
 gathered-more ws long from at all G h = record {
   within = omega arith;
   none = λ e. let z = none-of all (getD ws at 0) e in sym (zeros-more ws long at h (getD ws at 0) refl (z .1)) ∙ G .none (z .0);
   some = λ n. cases (eqb all 0) (λ q. let z = eqb-true all 0 q in sym (G .none z) ∙ zeros-not ws long at h (getD ws at 0) refl (λ w. n (rw (z, w)))) (λ q. G .some (eqb-false all 0 q));
 }
 
-pub gathered-end : (ws : List ℕ) → 32000 ≤ length ws → (from at all : ℕ) → Gathered ws from at all → 32000 ≤ at → eqb all 0 ≡ zerosFrom ws from
+pub gathered-end : (ws : List ℕ) → scratchWords ≤ length ws → (from at all : ℕ) → Gathered ws from at all → scratchWords ≤ at → eqb all 0 ≡ zerosFrom ws from
 gathered-end ws long from at all G h =
     cases (eqb all 0)
     (λ q. q ∙ sym (zeros-end ws long at h) ∙ G .none (eqb-true all 0 q))
@@ -109,17 +111,17 @@ gathered-end ws long from at all G h =
 
 -- `enters`
 module _ {g ix : List ℕ} (B : Ground g ix) (v : NodeValue) (fits : nodeValueFits (B .nonterminals) (B .productions) v ≡ true) (e w : ℕ) (ew : w ≡ getD g 0 0) where
-  pub enters-edge : e < w → (r : Bool) (t : NodeValue) → t ≡ nodeRead g (e * 8 + 4) → r ≡ sameValue t v
+  pub enters-edge : e < w → (r : Bool) (t : NodeValue) → t ≡ nodeRead g (e * edgeRoom + 4) → r ≡ sameValue t v
       → r ≡ (ltb e (ends g .count) && sameNode (ends g .target e) (nodeIs v))
-  unfolding edgeRead place
+  unfolding edgeRead
   enters-edge h r t et er =
       let l : e < getD g 0 0 = omega arith in
       let c : e < ends g .count = omega (arith, edges-count g) in
-      let a : e * 8 + 4 ≡ place e + 3 = omega arith in
-      let q : t ≡ nodeRead g (place e + 3) = et ∙ ap (nodeRead g) a in
+      let a : e * edgeRoom + 4 ≡ edgePlace e + 3 = omega arith in
+      let q : t ≡ nodeRead g (edgePlace e + 3) = et ∙ ap (nodeRead g) a in
       let f : nodeValueFits (B .nonterminals) (B .productions) t ≡ true =
       ap (nodeValueFits (B .nonterminals) (B .productions)) q ∙ target-fits (B .nonterminals) (B .productions) (edgeRead g e) (edge-value-fits B e l) in
-      let n : nodeIs t ≡ ends g .target e = ap nodeIs q ∙ node-read g (place e + 3) ∙ sym (target-at g e l) in
+      let n : nodeIs t ≡ ends g .target e = ap nodeIs q ∙ node-read g (edgePlace e + 3) ∙ sym (target-at g e l) in
       er ∙ same-value (B .nonterminals) (B .productions) t v f fits ∙ ap (λ (x : Node). sameNode x (nodeIs v)) n
       ∙ sym (ap (λ (b : Bool). b && sameNode (ends g .target e) (nodeIs v)) (lt-ltb e (ends g .count) c))
 
@@ -241,7 +243,7 @@ module _ {g ix ws : List ℕ} {d production index : ℕ} {node : NodeValue} {at 
       pub trial-edge : x < getD g 0 0
       trial-edge = omega (arith, ltb-true x (ends g .count) (and-left (ltb x (ends g .count)) (sameNode (ends g .target x) (nodeIs node)) passed), edges-count g)
 
-      module _ (s : NodeValue) (es : nodeIs s ≡ nodeAt g (x * 8 + 1)) where
+      module _ (s : NodeValue) (es : nodeIs s ≡ nodeAt g (edgePlace x)) where
         pub trial-ends : (s .kind ≡ 0 → ⊥) → false ≡ whole
         trial-ends z =
             let i = value-item s z in
@@ -254,7 +256,7 @@ module _ {g ix ws : List ℕ} {d production index : ℕ} {node : NodeValue} {at 
           pub trial-cycles : u ≡ true → false ≡ whole
           trial-cycles t = sym (trial-used (ends g) us (nodeIs node) x second beyond passed (s .number) source-is (sym eu ∙ t)) ∙ opened
 
-          pub trial-again : u ≡ false → s ≡ nodeRead g (x * 8 + 1) → Walking g ix ws d production index s (at + 1)
+          pub trial-again : u ≡ false → s ≡ nodeRead g (edgePlace x) → Walking g ix ws d production index s (at + 1)
           trial-again t q =
               let k : at + 1 ≡ suc at = omega arith in
               let e : stackIn ws (at + 1) ≡ x ∷ stackIn ws at =
@@ -291,7 +293,7 @@ trial-within G [] us v t = tt
 trial-within G (e ∷ []) us v t = (t .0, tt)
 trial-within G (e ∷ f ∷ p) us v (n, a, b, c, d, t) = (a, trial-within G (f ∷ p) (n ∷ us) (atNonterminal n) t)
 
-pub stacked-of : {k : ℕ} {ws : List ℕ} (p rest : List ℕ) → ws ≡ wordsOf p ++ rest → length p ≤ 33 → Within k p → Stacked k ws
+pub stacked-of : {k : ℕ} {ws : List ℕ} (p rest : List ℕ) → ws ≡ wordsOf p ++ rest → length p ≤ reductionLimit → Within k p → Stacked k ws
 stacked-of {k} p rest w s e = record {
   stack = reverse p;
   rest = rest;
@@ -316,28 +318,28 @@ pub small-ground : {g ix : List ℕ} → Ground g ix → Small (ends g)
 unfolding edgeRead
 small-ground {g} B e m h q =
     let l : e < getD g 0 0 = omega (arith, edges-count g) in
-    let v = nodeRead g (place e) in
+    let v = nodeRead g (edgePlace e) in
     let r = value-range (B .nonterminals) (B .productions) v (source-fits (B .nonterminals) (B .productions) (edgeRead g e) (edge-value-fits B e l)) in
-    let s : nodeIs v ≡ atNonterminal m = node-read g (place e) ∙ sym (source-at g e l) ∙ q in
+    let s : nodeIs v ≡ atNonterminal m = node-read g (edgePlace e) ∙ sym (source-at g e l) ∙ q in
     omega (arith, nonterminal-range (B .nonterminals) (B .productions) m (rw s at r), B .graphed .nonterminals)
 
 -- all the words: the path's, and zeros after them
-words-same : (w : ℕ) (ws : List ℕ) → w ≤ 33 → 31999 ≤ length ws
-    → sameWords (take 32000 (w ∷ ws)) (wordsOf (take w ws)) ≡ zerosFrom (w ∷ ws) (w + 1)
+words-same : (w : ℕ) (ws : List ℕ) → w ≤ reductionLimit → pathRoom ≤ length ws
+    → sameWords (take scratchWords (w ∷ ws)) (wordsOf (take w ws)) ≡ zerosFrom (w ∷ ws) (w + 1)
 unfolding wordsOf
 words-same w ws h long =
-    let T = take 31999 ws in
+    let T = take pathRoom ws in
     let p = take w ws in
     let n : length p ≡ w = length-take-le w ws (omega arith) in
-    let l : take 32000 (w ∷ ws) ≡ (w ∷ p) ++ drop w T = ap (λ (xs : List ℕ). w ∷ xs) (sym (take-append-drop w T) ∙ ap (λ (xs : List ℕ). xs ++ drop w T) (take-take w 31999 ws (omega arith))) in
-    let r : wordsOf p ≡ (w ∷ p) ++ replicate (31999 - w) 0 = ap (λ (k : ℕ). k ∷ (p ++ replicate (31999 - k) 0)) n in
+    let l : take scratchWords (w ∷ ws) ≡ (w ∷ p) ++ drop w T = ap (λ (xs : List ℕ). w ∷ xs) (sym (take-append-drop w T) ∙ ap (λ (xs : List ℕ). xs ++ drop w T) (take-take w pathRoom ws (omega arith))) in
+    let r : wordsOf p ≡ (w ∷ p) ++ replicate (pathRoom - w) 0 = ap (λ (k : ℕ). k ∷ (p ++ replicate (pathRoom - k) 0)) n in
     let s : suc w ≡ w + 1 = omega arith in
-    let z : 31999 - w ≡ 32000 - (w + 1) = omega arith in
-    ap (λ (xs : List ℕ). sameWords xs (wordsOf p)) l ∙ ap (sameWords ((w ∷ p) ++ drop w T)) r ∙ same-front (w ∷ p) (drop w T) (replicate (31999 - w) 0)
+    let z : pathRoom - w ≡ scratchWords - (w + 1) = omega arith in
+    ap (λ (xs : List ℕ). sameWords xs (wordsOf p)) l ∙ ap (sameWords ((w ∷ p) ++ drop w T)) r ∙ same-front (w ∷ p) (drop w T) (replicate (pathRoom - w) 0)
     ∙ ap (λ (k : ℕ). sameWords (drop w T) (replicate k 0)) z
-    ∙ ap (λ (k : ℕ). sameWords (drop k (w ∷ T)) (replicate (32000 - (w + 1)) 0)) s
+    ∙ ap (λ (k : ℕ). sameWords (drop k (w ∷ T)) (replicate (scratchWords - (w + 1)) 0)) s
 
-pub path-words : (ws : List ℕ) (d : ℕ) → d ≡ getD ws 0 0 → d ≤ 33 → 32000 ≤ length ws → sameWords (take scratchWords ws) (wordsOf (pathIn ws)) ≡ zerosFrom ws (d + 1)
+pub path-words : (ws : List ℕ) (d : ℕ) → d ≡ getD ws 0 0 → d ≤ reductionLimit → scratchWords ≤ length ws → sameWords (take scratchWords ws) (wordsOf (pathIn ws)) ≡ zerosFrom ws (d + 1)
 unfolding pathIn
 path-words [] d e h long = absurd (omega arith)
 path-words (w ∷ ws) d e h long = words-same w ws (omega arith) (omega arith) ∙ ap (λ (k : ℕ). zerosFrom (w ∷ ws) (k + 1)) (sym e)
@@ -352,7 +354,7 @@ last-false true false c h = refl
 last-false false b c h = refl
 
 -- `holds_trial`
-module _ {g ix : List ℕ} {production index : ℕ} (A : Started g ix production index) (ws : List ℕ) (long : 32000 ≤ length ws) (d : ℕ) (ed : d ≡ getD ws 0 0) where
+module _ {g ix : List ℕ} {production index : ℕ} (A : Started g ix production index) (ws : List ℕ) (long : scratchWords ≤ length ws) (d : ℕ) (ed : d ≡ getD ws 0 0) where
   abbrev start : Node
   start = atItem (record { production = production; index = index })
 
@@ -374,10 +376,10 @@ module _ {g ix : List ℕ} {production index : ℕ} (A : Started g ix production
   passing : trialFrom? (ends g) [] start (take d (drop 1 ws)) ≡ true → TrialFrom (ends g) [] start (take d (drop 1 ws))
   passing t = passes-trial (ends g) (take d (drop 1 ws)) [] start t
 
-  few : trialFrom? (ends g) [] start (take d (drop 1 ws)) ≡ true → length (take d (drop 1 ws)) ≤ 33
+  few : trialFrom? (ends g) [] start (take d (drop 1 ws)) ≡ true → length (take d (drop 1 ws)) ≤ reductionLimit
   few t = short-trial (ends g) start (take d (drop 1 ws)) (complete (ends g) (small-ground (A .ground)) start (take d (drop 1 ws)) (passing t))
 
-  pub holds-long : 33 < d → false ≡ holdsTrial (ends g) start ws
+  pub holds-long : reductionLimit < d → false ≡ holdsTrial (ends g) start ws
   holds-long h = holds-no-trial (go (trialFrom? (ends g) [] start (take d (drop 1 ws))) refl)
     where
       go : (b : Bool) → trialFrom? (ends g) [] start (take d (drop 1 ws)) ≡ b → trialFrom? (ends g) [] start (take d (drop 1 ws)) ≡ false
@@ -388,7 +390,7 @@ module _ {g ix : List ℕ} {production index : ℕ} (A : Started g ix production
           let m = length-drop 1 ws in
           absurd (omega arith)
 
-  module _ (short : d ≤ 33) (r : Bool) (er : r ≡ zerosFrom ws (d + 1)) where
+  module _ (short : d ≤ reductionLimit) (r : Bool) (er : r ≡ zerosFrom ws (d + 1)) where
     words-are : sameWords (take scratchWords ws) (wordsOf (pathIn ws)) ≡ r
     words-are = path-words ws d ed short long ∙ sym er
 

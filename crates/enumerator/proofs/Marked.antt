@@ -7,19 +7,21 @@ use mathlib.Core.Bool.{true}
 use mathlib.Core.List.{List, [], _∷_, _++_, map, List·Memᴰ, List·Memᴰ·eq-of-singleton}
 use mathlib.Core.Option.{none, some}
 use lib.ListN.{length, replicate, length-replicate}
+use Rattle.repr.specs.Sizes.{graphRoom, scratchWords, exampleRoom}
+use Rattle.slices.specs.Same.{sameWords}
 use Rattle.repr.specs.Lists.{upFrom, below, mem, occurrences, some?, every?, first?, joined}
 use Rattle.repr.specs.Listed.{symbolOfKind, symbolFits}
 use Rattle.repr.specs.Meaning.{Item, sameSymbol}
 use Rattle.lookahead.specs.Tokens.{has, single, union, meet, without}
 use Rattle.core.specs.Items.{first, symbolSets}
-use Rattle.first.specs.First.{join, firstOf, first0, grown, round, same, settle, firstSets}
+use Rattle.first.specs.First.{join, firstOf, first0, grown, round, settle, firstSets}
 use Rattle.table.specs.Words.{wordAt, records, stateArea, productionArea, loose, productionRecords, looseRecords, names, against, chainBy, chain}
 use Rattle.table.specs.Decoded.{productionChain, symbolChain, itemChain, edgeChain, symbolAt, itemAt, edgeAt, orZero, ownerOf, productionOf, stateOf, productionsOf, meaning}
 use Rattle.table.specs.Refusals.{row1, row2, isNonterminal, isState, isProduction, asSymbol, asItem, asEdge, row3, row4, row5, row6, row7, used, row8, offends, firstRow, checkOf}
 use Rattle.table.specs.TableB.{tableB}
 use Rattle.table.specs.declared.Checked.the-variants.{Accepted}
 use Rattle.trace_graph.specs.Graph.{Node, atNonterminal, atItem, sameItem, sameNode, TraceEdge, labelOf, sameSymbols, sameCursor, sameSets, sameEdge, isNode}
-use Rattle.trace_graph.specs.Words.{place, nodeWords, edgeWords, graphWords, nodeOf, nodeAt, edgeAt as lentEdge, edgesIn}
+use Rattle.trace_graph.specs.Words.{nodeWords, edgeWords, graphWords, nodeOf, nodeAt, edgeAt as lentEdge, edgesIn}
 use Rattle.trace_graph.specs.Fits.{itemFits, nodeFits, edgeFits, once, graphFits}
 use Rattle.example.specs.Example.{setsOf, prefixes, suffixes, atCursor, middle, symbols, spans, reductions, symbolWords, reductionWords, exampleWords, cursorOf, ahead, meets}
 use Rattle.enumerator.specs.Trials.{Path, trials}
@@ -56,7 +58,7 @@ reduceB =
     ∷ []
 
 abbrev whole : Call
-whole = record { graph = 8193; scratch = 32000; buffer = 1158 }
+whole = record { graph = graphRoom; scratch = scratchWords; buffer = exampleRoom }
 
 abbrev saying : List ℕ → ℕ → Out
 saying ws n = record { answer = example ws; count = n }
@@ -72,7 +74,7 @@ pub marked-listings :
     ≡ (saying (5 ∷ 3 ∷ 2 ∷ 0 ∷ 0 ∷ 1 ∷ 0 ∷ 0 ∷ 0 ∷ 1 ∷ 0 ∷ 0 ∷ 0 ∷ 2 ∷ 5 ∷ 0 ∷ 0 ∷ 5 ∷ 0 ∷ []) 3 ∷ ending 3 ∷ ending 3 ∷ [])
     ∷ (saying (5 ∷ 3 ∷ 2 ∷ 0 ∷ 0 ∷ 1 ∷ 0 ∷ 0 ∷ 0 ∷ 1 ∷ 0 ∷ 0 ∷ 0 ∷ 0 ∷ 3 ∷ 0 ∷ 0 ∷ 5 ∷ 0 ∷ []) 3 ∷ ending 3 ∷ ending 3 ∷ [])
     ∷ []
-unfolding upFrom below mem some? every? first? joined symbolOfKind sameSymbol has single union meet without first symbolSets join firstOf first0 grown round same settle firstSets wordAt records stateArea productionArea loose productionRecords looseRecords names against chainBy chain productionChain symbolChain itemChain edgeChain symbolAt itemAt edgeAt orZero ownerOf productionOf stateOf productionsOf meaning sameItem sameNode setsOf prefixes suffixes atCursor middle symbols spans reductions symbolWords reductionWords exampleWords cursorOf ahead meets trials enough nodeOwner labelAt labelsOf passes hands says search foundOut foundThen plainFind plainOut plainThen plainRun plainLister
+unfolding upFrom below mem some? every? first? joined symbolOfKind sameSymbol has single union meet without first symbolSets join firstOf first0 grown round sameWords settle firstSets wordAt records stateArea productionArea loose productionRecords looseRecords names against chainBy chain productionChain symbolChain itemChain edgeChain symbolAt itemAt edgeAt orZero ownerOf productionOf stateOf productionsOf meaning sameItem sameNode setsOf prefixes suffixes atCursor middle symbols spans reductions symbolWords reductionWords exampleWords cursorOf ahead meets trials enough nodeOwner labelAt labelsOf passes hands says search foundOut foundThen plainFind plainOut plainThen plainRun plainLister
 marked-listings = refl
 
 -- the listings end: of three calls the second says so, after the one path that is an example
@@ -81,7 +83,7 @@ pub marked-ends :
     ∷ ends (pathLister (meaning tableB) reduceB (item 0 3) (some 1) (whole ∷ whole ∷ whole ∷ []))
     ∷ []
     ≡ true ∷ true ∷ []
-unfolding upFrom below mem some? every? first? joined symbolOfKind sameSymbol has single union meet without first symbolSets join firstOf first0 grown round same settle firstSets wordAt records stateArea productionArea loose productionRecords looseRecords names against chainBy chain productionChain symbolChain itemChain edgeChain symbolAt itemAt edgeAt orZero ownerOf productionOf stateOf productionsOf meaning sameItem sameNode setsOf prefixes suffixes atCursor middle symbols spans reductions symbolWords reductionWords exampleWords cursorOf ahead meets trials enough nodeOwner labelAt labelsOf passes hands says search foundOut foundThen plainFind plainOut plainThen plainRun pathLister
+unfolding upFrom below mem some? every? first? joined symbolOfKind sameSymbol has single union meet without first symbolSets join firstOf first0 grown round sameWords settle firstSets wordAt records stateArea productionArea loose productionRecords looseRecords names against chainBy chain productionChain symbolChain itemChain edgeChain symbolAt itemAt edgeAt orZero ownerOf productionOf stateOf productionsOf meaning sameItem sameNode setsOf prefixes suffixes atCursor middle symbols spans reductions symbolWords reductionWords exampleWords cursorOf ahead meets trials enough nodeOwner labelAt labelsOf passes hands says search foundOut foundThen plainFind plainOut plainThen plainRun pathLister
 marked-ends = refl
 
 pub marked-paths :
@@ -89,7 +91,7 @@ pub marked-paths :
     ∷ handed (pathLister (meaning tableB) reduceB (item 0 3) (some 1) (whole ∷ whole ∷ whole ∷ []))
     ∷ []
     ≡ ((0 ∷ 1 ∷ []) ∷ []) ∷ ((0 ∷ 1 ∷ []) ∷ []) ∷ []
-unfolding upFrom below mem some? every? first? joined symbolOfKind sameSymbol has single union meet without first symbolSets join firstOf first0 grown round same settle firstSets wordAt records stateArea productionArea loose productionRecords looseRecords names against chainBy chain productionChain symbolChain itemChain edgeChain symbolAt itemAt edgeAt orZero ownerOf productionOf stateOf productionsOf meaning sameItem sameNode setsOf prefixes suffixes atCursor middle symbols spans reductions symbolWords reductionWords exampleWords cursorOf ahead meets trials enough nodeOwner labelAt labelsOf passes hands says search foundOut foundThen plainFind plainOut plainThen plainRun pathLister
+unfolding upFrom below mem some? every? first? joined symbolOfKind sameSymbol has single union meet without first symbolSets join firstOf first0 grown round sameWords settle firstSets wordAt records stateArea productionArea loose productionRecords looseRecords names against chainBy chain productionChain symbolChain itemChain edgeChain symbolAt itemAt edgeAt orZero ownerOf productionOf stateOf productionsOf meaning sameItem sameNode setsOf prefixes suffixes atCursor middle symbols spans reductions symbolWords reductionWords exampleWords cursorOf ahead meets trials enough nodeOwner labelAt labelsOf passes hands says search foundOut foundThen plainFind plainOut plainThen plainRun pathLister
 marked-paths = refl
 
 -- the two graphs as a caller lends them
@@ -104,11 +106,11 @@ unfolding upFrom below mem occurrences first? some? joined wordAt records stateA
 marked-check = refl
 
 pub marked-asks : asked (meaning tableB) (item 0 1) none shiftWords ∷ asked (meaning tableB) (item 0 3) (some 1) reduceWords ∷ [] ≡ true ∷ true ∷ []
-unfolding upFrom below mem some? every? first? joined symbolOfKind sameSymbol first symbolSets wordAt records stateArea productionArea loose productionRecords looseRecords names against chainBy chain productionChain symbolChain itemChain edgeChain symbolAt itemAt edgeAt orZero ownerOf productionOf stateOf productionsOf meaning sameItem sameNode labelOf sameSymbols sameCursor sameSets sameEdge place nodeWords edgeWords graphWords nodeOf nodeAt lentEdge edgesIn itemFits nodeFits edgeFits once graphFits aheadFits lentGraphFits asked
+unfolding upFrom below mem some? every? first? joined symbolOfKind sameSymbol first symbolSets wordAt records stateArea productionArea loose productionRecords looseRecords names against chainBy chain productionChain symbolChain itemChain edgeChain symbolAt itemAt edgeAt orZero ownerOf productionOf stateOf productionsOf meaning sameItem sameNode labelOf sameSymbols sameCursor sameSets sameEdge nodeWords edgeWords graphWords nodeOf nodeAt lentEdge edgesIn itemFits nodeFits edgeFits once graphFits aheadFits lentGraphFits asked
 marked-asks = refl
 
 pub marked-edges : edgesIn shiftWords ∷ edgesIn reduceWords ∷ [] ≡ shiftB ∷ reduceB ∷ []
-unfolding upFrom below joined place nodeWords edgeWords graphWords nodeOf nodeAt lentEdge edgesIn
+unfolding upFrom below joined nodeWords edgeWords graphWords nodeOf nodeAt lentEdge edgesIn
 marked-edges = refl
 
 marked-nodes : isNode (atItem (item 0 1)) shiftB ∷ isNode (atItem (item 0 3)) reduceB ∷ [] ≡ true ∷ true ∷ []
@@ -116,7 +118,7 @@ unfolding some? sameItem sameNode isNode
 marked-nodes = refl
 
 -- 8,193 words each
-marked-lengths : length shiftWords ∷ length reduceWords ∷ [] ≡ 8193 ∷ 8193 ∷ []
+marked-lengths : length shiftWords ∷ length reduceWords ∷ [] ≡ graphRoom ∷ graphRoom ∷ []
 unfolding joined nodeWords edgeWords graphWords
 marked-lengths = refl
 
@@ -126,7 +128,7 @@ unfolding setOf
 ready-shift =
     let e : edgesIn shiftWords ≡ shiftB = cc marked-edges in
     let n : isNode (atItem (item 0 1)) shiftB ≡ true = cc marked-nodes in
-    let l : length shiftWords ≡ 8193 = cc marked-lengths in
+    let l : length shiftWords ≡ graphRoom = cc marked-lengths in
     record { accepted = marked-check; asks = cc marked-asks; long = omega arith; node = ap (isNode (atItem (item 0 1))) e ∙ n }
 
 pub ready-reduce : Ready tableB (item 0 3) (Set (record { 0 = 1 })) reduceWords
@@ -134,21 +136,21 @@ unfolding setOf
 ready-reduce =
     let e : edgesIn reduceWords ≡ reduceB = cc marked-edges in
     let n : isNode (atItem (item 0 3)) reduceB ≡ true = cc marked-nodes in
-    let l : length reduceWords ≡ 8193 = cc marked-lengths in
+    let l : length reduceWords ≡ graphRoom = cc marked-lengths in
     record { accepted = marked-check; asks = cc marked-asks; long = omega arith; node = ap (isNode (atItem (item 0 3))) e ∙ n }
 
 -- demand 3 on table B: three calls that are lent what 11 asks
 scratchB : List ℕ
-scratchB = replicate 32000 0
+scratchB = replicate scratchWords 0
 
 lentB : Lent
-lentB = record { graph = 8193; scratch = 32000; buffer = replicate 1158 0 }
+lentB = record { graph = graphRoom; scratch = scratchWords; buffer = replicate exampleRoom 0 }
 
 lent-lengths : map (lengths shiftWords scratchB) (lentB ∷ lentB ∷ lentB ∷ []) ≡ whole ∷ whole ∷ whole ∷ []
 unfolding lengths scratchB lentB
 lent-lengths =
-    let l : length shiftWords ≡ 8193 = cc marked-lengths in
-    rw (l, length-replicate {A = ℕ} 32000 0, length-replicate {A = ℕ} 1158 0)
+    let l : length shiftWords ≡ graphRoom = cc marked-lengths in
+    rw (l, length-replicate {A = ℕ} scratchWords 0, length-replicate {A = ℕ} exampleRoom 0)
 
 handed-B : Handed (meaning tableB) shiftB (item 0 1) none (whole ∷ whole ∷ whole ∷ [])
 unfolding setOf

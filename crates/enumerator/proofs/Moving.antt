@@ -6,14 +6,17 @@ use mathlib.Core.Bool.{Bool, true, false}
 use mathlib.Core.List.{List, _∷_, _++_}
 use mathlib.Core.Option.{Option}
 use lib.ListN.{length, take, drop, take-append-drop}
+use Rattle.repr.specs.Sizes.{scratchWords, trialLimit}
+use Rattle.slices.proofs.Lent.{length-inFront, length-zeroed}
+use Rattle.slices.specs.Lent.{inFront, zeroed}
 use Rattle.repr.specs.Meaning.{Item, Table}
 use Rattle.table.specs.Decoded.{meaning}
 use Rattle.trace_graph.specs.Graph.{atItem, TraceEdge}
 use Rattle.trace_graph.specs.Words.{edgesIn}
 use Rattle.enumerator.specs.Trials.{Path, endsOf, isExample}
 use Rattle.enumerator.specs.Words.{wordsOf}
-use Rattle.enumerator.specs.Lister.{enough, hands, passes, trialLimit, Found, hit, out, over, search, Out, Plain, foundOut, foundThen, plainFind, plainOut, plainThen}
-use Rattle.enumerator.specs.Advance.{outcome, setOf, moved, inFront, zeroed, foundOutcome}
+use Rattle.enumerator.specs.Lister.{enough, hands, passes, Found, hit, out, over, search, Out, Plain, foundOut, foundThen, plainFind, plainOut, plainThen}
+use Rattle.enumerator.specs.Advance.{outcome, setOf, moved, foundOutcome}
 use Rattle.enumerator.specs.Calls.{Lent, called, lengths, leftOf}
 use Rattle.enumerator.specs.Opening.{listing, Ready}
 use Rattle.enumerator.specs.Behind.{trialsIn, Fit}
@@ -25,7 +28,7 @@ use Rattle.enumerator.proofs.Short.{short-trial}
 use Rattle.enumerator.proofs.After.{drop-in}
 use Rattle.enumerator.proofs.WordsOf.{words-long}
 use Rattle.enumerator.proofs.Search.{Finds, finds}
-use Rattle.enumerator.proofs.Scratch.{front-kept, zeros-kept, length-inFront, length-zeroed, length-back}
+use Rattle.enumerator.proofs.Scratch.{front-kept, zeros-kept, length-back}
 use Rattle.enumerator.proofs.Calling.{handsIn, saysIn, fit-count, fit-rest, lent-parts, call-short, call-ended, call-open}
 
 -- an example that the search finds is one of the trials, of its number
@@ -45,7 +48,7 @@ pub record Moves (t : List ℕ) (i : Item) (ahead : Lookahead) (g ws₀ : List �
 
 module _ (t : List ℕ) (i : Item) (ahead : Lookahead) (g : List ℕ) (R : Ready t i ahead g) (ws₀ : List ℕ) (k : Lent) (c : ℕ) (ws : List ℕ) (len : length ws ≡ length ws₀) where
   -- after what a search found
-  found : 32000 ≤ length (take (k .scratch) ws) → drop 32000 ws ≡ drop 32000 ws₀ → (F : Found) → Finds (handsIn t ahead g) (trialsIn i g) (trialLimit - c) c F
+  found : scratchWords ≤ length (take (k .scratch) ws) → drop scratchWords ws ≡ drop scratchWords ws₀ → (F : Found) → Finds (handsIn t ahead g) (trialsIn i g) (trialLimit - c) c F
       → called t g (listing i ahead c true) ws k ≡ foundOutcome (meaning t) (edgesIn g) (listing i ahead c true) (take (k .scratch) ws) (k .buffer) F
       → Moves t i ahead g ws₀ k c true ws (foundOut (saysIn t g) F) (foundThen F)
   unfolding Fit Finds foundOutcome foundOut foundThen leftOf moved
@@ -65,20 +68,20 @@ module _ (t : List ℕ) (i : Item) (ahead : Lookahead) (g : List ℕ) (R : Ready
       }
   found h r (out n) f e = record {
     answer = End;
-    scratch = zeroed (take (k .scratch) ws);
+    scratch = zeroed scratchWords (take (k .scratch) ws);
     buffer = k .buffer;
     outcomes = e;
     fit = zeros-kept (k .scratch) ws ws₀ h r;
-    long = length-back (k .scratch) (zeroed (take (k .scratch) ws)) ws (length-zeroed (take (k .scratch) ws) h) ∙ len;
+    long = length-back (k .scratch) (zeroed scratchWords (take (k .scratch) ws)) ws (length-zeroed scratchWords (take (k .scratch) ws) h) ∙ len;
     left = refl;
   }
   found h r over f e = record {
     answer = Refused 13 0;
-    scratch = zeroed (take (k .scratch) ws);
+    scratch = zeroed scratchWords (take (k .scratch) ws);
     buffer = k .buffer;
     outcomes = e;
     fit = zeros-kept (k .scratch) ws ws₀ h r;
-    long = length-back (k .scratch) (zeroed (take (k .scratch) ws)) ws (length-zeroed (take (k .scratch) ws) h) ∙ len;
+    long = length-back (k .scratch) (zeroed scratchWords (take (k .scratch) ws)) ws (length-zeroed scratchWords (take (k .scratch) ws) h) ∙ len;
     left = refl;
   }
 

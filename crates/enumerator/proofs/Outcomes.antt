@@ -4,11 +4,12 @@ use mathlib.Core.Path.{_≡_, refl, sym}
 use mathlib.Core.Bool.{Bool, true, false, true≢false}
 use mathlib.Core.List.{List}
 use lib.ListN.{length}
+use Rattle.repr.specs.Sizes.{trialLimit}
 use Rattle.repr.specs.Meaning.{Table}
 use Rattle.trace_graph.specs.Graph.{atItem, isNode}
 use Rattle.trace_graph.specs.Words.{edgesIn}
 use Rattle.enumerator.specs.Trials.{endsOf, trials}
-use Rattle.enumerator.specs.Lister.{enough, hands, trialLimit, search}
+use Rattle.enumerator.specs.Lister.{enough, hands, search}
 use Rattle.enumerator.specs.Advance.{outcome, setOf, startOf, asked, foundOutcome, restOf, lost, advanceIn}
 use Rattle.enumerator.specs.declared.Listing.{Listing}
 use Rattle.enumerator.specs.declared.Advanced.the-variants.{End, Refused}

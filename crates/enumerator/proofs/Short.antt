@@ -5,6 +5,7 @@ use mathlib.Core.Path.{_≡_, refl}
 use mathlib.Core.Bool.{Bool, true, false}
 use mathlib.Core.List.{List, [], _∷_, map, List·Memᴰ}
 use lib.ListN.{length}
+use Rattle.repr.specs.Sizes.{reductionLimit}
 use Rattle.repr.specs.Lists.{mem}
 use Rattle.trace_graph.specs.Graph.{Node, atNonterminal, atItem, sameNode}
 use Rattle.enumerator.specs.Trials.{Path, Ends, AllPaths, level, within, trialsFrom, walkFuel, trials}
@@ -35,9 +36,9 @@ module _ (G : Ends) where
           by false m = rw (within-in n us (λ u w. trialsFrom G f u w) m)
               (all-weak (λ p. length p ≤ f) (λ p. suc (length p) ≤ suc f) (trialsFrom G f (n ∷ us) (atNonterminal n)) (λ p a. omega arith) (ih (n ∷ us) (atNonterminal n)))
 
-  pub at-most-33 : (start : Node) → AllPaths (λ p. length p ≤ 33) (trials G start)
+  pub at-most-33 : (start : Node) → AllPaths (λ p. length p ≤ reductionLimit) (trials G start)
   unfolding trials
   at-most-33 start = short-from walkFuel [] start
 
-  pub short-trial : (start : Node) (p : Path) → List·Memᴰ p (trials G start) → length p ≤ 33
-  short-trial start p m = all-in (λ q. length q ≤ 33) (trials G start) p (at-most-33 start) m
+  pub short-trial : (start : Node) (p : Path) → List·Memᴰ p (trials G start) → length p ≤ reductionLimit
+  short-trial start p m = all-in (λ q. length q ≤ reductionLimit) (trials G start) p (at-most-33 start) m

@@ -5,7 +5,8 @@ use mathlib.Core.Path.{_≡_, refl, sym, ap, _∙_}
 use mathlib.Core.List.{List, [], _∷_, _++_, reverse, append-assoc, reverse-cons, reverse-reverse, reverse-append}
 use lib.ListN.{length, getD, set, take, drop, replicate, length-append, length-reverse}
 use lib.Seq.{set-at, getD-at, take-at, take-suc, drop-append-seam}
-use Rattle.enumerator.specs.Words.{wordsOf, pathIn}
+use Rattle.repr.specs.Sizes.{scratchWords}
+use Rattle.enumerator.specs.Words.{wordsOf, pathIn, pathRoom}
 use Rattle.enumerator.specs.Stacks.{Within, Stacked, stackIn}
 use Rattle.enumerator.proofs.WordsOf.{words-long, path-in-words}
 
@@ -13,78 +14,78 @@ pub words-head : (p rest : List ℕ) → getD (wordsOf p ++ rest) 0 0 ≡ length
 unfolding wordsOf
 words-head p rest = refl
 
-pub words-all : (p rest : List ℕ) → length p ≤ 31999 → 32000 ≤ length (wordsOf p ++ rest)
+pub words-all : (p rest : List ℕ) → length p ≤ pathRoom → scratchWords ≤ length (wordsOf p ++ rest)
 words-all p rest h = omega (arith, words-long p h, length-append (wordsOf p) rest)
 
 -- the words with their first spare zero, and with their last edge
-spare : (p rest : List ℕ) (m : ℕ) → 31999 - length p ≡ suc m → wordsOf p ++ rest ≡ length p ∷ (p ++ 0 ∷ (replicate m 0 ++ rest))
+spare : (p rest : List ℕ) (m : ℕ) → pathRoom - length p ≡ suc m → wordsOf p ++ rest ≡ length p ∷ (p ++ 0 ∷ (replicate m 0 ++ rest))
 unfolding wordsOf
-spare p rest m e = ap (λ (l : List ℕ). length p ∷ l) (append-assoc p (replicate (31999 - length p) 0) rest ∙ ap (λ (k : ℕ). p ++ (replicate k 0 ++ rest)) e)
+spare p rest m e = ap (λ (l : List ℕ). length p ∷ l) (append-assoc p (replicate (pathRoom - length p) 0) rest ∙ ap (λ (k : ℕ). p ++ (replicate k 0 ++ rest)) e)
 
 length-last : (p : List ℕ) (e : ℕ) → length (p ++ e ∷ []) ≡ suc (length p)
 length-last p e = omega (arith, length-append p (e ∷ []))
 
-last : (p rest : List ℕ) (e m : ℕ) → 31999 - length p ≡ suc m → wordsOf (p ++ e ∷ []) ++ rest ≡ suc (length p) ∷ (p ++ e ∷ (replicate m 0 ++ rest))
+last : (p rest : List ℕ) (e m : ℕ) → pathRoom - length p ≡ suc m → wordsOf (p ++ e ∷ []) ++ rest ≡ suc (length p) ∷ (p ++ e ∷ (replicate m 0 ++ rest))
 unfolding wordsOf
 last p rest e m h =
     let l = length-last p e in
-    let k : 31999 - length (p ++ e ∷ []) ≡ m = omega arith in
-    ap (λ (n : ℕ). n ∷ (((p ++ e ∷ []) ++ replicate (31999 - length (p ++ e ∷ [])) 0) ++ rest)) l
-    ∙ ap (λ (l : List ℕ). suc (length p) ∷ l) (append-assoc (p ++ e ∷ []) (replicate (31999 - length (p ++ e ∷ [])) 0) rest
+    let k : pathRoom - length (p ++ e ∷ []) ≡ m = omega arith in
+    ap (λ (n : ℕ). n ∷ (((p ++ e ∷ []) ++ replicate (pathRoom - length (p ++ e ∷ [])) 0) ++ rest)) l
+    ∙ ap (λ (l : List ℕ). suc (length p) ∷ l) (append-assoc (p ++ e ∷ []) (replicate (pathRoom - length (p ++ e ∷ [])) 0) rest
     ∙ ap (λ (n : ℕ). (p ++ e ∷ []) ++ (replicate n 0 ++ rest)) k
     ∙ append-assoc p (e ∷ []) (replicate m 0 ++ rest))
 
-room : (n : ℕ) → n < 31999 → 31999 - n ≡ suc (31998 - n)
+room : (n : ℕ) → n < pathRoom → pathRoom - n ≡ suc (pathRoom - 1 - n)
 room n h = omega arith
 
 -- an edge more
-pub pushed : (ws : List ℕ) (w f : ℕ) → w ≡ getD ws 0 0 → getD ws 0 0 < 31999 → (p rest : List ℕ) → ws ≡ wordsOf p ++ rest
+pub pushed : (ws : List ℕ) (w f : ℕ) → w ≡ getD ws 0 0 → getD ws 0 0 < pathRoom → (p rest : List ℕ) → ws ≡ wordsOf p ++ rest
     → set (set ws (w + 1) f) 0 (w + 1) ≡ wordsOf (p ++ f ∷ []) ++ rest
 pushed ws w f ew h p rest e =
     let n : getD ws 0 0 ≡ length p = ap (λ (l : List ℕ). getD l 0 0) e ∙ words-head p rest in
     let r = room (length p) (omega arith) in
     let q : w + 1 ≡ suc (length p) = omega arith in
-    let X = replicate (31998 - length p) 0 ++ rest in
+    let X = replicate (pathRoom - 1 - length p) 0 ++ rest in
     ap (λ (k : ℕ). set (set ws k f) 0 k) q
-    ∙ ap (λ (l : List ℕ). set (set l (suc (length p)) f) 0 (suc (length p))) (e ∙ spare p rest (31998 - length p) r)
+    ∙ ap (λ (l : List ℕ). set (set l (suc (length p)) f) 0 (suc (length p))) (e ∙ spare p rest (pathRoom - 1 - length p) r)
     ∙ ap (λ (l : List ℕ). suc (length p) ∷ l) (set-at p 0 X f (length p) refl)
-    ∙ sym (last p rest f (31998 - length p) r)
+    ∙ sym (last p rest f (pathRoom - 1 - length p) r)
 
 -- the depth of words with a last edge
 last-deep : (ws : List ℕ) (p : List ℕ) (e : ℕ) (rest : List ℕ) → ws ≡ wordsOf (p ++ e ∷ []) ++ rest → getD ws 0 0 ≡ suc (length p)
 last-deep ws p e rest h = ap (λ (l : List ℕ). getD l 0 0) h ∙ words-head (p ++ e ∷ []) rest ∙ length-last p e
 
 -- another last edge
-pub replaced : (ws : List ℕ) (w f : ℕ) → w ≡ getD ws 0 0 → getD ws 0 0 < 32000 → (p : List ℕ) (e : ℕ) (rest : List ℕ) → ws ≡ wordsOf (p ++ e ∷ []) ++ rest
+pub replaced : (ws : List ℕ) (w f : ℕ) → w ≡ getD ws 0 0 → getD ws 0 0 < scratchWords → (p : List ℕ) (e : ℕ) (rest : List ℕ) → ws ≡ wordsOf (p ++ e ∷ []) ++ rest
     → set ws w f ≡ wordsOf (p ++ f ∷ []) ++ rest
 replaced ws w f ew h p e rest x =
     let n = last-deep ws p e rest x in
     let r = room (length p) (omega arith) in
-    let X = replicate (31998 - length p) 0 ++ rest in
+    let X = replicate (pathRoom - 1 - length p) 0 ++ rest in
     ap (λ (k : ℕ). set ws k f) (ew ∙ n)
-    ∙ ap (λ (l : List ℕ). set l (suc (length p)) f) (x ∙ last p rest e (31998 - length p) r)
+    ∙ ap (λ (l : List ℕ). set l (suc (length p)) f) (x ∙ last p rest e (pathRoom - 1 - length p) r)
     ∙ ap (λ (l : List ℕ). suc (length p) ∷ l) (set-at p e X f (length p) refl)
-    ∙ sym (last p rest f (31998 - length p) r)
+    ∙ sym (last p rest f (pathRoom - 1 - length p) r)
 
 -- one fewer
-pub popped : (ws : List ℕ) (w : ℕ) → w ≡ getD ws 0 0 → getD ws 0 0 < 32000 → (p : List ℕ) (e : ℕ) (rest : List ℕ) → ws ≡ wordsOf (p ++ e ∷ []) ++ rest
+pub popped : (ws : List ℕ) (w : ℕ) → w ≡ getD ws 0 0 → getD ws 0 0 < scratchWords → (p : List ℕ) (e : ℕ) (rest : List ℕ) → ws ≡ wordsOf (p ++ e ∷ []) ++ rest
     → set (set ws w 0) 0 (w - 1) ≡ wordsOf p ++ rest
 popped ws w ew h p e rest x =
     let n = last-deep ws p e rest x in
     let r = room (length p) (omega arith) in
-    let X = replicate (31998 - length p) 0 ++ rest in
+    let X = replicate (pathRoom - 1 - length p) 0 ++ rest in
     let q : w - 1 ≡ length p = omega arith in
     ap (λ (k : ℕ). set (set ws w 0) 0 k) q
     ∙ ap (λ (k : ℕ). set (set ws k 0) 0 (length p)) (ew ∙ n)
-    ∙ ap (λ (l : List ℕ). set (set l (suc (length p)) 0) 0 (length p)) (x ∙ last p rest e (31998 - length p) r)
+    ∙ ap (λ (l : List ℕ). set (set l (suc (length p)) 0) 0 (length p)) (x ∙ last p rest e (pathRoom - 1 - length p) r)
     ∙ ap (λ (l : List ℕ). length p ∷ l) (set-at p e X 0 (length p) refl)
-    ∙ sym (spare p rest (31998 - length p) r)
+    ∙ sym (spare p rest (pathRoom - 1 - length p) r)
 
 -- the last edge's word
-pub last-word : (ws : List ℕ) (p : List ℕ) (e : ℕ) (rest : List ℕ) → length p < 31999 → ws ≡ wordsOf (p ++ e ∷ []) ++ rest → getD ws (suc (length p)) 0 ≡ e
+pub last-word : (ws : List ℕ) (p : List ℕ) (e : ℕ) (rest : List ℕ) → length p < pathRoom → ws ≡ wordsOf (p ++ e ∷ []) ++ rest → getD ws (suc (length p)) 0 ≡ e
 last-word ws p e rest h x =
-    ap (λ (l : List ℕ). getD l (suc (length p)) 0) (x ∙ last p rest e (31998 - length p) (room (length p) h))
-    ∙ getD-at p e (replicate (31998 - length p) 0 ++ rest) 0 (length p) refl
+    ap (λ (l : List ℕ). getD l (suc (length p)) 0) (x ∙ last p rest e (pathRoom - 1 - length p) (room (length p) h))
+    ∙ getD-at p e (replicate (pathRoom - 1 - length p) 0 ++ rest) 0 (length p) refl
 
 -- the words of one path are those of no other
 pub words-once : (p q r s : List ℕ) → wordsOf p ++ r ≡ wordsOf q ++ s → (p ≡ q) × (r ≡ s)
@@ -101,7 +102,7 @@ module _ {k : ℕ} {ws : List ℕ} (S : Stacked k ws) where
   pub stack-depth : getD ws 0 0 ≡ length (S .stack)
   stack-depth = ap (λ (l : List ℕ). getD l 0 0) (S .words) ∙ words-head (reverse (S .stack)) (S .rest) ∙ length-reverse (S .stack)
 
-  pub stack-long : 32000 ≤ length ws
+  pub stack-long : scratchWords ≤ length ws
   stack-long =
       let a = length-reverse (S .stack) in
       let b = words-all (reverse (S .stack)) (S .rest) (omega (arith, S .short)) in
@@ -163,10 +164,10 @@ module _ {k : ℕ} {ws : List ℕ} (S : Stacked k ws) where
         let u = reverse (T .under) in
         let l = length-reverse (T .under) in
         let s = top-short in
-        let X = replicate (31998 - length u) 0 ++ S .rest in
+        let X = replicate (pathRoom - 1 - length u) 0 ++ S .rest in
         let q : d - 1 ≡ length u = omega (arith, top-depth) in
         ap (λ (n : ℕ). reverse (take n (drop 1 ws))) q
-        ∙ ap (λ (x : List ℕ). reverse (take (length u) (drop 1 x))) (top-words ∙ last u (S .rest) (T .edge) (31998 - length u) (room (length u) (omega arith)))
+        ∙ ap (λ (x : List ℕ). reverse (take (length u) (drop 1 x))) (top-words ∙ last u (S .rest) (T .edge) (pathRoom - 1 - length u) (room (length u) (omega arith)))
         ∙ ap reverse (take-at u (T .edge ∷ X) (length u) refl)
         ∙ reverse-reverse (T .under)
 
@@ -194,6 +195,6 @@ stack-more [] d h = absurd (omega arith)
 stack-more (w ∷ ws) d h = ap reverse (take-suc ws d 0 (omega arith)) ∙ reverse-append (take d ws) (getD ws d 0 ∷ [])
 
 -- the words of no edge
-pub cleared : (ws d : List ℕ) (n : ℕ) → n ≡ 32000 → ws ≡ replicate n 0 ++ drop n d → ws ≡ wordsOf [] ++ drop 32000 d
+pub cleared : (ws d : List ℕ) (n : ℕ) → n ≡ scratchWords → ws ≡ replicate n 0 ++ drop n d → ws ≡ wordsOf [] ++ drop scratchWords d
 unfolding wordsOf
 cleared ws d n e w = w ∙ ap (λ (k : ℕ). replicate k 0 ++ drop k d) e

@@ -8,14 +8,15 @@ use mathlib.Core.Option.{Option, none, some}
 use lib.ListN.{length, getD, length-reverse}
 use lib.Dec.{eqb}
 use borrow.Author.Tests.{eqb-false, ne-eqb}
+use Rattle.repr.specs.Sizes.{edgeLimit, edgeRoom, edgePlace, scratchWords, reductionLimit}
 use Rattle.repr.specs.Lists.{mem}
 use Rattle.repr.specs.Meaning.{Item}
 use Rattle.repr.proofs.Lists.{mem-cons-here, mem-no, mem-nil}
 use Rattle.trace_graph.specs.declared.Node.{Node as NodeValue}
 use Rattle.trace_graph.specs.Graph.{Node, atNonterminal, atItem, sameNode}
-use Rattle.trace_graph.specs.Words.{place, nodeOf, nodeAt, edgesIn}
+use Rattle.trace_graph.specs.Words.{nodeOf, nodeAt, edgesIn}
 use Rattle.trace_graph.specs.Fits.{nodeFits}
-use Rattle.trace_graph.specs.Index.{nodeNumber, InRange}
+use Rattle.trace_graph.specs.Index.{nodeNumber, InRange, nodeLimit}
 use Rattle.trace_graph.specs.Values.{nodeIs, nodeRead, edgeRead, nodeValueFits, valueFits, SmallNode}
 use Rattle.trace_graph.proofs.Fits.{Bounds, item-parts, value-range, small-node, source-fits, target-fits}
 use Rattle.trace_graph.proofs.Words.{node-read, fits-read}
@@ -34,7 +35,7 @@ ends g = endsOf (edgesIn g)
 
 -- the graph's words
 
-pub edge-low : (g : List ℕ) → Roomy g → (e : ℕ) → e < getD g 0 0 → (e < 1024) × (e * 8 + 3 < length g)
+pub edge-low : (g : List ℕ) → Roomy g → (e : ℕ) → e < getD g 0 0 → (e < edgeLimit) × (e * edgeRoom + 3 < length g)
 unfolding Roomy
 edge-low g R e h = (omega (arith, R .1), omega (arith, R .0, R .1))
 
@@ -50,8 +51,7 @@ bounds-of B = record {
 }
 
 -- the node that an edge comes from, read
-pub source-value : (g : List ℕ) (e : ℕ) (v : NodeValue) → e < getD g 0 0 → nodeIs v ≡ nodeAt g (e * 8 + 1) → ends g .source e ≡ nodeIs v
-unfolding place
+pub source-value : (g : List ℕ) (e : ℕ) (v : NodeValue) → e < getD g 0 0 → nodeIs v ≡ nodeAt g (edgePlace e) → ends g .source e ≡ nodeIs v
 source-value g e v h q = source-at g e h ∙ sym q
 
 pub value-nonterminal : (v : NodeValue) → v .kind ≡ 0 → nodeIs v ≡ atNonterminal (v .number)
@@ -69,19 +69,19 @@ value-item v ne = go (v .kind) refl
 pub edge-value-fits : {g ix : List ℕ} (B : Ground g ix) (e : ℕ) → e < getD g 0 0 → valueFits (B .nonterminals) (B .productions) (edgeRead g e) ≡ true
 edge-value-fits {g} B e h = fits-read (B .nonterminals) (B .productions) g e ∙ B .graphed .fits e h
 
-pub source-value-fits : {g ix : List ℕ} (B : Ground g ix) {e : ℕ} {v : NodeValue} → e < getD g 0 0 → v ≡ nodeRead g (e * 8 + 1) → nodeValueFits (B .nonterminals) (B .productions) v ≡ true
-unfolding edgeRead place
+pub source-value-fits : {g ix : List ℕ} (B : Ground g ix) {e : ℕ} {v : NodeValue} → e < getD g 0 0 → v ≡ nodeRead g (edgePlace e) → nodeValueFits (B .nonterminals) (B .productions) v ≡ true
+unfolding edgeRead
 source-value-fits {g} B {e} h q =
     ap (nodeValueFits (B .nonterminals) (B .productions)) q ∙ source-fits (B .nonterminals) (B .productions) (edgeRead g e) (edge-value-fits B e h)
 
 pub target-range : {g ix : List ℕ} (B : Ground g ix) (e : ℕ) → e < getD g 0 0 → InRange (B .nonterminals) (B .productions) (ends g .target e)
 unfolding edgeRead
 target-range {g} B e h =
-    let r = value-range (B .nonterminals) (B .productions) (nodeRead g (place e + 3)) (target-fits (B .nonterminals) (B .productions) (edgeRead g e) (edge-value-fits B e h)) in
-    rw (target-at g e h, ← node-read g (place e + 3)) r
+    let r = value-range (B .nonterminals) (B .productions) (nodeRead g (edgePlace e + 3)) (target-fits (B .nonterminals) (B .productions) (edgeRead g e) (edge-value-fits B e h)) in
+    rw (target-at g e h, ← node-read g (edgePlace e + 3)) r
 
 -- `comes_from`
-module _ (g : List ℕ) (e : ℕ) (v : NodeValue) (h : e < getD g 0 0) (q : nodeIs v ≡ nodeAt g (e * 8 + 1)) where
+module _ (g : List ℕ) (e : ℕ) (v : NodeValue) (h : e < getD g 0 0) (q : nodeIs v ≡ nodeAt g (edgePlace e)) where
   pub from-nonterminal : (n : ℕ) → v .kind ≡ 0 → eqb (v .number) n ≡ sameNode (ends g .source e) (atNonterminal n)
   unfolding sameNode
   from-nonterminal n z = sym (ap (λ (x : Node). sameNode x (atNonterminal n)) (source-value g e v h q ∙ value-nonterminal v z))
@@ -199,7 +199,7 @@ module _ {g ws₀ ws : List ℕ} {d : ℕ} (T : Turn g ws₀ ws d) where
       ∙ step-none (back (ends g) (S .stack)) (S .rest) (ap (back (ends g)) m ∙ back-end (ends g))
       ∙ T .same st rest q
 
-  pub back-deep : (d ≡ getD ws 0 0) × ((32000 ≤ length ws) × (getD ws 0 0 ≤ 33))
+  pub back-deep : (d ≡ getD ws 0 0) × ((scratchWords ≤ length ws) × (getD ws 0 0 ≤ reductionLimit))
   back-deep = (T .deep, (stack-long (T .held), omega (arith, stack-depth (T .held), T .held .short)))
 
   module _ (ne : d ≡ 0 → ⊥) {x : ℕ} (ex : x ≡ getD ws d 0) where
@@ -209,11 +209,11 @@ module _ {g ws₀ ws : List ℕ} {d : ℕ} (T : Turn g ws₀ ws d) where
     pub back-edge : x < getD g 0 0
     back-edge = upper-below (T .held) (T .deep) ne ex
 
-    module _ {ix : List ℕ} (B : Ground g ix) {o : ℕ} (eo : o ≡ getD ix (2208 + x) 0) where
+    module _ {ix : List ℕ} (B : Ground g ix) {o : ℕ} (eo : o ≡ getD ix (nodeLimit + x) 0) where
       linked : o ≡ linkOf (below (ends g) (ends g .target x) x)
       linked = eo ∙ older (B .nonterminals) (B .productions) g ix (B .graphed .index) x back-edge (target-range B x back-edge)
 
-      pub back-older : (o ≡ 0 → ⊥) → o - 1 < 1024
+      pub back-older : (o ≡ 0 → ⊥) → o - 1 < edgeLimit
       back-older m =
           let a = below-lt (ends g) (ends g .target x) x (o - 1) (link-some o (below (ends g) (ends g .target x) x) linked m) in
           omega (arith, back-edge, B .graphed .few)
@@ -267,7 +267,7 @@ module _ {g ix : List ℕ} (B : Ground g ix) (v : NodeValue) (fits : nodeValueFi
         f st rest q ∙ ap (λ (o : Option (List ℕ)). stepOf o rest) (sym (seek-none (ends g) (nodeIs v) (ends g .count) st (link-none w last-in first-link z)))
 
     module _ (m : w ≡ 0 → ⊥) where
-      pub seek-edge : w - 1 < 1024
+      pub seek-edge : w - 1 < edgeLimit
       unfolding last-in
       seek-edge = omega (arith, below-lt (ends g) (nodeIs v) (ends g .count) (w - 1) (link-some w last-in first-link m), edges-count g, B .graphed .few)
 
@@ -308,7 +308,7 @@ module _ (g : List ℕ) (production index : ℕ) {ws : List ℕ} (S : Stacked (g
     pub next-edge : x < getD g 0 0
     next-edge = upper-below S ed ne ex
 
-    module _ (v : NodeValue) (q : nodeIs v ≡ nodeAt g (x * 8 + 1)) (r : Bool) (ws′ : List ℕ) where
+    module _ (v : NodeValue) (q : nodeIs v ≡ nodeAt g (edgePlace x)) (r : Bool) (ws′ : List ℕ) where
       pub next-at-item : (v .kind ≡ 0 → ⊥) → Meets (back (ends g)) r ws′ → Meets (next (ends g) start) r ws′
       next-at-item z f st rest w =
           let e = upper-is S ed ne ex st rest w in
@@ -354,7 +354,7 @@ module _ (g : List ℕ) {ws : List ℕ} (S : Stacked (getD g 0 0) ws) {d : ℕ} 
       let e : st ≡ [] = stack-once st (S .stack) rest (S .rest) (sym q ∙ S .words) .0 ∙ empty S d ed z in
       sym (ap (λ (l : List ℕ). isExample (ends g) (reverse l)) e)
 
-  pub example-top : (ne : d ≡ 0 → ⊥) (x : ℕ) → x ≡ getD ws d 0 → (v : NodeValue) → nodeIs v ≡ nodeAt g (x * 8 + 1) → (st rest : List ℕ) → ws ≡ wordsOf (reverse st) ++ rest
+  pub example-top : (ne : d ≡ 0 → ⊥) (x : ℕ) → x ≡ getD ws d 0 → (v : NodeValue) → nodeIs v ≡ nodeAt g (edgePlace x) → (st rest : List ℕ) → ws ≡ wordsOf (reverse st) ++ rest
       → not (eqb (v .kind) 0) ≡ isExample (ends g) (reverse st)
   example-top ne x ex v q st rest w =
       let e = upper-is S ed ne ex st rest w in

@@ -6,10 +6,12 @@ use mathlib.Core.List.{List, [], _∷_}
 use lib.ListN.{take}
 use lib.Dec.{ltb}
 use borrow.Author.Tests.{lt-ltb, ltb-true, not-true}
+use Rattle.repr.specs.Sizes.{scratchWords}
+use Rattle.slices.specs.Same.{sameWords}
 use Rattle.repr.specs.Lists.{mem, some?}
 use Rattle.trace_graph.specs.Graph.{Node, atNonterminal, atItem, sameNode}
 use Rattle.enumerator.specs.Trials.{Path, Ends, TrialFrom, trials, isExample, Small}
-use Rattle.enumerator.specs.Words.{scratchWords, wordsOf, pathIn, sameWords, holdsTrial}
+use Rattle.enumerator.specs.Words.{wordsOf, pathIn, holdsTrial}
 use Rattle.enumerator.specs.Machine.{goesOn, trialFrom?}
 use Rattle.enumerator.proofs.Nodes.{and-left, and-right, same-eq, same-refl}
 use Rattle.enumerator.proofs.Exact.{sound, complete}

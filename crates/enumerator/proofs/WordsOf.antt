@@ -7,23 +7,26 @@ use mathlib.Core.Bool.{true}
 use mathlib.Core.List.{List, [], _++_, append-assoc, append-nil, List·Memᴰ}
 use lib.ListN.{length, take, drop, replicate, length-append, length-replicate, take-append-drop}
 use lib.Seq.{take-at}
+use Rattle.repr.specs.Sizes.{scratchWords}
+use Rattle.slices.proofs.Same.{same-words-eq, eq-same-words}
+use Rattle.slices.specs.Same.{sameWords}
 use Rattle.repr.specs.Lists.{some?}
 use Rattle.trace_graph.specs.Graph.{Node}
 use Rattle.enumerator.specs.Trials.{Path, Ends, IsTrial, trials, isExample, Small}
-use Rattle.enumerator.specs.Words.{scratchWords, wordsOf, pathIn, sameWords, holdsTrial}
+use Rattle.enumerator.specs.Words.{wordsOf, pathIn, holdsTrial, pathRoom}
 use Rattle.enumerator.proofs.Nodes.{and-left, and-right}
 use Rattle.enumerator.proofs.Short.{short-trial}
 use Rattle.enumerator.proofs.Exact.{sound, complete}
-use Rattle.enumerator.proofs.SameWords.{same-words-eq, eq-same-words, found-of-member, member-of-found}
+use Rattle.enumerator.proofs.SameWords.{found-of-member, member-of-found}
 
-pub words-long : (p : Path) → length p ≤ 31999 → length (wordsOf p) ≡ 32000
+pub words-long : (p : Path) → length p ≤ pathRoom → length (wordsOf p) ≡ scratchWords
 unfolding wordsOf
 words-long p h = simp (length-append, length-replicate) (omega arith)
 
 -- the words give the path back, whatever follows them
 pub path-in-words : (p : Path) (rest : List ℕ) → pathIn (wordsOf p ++ rest) ≡ p
 unfolding wordsOf pathIn
-path-in-words p rest = ap (take (length p)) (append-assoc p (replicate (31999 - length p) 0) rest) ∙ take-at p (replicate (31999 - length p) 0 ++ rest) (length p) refl
+path-in-words p rest = ap (take (length p)) (append-assoc p (replicate (pathRoom - length p) 0) rest) ∙ take-at p (replicate (pathRoom - length p) 0 ++ rest) (length p) refl
 
 pub path-in-front : (p : Path) → pathIn (wordsOf p) ≡ p
 path-in-front p = ap pathIn (sym (append-nil (wordsOf p))) ∙ path-in-words p []
@@ -32,8 +35,8 @@ path-in-front p = ap pathIn (sym (append-nil (wordsOf p))) ∙ path-in-words p [
 pub words-differ : (p q : Path) → wordsOf p ≡ wordsOf q → p ≡ q
 words-differ p q e = sym (path-in-front p) ∙ ap pathIn e ∙ path-in-front q
 
-take-words : (p : Path) (rest : List ℕ) → length p ≤ 31999 → take scratchWords (wordsOf p ++ rest) ≡ wordsOf p
-take-words p rest h = take-at (wordsOf p) rest 32000 (words-long p h)
+take-words : (p : Path) (rest : List ℕ) → length p ≤ pathRoom → take scratchWords (wordsOf p ++ rest) ≡ wordsOf p
+take-words p rest h = take-at (wordsOf p) rest scratchWords (words-long p h)
 
 module _ (G : Ends) (start : Node) where
   -- after an example the words hold its trial

@@ -1,10 +1,12 @@
 -- What opening and `advance` answer and leave, part 6 of document 01. Assumes nothing: these are definitions.
-use Prim.Native.Nat.{ℕ, zero, suc, _+_, _-_, _^_}
+use Prim.Native.Nat.{ℕ, zero, suc, _-_, _^_}
 use mathlib.Core.Bool.{Bool, true, false, _&&_, not}
-use mathlib.Core.List.{List, [], _∷_, _++_}
+use mathlib.Core.List.{List, [], _∷_}
 use mathlib.Core.Option.{Option, none, some}
-use lib.ListN.{length, take, drop, replicate}
+use lib.ListN.{length, take}
 use lib.Dec.{leb, ltb, eqb}
+use Rattle.repr.specs.Sizes.{graphRoom, scratchWords, trialLimit}
+use Rattle.slices.specs.Lent.{inFront, zeroed}
 use Rattle.repr.specs.Meaning.{Item, Table}
 use Rattle.table.specs.Decoded.{meaning}
 use Rattle.table.specs.Refusals.{checkOf}
@@ -15,8 +17,8 @@ use Rattle.trace_graph.specs.Graph.{Node, atItem, TraceEdge, isNode}
 use Rattle.trace_graph.specs.Words.{edgesIn}
 use Rattle.trace_graph.specs.Fits.{itemFits, graphFits}
 use Rattle.enumerator.specs.Trials.{Path, endsOf, trials}
-use Rattle.enumerator.specs.Lister.{Call, enough, hands, says, trialLimit, Found, hit, out, over, search}
-use Rattle.enumerator.specs.Words.{scratchWords, wordsOf, pathIn, holdsTrial, after}
+use Rattle.enumerator.specs.Lister.{Call, enough, hands, says, Found, hit, out, over, search}
+use Rattle.enumerator.specs.Words.{wordsOf, pathIn, holdsTrial, after}
 use Rattle.enumerator.specs.declared.Lookahead.{Lookahead}
 use Rattle.enumerator.specs.declared.Lookahead.the-variants.{Any, Set}
 use Rattle.enumerator.specs.declared.Listing.{Listing}
@@ -42,7 +44,7 @@ aheadFits T none = true
 aheadFits T (some s) = ltb s (2 ^ suc (T .terminals))
 
 unfoldable pub lentGraphFits : Table → List ℕ → Bool
-lentGraphFits T g = elim (leb 8193 (length g)) [ true ↦ graphFits (length (T .nonterminals)) (T .productions) g | false ↦ true ]
+lentGraphFits T g = elim (leb graphRoom (length g)) [ true ↦ graphFits (length (T .nonterminals)) (T .productions) g | false ↦ true ]
 
 unfoldable pub asked : Table → Item → Option ℕ → List ℕ → Bool
 asked T i ahead g = itemFits (T .productions) (i .production) (i .index) && (aheadFits T ahead && lentGraphFits T g)
@@ -51,17 +53,10 @@ asked T i ahead g = itemFits (T .productions) (i .production) (i .index) && (ahe
 unfoldable pub moved : Listing → ℕ → Bool → Listing
 moved l n o = record { production = l .production; index = l .index; lookahead = l .lookahead; count = n; «is_open» = o }
 
--- the first n words of a list are those of another
-unfoldable pub inFront : List ℕ → List ℕ → List ℕ
-inFront new old = new ++ drop (length new) old
-
-unfoldable pub zeroed : List ℕ → List ℕ
-zeroed scratch = replicate scratchWords 0 ++ drop scratchWords scratch
-
 unfoldable pub foundOutcome : Table → List TraceEdge → Listing → List ℕ → List ℕ → Found → Outcome
 foundOutcome T es l scratch buffer (hit n p) = outcome Example (moved l n true) (inFront (wordsOf p) scratch) (inFront (says T es p) buffer)
-foundOutcome T es l scratch buffer (out n) = outcome End (moved l n false) (zeroed scratch) buffer
-foundOutcome T es l scratch buffer over = outcome (Refused 13 0) (moved l trialLimit false) (zeroed scratch) buffer
+foundOutcome T es l scratch buffer (out n) = outcome End (moved l n false) (zeroed scratchWords scratch) buffer
+foundOutcome T es l scratch buffer over = outcome (Refused 13 0) (moved l trialLimit false) (zeroed scratchWords scratch) buffer
 
 -- where an open listing goes on: at count 0 before all trials, whatever the words hold; else after the words' trial
 unfoldable pub restOf : ℕ → List ℕ → List Path → List Path
@@ -104,7 +99,7 @@ advanceOf l t g scratch buffer = advanceBy t l g scratch buffer (checkOf t)
 unfoldable pub openIn : Item → Lookahead → List ℕ → Table → Opened
 openIn i ahead g T = elim (asked T i (setOf ahead) g) [
   | false ↦ NotOpened 9 0
-  | true ↦ elim (leb 8193 (length g)) [
+  | true ↦ elim (leb graphRoom (length g)) [
     | false ↦ NotOpened 11 0
     | true ↦ elim (isNode (atItem i) (edgesIn g)) [
       | false ↦ NotOpened 15 0

@@ -5,12 +5,13 @@ use mathlib.Core.Path.{_≡_}
 use mathlib.Core.Bool.{Bool, true, false}
 use mathlib.Core.List.{List, _∷_}
 use lib.ListN.{length, drop}
+use Rattle.repr.specs.Sizes.{scratchWords}
+use Rattle.slices.specs.Lent.{inFront, zeroed}
 use Rattle.repr.specs.Meaning.{Item}
 use Rattle.trace_graph.specs.Graph.{atItem}
 use Rattle.trace_graph.specs.Words.{edgesIn}
 use Rattle.enumerator.specs.Trials.{Path, endsOf, trials, isExample}
 use Rattle.enumerator.specs.Words.{wordsOf}
-use Rattle.enumerator.specs.Advance.{inFront, zeroed}
 use Rattle.enumerator.specs.Opening.{listing}
 use Rattle.enumerator.specs.declared.Lookahead.{Lookahead}
 use Rattle.enumerator.specs.declared.Listing.{Listing}
@@ -22,7 +23,7 @@ trialsIn i g = trials (endsOf (edgesIn g)) (atItem i)
 -- the scratch ws of a listing by its count and whether it is open, ws₀ before any call: fresh, as it was; after an example the words of the trial with the
 -- count's number; after the end or 13 zeros; and behind the first 32,000 words as it was
 unfoldable pub Fit : Item → List ℕ → List ℕ → ℕ → Bool → List ℕ → Type 0
-Fit i g ws₀ c false ws = ws ≡ zeroed ws₀
+Fit i g ws₀ c false ws = ws ≡ zeroed scratchWords ws₀
 Fit i g ws₀ zero true ws = ws ≡ ws₀
 Fit i g ws₀ (suc m) true ws =
     (p : Path) × (drop m (trialsIn i g) ≡ p ∷ drop (suc m) (trialsIn i g)) × (isExample (endsOf (edgesIn g)) p ≡ true) × (ws ≡ inFront (wordsOf p) ws₀)

@@ -2,8 +2,9 @@
 use Prim.Native.Nat.{ℕ, min}
 use mathlib.Core.List.{List, [], _∷_, _++_, map}
 use lib.ListN.{length, take, drop}
+use Rattle.slices.specs.Lent.{inFront}
 use Rattle.enumerator.specs.Lister.{Call, Answer, example, end, refused, Out}
-use Rattle.enumerator.specs.Advance.{Outcome, outcome, advanceOf, inFront}
+use Rattle.enumerator.specs.Advance.{Outcome, outcome, advanceOf}
 use Rattle.enumerator.specs.declared.Listing.{Listing}
 use Rattle.enumerator.specs.declared.Advanced.{Advanced}
 use Rattle.enumerator.specs.declared.Advanced.the-variants.{Example, End, Refused}

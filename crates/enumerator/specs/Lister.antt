@@ -5,6 +5,7 @@ use mathlib.Core.List.{List, [], _∷_, map}
 use mathlib.Core.Option.{Option, none, some}
 use lib.ListN.{getD, drop, length}
 use lib.Dec.{leb}
+use Rattle.repr.specs.Sizes.{graphRoom, scratchWords, trialLimit, exampleRoom}
 use Rattle.repr.specs.Meaning.{Item, Table, Production, noProduction}
 use Rattle.first.specs.First.{firstSets}
 use Rattle.trace_graph.specs.Graph.{Node, atNonterminal, atItem, TraceEdge}
@@ -18,10 +19,7 @@ pub record Call : Type 0 where
   pub buffer : ℕ
 
 unfoldable pub enough : Call → Bool
-enough c = leb 8193 (c .graph) && (leb 32000 (c .scratch) && leb 1158 (c .buffer))
-
-abbrev pub trialLimit : ℕ
-trialLimit = 100000
+enough c = leb graphRoom (c .graph) && (leb scratchWords (c .scratch) && leb exampleRoom (c .buffer))
 
 -- the nonterminal of a node
 unfoldable pub nodeOwner : List Production → Node → ℕ

@@ -4,6 +4,7 @@ use mathlib.Core.Path.{_≡_}
 use mathlib.Core.Bool.{Bool, true}
 use mathlib.Core.List.{List}
 use lib.ListN.{length}
+use Rattle.repr.specs.Sizes.{graphRoom}
 use Rattle.repr.specs.Meaning.{Item}
 use Rattle.table.specs.Decoded.{meaning}
 use Rattle.table.specs.Refusals.{checkOf}
@@ -22,5 +23,5 @@ listing i ahead c o = record { production = i .production; index = i .index; loo
 pub record Ready (t : List ℕ) (i : Item) (ahead : Lookahead) (g : List ℕ) : Type 0 where
   pub accepted : checkOf t ≡ Accepted
   pub asks : asked (meaning t) i (setOf ahead) g ≡ true
-  pub long : 8193 ≤ length g
+  pub long : graphRoom ≤ length g
   pub node : isNode (atItem i) (edgesIn g) ≡ true

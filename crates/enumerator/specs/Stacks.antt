@@ -6,6 +6,7 @@ use mathlib.Core.Bool.{Bool, true, false}
 use mathlib.Core.List.{List, [], _∷_, _++_, reverse}
 use mathlib.Core.Option.{Option, none, some}
 use lib.ListN.{length, getD, take, drop}
+use Rattle.repr.specs.Sizes.{edgeLimit, graphRoom, reductionLimit}
 use Rattle.repr.specs.Meaning.{Production, noProduction}
 use Rattle.trace_graph.specs.Fits.{itemFits}
 use Rattle.trace_graph.specs.Insert.{Graphed}
@@ -26,7 +27,7 @@ pub record Started (g ix : List ℕ) (production index : ℕ) : Type 0 where
 
 -- room for the edges that a count allows
 unfoldable pub Roomy : List ℕ → Type 0
-Roomy g = (8193 ≤ length g) × (getD g 0 0 ≤ 1024)
+Roomy g = (graphRoom ≤ length g) × (getD g 0 0 ≤ edgeLimit)
 
 -- edges below k
 unfoldable pub Within : ℕ → List ℕ → Type 0
@@ -38,7 +39,7 @@ pub record Stacked (k : ℕ) (ws : List ℕ) : Type 0 where
   pub stack : List ℕ
   pub rest : List ℕ
   pub words : ws ≡ wordsOf (reverse stack) ++ rest
-  pub short : length stack ≤ 33
+  pub short : length stack ≤ reductionLimit
   pub edges : Within k stack
 
 -- the stack of the first d edges in the words

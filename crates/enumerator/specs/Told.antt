@@ -7,6 +7,7 @@ use mathlib.Core.List.{List, [], _∷_, _++_, map, List·Memᴰ}
 use mathlib.Core.Option.{Option, none, some}
 use lib.ListN.{length, take, drop}
 use lib.Dec.{eqb}
+use Rattle.repr.specs.Sizes.{trialLimit}
 use Rattle.repr.specs.Lists.{keep}
 use Rattle.repr.specs.Meaning.{Item, Table}
 use Rattle.lookahead.specs.Tokens.{has}
@@ -14,7 +15,7 @@ use Rattle.first.specs.First.{FIRST}
 use Rattle.example.specs.Example.{ahead}
 use Rattle.trace_graph.specs.Graph.{atItem, TraceEdge}
 use Rattle.enumerator.specs.Trials.{Path, endsOf, trials, isExample, IsTrial, Increasing, Enumerates}
-use Rattle.enumerator.specs.Lister.{Call, labelsOf, passes, hands, says, Answer, example, end, refused, Out, fresh, trialLimit, plainRun, plainLister}
+use Rattle.enumerator.specs.Lister.{Call, labelsOf, passes, hands, says, Answer, example, end, refused, Out, fresh, plainRun, plainLister}
 
 -- an example's path in the place of its words
 abbrev pub plainly : Path → List ℕ

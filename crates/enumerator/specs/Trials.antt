@@ -6,6 +6,7 @@ use mathlib.Core.Bool.{Bool, true, false}
 use mathlib.Core.Logic.{_↔_}
 use mathlib.Core.List.{List, [], _∷_, _++_, map, List·Memᴰ}
 use lib.ListN.{getD, length}
+use Rattle.repr.specs.Sizes.{nonterminalLimit}
 use Rattle.repr.specs.Lists.{mem}
 use Rattle.repr.specs.Meaning.{Item}
 use Rattle.trace_graph.specs.Graph.{Node, atNonterminal, atItem, sameNode, TraceEdge}
@@ -49,9 +50,9 @@ abbrev pub within : List ℕ → (List ℕ → Node → List Path) → Node → 
 within used go (atItem i) = []
 within used go (atNonterminal n) = elim (mem n used) [ true ↦ [] | false ↦ go (n ∷ used) (atNonterminal n) ]
 
--- one more than the 32 nonterminals that a walk may enter (`complete` of proofs/Exact: it never cuts)
+-- one more than the nonterminals that a walk may enter (`complete` of proofs/Exact: it never cuts)
 abbrev pub walkFuel : ℕ
-walkFuel = 33
+walkFuel = nonterminalLimit + 1
 
 module _ (G : Ends) where
   -- the trials through the edges into v with numbers below k, the latest first; ch e: the ways on from e

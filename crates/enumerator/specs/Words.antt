@@ -3,26 +3,22 @@ use Prim.Native.Nat.{ℕ, _+_, _-_}
 use mathlib.Core.Bool.{Bool, true, false, _&&_}
 use mathlib.Core.List.{List, [], _∷_, _++_}
 use lib.ListN.{length, getD, take, drop, replicate}
-use lib.Dec.{eqb}
+use Rattle.repr.specs.Sizes.{scratchWords}
+use Rattle.slices.specs.Same.{sameWords}
 use Rattle.repr.specs.Lists.{some?}
 use Rattle.trace_graph.specs.Graph.{Node}
 use Rattle.enumerator.specs.Trials.{Path, Ends, trials, isExample}
 
-abbrev pub scratchWords : ℕ
-scratchWords = 32000
+-- room for a trial's edges behind their number
+abbrev pub pathRoom : ℕ
+pathRoom = scratchWords - 1
 
 -- the number of its edges, the edges from the start item on, zeros
 unfoldable pub wordsOf : Path → List ℕ
-wordsOf p = length p ∷ (p ++ replicate (31999 - length p) 0)
+wordsOf p = length p ∷ (p ++ replicate (pathRoom - length p) 0)
 
 unfoldable pub pathIn : List ℕ → Path
 pathIn ws = take (getD ws 0 0) (drop 1 ws)
-
-unfoldable pub sameWords : List ℕ → List ℕ → Bool
-sameWords [] [] = true
-sameWords [] (y ∷ ys) = false
-sameWords (x ∷ xs) [] = false
-sameWords (x ∷ xs) (y ∷ ys) = eqb x y && sameWords xs ys
 
 -- the words hold a trial that is an example
 unfoldable pub holdsTrial : Ends → Node → List ℕ → Bool

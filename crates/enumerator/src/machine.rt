@@ -1,4 +1,5 @@
 // The machine that steps from trial to trial (`find_next_trace` and what it calls), over the words of a trial: the number of its edges, then its edges from the start item on, then zeros.
+use example::Example;
 use repr::word;
 use trace_graph::Node;
 use trace_graph::TraceGraph;
@@ -11,19 +12,21 @@ ghost use mathlib.Core.List.{List, [], _∷_, _++_, reverse};
 ghost use Prim.Native.Nat.{ℕ, _+_, _-_, _≤_, _<_};
 ghost use lib.ListN.{length, getD, take, drop, replicate};
 ghost use lib.Dec.{ltb};
+ghost use Rattle.repr.specs.Sizes.{edgeLimit, scratchWords, reductionLimit};
+ghost use Rattle.slices.specs.Same.{sameWords};
 ghost use Rattle.repr.specs.Lists.{mem};
 ghost use Rattle.trace_graph.specs.Graph.{atNonterminal, atItem, sameNode};
 ghost use Rattle.trace_graph.specs.Words.{edgesIn};
 ghost use Rattle.trace_graph.specs.Values.{nodeIs, nodeValueFits};
 ghost use Rattle.enumerator.specs.Trials.{endsOf, isExample};
-ghost use Rattle.enumerator.specs.Words.{wordsOf, sameWords, holdsTrial};
+ghost use Rattle.enumerator.specs.Words.{wordsOf, holdsTrial, pathRoom};
 ghost use Rattle.enumerator.specs.Machine.{onWalk, back, seek, next, usedOf, trialFrom?};
 ghost use Rattle.enumerator.specs.Stacks.{Ground, Started, Roomy, Within, Stacked, stackIn, Stepped, stepped, stepOf};
 ghost use Rattle.enumerator.specs.Counts.{Counted, WalkCounted, EdgesCounted};
 
 // One edge more.
 pub fn push(words: &mut [u16], edge: usize)
-    requires { ⌜ (32000 ≤ length (now words)) × ((getD (now words) 0 0 < 31999) × (edge < 1024)) ⌝ }
+    requires { ⌜ (scratchWords ≤ length (now words)) × ((getD (now words) 0 0 < pathRoom) × (edge < edgeLimit)) ⌝ }
     ensures { λ _. ⌜ ((p rest : List ℕ) → now (words .entry) ≡ wordsOf p ++ rest → now (words .exit) ≡ wordsOf (p ++ edge ∷ []) ++ rest) ⌝ }
 {
     let depth = word(words, 0) + 1;
@@ -33,7 +36,7 @@ pub fn push(words: &mut [u16], edge: usize)
 
 // Another last edge.
 pub fn replace(words: &mut [u16], edge: usize)
-    requires { ⌜ (32000 ≤ length (now words)) × ((getD (now words) 0 0 < 32000) × (edge < 1024)) ⌝ }
+    requires { ⌜ (scratchWords ≤ length (now words)) × ((getD (now words) 0 0 < scratchWords) × (edge < edgeLimit)) ⌝ }
     ensures { λ _. ⌜ ((p : List ℕ) (e : ℕ) (rest : List ℕ) → now (words .entry) ≡ wordsOf (p ++ e ∷ []) ++ rest → now (words .exit) ≡ wordsOf (p ++ edge ∷ []) ++ rest) ⌝ }
 {
     let depth = word(words, 0);
@@ -42,7 +45,7 @@ pub fn replace(words: &mut [u16], edge: usize)
 
 // The last edge taken off; its word becomes 0.
 pub fn pop(words: &mut [u16])
-    requires { ⌜ (32000 ≤ length (now words)) × ((0 < getD (now words) 0 0) × (getD (now words) 0 0 < 32000)) ⌝ }
+    requires { ⌜ (scratchWords ≤ length (now words)) × ((0 < getD (now words) 0 0) × (getD (now words) 0 0 < scratchWords)) ⌝ }
     ensures { λ _. ⌜ ((p : List ℕ) (e : ℕ) (rest : List ℕ) → now (words .entry) ≡ wordsOf (p ++ e ∷ []) ++ rest → now (words .exit) ≡ wordsOf p ++ rest) ⌝ }
 {
     let depth = word(words, 0);
@@ -54,7 +57,7 @@ pub fn pop(words: &mut [u16])
 fn join(graph: &[u16], edge: usize, counts: &mut [u8])
     requires { ⌜ ((ix : List ℕ) × Ground (now graph) ix) ⌝ }
     requires { ⌜ edge < getD (now graph) 0 0 ⌝ }
-    requires { ⌜ ((us : List ℕ) × (length us ≤ 33) × Counted us (now counts)) ⌝ }
+    requires { ⌜ ((us : List ℕ) × (length us ≤ reductionLimit) × Counted us (now counts)) ⌝ }
     ensures { λ _. ⌜ ((us : List ℕ) → Counted us (now (counts .entry)) → Counted (onWalk (endsOf (edgesIn (now (graph .entry))) .source edge) us) (now (counts .exit))) ⌝ }
 {
     let source = read_node(graph, edge * TraceGraph::EDGE_WORDS + 1);
@@ -226,11 +229,11 @@ pub fn is_example(graph: &[u16], words: &[u16]) -> bool
 
 // The words of no edge.
 pub fn clear(words: &mut [u16])
-    requires { ⌜ 32000 ≤ length (now words) ⌝ }
-    ensures { λ _. ⌜ now (words .exit) ≡ wordsOf [] ++ drop 32000 (now (words .entry)) ⌝ }
+    requires { ⌜ scratchWords ≤ length (now words) ⌝ }
+    ensures { λ _. ⌜ now (words .exit) ≡ wordsOf [] ++ drop scratchWords (now (words .entry)) ⌝ }
 {
     let mut at: usize = 0;
-    while at < 32000 {
+    while at < TraceGraph::SCRATCH {
         words[at] = 0;
         at += 1;
     }
@@ -238,12 +241,12 @@ pub fn clear(words: &mut [u16])
 
 // Whether the words from a place on, up to 32,000, are zero. Every advance looks at them, so they are gathered without a way out, which lets many be read at once.
 fn only_zeros(words: &[u16], from: usize) -> bool
-    requires { ⌜ (32000 ≤ length (now words)) × (from ≤ 32000) ⌝ }
-    ensures { λ r. ⌜ r ≡ sameWords (drop from (take 32000 (now (words .entry)))) (replicate (32000 - from) 0) ⌝ }
+    requires { ⌜ (scratchWords ≤ length (now words)) × (from ≤ scratchWords) ⌝ }
+    ensures { λ r. ⌜ r ≡ sameWords (drop from (take scratchWords (now (words .entry)))) (replicate (scratchWords - from) 0) ⌝ }
 {
     let mut all: u16 = 0;
     let mut at = from;
-    while at < 32000 {
+    while at < TraceGraph::SCRATCH {
         all = all | words[at];
         at += 1;
     }
@@ -312,14 +315,14 @@ pub fn holds_trial(
     index: usize,
 ) -> bool
     requires { ⌜ Started (now graph) (now ix) production index ⌝ }
-    requires { ⌜ 32000 ≤ length (now words) ⌝ }
+    requires { ⌜ scratchWords ≤ length (now words) ⌝ }
     ensures { λ r. ⌜ r ≡ holdsTrial (endsOf (edgesIn (now (graph .entry)))) (atItem (record { production = production; index = index })) (now (words .entry)) ⌝ }
 {
     let depth = word(words, 0);
     if depth == 0 {
         return false;
     }
-    if depth > 33 {
+    if depth > Example::REDUCTIONS {
         return false;
     }
     if only_zeros(words, depth + 1) {

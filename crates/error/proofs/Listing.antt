@@ -11,16 +11,16 @@ use lib.ListN.{length, take, drop, take-append-drop, length-append}
 use lib.Seq.{take-all, take-take}
 use lib.Dec.{ltb}
 use borrow.Author.Tests.{lt-ltb, le-ltb}
+use Rattle.repr.specs.Sizes.{edgeLimit, trialLimit, exampleLimit}
 use Rattle.repr.specs.Lists.{keep, every?}
 use Rattle.repr.specs.Meaning.{Item, Table}
 use Rattle.repr.proofs.Lists.{cases, keep-append}
 use Rattle.trace_graph.specs.Graph.{TraceEdge, atItem}
-use Rattle.trace_graph.specs.Words.{edgeLimit}
 use Rattle.enumerator.specs.Trials.{Path, endsOf, trials}
-use Rattle.enumerator.specs.Lister.{Call, enough, hands, says, labelsOf, trialLimit, Out, plainLister}
+use Rattle.enumerator.specs.Lister.{Call, enough, hands, says, labelsOf, Out, plainLister}
 use Rattle.enumerator.specs.Told.{pathLister, spoken, handed, ends, countAfter}
 use Rattle.enumerator.proofs.Handed.{full-run, up-to, said}
-use Rattle.error.specs.Sides.{exampleLimit, gathered, stopped, listingSide}
+use Rattle.error.specs.Sides.{gathered, stopped, listingSide}
 use Rattle.error.specs.Listing.{sideTold}
 
 -- a beginning keeps no more

@@ -5,6 +5,9 @@ use mathlib.Core.Bool.{Bool, true}
 use mathlib.Core.List.{List, [], _∷_, _++_, map}
 use mathlib.Core.Option.{none, some}
 use lib.ListN.{length, replicate}
+use Rattle.repr.specs.Sizes.{graphRoom, scratchWords, exampleRoom}
+use Rattle.slices.specs.Same.{sameWords}
+use Rattle.slices.specs.Lent.{inFront, zeroed}
 use Rattle.repr.specs.Lists.{upFrom, below, mem, occurrences, keep, some?, every?, first?, joined}
 use Rattle.repr.specs.Meaning.{Symbol, nonterminal, terminal, sameSymbol, Item, Table}
 use Rattle.repr.specs.Listed.{symbolOfKind, symbolFits}
@@ -16,10 +19,10 @@ use Rattle.table.specs.Refusals.{row1, row2, isNonterminal as nonterminalRecord
 use Rattle.table.specs.TableB.{tableB}
 use Rattle.table.specs.declared.Checked.{Checked}
 use Rattle.table.specs.declared.Checked.the-variants.{Accepted, Refused as NotAccepted}
-use Rattle.first.specs.First.{join, firstOf, first0, grown, round, same, settle, firstSets, FIRST, nullable}
+use Rattle.first.specs.First.{join, firstOf, first0, grown, round, settle, firstSets, FIRST, nullable}
 use Rattle.state_graph.specs.Walk.{leads, predecessors, walkBack, traceBack}
 use Rattle.trace_graph.specs.Graph.{atItem, sameItem, sameNode, TraceEdge, labelOf, sameSymbols as alike, sameCursor, sameSets, sameEdge, add, isNode}
-use Rattle.trace_graph.specs.Words.{place, nodeWords, edgeWords, graphWords, nodeOf, nodeAt, edgeAt as lentEdge, edgesIn}
+use Rattle.trace_graph.specs.Words.{nodeWords, edgeWords, graphWords, nodeOf, nodeAt, edgeAt as lentEdge, edgesIn}
 use Rattle.trace_graph.specs.Fits.{itemFits, nodeFits, edgeFits, once, graphFits}
 use Rattle.trace.specs.Traced.{untraced, pair, enter, addTo, ownerOf, symbolsOf, canShift, prefixOf, suffixOf, inTurn}
 use Rattle.trace.specs.Shift.{epsilonItem, epsilon, shiftTrace, shiftEdges}
@@ -33,7 +36,7 @@ use Rattle.error.specs.Items.{symbolBefore, symbolsBefore, productionBef
 use Rattle.error.specs.Sides.{listingSide, withMore, examplesIn, shiftSideFrom, shiftSide, reduceItem as itemAtEnd, reduceSide, actionSideOf, bothSides, gather}
 use Rattle.error.specs.Sorted.{inserted, sortedFrom, sortedBy, product, firstPair}
 use Rattle.error.specs.Judge.{withBoth, symbolCount, cursorAt, reductionAt, sameExampleSymbol, sameExampleSymbols, sameReading, sameSymbols, isOperator, shiftAmbiguity, reduceAmbiguity, ambiguityOf, optional, optionalOf, questionOf, suggestQuestion, between, shiftUpcoming, reduceUpcoming, diverge, inlines, inlineOr, questionOr, unambiguous, ambiguousOr, judge, judged}
-use Rattle.error.specs.Outcome.{Outcome, outcome, inFront, zeroed, operandFits, placeFits, conflictFits, shiftsEnd, shown, judgedOutcome, gatheredOutcome, classifyIn, classifyBy, classifyOf}
+use Rattle.error.specs.Outcome.{Outcome, outcome, operandFits, placeFits, conflictFits, shiftsEnd, shown, judgedOutcome, gatheredOutcome, classifyIn, classifyBy, classifyOf}
 use Rattle.error.specs.Observed.{wholeExample, beforeCursor, observedOf}
 
 -- an entry of the list: numbers; tests; a lister's answers; what classifying answers and leaves
@@ -59,7 +62,7 @@ abbrev item : ℕ → ℕ → Item
 item p i = record { production = p; index = i }
 
 abbrev whole : Call
-whole = record { graph = 8193; scratch = 32000; buffer = 1158 }
+whole = record { graph = graphRoom; scratch = scratchWords; buffer = exampleRoom }
 
 abbrev saying : List ℕ → ℕ → Out
 saying ws n = record { answer = example ws; count = n }
@@ -82,7 +85,7 @@ abbrev scratch : List ℕ
 scratch = replicate 32001 7
 
 abbrev buffer : List ℕ
-buffer = replicate 1158 7
+buffer = replicate exampleRoom 7
 
 unfoldable pub classified : Conflict → Entry
 classified c = classifying (classifyOf tableB c scratch buffer buffer)
@@ -113,7 +116,7 @@ asked B =
 
 -- the first 32,000 words of scratch zero
 abbrev leaves : Reading → List ℕ → List ℕ → Entry
-leaves r a b = classifying (outcome r (replicate 32000 0 ++ 7 ∷ []) a b)
+leaves r a b = classifying (outcome r (replicate scratchWords 0 ++ 7 ∷ []) a b)
 
 -- an example of 19 words at the front of its buffer
 abbrev written : List ℕ → List ℕ
@@ -132,5 +135,5 @@ pub marked : asked (meaning tableB) ≡
     ∷ leaves (classed 5 (0 ∷ 9 ∷ 0 ∷ 9 ∷ []) 3 3) (written lineR) buffer
     ∷ numbers (0 ∷ 0 ∷ 1 ∷ 0 ∷ 0 ∷ 0 ∷ [])
     ∷ []
-unfolding checked shiftB reduceB classified asked upFrom below mem occurrences keep some? every? first? joined sameSymbol symbolOfKind symbolFits has single union meet without members first symbolSets isNonterminal shiftsNonterminal wordAt records stateArea productionArea loose productionRecords looseRecords names against chainBy chain productionChain symbolChain itemChain edgeChain symbolAt itemAt edgeAt orZero ownerIn productionOf stateOf productionsOf meaning row1 row2 nonterminalRecord isState isProduction asSymbol asItem asEdge row3 row4 row5 row6 row7 used row8 offends firstRow checkOf join firstOf first0 grown round same settle firstSets FIRST nullable leads predecessors walkBack traceBack sameItem sameNode labelOf alike sameCursor sameSets sameEdge add isNode place nodeWords edgeWords graphWords nodeOf nodeAt lentEdge edgesIn itemFits nodeFits edgeFits once graphFits untraced pair enter addTo ownerOf symbolsOf canShift prefixOf suffixOf inTurn epsilonItem epsilon shiftTrace shiftEdges reduceStateItem reduceItem reduceState reduceTrace reduceEdges setsOf prefixes suffixes atCursor middle symbols spans reductions symbolWords reductionWords exampleWords cursorOf ahead meets trials enough nodeOwner labelAt labelsOf passes hands says search foundOut foundThen plainFind plainOut plainThen plainRun plainLister classNumber classValues symbolBefore symbolsBefore productionBefore placed inOrder productionOrder cursorItems allItems isTerminal shiftsToken shiftItems listingSide withMore examplesIn shiftSideFrom shiftSide itemAtEnd reduceSide actionSideOf bothSides gather inserted sortedFrom sortedBy product firstPair withBoth symbolCount cursorAt reductionAt sameExampleSymbol sameExampleSymbols sameReading sameSymbols isOperator shiftAmbiguity reduceAmbiguity ambiguityOf optional optionalOf questionOf suggestQuestion between shiftUpcoming reduceUpcoming diverge inlines inlineOr questionOr unambiguous ambiguousOr judge judged inFront zeroed operandFits placeFits conflictFits shiftsEnd shown judgedOutcome gatheredOutcome classifyIn classifyBy classifyOf wholeExample beforeCursor observedOf
+unfolding checked shiftB reduceB classified asked upFrom below mem occurrences keep some? every? first? joined sameSymbol symbolOfKind symbolFits has single union meet without members first symbolSets isNonterminal shiftsNonterminal wordAt records stateArea productionArea loose productionRecords looseRecords names against chainBy chain productionChain symbolChain itemChain edgeChain symbolAt itemAt edgeAt orZero ownerIn productionOf stateOf productionsOf meaning row1 row2 nonterminalRecord isState isProduction asSymbol asItem asEdge row3 row4 row5 row6 row7 used row8 offends firstRow checkOf join firstOf first0 grown round sameWords settle firstSets FIRST nullable leads predecessors walkBack traceBack sameItem sameNode labelOf alike sameCursor sameSets sameEdge add isNode nodeWords edgeWords graphWords nodeOf nodeAt lentEdge edgesIn itemFits nodeFits edgeFits once graphFits untraced pair enter addTo ownerOf symbolsOf canShift prefixOf suffixOf inTurn epsilonItem epsilon shiftTrace shiftEdges reduceStateItem reduceItem reduceState reduceTrace reduceEdges setsOf prefixes suffixes atCursor middle symbols spans reductions symbolWords reductionWords exampleWords cursorOf ahead meets trials enough nodeOwner labelAt labelsOf passes hands says search foundOut foundThen plainFind plainOut plainThen plainRun plainLister classNumber classValues symbolBefore symbolsBefore productionBefore placed inOrder productionOrder cursorItems allItems isTerminal shiftsToken shiftItems listingSide withMore examplesIn shiftSideFrom shiftSide itemAtEnd reduceSide actionSideOf bothSides gather inserted sortedFrom sortedBy product firstPair withBoth symbolCount cursorAt reductionAt sameExampleSymbol sameExampleSymbols sameReading sameSymbols isOperator shiftAmbiguity reduceAmbiguity ambiguityOf optional optionalOf questionOf suggestQuestion between shiftUpcoming reduceUpcoming diverge inlines inlineOr questionOr unambiguous ambiguousOr judge judged inFront zeroed operandFits placeFits conflictFits shiftsEnd shown judgedOutcome gatheredOutcome classifyIn classifyBy classifyOf wholeExample beforeCursor observedOf
 marked = refl

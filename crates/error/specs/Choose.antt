@@ -4,6 +4,8 @@ use mathlib.Core.Bool.{Bool, true, false, _&&_, not}
 use mathlib.Core.List.{List, [], _∷_, map}
 use lib.ListN.{length, getD, take, drop}
 use lib.Dec.{eqb, ltb, leb}
+use Rattle.repr.specs.Sizes.{classifyScratch}
+use Rattle.slices.specs.Lent.{zeroed}
 use Rattle.repr.specs.Lists.{keep, below}
 use Rattle.repr.specs.Meaning.{Table}
 use Rattle.table.specs.Decoded.{meaning}
@@ -15,7 +17,7 @@ use Rattle.error.specs.declared.Conflict.{Conflict}
 use Rattle.error.specs.Numbers.{classNumber, classValues}
 use Rattle.error.specs.Sides.{Gathered, sides, halted, gather}
 use Rattle.error.specs.Judge.{Judged, judged}
-use Rattle.error.specs.Outcome.{placeFits, zeroed}
+use Rattle.error.specs.Outcome.{placeFits}
 
 -- a token with its class and the class's own values
 pub record Entry : Type 0 where
@@ -80,9 +82,9 @@ chooseIn c set scratch T = elim (setFits T c set) [
   | false ↦ outcome (refused 9 0) scratch
   | true ↦ elim (setShiftsEnd T c set) [
     | true ↦ outcome (refused 10 0) scratch
-    | false ↦ elim (leb 32000 (length scratch)) [
+    | false ↦ elim (leb classifyScratch (length scratch)) [
       | false ↦ outcome (refused 11 0) scratch
-      | true ↦ outcome (choiceOf (c .action) (classesOf T c (members set))) (zeroed scratch)
+      | true ↦ outcome (choiceOf (c .action) (classesOf T c (members set))) (zeroed classifyScratch scratch)
     ]
   ]
 ]

@@ -1,10 +1,11 @@
 -- The examples of a side as the code keeps them, 34 words each: the number of labels, then one word a label, production * 17 + index, innermost first. The nonterminal is the production's (R6).
 -- Assumes nothing: these are definitions.
-use Prim.Native.Nat.{ℕ, _+_, _*_, _/_, _%_, _≤_, _<_}
+use Prim.Native.Nat.{ℕ, _+_, _/_, _%_, _≤_, _<_}
 use mathlib.Core.Path.{_≡_}
 use mathlib.Core.Bool.{Bool, true}
 use mathlib.Core.List.{List, [], _∷_, map}
 use lib.ListN.{length, getD, take, drop}
+use Rattle.repr.specs.Sizes.{indexLimit, reductionLimit, exampleLimit, keptPlace, sideRoom}
 use Rattle.repr.specs.Lists.{below}
 use Rattle.repr.specs.Meaning.{Production, noProduction, Table}
 use Rattle.repr.specs.Packed.{Packed, productionsIn}
@@ -26,19 +27,19 @@ pub record Read (t g : List ℕ) (productions n terminals : ℕ) (sets : List �
   pub firsts : sets ≡ firstSets (meaning t .terminals) (meaning t .productions)
 
 unfoldable pub keptLabel : List Production → ℕ → Label
-keptLabel ps c = record { nonterminal = getD ps (c / 17) noProduction .nonterminal; production = c / 17; index = c % 17 }
+keptLabel ps c = record { nonterminal = getD ps (c / indexLimit) noProduction .nonterminal; production = c / indexLimit; index = c % indexLimit }
 
 -- example k
 unfoldable pub keptAt : List Production → List ℕ → ℕ → List Label
-keptAt ps ws k = map (keptLabel ps) (take (getD ws (k * 34) 0) (drop (k * 34 + 1) ws))
+keptAt ps ws k = map (keptLabel ps) (take (getD ws (keptPlace k) 0) (drop (keptPlace k + 1) ws))
 
 unfoldable pub kept : List Production → List ℕ → ℕ → List (List Label)
 kept ps ws n = map (keptAt ps ws) (below n)
 
 -- n examples, each of at least one label and at most 33, in range
 pub record Kept (ps : List Production) (ws : List ℕ) (n : ℕ) : Type 0 where
-  pub long : 6528 ≤ length ws
-  pub few : n ≤ 192
-  pub some-label : (k : ℕ) → k < n → 1 ≤ getD ws (k * 34) 0
-  pub few-labels : (k : ℕ) → k < n → getD ws (k * 34) 0 ≤ 33
-  pub fits : (k j : ℕ) → k < n → j < getD ws (k * 34) 0 → itemFits ps (getD ws (k * 34 + 1 + j) 0 / 17) (getD ws (k * 34 + 1 + j) 0 % 17) ≡ true
+  pub long : sideRoom ≤ length ws
+  pub few : n ≤ exampleLimit
+  pub some-label : (k : ℕ) → k < n → 1 ≤ getD ws (keptPlace k) 0
+  pub few-labels : (k : ℕ) → k < n → getD ws (keptPlace k) 0 ≤ reductionLimit
+  pub fits : (k j : ℕ) → k < n → j < getD ws (keptPlace k) 0 → itemFits ps (getD ws (keptPlace k + 1 + j) 0 / indexLimit) (getD ws (keptPlace k + 1 + j) 0 % indexLimit) ≡ true

@@ -4,12 +4,12 @@ use mathlib.Core.Bool.{true, false}
 use mathlib.Core.List.{List, map}
 use lib.ListN.{length}
 use lib.Dec.{ltb}
+use Rattle.repr.specs.Sizes.{edgeLimit, exampleLimit}
 use Rattle.repr.specs.Meaning.{Table}
 use Rattle.trace_graph.specs.Graph.{TraceEdge}
-use Rattle.trace_graph.specs.Words.{edgeLimit}
 use Rattle.enumerator.specs.Lister.{labelsOf, Out}
 use Rattle.enumerator.specs.Told.{handed, ends, countAfter}
-use Rattle.error.specs.Sides.{exampleLimit, Side, gathered, stopped}
+use Rattle.error.specs.Sides.{Side, gathered, stopped}
 
 -- os: what the plain lister answers, with the paths in the place of their words; k examples are on the side already. Example 193 is 14; a listing that has not ended is 13;
 -- else the labels of the paths handed out, and the count at the end

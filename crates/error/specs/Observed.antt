@@ -1,13 +1,14 @@
 -- The observed symbols (`report_error_not_lr1_core`), part 10 of document 01. Assumes nothing: these are definitions.
-use Prim.Native.Nat.{ℕ, _+_, _*_}
+use Prim.Native.Nat.{ℕ, _*_}
 use mathlib.Core.Bool.{Bool, true, false, _&&_}
 use mathlib.Core.List.{List, []}
 use lib.ListN.{length, getD, take, drop}
 use lib.Dec.{leb}
+use Rattle.repr.specs.Sizes.{reductionPlace}
 
 -- an example in words that is whole: its three counts, its symbols and its reductions, and a cursor within the symbols
 unfoldable pub wholeExample : List ℕ → Bool
-wholeExample b = leb 3 (length b) && (leb (3 + 2 * getD b 0 0 + 3 * getD b 2 0) (length b) && leb (getD b 1 0) (getD b 0 0))
+wholeExample b = leb 3 (length b) && (leb (reductionPlace (getD b 0 0) (getD b 2 0)) (length b) && leb (getD b 1 0) (getD b 0 0))
 
 -- the words of the symbols before the cursor
 unfoldable pub beforeCursor : List ℕ → List ℕ

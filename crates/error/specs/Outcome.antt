@@ -1,10 +1,12 @@
 -- What `classify` answers and leaves: answer, scratch words, words of the two example buffers. Assumes nothing: these are definitions.
 use Prim.Native.Nat.{ℕ, zero, suc}
 use mathlib.Core.Bool.{Bool, true, false, _&&_}
-use mathlib.Core.List.{List, [], _∷_, _++_}
+use mathlib.Core.List.{List, [], _∷_}
 use mathlib.Core.Option.{Option, none, some}
-use lib.ListN.{length, drop, replicate}
+use lib.ListN.{length}
 use lib.Dec.{eqb, ltb, leb}
+use Rattle.repr.specs.Sizes.{classifyScratch, exampleRoom}
+use Rattle.slices.specs.Lent.{inFront, zeroed}
 use Rattle.repr.specs.Meaning.{Production, Table}
 use Rattle.table.specs.Decoded.{meaning}
 use Rattle.table.specs.Refusals.{checkOf}
@@ -18,13 +20,6 @@ use Rattle.error.specs.Judge.{Example, Judged, judged}
 
 pub data Outcome : Type 0 where
   outcome : Reading → List ℕ → List ℕ → List ℕ → Outcome
-
-unfoldable pub inFront : List ℕ → List ℕ → List ℕ
-inFront new old = new ++ drop (length new) old
-
--- the first 32,000 words of scratch zero
-unfoldable pub zeroed : List ℕ → List ℕ
-zeroed scratch = replicate 32000 0 ++ drop 32000 scratch
 
 -- the action's terminal or production in range; the terminal of a shift too, though only precedence reads it
 unfoldable pub operandFits : Table → ℕ → ℕ → Bool
@@ -50,11 +45,11 @@ shown ps (some ls) buffer = inFront (exampleWords ps ls) buffer
 
 unfoldable pub judgedOutcome : List Production → ℕ → ℕ → List ℕ → List ℕ → List ℕ → Judged → Outcome
 judgedOutcome ps m n scratch action reduce j =
-    outcome (classed (classNumber (j .class)) (classValues (j .class)) m n) (zeroed scratch) (shown ps (j .action) action) (shown ps (j .reduce) reduce)
+    outcome (classed (classNumber (j .class)) (classValues (j .class)) m n) (zeroed classifyScratch scratch) (shown ps (j .action) action) (shown ps (j .reduce) reduce)
 
 -- judge what was gathered; 12 to 14 zero the scratch and change nothing else
 unfoldable pub gatheredOutcome : Table → Conflict → List ℕ → List ℕ → List ℕ → Gathered → Outcome
-gatheredOutcome T c scratch action reduce (halted n) = outcome (refused n 0) (zeroed scratch) action reduce
+gatheredOutcome T c scratch action reduce (halted n) = outcome (refused n 0) (zeroed classifyScratch scratch) action reduce
 gatheredOutcome T c scratch action reduce (sides as′ m rs n) = judgedOutcome (T .productions) m n scratch action reduce (judged T c as′ rs)
 
 -- refusals 9 to 11 change nothing
@@ -63,7 +58,7 @@ classifyIn c scratch action reduce T = elim (conflictFits T c) [
   | false ↦ outcome (refused 9 0) scratch action reduce
   | true ↦ elim (shiftsEnd T c) [
     | true ↦ outcome (refused 10 0) scratch action reduce
-    | false ↦ elim (leb 32000 (length scratch) && (leb 1158 (length action) && leb 1158 (length reduce))) [
+    | false ↦ elim (leb classifyScratch (length scratch) && (leb exampleRoom (length action) && leb exampleRoom (length reduce))) [
       | false ↦ outcome (refused 11 0) scratch action reduce
       | true ↦ gatheredOutcome T c scratch action reduce (gather T c)
     ]

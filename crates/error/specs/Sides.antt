@@ -6,22 +6,18 @@ use mathlib.Core.List.{List, [], _∷_, _++_, map}
 use mathlib.Core.Option.{Option, none, some}
 use lib.ListN.{length, getD, take}
 use lib.Dec.{ltb}
+use Rattle.repr.specs.Sizes.{edgeLimit, trialLimit, exampleLimit}
 use Rattle.repr.specs.Lists.{keep}
 use Rattle.repr.specs.Meaning.{Production, noProduction, Item, Table}
 use Rattle.lookahead.specs.Tokens.{single}
 use Rattle.trace_graph.specs.Graph.{TraceEdge, atItem}
-use Rattle.trace_graph.specs.Words.{edgeLimit}
 use Rattle.trace.specs.Shift.{shiftEdges}
 use Rattle.trace.specs.Reduce.{reduceEdges}
 use Rattle.example.specs.Example.{Label}
 use Rattle.enumerator.specs.Trials.{Path, endsOf, trials}
-use Rattle.enumerator.specs.Lister.{hands, labelsOf, trialLimit}
+use Rattle.enumerator.specs.Lister.{hands, labelsOf}
 use Rattle.error.specs.declared.Conflict.{Conflict}
 use Rattle.error.specs.Items.{shiftItems}
-
--- examples of one side; an example is its labels, innermost first
-abbrev pub exampleLimit : ℕ
-exampleLimit = 192
 
 -- the examples and the number of trials; or the refusal, 12 to 14
 pub data Side : Type 0 where

@@ -1,4 +1,7 @@
 // Conflicts and what is said of them (`ConflictClassification` of lr1/error/mod.rs), in numbers.
+use example::Example;
+use lookahead::TokenSet;
+use trace_graph::TraceGraph;
 
 // A conflict as document 01 has it, five words: the action is 0 for a shift, its operand a terminal, or 1 for a reduce, its operand a production.
 pub struct Conflict {
@@ -7,6 +10,18 @@ pub struct Conflict {
     pub action: u16,
     pub operand: u16,
     pub token: u16,
+}
+
+impl Conflict {
+    // Words of scratch for classifying and choosing.
+    pub const SCRATCH: usize = TraceGraph::SCRATCH;
+
+    // Examples of a side, words of one that is kept, words of a side.
+    pub const EXAMPLES: usize = 192;
+
+    pub const KEPT_WORDS: usize = 1 + Example::REDUCTIONS;
+
+    pub const SIDE_WORDS: usize = Conflict::EXAMPLES * Conflict::KEPT_WORDS;
 }
 
 // A class with its own values; the examples stand in the lent buffers. A nonterminal; a nonterminal and a symbol's kind and number; two spans, the conflict's first.
@@ -18,6 +33,13 @@ pub enum Class {
     SuggestQuestion(u16, u16, u16),
     AmbiguousReduction(u16, u16, u16, u16),
     InsufficientLookahead,
+}
+
+impl Class {
+    // A token with its class in words, and one for each token.
+    pub const ENTRY_WORDS: usize = 6;
+
+    pub const ALL_WORDS: usize = TokenSet::LIMIT as usize * Class::ENTRY_WORDS;
 }
 
 // What classifying answers: the class with the trials of the action side and of the reduce side; else the refusal and its place.

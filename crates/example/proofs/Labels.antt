@@ -8,6 +8,7 @@ use lib.ListN.{length, getD, take, drop, List·getD-eq-default}
 use lib.Seq.{take-suc, drop-cons}
 use lib.Dec.{ltb}
 use borrow.Author.Tests.{ltb-true, ltb-false}
+use Rattle.repr.specs.Sizes.{productionPlace, grammarRoom, reductionLimit, labelRoom}
 use Rattle.repr.specs.Meaning.{Production, noProduction}
 use Rattle.repr.specs.Listed.{listed}
 use Rattle.repr.specs.Packed.{symbolWords, productionIn, productionsIn, Packed}
@@ -22,37 +23,37 @@ use Rattle.example.proofs.Sizes.{Short}
 
 -- three words a label
 
-pub label-count : (ws : List ℕ) → length ws / 3 ≡ length (labelsIn ws)
+pub label-count : (ws : List ℕ) → length ws / labelRoom ≡ length (labelsIn ws)
 unfolding labelsIn
 label-count [] = refl
 label-count (n ∷ []) = refl
 label-count (n ∷ p ∷ []) = refl
 label-count (n ∷ p ∷ i ∷ ws) = let r = label-count ws in omega arith
 
-pub three-words : (ws : List ℕ) → 3 * length (labelsIn ws) ≤ length ws
+pub three-words : (ws : List ℕ) → labelRoom * length (labelsIn ws) ≤ length ws
 three-words ws = let r = label-count ws in omega arith
 
 pub label-is : (ws : List ℕ) (j : ℕ) → j < length (labelsIn ws)
-    → labelAt ws j ≡ record { nonterminal = getD ws (3 * j) 0; production = getD ws (3 * j + 1) 0; index = getD ws (3 * j + 2) 0 }
+    → labelAt ws j ≡ record { nonterminal = getD ws (labelRoom * j) 0; production = getD ws (labelRoom * j + 1) 0; index = getD ws (labelRoom * j + 2) 0 }
 unfolding labelsIn labelAt
 label-is [] j h = absurd (omega arith)
 label-is (n ∷ []) j h = absurd (omega arith)
 label-is (n ∷ p ∷ []) j h = absurd (omega arith)
 label-is (n ∷ p ∷ i ∷ ws) zero h = refl
 label-is (n ∷ p ∷ i ∷ ws) (suc j) h =
-    let a : 3 * suc j ≡ suc (suc (suc (3 * j))) = omega arith in
-    let b : 3 * suc j + 1 ≡ suc (suc (suc (3 * j + 1))) = omega arith in
-    let c : 3 * suc j + 2 ≡ suc (suc (suc (3 * j + 2))) = omega arith in
+    let a : labelRoom * suc j ≡ suc (suc (suc (labelRoom * j))) = omega arith in
+    let b : labelRoom * suc j + 1 ≡ suc (suc (suc (labelRoom * j + 1))) = omega arith in
+    let c : labelRoom * suc j + 2 ≡ suc (suc (suc (labelRoom * j + 2))) = omega arith in
     rw (c, b, a) (label-is ws j (omega arith))
 
 module _ (ws : List ℕ) (j : ℕ) (h : j < length (labelsIn ws)) where
-  pub label-nonterminal : getD ws (3 * j) 0 ≡ labelAt ws j .nonterminal
+  pub label-nonterminal : getD ws (labelRoom * j) 0 ≡ labelAt ws j .nonterminal
   label-nonterminal = sym (ap (λ (l : Label). l .nonterminal) (label-is ws j h))
 
-  pub label-production : getD ws (3 * j + 1) 0 ≡ labelAt ws j .production
+  pub label-production : getD ws (labelRoom * j + 1) 0 ≡ labelAt ws j .production
   label-production = sym (ap (λ (l : Label). l .production) (label-is ws j h))
 
-  pub label-index : getD ws (3 * j + 2) 0 ≡ labelAt ws j .index
+  pub label-index : getD ws (labelRoom * j + 2) 0 ≡ labelAt ws j .index
   label-index = sym (ap (λ (l : Label). l .index) (label-is ws j h))
 
   pub labels-step : drop j (labelsIn ws) ≡ labelAt ws j ∷ drop (j + 1) (labelsIn ws)
@@ -66,7 +67,7 @@ module _ (ws : List ℕ) (j : ℕ) (h : j < length (labelsIn ws)) where
 pub some-label : {ps : List Production} (ws : List ℕ) → LabelsFit ps ws → 0 < length (labelsIn ws)
 some-label ws F = let r = label-count ws in let s = F .some-label in omega arith
 
-pub few-labels : {ps : List Production} (ws : List ℕ) → LabelsFit ps ws → length (labelsIn ws) ≤ 33
+pub few-labels : {ps : List Production} (ws : List ℕ) → LabelsFit ps ws → length (labelsIn ws) ≤ reductionLimit
 few-labels ws F = let r = label-count ws in let s = F .few in omega arith
 
 -- the packed productions
@@ -100,7 +101,7 @@ module _ (g : List ℕ) (n : ℕ) where
     pub item-index : i ≤ length (listed (symbolWords g p))
     item-index = let a = fit .index in let b = ap length same-symbols in omega arith
 
-    pub item-small : Packed g n → (p * 36 + 36 ≤ 4608) × (i ≤ 16)
+    pub item-small : Packed g n → (productionPlace (p + 1) ≤ grammarRoom) × (i ≤ 16)
     item-small P =
         let a = item-production in
         let b = item-index in

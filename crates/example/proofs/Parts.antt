@@ -6,6 +6,7 @@ use mathlib.Core.Option.{Option, none, some}
 use Prim.Native.Nat.{ℕ, zero, suc, _+_, _-_, _*_, _≤_, _<_}
 use native.Mathlib.Omega.{arith}
 use lib.ListN.{length, getD, take, drop, drop-of-length-le}
+use Rattle.repr.specs.Sizes.{nonterminalLimit, terminalLimit, productionPlace}
 use Rattle.repr.specs.Lists.{joined}
 use Rattle.repr.specs.Meaning.{Symbol, nonterminal, terminal, Production}
 use Rattle.repr.specs.Listed.{symbolOfKind, listed, symbolFits, listFits}
@@ -40,7 +41,7 @@ listed-words (terminal n ∷ xs) = ap (λ (l : List Symbol). terminal n ∷ l) (
 fits-rest : (n t k x : ℕ) (ws : List ℕ) → listFits n t (k ∷ x ∷ ws) ≡ true → (symbolFits n t k x ≡ true) × (listFits n t ws ≡ true)
 fits-rest n t k x ws e = fits-head n t (k ∷ x ∷ ws) 0 (omega arith) e .1
 
-words-listed : (ws : List ℕ) → listFits 32 63 ws ≡ true → wordsOf (listed ws) ≡ ws
+words-listed : (ws : List ℕ) → listFits nonterminalLimit terminalLimit ws ≡ true → wordsOf (listed ws) ≡ ws
 unfolding wordsOf joined listed symbolWords symbolOfKind listFits symbolFits
 words-listed [] e = refl
 words-listed (k ∷ []) e = clash false e refl
@@ -68,7 +69,7 @@ fits-take n t (suc i) (k ∷ x ∷ ws) e =
     rw (two-more i) (rw (r .0) (fits-take n t i ws (r .1)))
 
 -- a part, from the symbols that it lists
-part-of : (ws : List ℕ) (xs : List Symbol) → listed ws ≡ xs → listFits 32 63 ws ≡ true → Part ws xs
+part-of : (ws : List ℕ) (xs : List Symbol) → listed ws ≡ xs → listFits nonterminalLimit terminalLimit ws ≡ true → Part ws xs
 part-of ws xs e f = record { words = sym (ap wordsOf (sym e) ∙ words-listed ws f); fits = f }
 
 pub part-listed : (ws : List ℕ) (xs : List Symbol) → Part ws xs → listed ws ≡ xs
@@ -132,7 +133,7 @@ module _ (g : List ℕ) (n : ℕ) (P : Packed g n) (ws : List ℕ) (F : LabelsFi
     inside′ : p < n
     inside′ = item-production g n ws F 0 h p i ep ei
 
-    pub cursor-room : p * 36 + 4 + 2 * i + 2 ≤ length g
+    pub cursor-room : productionPlace p + 4 + 2 * i + 2 ≤ length g
     cursor-room =
         let a = symbols-long g n p P inside′ in
         let b = P .short p inside′ in
@@ -141,19 +142,19 @@ module _ (g : List ℕ) (n : ℕ) (P : Packed g n) (ws : List ℕ) (F : LabelsFi
         let e = inside′ in
         omega arith
 
-    pub cursor-is : (from past : ℕ) → from ≡ p * 36 + 4 + 2 * i → past ≡ from + 2 → Part (take (past - from) (drop from g)) (cursorOf (productionsIn g n) (labelsIn ws))
+    pub cursor-is : (from past : ℕ) → from ≡ productionPlace p + 4 + 2 * i → past ≡ from + 2 → Part (take (past - from) (drop from g)) (cursorOf (productionsIn g n) (labelsIn ws))
     unfolding listed listFits
     cursor-is from past ef eq =
         let w = words-long g n p P inside′ in
         let s = symbols-long g n p P inside′ in
         let r = cursor-room in
         let two : past - from ≡ 2 = omega arith in
-        let one : p * 36 + 4 + (2 * i + 1) ≡ from + 1 = omega arith in
-        let same : p * 36 + 4 + 2 * i ≡ from = omega arith in
-        let f = fits-head 32 63 (packed.symbolWords g p) (2 * i) (omega arith) (fits-drop 32 63 i (packed.symbolWords g p) (P .fits p inside′)) .1 .0 in
+        let one : productionPlace p + 4 + (2 * i + 1) ≡ from + 1 = omega arith in
+        let same : productionPlace p + 4 + 2 * i ≡ from = omega arith in
+        let f = fits-head nonterminalLimit terminalLimit (packed.symbolWords g p) (2 * i) (omega arith) (fits-drop 32 63 i (packed.symbolWords g p) (P .fits p inside′)) .1 .0 in
         let x = word-of g n p (2 * i) P inside′ (omega arith) in
         let y = word-of g n p (2 * i + 1) P inside′ (omega arith) in
-        let k : symbolFits 32 63 (getD g from 0) (getD g (from + 1) 0) ≡ true = rw (x, y, one, same) at f in
+        let k : symbolFits nonterminalLimit terminalLimit (getD g from 0) (getD g (from + 1) 0) ≡ true = rw (x, y, one, same) at f in
         let v : take (past - from) (drop from g) ≡ getD g from 0 ∷ getD g (from + 1) 0 ∷ [] = rw (two, drop-two g from (omega arith)) in
         let t : cursorOf (productionsIn g n) (labelsIn ws) ≡ symbolOfKind (getD g from 0) (getD g (from + 1) 0) ∷ [] =
         at-cursor ∙ rw (listed-at (packed.symbolWords g p) i (omega arith), x, y, one, same) in

@@ -7,7 +7,7 @@ use native.Mathlib.Nat.{zero-add}
 use native.Mathlib.Numerals.{add-one, add-two}
 use lib.ListN.{length, getD, set, take, drop, length-append, length-take, length-drop, take-append-drop}
 use lib.Seq.{length-take-le, take-length, take-at, drop-at, drop-drop, sets-eq, paste, paste-suc}
-use Rattle.example.specs.Labels.{inFront}
+use Rattle.slices.specs.Lent.{inFront}
 use Rattle.example.specs.Written.{putAt}
 
 pub put-nil : (at : ℕ) (old : List ℕ) → putAt at [] old ≡ old

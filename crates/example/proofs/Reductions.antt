@@ -4,6 +4,7 @@ use mathlib.Core.List.{List, [], _∷_, _++_, reverse, reverse-cons, reverse-app
 use Prim.Native.Nat.{ℕ, _+_, _-_, _*_}
 use native.Mathlib.Omega.{arith}
 use lib.ListN.{length}
+use Rattle.repr.specs.Sizes.{reductionRoom}
 use Rattle.repr.specs.Meaning.{Production}
 use Rattle.repr.proofs.Lists.{joined-nil, joined-cons}
 use Rattle.example.specs.Example.{Label, setsOf, prefixes, suffixes, symbols, Reduction, spans, reductions, reductionWords}
@@ -96,6 +97,6 @@ module _ (ps : List Production) where
   unfolding around aroundWords reductionWords
   around-cons n l ls = joined-cons reductionWords (record { start = length (prefixes ps ls); end = n - length (suffixes ps ls); nonterminal = l .nonterminal }) (around ps n ls)
 
-  pub around-length : (n : ℕ) (ls : List Label) → length (aroundWords ps n ls) ≡ 3 * length ls
+  pub around-length : (n : ℕ) (ls : List Label) → length (aroundWords ps n ls) ≡ reductionRoom * length ls
   around-length n [] = rw (around-nil n)
   around-length n (l ∷ ls) = let a = around-length n ls in rw (around-cons n l ls) (omega arith)

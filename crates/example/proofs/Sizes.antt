@@ -7,6 +7,7 @@ use mathlib.Core.Option.{Option, none, some}
 use lib.ListN.{length, getD, take, drop, length-append, length-take, length-drop, length-reverse, List·getD-eq-default}
 use lib.Dec.{ltb}
 use borrow.Author.Tests.{ltb-true, ltb-false}
+use Rattle.repr.specs.Sizes.{reductionLimit, exampleSymbols, reductionRoom, exampleRoom}
 use Rattle.repr.specs.Lists.{joined}
 use Rattle.repr.specs.Meaning.{Symbol, nonterminal, terminal, Production, noProduction, Table, TableFits, ProductionFits}
 use Rattle.repr.proofs.Lists.{cases, length-mapped, joined-nil, joined-cons}
@@ -32,7 +33,7 @@ twos (x ∷ xs) =
     let c = twos xs in
     rw (joined-cons symbolWords x xs) (omega arith)
 
-threes : (rs : List Reduction) → length (joined reductionWords rs) ≡ 3 * length rs
+threes : (rs : List Reduction) → length (joined reductionWords rs) ≡ reductionRoom * length rs
 unfolding reductionWords
 threes [] = rw (joined-nil reductionWords)
 threes (r ∷ rs) =
@@ -115,7 +116,7 @@ module _ (ps : List Production) where
       let e = first-label short l in
       omega arith
 
-  pub at-most-528 : Short ps → (ls : List Label) → length ls ≤ 33 → length (symbols ps ls) ≤ 528
+  pub at-most-528 : Short ps → (ls : List Label) → length ls ≤ reductionLimit → length (symbols ps ls) ≤ exampleSymbols
   at-most-528 short ls h = let a = symbols-few short ls in omega arith
 
   -- one reduction a label
@@ -130,7 +131,7 @@ module _ (ps : List Production) where
       length-reverse (spans ps 0 (length (symbols ps ls)) (reverse ls)) ∙ length-spans 0 (length (symbols ps ls)) (reverse ls) ∙ length-reverse ls
 
   -- the words
-  pub length-words : (ls : List Label) → length (exampleWords ps ls) ≡ 3 + 2 * length (symbols ps ls) + 3 * length ls
+  pub length-words : (ls : List Label) → length (exampleWords ps ls) ≡ 3 + 2 * length (symbols ps ls) + reductionRoom * length ls
   unfolding exampleWords
   length-words ls =
       let a = length-append (joined symbolWords (symbols ps ls)) (joined reductionWords (reductions ps ls)) in
@@ -139,7 +140,7 @@ module _ (ps : List Production) where
       let d = length-reductions ls in
       omega arith
 
-  pub at-most-1158 : Short ps → (ls : List Label) → length ls ≤ 33 → length (exampleWords ps ls) ≤ 1158
+  pub at-most-1158 : Short ps → (ls : List Label) → length ls ≤ reductionLimit → length (exampleWords ps ls) ≤ exampleRoom
   at-most-1158 short ls h =
       let a = length-words ls in
       let b = at-most-528 short ls h in

@@ -7,6 +7,7 @@ use Prim.Native.Nat.{ℕ, zero, suc, _+_, _-_, _*_, _/_, _≤_, _<_}
 use native.Mathlib.Omega.{arith}
 use lib.ListN.{length, take, drop, drop-of-length-le}
 use lib.Seq.{take-all}
+use Rattle.repr.specs.Sizes.{reductionLimit, exampleSymbols, exampleRoom}
 use Rattle.repr.specs.Lists.{joined}
 use Rattle.repr.specs.Meaning.{Symbol, Production}
 use Rattle.repr.specs.Listed.{listed}
@@ -26,23 +27,23 @@ use Rattle.example.proofs.Reductions.{reductions-around, around-nil, ar
 
 -- sizes: at most 528 symbols, 33 reductions, 1,158 words
 
-pub example-symbols-few : (ps : List Production) (ws : List ℕ) → Short ps → LabelsFit ps ws → length (symbols ps (labelsIn ws)) ≤ 528
+pub example-symbols-few : (ps : List Production) (ws : List ℕ) → Short ps → LabelsFit ps ws → length (symbols ps (labelsIn ws)) ≤ exampleSymbols
 example-symbols-few ps ws short F = at-most-528 ps short (labelsIn ws) (few-labels ws F)
 
-pub example-reductions-few : (ps : List Production) (ws : List ℕ) → LabelsFit ps ws → length (reductions ps (labelsIn ws)) ≤ 33
+pub example-reductions-few : (ps : List Production) (ws : List ℕ) → LabelsFit ps ws → length (reductions ps (labelsIn ws)) ≤ reductionLimit
 example-reductions-few ps ws F = let a = length-reductions ps (labelsIn ws) in let b = few-labels ws F in omega arith
 
-pub example-words-few : (ps : List Production) (ws : List ℕ) → Short ps → LabelsFit ps ws → length (exampleWords ps (labelsIn ws)) ≤ 1158
+pub example-words-few : (ps : List Production) (ws : List ℕ) → Short ps → LabelsFit ps ws → length (exampleWords ps (labelsIn ws)) ≤ exampleRoom
 example-words-few ps ws short F = at-most-1158 ps short (labelsIn ws) (few-labels ws F)
 
 module _ (g : List ℕ) (n : ℕ) (P : Packed g n) (ws : List ℕ) (F : LabelsFit (productionsIn g n) ws) where
-  pub around-few : length (prefixes (productionsIn g n) (labelsIn ws)) + length (suffixes (productionsIn g n) (labelsIn ws)) ≤ 528
+  pub around-few : length (prefixes (productionsIn g n) (labelsIn ws)) + length (suffixes (productionsIn g n) (labelsIn ws)) ≤ exampleSymbols
   around-few = let a = around (productionsIn g n) (short-in g n P) (labelsIn ws) in let b = few-labels ws F in omega arith
 
-  pub symbols-528 : length (symbols (productionsIn g n) (labelsIn ws)) ≤ 528
+  pub symbols-528 : length (symbols (productionsIn g n) (labelsIn ws)) ≤ exampleSymbols
   symbols-528 = example-symbols-few (productionsIn g n) ws (short-in g n P) F
 
-  pub words-1158 : length (exampleWords (productionsIn g n) (labelsIn ws)) ≤ 1158
+  pub words-1158 : length (exampleWords (productionsIn g n) (labelsIn ws)) ≤ exampleRoom
   words-1158 = example-words-few (productionsIn g n) ws (short-in g n P) F
 
 module _ (ps : List Production) (ws : List ℕ) where

@@ -3,6 +3,7 @@ use Prim.Native.Nat.{ℕ, _+_, _≤_, _<_}
 use mathlib.Core.Path.{_≡_}
 use mathlib.Core.List.{List, [], _∷_, _++_}
 use lib.ListN.{length, getD, drop}
+use Rattle.repr.specs.Sizes.{labelsRoom}
 use Rattle.repr.specs.Meaning.{Production, noProduction, All}
 use Rattle.example.specs.Example.{Label}
 
@@ -21,10 +22,6 @@ pub record LabelFits (ps : List Production) (l : Label) : Type 0 where
 -- at least one label and at most 33, whole and in range
 pub record LabelsFit (ps : List Production) (ws : List ℕ) : Type 0 where
   pub some-label : 3 ≤ length ws
-  pub few : length ws ≤ 99
+  pub few : length ws ≤ labelsRoom
   pub whole : (k : ℕ) × (length ws ≡ k + (k + k))
   pub each : All (LabelFits ps) (labelsIn ws)
-
--- words in front of a list
-unfoldable pub inFront : List ℕ → List ℕ → List ℕ
-inFront new old = new ++ drop (length new) old

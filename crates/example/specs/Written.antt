@@ -5,6 +5,7 @@ use mathlib.Core.Path.{_≡_}
 use mathlib.Core.Bool.{true}
 use mathlib.Core.List.{List, [], _∷_, _++_, map}
 use lib.ListN.{length, getD, take, drop}
+use Rattle.repr.specs.Sizes.{nonterminalLimit, terminalLimit}
 use Rattle.repr.specs.Lists.{joined}
 use Rattle.repr.specs.Meaning.{Symbol, Production}
 use Rattle.repr.specs.Listed.{listFits}
@@ -25,7 +26,7 @@ wordsOf xs = joined symbolWords (map symbol xs)
 -- the words are those of the symbols, each in range
 pub record Part (ws : List ℕ) (xs : List Symbol) : Type 0 where
   pub words : ws ≡ wordsOf xs
-  pub fits : listFits 32 63 ws ≡ true
+  pub fits : listFits nonterminalLimit terminalLimit ws ≡ true
 
 -- words put into a list at a place, the rest untouched
 unfoldable pub putAt : ℕ → List ℕ → List ℕ → List ℕ

@@ -3,16 +3,20 @@ use core::Item;
 use core::prefix;
 use core::suffix;
 use lookahead::TokenSet;
+use repr::NonterminalString;
+use repr::ProductionIndex;
 use repr::word;
 ghost use mathlib.Core.Path.{_≡_};
 ghost use mathlib.Core.List.{[], _∷_};
 ghost use Prim.Native.Nat.{_+_, _*_, _≤_, _<_};
 ghost use lib.ListN.{length};
+ghost use Rattle.repr.specs.Sizes.{exampleSymbols, reductionRoom, exampleRoom, labelRoom};
+ghost use Rattle.slices.specs.Lent.{inFront};
 ghost use Rattle.repr.specs.Lists.{joined};
 ghost use Rattle.repr.specs.Packed.{Packed, productionsIn};
 ghost use Rattle.first.specs.First.{first0};
 ghost use Rattle.example.specs.Example.{setsOf, prefixes, suffixes, middle, symbols, symbolWords, exampleWords, cursorOf, ahead};
-ghost use Rattle.example.specs.Labels.{labelsIn, LabelsFit, inFront};
+ghost use Rattle.example.specs.Labels.{labelsIn, LabelsFit};
 ghost use Rattle.example.specs.Written.{labelAt, wordsOf, Part, putAt, aroundWords};
 
 // An example in words: its limits.
@@ -21,23 +25,30 @@ pub struct Example {
 }
 
 impl Example {
-    // Symbols, reductions and words of an example; words of a symbol and of a reduction.
-    pub const SYMBOLS: usize = 528;
+    // Reductions and symbols of an example; words of a symbol, of a reduction, of an example behind its three counts.
+    pub const REDUCTIONS: usize = NonterminalString::LIMIT + 1;
 
-    pub const REDUCTIONS: usize = 33;
-
-    pub const WORDS: usize = 1158;
+    pub const SYMBOLS: usize = Example::REDUCTIONS * ProductionIndex::SYMBOLS;
 
     pub const SYMBOL_WORDS: usize = 2;
 
     pub const REDUCTION_WORDS: usize = 3;
+
+    pub const WORDS: usize = 3
+        + Example::SYMBOL_WORDS * Example::SYMBOLS
+        + Example::REDUCTION_WORDS * Example::REDUCTIONS;
+
+    // Words of a label, and of an example's labels.
+    pub const LABEL_WORDS: usize = 3;
+
+    pub const ALL_LABEL_WORDS: usize = Example::LABEL_WORDS * Example::REDUCTIONS;
 }
 
 // How many labels the words hold.
 fn label_count(labels: &[u16]) -> usize
-    ensures { λ r. ⌜ (r ≡ length (labelsIn (now (labels .entry)))) × (3 * r ≤ length (now (labels .entry))) ⌝ }
+    ensures { λ r. ⌜ (r ≡ length (labelsIn (now (labels .entry)))) × (labelRoom * r ≤ length (now (labels .entry))) ⌝ }
 {
-    labels.len() / 3
+    labels.len() / Example::LABEL_WORDS
 }
 
 // The nonterminal of a label.
@@ -45,7 +56,7 @@ fn nonterminal(labels: &[u16], label: usize) -> usize
     requires { ⌜ label < length (labelsIn (now labels)) ⌝ }
     ensures { λ r. ⌜ (r ≡ labelAt (now (labels .entry)) label .nonterminal) × (r < 65536) ⌝ }
 {
-    word(labels, 3 * label)
+    word(labels, Example::LABEL_WORDS * label)
 }
 
 // The item of a label.
@@ -54,8 +65,8 @@ fn item(labels: &[u16], label: usize) -> Item
     ensures { λ r. ⌜ (r .production ≡ labelAt (now (labels .entry)) label .production) × (r .index ≡ labelAt (now (labels .entry)) label .index) ⌝ }
 {
     Item {
-        production: word(labels, 3 * label + 1),
-        index: word(labels, 3 * label + 2),
+        production: word(labels, Example::LABEL_WORDS * label + 1),
+        index: word(labels, Example::LABEL_WORDS * label + 2),
     }
 }
 
@@ -96,7 +107,7 @@ fn cursor_part<'a>(grammar: &'a [u16], productions: usize, labels: &[u16]) -> &'
     ensures { λ r. ⌜ Part (now r) (cursorOf (productionsIn (now (grammar .entry)) productions) (labelsIn (now (labels .entry)))) ⌝ }
 {
     let first = item(labels, 0);
-    let from = first.production * 36 + 4 + 2 * first.index;
+    let from = first.production * ProductionIndex::WORDS + 4 + 2 * first.index;
     if first.can_shift(grammar, productions) {
         return &grammar[from..from + 2];
     }
@@ -155,7 +166,7 @@ fn middle_count(grammar: &[u16], productions: usize, labels: &[u16]) -> usize
 pub fn symbol_count(grammar: &[u16], productions: usize, labels: &[u16]) -> usize
     requires { ⌜ Packed (now grammar) productions ⌝ }
     requires { ⌜ LabelsFit (productionsIn (now grammar) productions) (now labels) ⌝ }
-    ensures { λ r. ⌜ (r ≡ length (symbols (productionsIn (now (grammar .entry)) productions) (labelsIn (now (labels .entry))))) × (r ≤ 528) ⌝ }
+    ensures { λ r. ⌜ (r ≡ length (symbols (productionsIn (now (grammar .entry)) productions) (labelsIn (now (labels .entry))))) × (r ≤ exampleSymbols) ⌝ }
 {
     let around = prefix_total(grammar, productions, labels)
         + suffix_total(grammar, productions, labels);
@@ -271,10 +282,10 @@ fn write_reductions(
     buffer: &mut [u16],
     at: usize,
 )
-    requires { ⌜ Packed (now grammar) productions × (places ≤ 528) ⌝ }
+    requires { ⌜ Packed (now grammar) productions × (places ≤ exampleSymbols) ⌝ }
     requires { ⌜ LabelsFit (productionsIn (now grammar) productions) (now labels) ⌝ }
     requires { ⌜ places ≡ length (symbols (productionsIn (now grammar) productions) (labelsIn (now labels))) ⌝ }
-    requires { ⌜ at + 3 * length (labelsIn (now labels)) ≤ length (now buffer) ⌝ }
+    requires { ⌜ at + reductionRoom * length (labelsIn (now labels)) ≤ length (now buffer) ⌝ }
     ensures { λ _. ⌜ now (buffer .exit) ≡ putAt at (aroundWords (productionsIn (now (grammar .entry)) productions) places (labelsIn (now (labels .entry)))) (now (buffer .entry)) ⌝ }
 {
     let count = label_count(labels);
@@ -286,7 +297,7 @@ fn write_reductions(
         start -= prefix_part(grammar, productions, labels, label).len() / 2;
         end += suffix_part(grammar, productions, labels, label).len() / 2;
         put_three(buffer, place, start, end, nonterminal(labels, label));
-        place += 3;
+        place += Example::REDUCTION_WORDS;
         label += 1;
     }
 }
@@ -295,7 +306,7 @@ fn write_reductions(
 pub fn write_example(grammar: &[u16], productions: usize, labels: &[u16], buffer: &mut [u16])
     requires { ⌜ Packed (now grammar) productions ⌝ }
     requires { ⌜ LabelsFit (productionsIn (now grammar) productions) (now labels) ⌝ }
-    requires { ⌜ 1158 ≤ length (now buffer) ⌝ }
+    requires { ⌜ exampleRoom ≤ length (now buffer) ⌝ }
     ensures { λ _. ⌜ now (buffer .exit) ≡ inFront (exampleWords (productionsIn (now (grammar .entry)) productions) (labelsIn (now (labels .entry)))) (now (buffer .entry)) ⌝ }
 {
     let places = symbol_count(grammar, productions, labels);
@@ -310,7 +321,7 @@ pub fn write_example(grammar: &[u16], productions: usize, labels: &[u16], buffer
 
 // The tokens that the example expects next: label by label outward, up to the first whose symbols may not derive the empty string.
 pub fn first0(
-    map: &[u64; 32],
+    map: &[u64; NonterminalString::LIMIT],
     terminals: u16,
     grammar: &[u16],
     productions: usize,

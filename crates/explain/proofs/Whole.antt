@@ -7,6 +7,8 @@ use mathlib.Core.List.{List, [], _∷_, _++_, map}
 use mathlib.Core.Option.{Option, none, some}
 use lib.ListN.{length, getD, drop, take, length-append}
 use lib.Dec.{eqb, ltb, leb}
+use Rattle.repr.specs.Sizes.{edgeLimit, classifyScratch, trialLimit, reductionLimit, exampleRoom, exampleLimit}
+use Rattle.slices.specs.Lent.{inFront}
 use Rattle.repr.specs.Lists.{keep, joined, first?}
 use Rattle.repr.specs.Meaning.{All, Symbol, Item, Production, Table, productionAt}
 use Rattle.repr.proofs.Lists.{cases, length-mapped, keep-nil, keep-yes, keep-no}
@@ -18,13 +20,12 @@ use Rattle.table.specs.declared.Checked.the-variants.{Accepted, Refused as NotA
 use Rattle.table.proofs.Decoding.{fits}
 use Rattle.lookahead.specs.Tokens.{single}
 use Rattle.trace_graph.specs.Graph.{TraceEdge, atItem}
-use Rattle.trace_graph.specs.Words.{edgeLimit}
 use Rattle.trace.specs.Shift.{shiftEdges}
 use Rattle.trace.specs.Reduce.{reduceEdges}
 use Rattle.example.specs.Example.{exampleWords}
 use Rattle.example.proofs.Sizes.{Short, short-of, at-most-528, length-words}
 use Rattle.enumerator.specs.Trials.{Path, AllPaths, endsOf, trials}
-use Rattle.enumerator.specs.Lister.{hands, labelAt, labelsOf, trialLimit}
+use Rattle.enumerator.specs.Lister.{hands, labelAt, labelsOf}
 use Rattle.enumerator.proofs.Short.{at-most-33}
 use Rattle.error.specs.declared.Conflict.{Conflict}
 use Rattle.error.specs.declared.Class.{Class}
@@ -32,17 +33,17 @@ use Rattle.error.specs.declared.Class.the-variants.{Naive, Ambiguity, Precedenc
 use Rattle.error.specs.Numbers.{classNumber, Reading}
 use Rattle.error.specs.Items.{shiftItems}
 use Rattle.error.specs.Order.{Permutation, empty, alike, swap, through}
-use Rattle.error.specs.Sides.{Side, gathered, stopped, exampleLimit, listingSide, withMore, examplesIn, shiftSideFrom, shiftSide, reduceItem, reduceSide, actionSideOf, Gathered, sides, halted, bothSides, gather}
+use Rattle.error.specs.Sides.{Side, gathered, stopped, listingSide, withMore, examplesIn, shiftSideFrom, shiftSide, reduceItem, reduceSide, actionSideOf, Gathered, sides, halted, bothSides, gather}
 use Rattle.error.specs.Sorted.{sortedBy, Pair, product, firstPair}
 use Rattle.error.specs.Judge.{Example, Judged, withBoth, symbolCount, reductionAt, sameReading, isOperator, shiftAmbiguity, reduceAmbiguity, ambiguityOf, questionOf, suggestQuestion, inlines, inlineOr, questionOr, unambiguous, ambiguousOr, judge, judged}
-use Rattle.error.specs.Outcome.{Outcome, outcome, inFront, shown, judgedOutcome, gatheredOutcome, conflictFits, shiftsEnd, classifyIn, classifyBy, classifyOf}
+use Rattle.error.specs.Outcome.{Outcome, outcome, shown, judgedOutcome, gatheredOutcome, conflictFits, shiftsEnd, classifyIn, classifyBy, classifyOf}
 use Rattle.error.proofs.Sorted.{sorted-permutation}
 use Rattle.lines.specs.Lines.{Whole, ReadingShown}
 use Rattle.explain.specs.Printed.{OutcomeShown}
 
 -- at most 33 labels
 abbrev Few : Example → Type 0
-Few ls = length ls ≤ 33
+Few ls = length ls ≤ reductionLimit
 
 -- of all of a list, and of what an option holds
 module _ {ℓ} {A : Type ℓ} (P : A → Type 0) where
@@ -71,11 +72,11 @@ module _ {ℓ} {A : Type ℓ} (P : A → Type 0) where
 
 -- the sides
 
-labels-few : (ps : List Production) (es : List TraceEdge) (p : Path) → length p ≤ 33 → Few (labelsOf ps es p)
+labels-few : (ps : List Production) (es : List TraceEdge) (p : Path) → length p ≤ reductionLimit → Few (labelsOf ps es p)
 unfolding labelsOf
 labels-few ps es p h = let e = length-mapped (labelAt ps es) p in omega arith
 
-listed-few : (ps : List Production) (es : List TraceEdge) (t : Path → Bool) (ts : List Path) → AllPaths (λ p. length p ≤ 33) ts → All Few (map (labelsOf ps es) (keep t ts))
+listed-few : (ps : List Production) (es : List TraceEdge) (t : Path → Bool) (ts : List Path) → AllPaths (λ p. length p ≤ reductionLimit) ts → All Few (map (labelsOf ps es) (keep t ts))
 unfolding All
 listed-few ps es t [] a = rw (keep-nil t) tt
 listed-few ps es t (p ∷ ts) a =
@@ -261,7 +262,7 @@ in-shown c scratch action reduce T short =
     cases (conflictFits T c)
     (λ a. cases (shiftsEnd T c)
     (λ b. rw (a, b, classifyIn) tt)
-    (λ b. cases (leb 32000 (length scratch) && (leb 1158 (length action) && leb 1158 (length reduce)))
+    (λ b. cases (leb classifyScratch (length scratch) && (leb exampleRoom (length action) && leb exampleRoom (length reduce)))
     (λ d. rw (a, b, d, classifyIn) (gathered-shown T short c scratch action reduce (gather T c) (gather-few T c)))
     (λ d. rw (a, b, d, classifyIn) tt)))
     (λ a. rw (a, classifyIn) tt)

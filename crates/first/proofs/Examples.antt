@@ -2,9 +2,10 @@
 use mathlib.Core.Bool.{false}
 use mathlib.Core.Path.{_≡_, refl}
 use mathlib.Core.List.{[], _∷_}
+use Rattle.slices.specs.Same.{sameWords}
 use Rattle.repr.specs.Meaning.{nonterminal, terminal, Table}
 use Rattle.lookahead.specs.Tokens.{has, single, union, without}
-use Rattle.first.specs.First.{join, firstOf, first0, grown, round, same, settle, firstSets, FIRST, nullable}
+use Rattle.first.specs.First.{join, firstOf, first0, grown, round, settle, firstSets, FIRST, nullable}
 
 -- E → E + E, E → n; the terminals are + and n
 abbrev pub tableB : Table
@@ -24,11 +25,11 @@ b-nothing = refl
 
 -- of E: n
 pub b-e : FIRST tableB (nonterminal 0 ∷ []) ≡ 2
-unfolding FIRST first0 firstOf firstSets settle same round grown join has single union without
+unfolding FIRST first0 firstOf firstSets settle sameWords round grown join has single union without
 b-e = refl
 
 pub b-e-not-nullable : nullable tableB (nonterminal 0 ∷ []) ≡ false
-unfolding nullable FIRST first0 firstOf firstSets settle same round grown join has single union without
+unfolding nullable FIRST first0 firstOf firstSets settle sameWords round grown join has single union without
 b-e-not-nullable = refl
 
 -- S → a X, and X has no production; the terminal is a
@@ -42,10 +43,10 @@ tableSaX = record {
 
 -- of S: a
 pub s-a : FIRST tableSaX (nonterminal 0 ∷ []) ≡ 1
-unfolding FIRST first0 firstOf firstSets settle same round grown join has single union without
+unfolding FIRST first0 firstOf firstSets settle sameWords round grown join has single union without
 s-a = refl
 
 -- of X: nothing
 pub x-none : FIRST tableSaX (nonterminal 1 ∷ []) ≡ 0
-unfolding FIRST first0 firstOf firstSets settle same round grown join has single union without
+unfolding FIRST first0 firstOf firstSets settle sameWords round grown join has single union without
 x-none = refl

@@ -5,6 +5,7 @@ use mathlib.Core.List.{List, [], _∷_, _++_, map}
 use Prim.Native.Nat.{ℕ, zero, suc, _≤_, _<_}
 use native.Mathlib.Omega.{arith}
 use borrow.Author.Tests.{ltb-true}
+use Rattle.repr.specs.Sizes.{nonterminalLimit, terminalLimit}
 use Rattle.repr.specs.Lists.{below, upFrom}
 use Rattle.repr.specs.Meaning.{Production, All, noProduction}
 use Rattle.repr.specs.Listed.{symbolOfKind, listed, symbolFits, listFits}
@@ -14,25 +15,25 @@ use Rattle.repr.proofs.Tests.{All-intro}
 use Rattle.first.proofs.Join.{TerminalBelow}
 use Rattle.first.proofs.Least.{ProductionSmall, Small}
 
-kind-below : (k x : ℕ) → symbolFits 32 63 k x ≡ true → TerminalBelow 64 (symbolOfKind k x)
+kind-below : (k x : ℕ) → symbolFits nonterminalLimit terminalLimit k x ≡ true → TerminalBelow 64 (symbolOfKind k x)
 unfolding symbolFits symbolOfKind TerminalBelow
 kind-below zero x h = tt
 kind-below (suc zero) x h = omega (arith, ltb-true x 63 h)
 kind-below (suc (suc k)) x h = clash false h refl
 
-pub listed-below : (ws : List ℕ) → listFits 32 63 ws ≡ true → All (TerminalBelow 64) (listed ws)
+pub listed-below : (ws : List ℕ) → listFits nonterminalLimit terminalLimit ws ≡ true → All (TerminalBelow 64) (listed ws)
 unfolding listFits listed All
 listed-below [] h = tt
 listed-below (k ∷ []) h = tt
 listed-below (k ∷ x ∷ ws) h =
     let rest = listed-below ws in
-    cases (symbolFits 32 63 k x) (λ e. (kind-below k x e, rest (rw e at h))) (λ e. clash false (rw e at h) refl)
+    cases (symbolFits nonterminalLimit terminalLimit k x) (λ e. (kind-below k x e, rest (rw e at h))) (λ e. clash false (rw e at h) refl)
 
 pub packed-one : (g : List ℕ) (n p : ℕ) → Packed g n → p < n → ProductionSmall (productionIn g p)
 unfolding productionIn
 packed-one g n p P h = record { owner = P .owner p h; symbols = listed-below (symbolWords g p) (P .fits p h) }
 
-pub packed-small : (e : ℕ) (g : List ℕ) (n : ℕ) → Packed g n → e ≤ 63 → Small e (productionsIn g n)
+pub packed-small : (e : ℕ) (g : List ℕ) (n : ℕ) → Packed g n → e ≤ terminalLimit → Small e (productionsIn g n)
 unfolding productionsIn
 packed-small e g n P h = record {
   end = h;

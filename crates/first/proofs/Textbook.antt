@@ -9,15 +9,19 @@ use Prim.Native.Nat.{ℕ, zero, suc, _<_}
 use native.Mathlib.Omega.{arith}
 use lib.ListN.{getD, replicate}
 use borrow.Author.Tests.{eqb-true, eq-eqb}
+use Rattle.repr.specs.Sizes.{nonterminalLimit}
+use Rattle.repr.proofs.Tests.{All-map}
+use Rattle.lookahead.proofs.Growing.{getD-none}
+use Rattle.slices.specs.Same.{sameWords}
 use Rattle.repr.specs.Meaning.{Symbol, nonterminal, terminal, Production, Table, SymbolFits, All, ProductionFits, TableFits}
 use Rattle.repr.proofs.Lists.{cases, clash}
 use Rattle.lookahead.specs.Tokens.{has, Within}
 use Rattle.lookahead.proofs.Laws.{has-none, has-union, has-single}
 use Rattle.lookahead.proofs.Sets.{within-refl, within-trans}
-use Rattle.first.specs.First.{join, firstOf, first0, grown, round, same, settle, rounds, firstSets, FIRST, nullable}
+use Rattle.first.specs.First.{join, firstOf, first0, grown, round, settle, rounds, firstSets, FIRST, nullable}
 use Rattle.first.specs.Derives.{Derives, done, step}
 use Rattle.first.proofs.Join.{has-join-end, join-cases, join-within, first0-append, first0-cons, first0-terminal, firstOf-nonterminal, nullable-nil, TerminalBelow}
-use Rattle.first.proofs.Least.{getD-none, grown-cases, grown-other, settle-stop, settle-again, Closed, solution, table-small, All-map}
+use Rattle.first.proofs.Least.{grown-cases, grown-other, settle-stop, settle-again, Closed, solution, table-small}
 use Rattle.first.proofs.Derivations.{derives-trans, derives-before, derives-production}
 
 -- sound: what is in a set comes with a derivation
@@ -77,14 +81,14 @@ module _ (e : ℕ) (ps : List Production) where
   unfolding settle
   settle-sound zero S b s = s
   settle-sound (suc f) S b s =
-      cases (same (round e S ps) S)
+      cases (sameWords (round e S ps) S)
       (λ t. rw (settle-stop (suc f) e S ps t) s)
       (λ t. rw (settle-again f e S ps t) (settle-sound f (round e S ps) b (round-sound S ps (λ p m. m) b s)))
 
   pub firstSets-sound : All (λ p. All (TerminalBelow e) (p .symbols)) ps → Sound e ps (firstSets e ps)
   unfolding firstSets
   firstSets-sound b =
-      settle-sound rounds (replicate 32 0) b (λ n k h. clash (has (getD (replicate 32 0) n 0) k) h (ap (λ (a : ℕ). has a k) (getD-none 32 n) ∙ has-none k))
+      settle-sound rounds (replicate nonterminalLimit 0) b (λ n k h. clash (has (getD (replicate nonterminalLimit 0) n 0) k) h (ap (λ (a : ℕ). has a k) (getD-none nonterminalLimit n) ∙ has-none k))
 
   -- complete: FIRST of what a list derives is within FIRST of the list
 
@@ -179,10 +183,10 @@ module _ (e n : ℕ) where
   unfolding settle
   settle-none zero S ps h = refl
   settle-none (suc f) S ps h =
-      cases (same (round e S ps) S)
+      cases (sameWords (round e S ps) S)
       (λ t. ap (λ (l : List ℕ). getD l n 0) (settle-stop (suc f) e S ps t))
       (λ t. ap (λ (l : List ℕ). getD l n 0) (settle-again f e S ps t) ∙ settle-none f (round e S ps) ps h ∙ round-none S ps h)
 
   pub first-none : (ps : List Production) → ((p : Production) → List·Memᴰ p ps → p .nonterminal ≡ n → ⊥) → getD (firstSets e ps) n 0 ≡ 0
   unfolding firstSets
-  first-none ps h = settle-none rounds (replicate 32 0) ps h ∙ getD-none 32 n
+  first-none ps h = settle-none rounds (replicate nonterminalLimit 0) ps h ∙ getD-none nonterminalLimit n

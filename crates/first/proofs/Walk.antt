@@ -5,6 +5,7 @@ use mathlib.Core.List.{List}
 use Prim.Native.Nat.{ℕ, zero, suc, _+_, _≤_, _<_}
 use native.Mathlib.Omega.{arith}
 use lib.ListN.{length, getD, drop}
+use Rattle.repr.specs.Sizes.{nonterminalLimit, terminalLimit}
 use Rattle.repr.specs.Meaning.{Symbol}
 use Rattle.repr.specs.Listed.{symbolOfKind, listed, symbolFits, listFits}
 use Rattle.repr.proofs.Listed.{listed-none, listed-step, fits-head}
@@ -26,8 +27,8 @@ symbol-terminal sets zero n r ne h e = absurd (ne refl)
 symbol-terminal sets (suc k) n r ne h e = e ∙ with-yes 0 n (omega arith) ∙ union-zero-left (single n)
 
 -- the symbol at a place of a list in range is in range
-pub walk-fits : (ws : List ℕ) (at k n : ℕ) → at < length ws → listFits 32 63 (drop at ws) ≡ true → k ≡ getD ws at 0 → n ≡ getD ws (at + 1) 0 → symbolFits 32 63 k n ≡ true
-walk-fits ws at k n h f ek en = rw (ek, en) (fits-head 32 63 ws at h f .1 .0)
+pub walk-fits : (ws : List ℕ) (at k n : ℕ) → at < length ws → listFits nonterminalLimit terminalLimit (drop at ws) ≡ true → k ≡ getD ws at 0 → n ≡ getD ws (at + 1) 0 → symbolFits nonterminalLimit terminalLimit k n ≡ true
+walk-fits ws at k n h f ek en = rw (ek, en) (fits-head nonterminalLimit terminalLimit ws at h f .1 .0)
 
 -- a list from a place on, after the symbols before it gave acc
 
@@ -35,7 +36,7 @@ module _ (e : ℕ) (sets ws : List ℕ) where
   pub walk-start : (acc : ℕ) → acc ≡ 0 → union acc (first0 e sets (listed (drop 0 ws))) ≡ first0 e sets (listed ws)
   walk-start acc z = rw z (union-zero-left (first0 e sets (listed ws)))
 
-  pub walk-end : (at acc r : ℕ) → length ws ≤ at → e ≤ 63 → r ≡ with acc e → r ≡ union acc (first0 e sets (listed (drop at ws)))
+  pub walk-end : (at acc r : ℕ) → length ws ≤ at → e ≤ terminalLimit → r ≡ with acc e → r ≡ union acc (first0 e sets (listed (drop at ws)))
   walk-end at acc r h l q = q ∙ with-yes acc e (omega arith) ∙ sym (rw (listed-none ws at h, first0-nil e sets))
 
   module _ (at k n f t acc r : ℕ) (c : Bool) (h : at + 1 < length ws) (ek : k ≡ getD ws at 0) (en : n ≡ getD ws (at + 1) 0)

@@ -5,6 +5,8 @@ use mathlib.Core.Bool.{Bool, true, false, _&&_}
 use mathlib.Core.List.{List, [], _∷_}
 use lib.ListN.{getD, set, replicate}
 use lib.Dec.{eqb}
+use Rattle.repr.specs.Sizes.{nonterminalLimit}
+use Rattle.slices.specs.Same.{sameWords}
 use Rattle.repr.specs.Meaning.{Symbol, nonterminal, terminal, Production, Table}
 use Rattle.lookahead.specs.Tokens.{has, single, union, without}
 
@@ -34,24 +36,18 @@ unfoldable pub round : ℕ → List ℕ → List Production → List ℕ
 round e sets [] = sets
 round e sets (p ∷ ps) = round e (grown e sets p) ps
 
-unfoldable pub same : List ℕ → List ℕ → Bool
-same [] [] = true
-same [] (y ∷ ys) = false
-same (x ∷ xs) [] = false
-same (x ∷ xs) (y ∷ ys) = eqb x y && same xs ys
-
 -- round after round until one changes nothing. f bounds the rounds: `settled` of proofs/Least shows that `rounds` never cuts, since a round that changes
 -- a set makes the sum of 32 numbers below 2 ^ 64 larger
 unfoldable pub settle : ℕ → ℕ → List ℕ → List Production → List ℕ
 settle zero e sets ps = sets
-settle (suc f) e sets ps = elim (same (round e sets ps) sets) [ true ↦ sets | false ↦ settle f e (round e sets ps) ps ]
+settle (suc f) e sets ps = elim (sameWords (round e sets ps) sets) [ true ↦ sets | false ↦ settle f e (round e sets ps) ps ]
 
 abbrev pub rounds : ℕ
-rounds = 32 * 2 ^ 64
+rounds = nonterminalLimit * 2 ^ 64
 
 -- the least solution over all productions, a set for each nonterminal number; a nonterminal without productions has the empty set
 unfoldable pub firstSets : ℕ → List Production → List ℕ
-firstSets e ps = settle rounds e (replicate 32 0) ps
+firstSets e ps = settle rounds e (replicate nonterminalLimit 0) ps
 
 -- FIRST of a list of symbols of a table
 unfoldable pub FIRST : Table → List Symbol → ℕ

@@ -1,27 +1,31 @@
 // FIRST sets (lr1/first/mod.rs). The productions stand in words (specs/Packed of repr), a list of symbols is kind and number each (specs/Listed).
 use lookahead::TokenSet;
+use repr::NonterminalString;
+use repr::ProductionIndex;
 use repr::symbols;
 use repr::word;
 ghost use mathlib.Core.Path.{_≡_};
 ghost use mathlib.Core.Bool.{true, not};
 ghost use Prim.Native.Nat.{_≤_, _<_};
 ghost use lib.ListN.{length};
+ghost use Rattle.repr.specs.Sizes.{nonterminalLimit, terminalLimit};
+ghost use Rattle.slices.specs.Same.{sameWords};
 ghost use Rattle.repr.specs.Listed.{symbolOfKind, symbolFits, listed, listFits};
 ghost use Rattle.repr.specs.Packed.{Packed, productionIn, productionsIn};
-ghost use Rattle.first.specs.First.{firstOf, first0, first1, grown, round, same, firstSets};
+ghost use Rattle.first.specs.First.{firstOf, first0, first1, grown, round, firstSets};
 
 // The sets, one for each nonterminal.
 pub struct FirstSets {
-    pub map: [u64; 32],
+    pub map: [u64; NonterminalString::LIMIT],
 }
 
 impl FirstSets {
     // The least solution over all productions: round after round until one changes nothing.
     pub fn new(grammar: &[u16], productions: usize, terminals: u16) -> FirstSets
-        requires { ⌜ Packed (now grammar) productions × (terminals ≤ 63) ⌝ }
+        requires { ⌜ Packed (now grammar) productions × (terminals ≤ terminalLimit) ⌝ }
         ensures { λ r. ⌜ r .map ≡ firstSets terminals (productionsIn (now (grammar .entry)) productions) ⌝ }
     {
-        let mut map = [0u64; 32];
+        let mut map = [0u64; NonterminalString::LIMIT];
         let mut changed = true;
         while changed {
             changed = grow(grammar, productions, terminals, &mut map);
@@ -31,8 +35,8 @@ impl FirstSets {
 }
 
 // FIRST of one symbol: the terminal itself, or the nonterminal's set. first0 asks either for the end of input; a terminal of a table never has it.
-fn symbol_first(map: &[u64; 32], kind: usize, number: usize) -> TokenSet
-    requires { ⌜ symbolFits 32 63 kind number ≡ true ⌝ }
+fn symbol_first(map: &[u64; NonterminalString::LIMIT], kind: usize, number: usize) -> TokenSet
+    requires { ⌜ symbolFits nonterminalLimit terminalLimit kind number ≡ true ⌝ }
     ensures { λ r. ⌜ r .0 ≡ firstOf (now (map .entry)) (symbolOfKind kind number) ⌝ }
 {
     if kind == 0 {
@@ -43,8 +47,8 @@ fn symbol_first(map: &[u64; 32], kind: usize, number: usize) -> TokenSet
 }
 
 // FIRST of a list of symbols; with the end of input in it exactly if the list may derive the empty string.
-pub fn first0(map: &[u64; 32], terminals: u16, symbols: &[u16]) -> TokenSet
-    requires { ⌜ (terminals ≤ 63) × (listFits 32 63 (now symbols) ≡ true) ⌝ }
+pub fn first0(map: &[u64; NonterminalString::LIMIT], terminals: u16, symbols: &[u16]) -> TokenSet
+    requires { ⌜ (terminals ≤ terminalLimit) × (listFits nonterminalLimit terminalLimit (now symbols) ≡ true) ⌝ }
     ensures { λ r. ⌜ r .0 ≡ first0 terminals (now (map .entry)) (listed (now (symbols .entry))) ⌝ }
 {
     let mut result = TokenSet::new();
@@ -66,8 +70,13 @@ pub fn first0(map: &[u64; 32], terminals: u16, symbols: &[u16]) -> TokenSet
 }
 
 // FIRST of a list that a token of the lookahead follows.
-pub fn first1(map: &[u64; 32], terminals: u16, symbols: &[u16], lookahead: TokenSet) -> TokenSet
-    requires { ⌜ (terminals ≤ 63) × (listFits 32 63 (now symbols) ≡ true) ⌝ }
+pub fn first1(
+    map: &[u64; NonterminalString::LIMIT],
+    terminals: u16,
+    symbols: &[u16],
+    lookahead: TokenSet,
+) -> TokenSet
+    requires { ⌜ (terminals ≤ terminalLimit) × (listFits nonterminalLimit terminalLimit (now symbols) ≡ true) ⌝ }
     ensures { λ r. ⌜ r .0 ≡ first1 terminals (now (map .entry)) (listed (now (symbols .entry))) (lookahead .0) ⌝ }
 {
     let set = first0(map, terminals, symbols);
@@ -86,12 +95,12 @@ fn grow_one(
     production: usize,
     productions: usize,
     terminals: u16,
-    map: &mut [u64; 32],
+    map: &mut [u64; NonterminalString::LIMIT],
 ) -> bool
-    requires { ⌜ Packed (now grammar) productions × (production < productions) × (terminals ≤ 63) × (length (now map) ≡ 32) ⌝ }
-    ensures { λ r. ⌜ (now (map .exit) ≡ grown terminals (now (map .entry)) (productionIn (now (grammar .entry)) production)) × (r ≡ not (same (now (map .exit)) (now (map .entry)))) ⌝ }
+    requires { ⌜ Packed (now grammar) productions × (production < productions) × (terminals ≤ terminalLimit) × (length (now map) ≡ nonterminalLimit) ⌝ }
+    ensures { λ r. ⌜ (now (map .exit) ≡ grown terminals (now (map .entry)) (productionIn (now (grammar .entry)) production)) × (r ≡ not (sameWords (now (map .exit)) (now (map .entry)))) ⌝ }
 {
-    let nonterminal = word(grammar, production * 36);
+    let nonterminal = word(grammar, production * ProductionIndex::WORDS);
     let lookahead = first0(map, terminals, symbols(grammar, production, productions));
     let united = TokenSet(map[nonterminal]).union_with(lookahead);
     map[nonterminal] = united.set.0;
@@ -99,9 +108,14 @@ fn grow_one(
 }
 
 // One round over all productions, in the order of their numbers; whether some set changed.
-fn grow(grammar: &[u16], productions: usize, terminals: u16, map: &mut [u64; 32]) -> bool
-    requires { ⌜ Packed (now grammar) productions × (terminals ≤ 63) × (length (now map) ≡ 32) ⌝ }
-    ensures { λ r. ⌜ (now (map .exit) ≡ round terminals (now (map .entry)) (productionsIn (now (grammar .entry)) productions)) × (r ≡ not (same (now (map .exit)) (now (map .entry)))) ⌝ }
+fn grow(
+    grammar: &[u16],
+    productions: usize,
+    terminals: u16,
+    map: &mut [u64; NonterminalString::LIMIT],
+) -> bool
+    requires { ⌜ Packed (now grammar) productions × (terminals ≤ terminalLimit) × (length (now map) ≡ nonterminalLimit) ⌝ }
+    ensures { λ r. ⌜ (now (map .exit) ≡ round terminals (now (map .entry)) (productionsIn (now (grammar .entry)) productions)) × (r ≡ not (sameWords (now (map .exit)) (now (map .entry)))) ⌝ }
 {
     let mut changed = false;
     let mut production: usize = 0;

@@ -9,6 +9,8 @@ use lib.ListN.{length, getD, take, drop, replicate, length-append}
 use lib.Seq.{drop-at}
 use lib.Dec.{ltb, leb, eqb}
 use borrow.Author.Tests.{ltb-true, leb-true, le-leb}
+use Rattle.repr.specs.Sizes.{scratchWords, classifyScratch}
+use Rattle.slices.specs.Lent.{zeroed}
 use Rattle.repr.specs.Meaning.{Production, noProduction, Item, Table}
 use Rattle.repr.specs.Listed.{listed}
 use Rattle.repr.specs.Packed.{symbolWords, productionsIn}
@@ -32,7 +34,7 @@ use Rattle.enumerator.specs.declared.Lookahead.the-variants.{Set}
 use Rattle.error.specs.declared.Conflict.{Conflict}
 use Rattle.error.specs.Sides.{Side, gathered, stopped, listingSide, reduceItem, reduceSide, shiftSide, actionSideOf, Gathered, sides, halted, bothSides, gather}
 use Rattle.error.specs.Kept.{Read, kept, Kept}
-use Rattle.error.specs.Outcome.{operandFits, placeFits, conflictFits, zeroed}
+use Rattle.error.specs.Outcome.{operandFits, placeFits, conflictFits}
 use Rattle.gather.specs.declared.Side.{Side as SideValue}
 use Rattle.gather.specs.declared.Side.the-variants.{Examples, Stopped}
 use Rattle.gather.specs.declared.Gathered.{Gathered as GatheredValue}
@@ -123,32 +125,27 @@ module _ (T : Table) (c : Conflict) (h : conflictFits T c ≡ true) where
 
 -- both sides, w the words after clearing
 
-zero-words : _≡_ {A = List ℕ} (wordsOf []) (replicate 32000 0)
+zero-words : _≡_ {A = List ℕ} (wordsOf []) (replicate scratchWords 0)
 unfolding wordsOf
 zero-words = refl
 
-pub cleared : (w₀ w : List ℕ) → w ≡ wordsOf [] ++ drop 32000 w₀ → w ≡ zeroed w₀
+pub cleared : (w₀ w : List ℕ) → w ≡ wordsOf [] ++ drop scratchWords w₀ → w ≡ zeroed classifyScratch w₀
 unfolding zeroed
-cleared w₀ w e = e ∙ ap (λ (l : List ℕ). l ++ drop 32000 w₀) zero-words
+cleared w₀ w e = e ∙ ap (λ (l : List ℕ). l ++ drop scratchWords w₀) zero-words
 
-pub cleared-clear : (w₀ w : List ℕ) → w ≡ wordsOf [] ++ drop 32000 w₀ → Clear w
+pub cleared-clear : (w₀ w : List ℕ) → w ≡ wordsOf [] ++ drop scratchWords w₀ → Clear w
 unfolding Clear
 cleared-clear w₀ w e =
-    e ∙ sym (ap (λ (l : List ℕ). wordsOf [] ++ l) (ap (drop 32000) e ∙ drop-at (wordsOf []) (drop 32000 w₀) 32000 (words-long [] (omega arith))))
+    e ∙ sym (ap (λ (l : List ℕ). wordsOf [] ++ l) (ap (drop scratchWords) e ∙ drop-at (wordsOf []) (drop scratchWords w₀) scratchWords (words-long [] (omega arith))))
 
 -- words that are zero are as if they were cleared
-pub clear-words : (w : List ℕ) → Clear w → w ≡ wordsOf [] ++ drop 32000 w
+pub clear-words : (w : List ℕ) → Clear w → w ≡ wordsOf [] ++ drop scratchWords w
 unfolding Clear
 clear-words w K = K
 
-pub zeroed-clear : (w : List ℕ) → w ≡ zeroed w → Clear w
+pub zeroed-clear : (w : List ℕ) → w ≡ zeroed classifyScratch w → Clear w
 unfolding Clear zeroed
-zeroed-clear w e = e ∙ sym (ap (λ (l : List ℕ). l ++ drop 32000 w) zero-words)
-
--- zeroing again changes nothing
-pub zeroed-twice : (w₀ w : List ℕ) → w ≡ wordsOf [] ++ drop 32000 w₀ → zeroed w ≡ zeroed w₀
-unfolding zeroed
-zeroed-twice w₀ w e = ap (λ (l : List ℕ). replicate 32000 0 ++ l) (ap (drop 32000) e ∙ drop-at (wordsOf []) (drop 32000 w₀) 32000 (words-long [] (omega arith)))
+zeroed-clear w e = e ∙ sym (ap (λ (l : List ℕ). l ++ drop scratchWords w) zero-words)
 
 both-stopped : (A B : Side) (x : ℕ) → stopped x ≡ A → halted x ≡ bothSides A B
 unfolding bothSides
@@ -163,7 +160,7 @@ unfolding bothSides
 both-sides A B xs ys m n e f = λ j. bothSides (e j) (f j)
 
 -- w₀: the scratch, w: cleared; r, r′ the answers of the two sides
-module _ (T : Table) (c : Conflict) (w₀ w : List ℕ) (ew : w ≡ wordsOf [] ++ drop 32000 w₀) (r : SideValue) (as′ w′ : List ℕ)
+module _ (T : Table) (c : Conflict) (w₀ w : List ℕ) (ew : w ≡ wordsOf [] ++ drop scratchWords w₀) (r : SideValue) (as′ w′ : List ℕ)
     (a : sided (sideIn (T .productions) r as′) w′ ≡ sided (actionSideOf T (c .state) (c .action) (c .operand) (c .token)) w) where
   abbrev A : Side
   A = actionSideOf T (c .state) (c .action) (c .operand) (c .token)
@@ -174,11 +171,11 @@ module _ (T : Table) (c : Conflict) (w₀ w : List ℕ) (ew : w ≡ wordsOf [] +
   pub words-clear : Clear w′
   words-clear = rw (words-part (sideIn (T .productions) r as′) A w′ w a) (cleared-clear w₀ w ew)
 
-  pub action-halts : (x : ℕ) (rs : List ℕ) → r ≡ Stopped x → (both (gatheredIn (T .productions) (Halted x) as′ rs) w′ ≡ both (gather T c) (zeroed w₀)) × KeptBoth (T .productions) (Halted x) as′ rs
+  pub action-halts : (x : ℕ) (rs : List ℕ) → r ≡ Stopped x → (both (gatheredIn (T .productions) (Halted x) as′ rs) w′ ≡ both (gather T c) (zeroed classifyScratch w₀)) × KeptBoth (T .productions) (Halted x) as′ rs
   unfolding gatheredIn KeptBoth gather sideIn
   action-halts x rs er =
       let e : stopped x ≡ A = ap (λ (y : SideValue). sideIn (T .productions) y as′) (sym er) ∙ side-part (sideIn (T .productions) r as′) A w′ w a in
-      let v : w′ ≡ zeroed w₀ = words-part (sideIn (T .productions) r as′) A w′ w a ∙ cleared w₀ w ew in
+      let v : w′ ≡ zeroed classifyScratch w₀ = words-part (sideIn (T .productions) r as′) A w′ w a ∙ cleared w₀ w ew in
       let q = both-stopped A B x e in
       ((λ j. both (q j) (v j)), tt)
 
@@ -187,10 +184,10 @@ module _ (T : Table) (c : Conflict) (w₀ w : List ℕ) (ew : w ≡ wordsOf [] +
     unfolding sideIn
     side-a = ap (λ (y : SideValue). sideIn (T .productions) y as′) (sym er) ∙ side-part (sideIn (T .productions) r as′) A w′ w a
 
-    words-b : w″ ≡ zeroed w₀
+    words-b : w″ ≡ zeroed classifyScratch w₀
     words-b = words-part (sideIn (T .productions) r′ rs) B w″ w′ b ∙ words-part (sideIn (T .productions) r as′) A w′ w a ∙ cleared w₀ w ew
 
-    pub reduce-halts : (x : ℕ) → r′ ≡ Stopped x → (both (gatheredIn (T .productions) (Halted x) as′ rs) w″ ≡ both (gather T c) (zeroed w₀)) × KeptBoth (T .productions) (Halted x) as′ rs
+    pub reduce-halts : (x : ℕ) → r′ ≡ Stopped x → (both (gatheredIn (T .productions) (Halted x) as′ rs) w″ ≡ both (gather T c) (zeroed classifyScratch w₀)) × KeptBoth (T .productions) (Halted x) as′ rs
     unfolding gatheredIn KeptBoth gather sideIn
     reduce-halts x ex =
         let e : stopped x ≡ B = ap (λ (y : SideValue). sideIn (T .productions) y rs) (sym ex) ∙ side-part (sideIn (T .productions) r′ rs) B w″ w′ b in
@@ -198,7 +195,7 @@ module _ (T : Table) (c : Conflict) (w₀ w : List ℕ) (ew : w ≡ wordsOf [] +
         ((λ j. both (q j) (words-b j)), tt)
 
     pub both-gathered : (k l : ℕ) → r′ ≡ Examples k l → KeptIn (T .productions) r as′ → KeptIn (T .productions) r′ rs
-        → (both (gatheredIn (T .productions) (Sides n m k l) as′ rs) w″ ≡ both (gather T c) (zeroed w₀)) × KeptBoth (T .productions) (Sides n m k l) as′ rs
+        → (both (gatheredIn (T .productions) (Sides n m k l) as′ rs) w″ ≡ both (gather T c) (zeroed classifyScratch w₀)) × KeptBoth (T .productions) (Sides n m k l) as′ rs
     unfolding gatheredIn KeptBoth gather sideIn KeptIn
     both-gathered k l ex K L =
         let e : gathered (kept (T .productions) rs k) l ≡ B = ap (λ (y : SideValue). sideIn (T .productions) y rs) (sym ex) ∙ side-part (sideIn (T .productions) r′ rs) B w″ w′ b in

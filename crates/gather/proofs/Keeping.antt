@@ -2,12 +2,13 @@
 use mathlib.Core.Path.{_≡_, refl, sym, ap, _∙_}
 use mathlib.Core.Bool.{true}
 use mathlib.Core.List.{List, [], _∷_, _++_, map, map-append, append-assoc}
-use Prim.Native.Nat.{ℕ, suc, _+_, _*_, _/_, _%_, _≤_, _<_}
+use Prim.Native.Nat.{ℕ, suc, _+_, _/_, _%_, _≤_, _<_}
 use native.Mathlib.Omega.{arith}
 use lib.ListN.{length, getD, take, drop}
 use lib.Seq.{length-sets, sets-eq, length-take-le, getD-take, getD-drop, take-at, drop-at, getD-at, drop-drop, ext-getD}
 use lib.Dec.{ltb}
 use borrow.Author.Tests.{lt-ltb, le-leb, ltb-true, ltb-false}
+use Rattle.repr.specs.Sizes.{indexLimit, exampleLimit, keptPlace}
 use Rattle.repr.specs.Lists.{below}
 use Rattle.repr.specs.Meaning.{Production, noProduction, All}
 use Rattle.repr.proofs.Lists.{cases, below-last, length-map-below, getD-map-below, length-mapped, getD-map}
@@ -28,11 +29,11 @@ use Rattle.gather.specs.Packing.{packedLabel, packed, keptWith, Owned, F
 small-index : (ps : List Production) → Short ps → (l : Label) → LabelFits ps l → l .index ≤ 16
 small-index ps S l F = let a = F .index in let b = S (l .production) in omega arith
 
-pub packed-production : (l : Label) → l .index ≤ 16 → packedLabel l / 17 ≡ l .production
+pub packed-production : (l : Label) → l .index ≤ 16 → packedLabel l / indexLimit ≡ l .production
 unfolding packedLabel
 packed-production l h = omega arith
 
-pub packed-index : (l : Label) → l .index ≤ 16 → packedLabel l % 17 ≡ l .index
+pub packed-index : (l : Label) → l .index ≤ 16 → packedLabel l % indexLimit ≡ l .index
 unfolding packedLabel
 packed-index l h = omega arith
 
@@ -41,7 +42,7 @@ unfolding keptLabel Owned
 label-read ps l h o =
     let a = packed-production l h in
     let b = packed-index l h in
-    let c : getD ps (packedLabel l / 17) noProduction .nonterminal ≡ l .nonterminal = ap (λ (p : ℕ). getD ps p noProduction .nonterminal) a ∙ sym o in
+    let c : getD ps (packedLabel l / indexLimit) noProduction .nonterminal ≡ l .nonterminal = ap (λ (p : ℕ). getD ps p noProduction .nonterminal) a ∙ sym o in
     λ j. record { nonterminal = c j; production = a j; index = b j }
 
 cons-same : {x y : Label} {xs ys : List Label} → x ≡ y → xs ≡ ys → _≡_ {A = List Label} (x ∷ xs) (y ∷ ys)
@@ -54,55 +55,55 @@ labels-read ps S (l ∷ ls) F O = cons-same (label-read ps l (small-index ps S l
 
 -- the words with an example more
 
-module _ (ps : List Production) (ws ws′ : List ℕ) (k : ℕ) (ls : List Label) (K : Kept ps ws k) (room : k < 192) (F : Fitting ps ls) (e : ws′ ≡ keptWith ws k ls) where
+module _ (ps : List Production) (ws ws′ : List ℕ) (k : ℕ) (ls : List Label) (K : Kept ps ws k) (room : k < exampleLimit) (F : Fitting ps ls) (e : ws′ ≡ keptWith ws k ls) where
   packed-long : length (packed ls) ≡ suc (length ls)
   unfolding packed
   packed-long = ap suc (length-mapped packedLabel ls)
 
   abbrev rest : List ℕ
-  rest = drop (k * 34 + length (packed ls)) ws
+  rest = drop (keptPlace k + length (packed ls)) ws
 
-  parts : ws′ ≡ take (k * 34) ws ++ (packed ls ++ rest)
+  parts : ws′ ≡ take (keptPlace k) ws ++ (packed ls ++ rest)
   unfolding keptWith
   parts =
       let a = packed-long in
       let b = K .long in
       let c = F .few in
-      e ∙ sets-eq (packed ls) ws (k * 34) (omega arith) ∙ append-assoc (take (k * 34) ws) (packed ls) rest
+      e ∙ sets-eq (packed ls) ws (keptPlace k) (omega arith) ∙ append-assoc (take (keptPlace k) ws) (packed ls) rest
 
-  front-long : length (take (k * 34) ws) ≡ k * 34
-  front-long = let b = K .long in length-take-le (k * 34) ws (omega arith)
+  front-long : length (take (keptPlace k) ws) ≡ keptPlace k
+  front-long = let b = K .long in length-take-le (keptPlace k) ws (omega arith)
 
-  front : take (k * 34) ws′ ≡ take (k * 34) ws
-  front = ap (take (k * 34)) parts ∙ take-at (take (k * 34) ws) (packed ls ++ rest) (k * 34) front-long
+  front : take (keptPlace k) ws′ ≡ take (keptPlace k) ws
+  front = ap (take (keptPlace k)) parts ∙ take-at (take (keptPlace k) ws) (packed ls ++ rest) (keptPlace k) front-long
 
-  behind : drop (k * 34) ws′ ≡ packed ls ++ rest
-  behind = ap (drop (k * 34)) parts ∙ drop-at (take (k * 34) ws) (packed ls ++ rest) (k * 34) front-long
+  behind : drop (keptPlace k) ws′ ≡ packed ls ++ rest
+  behind = ap (drop (keptPlace k)) parts ∙ drop-at (take (keptPlace k) ws) (packed ls ++ rest) (keptPlace k) front-long
 
-  count-word : getD ws′ (k * 34) 0 ≡ length ls
+  count-word : getD ws′ (keptPlace k) 0 ≡ length ls
   unfolding packed
-  count-word = ap (λ (l : List ℕ). getD l (k * 34) 0) parts ∙ getD-at (take (k * 34) ws) (length ls) (map packedLabel ls ++ rest) 0 (k * 34) front-long
+  count-word = ap (λ (l : List ℕ). getD l (keptPlace k) 0) parts ∙ getD-at (take (keptPlace k) ws) (length ls) (map packedLabel ls ++ rest) 0 (keptPlace k) front-long
 
-  label-words : take (length ls) (drop (k * 34 + 1) ws′) ≡ map packedLabel ls
+  label-words : take (length ls) (drop (keptPlace k + 1) ws′) ≡ map packedLabel ls
   unfolding packed
   label-words =
-      ap (take (length ls)) (sym (drop-drop 1 (k * 34) ws′) ∙ ap (drop 1) behind)
+      ap (take (length ls)) (sym (drop-drop 1 (keptPlace k) ws′) ∙ ap (drop 1) behind)
       ∙ take-at (map packedLabel ls) rest (length ls) (length-mapped packedLabel ls)
 
-  earlier-count : (i : ℕ) → i < k → getD ws′ (i * 34) 0 ≡ getD ws (i * 34) 0
-  earlier-count i h = same-word (k * 34) (i * 34) ws′ ws front (omega arith)
+  earlier-count : (i : ℕ) → i < k → getD ws′ (keptPlace i) 0 ≡ getD ws (keptPlace i) 0
+  earlier-count i h = same-word (keptPlace k) (keptPlace i) ws′ ws front (omega arith)
 
   earlier : (i : ℕ) → i < k → keptAt ps ws′ i ≡ keptAt ps ws i
   unfolding keptAt
   earlier i h =
       let m = K .few-labels i h in
-      ap (λ (x : ℕ). map (keptLabel ps) (take x (drop (i * 34 + 1) ws′))) (earlier-count i h)
-      ∙ ap (map (keptLabel ps)) (same-part (k * 34) (i * 34 + 1) (getD ws (i * 34) 0) ws′ ws front (omega arith))
+      ap (λ (x : ℕ). map (keptLabel ps) (take x (drop (keptPlace i + 1) ws′))) (earlier-count i h)
+      ∙ ap (map (keptLabel ps)) (same-part (keptPlace k) (keptPlace i + 1) (getD ws (keptPlace i) 0) ws′ ws front (omega arith))
 
   latest : Short ps → All (Owned ps) ls → keptAt ps ws′ k ≡ ls
   unfolding keptAt
   latest S O =
-      ap (λ (x : ℕ). map (keptLabel ps) (take x (drop (k * 34 + 1) ws′))) count-word
+      ap (λ (x : ℕ). map (keptLabel ps) (take x (drop (keptPlace k + 1) ws′))) count-word
       ∙ ap (map (keptLabel ps)) label-words
       ∙ labels-read ps S ls (F .each) O
 
@@ -120,12 +121,12 @@ module _ (ps : List Production) (ws ws′ : List ℕ) (k : ℕ) (ls : List Label
           let l : i < k = rw (length-map-below (keptAt ps ws′) k) at h in
           getD-map-below (keptAt ps ws′) k i [] l ∙ earlier i l ∙ sym (getD-map-below (keptAt ps ws) k i [] l))
 
-  word-latest : (j : ℕ) → j < length ls → getD ws′ (k * 34 + 1 + j) 0 ≡ packedLabel (getD ls j noLabel)
+  word-latest : (j : ℕ) → j < length ls → getD ws′ (keptPlace k + 1 + j) 0 ≡ packedLabel (getD ls j noLabel)
   word-latest j h =
-      sym (getD-drop (k * 34 + 1) ws′ j 0) ∙ sym (getD-take (length ls) (drop (k * 34 + 1) ws′) j 0 h)
+      sym (getD-drop (keptPlace k + 1) ws′ j 0) ∙ sym (getD-take (length ls) (drop (keptPlace k + 1) ws′) j 0 h)
       ∙ ap (λ (l : List ℕ). getD l j 0) label-words ∙ getD-map packedLabel ls j noLabel 0 h
 
-  latest-fits : Short ps → (j : ℕ) → j < length ls → itemFits ps (getD ws′ (k * 34 + 1 + j) 0 / 17) (getD ws′ (k * 34 + 1 + j) 0 % 17) ≡ true
+  latest-fits : Short ps → (j : ℕ) → j < length ls → itemFits ps (getD ws′ (keptPlace k + 1 + j) 0 / indexLimit) (getD ws′ (keptPlace k + 1 + j) 0 % indexLimit) ≡ true
   unfolding itemFits
   latest-fits S j h =
       let l = getD ls j noLabel in
@@ -136,7 +137,7 @@ module _ (ps : List Production) (ws ws′ : List ℕ) (k : ℕ) (ls : List Label
   pub kept-again : Short ps → Kept ps ws′ (suc k)
   unfolding keptWith
   kept-again S = record {
-    long = rw (e, length-sets ws (k * 34) (packed ls)) (K .long);
+    long = rw (e, length-sets ws (keptPlace k) (packed ls)) (K .long);
     few = room;
     some-label = λ i h. cases (ltb i k)
         (λ q. let l = ltb-true i k q in rw (earlier-count i l) (K .some-label i l))
@@ -147,9 +148,9 @@ module _ (ps : List Production) (ws ws′ : List ℕ) (k : ℕ) (ls : List Label
     fits = λ i j h g. cases (ltb i k)
         (λ q.
         let l = ltb-true i k q in
-        let g′ : j < getD ws (i * 34) 0 = rw (earlier-count i l) at g in
+        let g′ : j < getD ws (keptPlace i) 0 = rw (earlier-count i l) at g in
         let m = K .few-labels i l in
-        rw (same-word (k * 34) (i * 34 + 1 + j) ws′ ws front (omega arith)) (K .fits i j l g′))
+        rw (same-word (keptPlace k) (keptPlace i + 1 + j) ws′ ws front (omega arith)) (K .fits i j l g′))
         (λ q.
         let l = ltb-false i k q in
         let z : i ≡ k = omega arith in

@@ -6,6 +6,7 @@ use native.Mathlib.Omega.{arith}
 use native.Mathlib.Numerals.{add-one}
 use lib.ListN.{length, getD, drop, set, length-set, drop-of-length-le}
 use lib.Seq.{sets}
+use Rattle.repr.specs.Sizes.{indexLimit, reductionLimit, labelRoom, keptPlace}
 use Rattle.repr.specs.Meaning.{noProduction}
 use Rattle.repr.proofs.Tests.{All-at}
 use Rattle.example.specs.Example.{Label}
@@ -14,21 +15,21 @@ use Rattle.example.specs.Written.{noLabel, labelAt}
 use Rattle.example.proofs.Labels.{label-count, three-words, label-production, label-index, labels-step}
 use Rattle.gather.specs.Packing.{packedLabel, packed, keptWith, Packable}
 
-pub labels-many : (ws : List ℕ) (many : ℕ) → many ≡ length ws / 3 → Packable ws → (1 ≤ many) × (many ≤ 33)
+pub labels-many : (ws : List ℕ) (many : ℕ) → many ≡ length ws / labelRoom → Packable ws → (1 ≤ many) × (many ≤ reductionLimit)
 labels-many ws many e P =
     let a = P .fits .some-label in
     let b = P .fits .few in
     (omega arith, omega arith)
 
 -- label k
-module _ (ws : List ℕ) (many k : ℕ) (e : many ≡ length ws / 3) (h : k < many) where
+module _ (ws : List ℕ) (many k : ℕ) (e : many ≡ length ws / labelRoom) (h : k < many) where
   inside : k < length (labelsIn ws)
   inside = let r = label-count ws in omega arith
 
-  pub words-inside : 3 * k + 2 < length ws
+  pub words-inside : labelRoom * k + 2 < length ws
   words-inside = let r = three-words ws in let i = inside in omega arith
 
-  pub small : Packable ws → (p i : ℕ) → p ≡ getD ws (3 * k + 1) 0 → i ≡ getD ws (3 * k + 2) 0 → (p < 128) × (i ≤ 16)
+  pub small : Packable ws → (p i : ℕ) → p ≡ getD ws (labelRoom * k + 1) 0 → i ≡ getD ws (labelRoom * k + 2) 0 → (p < 128) × (i ≤ 16)
   unfolding labelAt
   small P p i ep ei =
       let F = All-at (LabelFits (P .productions)) (labelsIn ws) k noLabel (P .fits .each) inside in
@@ -40,7 +41,7 @@ module _ (ws : List ℕ) (many k : ℕ) (e : many ≡ length ws / 3) (h : k < ma
       let y = label-index ws k inside in
       (omega arith, omega arith)
 
-  pub label-word : (p i : ℕ) → p ≡ getD ws (3 * k + 1) 0 → i ≡ getD ws (3 * k + 2) 0 → p * 17 + i ≡ packedLabel (labelAt ws k)
+  pub label-word : (p i : ℕ) → p ≡ getD ws (labelRoom * k + 1) 0 → i ≡ getD ws (labelRoom * k + 2) 0 → p * indexLimit + i ≡ packedLabel (labelAt ws k)
   unfolding packedLabel
   label-word p i ep ei =
       let x = label-production ws k inside in
@@ -60,7 +61,7 @@ packs-first ws s₀ many at =
     let a : at + 1 + 0 ≡ at + 1 = omega arith in
     record { within = omega arith; long = refl; same = rw a }
 
-pub packs-more : (ws s₀ : List ℕ) (many at : ℕ) (s : List ℕ) (k v : ℕ) → many ≡ length ws / 3 → k < many → v ≡ packedLabel (labelAt ws k) → Packs ws s₀ many at s k
+pub packs-more : (ws s₀ : List ℕ) (many at : ℕ) (s : List ℕ) (k v : ℕ) → many ≡ length ws / labelRoom → k < many → v ≡ packedLabel (labelAt ws k) → Packs ws s₀ many at s k
     → Packs ws s₀ many at (set s (at + 1 + k) v) (k + 1)
 packs-more ws s₀ many at s k v e h ev P =
     let a : at + 1 + (k + 1) ≡ suc (at + 1 + k) = omega arith in
@@ -70,7 +71,7 @@ packs-more ws s₀ many at s k v e h ev P =
       same = rw (a, ev) (ap (λ (l : List Label). sets s (at + 1 + k) (map packedLabel l)) (sym (labels-step ws k (inside ws many k e h))) ∙ P .same);
     }
 
-pub packs-all : (ws s₀ : List ℕ) (count many at : ℕ) (s : List ℕ) (k : ℕ) → many ≡ length ws / 3 → at ≡ count * 34 → many ≤ k → Packs ws (set s₀ at many) many at s k
+pub packs-all : (ws s₀ : List ℕ) (count many at : ℕ) (s : List ℕ) (k : ℕ) → many ≡ length ws / labelRoom → at ≡ keptPlace count → many ≤ k → Packs ws (set s₀ at many) many at s k
     → s ≡ keptWith s₀ count (labelsIn ws)
 unfolding keptWith packed
 packs-all ws s₀ count many at s k e ea h P =

@@ -10,6 +10,7 @@ use lib.ListN.{length, getD, take, drop, drop-of-length-le}
 use lib.Seq.{drop-cons, getD-take, length-take-le}
 use lib.Dec.{eqb}
 use borrow.Author.Tests.{eqb-true}
+use Rattle.repr.specs.Sizes.{indexLimit, trialLimit, sideRoom}
 use Rattle.repr.specs.Lists.{keep, some?, below, upFrom}
 use Rattle.repr.specs.Meaning.{Item, Table, State, noState, stateAt, All, TableFits, StateFits, ItemFits}
 use Rattle.repr.proofs.Lists.{cases, keep-nil, keep-yes, keep-no, length-map-below, length-mapped, getD-map}
@@ -42,7 +43,7 @@ pub record Turn (T : Table) (s token found : ℕ) (w₀ s₀ w side : List ℕ) 
   pub words : w ≡ w₀
   pub held : Kept (T .productions) side total
   pub long : length side ≡ length s₀
-  pub few-trials : trials ≤ at * 100000
+  pub few-trials : trials ≤ at * trialLimit
   pub same : shiftSideFrom T s (gathered (kept (T .productions) side total) trials) (drop at (shiftItems T s token)) ≡ shiftSide T s token
 
 -- sides
@@ -55,7 +56,7 @@ pub kept-none : (ps : List Production) (ws : List ℕ) → kept ps ws 0 ≡ []
 unfolding kept below upFrom
 kept-none ps ws = refl
 
-pub kept-first : (ps : List Production) (ws : List ℕ) → 6528 ≤ length ws → Kept ps ws 0
+pub kept-first : (ps : List Production) (ws : List ℕ) → sideRoom ≤ length ws → Kept ps ws 0
 kept-first ps ws h = record { long = h; few = omega arith; some-label = λ k l. absurd (omega arith); few-labels = λ k l. absurd (omega arith); fits = λ k j l q. absurd (omega arith) }
 
 with-onto : (xs zs : List (List Label)) (m n : ℕ) (L : Side) → gathered zs n ≡ onto xs L → withMore (gathered xs m) L ≡ gathered zs (m + n)
@@ -98,7 +99,7 @@ side-part a b v w e = cc
 pub words-part : (a b : Side) (v w : List ℕ) → sided a v ≡ sided b w → v ≡ w
 words-part a b v w e = cc
 
-pub turn-first : (T : Table) (s token found : ℕ) (w₀ s₀ : List ℕ) → 6528 ≤ length s₀ → Turn T s token found w₀ s₀ w₀ s₀ 0 0 0
+pub turn-first : (T : Table) (s token found : ℕ) (w₀ s₀ : List ℕ) → sideRoom ≤ length s₀ → Turn T s token found w₀ s₀ w₀ s₀ 0 0 0
 unfolding shiftSide
 turn-first T s token found w₀ s₀ h = record {
   within = omega arith;
@@ -109,7 +110,7 @@ turn-first T s token found w₀ s₀ h = record {
   same = ap (λ (l : List (List Label)). shiftSideFrom T s (gathered l 0) (shiftItems T s token)) (kept-none (T .productions) s₀);
 }
 
-pub trials-few : (r : SideValue) (k n : ℕ) → r ≡ Examples k n → TrialsIn 100000 r → n ≤ 100000
+pub trials-few : (r : SideValue) (k n : ℕ) → r ≡ Examples k n → TrialsIn trialLimit r → n ≤ trialLimit
 unfolding TrialsIn
 trials-few r k n e h = rw e at h
 
@@ -156,15 +157,15 @@ module _ (T : Table) (F : TableFits T) (s token : ℕ) (hs : s < length (T .stat
         let l = length-take-le found items few in
         ap (λ (x : List Item). getD x k noItem) (sym E) ∙ getD-map itemOf (take found items) k 0 noItem (omega arith) ∙ ap itemOf (getD-take found items k 0 h)
 
-    pub item-in : (k c : ℕ) → k < found → c ≡ getD items k 0 → itemFits (T .productions) (c / 17) (c % 17) ≡ true
+    pub item-in : (k c : ℕ) → k < found → c ≡ getD items k 0 → itemFits (T .productions) (c / indexLimit) (c % indexLimit) ≡ true
     unfolding itemOf
     item-in k c h e =
         let m = items-many in
-        let q : getD (shiftItems T s token) k noItem ≡ record { production = c / 17; index = c % 17 } = item-at k h ∙ ap itemOf (sym e) in
+        let q : getD (shiftItems T s token) k noItem ≡ record { production = c / indexLimit; index = c % indexLimit } = item-at k h ∙ ap itemOf (sym e) in
         let I = shift-item-fits k (omega arith) in
-        item-fits T (record { production = c / 17; index = c % 17 }) (rw q at I)
+        item-fits T (record { production = c / indexLimit; index = c % indexLimit }) (rw q at I)
 
-    item-next : (k c : ℕ) → k < found → c ≡ getD items k 0 → drop k (shiftItems T s token) ≡ record { production = c / 17; index = c % 17 } ∷ drop (suc k) (shiftItems T s token)
+    item-next : (k c : ℕ) → k < found → c ≡ getD items k 0 → drop k (shiftItems T s token) ≡ record { production = c / indexLimit; index = c % indexLimit } ∷ drop (suc k) (shiftItems T s token)
     unfolding itemOf
     item-next k c h e =
         let m = items-many in
@@ -174,12 +175,12 @@ module _ (T : Table) (F : TableFits T) (s token : ℕ) (hs : s < length (T .stat
     -- a listing that was made, r its answer
     module _ (w₀ s₀ w side : List ℕ) (total trials at c : ℕ) (U : Turn T s token found w₀ s₀ w side total trials at) (h : at < found) (ec : c ≡ getD items at 0)
         (r : SideValue) (side′ w′ : List ℕ)
-        (a : sided (sideIn (T .productions) r side′) w′ ≡ sided (onto (kept (T .productions) side total) (listingSide T (edgesBy true T s (record { production = c / 17; index = c % 17 })) (record { production = c / 17; index = c % 17 }) (setOf Any) total)) w) where
+        (a : sided (sideIn (T .productions) r side′) w′ ≡ sided (onto (kept (T .productions) side total) (listingSide T (edgesBy true T s (record { production = c / indexLimit; index = c % indexLimit })) (record { production = c / indexLimit; index = c % indexLimit }) (setOf Any) total)) w) where
       abbrev item : Item
-      item = record { production = c / 17; index = c % 17 }
+      item = record { production = c / indexLimit; index = c % indexLimit }
 
       abbrev listing : Side
-      listing = listingSide T (shiftEdges T s (record { production = c / 17; index = c % 17 })) (record { production = c / 17; index = c % 17 }) none total
+      listing = listingSide T (shiftEdges T s (record { production = c / indexLimit; index = c % indexLimit })) (record { production = c / indexLimit; index = c % indexLimit }) none total
 
       answer : sideIn (T .productions) r side′ ≡ onto (kept (T .productions) side total) listing
       unfolding edgesBy setOf
@@ -196,7 +197,7 @@ module _ (T : Table) (F : TableFits T) (s token : ℕ) (hs : s < length (T .stat
           ∙ ap (shiftSideFrom T s (gathered (kept (T .productions) side total) trials)) (sym (item-next at c h ec))
           ∙ U .same
 
-      pub turn-more : (k n : ℕ) → r ≡ Examples k n → KeptIn (T .productions) r side′ × TrialsIn 100000 r → length side′ ≡ length side → Turn T s token found w₀ s₀ w′ side′ k (trials + n) (at + 1)
+      pub turn-more : (k n : ℕ) → r ≡ Examples k n → KeptIn (T .productions) r side′ × TrialsIn trialLimit r → length side′ ≡ length side → Turn T s token found w₀ s₀ w′ side′ k (trials + n) (at + 1)
       unfolding sideIn KeptIn TrialsIn
       turn-more k n er K l =
           let K₁ = rw er at K in

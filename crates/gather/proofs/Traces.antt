@@ -3,11 +3,12 @@ use mathlib.Core.Path.{_≡_, refl, sym, ap, _∙_}
 use mathlib.Core.Bool.{Bool, true, false}
 use mathlib.Core.Option.{Option}
 use mathlib.Core.List.{List, [], _∷_, _++_, map}
-use Prim.Native.Nat.{ℕ, zero, suc, _+_, _-_, _*_, _≤_, _<_}
+use Prim.Native.Nat.{ℕ, zero, suc, _+_, _-_, _≤_, _<_}
 use native.Mathlib.Omega.{arith}
 use lib.ListN.{length, getD, take, drop, take-append-drop}
 use lib.Dec.{ltb}
 use borrow.Author.Tests.{lt-ltb, le-ltb}
+use Rattle.repr.specs.Sizes.{edgeLimit, edgePlace, trialLimit, exampleLimit}
 use Rattle.repr.specs.Lists.{keep}
 use Rattle.repr.specs.Meaning.{Production, noProduction, Item, Table, All}
 use Rattle.repr.specs.Packed.{Packed, productionsIn}
@@ -16,7 +17,7 @@ use Rattle.table.specs.Decoded.{meaning}
 use Rattle.table.proofs.Decoding.{fits}
 use Rattle.first.specs.First.{firstSets}
 use Rattle.trace_graph.specs.Graph.{TraceEdge, Node, atNonterminal, atItem}
-use Rattle.trace_graph.specs.Words.{edgeLimit, graphWords, edgesIn}
+use Rattle.trace_graph.specs.Words.{graphWords, edgesIn}
 use Rattle.trace_graph.specs.Fits.{itemFits, graphFits}
 use Rattle.trace_graph.specs.Insert.{Graphed}
 use Rattle.trace_graph.proofs.RoundTrip.{edges-back, EdgeInRange, graph-fits}
@@ -25,8 +26,8 @@ use Rattle.trace.specs.Sound.{nodeOwner as ownerAt, EdgeSound, Sound}
 use Rattle.trace.proofs.Traced.{fits-item, shift-sound, reduce-sound}
 use Rattle.tracer.specs.Built.{Asked, Built, edgesBy}
 use Rattle.enumerator.specs.Trials.{Path, endsOf, trials}
-use Rattle.enumerator.specs.Lister.{hands, labelsOf, trialLimit, nodeOwner}
-use Rattle.error.specs.Sides.{Side, gathered, stopped, exampleLimit, listingSide}
+use Rattle.enumerator.specs.Lister.{hands, labelsOf, nodeOwner}
+use Rattle.error.specs.Sides.{Side, gathered, stopped, listingSide}
 use Rattle.error.specs.Kept.{Read, kept, Kept}
 use Rattle.gather.specs.declared.Side.{Side as SideValue}
 use Rattle.gather.specs.declared.Side.the-variants.{Examples, Stopped}
@@ -42,7 +43,7 @@ module _ (T : Table) (es : List TraceEdge) (i : Item) (ahead : Option ℕ) (k : 
   abbrev ts : List Path
   ts = trials (endsOf es) (atItem i)
 
-  listing-tested : length es ≤ 1024
+  listing-tested : length es ≤ edgeLimit
       → listingSide T es i ahead k
       ≡ tested (ltb exampleLimit (k + length (keep (hands T es ahead) (take trialLimit ts)))) (ltb trialLimit (length ts)) (gathered (map (labelsOf (T .productions) es) (keep (hands T es ahead) ts)) (length ts))
   unfolding listingSide tested
@@ -52,11 +53,11 @@ module _ (T : Table) (es : List TraceEdge) (i : Item) (ahead : Option ℕ) (k : 
       (λ a. rw (n, a, listingSide))
       (λ a. cases (ltb trialLimit (length ts)) (λ b. rw (n, a, b, listingSide)) (λ b. rw (n, a, b, listingSide)))
 
-  pub listing-over : 1024 < length es → listingSide T es i ahead k ≡ stopped 12
+  pub listing-over : edgeLimit < length es → listingSide T es i ahead k ≡ stopped 12
   unfolding listingSide
   listing-over h = rw (lt-ltb edgeLimit (length es) h, listingSide)
 
-  pub listing-is : length es ≤ 1024 → k ≤ 192 → listedBy (T .terminals) (firstSets (T .terminals) (T .productions)) (T .productions) es ahead i k ≡ listingSide T es i ahead k
+  pub listing-is : length es ≤ edgeLimit → k ≤ exampleLimit → listedBy (T .terminals) (firstSets (T .terminals) (T .productions)) (T .productions) es ahead i k ≡ listingSide T es i ahead k
   unfolding listedBy
   listing-is h l =
       let test = handsBy (T .terminals) (firstSets (T .terminals) (T .productions)) (T .productions) es ahead in
@@ -115,10 +116,10 @@ module _ (t g : List ℕ) (productions n terminals : ℕ) (sets : List ℕ) (R :
       es = edgesBy shift (meaning t) s (record { production = p; index = i })
 
       abbrev rest : List ℕ
-      rest = drop (length es * 8 + 1) ws
+      rest = drop (edgePlace (length es)) ws
 
       split : ws ≡ graphWords es ++ rest
-      split = sym (take-append-drop (length es * 8 + 1) ws) ∙ ap (λ (l : List ℕ). l ++ rest) (B .words)
+      split = sym (take-append-drop (edgePlace (length es)) ws) ∙ ap (λ (l : List ℕ). l ++ rest) (B .words)
 
       pub edges-same : edgesIn ws ≡ es
       edges-same = ap edgesIn split ∙ edges-back es rest
@@ -139,17 +140,17 @@ module _ (t g : List ℕ) (productions n terminals : ℕ) (sets : List ℕ) (R :
 
       pub listing-made : (k : ℕ) (ahead : Option ℕ) (s₀ w₀ : List ℕ) (r : SideValue) (s′ w′ : List ℕ) → Kept (meaning t .productions) s₀ k
           → sided (sideIn (productionsIn g productions) r s′) w′ ≡ sided (onto (kept (productionsIn g productions) s₀ k) (listedBy terminals sets (productionsIn g productions) (edgesIn ws) ahead (record { production = p; index = i }) k)) w₀
-          → KeptIn (productionsIn g productions) r s′ × TrialsIn 100000 r
+          → KeptIn (productionsIn g productions) r s′ × TrialsIn trialLimit r
           → (sided (sideIn (meaning t .productions) r s′) w′ ≡ sided (onto (kept (meaning t .productions) s₀ k) (listingSide (meaning t) (edgesBy shift (meaning t) s (record { production = p; index = i })) (record { production = p; index = i }) ahead k)) w₀)
-          × (KeptIn (meaning t .productions) r s′ × TrialsIn 100000 r)
+          × (KeptIn (meaning t .productions) r s′ × TrialsIn trialLimit r)
       listing-made k ahead s₀ w₀ r s′ w′ K e h =
           let e₁ = rw (R .same, R .tokens, R .firsts, edges-same) at e in
           let h₁ = rw (R .same) at (h .0) in
           (e₁ ∙ ap (λ (l : Side). sided (onto (kept (meaning t .productions) s₀ k) l) w₀) (listing-is (meaning t) es item ahead k (B .few) (K .few)), (h₁, h .1))
 
-    pub listing-full : (shift : Bool) (k : ℕ) (ahead : Option ℕ) (s₀ w₀ : List ℕ) → 1024 < length (edgesBy shift (meaning t) s (record { production = p; index = i }))
+    pub listing-full : (shift : Bool) (k : ℕ) (ahead : Option ℕ) (s₀ w₀ : List ℕ) → edgeLimit < length (edgesBy shift (meaning t) s (record { production = p; index = i }))
         → (sided (sideIn (meaning t .productions) (Stopped 12) s₀) w₀ ≡ sided (onto (kept (meaning t .productions) s₀ k) (listingSide (meaning t) (edgesBy shift (meaning t) s (record { production = p; index = i })) (record { production = p; index = i }) ahead k)) w₀)
-        × (KeptIn (meaning t .productions) (Stopped 12) s₀ × TrialsIn 100000 (Stopped 12))
+        × (KeptIn (meaning t .productions) (Stopped 12) s₀ × TrialsIn trialLimit (Stopped 12))
     unfolding sideIn onto KeptIn TrialsIn
     listing-full shift k ahead s₀ w₀ h =
         (sym (ap (λ (l : Side). sided (onto (kept (meaning t .productions) s₀ k) l) w₀) (listing-over (meaning t) (edgesBy shift (meaning t) s item) item ahead k h)), (tt, tt))

@@ -3,11 +3,12 @@ use mathlib.Core.Path.{_≡_, refl, sym, ap, _∙_}
 use mathlib.Core.Bool.{Bool, true, false}
 use mathlib.Core.Option.{Option}
 use mathlib.Core.List.{List, [], _∷_, _++_, map, append-nil, append-assoc, List·Memᴰ}
-use Prim.Native.Nat.{ℕ, zero, suc, _+_, _-_, _*_, _≤_, _<_}
+use Prim.Native.Nat.{ℕ, zero, suc, _+_, _-_, _≤_, _<_}
 use native.Mathlib.Omega.{arith}
 use native.Mathlib.Numerals.{add-one}
 use lib.ListN.{length, getD, take, drop, length-append}
 use lib.Seq.{length-sets, drop-at}
+use Rattle.repr.specs.Sizes.{scratchWords, trialLimit, exampleLimit, keptPlace}
 use Rattle.repr.specs.Meaning.{Production, noProduction, Item, All}
 use Rattle.repr.specs.Packed.{Packed, productionIn, productionsIn}
 use Rattle.repr.proofs.Lists.{length-map-below}
@@ -20,7 +21,7 @@ use Rattle.example.specs.Labels.{labelsIn, LabelFits, LabelsFit}
 use Rattle.example.proofs.Labels.{some-label, few-labels, short-in}
 use Rattle.example.proofs.Sizes.{Short}
 use Rattle.enumerator.specs.Trials.{Path, Ends, noEdge, endsOf, trials}
-use Rattle.enumerator.specs.Lister.{Found, hit, out, over, search, trialLimit, labelsOf, labelAt}
+use Rattle.enumerator.specs.Lister.{Found, hit, out, over, search, labelsOf, labelAt}
 use Rattle.enumerator.specs.Words.{wordsOf}
 use Rattle.enumerator.specs.Stacks.{Within}
 use Rattle.enumerator.proofs.After.{after-trial}
@@ -57,7 +58,7 @@ labels-appended ps ws s s′ k ls F e h =
 
 with-long : (s : List ℕ) (k : ℕ) (ls : List Label) → length (keptWith s k ls) ≡ length s
 unfolding keptWith
-with-long s k ls = length-sets s (k * 34) (packed ls)
+with-long s k ls = length-sets s (keptPlace k) (packed ls)
 
 -- examples put behind others
 
@@ -100,14 +101,14 @@ module _ (e : ℕ) (sets : List ℕ) (ps : List Production) (ahead : Option ℕ)
   -- w₀, s₀, k₀: words, side and its number of examples at the beginning; c trials are made
   pub record Turn (w₀ s₀ : List ℕ) (k₀ : ℕ) (w s : List ℕ) (k c : ℕ) : Type 0 where
     pub path : Path
-    pub words : w ≡ wordsOf path ++ drop 32000 w₀
+    pub words : w ≡ wordsOf path ++ drop scratchWords w₀
     pub begun : Begun (endsOf (edgesIn g)) (atItem (record { production = production; index = index })) path
     pub later : laterThan path (trials (endsOf (edgesIn g)) (atItem (record { production = production; index = index }))) ≡ drop c (trials (endsOf (edgesIn g)) (atItem (record { production = production; index = index })))
-    pub made : c ≤ 100000
+    pub made : c ≤ trialLimit
     pub held : Kept ps s k
     pub long : length s ≡ length s₀
     pub wide : length w ≡ length w₀
-    pub same : onto (kept ps s k) (walkSide (handsBy e sets ps (edgesIn g) ahead) (labelsOf ps (edgesIn g)) (100000 - c) c k (drop c (trials (endsOf (edgesIn g)) (atItem (record { production = production; index = index }))))) ≡ onto (kept ps s₀ k₀) (listedBy e sets ps (edgesIn g) ahead (record { production = production; index = index }) k₀)
+    pub same : onto (kept ps s k) (walkSide (handsBy e sets ps (edgesIn g) ahead) (labelsOf ps (edgesIn g)) (trialLimit - c) c k (drop c (trials (endsOf (edgesIn g)) (atItem (record { production = production; index = index }))))) ≡ onto (kept ps s₀ k₀) (listedBy e sets ps (edgesIn g) ahead (record { production = production; index = index }) k₀)
 
   pub turn-first : (w₀ s₀ : List ℕ) (k₀ : ℕ) → Clear w₀ → Kept ps s₀ k₀ → Turn w₀ s₀ k₀ w₀ s₀ k₀ 0
   unfolding Clear listedBy
@@ -130,33 +131,33 @@ module _ (e : ℕ) (sets : List ℕ) (ps : List Production) (ahead : Option ℕ)
       graphed = L .graphed;
       fits = L .fits;
       path = U .path;
-      rest = drop 32000 w₀;
+      rest = drop scratchWords w₀;
       words = U .words;
       begun = U .begun;
     }
 
     -- a search that was made, r its answer and w′ the words that it leaves
     module _ (r : Searched) (w′ : List ℕ) (a : (p rest : List ℕ) → w ≡ wordsOf p ++ rest → searched r w′ ≡ searchedOf rest (search test (trialLimit - c) c (laterThan p ts))) where
-      answer : searched r w′ ≡ searchedOf (drop 32000 w₀) (search test (100000 - c) c (laterThan (U .path) ts))
-      answer = a (U .path) (drop 32000 w₀) (U .words)
+      answer : searched r w′ ≡ searchedOf (drop scratchWords w₀) (search test (trialLimit - c) c (laterThan (U .path) ts))
+      answer = a (U .path) (drop scratchWords w₀) (U .words)
 
       pub record Hits (n : ℕ) : Type 0 where
         pub found : Path
-        pub words : w′ ≡ wordsOf found ++ drop 32000 w₀
+        pub words : w′ ≡ wordsOf found ++ drop scratchWords w₀
         pub trial : List·Memᴰ found (trials (endsOf (edgesIn g)) (atItem (record { production = production; index = index })))
         pub later : laterThan found (trials (endsOf (edgesIn g)) (atItem (record { production = production; index = index }))) ≡ drop n (trials (endsOf (edgesIn g)) (atItem (record { production = production; index = index })))
-        pub made : n ≤ 100000
-        pub walk : walkSide (handsBy e sets ps (edgesIn g) ahead) (labelsOf ps (edgesIn g)) (100000 - c) c k (drop c (trials (endsOf (edgesIn g)) (atItem (record { production = production; index = index })))) ≡ nextExample k (labelsOf ps (edgesIn g) found) (walkSide (handsBy e sets ps (edgesIn g) ahead) (labelsOf ps (edgesIn g)) (100000 - n) n (suc k) (drop n (trials (endsOf (edgesIn g)) (atItem (record { production = production; index = index })))))
+        pub made : n ≤ trialLimit
+        pub walk : walkSide (handsBy e sets ps (edgesIn g) ahead) (labelsOf ps (edgesIn g)) (trialLimit - c) c k (drop c (trials (endsOf (edgesIn g)) (atItem (record { production = production; index = index })))) ≡ nextExample k (labelsOf ps (edgesIn g) found) (walkSide (handsBy e sets ps (edgesIn g) ahead) (labelsOf ps (edgesIn g)) (trialLimit - n) n (suc k) (drop n (trials (endsOf (edgesIn g)) (atItem (record { production = production; index = index })))))
 
       pub turn-hit : (n : ℕ) → r ≡ Hit n → Hits n
       turn-hit n er =
-          let x = searched-hit n w′ (drop 32000 w₀) (search test (100000 - c) c (laterThan (U .path) ts)) (ap (λ (y : Searched). searched y w′) (sym er) ∙ answer) in
+          let x = searched-hit n w′ (drop scratchWords w₀) (search test (trialLimit - c) c (laterThan (U .path) ts)) (ap (λ (y : Searched). searched y w′) (sym er) ∙ answer) in
           let f = x .0 in
-          let m = search-trial test (endsOf es) start (U .path) (100000 - c) c n f (x .1) in
-          let N = walk-hit test say ts (100000 - c) c k n f (drop c ts) refl (ap (search test (100000 - c) c) (sym (U .later)) ∙ x .1) in
+          let m = search-trial test (endsOf es) start (U .path) (trialLimit - c) c n f (x .1) in
+          let N = walk-hit test say ts (trialLimit - c) c k n f (drop c ts) refl (ap (search test (trialLimit - c) c) (sym (U .later)) ∙ x .1) in
           let b = U .made in
           let d = N .limit in
-          let z : N .left ≡ 100000 - n = omega arith in
+          let z : N .left ≡ trialLimit - n = omega arith in
           record {
             found = f;
             words = x .2;
@@ -166,41 +167,41 @@ module _ (e : ℕ) (sets : List ℕ) (ps : List Production) (ahead : Option ℕ)
             walk = N .walk ∙ ap (λ (q : ℕ). nextExample k (say f) (walkSide test say q n (suc k) (drop n ts))) z;
           }
 
-      pub hit-long : (n : ℕ) → r ≡ Hit n → 32000 ≤ length w′
+      pub hit-long : (n : ℕ) → r ≡ Hit n → scratchWords ≤ length w′
       hit-long n er =
           let H = turn-hit n er in
           let b = short-trial (endsOf es) start (H .found) (H .trial) in
           let a = words-long (H .found) (omega arith) in
-          let d = ap (λ (l : List ℕ). length l) (H .words) ∙ length-append (wordsOf (H .found)) (drop 32000 w₀) in
+          let d = ap (λ (l : List ℕ). length l) (H .words) ∙ length-append (wordsOf (H .found)) (drop scratchWords w₀) in
           omega arith
 
       -- 14
-      pub turn-full : (n : ℕ) → r ≡ Hit n → Clear w₀ → 192 ≤ k → (w″ : List ℕ) → w″ ≡ wordsOf [] ++ drop 32000 w′
+      pub turn-full : (n : ℕ) → r ≡ Hit n → Clear w₀ → exampleLimit ≤ k → (w″ : List ℕ) → w″ ≡ wordsOf [] ++ drop scratchWords w′
           → (sided (sideIn ps (Stopped 14) s) w″ ≡ sided (onto (kept ps s₀ k₀) (listedBy e sets ps es ahead (record { production = production; index = index }) k₀)) w₀)
-          × (KeptIn ps (Stopped 14) s × TrialsIn 100000 (Stopped 14))
+          × (KeptIn ps (Stopped 14) s × TrialsIn trialLimit (Stopped 14))
       unfolding sideIn Clear KeptIn TrialsIn
       turn-full n er C h w″ ew =
           let H = turn-hit n er in
           let b = short-trial (endsOf es) start (H .found) (H .trial) in
-          let f : onto (kept ps s k) (walkSide test say (100000 - c) c k (drop c ts)) ≡ stopped 14 =
-          ap (onto (kept ps s k)) (H .walk ∙ next-none k (say (H .found)) (walkSide test say (100000 - n) n (suc k) (drop n ts)) h) ∙ onto-stopped (kept ps s k) 14 in
-          let d : drop 32000 w′ ≡ drop 32000 w₀ = ap (drop 32000) (H .words) ∙ drop-at (wordsOf (H .found)) (drop 32000 w₀) 32000 (words-long (H .found) (omega arith)) in
+          let f : onto (kept ps s k) (walkSide test say (trialLimit - c) c k (drop c ts)) ≡ stopped 14 =
+          ap (onto (kept ps s k)) (H .walk ∙ next-none k (say (H .found)) (walkSide test say (trialLimit - n) n (suc k) (drop n ts)) h) ∙ onto-stopped (kept ps s k) 14 in
+          let d : drop scratchWords w′ ≡ drop scratchWords w₀ = ap (drop scratchWords) (H .words) ∙ drop-at (wordsOf (H .found)) (drop scratchWords w₀) scratchWords (words-long (H .found) (omega arith)) in
           let v : w″ ≡ w₀ = ew ∙ ap (λ (l : List ℕ). wordsOf [] ++ l) d ∙ sym C in
           let q : stopped 14 ≡ onto (kept ps s₀ k₀) (listedBy e sets ps es ahead (record { production = production; index = index }) k₀) = sym f ∙ U .same in
           ((λ j. sided (q j) (v j)), (tt, tt))
 
       pub turn-tried : (n : ℕ) → r ≡ Hit n → Tried ps g w′
-      turn-tried n er = let H = turn-hit n er in tried-trial (L .graphed) start (H .found) (drop 32000 w₀) w′ (H .trial) (H .words)
+      turn-tried n er = let H = turn-hit n er in tried-trial (L .graphed) start (H .found) (drop scratchWords w₀) w′ (H .trial) (H .words)
 
-      pub turn-more : (n : ℕ) → r ≡ Hit n → Short ps → k < 192 → length w′ ≡ length w → (s′ : List ℕ)
+      pub turn-more : (n : ℕ) → r ≡ Hit n → Short ps → k < exampleLimit → length w′ ≡ length w → (s′ : List ℕ)
           → ((p rest : List ℕ) → w′ ≡ wordsOf p ++ rest → (s′ ≡ keptWith s k (labelsOf ps es p)) × Fitting ps (labelsOf ps es p))
           → Turn w₀ s₀ k₀ w′ s′ (k + 1) n
       turn-more n er S h ww s′ app =
           let H = turn-hit n er in
-          let x = app (H .found) (drop 32000 w₀) (H .words) in
+          let x = app (H .found) (drop scratchWords w₀) (H .words) in
           let O = path-owned ps es (L .owned) (H .found) (trial-within (endsOf es) (H .found) [] start (sound (endsOf es) start (H .found) (H .trial))) in
           let e₁ : kept ps s′ (suc k) ≡ kept ps s k ++ say (H .found) ∷ [] = kept-more ps s s′ k (say (H .found)) (U .held) h (x .1) (x .0) S O in
-          let W = walkSide test say (100000 - n) n (suc k) (drop n ts) in
+          let W = walkSide test say (trialLimit - n) n (suc k) (drop n ts) in
           rw (add-one k) (record {
             path = H .found;
             words = H .words;
@@ -221,11 +222,11 @@ module _ (e : ℕ) (sets : List ℕ) (ps : List Production) (ahead : Option ℕ)
       -- the end
       pub turn-out : (n : ℕ) → r ≡ Out n → Clear w₀
           → (sided (sideIn ps (Examples k n) s) w′ ≡ sided (onto (kept ps s₀ k₀) (listedBy e sets ps es ahead (record { production = production; index = index }) k₀)) w₀)
-          × (KeptIn ps (Examples k n) s × TrialsIn 100000 (Examples k n))
+          × (KeptIn ps (Examples k n) s × TrialsIn trialLimit (Examples k n))
       unfolding sideIn Clear KeptIn TrialsIn
       turn-out n er C =
-          let x = searched-out n w′ (drop 32000 w₀) (search test (100000 - c) c (laterThan (U .path) ts)) (ap (λ (y : Searched). searched y w′) (sym er) ∙ answer) in
-          let y = walk-out test say (100000 - c) c k n (drop c ts) (ap (search test (100000 - c) c) (sym (U .later)) ∙ x .0) in
+          let x = searched-out n w′ (drop scratchWords w₀) (search test (trialLimit - c) c (laterThan (U .path) ts)) (ap (λ (y : Searched). searched y w′) (sym er) ∙ answer) in
+          let y = walk-out test say (trialLimit - c) c k n (drop c ts) (ap (search test (trialLimit - c) c) (sym (U .later)) ∙ x .0) in
           let b = U .made in
           let d = y .1 in
           let v : w′ ≡ w₀ = x .1 ∙ sym C in
@@ -236,11 +237,11 @@ module _ (e : ℕ) (sets : List ℕ) (ps : List Production) (ahead : Option ℕ)
       -- 13
       pub turn-over : r ≡ Over → Clear w₀
           → (sided (sideIn ps (Stopped 13) s) w′ ≡ sided (onto (kept ps s₀ k₀) (listedBy e sets ps es ahead (record { production = production; index = index }) k₀)) w₀)
-          × (KeptIn ps (Stopped 13) s × TrialsIn 100000 (Stopped 13))
+          × (KeptIn ps (Stopped 13) s × TrialsIn trialLimit (Stopped 13))
       unfolding sideIn Clear KeptIn TrialsIn
       turn-over er C =
-          let x = searched-over w′ (drop 32000 w₀) (search test (100000 - c) c (laterThan (U .path) ts)) (ap (λ (y : Searched). searched y w′) (sym er) ∙ answer) in
-          let y = walk-past test say (100000 - c) c k (drop c ts) (ap (search test (100000 - c) c) (sym (U .later)) ∙ x .0) in
+          let x = searched-over w′ (drop scratchWords w₀) (search test (trialLimit - c) c (laterThan (U .path) ts)) (ap (λ (y : Searched). searched y w′) (sym er) ∙ answer) in
+          let y = walk-past test say (trialLimit - c) c k (drop c ts) (ap (search test (trialLimit - c) c) (sym (U .later)) ∙ x .0) in
           let v : w′ ≡ w₀ = x .1 ∙ sym C in
           let q : stopped 13 ≡ onto (kept ps s₀ k₀) (listedBy e sets ps es ahead (record { production = production; index = index }) k₀) =
           sym (ap (onto (kept ps s k)) y ∙ onto-stopped (kept ps s k) 13) ∙ U .same in

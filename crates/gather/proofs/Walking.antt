@@ -7,6 +7,7 @@ use native.Mathlib.Omega.{arith}
 use lib.ListN.{length, take, drop}
 use lib.Dec.{ltb}
 use borrow.Author.Tests.{lt-ltb, le-ltb, ltb-true, ltb-false}
+use Rattle.repr.specs.Sizes.{exampleLimit}
 use Rattle.repr.specs.Lists.{keep}
 use Rattle.repr.proofs.Lists.{cases, keep-nil, keep-yes, keep-no}
 use Rattle.example.specs.Example.{Label}
@@ -14,17 +15,17 @@ use Rattle.enumerator.specs.Trials.{Path}
 use Rattle.enumerator.specs.Lister.{Found, hit, out, over, search}
 use Rattle.enumerator.proofs.Search.{search-hit, search-on}
 use Rattle.enumerator.proofs.After.{drop-tail}
-use Rattle.error.specs.Sides.{Side, gathered, stopped, exampleLimit}
+use Rattle.error.specs.Sides.{Side, gathered, stopped}
 use Rattle.gather.specs.Listing.{more, onto, nextExample, walkSide}
 
 -- an example more, with room and without
-pub next-room : (k : ℕ) (x : List Label) (s : Side) → k < 192 → nextExample k x s ≡ more x s
+pub next-room : (k : ℕ) (x : List Label) (s : Side) → k < exampleLimit → nextExample k x s ≡ more x s
 unfolding nextExample
-next-room k x s h = rw (lt-ltb k 192 h, nextExample)
+next-room k x s h = rw (lt-ltb k exampleLimit h, nextExample)
 
-pub next-none : (k : ℕ) (x : List Label) (s : Side) → 192 ≤ k → nextExample k x s ≡ stopped 14
+pub next-none : (k : ℕ) (x : List Label) (s : Side) → exampleLimit ≤ k → nextExample k x s ≡ stopped 14
 unfolding nextExample
-next-none k x s h = rw (le-ltb k 192 h, nextExample)
+next-none k x s h = rw (le-ltb k exampleLimit h, nextExample)
 
 -- by the two tests: 14, 13, all
 unfoldable pub tested : Bool → Bool → Side → Side
@@ -78,34 +79,34 @@ module _ (t : Path → Bool) (say : Path → List Label) where
   unfolding walkSide
   walk-example l c k p ps e = rw (e, walkSide)
 
-  end-tested : (c k : ℕ) (b : Bool) → k ≤ 192 → b ≡ false → gathered [] c ≡ tested (ltb 192 (k + length (keep t []))) b (gathered (map say (keep t [])) (c + 0))
+  end-tested : (c k : ℕ) (b : Bool) → k ≤ exampleLimit → b ≡ false → gathered [] c ≡ tested (ltb exampleLimit (k + length (keep t []))) b (gathered (map say (keep t [])) (c + 0))
   end-tested c k b h e =
       let z : c + 0 ≡ c = omega arith in
-      rw (keep-nil t, e, le-ltb 192 (k + 0) (omega arith), z, tested-all (gathered [] c))
+      rw (keep-nil t, e, le-ltb exampleLimit (k + 0) (omega arith), z, tested-all (gathered [] c))
 
   -- over the whole list: example 193 among the trials allowed, a trial more, all
-  pub walk-is : (l c k : ℕ) (ts : List Path) → k ≤ 192
-      → walkSide t say l c k ts ≡ tested (ltb 192 (k + length (keep t (take l ts)))) (ltb l (length ts)) (gathered (map say (keep t ts)) (c + length ts))
+  pub walk-is : (l c k : ℕ) (ts : List Path) → k ≤ exampleLimit
+      → walkSide t say l c k ts ≡ tested (ltb exampleLimit (k + length (keep t (take l ts)))) (ltb l (length ts)) (gathered (map say (keep t ts)) (c + length ts))
   walk-is zero c k [] h = walk-end 0 c k ∙ end-tested c k (ltb 0 0) h refl
   walk-is (suc l) c k [] h = walk-end (suc l) c k ∙ end-tested c k (ltb (suc l) 0) h (le-ltb (suc l) 0 (omega arith))
   walk-is zero c k (p ∷ ps) h =
-      walk-over c k p ps ∙ sym (rw (keep-nil t, le-ltb 192 (k + 0) (omega arith), lt-ltb 0 (suc (length ps)) (omega arith)) (tested-over (gathered (map say (keep t (p ∷ ps))) (c + suc (length ps)))))
+      walk-over c k p ps ∙ sym (rw (keep-nil t, le-ltb exampleLimit (k + 0) (omega arith), lt-ltb 0 (suc (length ps)) (omega arith)) (tested-over (gathered (map say (keep t (p ∷ ps))) (c + suc (length ps)))))
   walk-is (suc l) c k (p ∷ ps) h =
       let on = walk-is l (suc c) k ps h in
       let z : c + suc (length ps) ≡ suc c + length ps = omega arith in
       cases (t p)
-      (λ e. cases (ltb k 192)
+      (λ e. cases (ltb k exampleLimit)
       (λ r.
-      let q = ltb-true k 192 r in
+      let q = ltb-true k exampleLimit r in
       let y : k + suc (length (keep t (take l ps))) ≡ suc k + length (keep t (take l ps)) = omega arith in
       walk-example l c k p ps e ∙ next-room k (say p) (walkSide t say l (suc c) (suc k) ps) q
       ∙ ap (more (say p)) (walk-is l (suc c) (suc k) ps q)
-      ∙ more-tested (say p) (ltb 192 (suc k + length (keep t (take l ps)))) (ltb l (length ps)) (gathered (map say (keep t ps)) (suc c + length ps))
+      ∙ more-tested (say p) (ltb exampleLimit (suc k + length (keep t (take l ps)))) (ltb l (length ps)) (gathered (map say (keep t ps)) (suc c + length ps))
       ∙ rw (keep-yes t p (take l ps) e, keep-yes t p ps e, ltb-suc l (length ps), z, y, more-gathered (say p) (map say (keep t ps)) (suc c + length ps)))
       (λ r.
-      let q = ltb-false k 192 r in
+      let q = ltb-false k exampleLimit r in
       walk-example l c k p ps e ∙ next-none k (say p) (walkSide t say l (suc c) (suc k) ps) q
-      ∙ sym (rw (keep-yes t p (take l ps) e, lt-ltb 192 (k + suc (length (keep t (take l ps)))) (omega arith)) (tested-full (ltb (suc l) (suc (length ps))) (gathered (map say (keep t (p ∷ ps))) (c + suc (length ps)))))))
+      ∙ sym (rw (keep-yes t p (take l ps) e, lt-ltb exampleLimit (k + suc (length (keep t (take l ps)))) (omega arith)) (tested-full (ltb (suc l) (suc (length ps))) (gathered (map say (keep t (p ∷ ps))) (c + suc (length ps)))))))
       (λ e. walk-on l c k p ps e ∙ on ∙ rw (keep-no t p (take l ps) e, keep-no t p ps e, ltb-suc l (length ps), z))
 
   -- what a search finds

@@ -7,6 +7,7 @@ use mathlib.Core.List.{List, [], _∷_, _++_, map}
 use mathlib.Core.Option.{Option}
 use lib.ListN.{length, getD, drop}
 use lib.Dec.{ltb}
+use Rattle.repr.specs.Sizes.{scratchWords, trialLimit, exampleLimit}
 use Rattle.repr.specs.Meaning.{Production, noProduction, Item, All}
 use Rattle.trace_graph.specs.Graph.{TraceEdge, Node, atItem}
 use Rattle.trace_graph.specs.Words.{edgesIn}
@@ -14,9 +15,9 @@ use Rattle.trace_graph.specs.Fits.{itemFits}
 use Rattle.trace_graph.specs.Insert.{Graphed}
 use Rattle.example.specs.Example.{Label}
 use Rattle.enumerator.specs.Trials.{Path, endsOf, trials}
-use Rattle.enumerator.specs.Lister.{trialLimit, labelsOf, nodeOwner}
+use Rattle.enumerator.specs.Lister.{labelsOf, nodeOwner}
 use Rattle.enumerator.specs.Words.{wordsOf}
-use Rattle.error.specs.Sides.{Side, gathered, stopped, exampleLimit}
+use Rattle.error.specs.Sides.{Side, gathered, stopped}
 use Rattle.search.specs.Filter.{handsBy}
 
 -- an example before those of a side, or several
@@ -47,7 +48,7 @@ listedBy e sets ps es ahead i k = walkSide (handsBy e sets ps es ahead) (labelsO
 
 -- the first 32,000 words are zero
 unfoldable pub Clear : List ℕ → Type 0
-Clear ws = ws ≡ wordsOf [] ++ drop 32000 ws
+Clear ws = ws ≡ wordsOf [] ++ drop scratchWords ws
 
 -- the nonterminal that an edge comes from is its label's production's
 unfoldable pub EdgeOwned : List Production → TraceEdge → Type 0

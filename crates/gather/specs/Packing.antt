@@ -4,20 +4,21 @@ use mathlib.Core.Path.{_≡_}
 use mathlib.Core.List.{List, [], _∷_, map}
 use lib.ListN.{length, getD}
 use lib.Seq.{sets}
+use Rattle.repr.specs.Sizes.{indexLimit, reductionLimit, keptPlace}
 use Rattle.repr.specs.Meaning.{Production, noProduction, All}
 use Rattle.example.specs.Example.{Label}
 use Rattle.example.specs.Labels.{labelsIn, LabelFits, LabelsFit}
 
 -- a label in one word; its nonterminal is the production's
 unfoldable pub packedLabel : Label → ℕ
-packedLabel l = l .production * 17 + l .index
+packedLabel l = l .production * indexLimit + l .index
 
 unfoldable pub packed : List Label → List ℕ
 packed ls = length ls ∷ map packedLabel ls
 
 -- example k of a side's words written
 unfoldable pub keptWith : List ℕ → ℕ → List Label → List ℕ
-keptWith ws k ls = sets ws (k * 34) (packed ls)
+keptWith ws k ls = sets ws (keptPlace k) (packed ls)
 
 -- labels in range of productions no more and no longer than the limits
 pub record Packable (ws : List ℕ) : Type 0 where
@@ -33,5 +34,5 @@ Owned ps l = l .nonterminal ≡ getD ps (l .production) noProduction .nontermina
 -- the labels of an example: one at least, at most 33, in range
 pub record Fitting (ps : List Production) (ls : List Label) : Type 0 where
   pub some-label : 1 ≤ length ls
-  pub few : length ls ≤ 33
+  pub few : length ls ≤ reductionLimit
   pub each : All (LabelFits ps) ls

@@ -3,13 +3,17 @@ use core::Item;
 use enumerator::Lookahead;
 use enumerator::machine::clear;
 use error::Conflict;
+use example::Example;
 use lookahead::TokenSet;
+use repr::NonterminalString;
+use repr::ProductionIndex;
 use repr::word;
 use search::Searched;
 use search::read_labels;
 use search::search;
 use shift_items::conflicting_shift_items;
 use trace_graph::Inserted;
+use trace_graph::TraceGraph;
 use trace_graph::check_graph;
 use tracer::build;
 ghost use mathlib.Core.Path.{_≡_};
@@ -17,6 +21,8 @@ ghost use mathlib.Core.Bool.{true, false};
 ghost use mathlib.Core.List.{List, [], _++_};
 ghost use Prim.Native.Nat.{ℕ, _+_, _-_, _*_, _≤_, _<_};
 ghost use lib.ListN.{length};
+ghost use Rattle.repr.specs.Sizes.{classifyScratch, trialLimit, exampleLimit, sideRoom};
+ghost use Rattle.slices.specs.Lent.{zeroed};
 ghost use Rattle.repr.specs.Packed.{Packed, productionsIn};
 ghost use Rattle.table.specs.Decoded.{meaning};
 ghost use Rattle.trace_graph.specs.Words.{edgesIn};
@@ -28,7 +34,7 @@ ghost use Rattle.enumerator.specs.Words.{wordsOf};
 ghost use Rattle.enumerator.specs.Advance.{setOf};
 ghost use Rattle.error.specs.Sides.{listingSide, shiftSide, reduceSide, actionSideOf, gather};
 ghost use Rattle.error.specs.Kept.{Read, kept, Kept};
-ghost use Rattle.error.specs.Outcome.{conflictFits, zeroed};
+ghost use Rattle.error.specs.Outcome.{conflictFits};
 ghost use Rattle.search.specs.Given.{Tried};
 ghost use Rattle.gather.specs.Packing.{keptWith, Packable, Fitting};
 ghost use Rattle.gather.specs.Listing.{onto, listedBy, Clear, Listable};
@@ -49,17 +55,17 @@ pub enum Gathered {
 // Writes example `count` of a side: the number of its labels, then each in one word, production * 17 + index.
 fn pack(labels: &[u16], side: &mut [u16], count: usize)
     requires { ⌜ Packable (now labels) ⌝ }
-    requires { ⌜ (count < 192) × (6528 ≤ length (now side)) ⌝ }
+    requires { ⌜ (count < exampleLimit) × (sideRoom ≤ length (now side)) ⌝ }
     ensures { λ _. ⌜ now (side .exit) ≡ keptWith (now (side .entry)) count (labelsIn (now (labels .entry))) ⌝ }
 {
-    let many = labels.len() / 3;
-    let at = count * 34;
+    let many = labels.len() / Example::LABEL_WORDS;
+    let at = count * Conflict::KEPT_WORDS;
     side[at] = many as u16;
     let mut k: usize = 0;
     while k < many {
-        let production = word(labels, 3 * k + 1);
-        let index = word(labels, 3 * k + 2);
-        side[at + 1 + k] = (production * 17 + index) as u16;
+        let production = word(labels, Example::LABEL_WORDS * k + 1);
+        let index = word(labels, Example::LABEL_WORDS * k + 2);
+        side[at + 1 + k] = (production * ProductionIndex::INDEXES + index) as u16;
         k += 1;
     }
 }
@@ -75,10 +81,10 @@ fn append(
 )
     requires { ⌜ Packed (now grammar) productions ⌝ }
     requires { ⌜ Tried (productionsIn (now grammar) productions) (now graph) (now words) ⌝ }
-    requires { ⌜ (count < 192) × (6528 ≤ length (now side)) ⌝ }
+    requires { ⌜ (count < exampleLimit) × (sideRoom ≤ length (now side)) ⌝ }
     ensures { λ _. ⌜ ((p rest : List ℕ) → now (words .entry) ≡ wordsOf p ++ rest → (now (side .exit) ≡ keptWith (now (side .entry)) count (labelsOf (productionsIn (now (grammar .entry)) productions) (edgesIn (now (graph .entry))) p)) × Fitting (productionsIn (now (grammar .entry)) productions) (labelsOf (productionsIn (now (grammar .entry)) productions) (edgesIn (now (graph .entry))) p)) ⌝ }
 {
-    let mut labels = [0u16; 99];
+    let mut labels = [0u16; Example::ALL_LABEL_WORDS];
     let size = read_labels(grammar, productions, graph, words, &mut labels);
     pack(&labels[..size], side, count);
 }
@@ -88,7 +94,7 @@ fn list_examples(
     grammar: &[u16],
     productions: usize,
     terminals: u16,
-    map: &[u64; 32],
+    map: &[u64; NonterminalString::LIMIT],
     lookahead: Lookahead,
     graph: &[u16],
     ix: &[u16],
@@ -103,7 +109,7 @@ fn list_examples(
     requires { ⌜ Clear (now words) ⌝ }
     requires { ⌜ Kept (productionsIn (now grammar) productions) (now side) count ⌝ }
     ensures { λ r. ⌜ sided (sideIn (productionsIn (now (grammar .entry)) productions) r (now (side .exit))) (now (words .exit)) ≡ sided (onto (kept (productionsIn (now (grammar .entry)) productions) (now (side .entry)) count) (listedBy terminals (now (map .entry)) (productionsIn (now (grammar .entry)) productions) (edgesIn (now (graph .entry))) (setOf lookahead) (record { production = production; index = index }) count)) (now (words .entry)) ⌝ }
-    ensures { λ r. ⌜ KeptIn (productionsIn (now (grammar .entry)) productions) r (now (side .exit)) × TrialsIn 100000 r ⌝ }
+    ensures { λ r. ⌜ KeptIn (productionsIn (now (grammar .entry)) productions) r (now (side .exit)) × TrialsIn trialLimit r ⌝ }
 {
     let mut total = count;
     let mut made: u32 = 0;
@@ -122,7 +128,7 @@ fn list_examples(
             made,
         ) {
             Searched::Hit(number) => {
-                if total >= 192 {
+                if total >= Conflict::EXAMPLES {
                     clear(words);
                     return Side::Stopped(14);
                 }
@@ -147,7 +153,7 @@ fn gather_listing(
     productions: usize,
     n: usize,
     terminals: u16,
-    map: &[u64; 32],
+    map: &[u64; NonterminalString::LIMIT],
     lookahead: Lookahead,
     state: usize,
     production: usize,
@@ -162,9 +168,9 @@ fn gather_listing(
     requires { ⌜ Clear (now words) ⌝ }
     requires { ⌜ Kept (meaning (now table) .productions) (now side) count ⌝ }
     ensures { λ r. ⌜ sided (sideIn (meaning (now (table .entry)) .productions) r (now (side .exit))) (now (words .exit)) ≡ sided (onto (kept (meaning (now (table .entry)) .productions) (now (side .entry)) count) (listingSide (meaning (now (table .entry))) (edgesBy shift (meaning (now (table .entry))) state (record { production = production; index = index })) (record { production = production; index = index }) (setOf lookahead) count)) (now (words .entry)) ⌝ }
-    ensures { λ r. ⌜ KeptIn (meaning (now (table .entry)) .productions) r (now (side .exit)) × TrialsIn 100000 r ⌝ }
+    ensures { λ r. ⌜ KeptIn (meaning (now (table .entry)) .productions) r (now (side .exit)) × TrialsIn trialLimit r ⌝ }
 {
-    let mut graph = [0u16; 8193];
+    let mut graph = [0u16; TraceGraph::WORDS];
     match build(
         table,
         grammar,
@@ -177,7 +183,7 @@ fn gather_listing(
         shift,
     ) {
         Inserted::Done => {
-            let mut ix = [0u16; 5280];
+            let mut ix = [0u16; TraceGraph::INDEX_WORDS];
             check_graph(grammar, productions, n, &graph, &mut ix);
             list_examples(
                 grammar,
@@ -205,7 +211,7 @@ fn gather_shift(
     productions: usize,
     n: usize,
     terminals: u16,
-    map: &[u64; 32],
+    map: &[u64; NonterminalString::LIMIT],
     state: usize,
     token: usize,
     words: &mut [u16],
@@ -214,11 +220,11 @@ fn gather_shift(
     requires { ⌜ Read (now table) (now grammar) productions n terminals (now map) ⌝ }
     requires { ⌜ state < length (meaning (now table) .states) ⌝ }
     requires { ⌜ Clear (now words) ⌝ }
-    requires { ⌜ 6528 ≤ length (now side) ⌝ }
+    requires { ⌜ sideRoom ≤ length (now side) ⌝ }
     ensures { λ r. ⌜ sided (sideIn (meaning (now (table .entry)) .productions) r (now (side .exit))) (now (words .exit)) ≡ sided (shiftSide (meaning (now (table .entry))) state token) (now (words .entry)) ⌝ }
     ensures { λ r. ⌜ KeptIn (meaning (now (table .entry)) .productions) r (now (side .exit)) ⌝ }
 {
-    let mut items = [0u16; 2176];
+    let mut items = [0u16; Item::LIMIT];
     let found = conflicting_shift_items(table, grammar, productions, state, token, &mut items);
     let mut total: usize = 0;
     let mut trials: u32 = 0;
@@ -234,8 +240,8 @@ fn gather_shift(
             map,
             Lookahead::Any,
             state,
-            code / 17,
-            code % 17,
+            code / ProductionIndex::INDEXES,
+            code % ProductionIndex::INDEXES,
             true,
             words,
             side,
@@ -261,7 +267,7 @@ fn gather_reduce(
     productions: usize,
     n: usize,
     terminals: u16,
-    map: &[u64; 32],
+    map: &[u64; NonterminalString::LIMIT],
     state: usize,
     production: usize,
     token: u16,
@@ -271,7 +277,7 @@ fn gather_reduce(
     requires { ⌜ Read (now table) (now grammar) productions n terminals (now map) ⌝ }
     requires { ⌜ (state < length (meaning (now table) .states)) × ((production < length (meaning (now table) .productions)) × (token ≤ meaning (now table) .terminals)) ⌝ }
     requires { ⌜ Clear (now words) ⌝ }
-    requires { ⌜ 6528 ≤ length (now side) ⌝ }
+    requires { ⌜ sideRoom ≤ length (now side) ⌝ }
     ensures { λ r. ⌜ sided (sideIn (meaning (now (table .entry)) .productions) r (now (side .exit))) (now (words .exit)) ≡ sided (reduceSide (meaning (now (table .entry))) state production token) (now (words .entry)) ⌝ }
     ensures { λ r. ⌜ KeptIn (meaning (now (table .entry)) .productions) r (now (side .exit)) ⌝ }
 {
@@ -306,7 +312,7 @@ fn gather_action(
     productions: usize,
     n: usize,
     terminals: u16,
-    map: &[u64; 32],
+    map: &[u64; NonterminalString::LIMIT],
     conflict: Conflict,
     words: &mut [u16],
     side: &mut [u16],
@@ -314,7 +320,7 @@ fn gather_action(
     requires { ⌜ Read (now table) (now grammar) productions n terminals (now map) ⌝ }
     requires { ⌜ conflictFits (meaning (now table)) conflict ≡ true ⌝ }
     requires { ⌜ Clear (now words) ⌝ }
-    requires { ⌜ 6528 ≤ length (now side) ⌝ }
+    requires { ⌜ sideRoom ≤ length (now side) ⌝ }
     ensures { λ r. ⌜ sided (sideIn (meaning (now (table .entry)) .productions) r (now (side .exit))) (now (words .exit)) ≡ sided (actionSideOf (meaning (now (table .entry))) (conflict .state) (conflict .action) (conflict .operand) (conflict .token)) (now (words .entry)) ⌝ }
     ensures { λ r. ⌜ KeptIn (meaning (now (table .entry)) .productions) r (now (side .exit)) ⌝ }
 {
@@ -358,7 +364,7 @@ pub fn gather(
     productions: usize,
     n: usize,
     terminals: u16,
-    map: &[u64; 32],
+    map: &[u64; NonterminalString::LIMIT],
     conflict: Conflict,
     scratch: &mut [u16],
     action: &mut [u16],
@@ -366,8 +372,8 @@ pub fn gather(
 ) -> Gathered
     requires { ⌜ Read (now table) (now grammar) productions n terminals (now map) ⌝ }
     requires { ⌜ conflictFits (meaning (now table)) conflict ≡ true ⌝ }
-    requires { ⌜ Clear (now scratch) × ((6528 ≤ length (now action)) × (6528 ≤ length (now reduce))) ⌝ }
-    ensures { λ r. ⌜ both (gatheredIn (meaning (now (table .entry)) .productions) r (now (action .exit)) (now (reduce .exit))) (now (scratch .exit)) ≡ both (gather (meaning (now (table .entry))) conflict) (zeroed (now (scratch .entry))) ⌝ }
+    requires { ⌜ Clear (now scratch) × ((sideRoom ≤ length (now action)) × (sideRoom ≤ length (now reduce))) ⌝ }
+    ensures { λ r. ⌜ both (gatheredIn (meaning (now (table .entry)) .productions) r (now (action .exit)) (now (reduce .exit))) (now (scratch .exit)) ≡ both (gather (meaning (now (table .entry))) conflict) (zeroed classifyScratch (now (scratch .entry))) ⌝ }
     ensures { λ r. ⌜ KeptBoth (meaning (now (table .entry)) .productions) r (now (action .exit)) (now (reduce .exit)) ⌝ }
 {
     match gather_action(

@@ -8,6 +8,7 @@ use mathlib.Core.Option.{Option, none, some}
 use lib.ListN.{length, getD, drop, drop-of-length-le}
 use lib.Dec.{eqb, ltb}
 use borrow.Author.Tests.{eq-eqb, ne-eqb, ltb-true}
+use Rattle.repr.specs.Sizes.{nonterminalLimit, terminalLimit, indexLimit, productionPlace, grammarRoom, keptPlace}
 use Rattle.repr.specs.Lists.{upFrom, below}
 use Rattle.repr.specs.Meaning.{Symbol, nonterminal, terminal, sameSymbol, Production, noProduction, Table, ProductionFits, productionAt, All}
 use Rattle.repr.specs.Listed.{symbolOfKind, listed, listFits}
@@ -54,24 +55,24 @@ first-owner ps [] h = absurd (omega arith)
 first-owner ps (l ∷ ls) h = rw (reductions-around ps (l ∷ ls))
 
 module _ (g : List ℕ) (n : ℕ) (P : Packed g n) (ws : List ℕ) (k : ℕ) (H : Has (productionsIn g n) ws k) where
-  module _ (code : ℕ) (ec : code ≡ getD ws (k * 34 + 1) 0) where
-    at-code : code ≡ getD ws (k * 34 + 1 + 0) 0
-    at-code = let z : k * 34 + 1 + 0 ≡ k * 34 + 1 = omega arith in rw z ec
+  module _ (code : ℕ) (ec : code ≡ getD ws (keptPlace k + 1) 0) where
+    at-code : code ≡ getD ws (keptPlace k + 1 + 0) 0
+    at-code = let z : keptPlace k + 1 + 0 ≡ keptPlace k + 1 = omega arith in rw z ec
 
-    some-code : 0 < getD ws (k * 34) 0
+    some-code : 0 < getD ws (keptPlace k) 0
     some-code = omega (arith, has-room g n P ws k H .1 .1 .0)
 
-    pub first-below : code / 17 * 36 < 4608
+    pub first-below : productionPlace (code / indexLimit) < grammarRoom
     first-below = let b = code-below g n P ws k H 0 some-code code at-code in omega (arith, P .few)
 
-    pub first-nonterminal-is : (r : ℕ) → r ≡ getD g (code / 17 * 36) 0 → r ≡ reductionAt (productionsIn g n) (keptAt (productionsIn g n) ws k) 0 .nonterminal
+    pub first-nonterminal-is : (r : ℕ) → r ≡ getD g (productionPlace (code / indexLimit)) 0 → r ≡ reductionAt (productionsIn g n) (keptAt (productionsIn g n) ws k) 0 .nonterminal
     first-nonterminal-is r e =
         let l = kept-length g n P ws k H in
         let s = some-code in
         sym (first-owner (productionsIn g n) (keptAt (productionsIn g n) ws k) (omega arith)
         ∙ ap (λ (x : Label). x .nonterminal) (kept-label g n P ws k H 0 s ∙ ap (keptLabel (productionsIn g n)) (sym at-code) ∙ code-label g n P ws k H 0 s code at-code r e))
 
-  pub has-first : k * 34 + 1 < length ws
+  pub has-first : keptPlace k + 1 < length ws
   has-first = omega (arith, has-room g n P ws k H .1 .0)
 
 -- `with_both`
@@ -86,12 +87,12 @@ both-shown ps class actions reduces i j a b a′ b′ ea eb = rw (ea, eb)
 two-more : (j : ℕ) → 2 * suc j ≡ suc (suc (2 * j))
 two-more j = omega arith
 
-fits-drop : (i : ℕ) (ws : List ℕ) → listFits 32 63 ws ≡ true → listFits 32 63 (drop (2 * i) ws) ≡ true
+fits-drop : (i : ℕ) (ws : List ℕ) → listFits nonterminalLimit terminalLimit ws ≡ true → listFits nonterminalLimit terminalLimit (drop (2 * i) ws) ≡ true
 unfolding listFits
 fits-drop zero ws e = e
 fits-drop (suc i) [] e = rw (two-more i)
 fits-drop (suc i) (k ∷ []) e = clash false e refl
-fits-drop (suc i) (k ∷ x ∷ ws) e = rw (two-more i) (fits-drop i ws (fits-head 32 63 (k ∷ x ∷ ws) 0 (omega arith) e .1 .1))
+fits-drop (suc i) (k ∷ x ∷ ws) e = rw (two-more i) (fits-drop i ws (fits-head nonterminalLimit terminalLimit (k ∷ x ∷ ws) 0 (omega arith) e .1 .1))
 
 other-false : (a : Bool) → a && false ≡ false
 other-false true = refl
@@ -106,36 +107,36 @@ other-three true b c = other-two b c
 other-three false b c = refl
 
 module _ (g : List ℕ) (n : ℕ) (P : Packed g n) (p : ℕ) (h : p < n) where
-  pub production-room : p * 36 + 36 ≤ length g
+  pub production-room : productionPlace (p + 1) ≤ length g
   production-room = omega (arith, P .long, P .few)
 
-  owner-is : getD (productionsIn g n) p noProduction .nonterminal ≡ getD g (p * 36) 0
+  owner-is : getD (productionsIn g n) p noProduction .nonterminal ≡ getD g (productionPlace p) 0
   unfolding productionsIn productionIn
   owner-is = ap (λ (q : Production). q .nonterminal) (getD-map-below (productionIn g) n p noProduction h)
 
-  start-is : getD (productionsIn g n) p noProduction .start ≡ getD g (p * 36 + 2) 0
+  start-is : getD (productionsIn g n) p noProduction .start ≡ getD g (productionPlace p + 2) 0
   unfolding productionsIn productionIn
   start-is = ap (λ (q : Production). q .start) (getD-map-below (productionIn g) n p noProduction h)
 
-  end-is : getD (productionsIn g n) p noProduction .end ≡ getD g (p * 36 + 3) 0
+  end-is : getD (productionsIn g n) p noProduction .end ≡ getD g (productionPlace p + 3) 0
   unfolding productionsIn productionIn
   end-is = ap (λ (q : Production). q .end) (getD-map-below (productionIn g) n p noProduction h)
 
-  count-is : length (getD (productionsIn g n) p noProduction .symbols) ≡ getD g (p * 36 + 1) 0
+  count-is : length (getD (productionsIn g n) p noProduction .symbols) ≡ getD g (productionPlace p + 1) 0
   count-is = ap length (production-symbols g n p h) ∙ symbols-long g n p P h
 
   -- the symbol at place i
-  module _ (i : ℕ) (l : i < getD g (p * 36 + 1) 0) where
-    symbol-at : drop i (listed (symbolWords g p)) ≡ symbolOfKind (getD g (p * 36 + 4 + 2 * i) 0) (getD g (p * 36 + 4 + (2 * i + 1)) 0) ∷ drop (suc i) (listed (symbolWords g p))
+  module _ (i : ℕ) (l : i < getD g (productionPlace p + 1) 0) where
+    symbol-at : drop i (listed (symbolWords g p)) ≡ symbolOfKind (getD g (productionPlace p + 4 + 2 * i) 0) (getD g (productionPlace p + 4 + (2 * i + 1)) 0) ∷ drop (suc i) (listed (symbolWords g p))
     symbol-at =
         let w = words-long g n p P h in
         listed-at (symbolWords g p) i (omega arith) ∙ rw (word-of g n p (2 * i) P h (omega arith), word-of g n p (2 * i + 1) P h (omega arith))
 
-    pub kind-small : getD g (p * 36 + 4 + 2 * i) 0 < 2
+    pub kind-small : getD g (productionPlace p + 4 + 2 * i) 0 < 2
     kind-small =
         let w = words-long g n p P h in
-        let f = fits-head 32 63 (symbolWords g p) (2 * i) (omega arith) (fits-drop i (symbolWords g p) (P .fits p h)) .1 .0 in
-        let r = symbol-range 32 63 _ _ f .0 in
+        let f = fits-head nonterminalLimit terminalLimit (symbolWords g p) (2 * i) (omega arith) (fits-drop i (symbolWords g p) (P .fits p h)) .1 .0 in
+        let r = symbol-range nonterminalLimit terminalLimit _ _ f .0 in
         rw (word-of g n p (2 * i) P h (omega arith)) at r
 
   sameThree : (xs : List Symbol) (x y z : Symbol) → (length xs ≡ 3 → ⊥) → sameSymbols xs (x ∷ y ∷ z ∷ []) ≡ false
@@ -150,11 +151,11 @@ module _ (g : List ℕ) (n : ℕ) (P : Packed g n) (p : ℕ) (h : p < n) where
     abbrev Operator : Bool
     Operator = isOperator (getD (productionsIn g n) p noProduction) o
 
-    pub operator-count : (c : ℕ) → c ≡ getD g (p * 36 + 1) 0 → (c ≡ 3 → ⊥) → false ≡ Operator
+    pub operator-count : (c : ℕ) → c ≡ getD g (productionPlace p + 1) 0 → (c ≡ 3 → ⊥) → false ≡ Operator
     unfolding isOperator
     operator-count c ec ne = sym (sameThree (getD (productionsIn g n) p noProduction .symbols) _ _ _ (λ e. ne (omega (arith, count-is))))
 
-    module _ (nt c a b k m u v : ℕ) (en : nt ≡ getD g (p * 36) 0) (ec : c ≡ getD g (p * 36 + 1) 0) (three : c ≡ 3) (ea : a ≡ getD g (p * 36 + 4) 0) (eb : b ≡ getD g (p * 36 + 5) 0) (ek : k ≡ getD g (p * 36 + 6) 0) (em : m ≡ getD g (p * 36 + 7) 0) (eu : u ≡ getD g (p * 36 + 8) 0) (ev : v ≡ getD g (p * 36 + 9) 0) where
+    module _ (nt c a b k m u v : ℕ) (en : nt ≡ getD g (productionPlace p) 0) (ec : c ≡ getD g (productionPlace p + 1) 0) (three : c ≡ 3) (ea : a ≡ getD g (productionPlace p + 4) 0) (eb : b ≡ getD g (productionPlace p + 5) 0) (ek : k ≡ getD g (productionPlace p + 6) 0) (em : m ≡ getD g (productionPlace p + 7) 0) (eu : u ≡ getD g (productionPlace p + 8) 0) (ev : v ≡ getD g (productionPlace p + 9) 0) where
       place-of : (x y : ℕ) → x ≡ y → getD g x 0 ≡ getD g y 0
       place-of x y e = ap (λ (z : ℕ). getD g z 0) e
 
@@ -163,13 +164,13 @@ module _ (g : List ℕ) (n : ℕ) (P : Packed g n) (p : ℕ) (h : p < n) where
           let x = kind-small 0 (omega arith) in
           let y = kind-small 1 (omega arith) in
           let z = kind-small 2 (omega arith) in
-          (omega (arith, place-of (p * 36 + 4 + 2 * 0) (p * 36 + 4) (omega arith)), omega (arith, place-of (p * 36 + 4 + 2 * 1) (p * 36 + 6) (omega arith)), omega (arith, place-of (p * 36 + 4 + 2 * 2) (p * 36 + 8) (omega arith)))
+          (omega (arith, place-of (productionPlace p + 4 + 2 * 0) (productionPlace p + 4) (omega arith)), omega (arith, place-of (productionPlace p + 4 + 2 * 1) (productionPlace p + 6) (omega arith)), omega (arith, place-of (productionPlace p + 4 + 2 * 2) (productionPlace p + 8) (omega arith)))
 
       three-symbols : getD (productionsIn g n) p noProduction .symbols ≡ symbolOfKind a b ∷ symbolOfKind k m ∷ symbolOfKind u v ∷ []
       three-symbols =
           let w = symbols-long g n p P h in
           production-symbols g n p h ∙ symbol-at 0 (omega arith)
-          ∙ rw (symbol-at 1 (omega arith), symbol-at 2 (omega arith), drop-of-length-le (listed (symbolWords g p)) {i = 3} (omega arith), place-of (p * 36 + 4 + 2 * 0) (p * 36 + 4) (omega arith), place-of (p * 36 + 4 + (2 * 0 + 1)) (p * 36 + 5) (omega arith), place-of (p * 36 + 4 + 2 * 1) (p * 36 + 6) (omega arith), place-of (p * 36 + 4 + (2 * 1 + 1)) (p * 36 + 7) (omega arith), place-of (p * 36 + 4 + 2 * 2) (p * 36 + 8) (omega arith), place-of (p * 36 + 4 + (2 * 2 + 1)) (p * 36 + 9) (omega arith), ← ea, ← eb, ← ek, ← em, ← eu, ← ev)
+          ∙ rw (symbol-at 1 (omega arith), symbol-at 2 (omega arith), drop-of-length-le (listed (symbolWords g p)) {i = 3} (omega arith), place-of (productionPlace p + 4 + 2 * 0) (productionPlace p + 4) (omega arith), place-of (productionPlace p + 4 + (2 * 0 + 1)) (productionPlace p + 5) (omega arith), place-of (productionPlace p + 4 + 2 * 1) (productionPlace p + 6) (omega arith), place-of (productionPlace p + 4 + (2 * 1 + 1)) (productionPlace p + 7) (omega arith), place-of (productionPlace p + 4 + 2 * 2) (productionPlace p + 8) (omega arith), place-of (productionPlace p + 4 + (2 * 2 + 1)) (productionPlace p + 9) (omega arith), ← ea, ← eb, ← ek, ← em, ← eu, ← ev)
 
       and-true : (x : Bool) → x && true ≡ x
       and-true true = refl
@@ -192,7 +193,7 @@ module _ (g : List ℕ) (n : ℕ) (P : Packed g n) (p : ℕ) (h : p < n) where
 -- `shift_ambiguity`, `reduce_ambiguity`
 
 module _ (g : List ℕ) (n : ℕ) (P : Packed g n) (p : ℕ) (h : p < n) (o : ℕ) (q : Pair Example) where
-  pub ambiguity-operator : (w : ℕ) → w ≡ getD g (p * 36) 0 → true ≡ isOperator (getD (productionsIn g n) p noProduction) o
+  pub ambiguity-operator : (w : ℕ) → w ≡ getD g (productionPlace p) 0 → true ≡ isOperator (getD (productionsIn g n) p noProduction) o
       → withBoth (Precedence w) q ≡ shiftAmbiguity (getD (productionsIn g n) p noProduction) o q
   unfolding shiftAmbiguity
   ambiguity-operator w ew e = rw (← e, shiftAmbiguity, owner-is g n P p h, ← ew)
@@ -206,12 +207,12 @@ module _ (g : List ℕ) (n : ℕ) (P : Packed g n) (p : ℕ) (h : p < n) (o : �
   abbrev ps : List Production
   ps = productionsIn g n
 
-  pub reduction-spans : x ≡ y → (a b a′ : List ℕ) → a′ ≡ shown ps (some (keptAt ps actions i)) a → (s e s′ e′ : ℕ) → s ≡ getD g (p * 36 + 2) 0 → e ≡ getD g (p * 36 + 2 + 1) 0 → s′ ≡ getD g (o * 36 + 2) 0 → e′ ≡ getD g (o * 36 + 2 + 1) 0
+  pub reduction-spans : x ≡ y → (a b a′ : List ℕ) → a′ ≡ shown ps (some (keptAt ps actions i)) a → (s e s′ e′ : ℕ) → s ≡ getD g (productionPlace p + 2) 0 → e ≡ getD g (productionPlace p + 2 + 1) 0 → s′ ≡ getD g (productionPlace o + 2) 0 → e′ ≡ getD g (productionPlace o + 2 + 1) 0
       → judgedWords (AmbiguousReduction s e s′ e′) a′ b ≡ shownOf ps a b (reduceAmbiguity ps (getD ps p noProduction) (getD ps o noProduction) (pairAt ps actions reduces i j))
   unfolding reduceAmbiguity pairAt shownOf shown
   reduction-spans q a b a′ ea s e s′ e′ es ee es′ ee′ =
-      let k : p * 36 + 2 + 1 ≡ p * 36 + 3 = omega arith in
-      let k′ : o * 36 + 2 + 1 ≡ o * 36 + 3 = omega arith in
+      let k : productionPlace p + 2 + 1 ≡ productionPlace p + 3 = omega arith in
+      let k′ : productionPlace o + 2 + 1 ≡ productionPlace o + 3 = omega arith in
       let m : eqb (reductionAt ps (keptAt ps actions i) 0 .nonterminal) (reductionAt ps (keptAt ps reduces j) 0 .nonterminal) ≡ true = rw (← ex, ← ey) (eq-eqb x y q) in
       rw (m, reduceAmbiguity, es, ee, es′, ee′, k, k′, start-is g n P p h, end-is g n P p h, start-is g n P o ho, end-is g n P o ho, ea)
 
@@ -240,7 +241,7 @@ unfolding optionalOne
 one-is [] ys y e f = rw f
 one-is (x ∷ xs) ys y e f = let z : suc (length xs) ≡ 0 = e in absurd (omega arith)
 
-module _ (g : List ℕ) (n : ℕ) (P : Packed g n) (p : ℕ) (hp : p < n) (q : ℕ) (hq : q < n) (c : ℕ) (ec : c ≡ getD g (p * 36 + 1) 0) where
+module _ (g : List ℕ) (n : ℕ) (P : Packed g n) (p : ℕ) (hp : p < n) (q : ℕ) (hq : q < n) (c : ℕ) (ec : c ≡ getD g (productionPlace p + 1) 0) where
   abbrev Answer : OptionalSymbol → Type 0
   Answer r = (questionIn r ≡ optionalOne (getD (productionsIn g n) p noProduction .symbols) (getD (productionsIn g n) q noProduction .symbols)) × QuestionFits r
 
@@ -248,17 +249,17 @@ module _ (g : List ℕ) (n : ℕ) (P : Packed g n) (p : ℕ) (hp : p < n) (q : �
   unfolding questionIn QuestionFits
   optional-some ne = (one-not-none (getD (productionsIn g n) p noProduction .symbols) _ (λ e. ne (omega (arith, count-is g n P p hp))), tt)
 
-  module _ (none′ : c ≡ 0) (d : ℕ) (ed : d ≡ getD g (q * 36 + 1) 0) where
+  module _ (none′ : c ≡ 0) (d : ℕ) (ed : d ≡ getD g (productionPlace q + 1) 0) where
     pub optional-more : (d ≡ 1 → ⊥) → Answer NoSymbol
     unfolding questionIn QuestionFits
     optional-more ne = (one-not-one (getD (productionsIn g n) p noProduction .symbols) (getD (productionsIn g n) q noProduction .symbols) (λ e. ne (omega (arith, count-is g n P q hq))), tt)
 
-    pub optional-one : d ≡ 1 → (k x : ℕ) → k ≡ getD g (q * 36 + 4) 0 → x ≡ getD g (q * 36 + 4 + 1) 0 → Answer (OfSymbol k x)
+    pub optional-one : d ≡ 1 → (k x : ℕ) → k ≡ getD g (productionPlace q + 4) 0 → x ≡ getD g (productionPlace q + 4 + 1) 0 → Answer (OfSymbol k x)
     unfolding questionIn QuestionFits
     optional-one one k x ek ex =
         let w = symbols-long g n q P hq in
-        let z : q * 36 + 4 + 2 * 0 ≡ q * 36 + 4 = omega arith in
-        let y : q * 36 + 4 + (2 * 0 + 1) ≡ q * 36 + 4 + 1 = omega arith in
+        let z : productionPlace q + 4 + 2 * 0 ≡ productionPlace q + 4 = omega arith in
+        let y : productionPlace q + 4 + (2 * 0 + 1) ≡ productionPlace q + 4 + 1 = omega arith in
         let s : getD (productionsIn g n) q noProduction .symbols ≡ symbolOfKind k x ∷ [] =
         production-symbols g n q hq ∙ symbol-at g n P q hq 0 (omega arith) ∙ rw (drop-of-length-le (listed (symbolWords g q)) {i = 1} (omega arith), z, y, ← ek, ← ex) in
         let l = rw z at (kind-small g n P q hq 0 (omega arith)) in
@@ -311,7 +312,7 @@ module _ (t g : List ℕ) (n terminals : ℕ) (sets : List ℕ) (R : Reads t g n
   pub reads-production : (p : ℕ) → getD (productionsIn g n) p noProduction ≡ productionAt T p
   reads-production p = rw (R .read .same)
 
-  pub reads-owner : (p : ℕ) → p < n → (w : ℕ) → w ≡ getD g (p * 36) 0 → (w ≡ productionAt T p .nonterminal) × (w < length (T .nonterminals))
+  pub reads-owner : (p : ℕ) → p < n → (w : ℕ) → w ≡ getD g (productionPlace p) 0 → (w ≡ productionAt T p .nonterminal) × (w < length (T .nonterminals))
   reads-owner p h w e =
       let q : w ≡ productionAt T p .nonterminal = e ∙ sym (owner-is g n (R .read .packed) p h) ∙ ap (λ (x : Production). x .nonterminal) (reads-production p) in
       let f = All-at (ProductionFits T) (T .productions) p noProduction (fits t (R .read .accepted) .productions) (omega (arith, R .read .many)) .owner in

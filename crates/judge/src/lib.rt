@@ -5,6 +5,8 @@ use pairs::Pair;
 use pairs::ambiguous_pair;
 use pairs::inline_pair;
 use pairs::same_symbol;
+use repr::NonterminalString;
+use repr::ProductionIndex;
 use repr::word;
 use sides::sort_side;
 use sides::write_kept;
@@ -14,6 +16,7 @@ ghost use mathlib.Core.Path.{_≡_};
 ghost use mathlib.Core.Bool.{true};
 ghost use Prim.Native.Nat.{ℕ, _+_, _*_, _≤_, _<_};
 ghost use lib.ListN.{length, getD};
+ghost use Rattle.repr.specs.Sizes.{exampleRoom};
 ghost use Rattle.repr.specs.Meaning.{All, noProduction};
 ghost use Rattle.repr.specs.Packed.{Packed, productionsIn};
 ghost use Rattle.table.specs.Decoded.{meaning};
@@ -32,8 +35,8 @@ fn first_nonterminal(grammar: &[u16], productions: usize, words: &[u16], example
     requires { ⌜ Has (productionsIn (now grammar) productions) (now words) example ⌝ }
     ensures { λ r. ⌜ r ≡ reductionAt (productionsIn (now (grammar .entry)) productions) (keptAt (productionsIn (now (grammar .entry)) productions) (now (words .entry)) example) 0 .nonterminal ⌝ }
 {
-    let code = word(words, example * 34 + 1);
-    let at = code / 17 * 36;
+    let code = word(words, example * Conflict::KEPT_WORDS + 1);
+    let at = code / ProductionIndex::INDEXES * ProductionIndex::WORDS;
     grammar[at]
 }
 
@@ -51,7 +54,7 @@ fn with_both(
 ) -> Class
     requires { ⌜ Packed (now grammar) productions ⌝ }
     requires { ⌜ Has (productionsIn (now grammar) productions) (now actions) i × Has (productionsIn (now grammar) productions) (now reduces) j ⌝ }
-    requires { ⌜ (1158 ≤ length (now action)) × (1158 ≤ length (now reduce)) ⌝ }
+    requires { ⌜ (exampleRoom ≤ length (now action)) × (exampleRoom ≤ length (now reduce)) ⌝ }
     ensures { λ r. ⌜ judgedWords r (now (action .exit)) (now (reduce .exit)) ≡ shownOf (productionsIn (now (grammar .entry)) productions) (now (action .entry)) (now (reduce .entry)) (withBoth class (pairAt (productionsIn (now (grammar .entry)) productions) (now (actions .entry)) (now (reduces .entry)) i j)) ⌝ }
 {
     write_kept(grammar, productions, actions, i, action);
@@ -64,7 +67,7 @@ fn is_operator(grammar: &[u16], productions: usize, production: usize, terminal:
     requires { ⌜ Packed (now grammar) productions × (production < productions) ⌝ }
     ensures { λ r. ⌜ r ≡ isOperator (getD (productionsIn (now (grammar .entry)) productions) production noProduction) terminal ⌝ }
 {
-    let base = production * 36;
+    let base = production * ProductionIndex::WORDS;
     let nonterminal = word(grammar, base);
     if word(grammar, base + 1) != 3 {
         return false;
@@ -99,10 +102,10 @@ fn shift_ambiguity(
 ) -> Class
     requires { ⌜ Packed (now grammar) productions × (production < productions) ⌝ }
     requires { ⌜ Has (productionsIn (now grammar) productions) (now actions) i × Has (productionsIn (now grammar) productions) (now reduces) j ⌝ }
-    requires { ⌜ (1158 ≤ length (now action)) × (1158 ≤ length (now reduce)) ⌝ }
+    requires { ⌜ (exampleRoom ≤ length (now action)) × (exampleRoom ≤ length (now reduce)) ⌝ }
     ensures { λ r. ⌜ judgedWords r (now (action .exit)) (now (reduce .exit)) ≡ shownOf (productionsIn (now (grammar .entry)) productions) (now (action .entry)) (now (reduce .entry)) (shiftAmbiguity (getD (productionsIn (now (grammar .entry)) productions) production noProduction) terminal (pairAt (productionsIn (now (grammar .entry)) productions) (now (actions .entry)) (now (reduces .entry)) i j)) ⌝ }
 {
-    let at = production * 36;
+    let at = production * ProductionIndex::WORDS;
     let nonterminal = grammar[at];
     if is_operator(grammar, productions, production, terminal) {
         return with_both(
@@ -145,16 +148,16 @@ fn reduce_ambiguity(
 ) -> Class
     requires { ⌜ Packed (now grammar) productions × (production < productions) × (other < productions) ⌝ }
     requires { ⌜ Has (productionsIn (now grammar) productions) (now actions) i × Has (productionsIn (now grammar) productions) (now reduces) j ⌝ }
-    requires { ⌜ (1158 ≤ length (now action)) × (1158 ≤ length (now reduce)) ⌝ }
+    requires { ⌜ (exampleRoom ≤ length (now action)) × (exampleRoom ≤ length (now reduce)) ⌝ }
     ensures { λ r. ⌜ judgedWords r (now (action .exit)) (now (reduce .exit)) ≡ shownOf (productionsIn (now (grammar .entry)) productions) (now (action .entry)) (now (reduce .entry)) (reduceAmbiguity (productionsIn (now (grammar .entry)) productions) (getD (productionsIn (now (grammar .entry)) productions) production noProduction) (getD (productionsIn (now (grammar .entry)) productions) other noProduction) (pairAt (productionsIn (now (grammar .entry)) productions) (now (actions .entry)) (now (reduces .entry)) i j)) ⌝ }
 {
     let own = first_nonterminal(grammar, productions, actions, i);
     if own == first_nonterminal(grammar, productions, reduces, j) {
         write_kept(grammar, productions, actions, i, action);
-        let span = production * 36 + 2;
+        let span = production * ProductionIndex::WORDS + 2;
         let start = grammar[span];
         let end = grammar[span + 1];
-        let other_span = other * 36 + 2;
+        let other_span = other * ProductionIndex::WORDS + 2;
         let other_start = grammar[other_span];
         let other_end = grammar[other_span + 1];
         return Class::AmbiguousReduction(start, end, other_start, other_end);
@@ -183,13 +186,13 @@ fn optional(grammar: &[u16], productions: usize, none: usize, one: usize) -> Opt
     requires { ⌜ Packed (now grammar) productions × (none < productions) × (one < productions) ⌝ }
     ensures { λ r. ⌜ (questionIn r ≡ optionalOne (getD (productionsIn (now (grammar .entry)) productions) none noProduction .symbols) (getD (productionsIn (now (grammar .entry)) productions) one noProduction .symbols)) × QuestionFits r ⌝ }
 {
-    if word(grammar, none * 36 + 1) != 0 {
+    if word(grammar, none * ProductionIndex::WORDS + 1) != 0 {
         return OptionalSymbol::Nothing;
     }
-    if word(grammar, one * 36 + 1) != 1 {
+    if word(grammar, one * ProductionIndex::WORDS + 1) != 1 {
         return OptionalSymbol::Nothing;
     }
-    let at = one * 36 + 4;
+    let at = one * ProductionIndex::WORDS + 4;
     OptionalSymbol::Symbol(grammar[at], grammar[at + 1])
 }
 
@@ -199,7 +202,7 @@ fn question(
     grammar: &[u16],
     productions: usize,
     terminals: u16,
-    map: &[u64; 32],
+    map: &[u64; NonterminalString::LIMIT],
     nonterminal: usize,
 ) -> OptionalSymbol
     requires { ⌜ Reads (now table) (now grammar) productions terminals (now map) ⌝ }
@@ -229,7 +232,7 @@ fn question(
 
 // The first pair that inlining would help, else insufficient lookahead with the first of each.
 fn inline_or(
-    map: &[u64; 32],
+    map: &[u64; NonterminalString::LIMIT],
     terminals: u16,
     grammar: &[u16],
     productions: usize,
@@ -243,7 +246,7 @@ fn inline_or(
     requires { ⌜ Packed (now grammar) productions × (terminals ≤ 63) ⌝ }
     requires { ⌜ All (Has (productionsIn (now grammar) productions) (now actions)) (now rows) × (0 < length (now rows)) ⌝ }
     requires { ⌜ All (Has (productionsIn (now grammar) productions) (now reduces)) (now columns) × (0 < length (now columns)) ⌝ }
-    requires { ⌜ (1158 ≤ length (now action)) × (1158 ≤ length (now reduce)) ⌝ }
+    requires { ⌜ (exampleRoom ≤ length (now action)) × (exampleRoom ≤ length (now reduce)) ⌝ }
     ensures { λ r. ⌜ judgedWords r (now (action .exit)) (now (reduce .exit)) ≡ shownOf (productionsIn (now (grammar .entry)) productions) (now (action .entry)) (now (reduce .entry)) (inlineOr (productionsIn (now (grammar .entry)) productions) (firstOf (productionsIn (now (grammar .entry)) productions) (now (actions .entry)) (now (rows .entry)) (now (reduces .entry)) (now (columns .entry))) (firstPair (inlinesBy terminals (now (map .entry)) (productionsIn (now (grammar .entry)) productions)) (ordered (productionsIn (now (grammar .entry)) productions) (now (actions .entry)) (now (rows .entry))) (ordered (productionsIn (now (grammar .entry)) productions) (now (reduces .entry)) (now (columns .entry))))) ⌝ }
 {
     match inline_pair(
@@ -294,7 +297,7 @@ fn shift_unambiguous(
     grammar: &[u16],
     productions: usize,
     terminals: u16,
-    map: &[u64; 32],
+    map: &[u64; NonterminalString::LIMIT],
     production: usize,
     actions: &[u16],
     rows: &[u16],
@@ -306,10 +309,10 @@ fn shift_unambiguous(
     requires { ⌜ Reads (now table) (now grammar) productions terminals (now map) × (production < productions) ⌝ }
     requires { ⌜ All (Has (productionsIn (now grammar) productions) (now actions)) (now rows) × (0 < length (now rows)) ⌝ }
     requires { ⌜ All (Has (productionsIn (now grammar) productions) (now reduces)) (now columns) × (0 < length (now columns)) ⌝ }
-    requires { ⌜ (1158 ≤ length (now action)) × (1158 ≤ length (now reduce)) ⌝ }
+    requires { ⌜ (exampleRoom ≤ length (now action)) × (exampleRoom ≤ length (now reduce)) ⌝ }
     ensures { λ r. ⌜ judgedWords r (now (action .exit)) (now (reduce .exit)) ≡ shownOf (productionsIn (now (grammar .entry)) productions) (now (action .entry)) (now (reduce .entry)) (unambiguous (meaning (now (table .entry))) production 0 (ordered (productionsIn (now (grammar .entry)) productions) (now (actions .entry)) (now (rows .entry))) (ordered (productionsIn (now (grammar .entry)) productions) (now (reduces .entry)) (now (columns .entry))) (firstOf (productionsIn (now (grammar .entry)) productions) (now (actions .entry)) (now (rows .entry)) (now (reduces .entry)) (now (columns .entry)))) ⌝ }
 {
-    let nonterminal = word(grammar, production * 36);
+    let nonterminal = word(grammar, production * ProductionIndex::WORDS);
     match question(table, grammar, productions, terminals, map, nonterminal) {
         OptionalSymbol::Symbol(kind, number) => {
             let x = word(rows, 0);
@@ -347,7 +350,7 @@ fn judge_sorted(
     grammar: &[u16],
     productions: usize,
     terminals: u16,
-    map: &[u64; 32],
+    map: &[u64; NonterminalString::LIMIT],
     conflict: Conflict,
     actions: &[u16],
     rows: &[u16],
@@ -359,7 +362,7 @@ fn judge_sorted(
     requires { ⌜ Reads (now table) (now grammar) productions terminals (now map) × (placeFits (meaning (now table)) conflict ≡ true) ⌝ }
     requires { ⌜ All (Has (productionsIn (now grammar) productions) (now actions)) (now rows) × (0 < length (now rows)) ⌝ }
     requires { ⌜ All (Has (productionsIn (now grammar) productions) (now reduces)) (now columns) × (0 < length (now columns)) ⌝ }
-    requires { ⌜ (1158 ≤ length (now action)) × (1158 ≤ length (now reduce)) ⌝ }
+    requires { ⌜ (exampleRoom ≤ length (now action)) × (exampleRoom ≤ length (now reduce)) ⌝ }
     ensures { λ r. ⌜ judgedWords r (now (action .exit)) (now (reduce .exit)) ≡ shownOf (productionsIn (now (grammar .entry)) productions) (now (action .entry)) (now (reduce .entry)) (judge (meaning (now (table .entry))) conflict (ordered (productionsIn (now (grammar .entry)) productions) (now (actions .entry)) (now (rows .entry))) (ordered (productionsIn (now (grammar .entry)) productions) (now (reduces .entry)) (now (columns .entry)))) ⌝ }
 {
     let production = conflict.production as usize;
@@ -433,7 +436,7 @@ pub fn judge(
     grammar: &[u16],
     productions: usize,
     terminals: u16,
-    map: &[u64; 32],
+    map: &[u64; NonterminalString::LIMIT],
     conflict: Conflict,
     actions: &[u16],
     action_count: usize,
@@ -445,7 +448,7 @@ pub fn judge(
     requires { ⌜ Reads (now table) (now grammar) productions terminals (now map) × (placeFits (meaning (now table)) conflict ≡ true) ⌝ }
     requires { ⌜ Kept (meaning (now table) .productions) (now actions) «action_count» ⌝ }
     requires { ⌜ Kept (meaning (now table) .productions) (now reduces) «reduce_count» ⌝ }
-    requires { ⌜ (1158 ≤ length (now action)) × (1158 ≤ length (now reduce)) ⌝ }
+    requires { ⌜ (exampleRoom ≤ length (now action)) × (exampleRoom ≤ length (now reduce)) ⌝ }
     ensures { λ r. ⌜ judgedWords r (now (action .exit)) (now (reduce .exit)) ≡ shownOf (meaning (now (table .entry)) .productions) (now (action .entry)) (now (reduce .entry)) (judged (meaning (now (table .entry))) conflict (kept (meaning (now (table .entry)) .productions) (now (actions .entry)) «action_count») (kept (meaning (now (table .entry)) .productions) (now (reduces .entry)) «reduce_count»)) ⌝ }
 {
     if action_count == 0 {
@@ -454,8 +457,8 @@ pub fn judge(
     if reduce_count == 0 {
         return Class::Naive;
     }
-    let mut rows = [0u16; 192];
-    let mut columns = [0u16; 192];
+    let mut rows = [0u16; Conflict::EXAMPLES];
+    let mut columns = [0u16; Conflict::EXAMPLES];
     sort_side(grammar, productions, actions, action_count, &mut rows);
     sort_side(grammar, productions, reduces, reduce_count, &mut columns);
     judge_sorted(

@@ -7,6 +7,7 @@ use native.Mathlib.Omega.{arith}
 use lib.ListN.{length, getD, take, drop}
 use lib.Dec.{leb}
 use borrow.Author.Tests.{le-leb, lt-leb}
+use Rattle.repr.specs.Sizes.{scratchWords, entryRoom, entriesRoom}
 use Rattle.repr.specs.Lists.{keep, joined}
 use Rattle.repr.specs.Meaning.{Table}
 use Rattle.repr.proofs.Lists.{cases, length-keep}
@@ -140,7 +141,7 @@ module _ (c : Conflict) (tokens : ℕ) where
       (λ q.
       cases (setShiftsEnd T c tokens)
       (λ k. rw (q, k, chooseIn) tt)
-      (λ k. cases (leb 32000 (length w)) (λ l. rw (q, k, l, chooseIn) f) (λ l. rw (q, k, l, chooseIn) tt)))
+      (λ k. cases (leb scratchWords (length w)) (λ l. rw (q, k, l, chooseIn) f) (λ l. rw (q, k, l, chooseIn) tt)))
       (λ q. rw (q, chooseIn) tt)
 
   few-by : (t w : List ℕ) (k : Checked) → FewIn (chooseBy t c tokens w k)
@@ -173,11 +174,11 @@ module _ (count : ℕ) (old : List ℕ) where
   by-refusal zero p k ws s ne = absurd (ne refl)
   by-refusal (suc n) p k ws s ne = refl
 
-  by-answer : (n p k : ℕ) (ws s : List ℕ) → n ≡ 0 → (to : List ℕ) → to ≡ joined entryWords (entriesIn ws k) ++ drop (6 * k) old → choiceNumbers 0 0 k to s ≡ chosenNumbers count old (choosing (choiceBy n p k ws) s)
+  by-answer : (n p k : ℕ) (ws s : List ℕ) → n ≡ 0 → (to : List ℕ) → to ≡ joined entryWords (entriesIn ws k) ++ drop (entryRoom * k) old → choiceNumbers 0 0 k to s ≡ chosenNumbers count old (choosing (choiceBy n p k ws) s)
   unfolding chosenNumbers choiceBy
   by-answer zero p k ws s h to e =
       let l : k ≡ length (entriesIn ws k) = sym (entries-long ws k) in
-      let f : to ≡ joined entryWords (entriesIn ws k) ++ drop (6 * length (entriesIn ws k)) old = e ∙ ap (λ (i : ℕ). joined entryWords (entriesIn ws k) ++ drop (6 * i) old) l in
+      let f : to ≡ joined entryWords (entriesIn ws k) ++ drop (entryRoom * length (entriesIn ws k)) old = e ∙ ap (λ (i : ℕ). joined entryWords (entriesIn ws k) ++ drop (entryRoom * i) old) l in
       (λ j. choiceNumbers 0 0 (l j) (f j) s)
   by-answer (suc n) p k ws s h to e = absurd (omega arith)
 
@@ -187,7 +188,7 @@ module _ (count : ℕ) (old : List ℕ) where
   by-short (suc n) p k x y ws s r h = refl
 
   module _ (t : List ℕ) (c : Conflict) (tokens : ℕ) (scratch : List ℕ) (r : Chosen) (last : List ℕ) where
-    module _ (long : 384 ≤ length old) (e : choosing (choiceIn r) last ≡ chooseOf t c tokens scratch) where
+    module _ (long : entriesRoom ≤ length old) (e : choosing (choiceIn r) last ≡ chooseOf t c tokens scratch) where
       long-is : chosenNumbers count old (choosing (choiceIn r) last) ≡ chooseNumbers count old t c tokens scratch
       unfolding chooseNumbers
       long-is = rw (le-leb _ _ long, chooseNumbers) (ap (chosenNumbers count old) e)
@@ -196,11 +197,11 @@ module _ (count : ℕ) (old : List ℕ) where
       unfolding choiceIn
       choose-refused ne p ep = ap (λ (x : ℕ). choiceNumbers (r .refusal) x count old last) ep ∙ by-refusal (r .refusal) (r .place) (r .count) (r .entries) last ne ∙ long-is
 
-      pub choose-chosen : r .refusal ≡ 0 → (to : List ℕ) → to ≡ joined entryWords (entriesIn (r .entries) (r .count)) ++ drop (6 * r .count) old → choiceNumbers 0 0 (r .count) to last ≡ chooseNumbers count old t c tokens scratch
+      pub choose-chosen : r .refusal ≡ 0 → (to : List ℕ) → to ≡ joined entryWords (entriesIn (r .entries) (r .count)) ++ drop (entryRoom * r .count) old → choiceNumbers 0 0 (r .count) to last ≡ chooseNumbers count old t c tokens scratch
       unfolding choiceIn
       choose-chosen h to w = by-answer (r .refusal) (r .place) (r .count) (r .entries) last h to w ∙ long-is
 
-    pub choose-short : length old < 384 → choosing (choiceIn r) last ≡ chooseOf t c tokens [] → choiceNumbers (r .refusal) (r .place) count old (last ++ scratch) ≡ chooseNumbers count old t c tokens scratch
+    pub choose-short : length old < entriesRoom → choosing (choiceIn r) last ≡ chooseOf t c tokens [] → choiceNumbers (r .refusal) (r .place) count old (last ++ scratch) ≡ chooseNumbers count old t c tokens scratch
     unfolding chooseNumbers choiceIn
     choose-short short e =
         let R = none-refuses c tokens t in

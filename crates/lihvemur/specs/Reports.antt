@@ -4,6 +4,7 @@ use mathlib.Core.Bool.{true, false}
 use mathlib.Core.List.{List, [], _∷_, _++_}
 use lib.ListN.{length, take, drop}
 use lib.Dec.{leb}
+use Rattle.repr.specs.Sizes.{entryRoom, entriesRoom}
 use Rattle.repr.specs.Lists.{joined}
 use Rattle.error.specs.declared.Conflict.{Conflict}
 use Rattle.error.specs.Numbers.{classed, refused}
@@ -31,7 +32,7 @@ pub data ChoiceNumbers : Type 0 where
 
 -- the entries' words at the front, the other words as they were; all as they were where the call is refused
 unfoldable pub chosenNumbers : ℕ → List ℕ → ChoiceOutcome → ChoiceNumbers
-chosenNumbers count entries (choosing (chosen es) scratch) = choiceNumbers 0 0 (length es) (joined entryWords es ++ drop (6 * length es) entries) scratch
+chosenNumbers count entries (choosing (chosen es) scratch) = choiceNumbers 0 0 (length es) (joined entryWords es ++ drop (entryRoom * length es) entries) scratch
 chosenNumbers count entries (choosing (notChosen n r) scratch) = choiceNumbers n r count entries scratch
 
 -- too few words for the entries: refused as with no scratch, 1 to 10 or else 11, and nothing changed
@@ -40,7 +41,7 @@ shortNumbers count entries scratch (choosing (chosen es) s) = choiceNumbers 11 0
 shortNumbers count entries scratch (choosing (notChosen n r) s) = choiceNumbers n r count entries scratch
 
 unfoldable pub chooseNumbers : ℕ → List ℕ → List ℕ → Conflict → ℕ → List ℕ → ChoiceNumbers
-chooseNumbers count entries t c tokens scratch = elim (leb 384 (length entries)) [
+chooseNumbers count entries t c tokens scratch = elim (leb entriesRoom (length entries)) [
   | true ↦ chosenNumbers count entries (chooseOf t c tokens scratch)
   | false ↦ shortNumbers count entries scratch (chooseOf t c tokens [])
 ]

@@ -104,7 +104,7 @@ pub extern "C" fn lihvemur_choose(
         operand: operand,
         token: 0,
     };
-    if entries.len() < 384 {
+    if entries.len() < Class::ALL_WORDS {
         let none = choose(table, conflict, TokenSet(tokens), &mut scratch[..0]);
         *place = none.place;
         return none.refusal;

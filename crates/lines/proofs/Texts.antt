@@ -6,6 +6,7 @@ use mathlib.Core.List.{List, [], _∷_, _++_, append-assoc, append-nil}
 use lib.ListN.{length, getD, take, drop, length-drop}
 use lib.Seq.{take-add, drop-cons, take-all, length-take-le}
 use borrow.Author.Tests.{eq-eqb, ne-eqb}
+use Rattle.repr.specs.Sizes.{reductionRoom}
 use Rattle.repr.specs.Lists.{joined}
 use Rattle.error.specs.Numbers.{classNumber, classValues, readingOf}
 use Rattle.error.specs.declared.Class.{Class}
@@ -115,7 +116,7 @@ symbols-end {old} {at} {words} {n} {new} {place} {i} S h =
     (put-as (S .put) (ap (λ (k : ℕ). symbolTexts (take k words)) e), omega arith)
 
 -- reductions
-reductions-append : (k : ℕ) (l m : List ℕ) → length l ≡ k * 3 → reductionTexts (l ++ m) ≡ reductionTexts l ++ reductionTexts m
+reductions-append : (k : ℕ) (l m : List ℕ) → length l ≡ k * reductionRoom → reductionTexts (l ++ m) ≡ reductionTexts l ++ reductionTexts m
 unfolding reductionTexts
 reductions-append k [] m e = refl
 reductions-append k (a ∷ []) m e = absurd (omega arith)
@@ -141,34 +142,34 @@ three-at ws j h =
 
 pub record Reductions (old : List ℕ) (at : ℕ) (words : List ℕ) (n : ℕ) (new : List ℕ) (place i : ℕ) : Type 0 where
   pub within : i ≤ n
-  pub put : Put old at (reductionTexts (take (i * 3) words)) new place
+  pub put : Put old at (reductionTexts (take (i * reductionRoom) words)) new place
   pub small : place ≤ at + 63 * i
 
 pub reductions-first : (old : List ℕ) (at : ℕ) (words : List ℕ) (n : ℕ) → Reductions old at words n old at 0
 unfolding reductionTexts
 reductions-first old at words n = record { within = omega arith; put = put-nothing old at; small = omega arith }
 
-pub reductions-more : {old : List ℕ} {at : ℕ} {words : List ℕ} {n : ℕ} {new : List ℕ} {place i : ℕ} {new' : List ℕ} {r x y z : ℕ} → Reductions old at words n new place i → i < n → 3 * n ≤ length words
-    → x ≡ getD words (i * 3) 0 → y ≡ getD words (i * 3 + 1) 0 → z ≡ getD words (i * 3 + 2) 0 → Put new place (reductionText x y z) new' r → r ≤ place + 63 → Reductions old at words n new' r (i + 1)
+pub reductions-more : {old : List ℕ} {at : ℕ} {words : List ℕ} {n : ℕ} {new : List ℕ} {place i : ℕ} {new' : List ℕ} {r x y z : ℕ} → Reductions old at words n new place i → i < n → reductionRoom * n ≤ length words
+    → x ≡ getD words (i * reductionRoom) 0 → y ≡ getD words (i * reductionRoom + 1) 0 → z ≡ getD words (i * reductionRoom + 2) 0 → Put new place (reductionText x y z) new' r → r ≤ place + 63 → Reductions old at words n new' r (i + 1)
 reductions-more {old} {at} {words} {n} {new} {place} {i} {new'} {r} {x} {y} {z} S h l ex ey ez P le =
     let s = S .small in
-    let t : i * 3 + 3 ≤ length words = omega arith in
-    let k : length (take (i * 3) words) ≡ i * 3 = length-take-le (i * 3) words (omega arith) in
-    let j : i * 3 + 3 ≡ (i + 1) * 3 = omega arith in
-    let q : getD words (i * 3) 0 ∷ getD words (i * 3 + 1) 0 ∷ getD words (i * 3 + 2) 0 ∷ [] ≡ x ∷ y ∷ z ∷ [] =
-    sym (ap (λ (v : ℕ). v ∷ y ∷ z ∷ []) ex ∙ ap (λ (v : ℕ). getD words (i * 3) 0 ∷ v ∷ z ∷ []) ey ∙ ap (λ (v : ℕ). getD words (i * 3) 0 ∷ getD words (i * 3 + 1) 0 ∷ v ∷ []) ez) in
-    let e : reductionTexts (take ((i + 1) * 3) words) ≡ reductionTexts (take (i * 3) words) ++ reductionText x y z =
+    let t : i * reductionRoom + 3 ≤ length words = omega arith in
+    let k : length (take (i * reductionRoom) words) ≡ i * reductionRoom = length-take-le (i * reductionRoom) words (omega arith) in
+    let j : i * reductionRoom + 3 ≡ (i + 1) * reductionRoom = omega arith in
+    let q : getD words (i * reductionRoom) 0 ∷ getD words (i * reductionRoom + 1) 0 ∷ getD words (i * reductionRoom + 2) 0 ∷ [] ≡ x ∷ y ∷ z ∷ [] =
+    sym (ap (λ (v : ℕ). v ∷ y ∷ z ∷ []) ex ∙ ap (λ (v : ℕ). getD words (i * reductionRoom) 0 ∷ v ∷ z ∷ []) ey ∙ ap (λ (v : ℕ). getD words (i * reductionRoom) 0 ∷ getD words (i * reductionRoom + 1) 0 ∷ v ∷ []) ez) in
+    let e : reductionTexts (take ((i + 1) * reductionRoom) words) ≡ reductionTexts (take (i * reductionRoom) words) ++ reductionText x y z =
     ap (λ (m : ℕ). reductionTexts (take m words)) (sym j)
-    ∙ ap reductionTexts (three-at words (i * 3) t ∙ ap (λ (m : List ℕ). take (i * 3) words ++ m) q)
-    ∙ reductions-append i (take (i * 3) words) (x ∷ y ∷ z ∷ []) k
-    ∙ ap (λ (m : List ℕ). reductionTexts (take (i * 3) words) ++ m) (one-reduction x y z) in
+    ∙ ap reductionTexts (three-at words (i * reductionRoom) t ∙ ap (λ (m : List ℕ). take (i * reductionRoom) words ++ m) q)
+    ∙ reductions-append i (take (i * reductionRoom) words) (x ∷ y ∷ z ∷ []) k
+    ∙ ap (λ (m : List ℕ). reductionTexts (take (i * reductionRoom) words) ++ m) (one-reduction x y z) in
     record { within = omega arith; put = put-as (put-then (S .put) P) (sym e); small = omega arith }
 
-pub reductions-end : {old : List ℕ} {at : ℕ} {words : List ℕ} {n : ℕ} {new : List ℕ} {place i : ℕ} → Reductions old at words n new place i → n ≤ i → Put old at (reductionTexts (take (3 * n) words)) new place × (place ≤ at + 63 * n)
+pub reductions-end : {old : List ℕ} {at : ℕ} {words : List ℕ} {n : ℕ} {new : List ℕ} {place i : ℕ} → Reductions old at words n new place i → n ≤ i → Put old at (reductionTexts (take (reductionRoom * n) words)) new place × (place ≤ at + 63 * n)
 reductions-end {old} {at} {words} {n} {new} {place} {i} S h =
     let w = S .within in
     let s = S .small in
-    let e : i * 3 ≡ 3 * n = omega arith in
+    let e : i * reductionRoom ≡ reductionRoom * n = omega arith in
     (put-as (S .put) (ap (λ (k : ℕ). reductionTexts (take k words)) e), omega arith)
 
 -- the line of an example
@@ -181,7 +182,7 @@ rest-long m k l h = let e = length-drop k l in let f = ap length (rest-is k l) i
 pub example-put : {a b c d e f g : List ℕ} {at m₁ m₂ m₃ m₄ m₅ r : ℕ} {letter cursor s q : ℕ} (example : List ℕ) → s ≡ getD example 0 0 → cursor ≡ getD example 1 0 → q ≡ getD example 2 0
     → Put a at (letter ∷ []) b m₁ → Put b m₁ (32 ∷ numeral s) c m₂ → Put c m₂ (32 ∷ numeral cursor) d m₃
     → Put d m₃ (symbolTexts (take (2 * s) (take (length example - 3) (drop 3 example)))) e m₄
-    → Put e m₄ (reductionTexts (take (3 * q) (take (length example - (3 + s * 2)) (drop (3 + s * 2) example)))) f m₅
+    → Put e m₄ (reductionTexts (take (reductionRoom * q) (take (length example - (3 + s * 2)) (drop (3 + s * 2) example)))) f m₅
     → Put f m₅ (10 ∷ []) g r → Put a at (exampleLine letter example) g r
 unfolding exampleLine spaced
 example-put {s = s} {q} example es ec eq P Q R S T U =
@@ -189,7 +190,7 @@ example-put {s = s} {q} example es ec eq P Q R S T U =
     let Q' = put-as Q (ap (λ (k : ℕ). 32 ∷ numeral k) es) in
     let R' = put-as R (ap (λ (k : ℕ). 32 ∷ numeral k) ec) in
     let S' = put-as S (ap (λ (l : List ℕ). symbolTexts (take (2 * s) l)) (rest-is 3 example) ∙ ap (λ (k : ℕ). symbolTexts (take (2 * k) (drop 3 example))) es) in
-    let T' = put-as T (ap (λ (l : List ℕ). reductionTexts (take (3 * q) l)) (rest-is (3 + s * 2) example) ∙ ap (λ (k : ℕ). reductionTexts (take (3 * k) (drop (3 + s * 2) example))) eq ∙ ap (λ (k : ℕ). reductionTexts (take (3 * getD example 2 0) (drop k example))) en) in
+    let T' = put-as T (ap (λ (l : List ℕ). reductionTexts (take (reductionRoom * q) l)) (rest-is (3 + s * 2) example) ∙ ap (λ (k : ℕ). reductionTexts (take (reductionRoom * k) (drop (3 + s * 2) example))) eq ∙ ap (λ (k : ℕ). reductionTexts (take (reductionRoom * getD example 2 0) (drop k example))) en) in
     put-then P (put-then Q' (put-then R' (put-then S' (put-then T' U))))
 
 -- which examples are shown

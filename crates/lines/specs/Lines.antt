@@ -5,6 +5,7 @@ use mathlib.Core.Bool.{true, false}
 use mathlib.Core.List.{List, [], _∷_, _++_}
 use lib.ListN.{length, getD, take, drop}
 use lib.Dec.{eqb, ltb}
+use Rattle.repr.specs.Sizes.{reductionLimit, exampleSymbols, reductionRoom, reductionPlace}
 use Rattle.repr.specs.Lists.{joined}
 use Rattle.error.specs.Numbers.{Reading, classed, refused}
 
@@ -46,7 +47,7 @@ exampleLine letter b =
     ∷ (spaced (getD b 0 0)
     ++ (spaced (getD b 1 0)
     ++ (symbolTexts (take (2 * getD b 0 0) (drop 3 b))
-    ++ (reductionTexts (take (3 * getD b 2 0) (drop (3 + 2 * getD b 0 0) b)) ++ (10 ∷ [])))))
+    ++ (reductionTexts (take (reductionRoom * getD b 2 0) (drop (3 + 2 * getD b 0 0) b)) ++ (10 ∷ [])))))
 
 -- the class's own: nonterminal (2, 3), nonterminal and kind/number (4), four span words (5)
 unfoldable pub ownText : List ℕ → List ℕ
@@ -87,9 +88,9 @@ pub record Put (old : List ℕ) (at : ℕ) (text new : List ℕ) (after : ℕ) :
 
 -- an example's words are whole: its counts within document 01's limits, and all its symbols and reductions there
 pub record Whole (b : List ℕ) : Type 0 where
-  pub few-symbols : getD b 0 0 ≤ 528
-  pub few-reductions : getD b 2 0 ≤ 33
-  pub long : 3 + 2 * getD b 0 0 + 3 * getD b 2 0 ≤ length b
+  pub few-symbols : getD b 0 0 ≤ exampleSymbols
+  pub few-reductions : getD b 2 0 ≤ reductionLimit
+  pub long : reductionPlace (getD b 0 0) (getD b 2 0) ≤ length b
 
 -- the examples that are shown with class c are whole: both of classes 1 to 4 and 6, the action's of class 5
 pub record Shown (c : ℕ) (action reduce : List ℕ) : Type 0 where

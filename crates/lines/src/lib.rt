@@ -2,11 +2,13 @@
 use entries::class_number;
 use error::Class;
 use error::Classified;
+use example::Example;
 use repr::word;
 ghost use mathlib.Core.Path.{_≡_};
 ghost use mathlib.Core.List.{_++_, _∷_, []};
 ghost use Prim.Native.Nat.{_+_, _*_, _≤_, _<_};
 ghost use lib.ListN.{length, take, drop};
+ghost use Rattle.repr.specs.Sizes.{reductionLimit, exampleSymbols, reductionRoom};
 ghost use Rattle.error.specs.Numbers.{classNumber, classValues, readingOf};
 ghost use Rattle.lines.specs.Lines.{Put, Whole, Shown, ReadingShown, numeral, symbolText, reductionText, symbolTexts, reductionTexts, exampleLine, ownText, refusedText, refusedLine, classLine, exampleLines, linesOf};
 
@@ -73,7 +75,7 @@ fn put_reduction(out: &mut [u8], at: usize, start: usize, end: usize, nontermina
 
 // The symbols of an example, from their words on.
 fn put_symbols(out: &mut [u8], at: usize, words: &[u16], n: usize) -> usize
-    requires { ⌜ (2 * n ≤ length (now words)) × (n ≤ 528) ⌝ }
+    requires { ⌜ (2 * n ≤ length (now words)) × (n ≤ exampleSymbols) ⌝ }
     requires { ⌜ at + 42 * n ≤ length (now out) ⌝ }
     ensures { λ r. ⌜ Put (now (out .entry)) at (symbolTexts (take (2 * n) (now (words .entry)))) (now (out .exit)) r × (r ≤ at + 42 * n) ⌝ }
 {
@@ -90,16 +92,16 @@ fn put_symbols(out: &mut [u8], at: usize, words: &[u16], n: usize) -> usize
 
 // The reductions of an example.
 fn put_reductions(out: &mut [u8], at: usize, words: &[u16], n: usize) -> usize
-    requires { ⌜ (3 * n ≤ length (now words)) × (n ≤ 33) ⌝ }
+    requires { ⌜ (reductionRoom * n ≤ length (now words)) × (n ≤ reductionLimit) ⌝ }
     requires { ⌜ at + 63 * n ≤ length (now out) ⌝ }
-    ensures { λ r. ⌜ Put (now (out .entry)) at (reductionTexts (take (3 * n) (now (words .entry)))) (now (out .exit)) r × (r ≤ at + 63 * n) ⌝ }
+    ensures { λ r. ⌜ Put (now (out .entry)) at (reductionTexts (take (reductionRoom * n) (now (words .entry)))) (now (out .exit)) r × (r ≤ at + 63 * n) ⌝ }
 {
     let mut place = at;
     let mut i: usize = 0;
     while i < n {
-        let start = word(words, i * 3);
-        let end = word(words, i * 3 + 1);
-        let nonterminal = word(words, i * 3 + 2);
+        let start = word(words, i * Example::REDUCTION_WORDS);
+        let end = word(words, i * Example::REDUCTION_WORDS + 1);
+        let nonterminal = word(words, i * Example::REDUCTION_WORDS + 2);
         place = put_reduction(out, place, start, end, nonterminal);
         i += 1;
     }
@@ -119,7 +121,7 @@ fn put_example(out: &mut [u8], at: usize, letter: u8, example: &[u16]) -> usize
     let second = put_after(out, first, b' ', symbols as u64);
     let third = put_after(out, second, b' ', cursor as u64);
     let fourth = put_symbols(out, third, &example[3..], symbols);
-    let from = 3 + symbols * 2;
+    let from = 3 + symbols * Example::SYMBOL_WORDS;
     let fifth = put_reductions(out, fourth, &example[from..], reductions);
     put(out, fifth, b'\n')
 }

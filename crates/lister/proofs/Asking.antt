@@ -7,6 +7,7 @@ use mathlib.Core.Option.{Option, none, some}
 use lib.ListN.{length, drop, replicate}
 use lib.Dec.{ltb}
 use borrow.Author.Tests.{le-leb, lt-leb}
+use Rattle.repr.specs.Sizes.{graphRoom, scratchWords}
 use Rattle.repr.specs.Meaning.{Production, Table}
 use Rattle.lookahead.specs.declared.TokenSet.{TokenSet}
 use Rattle.first.specs.First.{firstSets}
@@ -36,7 +37,7 @@ module _ (a : Lookahead) (t : ℕ) where
   sets-set s e ps m h = rw e h
 
 -- the words that a search starts from
-pub begun-fresh : (c : ℕ) (ws ws′ : List ℕ) → c ≡ 0 → ws′ ≡ wordsOf [] ++ drop 32000 ws → ws′ ≡ begun c ws
+pub begun-fresh : (c : ℕ) (ws ws′ : List ℕ) → c ≡ 0 → ws′ ≡ wordsOf [] ++ drop scratchWords ws → ws′ ≡ begun c ws
 unfolding begun
 begun-fresh c ws ws′ z e = rw z e
 
@@ -58,13 +59,13 @@ module _ {n e : ℕ} {ps : List Production} (p i : ℕ) (a : Option ℕ) (g : Li
   ahead-is none = refl
   ahead-is (some s) = rw (R .terminals)
 
-  graph-short : length g < 8193 → lentGraphFits T g ≡ true
+  graph-short : length g < graphRoom → lentGraphFits T g ≡ true
   unfolding lentGraphFits
-  graph-short h = rw (lt-leb 8193 (length g) h, lentGraphFits)
+  graph-short h = rw (lt-leb graphRoom (length g) h, lentGraphFits)
 
-  graph-long : 8193 ≤ length g → lentGraphFits T g ≡ graphFits n ps g
+  graph-long : graphRoom ≤ length g → lentGraphFits T g ≡ graphFits n ps g
   unfolding lentGraphFits
-  graph-long h = rw (le-leb 8193 (length g) h, lentGraphFits, R .nonterminals, R .productions)
+  graph-long h = rw (le-leb graphRoom (length g) h, lentGraphFits, R .nonterminals, R .productions)
 
   pub asked-item : (b : Bool) → b ≡ itemFits ps p i → b ≡ false → false ≡ whole
   unfolding asked
@@ -80,8 +81,8 @@ module _ {n e : ℕ} {ps : List Production} (p i : ℕ) (a : Option ℕ) (g : Li
       unfolding asked
       rest-is = rw (item-is ∙ sym eb ∙ t, ahead-is a ∙ sym ec ∙ u)
 
-      pub asked-short : length g < 8193 → true ≡ whole
+      pub asked-short : length g < graphRoom → true ≡ whole
       asked-short h = sym (rest-is ∙ graph-short h)
 
-      pub asked-long : 8193 ≤ length g → (r : Bool) → r ≡ graphFits n ps g → r ≡ whole
+      pub asked-long : graphRoom ≤ length g → (r : Bool) → r ≡ graphFits n ps g → r ≡ whole
       asked-long h r er = er ∙ sym (rest-is ∙ graph-long h)

@@ -1,5 +1,5 @@
 -- Whether an item is an end of an edge (refusal 15), as the code looks for it. Assumes nothing.
-use Prim.Native.Nat.{ℕ, zero, suc, _+_, _*_, _≤_, _<_}
+use Prim.Native.Nat.{ℕ, zero, suc, _+_, _≤_, _<_}
 use native.Mathlib.Omega.{arith}
 use mathlib.Core.Path.{_≡_, refl, sym, ap, _∙_}
 use mathlib.Core.Bool.{Bool, true, false, _&&_}
@@ -8,11 +8,12 @@ use lib.ListN.{length, getD, drop, drop-of-length-le}
 use lib.Seq.{drop-cons}
 use lib.Dec.{eqb}
 use borrow.Author.Tests.{eq-eqb, ne-eqb}
+use Rattle.repr.specs.Sizes.{edgeLimit, edgePlace, graphRoom}
 use Rattle.repr.specs.Lists.{some?}
 use Rattle.repr.proofs.Tests.{some?-nil, some?-yes, some?-no}
 use Rattle.trace_graph.specs.declared.Node.{Node as NodeValue}
 use Rattle.trace_graph.specs.Graph.{Node, atNonterminal, atItem, sameItem, sameNode, TraceEdge, isNode}
-use Rattle.trace_graph.specs.Words.{place, nodeOf, nodeAt, edgeAt, edgesIn}
+use Rattle.trace_graph.specs.Words.{nodeOf, nodeAt, edgeAt, edgesIn}
 use Rattle.trace_graph.specs.Values.{nodeIs}
 use Rattle.enumerator.specs.Trials.{noEdge}
 use Rattle.enumerator.specs.Stacks.{Roomy}
@@ -77,7 +78,7 @@ module _ {g : List ℕ} {v : Node} {count k : ℕ} (L : Looking g v count k) whe
       let l : length (edgesIn g) ≤ k = omega (arith, edges-count g, L .counted) in
       sym (ap (some? (endsAt v)) (drop-of-length-le (edgesIn g) l) ∙ some?-nil (endsAt v)) ∙ L .same
 
-  module _ (h : k < count) (at : ℕ) (ea : at ≡ k * 8 + 1) where
+  module _ (h : k < count) (at : ℕ) (ea : at ≡ edgePlace k) where
     here : drop k (edgesIn g) ≡ edgeAt g k ∷ drop (k + 1) (edgesIn g)
     here =
         let l : k < length (edgesIn g) = omega (arith, edges-count g, L .counted) in
@@ -87,7 +88,7 @@ module _ {g : List ℕ} {v : Node} {count k : ℕ} (L : Looking g v count k) whe
 
     module _ (r : Bool) (er : r ≡ sameNode v (nodeAt g at)) where
       source-is : sameNode v (edgeAt g k .source) ≡ r
-      unfolding edgeAt place
+      unfolding edgeAt
       source-is = sym (er ∙ ap (λ (m : ℕ). sameNode v (nodeAt g m)) ea)
 
       pub look-source : r ≡ true → true ≡ isNode v (edgesIn g)
@@ -95,9 +96,9 @@ module _ {g : List ℕ} {v : Node} {count k : ℕ} (L : Looking g v count k) whe
 
       module _ (f : r ≡ false) (u : Bool) (eu : u ≡ sameNode v (nodeAt g (at + 3))) where
         edge-is : endsAt v (edgeAt g k) ≡ u
-        unfolding edgeAt place
+        unfolding edgeAt
         edge-is =
-            let m : at + 3 ≡ place k + 3 = omega arith in
+            let m : at + 3 ≡ edgePlace k + 3 = omega arith in
             ends-target v (edgeAt g k) (source-is ∙ f) ∙ sym (eu ∙ ap (λ (x : ℕ). sameNode v (nodeAt g x)) m)
 
         pub look-target : u ≡ true → true ≡ isNode v (edgesIn g)
@@ -110,10 +111,10 @@ module _ {g : List ℕ} {v : Node} {count k : ℕ} (L : Looking g v count k) whe
           same = sym (ap (some? (endsAt v)) here ∙ some?-no (endsAt v) (edgeAt g k) (drop (k + 1) (edgesIn g)) (edge-is ∙ n)) ∙ L .same;
         }
 
-pub roomy-long : (g : List ℕ) → Roomy g → 8193 ≤ length g
+pub roomy-long : (g : List ℕ) → Roomy g → graphRoom ≤ length g
 unfolding Roomy
 roomy-long g r = r .0
 
-pub roomy-few : (g : List ℕ) → Roomy g → getD g 0 0 ≤ 1024
+pub roomy-few : (g : List ℕ) → Roomy g → getD g 0 0 ≤ edgeLimit
 unfolding Roomy
 roomy-few g r = r .1

@@ -8,17 +8,19 @@ use mathlib.Core.Option.{Option, none, some}
 use lib.ListN.{length, drop}
 use lib.Dec.{eqb}
 use borrow.Author.Tests.{eq-eqb, ne-eqb}
+use Rattle.repr.specs.Sizes.{scratchWords, trialLimit, reductionLimit}
+use Rattle.slices.specs.Lent.{inFront, zeroed}
 use Rattle.repr.specs.Meaning.{Production, Table}
 use Rattle.repr.proofs.Lists.{cases, clash}
 use Rattle.first.specs.First.{firstSets}
 use Rattle.trace_graph.specs.Graph.{Node, atItem, TraceEdge}
 use Rattle.trace_graph.specs.Words.{edgesIn}
 use Rattle.example.specs.Example.{Label, exampleWords}
-use Rattle.example.specs.Labels.{labelsIn, inFront as exampleInFront}
+use Rattle.example.specs.Labels.{labelsIn}
 use Rattle.enumerator.specs.Trials.{Path, Ends, endsOf, trials}
-use Rattle.enumerator.specs.Lister.{labelsOf, hands, says, trialLimit, Found, hit, out, over, search}
+use Rattle.enumerator.specs.Lister.{labelsOf, hands, says, Found, hit, out, over, search}
 use Rattle.enumerator.specs.Words.{wordsOf, pathIn, holdsTrial}
-use Rattle.enumerator.specs.Advance.{outcome, startOf, moved, inFront, zeroed, foundOutcome, restOf, lost}
+use Rattle.enumerator.specs.Advance.{outcome, startOf, moved, foundOutcome, restOf, lost}
 use Rattle.enumerator.specs.declared.Listing.{Listing}
 use Rattle.enumerator.specs.declared.Advanced.the-variants.{Example, End, Refused}
 use Rattle.enumerator.proofs.Short.{short-trial}
@@ -75,7 +77,7 @@ module _ (es : List TraceEdge) (l : Listing) (ws : List ℕ) where
 -- where the search starts
 pub record Start (G : Ends) (start : Node) (c : ℕ) (ws : List ℕ) : Type 0 where
   pub path : Path
-  pub words : begun c ws ≡ wordsOf path ++ drop 32000 ws
+  pub words : begun c ws ≡ wordsOf path ++ drop scratchWords ws
   pub begins : Begun G start path
   pub later : laterThan path (trials G start) ≡ restOf c ws (trials G start)
 
@@ -102,7 +104,7 @@ searching {ws = ws} ws′ L S e = record {
   graphed = L .graphed;
   fits = L .fits;
   path = S .path;
-  rest = drop 32000 ws;
+  rest = drop scratchWords ws;
   words = e ∙ S .words;
   begun = S .begins;
 }
@@ -118,11 +120,11 @@ module _ {n e : ℕ} {ps : List Production} (T : Table) (R : Read T n e ps) (es 
       ∙ ap (λ (x : List ℕ). handsBy e x ps es (some s) p) (sym em)
 
 -- the words after the search: those of no edge are zero
-none-zeroed : (ws : List ℕ) → wordsOf [] ++ drop 32000 ws ≡ zeroed ws
+none-zeroed : (ws : List ℕ) → wordsOf [] ++ drop scratchWords ws ≡ zeroed scratchWords ws
 unfolding wordsOf zeroed
 none-zeroed ws = refl
 
-path-front : (p : Path) (ws : List ℕ) → length p ≤ 33 → wordsOf p ++ drop 32000 ws ≡ inFront (wordsOf p) ws
+path-front : (p : Path) (ws : List ℕ) → length p ≤ reductionLimit → wordsOf p ++ drop scratchWords ws ≡ inFront (wordsOf p) ws
 unfolding inFront
 path-front p ws h = ap (λ (k : ℕ). wordsOf p ++ drop k ws) (sym (words-long p (omega arith)))
 
@@ -137,17 +139,17 @@ module _ {ps : List Production} {g ix : List ℕ} {p i c : ℕ} {ws : List ℕ} 
   abbrev finds : Found
   finds = search t (trialLimit - c) c (laterThan (S .path) ts)
 
-  answers : searched r ws″ ≡ searchedOf (drop 32000 ws) finds
-  answers = found (S .path) (drop 32000 ws) (eb ∙ S .words)
+  answers : searched r ws″ ≡ searchedOf (drop scratchWords ws) finds
+  answers = found (S .path) (drop scratchWords ws) (eb ∙ S .words)
 
-  hits : (n : ℕ) → r ≡ Hit n → (q : Path) × (finds ≡ hit n q) × (ws″ ≡ wordsOf q ++ drop 32000 ws)
-  hits n er = searched-hit n ws″ (drop 32000 ws) finds (ap (λ (x : Searched). searched x ws″) (sym er) ∙ answers)
+  hits : (n : ℕ) → r ≡ Hit n → (q : Path) × (finds ≡ hit n q) × (ws″ ≡ wordsOf q ++ drop scratchWords ws)
+  hits n er = searched-hit n ws″ (drop scratchWords ws) finds (ap (λ (x : Searched). searched x ws″) (sym er) ∙ answers)
 
   hit-in : (n : ℕ) (er : r ≡ Hit n) → List·Memᴰ (hits n er .0) ts
   hit-in n er = search-trial t (endsOf (edgesIn g)) (atItem (record { production = p; index = i })) (S .path) (trialLimit - c) c n (hits n er .0) (hits n er .1) .0
 
   pub hit-tried : (n : ℕ) → r ≡ Hit n → Tried ps g ws″
-  hit-tried n er = tried-trial (L .graphed) (atItem (record { production = p; index = i })) (hits n er .0) (drop 32000 ws) ws″ (hit-in n er) (hits n er .2)
+  hit-tried n er = tried-trial (L .graphed) (atItem (record { production = p; index = i })) (hits n er .0) (drop scratchWords ws) ws″ (hit-in n er) (hits n er .2)
 
   module _ {k e : ℕ} (T : Table) (R : Read T k e ps) (l : Listing) (buffer : List ℕ) (a : Option ℕ) (same : (q : Path) → hands T (edgesIn g) a q ≡ t q) where
     abbrev whole : Found
@@ -170,27 +172,26 @@ module _ {ps : List Production} {g ix : List ℕ} {p i c : ℕ} {ws : List ℕ} 
         let q = hits n er .0 in
         let f : whole ≡ hit n q = sym whole-is ∙ hits n er .1 in
         let s : ws″ ≡ inFront (wordsOf q) ws = hits n er .2 ∙ path-front q ws (short-trial (endsOf (edgesIn g)) (atItem (record { production = p; index = i })) q (hit-in n er)) in
-        let d : b ≡ inFront (says T (edgesIn g) q) buffer = w q (drop 32000 ws) (hits n er .2) ∙ ap (λ (y : List ℕ). inFront y buffer) (says-is q) in
+        let d : b ≡ inFront (says T (edgesIn g) q) buffer = w q (drop scratchWords ws) (hits n er .2) ∙ ap (λ (y : List ℕ). inFront y buffer) (says-is q) in
         (λ j. outcome Example ((ex ∙ ap (moved l n) eo) j) (s j) (d j)) ∙ ap (foundOutcome T (edgesIn g) l ws buffer) (sym f)
 
     pub found-out : (n : ℕ) → r ≡ Out n → (x : Listing) (u : Bool) → x ≡ moved l n u → u ≡ false → outcome End x ws″ buffer ≡ foundOutcome T (edgesIn g) l ws buffer whole
     unfolding foundOutcome
     found-out n er x u ex eu =
-        let o = searched-out n ws″ (drop 32000 ws) finds (ap (λ (y : Searched). searched y ws″) (sym er) ∙ answers) in
+        let o = searched-out n ws″ (drop scratchWords ws) finds (ap (λ (y : Searched). searched y ws″) (sym er) ∙ answers) in
         let f : whole ≡ out n = sym whole-is ∙ o .0 in
-        let s : ws″ ≡ zeroed ws = o .1 ∙ none-zeroed ws in
+        let s : ws″ ≡ zeroed scratchWords ws = o .1 ∙ none-zeroed ws in
         (λ j. outcome End ((ex ∙ ap (moved l n) eu) j) (s j) buffer) ∙ ap (foundOutcome T (edgesIn g) l ws buffer) (sym f)
 
     pub found-over : r ≡ Over → (x : Listing) (n : ℕ) (u : Bool) → x ≡ moved l n u → n ≡ trialLimit → u ≡ false → outcome (Refused 13 0) x ws″ buffer ≡ foundOutcome T (edgesIn g) l ws buffer whole
     unfolding foundOutcome
     found-over er x n u ex en eu =
-        let o = searched-over ws″ (drop 32000 ws) finds (ap (λ (y : Searched). searched y ws″) (sym er) ∙ answers) in
+        let o = searched-over ws″ (drop scratchWords ws) finds (ap (λ (y : Searched). searched y ws″) (sym er) ∙ answers) in
         let f : whole ≡ over = sym whole-is ∙ o .0 in
-        let s : ws″ ≡ zeroed ws = o .1 ∙ none-zeroed ws in
+        let s : ws″ ≡ zeroed scratchWords ws = o .1 ∙ none-zeroed ws in
         (λ j. outcome (Refused 13 0) ((ex ∙ (λ k. moved l (en k) (eu k))) j) (s j) buffer) ∙ ap (foundOutcome T (edgesIn g) l ws buffer) (sym f)
 
 -- the example that is written is that of the labels read
-pub written-is : (ps : List Production) (ls : List ℕ) (labels : List Label) (b b′ : List ℕ) → labelsIn ls ≡ labels → b′ ≡ exampleInFront (exampleWords ps (labelsIn ls)) b
+pub written-is : (ps : List Production) (ls : List ℕ) (labels : List Label) (b b′ : List ℕ) → labelsIn ls ≡ labels → b′ ≡ inFront (exampleWords ps (labelsIn ls)) b
     → b′ ≡ inFront (exampleWords ps labels) b
-unfolding exampleInFront inFront
-written-is ps ls labels b b′ e w = w ∙ ap (λ (x : List Label). exampleWords ps x ++ drop (length (exampleWords ps x)) b) e
+written-is ps ls labels b b′ e w = w ∙ ap (λ (x : List Label). inFront (exampleWords ps x) b) e

@@ -6,6 +6,7 @@ use mathlib.Core.List.{List}
 use lib.ListN.{length, getD}
 use lib.Dec.{leb}
 use borrow.Author.Tests.{le-leb, lt-leb}
+use Rattle.repr.specs.Sizes.{graphRoom, scratchWords, trialLimit, exampleRoom}
 use Rattle.repr.specs.Meaning.{Production, Table}
 use Rattle.repr.specs.Packed.{Packed, productionsIn}
 use Rattle.table.specs.Index.{CountsOf}
@@ -15,7 +16,7 @@ use Rattle.trace_graph.specs.Fits.{itemFits}
 use Rattle.trace_graph.specs.Insert.{Graphed}
 use Rattle.example.proofs.Sizes.{short-of}
 use Rattle.enumerator.specs.Trials.{endsOf, trials}
-use Rattle.enumerator.specs.Lister.{enough, hands, trialLimit, search}
+use Rattle.enumerator.specs.Lister.{enough, hands, search}
 use Rattle.enumerator.specs.Stacks.{Roomy, Started}
 use Rattle.enumerator.specs.Advance.{Outcome, outcome, setOf, startOf, asked, foundOutcome, restOf, lost, advanceIn, openIn}
 use Rattle.enumerator.specs.declared.Lookahead.{Lookahead}
@@ -77,35 +78,35 @@ module _ (T : Table) (p i : ℕ) (a : Lookahead) (g : List ℕ) (b : Bool) (eb :
   open-refused f = rw (sym eb ∙ f, openIn)
 
   module _ (t : b ≡ true) where
-    pub open-short : length g < 8193 → NotOpened 11 0 ≡ openIn (record { production = p; index = i }) a g T
+    pub open-short : length g < graphRoom → NotOpened 11 0 ≡ openIn (record { production = p; index = i }) a g T
     unfolding openIn
-    open-short h = rw (sym eb ∙ t, lt-leb 8193 (length g) h, openIn)
+    open-short h = rw (sym eb ∙ t, lt-leb graphRoom (length g) h, openIn)
 
-    module _ (h : 8193 ≤ length g) (c : Bool) (ec : c ≡ isNode (atItem (record { production = p; index = i })) (edgesIn g)) where
+    module _ (h : graphRoom ≤ length g) (c : Bool) (ec : c ≡ isNode (atItem (record { production = p; index = i })) (edgesIn g)) where
       pub open-stray : c ≡ false → NotOpened 15 0 ≡ openIn (record { production = p; index = i }) a g T
       unfolding openIn
-      open-stray f = rw (sym eb ∙ t, le-leb 8193 (length g) h, sym ec ∙ f, openIn)
+      open-stray f = rw (sym eb ∙ t, le-leb graphRoom (length g) h, sym ec ∙ f, openIn)
 
       pub open-fresh : c ≡ true → (o : Bool) → o ≡ true → Opens (record { production = p; index = i; lookahead = a; count = 0; «is_open» = o }) ≡ openIn (record { production = p; index = i }) a g T
       unfolding openIn
-      open-fresh u o eo = rw (sym eb ∙ t, le-leb 8193 (length g) h, sym ec ∙ u, openIn, eo)
+      open-fresh u o eo = rw (sym eb ∙ t, le-leb graphRoom (length g) h, sym ec ∙ u, openIn, eo)
 
 -- a call
-enough-graph : (m s b : ℕ) → m < 8193 → enough (record { graph = m; scratch = s; buffer = b }) ≡ false
+enough-graph : (m s b : ℕ) → m < graphRoom → enough (record { graph = m; scratch = s; buffer = b }) ≡ false
 unfolding enough
-enough-graph m s b h = rw (lt-leb 8193 m h)
+enough-graph m s b h = rw (lt-leb graphRoom m h)
 
-enough-scratch : (m s b : ℕ) → s < 32000 → enough (record { graph = m; scratch = s; buffer = b }) ≡ false
+enough-scratch : (m s b : ℕ) → s < scratchWords → enough (record { graph = m; scratch = s; buffer = b }) ≡ false
 unfolding enough
-enough-scratch m s b h = rw (lt-leb 32000 s h) (and-false (leb 8193 m))
+enough-scratch m s b h = rw (lt-leb scratchWords s h) (and-false (leb graphRoom m))
 
-enough-buffer : (m s b : ℕ) → b < 1158 → enough (record { graph = m; scratch = s; buffer = b }) ≡ false
+enough-buffer : (m s b : ℕ) → b < exampleRoom → enough (record { graph = m; scratch = s; buffer = b }) ≡ false
 unfolding enough
-enough-buffer m s b h = rw (lt-leb 1158 b h, and-false (leb 32000 s)) (and-false (leb 8193 m))
+enough-buffer m s b h = rw (lt-leb exampleRoom b h, and-false (leb scratchWords s)) (and-false (leb graphRoom m))
 
-enough-all : (m s b : ℕ) → 8193 ≤ m → 32000 ≤ s → 1158 ≤ b → enough (record { graph = m; scratch = s; buffer = b }) ≡ true
+enough-all : (m s b : ℕ) → graphRoom ≤ m → scratchWords ≤ s → exampleRoom ≤ b → enough (record { graph = m; scratch = s; buffer = b }) ≡ true
 unfolding enough
-enough-all m s b h k j = rw (le-leb 8193 m h, le-leb 32000 s k, le-leb 1158 b j)
+enough-all m s b h k j = rw (le-leb graphRoom m h, le-leb scratchWords s k, le-leb exampleRoom b j)
 
 module _ (g : List ℕ) (l : Listing) (scratch buffer : List ℕ) (T : Table) where
   -- an answer that leaves the listing
@@ -122,20 +123,20 @@ module _ (g : List ℕ) (l : Listing) (scratch buffer : List ℕ) (T : Table) wh
     step-refused f e = leaves x a (Refused 9 0) e ∙ sym (advance-refused (sym eb ∙ f))
 
     module _ (t : b ≡ true) (e : (x ≡ l) × (a ≡ Refused 11 0)) where
-      pub step-graph : length g < 8193 → outcome a x scratch buffer ≡ advanceIn g l scratch buffer T
+      pub step-graph : length g < graphRoom → outcome a x scratch buffer ≡ advanceIn g l scratch buffer T
       unfolding startOf
       step-graph h = leaves x a (Refused 11 0) e ∙ sym (advance-short g l scratch buffer T (sym eb ∙ t) (enough-graph (length g) (length scratch) (length buffer) h))
 
-      pub step-scratch : length scratch < 32000 → outcome a x scratch buffer ≡ advanceIn g l scratch buffer T
+      pub step-scratch : length scratch < scratchWords → outcome a x scratch buffer ≡ advanceIn g l scratch buffer T
       unfolding startOf
       step-scratch h = leaves x a (Refused 11 0) e ∙ sym (advance-short g l scratch buffer T (sym eb ∙ t) (enough-scratch (length g) (length scratch) (length buffer) h))
 
-      pub step-buffer : length buffer < 1158 → outcome a x scratch buffer ≡ advanceIn g l scratch buffer T
+      pub step-buffer : length buffer < exampleRoom → outcome a x scratch buffer ≡ advanceIn g l scratch buffer T
       unfolding startOf
       step-buffer h = leaves x a (Refused 11 0) e ∙ sym (advance-short g l scratch buffer T (sym eb ∙ t) (enough-buffer (length g) (length scratch) (length buffer) h))
 
   -- past 11
-  module _ (q : asked T (startOf l) (setOf (l .lookahead)) g ≡ true) (lg : 8193 ≤ length g) (ls : 32000 ≤ length scratch) (lb : 1158 ≤ length buffer)
+  module _ (q : asked T (startOf l) (setOf (l .lookahead)) g ≡ true) (lg : graphRoom ≤ length g) (ls : scratchWords ≤ length scratch) (lb : exampleRoom ≤ length buffer)
       (k : Bool) (ek : k ≡ lost (edgesIn g) l scratch) where
     all : enough (record { graph = length g; scratch = length scratch; buffer = length buffer }) ≡ true
     all = enough-all (length g) (length scratch) (length buffer) lg ls lb

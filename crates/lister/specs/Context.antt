@@ -6,6 +6,7 @@ use mathlib.Core.List.{List, [], _++_}
 use mathlib.Core.Option.{Option, none, some}
 use lib.ListN.{length, getD, drop, replicate}
 use lib.Dec.{ltb}
+use Rattle.repr.specs.Sizes.{scratchWords}
 use Rattle.repr.specs.Meaning.{Production, noProduction, Table}
 use Rattle.first.specs.First.{firstSets}
 use Rattle.trace_graph.specs.Fits.{itemFits}
@@ -30,7 +31,7 @@ setsFor (some s) e ps = firstSets e ps
 
 -- the words that a search starts from: at count 0 those of no edge, whatever they hold
 unfoldable pub begun : ℕ → List ℕ → List ℕ
-begun zero ws = wordsOf [] ++ drop 32000 ws
+begun zero ws = wordsOf [] ++ drop scratchWords ws
 begun (suc c) ws = ws
 
 -- a graph in range with its index, and an item of a table no larger than the limits

@@ -5,9 +5,12 @@ use enumerator::Lookahead;
 use enumerator::Opened;
 use enumerator::machine::clear;
 use enumerator::machine::holds_trial;
+use example::Example;
 use example::write_example;
 use first::FirstSets;
 use lookahead::TokenSet;
+use repr::NonterminalString;
+use repr::ProductionIndex;
 use repr::word;
 use search::Searched;
 use search::read_labels;
@@ -24,6 +27,8 @@ ghost use mathlib.Core.Bool.{true, false};
 ghost use mathlib.Core.List.{List, _++_};
 ghost use Prim.Native.Nat.{ℕ, _+_, _-_, _≤_, _<_};
 ghost use lib.ListN.{length, getD, replicate};
+ghost use Rattle.repr.specs.Sizes.{graphRoom, scratchWords, trialLimit, exampleRoom};
+ghost use Rattle.slices.specs.Lent.{inFront};
 ghost use Rattle.repr.specs.Meaning.{Table};
 ghost use Rattle.repr.specs.Packed.{Packed, productionsIn};
 ghost use Rattle.table.specs.Decoded.{meaning};
@@ -31,11 +36,12 @@ ghost use Rattle.table.specs.Refusals.{checkOf};
 ghost use Rattle.trace_graph.specs.Graph.{atItem, sameNode, isNode};
 ghost use Rattle.trace_graph.specs.Words.{nodeAt, edgesIn};
 ghost use Rattle.trace_graph.specs.Insert.{Graphed};
+ghost use Rattle.trace_graph.specs.Index.{indexRoom};
 ghost use Rattle.example.specs.Example.{exampleWords};
 ghost use Rattle.enumerator.specs.Trials.{endsOf, trials};
-ghost use Rattle.enumerator.specs.Lister.{labelsOf, hands, trialLimit, search};
+ghost use Rattle.enumerator.specs.Lister.{labelsOf, hands, search};
 ghost use Rattle.enumerator.specs.Words.{wordsOf};
-ghost use Rattle.enumerator.specs.Advance.{outcome, setOf, startOf, asked, moved, inFront, foundOutcome, restOf, lost, advanceIn, openIn};
+ghost use Rattle.enumerator.specs.Advance.{outcome, setOf, startOf, asked, moved, foundOutcome, restOf, lost, advanceIn, openIn};
 ghost use Rattle.enumerator.specs.Stacks.{Roomy, Started};
 ghost use Rattle.search.specs.Given.{Tried};
 ghost use Rattle.lister.specs.Context.{Read, Listable, aheadBy, setsFor, begun};
@@ -71,9 +77,9 @@ fn asked(
 ) -> bool
     requires { ⌜ Packed (now grammar) productions ⌝ }
     requires { ⌜ (n ≤ 32) × (terminals ≤ 63) ⌝ }
-    requires { ⌜ now ix ≡ replicate 5280 0 ⌝ }
+    requires { ⌜ now ix ≡ replicate indexRoom 0 ⌝ }
     ensures { λ r. ⌜ ((T : Table) → Read T n terminals (productionsIn (now (grammar .entry)) productions) → r ≡ asked T (record { production = production; index = index }) (setOf lookahead) (now (graph .entry))) ⌝ }
-    ensures { λ r. ⌜ (r ≡ true → 8193 ≤ length (now (graph .entry)) → Graphed n (productionsIn (now (grammar .entry)) productions) (now (graph .entry)) (now (ix .exit)) (getD (now (graph .entry)) 0 0)) ⌝ }
+    ensures { λ r. ⌜ (r ≡ true → graphRoom ≤ length (now (graph .entry)) → Graphed n (productionsIn (now (grammar .entry)) productions) (now (graph .entry)) (now (ix .exit)) (getD (now (graph .entry)) 0 0)) ⌝ }
 {
     if item_fits(grammar, productions, production, index) {
         if lookahead_fits(terminals, lookahead) {
@@ -133,9 +139,9 @@ pub fn open_in(
     ensures { λ r. ⌜ r ≡ openIn (record { production = production; index = index }) lookahead (now (graph .entry)) (meaning (now (table .entry))) ⌝ }
 {
     let counts = read_counts(table);
-    let mut grammar = [0u16; 4608];
+    let mut grammar = [0u16; ProductionIndex::ALL_WORDS];
     read_productions(table, &mut grammar);
-    let mut ix = [0u16; 5280];
+    let mut ix = [0u16; TraceGraph::INDEX_WORDS];
     if asked(
         &grammar,
         counts.productions,
@@ -175,14 +181,16 @@ fn first_sets(
     ensures { λ r. ⌜ r .map ≡ setsFor (setOf lookahead) terminals (productionsIn (now (grammar .entry)) productions) ⌝ }
 {
     match lookahead {
-        Lookahead::Any => FirstSets { map: [0u64; 32] },
+        Lookahead::Any => FirstSets {
+            map: [0u64; NonterminalString::LIMIT],
+        },
         Lookahead::Set(set) => FirstSets::new(grammar, productions, terminals),
     }
 }
 
 // A fresh listing starts from the words of no edge, whatever the words hold.
 fn begin(words: &mut [u16], count: u32)
-    requires { ⌜ 32000 ≤ length (now words) ⌝ }
+    requires { ⌜ scratchWords ≤ length (now words) ⌝ }
     ensures { λ _. ⌜ now (words .exit) ≡ begun count (now (words .entry)) ⌝ }
 {
     if count == 0 {
@@ -193,7 +201,7 @@ fn begin(words: &mut [u16], count: u32)
 // Whether an open listing past count 0 is lent words that hold no example's trial (refusal 9).
 fn lost(l: Listing, graph: &[u16], ix: &[u16], words: &[u16]) -> bool
     requires { ⌜ Started (now graph) (now ix) (l .production) (l .index) ⌝ }
-    requires { ⌜ 32000 ≤ length (now words) ⌝ }
+    requires { ⌜ scratchWords ≤ length (now words) ⌝ }
     ensures { λ r. ⌜ r ≡ lost (edgesIn (now (graph .entry))) l (now (words .entry)) ⌝ }
 {
     if l.is_open {
@@ -220,10 +228,10 @@ fn write_trial(
 )
     requires { ⌜ Packed (now grammar) productions ⌝ }
     requires { ⌜ Tried (productionsIn (now grammar) productions) (now graph) (now words) ⌝ }
-    requires { ⌜ 1158 ≤ length (now buffer) ⌝ }
+    requires { ⌜ exampleRoom ≤ length (now buffer) ⌝ }
     ensures { λ _. ⌜ ((p rest : List ℕ) → now (words .entry) ≡ wordsOf p ++ rest → now (buffer .exit) ≡ inFront (exampleWords (productionsIn (now (grammar .entry)) productions) (labelsOf (productionsIn (now (grammar .entry)) productions) (edgesIn (now (graph .entry))) p)) (now (buffer .entry))) ⌝ }
 {
-    let mut labels = [0u16; 99];
+    let mut labels = [0u16; Example::ALL_LABEL_WORDS];
     let size = read_labels(grammar, productions, graph, words, &mut labels);
     write_example(grammar, productions, &labels[..size], buffer);
 }
@@ -265,7 +273,7 @@ fn find_next(
 ) -> Stepped
     requires { ⌜ Packed (now grammar) productions × (terminals ≤ 63) ⌝ }
     requires { ⌜ Listable (productionsIn (now grammar) productions) (now graph) (now ix) (l .production) (l .index) ⌝ }
-    requires { ⌜ (32000 ≤ length (now scratch)) × (1158 ≤ length (now buffer)) ⌝ }
+    requires { ⌜ (scratchWords ≤ length (now scratch)) × (exampleRoom ≤ length (now buffer)) ⌝ }
     requires { ⌜ (l .«is_open» ≡ true) × (lost (edgesIn (now graph)) l (now scratch) ≡ false) ⌝ }
     ensures { λ r. ⌜ ((n : ℕ) (T : Table) → Read T n terminals (productionsIn (now (grammar .entry)) productions) → outcome (r .answer) (r .next) (now (scratch .exit)) (now (buffer .exit)) ≡ foundOutcome T (edgesIn (now (graph .entry))) l (now (scratch .entry)) (now (buffer .entry)) (search (hands T (edgesIn (now (graph .entry))) (setOf (l .lookahead))) (trialLimit - l .count) (l .count) (restOf (l .count) (now (scratch .entry)) (trials (endsOf (edgesIn (now (graph .entry)))) (atItem (startOf l)))))) ⌝ }
 {
@@ -301,7 +309,7 @@ fn find_next(
             answer: Advanced::End,
         },
         Searched::Over => Stepped {
-            next: moved(l, 100000, false),
+            next: moved(l, Searched::TRIALS, false),
             answer: Advanced::Refused(13, 0),
         },
     }
@@ -320,7 +328,7 @@ fn go_on(
 ) -> Stepped
     requires { ⌜ Packed (now grammar) productions × (terminals ≤ 63) ⌝ }
     requires { ⌜ Listable (productionsIn (now grammar) productions) (now graph) (now ix) (l .production) (l .index) ⌝ }
-    requires { ⌜ (32000 ≤ length (now scratch)) × (1158 ≤ length (now buffer)) ⌝ }
+    requires { ⌜ (scratchWords ≤ length (now scratch)) × (exampleRoom ≤ length (now buffer)) ⌝ }
     ensures { λ r. ⌜ ((n : ℕ) (T : Table) → Read T n terminals (productionsIn (now (grammar .entry)) productions) → asked T (startOf l) (setOf (l .lookahead)) (now (graph .entry)) ≡ true → outcome (r .answer) (r .next) (now (scratch .exit)) (now (buffer .exit)) ≡ advanceIn (now (graph .entry)) l (now (scratch .entry)) (now (buffer .entry)) T) ⌝ }
 {
     let production = l.production as usize;
@@ -362,9 +370,9 @@ pub fn step_in(
     let counts = read_counts(table);
     let productions = counts.productions;
     let terminals = counts.terminals;
-    let mut grammar = [0u16; 4608];
+    let mut grammar = [0u16; ProductionIndex::ALL_WORDS];
     read_productions(table, &mut grammar);
-    let mut ix = [0u16; 5280];
+    let mut ix = [0u16; TraceGraph::INDEX_WORDS];
     let production = l.production as usize;
     let index = l.index as usize;
     let lookahead = l.lookahead;
@@ -382,10 +390,10 @@ pub fn step_in(
         if graph.len() < TraceGraph::WORDS {
             return unmoved(l, Advanced::Refused(11, 0));
         }
-        if scratch.len() < 32000 {
+        if scratch.len() < TraceGraph::SCRATCH {
             return unmoved(l, Advanced::Refused(11, 0));
         }
-        if buffer.len() < 1158 {
+        if buffer.len() < Example::WORDS {
             return unmoved(l, Advanced::Refused(11, 0));
         }
         return go_on(

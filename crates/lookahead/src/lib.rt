@@ -60,7 +60,7 @@ impl TokenSet {
     pub fn insert(self, token: u16) -> Changed
         ensures { λ r. ⌜ (r .set .0 ≡ with (self .0) token) × (r .changed ≡ ltb token 64 && not (has (self .0) token)) × ((k : ℕ) → has (r .set .0) k ≡ has (self .0) k || (ltb k 64 && eqb k token)) ⌝ }
     {
-        if token < 64 {
+        if token < TokenSet::LIMIT {
             let word = self.0 | 1 << token;
             Changed {
                 set: TokenSet(word),
@@ -99,7 +99,7 @@ impl TokenSet {
     pub fn contains(self, token: u16) -> bool
         ensures { λ r. ⌜ r ≡ has (self .0) token ⌝ }
     {
-        if token < 64 {
+        if token < TokenSet::LIMIT {
             (self.0 >> token) & 1 == 1
         } else {
             false

@@ -2,12 +2,14 @@
 use mathlib.Core.Path.{_≡_, refl, sym, ap, _∙_}
 use mathlib.Core.Bool.{Bool, true, false}
 use mathlib.Core.List.{List, [], _∷_, _++_}
-use Prim.Native.Nat.{ℕ, _+_, _*_, _≤_, _<_}
+use Prim.Native.Nat.{ℕ, _+_, _≤_, _<_}
 use native.Mathlib.Omega.{arith}
 use lib.ListN.{length, getD, take, drop, take-append-drop, length-append, length-drop}
 use lib.Seq.{drop-drop}
 use lib.Dec.{leb}
 use borrow.Author.Tests.{le-leb, lt-leb}
+use Rattle.repr.specs.Sizes.{edgeLimit, edgePlace, graphRoom}
+use Rattle.slices.specs.Lent.{inFront}
 use Rattle.repr.specs.Lists.{some?}
 use Rattle.repr.specs.Meaning.{Table, Production, Item}
 use Rattle.repr.specs.Packed.{productionsIn}
@@ -16,7 +18,7 @@ use Rattle.table.specs.declared.Checked.{Checked}
 use Rattle.table.specs.declared.Checked.the-variants.{Accepted, Refused as NotAccepted}
 use Rattle.trace_graph.specs.declared.TraceEdge.{TraceEdge as EdgeValue}
 use Rattle.trace_graph.specs.Graph.{TraceEdge, sameEdge, add}
-use Rattle.trace_graph.specs.Words.{edgeLimit, graphWords, edgesIn}
+use Rattle.trace_graph.specs.Words.{graphWords, edgesIn}
 use Rattle.trace_graph.specs.Fits.{graphFits}
 use Rattle.trace_graph.specs.Values.{edgeIs, valueFits}
 use Rattle.trace_graph.specs.Insert.{Graphed, oneMore, addWords, Added, Overfull}
@@ -24,7 +26,7 @@ use Rattle.trace_graph.proofs.Inserts.{add-there, add-new, words-there, words-n
 use Rattle.trace_graph.proofs.Front.{edges-long, overfull-long, more-front}
 use Rattle.tracer.specs.declared.Backtrace.{Backtrace}
 use Rattle.tracer.specs.declared.Backtrace.the-variants.{Refused as NoTrace}
-use Rattle.tracer.specs.Outcome.{Outcome, outcome, inFront, traceIn, traceBy}
+use Rattle.tracer.specs.Outcome.{Outcome, outcome, traceIn, traceBy}
 use Rattle.tracer.proofs.Words.{built, words-long}
 use Rattle.lr1.specs.Edges.{EdgeOutcome, edgeOutcome, addedOutcome, addEdgeIn}
 use Rattle.lr1.specs.declared.AddEdge.{AddEdge}
@@ -47,8 +49,8 @@ pub own-front : {n : ℕ} {ps : List Production} {ws ix : List ℕ} → Graphed 
 unfolding inFront
 own-front {ws = ws} G =
     let B = built (edgesIn ws) G refl in
-    sym (take-append-drop (length (edgesIn ws) * 8 + 1) ws)
-    ∙ ap (λ (l : List ℕ). l ++ drop (length (edgesIn ws) * 8 + 1) ws) (B .words)
+    sym (take-append-drop (edgePlace (length (edgesIn ws))) ws)
+    ∙ ap (λ (l : List ℕ). l ++ drop (edgePlace (length (edgesIn ws))) ws) (B .words)
     ∙ ap (λ (k : ℕ). graphWords (edgesIn ws) ++ drop k ws) (sym (words-long (edgesIn ws)))
 
 module _ {n : ℕ} (ps : List Production) (e : TraceEdge) (ws : List ℕ) {ix : List ℕ} (G : Graphed n ps ws ix (getD ws 0 0)) where
@@ -132,7 +134,7 @@ module _ (v : EdgeValue) (graph : List ℕ) (T : Table) (n m : ℕ) (g : List �
   edge-told : b ≡ valueFits (length (T .nonterminals)) (T .productions) v
   edge-told = eb ∙ (λ j. valueFits (en j) (read j) v)
 
-  add-ways : addEdgeIn v graph T ≡ ways (valueFits (length (T .nonterminals)) (T .productions) v) (leb 8193 (length graph)) (graphFits (length (T .nonterminals)) (T .productions) graph) (edgeOutcome (Refused 9 0) graph) (edgeOutcome (Refused 11 0) graph) (addedOutcome graph (add (T .productions) (edgeIs v) (edgesIn graph)))
+  add-ways : addEdgeIn v graph T ≡ ways (valueFits (length (T .nonterminals)) (T .productions) v) (leb graphRoom (length graph)) (graphFits (length (T .nonterminals)) (T .productions) graph) (edgeOutcome (Refused 9 0) graph) (edgeOutcome (Refused 11 0) graph) (addedOutcome graph (add (T .productions) (edgeIs v) (edgesIn graph)))
   unfolding addEdgeIn ways
   add-ways = refl
 
@@ -140,21 +142,21 @@ module _ (v : EdgeValue) (graph : List ℕ) (T : Table) (n m : ℕ) (g : List �
   edge-out f = sym (add-ways ∙ rw (sym edge-told ∙ f) (ways-edge _ _ _ _ _))
 
   module _ (f : b ≡ true) where
-    pub graph-short : length graph < 8193 → edgeOutcome (Refused 11 0) graph ≡ addEdgeIn v graph T
-    graph-short l = sym (add-ways ∙ rw (sym edge-told ∙ f, lt-leb 8193 (length graph) l) (ways-short _ _ _ _))
+    pub graph-short : length graph < graphRoom → edgeOutcome (Refused 11 0) graph ≡ addEdgeIn v graph T
+    graph-short l = sym (add-ways ∙ rw (sym edge-told ∙ f, lt-leb graphRoom (length graph) l) (ways-short _ _ _ _))
 
-    module _ (l : 8193 ≤ length graph) (r : Bool) (er : r ≡ graphFits n (productionsIn g m) graph) where
+    module _ (l : graphRoom ≤ length graph) (r : Bool) (er : r ≡ graphFits n (productionsIn g m) graph) where
       graph-told : r ≡ graphFits (length (T .nonterminals)) (T .productions) graph
       graph-told = er ∙ (λ j. graphFits (en j) (read j) graph)
 
       pub graph-out : r ≡ false → edgeOutcome (Refused 9 0) graph ≡ addEdgeIn v graph T
-      graph-out q = sym (add-ways ∙ rw (sym edge-told ∙ f, le-leb 8193 (length graph) l, sym graph-told ∙ q) (ways-graph _ _ _))
+      graph-out q = sym (add-ways ∙ rw (sym edge-told ∙ f, le-leb graphRoom (length graph) l, sym graph-told ∙ q) (ways-graph _ _ _))
 
       module _ (q : r ≡ true) where
         all-fit : addedOutcome graph (add (productionsIn g m) (edgeIs v) (edgesIn graph)) ≡ addEdgeIn v graph T
         all-fit =
             ap (λ (ps : List Production). addedOutcome graph (add ps (edgeIs v) (edgesIn graph))) read
-            ∙ sym (add-ways ∙ rw (sym edge-told ∙ f, le-leb 8193 (length graph) l, sym graph-told ∙ q) (ways-all _ _ _))
+            ∙ sym (add-ways ∙ rw (sym edge-told ∙ f, le-leb graphRoom (length graph) l, sym graph-told ∙ q) (ways-all _ _ _))
 
         pub edge-added : {graph′ ix ix′ : List ℕ} (count : ℕ) → Graphed n (productionsIn g m) graph ix (getD graph 0 0) → Added n (productionsIn g m) (edgeIs v) graph graph′ ix′ → count ≡ getD graph′ 0 0
             → edgeOutcome (Edges count) graph′ ≡ addEdgeIn v graph T

@@ -4,14 +4,15 @@ use mathlib.Core.Bool.{Bool, true, false}
 use mathlib.Core.List.{List}
 use lib.ListN.{length}
 use lib.Dec.{leb}
+use Rattle.repr.specs.Sizes.{edgeLimit, graphRoom}
+use Rattle.slices.specs.Lent.{inFront}
 use Rattle.repr.specs.Meaning.{Table}
 use Rattle.table.specs.Refusals.{checkOf}
 use Rattle.trace_graph.specs.declared.TraceEdge.{TraceEdge as EdgeValue}
 use Rattle.trace_graph.specs.Graph.{TraceEdge, add}
-use Rattle.trace_graph.specs.Words.{edgeLimit, graphWords, edgesIn}
+use Rattle.trace_graph.specs.Words.{graphWords, edgesIn}
 use Rattle.trace_graph.specs.Fits.{graphFits}
 use Rattle.trace_graph.specs.Values.{edgeIs, valueFits}
-use Rattle.tracer.specs.Outcome.{inFront}
 use Rattle.lr1.specs.Entries.{overTable}
 use Rattle.lr1.specs.declared.AddEdge.{AddEdge}
 use Rattle.lr1.specs.declared.AddEdge.the-variants.{Edges, Refused}
@@ -30,7 +31,7 @@ addedOutcome graph es = elim (leb (length es) edgeLimit) [
 unfoldable pub addEdgeIn : EdgeValue → List ℕ → Table → EdgeOutcome
 addEdgeIn v graph T = elim (valueFits (length (T .nonterminals)) (T .productions) v) [
   | false ↦ edgeOutcome (Refused 9 0) graph
-  | true ↦ elim (leb 8193 (length graph)) [
+  | true ↦ elim (leb graphRoom (length graph)) [
     | false ↦ edgeOutcome (Refused 11 0) graph
     | true ↦ elim (graphFits (length (T .nonterminals)) (T .productions) graph) [
       | false ↦ edgeOutcome (Refused 9 0) graph

@@ -55,7 +55,7 @@ fn first_sets(table: &[u16]) -> FirstSets
     ensures { λ r. ⌜ r .map ≡ firstSets (meaning (now (table .entry)) .terminals) (meaning (now (table .entry)) .productions) ⌝ }
 {
     let counts = read_counts(table);
-    let mut grammar = [0u16; 4608];
+    let mut grammar = [0u16; ProductionIndex::ALL_WORDS];
     read_productions(table, &mut grammar);
     FirstSets::new(&grammar, counts.productions, counts.terminals as u16)
 }
@@ -171,13 +171,13 @@ fn add_edge_in(table: &[u16], edge: TraceEdge, graph: &mut [u16]) -> AddEdge
     let counts = read_counts(table);
     let productions = counts.productions;
     let n = counts.nonterminals;
-    let mut grammar = [0u16; 4608];
+    let mut grammar = [0u16; ProductionIndex::ALL_WORDS];
     read_productions(table, &mut grammar);
     if edge_fits(&grammar, productions, n, edge) {
         if graph.len() < TraceGraph::WORDS {
             return AddEdge::Refused(11, 0);
         }
-        let mut ix = [0u16; 5280];
+        let mut ix = [0u16; TraceGraph::INDEX_WORDS];
         if check_graph(&grammar, productions, n, graph, &mut ix) {
             return match insert(&grammar, productions, n, graph, &mut ix, edge) {
                 Inserted::Done => AddEdge::Edges(word(graph, 0) as u16),

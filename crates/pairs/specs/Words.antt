@@ -3,6 +3,7 @@ use Prim.Native.Nat.{ℕ, zero, suc, _+_, _*_, _≤_, _<_}
 use mathlib.Core.Path.{_≡_}
 use mathlib.Core.List.{List, [], _∷_, _++_}
 use lib.ListN.{length, getD, take, drop}
+use Rattle.repr.specs.Sizes.{reductionLimit, exampleSymbols, reductionPlace}
 use Rattle.repr.specs.Lists.{joined}
 use Rattle.repr.specs.Meaning.{nonterminal, terminal, Production, All}
 use Rattle.example.specs.Example.{Label, ExampleSymbol, symbol, epsilon, Reduction, symbolWords, exampleWords}
@@ -29,9 +30,9 @@ placeIn ws i = symbolIn (getD ws (3 + 2 * i) 0) (getD ws (3 + 2 * i + 1) 0)
 -- reduction k
 unfoldable pub reductionIn : List ℕ → ℕ → Reduction
 reductionIn ws k = record {
-  start = getD ws (3 + 2 * getD ws 0 0 + 3 * k) 0;
-  end = getD ws (3 + 2 * getD ws 0 0 + 3 * k + 1) 0;
-  nonterminal = getD ws (3 + 2 * getD ws 0 0 + 3 * k + 2) 0;
+  start = getD ws (reductionPlace (getD ws 0 0) k) 0;
+  end = getD ws (reductionPlace (getD ws 0 0) k + 1) 0;
+  nonterminal = getD ws (reductionPlace (getD ws 0 0) k + 2) 0;
 }
 
 -- a number below 32 or 63
@@ -42,10 +43,10 @@ InRange epsilon = Unit {0}
 
 -- the words are long enough for their counts, and their numbers are in range
 pub record Whole (ws : List ℕ) : Type 0 where
-  pub long : 3 + 2 * getD ws 0 0 + 3 * getD ws 2 0 ≤ length ws
-  pub few : getD ws 0 0 ≤ 528
+  pub long : reductionPlace (getD ws 0 0) (getD ws 2 0) ≤ length ws
+  pub few : getD ws 0 0 ≤ exampleSymbols
   pub some-reduction : 1 ≤ getD ws 2 0
-  pub few-reductions : getD ws 2 0 ≤ 33
+  pub few-reductions : getD ws 2 0 ≤ reductionLimit
   pub ends : (k : ℕ) → k < getD ws 2 0 → reductionIn ws k .end ≤ getD ws 0 0
   pub written : take (2 * getD ws 0 0) (drop 3 ws) ≡ joined symbolWords (placesIn ws)
   pub range : All InRange (placesIn ws)

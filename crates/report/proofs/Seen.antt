@@ -7,6 +7,7 @@ use native.Mathlib.Omega.{arith}
 use lib.ListN.{length, getD, take, drop}
 use lib.Dec.{leb}
 use borrow.Author.Tests.{le-leb, lt-leb, leb-true}
+use Rattle.repr.specs.Sizes.{reductionPlace}
 use Rattle.table.proofs.Chains.{and-true}
 use Rattle.error.specs.Observed.{wholeExample, beforeCursor, observedOf}
 
@@ -16,11 +17,11 @@ module _ (x : List ℕ) where
   whole-short h = rw (lt-leb _ _ h)
 
   module _ (h : 3 ≤ length x) (s c r : ℕ) (es : s ≡ getD x 0 0) (ec : c ≡ getD x 1 0) (er : r ≡ getD x 2 0) where
-    pub whole-counts : length x < 3 + 2 * s + 3 * r → false ≡ wholeExample x
+    pub whole-counts : length x < reductionPlace s r → false ≡ wholeExample x
     unfolding wholeExample
     whole-counts k = rw (le-leb _ _ h, ← es, ← er, lt-leb _ _ k)
 
-    pub whole-cursor : 3 + 2 * s + 3 * r ≤ length x → leb c s ≡ wholeExample x
+    pub whole-cursor : reductionPlace s r ≤ length x → leb c s ≡ wholeExample x
     unfolding wholeExample
     whole-cursor k = rw (le-leb _ _ h, ← es, ← er, ← ec, le-leb _ _ k)
 
@@ -33,8 +34,8 @@ module _ (x : List ℕ) where
     pub whole-words : 3 + 2 * getD x 1 0 ≤ length x
     unfolding wholeExample
     whole-words =
-        let rest = and-true (leb (3 + 2 * getD x 0 0 + 3 * getD x 2 0) (length x)) (leb (getD x 1 0) (getD x 0 0)) (and-true (leb 3 (length x)) (leb (3 + 2 * getD x 0 0 + 3 * getD x 2 0) (length x) && leb (getD x 1 0) (getD x 0 0)) e .1) in
-        let a : 3 + 2 * getD x 0 0 + 3 * getD x 2 0 ≤ length x = leb-true _ _ (rest .0) in
+        let rest = and-true (leb (reductionPlace (getD x 0 0) (getD x 2 0)) (length x)) (leb (getD x 1 0) (getD x 0 0)) (and-true (leb 3 (length x)) (leb (reductionPlace (getD x 0 0) (getD x 2 0)) (length x) && leb (getD x 1 0) (getD x 0 0)) e .1) in
+        let a : reductionPlace (getD x 0 0) (getD x 2 0) ≤ length x = leb-true _ _ (rest .0) in
         let b : getD x 1 0 ≤ getD x 0 0 = leb-true _ _ (rest .1) in
         omega arith
 

@@ -2,8 +2,10 @@
 use chooser::Chosen;
 use chooser::choose_in;
 use classifier::classify_in;
+use error::Class;
 use error::Classified;
 use error::Conflict;
+use example::Example;
 use lookahead::TokenSet;
 use repr::word;
 use table::Checked;
@@ -39,7 +41,7 @@ pub fn choose(table: &[u16], conflict: Conflict, tokens: TokenSet, scratch: &mut
             refusal: refusal,
             place: place,
             count: 0,
-            entries: [0; 384],
+            entries: [0; Class::ALL_WORDS],
         },
         Checked::Accepted => choose_in(table, conflict, tokens, scratch),
     }
@@ -55,7 +57,7 @@ fn whole_example(buffer: &[u16]) -> bool
     let symbols = word(buffer, 0);
     let cursor = word(buffer, 1);
     let reductions = word(buffer, 2);
-    if buffer.len() < 3 + 2 * symbols + 3 * reductions {
+    if buffer.len() < 3 + Example::SYMBOL_WORDS * symbols + Example::REDUCTION_WORDS * reductions {
         return false;
     }
     cursor <= symbols

@@ -6,6 +6,7 @@ use Prim.Native.Nat.{ℕ, zero, suc, _+_, _-_, _*_, _≤_, _<_}
 use native.Mathlib.Omega.{arith}
 use lib.ListN.{length, getD, take, drop, drop-of-length-le}
 use lib.Seq.{take-all, take-take, drop-drop, drop-nil, take-nil, getD-take, getD-drop}
+use Rattle.repr.specs.Sizes.{productionPlace}
 use Rattle.repr.specs.Meaning.{Symbol}
 use Rattle.repr.specs.Listed.{symbolOfKind, listed, symbolFits, listFits}
 use Rattle.repr.specs.Packed.{symbolWords, Packed}
@@ -41,7 +42,7 @@ length-listed n t (k ∷ x ∷ ws) e =
     omega arith
 
 -- how many symbols a production has
-pub symbols-long : (g : List ℕ) (n p : ℕ) → Packed g n → p < n → length (listed (symbolWords g p)) ≡ getD g (p * 36 + 1) 0
+pub symbols-long : (g : List ℕ) (n p : ℕ) → Packed g n → p < n → length (listed (symbolWords g p)) ≡ getD g (productionPlace p + 1) 0
 symbols-long g n p P h =
     let a = words-long g n p P h in
     let b = length-listed 32 63 (symbolWords g p) (P .fits p h) in
@@ -54,6 +55,6 @@ listed-at ws i h =
     sym (listed-drop i ws) ∙ listed-step ws (2 * i) h ∙ ap (λ (l : List Symbol). symbolOfKind (getD ws (2 * i) 0) (getD ws (2 * i + 1) 0) ∷ l) (rw e (listed-drop (suc i) ws))
 
 -- a word of a production's symbols among all words
-pub word-of : (g : List ℕ) (n p j : ℕ) → Packed g n → p < n → j < 2 * getD g (p * 36 + 1) 0 → getD (symbolWords g p) j 0 ≡ getD g (p * 36 + 4 + j) 0
+pub word-of : (g : List ℕ) (n p j : ℕ) → Packed g n → p < n → j < 2 * getD g (productionPlace p + 1) 0 → getD (symbolWords g p) j 0 ≡ getD g (productionPlace p + 4 + j) 0
 unfolding symbolWords
-word-of g n p j P h l = getD-take (2 * getD g (p * 36 + 1) 0) (drop (p * 36 + 4) g) j 0 l ∙ getD-drop (p * 36 + 4) g j 0
+word-of g n p j P h l = getD-take (2 * getD g (productionPlace p + 1) 0) (drop (productionPlace p + 4) g) j 0 l ∙ getD-drop (productionPlace p + 4) g j 0

@@ -1,8 +1,8 @@
 -- Laws of the tests of specs/Lists over a list, `some?`, `every?` and `first?`, and of `All` of specs/Meaning.
 -- An element is named by its index, `getD xs i d` with any default d; for numbers also by `mem`. Assumes nothing.
-use mathlib.Core.Path.{_≡_, refl, sym, ap, _∙_}
+use mathlib.Core.Path.{_≡_, refl, sym, ap, _∙_, subst}
 use mathlib.Core.Bool.{Bool, true, false, _&&_, _||_}
-use mathlib.Core.List.{List, [], _∷_, _++_}
+use mathlib.Core.List.{List, [], _∷_, _++_, List·Memᴰ, List·Memᴰ·head, List·Memᴰ·tail}
 use mathlib.Core.Option.{Option, none, some}
 use Prim.Native.Nat.{ℕ, zero, suc, _<_}
 use native.Mathlib.Omega.{arith}
@@ -164,6 +164,21 @@ module _ {ℓ} {A : Type ℓ} where
   unfolding All
   All-intro P [] d h = tt
   All-intro P (x ∷ xs) d h = (h 0 (omega arith), All-intro P xs d (λ i l. h (suc i) (omega arith)))
+
+  pub All-member : (P : A → Type 0) {x : A} {xs : List A} → All P xs → List·Memᴰ x xs → P x
+  unfolding All
+  All-member P h (List·Memᴰ·head e) = subst P (sym e) (h .0)
+  All-member P h (List·Memᴰ·tail m) = All-member P (h .1) m
+
+  pub All-map : (P Q : A → Type 0) → ((x : A) → P x → Q x) → (xs : List A) → All P xs → All Q xs
+  unfolding All
+  All-map P Q f [] h = tt
+  All-map P Q f (x ∷ xs) h = (f x (h .0), All-map P Q f xs (h .1))
+
+  pub All-append : (P : A → Type 0) (xs ys : List A) → All P xs → All P ys → All P (xs ++ ys)
+  unfolding All
+  All-append P [] ys a b = b
+  All-append P (x ∷ xs) ys a b = (a .0, All-append P xs ys (a .1) b)
 
   -- from a test to a fact
   pub All-every? : (P : A → Type 0) (t : A → Bool) (xs : List A) → ((x : A) → t x ≡ true → P x) → every? t xs ≡ true → All P xs

@@ -6,6 +6,7 @@ use mathlib.Core.Path.{_≡_}
 use mathlib.Core.List.{List, [], _∷_}
 use lib.ListN.{length, getD, take, drop}
 use lib.Dec.{eqb}
+use Rattle.repr.specs.Sizes.{nonterminalLimit, terminalLimit, stateLimit, productionLimit, symbolLimit}
 
 -- `Symbol` of grammar/repr.rs
 pub data Symbol : Type 0 where
@@ -70,7 +71,7 @@ All P (x ∷ xs) = P x × All P xs
 
 pub record ProductionFits (T : Table) (p : Production) : Type 0 where
   pub owner : p .nonterminal < length (T .nonterminals)
-  pub short : length (p .symbols) ≤ 16
+  pub short : length (p .symbols) ≤ symbolLimit
   pub symbols : All (SymbolFits T) (p .symbols)
 
 pub record ItemFits (T : Table) (i : Item) : Type 0 where
@@ -88,10 +89,10 @@ pub record StateFits (T : Table) (s : State) : Type 0 where
 -- what refusals 2 and 5 to 7 leave: every number in range
 pub record TableFits (T : Table) : Type 0 where
   pub some-nonterminal : 1 ≤ length (T .nonterminals)
-  pub few-nonterminals : length (T .nonterminals) ≤ 32
-  pub few-terminals : T .terminals ≤ 63
+  pub few-nonterminals : length (T .nonterminals) ≤ nonterminalLimit
+  pub few-terminals : T .terminals ≤ terminalLimit
   pub some-state : 1 ≤ length (T .states)
-  pub few-states : length (T .states) ≤ 128
-  pub few-productions : length (T .productions) ≤ 128
+  pub few-states : length (T .states) ≤ stateLimit
+  pub few-productions : length (T .productions) ≤ productionLimit
   pub productions : All (ProductionFits T) (T .productions)
   pub states : All (StateFits T) (T .states)

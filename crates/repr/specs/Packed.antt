@@ -5,20 +5,21 @@ use mathlib.Core.Bool.{true}
 use mathlib.Core.Path.{_≡_}
 use mathlib.Core.List.{List, [], _∷_, map}
 use lib.ListN.{length, getD, take, drop}
+use Rattle.repr.specs.Sizes.{nonterminalLimit, terminalLimit, productionLimit, symbolLimit, productionPlace, grammarRoom}
 use Rattle.repr.specs.Lists.{below}
 use Rattle.repr.specs.Meaning.{Production}
 use Rattle.repr.specs.Listed.{listed, listFits}
 
 -- the words of production p's symbols
 unfoldable pub symbolWords : List ℕ → ℕ → List ℕ
-symbolWords g p = take (2 * getD g (p * 36 + 1) 0) (drop (p * 36 + 4) g)
+symbolWords g p = take (2 * getD g (productionPlace p + 1) 0) (drop (productionPlace p + 4) g)
 
 unfoldable pub productionIn : List ℕ → ℕ → Production
 productionIn g p = record {
-  nonterminal = getD g (p * 36) 0;
+  nonterminal = getD g (productionPlace p) 0;
   symbols = listed (symbolWords g p);
-  start = getD g (p * 36 + 2) 0;
-  end = getD g (p * 36 + 3) 0;
+  start = getD g (productionPlace p + 2) 0;
+  end = getD g (productionPlace p + 3) 0;
 }
 
 -- n productions
@@ -27,8 +28,8 @@ productionsIn g n = map (productionIn g) (below n)
 
 -- the words are those of n productions with numbers in range
 pub record Packed (g : List ℕ) (n : ℕ) : Type 0 where
-  pub long : length g ≡ 4608
-  pub few : n ≤ 128
-  pub owner : (p : ℕ) → p < n → getD g (p * 36) 0 < 32
-  pub short : (p : ℕ) → p < n → getD g (p * 36 + 1) 0 ≤ 16
-  pub fits : (p : ℕ) → p < n → listFits 32 63 (symbolWords g p) ≡ true
+  pub long : length g ≡ grammarRoom
+  pub few : n ≤ productionLimit
+  pub owner : (p : ℕ) → p < n → getD g (productionPlace p) 0 < nonterminalLimit
+  pub short : (p : ℕ) → p < n → getD g (productionPlace p + 1) 0 ≤ symbolLimit
+  pub fits : (p : ℕ) → p < n → listFits nonterminalLimit terminalLimit (symbolWords g p) ≡ true

@@ -12,20 +12,22 @@ ghost use Rattle.repr.specs.Packed.{Packed, symbolWords};
 pub struct NonterminalString(pub u16);
 
 impl NonterminalString {
-    pub const LIMIT: u16 = 32;
+    pub const LIMIT: usize = 32;
 }
 
 // The number of a production.
 pub struct ProductionIndex(pub u16);
 
 impl ProductionIndex {
-    pub const LIMIT: u16 = 128;
-    // Symbols of one production.
-    pub const SYMBOLS: u16 = 16;
-    // Words of one production, and of all.
-    pub const WORDS: u16 = 36;
+    pub const LIMIT: usize = 128;
+    // Symbols of one production, and places of a cursor among them.
+    pub const SYMBOLS: usize = 16;
 
-    pub const ALL_WORDS: u16 = 4608;
+    pub const INDEXES: usize = ProductionIndex::SYMBOLS + 1;
+    // Words of one production, and of all.
+    pub const WORDS: usize = 4 + 2 * ProductionIndex::SYMBOLS;
+
+    pub const ALL_WORDS: usize = ProductionIndex::LIMIT * ProductionIndex::WORDS;
 }
 
 // A word of a list, as a number.
@@ -75,8 +77,8 @@ pub fn symbols<'a>(grammar: &'a [u16], production: usize, productions: usize) ->
     requires { ⌜ production < productions ⌝ }
     ensures { λ r. ⌜ now r ≡ symbolWords (now (grammar .entry)) production ⌝ }
 {
-    let from = production * 36 + 4;
-    let length = word(grammar, production * 36 + 1);
+    let from = production * ProductionIndex::WORDS + 4;
+    let length = word(grammar, production * ProductionIndex::WORDS + 1);
     let past = from + 2 * length;
     &grammar[from..past]
 }

@@ -5,13 +5,15 @@ use mathlib.Core.Path.{_≡_, refl, sym, ap, _∙_, subst}
 use mathlib.Core.Bool.{Bool, true, false}
 use mathlib.Core.List.{List, [], _∷_, _++_, List·Memᴰ, List·Memᴰ·head, List·Memᴰ·tail}
 use lib.ListN.{length, getD, drop, take-append-drop}
+use Rattle.repr.specs.Sizes.{scratchWords}
+use Rattle.slices.specs.Same.{sameWords}
 use Rattle.repr.specs.Meaning.{Production}
 use Rattle.trace_graph.specs.Graph.{Node}
 use Rattle.trace_graph.specs.Words.{edgesIn}
 use Rattle.trace_graph.specs.Insert.{Graphed}
 use Rattle.enumerator.specs.Trials.{Path, Ends, endsOf, trials}
 use Rattle.enumerator.specs.Lister.{Found, hit, out, over, search}
-use Rattle.enumerator.specs.Words.{scratchWords, wordsOf, pathIn, sameWords, holdsTrial, after}
+use Rattle.enumerator.specs.Words.{wordsOf, pathIn, holdsTrial, after}
 use Rattle.enumerator.specs.Advance.{restOf}
 use Rattle.enumerator.proofs.After.{after-here, after-later}
 use Rattle.enumerator.proofs.Exact.{sound}

@@ -1,5 +1,5 @@
 -- The nonterminal of a node, as `node_owner` reads it. Assumes nothing.
-use Prim.Native.Nat.{ℕ, zero, suc, _*_, _≤_, _<_}
+use Prim.Native.Nat.{ℕ, zero, suc, _≤_, _<_}
 use native.Mathlib.Omega.{arith}
 use mathlib.Core.Path.{_≡_, refl, sym, ap, _∙_}
 use mathlib.Core.Bool.{true}
@@ -7,6 +7,7 @@ use mathlib.Core.List.{List}
 use lib.ListN.{length, getD}
 use lib.Dec.{eqb}
 use borrow.Author.Tests.{eqb-true, eqb-false}
+use Rattle.repr.specs.Sizes.{productionPlace}
 use Rattle.repr.specs.Meaning.{Production, noProduction, Item}
 use Rattle.repr.specs.Packed.{productionIn, productionsIn, Packed}
 use Rattle.repr.proofs.Lists.{cases, getD-map-below}
@@ -50,14 +51,14 @@ module _ (g : List ℕ) (m : ℕ) (P : Packed g m) (n : ℕ) (v : NodeValue) (f 
       item-below g m P (v .number) (v .index)
       (range-item n (productionsIn g m) (record { production = v .number; index = v .index }) (rw (value-item v ne) at (value-range n (productionsIn g m) v f)))
 
-  pub owner-place : v .number * 36 < length g
+  pub owner-place : productionPlace (v .number) < length g
   owner-place = let h = owner-below in omega (arith, P .few, P .long)
 
-  owner-word : getD (productionsIn g m) (v .number) noProduction .nonterminal ≡ getD g (v .number * 36) 0
+  owner-word : getD (productionsIn g m) (v .number) noProduction .nonterminal ≡ getD g (productionPlace (v .number)) 0
   unfolding productionsIn productionIn
   owner-word = ap (λ (q : Production). q .nonterminal) (getD-map-below (productionIn g) m (v .number) noProduction owner-below)
 
-  pub owner-item : (x : ℕ) → x ≡ getD g (v .number * 36) 0 → (x ≡ nodeOwner (productionsIn g m) (nodeIs v)) × (x < 32)
+  pub owner-item : (x : ℕ) → x ≡ getD g (productionPlace (v .number)) 0 → (x ≡ nodeOwner (productionsIn g m) (nodeIs v)) × (x < 32)
   unfolding nodeOwner
   owner-item x e =
       let h = P .owner (v .number) owner-below in
@@ -67,4 +68,4 @@ module _ (g : List ℕ) (m : ℕ) (P : Packed g m) (n : ℕ) (v : NodeValue) (f 
 pub owner-small : (g : List ℕ) (m : ℕ) → Packed g m → (n : ℕ) → n ≤ 32 → (v : NodeValue) → nodeValueFits n (productionsIn g m) v ≡ true → nodeOwner (productionsIn g m) (nodeIs v) < 32
 owner-small g m P n few v f = cases (eqb (v .kind) 0)
     (λ e. let r = owner-nonterminal n (productionsIn g m) v few f (eqb-true (v .kind) 0 e) in omega (arith, r .0, r .1))
-    (λ e. let r = owner-item g m P n v f (eqb-false (v .kind) 0 e) (getD g (v .number * 36) 0) refl in omega (arith, r .0, r .1))
+    (λ e. let r = owner-item g m P n v f (eqb-false (v .kind) 0 e) (getD g (productionPlace (v .number)) 0) refl in omega (arith, r .0, r .1))

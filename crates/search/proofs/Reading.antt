@@ -6,6 +6,7 @@ use mathlib.Core.Bool.{true}
 use mathlib.Core.List.{List, [], _∷_, _++_, map, append-assoc, append-nil}
 use lib.ListN.{length, getD, set, take, drop, length-set}
 use lib.Seq.{take-suc, take-length, getD-take, getD-drop}
+use Rattle.repr.specs.Sizes.{edgeLimit, graphRoom, scratchWords, reductionLimit, labelRoom, labelsRoom}
 use Rattle.repr.specs.Lists.{joined}
 use Rattle.repr.specs.Meaning.{Production, All}
 use Rattle.repr.specs.Packed.{Packed, productionsIn}
@@ -72,11 +73,11 @@ pub record Reading (ps : List Production) (g ws labels₀ : List ℕ) (count : �
   pub depth : count ≡ length (tried .path)
   pub within : at ≤ count
   pub size : length labels ≡ length labels₀
-  pub room : 99 ≤ length labels₀
-  pub front : take (3 * at) labels ≡ joined labelWords (labelsOf ps (edgesIn g) (take at (tried .path)))
+  pub room : labelsRoom ≤ length labels₀
+  pub front : take (labelRoom * at) labels ≡ joined labelWords (labelsOf ps (edgesIn g) (take at (tried .path)))
 
 module _ {ps : List Production} {g ws : List ℕ} (T : Tried ps g ws) where
-  pub tried-long : 32000 ≤ length ws
+  pub tried-long : scratchWords ≤ length ws
   tried-long = let a = words-all (T .path) (T .rest) (omega (arith, T .few)) in omega (arith, ap length (T .words))
 
   pub tried-depth : getD ws 0 0 ≡ length (T .path)
@@ -93,7 +94,7 @@ module _ {ps : List Production} {g ws : List ℕ} (T : Tried ps g ws) where
       let b : 1 + at ≡ at + 1 = omega arith in
       sym (ap (λ (l : List ℕ). getD l at 0) (sym tried-path) ∙ getD-take (getD ws 0 0) (drop 1 ws) at 0 a ∙ getD-drop 1 ws at 0 ∙ ap (λ (k : ℕ). getD ws k 0) b)
 
-  pub reading-first : {labels : List ℕ} {w : ℕ} → 99 ≤ length labels → w ≡ getD ws 0 0 → Reading ps g ws labels w labels 0
+  pub reading-first : {labels : List ℕ} {w : ℕ} → labelsRoom ≤ length labels → w ≡ getD ws 0 0 → Reading ps g ws labels w labels 0
   unfolding labelsOf joined
   reading-first r e = record { tried = T; depth = e ∙ tried-depth; within = omega arith; size = refl; room = r; front = refl }
 
@@ -105,11 +106,11 @@ labels-more ps es (x ∷ p) e =
     ∙ sym (append-assoc (labelWords (labelAt ps es x)) (joined labelWords (map (labelAt ps es) p)) (labelWords (labelAt ps es e)))
 
 module _ {ps : List Production} {g ws labels₀ : List ℕ} {count : ℕ} {labels : List ℕ} {at : ℕ} (R : Reading ps g ws labels₀ count labels at) where
-  pub reading-few : (count ≤ 33) × ((32000 ≤ length ws) × (99 ≤ length labels))
+  pub reading-few : (count ≤ reductionLimit) × ((scratchWords ≤ length ws) × (labelsRoom ≤ length labels))
   reading-few = (omega (arith, R .depth, R .tried .few), (tried-long (R .tried), omega (arith, R .size, R .room)))
 
   module _ (more : at < count) where
-    pub reading-room : (at < 33) × ((at + 1 < length ws) × (3 * at + 3 ≤ length labels))
+    pub reading-room : (at < reductionLimit) × ((at + 1 < length ws) × (labelRoom * at + 3 ≤ length labels))
     reading-room = let f = reading-few in (omega (arith, f .0), (omega (arith, f .0, f .1 .0), omega (arith, f .0, f .1 .1)))
 
     module _ {x : ℕ} (ex : x ≡ getD ws (at + 1) 0) where
@@ -119,7 +120,7 @@ module _ {ps : List Production} {g ws labels₀ : List ℕ} {count : ℕ} {label
       pub reading-edge : x < getD g 0 0
       reading-edge = let w = within-at (getD g 0 0) (R .tried .path) at (R .tried .edges) (omega (arith, R .depth)) in omega (arith, edge-of)
 
-      pub reading-low : (x < 1024) × (8193 ≤ length g)
+      pub reading-low : (x < edgeLimit) × (graphRoom ≤ length g)
       reading-low = (omega (arith, reading-edge, R .tried .few-edges), R .tried .long)
 
       module _ {v : EdgeValue} (q : v ≡ edgeRead g x) where
@@ -135,11 +136,11 @@ module _ {ps : List Production} {g ws labels₀ : List ℕ} {count : ℕ} {label
             (omega (arith, B .production (v .production) (v .index) f), omega (arith, B .index (v .production) (v .index) f))
 
         pub reading-again : {o : ℕ} → o ≡ nodeOwner ps (nodeIs (v .source))
-            → Reading ps g ws labels₀ count (set (set (set labels (3 * at) o) (3 * at + 1) (v .production)) (3 * at + 2) (v .index)) (at + 1)
+            → Reading ps g ws labels₀ count (set (set (set labels (labelRoom * at) o) (labelRoom * at + 1) (v .production)) (labelRoom * at + 2) (v .index)) (at + 1)
         unfolding labelWords
         reading-again {o} eo =
             let path = R .tried .path in
-            let s : 3 * (at + 1) ≡ 3 * at + 3 = omega arith in
+            let s : labelRoom * (at + 1) ≡ labelRoom * at + 3 = omega arith in
             let k : at + 1 ≡ suc at = omega arith in
             let last : take (at + 1) path ≡ take at path ++ x ∷ [] =
             ap (λ (j : ℕ). take j path) k ∙ take-suc path at 0 (omega (arith, R .depth)) ∙ ap (λ (y : ℕ). take at path ++ y ∷ []) (sym edge-of) in
@@ -150,28 +151,28 @@ module _ {ps : List Production} {g ws labels₀ : List ℕ} {count : ℕ} {label
               size = simp length-set (R .size);
               room = R .room;
               front =
-                  ap (λ (j : ℕ). take j (set (set (set labels (3 * at) o) (3 * at + 1) (v .production)) (3 * at + 2) (v .index))) s
-                  ∙ front-more labels (3 * at) o (v .production) (v .index) (reading-room .1 .1)
+                  ap (λ (j : ℕ). take j (set (set (set labels (labelRoom * at) o) (labelRoom * at + 1) (v .production)) (labelRoom * at + 2) (v .index))) s
+                  ∙ front-more labels (labelRoom * at) o (v .production) (v .index) (reading-room .1 .1)
                   ∙ ap (λ (l : List ℕ). l ++ (o ∷ v .production ∷ v .index ∷ [])) (R .front)
                   ∙ ap (λ (l : Label). joined labelWords (labelsOf ps (edgesIn g) (take at path)) ++ labelWords l) (sym (label-is ps g x reading-edge v q o eo))
                   ∙ sym (ap (λ (l : List ℕ). joined labelWords (labelsOf ps (edgesIn g) l)) last ∙ labels-more ps (edgesIn g) (take at path) x);
             }
 
   module _ (end : count ≤ at) where
-    whole : take (3 * count) labels ≡ joined labelWords (labelsOf ps (edgesIn g) (R .tried .path))
+    whole : take (labelRoom * count) labels ≡ joined labelWords (labelsOf ps (edgesIn g) (R .tried .path))
     whole =
         let k : count ≡ at = omega (arith, R .within) in
         let l : at ≡ length (R .tried .path) = sym k ∙ R .depth in
-        ap (λ (j : ℕ). take (3 * j) labels) k ∙ R .front
+        ap (λ (j : ℕ). take (labelRoom * j) labels) k ∙ R .front
         ∙ ap (λ (p : Path). joined labelWords (labelsOf ps (edgesIn g) p)) (ap (λ (j : ℕ). take j (R .tried .path)) l ∙ take-length (R .tried .path))
 
-    pub reading-labels : (p rest : List ℕ) → ws ≡ wordsOf p ++ rest → labelsIn (take (3 * count) labels) ≡ labelsOf ps (edgesIn g) p
+    pub reading-labels : (p rest : List ℕ) → ws ≡ wordsOf p ++ rest → labelsIn (take (labelRoom * count) labels) ≡ labelsOf ps (edgesIn g) p
     reading-labels p rest w =
         let o = words-once (R .tried .path) p (R .tried .rest) rest (sym (R .tried .words) ∙ w) in
         ap labelsIn whole ∙ labels-read (labelsOf ps (edgesIn g) (R .tried .path)) ∙ ap (labelsOf ps (edgesIn g)) (o .0)
 
 pub reading-fit : (gr : List ℕ) (m : ℕ) → Packed gr m → {g ws labels₀ : List ℕ} {count : ℕ} {labels : List ℕ} {at : ℕ} (R : Reading (productionsIn gr m) g ws labels₀ count labels at) → count ≤ at
-    → (3 * count ≤ 99) × LabelsFit (productionsIn gr m) (take (3 * count) labels)
+    → (labelRoom * count ≤ labelsRoom) × LabelsFit (productionsIn gr m) (take (labelRoom * count) labels)
 unfolding labelsOf
 reading-fit gr m P {g = g} {count = count} {labels = labels} R end =
     let ps = productionsIn gr m in
@@ -179,7 +180,7 @@ reading-fit gr m P {g = g} {count = count} {labels = labels} R end =
     let ls = labelsOf ps (edgesIn g) (T .path) in
     let c : length ls ≡ length (T .path) = length-mapped (labelAt ps (edgesIn g)) (T .path) in
     let w = whole R end in
-    let s : length (take (3 * count) labels) ≡ length ls + (length ls + length ls) = ap length w ∙ words-count ls in (
+    let s : length (take (labelRoom * count) labels) ≡ length ls + (length ls + length ls) = ap length w ∙ words-count ls in (
       omega (arith, R .depth, T .few),
       record {
         some-label = omega (arith, T .some-edge);

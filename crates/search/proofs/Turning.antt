@@ -7,6 +7,7 @@ use mathlib.Core.List.{List, [], _∷_, _++_, map, reverse, reverse-reverse, Lis
 use mathlib.Core.Option.{some}
 use lib.ListN.{length, getD, drop}
 use lib.Seq.{drop-at}
+use Rattle.repr.specs.Sizes.{scratchWords, trialLimit}
 use Rattle.repr.specs.Packed.{Packed, productionsIn}
 use Rattle.trace_graph.specs.Graph.{Node, atItem}
 use Rattle.trace_graph.specs.Words.{edgesIn}
@@ -95,8 +96,8 @@ pub record Turn (t : Path → Bool) (gr : List ℕ) (m : ℕ) (g ix ws₀ : List
   pub held : Searching (productionsIn gr m) g ix ws production index
   pub size : length ws ≡ length ws₀
   pub same : (p rest : List ℕ) → ws₀ ≡ wordsOf p ++ rest
-      → searchedOf (held .rest) (walk (endsOf (edgesIn g)) (atItem (record { production = production; index = index })) t (100000 - made) made (next (endsOf (edgesIn g)) (atItem (record { production = production; index = index })) (reverse (held .path))))
-      ≡ searchedOf rest (search t (100000 - count) count (laterThan p (trials (endsOf (edgesIn g)) (atItem (record { production = production; index = index })))))
+      → searchedOf (held .rest) (walk (endsOf (edgesIn g)) (atItem (record { production = production; index = index })) t (trialLimit - made) made (next (endsOf (edgesIn g)) (atItem (record { production = production; index = index })) (reverse (held .path))))
+      ≡ searchedOf rest (search t (trialLimit - count) count (laterThan p (trials (endsOf (edgesIn g)) (atItem (record { production = production; index = index })))))
 
 pub turn-first : {t : Path → Bool} {gr : List ℕ} {m : ℕ} (P : Packed gr m) {g ix ws : List ℕ} {production index count made : ℕ} → Searching (productionsIn gr m) g ix ws production index
     → made ≡ count → Turn t gr m g ix ws production index count ws made
@@ -108,10 +109,10 @@ turn-first {t} {gr} {m} P {g} {ix} {ws} {production} {index} {count} {made} S e 
       let A = start gr m P S in
       let E = G gr m P S in
       let o = words-once (S .path) p (S .rest) rest (sym (S .words) ∙ w) in
-      ap (λ (k : ℕ). searchedOf (S .rest) (walk E A t (100000 - k) k (next E A (reverse (S .path))))) e
-      ∙ ap (searchedOf (S .rest)) (walk-search E A t (100000 - count) count (next E A (reverse (S .path))) (laterThan (S .path) (trials E A)) (begun-runs E A (small gr m P S) (S .path) (S .begun)))
-      ∙ ap (λ (x : List ℕ). searchedOf x (search t (100000 - count) count (laterThan (S .path) (trials E A)))) (o .1)
-      ∙ ap (λ (x : Path). searchedOf rest (search t (100000 - count) count (laterThan x (trials E A)))) (o .0);
+      ap (λ (k : ℕ). searchedOf (S .rest) (walk E A t (trialLimit - k) k (next E A (reverse (S .path))))) e
+      ∙ ap (searchedOf (S .rest)) (walk-search E A t (trialLimit - count) count (next E A (reverse (S .path))) (laterThan (S .path) (trials E A)) (begun-runs E A (small gr m P S) (S .path) (S .begun)))
+      ∙ ap (λ (x : List ℕ). searchedOf x (search t (trialLimit - count) count (laterThan (S .path) (trials E A)))) (o .1)
+      ∙ ap (λ (x : Path). searchedOf rest (search t (trialLimit - count) count (laterThan x (trials E A)))) (o .0);
 }
 
 module _ {t : Path → Bool} {gr : List ℕ} {m : ℕ} {g ix ws₀ : List ℕ} {production index count : ℕ} {ws : List ℕ} {made : ℕ} (T : Turn t gr m g ix ws₀ production index count ws made)
@@ -130,11 +131,11 @@ module _ {t : Path → Bool} {gr : List ℕ} {m : ℕ} {g ix ws₀ : List ℕ} {
   stepped-on = f (reverse (S .path)) (S .rest) (S .words ∙ ap (λ (l : List ℕ). wordsOf l ++ S .rest) (sym (reverse-reverse (S .path))))
 
   -- no trial more
-  pub turn-end : r ≡ false → {k : ℕ} → k ≡ made → (p rest : List ℕ) → ws₀ ≡ wordsOf p ++ rest → searched (Out k) ws′ ≡ searchedOf rest (search t (100000 - count) count (laterThan p (trials E A)))
+  pub turn-end : r ≡ false → {k : ℕ} → k ≡ made → (p rest : List ℕ) → ws₀ ≡ wordsOf p ++ rest → searched (Out k) ws′ ≡ searchedOf rest (search t (trialLimit - count) count (laterThan p (trials E A)))
   turn-end q {k} ek p rest w =
       let e = step-ends (next E A (reverse (S .path))) (S .rest) ws′ (ap (λ (b : Bool). stepped b ws′) (sym q) ∙ stepped-on) in
       found-out (S .rest) ws′ k made ek (e .1)
-      ∙ ap (searchedOf (S .rest)) (sym (ap (walk E A t (100000 - made) made) (e .0) ∙ walk-end E A t (100000 - made) made))
+      ∙ ap (searchedOf (S .rest)) (sym (ap (walk E A t (trialLimit - made) made) (e .0) ∙ walk-end E A t (trialLimit - made) made))
       ∙ T .same p rest w
 
   module _ (q : r ≡ true) where
@@ -150,32 +151,32 @@ module _ {t : Path → Bool} {gr : List ℕ} {m : ℕ} {g ix ws₀ : List ℕ} {
     pub turn-tried : Tried (productionsIn gr m) g ws′
     turn-tried = tried-trial (S .graphed) A trial (S .rest) ws′ is-trial (went .2)
 
-    pub turn-long : 32000 ≤ length ws′
+    pub turn-long : scratchWords ≤ length ws′
     turn-long = let s = short-trial E A trial is-trial in omega (arith, ap length (went .2), words-all trial (S .rest) (omega arith))
 
-    walked : (l : ℕ) → 100000 - made ≡ l → walk E A t (100000 - made) made (next E A (reverse (S .path))) ≡ walk E A t l made (some (went .0))
+    walked : (l : ℕ) → trialLimit - made ≡ l → walk E A t (trialLimit - made) made (next E A (reverse (S .path))) ≡ walk E A t l made (some (went .0))
     walked l e = ap (λ (k : ℕ). walk E A t k made (next E A (reverse (S .path)))) e ∙ ap (walk E A t l made) (went .1)
 
     -- trial 100,001
-    pub turn-over : 100000 ≤ made → {o : Searched} {ws″ : List ℕ} → searched o ws″ ≡ searched Over (wordsOf [] ++ drop 32000 ws′)
-        → (p rest : List ℕ) → ws₀ ≡ wordsOf p ++ rest → searched o ws″ ≡ searchedOf rest (search t (100000 - count) count (laterThan p (trials E A)))
+    pub turn-over : trialLimit ≤ made → {o : Searched} {ws″ : List ℕ} → searched o ws″ ≡ searched Over (wordsOf [] ++ drop scratchWords ws′)
+        → (p rest : List ℕ) → ws₀ ≡ wordsOf p ++ rest → searched o ws″ ≡ searchedOf rest (search t (trialLimit - count) count (laterThan p (trials E A)))
     turn-over h c p rest w =
         let s = short-trial E A trial is-trial in
-        let d : drop 32000 ws′ ≡ S .rest = ap (drop 32000) (went .2) ∙ drop-at (wordsOf trial) (S .rest) 32000 (words-long trial (omega arith)) in
-        c ∙ found-over (S .rest) (wordsOf [] ++ drop 32000 ws′) (ap (λ (l : List ℕ). wordsOf [] ++ l) d)
+        let d : drop scratchWords ws′ ≡ S .rest = ap (drop scratchWords) (went .2) ∙ drop-at (wordsOf trial) (S .rest) scratchWords (words-long trial (omega arith)) in
+        c ∙ found-over (S .rest) (wordsOf [] ++ drop scratchWords ws′) (ap (λ (l : List ℕ). wordsOf [] ++ l) d)
         ∙ ap (searchedOf (S .rest)) (sym (walked 0 (omega arith) ∙ walk-over E A t made (went .0)))
         ∙ T .same p rest w
 
-    module _ (low : made < 100000) {h : Bool} (asks : (p rest : List ℕ) → ws′ ≡ wordsOf p ++ rest → h ≡ t p) {k : ℕ} (ek : k ≡ made + 1) where
-      left : 100000 - made ≡ suc (100000 - (made + 1))
+    module _ (low : made < trialLimit) {h : Bool} (asks : (p rest : List ℕ) → ws′ ≡ wordsOf p ++ rest → h ≡ t p) {k : ℕ} (ek : k ≡ made + 1) where
+      left : trialLimit - made ≡ suc (trialLimit - (made + 1))
       left = omega arith
 
       -- handed out
-      pub turn-hit : h ≡ true → (p rest : List ℕ) → ws₀ ≡ wordsOf p ++ rest → searched (Hit k) ws′ ≡ searchedOf rest (search t (100000 - count) count (laterThan p (trials E A)))
+      pub turn-hit : h ≡ true → (p rest : List ℕ) → ws₀ ≡ wordsOf p ++ rest → searched (Hit k) ws′ ≡ searchedOf rest (search t (trialLimit - count) count (laterThan p (trials E A)))
       turn-hit y p rest w =
           let u : t trial ≡ true = sym (asks trial (S .rest) (went .2)) ∙ y in
           found-hit (S .rest) ws′ k (suc made) trial (omega arith) (went .2)
-          ∙ ap (searchedOf (S .rest)) (sym (walked (suc (100000 - (made + 1))) left ∙ walk-hit E A t (100000 - (made + 1)) made (went .0) u))
+          ∙ ap (searchedOf (S .rest)) (sym (walked (suc (trialLimit - (made + 1))) left ∙ walk-hit E A t (trialLimit - (made + 1)) made (went .0) u))
           ∙ T .same p rest w
 
       -- passed over
@@ -197,9 +198,9 @@ module _ {t : Path → Bool} {gr : List ℕ} {m : ℕ} {g ix ws₀ : List ℕ} {
             size = l ∙ T .size;
             same = λ p rest w.
                 ap (searchedOf (S .rest))
-                (ap (λ (l : List ℕ). walk E A t (100000 - k) k (next E A l)) (reverse-reverse (went .0))
-                ∙ ap (λ (j : ℕ). walk E A t (100000 - j) j (next E A (went .0))) ek
-                ∙ ap (λ (j : ℕ). walk E A t (100000 - (made + 1)) j (next E A (went .0))) (sym e)
-                ∙ sym (walked (suc (100000 - (made + 1))) left ∙ walk-on E A t (100000 - (made + 1)) made (went .0) u))
+                (ap (λ (l : List ℕ). walk E A t (trialLimit - k) k (next E A l)) (reverse-reverse (went .0))
+                ∙ ap (λ (j : ℕ). walk E A t (trialLimit - j) j (next E A (went .0))) ek
+                ∙ ap (λ (j : ℕ). walk E A t (trialLimit - (made + 1)) j (next E A (went .0))) (sym e)
+                ∙ sym (walked (suc (trialLimit - (made + 1))) left ∙ walk-on E A t (trialLimit - (made + 1)) made (went .0) u))
                 ∙ T .same p rest w;
           }

@@ -4,6 +4,7 @@ use mathlib.Core.Path.{_≡_}
 use mathlib.Core.Bool.{true}
 use mathlib.Core.List.{List, [], _∷_, _++_, List·Memᴰ}
 use lib.ListN.{length, getD}
+use Rattle.repr.specs.Sizes.{edgeLimit, graphRoom, reductionLimit}
 use Rattle.repr.specs.Meaning.{Production}
 use Rattle.trace_graph.specs.Graph.{Node, atItem}
 use Rattle.trace_graph.specs.Words.{edgesIn}
@@ -32,12 +33,12 @@ pub record Searching (ps : List Production) (g ix ws : List ℕ) (production ind
 pub record Tried (ps : List Production) (g ws : List ℕ) : Type 0 where
   pub nonterminals : ℕ
   pub few-nonterminals : nonterminals ≤ 32
-  pub long : 8193 ≤ length g
-  pub few-edges : getD g 0 0 ≤ 1024
+  pub long : graphRoom ≤ length g
+  pub few-edges : getD g 0 0 ≤ edgeLimit
   pub fits : (k : ℕ) → k < getD g 0 0 → edgeFits nonterminals ps g k ≡ true
   pub path : Path
   pub rest : List ℕ
   pub words : ws ≡ wordsOf path ++ rest
   pub some-edge : 1 ≤ length path
-  pub few : length path ≤ 33
+  pub few : length path ≤ reductionLimit
   pub edges : Within (getD g 0 0) path

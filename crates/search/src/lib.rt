@@ -4,8 +4,11 @@ use enumerator::machine::clear;
 use enumerator::machine::count_walk;
 use enumerator::machine::is_example;
 use enumerator::machine::next;
+use example::Example;
 use example::first0;
 use lookahead::TokenSet;
+use repr::NonterminalString;
+use repr::ProductionIndex;
 use repr::word;
 use trace_graph::Node;
 use trace_graph::read_edge;
@@ -15,13 +18,14 @@ ghost use mathlib.Core.List.{List, [], _++_};
 ghost use mathlib.Core.Option.{some};
 ghost use Prim.Native.Nat.{ℕ, _-_, _≤_, _<_};
 ghost use lib.ListN.{length, take, drop};
+ghost use Rattle.repr.specs.Sizes.{scratchWords, trialLimit, labelsRoom};
 ghost use Rattle.repr.specs.Packed.{Packed, productionsIn};
 ghost use Rattle.trace_graph.specs.Graph.{atItem};
 ghost use Rattle.trace_graph.specs.Words.{edgesIn};
 ghost use Rattle.trace_graph.specs.Values.{nodeIs, nodeValueFits};
 ghost use Rattle.example.specs.Labels.{labelsIn, LabelsFit};
 ghost use Rattle.enumerator.specs.Trials.{endsOf, trials};
-ghost use Rattle.enumerator.specs.Lister.{trialLimit, nodeOwner, labelsOf, search};
+ghost use Rattle.enumerator.specs.Lister.{nodeOwner, labelsOf, search};
 ghost use Rattle.enumerator.specs.Words.{wordsOf};
 ghost use Rattle.enumerator.specs.Advance.{setOf};
 ghost use Rattle.search.specs.declared.Searched.the-variants.{Over};
@@ -51,7 +55,7 @@ fn node_owner(grammar: &[u16], productions: usize, node: Node) -> usize
     if node.kind == 0 {
         return number;
     }
-    word(grammar, number * 36)
+    word(grammar, number * ProductionIndex::WORDS)
 }
 
 // Writes the labels of the trial that the words hold, three words each: the nonterminal that the edge comes from, the production and the index of its label; the edge into the start item first. Answers how many words.
@@ -64,8 +68,8 @@ pub fn read_labels(
 ) -> usize
     requires { ⌜ Packed (now grammar) productions ⌝ }
     requires { ⌜ Tried (productionsIn (now grammar) productions) (now graph) (now words) ⌝ }
-    requires { ⌜ 99 ≤ length (now labels) ⌝ }
-    ensures { λ r. ⌜ (r ≤ 99) × LabelsFit (productionsIn (now (grammar .entry)) productions) (take r (now (labels .exit))) ⌝ }
+    requires { ⌜ labelsRoom ≤ length (now labels) ⌝ }
+    ensures { λ r. ⌜ (r ≤ labelsRoom) × LabelsFit (productionsIn (now (grammar .entry)) productions) (take r (now (labels .exit))) ⌝ }
     ensures { λ r. ⌜ ((p rest : List ℕ) → now (words .entry) ≡ wordsOf p ++ rest → labelsIn (take r (now (labels .exit))) ≡ labelsOf (productionsIn (now (grammar .entry)) productions) (edgesIn (now (graph .entry))) p) ⌝ }
 {
     let count = word(words, 0);
@@ -74,13 +78,13 @@ pub fn read_labels(
         let edge = read_edge(graph, word(words, at + 1));
         let source = edge.source;
         let owner = node_owner(grammar, productions, source);
-        let place = 3 * at;
+        let place = Example::LABEL_WORDS * at;
         labels[place] = owner as u16;
         labels[place + 1] = edge.production as u16;
         labels[place + 2] = edge.index as u16;
         at += 1;
     }
-    3 * count
+    Example::LABEL_WORDS * count
 }
 
 // Whether what the trial's example expects next meets a set.
@@ -88,7 +92,7 @@ fn meets(
     grammar: &[u16],
     productions: usize,
     terminals: u16,
-    map: &[u64; 32],
+    map: &[u64; NonterminalString::LIMIT],
     set: TokenSet,
     graph: &[u16],
     words: &[u16],
@@ -97,7 +101,7 @@ fn meets(
     requires { ⌜ Tried (productionsIn (now grammar) productions) (now graph) (now words) ⌝ }
     ensures { λ r. ⌜ ((p rest : List ℕ) → now (words .entry) ≡ wordsOf p ++ rest → r ≡ passesBy terminals (now (map .entry)) (productionsIn (now (grammar .entry)) productions) (edgesIn (now (graph .entry))) (some (set .0)) p) ⌝ }
 {
-    let mut labels = [0u16; 99];
+    let mut labels = [0u16; Example::ALL_LABEL_WORDS];
     let size = read_labels(grammar, productions, graph, words, &mut labels);
     let expected = first0(map, terminals, grammar, productions, &labels[..size]);
     expected.is_intersecting(set)
@@ -108,7 +112,7 @@ pub fn passes(
     grammar: &[u16],
     productions: usize,
     terminals: u16,
-    map: &[u64; 32],
+    map: &[u64; NonterminalString::LIMIT],
     lookahead: Lookahead,
     graph: &[u16],
     words: &[u16],
@@ -128,7 +132,7 @@ fn hands(
     grammar: &[u16],
     productions: usize,
     terminals: u16,
-    map: &[u64; 32],
+    map: &[u64; NonterminalString::LIMIT],
     ahead: Lookahead,
     graph: &[u16],
     words: &[u16],
@@ -145,8 +149,8 @@ fn hands(
 
 // A trial past the limit: the words hold none.
 fn overrun(words: &mut [u16]) -> Searched
-    requires { ⌜ 32000 ≤ length (now words) ⌝ }
-    ensures { λ r. ⌜ searched r (now (words .exit)) ≡ searched Over (wordsOf [] ++ drop 32000 (now (words .entry))) ⌝ }
+    requires { ⌜ scratchWords ≤ length (now words) ⌝ }
+    ensures { λ r. ⌜ searched r (now (words .exit)) ≡ searched Over (wordsOf [] ++ drop scratchWords (now (words .entry))) ⌝ }
 {
     clear(words);
     Searched::Over
@@ -157,7 +161,7 @@ pub fn search(
     grammar: &[u16],
     productions: usize,
     terminals: u16,
-    map: &[u64; 32],
+    map: &[u64; NonterminalString::LIMIT],
     lookahead: Lookahead,
     graph: &[u16],
     ix: &[u16],
@@ -170,7 +174,7 @@ pub fn search(
     requires { ⌜ Searching (productionsIn (now grammar) productions) (now graph) (now ix) (now words) production index ⌝ }
     ensures { λ r. ⌜ ((p rest : List ℕ) → now (words .entry) ≡ wordsOf p ++ rest → searched r (now (words .exit)) ≡ searchedOf rest (search (handsBy terminals (now (map .entry)) (productionsIn (now (grammar .entry)) productions) (edgesIn (now (graph .entry))) (setOf lookahead)) (trialLimit - count) count (laterThan p (trials (endsOf (edgesIn (now (graph .entry)))) (atItem (record { production = production; index = index })))))) ⌝ }
 {
-    let mut counts = [0u8; 32];
+    let mut counts = [0u8; NonterminalString::LIMIT];
     count_walk(graph, words, &mut counts);
     let mut made = count;
     loop {

@@ -4,6 +4,7 @@ use mathlib.Core.Bool.{Bool, _&&_, not}
 use mathlib.Core.List.{List, [], _∷_, map}
 use lib.ListN.{length, getD, set}
 use lib.Dec.{eqb}
+use Rattle.repr.specs.Sizes.{indexLimit}
 use Rattle.repr.specs.Lists.{below}
 use Rattle.repr.specs.Meaning.{Item}
 use Rattle.repr.specs.Listed.{listed}
@@ -12,7 +13,7 @@ use Rattle.core.specs.Items.{symbolSets}
 use Rattle.error.specs.Items.{isTerminal}
 
 unfoldable pub codeOf : Item → ℕ
-codeOf i = i .production * 17 + i .index
+codeOf i = i .production * indexLimit + i .index
 
 -- the word of each item set
 unfoldable pub marked : List Item → List ℕ → List ℕ
@@ -21,11 +22,11 @@ marked (i ∷ is) ws = marked is (set ws (codeOf i) 1)
 
 -- the items of a production that have a cursor, the index ascending
 unfoldable pub codesOf : List ℕ → ℕ → List ℕ
-codesOf g p = map (λ i. p * 17 + i) (below (length (listed (symbolWords g p))))
+codesOf g p = map (λ i. p * indexLimit + i) (below (length (listed (symbolWords g p))))
 
 -- the code's item shifts the token, by the packed words
 unfoldable pub shiftsCode : List ℕ → ℕ → ℕ → Bool
-shiftsCode g token c = isTerminal token (symbolSets (listed (symbolWords g (c / 17))) (c % 17) .cursor)
+shiftsCode g token c = isTerminal token (symbolSets (listed (symbolWords g (c / indexLimit))) (c % indexLimit) .cursor)
 
 -- and is marked
 unfoldable pub wanted : List ℕ → List ℕ → ℕ → ℕ → Bool

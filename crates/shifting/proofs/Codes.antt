@@ -7,6 +7,7 @@ use native.Mathlib.Omega.{arith}
 use lib.ListN.{length, getD, take, length-take}
 use lib.Dec.{eqb, leb}
 use borrow.Author.Tests.{eqb-true, leb-true, le-leb, lt-leb, ne-eqb}
+use Rattle.repr.specs.Sizes.{indexLimit}
 use Rattle.repr.specs.Lists.{keep}
 use Rattle.repr.specs.Meaning.{Symbol, nonterminal, terminal, Production, Item, Table, productionAt, noProduction, SymbolFits, All, ProductionFits, ItemFits, TableFits}
 use Rattle.repr.specs.Packed.{productionIn, productionsIn}
@@ -24,9 +25,9 @@ production-packed : {T : Table} {g : List ℕ} {m : ℕ} → Grammar T g m → (
 unfolding productionsIn
 production-packed {T} {g} {m} G p h = ap (λ (ps : List Production). getD ps p noProduction) (sym (G .same)) ∙ getD-map-below (productionIn g) m p noProduction h
 
-pub can-shift : {T : Table} {g : List ℕ} {m : ℕ} → Grammar T g m → (n c : ℕ) → c < m * 17 → canShift T n (itemOf c) ≡ shiftsCode g n c
+pub can-shift : {T : Table} {g : List ℕ} {m : ℕ} → Grammar T g m → (n c : ℕ) → c < m * indexLimit → canShift T n (itemOf c) ≡ shiftsCode g n c
 unfolding canShift symbolsOf itemOf shiftsCode productionIn
-can-shift G n c h = ap (λ (p : Production). shiftsNonterminal (p .symbols) (c % 17) n) (production-packed G (c / 17) (omega arith))
+can-shift G n c h = ap (λ (p : Production). shiftsNonterminal (p .symbols) (c % indexLimit) n) (production-packed G (c / indexLimit) (omega arith))
 
 keep-map : (f : ℕ → Item) (t : Item → Bool) (cs : List ℕ) → keep t (map f cs) ≡ map f (keep (λ c. t (f c)) cs)
 keep-map f t [] = keep-nil t ∙ ap (map f) (sym (keep-nil (λ (c : ℕ). t (f c))))
@@ -43,10 +44,10 @@ wanted-pair T s n h =
     rw (p, q)
 
 -- the words of the cursors, by the table
-pub cursors-of : {T : Table} {g : List ℕ} {m : ℕ} {ws : List ℕ} → Grammar T g m → Cursors g (m * 17) ws → CursorsOf T ws
+pub cursors-of : {T : Table} {g : List ℕ} {m : ℕ} {ws : List ℕ} → Grammar T g m → Cursors g (m * indexLimit) ws → CursorsOf T ws
 cursors-of {T} {g} {m} {ws} G W = record {
   long = W .long;
-  exact = λ c n h. let q = G .many in let k : c < m * 17 = omega arith in can-shift G n c k ∙ sym (W .exact c n k);
+  exact = λ c n h. let q = G .many in let k : c < m * indexLimit = omega arith in can-shift G n c k ∙ sym (W .exact c n k);
 }
 
 -- of a state's items those that can shift n

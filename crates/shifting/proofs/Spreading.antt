@@ -8,12 +8,13 @@ use native.Mathlib.Numerals.{add-one}
 use lib.ListN.{length, getD, drop, set, length-set, drop-of-length-le}
 use lib.Seq.{drop-cons, sets}
 use borrow.Author.Tests.{eq-eqb, ne-eqb}
+use Rattle.repr.specs.Sizes.{indexLimit}
 use Rattle.repr.specs.Lists.{keep}
 use Rattle.repr.proofs.Lists.{keep-nil, keep-yes, keep-no}
 use Rattle.shifting.specs.Coded.{CodesOf, atCursor}
 
 -- what `spread` asks of a code, and learns
-pub code-in : (m j c : ℕ) (cs : List ℕ) → CodesOf m cs → j < length cs → c ≡ getD cs j 0 → c < m * 17
+pub code-in : (m j c : ℕ) (cs : List ℕ) → CodesOf m cs → j < length cs → c ≡ getD cs j 0 → c < m * indexLimit
 unfolding CodesOf
 code-in m j c cs C h e = let q = C j h in omega arith
 

@@ -7,6 +7,7 @@ use native.Mathlib.Omega.{arith}
 use native.Mathlib.Decide.{decLt}
 use lib.ListN.{length, getD, take, drop, set, length-set}
 use lib.Seq.{sets, slice, length-sets, sets-eq, take-set-le, take-append-add, take-append-seam, drop-at, length-take-le, getD-set-same, getD-set-other, getD-take, getD-drop}
+use Rattle.repr.specs.Sizes.{itemLimit}
 use Rattle.repr.specs.Meaning.{Item, Table}
 use Rattle.trace.specs.Traced.{pair}
 use Rattle.trace.specs.Shifting.{itemOf, ShiftItems}
@@ -55,7 +56,7 @@ module _ {want : ℕ → List Item} {k total : ℕ} {starts codes : List ℕ} (w
   up-to j h = up (k - j) j (omega arith)
 
   module _ (room : suc k < length starts) (cs : List ℕ) (r : ℕ) (er : r ≡ total + length cs) (fits-in : r ≤ length codes)
-      (low : (i : ℕ) → i < length cs → getD cs i 0 < 2176) (ew : want k ≡ map itemOf cs) (k′ : ℕ) (ek : k′ ≡ suc k) where
+      (low : (i : ℕ) → i < length cs → getD cs i 0 < itemLimit) (ew : want k ≡ map itemOf cs) (k′ : ℕ) (ek : k′ ≡ suc k) where
     before : (j : ℕ) → j ≤ k → getD (set starts k′ r) j 0 ≡ getD starts j 0
     before j h = getD-set-other starts k′ j r 0 (λ q. omega arith)
 
@@ -83,10 +84,10 @@ module _ {want : ℕ → List Item} {k total : ℕ} {starts codes : List ℕ} (w
             let e : j ≡ k = omega arith in
             rw (here j e, next j e) (ap (map itemOf) (slice-put cs codes total r er fits-in) ∙ sym ew ∙ ap want (sym e))
 
-    small′ : (j i : ℕ) → j < k′ → getD (set starts k′ r) j 0 ≤ i → i < getD (set starts k′ r) (suc j) 0 → getD (sets codes total cs) i 0 < 2176
+    small′ : (j i : ℕ) → j < k′ → getD (set starts k′ r) j 0 ≤ i → i < getD (set starts k′ r) (suc j) 0 → getD (sets codes total cs) i 0 < itemLimit
     small′ j i h a b = go (decLt j k)
       where
-        go : Dec (j < k) → getD (sets codes total cs) i 0 < 2176
+        go : Dec (j < k) → getD (sets codes total cs) i 0 < itemLimit
         go (yes l) =
             let a′ : getD starts j 0 ≤ i = rw (before j (omega arith)) at a in
             let b′ : i < getD starts (suc j) 0 = rw (before (suc j) (omega arith)) at b in
@@ -130,11 +131,11 @@ pub record States (T : Table) (starts₀ codes₀ flags list starts codes : List
   pub starts-long : length starts ≡ length starts₀
   pub codes-long : length codes ≡ length codes₀
   pub stamps : Stamps s flags
-  pub list-long : length list ≡ 2176
-  pub few : total ≤ s * 2176
+  pub list-long : length list ≡ itemLimit
+  pub few : total ≤ s * itemLimit
   pub written : Written (wanted T) (s * 32) total starts codes
 
-pub states-start : (T : Table) (flags list starts codes : List ℕ) → Stamps 0 flags → length list ≡ 2176 → 0 < length starts → States T (set starts 0 0) codes flags list (set starts 0 0) codes 0 0
+pub states-start : (T : Table) (flags list starts codes : List ℕ) → Stamps 0 flags → length list ≡ itemLimit → 0 < length starts → States T (set starts 0 0) codes flags list (set starts 0 0) codes 0 0
 states-start T flags list starts codes f l h = record {
   inside = omega arith;
   starts-long = refl;
@@ -147,7 +148,7 @@ states-start T flags list starts codes f l h = record {
 
 module _ {T : Table} {starts₀ codes₀ flags list starts codes : List ℕ} {total s : ℕ} (u : States T starts₀ codes₀ flags list starts codes total s) where
   pub states-more : s < length (T .states) → (flags′ list′ starts′ codes′ : List ℕ) (r : ℕ) → Stamps (s + 1) flags′ → length list′ ≡ length list → length starts′ ≡ length starts
-      → length codes′ ≡ length codes → r ≤ total + 2176 → Written (wanted T) (s * 32 + 32) r starts′ codes′ → States T starts₀ codes₀ flags′ list′ starts′ codes′ r (s + 1)
+      → length codes′ ≡ length codes → r ≤ total + itemLimit → Written (wanted T) (s * 32 + 32) r starts′ codes′ → States T starts₀ codes₀ flags′ list′ starts′ codes′ r (s + 1)
   states-more h flags′ list′ starts′ codes′ r f ll ls lc b w = record {
     inside = omega arith;
     starts-long = ls ∙ u .starts-long;
@@ -159,7 +160,7 @@ module _ {T : Table} {starts₀ codes₀ flags list starts codes : List ℕ} {to
   }
 
   -- a state's items are at most 2176
-  pub states-short : s < length (T .states) → (count : ℕ) → count ≤ 2176 → length codes - total < count → length codes₀ < length (T .states) * 2176
+  pub states-short : s < length (T .states) → (count : ℕ) → count ≤ itemLimit → length codes - total < count → length codes₀ < length (T .states) * itemLimit
   states-short h count few b = omega (arith, u .few, u .codes-long)
 
   pub states-end : length (T .states) ≤ s → ShiftItems T starts codes

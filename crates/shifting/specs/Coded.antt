@@ -7,6 +7,7 @@ use mathlib.Core.List.{List, [], map}
 use lib.ListN.{length, getD}
 use lib.Seq.{slice}
 use lib.Dec.{eqb}
+use Rattle.repr.specs.Sizes.{indexLimit, itemLimit}
 use Rattle.repr.specs.Lists.{keep}
 use Rattle.repr.specs.Meaning.{Item, Table, stateAt}
 use Rattle.repr.specs.Listed.{listed}
@@ -23,11 +24,11 @@ pub record Grammar (T : Table) (g : List ℕ) (productions : ℕ) : Type 0 where
 
 -- whether the item of a code can shift nonterminal n, by the packed words
 unfoldable pub shiftsCode : List ℕ → ℕ → ℕ → Bool
-shiftsCode g n c = shiftsNonterminal (listed (symbolWords g (c / 17))) (c % 17) n
+shiftsCode g n c = shiftsNonterminal (listed (symbolWords g (c / indexLimit))) (c % indexLimit) n
 
 -- each code is that of an item of one of so many productions
 unfoldable pub CodesOf : ℕ → List ℕ → Type 0
-CodesOf productions cs = (j : ℕ) → j < length cs → getD cs j 0 < productions * 17
+CodesOf productions cs = (j : ℕ) → j < length cs → getD cs j 0 < productions * indexLimit
 
 -- the items of a state, each once
 pub record StateCodes (T : Table) (s : ℕ) (cs : List ℕ) : Type 0 where
@@ -36,7 +37,7 @@ pub record StateCodes (T : Table) (s : ℕ) (cs : List ℕ) : Type 0 where
 
 -- the flags before state s: no state has stamped a code yet but the s before it
 pub record Stamps (s : ℕ) (flags : List ℕ) : Type 0 where
-  pub long : length flags ≡ 2176
+  pub long : length flags ≡ itemLimit
   pub low : (k : ℕ) → getD flags k 0 ≤ s
 
 -- whether the word of a code says that its cursor stands at nonterminal n
@@ -45,14 +46,14 @@ atCursor ws n c = eqb (getD ws c 0) (n + 1)
 
 -- the words of the codes below c say what the items can shift, by the packed words; the rest are 0
 pub record Cursors (g : List ℕ) (c : ℕ) (ws : List ℕ) : Type 0 where
-  pub long : length ws ≡ 2176
+  pub long : length ws ≡ itemLimit
   pub exact : (k n : ℕ) → k < c → atCursor ws n k ≡ shiftsCode g n k
   pub rest : (k : ℕ) → c ≤ k → getD ws k 0 ≡ 0
 
 -- the words say it of every item of the table
 pub record CursorsOf (T : Table) (ws : List ℕ) : Type 0 where
-  pub long : length ws ≡ 2176
-  pub exact : (c n : ℕ) → c < length (T .productions) * 17 → canShift T n (itemOf c) ≡ atCursor ws n c
+  pub long : length ws ≡ itemLimit
+  pub exact : (c n : ℕ) → c < length (T .productions) * indexLimit → canShift T n (itemOf c) ≡ atCursor ws n c
 
 -- what is to stand for the pair of number j
 unfoldable pub wanted : Table → ℕ → List Item
@@ -70,4 +71,4 @@ pub record Written (want : ℕ → List Item) (k total : ℕ) (starts codes : Li
   pub inside : total ≤ length codes
   pub rising : (j : ℕ) → j < k → getD starts j 0 ≤ getD starts (suc j) 0
   pub exact : (j : ℕ) → j < k → map itemOf (slice (getD starts j 0) (getD starts (suc j) 0) codes) ≡ want j
-  pub small : (j i : ℕ) → j < k → getD starts j 0 ≤ i → i < getD starts (suc j) 0 → getD codes i 0 < 2176
+  pub small : (j i : ℕ) → j < k → getD starts j 0 ≤ i → i < getD starts (suc j) 0 → getD codes i 0 < itemLimit

@@ -3,6 +3,7 @@
 // cursor stands at is read off once a call. The cost of a state is its chain's length, and for each nonterminal of the table a turn over its distinct items, of
 // which there are at most 2176.
 use core::Item;
+use repr::ProductionIndex;
 use repr::word;
 use table::Checked;
 use table::first_item;
@@ -14,6 +15,7 @@ ghost use mathlib.Core.List.{List, []};
 ghost use Prim.Native.Nat.{ℕ, _+_, _*_, _≤_, _<_};
 ghost use lib.ListN.{length, take, replicate};
 ghost use lib.Seq.{sets};
+ghost use Rattle.repr.specs.Sizes.{indexLimit, itemLimit};
 ghost use Rattle.repr.specs.Lists.{keep};
 ghost use Rattle.repr.specs.Packed.{Packed, productionsIn};
 ghost use Rattle.table.specs.Decoded.{meaning};
@@ -25,8 +27,8 @@ ghost use Rattle.repr.specs.Meaning as meaning-of;
 // The cursors of one production's items: the nonterminal there plus 1.
 fn production_cursors(grammar: &[u16], productions: usize, production: usize, cursors: &mut [u8])
     requires { ⌜ Packed (now grammar) productions × (production < productions) ⌝ }
-    requires { ⌜ Cursors (now grammar) (production * 17) (now cursors) ⌝ }
-    ensures { λ _. ⌜ Cursors (now (grammar .entry)) (production * 17 + 17) (now (cursors .exit)) ⌝ }
+    requires { ⌜ Cursors (now grammar) (production * indexLimit) (now cursors) ⌝ }
+    ensures { λ _. ⌜ Cursors (now (grammar .entry)) (production * indexLimit + indexLimit) (now (cursors .exit)) ⌝ }
 {
     let first = Item {
         production: production,
@@ -35,8 +37,8 @@ fn production_cursors(grammar: &[u16], productions: usize, production: usize, cu
     let symbols = first.length(grammar, productions);
     let mut i: usize = 0;
     while i < symbols {
-        let at = production * 36 + 4 + 2 * i;
-        let code = production * 17 + i;
+        let at = production * ProductionIndex::WORDS + 4 + 2 * i;
+        let code = production * ProductionIndex::INDEXES + i;
         i += 1;
         if word(grammar, at) == 0 {
             cursors[code] = (word(grammar, at + 1) + 1) as u8;
@@ -46,8 +48,8 @@ fn production_cursors(grammar: &[u16], productions: usize, production: usize, cu
 
 // For the item of each code its nonterminal at the cursor plus 1, or 0 if there is none.
 fn write_cursors(grammar: &[u16], productions: usize, cursors: &mut [u8])
-    requires { ⌜ Packed (now grammar) productions × (now cursors ≡ replicate 2176 0) ⌝ }
-    ensures { λ _. ⌜ Cursors (now (grammar .entry)) (productions * 17) (now (cursors .exit)) ⌝ }
+    requires { ⌜ Packed (now grammar) productions × (now cursors ≡ replicate itemLimit 0) ⌝ }
+    ensures { λ _. ⌜ Cursors (now (grammar .entry)) (productions * indexLimit) (now (cursors .exit)) ⌝ }
 {
     let mut p: usize = 0;
     while p < productions {
@@ -59,8 +61,8 @@ fn write_cursors(grammar: &[u16], productions: usize, cursors: &mut [u8])
 // The items of a state, each once, as codes. A flag of the state's number plus 1 says that the code is met; those of earlier states are less.
 fn distinct_items(table: &[u16], state: usize, flags: &mut [u8], list: &mut [u16]) -> usize
     requires { ⌜ checkOf (now table) ≡ Checked.Accepted ⌝ }
-    requires { ⌜ (state < length (meaning (now table) .states)) × (Stamps state (now flags) × (length (now list) ≡ 2176)) ⌝ }
-    ensures { λ r. ⌜ (r ≤ 2176) × StateCodes (meaning (now (table .entry))) state (take r (now (list .exit))) ⌝ }
+    requires { ⌜ (state < length (meaning (now table) .states)) × (Stamps state (now flags) × (length (now list) ≡ itemLimit)) ⌝ }
+    ensures { λ r. ⌜ (r ≤ itemLimit) × StateCodes (meaning (now (table .entry))) state (take r (now (list .exit))) ⌝ }
     ensures { λ _. ⌜ Stamps (state + 1) (now (flags .exit)) ⌝ }
 {
     let stamp = (state + 1) as u8;
@@ -68,7 +70,7 @@ fn distinct_items(table: &[u16], state: usize, flags: &mut [u8], list: &mut [u16
     let mut at = first_item(table, state);
     while at != 0 {
         let i = item(table, at);
-        let code = i.production * 17 + i.index;
+        let code = i.production * ProductionIndex::INDEXES + i.index;
         if flags[code] != stamp {
             flags[code] = stamp;
             list[count] = code as u16;
@@ -87,7 +89,7 @@ fn spread(
     codes: &mut [u16],
     total: usize,
 ) -> usize
-    requires { ⌜ (length (now cursors) ≡ 2176) × (CodesOf 128 (now list) × (nonterminal < 32)) ⌝ }
+    requires { ⌜ (length (now cursors) ≡ itemLimit) × (CodesOf 128 (now list) × (nonterminal < 32)) ⌝ }
     requires { ⌜ total + length (keep (atCursor (now cursors) nonterminal) (now list)) ≤ length (now codes) ⌝ }
     ensures { λ r. ⌜ (now (codes .exit) ≡ sets (now (codes .entry)) total (keep (atCursor (now (cursors .entry)) nonterminal) (now (list .entry)))) × (r ≡ total + length (keep (atCursor (now (cursors .entry)) nonterminal) (now (list .entry)))) ⌝ }
 {
@@ -127,7 +129,7 @@ fn write_pairs(
     codes: &mut [u16],
     total: usize,
 ) -> usize
-    requires { ⌜ (length (now cursors) ≡ 2176) × (CodesOf 128 (now list) × (nonterminals ≤ 32)) ⌝ }
+    requires { ⌜ (length (now cursors) ≡ itemLimit) × (CodesOf 128 (now list) × (nonterminals ≤ 32)) ⌝ }
     requires { ⌜ (state < 128) × ((state * 32 + 32 < length (now starts)) × ((total + length (now list) ≤ length (now codes)) × (length (now codes) ≤ 1000000))) ⌝ }
     ensures { λ r. ⌜ r ≤ total + length (now (list .entry)) ⌝ }
     ensures { λ r. ⌜ ((want : ℕ → List meaning-of.Item) → Wants (now (cursors .entry)) (now (list .entry)) state nonterminals want → Written want (state * 32) total (now (starts .entry)) (now (codes .entry)) → Written want (state * 32 + 32) r (now (starts .exit)) (now (codes .exit))) ⌝ }
@@ -153,10 +155,10 @@ fn write_states(
     codes: &mut [u16],
 ) -> bool
     requires { ⌜ checkOf (now table) ≡ Checked.Accepted ⌝ }
-    requires { ⌜ CursorsOf (meaning (now table)) (now cursors) × (Stamps 0 (now flags) × (length (now list) ≡ 2176)) ⌝ }
+    requires { ⌜ CursorsOf (meaning (now table)) (now cursors) × (Stamps 0 (now flags) × (length (now list) ≡ itemLimit)) ⌝ }
     requires { ⌜ (length (meaning (now table) .states) * 32 < length (now starts)) × (length (now codes) ≤ 1000000) ⌝ }
     ensures { λ r. ⌜ (r ≡ true → ShiftItems (meaning (now (table .entry))) (now (starts .exit)) (now (codes .exit))) ⌝ }
-    ensures { λ r. ⌜ (r ≡ false → length (now (codes .entry)) < length (meaning (now (table .entry)) .states) * 2176) ⌝ }
+    ensures { λ r. ⌜ (r ≡ false → length (now (codes .entry)) < length (meaning (now (table .entry)) .states) * itemLimit) ⌝ }
 {
     let counts = read_counts(table);
     let states = counts.states;
@@ -195,11 +197,11 @@ pub fn shift_items(
     requires { ⌜ Packed (now grammar) productions × ((productionsIn (now grammar) productions ≡ meaning (now table) .productions) × (productions ≡ length (meaning (now table) .productions))) ⌝ }
     requires { ⌜ (length (meaning (now table) .states) * 32 < length (now starts)) × (length (now codes) ≤ 1000000) ⌝ }
     ensures { λ r. ⌜ (r ≡ true → ShiftItems (meaning (now (table .entry))) (now (starts .exit)) (now (codes .exit))) ⌝ }
-    ensures { λ r. ⌜ (r ≡ false → length (now (codes .entry)) < length (meaning (now (table .entry)) .states) * 2176) ⌝ }
+    ensures { λ r. ⌜ (r ≡ false → length (now (codes .entry)) < length (meaning (now (table .entry)) .states) * itemLimit) ⌝ }
 {
-    let mut cursors = [0u8; 2176];
+    let mut cursors = [0u8; Item::LIMIT];
     write_cursors(grammar, productions, &mut cursors);
-    let mut flags = [0u8; 2176];
-    let mut list = [0u16; 2176];
+    let mut flags = [0u8; Item::LIMIT];
+    let mut list = [0u16; Item::LIMIT];
     write_states(table, &cursors, &mut flags, &mut list, starts, codes)
 }

@@ -1,2 +1,4 @@
 pub mod Copy
 pub mod Insert
+pub mod Lent
+pub mod Same

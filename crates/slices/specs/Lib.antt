@@ -1,1 +1,3 @@
 pub mod Insert
+pub mod Lent
+pub mod Same

@@ -9,6 +9,7 @@ use lib.Dec.{eqb, ltb}
 use lib.ListN.{length, getD, set, replicate, length-set}
 use lib.Seq.{getD-set-same, getD-set-other}
 use borrow.Author.Tests.{eqb-true, eqb-false, ne-eqb, ltb-true, ltb-false, lt-ltb, le-ltb}
+use Rattle.repr.specs.Sizes.{recordLimit}
 use Rattle.repr.specs.Lists.{some?}
 use Rattle.repr.specs.Meaning.{Symbol, Table, stateAt}
 use Rattle.repr.specs.Listed.{symbolOfKind, symbolFits}
@@ -352,7 +353,7 @@ pub records-is : (t : List ℕ) → length t / 4 ≡ records t
 unfolding records
 records-is t = refl
 
-pub records-few : (t : List ℕ) → checkOf t ≡ Accepted → records t ≤ 8192
+pub records-few : (t : List ℕ) → checkOf t ≡ Accepted → records t ≤ recordLimit
 records-few t e = accepts t e .few-records
 
 pub united-is : (ws : List ℕ) (at l h : ℕ)

@@ -13,6 +13,7 @@ ghost use mathlib.Core.List.{List};
 ghost use Prim.Native.Nat.{ℕ, _+_, _*_, _≤_, _<_};
 ghost use lib.Dec.{eqb, ltb};
 ghost use lib.ListN.{length, getD, replicate};
+ghost use Rattle.repr.specs.Sizes.{recordLimit};
 ghost use Rattle.repr.specs.Lists.{mem, some?};
 ghost use Rattle.repr.specs.Listed.{listed, listFits};
 ghost use Rattle.table.specs.Decoded.{meaning};
@@ -28,7 +29,7 @@ ghost use Rattle.state_graph.specs.Sources.{noSource, united, Heads, Pas
 pub struct StateIndex(pub u16);
 
 impl StateIndex {
-    pub const LIMIT: u16 = 128;
+    pub const LIMIT: usize = 128;
 }
 
 // A set of states: 0 to 63 in `low`, 64 to 127 in `high`. Every operation is total: a state above 127 is not contained and not inserted.
@@ -66,7 +67,7 @@ impl StateSet {
                 high: self.high,
             };
         }
-        if state < 128 {
+        if state < StateIndex::LIMIT {
             return StateSet {
                 low: self.low,
                 high: self.high | 1 << (state - 64),
@@ -81,7 +82,7 @@ impl StateSet {
         if state < 64 {
             return (self.low >> state) & 1 == 1;
         }
-        if state < 128 {
+        if state < StateIndex::LIMIT {
             return (self.high >> (state - 64)) & 1 == 1;
         }
         false
@@ -156,7 +157,7 @@ fn unite(words: &mut [u64], at: usize, low: u64, high: u64)
 
 // Whether no state's chain comes to a record.
 fn no_source(sources: &[u64], r: usize) -> bool
-    requires { ⌜ (r < 8192) × (r * 2 + 1 < length (now sources)) ⌝ }
+    requires { ⌜ (r < recordLimit) × (r * 2 + 1 < length (now sources)) ⌝ }
     ensures { λ b. ⌜ b ≡ noSource (now (sources .entry)) r ⌝ }
 {
     if sources[r * 2] == 0 {

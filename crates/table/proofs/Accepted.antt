@@ -8,6 +8,7 @@ use native.Mathlib.Omega.{arith}
 use lib.ListN.{length}
 use lib.Dec.{eqb, ltb, leb}
 use borrow.Author.Tests.{eqb-true, eqb-false, ltb-true, ltb-false, leb-true, leb-false, not-false, le-leb, lt-ltb}
+use Rattle.repr.specs.Sizes.{recordLimit}
 use Rattle.repr.specs.Lists.{below, occurrences, joined, first?}
 use Rattle.repr.specs.Listed.{symbolFits}
 use Rattle.repr.proofs.Lists.{cases}
@@ -22,7 +23,7 @@ use Rattle.table.proofs.Chains.{and-true, and-both, or-false, or-left, 
 pub record Accepts (t : List ℕ) : Type 0 where
   pub words : length t ≡ 4 * records t
   pub some-record : 0 < records t
-  pub few-records : records t ≤ 8192
+  pub few-records : records t ≤ recordLimit
   pub some-nonterminal : 1 ≤ nonterminals t
   pub few-nonterminals : nonterminals t ≤ 32
   pub few-terminals : terminals t ≤ 63

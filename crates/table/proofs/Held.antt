@@ -6,6 +6,7 @@ use Prim.Native.Nat.{ℕ, _+_, _≤_, _<_}
 use native.Mathlib.Omega.{arith}
 use lib.Dec.{eqb}
 use borrow.Author.Tests.{eqb-true, eqb-false}
+use Rattle.repr.specs.Sizes.{recordLimit}
 use Rattle.repr.specs.Lists.{below, mem, some?}
 use Rattle.repr.proofs.Lists.{cases}
 use Rattle.repr.proofs.Tests.{some?-below, some?-below-witness}
@@ -106,7 +107,7 @@ module _ (t : List ℕ) (A : Accepts t) where
   edge-next-as r e ne = held-next t (λ s. stateArea t + s) (λ s. wordAt t (stateArea t + s) 1) (states t) r e (edge-on r e) ne
 
   -- an index that is not against the rule is small, and larger than its holder where it is not 0
-  pub loose-small : (r x : ℕ) → against (looseRecords t) r x ≡ false → x < 8192
+  pub loose-small : (r x : ℕ) → against (looseRecords t) r x ≡ false → x < recordLimit
   loose-small r x e =
       cases (eqb x 0)
       (λ q. let z = eqb-true x 0 q in omega arith)

@@ -7,6 +7,7 @@ use native.Mathlib.Omega.{arith}
 use lib.ListN.{length, getD}
 use lib.Dec.{eqb}
 use borrow.Author.Tests.{eqb-true, eqb-false, le-leb, lt-ltb}
+use Rattle.repr.specs.Sizes.{recordLimit}
 use Rattle.repr.specs.Meaning.{State, stateAt}
 use Rattle.repr.proofs.Lists.{cases}
 use Rattle.table.specs.Words.{wordAt, records, nonterminals, terminals, states, productions, stateArea, productionArea, loose, looseRecords, productionRecords, against, names, chain}
@@ -20,7 +21,7 @@ use Rattle.table.proofs.Held.{item-inside, edge-inside, item-first-as, 
 use Rattle.table.proofs.Decoding.{many-nonterminals, many-terminals, many-states, many-productions, nonterminal-at, state-at, fits, item-fits, edge-in-range, target-in-range}
 
 -- a record of the table, as the code asks for it
-pub inside : (t : List ℕ) → Accepts t → (r k : ℕ) → r < records t → k < 4 → (r < 8192) × ((k < 4) × (r * 4 + k < length t))
+pub inside : (t : List ℕ) → Accepts t → (r k : ℕ) → r < records t → k < 4 → (r < recordLimit) × ((k < 4) × (r * 4 + k < length t))
 inside t A r k h l = (omega arith, (l, omega arith))
 
 pub counts : (t : List ℕ) → checkOf t ≡ Accepted → (n m s p : ℕ) → n ≡ wordAt t 0 0 → m ≡ wordAt t 0 1 → s ≡ wordAt t 0 2 → p ≡ wordAt t 0 3 → CountsOf (meaning t) n m s p
@@ -147,7 +148,7 @@ module _ (t : List ℕ) (A : Accepts t) where
 -- the same as the code has it: the table accepted, counts in locals. First what `word` asks for
 
 abbrev pub Asked : List ℕ → ℕ → ℕ → Type 0
-Asked t r k = (r < 8192) × ((k < 4) × (r * 4 + k < length t))
+Asked t r k = (r < recordLimit) × ((k < 4) × (r * 4 + k < length t))
 
 module _ (t : List ℕ) (e : checkOf t ≡ Accepted) where
   pub count-asked : (k : ℕ) → k < 4 → Asked t 0 k

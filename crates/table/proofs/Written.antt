@@ -9,6 +9,7 @@ use lib.ListN.{length, getD, take, drop, set, length-set, length-take, length-dr
 use lib.Seq.{getD-set-same, getD-set-other, take-suc-set, drop-set-add, drop-set-lt, getD-take, getD-drop, ext-getD, length-take-le}
 use lib.Dec.{eqb, ltb}
 use borrow.Author.Tests.{eqb-true, eqb-false, ltb-true, ltb-false}
+use Rattle.repr.specs.Sizes.{nonterminalLimit, terminalLimit, productionPlace, grammarRoom}
 use Rattle.repr.specs.Lists.{below, mem}
 use Rattle.repr.specs.Meaning.{Symbol, Production, Table, productionAt, noProduction, ProductionFits}
 use Rattle.repr.specs.Listed.{symbolOfKind, listed, symbolFits, listFits}
@@ -79,21 +80,21 @@ productions-end t = ap (map (λ r. r - productionArea t)) (chain-end t (producti
 -- a nonterminal's number into its productions: those that are not left have it
 
 pub record Owning (t g₀ g : List ℕ) (n at : ℕ) : Type 0 where
-  pub long : length g ≡ 4608
+  pub long : length g ≡ grammarRoom
   pub same : length g ≡ length g₀
   pub on : ProductionHead t at
   pub mine : (q : ℕ) → mem q (productionsFrom t at) ≡ true → productionAt (meaning t) q .nonterminal ≡ n
-  pub done : (q : ℕ) → q < length (meaning t .productions) → productionAt (meaning t) q .nonterminal ≡ n → mem q (productionsFrom t at) ≡ false → getD g (q * 36) 0 ≡ n
-  pub others : (q : ℕ) → q < length (meaning t .productions) → (productionAt (meaning t) q .nonterminal ≡ n → ⊥) → getD g (q * 36) 0 ≡ getD g₀ (q * 36) 0
+  pub done : (q : ℕ) → q < length (meaning t .productions) → productionAt (meaning t) q .nonterminal ≡ n → mem q (productionsFrom t at) ≡ false → getD g (productionPlace q) 0 ≡ n
+  pub others : (q : ℕ) → q < length (meaning t .productions) → (productionAt (meaning t) q .nonterminal ≡ n → ⊥) → getD g (productionPlace q) 0 ≡ getD g₀ (productionPlace q) 0
 
 -- the productions of the nonterminals below n have theirs
 pub record OwnersBelow (T : Table) (g : List ℕ) (n : ℕ) : Type 0 where
-  pub long : length g ≡ 4608
+  pub long : length g ≡ grammarRoom
   pub few : n ≤ length (T .nonterminals)
-  pub done : (q : ℕ) → q < length (T .productions) → productionAt T q .nonterminal < n → getD g (q * 36) 0 ≡ productionAt T q .nonterminal
+  pub done : (q : ℕ) → q < length (T .productions) → productionAt T q .nonterminal < n → getD g (productionPlace q) 0 ≡ productionAt T q .nonterminal
 
 module _ (t : List ℕ) (e : checkOf t ≡ Accepted) where
-  pub owning-start : (g : List ℕ) (n at : ℕ) → length g ≡ 4608 → n < length (meaning t .nonterminals)
+  pub owning-start : (g : List ℕ) (n at : ℕ) → length g ≡ grammarRoom → n < length (meaning t .nonterminals)
       → (productionsFrom t at ≡ getD (meaning t .nonterminals) n []) × ProductionHead t at → Owning t g g n at
   owning-start g n at l hn f =
       let o : (q : ℕ) → _ = λ q. owned t (accepts t e) n q hn in
@@ -113,7 +114,7 @@ module _ (t : List ℕ) (e : checkOf t ≡ Accepted) where
   pub owned-room : (at next p : ℕ) → ProductionRead t at next p → p < 128
   owned-room at next p R = room p (R .fits)
 
-  pub owning-step : (g₀ g : List ℕ) (n at next p : ℕ) → ProductionRead t at next p → Owning t g₀ g n at → Owning t g₀ (set g (p * 36) n) n next
+  pub owning-step : (g₀ g : List ℕ) (n at next p : ℕ) → ProductionRead t at next p → Owning t g₀ g n at → Owning t g₀ (set g (productionPlace p) n) n next
   owning-step g₀ g n at next p R W =
       let h = owned-room at next p R in
       let l = W .long in
@@ -126,13 +127,13 @@ module _ (t : List ℕ) (e : checkOf t ≡ Accepted) where
         done =
             λ q hq w m.
             cases (eqb q p)
-            (λ k. rw (eqb-true q p k) (getD-set-same g (p * 36) n 0 (omega arith)))
+            (λ k. rw (eqb-true q p k) (getD-set-same g (productionPlace p) n 0 (omega arith)))
             (λ k.
             let ne = eqb-false q p k in
-            getD-set-other g (p * 36) (q * 36) n 0 (λ z. ne (omega arith)) ∙ W .done q hq w (ap (mem q) (R .list) ∙ mem-no q p (productionsFrom t next) k ∙ m));
+            getD-set-other g (productionPlace p) (productionPlace q) n 0 (λ z. ne (omega arith)) ∙ W .done q hq w (ap (mem q) (R .list) ∙ mem-no q p (productionsFrom t next) k ∙ m));
         others =
             λ q hq w.
-            getD-set-other g (p * 36) (q * 36) n 0
+            getD-set-other g (productionPlace p) (productionPlace q) n 0
             (λ z. let k : q ≡ p = omega arith in w (ap (λ (i : ℕ). productionAt (meaning t) i .nonterminal) k ∙ W .mine p here))
             ∙ W .others q hq w;
       }
@@ -145,7 +146,7 @@ module _ (t : List ℕ) (e : checkOf t ≡ Accepted) where
   }
 
   -- the owners of all
-  pub owners-start : (g : List ℕ) → length g ≡ 4608 → OwnersBelow (meaning t) g 0
+  pub owners-start : (g : List ℕ) → length g ≡ grammarRoom → OwnersBelow (meaning t) g 0
   owners-start g l = record { long = l; few = omega arith; done = λ q h b. absurd (omega arith) }
 
   pub owners-step : (g g′ : List ℕ) (n : ℕ) → n < length (meaning t .nonterminals) → OwnerStored t g g′ n → OwnersBelow (meaning t) g n → OwnersBelow (meaning t) g′ (n + 1)
@@ -198,18 +199,18 @@ put-two g a j k x h =
 -- a production's symbols: those stored and those left are all
 
 pub record Storing (t g₀ g : List ℕ) (p at count : ℕ) : Type 0 where
-  pub long : length g ≡ 4608
+  pub long : length g ≡ grammarRoom
   pub same : length g ≡ length g₀
   pub inside : p < 128
   pub on : SymbolIndex t at
   pub left : count + length (symbolsFrom t at) ≤ 16
-  pub list : listed (take (2 * count) (drop (p * 36 + 4) g)) ++ symbolsFrom t at ≡ productionAt (meaning t) p .symbols
-  pub fits : listFits 32 63 (take (2 * count) (drop (p * 36 + 4) g)) ≡ true
-  pub earlier : (i : ℕ) → i < p * 36 + 4 → getD g i 0 ≡ getD g₀ i 0
-  pub later : (i : ℕ) → p * 36 + 36 ≤ i → getD g i 0 ≡ getD g₀ i 0
+  pub list : listed (take (2 * count) (drop (productionPlace p + 4) g)) ++ symbolsFrom t at ≡ productionAt (meaning t) p .symbols
+  pub fits : listFits nonterminalLimit terminalLimit (take (2 * count) (drop (productionPlace p + 4) g)) ≡ true
+  pub earlier : (i : ℕ) → i < productionPlace p + 4 → getD g i 0 ≡ getD g₀ i 0
+  pub later : (i : ℕ) → productionPlace (p + 1) ≤ i → getD g i 0 ≡ getD g₀ i 0
 
 module _ (t : List ℕ) (e : checkOf t ≡ Accepted) where
-  pub storing-start : (g : List ℕ) (p at : ℕ) → length g ≡ 4608 → p < length (meaning t .productions)
+  pub storing-start : (g : List ℕ) (p at : ℕ) → length g ≡ grammarRoom → p < length (meaning t .productions)
       → (symbolsFrom t at ≡ productionAt (meaning t) p .symbols) × SymbolIndex t at → Storing t g g p at 0
   unfolding listed listFits
   storing-start g p at l h f =
@@ -231,7 +232,7 @@ module _ (t : List ℕ) (e : checkOf t ≡ Accepted) where
   pub symbol-fewer : (at next kind number : ℕ) → SymbolRead t at next kind number → length (symbolsFrom t at) ≡ suc (length (symbolsFrom t next))
   symbol-fewer at next kind number R = ap length (R .list)
 
-  pub storing-room : (g₀ g : List ℕ) (p at count next kind number : ℕ) → SymbolRead t at next kind number → Storing t g₀ g p at count → p * 36 + 4 + 2 * count + 1 < length g
+  pub storing-room : (g₀ g : List ℕ) (p at count next kind number : ℕ) → SymbolRead t at next kind number → Storing t g₀ g p at count → productionPlace p + 4 + 2 * count + 1 < length g
   storing-room g₀ g p at count next kind number R W =
       let few = symbol-fewer at next kind number R in
       omega arith
@@ -240,7 +241,7 @@ module _ (t : List ℕ) (e : checkOf t ≡ Accepted) where
   symbol-small at next kind number R =
       let F = fits t e in
       let s =
-      symbol-range 32 63 kind number
+      symbol-range nonterminalLimit terminalLimit kind number
       (symbol-wider (length (meaning t .nonterminals)) (meaning t .terminals) 32 63 kind number (F .few-nonterminals) (F .few-terminals) (R .symbol)) in (
         s .0,
         cases (eqb kind 0)
@@ -249,19 +250,19 @@ module _ (t : List ℕ) (e : checkOf t ≡ Accepted) where
       )
 
   pub storing-step : (g₀ g : List ℕ) (p at count next kind number : ℕ) → SymbolRead t at next kind number → Storing t g₀ g p at count
-      → Storing t g₀ (set (set g (p * 36 + 4 + 2 * count) kind) (p * 36 + 4 + 2 * count + 1) number) p next (count + 1)
+      → Storing t g₀ (set (set g (productionPlace p + 4 + 2 * count) kind) (productionPlace p + 4 + 2 * count + 1) number) p next (count + 1)
   storing-step g₀ g p at count next kind number R W =
       let few = symbol-fewer at next kind number R in
       let l = W .long in
       let b = W .left in
       let h = W .inside in
-      let a = p * 36 + 4 in
+      let a = productionPlace p + 4 in
       let j = 2 * count in
-      let ws : List ℕ = take (2 * count) (drop (p * 36 + 4) g) in
-      let lw : length ws ≡ 2 * count = length-take-le (2 * count) (drop (p * 36 + 4) g) (rw (length-drop (p * 36 + 4) g) (omega arith)) in
+      let ws : List ℕ = take (2 * count) (drop (productionPlace p + 4) g) in
+      let lw : length ws ≡ 2 * count = length-take-le (2 * count) (drop (productionPlace p + 4) g) (rw (length-drop (productionPlace p + 4) g) (omega arith)) in
       let two : 2 * (count + 1) ≡ 2 * count + 2 = omega arith in
-      let put : take (2 * (count + 1)) (drop (p * 36 + 4) (set (set g (p * 36 + 4 + 2 * count) kind) (p * 36 + 4 + 2 * count + 1) number)) ≡ ws ++ kind ∷ number ∷ [] =
-      rw two (put-two g (p * 36 + 4) (2 * count) kind number (omega arith)) in
+      let put : take (2 * (count + 1)) (drop (productionPlace p + 4) (set (set g (productionPlace p + 4 + 2 * count) kind) (productionPlace p + 4 + 2 * count + 1) number)) ≡ ws ++ kind ∷ number ∷ [] =
+      rw two (put-two g (productionPlace p + 4) (2 * count) kind number (omega arith)) in
       let F = fits t e in
       record {
         long = simp length-set l;
@@ -279,13 +280,13 @@ module _ (t : List ℕ) (e : checkOf t ≡ Accepted) where
             (symbol-wider (length (meaning t .nonterminals)) (meaning t .terminals) 32 63 kind number (F .few-nonterminals) (F .few-terminals) (R .symbol)));
         earlier =
             λ i m.
-            getD-set-other (set g (p * 36 + 4 + 2 * count) kind) (p * 36 + 4 + 2 * count + 1) i number 0 (λ z. omega arith)
-            ∙ getD-set-other g (p * 36 + 4 + 2 * count) i kind 0 (λ z. omega arith)
+            getD-set-other (set g (productionPlace p + 4 + 2 * count) kind) (productionPlace p + 4 + 2 * count + 1) i number 0 (λ z. omega arith)
+            ∙ getD-set-other g (productionPlace p + 4 + 2 * count) i kind 0 (λ z. omega arith)
             ∙ W .earlier i m;
         later =
             λ i m.
-            getD-set-other (set g (p * 36 + 4 + 2 * count) kind) (p * 36 + 4 + 2 * count + 1) i number 0 (λ z. omega arith)
-            ∙ getD-set-other g (p * 36 + 4 + 2 * count) i kind 0 (λ z. omega arith)
+            getD-set-other (set g (productionPlace p + 4 + 2 * count) kind) (productionPlace p + 4 + 2 * count + 1) i number 0 (λ z. omega arith)
+            ∙ getD-set-other g (productionPlace p + 4 + 2 * count) i kind 0 (λ z. omega arith)
             ∙ W .later i m;
       }
 
@@ -295,7 +296,7 @@ module _ (t : List ℕ) (e : checkOf t ≡ Accepted) where
       record {
         long = W .same;
         short = omega (arith, W .left);
-        list = sym (append-nil (listed (take (2 * count) (drop (p * 36 + 4) g)))) ∙ ap (λ (r : List Symbol). listed (take (2 * count) (drop (p * 36 + 4) g)) ++ r) (sym s) ∙ W .list;
+        list = sym (append-nil (listed (take (2 * count) (drop (productionPlace p + 4) g)))) ∙ ap (λ (r : List Symbol). listed (take (2 * count) (drop (productionPlace p + 4) g)) ++ r) (sym s) ∙ W .list;
         fits = W .fits;
         earlier = W .earlier;
         later = W .later;
@@ -314,63 +315,63 @@ module _ (t : List ℕ) (e : checkOf t ≡ Accepted) (p : ℕ) (h : p < length (
       let m : p < productions t = rw (many-productions t) at h in
       (ap (λ (q : Production). q .start) (production-at t p m), ap (λ (q : Production). q .end) (production-at t p m))
 
-  pub stored-room : (g g₁ : List ℕ) (k : ℕ) → length g ≡ 4608 → SymbolsStored t g g₁ p k → p * 36 + 3 < length g₁
+  pub stored-room : (g g₁ : List ℕ) (k : ℕ) → length g ≡ grammarRoom → SymbolsStored t g g₁ p k → productionPlace p + 3 < length g₁
   stored-room g g₁ k l S = let r = room t e p h in omega (arith, S .long)
 
   pub few-words : p < 128
   few-words = room t e p h
 
   abbrev Heads : List ℕ → ℕ → ℕ → ℕ → List ℕ
-  Heads g k a z = set (set (set g (p * 36 + 1) k) (p * 36 + 2) a) (p * 36 + 3) z
+  Heads g k a z = set (set (set g (productionPlace p + 1) k) (productionPlace p + 2) a) (productionPlace p + 3) z
 
-  pub production-stored : (g g₁ : List ℕ) (n s k a z : ℕ) → length g ≡ 4608 → n ≡ wordAt t 0 0 → s ≡ wordAt t 0 2
+  pub production-stored : (g g₁ : List ℕ) (n s k a z : ℕ) → length g ≡ grammarRoom → n ≡ wordAt t 0 0 → s ≡ wordAt t 0 2
       → a ≡ wordAt t (1 + n + s + p) 2 → z ≡ wordAt t (1 + n + s + p) 3
       → SymbolsStored t g g₁ p k → ProductionStored t g (Heads g₁ k a z) p
   unfolding productionIn symbolWords
   production-stored g g₁ n s k a z l en es ea ez S =
       let r = room t e p h in
-      let l₁ : length g₁ ≡ 4608 = S .long ∙ l in
+      let l₁ : length g₁ ≡ grammarRoom = S .long ∙ l in
       let place : 1 + n + s + p ≡ productionArea t + p = omega (arith, areas-of t .production-area) in
-      let m₁ = length-set g₁ (p * 36 + 1) k in
-      let m₂ = length-set (set g₁ (p * 36 + 1) k) (p * 36 + 2) a in
-      let other : (i : ℕ) → (i ≡ p * 36 + 1 → ⊥) → (i ≡ p * 36 + 2 → ⊥) → (i ≡ p * 36 + 3 → ⊥) → getD (Heads g₁ k a z) i 0 ≡ getD g₁ i 0 =
+      let m₁ = length-set g₁ (productionPlace p + 1) k in
+      let m₂ = length-set (set g₁ (productionPlace p + 1) k) (productionPlace p + 2) a in
+      let other : (i : ℕ) → (i ≡ productionPlace p + 1 → ⊥) → (i ≡ productionPlace p + 2 → ⊥) → (i ≡ productionPlace p + 3 → ⊥) → getD (Heads g₁ k a z) i 0 ≡ getD g₁ i 0 =
       λ i o₁ o₂ o₃.
-      getD-set-other (set (set g₁ (p * 36 + 1) k) (p * 36 + 2) a) (p * 36 + 3) i z 0 o₃
-      ∙ getD-set-other (set g₁ (p * 36 + 1) k) (p * 36 + 2) i a 0 o₂
-      ∙ getD-set-other g₁ (p * 36 + 1) i k 0 o₁ in
-      let at₁ : getD (Heads g₁ k a z) (p * 36 + 1) 0 ≡ k =
-      getD-set-other (set (set g₁ (p * 36 + 1) k) (p * 36 + 2) a) (p * 36 + 3) (p * 36 + 1) z 0 (λ q. omega arith)
-      ∙ getD-set-other (set g₁ (p * 36 + 1) k) (p * 36 + 2) (p * 36 + 1) a 0 (λ q. omega arith)
-      ∙ getD-set-same g₁ (p * 36 + 1) k 0 (omega arith) in
-      let at₂ : getD (Heads g₁ k a z) (p * 36 + 2) 0 ≡ a =
-      getD-set-other (set (set g₁ (p * 36 + 1) k) (p * 36 + 2) a) (p * 36 + 3) (p * 36 + 2) z 0 (λ q. omega arith)
-      ∙ getD-set-same (set g₁ (p * 36 + 1) k) (p * 36 + 2) a 0 (omega arith) in
-      let at₃ : getD (Heads g₁ k a z) (p * 36 + 3) 0 ≡ z = getD-set-same (set (set g₁ (p * 36 + 1) k) (p * 36 + 2) a) (p * 36 + 3) z 0 (omega arith) in
-      let rest : drop (p * 36 + 4) (Heads g₁ k a z) ≡ drop (p * 36 + 4) g₁ =
-      drop-set-lt (p * 36 + 4) (set (set g₁ (p * 36 + 1) k) (p * 36 + 2) a) (p * 36 + 3) z (omega arith)
-      ∙ drop-set-lt (p * 36 + 4) (set g₁ (p * 36 + 1) k) (p * 36 + 2) a (omega arith)
-      ∙ drop-set-lt (p * 36 + 4) g₁ (p * 36 + 1) k (omega arith) in
-      let words : take (2 * getD (Heads g₁ k a z) (p * 36 + 1) 0) (drop (p * 36 + 4) (Heads g₁ k a z)) ≡ take (2 * k) (drop (p * 36 + 4) g₁) =
-      ap (λ (i : ℕ). take (2 * i) (drop (p * 36 + 4) (Heads g₁ k a z))) at₁ ∙ ap (take (2 * k)) rest in
+      getD-set-other (set (set g₁ (productionPlace p + 1) k) (productionPlace p + 2) a) (productionPlace p + 3) i z 0 o₃
+      ∙ getD-set-other (set g₁ (productionPlace p + 1) k) (productionPlace p + 2) i a 0 o₂
+      ∙ getD-set-other g₁ (productionPlace p + 1) i k 0 o₁ in
+      let at₁ : getD (Heads g₁ k a z) (productionPlace p + 1) 0 ≡ k =
+      getD-set-other (set (set g₁ (productionPlace p + 1) k) (productionPlace p + 2) a) (productionPlace p + 3) (productionPlace p + 1) z 0 (λ q. omega arith)
+      ∙ getD-set-other (set g₁ (productionPlace p + 1) k) (productionPlace p + 2) (productionPlace p + 1) a 0 (λ q. omega arith)
+      ∙ getD-set-same g₁ (productionPlace p + 1) k 0 (omega arith) in
+      let at₂ : getD (Heads g₁ k a z) (productionPlace p + 2) 0 ≡ a =
+      getD-set-other (set (set g₁ (productionPlace p + 1) k) (productionPlace p + 2) a) (productionPlace p + 3) (productionPlace p + 2) z 0 (λ q. omega arith)
+      ∙ getD-set-same (set g₁ (productionPlace p + 1) k) (productionPlace p + 2) a 0 (omega arith) in
+      let at₃ : getD (Heads g₁ k a z) (productionPlace p + 3) 0 ≡ z = getD-set-same (set (set g₁ (productionPlace p + 1) k) (productionPlace p + 2) a) (productionPlace p + 3) z 0 (omega arith) in
+      let rest : drop (productionPlace p + 4) (Heads g₁ k a z) ≡ drop (productionPlace p + 4) g₁ =
+      drop-set-lt (productionPlace p + 4) (set (set g₁ (productionPlace p + 1) k) (productionPlace p + 2) a) (productionPlace p + 3) z (omega arith)
+      ∙ drop-set-lt (productionPlace p + 4) (set g₁ (productionPlace p + 1) k) (productionPlace p + 2) a (omega arith)
+      ∙ drop-set-lt (productionPlace p + 4) g₁ (productionPlace p + 1) k (omega arith) in
+      let words : take (2 * getD (Heads g₁ k a z) (productionPlace p + 1) 0) (drop (productionPlace p + 4) (Heads g₁ k a z)) ≡ take (2 * k) (drop (productionPlace p + 4) g₁) =
+      ap (λ (i : ℕ). take (2 * i) (drop (productionPlace p + 4) (Heads g₁ k a z))) at₁ ∙ ap (take (2 * k)) rest in
       record {
         long = simp length-set (S .long);
         is =
             λ own.
             made
-            (getD (Heads g₁ k a z) (p * 36) 0)
+            (getD (Heads g₁ k a z) (productionPlace p) 0)
             (productionAt (meaning t) p .nonterminal)
-            (listed (take (2 * getD (Heads g₁ k a z) (p * 36 + 1) 0) (drop (p * 36 + 4) (Heads g₁ k a z))))
+            (listed (take (2 * getD (Heads g₁ k a z) (productionPlace p + 1) 0) (drop (productionPlace p + 4) (Heads g₁ k a z))))
             (productionAt (meaning t) p .symbols)
-            (getD (Heads g₁ k a z) (p * 36 + 2) 0)
+            (getD (Heads g₁ k a z) (productionPlace p + 2) 0)
             (productionAt (meaning t) p .start)
-            (getD (Heads g₁ k a z) (p * 36 + 3) 0)
+            (getD (Heads g₁ k a z) (productionPlace p + 3) 0)
             (productionAt (meaning t) p .end)
-            (other (p * 36) (λ q. omega arith) (λ q. omega arith) (λ q. omega arith) ∙ S .earlier (p * 36) (omega arith) ∙ own)
+            (other (productionPlace p) (λ q. omega arith) (λ q. omega arith) (λ q. omega arith) ∙ S .earlier (productionPlace p) (omega arith) ∙ own)
             (ap listed words ∙ S .list)
             (at₂ ∙ ea ∙ ap (λ (i : ℕ). wordAt t i 2) place ∙ sym (span .0))
             (at₃ ∙ ez ∙ ap (λ (i : ℕ). wordAt t i 3) place ∙ sym (span .1));
         short = rw at₁ (S .short);
-        fits = ap (listFits 32 63) words ∙ S .fits;
+        fits = ap (listFits nonterminalLimit terminalLimit) words ∙ S .fits;
         earlier = λ i b. other i (λ q. omega arith) (λ q. omega arith) (λ q. omega arith) ∙ S .earlier i (omega arith);
         later = λ i b. other i (λ q. omega arith) (λ q. omega arith) (λ q. omega arith) ∙ S .later i b;
       }
@@ -386,35 +387,35 @@ part-same a k g g′ l same =
 
 pub record Stored (T : Table) (g : List ℕ) (q : ℕ) : Type 0 where
   pub is : productionIn g q ≡ productionAt T q
-  pub short : getD g (q * 36 + 1) 0 ≤ 16
-  pub fits : listFits 32 63 (symbolWords g q) ≡ true
+  pub short : getD g (productionPlace q + 1) 0 ≤ 16
+  pub fits : listFits nonterminalLimit terminalLimit (symbolWords g q) ≡ true
 
 -- other words of the same production
-stored-same : (T : Table) (g g′ : List ℕ) (q : ℕ) → length g′ ≡ length g → ((i : ℕ) → i < q * 36 + 36 → getD g′ i 0 ≡ getD g i 0) → Stored T g q → Stored T g′ q
+stored-same : (T : Table) (g g′ : List ℕ) (q : ℕ) → length g′ ≡ length g → ((i : ℕ) → i < productionPlace (q + 1) → getD g′ i 0 ≡ getD g i 0) → Stored T g q → Stored T g′ q
 unfolding productionIn symbolWords
 stored-same T g g′ q l same S =
     let s = S .short in
-    let w : take (2 * getD g′ (q * 36 + 1) 0) (drop (q * 36 + 4) g′) ≡ take (2 * getD g (q * 36 + 1) 0) (drop (q * 36 + 4) g) =
-    ap (λ (k : ℕ). take (2 * k) (drop (q * 36 + 4) g′)) (same (q * 36 + 1) (omega arith))
-    ∙ part-same (q * 36 + 4) (2 * getD g (q * 36 + 1) 0) g g′ l (λ i h. same (q * 36 + 4 + i) (omega arith)) in
+    let w : take (2 * getD g′ (productionPlace q + 1) 0) (drop (productionPlace q + 4) g′) ≡ take (2 * getD g (productionPlace q + 1) 0) (drop (productionPlace q + 4) g) =
+    ap (λ (k : ℕ). take (2 * k) (drop (productionPlace q + 4) g′)) (same (productionPlace q + 1) (omega arith))
+    ∙ part-same (productionPlace q + 4) (2 * getD g (productionPlace q + 1) 0) g g′ l (λ i h. same (productionPlace q + 4 + i) (omega arith)) in
     record {
       is =
           made
-          (getD g′ (q * 36) 0)
-          (getD g (q * 36) 0)
-          (listed (take (2 * getD g′ (q * 36 + 1) 0) (drop (q * 36 + 4) g′)))
-          (listed (take (2 * getD g (q * 36 + 1) 0) (drop (q * 36 + 4) g)))
-          (getD g′ (q * 36 + 2) 0)
-          (getD g (q * 36 + 2) 0)
-          (getD g′ (q * 36 + 3) 0)
-          (getD g (q * 36 + 3) 0)
-          (same (q * 36) (omega arith))
+          (getD g′ (productionPlace q) 0)
+          (getD g (productionPlace q) 0)
+          (listed (take (2 * getD g′ (productionPlace q + 1) 0) (drop (productionPlace q + 4) g′)))
+          (listed (take (2 * getD g (productionPlace q + 1) 0) (drop (productionPlace q + 4) g)))
+          (getD g′ (productionPlace q + 2) 0)
+          (getD g (productionPlace q + 2) 0)
+          (getD g′ (productionPlace q + 3) 0)
+          (getD g (productionPlace q + 3) 0)
+          (same (productionPlace q) (omega arith))
           (ap listed w)
-          (same (q * 36 + 2) (omega arith))
-          (same (q * 36 + 3) (omega arith))
+          (same (productionPlace q + 2) (omega arith))
+          (same (productionPlace q + 3) (omega arith))
           ∙ S .is;
-      short = rw (same (q * 36 + 1) (omega arith)) s;
-      fits = ap (listFits 32 63) w ∙ S .fits;
+      short = rw (same (productionPlace q + 1) (omega arith)) s;
+      fits = ap (listFits nonterminalLimit terminalLimit) w ∙ S .fits;
     }
 
 pub record Reading (T : Table) (g : List ℕ) (p : ℕ) : Type 0 where
@@ -435,8 +436,8 @@ module _ (t : List ℕ) (e : checkOf t ≡ Accepted) where
           own =
               λ q hq.
               cases (ltb p q)
-              (λ k. let l = ltb-true p q k in S .later (q * 36) (omega arith) ∙ O .own q hq)
-              (λ k. let l = ltb-false p q k in S .earlier (q * 36) (omega arith) ∙ O .own q hq);
+              (λ k. let l = ltb-true p q k in S .later (productionPlace q) (omega arith) ∙ O .own q hq)
+              (λ k. let l = ltb-false p q k in S .earlier (productionPlace q) (omega arith) ∙ O .own q hq);
         };
         few = omega arith;
         done =

@@ -5,6 +5,7 @@ use mathlib.Core.Bool.{Bool, true}
 use mathlib.Core.Path.{_≡_}
 use mathlib.Core.List.{List, _∷_}
 use lib.ListN.{length}
+use Rattle.repr.specs.Sizes.{recordLimit}
 use Rattle.repr.specs.Meaning.{Table, Item, ItemFits, TableFits}
 use Rattle.repr.specs.Listed.{symbolOfKind, symbolFits}
 use Rattle.table.specs.Decoded.{meaning, itemsFrom, edgesFrom, productionsFrom}
@@ -19,15 +20,15 @@ pub record CountsOf (T : Table) (n t s p : ℕ) : Type 0 where
   pub fits : TableFits T
 
 pub record ItemIndex (t : List ℕ) (x : ℕ) : Type 0 where
-  pub below : x < 8192
+  pub below : x < recordLimit
   pub reached : (x ≡ 0 → ⊥) → asItem t x ≡ true
 
 pub record EdgeIndex (t : List ℕ) (x : ℕ) : Type 0 where
-  pub below : x < 8192
+  pub below : x < recordLimit
   pub reached : (x ≡ 0 → ⊥) → asEdge t x ≡ true
 
 pub record ProductionHead (t : List ℕ) (x : ℕ) : Type 0 where
-  pub below : x < 8192
+  pub below : x < recordLimit
   pub inside : (x ≡ 0 → ⊥) → isProduction t x ≡ true
 
 -- the record at an index, and the chain after it

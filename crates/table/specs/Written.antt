@@ -5,6 +5,7 @@ use mathlib.Core.Bool.{true}
 use mathlib.Core.Path.{_≡_}
 use mathlib.Core.List.{List, _∷_, map}
 use lib.ListN.{length, getD, take, drop}
+use Rattle.repr.specs.Sizes.{recordLimit, nonterminalLimit, terminalLimit, productionPlace, grammarRoom}
 use Rattle.repr.specs.Meaning.{Symbol, Table, productionAt}
 use Rattle.repr.specs.Listed.{symbolOfKind, listed, symbolFits, listFits}
 use Rattle.repr.specs.Packed.{symbolWords, productionIn}
@@ -17,7 +18,7 @@ unfoldable pub symbolsFrom : List ℕ → ℕ → List Symbol
 symbolsFrom t x = map (symbolAt t) (chain t (looseRecords t) 0 x)
 
 pub record SymbolIndex (t : List ℕ) (x : ℕ) : Type 0 where
-  pub below : x < 8192
+  pub below : x < recordLimit
   pub reached : (x ≡ 0 → ⊥) → asSymbol t x ≡ true
 
 pub record SymbolRead (t : List ℕ) (at next kind number : ℕ) : Type 0 where
@@ -28,28 +29,28 @@ pub record SymbolRead (t : List ℕ) (at next kind number : ℕ) : Type 0 where
 -- nonterminal n stands in each of its productions, and the others' first words are as they were
 pub record OwnerStored (t g g′ : List ℕ) (n : ℕ) : Type 0 where
   pub long : length g′ ≡ length g
-  pub own : (q : ℕ) → q < length (meaning t .productions) → productionAt (meaning t) q .nonterminal ≡ n → getD g′ (q * 36) 0 ≡ n
-  pub others : (q : ℕ) → q < length (meaning t .productions) → (productionAt (meaning t) q .nonterminal ≡ n → ⊥) → getD g′ (q * 36) 0 ≡ getD g (q * 36) 0
+  pub own : (q : ℕ) → q < length (meaning t .productions) → productionAt (meaning t) q .nonterminal ≡ n → getD g′ (productionPlace q) 0 ≡ n
+  pub others : (q : ℕ) → q < length (meaning t .productions) → (productionAt (meaning t) q .nonterminal ≡ n → ⊥) → getD g′ (productionPlace q) 0 ≡ getD g (productionPlace q) 0
 
 -- the first word of each production is its nonterminal
 pub record OwnersIn (T : Table) (g : List ℕ) : Type 0 where
-  pub long : length g ≡ 4608
-  pub own : (q : ℕ) → q < length (T .productions) → getD g (q * 36) 0 ≡ productionAt T q .nonterminal
+  pub long : length g ≡ grammarRoom
+  pub own : (q : ℕ) → q < length (T .productions) → getD g (productionPlace q) 0 ≡ productionAt T q .nonterminal
 
 -- the k symbols of production p
 pub record SymbolsStored (t g g′ : List ℕ) (p k : ℕ) : Type 0 where
   pub long : length g′ ≡ length g
   pub short : k ≤ 16
-  pub list : listed (take (2 * k) (drop (p * 36 + 4) g′)) ≡ productionAt (meaning t) p .symbols
-  pub fits : listFits 32 63 (take (2 * k) (drop (p * 36 + 4) g′)) ≡ true
-  pub earlier : (i : ℕ) → i < p * 36 + 4 → getD g′ i 0 ≡ getD g i 0
-  pub later : (i : ℕ) → p * 36 + 36 ≤ i → getD g′ i 0 ≡ getD g i 0
+  pub list : listed (take (2 * k) (drop (productionPlace p + 4) g′)) ≡ productionAt (meaning t) p .symbols
+  pub fits : listFits nonterminalLimit terminalLimit (take (2 * k) (drop (productionPlace p + 4) g′)) ≡ true
+  pub earlier : (i : ℕ) → i < productionPlace p + 4 → getD g′ i 0 ≡ getD g i 0
+  pub later : (i : ℕ) → productionPlace (p + 1) ≤ i → getD g′ i 0 ≡ getD g i 0
 
 -- all of production p but its first word
 pub record ProductionStored (t g g′ : List ℕ) (p : ℕ) : Type 0 where
   pub long : length g′ ≡ length g
-  pub is : getD g (p * 36) 0 ≡ productionAt (meaning t) p .nonterminal → productionIn g′ p ≡ productionAt (meaning t) p
-  pub short : getD g′ (p * 36 + 1) 0 ≤ 16
-  pub fits : listFits 32 63 (symbolWords g′ p) ≡ true
-  pub earlier : (i : ℕ) → i ≤ p * 36 → getD g′ i 0 ≡ getD g i 0
-  pub later : (i : ℕ) → p * 36 + 36 ≤ i → getD g′ i 0 ≡ getD g i 0
+  pub is : getD g (productionPlace p) 0 ≡ productionAt (meaning t) p .nonterminal → productionIn g′ p ≡ productionAt (meaning t) p
+  pub short : getD g′ (productionPlace p + 1) 0 ≤ 16
+  pub fits : listFits nonterminalLimit terminalLimit (symbolWords g′ p) ≡ true
+  pub earlier : (i : ℕ) → i ≤ productionPlace p → getD g′ i 0 ≡ getD g i 0
+  pub later : (i : ℕ) → productionPlace (p + 1) ≤ i → getD g′ i 0 ≡ getD g i 0

@@ -1,8 +1,10 @@
 // The table a caller lends: its words' meaning (specs/Decoded), read from a table that is accepted. What accepts it is the crate table_check.
+use repr::ProductionIndex;
 ghost use mathlib.Core.Path.{_≡_};
 ghost use mathlib.Core.List.{List, [], _∷_};
 ghost use Prim.Native.Nat.{ℕ, _+_, _*_, _≤_, _<_};
 ghost use lib.ListN.{length, getD};
+ghost use Rattle.repr.specs.Sizes.{recordLimit, grammarRoom};
 ghost use Rattle.repr.specs.Meaning.{Table, stateAt, productionAt};
 ghost use Rattle.repr.specs.Packed.{Packed, productionsIn};
 ghost use Rattle.table.specs.Words.{wordAt};
@@ -20,7 +22,7 @@ pub enum Checked {
 
 // Word k of record r.
 pub fn word(table: &[u16], r: usize, k: usize) -> usize
-    requires { ⌜ (r < 8192) × ((k < 4) × (r * 4 + k < length (now table))) ⌝ }
+    requires { ⌜ (r < recordLimit) × ((k < 4) × (r * 4 + k < length (now table))) ⌝ }
     ensures { λ w. ⌜ (w ≡ wordAt (now (table .entry)) r k) × (w < 65536) ⌝ }
 {
     table[r * 4 + k] as usize
@@ -28,7 +30,7 @@ pub fn word(table: &[u16], r: usize, k: usize) -> usize
 
 // Puts record r.
 pub fn put(table: &mut [u16], r: usize, a: usize, b: usize, c: usize, d: usize)
-    requires { ⌜ (r < 8192) × (r * 4 + 3 < length (now table)) ⌝ }
+    requires { ⌜ (r < recordLimit) × (r * 4 + 3 < length (now table)) ⌝ }
     requires { ⌜ (a < 65536) × ((b < 65536) × ((c < 65536) × (d < 65536))) ⌝ }
     ensures { λ _. ⌜ now (table .exit) ≡ putQuad (now (table .entry)) r a b c d ⌝ }
 {
@@ -179,14 +181,14 @@ fn symbol(table: &[u16], at: usize) -> SymbolRecord
 // Stores a nonterminal's number in each of its productions.
 fn read_owner(table: &[u16], grammar: &mut [u16], nonterminal: usize)
     requires { ⌜ checkOf (now table) ≡ Checked.Accepted ⌝ }
-    requires { ⌜ (length (now grammar) ≡ 4608) × (nonterminal < length (meaning (now table) .nonterminals)) ⌝ }
+    requires { ⌜ (length (now grammar) ≡ grammarRoom) × (nonterminal < length (meaning (now table) .nonterminals)) ⌝ }
     ensures { λ _. ⌜ OwnerStored (now (table .entry)) (now (grammar .entry)) (now (grammar .exit)) nonterminal ⌝ }
 {
     let mut at = first_production(table, nonterminal);
     while at != 0 {
         let read = production(table, at);
         let owned = read.production;
-        grammar[owned * 36] = nonterminal as u16;
+        grammar[owned * ProductionIndex::WORDS] = nonterminal as u16;
         at = read.next;
     }
 }
@@ -194,7 +196,7 @@ fn read_owner(table: &[u16], grammar: &mut [u16], nonterminal: usize)
 // Stores in each production its nonterminal's number.
 fn read_owners(table: &[u16], grammar: &mut [u16])
     requires { ⌜ checkOf (now table) ≡ Checked.Accepted ⌝ }
-    requires { ⌜ length (now grammar) ≡ 4608 ⌝ }
+    requires { ⌜ length (now grammar) ≡ grammarRoom ⌝ }
     ensures { λ _. ⌜ OwnersIn (meaning (now (table .entry))) (now (grammar .exit)) ⌝ }
 {
     let counts = read_counts(table);
@@ -209,14 +211,14 @@ fn read_owners(table: &[u16], grammar: &mut [u16])
 // Stores a production's symbols, and returns how many they are.
 fn store_symbols(table: &[u16], grammar: &mut [u16], production: usize) -> usize
     requires { ⌜ checkOf (now table) ≡ Checked.Accepted ⌝ }
-    requires { ⌜ (length (now grammar) ≡ 4608) × (production < length (meaning (now table) .productions)) ⌝ }
+    requires { ⌜ (length (now grammar) ≡ grammarRoom) × (production < length (meaning (now table) .productions)) ⌝ }
     ensures { λ r. ⌜ SymbolsStored (now (table .entry)) (now (grammar .entry)) (now (grammar .exit)) production r ⌝ }
 {
     let mut at = first_symbol(table, production);
     let mut count: usize = 0;
     while at != 0 {
         let read = symbol(table, at);
-        let put = production * 36 + 4 + 2 * count;
+        let put = production * ProductionIndex::WORDS + 4 + 2 * count;
         grammar[put] = read.kind as u16;
         grammar[put + 1] = read.number as u16;
         count += 1;
@@ -228,7 +230,7 @@ fn store_symbols(table: &[u16], grammar: &mut [u16], production: usize) -> usize
 // Stores a production's symbols, their number and its span.
 fn read_symbols_of(table: &[u16], grammar: &mut [u16], production: usize)
     requires { ⌜ checkOf (now table) ≡ Checked.Accepted ⌝ }
-    requires { ⌜ (length (now grammar) ≡ 4608) × (production < length (meaning (now table) .productions)) ⌝ }
+    requires { ⌜ (length (now grammar) ≡ grammarRoom) × (production < length (meaning (now table) .productions)) ⌝ }
     ensures { λ _. ⌜ ProductionStored (now (table .entry)) (now (grammar .entry)) (now (grammar .exit)) production ⌝ }
 {
     let count = store_symbols(table, grammar, production);
@@ -237,7 +239,7 @@ fn read_symbols_of(table: &[u16], grammar: &mut [u16], production: usize)
     let record = 1 + nonterminals + states + production;
     let start = word(table, record, 2);
     let end = word(table, record, 3);
-    let base = production * 36;
+    let base = production * ProductionIndex::WORDS;
     grammar[base + 1] = count as u16;
     grammar[base + 2] = start as u16;
     grammar[base + 3] = end as u16;
@@ -261,7 +263,7 @@ fn read_symbols(table: &[u16], grammar: &mut [u16])
 // Writes the productions into words, as specs/Packed of repr has them.
 pub fn read_productions(table: &[u16], grammar: &mut [u16])
     requires { ⌜ checkOf (now table) ≡ Checked.Accepted ⌝ }
-    requires { ⌜ length (now grammar) ≡ 4608 ⌝ }
+    requires { ⌜ length (now grammar) ≡ grammarRoom ⌝ }
     ensures { λ _. ⌜ Packed (now (grammar .exit)) (length (meaning (now (table .entry)) .productions)) × (productionsIn (now (grammar .exit)) (length (meaning (now (table .entry)) .productions)) ≡ meaning (now (table .entry)) .productions) ⌝ }
 {
     read_owners(table, grammar);

@@ -8,6 +8,7 @@ use native.Mathlib.Omega.{arith}
 use lib.ListN.{length, getD}
 use lib.Dec.{eqb, ltb, leb}
 use borrow.Author.Tests.{ne-eqb, lt-ltb, le-ltb, le-leb, lt-leb, ltb-false, leb-false}
+use Rattle.repr.specs.Sizes.{indexLimit}
 use Rattle.repr.specs.Lists.{below, first?, occurrences, joined}
 use Rattle.repr.proofs.Lists.{cases}
 use Rattle.repr.proofs.Tests.{first?-yes, first?-no, first?-below-none}
@@ -216,7 +217,7 @@ module _ (t : List ℕ) (room : loose t ≤ records t) where
       (λ q. rw q)
       (λ q.
       let s = short e (wordAt t r 1) (leb-false _ _ q) in
-      let m : min 17 (length (symbolChain t (wordAt t r 1))) ≡ length (symbolChain t (wordAt t r 1)) = omega arith in
+      let m : min indexLimit (length (symbolChain t (wordAt t r 1))) ≡ length (symbolChain t (wordAt t r 1)) = omega arith in
       rw m)
 
   tried-other : (n r : ℕ) → (n ≡ 7 → ⊥) → tried t n r ≡ offends n t r

@@ -7,6 +7,7 @@ use native.Mathlib.Omega.{arith}
 use lib.ListN.{length, replicate, length-replicate}
 use lib.Dec.{eqb, ltb}
 use borrow.Author.Tests.{eq-eqb, ne-eqb, eqb-true, eqb-false, lt-ltb, le-ltb, ltb-false, le-leb, not-false}
+use Rattle.repr.specs.Sizes.{recordLimit}
 use Rattle.table.specs.Words.{wordAt, records, stateArea, productionArea, loose, names, against}
 use Rattle.table.specs.Refusals.{row1, row2}
 use Rattle.table.proofs.Chains.{or-false, names-before, names-past}
@@ -103,7 +104,7 @@ counted t e =
 -- ---- both: whole records, at most 8,192, and the areas within them
 pub record Room (t : List ℕ) : Type 0 where
   pub whole : length t ≡ records t * 4
-  pub few : records t ≤ 8192
+  pub few : records t ≤ recordLimit
   pub inside : loose t ≤ records t
   pub some : 0 < loose t
 
@@ -115,11 +116,11 @@ room t z =
     record { whole = w .whole; few = omega arith; inside = k .room; some = omega arith }
 
 -- a word of a record can be read
-pub word-in : {t : List ℕ} → Room t → (r k : ℕ) → r < records t → k < 4 → (r < 8192) × ((k < 4) × (r * 4 + k < length t))
+pub word-in : {t : List ℕ} → Room t → (r k : ℕ) → r < records t → k < 4 → (r < recordLimit) × ((k < 4) × (r * 4 + k < length t))
 word-in R r k h l = omega arith
 
 -- so can the counts
-pub count-in : {t : List ℕ} → Sized t → (k : ℕ) → k < 4 → (0 < 8192) × ((k < 4) × (0 * 4 + k < length t))
+pub count-in : {t : List ℕ} → Sized t → (k : ℕ) → k < 4 → (0 < recordLimit) × ((k < 4) × (0 * 4 + k < length t))
 count-in {t} s k l = let R = room t s in word-in R 0 k (omega arith) l
 
 -- ---- the areas

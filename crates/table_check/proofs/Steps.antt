@@ -7,6 +7,7 @@ use native.Mathlib.Omega.{arith}
 use native.Mathlib.Decide.{ℕ-discrete}
 use lib.ListN.{length, getD, set}
 use lib.Seq.{getD-set-same, getD-set-other}
+use Rattle.repr.specs.Sizes.{indexLimit}
 use Rattle.table.specs.Words.{wordAt, records, productionArea, looseRecords, names, chain}
 use Rattle.table.specs.Decoded.{productionChain, symbolChain}
 use Rattle.table.proofs.Chains.{named, chain-none, chain-step}
@@ -26,10 +27,10 @@ module _ (t : List ℕ) (from past last r : ℕ) (whole : past ≤ records t) wh
       → n + 1 + length (chain t (area from past) r x) ≡ total
   count-more e x q n total h = let s = ap length (step e x q) in omega arith
 
-  pub count-full : names (area from past) last r ≡ true → (n total : ℕ) → n + length (chain t (area from past) last r) ≡ total → 17 ≤ n → 17 ≡ min 17 total
+  pub count-full : names (area from past) last r ≡ true → (n total : ℕ) → n + length (chain t (area from past) last r) ≡ total → indexLimit ≤ n → indexLimit ≡ min indexLimit total
   count-full e n total h l = omega arith
 
-  pub count-end : names (area from past) last r ≡ false → (n total : ℕ) → n + length (chain t (area from past) last r) ≡ total → n ≤ 17 → n ≡ min 17 total
+  pub count-end : names (area from past) last r ≡ false → (n total : ℕ) → n + length (chain t (area from past) last r) ≡ total → n ≤ indexLimit → n ≡ min indexLimit total
   count-end e n total h l = let s = ap length (chain-none t (area from past) last r e) in omega arith
 
   pub hold-more : names (area from past) last r ≡ true → (x : ℕ) → x ≡ wordAt t r 0 → (hs : List ℕ) (m : ℕ) → m ≡ min 2 (getD hs (r - from) 0 + 1) → (all : List ℕ)
@@ -57,14 +58,14 @@ module _ (t : List ℕ) (a : Areas) (A : AreasOf t a) where
   hold-start n last x e q hs = rw (q, e, production-area t a A, A .productionsAt)
 
 -- ---- the lengths so far
-pub lengths-more : (t ls : List ℕ) (p v : ℕ) → p < length ls → v ≡ min 17 (length (symbolChain t p)) → ((q : ℕ) → q < p → getD ls q 0 ≡ min 17 (length (symbolChain t q)))
-    → (q : ℕ) → q < p + 1 → getD (set ls p v) q 0 ≡ min 17 (length (symbolChain t q))
+pub lengths-more : (t ls : List ℕ) (p v : ℕ) → p < length ls → v ≡ min indexLimit (length (symbolChain t p)) → ((q : ℕ) → q < p → getD ls q 0 ≡ min indexLimit (length (symbolChain t q)))
+    → (q : ℕ) → q < p + 1 → getD (set ls p v) q 0 ≡ min indexLimit (length (symbolChain t q))
 lengths-more t ls p v h e f q l = go (ℕ-discrete q p)
   where
-    go : Dec (q ≡ p) → getD (set ls p v) q 0 ≡ min 17 (length (symbolChain t q))
+    go : Dec (q ≡ p) → getD (set ls p v) q 0 ≡ min indexLimit (length (symbolChain t q))
     go (yes z) = rw z (getD-set-same ls p v 0 h ∙ e)
     go (no ne) = getD-set-other ls p q v 0 ne ∙ f q (omega arith)
 
-pub lengths-all : (t ls : List ℕ) (k p : ℕ) → k ≡ wordAt t 0 3 → k ≤ p → ((q : ℕ) → q < p → getD ls q 0 ≡ min 17 (length (symbolChain t q))) → Lengths t ls
+pub lengths-all : (t ls : List ℕ) (k p : ℕ) → k ≡ wordAt t 0 3 → k ≤ p → ((q : ℕ) → q < p → getD ls q 0 ≡ min indexLimit (length (symbolChain t q))) → Lengths t ls
 unfolding Lengths
 lengths-all t ls k p e h f q l = f q (omega arith)

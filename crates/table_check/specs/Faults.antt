@@ -6,6 +6,7 @@ use mathlib.Core.List.{List, [], _∷_}
 use mathlib.Core.Option.{none, some}
 use lib.ListN.{length}
 use lib.Dec.{eqb, ltb, leb}
+use Rattle.repr.specs.Sizes.{indexLimit}
 use Rattle.repr.specs.Lists.{below, occurrences, first?, joined}
 use Rattle.repr.specs.Listed.{symbolFits}
 use Rattle.table.specs.Words.{wordAt, nonterminals, terminals, states, productions, productionArea, looseRecords, productionRecords, against}
@@ -27,7 +28,7 @@ symbolBad t r s e = (s || e) && not (symbolFits (nonterminals t) (terminals t) (
 
 -- a length counts as far as seventeen: where one is above sixteen, row 5 comes before row 7
 unfoldable pub itemBad : List ℕ → ℕ → Bool
-itemBad t r = leb (productions t) (wordAt t r 1) || ltb (min 17 (length (symbolChain t (wordAt t r 1)))) (wordAt t r 2)
+itemBad t r = leb (productions t) (wordAt t r 1) || ltb (min indexLimit (length (symbolChain t (wordAt t r 1)))) (wordAt t r 2)
 
 unfoldable pub rangeBad : List ℕ → ℕ → Bool → Bool → Bool
 rangeBad t r i e = (i && itemBad t r) || (e && leb (states t) (wordAt t r 3))

@@ -3,6 +3,7 @@ use Prim.Native.Nat.{ℕ, _+_, _*_, _-_, min, _≤_}
 use mathlib.Core.Path.{_≡_}
 use mathlib.Core.List.{List, [], _∷_}
 use lib.ListN.{length, getD, set}
+use Rattle.repr.specs.Sizes.{recordLimit}
 use Rattle.table.specs.Words.{wordAt, records, stateArea, productionArea, loose, Area}
 use Rattle.table_check.specs.Marks.{Held, Lengths}
 use Rattle.table_check.specs.declared.areas.Areas.{Areas}
@@ -24,7 +25,7 @@ pub record AreasOf (t : List ℕ) (a : Areas) : Type 0 where
   pub statesIs : a .«states_at» ≡ 1 + a .nonterminals
   pub productionsIs : a .«productions_at» ≡ a .«states_at» + a .states
   pub looseIs : a .«loose_at» ≡ a .«productions_at» + a .productions
-  pub few : a .records ≤ 8192
+  pub few : a .records ≤ recordLimit
   pub room : a .«loose_at» ≤ a .records
   pub fewProductions : a .productions ≤ 128
 

@@ -4,6 +4,7 @@ use mathlib.Core.Bool.{false}
 use mathlib.Core.Path.{_≡_}
 use mathlib.Core.List.{List}
 use lib.ListN.{length, getD}
+use Rattle.repr.specs.Sizes.{indexLimit}
 use Rattle.repr.specs.Lists.{below, occurrences, joined}
 use Rattle.table.specs.Words.{nonterminals, productions, productionArea}
 use Rattle.table.specs.Decoded.{productionChain, symbolChain}
@@ -20,4 +21,4 @@ Held t hs = (p : ℕ) → p < productions t → getD hs p 0 ≡ min 2 (occurrenc
 
 -- how many symbols each production has, as far as seventeen
 unfoldable pub Lengths : List ℕ → List ℕ → Type 0
-Lengths t ls = (p : ℕ) → p < productions t → getD ls p 0 ≡ min 17 (length (symbolChain t p))
+Lengths t ls = (p : ℕ) → p < productions t → getD ls p 0 ≡ min indexLimit (length (symbolChain t p))

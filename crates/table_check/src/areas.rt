@@ -1,4 +1,6 @@
 // A table's size and counts, and the rule of an index.
+use repr::NonterminalString;
+use repr::ProductionIndex;
 use table::word;
 ghost use mathlib.Core.Bool.{false};
 ghost use mathlib.Core.Path.{_≡_};
@@ -46,7 +48,7 @@ pub fn bad_counts(table: &[u16]) -> bool
     if nonterminals == 0 {
         return true;
     }
-    if nonterminals > 32 {
+    if nonterminals > NonterminalString::LIMIT {
         return true;
     }
     if terminals > 63 {
@@ -58,7 +60,7 @@ pub fn bad_counts(table: &[u16]) -> bool
     if states > 128 {
         return true;
     }
-    if productions > 128 {
+    if productions > ProductionIndex::LIMIT {
         return true;
     }
     table.len() / 4 < 1 + nonterminals + states + productions

@@ -1,10 +1,12 @@
 // How many symbols each production has, as far as seventeen: one too many.
 use crate::areas;
 use crate::areas::Areas;
+use repr::ProductionIndex;
 use table::word;
 ghost use mathlib.Core.Path.{_≡_};
 ghost use Prim.Native.Nat.{ℕ, _<_, min};
 ghost use lib.ListN.{length};
+ghost use Rattle.repr.specs.Sizes.{indexLimit};
 ghost use Rattle.table.specs.Words.{wordAt};
 ghost use Rattle.table.specs.Decoded.{symbolChain};
 ghost use Rattle.table_check.specs.Marks.{Lengths};
@@ -14,7 +16,7 @@ ghost use Rattle.table_check.specs.Known.{AreasOf};
 fn symbol_count(table: &[u16], a: Areas, p: usize) -> usize
     requires { ⌜ AreasOf (now table) a ⌝ }
     requires { ⌜ p < wordAt (now table) 0 3 ⌝ }
-    ensures { λ n. ⌜ n ≡ min 17 (length (symbolChain (now (table .entry)) p)) ⌝ }
+    ensures { λ n. ⌜ n ≡ min indexLimit (length (symbolChain (now (table .entry)) p)) ⌝ }
 {
     let from = a.loose_at;
     let past = a.records;
@@ -22,8 +24,8 @@ fn symbol_count(table: &[u16], a: Areas, p: usize) -> usize
     let mut r = word(table, last, 1);
     let mut n: usize = 0;
     while areas::names(from, past, last, r) {
-        if n >= 17 {
-            return 17;
+        if n >= ProductionIndex::INDEXES {
+            return ProductionIndex::INDEXES;
         }
         n += 1;
         last = r;

@@ -7,6 +7,7 @@ use Prim.Native.Nat.{ℕ, _+_, _*_, _/_, _%_, _≤_, _<_}
 use native.Mathlib.Omega.{arith}
 use lib.ListN.{length}
 use borrow.Author.Tests.{ne-eqb}
+use Rattle.repr.specs.Sizes.{indexLimit, itemLimit}
 use Rattle.repr.specs.Lists.{mem, some?, keep}
 use Rattle.repr.specs.Meaning.{Item, Table, stateAt, noProduction, TableFits, ItemFits, ProductionFits}
 use Rattle.repr.proofs.Lists.{cases, clash, mem-nil, mem-no, keep-nil, keep-yes, keep-no}
@@ -89,14 +90,14 @@ module _ (T : Table) (s n : ℕ) where
 
 -- an item's code
 
-pub code-item : (i : Item) → i .index < 17 → itemOf (i .production * 17 + i .index) ≡ i
+pub code-item : (i : Item) → i .index < indexLimit → itemOf (i .production * indexLimit + i .index) ≡ i
 unfolding itemOf
 code-item i h =
-    let p : (i .production * 17 + i .index) / 17 ≡ i .production = omega arith in
-    let q : (i .production * 17 + i .index) % 17 ≡ i .index = omega arith in
+    let p : (i .production * indexLimit + i .index) / indexLimit ≡ i .production = omega arith in
+    let q : (i .production * indexLimit + i .index) % indexLimit ≡ i .index = omega arith in
     λ j. record { production = p j; index = q j }
 
-pub code-small : (T : Table) → TableFits T → (i : Item) → ItemFits T i → (i .index < 17) × (i .production * 17 + i .index < 2176)
+pub code-small : (T : Table) → TableFits T → (i : Item) → ItemFits T i → (i .index < indexLimit) × (i .production * indexLimit + i .index < itemLimit)
 code-small T fits i h =
     let a = All-at (ProductionFits T) (T .productions) (i .production) noProduction (fits .productions) (h .production) .short in
     let b = fits .few-productions in
@@ -106,13 +107,13 @@ code-small T fits i h =
 
 -- distinct items have distinct codes, so they are no more than the codes
 code : Item → ℕ
-code i = i .production * 17 + i .index
+code i = i .production * indexLimit + i .index
 
 record Coded (i : Item) : Type 0 where
-  index : i .index < 17
-  small : i .production * 17 + i .index < 2176
+  index : i .index < indexLimit
+  small : i .production * indexLimit + i .index < itemLimit
 
-codes-apart : (i : Item) (ms : List Item) → i .index < 17 → ((j : Item) → List·Memᴰ j ms → Coded j) → some? (sameItem i) ms ≡ false → mem (code i) (map code ms) ≡ false
+codes-apart : (i : Item) (ms : List Item) → i .index < indexLimit → ((j : Item) → List·Memᴰ j ms → Coded j) → some? (sameItem i) ms ≡ false → mem (code i) (map code ms) ≡ false
 unfolding code
 codes-apart i [] h c e = mem-nil (code i)
 codes-apart i (m ∷ ms) h c e =
@@ -122,7 +123,7 @@ codes-apart i (m ∷ ms) h c e =
     (λ d. clash (some? (sameItem i) (m ∷ ms)) (some?-yes (sameItem i) m ms d) e)
     (λ d. mem-no (code i) (code m) (map code ms) (ne-eqb (code i) (code m) (λ z. apart k d z)) ∙ rest (sym (some?-no (sameItem i) m ms d) ∙ e))
   where
-    apart : Coded m → sameItem i m ≡ false → i .production * 17 + i .index ≡ m .production * 17 + m .index → ⊥
+    apart : Coded m → sameItem i m ≡ false → i .production * indexLimit + i .index ≡ m .production * indexLimit + m .index → ⊥
     apart k d z =
         let x = k .index in
         let p : i .production ≡ m .production = omega arith in
@@ -131,7 +132,7 @@ codes-apart i (m ∷ ms) h c e =
         clash (sameItem i m) (ap (λ (b : Item). sameItem i b) (sym w) ∙ item-same i) d
 
 distinct-count : (is ms : List Item) → ((j : Item) → List·Memᴰ j ms → Coded j) → ((j : Item) → List·Memᴰ j is → Coded j)
-    → length (distinctFrom ms is) ≤ free 2176 (map code ms)
+    → length (distinctFrom ms is) ≤ free itemLimit (map code ms)
 unfolding code
 distinct-count [] ms c h = rw (distinct-nil ms) (omega arith)
 distinct-count (i ∷ is) ms c h =
@@ -141,16 +142,16 @@ distinct-count (i ∷ is) ms c h =
     cases (some? (sameItem i) ms)
     (λ e. rw (distinct-there ms i is e) old)
     (λ e.
-    let f = free-cons (code i) (map code ms) (codes-apart i ms (k .index) c e) 2176 (k .small) in
+    let f = free-cons (code i) (map code ms) (codes-apart i ms (k .index) c e) itemLimit (k .small) in
     rw (distinct-new ms i is e) (omega arith))
   where
     grown : Coded i → (j : Item) → List·Memᴰ j (i ∷ ms) → Coded j
     grown k j (List·Memᴰ·head q) = rw q k
     grown k j (List·Memᴰ·tail m) = c j m
 
-pub distinct-few : (T : Table) → TableFits T → (s : ℕ) → length (distinct (stateAt T s .items)) ≤ 2176
+pub distinct-few : (T : Table) → TableFits T → (s : ℕ) → length (distinct (stateAt T s .items)) ≤ itemLimit
 unfolding distinct
 distinct-few T fits s =
     let a = distinct-count (stateAt T s .items) [] (λ j m. absurd (List·Memᴰ·not-nil m)) (λ j m. let r = code-small T fits j (state-item T fits s j m) in record { index = r .0; small = r .1 }) in
-    let b = free-le 2176 [] in
+    let b = free-le itemLimit [] in
     omega arith

@@ -9,6 +9,7 @@ use lib.ListN.{length, getD, set, take, drop, length-set}
 use lib.Seq.{getD-set-same, getD-set-other}
 use lib.Dec.{eqb, ltb, leb}
 use borrow.Author.Tests.{ne-eqb, eqb-true, ltb-true, leb-true, lt-ltb}
+use Rattle.repr.specs.Sizes.{nonterminalLimit, terminalLimit, indexLimit, itemLimit}
 use Rattle.repr.specs.Lists.{mem}
 use Rattle.repr.specs.Meaning.{Symbol, nonterminal, terminal, Item, Production, noProduction, Table, TableFits, ProductionFits, SymbolFits, productionAt, All, ItemFits}
 use Rattle.repr.specs.Listed.{symbolOfKind, listed, symbolFits, listFits}
@@ -62,24 +63,24 @@ fits-take n t (suc k) (a ∷ x ∷ ws) e =
     rw q (rw (r .0) (fits-take n t k ws (r .1)))
 
 -- kinds of 0 and 1, and numbers in the table's range
-symbol-tight : (T : Table) (k x : ℕ) → symbolFits 32 63 k x ≡ true → SymbolFits T (symbolOfKind k x) → symbolFits (length (T .nonterminals)) (T .terminals) k x ≡ true
+symbol-tight : (T : Table) (k x : ℕ) → symbolFits nonterminalLimit terminalLimit k x ≡ true → SymbolFits T (symbolOfKind k x) → symbolFits (length (T .nonterminals)) (T .terminals) k x ≡ true
 unfolding symbolFits SymbolFits symbolOfKind
 symbol-tight T zero x e h = lt-ltb x (length (T .nonterminals)) h
 symbol-tight T (suc zero) x e h = lt-ltb x (T .terminals) h
 symbol-tight T (suc (suc k)) x e h = e
 
-fits-tight : (T : Table) (ws : List ℕ) → listFits 32 63 ws ≡ true → All (SymbolFits T) (listed ws) → listFits (length (T .nonterminals)) (T .terminals) ws ≡ true
+fits-tight : (T : Table) (ws : List ℕ) → listFits nonterminalLimit terminalLimit ws ≡ true → All (SymbolFits T) (listed ws) → listFits (length (T .nonterminals)) (T .terminals) ws ≡ true
 unfolding listFits listed All
 fits-tight T [] e h = refl
 fits-tight T (a ∷ []) e h = e
 fits-tight T (a ∷ x ∷ ws) e h =
-    let r = and-both (symbolFits 32 63 a x) (listFits 32 63 ws) e in
+    let r = and-both (symbolFits nonterminalLimit terminalLimit a x) (listFits nonterminalLimit terminalLimit ws) e in
     rw (symbol-tight T a x (r .0) (h .0)) (fits-tight T ws (r .1) (h .1))
 
 -- an item's words
 
 module _ (g : List ℕ) (n p : ℕ) (P : Packed g n) (h : p < n) where
-  pub suffix-fits : (i : ℕ) (ws : List ℕ) → ws ≡ drop (2 * i + 2) (symbolWords g p) → listFits 32 63 ws ≡ true
+  pub suffix-fits : (i : ℕ) (ws : List ℕ) → ws ≡ drop (2 * i + 2) (symbolWords g p) → listFits nonterminalLimit terminalLimit ws ≡ true
   suffix-fits i ws e = let q : 2 * i + 2 ≡ 2 * suc i = omega arith in rw (e, q) (fits-drop 32 63 (suc i) (symbolWords g p) (P .fits p h))
 
   production-is : (T : Table) → T .productions ≡ productionsIn g n → productionAt T p ≡ productionIn g p
@@ -154,23 +155,23 @@ short-in g n P T e j f =
     let d = f .index in
     (h, omega arith)
 
-pub ends-none : (T : Table) (ends : List ℕ) → length ends ≡ 2176 → EndsTo T ends (0 * 17)
+pub ends-none : (T : Table) (ends : List ℕ) → length ends ≡ itemLimit → EndsTo T ends (0 * indexLimit)
 ends-none T ends l = record { long = l; exact = λ i f h. absurd (omega arith) }
 
 pub ends-start : (T : Table) (ends : List ℕ) (k : ℕ) → EndsTo T ends k → EndsTo T ends (k + 0)
 ends-start T ends k E = record { long = E .long; exact = λ i f h. E .exact i f (omega arith) }
 
 module _ (g : List ℕ) (n : ℕ) (P : Packed g n) (T : Table) (e : T .productions ≡ productionsIn g n) (ends : List ℕ) where
-  pub ends-next : (p i x : ℕ) → p < n → i ≤ 16 → EndsTo T ends (p * 17 + i) → x ≡ flag (nullable T (suffixOf T (itemAt p i))) → EndsTo T (set ends (p * 17 + i) x) (p * 17 + (i + 1))
+  pub ends-next : (p i x : ℕ) → p < n → i ≤ 16 → EndsTo T ends (p * indexLimit + i) → x ≡ flag (nullable T (suffixOf T (itemAt p i))) → EndsTo T (set ends (p * indexLimit + i) x) (p * indexLimit + (i + 1))
   unfolding itemAt
   ends-next p i x h l E ex = record {
-    long = length-set ends (p * 17 + i) x ∙ E .long;
-    exact = λ j f lt. at j f lt (decLt (j .production * 17 + j .index) (p * 17 + i));
+    long = length-set ends (p * indexLimit + i) x ∙ E .long;
+    exact = λ j f lt. at j f lt (decLt (j .production * indexLimit + j .index) (p * indexLimit + i));
   }
     where
-      at : (j : Item) → ItemFits T j → j .production * 17 + j .index < p * 17 + (i + 1) → Dec (j .production * 17 + j .index < p * 17 + i)
-          → getD (set ends (p * 17 + i) x) (j .production * 17 + j .index) 0 ≡ flag (nullable T (suffixOf T j))
-      at j f lt (yes q) = getD-set-other ends (p * 17 + i) (j .production * 17 + j .index) x 0 (λ z. omega arith) ∙ E .exact j f q
+      at : (j : Item) → ItemFits T j → j .production * indexLimit + j .index < p * indexLimit + (i + 1) → Dec (j .production * indexLimit + j .index < p * indexLimit + i)
+          → getD (set ends (p * indexLimit + i) x) (j .production * indexLimit + j .index) 0 ≡ flag (nullable T (suffixOf T j))
+      at j f lt (yes q) = getD-set-other ends (p * indexLimit + i) (j .production * indexLimit + j .index) x 0 (λ z. omega arith) ∙ E .exact j f q
       at j f lt (no q) =
           let s = short-in g n P T e j f in
           let few = P .few in
@@ -178,22 +179,22 @@ module _ (g : List ℕ) (n : ℕ) (P : Packed g n) (T : Table) (e : T .productio
           let same-p : j .production ≡ p = omega arith in
           let same-i : j .index ≡ i = omega arith in
           let same-j : _≡_ {A = Item} j (record { production = p; index = i }) = λ k. record { production = same-p k; index = same-i k } in
-          rw (same-j, getD-set-same ends (p * 17 + i) x 0 (omega arith)) ex
+          rw (same-j, getD-set-same ends (p * indexLimit + i) x 0 (omega arith)) ex
 
-  pub ends-last : (p i : ℕ) → p < n → length (productionAt T p .symbols) < i → EndsTo T ends (p * 17 + i) → EndsTo T ends ((p + 1) * 17)
+  pub ends-last : (p i : ℕ) → p < n → length (productionAt T p .symbols) < i → EndsTo T ends (p * indexLimit + i) → EndsTo T ends ((p + 1) * indexLimit)
   ends-last p i h l E = record { long = E .long; exact = λ j f lt. E .exact j f (inside j f lt) }
     where
-      inside : (j : Item) → ItemFits T j → j .production * 17 + j .index < (p + 1) * 17 → j .production * 17 + j .index < p * 17 + i
+      inside : (j : Item) → ItemFits T j → j .production * indexLimit + j .index < (p + 1) * indexLimit → j .production * indexLimit + j .index < p * indexLimit + i
       inside j f lt = go (decLt (j .production) p)
         where
-          go : Dec (j .production < p) → j .production * 17 + j .index < p * 17 + i
+          go : Dec (j .production < p) → j .production * indexLimit + j .index < p * indexLimit + i
           go (yes q) = let s = short-in g n P T e j f in omega arith
           go (no q) =
               let same : j .production ≡ p = omega arith in
               let d = rw same at (f .index) in
               omega arith
 
-  pub ends-all : (k : ℕ) → n ≤ k → EndsTo T ends (k * 17) → Ends T ends
+  pub ends-all : (k : ℕ) → n ≤ k → EndsTo T ends (k * indexLimit) → Ends T ends
   ends-all k h E = record { long = E .long; exact = λ j f. let s = short-in g n P T e j f in E .exact j f (omega arith) }
 
 -- a flag from what was asked

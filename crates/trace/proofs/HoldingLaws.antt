@@ -11,6 +11,7 @@ use lib.ListN.{length, getD, set, length-append}
 use lib.Seq.{slice, slice-empty, slice-cons, getD-set-same, getD-set-other}
 use lib.Dec.{eqb}
 use borrow.Author.Tests.{eqb-true, eqb-false, lt-ltb}
+use Rattle.repr.specs.Sizes.{itemLimit, productionPlace, edgeLimit}
 use Rattle.repr.specs.Lists.{some?, keep}
 use Rattle.repr.specs.Meaning.{Item, Production, noProduction, Table, stateAt, TableFits, ItemFits}
 use Rattle.repr.specs.Packed.{productionIn, productionsIn}
@@ -99,12 +100,12 @@ module _ (T : Table) (ps : List Production) (same : ps ≡ T .productions) (v w 
     free = h .free;
   }
 
-  pub holding-full : (ix g′ ix′ : List ℕ) → Overfull ps (record { source = v; target = w; label = i }) g ix g′ ix′ → 1024 < length (addTo T v w i st .edges)
+  pub holding-full : (ix g′ ix′ : List ℕ) → Overfull ps (record { source = v; target = w; label = i }) g ix g′ ix′ → edgeLimit < length (addTo T v w i st .edges)
   unfolding addTo
   holding-full ix g′ ix′ o =
       let e : TraceEdge = record { source = v; target = w; label = i } in
       let absent : some? (sameEdge (T .productions) e) (st .edges) ≡ false = rw (← same, ← (h .edges)) (o .absent) in
-      let count : length (st .edges) ≡ 1024 = rw (← (h .edges)) (edges-count g ∙ o .many) in
+      let count : length (st .edges) ≡ edgeLimit = rw (← (h .edges)) (edges-count g ∙ o .many) in
       rw (add-new (T .productions) e (st .edges) absent, length-append (st .edges) (e ∷ [])) (omega arith)
 
 -- the packed productions are those of the table
@@ -117,7 +118,7 @@ module _ (t g : List ℕ) (productions n : ℕ) (starts codes : List ℕ) (R : T
   tracing-many = sym (length-map-below (productionIn g) productions) ∙ ap (λ (ps : List Production). length ps) (R .same)
 
   -- the first word of a production is its nonterminal
-  pub tracing-owner : (p i : ℕ) → p < productions → getD g (p * 36) 0 ≡ ownerOf (meaning t) (record { production = p; index = i })
+  pub tracing-owner : (p i : ℕ) → p < productions → getD g (productionPlace p) 0 ≡ ownerOf (meaning t) (record { production = p; index = i })
   unfolding ownerOf productionsIn productionIn
   tracing-owner p i h =
       ap (λ (q : Production). q .nonterminal) (sym (getD-map-below (productionIn g) productions p noProduction h) ∙ ap (λ (ps : List Production). getD ps p noProduction) (R .same))
@@ -180,7 +181,7 @@ codes-more j past codes h l = rw (slice-cons j past codes 0 h l, add-one j)
 pub record CodeOf (T : Table) (n c : ℕ) : Type 0 where
   pub item : ItemFits T (itemOf c)
   pub shifts : canShift T n (itemOf c) ≡ true
-  pub small : c < 2176
+  pub small : c < itemLimit
 
 pub code-of : (T : Table) (starts codes : List ℕ) (s n j : ℕ) → TableFits T → ShiftItems T starts codes → s < length (T .states) → n < 32
     → getD starts (pair s n) 0 ≤ j → j < getD starts (suc (pair s n)) 0 → CodeOf T n (getD codes j 0)

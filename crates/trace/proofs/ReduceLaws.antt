@@ -5,6 +5,7 @@ use mathlib.Core.List.{List, [], _∷_}
 use Prim.Native.Nat.{ℕ, zero, suc, _+_, _*_, _≤_, _<_}
 use native.Mathlib.Omega.{arith}
 use lib.ListN.{length, getD, set}
+use Rattle.repr.specs.Sizes.{edgeLimit}
 use Rattle.repr.specs.Lists.{mem}
 use Rattle.repr.specs.Meaning.{Item, Production, Table}
 use Rattle.first.specs.First.{nullable}
@@ -76,7 +77,7 @@ module _ (T : Table) (n : ℕ) (ps : List Production) (same : ps ≡ T .producti
     item-over p rest g′ v′ L over = record {
       many = λ f st h H.
           let q = left-over (fromState T o) all g₁ v (fromState-adds T o) p rest g′ v′ L (over .many) f (addTo T (atNonterminal (ownerOf T i)) (atItem i) i st) h (edge-added g₁ ix₁ a st H) in
-          subst (λ (u : Trace). 1024 < length (u .edges)) (turn-is f st) q;
+          subst (λ (u : Trace). edgeLimit < length (u .edges)) (turn-is f st) q;
     }
 
 -- one item of the state step
@@ -93,7 +94,7 @@ module _ (T : Table) (n : ℕ) (ps : List Production) (same : ps ≡ T .producti
         rw (reduce-ends T m (λ j u. reduceItem T (λ p k w. reduceState T f p k w) s j u) i st shifts (null ∙ off))
         (holding-add T ps same (atItem i) (atNonterminal m) i g v st H n g′ ix′ (rw off at a))
 
-    pub off-over : (ix g′ ix′ : List ℕ) → Overfull ps (edgeToNonterminal on o m i) g ix g′ ix′ → (f : ℕ) (st : Trace) → zeros v ≤ f → Holding g v st → 1024 < length (onItem T s m f i st .edges)
+    pub off-over : (ix g′ ix′ : List ℕ) → Overfull ps (edgeToNonterminal on o m i) g ix g′ ix′ → (f : ℕ) (st : Trace) → zeros v ≤ f → Holding g v st → edgeLimit < length (onItem T s m f i st .edges)
     unfolding edgeToNonterminal sourceOf
     off-over ix g′ ix′ a f st h H =
         rw (reduce-ends T m (λ j u. reduceItem T (λ p k w. reduceState T f p k w) s j u) i st shifts (null ∙ off))
@@ -107,7 +108,7 @@ module _ (T : Table) (n : ℕ) (ps : List Production) (same : ps ≡ T .producti
     unfolding edgeToNonterminal sourceOf
     via-added g′ ix′ a st H = holding-add T ps same (atNonterminal (ownerOf T i)) (atNonterminal m) i g v st H n g′ ix′ (rw (yes-on, owner) at a)
 
-    pub on-full : (ix g′ ix′ : List ℕ) → Overfull ps (edgeToNonterminal on o m i) g ix g′ ix′ → (f : ℕ) (st : Trace) → zeros v ≤ f → Holding g v st → 1024 < length (onItem T s m f i st .edges)
+    pub on-full : (ix g′ ix′ : List ℕ) → Overfull ps (edgeToNonterminal on o m i) g ix g′ ix′ → (f : ℕ) (st : Trace) → zeros v ≤ f → Holding g v st → edgeLimit < length (onItem T s m f i st .edges)
     unfolding edgeToNonterminal sourceOf
     on-full ix g′ ix′ a f st h H =
         let q = holding-full T ps same (atNonterminal (ownerOf T i)) (atNonterminal m) i g v st H ix g′ ix′ (rw (yes-on, owner) at a) in
@@ -120,7 +121,7 @@ module _ (T : Table) (n : ℕ) (ps : List Production) (same : ps ≡ T .producti
       on-holds g′ ix′ v′ S f st h H = rw (via-is f st) (S .holding f (via st) h (via-added g₁ ix₁ a st H))
 
       pub on-over : Overrun (λ (f : ℕ) (st : Trace). reduceItem T (λ (p k : ℕ) (u : Trace). reduceState T f p k u) s i st) g₁ v
-          → (f : ℕ) (st : Trace) → zeros v ≤ f → Holding g v st → 1024 < length (onItem T s m f i st .edges)
+          → (f : ℕ) (st : Trace) → zeros v ≤ f → Holding g v st → edgeLimit < length (onItem T s m f i st .edges)
       on-over S f st h H = rw (via-is f st) (S .many f (via st) h (via-added g₁ ix₁ a st H))
 
 -- the state step
@@ -158,10 +159,10 @@ module _ (T : Table) (s m at : ℕ) (place : at ≡ s * 32 + m) (hs : s < 128) (
     }
 
     pub state-over : (i : Item) (rest : List Item) (g′ v′ : List ℕ) → Left (onItem T s m) all (i ∷ rest) g (set v at 1) g′ v′
-        → ((f : ℕ) (u : Trace) → zeros v′ ≤ f → Holding g′ v′ u → 1024 < length (onItem T s m f i u .edges))
+        → ((f : ℕ) (u : Trace) → zeros v′ ≤ f → Holding g′ v′ u → edgeLimit < length (onItem T s m f i u .edges))
         → Overrun (λ (f : ℕ) (st : Trace). reduceState T f s m st) g v
     state-over i rest g′ v′ L over = record {
-      many = entering (λ (u : Trace). 1024 < length (u .edges)) (left-over (onItem T s m) all g (set v at 1) (onItem-adds T s m) i rest g′ v′ L over);
+      many = entering (λ (u : Trace). edgeLimit < length (u .edges)) (left-over (onItem T s m) all g (set v at 1) (onItem-adds T s m) i rest g′ v′ L over);
     }
 
 -- the edges by value

@@ -9,6 +9,7 @@ use native.Mathlib.Nat.{div-add-mod'}
 use lib.ListN.{length, getD, set}
 use lib.Seq.{slice}
 use lib.Dec.{eqb}
+use Rattle.repr.specs.Sizes.{indexLimit, productionPlace, edgeLimit}
 use Rattle.repr.specs.Lists.{mem}
 use Rattle.repr.specs.Meaning.{Item, Production, Table, TableFits, ItemFits}
 use Rattle.repr.specs.Packed.{Packed, productionsIn}
@@ -39,10 +40,10 @@ use Rattle.trace.proofs.ReduceLaws.{fromState, onItem, item-full, item-
 
 -- what is known of the item with code c, met in the turn of nonterminal m
 pub record Known (t g : List ℕ) (productions n m : ℕ) (ends : List ℕ) (c : ℕ) : Type 0 where
-  pub item : itemFits (productionsIn g productions) (c / 17) (c % 17) ≡ true
-  pub inside : c / 17 < productions
-  pub owner : getD g (c / 17 * 36) 0 ≡ ownerOf (meaning t) (itemOf c)
-  pub owner-lt : getD g (c / 17 * 36) 0 < n
+  pub item : itemFits (productionsIn g productions) (c / indexLimit) (c % indexLimit) ≡ true
+  pub inside : c / indexLimit < productions
+  pub owner : getD g (productionPlace (c / indexLimit)) 0 ≡ ownerOf (meaning t) (itemOf c)
+  pub owner-lt : getD g (productionPlace (c / indexLimit)) 0 < n
   pub shifts : canShift (meaning t) m (itemOf c) ≡ true
   pub small : c < length ends
   pub flagged : getD ends c 0 ≡ flag (nullable (meaning t) (suffixOf (meaning t) (itemOf c)))
@@ -66,7 +67,7 @@ module _ {t g : List ℕ} {productions n : ℕ} {starts codes ends preds : List 
   few-nonterminals m h = let q = known-fits .few-nonterminals in let e = R .tracing .nonterminals in omega arith
 
   -- an item in range: its production and its nonterminal
-  pub item-owner : (p i : ℕ) → itemFits (productionsIn g productions) p i ≡ true → (p < productions) × (getD g (p * 36) 0 ≡ ownerOf (meaning t) (itemAt p i)) × (getD g (p * 36) 0 < n)
+  pub item-owner : (p i : ℕ) → itemFits (productionsIn g productions) p i ≡ true → (p < productions) × (getD g (productionPlace p) 0 ≡ ownerOf (meaning t) (itemAt p i)) × (getD g (productionPlace p) 0 < n)
   unfolding itemAt
   item-owner p i e =
       let h = fits-words g productions p i e .0 in
@@ -110,9 +111,9 @@ module _ {t g : List ℕ} {productions n : ℕ} {starts codes ends preds : List 
         let k = code-of (meaning t) starts codes s m j known-fits (R .tracing .items) (h .0) (few-nonterminals m (h .1)) (omega arith) hi′ in
         let k′ : CodeOf (meaning t) m c = rw ec k in
         let f = tracing-item t g productions n starts codes (R .tracing) (itemOf c) (k′ .item) in
-        let o = tracing-owner t g productions n starts codes (R .tracing) (c / 17) (c % 17) (f .1) in
+        let o = tracing-owner t g productions n starts codes (R .tracing) (c / indexLimit) (c % indexLimit) (f .1) in
         let l = tracing-owner-lt t g productions n starts codes (R .tracing) (itemOf c) in
-        let d = div-add-mod' c 17 in
+        let d = div-add-mod' c indexLimit in
         let long = R .suffixes .long in
         let small = k′ .small in
         record {
@@ -136,52 +137,52 @@ module _ {t g : List ℕ} {productions n : ℕ} {starts codes ends preds : List 
     null : nullable (meaning t) (suffixOf (meaning t) (itemOf c)) ≡ on
     null = flag-tells (getD ends c 0) on (nullable (meaning t) (suffixOf (meaning t) (itemOf c))) (K .flagged) eo
 
-    pub state-off : (graph′ ix′ : List ℕ) → on ≡ false → Added n (productionsIn g productions) (edgeToNonterminal on (getD g (c / 17 * 36) 0) m (itemAt (c / 17) (c % 17))) graph graph′ ix′
+    pub state-off : (graph′ ix′ : List ℕ) → on ≡ false → Added n (productionsIn g productions) (edgeToNonterminal on (getD g (productionPlace (c / indexLimit)) 0) m (itemAt (c / indexLimit) (c % indexLimit))) graph graph′ ix′
         → length graph′ ≡ length graph → length ix′ ≡ length ix
         → Turn (onItem (meaning t) s m) all (map itemOf (slice (j + 1) past codes)) n (productionsIn g productions) g₀ ix₀ v₀ graph′ ix′ v
     unfolding itemAt itemOf
     state-off graph′ ix′ off a la lb =
         turn-next (itemOf c) (map itemOf (slice (j + 1) past codes)) graph′ ix′ v opened
-        (off-holds (meaning t) n (productionsIn g productions) (R .tracing .same) s m (itemOf c) (K .shifts) (getD g (c / 17 * 36) 0) (K .owner) graph v on off null graph′ ix′ a)
+        (off-holds (meaning t) n (productionsIn g productions) (R .tracing .same) s m (itemOf c) (K .shifts) (getD g (productionPlace (c / indexLimit)) 0) (K .owner) graph v on off null graph′ ix′ a)
         (omega arith) (a .good) la lb refl
 
     pub state-on : (graph₁ ix₁ graph′ ix′ v′ : List ℕ) → on ≡ true
-        → Added n (productionsIn g productions) (edgeToNonterminal on (getD g (c / 17 * 36) 0) m (itemAt (c / 17) (c % 17))) graph graph₁ ix₁
-        → Stepped n (productionsIn g productions) (λ (f : ℕ) (st : Trace). reduceItem (meaning t) (λ (p k : ℕ) (u : Trace). reduceState (meaning t) f p k u) s (itemAt (c / 17) (c % 17)) st) graph₁ v graph′ ix′ v′
+        → Added n (productionsIn g productions) (edgeToNonterminal on (getD g (productionPlace (c / indexLimit)) 0) m (itemAt (c / indexLimit) (c % indexLimit))) graph graph₁ ix₁
+        → Stepped n (productionsIn g productions) (λ (f : ℕ) (st : Trace). reduceItem (meaning t) (λ (p k : ℕ) (u : Trace). reduceState (meaning t) f p k u) s (itemAt (c / indexLimit) (c % indexLimit)) st) graph₁ v graph′ ix′ v′
         → zeros v′ ≤ zeros v → length graph′ ≡ length graph → length ix′ ≡ length ix → length v′ ≡ length v
         → Turn (onItem (meaning t) s m) all (map itemOf (slice (j + 1) past codes)) n (productionsIn g productions) g₀ ix₀ v₀ graph′ ix′ v′
     unfolding itemAt itemOf
     state-on graph₁ ix₁ graph′ ix′ v′ yes-on a S z la lb lc =
         turn-next (itemOf c) (map itemOf (slice (j + 1) past codes)) graph′ ix′ v′ opened
-        (on-holds (meaning t) n (productionsIn g productions) (R .tracing .same) s m (itemOf c) (K .shifts) (getD g (c / 17 * 36) 0) (K .owner) graph v on yes-on null graph₁ ix₁ a graph′ ix′ v′ S)
+        (on-holds (meaning t) n (productionsIn g productions) (R .tracing .same) s m (itemOf c) (K .shifts) (getD g (productionPlace (c / indexLimit)) 0) (K .owner) graph v on yes-on null graph₁ ix₁ a graph′ ix′ v′ S)
         z (S .good) la lb lc
 
     -- an edge too many
-    edge-full : (graph′ ix′ : List ℕ) → Overfull (productionsIn g productions) (edgeToNonterminal on (getD g (c / 17 * 36) 0) m (itemAt (c / 17) (c % 17))) graph ix graph′ ix′
-        → (f : ℕ) (st : Trace) → zeros v ≤ f → Holding graph v st → 1024 < length (onItem (meaning t) s m f (itemOf c) st .edges)
+    edge-full : (graph′ ix′ : List ℕ) → Overfull (productionsIn g productions) (edgeToNonterminal on (getD g (productionPlace (c / indexLimit)) 0) m (itemAt (c / indexLimit) (c % indexLimit))) graph ix graph′ ix′
+        → (f : ℕ) (st : Trace) → zeros v ≤ f → Holding graph v st → edgeLimit < length (onItem (meaning t) s m f (itemOf c) st .edges)
     unfolding itemAt itemOf
     edge-full graph′ ix′ a =
         cases on
-        (λ y. on-full (meaning t) n (productionsIn g productions) (R .tracing .same) s m (itemOf c) (K .shifts) (getD g (c / 17 * 36) 0) (K .owner) graph v on y null ix graph′ ix′ a)
-        (λ y. off-over (meaning t) n (productionsIn g productions) (R .tracing .same) s m (itemOf c) (K .shifts) (getD g (c / 17 * 36) 0) (K .owner) graph v on y null ix graph′ ix′ a)
+        (λ y. on-full (meaning t) n (productionsIn g productions) (R .tracing .same) s m (itemOf c) (K .shifts) (getD g (productionPlace (c / indexLimit)) 0) (K .owner) graph v on y null ix graph′ ix′ a)
+        (λ y. off-over (meaning t) n (productionsIn g productions) (R .tracing .same) s m (itemOf c) (K .shifts) (getD g (productionPlace (c / indexLimit)) 0) (K .owner) graph v on y null ix graph′ ix′ a)
 
     module _ {v₁ : List ℕ} (h : (s < length (meaning t .states)) × (m < n)) (F : Flags (meaning t) v₁) (new : getD v₁ (s * 32 + m) 0 ≡ 0) (entered : v₀ ≡ set v₁ (s * 32 + m) 1) (items : all ≡ shifting (meaning t) s m) where
-      over : ((f : ℕ) (st : Trace) → zeros v ≤ f → Holding graph v st → 1024 < length (onItem (meaning t) s m f (itemOf c) st .edges))
+      over : ((f : ℕ) (st : Trace) → zeros v ≤ f → Holding graph v st → edgeLimit < length (onItem (meaning t) s m f (itemOf c) st .edges))
           → Overrun (λ (f : ℕ) (st : Trace). reduceState (meaning t) f s m st) g₀ v₁
       over many =
           state-over (meaning t) s m (s * 32 + m) refl (few-states s (h .0)) (few-nonterminals m (h .1)) g₀ v₁ (pair-has-flag s m h v₁ F) new all items
           (itemOf c) (map itemOf (slice (j + 1) past codes)) graph v (rw entered at (opened .left)) many
 
-      pub state-full : (graph′ ix′ : List ℕ) → Overfull (productionsIn g productions) (edgeToNonterminal on (getD g (c / 17 * 36) 0) m (itemAt (c / 17) (c % 17))) graph ix graph′ ix′
+      pub state-full : (graph′ ix′ : List ℕ) → Overfull (productionsIn g productions) (edgeToNonterminal on (getD g (productionPlace (c / indexLimit)) 0) m (itemAt (c / indexLimit) (c % indexLimit))) graph ix graph′ ix′
           → Overrun (λ (f : ℕ) (st : Trace). reduceState (meaning t) f s m st) g₀ v₁
       state-full graph′ ix′ a = over (edge-full graph′ ix′ a)
 
-      pub state-stop : (graph₁ ix₁ : List ℕ) → on ≡ true → Added n (productionsIn g productions) (edgeToNonterminal on (getD g (c / 17 * 36) 0) m (itemAt (c / 17) (c % 17))) graph graph₁ ix₁
-          → Overrun (λ (f : ℕ) (st : Trace). reduceItem (meaning t) (λ (p k : ℕ) (u : Trace). reduceState (meaning t) f p k u) s (itemAt (c / 17) (c % 17)) st) graph₁ v
+      pub state-stop : (graph₁ ix₁ : List ℕ) → on ≡ true → Added n (productionsIn g productions) (edgeToNonterminal on (getD g (productionPlace (c / indexLimit)) 0) m (itemAt (c / indexLimit) (c % indexLimit))) graph graph₁ ix₁
+          → Overrun (λ (f : ℕ) (st : Trace). reduceItem (meaning t) (λ (p k : ℕ) (u : Trace). reduceState (meaning t) f p k u) s (itemAt (c / indexLimit) (c % indexLimit)) st) graph₁ v
           → Overrun (λ (f : ℕ) (st : Trace). reduceState (meaning t) f s m st) g₀ v₁
       unfolding itemAt itemOf
       state-stop graph₁ ix₁ yes-on a S =
-          over (on-over (meaning t) n (productionsIn g productions) (R .tracing .same) s m (itemOf c) (K .shifts) (getD g (c / 17 * 36) 0) (K .owner) graph v on yes-on null graph₁ ix₁ a S)
+          over (on-over (meaning t) n (productionsIn g productions) (R .tracing .same) s m (itemOf c) (K .shifts) (getD g (productionPlace (c / indexLimit)) 0) (K .owner) graph v on yes-on null graph₁ ix₁ a S)
 
   -- the turn of the state step at its end
   pub state-end : (s m : ℕ) {all : List Item} {g₀ ix₀ v₀ graph ix v v₁ : List ℕ} (past j : ℕ)
@@ -228,8 +229,8 @@ module _ {t g : List ℕ} {productions n : ℕ} {starts codes ends preds : List 
     item-next p rest e graph′ ix′ v′ S z la lb lc =
         turn-next p (statesIn (rest .low) (rest .high)) graph′ ix′ v′ (rw (next-states low high p rest e) at W) (S .holding) z (S .good) la lb lc
 
-    module _ {g₁ : List ℕ} (s p i : ℕ) (owner : o ≡ getD g (p * 36) 0) (fits : itemFits (productionsIn g productions) p i ≡ true)
-        (a : Added n (productionsIn g productions) (edgeToItem (getD g (p * 36) 0) (itemAt p i)) g₁ g₀ ix₀) (found : all ≡ traceBack (meaning t) s (prefixOf (meaning t) (itemAt p i))) where
+    module _ {g₁ : List ℕ} (s p i : ℕ) (owner : o ≡ getD g (productionPlace p) 0) (fits : itemFits (productionsIn g productions) p i ≡ true)
+        (a : Added n (productionsIn g productions) (edgeToItem (getD g (productionPlace p) 0) (itemAt p i)) g₁ g₀ ix₀) (found : all ≡ traceBack (meaning t) s (prefixOf (meaning t) (itemAt p i))) where
       owned : o ≡ ownerOf (meaning t) (itemAt p i)
       owned = owner ∙ item-owner p i fits .1
 
@@ -246,10 +247,10 @@ module _ {t g : List ℕ} {productions n : ℕ} {starts codes ends preds : List 
           q (statesIn (rest .low) (rest .high)) graph v (rw (next-states low high q rest e) at (W .left)) over
 
   pub item-none : (s p i : ℕ) (graph ix v graph′ ix′ : List ℕ) → itemFits (productionsIn g productions) p i ≡ true
-      → Overfull (productionsIn g productions) (edgeToItem (getD g (p * 36) 0) (itemAt p i)) graph ix graph′ ix′
+      → Overfull (productionsIn g productions) (edgeToItem (getD g (productionPlace p) 0) (itemAt p i)) graph ix graph′ ix′
       → Overrun (λ (f : ℕ) (st : Trace). reduceItem (meaning t) (λ (q m : ℕ) (u : Trace). reduceState (meaning t) f q m u) s (itemAt p i) st) graph v
   item-none s p i graph ix v graph′ ix′ fits a =
-      item-full (meaning t) n (productionsIn g productions) (R .tracing .same) s (getD g (p * 36) 0) (itemAt p i) (item-owner p i fits .1) graph v ix graph′ ix′ a
+      item-full (meaning t) n (productionsIn g productions) (R .tracing .same) s (getD g (productionPlace p) 0) (itemAt p i) (item-owner p i fits .1) graph v ix graph′ ix′ a
 
 -- the states left after one are among those that were left
 pub rest-inside : (low high p bound : ℕ) (rest : StateSet) → NextIs low high (State p rest) → ((k : ℕ) → mem k (statesIn low high) ≡ true → k < bound) → (p < bound) × ((k : ℕ) → mem k (statesIn (rest .low) (rest .high)) ≡ true → k < bound)

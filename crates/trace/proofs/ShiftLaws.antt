@@ -10,6 +10,7 @@ use lib.ListN.{length, getD, set}
 use lib.Seq.{slice}
 use lib.Dec.{ltb, leb}
 use borrow.Author.Tests.{lt-ltb, le-ltb, ltb-true, ltb-false}
+use Rattle.repr.specs.Sizes.{indexLimit, itemLimit, productionPlace, edgeLimit}
 use Rattle.repr.specs.Meaning.{Item, Production, noProduction, Table}
 use Rattle.repr.specs.Packed.{productionIn, productionsIn}
 use Rattle.repr.proofs.Lists.{cases, length-map-below, getD-map-below}
@@ -37,7 +38,7 @@ fits-inside g productions p i h =
     let l = length-map-below (productionIn g) productions in
     omega arith
 
-pub packed-owner : (g : List ℕ) (productions p : ℕ) → p < productions → getD (productionsIn g productions) p noProduction .nonterminal ≡ getD g (p * 36) 0
+pub packed-owner : (g : List ℕ) (productions p : ℕ) → p < productions → getD (productionsIn g productions) p noProduction .nonterminal ≡ getD g (productionPlace p) 0
 unfolding productionsIn productionIn
 packed-owner g productions p h = ap (λ (q : Production). q .nonterminal) (getD-map-below (productionIn g) productions p noProduction h)
 
@@ -59,7 +60,7 @@ module _ (g : List ℕ) (productions p i m : ℕ) where
   unfolding epsilonEdge
   edge-past h = rw (source-past ps (record { production = p; index = i }) h) (edge-is _ _ _ _ p i (node-item-is p i) (node-number-is m 0))
 
-  pub edge-beginning : (x : ℕ) → x ≡ getD g (p * 36) 0 → itemFits ps p i ≡ true → i ≤ 0
+  pub edge-beginning : (x : ℕ) → x ≡ getD g (productionPlace p) 0 → itemFits ps p i ≡ true → i ≤ 0
       → edgeIs (record { source = record { kind = 0; number = x; index = 0 }; target = record { kind = 0; number = m; index = 0 }; production = p; index = i })
       ≡ epsilonEdge ps (record { production = p; index = i }) m
   unfolding epsilonEdge
@@ -71,7 +72,7 @@ module _ (g : List ℕ) (productions p i m : ℕ) where
       → valueFits n ps (record { source = record { kind = 1; number = p; index = i }; target = record { kind = 0; number = m; index = 0 }; production = p; index = i }) ≡ true
   past-fits n f h = value-fits n ps _ _ p i (node-item-fits n ps p i f) (node-number-fits n ps m h) f
 
-  pub beginning-fits : (n x : ℕ) → x ≡ getD g (p * 36) 0 → getD g (p * 36) 0 < n → itemFits ps p i ≡ true → m < n
+  pub beginning-fits : (n x : ℕ) → x ≡ getD g (productionPlace p) 0 → getD g (productionPlace p) 0 < n → itemFits ps p i ≡ true → m < n
       → valueFits n ps (record { source = record { kind = 0; number = x; index = 0 }; target = record { kind = 0; number = m; index = 0 }; production = p; index = i }) ≡ true
   beginning-fits n x e l f h = value-fits n ps _ _ p i (node-number-fits n ps x (omega arith)) (node-number-fits n ps m h) f
 
@@ -89,7 +90,7 @@ module _ (T : Table) (s m : ℕ) where
   step-adds f i = epsilonItem-grows T m (λ k u. epsilon T f s k u) (epsilon-grows T f s) i
 
   -- what is too long after one item stays so
-  pub step-exceeds : (f : ℕ) (i : Item) (is : List Item) (st : Trace) → 1024 < length (itemStep f i st .edges) → 1024 < length (inTurn (itemStep f) is (itemStep f i st) .edges)
+  pub step-exceeds : (f : ℕ) (i : Item) (is : List Item) (st : Trace) → edgeLimit < length (itemStep f i st .edges) → edgeLimit < length (inTurn (itemStep f) is (itemStep f i st) .edges)
   step-exceeds f i is st h = let q = grows-length (turn-grows (itemStep f) (step-adds f) is (itemStep f i st)) in omega arith
 
 -- the loop's invariant: what is left to do, from what the words hold, gives what the whole turn gives
@@ -186,7 +187,7 @@ module _ {t grammar : List ℕ} {productions n : ℕ} {starts codes : List ℕ} 
 
     module _ (more : j < past) (x : ℕ) (ex : x ≡ getD codes j 0) where
       abbrev item : Item
-      item = record { production = x / 17; index = x % 17 }
+      item = record { production = x / indexLimit; index = x % indexLimit }
 
       code : CodeOf T m x
       code =
@@ -194,21 +195,21 @@ module _ {t grammar : List ℕ} {productions n : ℕ} {starts codes : List ℕ} 
           let e = U .past-is in
           rw ex (code-of T starts codes s m j (tracing-fits t grammar productions n starts codes R) (R .items) hs (w .1) (U .from) (omega arith))
 
-      pub turn-small : x < 2176
+      pub turn-small : x < itemLimit
       turn-small = code .small
 
       shifts : canShift T m item ≡ true
       unfolding itemOf
       shifts = code .shifts
 
-      pub turn-item : (itemFits qs (x / 17) (x % 17) ≡ true) × (x / 17 < productions)
+      pub turn-item : (itemFits qs (x / indexLimit) (x % indexLimit) ≡ true) × (x / indexLimit < productions)
       unfolding itemOf
       turn-item = tracing-item t grammar productions n starts codes R item (code .item)
 
-      pub turn-owner : getD grammar (x / 17 * 36) 0 ≡ ownerOf T item
-      turn-owner = tracing-owner t grammar productions n starts codes R (x / 17) (x % 17) (turn-item .1)
+      pub turn-owner : getD grammar (productionPlace (x / indexLimit)) 0 ≡ ownerOf T item
+      turn-owner = tracing-owner t grammar productions n starts codes R (x / indexLimit) (x % indexLimit) (turn-item .1)
 
-      pub turn-owner-lt : getD grammar (x / 17 * 36) 0 < n
+      pub turn-owner-lt : getD grammar (productionPlace (x / indexLimit)) 0 < n
       turn-owner-lt = let e = turn-owner in let l = tracing-owner-lt t grammar productions n starts codes R item in omega arith
 
       -- the first item of what is left, done
@@ -223,15 +224,15 @@ module _ {t grammar : List ℕ} {productions n : ℕ} {starts codes : List ℕ} 
 
       -- an item past its beginning
 
-      past-edge : 0 < x % 17 → epsilonEdge qs item m ≡ record { source = atItem item; target = atNonterminal m; label = item }
+      past-edge : 0 < x % indexLimit → epsilonEdge qs item m ≡ record { source = atItem item; target = atNonterminal m; label = item }
       unfolding epsilonEdge
       past-edge h = rw (source-past qs item h)
 
-      beginning-edge : x % 17 ≤ 0 → epsilonEdge qs item m ≡ record { source = atNonterminal (ownerOf T item); target = atNonterminal m; label = item }
+      beginning-edge : x % indexLimit ≤ 0 → epsilonEdge qs item m ≡ record { source = atNonterminal (ownerOf T item); target = atNonterminal m; label = item }
       unfolding epsilonEdge
-      beginning-edge h = rw (source-beginning qs item h, packed-owner grammar productions (x / 17) (turn-item .1), turn-owner)
+      beginning-edge h = rw (source-beginning qs item h, packed-owner grammar productions (x / indexLimit) (turn-item .1), turn-owner)
 
-      pub turn-past : 0 < x % 17 → (g′ ix′ : List ℕ) → Added n qs (epsilonEdge qs item m) g g′ ix′ → length g′ ≡ length g → length ix′ ≡ length ix
+      pub turn-past : 0 < x % indexLimit → (g′ ix′ : List ℕ) → Added n qs (epsilonEdge qs item m) g g′ ix′ → length g′ ≡ length g → length ix′ ≡ length ix
           → Turn t grammar productions n starts codes s m past g₀ ix₀ v₀ g′ ix′ v (j + 1)
       turn-past pos g′ ix′ a lg li = record {
         from = let w = U .from in omega arith;
@@ -245,12 +246,12 @@ module _ {t grammar : List ℕ} {productions n : ℕ} {starts codes : List ℕ} 
         same = λ f hf st h.
             let r = U .same f hf st h in
             let made = holding-add T qs (R .same) (atItem item) (atNonterminal m) item g v (r .0) (r .1) n g′ ix′ (rw (past-edge pos) at a) in
-            (itemStep T s m f item (r .0), rw (epsilon-past T m (λ k u. epsilon T f s k u) item (r .0) shifts (lt-ltb 0 (x % 17) pos)) made, opened f hf st h (r .0) (r .2));
+            (itemStep T s m f item (r .0), rw (epsilon-past T m (λ k u. epsilon T f s k u) item (r .0) shifts (lt-ltb 0 (x % indexLimit) pos)) made, opened f hf st h (r .0) (r .2));
       }
 
       -- an item at its beginning, and its own nonterminal in the same state
 
-      pub turn-followed : x % 17 ≤ 0 → (o : ℕ) → o ≡ getD grammar (x / 17 * 36) 0 → (g′ ix′ : List ℕ) → Added n qs (epsilonEdge qs item m) g g′ ix′
+      pub turn-followed : x % indexLimit ≤ 0 → (o : ℕ) → o ≡ getD grammar (productionPlace (x / indexLimit)) 0 → (g′ ix′ : List ℕ) → Added n qs (epsilonEdge qs item m) g g′ ix′
           → (g″ ix″ v″ : List ℕ) → ((f : ℕ) → zeros v ≤ f → Steps (epsilon T f s o) g′ v g″ v″) → Graphed n qs g″ ix″ (getD g″ 0 0)
           → zeros v″ ≤ zeros v → length v″ ≡ length v → length g″ ≡ length g → length ix″ ≡ length ix
           → Turn t grammar productions n starts codes s m past g₀ ix₀ v₀ g″ ix″ v″ (j + 1)
@@ -270,12 +271,12 @@ module _ {t grammar : List ℕ} {productions n : ℕ} {starts codes : List ℕ} 
             let to = addTo T (atNonterminal (ownerOf T item)) (atNonterminal m) item (r .0) in
             let made = holding-add T qs (R .same) (atNonterminal (ownerOf T item)) (atNonterminal m) item g v (r .0) (r .1) n g′ ix′ (rw (beginning-edge low) at a) in
             let went : Holding g″ v″ (epsilon T f s (ownerOf T item) to) = rw eo′ at (call f (omega arith) to made) in
-            (itemStep T s m f item (r .0), rw (epsilon-beginning T m (λ k u. epsilon T f s k u) item (r .0) shifts (le-ltb 0 (x % 17) low)) went, opened f hf st h (r .0) (r .2));
+            (itemStep T s m f item (r .0), rw (epsilon-beginning T m (λ k u. epsilon T f s k u) item (r .0) shifts (le-ltb 0 (x % indexLimit) low)) went, opened f hf st h (r .0) (r .2));
       }
 
       -- too many edges: by the item's own edge, or further on
 
-      stopped : (f : ℕ) (hf : zeros v₀ ≤ f) (st : Trace) (h : Holding g₀ v₀ st) → 1024 < length (itemStep T s m f item (U .same f hf st h .0) .edges) → 1024 < length (itemTurn T s m f st .edges)
+      stopped : (f : ℕ) (hf : zeros v₀ ≤ f) (st : Trace) (h : Holding g₀ v₀ st) → edgeLimit < length (itemStep T s m f item (U .same f hf st h .0) .edges) → edgeLimit < length (itemTurn T s m f st .edges)
       stopped f hf st h many =
           let r = U .same f hf st h in
           rw (← (opened f hf st h (r .0) (r .2))) (step-exceeds T s m f item (map itemOf (slice (j + 1) past codes)) (r .0) many)
@@ -283,17 +284,17 @@ module _ {t grammar : List ℕ} {productions n : ℕ} {starts codes : List ℕ} 
       pub turn-full : (g′ ix′ : List ℕ) → Overfull qs (epsilonEdge qs item m) g ix g′ ix′ → (f : ℕ) → zeros v₀ ≤ f → Exceeds (itemTurn T s m f) g₀ v₀
       turn-full g′ ix′ o f hf st h =
           let r = U .same f hf st h in
-          stopped f hf st h (cases (ltb 0 (x % 17))
+          stopped f hf st h (cases (ltb 0 (x % indexLimit))
           (λ d.
           rw (epsilon-past T m (λ k u. epsilon T f s k u) item (r .0) shifts d)
-          (holding-full T qs (R .same) (atItem item) (atNonterminal m) item g v (r .0) (r .1) ix g′ ix′ (rw (past-edge (ltb-true 0 (x % 17) d)) at o)))
+          (holding-full T qs (R .same) (atItem item) (atNonterminal m) item g v (r .0) (r .1) ix g′ ix′ (rw (past-edge (ltb-true 0 (x % indexLimit) d)) at o)))
           (λ d.
           let to = addTo T (atNonterminal (ownerOf T item)) (atNonterminal m) item (r .0) in
-          let many = holding-full T qs (R .same) (atNonterminal (ownerOf T item)) (atNonterminal m) item g v (r .0) (r .1) ix g′ ix′ (rw (beginning-edge (ltb-false 0 (x % 17) d)) at o) in
+          let many = holding-full T qs (R .same) (atNonterminal (ownerOf T item)) (atNonterminal m) item g v (r .0) (r .1) ix g′ ix′ (rw (beginning-edge (ltb-false 0 (x % indexLimit) d)) at o) in
           let q = grows-length (epsilon-grows T f s (ownerOf T item) to) in
           rw (epsilon-beginning T m (λ k u. epsilon T f s k u) item (r .0) shifts d) (omega arith)))
 
-      pub turn-follow-full : x % 17 ≤ 0 → (o : ℕ) → o ≡ getD grammar (x / 17 * 36) 0 → (g′ ix′ : List ℕ) → Added n qs (epsilonEdge qs item m) g g′ ix′
+      pub turn-follow-full : x % indexLimit ≤ 0 → (o : ℕ) → o ≡ getD grammar (productionPlace (x / indexLimit)) 0 → (g′ ix′ : List ℕ) → Added n qs (epsilonEdge qs item m) g g′ ix′
           → ((f : ℕ) → zeros v ≤ f → Exceeds (epsilon T f s o) g′ v) → (f : ℕ) → zeros v₀ ≤ f → Exceeds (itemTurn T s m f) g₀ v₀
       turn-follow-full low o eo g′ ix′ a call f hf st h =
           let r = U .same f hf st h in
@@ -301,5 +302,5 @@ module _ {t grammar : List ℕ} {productions n : ℕ} {starts codes : List ℕ} 
           let eo′ : o ≡ ownerOf T item = eo ∙ turn-owner in
           let to = addTo T (atNonterminal (ownerOf T item)) (atNonterminal m) item (r .0) in
           let made = holding-add T qs (R .same) (atNonterminal (ownerOf T item)) (atNonterminal m) item g v (r .0) (r .1) n g′ ix′ (rw (beginning-edge low) at a) in
-          let went : 1024 < length (epsilon T f s (ownerOf T item) to .edges) = rw eo′ at (call f (omega arith) to made) in
-          stopped f hf st h (rw (epsilon-beginning T m (λ k u. epsilon T f s k u) item (r .0) shifts (le-ltb 0 (x % 17) low)) went)
+          let went : edgeLimit < length (epsilon T f s (ownerOf T item) to .edges) = rw eo′ at (call f (omega arith) to made) in
+          stopped f hf st h (rw (epsilon-beginning T m (λ k u. epsilon T f s k u) item (r .0) shifts (le-ltb 0 (x % indexLimit) low)) went)

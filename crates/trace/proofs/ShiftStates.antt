@@ -5,6 +5,7 @@ use mathlib.Core.List.{List}
 use Prim.Native.Nat.{ℕ, _*_, _≤_, _<_}
 use native.Mathlib.Omega.{arith}
 use lib.ListN.{length, getD}
+use Rattle.repr.specs.Sizes.{productionPlace}
 use Rattle.repr.specs.Lists.{mem}
 use Rattle.repr.specs.Meaning.{Item, Production, Table}
 use Rattle.repr.specs.Packed.{productionsIn}
@@ -98,24 +99,24 @@ module _ {t grammar : List ℕ} {productions n : ℕ} {starts codes : List ℕ} 
   pub item-inside : p < productions
   item-inside = fits-inside grammar productions p i fit
 
-  pub item-owner : getD grammar (p * 36) 0 ≡ ownerOf T item
+  pub item-owner : getD grammar (productionPlace p) 0 ≡ ownerOf T item
   item-owner = tracing-owner t grammar productions n starts codes R p i item-inside
 
-  pub item-owner-lt : getD grammar (p * 36) 0 < n
+  pub item-owner-lt : getD grammar (productionPlace p) 0 < n
   item-owner-lt = let e = item-owner in let l = tracing-owner-lt t grammar productions n starts codes R item in omega arith
 
-  item-edge : edgeToItem (getD grammar (p * 36) 0) (itemAt p i) ≡ record { source = atNonterminal (ownerOf T item); target = atItem item; label = item }
+  item-edge : edgeToItem (getD grammar (productionPlace p) 0) (itemAt p i) ≡ record { source = atNonterminal (ownerOf T item); target = atItem item; label = item }
   unfolding edgeToItem itemAt
   item-edge = rw item-owner
 
   module _ (g v : List ℕ) (ss : List ℕ) where
-    pub shift-full : (ix g′ ix′ : List ℕ) → Overfull qs (edgeToItem (getD grammar (p * 36) 0) (itemAt p i)) g ix g′ ix′ → Exceeds (whole ss) g v
+    pub shift-full : (ix g′ ix′ : List ℕ) → Overfull qs (edgeToItem (getD grammar (productionPlace p) 0) (itemAt p i)) g ix g′ ix′ → Exceeds (whole ss) g v
     shift-full ix g′ ix′ o st k =
         let many = holding-full T qs (R .same) (atNonterminal (ownerOf T item)) (atItem item) item g v st k ix g′ ix′ (rw item-edge at o) in
         let grown = grows-length (turn-grows (stateStep T (ownerOf T item)) (λ q. epsilon-grows T pairs q (ownerOf T item)) ss (addTo T (atNonterminal (ownerOf T item)) (atItem item) item st)) in
         omega arith
 
-    module _ (o : ℕ) (eo : o ≡ getD grammar (p * 36) 0) (g′ ix′ : List ℕ) (a : Added n qs (edgeToItem (getD grammar (p * 36) 0) (itemAt p i)) g g′ ix′) where
+    module _ (o : ℕ) (eo : o ≡ getD grammar (productionPlace p) 0) (g′ ix′ : List ℕ) (a : Added n qs (edgeToItem (getD grammar (productionPlace p) 0) (itemAt p i)) g g′ ix′) where
       made : (st : Trace) → Holding g v st → Holding g′ v (addTo T (atNonterminal (ownerOf T item)) (atItem item) item st)
       made st k = holding-add T qs (R .same) (atNonterminal (ownerOf T item)) (atItem item) item g v st k n g′ ix′ (rw item-edge at a)
 

@@ -4,6 +4,7 @@ use mathlib.Core.List.{List, [], _∷_}
 use Prim.Native.Nat.{ℕ, _≤_, _<_}
 use native.Mathlib.Omega.{arith}
 use lib.ListN.{length, getD}
+use Rattle.repr.specs.Sizes.{edgeLimit}
 use Rattle.repr.specs.Meaning.{Production}
 use Rattle.trace_graph.specs.Insert.{Graphed}
 use Rattle.trace.specs.Traced.{Trace, inTurn}
@@ -36,8 +37,8 @@ module _ {A : Type 0} (step : ℕ → A → Trace → Trace) (all : List A) (g�
 
   -- a step that makes too many edges: the turn does
   pub left-over : ((f : ℕ) (y : A) → Adds (step f y)) → (x : A) (rest : List A) (g v : List ℕ) → Left step all (x ∷ rest) g₀ v₀ g v
-      → ((f : ℕ) (u : Trace) → zeros v ≤ f → Holding g v u → 1024 < length (step f x u .edges))
-      → (f : ℕ) (st : Trace) → zeros v₀ ≤ f → Holding g₀ v₀ st → 1024 < length (inTurn (step f) all st .edges)
+      → ((f : ℕ) (u : Trace) → zeros v ≤ f → Holding g v u → edgeLimit < length (step f x u .edges))
+      → (f : ℕ) (st : Trace) → zeros v₀ ≤ f → Holding g₀ v₀ st → edgeLimit < length (inTurn (step f) all st .edges)
   left-over adds x rest g v L s f st h H =
       let w = L .fewer in
       let q = L .left f st h H in

@@ -5,6 +5,7 @@ use mathlib.Core.Bool.{Bool, true, false}
 use mathlib.Core.Path.{_≡_}
 use mathlib.Core.List.{List}
 use lib.ListN.{length, getD}
+use Rattle.repr.specs.Sizes.{indexLimit, itemLimit}
 use Rattle.repr.specs.Meaning.{Item, Table, ItemFits}
 use Rattle.first.specs.First.{nullable}
 use Rattle.trace.specs.Traced.{suffixOf}
@@ -15,10 +16,10 @@ flag false = 0
 
 -- the items whose place is below k
 pub record EndsTo (T : Table) (ends : List ℕ) (k : ℕ) : Type 0 where
-  pub long : length ends ≡ 2176
-  pub exact : (i : Item) → ItemFits T i → i .production * 17 + i .index < k → getD ends (i .production * 17 + i .index) 0 ≡ flag (nullable T (suffixOf T i))
+  pub long : length ends ≡ itemLimit
+  pub exact : (i : Item) → ItemFits T i → i .production * indexLimit + i .index < k → getD ends (i .production * indexLimit + i .index) 0 ≡ flag (nullable T (suffixOf T i))
 
 -- all
 pub record Ends (T : Table) (ends : List ℕ) : Type 0 where
-  pub long : length ends ≡ 2176
-  pub exact : (i : Item) → ItemFits T i → getD ends (i .production * 17 + i .index) 0 ≡ flag (nullable T (suffixOf T i))
+  pub long : length ends ≡ itemLimit
+  pub exact : (i : Item) → ItemFits T i → getD ends (i .production * indexLimit + i .index) 0 ≡ flag (nullable T (suffixOf T i))

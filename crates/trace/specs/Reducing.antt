@@ -4,11 +4,11 @@ use Prim.Native.Nat.{ℕ, _≤_, _<_}
 use mathlib.Core.Bool.{Bool, true, false}
 use mathlib.Core.List.{List}
 use lib.ListN.{length, getD}
+use Rattle.repr.specs.Sizes.{edgeLimit}
 use Rattle.repr.specs.Meaning.{Item, Production}
 use Rattle.table.specs.Decoded.{meaning}
 use Rattle.state_graph.specs.Preds.{Preds}
 use Rattle.trace_graph.specs.Graph.{Node, atNonterminal, atItem, TraceEdge}
-use Rattle.trace_graph.specs.Words.{edgeLimit}
 use Rattle.trace_graph.specs.Insert.{Graphed}
 use Rattle.trace.specs.Traced.{Trace}
 use Rattle.trace.specs.Holding.{Holding, Tracing, zeros}

@@ -6,6 +6,7 @@ use mathlib.Core.Path.{_≡_}
 use mathlib.Core.List.{List, [], _∷_, map}
 use lib.ListN.{length, getD, take, drop}
 use lib.Seq.{slice}
+use Rattle.repr.specs.Sizes.{indexLimit, itemLimit}
 use Rattle.repr.specs.Lists.{some?, keep}
 use Rattle.repr.specs.Meaning.{Item, Table, stateAt}
 use Rattle.trace_graph.specs.Graph.{sameItem}
@@ -24,11 +25,11 @@ shifting T s n = distinct (keep (canShift T n) (stateAt T s .items))
 
 -- an item in one word: production * 17 + index
 unfoldable pub itemOf : ℕ → Item
-itemOf c = record { production = c / 17; index = c % 17 }
+itemOf c = record { production = c / indexLimit; index = c % indexLimit }
 
 -- of state s and nonterminal n the items stand from starts (s * 32 + n) up to the next start
 pub record ShiftItems (T : Table) (starts codes : List ℕ) : Type 0 where
   pub long : length (T .states) * 32 < length starts
   pub rising : (k : ℕ) → k < length (T .states) * 32 → (getD starts k 0 ≤ getD starts (suc k) 0) × (getD starts (suc k) 0 ≤ length codes)
   pub exact : (s n : ℕ) → s < length (T .states) → n < 32 → map itemOf (slice (getD starts (pair s n) 0) (getD starts (suc (pair s n)) 0) codes) ≡ shifting T s n
-  pub small : (s n j : ℕ) → s < length (T .states) → n < 32 → getD starts (pair s n) 0 ≤ j → j < getD starts (suc (pair s n)) 0 → getD codes j 0 < 2176
+  pub small : (s n j : ℕ) → s < length (T .states) → n < 32 → getD starts (pair s n) 0 ≤ j → j < getD starts (suc (pair s n)) 0 → getD codes j 0 < itemLimit

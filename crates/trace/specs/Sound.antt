@@ -6,9 +6,10 @@ use mathlib.Core.Path.{_≡_}
 use mathlib.Core.Logic.{_⊎_}
 use mathlib.Core.List.{List, [], _∷_, _++_, List·Memᴰ}
 use lib.ListN.{length}
+use Rattle.repr.specs.Sizes.{edgeLimit}
 use Rattle.repr.specs.Meaning.{Item, Table, All}
 use Rattle.trace_graph.specs.Graph.{Node, atNonterminal, atItem, TraceEdge, isNode}
-use Rattle.trace_graph.specs.Words.{edgeLimit, graphWords}
+use Rattle.trace_graph.specs.Words.{graphWords}
 use Rattle.trace_graph.specs.Fits.{itemFits, once, graphFits}
 use Rattle.trace_graph.specs.Index.{InRange}
 use Rattle.first.specs.First.{nullable}

@@ -4,6 +4,7 @@ use mathlib.Core.Bool.{true, false}
 use mathlib.Core.List.{List}
 use lib.ListN.{length, getD}
 use lib.Dec.{ltb}
+use Rattle.repr.specs.Sizes.{edgeLimit}
 use Rattle.repr.specs.Meaning.{Item, Production, noProduction}
 use Rattle.trace_graph.specs.Graph.{Node, atNonterminal, atItem, TraceEdge}
 use Rattle.trace.specs.Traced.{Trace}
@@ -15,7 +16,7 @@ Steps step graph visited graph′ visited′ = (st : Trace) → Holding graph vi
 
 -- what the words held, the step makes of it too many edges: refusal 12
 abbrev pub Exceeds : (Trace → Trace) → List ℕ → List ℕ → Type 0
-Exceeds step graph visited = (st : Trace) → Holding graph visited st → 1024 < length (step st .edges)
+Exceeds step graph visited = (st : Trace) → Holding graph visited st → edgeLimit < length (step st .edges)
 
 -- where the edge of an item that can shift a nonterminal begins: past its beginning at the item, else at its nonterminal
 unfoldable pub epsilonSource : List Production → Item → Node

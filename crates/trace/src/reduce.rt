@@ -6,6 +6,8 @@ use core::Item;
 use core::prefix;
 use core::suffix;
 use first::first0;
+use repr::NonterminalString;
+use repr::ProductionIndex;
 use repr::word;
 use state_graph::NextState;
 use state_graph::StateSet;
@@ -21,6 +23,7 @@ ghost use mathlib.Core.List.{List};
 ghost use Prim.Native.Nat.{ℕ, suc, _+_, _*_, _≤_, _<_};
 ghost use lib.ListN.{length, getD};
 ghost use lib.Dec.{eqb};
+ghost use Rattle.repr.specs.Sizes.{indexLimit, itemLimit, productionPlace};
 ghost use Rattle.repr.specs.Meaning as meaning-of;
 ghost use Rattle.repr.specs.Listed.{listed};
 ghost use Rattle.repr.specs.Packed.{Packed, symbolWords, productionsIn};
@@ -44,7 +47,7 @@ fn item_ends(
     grammar: &[u16],
     productions: usize,
     terminals: u16,
-    map: &[u64; 32],
+    map: &[u64; NonterminalString::LIMIT],
     production: usize,
     index: usize,
 ) -> u8
@@ -69,14 +72,14 @@ fn production_ends(
     grammar: &[u16],
     productions: usize,
     terminals: u16,
-    map: &[u64; 32],
+    map: &[u64; NonterminalString::LIMIT],
     ends: &mut [u8],
     production: usize,
 )
     requires { ⌜ Packed (now grammar) productions × (terminals ≤ 63) ⌝ }
     requires { ⌜ now map ≡ firstSets terminals (productionsIn (now grammar) productions) ⌝ }
-    requires { ⌜ (production < productions) × (length (now ends) ≡ 2176) ⌝ }
-    ensures { λ _. ⌜ ((T : meaning-of.Table) → T .productions ≡ productionsIn (now (grammar .entry)) productions → T .terminals ≡ terminals → EndsTo T (now (ends .entry)) (production * 17) → EndsTo T (now (ends .exit)) ((production + 1) * 17)) ⌝ }
+    requires { ⌜ (production < productions) × (length (now ends) ≡ itemLimit) ⌝ }
+    ensures { λ _. ⌜ ((T : meaning-of.Table) → T .productions ≡ productionsIn (now (grammar .entry)) productions → T .terminals ≡ terminals → EndsTo T (now (ends .entry)) (production * indexLimit) → EndsTo T (now (ends .exit)) ((production + 1) * indexLimit)) ⌝ }
 {
     let item = Item {
         production: production,
@@ -85,7 +88,7 @@ fn production_ends(
     let past = item.length(grammar, productions) + 1;
     let mut index: usize = 0;
     while index < past {
-        ends[production * 17 + index] = item_ends(
+        ends[production * ProductionIndex::INDEXES + index] = item_ends(
             grammar,
             productions,
             terminals,
@@ -102,12 +105,12 @@ pub fn suffix_ends(
     grammar: &[u16],
     productions: usize,
     terminals: u16,
-    map: &[u64; 32],
+    map: &[u64; NonterminalString::LIMIT],
     ends: &mut [u8],
 )
     requires { ⌜ Packed (now grammar) productions × (terminals ≤ 63) ⌝ }
     requires { ⌜ now map ≡ firstSets terminals (productionsIn (now grammar) productions) ⌝ }
-    requires { ⌜ length (now ends) ≡ 2176 ⌝ }
+    requires { ⌜ length (now ends) ≡ itemLimit ⌝ }
     ensures { λ _. ⌜ ((T : meaning-of.Table) → T .productions ≡ productionsIn (now (grammar .entry)) productions → T .terminals ≡ terminals → Ends T (now (ends .exit))) ⌝ }
 {
     let mut production: usize = 0;
@@ -139,9 +142,9 @@ fn edge_to_nonterminal(
 ) -> Inserted
     requires { ⌜ Packed (now grammar) productions ⌝ }
     requires { ⌜ Graphed n (productionsIn (now grammar) productions) (now graph) (now ix) (getD (now graph) 0 0) ⌝ }
-    requires { ⌜ (itemFits (productionsIn (now grammar) productions) production index ≡ true) × ((getD (now grammar) (production * 36) 0 < n) × (nonterminal < n)) ⌝ }
-    ensures { λ r. ⌜ (r ≡ Done → Added n (productionsIn (now (grammar .entry)) productions) (edgeToNonterminal on (getD (now (grammar .entry)) (production * 36) 0) nonterminal (itemAt production index)) (now (graph .entry)) (now (graph .exit)) (now (ix .exit))) ⌝ }
-    ensures { λ r. ⌜ (r ≡ Full → Overfull (productionsIn (now (grammar .entry)) productions) (edgeToNonterminal on (getD (now (grammar .entry)) (production * 36) 0) nonterminal (itemAt production index)) (now (graph .entry)) (now (ix .entry)) (now (graph .exit)) (now (ix .exit))) ⌝ }
+    requires { ⌜ (itemFits (productionsIn (now grammar) productions) production index ≡ true) × ((getD (now grammar) (productionPlace production) 0 < n) × (nonterminal < n)) ⌝ }
+    ensures { λ r. ⌜ (r ≡ Done → Added n (productionsIn (now (grammar .entry)) productions) (edgeToNonterminal on (getD (now (grammar .entry)) (productionPlace production) 0) nonterminal (itemAt production index)) (now (graph .entry)) (now (graph .exit)) (now (ix .exit))) ⌝ }
+    ensures { λ r. ⌜ (r ≡ Full → Overfull (productionsIn (now (grammar .entry)) productions) (edgeToNonterminal on (getD (now (grammar .entry)) (productionPlace production) 0) nonterminal (itemAt production index)) (now (graph .entry)) (now (ix .entry)) (now (graph .exit)) (now (ix .exit))) ⌝ }
 {
     let target = Node {
         kind: 0,
@@ -149,7 +152,7 @@ fn edge_to_nonterminal(
         index: 0,
     };
     if on {
-        let owner = word(grammar, production * 36);
+        let owner = word(grammar, production * ProductionIndex::WORDS);
         let source = Node {
             kind: 0,
             number: owner,
@@ -230,7 +233,7 @@ pub fn trace_reduce_item(
             return Inserted::Full;
         }
     }
-    let owner = word(grammar, production * 36);
+    let owner = word(grammar, production * ProductionIndex::WORDS);
     let mut rest = states_before(table, grammar, productions, preds, state, production, index);
     loop {
         match rest.next() {
@@ -297,8 +300,8 @@ pub fn trace_reduce_from_state(
     let mut j = start(starts, at);
     while j < past {
         let code = word(codes, j);
-        let production = code / 17;
-        let index = code % 17;
+        let production = code / ProductionIndex::INDEXES;
+        let index = code % ProductionIndex::INDEXES;
         let on = flagged(ends, code);
         match edge_to_nonterminal(
             grammar,

@@ -1,5 +1,6 @@
 // Tracing a shift (lr1/trace/shift): part 5 of document 01. The items of a pair of a state and a nonterminal stand in `codes`, from the pair's start up to the next (specs/Shifting);
 // `visited` has a flag for each pair.
+use repr::ProductionIndex;
 use repr::word;
 use state_graph::NextState;
 use state_graph::StateSet;
@@ -11,6 +12,7 @@ ghost use mathlib.Core.Path.{_≡_};
 ghost use mathlib.Core.Bool.{Bool, true, false};
 ghost use Prim.Native.Nat.{ℕ, _+_, _*_, _≤_, _<_};
 ghost use lib.ListN.{length, getD};
+ghost use Rattle.repr.specs.Sizes.{productionPlace};
 ghost use Rattle.repr.specs.Lists.{mem};
 ghost use Rattle.repr.specs.Packed.{Packed, productionsIn};
 ghost use Rattle.table.specs.Decoded.{meaning};
@@ -46,7 +48,7 @@ fn epsilon_edge(
 ) -> Inserted
     requires { ⌜ Packed (now grammar) productions ⌝ }
     requires { ⌜ Graphed n (productionsIn (now grammar) productions) (now graph) (now ix) (getD (now graph) 0 0) ⌝ }
-    requires { ⌜ (itemFits (productionsIn (now grammar) productions) production index ≡ true) × ((nonterminal < n) × (getD (now grammar) (production * 36) 0 < n)) ⌝ }
+    requires { ⌜ (itemFits (productionsIn (now grammar) productions) production index ≡ true) × ((nonterminal < n) × (getD (now grammar) (productionPlace production) 0 < n)) ⌝ }
     ensures { λ r. ⌜ (r ≡ Done → Added n (productionsIn (now (grammar .entry)) productions) (epsilonEdge (productionsIn (now (grammar .entry)) productions) (record { production = production; index = index }) nonterminal) (now (graph .entry)) (now (graph .exit)) (now (ix .exit))) ⌝ }
     ensures { λ r. ⌜ (r ≡ Full → Overfull (productionsIn (now (grammar .entry)) productions) (epsilonEdge (productionsIn (now (grammar .entry)) productions) (record { production = production; index = index }) nonterminal) (now (graph .entry)) (now (ix .entry)) (now (graph .exit)) (now (ix .exit))) ⌝ }
 {
@@ -69,7 +71,7 @@ fn epsilon_edge(
         };
         return insert(grammar, productions, n, graph, ix, edge);
     }
-    let owner = word(grammar, production * 36);
+    let owner = word(grammar, production * ProductionIndex::WORDS);
     let source = Node {
         kind: 0,
         number: owner,
@@ -96,11 +98,11 @@ pub fn edge_to_item(
 ) -> Inserted
     requires { ⌜ Packed (now grammar) productions ⌝ }
     requires { ⌜ Graphed n (productionsIn (now grammar) productions) (now graph) (now ix) (getD (now graph) 0 0) ⌝ }
-    requires { ⌜ (itemFits (productionsIn (now grammar) productions) production index ≡ true) × (getD (now grammar) (production * 36) 0 < n) ⌝ }
-    ensures { λ r. ⌜ (r ≡ Done → Added n (productionsIn (now (grammar .entry)) productions) (edgeToItem (getD (now (grammar .entry)) (production * 36) 0) (itemAt production index)) (now (graph .entry)) (now (graph .exit)) (now (ix .exit))) ⌝ }
-    ensures { λ r. ⌜ (r ≡ Full → Overfull (productionsIn (now (grammar .entry)) productions) (edgeToItem (getD (now (grammar .entry)) (production * 36) 0) (itemAt production index)) (now (graph .entry)) (now (ix .entry)) (now (graph .exit)) (now (ix .exit))) ⌝ }
+    requires { ⌜ (itemFits (productionsIn (now grammar) productions) production index ≡ true) × (getD (now grammar) (productionPlace production) 0 < n) ⌝ }
+    ensures { λ r. ⌜ (r ≡ Done → Added n (productionsIn (now (grammar .entry)) productions) (edgeToItem (getD (now (grammar .entry)) (productionPlace production) 0) (itemAt production index)) (now (graph .entry)) (now (graph .exit)) (now (ix .exit))) ⌝ }
+    ensures { λ r. ⌜ (r ≡ Full → Overfull (productionsIn (now (grammar .entry)) productions) (edgeToItem (getD (now (grammar .entry)) (productionPlace production) 0) (itemAt production index)) (now (graph .entry)) (now (ix .entry)) (now (graph .exit)) (now (ix .exit))) ⌝ }
 {
-    let owner = word(grammar, production * 36);
+    let owner = word(grammar, production * ProductionIndex::WORDS);
     let from = Node {
         kind: 0,
         number: owner,
@@ -150,8 +152,8 @@ pub fn trace_epsilon_edges(
     let mut j = start(starts, pair);
     while j < past {
         let code = word(codes, j);
-        let production = code / 17;
-        let cursor = code % 17;
+        let production = code / ProductionIndex::INDEXES;
+        let cursor = code % ProductionIndex::INDEXES;
         match epsilon_edge(
             grammar,
             productions,
@@ -171,7 +173,7 @@ pub fn trace_epsilon_edges(
         if cursor > 0 {
             continue;
         }
-        let owner = word(grammar, production * 36);
+        let owner = word(grammar, production * ProductionIndex::WORDS);
         match trace_epsilon_edges(
             table,
             grammar,
@@ -274,7 +276,7 @@ pub fn shift_trace(
             return Inserted::Full;
         }
     }
-    let owner = word(grammar, production * 36);
+    let owner = word(grammar, production * ProductionIndex::WORDS);
     trace_states(
         table,
         grammar,

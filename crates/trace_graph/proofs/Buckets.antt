@@ -5,6 +5,7 @@ use mathlib.Core.List.{List}
 use Prim.Native.Nat.{ℕ, zero, suc, _+_, _*_, _%_, _≤_, _<_}
 use native.Mathlib.Omega.{arith}
 use lib.ListN.{length, getD, drop}
+use Rattle.repr.specs.Sizes.{nonterminalLimit, terminalLimit}
 use Rattle.repr.specs.Meaning.{Symbol, Production, noProduction}
 use Rattle.repr.specs.Listed.{symbolOfKind, listed, listFits}
 use Rattle.repr.specs.Packed.{symbolWords, Packed, productionsIn}
@@ -12,7 +13,7 @@ use Rattle.repr.proofs.Listed.{symbol-range, listed-none, listed-step, fits-hea
 use Rattle.trace_graph.specs.declared.TraceEdge.{TraceEdge as EdgeValue}
 use Rattle.trace_graph.specs.Graph.{Node, TraceEdge, labelOf, sameSets, sameEdge}
 use Rattle.trace_graph.specs.Fits.{itemFits}
-use Rattle.trace_graph.specs.Index.{nodeNumber, symbolNumber, mixed, bucketOf}
+use Rattle.trace_graph.specs.Index.{nodeNumber, symbolNumber, mixed, bucketOf, bucketLimit}
 use Rattle.trace_graph.specs.Values.{nodeIs, edgeIs}
 use Rattle.trace_graph.proofs.Labels.{sets-refl, label-parts, edge-parts}
 use Rattle.trace_graph.proofs.Fits.{item-parts, production-symbols}
@@ -30,14 +31,14 @@ same-bucket ps e f he hf h =
     make (p .0) (p .1 .0) (q .0) (q .1)
   where
     make : {s s′ t t′ : Node} {i j : ℕ} {xs ys : List Symbol} → s ≡ s′ → t ≡ t′ → i ≡ j → xs ≡ ys
-        → mixed ((nodeNumber s * 3001 + (nodeNumber t * 613 + i * 89)) % 65536) xs % 1024 ≡ mixed ((nodeNumber s′ * 3001 + (nodeNumber t′ * 613 + j * 89)) % 65536) ys % 1024
+        → mixed ((nodeNumber s * 3001 + (nodeNumber t * 613 + i * 89)) % 65536) xs % bucketLimit ≡ mixed ((nodeNumber s′ * 3001 + (nodeNumber t′ * 613 + j * 89)) % 65536) ys % bucketLimit
     make a b c d = rw (a, b, c, d)
 
 -- the turns of `mix`: what is left of the symbols mixed into the sum gives what the whole gives
 pub record Mixing (ws : List ℕ) (start sum at : ℕ) : Type 0 where
   pub below : at ≤ length ws
   pub small : sum < 65536
-  pub fits : listFits 32 63 (drop at ws) ≡ true
+  pub fits : listFits nonterminalLimit terminalLimit (drop at ws) ≡ true
   pub same : mixed sum (listed (drop at ws)) ≡ mixed start (listed ws)
 
 symbol-number : (k x : ℕ) → k < 2 → symbolNumber (symbolOfKind k x) ≡ k * 32 + x
@@ -54,13 +55,13 @@ module _ {ws : List ℕ} {start sum at : ℕ} (M : Mixing ws start sum at) where
 
   module _ (h : at < length ws) where
     pub mix-room : at + 1 < length ws
-    mix-room = fits-head 32 63 ws at h (M .fits) .0
+    mix-room = fits-head nonterminalLimit terminalLimit ws at h (M .fits) .0
 
     pub mix-more : {k x : ℕ} → k ≡ getD ws at 0 → x ≡ getD ws (at + 1) 0 → Mixing ws start ((sum * 211 + (k * 32 + x)) % 65536) (at + 2)
     unfolding mixed
     mix-more {k} {x} ek ex =
-        let r = fits-head 32 63 ws at h (M .fits) in
-        let number : symbolNumber (symbolOfKind (getD ws at 0) (getD ws (at + 1) 0)) ≡ k * 32 + x = symbol-number (getD ws at 0) (getD ws (at + 1) 0) (symbol-range 32 63 (getD ws at 0) (getD ws (at + 1) 0) (r .1 .0) .0) ∙ rw (ek, ex) in
+        let r = fits-head nonterminalLimit terminalLimit ws at h (M .fits) in
+        let number : symbolNumber (symbolOfKind (getD ws at 0) (getD ws (at + 1) 0)) ≡ k * 32 + x = symbol-number (getD ws at 0) (getD ws (at + 1) 0) (symbol-range nonterminalLimit terminalLimit (getD ws at 0) (getD ws (at + 1) 0) (r .1 .0) .0) ∙ rw (ek, ex) in
         record {
           below = omega (arith, r .0);
           small = omega arith;
@@ -69,10 +70,10 @@ module _ {ws : List ℕ} {start sum at : ℕ} (M : Mixing ws start sum at) where
         }
 
 -- the label's words that `bucket_of` mixes, and what it gives
-pub words-fit : (g : List ℕ) (m : ℕ) (v : EdgeValue) → Packed g m → v .production < m → {ws : List ℕ} → ws ≡ symbolWords g (v .production) → listFits 32 63 ws ≡ true
+pub words-fit : (g : List ℕ) (m : ℕ) (v : EdgeValue) → Packed g m → v .production < m → {ws : List ℕ} → ws ≡ symbolWords g (v .production) → listFits nonterminalLimit terminalLimit ws ≡ true
 words-fit g m v P h e = rw e (P .fits (v .production) h)
 
 pub bucket-made : (g : List ℕ) (m : ℕ) (v : EdgeValue) → v .production < m → {from to r : ℕ} {ws : List ℕ} → from ≡ nodeNumber (nodeIs (v .source)) → to ≡ nodeNumber (nodeIs (v .target)) → ws ≡ symbolWords g (v .production)
-    → r ≡ mixed ((from * 3001 + (to * 613 + v .index * 89)) % 65536) (listed ws) → r % 1024 ≡ bucketOf (productionsIn g m) (edgeIs v)
+    → r ≡ mixed ((from * 3001 + (to * 613 + v .index * 89)) % 65536) (listed ws) → r % bucketLimit ≡ bucketOf (productionsIn g m) (edgeIs v)
 unfolding bucketOf edgeIs
 bucket-made g m v h es et ew er = rw (er, es, et, ew, production-symbols g m (v .production) h)

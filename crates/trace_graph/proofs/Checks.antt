@@ -7,6 +7,7 @@ use native.Mathlib.Omega.{arith}
 use lib.ListN.{length, getD, replicate}
 use lib.Dec.{leb}
 use borrow.Author.Tests.{leb-true, le-leb}
+use Rattle.repr.specs.Sizes.{edgeLimit, edgePlace, graphRoom}
 use Rattle.repr.specs.Lists.{below, some?, every?}
 use Rattle.repr.specs.Meaning.{Production}
 use Rattle.repr.specs.Packed.{Packed, productionsIn}
@@ -14,9 +15,9 @@ use Rattle.repr.proofs.Lists.{clash, below-last}
 use Rattle.repr.proofs.Tests.{some?-nil, some?-cons, some?-append, every?-nil, every?-cons, every?-append, every?-below, every?-below-intro}
 use Rattle.trace_graph.specs.declared.TraceEdge.{TraceEdge as EdgeValue}
 use Rattle.trace_graph.specs.Graph.{TraceEdge, sameEdge}
-use Rattle.trace_graph.specs.Words.{edgeLimit, place, nodeAt, edgeAt}
+use Rattle.trace_graph.specs.Words.{nodeAt, edgeAt}
 use Rattle.trace_graph.specs.Fits.{edgeFits, once, graphFits}
-use Rattle.trace_graph.specs.Index.{nodeNumber, bucketOf}
+use Rattle.trace_graph.specs.Index.{nodeNumber, bucketOf, bucketLimit, indexRoom}
 use Rattle.trace_graph.specs.Values.{nodeIs, edgeIs, valueFits, SmallEdge, edgeRead, firstEdges}
 use Rattle.trace_graph.specs.Insert.{Graphed, linkedAt, fresh}
 use Rattle.trace_graph.proofs.Bools.{both, and-left, and-right, never}
@@ -90,7 +91,7 @@ module _ (n : ℕ) (ps : List Production) (ws : List ℕ) where
 pub record Looked (g : List ℕ) (m n : ℕ) (ws ix : List ℕ) (k : ℕ) (w : EdgeValue) (b : Bool) : Type 0 where
   pub packed : Packed g m
   pub graph : Graphed n (productionsIn g m) ws ix k
-  pub low : k < 1024
+  pub low : k < edgeLimit
   pub read : w ≡ edgeRead ws k
   pub fits : b ≡ valueFits n (productionsIn g m) w
 
@@ -123,10 +124,10 @@ module _ {g : List ℕ} {m n : ℕ} {ws ix : List ℕ} {k : ℕ} {w : EdgeValue}
       pub check-new : r ≡ false → true ≡ (edgeFits n (productionsIn g m) ws k && fresh (productionsIn g m) ws k)
       check-new z = sym (fresh-is ∙ rw z)
 
-      pub check-linked : {number bucket : ℕ} {ix′ : List ℕ} → number ≡ nodeNumber (nodeIs (w .target)) → (bucket ≡ bucketOf (productionsIn g m) (edgeIs w)) × (bucket < 1024) → ix′ ≡ linkedAt ix k number bucket
+      pub check-linked : {number bucket : ℕ} {ix′ : List ℕ} → number ≡ nodeNumber (nodeIs (w .target)) → (bucket ≡ bucketOf (productionsIn g m) (edgeIs w)) × (bucket < bucketLimit) → ix′ ≡ linkedAt ix k number bucket
           → Graphed n (productionsIn g m) ws ix′ (k + 1)
       check-linked {number} {bucket} en eb ex =
-          let t : nodeIs (w .target) ≡ nodeAt ws (place k + 3) = sym (value-target w) ∙ ap (λ (f : TraceEdge). f .target) whole ∙ edge-target ws k in
+          let t : nodeIs (w .target) ≡ nodeAt ws (edgePlace k + 3) = sym (value-target w) ∙ ap (λ (f : TraceEdge). f .target) whole ∙ edge-target ws k in
           rw ex (graphed-linked n (productionsIn g m) ws ix k (L .graph) (bounds g m (L .packed) n (L .graph .nonterminals)) (L .low) (fits-is ∙ y) number bucket (en ∙ ap nodeNumber t) (eb .0 ∙ ap (bucketOf (productionsIn g m)) whole) (eb .1))
 
 -- the turns of `check_graph`
@@ -134,7 +135,7 @@ pub record Checked (n : ℕ) (ps : List Production) (ws ix : List ℕ) (k : ℕ)
   pub good : Graphed n ps ws ix k
   pub new : (j : ℕ) → j < k → fresh ps ws j ≡ true
 
-pub checked-first : (g : List ℕ) (m n : ℕ) (ws ix : List ℕ) → Packed g m → n ≤ 32 → 8193 ≤ length ws → ix ≡ replicate 5280 0 → Checked n (productionsIn g m) ws ix 0
+pub checked-first : (g : List ℕ) (m n : ℕ) (ws ix : List ℕ) → Packed g m → n ≤ 32 → graphRoom ≤ length ws → ix ≡ replicate indexRoom 0 → Checked n (productionsIn g m) ws ix 0
 checked-first g m n ws ix P h l e = record {
   good = record {
     nonterminals = h;

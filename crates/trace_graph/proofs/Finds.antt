@@ -7,6 +7,7 @@ use native.Mathlib.Omega.{arith}
 use native.Mathlib.Decide.{ℕ-discrete}
 use lib.ListN.{getD}
 use borrow.Author.Tests.{eqb-false}
+use Rattle.repr.specs.Sizes.{edgeLimit}
 use Rattle.repr.specs.Lists.{some?}
 use Rattle.repr.specs.Meaning.{Production}
 use Rattle.repr.specs.Packed.{Packed, productionsIn}
@@ -14,7 +15,7 @@ use Rattle.trace_graph.specs.declared.TraceEdge.{TraceEdge as EdgeValue}
 use Rattle.trace_graph.specs.Graph.{labelOf, sameSets, sameEdge}
 use Rattle.trace_graph.specs.Words.{edgeAt}
 use Rattle.trace_graph.specs.Fits.{itemFits, edgeFits}
-use Rattle.trace_graph.specs.Index.{bucketOf, inBucket}
+use Rattle.trace_graph.specs.Index.{bucketOf, inBucket, bucketLimit, bucketHeads, bucketLinks}
 use Rattle.trace_graph.specs.Values.{edgeIs, sameValue, valueFits, edgeRead, firstEdges}
 use Rattle.trace_graph.specs.Insert.{Graphed}
 use Rattle.trace_graph.proofs.Bools.{never}
@@ -68,7 +69,7 @@ pub record Sought (g : List ℕ) (m n : ℕ) (ws ix : List ℕ) (k : ℕ) (v : E
   pub graph : Graphed n (productionsIn g m) ws ix k
   pub fits : valueFits n (productionsIn g m) v ≡ true
   pub bucket : b ≡ bucketOf (productionsIn g m) (edgeIs v)
-  pub low : b < 1024
+  pub low : b < bucketLimit
 
 -- the ways through it
 module _ {g : List ℕ} {m n : ℕ} {ws ix : List ℕ} {k : ℕ} {v : EdgeValue} {b : ℕ} (W : Sought g m n ws ix k v b) where
@@ -81,13 +82,13 @@ module _ {g : List ℕ} {m n : ℕ} {ws ix : List ℕ} {k : ℕ} {v : EdgeValue}
       let e = same-bucket (productionsIn g m) (edgeIs v) (edgeAt ws j) (label-fits n (productionsIn g m) v (W .fits)) (label-fits n (productionsIn g m) (edgeRead ws j) here) q in
       eqb-false (bucketOf (productionsIn g m) (edgeAt ws j)) b s (sym (W .bucket ∙ e)))
 
-  pub find-first : {next : ℕ} → next ≡ getD ix (3232 + b) 0 → Turn ws ix 4256 (inBucket (productionsIn g m) ws b) (sameEdge (productionsIn g m) (edgeIs v)) k next
+  pub find-first : {next : ℕ} → next ≡ getD ix (bucketHeads + b) 0 → Turn ws ix bucketLinks (inBucket (productionsIn g m) ws b) (sameEdge (productionsIn g m) (edgeIs v)) k next
   find-first {next} ex =
-      turn-first ws ix 4256 (inBucket (productionsIn g m) ws b) (sameEdge (productionsIn g m) (edgeIs v)) k other next (rw ex (W .graph .index .bucketed b (W .low)))
+      turn-first ws ix bucketLinks (inBucket (productionsIn g m) ws b) (sameEdge (productionsIn g m) (edgeIs v)) k other next (rw ex (W .graph .index .bucketed b (W .low)))
 
-  module _ {next : ℕ} (T : Turn ws ix 4256 (inBucket (productionsIn g m) ws b) (sameEdge (productionsIn g m) (edgeIs v)) k next) where
+  module _ {next : ℕ} (T : Turn ws ix bucketLinks (inBucket (productionsIn g m) ws b) (sameEdge (productionsIn g m) (edgeIs v)) k next) where
     pub find-end : next ≡ 0 → false ≡ some? (sameEdge (productionsIn g m) (edgeIs v)) (firstEdges ws k)
-    find-end e = turn-end ws ix 4256 (inBucket (productionsIn g m) ws b) (sameEdge (productionsIn g m) (edgeIs v)) k other next T e
+    find-end e = turn-end ws ix bucketLinks (inBucket (productionsIn g m) ws b) (sameEdge (productionsIn g m) (edgeIs v)) k other next T e
 
     module _ (ne : next ≡ 0 → ⊥) where
       one : next ≡ suc (next - 1)
@@ -100,15 +101,15 @@ module _ {g : List ℕ} {m n : ℕ} {ws ix : List ℕ} {k : ℕ} {v : EdgeValue}
       pub find-fits : edgeFits n (productionsIn g m) ws (next - 1) ≡ true
       find-fits = W .graph .fits (next - 1) (omega (arith, one, T .below))
 
-      pub find-low : next - 1 < 1024
+      pub find-low : next - 1 < edgeLimit
       find-low = omega (arith, one, T .below, W .graph .few)
 
-      pub find-less : {j : ℕ} → j ≡ getD ix (4256 + (next - 1)) 0 → j < next
-      find-less q = omega (arith, one, turn-less ws ix 4256 (inBucket (productionsIn g m) ws b) (sameEdge (productionsIn g m) (edgeIs v)) k other next (next - 1) T one)
+      pub find-less : {j : ℕ} → j ≡ getD ix (bucketLinks + (next - 1)) 0 → j < next
+      find-less q = omega (arith, one, turn-less ws ix bucketLinks (inBucket (productionsIn g m) ws b) (sameEdge (productionsIn g m) (edgeIs v)) k other next (next - 1) T one)
 
       module _ {r : Bool} (p : r ≡ sameEdge (productionsIn g m) (edgeIs v) (edgeAt ws (next - 1))) where
         pub find-found : r ≡ true → true ≡ some? (sameEdge (productionsIn g m) (edgeIs v)) (firstEdges ws k)
-        find-found h = turn-found ws ix 4256 (inBucket (productionsIn g m) ws b) (sameEdge (productionsIn g m) (edgeIs v)) k other next (next - 1) T one (sym p ∙ h)
+        find-found h = turn-found ws ix bucketLinks (inBucket (productionsIn g m) ws b) (sameEdge (productionsIn g m) (edgeIs v)) k other next (next - 1) T one (sym p ∙ h)
 
-        pub find-again : r ≡ false → {j : ℕ} → j ≡ getD ix (4256 + (next - 1)) 0 → Turn ws ix 4256 (inBucket (productionsIn g m) ws b) (sameEdge (productionsIn g m) (edgeIs v)) k j
-        find-again h {j} q = turn-again ws ix 4256 (inBucket (productionsIn g m) ws b) (sameEdge (productionsIn g m) (edgeIs v)) k other next (next - 1) T one j q (sym p ∙ h)
+        pub find-again : r ≡ false → {j : ℕ} → j ≡ getD ix (bucketLinks + (next - 1)) 0 → Turn ws ix bucketLinks (inBucket (productionsIn g m) ws b) (sameEdge (productionsIn g m) (edgeIs v)) k j
+        find-again h {j} q = turn-again ws ix bucketLinks (inBucket (productionsIn g m) ws b) (sameEdge (productionsIn g m) (edgeIs v)) k other next (next - 1) T one j q (sym p ∙ h)

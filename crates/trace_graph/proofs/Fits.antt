@@ -7,6 +7,8 @@ use native.Mathlib.Omega.{arith}
 use lib.ListN.{length, getD}
 use lib.Dec.{eqb, ltb, leb}
 use borrow.Author.Tests.{ltb-true, lt-ltb, le-ltb, leb-true, eqb-true, eq-eqb, ne-eqb}
+use Rattle.repr.specs.Sizes.{nonterminalLimit, indexLimit}
+use Rattle.slices.specs.Same.{sameWords}
 use Rattle.repr.specs.Meaning.{Production, noProduction}
 use Rattle.repr.specs.Listed.{listed}
 use Rattle.repr.specs.Packed.{symbolWords, productionIn, productionsIn, Packed}
@@ -19,7 +21,6 @@ use Rattle.trace_graph.specs.Words.{nodeOf}
 use Rattle.trace_graph.specs.Fits.{itemFits, nodeFits}
 use Rattle.trace_graph.specs.Index.{nodeNumber, InRange}
 use Rattle.trace_graph.specs.Values.{nodeIs, sameValue, nodeValueFits, valueFits, SmallNode, SmallEdge}
-use Rattle.trace_graph.specs.Same.{sameWords}
 use Rattle.trace_graph.proofs.Bools.{and-left, and-right}
 use Rattle.trace_graph.proofs.Labels.{same-label-is, symbols-refl}
 use Rattle.trace_graph.proofs.Same.{words-symbols}
@@ -185,11 +186,11 @@ pub number-nonterminal : (v : NodeValue) → v .kind ≡ 0 → v .number ≡ nod
 unfolding nodeNumber nodeIs nodeOf
 number-nonterminal v e = rw e
 
-pub number-item : (v : NodeValue) → (v .kind ≡ 0 → ⊥) → 32 + (v .number * 17 + v .index) ≡ nodeNumber (nodeIs v)
+pub number-item : (v : NodeValue) → (v .kind ≡ 0 → ⊥) → nonterminalLimit + (v .number * indexLimit + v .index) ≡ nodeNumber (nodeIs v)
 unfolding nodeIs nodeNumber nodeOf
 number-item v ne = go (v .kind) ne
   where
-    go : (k : ℕ) → (k ≡ 0 → ⊥) → 32 + (v .number * 17 + v .index) ≡ nodeNumber (nodeOf k (v .number) (v .index))
+    go : (k : ℕ) → (k ≡ 0 → ⊥) → nonterminalLimit + (v .number * indexLimit + v .index) ≡ nodeNumber (nodeOf k (v .number) (v .index))
     go zero a = absurd (a refl)
     go (suc k) a = refl
 

@@ -5,11 +5,12 @@ use Prim.Native.Nat.{ℕ, suc, _+_, _*_, _≤_}
 use native.Mathlib.Omega.{arith}
 use lib.ListN.{length, getD, take, drop, length-append}
 use lib.Seq.{sets, sets-eq, take-at, drop-at, drop-drop, getD-set-other}
+use Rattle.repr.specs.Sizes.{edgeRoom, edgePlace}
 use Rattle.repr.specs.Lists.{joined}
 use Rattle.repr.specs.Meaning.{Production}
 use Rattle.repr.proofs.Lists.{joined-nil, joined-cons, joined-append}
 use Rattle.trace_graph.specs.Graph.{TraceEdge, add}
-use Rattle.trace_graph.specs.Words.{place, edgeWords, graphWords, edgesIn}
+use Rattle.trace_graph.specs.Words.{edgeWords, graphWords, edgesIn}
 use Rattle.trace_graph.specs.Values.{written}
 use Rattle.trace_graph.specs.Insert.{oneMore, Overfull}
 use Rattle.trace_graph.proofs.Stores.{stored-after}
@@ -33,7 +34,7 @@ overfull-long ps e ws ix ws′ ix′ F =
 pub edge-words : (e : TraceEdge) → length (edgeWords e) ≡ 8
 edge-words e = ap length (value-words e) ∙ words-count (edgeValue e)
 
-pub joined-long : (es : List TraceEdge) → length (joined edgeWords es) ≡ length es * 8
+pub joined-long : (es : List TraceEdge) → length (joined edgeWords es) ≡ length es * edgeRoom
 joined-long [] = ap length (joined-nil edgeWords)
 joined-long (e ∷ es) =
     let a = edge-words e in
@@ -41,21 +42,21 @@ joined-long (e ∷ es) =
     ap length (joined-cons edgeWords e es) ∙ length-append (edgeWords e) (joined edgeWords es) ∙ omega arith
 
 -- words past the edge are as they were
-pub more-past : (ws : List ℕ) (k j : ℕ) (e : TraceEdge) → k * 8 + 9 ≤ j → getD (oneMore ws k e) j 0 ≡ getD ws j 0
-unfolding oneMore written place
+pub more-past : (ws : List ℕ) (k j : ℕ) (e : TraceEdge) → edgePlace (k + 1) ≤ j → getD (oneMore ws k e) j 0 ≡ getD ws j 0
+unfolding oneMore written
 more-past ws k j e h =
     let a = edge-words e in
-    getD-set-other (sets ws (k * 8 + 1) (edgeWords e)) 0 j (k + 1) 0 (λ q. omega arith) ∙ stored-after (edgeWords e) ws (k * 8 + 1) j (omega arith)
+    getD-set-other (sets ws (edgePlace k) (edgeWords e)) 0 j (k + 1) 0 (λ q. omega arith) ∙ stored-after (edgeWords e) ws (edgePlace k) j (omega arith)
 
 -- a graph's words in front, with any words behind: an edge more takes the next eight
 pub more-front : (es : List TraceEdge) (e : TraceEdge) (rest : List ℕ) → 8 ≤ length rest → oneMore (graphWords es ++ rest) (length es) e ≡ graphWords (es ++ e ∷ []) ++ drop 8 rest
-unfolding oneMore written place graphWords
+unfolding oneMore written graphWords
 more-front es e rest h = rw whole (ap {B = List ℕ} (λ (n : ℕ). n ∷ (joined edgeWords (es ++ e ∷ []) ++ drop 8 rest)) count)
   where
     ws : List ℕ
     ws = joined edgeWords es ++ rest
 
-    at : length (joined edgeWords es) ≡ length es * 8
+    at : length (joined edgeWords es) ≡ length es * edgeRoom
     at = joined-long es
 
     count : length es + 1 ≡ length (es ++ e ∷ [])
@@ -66,18 +67,18 @@ more-front es e rest h = rw whole (ap {B = List ℕ} (λ (n : ℕ). n ∷ (joine
         joined-append edgeWords es (e ∷ [])
         ∙ ap (λ (l : List ℕ). joined edgeWords es ++ l) (joined-cons edgeWords e [] ∙ ap (λ (l : List ℕ). edgeWords e ++ l) (joined-nil edgeWords) ∙ mathlib.Core.List.append-nil (edgeWords e))
 
-    room : length es * 8 + 1 + length (edgeWords e) ≤ suc (length ws)
+    room : edgePlace (length es) + length (edgeWords e) ≤ suc (length ws)
     room = let a = edge-words e in rw (length-append (joined edgeWords es) rest) (omega (arith, at))
 
-    start : take (length es * 8 + 1) (length es ∷ ws) ≡ length es ∷ joined edgeWords es
+    start : take (edgePlace (length es)) (length es ∷ ws) ≡ length es ∷ joined edgeWords es
     start =
-        let s : length es * 8 + 1 ≡ suc (length es * 8) = omega arith in
-        rw s (ap (λ (l : List ℕ). length es ∷ l) (take-at (joined edgeWords es) rest (length es * 8) at))
+        let s : edgePlace (length es) ≡ suc (length es * edgeRoom) = omega arith in
+        rw s (ap (λ (l : List ℕ). length es ∷ l) (take-at (joined edgeWords es) rest (length es * edgeRoom) at))
 
-    behind : drop (length es * 8 + 1 + length (edgeWords e)) (length es ∷ ws) ≡ drop 8 rest
+    behind : drop (edgePlace (length es) + length (edgeWords e)) (length es ∷ ws) ≡ drop 8 rest
     behind =
-        let s : length es * 8 + 1 + length (edgeWords e) ≡ suc (length es * 8 + 8) = omega (arith, edge-words e) in
-        rw s (sym (drop-drop 8 (length es * 8) ws) ∙ ap (drop 8) (drop-at (joined edgeWords es) rest (length es * 8) at))
+        let s : edgePlace (length es) + length (edgeWords e) ≡ suc (length es * edgeRoom + 8) = omega (arith, edge-words e) in
+        rw s (sym (drop-drop 8 (length es * edgeRoom) ws) ∙ ap (drop 8) (drop-at (joined edgeWords es) rest (length es * edgeRoom) at))
 
-    whole : sets (length es ∷ ws) (length es * 8 + 1) (edgeWords e) ≡ length es ∷ (joined edgeWords (es ++ e ∷ []) ++ drop 8 rest)
-    whole = sets-eq (edgeWords e) (length es ∷ ws) (length es * 8 + 1) room ∙ rw (start, behind, last)
+    whole : sets (length es ∷ ws) (edgePlace (length es)) (edgeWords e) ≡ length es ∷ (joined edgeWords (es ++ e ∷ []) ++ drop 8 rest)
+    whole = sets-eq (edgeWords e) (length es ∷ ws) (edgePlace (length es)) room ∙ rw (start, behind, last)

@@ -8,13 +8,14 @@ use lib.ListN.{length, getD, set, replicate, length-set, length-replicate, getD-
 use lib.Seq.{getD-set-same, getD-set-other}
 use lib.Dec.{eqb, ltb}
 use borrow.Author.Tests.{eqb-true, eqb-false, eq-eqb, ltb-true, ltb-false, lt-ltb, le-ltb}
+use Rattle.repr.specs.Sizes.{edgeLimit, edgePlace}
 use Rattle.repr.specs.Lists.{mem, some?}
 use Rattle.repr.specs.Meaning.{Production, Item}
 use Rattle.repr.proofs.Lists.{cases, clash, mem-nil, mem-yes, mem-no}
 use Rattle.repr.proofs.Tests.{some?-append, some?-yes, some?-no, some?-nil}
 use Rattle.trace_graph.specs.Graph.{Node, atNonterminal, atItem, sameNode, TraceEdge}
-use Rattle.trace_graph.specs.Words.{place, nodeAt, edgeAt}
-use Rattle.trace_graph.specs.Index.{nodeNumber, bucketOf, into, inBucket, newest, Linked, InRange, Indexed}
+use Rattle.trace_graph.specs.Words.{nodeAt, edgeAt}
+use Rattle.trace_graph.specs.Index.{nodeNumber, bucketOf, into, inBucket, newest, Linked, InRange, Indexed, nodeLimit, bucketLimit, bucketHeads, bucketLinks, indexRoom}
 use Rattle.trace_graph.specs.Values.{firstEdges}
 use Rattle.trace_graph.specs.Insert.{chained, linkedAt}
 use Rattle.trace_graph.proofs.Labels.{node-equal, node-same}
@@ -72,7 +73,7 @@ newest-kept u u′ (suc k) h =
     (λ s. newest-no u′ k (t ∙ s) ∙ rest ∙ sym (newest-no u k s))
 
 -- an edge that is kept passes the same tests
-pub into-kept : (ws ws′ : List ℕ) (v : Node) (j : ℕ) → nodeAt ws′ (place j + 3) ≡ nodeAt ws (place j + 3) → into ws′ v j ≡ into ws v j
+pub into-kept : (ws ws′ : List ℕ) (v : Node) (j : ℕ) → nodeAt ws′ (edgePlace j + 3) ≡ nodeAt ws (edgePlace j + 3) → into ws′ v j ≡ into ws v j
 unfolding into
 into-kept ws ws′ v j e = rw e
 
@@ -220,7 +221,7 @@ module _ (ix : List ℕ) (links head k : ℕ) where
 -- numbers of nodes in range
 
 module _ (n : ℕ) (ps : List Production) (B : Bounds n ps) where
-  pub number-small : (v : Node) → InRange n ps v → nodeNumber v < 2208
+  pub number-small : (v : Node) → InRange n ps v → nodeNumber v < nodeLimit
   unfolding InRange nodeNumber
   number-small (atNonterminal m) h = omega (arith, B .nonterminals)
   number-small (atItem i) h = omega (arith, B .production (i .production) (i .index) h, B .index (i .production) (i .index) h)
@@ -241,58 +242,58 @@ module _ (n : ℕ) (ps : List Production) (B : Bounds n ps) where
       make x y = rw (x, y)
 
   -- no edges
-  pub index-none : (ws ix : List ℕ) → ix ≡ replicate 5280 0 → Indexed n ps ws ix 0
+  pub index-none : (ws ix : List ℕ) → ix ≡ replicate indexRoom 0 → Indexed n ps ws ix 0
   unfolding Linked
   index-none ws ix e = record {
-    long = ap length e ∙ length-replicate {A = ℕ} 5280 0;
+    long = ap length e ∙ length-replicate {A = ℕ} indexRoom 0;
     linked = λ v h. rw (newest-none (into ws v)) (empty (nodeNumber v) (omega (arith, number-small v h)));
-    bucketed = λ b h. rw (newest-none (inBucket ps ws b)) (empty (3232 + b) (omega arith));
+    bucketed = λ b h. rw (newest-none (inBucket ps ws b)) (empty (bucketHeads + b) (omega arith));
   }
     where
-      empty : (i : ℕ) → i < 5280 → getD ix i 0 ≡ 0
-      empty i h = ap (λ (l : List ℕ). getD l i 0) e ∙ getD-replicate {A = ℕ} 5280 i 0 0 h
+      empty : (i : ℕ) → i < indexRoom → getD ix i 0 ≡ 0
+      empty i h = ap (λ (l : List ℕ). getD l i 0) e ∙ getD-replicate {A = ℕ} indexRoom i 0 0 h
 
   -- edge k put in front of its target's chain and of its bucket's
-  module _ (ws ix : List ℕ) (k number bucket : ℕ) (hk : k < 1024) (hr : InRange n ps (nodeAt ws (place k + 3))) (I : Indexed n ps ws ix k)
-      (en : number ≡ nodeNumber (nodeAt ws (place k + 3))) (eb : bucket ≡ bucketOf ps (edgeAt ws k)) (hb : bucket < 1024) where
+  module _ (ws ix : List ℕ) (k number bucket : ℕ) (hk : k < edgeLimit) (hr : InRange n ps (nodeAt ws (edgePlace k + 3))) (I : Indexed n ps ws ix k)
+      (en : number ≡ nodeNumber (nodeAt ws (edgePlace k + 3))) (eb : bucket ≡ bucketOf ps (edgeAt ws k)) (hb : bucket < bucketLimit) where
     mid : List ℕ
-    mid = chained ix 2208 number k
+    mid = chained ix nodeLimit number k
 
-    low : number < 2208
-    low = rw en (number-small (nodeAt ws (place k + 3)) hr)
+    low : number < nodeLimit
+    low = rw en (number-small (nodeAt ws (edgePlace k + 3)) hr)
 
-    mid-long : length mid ≡ 5280
+    mid-long : length mid ≡ indexRoom
     unfolding mid
-    mid-long = chained-long ix 2208 number k ∙ I .long
+    mid-long = chained-long ix nodeLimit number k ∙ I .long
 
-    nodes : (v : Node) → InRange n ps v → Linked mid 2208 (getD mid (nodeNumber v) 0) (newest (into ws v) (suc k))
+    nodes : (v : Node) → InRange n ps v → Linked mid nodeLimit (getD mid (nodeNumber v) 0) (newest (into ws v) (suc k))
     unfolding mid into
     nodes v h =
-        let room : 2208 + k < length ix = omega (arith, I .long) in
-        cases (sameNode (nodeAt ws (place k + 3)) v)
+        let room : nodeLimit + k < length ix = omega (arith, I .long) in
+        cases (sameNode (nodeAt ws (edgePlace k + 3)) v)
         (λ s.
-        let m : nodeNumber v ≡ number = ap nodeNumber (sym (node-equal (nodeAt ws (place k + 3)) v s)) ∙ sym en in
-        rw m (chain-joined ix 2208 number k low room (into ws v) s (rw m at (I .linked v h))))
+        let m : nodeNumber v ≡ number = ap nodeNumber (sym (node-equal (nodeAt ws (edgePlace k + 3)) v s)) ∙ sym en in
+        rw m (chain-joined ix nodeLimit number k low room (into ws v) s (rw m at (I .linked v h))))
         (λ s.
-        let far : nodeNumber v ≡ number → ⊥ = λ q. clash (sameNode (nodeAt ws (place k + 3)) v) (node-same (nodeAt ws (place k + 3)) v (number-one (nodeAt ws (place k + 3)) v hr h (sym en ∙ sym q))) s in
-        chain-beside ix 2208 number k low room (into ws v) (nodeNumber v) (number-small v h) far s (I .linked v h))
+        let far : nodeNumber v ≡ number → ⊥ = λ q. clash (sameNode (nodeAt ws (edgePlace k + 3)) v) (node-same (nodeAt ws (edgePlace k + 3)) v (number-one (nodeAt ws (edgePlace k + 3)) v hr h (sym en ∙ sym q))) s in
+        chain-beside ix nodeLimit number k low room (into ws v) (nodeNumber v) (number-small v h) far s (I .linked v h))
 
-    buckets : (b : ℕ) → b < 1024 → Linked mid 4256 (getD mid (3232 + b) 0) (newest (inBucket ps ws b) k)
+    buckets : (b : ℕ) → b < bucketLimit → Linked mid bucketLinks (getD mid (bucketHeads + b) 0) (newest (inBucket ps ws b) k)
     unfolding mid
     buckets b h =
         let l = low in
-        chain-apart ix 2208 number k (inBucket ps ws b) 4256 (3232 + b) k (λ q. omega arith) (λ q. omega arith) (λ j m. (λ q. omega arith, λ q. omega arith)) (I .bucketed b h)
+        chain-apart ix nodeLimit number k (inBucket ps ws b) bucketLinks (bucketHeads + b) k (λ q. omega arith) (λ q. omega arith) (λ j m. (λ q. omega arith, λ q. omega arith)) (I .bucketed b h)
 
     pub index-linked : Indexed n ps ws (linkedAt ix k number bucket) (suc k)
     unfolding linkedAt mid inBucket
     index-linked = record {
-      long = chained-long mid 4256 (3232 + bucket) k ∙ mid-long;
-      linked = λ v h. let m = number-small v h in chain-apart mid 4256 (3232 + bucket) k (into ws v) 2208 (nodeNumber v) (suc k) (λ q. omega arith) (λ q. omega arith) (λ j l. (λ q. omega arith, λ q. omega arith)) (nodes v h);
+      long = chained-long mid bucketLinks (bucketHeads + bucket) k ∙ mid-long;
+      linked = λ v h. let m = number-small v h in chain-apart mid bucketLinks (bucketHeads + bucket) k (into ws v) nodeLimit (nodeNumber v) (suc k) (λ q. omega arith) (λ q. omega arith) (λ j l. (λ q. omega arith, λ q. omega arith)) (nodes v h);
       bucketed = λ b h.
-          let room : 4256 + k < length mid = omega (arith, mid-long) in
+          let room : bucketLinks + k < length mid = omega (arith, mid-long) in
           cases (eqb (bucketOf ps (edgeAt ws k)) b)
-          (λ s. let m : b ≡ bucket = sym (eqb-true (bucketOf ps (edgeAt ws k)) b s) ∙ sym eb in rw m (chain-joined mid 4256 (3232 + bucket) k (omega arith) room (inBucket ps ws bucket) (rw m at s) (rw m at (buckets b h))))
+          (λ s. let m : b ≡ bucket = sym (eqb-true (bucketOf ps (edgeAt ws k)) b s) ∙ sym eb in rw m (chain-joined mid bucketLinks (bucketHeads + bucket) k (omega arith) room (inBucket ps ws bucket) (rw m at s) (rw m at (buckets b h))))
           (λ s.
           let ne = eqb-false (bucketOf ps (edgeAt ws k)) b s in
-          chain-beside mid 4256 (3232 + bucket) k (omega arith) room (inBucket ps ws b) (3232 + b) (omega arith) (λ q. ne (sym eb ∙ omega arith)) s (buckets b h));
+          chain-beside mid bucketLinks (bucketHeads + bucket) k (omega arith) room (inBucket ps ws b) (bucketHeads + b) (omega arith) (λ q. ne (sym eb ∙ omega arith)) s (buckets b h));
     }

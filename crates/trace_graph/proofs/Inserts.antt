@@ -7,14 +7,15 @@ use native.Mathlib.Omega.{arith}
 use native.Mathlib.Numerals.{add-one}
 use native.Mathlib.Decide.{ℕ-discrete}
 use lib.ListN.{length, getD, set}
+use Rattle.repr.specs.Sizes.{edgeLimit, edgePlace}
 use Rattle.repr.specs.Lists.{some?}
 use Rattle.repr.specs.Meaning.{Production}
 use Rattle.repr.specs.Packed.{Packed, productionsIn}
 use Rattle.trace_graph.specs.declared.TraceEdge.{TraceEdge as EdgeValue}
 use Rattle.trace_graph.specs.Graph.{TraceEdge, sameEdge, add}
-use Rattle.trace_graph.specs.Words.{place, nodeAt, edgeAt, edgesIn}
+use Rattle.trace_graph.specs.Words.{nodeAt, edgeAt, edgesIn}
 use Rattle.trace_graph.specs.Fits.{edgeFits}
-use Rattle.trace_graph.specs.Index.{nodeNumber, bucketOf, into, inBucket, InRange}
+use Rattle.trace_graph.specs.Index.{nodeNumber, bucketOf, into, inBucket, InRange, bucketLimit}
 use Rattle.trace_graph.specs.Values.{nodeIs, edgeIs, valueFits, SmallEdge, edgeRead, valueWords, written, firstEdges}
 use Rattle.trace_graph.specs.Insert.{Graphed, linkedAt, oneMore, addWords, Added, Overfull}
 use Rattle.trace_graph.proofs.Words.{edge-read, edge-target, value-target, fits-read, edge-kept, fits-kept, target-kept, edgeValue, own-value, more-is, more-long, more-count, more-read, more-edge, more-other, edges-first, edges-more}
@@ -55,10 +56,10 @@ module _ (n : ℕ) (ps : List Production) (ws ix : List ℕ) (k : ℕ) (G : Grap
   }
 
   -- edge k linked
-  pub graphed-linked : Bounds n ps → k < 1024 → edgeFits n ps ws k ≡ true → (number bucket : ℕ) → number ≡ nodeNumber (nodeAt ws (place k + 3)) → bucket ≡ bucketOf ps (edgeAt ws k) → bucket < 1024
+  pub graphed-linked : Bounds n ps → k < edgeLimit → edgeFits n ps ws k ≡ true → (number bucket : ℕ) → number ≡ nodeNumber (nodeAt ws (edgePlace k + 3)) → bucket ≡ bucketOf ps (edgeAt ws k) → bucket < bucketLimit
       → Graphed n ps ws (linkedAt ix k number bucket) (k + 1)
   graphed-linked B l h number bucket en eb hb =
-      let t : InRange n ps (nodeAt ws (place k + 3)) =
+      let t : InRange n ps (nodeAt ws (edgePlace k + 3)) =
       rw (sym (edge-target ws k) ∙ ap (λ (f : TraceEdge). f .target) (sym (edge-read ws k)) ∙ value-target (edgeRead ws k)) (value-range n ps (edgeRead ws k .target) (target-fits n ps (edgeRead ws k) (fits-read n ps ws k ∙ h))) in
       record {
         nonterminals = G .nonterminals;
@@ -104,19 +105,19 @@ module _ {g : List ℕ} {m n : ℕ} {ws ix : List ℕ} {v : EdgeValue} {k : ℕ}
         good = A .graph;
       }
 
-  pub insert-full : r ≡ false → k ≡ 1024 → Overfull (productionsIn g m) (edgeIs v) ws ix ws ix
+  pub insert-full : r ≡ false → k ≡ edgeLimit → Overfull (productionsIn g m) (edgeIs v) ws ix ws ix
   insert-full h e = record { words = refl; links = refl; absent = sym known ∙ h; many = sym (A .count) ∙ e }
 
-  module _ (h : r ≡ false) (l : k ≡ 1024 → ⊥) where
-    pub insert-low : k < 1024
-    insert-low = go (native.Mathlib.Decide.decLt k 1024)
+  module _ (h : r ≡ false) (l : k ≡ edgeLimit → ⊥) where
+    pub insert-low : k < edgeLimit
+    insert-low = go (native.Mathlib.Decide.decLt k edgeLimit)
       where
-        go : Dec (k < 1024) → k < 1024
+        go : Dec (k < edgeLimit) → k < edgeLimit
         go (yes q) = q
         go (no q) = absurd (l (omega (arith, A .graph .few)))
 
     pub insert-more : {ws′ ix′ : List ℕ} {number bucket : ℕ} → ws′ ≡ set (written ws k (valueWords v)) 0 (k + 1) → number ≡ nodeNumber (nodeIs (v .target))
-        → (bucket ≡ bucketOf (productionsIn g m) (edgeIs v)) × (bucket < 1024) → ix′ ≡ linkedAt ix k number bucket
+        → (bucket ≡ bucketOf (productionsIn g m) (edgeIs v)) × (bucket < bucketLimit) → ix′ ≡ linkedAt ix k number bucket
         → Added n (productionsIn g m) (edgeIs v) ws ws′ ix′
     insert-more {ws′} {ix′} {number} {bucket} ew en eb ex = record {
       edges = ap edgesIn words ∙ edges-more ws (edgeIs v) room ∙ sym (add-new (productionsIn g m) (edgeIs v) (edgesIn ws) s);
@@ -124,10 +125,10 @@ module _ {g : List ℕ} {m n : ℕ} {ws ix : List ℕ} {v : EdgeValue} {k : ℕ}
       good = rw (words, ex, A .count, more-count ws (getD ws 0 0) (edgeIs v) room) after;
     }
       where
-        low : getD ws 0 0 < 1024
+        low : getD ws 0 0 < edgeLimit
         low = rw (A .count) at insert-low
 
-        room : getD ws 0 0 * 8 + 9 ≤ length ws
+        room : edgePlace (getD ws 0 0 + 1) ≤ length ws
         room = omega (arith, low, A .graph .long)
 
         s : some? (sameEdge (productionsIn g m) (edgeIs v)) (edgesIn ws) ≡ false
@@ -145,7 +146,7 @@ module _ {g : List ℕ} {m n : ℕ} {ws ix : List ℕ} {v : EdgeValue} {k : ℕ}
             ∙ ap (valueFits n (productionsIn g m)) (more-read ws (getD ws 0 0) (edgeIs v) room ∙ own)
             ∙ A .fits
 
-        target : nodeAt (oneMore ws (getD ws 0 0) (edgeIs v)) (place (getD ws 0 0) + 3) ≡ nodeIs (v .target)
+        target : nodeAt (oneMore ws (getD ws 0 0) (edgeIs v)) (edgePlace (getD ws 0 0) + 3) ≡ nodeIs (v .target)
         target =
             sym (edge-target (oneMore ws (getD ws 0 0) (edgeIs v)) (getD ws 0 0))
             ∙ ap (λ (f : TraceEdge). f .target) (more-edge ws (getD ws 0 0) (edgeIs v) room)

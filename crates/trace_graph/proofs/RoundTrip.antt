@@ -8,12 +8,13 @@ use native.Mathlib.Omega.{arith}
 use lib.ListN.{length, getD, List·getD-append}
 use lib.Seq.{getD-append-add, ext-getD}
 use borrow.Author.Tests.{lt-ltb, le-leb}
+use Rattle.repr.specs.Sizes.{edgeLimit, edgeRoom, edgePlace}
 use Rattle.repr.specs.Lists.{below, joined}
 use Rattle.repr.specs.Meaning.{Item, Production, All}
 use Rattle.repr.proofs.Lists.{length-map-below, getD-map-below, joined-cons}
 use Rattle.repr.proofs.Tests.{All-at, every?-below-intro}
 use Rattle.trace_graph.specs.Graph.{Node, atNonterminal, atItem, TraceEdge}
-use Rattle.trace_graph.specs.Words.{edgeLimit, place, nodeWords, edgeWords, graphWords, nodeOf, nodeAt, edgeAt, edgesIn}
+use Rattle.trace_graph.specs.Words.{nodeWords, edgeWords, graphWords, nodeOf, nodeAt, edgeAt, edgesIn}
 use Rattle.trace_graph.specs.Fits.{itemFits, nodeFits, edgeFits, once, graphFits}
 use Rattle.trace_graph.specs.Index.{InRange}
 
@@ -52,27 +53,27 @@ edge-read e = read (e .source) (e .target) (e .label)
 -- word c of edge k
 
 body-word : (es : List TraceEdge) (rest : List ℕ) (k c : ℕ) (d : TraceEdge) → k < length es → c < 8
-    → getD (joined edgeWords es ++ rest) (k * 8 + c) 0 ≡ getD (edgeWords (getD es k d)) c 0
+    → getD (joined edgeWords es ++ rest) (k * edgeRoom + c) 0 ≡ getD (edgeWords (getD es k d)) c 0
 body-word [] rest k c d h l = absurd (omega arith)
 body-word (e ∷ es) rest zero c d h l =
     let n = length-edge e in
-    let z : 0 * 8 + c ≡ c = omega arith in
+    let z : 0 * edgeRoom + c ≡ c = omega arith in
     rw (joined-cons edgeWords e es, append-assoc (edgeWords e) (joined edgeWords es) rest, z)
     (List·getD-append (edgeWords e) (joined edgeWords es ++ rest) 0 c (omega arith))
 body-word (e ∷ es) rest (suc k) c d h l =
     let n = length-edge e in
-    let z : suc k * 8 + c ≡ length (edgeWords e) + (k * 8 + c) = omega arith in
+    let z : suc k * edgeRoom + c ≡ length (edgeWords e) + (k * edgeRoom + c) = omega arith in
     rw (joined-cons edgeWords e es, append-assoc (edgeWords e) (joined edgeWords es) rest, z)
-    (getD-append-add (edgeWords e) (joined edgeWords es ++ rest) (k * 8 + c) 0 ∙ body-word es rest k c d (omega arith) l)
+    (getD-append-add (edgeWords e) (joined edgeWords es ++ rest) (k * edgeRoom + c) 0 ∙ body-word es rest k c d (omega arith) l)
 
 module _ (es : List TraceEdge) (rest : List ℕ) (k : ℕ) (d : TraceEdge) (h : k < length es) where
-  pub word-read : (c : ℕ) → c < 8 → getD (graphWords es ++ rest) (place k + c) 0 ≡ getD (edgeWords (getD es k d)) c 0
-  unfolding graphWords place
+  pub word-read : (c : ℕ) → c < 8 → getD (graphWords es ++ rest) (edgePlace k + c) 0 ≡ getD (edgeWords (getD es k d)) c 0
+  unfolding graphWords
   word-read c l =
-      let z : k * 8 + 1 + c ≡ suc (k * 8 + c) = omega arith in
+      let z : edgePlace k + c ≡ suc (k * edgeRoom + c) = omega arith in
       rw z (body-word es rest k c d h l)
 
-  word-from : (a c : ℕ) → a ≡ place k + c → c < 8 → getD (graphWords es ++ rest) a 0 ≡ getD (edgeWords (getD es k d)) c 0
+  word-from : (a c : ℕ) → a ≡ edgePlace k + c → c < 8 → getD (graphWords es ++ rest) a 0 ≡ getD (edgeWords (getD es k d)) c 0
   word-from a c e l = rw e (word-read c l)
 
   pub edge-at : edgeAt (graphWords es ++ rest) k ≡ getD es k d
@@ -81,14 +82,14 @@ module _ (es : List TraceEdge) (rest : List ℕ) (k : ℕ) (d : TraceEdge) (h : 
     where
       gathered : edgeAt (graphWords es ++ rest) k ≡ edgeIn (edgeWords (getD es k d))
       gathered =
-          let p0 = word-from (place k) 0 (omega arith) (omega arith) in
-          let p1 = word-from (place k + 1) 1 refl (omega arith) in
-          let p2 = word-from (place k + 2) 2 refl (omega arith) in
-          let p3 = word-from (place k + 3) 3 refl (omega arith) in
-          let p4 = word-from (place k + 3 + 1) 4 (omega arith) (omega arith) in
-          let p5 = word-from (place k + 3 + 2) 5 (omega arith) (omega arith) in
-          let p6 = word-from (place k + 6) 6 refl (omega arith) in
-          let p7 = word-from (place k + 7) 7 refl (omega arith) in
+          let p0 = word-from (edgePlace k) 0 (omega arith) (omega arith) in
+          let p1 = word-from (edgePlace k + 1) 1 refl (omega arith) in
+          let p2 = word-from (edgePlace k + 2) 2 refl (omega arith) in
+          let p3 = word-from (edgePlace k + 3) 3 refl (omega arith) in
+          let p4 = word-from (edgePlace k + 3 + 1) 4 (omega arith) (omega arith) in
+          let p5 = word-from (edgePlace k + 3 + 2) 5 (omega arith) (omega arith) in
+          let p6 = word-from (edgePlace k + 6) 6 refl (omega arith) in
+          let p7 = word-from (edgePlace k + 7) 7 refl (omega arith) in
           λ j. record { source = nodeOf (p0 j) (p1 j) (p2 j); target = nodeOf (p3 j) (p4 j) (p5 j); label = record { production = p6 j; index = p7 j } }
 
 noEdge : TraceEdge
@@ -143,14 +144,14 @@ module _ (n : ℕ) (ps : List Production) where
   unfolding edgeFits wordsFit
   edge-fits es rest k h a =
       rw (
-        word-from es rest k noEdge h (place k) 0 (omega arith) (omega arith),
-        word-from es rest k noEdge h (place k + 1) 1 refl (omega arith),
-        word-from es rest k noEdge h (place k + 2) 2 refl (omega arith),
-        word-from es rest k noEdge h (place k + 3) 3 refl (omega arith),
-        word-from es rest k noEdge h (place k + 4) 4 refl (omega arith),
-        word-from es rest k noEdge h (place k + 5) 5 refl (omega arith),
-        word-from es rest k noEdge h (place k + 6) 6 refl (omega arith),
-        word-from es rest k noEdge h (place k + 7) 7 refl (omega arith),
+        word-from es rest k noEdge h (edgePlace k) 0 (omega arith) (omega arith),
+        word-from es rest k noEdge h (edgePlace k + 1) 1 refl (omega arith),
+        word-from es rest k noEdge h (edgePlace k + 2) 2 refl (omega arith),
+        word-from es rest k noEdge h (edgePlace k + 3) 3 refl (omega arith),
+        word-from es rest k noEdge h (edgePlace k + 4) 4 refl (omega arith),
+        word-from es rest k noEdge h (edgePlace k + 5) 5 refl (omega arith),
+        word-from es rest k noEdge h (edgePlace k + 6) 6 refl (omega arith),
+        word-from es rest k noEdge h (edgePlace k + 7) 7 refl (omega arith),
       )
       (edge-words-fit (getD es k noEdge) (All-at (EdgeInRange n ps) es k noEdge a h))
 

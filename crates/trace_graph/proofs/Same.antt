@@ -9,34 +9,21 @@ use lib.ListN.{length, getD, drop, drop-of-length-le}
 use lib.Seq.{drop-cons}
 use lib.Dec.{eqb}
 use borrow.Author.Tests.{eqb-true, eq-eqb, ne-eqb}
+use Rattle.repr.specs.Sizes.{nonterminalLimit, terminalLimit}
+use Rattle.slices.proofs.Same.{same-words-eq, same-words-refl}
+use Rattle.slices.specs.Same.{sameWords}
 use Rattle.repr.specs.Listed.{symbolOfKind, listed, symbolFits, listFits}
 use Rattle.repr.proofs.Listed.{symbol-range}
 use Rattle.trace_graph.specs.Graph.{sameSymbols}
-use Rattle.trace_graph.specs.Same.{sameWords}
 use Rattle.trace_graph.proofs.Bools.{both, and-left, and-right, agree, never}
 use Rattle.trace_graph.proofs.Labels.{symbols-equal, symbols-refl}
 
-pub words-equal : (a b : List ℕ) → sameWords a b ≡ true → a ≡ b
-unfolding sameWords
-words-equal [] [] e = refl
-words-equal [] (y ∷ b) e = absurd (true≢false (sym e))
-words-equal (x ∷ a) [] e = absurd (true≢false (sym e))
-words-equal (x ∷ a) (y ∷ b) e =
-    let p = eqb-true x y (and-left _ _ e) in
-    let q = words-equal a b (and-right (eqb x y) _ e) in
-    cc
-
-pub words-refl : (a : List ℕ) → sameWords a a ≡ true
-unfolding sameWords
-words-refl [] = refl
-words-refl (x ∷ a) = both _ _ (eq-eqb x x refl) (words-refl a)
-
 -- the ways through the loop that compares
 pub words-lengths : (a b : List ℕ) → (length a ≡ length b → ⊥) → false ≡ sameWords a b
-words-lengths a b ne = sym (never (sameWords a b) (λ e. ne (ap length (words-equal a b e))))
+words-lengths a b ne = sym (never (sameWords a b) (λ e. ne (ap length (same-words-eq a b e))))
 
 pub words-end : (a b : List ℕ) (at : ℕ) → length a ≡ length b → length a ≤ at → sameWords (drop at a) (drop at b) ≡ true
-words-end a b at l h = rw (drop-of-length-le a h, drop-of-length-le b {i = at} (omega arith)) (words-refl [])
+words-end a b at l h = rw (drop-of-length-le a h, drop-of-length-le b {i = at} (omega arith)) (same-words-refl [])
 
 module _ (a b : List ℕ) (at : ℕ) (l : length a ≡ length b) (h : at < length a) where
   here : sameWords (drop at a) (drop at b) ≡ eqb (getD a at 0) (getD b at 0) && sameWords (drop (at + 1) a) (drop (at + 1) b)
@@ -57,7 +44,7 @@ same-kind zero x (suc m) y hk hm e = let z : _≡_ {A = ℕ} 0 1 = cc in absurd 
 same-kind (suc k) x zero y hk hm e = let z : _≡_ {A = ℕ} 0 1 = cc in absurd (omega arith)
 same-kind (suc k) x (suc m) y hk hm e = (omega arith, cc)
 
-listed-one : (a b : List ℕ) → listFits 32 63 a ≡ true → listFits 32 63 b ≡ true → listed a ≡ listed b → a ≡ b
+listed-one : (a b : List ℕ) → listFits nonterminalLimit terminalLimit a ≡ true → listFits nonterminalLimit terminalLimit b ≡ true → listed a ≡ listed b → a ≡ b
 unfolding listed listFits
 listed-one [] [] f g e = refl
 listed-one [] (m ∷ []) f g e = absurd (true≢false (sym g))
@@ -66,16 +53,16 @@ listed-one (k ∷ []) b f g e = absurd (true≢false (sym f))
 listed-one (k ∷ x ∷ a) [] f g e = let z : _≡_ {A = ℕ} 0 1 = cc in absurd (omega arith)
 listed-one (k ∷ x ∷ a) (m ∷ []) f g e = absurd (true≢false (sym g))
 listed-one (k ∷ x ∷ a) (m ∷ y ∷ b) f g e =
-    let hk = symbol-range 32 63 k x (and-left _ _ f) .0 in
-    let hm = symbol-range 32 63 m y (and-left _ _ g) .0 in
+    let hk = symbol-range nonterminalLimit terminalLimit k x (and-left _ _ f) .0 in
+    let hm = symbol-range nonterminalLimit terminalLimit m y (and-left _ _ g) .0 in
     let s : symbolOfKind k x ≡ symbolOfKind m y = cc in
     let t : listed a ≡ listed b = cc in
     let p = same-kind k x m y hk hm s in
-    let q = listed-one a b (and-right (symbolFits 32 63 k x) _ f) (and-right (symbolFits 32 63 m y) _ g) t in
+    let q = listed-one a b (and-right (symbolFits nonterminalLimit terminalLimit k x) _ f) (and-right (symbolFits nonterminalLimit terminalLimit m y) _ g) t in
     cc (p .0, p .1)
 
-pub words-symbols : (a b : List ℕ) → listFits 32 63 a ≡ true → listFits 32 63 b ≡ true → sameWords a b ≡ sameSymbols (listed a) (listed b)
+pub words-symbols : (a b : List ℕ) → listFits nonterminalLimit terminalLimit a ≡ true → listFits nonterminalLimit terminalLimit b ≡ true → sameWords a b ≡ sameSymbols (listed a) (listed b)
 words-symbols a b f g =
     agree (sameWords a b) (sameSymbols (listed a) (listed b))
-    (λ e. rw (words-equal a b e) (symbols-refl (listed b)))
-    (λ e. rw (listed-one a b f g (symbols-equal (listed a) (listed b) e)) (words-refl b))
+    (λ e. rw (same-words-eq a b e) (symbols-refl (listed b)))
+    (λ e. rw (listed-one a b f g (symbols-equal (listed a) (listed b) e)) (same-words-refl b))

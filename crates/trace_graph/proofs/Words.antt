@@ -9,13 +9,14 @@ use lib.ListN.{length, getD, set, length-set}
 use lib.Dec.{ltb}
 use borrow.Author.Tests.{eqb-true}
 use lib.Seq.{sets, length-sets, getD-set-same, getD-set-other}
+use Rattle.repr.specs.Sizes.{edgePlace}
 use Rattle.repr.specs.Lists.{upFrom, below}
 use Rattle.repr.specs.Meaning.{Production}
 use Rattle.repr.proofs.Lists.{below-last, length-map-below}
 use Rattle.trace_graph.specs.declared.Node.{Node as NodeValue}
 use Rattle.trace_graph.specs.declared.TraceEdge.{TraceEdge as EdgeValue}
 use Rattle.trace_graph.specs.Graph.{Node, atNonterminal, atItem, TraceEdge}
-use Rattle.trace_graph.specs.Words.{place, nodeWords, edgeWords, nodeOf, nodeAt, edgeAt, edgesIn}
+use Rattle.trace_graph.specs.Words.{nodeWords, edgeWords, nodeOf, nodeAt, edgeAt, edgesIn}
 use Rattle.trace_graph.specs.Fits.{nodeFits, edgeFits}
 use Rattle.trace_graph.specs.Values.{nodeIs, edgeIs, nodeValueFits, valueFits, nodeRead, edgeRead, valueWords, written, firstEdges}
 use Rattle.trace_graph.specs.Insert.{oneMore}
@@ -32,7 +33,7 @@ pub edge-read : (ws : List ℕ) (k : ℕ) → edgeIs (edgeRead ws k) ≡ edgeAt 
 unfolding edgeIs edgeRead edgeAt nodeIs nodeRead nodeAt
 edge-read ws k = refl
 
-pub edge-target : (ws : List ℕ) (k : ℕ) → edgeAt ws k .target ≡ nodeAt ws (place k + 3)
+pub edge-target : (ws : List ℕ) (k : ℕ) → edgeAt ws k .target ≡ nodeAt ws (edgePlace k + 3)
 unfolding edgeAt
 edge-target ws k = refl
 
@@ -43,8 +44,8 @@ value-target v = refl
 pub fits-read : (n : ℕ) (ps : List Production) (ws : List ℕ) (k : ℕ) → valueFits n ps (edgeRead ws k) ≡ edgeFits n ps ws k
 unfolding valueFits nodeValueFits edgeRead nodeRead edgeFits
 fits-read n ps ws k =
-    let a : place k + 3 + 1 ≡ place k + 4 = omega arith in
-    let b : place k + 3 + 2 ≡ place k + 5 = omega arith in
+    let a : edgePlace k + 3 + 1 ≡ edgePlace k + 4 = omega arith in
+    let b : edgePlace k + 3 + 2 ≡ edgePlace k + 5 = omega arith in
     rw (a, b)
 
 -- an edge's words
@@ -53,12 +54,12 @@ pub words-count : (v : EdgeValue) → length (valueWords v) ≡ 8
 unfolding valueWords
 words-count v = refl
 
-read-of : (ws : List ℕ) (k : ℕ) (v : EdgeValue) → ((i : ℕ) → i < 8 → getD ws (place k + i) 0 ≡ getD (valueWords v) i 0) → edgeRead ws k ≡ v
+read-of : (ws : List ℕ) (k : ℕ) (v : EdgeValue) → ((i : ℕ) → i < 8 → getD ws (edgePlace k + i) 0 ≡ getD (valueWords v) i 0) → edgeRead ws k ≡ v
 unfolding edgeRead nodeRead valueWords
 read-of ws k v h =
-    let a : place k + 3 + 1 ≡ place k + 4 = omega arith in
-    let b : place k + 3 + 2 ≡ place k + 5 = omega arith in
-    let z : place k ≡ place k + 0 = omega arith in
+    let a : edgePlace k + 3 + 1 ≡ edgePlace k + 4 = omega arith in
+    let b : edgePlace k + 3 + 2 ≡ edgePlace k + 5 = omega arith in
+    let z : edgePlace k ≡ edgePlace k + 0 = omega arith in
     make
     (ap (λ (i : ℕ). getD ws i 0) z ∙ h 0 (omega arith)) (h 1 (omega arith)) (h 2 (omega arith))
     (h 3 (omega arith)) (ap (λ (i : ℕ). getD ws i 0) a ∙ h 4 (omega arith)) (ap (λ (i : ℕ). getD ws i 0) b ∙ h 5 (omega arith))
@@ -80,20 +81,20 @@ pub node-made : (ws : List ℕ) (at a b c : ℕ) → a ≡ getD ws at 0 → b �
 unfolding nodeIs nodeAt nodeRead
 node-made ws at a b c x y z = rw (x, y, z) (refl, refl)
 
-pub edge-made : (ws : List ℕ) (k : ℕ) (s t : NodeValue) (p i : ℕ) → s ≡ nodeRead ws (k * 8 + 1) → t ≡ nodeRead ws (k * 8 + 1 + 3) → p ≡ getD ws (k * 8 + 1 + 6) 0 → i ≡ getD ws (k * 8 + 1 + 7) 0
+pub edge-made : (ws : List ℕ) (k : ℕ) (s t : NodeValue) (p i : ℕ) → s ≡ nodeRead ws (edgePlace k) → t ≡ nodeRead ws (edgePlace k + 3) → p ≡ getD ws (edgePlace k + 6) 0 → i ≡ getD ws (edgePlace k + 7) 0
     → (edgeIs (record { source = s; target = t; production = p; index = i }) ≡ edgeAt ws k) × (record { source = s; target = t; production = p; index = i } ≡ edgeRead ws k)
-unfolding place edgeRead
+unfolding edgeRead
 edge-made ws k s t p i x y z w =
     let e : _≡_ {A = EdgeValue} (record { source = s; target = t; production = p; index = i }) (edgeRead ws k) = rw (x, y, z, w) in
     (ap edgeIs e ∙ edge-read ws k, e)
 
 pub words-stored : (ws : List ℕ) (k : ℕ) (v : EdgeValue)
-    → set (set (set (set (set (set (set (set ws (k * 8 + 1) (v .source .kind)) (k * 8 + 1 + 1) (v .source .number)) (k * 8 + 1 + 2) (v .source .index)) (k * 8 + 1 + 3) (v .target .kind)) (k * 8 + 1 + 4) (v .target .number)) (k * 8 + 1 + 5) (v .target .index)) (k * 8 + 1 + 6) (v .production)) (k * 8 + 1 + 7) (v .index) ≡ written ws k (valueWords v)
-unfolding written valueWords place
-words-stored ws k v = rw (add-two (k * 8 + 1), add-three (k * 8 + 1), add-four (k * 8 + 1), add-five (k * 8 + 1), add-six (k * 8 + 1), add-seven (k * 8 + 1), add-one (k * 8 + 1))
+    → set (set (set (set (set (set (set (set ws (edgePlace k) (v .source .kind)) (edgePlace k + 1) (v .source .number)) (edgePlace k + 2) (v .source .index)) (edgePlace k + 3) (v .target .kind)) (edgePlace k + 4) (v .target .number)) (edgePlace k + 5) (v .target .index)) (edgePlace k + 6) (v .production)) (edgePlace k + 7) (v .index) ≡ written ws k (valueWords v)
+unfolding written valueWords
+words-stored ws k v = rw (add-two (edgePlace k), add-three (edgePlace k), add-four (edgePlace k), add-five (edgePlace k), add-six (edgePlace k), add-seven (edgePlace k), add-one (edgePlace k))
 
 -- each word of an edge read
-read-word : (ws : List ℕ) (k i : ℕ) → i < 8 → getD (valueWords (edgeRead ws k)) i 0 ≡ getD ws (place k + i) 0
+read-word : (ws : List ℕ) (k i : ℕ) → i < 8 → getD (valueWords (edgeRead ws k)) i 0 ≡ getD ws (edgePlace k + i) 0
 unfolding valueWords edgeRead nodeRead
 read-word ws k zero h = ap (λ (i : ℕ). getD ws i 0) (omega arith)
 read-word ws k (suc zero) h = refl
@@ -106,7 +107,7 @@ read-word ws k (suc (suc (suc (suc (suc (suc (suc zero))))))) h = refl
 read-word ws k (suc (suc (suc (suc (suc (suc (suc (suc i)))))))) h = absurd (omega arith)
 
 -- an edge whose words are unchanged is unchanged
-pub read-kept : (ws ws′ : List ℕ) (k : ℕ) → ((i : ℕ) → i < 8 → getD ws′ (place k + i) 0 ≡ getD ws (place k + i) 0) → edgeRead ws′ k ≡ edgeRead ws k
+pub read-kept : (ws ws′ : List ℕ) (k : ℕ) → ((i : ℕ) → i < 8 → getD ws′ (edgePlace k + i) 0 ≡ getD ws (edgePlace k + i) 0) → edgeRead ws′ k ≡ edgeRead ws k
 read-kept ws ws′ k h = read-of ws′ k (edgeRead ws k) (λ i l. h i l ∙ sym (read-word ws k i l))
 
 module _ (ws ws′ : List ℕ) (k : ℕ) (e : edgeRead ws′ k ≡ edgeRead ws k) where
@@ -116,7 +117,7 @@ module _ (ws ws′ : List ℕ) (k : ℕ) (e : edgeRead ws′ k ≡ edgeRead ws k
   pub fits-kept : (n : ℕ) (ps : List Production) → edgeFits n ps ws′ k ≡ edgeFits n ps ws k
   fits-kept n ps = sym (fits-read n ps ws′ k) ∙ ap (valueFits n ps) e ∙ fits-read n ps ws k
 
-  pub target-kept : nodeAt ws′ (place k + 3) ≡ nodeAt ws (place k + 3)
+  pub target-kept : nodeAt ws′ (edgePlace k + 3) ≡ nodeAt ws (edgePlace k + 3)
   target-kept = sym (edge-target ws′ k) ∙ ap (λ (f : TraceEdge). f .target) edge-kept ∙ edge-target ws k
 
 -- the value of an edge, whose words are its own
@@ -171,28 +172,28 @@ value-words e = rw (node-words (e .source), node-words (e .target))
 module _ (ws : List ℕ) (k : ℕ) (v : EdgeValue) where
   pub written-long : length (written ws k (valueWords v)) ≡ length ws
   unfolding written
-  written-long = length-sets ws (place k) (valueWords v)
+  written-long = length-sets ws (edgePlace k) (valueWords v)
 
   pub written-count : getD (written ws k (valueWords v)) 0 0 ≡ getD ws 0 0
-  unfolding written place
-  written-count = stored-before (valueWords v) ws (k * 8 + 1) 0 (omega arith)
+  unfolding written
+  written-count = stored-before (valueWords v) ws (edgePlace k) 0 (omega arith)
 
-  pub read-written : k * 8 + 9 ≤ length ws → edgeRead (written ws k (valueWords v)) k ≡ v
-  unfolding written place
+  pub read-written : edgePlace (k + 1) ≤ length ws → edgeRead (written ws k (valueWords v)) k ≡ v
+  unfolding written
   read-written l =
       let c = words-count v in
-      read-of (written ws k (valueWords v)) k v (λ i h. stored-at (valueWords v) ws (k * 8 + 1) i (omega arith) (omega arith))
+      read-of (written ws k (valueWords v)) k v (λ i h. stored-at (valueWords v) ws (edgePlace k) i (omega arith) (omega arith))
 
   pub written-other : (j : ℕ) → (j ≡ k → ⊥) → edgeRead (written ws k (valueWords v)) j ≡ edgeRead ws j
-  unfolding written place
+  unfolding written
   written-other j ne = read-kept ws (written ws k (valueWords v)) j (λ i h. go i h (native.Mathlib.Decide.decLt j k))
     where
-      go : (i : ℕ) → i < 8 → Dec (j < k) → getD (sets ws (k * 8 + 1) (valueWords v)) (j * 8 + 1 + i) 0 ≡ getD ws (j * 8 + 1 + i) 0
-      go i h (yes l) = stored-before (valueWords v) ws (k * 8 + 1) (j * 8 + 1 + i) (omega arith)
-      go i h (no g) = let c = words-count v in stored-after (valueWords v) ws (k * 8 + 1) (j * 8 + 1 + i) (omega arith)
+      go : (i : ℕ) → i < 8 → Dec (j < k) → getD (sets ws (edgePlace k) (valueWords v)) (edgePlace j + i) 0 ≡ getD ws (edgePlace j + i) 0
+      go i h (yes l) = stored-before (valueWords v) ws (edgePlace k) (edgePlace j + i) (omega arith)
+      go i h (no g) = let c = words-count v in stored-after (valueWords v) ws (edgePlace k) (edgePlace j + i) (omega arith)
 
 -- a graph whose count is k, with an edge more
-module _ (ws : List ℕ) (k : ℕ) (e : TraceEdge) (l : k * 8 + 9 ≤ length ws) where
+module _ (ws : List ℕ) (k : ℕ) (e : TraceEdge) (l : edgePlace (k + 1) ≤ length ws) where
   pub more-is : oneMore ws k e ≡ set (written ws k (valueWords (edgeValue e))) 0 (k + 1)
   unfolding oneMore
   more-is = rw (value-words e)
@@ -206,10 +207,9 @@ module _ (ws : List ℕ) (k : ℕ) (e : TraceEdge) (l : k * 8 + 9 ≤ length ws)
       ap (λ (l : List ℕ). getD l 0 0) more-is ∙ getD-set-same (written ws k (valueWords (edgeValue e))) 0 (k + 1) 0 (omega arith)
 
   behind : (j : ℕ) → edgeRead (oneMore ws k e) j ≡ edgeRead (written ws k (valueWords (edgeValue e))) j
-  unfolding place
   behind j =
       ap (λ (l : List ℕ). edgeRead l j) more-is
-      ∙ read-kept (written ws k (valueWords (edgeValue e))) (set (written ws k (valueWords (edgeValue e))) 0 (k + 1)) j (λ i h. getD-set-other (written ws k (valueWords (edgeValue e))) 0 (j * 8 + 1 + i) (k + 1) 0 (λ q. omega arith))
+      ∙ read-kept (written ws k (valueWords (edgeValue e))) (set (written ws k (valueWords (edgeValue e))) 0 (k + 1)) j (λ i h. getD-set-other (written ws k (valueWords (edgeValue e))) 0 (edgePlace j + i) (k + 1) 0 (λ q. omega arith))
 
   pub more-read : edgeRead (oneMore ws k e) k ≡ edgeValue e
   more-read = behind k ∙ read-written ws k (edgeValue e) l
@@ -245,7 +245,7 @@ first-kept ws ws′ (suc k) h =
     ∙ rw (first-kept ws ws′ k (λ j l. h j (omega arith)), h k (omega arith)) (sym (first-more ws k))
 
 -- one edge more is the last
-pub edges-more : (ws : List ℕ) (e : TraceEdge) → getD ws 0 0 * 8 + 9 ≤ length ws → edgesIn (oneMore ws (getD ws 0 0) e) ≡ edgesIn ws ++ e ∷ []
+pub edges-more : (ws : List ℕ) (e : TraceEdge) → edgePlace (getD ws 0 0 + 1) ≤ length ws → edgesIn (oneMore ws (getD ws 0 0) e) ≡ edgesIn ws ++ e ∷ []
 edges-more ws e l =
     let k = getD ws 0 0 in
     let s : k + 1 ≡ suc k = omega arith in

@@ -5,10 +5,11 @@ use mathlib.Core.Bool.{Bool, true, false, _&&_, not}
 use mathlib.Core.List.{List, [], _∷_}
 use lib.ListN.{length, getD}
 use lib.Dec.{eqb, ltb, leb}
+use Rattle.repr.specs.Sizes.{edgeLimit, edgePlace}
 use Rattle.repr.specs.Lists.{below, some?, every?}
 use Rattle.repr.specs.Meaning.{Production, noProduction}
 use Rattle.trace_graph.specs.Graph.{TraceEdge, sameEdge}
-use Rattle.trace_graph.specs.Words.{edgeLimit, place, edgesIn}
+use Rattle.trace_graph.specs.Words.{edgesIn}
 
 -- a production in range and an index of at most its length
 unfoldable pub itemFits : List Production → ℕ → ℕ → Bool
@@ -22,9 +23,9 @@ nodeFits n ps (suc (suc k)) a b = false
 
 unfoldable pub edgeFits : ℕ → List Production → List ℕ → ℕ → Bool
 edgeFits n ps ws k =
-    nodeFits n ps (getD ws (place k) 0) (getD ws (place k + 1) 0) (getD ws (place k + 2) 0)
-    && (nodeFits n ps (getD ws (place k + 3) 0) (getD ws (place k + 4) 0) (getD ws (place k + 5) 0)
-    && itemFits ps (getD ws (place k + 6) 0) (getD ws (place k + 7) 0))
+    nodeFits n ps (getD ws (edgePlace k) 0) (getD ws (edgePlace k + 1) 0) (getD ws (edgePlace k + 2) 0)
+    && (nodeFits n ps (getD ws (edgePlace k + 3) 0) (getD ws (edgePlace k + 4) 0) (getD ws (edgePlace k + 5) 0)
+    && itemFits ps (getD ws (edgePlace k + 6) 0) (getD ws (edgePlace k + 7) 0))
 
 -- no edge twice
 unfoldable pub once : List Production → List TraceEdge → Bool

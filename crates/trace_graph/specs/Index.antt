@@ -1,24 +1,41 @@
--- The edges in chains, newest first, as the code keeps them beside a graph. By target, for the listing: 2,208 words, one for each node (a nonterminal n: n; an item: 32 + production * 17 + index), which hold 0 or one more
--- than the number of the latest edge into the node; then 1,024 words, one for each edge, which hold the next older edge into the same node in the same way. By bucket, to look for an equal edge: 1,024 words, one for each
--- bucket, and 1,024 words, one for each edge, alike. Assumes nothing: these are definitions.
+-- The edges in chains, newest first, as the code keeps them beside a graph. By target, for the listing: a word for each node, which holds 0 or one more than the number of the latest
+-- edge into the node; then a word for each edge, which holds the next older edge into the same node in the same way. By bucket, to look for an equal edge: a word for each bucket, and a word for each edge, alike. Assumes nothing: these are definitions.
 use Prim.Native.Nat.{ℕ, zero, suc, _+_, _*_, _%_, _<_}
 use mathlib.Core.Bool.{Bool, true, false}
 use mathlib.Core.Path.{_≡_}
 use mathlib.Core.List.{List, [], _∷_}
 use lib.ListN.{length, getD}
 use lib.Dec.{eqb}
+use Rattle.repr.specs.Sizes.{nonterminalLimit, indexLimit, itemLimit, edgeLimit, edgePlace}
 use Rattle.repr.specs.Meaning.{Symbol, nonterminal, terminal, Production, noProduction, Item}
 use Rattle.trace_graph.specs.Graph.{Node, atNonterminal, atItem, sameNode, TraceEdge}
-use Rattle.trace_graph.specs.Words.{place, nodeAt, edgeAt}
+use Rattle.trace_graph.specs.Words.{nodeAt, edgeAt}
 use Rattle.trace_graph.specs.Fits.{itemFits}
+
+-- nodes, which are the nonterminals and then the items
+abbrev pub nodeLimit : ℕ
+nodeLimit = nonterminalLimit + itemLimit
+
+abbrev pub bucketLimit : ℕ
+bucketLimit = edgeLimit
+
+-- where the words of the buckets begin, behind them those of the edges within buckets, and how many there are in all
+abbrev pub bucketHeads : ℕ
+bucketHeads = nodeLimit + edgeLimit
+
+abbrev pub bucketLinks : ℕ
+bucketLinks = bucketHeads + bucketLimit
+
+abbrev pub indexRoom : ℕ
+indexRoom = bucketLinks + edgeLimit
 
 unfoldable pub nodeNumber : Node → ℕ
 nodeNumber (atNonterminal n) = n
-nodeNumber (atItem i) = 32 + (i .production * 17 + i .index)
+nodeNumber (atItem i) = nonterminalLimit + (i .production * indexLimit + i .index)
 
 unfoldable pub symbolNumber : Symbol → ℕ
 symbolNumber (nonterminal n) = n
-symbolNumber (terminal n) = 32 + n
+symbolNumber (terminal n) = nonterminalLimit + n
 
 -- symbols mixed into a number
 unfoldable pub mixed : ℕ → List Symbol → ℕ
@@ -29,11 +46,11 @@ mixed h (x ∷ xs) = mixed ((h * 211 + symbolNumber x) % 65536) xs
 unfoldable pub bucketOf : List Production → TraceEdge → ℕ
 bucketOf ps e =
     mixed ((nodeNumber (e .source) * 3001 + (nodeNumber (e .target) * 613 + e .label .index * 89)) % 65536) (getD ps (e .label .production) noProduction .symbols)
-    % 1024
+    % bucketLimit
 
 -- edge j is into v
 unfoldable pub into : List ℕ → Node → ℕ → Bool
-into ws v j = sameNode (nodeAt ws (place j + 3)) v
+into ws v j = sameNode (nodeAt ws (edgePlace j + 3)) v
 
 -- edge j is in bucket b
 unfoldable pub inBucket : List Production → List ℕ → ℕ → ℕ → Bool
@@ -56,6 +73,6 @@ InRange n ps (atItem i) = itemFits ps (i .production) (i .index) ≡ true
 
 -- the index of the first k edges of ws
 pub record Indexed (n : ℕ) (ps : List Production) (ws ix : List ℕ) (k : ℕ) : Type 0 where
-  pub long : length ix ≡ 5280
-  pub linked : (v : Node) → InRange n ps v → Linked ix 2208 (getD ix (nodeNumber v) 0) (newest (into ws v) k)
-  pub bucketed : (b : ℕ) → b < 1024 → Linked ix 4256 (getD ix (3232 + b) 0) (newest (inBucket ps ws b) k)
+  pub long : length ix ≡ indexRoom
+  pub linked : (v : Node) → InRange n ps v → Linked ix nodeLimit (getD ix (nodeNumber v) 0) (newest (into ws v) k)
+  pub bucketed : (b : ℕ) → b < bucketLimit → Linked ix bucketLinks (getD ix (bucketHeads + b) 0) (newest (inBucket ps ws b) k)

@@ -5,18 +5,19 @@ use mathlib.Core.Bool.{Bool, true, false, not}
 use mathlib.Core.Path.{_≡_}
 use mathlib.Core.List.{List}
 use lib.ListN.{length, getD, set}
+use Rattle.repr.specs.Sizes.{edgeLimit, graphRoom}
 use Rattle.repr.specs.Lists.{some?}
 use Rattle.repr.specs.Meaning.{Production}
 use Rattle.trace_graph.specs.Graph.{TraceEdge, sameEdge, add}
-use Rattle.trace_graph.specs.Words.{edgeLimit, edgeWords, edgeAt, edgesIn}
+use Rattle.trace_graph.specs.Words.{edgeWords, edgeAt, edgesIn}
 use Rattle.trace_graph.specs.Fits.{edgeFits}
-use Rattle.trace_graph.specs.Index.{Indexed}
+use Rattle.trace_graph.specs.Index.{Indexed, nodeLimit, bucketHeads, bucketLinks}
 use Rattle.trace_graph.specs.Values.{written, firstEdges}
 
 -- the first k edges of ws, each in range, and their index
 pub record Graphed (n : ℕ) (ps : List Production) (ws ix : List ℕ) (k : ℕ) : Type 0 where
   pub nonterminals : n ≤ 32
-  pub long : 8193 ≤ length ws
+  pub long : graphRoom ≤ length ws
   pub few : k ≤ edgeLimit
   pub fits : (j : ℕ) → j < k → edgeFits n ps ws j ≡ true
   pub index : Indexed n ps ws ix k
@@ -27,7 +28,7 @@ chained ix links head k = set (set ix (links + k) (getD ix head 0)) head (k + 1)
 
 -- edge k put in front of the chain of the node with that number, and of its bucket's
 unfoldable pub linkedAt : List ℕ → ℕ → ℕ → ℕ → List ℕ
-linkedAt ix k number bucket = chained (chained ix 2208 number k) 4256 (3232 + bucket) k
+linkedAt ix k number bucket = chained (chained ix nodeLimit number k) bucketLinks (bucketHeads + bucket) k
 
 -- a graph whose count is k, with an edge more
 unfoldable pub oneMore : List ℕ → ℕ → TraceEdge → List ℕ

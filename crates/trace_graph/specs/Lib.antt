@@ -4,4 +4,3 @@ pub mod Fits
 pub mod Index
 pub mod Values
 pub mod Insert
-pub mod Same

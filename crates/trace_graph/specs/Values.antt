@@ -6,12 +6,13 @@ use mathlib.Core.List.{List, [], _∷_, map}
 use lib.ListN.{getD}
 use lib.Seq.{sets}
 use lib.Dec.{eqb}
+use Rattle.repr.specs.Sizes.{edgePlace}
 use Rattle.repr.specs.Lists.{below}
 use Rattle.repr.specs.Meaning.{Production}
 use Rattle.trace_graph.specs.declared.Node.{Node as NodeValue}
 use Rattle.trace_graph.specs.declared.TraceEdge.{TraceEdge as EdgeValue}
 use Rattle.trace_graph.specs.Graph.{Node, TraceEdge}
-use Rattle.trace_graph.specs.Words.{place, nodeOf, edgeAt}
+use Rattle.trace_graph.specs.Words.{nodeOf, edgeAt}
 use Rattle.trace_graph.specs.Fits.{itemFits, nodeFits}
 
 unfoldable pub nodeIs : NodeValue → Node
@@ -49,10 +50,10 @@ nodeRead ws at = record { kind = getD ws at 0; number = getD ws (at + 1) 0; inde
 
 unfoldable pub edgeRead : List ℕ → ℕ → EdgeValue
 edgeRead ws k = record {
-  source = nodeRead ws (place k);
-  target = nodeRead ws (place k + 3);
-  production = getD ws (place k + 6) 0;
-  index = getD ws (place k + 7) 0;
+  source = nodeRead ws (edgePlace k);
+  target = nodeRead ws (edgePlace k + 3);
+  production = getD ws (edgePlace k + 6) 0;
+  index = getD ws (edgePlace k + 7) 0;
 }
 
 unfoldable pub valueWords : EdgeValue → List ℕ
@@ -61,7 +62,7 @@ valueWords v =
 
 -- edge k's words written
 unfoldable pub written : List ℕ → ℕ → List ℕ → List ℕ
-written ws k vs = sets ws (place k) vs
+written ws k vs = sets ws (edgePlace k) vs
 
 -- the first k edges
 unfoldable pub firstEdges : List ℕ → ℕ → List TraceEdge

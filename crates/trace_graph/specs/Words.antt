@@ -3,16 +3,10 @@
 use Prim.Native.Nat.{ℕ, zero, suc, _+_, _*_}
 use mathlib.Core.List.{List, [], _∷_, _++_, map}
 use lib.ListN.{length, getD}
+use Rattle.repr.specs.Sizes.{edgePlace}
 use Rattle.repr.specs.Lists.{below, joined}
 use Rattle.repr.specs.Meaning.{Item}
 use Rattle.trace_graph.specs.Graph.{Node, atNonterminal, atItem, TraceEdge}
-
-abbrev pub edgeLimit : ℕ
-edgeLimit = 1024
-
--- where edge k's words begin
-unfoldable pub place : ℕ → ℕ
-place k = k * 8 + 1
 
 unfoldable pub nodeWords : Node → List ℕ
 nodeWords (atNonterminal n) = 0 ∷ n ∷ 0 ∷ []
@@ -33,9 +27,9 @@ nodeAt ws at = nodeOf (getD ws at 0) (getD ws (at + 1) 0) (getD ws (at + 2) 0)
 
 unfoldable pub edgeAt : List ℕ → ℕ → TraceEdge
 edgeAt ws k = record {
-  source = nodeAt ws (place k);
-  target = nodeAt ws (place k + 3);
-  label = record { production = getD ws (place k + 6) 0; index = getD ws (place k + 7) 0 };
+  source = nodeAt ws (edgePlace k);
+  target = nodeAt ws (edgePlace k + 3);
+  label = record { production = getD ws (edgePlace k + 6) 0; index = getD ws (edgePlace k + 7) 0 };
 }
 
 unfoldable pub edgesIn : List ℕ → List TraceEdge

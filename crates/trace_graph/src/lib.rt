@@ -1,12 +1,16 @@
 // The trace graph (lr1/trace/trace_graph/mod.rs) in words: part 4 of document 01.
 // An index (specs/Index) is kept beside it: of the edges into each node, for the listing, and of the edges in each bucket, so that an equal edge is looked for in one bucket alone.
 use core::Item;
+use repr::NonterminalString;
+use repr::ProductionIndex;
 use repr::symbols;
 use repr::word;
 ghost use mathlib.Core.Path.{_≡_};
 ghost use mathlib.Core.Bool.{true, _&&_};
 ghost use Prim.Native.Nat.{_+_, _≤_, _<_};
 ghost use lib.ListN.{length, getD, replicate};
+ghost use Rattle.repr.specs.Sizes.{nonterminalLimit, terminalLimit, edgeLimit, graphRoom};
+ghost use Rattle.slices.specs.Same.{sameWords};
 ghost use Rattle.repr.specs.Lists.{some?};
 ghost use Rattle.repr.specs.Listed.{listed, listFits};
 ghost use Rattle.repr.specs.Packed.{Packed, productionsIn};
@@ -14,10 +18,9 @@ ghost use Rattle.trace_graph.specs.declared.Inserted.the-variants.{Done,
 ghost use Rattle.trace_graph.specs.Graph.{labelOf, sameSets, sameEdge};
 ghost use Rattle.trace_graph.specs.Words.{nodeAt, edgeAt};
 ghost use Rattle.trace_graph.specs.Fits.{itemFits, edgeFits, graphFits};
-ghost use Rattle.trace_graph.specs.Index.{nodeNumber, mixed, bucketOf};
+ghost use Rattle.trace_graph.specs.Index.{nodeNumber, mixed, bucketOf, nodeLimit, bucketLimit, bucketLinks, indexRoom};
 ghost use Rattle.trace_graph.specs.Values.{nodeIs, edgeIs, sameValue, nodeValueFits, valueFits, SmallNode, SmallEdge, nodeRead, edgeRead, valueWords, written, firstEdges};
 ghost use Rattle.trace_graph.specs.Insert.{Graphed, chained, linkedAt, Added, Overfull, fresh};
-ghost use Rattle.trace_graph.specs.Same.{sameWords};
 
 pub struct TraceGraph {
     pub edges: usize,
@@ -29,19 +32,22 @@ impl TraceGraph {
 
     pub const EDGE_WORDS: usize = 8;
 
-    pub const WORDS: usize = 8193;
+    pub const WORDS: usize = 1 + TraceGraph::EDGES * TraceGraph::EDGE_WORDS;
+
+    // Words of scratch for tracing and listing.
+    pub const SCRATCH: usize = 32000;
 
     // Nodes that a table can have, buckets, and words of a graph's index.
-    pub const NODES: usize = 2208;
+    pub const NODES: usize = NonterminalString::LIMIT + Item::LIMIT;
 
     pub const BUCKETS: usize = 1024;
 
-    pub const INDEX_WORDS: usize = 5280;
+    pub const INDEX_WORDS: usize = TraceGraph::BUCKET_LINKS + TraceGraph::EDGES;
 
     // Where the words of the buckets begin in the index, and behind them the links within buckets.
-    const BUCKET_HEADS: usize = 3232;
+    const BUCKET_HEADS: usize = TraceGraph::NODES + TraceGraph::EDGES;
 
-    const BUCKET_LINKS: usize = 4256;
+    const BUCKET_LINKS: usize = TraceGraph::BUCKET_HEADS + TraceGraph::BUCKETS;
 
     // The empty graph.
     pub fn new() -> TraceGraph
@@ -75,12 +81,12 @@ pub enum Inserted {
 // The number of a node in the index.
 pub fn node_number(node: Node) -> usize
     requires { ⌜ SmallNode node ⌝ }
-    ensures { λ r. ⌜ (r ≡ nodeNumber (nodeIs node)) × (r < 2208) ⌝ }
+    ensures { λ r. ⌜ (r ≡ nodeNumber (nodeIs node)) × (r < nodeLimit) ⌝ }
 {
     if node.kind == 0 {
         node.number
     } else {
-        32 + (node.number * 17 + node.index)
+        NonterminalString::LIMIT + (node.number * ProductionIndex::INDEXES + node.index)
     }
 }
 
@@ -101,7 +107,7 @@ pub fn read_node(graph: &[u16], at: usize) -> Node
 
 // Edge k.
 pub fn read_edge(graph: &[u16], k: usize) -> TraceEdge
-    requires { ⌜ (k < 1024) × (8193 ≤ length (now graph)) ⌝ }
+    requires { ⌜ (k < edgeLimit) × (graphRoom ≤ length (now graph)) ⌝ }
     ensures { λ r. ⌜ (edgeIs r ≡ edgeAt (now (graph .entry)) k) × (r ≡ edgeRead (now (graph .entry)) k) ⌝ }
 {
     let at = k * TraceGraph::EDGE_WORDS + 1;
@@ -119,7 +125,7 @@ pub fn read_edge(graph: &[u16], k: usize) -> TraceEdge
 
 // Writes edge k.
 pub fn write_edge(graph: &mut [u16], k: usize, edge: TraceEdge)
-    requires { ⌜ (k < 1024) × (8193 ≤ length (now graph)) ⌝ }
+    requires { ⌜ (k < edgeLimit) × (graphRoom ≤ length (now graph)) ⌝ }
     requires { ⌜ SmallEdge edge ⌝ }
     ensures { λ _. ⌜ now (graph .exit) ≡ written (now (graph .entry)) k (valueWords edge) ⌝ }
 {
@@ -200,7 +206,7 @@ fn same_edge(
     edge: TraceEdge,
 ) -> bool
     requires { ⌜ Packed (now grammar) productions ⌝ }
-    requires { ⌜ (k < 1024) × (8193 ≤ length (now graph)) ⌝ }
+    requires { ⌜ (k < edgeLimit) × (graphRoom ≤ length (now graph)) ⌝ }
     requires { ⌜ (edgeFits n (productionsIn (now grammar) productions) (now graph) k ≡ true) × (valueFits n (productionsIn (now grammar) productions) edge ≡ true) ⌝ }
     ensures { λ r. ⌜ r ≡ sameEdge (productionsIn (now (grammar .entry)) productions) (edgeIs edge) (edgeAt (now (graph .entry)) k) ⌝ }
 {
@@ -223,7 +229,7 @@ fn same_edge(
 
 // A list of symbols mixed into a number.
 fn mix(list: &[u16], start: usize) -> usize
-    requires { ⌜ (start < 65536) × (listFits 32 63 (now list) ≡ true) ⌝ }
+    requires { ⌜ (start < 65536) × (listFits nonterminalLimit terminalLimit (now list) ≡ true) ⌝ }
     ensures { λ r. ⌜ (r ≡ mixed start (listed (now (list .entry)))) × (r < 65536) ⌝ }
 {
     let mut sum = start;
@@ -231,7 +237,7 @@ fn mix(list: &[u16], start: usize) -> usize
     while at < list.len() {
         let kind = word(list, at);
         let number = word(list, at + 1);
-        sum = (sum * 211 + (kind * 32 + number)) % 65536;
+        sum = (sum * 211 + (kind * NonterminalString::LIMIT + number)) % 65536;
         at += 2;
     }
     sum
@@ -241,7 +247,7 @@ fn mix(list: &[u16], start: usize) -> usize
 fn bucket_of(grammar: &[u16], productions: usize, edge: TraceEdge) -> usize
     requires { ⌜ Packed (now grammar) productions ⌝ }
     requires { ⌜ SmallEdge edge × (edge .production < productions) ⌝ }
-    ensures { λ r. ⌜ (r ≡ bucketOf (productionsIn (now (grammar .entry)) productions) (edgeIs edge)) × (r < 1024) ⌝ }
+    ensures { λ r. ⌜ (r ≡ bucketOf (productionsIn (now (grammar .entry)) productions) (edgeIs edge)) × (r < bucketLimit) ⌝ }
 {
     let source = edge.source;
     let target = edge.target;
@@ -267,7 +273,7 @@ pub fn find(
     requires { ⌜ Packed (now grammar) productions ⌝ }
     requires { ⌜ Graphed n (productionsIn (now grammar) productions) (now graph) (now ix) k ⌝ }
     requires { ⌜ valueFits n (productionsIn (now grammar) productions) edge ≡ true ⌝ }
-    requires { ⌜ (bucket ≡ bucketOf (productionsIn (now grammar) productions) (edgeIs edge)) × (bucket < 1024) ⌝ }
+    requires { ⌜ (bucket ≡ bucketOf (productionsIn (now grammar) productions) (edgeIs edge)) × (bucket < bucketLimit) ⌝ }
     ensures { λ r. ⌜ r ≡ some? (sameEdge (productionsIn (now (grammar .entry)) productions) (edgeIs edge)) (firstEdges (now (graph .entry)) k) ⌝ }
 {
     let mut next = word(ix, TraceGraph::BUCKET_HEADS + bucket);
@@ -282,7 +288,7 @@ pub fn find(
 
 // Puts edge k in front of the chain that begins at the word `head`, whose links begin at `links`.
 fn chain(ix: &mut [u16], links: usize, head: usize, k: usize)
-    requires { ⌜ (length (now ix) ≡ 5280) × ((k < 1024) × ((links ≤ 4256) × (head < 5280))) ⌝ }
+    requires { ⌜ (length (now ix) ≡ indexRoom) × ((k < edgeLimit) × ((links ≤ bucketLinks) × (head < indexRoom))) ⌝ }
     ensures { λ _. ⌜ now (ix .exit) ≡ chained (now (ix .entry)) links head k ⌝ }
 {
     let older = ix[head];
@@ -292,7 +298,7 @@ fn chain(ix: &mut [u16], links: usize, head: usize, k: usize)
 
 // Puts edge k in front of the chains of its target, whose number is given, and of its bucket.
 pub fn link(ix: &mut [u16], k: usize, number: usize, bucket: usize)
-    requires { ⌜ (length (now ix) ≡ 5280) × ((k < 1024) × ((number < 2208) × (bucket < 1024))) ⌝ }
+    requires { ⌜ (length (now ix) ≡ indexRoom) × ((k < edgeLimit) × ((number < nodeLimit) × (bucket < bucketLimit))) ⌝ }
     ensures { λ _. ⌜ now (ix .exit) ≡ linkedAt (now (ix .entry)) k number bucket ⌝ }
 {
     chain(ix, TraceGraph::NODES, number, k);
@@ -398,7 +404,7 @@ fn check_edge(
 ) -> bool
     requires { ⌜ Packed (now grammar) productions ⌝ }
     requires { ⌜ Graphed n (productionsIn (now grammar) productions) (now graph) (now ix) k ⌝ }
-    requires { ⌜ k < 1024 ⌝ }
+    requires { ⌜ k < edgeLimit ⌝ }
     ensures { λ r. ⌜ r ≡ edgeFits n (productionsIn (now (grammar .entry)) productions) (now (graph .entry)) k && fresh (productionsIn (now (grammar .entry)) productions) (now (graph .entry)) k ⌝ }
     ensures { λ r. ⌜ (r ≡ true → Graphed n (productionsIn (now (grammar .entry)) productions) (now (graph .entry)) (now (ix .exit)) (k + 1)) ⌝ }
 {
@@ -425,8 +431,8 @@ pub fn check_graph(
     ix: &mut [u16],
 ) -> bool
     requires { ⌜ Packed (now grammar) productions ⌝ }
-    requires { ⌜ (n ≤ 32) × (8193 ≤ length (now graph)) ⌝ }
-    requires { ⌜ now ix ≡ replicate 5280 0 ⌝ }
+    requires { ⌜ (n ≤ 32) × (graphRoom ≤ length (now graph)) ⌝ }
+    requires { ⌜ now ix ≡ replicate indexRoom 0 ⌝ }
     ensures { λ r. ⌜ r ≡ graphFits n (productionsIn (now (grammar .entry)) productions) (now (graph .entry)) ⌝ }
     ensures { λ r. ⌜ (r ≡ true → Graphed n (productionsIn (now (grammar .entry)) productions) (now (graph .entry)) (now (ix .exit)) (getD (now (graph .entry)) 0 0)) ⌝ }
 {

@@ -5,6 +5,7 @@ use mathlib.Core.List.{List}
 use Prim.Native.Nat.{ℕ, _*_, _≤_, _<_}
 use native.Mathlib.Omega.{arith}
 use lib.ListN.{length, replicate, length-replicate}
+use Rattle.repr.specs.Sizes.{itemLimit}
 use Rattle.repr.specs.Meaning.{Table, TableFits}
 use Rattle.trace.specs.Shifting.{ShiftItems}
 use Rattle.trace_graph.specs.declared.Inserted.{Inserted}
@@ -35,7 +36,7 @@ pub lent : {T : Table} {starts codes starts′ codes′ v : List ℕ} → Room T
 lent M I = record { items = I; flags = M .flags; clear = M .clear }
 
 -- 2,176 words a state are never too few
-pub codes-enough : (b : Bool) (states : ℕ) → states ≤ 128 → (b ≡ false → length {A = ℕ} (replicate 278528 0) < states * 2176) → b ≡ true
+pub codes-enough : (b : Bool) (states : ℕ) → states ≤ 128 → (b ≡ false → length {A = ℕ} (replicate 278528 0) < states * itemLimit) → b ≡ true
 codes-enough true states h f = refl
 codes-enough false states h f =
     let l = f refl in

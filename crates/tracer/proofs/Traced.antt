@@ -7,6 +7,8 @@ use mathlib.Core.List.{List, _++_}
 use lib.ListN.{length, drop, length-append, length-drop}
 use lib.Dec.{ltb, leb}
 use borrow.Author.Tests.{leb-true}
+use Rattle.repr.specs.Sizes.{edgeLimit, graphRoom, scratchWords}
+use Rattle.slices.specs.Lent.{inFront, zeroed}
 use Rattle.repr.specs.Meaning.{Item, Table, All}
 use Rattle.repr.proofs.Lists.{cases}
 use Rattle.table.specs.Decoded.{meaning}
@@ -16,14 +18,14 @@ use Rattle.table.specs.declared.Checked.the-variants.{Accepted, Refused as NotA
 use Rattle.table.proofs.Chains.{and-true}
 use Rattle.table.proofs.Decoding.{fits}
 use Rattle.trace_graph.specs.Graph.{TraceEdge, atItem, isNode}
-use Rattle.trace_graph.specs.Words.{edgeLimit, graphWords, edgesIn}
+use Rattle.trace_graph.specs.Words.{graphWords, edgesIn}
 use Rattle.trace_graph.specs.Fits.{itemFits, graphFits}
 use Rattle.trace_graph.proofs.RoundTrip.{edges-back, graph-fits}
 use Rattle.trace.specs.Sound.{EdgeSound, ShiftStep, ReduceStep, Rooted, Sound}
 use Rattle.trace.specs.Shift.{shiftEdges}
 use Rattle.trace.specs.Reduce.{reduceEdges}
 use Rattle.trace.proofs.Traced.{fits-item, in-range, shift-sound, shift-steps, reduce-sound, reduce-steps}
-use Rattle.tracer.specs.Outcome.{Outcome, outcome, inFront, zeroed, edgesOutcome, traceIn, traceBy, shiftOf, reduceOf}
+use Rattle.tracer.specs.Outcome.{Outcome, outcome, edgesOutcome, traceIn, traceBy, shiftOf, reduceOf}
 use Rattle.tracer.specs.Traced.{Traced}
 use Rattle.tracer.specs.declared.Backtrace.the-variants.{Edges, Refused}
 
@@ -33,16 +35,16 @@ unfolding edgesOutcome
 edges-in graph scratch es n g w e =
     cases (leb (length es) edgeLimit)
     (λ c.
-    let z : _≡_ {A = Outcome} (outcome (Edges (length es)) (inFront (graphWords es) graph) (zeroed scratch)) (outcome (Edges n) g w) = rw (c, edgesOutcome) at e in
+    let z : _≡_ {A = Outcome} (outcome (Edges (length es)) (inFront (graphWords es) graph) (zeroed scratchWords scratch)) (outcome (Edges n) g w) = rw (c, edgesOutcome) at e in
     (leb-true (length es) edgeLimit c, cc))
     (λ c.
-    let z : _≡_ {A = Outcome} (outcome (Refused 12 0) graph (zeroed scratch)) (outcome (Edges n) g w) = rw (c, edgesOutcome) at e in
+    let z : _≡_ {A = Outcome} (outcome (Refused 12 0) graph (zeroed scratchWords scratch)) (outcome (Edges n) g w) = rw (c, edgesOutcome) at e in
     let y : _≡_ {A = ℕ} 0 1 = cc in absurd (omega arith))
 
 -- what an accepted trace was given and leaves
 record Left (edges : Table → ℕ → Item → List TraceEdge) (T : Table) (s : ℕ) (i : Item) (graph g : List ℕ) : Type 0 where
   item : itemFits (T .productions) (i .production) (i .index) ≡ true
-  long : 8193 ≤ length graph
+  long : graphRoom ≤ length graph
   few : length (edges T s i) ≤ edgeLimit
   words : g ≡ inFront (graphWords (edges T s i)) graph
 
@@ -52,13 +54,13 @@ unfolding traceIn
 trace-in edges T s i graph scratch n g w e =
     cases (ltb s (length (T .states)) && itemFits (T .productions) (i .production) (i .index))
     (λ a.
-    cases (leb 8193 (length graph) && leb 32000 (length scratch))
+    cases (leb graphRoom (length graph) && leb scratchWords (length scratch))
     (λ b.
     let z : edgesOutcome graph scratch (edges T s i) ≡ outcome (Edges n) g w = rw (a, b, traceIn) at e in
     let r = edges-in graph scratch (edges T s i) n g w z in
     record {
       item = and-true (ltb s (length (T .states))) (itemFits (T .productions) (i .production) (i .index)) a .1;
-      long = leb-true 8193 (length graph) (and-true (leb 8193 (length graph)) (leb 32000 (length scratch)) b .0);
+      long = leb-true graphRoom (length graph) (and-true (leb graphRoom (length graph)) (leb scratchWords (length scratch)) b .0);
       few = r .0;
       words = r .1;
     })
@@ -91,7 +93,7 @@ module _ (edges : Table → ℕ → Item → List TraceEdge) (Step : Table → T
       ap (graphFits (length (meaning t .nonterminals)) (meaning t .productions)) (L .words)
       ∙ graph-fits (length (meaning t .nonterminals)) (meaning t .productions) es (drop (length (graphWords es)) graph) (L .few) (in-range (meaning t) (fits t A) es (S .edges)) (S .once)
 
-  as-long : Left edges (meaning t) s i graph g → 8193 ≤ length g
+  as-long : Left edges (meaning t) s i graph g → graphRoom ≤ length g
   unfolding inFront
   as-long L =
       let ws = graphWords (edges (meaning t) s i) in

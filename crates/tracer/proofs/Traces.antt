@@ -6,6 +6,7 @@ use Prim.Native.Nat.{ℕ, zero, suc, _+_, _*_, _≤_, _<_}
 use native.Mathlib.Omega.{arith}
 use lib.ListN.{length, getD, take, set, replicate, length-set}
 use lib.Seq.{getD-set-same}
+use Rattle.repr.specs.Sizes.{edgeLimit, graphRoom}
 use Rattle.repr.specs.Lists.{mem}
 use Rattle.repr.specs.Meaning.{Item, Table}
 use Rattle.repr.specs.Listed.{listed, listFits}
@@ -22,6 +23,7 @@ use Rattle.trace_graph.specs.Values.{firstEdges}
 use Rattle.trace_graph.proofs.Words.{edges-first, first-none}
 use Rattle.trace_graph.proofs.Fits.{bounds}
 use Rattle.trace_graph.proofs.Index.{index-none}
+use Rattle.trace_graph.specs.Index.{indexRoom}
 use Rattle.trace.specs.Traced.{Trace, untraced, addTo, ownerOf, prefixOf, inTurn, pairs}
 use Rattle.trace.specs.Shift.{epsilon, shiftTrace, shiftEdges}
 use Rattle.trace.specs.Reduce.{reduceItem, reduceState, reduceTrace, reduceEdges}
@@ -50,7 +52,7 @@ holding-none ws v z e = record {
   free = λ k h q. mem-nil k;
 }
 
-pub emptied : (ws : List ℕ) → 8193 ≤ length ws → getD (set ws 0 0) 0 0 ≡ 0
+pub emptied : (ws : List ℕ) → graphRoom ≤ length ws → getD (set ws 0 0) 0 0 ≡ 0
 emptied ws h = getD-set-same ws 0 0 0 (omega arith)
 
 module _ {t g : List ℕ} {productions n s p i : ℕ} (A : Asked t g productions n s p i) where
@@ -66,7 +68,7 @@ module _ {t g : List ℕ} {productions n s p i : ℕ} (A : Asked t g productions
   pub tracing : {starts codes v : List ℕ} → Lent (meaning t) starts codes v → Tracing t g productions n starts codes
   tracing L = record { accepted = A .accepted; packed = A .packed; same = A .same; nonterminals = A .nonterminals; items = L .items }
 
-  pub empty-graph : (ws ix : List ℕ) → 8193 ≤ length ws → ix ≡ replicate 5280 0 → Graphed n (productionsIn g productions) (set ws 0 0) ix (getD (set ws 0 0) 0 0)
+  pub empty-graph : (ws ix : List ℕ) → graphRoom ≤ length ws → ix ≡ replicate indexRoom 0 → Graphed n (productionsIn g productions) (set ws 0 0) ix (getD (set ws 0 0) 0 0)
   empty-graph ws ix h e =
       let z = emptied ws h in
       rw z (record {
@@ -92,7 +94,7 @@ module _ {t g : List ℕ} {productions n s p i : ℕ} (A : Asked t g productions
     shift-made g′ ix′ v′ S G = built _ G (rw e at (S untraced (holding-none g₀ v₀ z ev) .edges))
 
     pub shift-over : Exceeds (λ st. inTurn (λ q u. epsilon (meaning t) pairs q (ownerOf (meaning t) (record { production = p; index = i })) u) ls (addTo (meaning t) (atNonterminal (ownerOf (meaning t) (record { production = p; index = i }))) (atItem (record { production = p; index = i })) (record { production = p; index = i }) st)) g₀ v₀
-        → 1024 < length (shiftEdges (meaning t) s (record { production = p; index = i }))
+        → edgeLimit < length (shiftEdges (meaning t) s (record { production = p; index = i }))
     unfolding shiftEdges shiftTrace itemAt
     shift-over X = rw e at (X untraced (holding-none g₀ v₀ z ev))
 
@@ -111,7 +113,7 @@ module _ {t g : List ℕ} {productions n s p i : ℕ} (A : Asked t g productions
     reduce-made g′ ix′ v′ S = built _ (S .good) (S .holding pairs untraced fuel (holding-none g₀ v₀ z ev) .edges)
 
     pub reduce-over : Overrun (λ (f : ℕ) (st : Trace). reduceItem (meaning t) (λ (q m : ℕ) (u : Trace). reduceState (meaning t) f q m u) s (itemAt p i) st) g₀ v₀
-        → 1024 < length (reduceEdges (meaning t) s (record { production = p; index = i }))
+        → edgeLimit < length (reduceEdges (meaning t) s (record { production = p; index = i }))
     unfolding reduceEdges reduceTrace itemAt
     reduce-over X = X .many pairs untraced fuel (holding-none g₀ v₀ z ev)
 

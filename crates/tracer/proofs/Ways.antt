@@ -2,26 +2,29 @@
 use mathlib.Core.Path.{_≡_, refl, sym, ap, _∙_}
 use mathlib.Core.Bool.{Bool, true, false, _&&_}
 use mathlib.Core.List.{List, _++_}
-use Prim.Native.Nat.{ℕ, _+_, _*_, _≤_, _<_}
+use Prim.Native.Nat.{ℕ, _+_, _≤_, _<_}
 use native.Mathlib.Omega.{arith}
 use lib.ListN.{length, getD, take, drop, List·getD-append}
 use lib.Seq.{take-append-le, length-take-le}
 use lib.Dec.{ltb, leb}
 use borrow.Author.Tests.{lt-ltb, le-ltb, le-leb, lt-leb}
+use Rattle.repr.specs.Sizes.{edgeLimit, edgePlace, graphRoom, scratchWords}
+use Rattle.slices.proofs.Lent.{zeroed-lent}
+use Rattle.slices.specs.Lent.{inFront, zeroed}
 use Rattle.repr.specs.Meaning.{Item, Table, Production}
 use Rattle.repr.specs.Packed.{Packed, productionsIn}
 use Rattle.trace_graph.specs.Graph.{TraceEdge}
-use Rattle.trace_graph.specs.Words.{edgeLimit, graphWords}
+use Rattle.trace_graph.specs.Words.{graphWords}
 use Rattle.trace_graph.specs.Fits.{itemFits}
 use Rattle.tracer.specs.declared.Backtrace.{Backtrace}
 use Rattle.tracer.specs.declared.Backtrace.the-variants.{Edges, Refused}
-use Rattle.tracer.specs.Outcome.{Outcome, outcome, inFront, zeroed, edgesOutcome, traceIn}
+use Rattle.tracer.specs.Outcome.{Outcome, outcome, edgesOutcome, traceIn}
 use Rattle.table.specs.Decoded.{meaning}
 use Rattle.table.specs.Refusals.{checkOf}
 use Rattle.table.specs.Index.{CountsOf}
 use Rattle.table.specs.declared.Checked.the-variants.{Accepted}
 use Rattle.tracer.specs.Built.{Asked, Built}
-use Rattle.tracer.proofs.Words.{words-long, zeroed-lent}
+use Rattle.tracer.proofs.Words.{words-long}
 
 -- the tests of a trace, in their order
 
@@ -59,14 +62,14 @@ either-false : (x y : Outcome) → either false x y ≡ y
 unfolding either
 either-false x y = refl
 
-edges-either : (graph scratch : List ℕ) (es : List TraceEdge) → edgesOutcome graph scratch es ≡ either (leb (length es) edgeLimit) (outcome (Edges (length es)) (inFront (graphWords es) graph) (zeroed scratch)) (outcome (Refused 12 0) graph (zeroed scratch))
+edges-either : (graph scratch : List ℕ) (es : List TraceEdge) → edgesOutcome graph scratch es ≡ either (leb (length es) edgeLimit) (outcome (Edges (length es)) (inFront (graphWords es) graph) (zeroed scratchWords scratch)) (outcome (Refused 12 0) graph (zeroed scratchWords scratch))
 unfolding edgesOutcome either
 edges-either graph scratch es = refl
 
 -- refusals 9 and 11, and the trace
 
 module _ (edges : Table → ℕ → Item → List TraceEdge) (s p i : ℕ) (graph scratch : List ℕ) (T : Table) where
-  trace-ways : traceIn edges s (record { production = p; index = i }) graph scratch T ≡ ways (ltb s (length (T .states))) (itemFits (T .productions) p i) (leb 8193 (length graph)) (leb 32000 (length scratch)) (outcome (Refused 9 0) graph scratch) (outcome (Refused 11 0) graph scratch) (edgesOutcome graph scratch (edges T s (record { production = p; index = i })))
+  trace-ways : traceIn edges s (record { production = p; index = i }) graph scratch T ≡ ways (ltb s (length (T .states))) (itemFits (T .productions) p i) (leb graphRoom (length graph)) (leb scratchWords (length scratch)) (outcome (Refused 9 0) graph scratch) (outcome (Refused 11 0) graph scratch) (edgesOutcome graph scratch (edges T s (record { production = p; index = i })))
   unfolding traceIn ways
   trace-ways = refl
 
@@ -78,14 +81,14 @@ module _ (edges : Table → ℕ → Item → List TraceEdge) (s p i : ℕ) (grap
     refused-item e = sym (trace-ways ∙ rw (lt-ltb s (length (T .states)) h, e) (ways-item _ _ _ _ _))
 
     module _ (e : itemFits (T .productions) p i ≡ true) where
-      pub refused-graph : length graph < 8193 → outcome (Refused 11 0) graph scratch ≡ traceIn edges s (record { production = p; index = i }) graph scratch T
-      refused-graph l = sym (trace-ways ∙ rw (lt-ltb s (length (T .states)) h, e, lt-leb 8193 (length graph) l) (ways-graph _ _ _ _))
+      pub refused-graph : length graph < graphRoom → outcome (Refused 11 0) graph scratch ≡ traceIn edges s (record { production = p; index = i }) graph scratch T
+      refused-graph l = sym (trace-ways ∙ rw (lt-ltb s (length (T .states)) h, e, lt-leb graphRoom (length graph) l) (ways-graph _ _ _ _))
 
-      pub refused-scratch : 8193 ≤ length graph → length scratch < 32000 → outcome (Refused 11 0) graph scratch ≡ traceIn edges s (record { production = p; index = i }) graph scratch T
-      refused-scratch l m = sym (trace-ways ∙ rw (lt-ltb s (length (T .states)) h, e, le-leb 8193 (length graph) l, lt-leb 32000 (length scratch) m) (ways-scratch _ _ _))
+      pub refused-scratch : graphRoom ≤ length graph → length scratch < scratchWords → outcome (Refused 11 0) graph scratch ≡ traceIn edges s (record { production = p; index = i }) graph scratch T
+      refused-scratch l m = sym (trace-ways ∙ rw (lt-ltb s (length (T .states)) h, e, le-leb graphRoom (length graph) l, lt-leb scratchWords (length scratch) m) (ways-scratch _ _ _))
 
-      pub traced : (o : Outcome) → 8193 ≤ length graph → 32000 ≤ length scratch → o ≡ edgesOutcome graph scratch (edges T s (record { production = p; index = i })) → o ≡ traceIn edges s (record { production = p; index = i }) graph scratch T
-      traced o l m q = q ∙ sym (trace-ways ∙ rw (lt-ltb s (length (T .states)) h, e, le-leb 8193 (length graph) l, le-leb 32000 (length scratch) m) (ways-all _ _ _))
+      pub traced : (o : Outcome) → graphRoom ≤ length graph → scratchWords ≤ length scratch → o ≡ edgesOutcome graph scratch (edges T s (record { production = p; index = i })) → o ≡ traceIn edges s (record { production = p; index = i }) graph scratch T
+      traced o l m q = q ∙ sym (trace-ways ∙ rw (lt-ltb s (length (T .states)) h, e, le-leb graphRoom (length graph) l, le-leb scratchWords (length scratch) m) (ways-all _ _ _))
 
 -- what is read of the productions tells whether the item fits
 pub item-tells : (g : List ℕ) (ps : List Production) (m p i : ℕ) (b c : Bool) → m ≡ length ps → productionsIn g (length ps) ≡ ps → b ≡ itemFits (productionsIn g m) p i → b ≡ c → itemFits ps p i ≡ c
@@ -93,41 +96,41 @@ item-tells g ps m p i b c e f q r = ap (λ (l : List Production). itemFits l p i
 
 -- the graph was built in the first words of scratch
 
-module _ (es : List TraceEdge) (graph scratch front scratch′ : List ℕ) (ef : length front ≡ length (take 8193 scratch)) (ls : 32000 ≤ length scratch) (ez : scratch′ ≡ zeroed (front ++ drop 8193 scratch)) where
-  front-long : length front ≡ 8193
-  front-long = ef ∙ length-take-le 8193 scratch (omega arith)
+module _ (es : List TraceEdge) (graph scratch front scratch′ : List ℕ) (ef : length front ≡ length (take graphRoom scratch)) (ls : scratchWords ≤ length scratch) (ez : scratch′ ≡ zeroed scratchWords (front ++ drop graphRoom scratch)) where
+  front-long : length front ≡ graphRoom
+  front-long = ef ∙ length-take-le graphRoom scratch (omega arith)
 
-  zero-left : scratch′ ≡ zeroed scratch
-  zero-left = ez ∙ zeroed-lent front scratch front-long
+  zero-left : scratch′ ≡ zeroed scratchWords scratch
+  zero-left = ez ∙ zeroed-lent scratchWords graphRoom front scratch front-long (omega arith)
 
-  pub handed-over : (graph′ : List ℕ) (count : ℕ) → Built es front → count ≡ getD (front ++ drop 8193 scratch) 0 0
-      → graph′ ≡ take (count * 8 + 1) (front ++ drop 8193 scratch) ++ drop (count * 8 + 1) graph → outcome (Edges count) graph′ scratch′ ≡ edgesOutcome graph scratch es
+  pub handed-over : (graph′ : List ℕ) (count : ℕ) → Built es front → count ≡ getD (front ++ drop graphRoom scratch) 0 0
+      → graph′ ≡ take (edgePlace count) (front ++ drop graphRoom scratch) ++ drop (edgePlace count) graph → outcome (Edges count) graph′ scratch′ ≡ edgesOutcome graph scratch es
   unfolding inFront
   handed-over graph′ count B ec eg = make c gw zero-left ∙ sym (edges-either graph scratch es ∙ rw (le-leb (length es) edgeLimit (B .few)) (either-true _ _))
     where
       c : count ≡ length es
-      c = let fl = front-long in ec ∙ List·getD-append front (drop 8193 scratch) 0 0 (omega arith) ∙ B .count
+      c = let fl = front-long in ec ∙ List·getD-append front (drop graphRoom scratch) 0 0 (omega arith) ∙ B .count
 
       gw : graph′ ≡ graphWords es ++ drop (length (graphWords es)) graph
       gw =
           let f = B .few in
           let fl = front-long in
-          eg ∙ ap (λ (k : ℕ). take (k * 8 + 1) (front ++ drop 8193 scratch) ++ drop (k * 8 + 1) graph) c
-          ∙ ap (λ (l : List ℕ). l ++ drop (length es * 8 + 1) graph) (take-append-le (length es * 8 + 1) front (drop 8193 scratch) (omega arith) ∙ B .words)
+          eg ∙ ap (λ (k : ℕ). take (edgePlace k) (front ++ drop graphRoom scratch) ++ drop (edgePlace k) graph) c
+          ∙ ap (λ (l : List ℕ). l ++ drop (edgePlace (length es)) graph) (take-append-le (edgePlace (length es)) front (drop graphRoom scratch) (omega arith) ∙ B .words)
           ∙ ap (λ (k : ℕ). graphWords es ++ drop k graph) (sym (words-long es))
 
       make : {a b : ℕ} {x y u v : List ℕ} → a ≡ b → x ≡ y → u ≡ v → outcome (Edges a) x u ≡ outcome (Edges b) y v
       make e f g = λ j. outcome (Edges (e j)) (f j) (g j)
 
-  pub overfull : 1024 < length es → outcome (Refused 12 0) graph scratch′ ≡ edgesOutcome graph scratch es
+  pub overfull : edgeLimit < length es → outcome (Refused 12 0) graph scratch′ ≡ edgesOutcome graph scratch es
   overfull h = ap (outcome (Refused 12 0) graph) zero-left ∙ sym (edges-either graph scratch es ∙ rw (lt-leb (length es) edgeLimit h) (either-false _ _))
 
-pub lent-long : (scratch : List ℕ) → 32000 ≤ length scratch → 8193 ≤ length (take 8193 scratch)
-lent-long scratch h = let l = length-take-le 8193 scratch (omega arith) in omega arith
+pub lent-long : (scratch : List ℕ) → scratchWords ≤ length scratch → graphRoom ≤ length (take graphRoom scratch)
+lent-long scratch h = let l = length-take-le graphRoom scratch (omega arith) in omega arith
 
-pub count-few : (es : List TraceEdge) (scratch front rest : List ℕ) (count : ℕ) → length front ≡ length (take 8193 scratch) → 32000 ≤ length scratch → Built es front → count ≡ getD (front ++ rest) 0 0 → count ≤ 1024
+pub count-few : (es : List TraceEdge) (scratch front rest : List ℕ) (count : ℕ) → length front ≡ length (take graphRoom scratch) → scratchWords ≤ length scratch → Built es front → count ≡ getD (front ++ rest) 0 0 → count ≤ edgeLimit
 count-few es scratch front rest count ef h B e =
-    let l = length-take-le 8193 scratch (omega arith) in
+    let l = length-take-le graphRoom scratch (omega arith) in
     let a = List·getD-append front rest 0 0 (omega arith) in
     let b = B .count in
     let f = B .few in

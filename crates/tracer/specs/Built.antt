@@ -1,16 +1,17 @@
 -- What the functions that build a graph in scratch are asked and give. Assumes nothing: these are definitions.
-use Prim.Native.Nat.{ℕ, _+_, _*_, _≤_, _<_}
+use Prim.Native.Nat.{ℕ, _*_, _≤_, _<_}
 use mathlib.Core.Bool.{Bool, true, false}
 use mathlib.Core.Path.{_≡_}
 use mathlib.Core.List.{List}
 use lib.ListN.{length, getD, take, replicate}
+use Rattle.repr.specs.Sizes.{edgeLimit, edgePlace}
 use Rattle.repr.specs.Meaning.{Item, Table}
 use Rattle.repr.specs.Packed.{Packed, productionsIn}
 use Rattle.table.specs.Decoded.{meaning}
 use Rattle.table.specs.Refusals.{checkOf}
 use Rattle.table.specs.declared.Checked.the-variants.{Accepted}
 use Rattle.trace_graph.specs.Graph.{TraceEdge}
-use Rattle.trace_graph.specs.Words.{edgeLimit, graphWords}
+use Rattle.trace_graph.specs.Words.{graphWords}
 use Rattle.trace_graph.specs.Fits.{itemFits}
 use Rattle.trace.specs.Shift.{shiftEdges}
 use Rattle.trace.specs.Reduce.{reduceEdges}
@@ -49,4 +50,4 @@ edgesBy false = reduceEdges
 pub record Built (es : List TraceEdge) (ws : List ℕ) : Type 0 where
   pub count : getD ws 0 0 ≡ length es
   pub few : length es ≤ edgeLimit
-  pub words : take (length es * 8 + 1) ws ≡ graphWords es
+  pub words : take (edgePlace (length es)) ws ≡ graphWords es

@@ -4,6 +4,7 @@ use mathlib.Core.Path.{_≡_}
 use mathlib.Core.Bool.{true}
 use mathlib.Core.List.{List}
 use lib.ListN.{length}
+use Rattle.repr.specs.Sizes.{graphRoom}
 use Rattle.repr.specs.Meaning.{Item, Table, All}
 use Rattle.table.specs.Decoded.{meaning}
 use Rattle.table.specs.Refusals.{checkOf}
@@ -17,7 +18,7 @@ use Rattle.trace.specs.Sound.{EdgeSound, Rooted}
 pub record Traced (Step : Table → TraceEdge → Type 0) (t : List ℕ) (i : Item) (graph : List ℕ) : Type 0 where
   pub accepted : checkOf t ≡ Accepted
   pub item : itemFits (meaning t .productions) (i .production) (i .index) ≡ true
-  pub long : 8193 ≤ length graph
+  pub long : graphRoom ≤ length graph
   -- it passes the check of a lent graph, and the traced item is a node of it
   pub passes : graphFits (length (meaning t .nonterminals)) (meaning t .productions) graph ≡ true
   pub node : isNode (atItem i) (edgesIn graph) ≡ true

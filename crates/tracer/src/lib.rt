@@ -2,6 +2,7 @@
 use core::Item;
 use core::prefix;
 use first::FirstSets;
+use repr::ProductionIndex;
 use repr::word;
 use shifting::shift_items;
 use slices::copy_words;
@@ -13,12 +14,15 @@ use trace::reduce::suffix_ends;
 use trace::reduce::trace_reduce_item;
 use trace::shift::shift_trace;
 use trace_graph::Inserted;
+use trace_graph::TraceGraph;
 use trace_graph::item_fits;
 ghost use mathlib.Core.Path.{_≡_};
 ghost use mathlib.Core.Bool.{true, false};
 ghost use mathlib.Core.List.{_++_};
 ghost use Prim.Native.Nat.{ℕ, _+_, _*_, _≤_, _<_};
 ghost use lib.ListN.{length, getD, take, drop, replicate};
+ghost use Rattle.repr.specs.Sizes.{edgeLimit, graphRoom, scratchWords};
+ghost use Rattle.slices.specs.Lent.{zeroed};
 ghost use Rattle.table.specs.Decoded.{meaning};
 ghost use Rattle.table.specs.Refusals.{checkOf};
 ghost use Rattle.state_graph.specs.Preds.{predWords};
@@ -26,7 +30,7 @@ ghost use Rattle.trace_graph.specs.declared.Inserted.the-variants.{Done, Full};
 ghost use Rattle.trace.specs.Shift.{shiftEdges};
 ghost use Rattle.trace.specs.Reduce.{reduceEdges};
 ghost use Rattle.tracer.specs.declared.Tried.the-variants as tried;
-ghost use Rattle.tracer.specs.Outcome.{outcome, zeroed, edgesOutcome, traceIn};
+ghost use Rattle.tracer.specs.Outcome.{outcome, edgesOutcome, traceIn};
 ghost use Rattle.tracer.specs.Built.{Asked, Room, Lent, Built, edgesBy};
 
 // What a trace answers: its number of edges, which are in the graph; else the refusal and its place.
@@ -44,11 +48,11 @@ enum Tried {
 
 // Scratch is left zero: its first 32,000 words.
 fn zero(scratch: &mut [u16])
-    requires { ⌜ 32000 ≤ length (now scratch) ⌝ }
-    ensures { λ _. ⌜ now (scratch .exit) ≡ zeroed (now (scratch .entry)) ⌝ }
+    requires { ⌜ scratchWords ≤ length (now scratch) ⌝ }
+    ensures { λ _. ⌜ now (scratch .exit) ≡ zeroed scratchWords (now (scratch .entry)) ⌝ }
 {
     let mut i: usize = 0;
-    while i < 32000 {
+    while i < TraceGraph::SCRATCH {
         scratch[i] = 0;
         i += 1;
     }
@@ -70,12 +74,12 @@ fn trace_shift(
 ) -> Inserted
     requires { ⌜ Asked (now table) (now grammar) productions n state production index ⌝ }
     requires { ⌜ Lent (meaning (now table)) (now starts) (now codes) (now visited) ⌝ }
-    requires { ⌜ 8193 ≤ length (now graph) ⌝ }
+    requires { ⌜ graphRoom ≤ length (now graph) ⌝ }
     ensures { λ r. ⌜ (r ≡ Done → Built (shiftEdges (meaning (now (table .entry))) state (record { production = production; index = index })) (now (graph .exit))) ⌝ }
-    ensures { λ r. ⌜ (r ≡ Full → 1024 < length (shiftEdges (meaning (now (table .entry))) state (record { production = production; index = index }))) ⌝ }
+    ensures { λ r. ⌜ (r ≡ Full → edgeLimit < length (shiftEdges (meaning (now (table .entry))) state (record { production = production; index = index }))) ⌝ }
 {
     graph[0] = 0;
-    let mut ix = [0u16; 5280];
+    let mut ix = [0u16; TraceGraph::INDEX_WORDS];
     let item = Item {
         production: production,
         index: index,
@@ -115,19 +119,19 @@ fn reduce_over(
     requires { ⌜ Asked (now table) (now grammar) productions n state production index ⌝ }
     requires { ⌜ Lent (meaning (now table)) (now starts) (now codes) (now visited) ⌝ }
     requires { ⌜ (predWords (meaning (now table)) ≤ length (now preds)) × (now preds ≡ replicate (length (now preds)) 0) ⌝ }
-    requires { ⌜ 8193 ≤ length (now graph) ⌝ }
+    requires { ⌜ graphRoom ≤ length (now graph) ⌝ }
     ensures { λ r. ⌜ (r ≡ Done → Built (reduceEdges (meaning (now (table .entry))) state (record { production = production; index = index })) (now (graph .exit))) ⌝ }
-    ensures { λ r. ⌜ (r ≡ Full → 1024 < length (reduceEdges (meaning (now (table .entry))) state (record { production = production; index = index }))) ⌝ }
+    ensures { λ r. ⌜ (r ≡ Full → edgeLimit < length (reduceEdges (meaning (now (table .entry))) state (record { production = production; index = index }))) ⌝ }
 {
     let counts = read_counts(table);
     let terminals = counts.terminals as u16;
     let sets = FirstSets::new(grammar, productions, terminals);
     let map = sets.map;
-    let mut ends = [0u8; 2176];
+    let mut ends = [0u8; Item::LIMIT];
     suffix_ends(grammar, productions, terminals, &map, &mut ends);
     state_graph::index(table, preds);
     graph[0] = 0;
-    let mut ix = [0u16; 5280];
+    let mut ix = [0u16; TraceGraph::INDEX_WORDS];
     trace_reduce_item(
         table,
         grammar,
@@ -163,9 +167,9 @@ fn reduce_few(
     requires { ⌜ Asked (now table) (now grammar) productions n state production index ⌝ }
     requires { ⌜ Lent (meaning (now table)) (now starts) (now codes) (now visited) ⌝ }
     requires { ⌜ predWords (meaning (now table)) ≤ 512 ⌝ }
-    requires { ⌜ 8193 ≤ length (now graph) ⌝ }
+    requires { ⌜ graphRoom ≤ length (now graph) ⌝ }
     ensures { λ r. ⌜ (r ≡ Done → Built (reduceEdges (meaning (now (table .entry))) state (record { production = production; index = index })) (now (graph .exit))) ⌝ }
-    ensures { λ r. ⌜ (r ≡ Full → 1024 < length (reduceEdges (meaning (now (table .entry))) state (record { production = production; index = index }))) ⌝ }
+    ensures { λ r. ⌜ (r ≡ Full → edgeLimit < length (reduceEdges (meaning (now (table .entry))) state (record { production = production; index = index }))) ⌝ }
 {
     let mut preds = [0u64; 512];
     reduce_over(
@@ -201,9 +205,9 @@ fn reduce_some(
     requires { ⌜ Asked (now table) (now grammar) productions n state production index ⌝ }
     requires { ⌜ Lent (meaning (now table)) (now starts) (now codes) (now visited) ⌝ }
     requires { ⌜ predWords (meaning (now table)) ≤ 4096 ⌝ }
-    requires { ⌜ 8193 ≤ length (now graph) ⌝ }
+    requires { ⌜ graphRoom ≤ length (now graph) ⌝ }
     ensures { λ r. ⌜ (r ≡ Done → Built (reduceEdges (meaning (now (table .entry))) state (record { production = production; index = index })) (now (graph .exit))) ⌝ }
-    ensures { λ r. ⌜ (r ≡ Full → 1024 < length (reduceEdges (meaning (now (table .entry))) state (record { production = production; index = index }))) ⌝ }
+    ensures { λ r. ⌜ (r ≡ Full → edgeLimit < length (reduceEdges (meaning (now (table .entry))) state (record { production = production; index = index }))) ⌝ }
 {
     let mut preds = [0u64; 4096];
     reduce_over(
@@ -238,9 +242,9 @@ fn reduce_many(
 ) -> Inserted
     requires { ⌜ Asked (now table) (now grammar) productions n state production index ⌝ }
     requires { ⌜ Lent (meaning (now table)) (now starts) (now codes) (now visited) ⌝ }
-    requires { ⌜ 8193 ≤ length (now graph) ⌝ }
+    requires { ⌜ graphRoom ≤ length (now graph) ⌝ }
     ensures { λ r. ⌜ (r ≡ Done → Built (reduceEdges (meaning (now (table .entry))) state (record { production = production; index = index })) (now (graph .exit))) ⌝ }
-    ensures { λ r. ⌜ (r ≡ Full → 1024 < length (reduceEdges (meaning (now (table .entry))) state (record { production = production; index = index }))) ⌝ }
+    ensures { λ r. ⌜ (r ≡ Full → edgeLimit < length (reduceEdges (meaning (now (table .entry))) state (record { production = production; index = index }))) ⌝ }
 {
     let mut preds = [0u64; 24320];
     reduce_over(
@@ -275,9 +279,9 @@ fn trace_reduce(
 ) -> Inserted
     requires { ⌜ Asked (now table) (now grammar) productions n state production index ⌝ }
     requires { ⌜ Lent (meaning (now table)) (now starts) (now codes) (now visited) ⌝ }
-    requires { ⌜ 8193 ≤ length (now graph) ⌝ }
+    requires { ⌜ graphRoom ≤ length (now graph) ⌝ }
     ensures { λ r. ⌜ (r ≡ Done → Built (reduceEdges (meaning (now (table .entry))) state (record { production = production; index = index })) (now (graph .exit))) ⌝ }
-    ensures { λ r. ⌜ (r ≡ Full → 1024 < length (reduceEdges (meaning (now (table .entry))) state (record { production = production; index = index }))) ⌝ }
+    ensures { λ r. ⌜ (r ≡ Full → edgeLimit < length (reduceEdges (meaning (now (table .entry))) state (record { production = production; index = index }))) ⌝ }
 {
     let counts = read_counts(table);
     let rows = counts.nonterminals + counts.terminals;
@@ -345,9 +349,9 @@ fn trace_with(
 ) -> Inserted
     requires { ⌜ Asked (now table) (now grammar) productions n state production index ⌝ }
     requires { ⌜ Lent (meaning (now table)) (now starts) (now codes) (now visited) ⌝ }
-    requires { ⌜ 8193 ≤ length (now graph) ⌝ }
+    requires { ⌜ graphRoom ≤ length (now graph) ⌝ }
     ensures { λ r. ⌜ (r ≡ Done → Built (edgesBy shift (meaning (now (table .entry))) state (record { production = production; index = index })) (now (graph .exit))) ⌝ }
-    ensures { λ r. ⌜ (r ≡ Full → 1024 < length (edgesBy shift (meaning (now (table .entry))) state (record { production = production; index = index }))) ⌝ }
+    ensures { λ r. ⌜ (r ≡ Full → edgeLimit < length (edgesBy shift (meaning (now (table .entry))) state (record { production = production; index = index }))) ⌝ }
 {
     if shift {
         trace_shift(
@@ -397,9 +401,9 @@ fn trace_lent(
 ) -> Tried
     requires { ⌜ Asked (now table) (now grammar) productions n state production index ⌝ }
     requires { ⌜ Room (meaning (now table)) (now starts) (now codes) (now visited) ⌝ }
-    requires { ⌜ 8193 ≤ length (now graph) ⌝ }
+    requires { ⌜ graphRoom ≤ length (now graph) ⌝ }
     ensures { λ r. ⌜ (r ≡ tried.Made → Built (edgesBy shift (meaning (now (table .entry))) state (record { production = production; index = index })) (now (graph .exit))) ⌝ }
-    ensures { λ r. ⌜ (r ≡ tried.Over → 1024 < length (edgesBy shift (meaning (now (table .entry))) state (record { production = production; index = index }))) ⌝ }
+    ensures { λ r. ⌜ (r ≡ tried.Over → edgeLimit < length (edgesBy shift (meaning (now (table .entry))) state (record { production = production; index = index }))) ⌝ }
 {
     if !shift_items(table, grammar, productions, starts, codes) {
         return Tried::Lacking;
@@ -437,9 +441,9 @@ fn trace_few(
 ) -> Tried
     requires { ⌜ Asked (now table) (now grammar) productions n state production index ⌝ }
     requires { ⌜ length (meaning (now table) .states) ≤ 16 ⌝ }
-    requires { ⌜ 8193 ≤ length (now graph) ⌝ }
+    requires { ⌜ graphRoom ≤ length (now graph) ⌝ }
     ensures { λ r. ⌜ (r ≡ tried.Made → Built (edgesBy shift (meaning (now (table .entry))) state (record { production = production; index = index })) (now (graph .exit))) ⌝ }
-    ensures { λ r. ⌜ (r ≡ tried.Over → 1024 < length (edgesBy shift (meaning (now (table .entry))) state (record { production = production; index = index }))) ⌝ }
+    ensures { λ r. ⌜ (r ≡ tried.Over → edgeLimit < length (edgesBy shift (meaning (now (table .entry))) state (record { production = production; index = index }))) ⌝ }
 {
     let mut starts = [0u32; 513];
     let mut codes = [0u16; 1024];
@@ -473,9 +477,9 @@ fn trace_some(
     shift: bool,
 ) -> Tried
     requires { ⌜ Asked (now table) (now grammar) productions n state production index ⌝ }
-    requires { ⌜ 8193 ≤ length (now graph) ⌝ }
+    requires { ⌜ graphRoom ≤ length (now graph) ⌝ }
     ensures { λ r. ⌜ (r ≡ tried.Made → Built (edgesBy shift (meaning (now (table .entry))) state (record { production = production; index = index })) (now (graph .exit))) ⌝ }
-    ensures { λ r. ⌜ (r ≡ tried.Over → 1024 < length (edgesBy shift (meaning (now (table .entry))) state (record { production = production; index = index }))) ⌝ }
+    ensures { λ r. ⌜ (r ≡ tried.Over → edgeLimit < length (edgesBy shift (meaning (now (table .entry))) state (record { production = production; index = index }))) ⌝ }
 {
     let mut starts = [0u32; 4097];
     let mut codes = [0u16; 8192];
@@ -509,9 +513,9 @@ fn trace_many(
     shift: bool,
 ) -> Inserted
     requires { ⌜ Asked (now table) (now grammar) productions n state production index ⌝ }
-    requires { ⌜ 8193 ≤ length (now graph) ⌝ }
+    requires { ⌜ graphRoom ≤ length (now graph) ⌝ }
     ensures { λ r. ⌜ (r ≡ Done → Built (edgesBy shift (meaning (now (table .entry))) state (record { production = production; index = index })) (now (graph .exit))) ⌝ }
-    ensures { λ r. ⌜ (r ≡ Full → 1024 < length (edgesBy shift (meaning (now (table .entry))) state (record { production = production; index = index }))) ⌝ }
+    ensures { λ r. ⌜ (r ≡ Full → edgeLimit < length (edgesBy shift (meaning (now (table .entry))) state (record { production = production; index = index }))) ⌝ }
 {
     let mut starts = [0u32; 4097];
     let mut codes = [0u16; 278528];
@@ -546,9 +550,9 @@ fn trace_large(
     shift: bool,
 ) -> Inserted
     requires { ⌜ Asked (now table) (now grammar) productions n state production index ⌝ }
-    requires { ⌜ 8193 ≤ length (now graph) ⌝ }
+    requires { ⌜ graphRoom ≤ length (now graph) ⌝ }
     ensures { λ r. ⌜ (r ≡ Done → Built (edgesBy shift (meaning (now (table .entry))) state (record { production = production; index = index })) (now (graph .exit))) ⌝ }
-    ensures { λ r. ⌜ (r ≡ Full → 1024 < length (edgesBy shift (meaning (now (table .entry))) state (record { production = production; index = index }))) ⌝ }
+    ensures { λ r. ⌜ (r ≡ Full → edgeLimit < length (edgesBy shift (meaning (now (table .entry))) state (record { production = production; index = index }))) ⌝ }
 {
     match trace_some(
         table,
@@ -590,9 +594,9 @@ pub fn build(
     shift: bool,
 ) -> Inserted
     requires { ⌜ Asked (now table) (now grammar) productions n state production index ⌝ }
-    requires { ⌜ 8193 ≤ length (now graph) ⌝ }
+    requires { ⌜ graphRoom ≤ length (now graph) ⌝ }
     ensures { λ r. ⌜ (r ≡ Done → Built (edgesBy shift (meaning (now (table .entry))) state (record { production = production; index = index })) (now (graph .exit))) ⌝ }
-    ensures { λ r. ⌜ (r ≡ Full → 1024 < length (edgesBy shift (meaning (now (table .entry))) state (record { production = production; index = index }))) ⌝ }
+    ensures { λ r. ⌜ (r ≡ Full → edgeLimit < length (edgesBy shift (meaning (now (table .entry))) state (record { production = production; index = index }))) ⌝ }
 {
     let counts = read_counts(table);
     let states = counts.states;
@@ -650,7 +654,7 @@ fn work(
     scratch: &mut [u16],
 ) -> Backtrace
     requires { ⌜ Asked (now table) (now grammar) productions n state production index ⌝ }
-    requires { ⌜ (8193 ≤ length (now graph)) × (32000 ≤ length (now scratch)) ⌝ }
+    requires { ⌜ (graphRoom ≤ length (now graph)) × (scratchWords ≤ length (now scratch)) ⌝ }
     ensures { λ r. ⌜ outcome r (now (graph .exit)) (now (scratch .exit)) ≡ edgesOutcome (now (graph .entry)) (now (scratch .entry)) (edgesBy shift (meaning (now (table .entry))) state (record { production = production; index = index })) ⌝ }
 {
     match build(
@@ -658,7 +662,7 @@ fn work(
         grammar,
         productions,
         n,
-        &mut scratch[..8193],
+        &mut scratch[..TraceGraph::WORDS],
         state,
         production,
         index,
@@ -666,7 +670,7 @@ fn work(
     ) {
         Inserted::Done => {
             let count = word(scratch, 0);
-            copy_words(scratch, graph, count * 8 + 1);
+            copy_words(scratch, graph, count * TraceGraph::EDGE_WORDS + 1);
             zero(scratch);
             Backtrace::Edges(count as u16)
         }
@@ -697,15 +701,15 @@ fn trace_in(
     }
     let productions = counts.productions;
     let n = counts.nonterminals;
-    let mut grammar = [0u16; 4608];
+    let mut grammar = [0u16; ProductionIndex::ALL_WORDS];
     read_productions(table, &mut grammar);
     if !item_fits(&grammar, productions, production, index) {
         return Backtrace::Refused(9, 0);
     }
-    if graph.len() < 8193 {
+    if graph.len() < TraceGraph::WORDS {
         return Backtrace::Refused(11, 0);
     }
-    if scratch.len() < 32000 {
+    if scratch.len() < TraceGraph::SCRATCH {
         return Backtrace::Refused(11, 0);
     }
     work(

@@ -3,8 +3,10 @@ use native.Mathlib.Omega.{arith}
 use mathlib.Core.Path.{_≡_, refl, sym, ap, _∙_}
 use Prim.Native.Nat.{ℕ, _+_, _-_, _≤_, _<_}
 use lib.ListN.{length, length-replicate}
+use Rattle.repr.specs.Sizes.{classifyScratch, entriesRoom}
+use Rattle.slices.proofs.Lent.{zeroed-again}
 use Rattle.gather.proofs.Both.{cleared}
-use Rattle.chooser.proofs.Choices.{zeroed-again, chosen-halts, chosen-better, chosen-naive}
+use Rattle.chooser.proofs.Choices.{chosen-halts, chosen-better, chosen-naive}
 use borrow.Author.Needs.{needs}
 use Rattle.chooser.proofs.choose_gathered.Statement.{statement}
 use Rattle.chooser.proofs.choose_gathered.Tie as tie
@@ -28,7 +30,7 @@ slice-aggregate-choose-tokens-2 c = search needs
 
 -- src/lib.rt:196:11
 choose-tokens-requires : tie.Need-choose-tokens-requires
-choose-tokens-requires c κs = (c .before .before .before .before .before .before .before .before .before .before .pre .0, (c .before .before .before .before .before .before .before .before .before .before .pre .1 .0, ((rw (c .before .before .before .before .before .clear .kept .0) (c .before .before .before .before .before .before .before .before .before .before .pre .1 .1), zeroed-again _ _ (cleared (c .before .before .before .before .before .before .before .before .before .before .args .scratch .now) _ (c .before .before .before .before .before .clear .ensures))), (length-replicate {A = ℕ} 384 0, length-replicate {A = ℕ} 384 0))))
+choose-tokens-requires c κs = (c .before .before .before .before .before .before .before .before .before .before .pre .0, (c .before .before .before .before .before .before .before .before .before .before .pre .1 .0, ((rw (c .before .before .before .before .before .clear .kept .0) (c .before .before .before .before .before .before .before .before .before .before .pre .1 .1), zeroed-again classifyScratch _ _ (cleared (c .before .before .before .before .before .before .before .before .before .before .args .scratch .now) _ (c .before .before .before .before .before .clear .ensures))), (length-replicate {A = ℕ} entriesRoom 0, length-replicate {A = ℕ} entriesRoom 0))))
 
 -- src/lib.rt:209:22
 enum-known-refusal : tie.Need-enum-known-refusal

@@ -3,6 +3,7 @@ use native.Mathlib.Omega.{arith}
 use mathlib.Core.Path.{_≡_, refl, sym, ap, _∙_}
 use Prim.Native.Nat.{ℕ, _+_, _-_, _≤_, _<_}
 use lib.ListN.{length, length-replicate}
+use Rattle.repr.specs.Sizes.{exampleRoom}
 use Rattle.gather.proofs.Both.{zeroed-clear}
 use Rattle.chooser.proofs.Tokens.{token-fits, token-out, token-refused, token-naive, token-better}
 use borrow.Author.Needs.{needs}
@@ -29,7 +30,7 @@ slice-aggregate-classify-gathered-2 c = search needs
 
 -- src/lib.rt:82:15
 classify-gathered-requires : tie.Need-classify-gathered-requires
-classify-gathered-requires c κs = (c .before .before .before .before .before .before .before .before .before .before .pre .0, (token-fits _ (c .before .before .before .before .before .before .before .before .before .before .args .conflict) _ _ (c .before .before .before .before .before .before .before .before .before .before .pre .1 .0) (sym (c .before .before .before .before .contains .ensures) ∙ c .before .before .before .if1 .taken), (zeroed-clear _ (c .before .before .before .before .before .before .before .before .before .before .pre .1 .1 .0 .1), (rw (length-replicate {A = ℕ} 1158 0) (omega arith), rw (length-replicate {A = ℕ} 1158 0) (omega arith)))))
+classify-gathered-requires c κs = (c .before .before .before .before .before .before .before .before .before .before .pre .0, (token-fits _ (c .before .before .before .before .before .before .before .before .before .before .args .conflict) _ _ (c .before .before .before .before .before .before .before .before .before .before .pre .1 .0) (sym (c .before .before .before .before .contains .ensures) ∙ c .before .before .before .if1 .taken), (zeroed-clear _ (c .before .before .before .before .before .before .before .before .before .before .pre .1 .1 .0 .1), (rw (length-replicate {A = ℕ} exampleRoom 0) (omega arith), rw (length-replicate {A = ℕ} exampleRoom 0) (omega arith)))))
 
 -- src/lib.rt:94:33
 enum-known-refusal : tie.Need-enum-known-refusal

@@ -3,6 +3,7 @@ use mathlib.Core.Path.{_≡_, refl, sym, ap, _∙_}
 use mathlib.Core.List.{List}
 use Prim.Native.Nat.{ℕ, _+_, _-_, _*_, _≤_, _<_}
 use lib.ListN.{length, getD, length-replicate}
+use Rattle.repr.specs.Sizes.{sideRoom}
 use Rattle.classifier.proofs.Ways.{placed, kept-both, gathered-halts, gathered-judged}
 use native.Mathlib.Omega.{arith}
 use borrow.Author.Needs.{needs}
@@ -23,7 +24,7 @@ slice-aggregate-gather-2 c = search needs
 
 -- src/lib.rt:91:11
 gather-requires : tie.Need-gather-requires
-gather-requires c κs = (c .before .before .before .before .before .before .before .before .pre .0, (c .before .before .before .before .before .before .before .before .pre .1 .0, (c .before .before .before .before .before .before .before .before .pre .1 .1 .0, (rw (length-replicate {A = ℕ} 6528 0) (omega arith), rw (length-replicate {A = ℕ} 6528 0) (omega arith)))))
+gather-requires c κs = (c .before .before .before .before .before .before .before .before .pre .0, (c .before .before .before .before .before .before .before .before .pre .1 .0, (c .before .before .before .before .before .before .before .before .pre .1 .1 .0, (rw (length-replicate {A = ℕ} sideRoom 0) (omega arith), rw (length-replicate {A = ℕ} sideRoom 0) (omega arith)))))
 
 -- src/lib.rt:103:26
 enum-known-refusal : tie.Need-enum-known-refusal

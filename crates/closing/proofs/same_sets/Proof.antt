@@ -2,7 +2,7 @@
 use mathlib.Core.Path.{_≡_, refl, sym, _∙_}
 use Prim.Native.Nat.{_-_, _≤_}
 use lib.ListN.{drop}
-use Rattle.first.specs.First.{same}
+use Rattle.slices.specs.Same.{sameWords}
 use Rattle.closing.proofs.Rest.{same-differs, same-on, same-end}
 use borrow.Author.Needs.{needs}
 use native.Mathlib.Omega.{arith}
@@ -10,7 +10,7 @@ use Rattle.closing.proofs.same_sets.Statement.{statement}
 use Rattle.closing.proofs.same_sets.Tie as tie
 
 abbrev Inv-loop : tie.InvT-loop
-Inv-loop left right n₀ n = (n ≤ 32) × (same (drop n left) (drop n right) ≡ same left right)
+Inv-loop left right n₀ n = (n ≤ 32) × (sameWords (drop n left) (drop n right) ≡ sameWords left right)
 
 abbrev μ-loop : tie.MeasureT-loop
 μ-loop left right n₀ n = 32 - n

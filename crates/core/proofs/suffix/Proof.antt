@@ -1,6 +1,7 @@
 -- `core::suffix` meets its contract. Assumes nothing.
 use Prim.Native.Nat.{_+_, _*_}
 use mathlib.Core.Path.{_≡_, refl, ap, _∙_}
+use Rattle.repr.specs.Sizes.{productionPlace}
 use Rattle.repr.specs.Listed.{listed}
 use Rattle.repr.proofs.Parts.{symbols-long}
 use Rattle.core.proofs.Items.{suffix-part, suffix-none, suffix-is}
@@ -64,7 +65,7 @@ returns : tie.Need-returns
 returns c = let S = c .before .before .before .before .before in let s = symbols-long _ _ _ (S .pre .0 .0) (S .pre .0 .1) in let e = suffix-part (S .args .grammar .now) _ (S .args .item .production) (S .args .item .index) (c .before .before .before .length .result) _ _ (S .pre .0 .0) (S .pre .0 .1) (c .before .before .before .length .ensures .0 ∙ s) (c .before .if1 .taken) refl refl in (e, ap listed e ∙ suffix-is _ _)
 
 returns-2 : tie.Need-returns-2
-returns-2 c = let S = c .before .before .before .before .before in let e = suffix-none (S .args .grammar .now) _ (S .args .item .production) (S .args .item .index) (S .args .item .production * 36 + 4 + 2 * c .before .before .before .length .result) (S .pre .0 .0) (S .pre .0 .1) (rw (c .before .before .before .length .ensures .0) at (c .before .if1 .left)) in (e, ap listed e ∙ suffix-is _ _)
+returns-2 c = let S = c .before .before .before .before .before in let e = suffix-none (S .args .grammar .now) _ (S .args .item .production) (S .args .item .index) (productionPlace (S .args .item .production) + 4 + 2 * c .before .before .before .length .result) (S .pre .0 .0) (S .pre .0 .1) (rw (c .before .before .before .length .ensures .0) at (c .before .if1 .left)) in (e, ap listed e ∙ suffix-is _ _)
 
 pub suffix-spec : {M : Type 1} → statement M
 suffix-spec =

@@ -3,6 +3,7 @@ use mathlib.Core.Path.{_≡_, refl, ap, _∙_}
 use mathlib.Core.List.{List, _++_}
 use Prim.Native.Nat.{ℕ, _*_, _-_, _≤_}
 use lib.ListN.{length, drop}
+use Rattle.repr.specs.Sizes.{entryRoom}
 use Rattle.repr.specs.Lists.{joined}
 use Rattle.entries.specs.Entries.{entriesIn, entryWords}
 use Rattle.entries.proofs.Laws.{copied-first, copied-more}
@@ -12,7 +13,7 @@ use Rattle.entries.proofs.copy_entries.Statement.{statement}
 use Rattle.entries.proofs.copy_entries.Tie as tie
 
 abbrev Inv-loop : tie.InvT-loop
-Inv-loop from to₀ count k₀ to k = (k ≤ count) × (length to ≡ length to₀) × (to ≡ joined entryWords (entriesIn from k) ++ drop (6 * k) to₀)
+Inv-loop from to₀ count k₀ to k = (k ≤ count) × (length to ≡ length to₀) × (to ≡ joined entryWords (entriesIn from k) ++ drop (entryRoom * k) to₀)
 
 abbrev μ-loop : tie.MeasureT-loop
 μ-loop from to₀ count k₀ to k = count - k
@@ -48,7 +49,7 @@ same-length : tie.Need-same-length Inv-loop μ-loop
 same-length c = c .before .loop .inv .1
 
 returns : tie.Need-returns Inv-loop μ-loop
-returns c = let e : c .before .loop .k ≡ c .before .before .before .before .args .count = omega (arith, c .before .loop .inv, c .loop-test .left) in c .before .loop .inv .2 ∙ ap (λ (k : ℕ). joined entryWords (entriesIn (c .before .before .before .before .args .from .now) k) ++ drop (6 * k) (c .before .before .before .before .args .to .now)) e
+returns c = let e : c .before .loop .k ≡ c .before .before .before .before .args .count = omega (arith, c .before .loop .inv, c .loop-test .left) in c .before .loop .inv .2 ∙ ap (λ (k : ℕ). joined entryWords (entriesIn (c .before .before .before .before .args .from .now) k) ++ drop (entryRoom * k) (c .before .before .before .before .args .to .now)) e
 
 pub copy-entries-spec : {M : Type 1} → statement M
 copy-entries-spec =

@@ -4,6 +4,7 @@ use mathlib.Core.Path.{_≡_, _∙_}
 use lib.ListN.{length}
 use borrow.Author.Needs.{needs}
 use native.Mathlib.Omega.{arith}
+use Rattle.repr.specs.Sizes.{classifyScratch, exampleRoom}
 use Rattle.explain.proofs.explain_some.Statement.{statement}
 use Rattle.explain.proofs.explain_some.Tie as tie
 use Rattle.explain.proofs.explain_some.Reads as reads
@@ -12,7 +13,7 @@ use Rattle.explain.proofs.conflict_at.Reads as conflict-at-reads
 use Rattle.explain.proofs.explain_conflict.Reads as explain-conflict-reads
 
 abbrev Inv-loop : tie.InvT-loop
-Inv-loop table words count first out₀ scratch₀ action₀ reduce₀ k₀ out scratch action reduce k = (length out ≡ length out₀) × ((length scratch ≡ 32000) × ((length action ≡ 1158) × (length reduce ≡ 1158)))
+Inv-loop table words count first out₀ scratch₀ action₀ reduce₀ k₀ out scratch action reduce k = (length out ≡ length out₀) × ((length scratch ≡ classifyScratch) × ((length action ≡ exampleRoom) × (length reduce ≡ exampleRoom)))
 
 abbrev μ-loop : tie.MeasureT-loop
 μ-loop table words count first out₀ scratch₀ action₀ reduce₀ k₀ out scratch action reduce k = count - k

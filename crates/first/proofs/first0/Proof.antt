@@ -5,6 +5,7 @@ use mathlib.Core.Path.{_≡_, _∙_}
 use mathlib.Core.Bool.{true}
 use Prim.Native.Nat.{_-_}
 use lib.ListN.{length, drop}
+use Rattle.repr.specs.Sizes.{nonterminalLimit, terminalLimit}
 use Rattle.repr.specs.Listed.{listed, listFits}
 use Rattle.repr.proofs.Listed.{fits-head}
 use Rattle.lookahead.specs.Tokens.{union}
@@ -15,7 +16,7 @@ use Rattle.first.proofs.first0.Statement.{statement}
 use Rattle.first.proofs.first0.Tie as tie
 
 abbrev Inv-loop : tie.InvT-loop
-Inv-loop map terminals symbols result₀ at₀ result at = (listFits 32 63 (drop at symbols) ≡ true) × (union (result .0) (first0 terminals map (listed (drop at symbols))) ≡ first0 terminals map (listed symbols))
+Inv-loop map terminals symbols result₀ at₀ result at = (listFits nonterminalLimit terminalLimit (drop at symbols) ≡ true) × (union (result .0) (first0 terminals map (listed (drop at symbols))) ≡ first0 terminals map (listed symbols))
 
 abbrev μ-loop : tie.MeasureT-loop
 μ-loop map terminals symbols result₀ at₀ result at = length symbols - at
@@ -33,7 +34,7 @@ add-word : tie.Need-add-word Inv-loop μ-loop
 add-word c = search needs
 
 word-requires-2 : tie.Need-word-requires-2 Inv-loop μ-loop
-word-requires-2 c κs = fits-head 32 63 _ _ (c .before .loop-test .taken) (c .before .before .loop .inv .0) .0
+word-requires-2 c κs = fits-head nonterminalLimit terminalLimit _ _ (c .before .loop-test .taken) (c .before .before .loop .inv .0) .0
 
 symbol-first-requires : tie.Need-symbol-first-requires Inv-loop μ-loop
 symbol-first-requires c κs = walk-fits _ _ _ _ (c .before .before .loop-test .taken) (c .before .before .before .loop .inv .0) (c .before .word .ensures .0) (c .word2 .ensures .0)
@@ -46,7 +47,7 @@ union-with-requires c κs = search needs
 
 returns : tie.Need-returns Inv-loop μ-loop
 returns c =
-    walk-stop _ _ _ _ _ _ _ _ _ _ _ (fits-head 32 63 _ _ (c .before .before .before .before .before .before .before .before .loop-test .taken) (c .before .before .before .before .before .before .before .before .before .loop .inv .0) .0) (c .before .before .before .before .before .before .before .word .ensures .0) (c .before .before .before .before .before .before .word2 .ensures .0) (c .before .before .before .before .before .symbol-first .ensures) (c .before .before .before .before .take-eof .ensures .0) (c .before .before .before .before .take-eof .ensures .1) (c .before .before .union-with .ensures .0) (not-true _ (c .if1 .taken))
+    walk-stop _ _ _ _ _ _ _ _ _ _ _ (fits-head nonterminalLimit terminalLimit _ _ (c .before .before .before .before .before .before .before .before .loop-test .taken) (c .before .before .before .before .before .before .before .before .before .loop .inv .0) .0) (c .before .before .before .before .before .before .before .word .ensures .0) (c .before .before .before .before .before .before .word2 .ensures .0) (c .before .before .before .before .before .symbol-first .ensures) (c .before .before .before .before .take-eof .ensures .0) (c .before .before .before .before .take-eof .ensures .1) (c .before .before .union-with .ensures .0) (not-true _ (c .if1 .taken))
     ∙ c .before .before .before .before .before .before .before .before .before .loop .inv .1
 
 add-at : tie.Need-add-at Inv-loop μ-loop
@@ -57,7 +58,7 @@ loop-less c = search needs
 
 loop-again : tie.Need-loop-again Inv-loop μ-loop
 loop-again c =
-    let f = fits-head 32 63 _ _ (c .before .before .before .before .before .before .before .before .loop-test .taken) (c .before .before .before .before .before .before .before .before .before .loop .inv .0) in (
+    let f = fits-head nonterminalLimit terminalLimit _ _ (c .before .before .before .before .before .before .before .before .loop-test .taken) (c .before .before .before .before .before .before .before .before .before .loop .inv .0) in (
       f .1 .1,
       walk-more _ _ _ _ _ _ _ _ _ _ _ (f .0) (c .before .before .before .before .before .before .before .word .ensures .0) (c .before .before .before .before .before .before .word2 .ensures .0) (c .before .before .before .before .before .symbol-first .ensures) (c .before .before .before .before .take-eof .ensures .0) (c .before .before .before .before .take-eof .ensures .1) (c .before .before .union-with .ensures .0) (not-false _ (c .if1 .left))
           ∙ c .before .before .before .before .before .before .before .before .before .loop .inv .1,

@@ -3,8 +3,9 @@
 use mathlib.Core.Path.{_≡_}
 use mathlib.Core.Bool.{not}
 use Prim.Native.Nat.{_≤_, _-_}
+use Rattle.slices.specs.Same.{sameWords}
 use Rattle.repr.specs.Packed.{productionsIn}
-use Rattle.first.specs.First.{round, same}
+use Rattle.first.specs.First.{round}
 use Rattle.first.proofs.Rounds.{round-start, round-long, round-more, round-end}
 use borrow.Author.Needs.{needs}
 use native.Mathlib.Omega.{arith}
@@ -12,7 +13,7 @@ use Rattle.first.proofs.grow.Statement.{statement}
 use Rattle.first.proofs.grow.Tie as tie
 
 abbrev Inv-loop : tie.InvT-loop
-Inv-loop grammar productions terminals map₀ changed₀ production₀ map changed production = (production ≤ productions) × (map ≡ round terminals map₀ (productionsIn grammar production)) × (changed ≡ not (same map map₀))
+Inv-loop grammar productions terminals map₀ changed₀ production₀ map changed production = (production ≤ productions) × (map ≡ round terminals map₀ (productionsIn grammar production)) × (changed ≡ not (sameWords map map₀))
 
 abbrev μ-loop : tie.MeasureT-loop
 μ-loop grammar productions terminals map₀ changed₀ production₀ map changed production = productions - production

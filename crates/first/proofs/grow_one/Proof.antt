@@ -1,5 +1,6 @@
 -- `grow_one` adds FIRST of a production's symbols to its nonterminal's set, and says exactly whether that changed it. Assumes nothing.
 use mathlib.Core.Path.{ap, _∙_}
+use Rattle.repr.specs.Sizes.{nonterminalLimit, terminalLimit}
 use Rattle.repr.specs.Listed.{listFits}
 use Rattle.first.proofs.Rounds.{one-grown}
 use native.Mathlib.Omega.{arith}
@@ -17,7 +18,7 @@ symbols-requires : tie.Need-symbols-requires
 symbols-requires c κs = search needs
 
 first0-requires : tie.Need-first0-requires
-first0-requires c κs = (c .before .before .before .before .pre .2, ap (listFits 32 63) (c .symbols .ensures) ∙ c .before .before .before .before .pre .0 .fits _ (c .before .before .before .before .pre .1))
+first0-requires c κs = (c .before .before .before .before .pre .2, ap (listFits nonterminalLimit terminalLimit) (c .symbols .ensures) ∙ c .before .before .before .before .pre .0 .fits _ (c .before .before .before .before .pre .1))
 
 mul-t9 : tie.Need-mul-t9
 mul-t9 c = search needs

@@ -4,6 +4,7 @@ use mathlib.Core.List.{List}
 use Prim.Native.Nat.{ℕ, _+_, _-_, _*_, _≤_, _<_}
 use lib.ListN.{length, getD, take, length-replicate}
 use lib.Seq.{length-take-le}
+use Rattle.repr.specs.Sizes.{labelsRoom}
 use Rattle.gather.proofs.Turns.{packable, labels-appended}
 use native.Mathlib.Omega.{arith}
 use borrow.Author.Needs.{needs}
@@ -28,7 +29,7 @@ array-share-prefix-labels c = search needs
 
 -- src/lib.rt:87:10
 slice-aggregate-pack : tie.Need-slice-aggregate-pack
-slice-aggregate-pack c = let l = c .before .before .read-labels .kept .1 .1 .1 .1 .0 ∙ length-replicate {A = ℕ} 99 0 in sym (length-take-le _ (c .before .before .read-labels .last .1 .1 .1 .1 .0) (omega (arith, c .before .before .read-labels .ensures .0 .0)))
+slice-aggregate-pack c = let l = c .before .before .read-labels .kept .1 .1 .1 .1 .0 ∙ length-replicate {A = ℕ} labelsRoom 0 in sym (length-take-le _ (c .before .before .read-labels .last .1 .1 .1 .1 .0) (omega (arith, c .before .before .read-labels .ensures .0 .0)))
 
 -- src/lib.rt:87:5
 pack-requires : tie.Need-pack-requires

@@ -3,6 +3,7 @@ use mathlib.Core.Path.{_≡_, refl, sym, ap, _∙_}
 use mathlib.Core.List.{List}
 use Prim.Native.Nat.{ℕ, _+_, _-_, _*_, _≤_, _<_}
 use lib.ListN.{length, getD, length-replicate}
+use Rattle.repr.specs.Sizes.{graphRoom}
 use Rattle.gather.proofs.Traces.{read-asked, read-nonterminals, read-terminals, listable, graph-passes, listing-made, listing-full}
 use native.Mathlib.Omega.{arith}
 use borrow.Author.Needs.{needs}
@@ -20,7 +21,7 @@ slice-aggregate-build c = search needs
 
 -- src/lib.rt:172:11
 build-requires : tie.Need-build-requires
-build-requires c κs = (read-asked _ _ _ _ _ _ (c .before .before .before .before .before .pre .0) _ _ _ (c .before .before .before .before .before .pre .1 .0 .1) (c .before .before .before .before .before .pre .1 .0 .0), rw (length-replicate {A = ℕ} 8193 0) (omega arith))
+build-requires c κs = (read-asked _ _ _ _ _ _ (c .before .before .before .before .before .pre .0) _ _ _ (c .before .before .before .before .before .pre .1 .0 .1) (c .before .before .before .before .before .pre .1 .0 .0), rw (length-replicate {A = ℕ} graphRoom 0) (omega arith))
 
 -- src/lib.rt:184:17
 enum-told : tie.Need-enum-told
@@ -36,7 +37,7 @@ slice-aggregate-check-graph-2 c = search needs
 
 -- src/lib.rt:185:13
 check-graph-requires : tie.Need-check-graph-requires
-check-graph-requires c κs = (c .before .before .before .before .before .before .before .before .before .before .before .pre .0 .packed, ((read-nonterminals _ _ _ _ _ _ (c .before .before .before .before .before .before .before .before .before .before .before .pre .0), (let l = c .before .before .before .before .before .build .kept .1 .1 .1 .1 .0 ∙ length-replicate {A = ℕ} 8193 0 in omega arith)), refl))
+check-graph-requires c κs = (c .before .before .before .before .before .before .before .before .before .before .before .pre .0 .packed, ((read-nonterminals _ _ _ _ _ _ (c .before .before .before .before .before .before .before .before .before .before .before .pre .0), (let l = c .before .before .before .before .before .build .kept .1 .1 .1 .1 .0 ∙ length-replicate {A = ℕ} graphRoom 0 in omega arith)), refl))
 
 -- src/lib.rt:192:17
 slice-aggregate-list-examples : tie.Need-slice-aggregate-list-examples

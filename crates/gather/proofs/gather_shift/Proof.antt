@@ -3,6 +3,7 @@ use mathlib.Core.Path.{_≡_, refl, sym, ap, _∙_}
 use mathlib.Core.List.{List}
 use Prim.Native.Nat.{ℕ, _+_, _-_, _*_, _≤_, _<_}
 use lib.ListN.{length, getD, length-replicate}
+use Rattle.repr.specs.Sizes.{itemLimit}
 use Rattle.table.specs.Decoded.{meaning}
 use Rattle.table.proofs.Decoding.{fits}
 use Rattle.gather.proofs.Shifts.{Turn, turn-first, item-in, trials-few, turn-more, turn-stop, turn-end}
@@ -31,7 +32,7 @@ slice-aggregate-conflicting-shift-items c = search needs
 
 -- src/lib.rt:226:9
 conflicting-shift-items-requires : tie.Need-conflicting-shift-items-requires Inv-loop μ-loop
-conflicting-shift-items-requires c κs = (c .before .before .before .before .before .pre .0 .accepted, ((record { packed = c .before .before .before .before .before .pre .0 .packed; same = c .before .before .before .before .before .pre .0 .same; many = c .before .before .before .before .before .pre .0 .many }, c .before .before .before .before .before .pre .1 .0), length-replicate {A = ℕ} 2176 0))
+conflicting-shift-items-requires c κs = (c .before .before .before .before .before .pre .0 .accepted, ((record { packed = c .before .before .before .before .before .pre .0 .packed; same = c .before .before .before .before .before .pre .0 .same; many = c .before .before .before .before .before .pre .0 .many }, c .before .before .before .before .before .pre .1 .0), length-replicate {A = ℕ} itemLimit 0))
 
 -- src/lib.rt:230:5
 loop-holds : tie.Need-loop-holds Inv-loop μ-loop
@@ -43,11 +44,11 @@ slice-aggregate-word c = search needs
 
 -- src/lib.rt:231:13
 word-requires : tie.Need-word-requires Inv-loop μ-loop
-word-requires c κs = let l = c .before .before .before .before .conflicting-shift-items .kept .1 .1 .1 .1 .1 .0 ∙ length-replicate {A = ℕ} 2176 0 in omega (arith, c .before .loop-test .taken, c .before .before .before .before .conflicting-shift-items .ensures .0)
+word-requires c κs = let l = c .before .before .before .before .conflicting-shift-items .kept .1 .1 .1 .1 .1 .0 ∙ length-replicate {A = ℕ} itemLimit 0 in omega (arith, c .before .loop-test .taken, c .before .before .before .before .conflicting-shift-items .ensures .0)
 
 -- src/lib.rt:232:15
 gather-listing-requires : tie.Need-gather-listing-requires Inv-loop μ-loop
-gather-listing-requires c κs = (c .before .before .before .before .before .before .before .before .before .before .before .before .before .pre .0, ((c .before .before .before .before .before .before .before .before .before .before .before .before .before .pre .1 .0, item-in _ (fits _ (c .before .before .before .before .before .before .before .before .before .before .before .before .before .pre .0 .accepted)) _ _ (c .before .before .before .before .before .before .before .before .before .before .before .before .before .pre .1 .0) _ _ (let l = c .before .before .before .before .before .before .before .conflicting-shift-items .kept .1 .1 .1 .1 .1 .0 ∙ length-replicate {A = ℕ} 2176 0 in omega (arith, c .before .before .before .before .before .before .before .conflicting-shift-items .ensures .0)) (c .before .before .before .before .before .before .before .conflicting-shift-items .ensures .1 .0) _ _ (c .before .before .before .before .loop-test .taken) (c .before .before .word .ensures .0)), (rw (c .before .before .before .before .before .loop .inv .words) (c .before .before .before .before .before .before .before .before .before .before .before .before .before .pre .1 .1 .0), c .before .before .before .before .before .loop .inv .held)))
+gather-listing-requires c κs = (c .before .before .before .before .before .before .before .before .before .before .before .before .before .pre .0, ((c .before .before .before .before .before .before .before .before .before .before .before .before .before .pre .1 .0, item-in _ (fits _ (c .before .before .before .before .before .before .before .before .before .before .before .before .before .pre .0 .accepted)) _ _ (c .before .before .before .before .before .before .before .before .before .before .before .before .before .pre .1 .0) _ _ (let l = c .before .before .before .before .before .before .before .conflicting-shift-items .kept .1 .1 .1 .1 .1 .0 ∙ length-replicate {A = ℕ} itemLimit 0 in omega (arith, c .before .before .before .before .before .before .before .conflicting-shift-items .ensures .0)) (c .before .before .before .before .before .before .before .conflicting-shift-items .ensures .1 .0) _ _ (c .before .before .before .before .loop-test .taken) (c .before .before .word .ensures .0)), (rw (c .before .before .before .before .before .loop .inv .words) (c .before .before .before .before .before .before .before .before .before .before .before .before .before .pre .1 .1 .0), c .before .before .before .before .before .loop .inv .held)))
 
 -- src/lib.rt:248:28
 enum-known-examples : tie.Need-enum-known-examples Inv-loop μ-loop
@@ -67,7 +68,7 @@ loop-less c = omega (arith, c .before .before .before .before .before .before .b
 
 -- src/lib.rt:230:5
 loop-again : tie.Need-loop-again Inv-loop μ-loop
-loop-again c = turn-more _ (fits _ (c .before .before .before .before .before .before .before .before .before .before .before .before .before .before .before .before .before .before .before .before .before .pre .0 .accepted)) _ _ (c .before .before .before .before .before .before .before .before .before .before .before .before .before .before .before .before .before .before .before .before .before .pre .1 .0) _ _ (let l = c .before .before .before .before .before .before .before .before .before .before .before .before .before .before .before .conflicting-shift-items .kept .1 .1 .1 .1 .1 .0 ∙ length-replicate {A = ℕ} 2176 0 in omega (arith, c .before .before .before .before .before .before .before .before .before .before .before .before .before .before .before .conflicting-shift-items .ensures .0)) (c .before .before .before .before .before .before .before .before .before .before .before .before .before .before .before .conflicting-shift-items .ensures .1 .0) _ _ _ _ _ _ _ _ (c .before .before .before .before .before .before .before .before .before .before .before .before .before .loop .inv) (c .before .before .before .before .before .before .before .before .before .before .before .before .loop-test .taken) (c .before .before .before .before .before .before .before .before .before .before .word .ensures .0) _ _ _ (c .before .before .before .before .before .before .before .gather-listing .ensures .0) _ _ (c .before .examples .given .1) (c .before .before .before .before .before .before .before .gather-listing .ensures .1) (c .before .before .before .before .before .before .before .gather-listing .kept .1 .1 .1 .1 .1 .1 .1 .1 .1 .1 .1 .1 .0)
+loop-again c = turn-more _ (fits _ (c .before .before .before .before .before .before .before .before .before .before .before .before .before .before .before .before .before .before .before .before .before .pre .0 .accepted)) _ _ (c .before .before .before .before .before .before .before .before .before .before .before .before .before .before .before .before .before .before .before .before .before .pre .1 .0) _ _ (let l = c .before .before .before .before .before .before .before .before .before .before .before .before .before .before .before .conflicting-shift-items .kept .1 .1 .1 .1 .1 .0 ∙ length-replicate {A = ℕ} itemLimit 0 in omega (arith, c .before .before .before .before .before .before .before .before .before .before .before .before .before .before .before .conflicting-shift-items .ensures .0)) (c .before .before .before .before .before .before .before .before .before .before .before .before .before .before .before .conflicting-shift-items .ensures .1 .0) _ _ _ _ _ _ _ _ (c .before .before .before .before .before .before .before .before .before .before .before .before .before .loop .inv) (c .before .before .before .before .before .before .before .before .before .before .before .before .loop-test .taken) (c .before .before .before .before .before .before .before .before .before .before .word .ensures .0) _ _ _ (c .before .before .before .before .before .before .before .gather-listing .ensures .0) _ _ (c .before .examples .given .1) (c .before .before .before .before .before .before .before .gather-listing .ensures .1) (c .before .before .before .before .before .before .before .gather-listing .kept .1 .1 .1 .1 .1 .1 .1 .1 .1 .1 .1 .1 .0)
 
 -- src/lib.rt:253:27
 enum-known-refusal : tie.Need-enum-known-refusal Inv-loop μ-loop
@@ -83,7 +84,7 @@ same-length-2 c = c .before .before .before .before .before .before .before .gat
 
 -- src/lib.rt:254:17
 returns : tie.Need-returns Inv-loop μ-loop
-returns c = turn-stop _ (fits _ (c .before .before .before .before .before .before .before .before .before .before .before .before .before .before .before .before .before .before .before .before .before .pre .0 .accepted)) _ _ (c .before .before .before .before .before .before .before .before .before .before .before .before .before .before .before .before .before .before .before .before .before .pre .1 .0) _ _ (let l = c .before .before .before .before .before .before .before .before .before .before .before .before .before .before .before .conflicting-shift-items .kept .1 .1 .1 .1 .1 .0 ∙ length-replicate {A = ℕ} 2176 0 in omega (arith, c .before .before .before .before .before .before .before .before .before .before .before .before .before .before .before .conflicting-shift-items .ensures .0)) (c .before .before .before .before .before .before .before .before .before .before .before .before .before .before .before .conflicting-shift-items .ensures .1 .0) _ _ _ _ _ _ _ _ (c .before .before .before .before .before .before .before .before .before .before .before .before .before .loop .inv) (c .before .before .before .before .before .before .before .before .before .before .before .before .loop-test .taken) (c .before .before .before .before .before .before .before .before .before .before .word .ensures .0) _ _ _ (c .before .before .before .before .before .before .before .gather-listing .ensures .0) _ (c .before .refusal .given .1)
+returns c = turn-stop _ (fits _ (c .before .before .before .before .before .before .before .before .before .before .before .before .before .before .before .before .before .before .before .before .before .pre .0 .accepted)) _ _ (c .before .before .before .before .before .before .before .before .before .before .before .before .before .before .before .before .before .before .before .before .before .pre .1 .0) _ _ (let l = c .before .before .before .before .before .before .before .before .before .before .before .before .before .before .before .conflicting-shift-items .kept .1 .1 .1 .1 .1 .0 ∙ length-replicate {A = ℕ} itemLimit 0 in omega (arith, c .before .before .before .before .before .before .before .before .before .before .before .before .before .before .before .conflicting-shift-items .ensures .0)) (c .before .before .before .before .before .before .before .before .before .before .before .before .before .before .before .conflicting-shift-items .ensures .1 .0) _ _ _ _ _ _ _ _ (c .before .before .before .before .before .before .before .before .before .before .before .before .before .loop .inv) (c .before .before .before .before .before .before .before .before .before .before .before .before .loop-test .taken) (c .before .before .before .before .before .before .before .before .before .before .word .ensures .0) _ _ _ (c .before .before .before .before .before .before .before .gather-listing .ensures .0) _ (c .before .refusal .given .1)
 
 -- src/lib.rt:206:1
 same-length-3 : tie.Need-same-length-3 Inv-loop μ-loop
@@ -95,7 +96,7 @@ same-length-4 c = c .before .loop .inv .long
 
 -- src/lib.rt:206:1
 returns-2 : tie.Need-returns-2 Inv-loop μ-loop
-returns-2 c = turn-end _ (fits _ (c .before .before .before .before .before .before .before .before .before .pre .0 .accepted)) _ _ (c .before .before .before .before .before .before .before .before .before .pre .1 .0) _ _ (let l = c .before .before .before .conflicting-shift-items .kept .1 .1 .1 .1 .1 .0 ∙ length-replicate {A = ℕ} 2176 0 in omega (arith, c .before .before .before .conflicting-shift-items .ensures .0)) (c .before .before .before .conflicting-shift-items .ensures .1 .0) _ _ _ _ _ _ _ (c .before .loop .inv) (c .loop-test .left)
+returns-2 c = turn-end _ (fits _ (c .before .before .before .before .before .before .before .before .before .pre .0 .accepted)) _ _ (c .before .before .before .before .before .before .before .before .before .pre .1 .0) _ _ (let l = c .before .before .before .conflicting-shift-items .kept .1 .1 .1 .1 .1 .0 ∙ length-replicate {A = ℕ} itemLimit 0 in omega (arith, c .before .before .before .conflicting-shift-items .ensures .0)) (c .before .before .before .conflicting-shift-items .ensures .1 .0) _ _ _ _ _ _ _ (c .before .loop .inv) (c .loop-test .left)
 
 pub gather-shift-spec : {M : Type 1} → statement M
 gather-shift-spec =

@@ -3,6 +3,7 @@ use mathlib.Core.Path.{_≡_, refl, sym, ap, _∙_}
 use mathlib.Core.List.{List}
 use Prim.Native.Nat.{ℕ, _+_, _-_, _*_, _≤_, _<_}
 use lib.ListN.{length, getD}
+use Rattle.repr.specs.Sizes.{exampleLimit}
 use Rattle.repr.specs.Packed.{productionsIn}
 use Rattle.example.proofs.Labels.{short-in}
 use Rattle.enumerator.specs.Advance.{setOf}
@@ -23,7 +24,7 @@ Inv-loop grammar productions terminals map lookahead graph ix production index w
 
 abbrev μ-loop : tie.MeasureT-loop
 μ-loop grammar productions terminals map lookahead graph ix production index words₀ side₀ count total₀ made₀ words side total made =
-    192 - total
+    exampleLimit - total
 
 -- src/lib.rt:114:5
 loop-holds : tie.Need-loop-holds Inv-loop μ-loop

@@ -1,4 +1,5 @@
 -- `put_example` meets its contract. Assumes nothing.
+use Rattle.repr.specs.Sizes.{reductionRoom}
 use Rattle.lines.proofs.Laws.{put-as}
 use Prim.Native.Nat.{_+_, _*_}
 use mathlib.Core.Path.{_∙_}
@@ -81,7 +82,7 @@ part-put-reductions-end c = omega (arith, c .before .before .before .before .bef
 
 -- src/lib.rt:123:9
 put-reductions-requires : tie.Need-put-reductions-requires
-put-reductions-requires c κs = let p = c .before .before .before .before .before .before .before .before .before .before .before .before .before .before .before .before .before .put .ensures .place in let l = c .before .before .before .before .before .before .before .before .before .before .before .before .before .before .before .before .before .put .ensures .long in let k = c .before .before .before .before .before .before .before .before .before .before .before .before .before .put-after .ensures .0 .long in let j = c .before .before .before .before .before .before .before .before .before .put-after2 .ensures .0 .long in let i = c .before .before .before .before .put-symbols .ensures .0 .long in ((rest-long (3 * c .before .before .before .before .before .before .before .before .before .before .before .before .before .before .before .before .before .before .before .word3 .result) (3 + c .before .before .before .before .before .before .before .before .before .before .before .before .before .before .before .before .before .before .before .before .before .word .result * 2) (c .before .before .before .before .before .before .before .before .before .before .before .before .before .before .before .before .before .before .before .before .before .before .before .before .args .example .now) (omega (arith, c .before .before .before .before .before .before .before .before .before .before .before .before .before .before .before .before .before .before .before .before .before .before .before .before .pre .0 .long, c .before .before .before .before .before .before .before .before .before .before .before .before .before .before .before .before .before .before .before .before .before .word .ensures .0, c .before .before .before .before .before .before .before .before .before .before .before .before .before .before .before .before .before .before .before .word3 .ensures .0)), omega (arith, c .before .before .before .before .before .before .before .before .before .before .before .before .before .before .before .before .before .before .before .before .before .before .before .before .pre .0 .few-reductions, c .before .before .before .before .before .before .before .before .before .before .before .before .before .before .before .before .before .before .before .word3 .ensures .0)), omega (arith, c .before .before .before .before .before .before .before .before .before .before .before .before .before .before .before .before .before .before .before .before .before .before .before .before .pre .1, c .before .before .before .before .before .before .before .before .before .before .before .before .before .before .before .before .before .before .before .before .before .before .before .before .pre .0 .few-symbols, c .before .before .before .before .before .before .before .before .before .before .before .before .before .before .before .before .before .before .before .before .before .before .before .before .pre .0 .few-reductions, c .before .before .before .before .before .before .before .before .before .before .before .before .before .before .before .before .before .before .before .before .before .word .ensures .0, c .before .before .before .before .before .before .before .before .before .before .before .before .before .before .before .before .before .before .before .word3 .ensures .0, p, l, k, j, i, c .before .before .before .before .before .before .before .before .before .before .before .before .before .put-after .ensures .1, c .before .before .before .before .before .before .before .before .before .put-after2 .ensures .1, c .before .before .before .before .put-symbols .ensures .1))
+put-reductions-requires c κs = let p = c .before .before .before .before .before .before .before .before .before .before .before .before .before .before .before .before .before .put .ensures .place in let l = c .before .before .before .before .before .before .before .before .before .before .before .before .before .before .before .before .before .put .ensures .long in let k = c .before .before .before .before .before .before .before .before .before .before .before .before .before .put-after .ensures .0 .long in let j = c .before .before .before .before .before .before .before .before .before .put-after2 .ensures .0 .long in let i = c .before .before .before .before .put-symbols .ensures .0 .long in ((rest-long (reductionRoom * c .before .before .before .before .before .before .before .before .before .before .before .before .before .before .before .before .before .before .before .word3 .result) (3 + c .before .before .before .before .before .before .before .before .before .before .before .before .before .before .before .before .before .before .before .before .before .word .result * 2) (c .before .before .before .before .before .before .before .before .before .before .before .before .before .before .before .before .before .before .before .before .before .before .before .before .args .example .now) (omega (arith, c .before .before .before .before .before .before .before .before .before .before .before .before .before .before .before .before .before .before .before .before .before .before .before .before .pre .0 .long, c .before .before .before .before .before .before .before .before .before .before .before .before .before .before .before .before .before .before .before .before .before .word .ensures .0, c .before .before .before .before .before .before .before .before .before .before .before .before .before .before .before .before .before .before .before .word3 .ensures .0)), omega (arith, c .before .before .before .before .before .before .before .before .before .before .before .before .before .before .before .before .before .before .before .before .before .before .before .before .pre .0 .few-reductions, c .before .before .before .before .before .before .before .before .before .before .before .before .before .before .before .before .before .before .before .word3 .ensures .0)), omega (arith, c .before .before .before .before .before .before .before .before .before .before .before .before .before .before .before .before .before .before .before .before .before .before .before .before .pre .1, c .before .before .before .before .before .before .before .before .before .before .before .before .before .before .before .before .before .before .before .before .before .before .before .before .pre .0 .few-symbols, c .before .before .before .before .before .before .before .before .before .before .before .before .before .before .before .before .before .before .before .before .before .before .before .before .pre .0 .few-reductions, c .before .before .before .before .before .before .before .before .before .before .before .before .before .before .before .before .before .before .before .before .before .word .ensures .0, c .before .before .before .before .before .before .before .before .before .before .before .before .before .before .before .before .before .before .before .word3 .ensures .0, p, l, k, j, i, c .before .before .before .before .before .before .before .before .before .before .before .before .before .put-after .ensures .1, c .before .before .before .before .before .before .before .before .before .put-after2 .ensures .1, c .before .before .before .before .put-symbols .ensures .1))
 
 -- src/lib.rt:124:5
 put-requires-2 : tie.Need-put-requires-2

@@ -2,6 +2,7 @@
 use Prim.Native.Nat.{_-_}
 use mathlib.Core.Path.{_≡_, refl, sym, _∙_}
 use lib.ListN.{length}
+use Rattle.repr.specs.Sizes.{trialLimit}
 use Rattle.repr.specs.Packed.{productionsIn}
 use Rattle.trace_graph.specs.Words.{edgesIn}
 use Rattle.enumerator.specs.Advance.{setOf}
@@ -21,7 +22,7 @@ Inv-loop grammar productions terminals map lookahead graph ix words₀ productio
 
 abbrev μ-loop : tie.MeasureT-loop
 μ-loop grammar productions terminals map lookahead graph ix words₀ production index count counts₀ made₀ words counts made =
-    100000 - made
+    trialLimit - made
 
 slice-aggregate-count-walk : tie.Need-slice-aggregate-count-walk Inv-loop μ-loop
 slice-aggregate-count-walk c = refl

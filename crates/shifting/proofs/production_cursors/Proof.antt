@@ -1,6 +1,7 @@
 -- `production_cursors` meets its contract. Assumes nothing.
 use mathlib.Core.Path.{_≡_, sym, _∙_}
 use Prim.Native.Nat.{_+_, _-_, _*_, _≤_}
+use Rattle.repr.specs.Sizes.{indexLimit}
 use Rattle.shifting.specs.Coded.{Cursors}
 use Rattle.shifting.proofs.CursorWords.{cursor-inside, cursor-small, cursor-code, cursor-yes, cursor-no, cursors-past}
 use borrow.Author.Needs.{needs}
@@ -9,7 +10,7 @@ use Rattle.shifting.proofs.production_cursors.Statement.{statement}
 use Rattle.shifting.proofs.production_cursors.Tie as tie
 
 abbrev Inv-loop : tie.InvT-loop
-Inv-loop grammar productions production cursors₀ symbols i₀ cursors i = (i ≤ symbols) × Cursors grammar (production * 17 + i) cursors
+Inv-loop grammar productions production cursors₀ symbols i₀ cursors i = (i ≤ symbols) × Cursors grammar (production * indexLimit + i) cursors
 
 abbrev μ-loop : tie.MeasureT-loop
 μ-loop grammar productions production cursors₀ symbols i₀ cursors i = symbols - i
@@ -18,7 +19,7 @@ length-requires : tie.Need-length-requires Inv-loop μ-loop
 length-requires c κs = search needs
 
 loop-holds : tie.Need-loop-holds Inv-loop μ-loop
-loop-holds c = (omega arith, let e : c .before .before .before .args .production * 17 + 0 ≡ c .before .before .before .args .production * 17 = omega arith in rw e (c .before .before .before .pre .1))
+loop-holds c = (omega arith, let e : c .before .before .before .args .production * indexLimit + 0 ≡ c .before .before .before .args .production * indexLimit = omega arith in rw e (c .before .before .before .pre .1))
 
 mul-at : tie.Need-mul-at Inv-loop μ-loop
 mul-at c = omega (arith, c .before .before .before .before .before .pre .0 .1, c .before .before .before .before .before .pre .0 .0 .few)

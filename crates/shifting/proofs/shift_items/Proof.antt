@@ -2,6 +2,7 @@
 use mathlib.Core.Path.{refl}
 use Prim.Native.Nat.{ℕ}
 use lib.ListN.{length-replicate}
+use Rattle.repr.specs.Sizes.{itemLimit}
 use Rattle.shifting.proofs.Codes.{cursors-of}
 use Rattle.shifting.proofs.ItemFlags.{stamps-start}
 use borrow.Author.Needs.{needs}
@@ -29,7 +30,7 @@ write-states-requires c κs = (
   (
     (
       cursors-of (record { packed = c .before .before .before .before .before .before .before .before .before .before .before .before .pre .1 .0 .0; same = c .before .before .before .before .before .before .before .before .before .before .before .before .pre .1 .0 .1 .0; many = c .before .before .before .before .before .before .before .before .before .before .before .before .pre .1 .0 .1 .1 }) (c .before .before .before .before .before .before .write-cursors .ensures),
-      (stamps-start _ 2176 refl refl, length-replicate {A = ℕ} 2176 0),
+      (stamps-start _ itemLimit refl refl, length-replicate {A = ℕ} itemLimit 0),
     ),
     c .before .before .before .before .before .before .before .before .before .before .before .before .pre .1 .1,
   ),

@@ -2,6 +2,7 @@
 use mathlib.Core.Path.{_≡_, refl, _∙_}
 use Prim.Native.Nat.{_-_, _*_, _≤_}
 use lib.ListN.{length}
+use Rattle.repr.specs.Sizes.{indexLimit, itemLimit}
 use Rattle.shifting.specs.Coded.{Cursors}
 use Rattle.shifting.proofs.CursorWords.{cursors-start, cursors-next}
 use native.Mathlib.Omega.{arith}
@@ -9,13 +10,13 @@ use Rattle.shifting.proofs.write_cursors.Statement.{statement}
 use Rattle.shifting.proofs.write_cursors.Tie as tie
 
 abbrev Inv-loop : tie.InvT-loop
-Inv-loop grammar productions cursors₀ p₀ cursors p = (p ≤ productions) × ((length cursors ≡ length cursors₀) × Cursors grammar (p * 17) cursors)
+Inv-loop grammar productions cursors₀ p₀ cursors p = (p ≤ productions) × ((length cursors ≡ length cursors₀) × Cursors grammar (p * indexLimit) cursors)
 
 abbrev μ-loop : tie.MeasureT-loop
 μ-loop grammar productions cursors₀ p₀ cursors p = productions - p
 
 loop-holds : tie.Need-loop-holds Inv-loop μ-loop
-loop-holds c = (omega arith, (refl, cursors-start _ _ 2176 refl (c .before .before .pre .1)))
+loop-holds c = (omega arith, (refl, cursors-start _ _ itemLimit refl (c .before .before .pre .1)))
 
 production-cursors-requires : tie.Need-production-cursors-requires Inv-loop μ-loop
 production-cursors-requires c κs = ((c .before .before .before .before .before .pre .0, c .before .loop-test .taken), c .before .before .loop .inv .1 .1)

@@ -8,6 +8,7 @@ use Rattle.repr.specs.Packed.{productionsIn}
 use Rattle.trace_graph.proofs.Checks.{Checked, checked-first, checked-more, checked-all, graph-many, graph-bad}
 use Rattle.trace_graph.proofs.check_graph.Statement.{statement}
 use Rattle.trace_graph.proofs.check_graph.Tie as tie
+use Rattle.trace_graph.specs.Index.{indexRoom}
 
 abbrev Inv-loop : tie.InvT-loop
 Inv-loop grammar productions n graph ix₀ count k₀ ix k = Checked n (productionsIn grammar productions) graph ix k × (k ≤ count)
@@ -51,7 +52,7 @@ same-length : tie.Need-same-length Inv-loop μ-loop
 same-length c =
     let S = c .before .before .before .before .before .before .before .before .before .before .before .before in
     let A = S .args in
-    c .before .before .before .check-edge .kept .1 .1 .1 .1 .0 ∙ c .before .before .before .before .before .before .loop .inv .0 .good .index .long ∙ sym (ap length (S .pre .1 .1) ∙ length-replicate {A = ℕ} 5280 0)
+    c .before .before .before .check-edge .kept .1 .1 .1 .1 .0 ∙ c .before .before .before .before .before .before .loop .inv .0 .good .index .long ∙ sym (ap length (S .pre .1 .1) ∙ length-replicate {A = ℕ} indexRoom 0)
 
 returns-2 : tie.Need-returns-2 Inv-loop μ-loop
 returns-2 c =
@@ -63,7 +64,7 @@ same-length-2 : tie.Need-same-length-2 Inv-loop μ-loop
 same-length-2 c =
     let S = c .before .before .before .before .before .before .before in
     let A = S .args in
-    c .before .loop .inv .0 .good .index .long ∙ sym (ap length (S .pre .1 .1) ∙ length-replicate {A = ℕ} 5280 0)
+    c .before .loop .inv .0 .good .index .long ∙ sym (ap length (S .pre .1 .1) ∙ length-replicate {A = ℕ} indexRoom 0)
 
 returns-3 : tie.Need-returns-3 Inv-loop μ-loop
 returns-3 c =

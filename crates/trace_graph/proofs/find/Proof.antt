@@ -2,7 +2,7 @@
 use native.Mathlib.Omega.{arith}
 use Rattle.repr.specs.Packed.{productionsIn}
 use Rattle.trace_graph.specs.Graph.{sameEdge}
-use Rattle.trace_graph.specs.Index.{inBucket}
+use Rattle.trace_graph.specs.Index.{inBucket, bucketLinks}
 use Rattle.trace_graph.specs.Values.{edgeIs}
 use Rattle.trace_graph.proofs.Index.{Turn}
 use Rattle.trace_graph.proofs.Finds.{Sought, find-first, find-low, find-fits, find-found, find-less, find-again, find-end}
@@ -10,7 +10,7 @@ use Rattle.trace_graph.proofs.find.Statement.{statement}
 use Rattle.trace_graph.proofs.find.Tie as tie
 
 abbrev Inv-loop : tie.InvT-loop
-Inv-loop grammar productions n graph ix k edge bucket next₀ next = Turn graph ix 4256 (inBucket (productionsIn grammar productions) graph bucket) (sameEdge (productionsIn grammar productions) (edgeIs edge)) k next
+Inv-loop grammar productions n graph ix k edge bucket next₀ next = Turn graph ix bucketLinks (inBucket (productionsIn grammar productions) graph bucket) (sameEdge (productionsIn grammar productions) (edgeIs edge)) k next
 
 abbrev μ-loop : tie.MeasureT-loop
 μ-loop grammar productions n graph ix k edge bucket next₀ next = next

@@ -7,6 +7,7 @@ use Prim.Native.Nat.{ℕ, _+_}
 use Rattle.trace_graph.specs.Insert.{chained, linkedAt}
 use Rattle.trace_graph.proofs.link.Statement.{statement}
 use Rattle.trace_graph.proofs.link.Tie as tie
+use Rattle.trace_graph.specs.Index.{bucketHeads, bucketLinks}
 
 chain-requires : tie.Need-chain-requires
 chain-requires c κs = search needs
@@ -24,7 +25,7 @@ returns : tie.Need-returns
 unfolding linkedAt
 returns c =
     c .before .before .chain2 .ensures
-    ∙ ap (λ (l : List ℕ). chained l 4256 (3232 + c .before .before .before .before .before .before .before .before .before .args .bucket) (c .before .before .before .before .before .before .before .before .before .args .k)) (c .before .before .before .before .before .before .chain .ensures)
+    ∙ ap (λ (l : List ℕ). chained l bucketLinks (bucketHeads + c .before .before .before .before .before .before .before .before .before .args .bucket) (c .before .before .before .before .before .before .before .before .before .args .k)) (c .before .before .before .before .before .before .chain .ensures)
 
 pub link-spec : {M : Type 1} → statement M
 link-spec = tie.close (tie.spec chain-requires add-chain chain-requires-2 same-length returns)

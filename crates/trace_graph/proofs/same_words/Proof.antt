@@ -4,7 +4,7 @@ use native.Mathlib.Omega.{arith}
 use mathlib.Core.Path.{_≡_, refl, sym, _∙_}
 use Prim.Native.Nat.{_≤_, _-_}
 use lib.ListN.{length, drop}
-use Rattle.trace_graph.specs.Same.{sameWords}
+use Rattle.slices.specs.Same.{sameWords}
 use Rattle.trace_graph.proofs.Same.{words-lengths, words-differ, words-more, words-end}
 use Rattle.trace_graph.proofs.same_words.Statement.{statement}
 use Rattle.trace_graph.proofs.same_words.Tie as tie

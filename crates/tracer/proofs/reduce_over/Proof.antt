@@ -2,6 +2,7 @@
 use mathlib.Core.Path.{_≡_, refl, _∙_}
 use Prim.Native.Nat.{ℕ}
 use lib.ListN.{length-set, length-replicate}
+use Rattle.repr.specs.Sizes.{itemLimit}
 use Rattle.tracer.proofs.Traces.{emptied, empty-graph, reducing, reduce-made, reduce-over}
 use native.Mathlib.Omega.{arith}
 use borrow.Author.Needs.{needs}
@@ -21,7 +22,7 @@ slice-aggregate-suffix-ends : tie.Need-slice-aggregate-suffix-ends
 slice-aggregate-suffix-ends c = search needs
 
 suffix-ends-requires : tie.Need-suffix-ends-requires
-suffix-ends-requires c κs = let C = c .before .before .before .before .before .read-counts .ensures in ((c .before .before .before .before .before .before .before .before .before .before .before .before .before .pre .0 .packed, omega (arith, C .fits .few-terminals, C .terminals)), (c .before .before .before .new .ensures, length-replicate {A = ℕ} 2176 0))
+suffix-ends-requires c κs = let C = c .before .before .before .before .before .read-counts .ensures in ((c .before .before .before .before .before .before .before .before .before .before .before .before .before .pre .0 .packed, omega (arith, C .fits .few-terminals, C .terminals)), (c .before .before .before .new .ensures, length-replicate {A = ℕ} itemLimit 0))
 
 index-requires : tie.Need-index-requires
 index-requires c κs = (c .before .before .before .before .before .before .before .before .before .before .before .before .before .before .before .before .pre .0 .accepted, c .before .before .before .before .before .before .before .before .before .before .before .before .before .before .before .before .pre .1 .1 .0)

@@ -3,6 +3,7 @@ use mathlib.Core.Path.{_≡_, refl, sym, ap, _∙_}
 use mathlib.Core.Bool.{true, false}
 use Prim.Native.Nat.{ℕ}
 use lib.ListN.{length, length-replicate}
+use Rattle.repr.specs.Sizes.{grammarRoom}
 use Rattle.table.specs.Decoded.{meaning}
 use Rattle.repr.specs.Packed.{Packed, productionsIn}
 use Rattle.tracer.specs.Built.{edgesBy}
@@ -23,7 +24,7 @@ slice-aggregate-read-productions : tie.Need-slice-aggregate-read-productions
 slice-aggregate-read-productions c = search needs
 
 read-productions-requires : tie.Need-read-productions-requires
-read-productions-requires c κs = (c .before .before .before .before .before .before .pre, length-replicate {A = ℕ} 4608 0)
+read-productions-requires c κs = (c .before .before .before .before .before .before .pre, length-replicate {A = ℕ} grammarRoom 0)
 
 slice-aggregate-item-fits : tie.Need-slice-aggregate-item-fits
 slice-aggregate-item-fits c = search needs

@@ -4,17 +4,18 @@ use mathlib.Core.List.{List, _++_}
 use Prim.Native.Nat.{ℕ, _≤_, _-_}
 use lib.ListN.{length, drop, set, replicate, length-set}
 use borrow.Author.Fill.{fill-more}
-use Rattle.tracer.proofs.Words.{zeroed-is}
+use Rattle.repr.specs.Sizes.{scratchWords}
+use Rattle.slices.proofs.Lent.{zeroed-is}
 use native.Mathlib.Omega.{arith}
 use borrow.Author.Needs.{needs}
 use Rattle.tracer.proofs.zero.Statement.{statement}
 use Rattle.tracer.proofs.zero.Tie as tie
 
 abbrev Inv-loop : tie.InvT-loop
-Inv-loop scratch₀ i₀ scratch i = (i ≤ 32000) × (length scratch ≡ length scratch₀) × (scratch ≡ replicate i 0 ++ drop i scratch₀)
+Inv-loop scratch₀ i₀ scratch i = (i ≤ scratchWords) × (length scratch ≡ length scratch₀) × (scratch ≡ replicate i 0 ++ drop i scratch₀)
 
 abbrev μ-loop : tie.MeasureT-loop
-μ-loop scratch₀ i₀ scratch i = 32000 - i
+μ-loop scratch₀ i₀ scratch i = scratchWords - i
 
 loop-holds : tie.Need-loop-holds Inv-loop μ-loop
 loop-holds c = (omega arith, refl, refl)
@@ -38,7 +39,7 @@ same-length : tie.Need-same-length Inv-loop μ-loop
 same-length c = c .before .loop .inv .1
 
 returns : tie.Need-returns Inv-loop μ-loop
-returns c = zeroed-is (c .before .loop .i) _ _ (omega arith) (c .before .loop .inv .2)
+returns c = zeroed-is scratchWords (c .before .loop .i) _ _ (omega arith) (c .before .loop .inv .2)
 
 pub zero-spec : {M : Type 1} → statement M
 zero-spec =

@@ -4,16 +4,17 @@ use lib.ListN.{length, drop, replicate, set, length-set}
 use Prim.Native.Nat.{ℕ, _-_, _≤_}
 use mathlib.Core.List.{List, _++_}
 use mathlib.Core.Path.{_≡_, refl, ap, _∙_}
+use Rattle.repr.specs.Sizes.{scratchWords}
 use Rattle.enumerator.proofs.StackWords.{cleared}
 use native.Mathlib.Omega.{arith}
 use Rattle.enumerator.proofs.machine.clear.Statement.{statement}
 use Rattle.enumerator.proofs.machine.clear.Tie as tie
 
 abbrev Inv-loop : tie.InvT-loop
-Inv-loop words₀ at₀ words at = (at ≤ 32000) × (length words ≡ length words₀) × (words ≡ replicate at 0 ++ drop at words₀)
+Inv-loop words₀ at₀ words at = (at ≤ scratchWords) × (length words ≡ length words₀) × (words ≡ replicate at 0 ++ drop at words₀)
 
 abbrev μ-loop : tie.MeasureT-loop
-μ-loop words₀ at₀ words at = 32000 - at
+μ-loop words₀ at₀ words at = scratchWords - at
 
 loop-holds : tie.Need-loop-holds Inv-loop μ-loop
 loop-holds c = (omega arith, refl, fill-none (c .args .words .now) 0)

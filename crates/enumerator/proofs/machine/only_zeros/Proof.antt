@@ -1,5 +1,6 @@
 -- `only_zeros` meets its contract, with the invariant that nothing is gathered exactly if the words up to the place are zero. Assumes nothing.
 use Prim.Native.Nat.{_-_}
+use Rattle.repr.specs.Sizes.{scratchWords}
 use Rattle.enumerator.proofs.Holding.{Gathered, gathered-start, gathered-more, gathered-end}
 use native.Mathlib.Omega.{arith}
 use borrow.Author.Needs.{needs}
@@ -10,7 +11,7 @@ abbrev Inv-loop : tie.InvT-loop
 Inv-loop words from all₀ at₀ all at = Gathered words from at all
 
 abbrev μ-loop : tie.MeasureT-loop
-μ-loop words from all₀ at₀ all at = 32000 - at
+μ-loop words from all₀ at₀ all at = scratchWords - at
 
 loop-holds : tie.Need-loop-holds Inv-loop μ-loop
 loop-holds c = gathered-start _ _ (c .pre .1)

@@ -2,6 +2,7 @@
 use mathlib.Core.Path.{_≡_, refl, sym}
 use Prim.Native.Nat.{ℕ}
 use lib.ListN.{length}
+use Rattle.repr.specs.Sizes.{entriesRoom}
 use Rattle.lihvemur.proofs.Reported.{choose-refused, choose-few, choose-chosen, choose-short}
 use native.Mathlib.Omega.{arith}
 use borrow.Author.Needs.{needs}
@@ -42,7 +43,7 @@ slice-aggregate-copy-entries c = search needs
 copy-entries-requires : tie.Need-copy-entries-requires
 copy-entries-requires c κs =
     let few = choose-few _ _ _ _ (c .before .before .before .before .before .before .choose2 .result) _ (c .before .before .before .before .before .before .choose2 .ensures) (c .before .before .before .if2 .left) in
-    let long : _≡_ {A = ℕ} 384 (length (c .before .before .before .before .before .before .choose2 .result .entries)) = cc (slice-aggregate-copy-entries (c .before)) in
+    let long : _≡_ {A = ℕ} entriesRoom (length (c .before .before .before .before .before .before .choose2 .result .entries)) = cc (slice-aggregate-copy-entries (c .before)) in
     (omega arith, sym long, omega (arith, c .before .before .before .before .before .before .before .before .if1 .left))
 
 same-length-3 : tie.Need-same-length-3

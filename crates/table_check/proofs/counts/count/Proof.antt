@@ -1,4 +1,5 @@
 -- `counts::count` meets its contract. The invariant: the lengths of the productions passed stand. Assumes nothing.
+use Rattle.repr.specs.Sizes.{indexLimit}
 use Rattle.table_check.proofs.Steps.{lengths-more, lengths-all}
 use Rattle.table.specs.Decoded.{symbolChain}
 use lib.ListN.{length, getD, length-set}
@@ -9,7 +10,7 @@ use Rattle.table_check.proofs.counts.count.Statement.{statement}
 use Rattle.table_check.proofs.counts.count.Tie as tie
 
 abbrev Inv-loop : tie.InvT-loop
-Inv-loop table a lengths₀ productions p₀ lengths p = (p ≤ productions) × ((length lengths ≡ length lengths₀) × ((q : ℕ) → q < p → getD lengths q 0 ≡ min 17 (length (symbolChain table q))))
+Inv-loop table a lengths₀ productions p₀ lengths p = (p ≤ productions) × ((length lengths ≡ length lengths₀) × ((q : ℕ) → q < p → getD lengths q 0 ≡ min indexLimit (length (symbolChain table q))))
 
 abbrev μ-loop : tie.MeasureT-loop
 μ-loop table a lengths₀ productions p₀ lengths p = productions - p

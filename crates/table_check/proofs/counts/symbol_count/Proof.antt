@@ -1,4 +1,5 @@
 -- `counts::symbol_count` meets its contract. The invariant: the count so far and what is left of the chain make its length. Assumes nothing.
+use Rattle.repr.specs.Sizes.{indexLimit}
 use Rattle.table_check.proofs.Steps.{count-start, count-more, count-full, count-end}
 use Rattle.table_check.specs.Known.{area}
 use Rattle.table.proofs.Chains.{named}
@@ -13,7 +14,7 @@ use Rattle.table_check.proofs.counts.symbol_count.Statement.{statement}
 use Rattle.table_check.proofs.counts.symbol_count.Tie as tie
 
 abbrev Inv-loop : tie.InvT-loop
-Inv-loop table p from past last₀ r₀ n₀ last r n = (n ≤ 17) × (n + length (chain table (area from past) last r) ≡ length (symbolChain table p))
+Inv-loop table p from past last₀ r₀ n₀ last r n = (n ≤ indexLimit) × (n + length (chain table (area from past) last r) ≡ length (symbolChain table p))
 
 abbrev μ-loop : tie.MeasureT-loop
 μ-loop table p from past last₀ r₀ n₀ last r n = past - last

@@ -1,6 +1,7 @@
 -- `edge_to_nonterminal` adds the edge from the item's nonterminal or from the item, which is in range. Assumes nothing.
 use Prim.Native.Nat.{_*_}
 use lib.ListN.{getD}
+use Rattle.repr.specs.Sizes.{productionPlace}
 use Rattle.trace.proofs.ReduceLaws.{to-nonterminal-on, to-nonterminal-off}
 use Rattle.trace.proofs.EndsLaws.{fits-words}
 use Rattle.trace.proofs.HoldingLaws.{node-number-fits, node-item-fits, value-fits}
@@ -43,7 +44,7 @@ same-length-4 c = search needs
 
 returns-2 : tie.Need-returns-2
 returns-2 c =
-    let e = to-nonterminal-off _ (getD (c .before .before .before .before .before .before .before .before .before .before .before .args .grammar .now) (c .before .before .before .before .before .before .before .before .before .before .before .args .production * 36) 0) (c .before .before .before .before .before .before .before .before .before .before .before .args .nonterminal) (c .before .before .before .before .before .before .before .before .before .before .before .args .production) (c .before .before .before .before .before .before .before .before .before .before .before .args .index) (c .before .before .before .before .before .before .before .if1 .left) in
+    let e = to-nonterminal-off _ (getD (c .before .before .before .before .before .before .before .before .before .before .before .args .grammar .now) (productionPlace (c .before .before .before .before .before .before .before .before .before .before .before .args .production)) 0) (c .before .before .before .before .before .before .before .before .before .before .before .args .nonterminal) (c .before .before .before .before .before .before .before .before .before .before .before .args .production) (c .before .before .before .before .before .before .before .before .before .before .before .args .index) (c .before .before .before .before .before .before .before .if1 .left) in
     (λ r. rw e at (c .before .before .before .before .insert2 .ensures .0 r), λ r. rw e at (c .before .before .before .before .insert2 .ensures .1 r))
 
 pub edge-to-nonterminal-spec : {M : Type 1} → statement M

@@ -3,6 +3,7 @@
 use mathlib.Core.Path.{_≡_, sym, _∙_}
 use Prim.Native.Nat.{_+_, _*_, _-_, _≤_}
 use lib.ListN.{length, length-set}
+use Rattle.repr.specs.Sizes.{indexLimit, itemLimit}
 use Rattle.repr.specs.Meaning.{Table}
 use Rattle.repr.specs.Packed.{productionsIn}
 use Rattle.trace.specs.Ends.{EndsTo}
@@ -13,8 +14,8 @@ use Rattle.trace.proofs.reduce.production_ends.Tie as tie
 
 abbrev Inv-loop : tie.InvT-loop
 Inv-loop grammar productions terminals map ends₀ production past index₀ ends index =
-    (length ends ≡ 2176) × (index ≤ past)
-    × ((T : Table) → T .productions ≡ productionsIn grammar productions → T .terminals ≡ terminals → EndsTo T ends₀ (production * 17) → EndsTo T ends (production * 17 + index))
+    (length ends ≡ itemLimit) × (index ≤ past)
+    × ((T : Table) → T .productions ≡ productionsIn grammar productions → T .terminals ≡ terminals → EndsTo T ends₀ (production * indexLimit) → EndsTo T ends (production * indexLimit + index))
 
 abbrev μ-loop : tie.MeasureT-loop
 μ-loop grammar productions terminals map ends₀ production past index₀ ends index = past - index

@@ -2,6 +2,7 @@
 use mathlib.Core.Path.{_≡_, sym, _∙_}
 use Prim.Native.Nat.{_+_, _*_, _-_, _≤_}
 use lib.ListN.{length}
+use Rattle.repr.specs.Sizes.{indexLimit, itemLimit}
 use Rattle.repr.specs.Meaning.{Table}
 use Rattle.repr.specs.Packed.{productionsIn}
 use Rattle.trace.specs.Ends.{EndsTo}
@@ -12,8 +13,8 @@ use Rattle.trace.proofs.reduce.suffix_ends.Tie as tie
 
 abbrev Inv-loop : tie.InvT-loop
 Inv-loop grammar productions terminals map ends₀ production₀ ends production =
-    (length ends ≡ 2176) × (production ≤ productions)
-    × ((T : Table) → T .productions ≡ productionsIn grammar productions → T .terminals ≡ terminals → EndsTo T ends (production * 17))
+    (length ends ≡ itemLimit) × (production ≤ productions)
+    × ((T : Table) → T .productions ≡ productionsIn grammar productions → T .terminals ≡ terminals → EndsTo T ends (production * indexLimit))
 
 abbrev μ-loop : tie.MeasureT-loop
 μ-loop grammar productions terminals map ends₀ production₀ ends production = productions - production

@@ -5,6 +5,7 @@ use mathlib.Core.Path.{_≡_, _∙_}
 use Prim.Native.Nat.{ℕ, _-_, _<_}
 use native.Mathlib.Nat.{le-refl}
 use lib.ListN.{length, length-set}
+use Rattle.repr.specs.Sizes.{edgeLimit}
 use Rattle.trace.specs.Holding.{Holding, zeros}
 use Rattle.trace.proofs.HoldingLaws.{flags-kept, done-full, full-done}
 use Rattle.trace.proofs.ShiftLaws.{Turn, pair-few, pair-start, pair-has-flag, pair-known, pair-fewer, pair-new, turn-start, turn-room, turn-done, turn-small, turn-item, turn-owner-lt, turn-past, turn-followed, turn-full, turn-follow-full}
@@ -103,7 +104,7 @@ trace-epsilon-edges-same-length-3 t c = c .before .before .before .before .befor
 
 trace-epsilon-edges-returns-2 : (t : ℕ) → trace-epsilon-edges-lts.Need-returns-2 (trace-epsilon-edges-given t) (trace-epsilon-edges-at t) trace-epsilon-edges.Post trace-epsilon-edges-Inv-loop trace-epsilon-edges-μ-loop
 trace-epsilon-edges-returns-2 t c = let S = c .before .before .before .before .before .before .before .before .before .before .before .before .before .before .before .before .before .before .before .before .before .before .before in let q = pair-fewer (S .pre .1 .0) (S .pre .1 .1 .1 .1 .0) (S .pre .1 .1 .1 .1 .1) (S .args .visited .now) (S .pre .1 .1 .1 .0) (c .before .before .before .before .before .before .before .before .before .before .before .before .before .before .if1 .left) (c .before .before .before .before .before .before .before .before .before .before .before .loop .visited) (c .before .before .before .before .before .before .before .before .before .before .before .loop .inv .fewer) in
-    ((λ e. full-done e), ((λ _. pair-new (S .pre .1 .0) (S .pre .1 .1 .1 .1 .0) (S .pre .1 .1 .1 .1 .1) (S .args .visited .now) (S .pre .1 .1 .1 .0) (c .before .before .before .before .before .before .before .before .before .before .before .before .before .before .if1 .left) (λ u. 1024 < length (u .edges)) (S .args .graph .now) (turn-full (S .pre .1 .0) (S .pre .1 .1 .1 .1 .0) (S .pre .1 .1 .1 .1 .1) (c .before .before .before .before .before .before .before .before .before .before .before .loop .inv) (c .before .before .before .before .before .before .before .before .before .before .loop-test .taken) _ (c .before .before .before .before .before .before .before .before .before .word .ensures .0) _ _ (c .before .before .before .before .before .before .epsilon-edge .ensures .1 (c .enum-told2 .given .1)))), omega arith))
+    ((λ e. full-done e), ((λ _. pair-new (S .pre .1 .0) (S .pre .1 .1 .1 .1 .0) (S .pre .1 .1 .1 .1 .1) (S .args .visited .now) (S .pre .1 .1 .1 .0) (c .before .before .before .before .before .before .before .before .before .before .before .before .before .before .if1 .left) (λ u. edgeLimit < length (u .edges)) (S .args .graph .now) (turn-full (S .pre .1 .0) (S .pre .1 .1 .1 .1 .0) (S .pre .1 .1 .1 .1 .1) (c .before .before .before .before .before .before .before .before .before .before .before .loop .inv) (c .before .before .before .before .before .before .before .before .before .before .loop-test .taken) _ (c .before .before .before .before .before .before .before .before .before .word .ensures .0) _ _ (c .before .before .before .before .before .before .epsilon-edge .ensures .1 (c .enum-told2 .given .1)))), omega arith))
 
 trace-epsilon-edges-add-j : (t : ℕ) → trace-epsilon-edges-lts.Need-add-j (trace-epsilon-edges-given t) (trace-epsilon-edges-at t) trace-epsilon-edges.Post trace-epsilon-edges-Inv-loop trace-epsilon-edges-μ-loop
 trace-epsilon-edges-add-j t c = search needs
@@ -154,7 +155,7 @@ trace-epsilon-edges-same-length-6 t c = c .before .before .before .before .befor
 
 trace-epsilon-edges-returns-3 : (t : ℕ) → trace-epsilon-edges-lts.Need-returns-3 (trace-epsilon-edges-given t) (trace-epsilon-edges-at t) trace-epsilon-edges.Post trace-epsilon-edges-Inv-loop trace-epsilon-edges-μ-loop
 trace-epsilon-edges-returns-3 t c = let S = c .before .before .before .before .before .before .before .before .before .before .before .before .before .before .before .before .before .before .before .before .before .before .before .before .before .before .before .before .before .before .before .before .before .before .before .before .before in let q = pair-fewer (S .pre .1 .0) (S .pre .1 .1 .1 .1 .0) (S .pre .1 .1 .1 .1 .1) (S .args .visited .now) (S .pre .1 .1 .1 .0) (c .before .before .before .before .before .before .before .before .before .before .before .before .before .before .before .before .before .before .before .before .before .before .before .before .before .before .before .before .if1 .left) (c .before .before .before .before .before .before .before .before .before .before .before .before .before .before .before .before .before .before .before .before .before .before .before .before .before .loop .visited) (c .before .before .before .before .before .before .before .before .before .before .before .before .before .before .before .before .before .before .before .before .before .before .before .before .before .loop .inv .fewer) in let u = c .before .before .before .before .before .before .before .before .trace-epsilon-edges .ensures .1 .1 in
-    ((λ e. full-done e), ((λ _. pair-new (S .pre .1 .0) (S .pre .1 .1 .1 .1 .0) (S .pre .1 .1 .1 .1 .1) (S .args .visited .now) (S .pre .1 .1 .1 .0) (c .before .before .before .before .before .before .before .before .before .before .before .before .before .before .before .before .before .before .before .before .before .before .before .before .before .before .before .before .if1 .left) (λ u. 1024 < length (u .edges)) (S .args .graph .now) (turn-follow-full (S .pre .1 .0) (S .pre .1 .1 .1 .1 .0) (S .pre .1 .1 .1 .1 .1) (c .before .before .before .before .before .before .before .before .before .before .before .before .before .before .before .before .before .before .before .before .before .before .before .before .before .loop .inv) (c .before .before .before .before .before .before .before .before .before .before .before .before .before .before .before .before .before .before .before .before .before .before .before .before .loop-test .taken) _ (c .before .before .before .before .before .before .before .before .before .before .before .before .before .before .before .before .before .before .before .before .before .before .before .word .ensures .0) (c .before .before .before .before .before .before .before .before .before .before .before .before .before .if2 .left) _ (c .before .before .before .before .before .before .before .before .before .before .before .before .word2 .ensures .0) _ _ (c .before .before .before .before .before .before .before .before .before .before .before .before .before .before .before .before .before .before .before .before .epsilon-edge .ensures .0 (c .before .before .before .before .before .before .before .before .before .before .before .before .before .before .enum-told .given .1)) (c .before .before .before .before .before .before .before .before .trace-epsilon-edges .ensures .1 .0 (c .enum-told4 .given .1)))), omega arith))
+    ((λ e. full-done e), ((λ _. pair-new (S .pre .1 .0) (S .pre .1 .1 .1 .1 .0) (S .pre .1 .1 .1 .1 .1) (S .args .visited .now) (S .pre .1 .1 .1 .0) (c .before .before .before .before .before .before .before .before .before .before .before .before .before .before .before .before .before .before .before .before .before .before .before .before .before .before .before .before .if1 .left) (λ u. edgeLimit < length (u .edges)) (S .args .graph .now) (turn-follow-full (S .pre .1 .0) (S .pre .1 .1 .1 .1 .0) (S .pre .1 .1 .1 .1 .1) (c .before .before .before .before .before .before .before .before .before .before .before .before .before .before .before .before .before .before .before .before .before .before .before .before .before .loop .inv) (c .before .before .before .before .before .before .before .before .before .before .before .before .before .before .before .before .before .before .before .before .before .before .before .before .loop-test .taken) _ (c .before .before .before .before .before .before .before .before .before .before .before .before .before .before .before .before .before .before .before .before .before .before .before .word .ensures .0) (c .before .before .before .before .before .before .before .before .before .before .before .before .before .if2 .left) _ (c .before .before .before .before .before .before .before .before .before .before .before .before .word2 .ensures .0) _ _ (c .before .before .before .before .before .before .before .before .before .before .before .before .before .before .before .before .before .before .before .before .epsilon-edge .ensures .0 (c .before .before .before .before .before .before .before .before .before .before .before .before .before .before .enum-told .given .1)) (c .before .before .before .before .before .before .before .before .trace-epsilon-edges .ensures .1 .0 (c .enum-told4 .given .1)))), omega arith))
 
 trace-epsilon-edges-same-length-7 : (t : ℕ) → trace-epsilon-edges-lts.Need-same-length-7 (trace-epsilon-edges-given t) (trace-epsilon-edges-at t) trace-epsilon-edges.Post trace-epsilon-edges-Inv-loop trace-epsilon-edges-μ-loop
 trace-epsilon-edges-same-length-7 t c = c .before .loop .inv .g-len
