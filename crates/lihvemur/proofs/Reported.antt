@@ -4,10 +4,15 @@ use mathlib.Core.Bool.{Bool, true, false}
 use mathlib.Core.List.{List, [], _∷_, _++_}
 use Prim.Native.Nat.{ℕ, zero, suc, _+_, _*_, _-_, _≤_, _<_}
 use native.Mathlib.Omega.{arith}
-use lib.ListN.{length, getD, take, drop}
+use lib.ListN.{length, getD, take, drop, length-drop}
+use lib.Seq.{length-take-le}
 use lib.Dec.{leb}
+<<<<<<< HEAD
 use borrow.Author.Tests.{le-leb, lt-leb}
 use Rattle.repr.specs.Sizes.{scratchWords, entryRoom, entriesRoom}
+=======
+use borrow.Author.Tests.{le-leb, lt-leb, leb-true, leb-false}
+>>>>>>> aa5068f (lihvemur_observed says which buffer: an empty part is the action's)
 use Rattle.repr.specs.Lists.{keep, joined}
 use Rattle.repr.specs.Meaning.{Table}
 use Rattle.repr.proofs.Lists.{cases, length-keep}
@@ -31,8 +36,8 @@ use Rattle.chooser.specs.declared.Chosen.{Chosen}
 use Rattle.entries.specs.Entries.{entriesIn, entryWords}
 use Rattle.entries.proofs.Laws.{entries-long}
 use Rattle.chooser.specs.Choosing.{choiceBy, choiceIn}
-use Rattle.lihvemur.specs.Reports.{packed, classNumbers, classifiedNumbers, choiceNumbers, chosenNumbers, shortNumbers, chooseNumbers, partNumbers, partIn, observedNumbers}
-use Rattle.report.proofs.Seen.{whole-long, none-action, none-reduce, action-part, reduce-part}
+use Rattle.lihvemur.specs.Reports.{packed, classNumbers, classifiedNumbers, choiceNumbers, chosenNumbers, shortNumbers, chooseNumbers, partNumbers, partIn, observedIn, observedNumbers}
+use Rattle.report.proofs.Seen.{whole-long, whole-words, none-action, none-reduce, action-part, reduce-part}
 
 -- ---- a class in numbers
 pub pack-is : (a b c d : ℕ) → a + 65536 * (b + 65536 * (c + 65536 * d)) ≡ packed (a ∷ b ∷ c ∷ d ∷ [])
@@ -222,12 +227,50 @@ empty-is : (xs : List ℕ) → length xs ≡ 0 → xs ≡ []
 empty-is [] e = refl
 empty-is (x ∷ xs) e = absurd (omega arith)
 
+module _ (a b : List ℕ) where
+  in-none : wholeExample a ≡ false → 0 ≡ observedIn a b
+  unfolding observedIn
+  in-none p = rw (p, observedIn)
+
+  module _ (p : wholeExample a ≡ true) where
+    in-first : wholeExample b ≡ false → 0 ≡ observedIn a b
+    unfolding observedIn
+    in-first q = rw (p, q, observedIn)
+
+    in-action : wholeExample b ≡ true → getD b 1 0 ≤ getD a 1 0 → 0 ≡ observedIn a b
+    unfolding observedIn
+    in-action q h = rw (p, q, le-leb _ _ h, observedIn)
+
+    in-reduce : wholeExample b ≡ true → getD a 1 0 < getD b 1 0 → 1 ≡ observedIn a b
+    unfolding observedIn
+    in-reduce q h = rw (p, q, lt-leb _ _ h, observedIn)
+
+    -- a farther cursor of the reduce's example has symbols before it
+    some-observed : wholeExample b ≡ true → getD a 1 0 < getD b 1 0 → 0 < length (observedOf a b)
+    some-observed q h =
+        let w = ap length (reduce-part a b p q (getD a 1 0) (getD b 1 0) refl refl h (3 + 2 * getD b 1 0) refl) in
+        let k = whole-words b q in
+        let d = length-drop 3 b in
+        let t = length-take-le (3 + 2 * getD b 1 0 - 3) (drop 3 b) (omega arith) in
+        omega arith
+
+  in-empty : length (observedOf a b) ≡ 0 → 0 ≡ observedIn a b
+  in-empty h =
+      cases (wholeExample a)
+      (λ p. cases (wholeExample b)
+      (λ q. cases (leb (getD b 1 0) (getD a 1 0))
+      (λ k. in-action p q (leb-true _ _ k))
+      (λ k. let s = some-observed p q (leb-false _ _ k) in absurd (omega arith)))
+      (λ q. in-first p q))
+      (λ p. in-none p)
+
 module _ (a b part : List ℕ) (e : part ≡ observedOf a b) where
-  pub part-none : length part ≡ 0 → partNumbers (partIn a b 0 (length part)) (length part) ≡ observedNumbers (observedOf a b)
+  pub part-none : length part ≡ 0 → partNumbers 0 (partIn a b 0 (length part)) (length part) ≡ observedNumbers a b
   unfolding partIn observedNumbers
   part-none h =
       let p : take (length part) (drop 3 a) ≡ observedOf a b = ap (λ (k : ℕ). take k (drop 3 a)) h ∙ sym (empty-is part h) ∙ e in
-      (λ j. partNumbers (p j) (length (e j)))
+      let z = in-empty a b (sym (ap length e) ∙ h) in
+      (λ j. partNumbers (z j) (p j) (length (e j)))
 
   module _ (ne : length part ≡ 0 → ⊥) where
     both-whole : (wholeExample a ≡ true) × (wholeExample b ≡ true)
@@ -243,16 +286,18 @@ module _ (a b part : List ℕ) (e : part ≡ observedOf a b) where
     reduce-long = whole-long b (both-whole .1)
 
     module _ (ca cb : ℕ) (fa : ca ≡ getD a 1 0) (fb : cb ≡ getD b 1 0) where
-      pub part-action : cb ≤ ca → partNumbers (partIn a b 0 (length part)) (length part) ≡ observedNumbers (observedOf a b)
+      pub part-action : cb ≤ ca → partNumbers 0 (partIn a b 0 (length part)) (length part) ≡ observedNumbers a b
       unfolding partIn observedNumbers
       part-action h =
           let w = action-part a b (both-whole .0) (both-whole .1) ca cb fa fb h (3 + 2 * ca) refl in
           let p : take (length part) (drop 3 a) ≡ observedOf a b = ap (λ (l : List ℕ). take (length l) (drop 3 a)) (e ∙ sym w) ∙ take-own (3 + 2 * ca - 3) (drop 3 a) ∙ w in
-          (λ j. partNumbers (p j) (length (e j)))
+          let z = in-action a b (both-whole .0) (both-whole .1) (omega arith) in
+          (λ j. partNumbers (z j) (p j) (length (e j)))
 
-      pub part-reduce : ca < cb → partNumbers (partIn a b 1 (length part)) (length part) ≡ observedNumbers (observedOf a b)
+      pub part-reduce : ca < cb → partNumbers 1 (partIn a b 1 (length part)) (length part) ≡ observedNumbers a b
       unfolding partIn observedNumbers
       part-reduce h =
           let w = reduce-part a b (both-whole .0) (both-whole .1) ca cb fa fb h (3 + 2 * cb) refl in
           let p : take (length part) (drop 3 b) ≡ observedOf a b = ap (λ (l : List ℕ). take (length l) (drop 3 b)) (e ∙ sym w) ∙ take-own (3 + 2 * cb - 3) (drop 3 b) ∙ w in
-          (λ j. partNumbers (p j) (length (e j)))
+          let z = in-reduce a b (both-whole .0) (both-whole .1) (omega arith) in
+          (λ j. partNumbers (z j) (p j) (length (e j)))

@@ -13,7 +13,6 @@ ghost use mathlib.Core.Path.{_≡_};
 ghost use mathlib.Core.List.{[], _∷_};
 ghost use Rattle.error.specs.Numbers.{classValues};
 ghost use Rattle.error.specs.Outcome.{classifyOf};
-ghost use Rattle.error.specs.Observed.{observedOf};
 ghost use Rattle.lihvemur.specs.Reports.{packed, classNumbers, classifiedNumbers, choiceNumbers, chooseNumbers, partNumbers, partIn, observedNumbers};
 
 // Four values in one word, the first lowest.
@@ -130,7 +129,7 @@ pub extern "C" fn lihvemur_observed<'a>(
     reduce: &'a [u16],
     words: &mut usize,
 ) -> u16
-    ensures { λ r. ⌜ partNumbers (partIn (now (action .entry)) (now (reduce .entry)) r (now (words .exit))) (now (words .exit)) ≡ observedNumbers (observedOf (now (action .entry)) (now (reduce .entry))) ⌝ }
+    ensures { λ r. ⌜ partNumbers r (partIn (now (action .entry)) (now (reduce .entry)) r (now (words .exit))) (now (words .exit)) ≡ observedNumbers (now (action .entry)) (now (reduce .entry)) ⌝ }
 {
     let part = observed(action, reduce);
     let n = part.len();
