@@ -7,12 +7,8 @@ use native.Mathlib.Omega.{arith}
 use lib.ListN.{length, getD, take, drop, length-drop}
 use lib.Seq.{length-take-le}
 use lib.Dec.{leb}
-<<<<<<< HEAD
-use borrow.Author.Tests.{le-leb, lt-leb}
-use Rattle.repr.specs.Sizes.{scratchWords, entryRoom, entriesRoom}
-=======
 use borrow.Author.Tests.{le-leb, lt-leb, leb-true, leb-false}
->>>>>>> aa5068f (lihvemur_observed says which buffer: an empty part is the action's)
+use Rattle.repr.specs.Sizes.{scratchWords, entryRoom, entriesRoom}
 use Rattle.repr.specs.Lists.{keep, joined}
 use Rattle.repr.specs.Meaning.{Table}
 use Rattle.repr.proofs.Lists.{cases, length-keep}
