@@ -40,7 +40,7 @@ pub record Accepts (t : List ℕ) : Type 0 where
 
 -- the rows one after the other
 
-rows-first : (t : List ℕ) → checkOf t ≡ Accepted → (row1 t ≡ false) × (row2 t ≡ false) × (firstRow t (3 ∷ 4 ∷ 5 ∷ 6 ∷ 7 ∷ 8 ∷ []) ≡ Accepted)
+pub rows-first : (t : List ℕ) → checkOf t ≡ Accepted → (row1 t ≡ false) × (row2 t ≡ false) × (firstRow t (3 ∷ 4 ∷ 5 ∷ 6 ∷ 7 ∷ 8 ∷ []) ≡ Accepted)
 unfolding checkOf
 rows-first t e =
     cases (row1 t)

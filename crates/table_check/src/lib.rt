@@ -1,5 +1,5 @@
 // The check of a lent table: refusals 1 to 8 of document 01, with number and place.
-mod areas;
+pub mod areas;
 mod counts;
 mod fault;
 mod held;

@@ -1,0 +1,16 @@
+pub mod Renumbered
+pub mod Ranks
+pub mod Moves
+pub mod Chains
+pub mod Meaning
+pub mod Accepted
+pub mod Placed
+pub mod Theorems
+pub mod Settled
+pub mod Again
+pub mod Called
+pub mod Counted
+pub mod Numbering
+pub mod InPlace
+pub mod Joined
+pub mod Computes

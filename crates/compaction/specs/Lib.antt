@@ -1,0 +1,4 @@
+pub mod Compaction
+pub mod Outcome
+pub mod InUse
+pub mod Passes
