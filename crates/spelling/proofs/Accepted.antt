@@ -7,6 +7,7 @@ use native.Mathlib.Omega.{arith}
 use lib.ListN.{length, getD}
 use lib.Dec.{eqb}
 use borrow.Author.Tests.{eqb-true, eqb-false, eq-eqb, ne-eqb, ltb-true, lt-ltb, le-ltb, leb-true, lt-leb}
+use Rattle.repr.specs.Sizes.{recordLimit}
 use Rattle.repr.specs.Lists.{upFrom, below, mem, occurrences, joined}
 use Rattle.repr.specs.Meaning.{Symbol, nonterminal, terminal, Table, noProduction, noState, productionAt, stateAt, SymbolFits, ProductionFits, ItemFits, EdgeFits, StateFits, TableFits}
 use Rattle.repr.specs.Listed.{symbolFits}
@@ -269,7 +270,7 @@ module _ (T : Table) (F : TableFits T) where
       let e : n ≡ 8 = omega arith in
       rw e (none8 r))))))
 
-  module _ (few : recordsOf T ≤ 8192) where
+  module _ (few : recordsOf T ≤ recordLimit) where
     words-good : row1 (spell T) ≡ false
     unfolding row1
     words-good =
@@ -299,5 +300,5 @@ module _ (T : Table) (F : TableFits T) where
     fits-accepted = accepted-exact (spell T) .1 (record { words = words-good; counts = counts-good; records = λ n r h l i. no-row n r h l })
 
 -- a spelling of at most 8,192 records is accepted
-pub spell-accepted : (T : Table) → TableFits T → recordsOf T ≤ 8192 → checkOf (spell T) ≡ Accepted
+pub spell-accepted : (T : Table) → TableFits T → recordsOf T ≤ recordLimit → checkOf (spell T) ≡ Accepted
 spell-accepted T F few = fits-accepted T F few

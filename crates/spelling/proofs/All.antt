@@ -2,9 +2,10 @@
 use mathlib.Core.Path.{_≡_, sym, ap, _∙_}
 use mathlib.Core.Bool.{false}
 use mathlib.Core.List.{List}
-use Prim.Native.Nat.{ℕ, _+_, _-_, _*_, _/_, _≤_, _<_, min}
+use Prim.Native.Nat.{ℕ, suc, _+_, _-_, _*_, _/_, _≤_, _<_, min}
 use native.Mathlib.Omega.{arith}
 use lib.ListN.{length}
+use Rattle.repr.specs.Sizes.{recordLimit}
 use Rattle.repr.specs.Meaning.{Table}
 use Rattle.repr.proofs.Lists.{cases}
 use Rattle.table.specs.Decoded.{meaning}
@@ -54,10 +55,10 @@ pub put-same : (g g′ : List ℕ) (r a b c d : ℕ) → g′ ≡ putQuad g r a 
 put-same g g′ r a b c d e = ap length e ∙ put-long g r a b c d
 
 -- counted up to 8,193, one region more
-counted : (x m n a : ℕ) → x ≡ min m 8193 → a ≡ min n (8193 - x) → x + a ≡ min (m + n) 8193
+counted : (x m n a : ℕ) → x ≡ min m (suc recordLimit) → a ≡ min n ((suc recordLimit) - x) → x + a ≡ min (m + n) (suc recordLimit)
 counted x m n a e f = omega arith
 
-uncounted : (x m : ℕ) → x ≡ m → x ≤ 289 → x ≡ min m 8193
+uncounted : (x m : ℕ) → x ≡ m → x ≤ 289 → x ≡ min m (suc recordLimit)
 uncounted x m e h = omega arith
 
 -- the regions by the counts, as the code asks for them
@@ -77,18 +78,18 @@ module _ (t : List ℕ) (e : checkOf t ≡ Accepted) (n u s p : ℕ) (C : Counts
   pub edges-source : Source t (1 + n) (1 + n + s) 1 (edgesAt (meaning t)) (sizeOf (edgeLists (meaning t)))
   edges-source = rw (areas .1 .0, areas .0) (edge-source t e)
 
-  pub sizes-of : (a b c : ℕ) → a ≡ min (sizeOf (chainsOf t (1 + n + s) (1 + n + s + p) 1)) (8193 - (1 + n + s + p))
-      → b ≡ min (sizeOf (chainsOf t (1 + n) (1 + n + s) 0)) (8193 - (1 + n + s + p + a)) → c ≡ min (sizeOf (chainsOf t (1 + n) (1 + n + s) 1)) (8193 - (1 + n + s + p + a + b))
+  pub sizes-of : (a b c : ℕ) → a ≡ min (sizeOf (chainsOf t (1 + n + s) (1 + n + s + p) 1)) ((suc recordLimit) - (1 + n + s + p))
+      → b ≡ min (sizeOf (chainsOf t (1 + n) (1 + n + s) 0)) ((suc recordLimit) - (1 + n + s + p + a)) → c ≡ min (sizeOf (chainsOf t (1 + n) (1 + n + s) 1)) ((suc recordLimit) - (1 + n + s + p + a + b))
       → SizesOf (meaning t) (1 + n + s + p) (1 + n + s + p + a) (1 + n + s + p + a + b) (1 + n + s + p + a + b + c)
   sizes-of a b c ea eb ec =
       let T = meaning t in
       let k = begins T in
       let f = few-areas in
       let y : 1 + n + s + p ≡ symbolsAt T = areas .1 .1 in
-      let i : 1 + n + s + p + a ≡ min (itemsAt T) 8193 =
+      let i : 1 + n + s + p + a ≡ min (itemsAt T) (suc recordLimit) =
       counted (1 + n + s + p) (symbolsAt T) (sizeOf (symbolLists T)) a (uncounted (1 + n + s + p) (symbolsAt T) y f) (rw (symbols-source (1 + n + s + p) y .size) ea) ∙ rw (k .items) in
-      let d : 1 + n + s + p + a + b ≡ min (edgesAt T) 8193 = counted (1 + n + s + p + a) (itemsAt T) (sizeOf (itemLists T)) b i (rw (items-source .size) eb) ∙ rw (k .edges) in
-      let r : 1 + n + s + p + a + b + c ≡ min (recordsOf T) 8193 = counted (1 + n + s + p + a + b) (edgesAt T) (sizeOf (edgeLists T)) c d (rw (edges-source .size) ec) ∙ rw (k .past) in
+      let d : 1 + n + s + p + a + b ≡ min (edgesAt T) (suc recordLimit) = counted (1 + n + s + p + a) (itemsAt T) (sizeOf (itemLists T)) b i (rw (items-source .size) eb) ∙ rw (k .edges) in
+      let r : 1 + n + s + p + a + b + c ≡ min (recordsOf T) (suc recordLimit) = counted (1 + n + s + p + a + b) (edgesAt T) (sizeOf (edgeLists T)) c d (rw (edges-source .size) ec) ∙ rw (k .past) in
       record { symbols = y; items = i; edges = d; records = r }
 
 module _ (T : Table) (g : List ℕ) where
@@ -96,14 +97,14 @@ module _ (T : Table) (g : List ℕ) where
   unfolding writtenOf
   none f = rw (f, writtenOf)
 
-  pub written-many : (r : ℕ) → r ≡ min (recordsOf T) 8193 → 8192 < r → record { answer = Refused 17 0; out = g } ≡ writtenOf T g
+  pub written-many : (r : ℕ) → r ≡ min (recordsOf T) (suc recordLimit) → recordLimit < r → record { answer = Refused 17 0; out = g } ≡ writtenOf T g
   written-many r e h = none (cases (roomFor T g) (λ f. let w = room-is T g f .0 in absurd (omega arith)) (λ f. f))
 
-  pub written-short : (r : ℕ) → r ≡ min (recordsOf T) 8193 → length g / 4 < r → record { answer = Refused 17 0; out = g } ≡ writtenOf T g
+  pub written-short : (r : ℕ) → r ≡ min (recordsOf T) (suc recordLimit) → length g / 4 < r → record { answer = Refused 17 0; out = g } ≡ writtenOf T g
   written-short r e h = none (cases (roomFor T g) (λ f. let w = room-is T g f .1 in absurd (omega arith)) (λ f. f))
 
   -- what was counted to the end, and room for it
-  module _ (y i d r : ℕ) (S : SizesOf T y i d r) (h : r ≤ 8192) (l : r ≤ length g / 4) where
+  module _ (y i d r : ℕ) (S : SizesOf T y i d r) (h : r ≤ recordLimit) (l : r ≤ length g / 4) where
     counted-all : r ≡ recordsOf T
     counted-all = omega (arith, S .records)
 

@@ -6,6 +6,7 @@ use native.Mathlib.Omega.{arith}
 use lib.ListN.{length}
 use lib.Dec.{eqb}
 use borrow.Author.Tests.{eqb-true, eqb-false}
+use Rattle.repr.specs.Sizes.{recordLimit}
 use Rattle.repr.specs.Meaning.{Table, Production, State, stateAt, productionAt}
 use Rattle.repr.proofs.Lists.{cases, length-mapped}
 use Rattle.table.specs.Words.{wordAt, nonterminals, productions, productionArea}
@@ -32,15 +33,15 @@ unfolding headOf
 head-is o [] count r e h = h .0 e
 head-is o (x ∷ xs) count r e h = h .1 (λ z. omega arith)
 
-pub head-small : (o count r : ℕ) → o ≤ 8192 → (count ≡ 0 → r ≡ 0) × ((count ≡ 0 → ⊥) → r ≡ o) → r < 65536
+pub head-small : (o count r : ℕ) → o ≤ recordLimit → (count ≡ 0 → r ≡ 0) × ((count ≡ 0 → ⊥) → r ≡ o) → r < 65536
 head-small o count r l h =
     cases (eqb count 0)
     (λ q. let z = h .0 (eqb-true count 0 q) in omega arith)
     (λ q. let z = h .1 (eqb-false count 0 q) in omega arith)
 
 -- a chain that has at most 8,192 records is counted whole
-counted-whole {ℓ} : {A : Type ℓ} (t : List ℕ) (g : ℕ → A) (xs : List A) (from count : ℕ) → map g (recordsFrom t from) ≡ xs → length xs ≤ 8192 → count ≡ min (length (recordsFrom t from)) 8192
-    → (count ≡ length xs) × (count ≤ 8192)
+counted-whole {ℓ} : {A : Type ℓ} (t : List ℕ) (g : ℕ → A) (xs : List A) (from count : ℕ) → map g (recordsFrom t from) ≡ xs → length xs ≤ recordLimit → count ≡ min (length (recordsFrom t from)) recordLimit
+    → (count ≡ length xs) × (count ≤ recordLimit)
 counted-whole t g xs from count e h ec =
     let l = length-mapped g (recordsFrom t from) in
     let m = ap length e in
@@ -70,7 +71,7 @@ module _ (t : List ℕ) (e : checkOf t ≡ Accepted) where
   nonterminals-start g R = record { few = omega arith; grown = grown-none (meaning t) g 1; room = R }
 
   module _ (g₀ g : List ℕ) (n : ℕ) (h : n < length (meaning t .nonterminals)) (W : Nonterminals t g₀ g n) where
-    pub nonterminals-room : (1 + n < 8192) × ((1 + n) * 4 + 3 < length g)
+    pub nonterminals-room : (1 + n < recordLimit) × ((1 + n) * 4 + 3 < length g)
     nonterminals-room = let b = begins (meaning t) in (omega (arith, W .room .few), omega (arith, W .room .long))
 
     pub nonterminals-step : (g′ : List ℕ) (head : ℕ) → head ≡ wordAt t (1 + n) 0 → g′ ≡ putQuad g (1 + n) head 0 0 0 → Nonterminals t g₀ g′ (n + 1)
@@ -110,27 +111,27 @@ module _ (t : List ℕ) where
       }
 
   module _ (g₀ g : List ℕ) (s i d : ℕ) (h : s < length (meaning t .states)) (W : States t g₀ g s i d) where
-    pub states-room : (n : ℕ) → n ≡ length (meaning t .nonterminals) → (1 + n + s < 8192) × ((1 + n + s) * 4 + 3 < length g)
+    pub states-room : (n : ℕ) → n ≡ length (meaning t .nonterminals) → (1 + n + s < recordLimit) × ((1 + n + s) * 4 + 3 < length g)
     states-room n en = let b = begins (meaning t) in (omega (arith, W .room .few), omega (arith, W .room .long))
 
-    pub states-heads : (i ≤ 8192) × (d ≤ 8192)
+    pub states-heads : (i ≤ recordLimit) × (d ≤ recordLimit)
     states-heads =
         let w = items-within (meaning t) s h in
         let v = edges-within (meaning t) s h in
         (omega (arith, W .items, w .before, W .room .few), omega (arith, W .edges, v .before, W .room .few))
 
-    pub states-items : (from count : ℕ) → itemsFrom t from ≡ stateAt (meaning t) s .items → count ≡ min (length (recordsFrom t from)) 8192
-        → (count ≡ length (stateAt (meaning t) s .items)) × (count ≤ 8192)
+    pub states-items : (from count : ℕ) → itemsFrom t from ≡ stateAt (meaning t) s .items → count ≡ min (length (recordsFrom t from)) recordLimit
+        → (count ≡ length (stateAt (meaning t) s .items)) × (count ≤ recordLimit)
     unfolding itemsFrom recordsFrom
     states-items from count e ec = counted-whole t (itemAt t) (stateAt (meaning t) s .items) from count e (omega (arith, items-within (meaning t) s h .before, W .room .few)) ec
 
-    pub states-edges : (from count : ℕ) → edgesFrom t from ≡ stateAt (meaning t) s .edges → count ≡ min (length (recordsFrom t from)) 8192
-        → (count ≡ length (stateAt (meaning t) s .edges)) × (count ≤ 8192)
+    pub states-edges : (from count : ℕ) → edgesFrom t from ≡ stateAt (meaning t) s .edges → count ≡ min (length (recordsFrom t from)) recordLimit
+        → (count ≡ length (stateAt (meaning t) s .edges)) × (count ≤ recordLimit)
     unfolding edgesFrom recordsFrom
     states-edges from count e ec = counted-whole t (edgeAt t) (stateAt (meaning t) s .edges) from count e (omega (arith, edges-within (meaning t) s h .before, W .room .few)) ec
 
     pub states-step : (g′ : List ℕ) (n ci ce hi he : ℕ) → n ≡ length (meaning t .nonterminals)
-        → (ci ≡ length (stateAt (meaning t) s .items)) × (ci ≤ 8192) → (ce ≡ length (stateAt (meaning t) s .edges)) × (ce ≤ 8192)
+        → (ci ≡ length (stateAt (meaning t) s .items)) × (ci ≤ recordLimit) → (ce ≡ length (stateAt (meaning t) s .edges)) × (ce ≤ recordLimit)
         → (ci ≡ 0 → hi ≡ 0) × ((ci ≡ 0 → ⊥) → hi ≡ i) → (ce ≡ 0 → he ≡ 0) × ((ce ≡ 0 → ⊥) → he ≡ d)
         → g′ ≡ putQuad g (1 + n + s) hi he 0 0 → States t g₀ g′ (s + 1) (i + ci) (d + ce)
     unfolding stateQuad
@@ -189,10 +190,10 @@ module _ (t : List ℕ) (e : checkOf t ≡ Accepted) where
       inside t A (1 + n + s + p) k (omega (arith, many-nonterminals t, many-states t, many-productions t, A .areas)) l
 
   module _ (g₀ g : List ℕ) (p y : ℕ) (h : p < length (meaning t .productions)) (W : Productions t g₀ g p y) where
-    pub productions-room : (n s : ℕ) → n ≡ length (meaning t .nonterminals) → s ≡ length (meaning t .states) → (1 + n + s + p < 8192) × ((1 + n + s + p) * 4 + 3 < length g)
+    pub productions-room : (n s : ℕ) → n ≡ length (meaning t .nonterminals) → s ≡ length (meaning t .states) → (1 + n + s + p < recordLimit) × ((1 + n + s + p) * 4 + 3 < length g)
     productions-room n s en es = let b = begins (meaning t) in (omega (arith, W .room .few), omega (arith, W .room .long))
 
-    pub productions-head : y ≤ 8192
+    pub productions-head : y ≤ recordLimit
     productions-head = let w = symbols-within (meaning t) p h in omega (arith, W .symbols, w .before, W .room .few)
 
     -- the head of its symbols, and how many they are
@@ -200,14 +201,14 @@ module _ (t : List ℕ) (e : checkOf t ≡ Accepted) where
         → (symbolsFrom t from ≡ productionAt (meaning t) p .symbols) × SymbolIndex t from
     productions-first n s from en es ef = first-symbol-is t e n s p from (en ∙ many-nonterminals t) (es ∙ many-states t) h ef
 
-    pub productions-symbols : (from count : ℕ) → symbolsFrom t from ≡ productionAt (meaning t) p .symbols → count ≡ min (length (recordsFrom t from)) 8192
-        → (count ≡ length (productionAt (meaning t) p .symbols)) × (count ≤ 8192)
+    pub productions-symbols : (from count : ℕ) → symbolsFrom t from ≡ productionAt (meaning t) p .symbols → count ≡ min (length (recordsFrom t from)) recordLimit
+        → (count ≡ length (productionAt (meaning t) p .symbols)) × (count ≤ recordLimit)
     unfolding symbolsFrom recordsFrom
     productions-symbols from count q ec = counted-whole t (symbolAt t) (productionAt (meaning t) p .symbols) from count q (omega (arith, symbols-within (meaning t) p h .before, W .room .few)) ec
 
     pub productions-step : (g′ : List ℕ) (n s next c hy a z : ℕ) → n ≡ length (meaning t .nonterminals) → s ≡ length (meaning t .states)
         → next ≡ wordAt t (1 + n + s + p) 0 → a ≡ wordAt t (1 + n + s + p) 2 → z ≡ wordAt t (1 + n + s + p) 3
-        → (c ≡ length (productionAt (meaning t) p .symbols)) × (c ≤ 8192) → (c ≡ 0 → hy ≡ 0) × ((c ≡ 0 → ⊥) → hy ≡ y)
+        → (c ≡ length (productionAt (meaning t) p .symbols)) × (c ≤ recordLimit) → (c ≡ 0 → hy ≡ 0) × ((c ≡ 0 → ⊥) → hy ≡ y)
         → g′ ≡ putQuad g (1 + n + s + p) next hy a z → Productions t g₀ g′ (p + 1) (y + c)
     unfolding productionQuad productionOf
     productions-step g′ n s next c hy a z en es ew ea ez pc qc eg =

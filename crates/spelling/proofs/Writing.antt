@@ -6,6 +6,7 @@ use native.Mathlib.Omega.{arith}
 use lib.ListN.{length, getD}
 use lib.Dec.{eqb}
 use borrow.Author.Tests.{eqb-true, eqb-false}
+use Rattle.repr.specs.Sizes.{recordLimit}
 use Rattle.repr.specs.Meaning.{Table}
 use Rattle.repr.proofs.Lists.{cases}
 use Rattle.table.specs.Words.{wordAt}
@@ -39,7 +40,7 @@ stands-tail qs o x xs S =
     )
 
 -- a next index is a word
-pub follower-small : (next at r : ℕ) → at < 8192 → (next ≡ 0 → r ≡ 0) × ((next ≡ 0 → ⊥) → r ≡ at + 1) → r < 65536
+pub follower-small : (next at r : ℕ) → at < recordLimit → (next ≡ 0 → r ≡ 0) × ((next ≡ 0 → ⊥) → r ≡ at + 1) → r < 65536
 follower-small next at r h n =
     cases (eqb next 0)
     (λ q. let z = n .0 (eqb-true next 0 q) in omega arith)
@@ -52,7 +53,7 @@ module _ (t : List ℕ) (e : checkOf t ≡ Accepted) where
 
   module _ (g₀ g : List ℕ) (begin past from at : ℕ) (ne : from ≡ 0 → ⊥) (W : Writing t g₀ g begin past from at) where
     -- there is room for one more
-    pub writing-room : (at < 8192) × (at * 4 + 3 < length g)
+    pub writing-room : (at < recordLimit) × (at * 4 + 3 < length g)
     writing-room =
         let l = ap length (records-more t e from ne (W .on) (wordAt t from 0) refl) in
         let m = length-chainFrom (sameQuad t) at (recordsFrom t from) in

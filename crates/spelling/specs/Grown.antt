@@ -1,9 +1,10 @@
 -- What the parts of the writer read and leave: chains as the table's records hold them; g are the output's words before and g′ after. Assumes nothing: these are definitions.
-use Prim.Native.Nat.{ℕ, _+_, _-_, _*_, _≤_, _<_, min}
+use Prim.Native.Nat.{ℕ, suc, _+_, _-_, _*_, _≤_, _<_, min}
 use mathlib.Core.Bool.{Bool, true, _||_}
 use mathlib.Core.Path.{_≡_}
 use mathlib.Core.List.{List, map}
 use lib.ListN.{length, getD}
+use Rattle.repr.specs.Sizes.{recordLimit}
 use Rattle.repr.specs.Lists.{upFrom}
 use Rattle.repr.specs.Meaning.{Table}
 use Rattle.table.specs.Quads.{Quad, noQuad}
@@ -21,7 +22,7 @@ pub record Grown (T : Table) (g g′ : List ℕ) (from past : ℕ) : Type 0 wher
 
 -- there is room for the whole spelling
 pub record Room (T : Table) (g : List ℕ) : Type 0 where
-  pub few : recordsOf T ≤ 8192
+  pub few : recordsOf T ≤ recordLimit
   pub long : recordsOf T * 4 ≤ length g
 
 -- the records xs stand in qs from record o on
@@ -42,7 +43,7 @@ unfoldable pub reached : List ℕ → ℕ → Bool
 reached t r = asSymbol t r || (asItem t r || asEdge t r)
 
 pub record LooseIndex (t : List ℕ) (x : ℕ) : Type 0 where
-  pub below : x < 8192
+  pub below : x < recordLimit
   pub is : (x ≡ 0 → ⊥) → reached t x ≡ true
 
 -- the chains whose heads stand in word k of the records from `first` up to and without `past`
@@ -58,6 +59,6 @@ pub record Heads (t : List ℕ) (first past k : ℕ) : Type 0 where
 -- where the regions of loose records begin and how many records there are, counted up to 8,193
 pub record SizesOf (T : Table) (y i d r : ℕ) : Type 0 where
   pub symbols : y ≡ symbolsAt T
-  pub items : i ≡ min (itemsAt T) 8193
-  pub edges : d ≡ min (edgesAt T) 8193
-  pub records : r ≡ min (recordsOf T) 8193
+  pub items : i ≡ min (itemsAt T) (suc recordLimit)
+  pub edges : d ≡ min (edgesAt T) (suc recordLimit)
+  pub records : r ≡ min (recordsOf T) (suc recordLimit)

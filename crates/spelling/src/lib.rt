@@ -1,8 +1,9 @@
 // The single spelling of a table (specs/Spelled, specs/Outcome).
 ghost use mathlib.Core.Path.{_≡_};
 ghost use mathlib.Core.List.{List, [], _∷_};
-ghost use Prim.Native.Nat.{ℕ, _+_, _*_, _≤_, _<_, min};
+ghost use Prim.Native.Nat.{ℕ, suc, _+_, _*_, _≤_, _<_, min};
 ghost use lib.ListN.{length, getD};
+ghost use Rattle.repr.specs.Sizes.{recordLimit};
 ghost use Rattle.table.specs.Decoded.{meaning};
 ghost use Rattle.table.specs.Refusals.{checkOf};
 ghost use Rattle.spelling.specs.Spelled.{chainFrom, chainsFrom, sizeOf, statesAt, productionsAt, symbolsAt, itemsAt, edgesAt, recordsOf, quads};
@@ -21,9 +22,16 @@ pub enum Respelled {
     Refused(u16, u16),
 }
 
+impl Respelled {
+    // Records of a table at most, and how far they are counted.
+    pub const LIMIT: usize = 8192;
+
+    pub const COUNTED: usize = Respelled::LIMIT + 1;
+}
+
 // The next index of a record that is followed by the next one, or by none.
 fn next_of(next: usize, at: usize) -> usize
-    requires { ⌜ at < 8192 ⌝ }
+    requires { ⌜ at < recordLimit ⌝ }
     ensures { λ r. ⌜ (next ≡ 0 → r ≡ 0) × ((next ≡ 0 → ⊥) → r ≡ at + 1) ⌝ }
 {
     if next == 0 { 0 } else { at + 1 }
@@ -76,7 +84,7 @@ fn write_chains(
 // How many records a chain has, counted up to `most`.
 fn count_chain(table: &[u16], head: usize, most: usize) -> usize
     requires { ⌜ checkOf (now table) ≡ Checked.Accepted ⌝ }
-    requires { ⌜ LooseIndex (now table) head × (most ≤ 8193) ⌝ }
+    requires { ⌜ LooseIndex (now table) head × (most ≤ suc recordLimit) ⌝ }
     ensures { λ r. ⌜ r ≡ min (length (recordsFrom (now (table .entry)) head)) most ⌝ }
 {
     let mut from = head;
@@ -94,7 +102,7 @@ fn count_chain(table: &[u16], head: usize, most: usize) -> usize
 // How many records the chains of `write_chains` have, counted up to `most`: shared chains can be reached two million times over.
 fn count_chains(table: &[u16], first: usize, past: usize, k: usize, most: usize) -> usize
     requires { ⌜ checkOf (now table) ≡ Checked.Accepted ⌝ }
-    requires { ⌜ Heads (now table) first past k × (most ≤ 8193) ⌝ }
+    requires { ⌜ Heads (now table) first past k × (most ≤ suc recordLimit) ⌝ }
     ensures { λ r. ⌜ r ≡ min (sizeOf (chainsOf (now (table .entry)) first past k)) most ⌝ }
 {
     let mut total: usize = 0;
@@ -143,8 +151,8 @@ fn write_states(table: &[u16], out: &mut [u16], items: usize, edges: usize)
     let mut d = edges;
     let mut s: usize = 0;
     while s < states {
-        let many_items = count_chain(table, first_item(table, s), 8192);
-        let many_edges = count_chain(table, first_edge(table, s), 8192);
+        let many_items = count_chain(table, first_item(table, s), Respelled::LIMIT);
+        let many_edges = count_chain(table, first_edge(table, s), Respelled::LIMIT);
         let item_head = head_of(many_items, i);
         let edge_head = head_of(many_edges, d);
         put(out, 1 + nonterminals + s, item_head, edge_head, 0, 0);
@@ -171,7 +179,7 @@ fn write_productions(table: &[u16], out: &mut [u16], symbols: usize)
         let next = word(table, record, 0);
         let start = word(table, record, 2);
         let end = word(table, record, 3);
-        let many = count_chain(table, word(table, record, 1), 8192);
+        let many = count_chain(table, word(table, record, 1), Respelled::LIMIT);
         let head = head_of(many, y);
         put(out, record, next, head, start, end);
         y += many;
@@ -195,9 +203,10 @@ fn measure(table: &[u16]) -> Sizes
     let states = 1 + counts.nonterminals;
     let productions = states + counts.states;
     let symbols = productions + counts.productions;
-    let items = symbols + count_chains(table, productions, symbols, 1, 8193 - symbols);
-    let edges = items + count_chains(table, states, productions, 0, 8193 - items);
-    let records = edges + count_chains(table, states, productions, 1, 8193 - edges);
+    let items = symbols
+        + count_chains(table, productions, symbols, 1, Respelled::COUNTED - symbols);
+    let edges = items + count_chains(table, states, productions, 0, Respelled::COUNTED - items);
+    let records = edges + count_chains(table, states, productions, 1, Respelled::COUNTED - edges);
     Sizes {
         symbols: symbols,
         items: items,
@@ -237,7 +246,7 @@ fn respell_in(table: &[u16], out: &mut [u16]) -> Respelled
     ensures { λ r. ⌜ record { answer = r; out = now (out .exit) } ≡ writtenOf (meaning (now (table .entry))) (now (out .entry)) ⌝ }
 {
     let s = measure(table);
-    if s.records > 8192 {
+    if s.records > Respelled::LIMIT {
         return Respelled::Refused(17, 0);
     }
     if s.records > out.len() / 4 {
