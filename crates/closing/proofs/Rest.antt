@@ -225,7 +225,7 @@ unfolding aheads
 turn-start T F S z = record { sized = begin-sized T F S z; same = refl; done = λ q. clash true refl q }
 
 module _ (T : Table) (g : List ℕ) (k e : ℕ) (sets : List ℕ) (G : Grammar T g k e sets) (K A A₁ A₂ : List ℕ) (f : Flat K) (c c′ b : Bool)
-    (turn : Turn T (take (17 * k) K) A c) (q₁ : A₁ ≡ fedByItems T K A (below (17 * k))) (q₂ : A₂ ≡ fedByFirsts T A₁ (below k)) (ec : c′ ≡ not b) (eb : b ≡ same A₂ A) where
+    (turn : Turn T (take (17 * k) K) A c) (q₁ : A₁ ≡ fedByItems T K A (below (17 * k))) (q₂ : A₂ ≡ fedByFirsts T A₁ (below k)) (ec : c′ ≡ not b) (eb : b ≡ sameWords A₂ A) where
   S : List ℕ
   S = take (17 * k) K
 
