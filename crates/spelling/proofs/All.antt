@@ -21,7 +21,7 @@ use Rattle.spelling.specs.declared.Respelled.the-variants.{Records, Refu
 use Rattle.spelling.proofs.Places.{begins}
 use Rattle.spelling.proofs.Grown.{grown-join, grown-all}
 use Rattle.spelling.proofs.Sources.{Source, symbol-source, item-source, edge-source}
-use Rattle.spelling.proofs.Wrote.{room-is, room-for}
+use Rattle.spelling.proofs.Wrote.{room-is, room-for, front-is}
 
 pub all-grown : (T : Table) (g g₁ g₂ g₃ g₄ g₅ g₆ g₇ : List ℕ) (b c d : ℕ) → Grown T g g₁ 0 1 → Grown T g₁ g₂ 1 (statesAt T) → Grown T g₂ g₃ (statesAt T) (productionsAt T)
     → Grown T g₃ g₄ (productionsAt T) (symbolsAt T) → (b ≡ symbolsAt T + sizeOf (symbolLists T)) × Grown T g₄ g₅ (symbolsAt T) b
@@ -120,4 +120,4 @@ module _ (T : Table) (g : List ℕ) where
     unfolding writtenOf
     written-done g′ G =
         let c = counted-all in
-        rw (c, grown-all T g g′ (written-asks .1 .1 .1) G, room-for T g (omega arith) (omega arith), writtenOf)
+        rw (c, grown-all T g g′ (written-asks .1 .1 .1) G ∙ sym (front-is T g), room-for T g (omega arith) (omega arith), writtenOf)
