@@ -1,3 +1,4 @@
 pub mod Exported
 pub mod Listings
 pub mod Reports
+pub mod TableC

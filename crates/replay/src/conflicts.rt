@@ -26,7 +26,7 @@ fn classify(
     reduce_trials: &mut u32,
     place: &mut u16,
 ) -> u16 {
-    lihvemur::lihvemur_classify(
+    lihvemur::conflicts::lihvemur_classify(
         table,
         at(more, 0),
         at(more, 1),
@@ -118,7 +118,7 @@ fn choose(
     count: &mut usize,
     place: &mut u16,
 ) -> u16 {
-    lihvemur::lihvemur_choose(
+    lihvemur::conflicts::lihvemur_choose(
         table,
         at(more, 0),
         at(more, 1),
@@ -165,7 +165,7 @@ pub fn ask_observed(more: &[u16]) {
     let action = front(rest(more, 1), n);
     let reduce = rest(more, 1 + n);
     let mut words: usize = 7;
-    let which = lihvemur::lihvemur_observed(action, reduce, &mut words);
+    let which = lihvemur::conflicts::lihvemur_observed(action, reduce, &mut words);
     io::print_decimal(libc::STDOUT_FILENO, which as u64);
     say_next(words as u64);
     if which == 0 {

@@ -6,6 +6,7 @@ use crate::say::say_next;
 use crate::say::say_words;
 use crate::words::at;
 use crate::words::fill;
+use crate::words::fill_unless;
 use crate::words::front;
 use crate::words::least;
 use crate::words::number;
@@ -30,12 +31,28 @@ fn advance(
     let i = at(more, 1);
     let filtered = at(more, 2) != 0;
     let set = set_at(more, 3);
-    lihvemur::lihvemur_advance(
-        table, p, i, filtered, set, graph, scratch, buffer, count, is_open, place,
+    lihvemur::examples::lihvemur_advance(
+        table,
+        p,
+        i,
+        filtered,
+        set,
+        graph,
+        scratch,
+        buffer,
+        count,
+        is_open,
+        place,
     )
 }
 
-fn advance_lent(table: &[u16], more: &[u16], graph: &[u16], scratch: &mut [u16], buffer: &mut [u16]) {
+fn advance_lent(
+    table: &[u16],
+    more: &[u16],
+    graph: &[u16],
+    scratch: &mut [u16],
+    buffer: &mut [u16],
+) {
     let mut place: u16 = 7;
     let mut count = number32(more, 7) + number32(more, 8) * 65536;
     let mut is_open = at(more, 9) != 0;
@@ -56,15 +73,18 @@ fn advance_lent(table: &[u16], more: &[u16], graph: &[u16], scratch: &mut [u16],
     say_bool(is_open);
 }
 
-pub fn ask_advance(table: &[u16], more: &[u16], graph: &mut [u16], scratch: &mut [u16]) {
-    let mut buffer = [0u16; 2000];
+// The words that the request puts into graph and scratch.
+fn put_lent(more: &[u16], graph: &mut [u16], scratch: &mut [u16]) {
     let n = number(more, 13);
-    if at(more, 14) == 0 {
-        fill(scratch);
-    }
     fill(graph);
     put(front(rest(more, 15), n), graph);
+    fill_unless(at(more, 14), scratch);
     put(rest(more, 15 + n), scratch);
+}
+
+pub fn ask_advance(table: &[u16], more: &[u16], graph: &mut [u16], scratch: &mut [u16]) {
+    let mut buffer = [0u16; 2000];
+    put_lent(more, graph, scratch);
     advance_lent(table, more, graph, scratch, &mut buffer);
     say_digest(scratch);
     say_digest(&buffer);
@@ -95,8 +115,18 @@ fn examples(
     let i = at(more, 1);
     let filtered = at(more, 2) != 0;
     let set = set_at(more, 3);
-    lihvemur::lihvemur_examples(
-        table, p, i, filtered, set, calls, graph, scratch, output, made, place,
+    lihvemur::examples::lihvemur_examples(
+        table,
+        p,
+        i,
+        filtered,
+        set,
+        calls,
+        graph,
+        scratch,
+        output,
+        made,
+        place,
     )
 }
 
@@ -149,9 +179,9 @@ pub fn ask_open(table: &[u16], more: &[u16], graph: &mut [u16]) {
     put(rest(more, 8), graph);
     let lent = front(graph, number(more, 7));
     let answer = if at(more, 2) == 0 {
-        lihvemur::lihvemur_lr0_examples(table, p, i, lent, &mut place)
+        lihvemur::examples::lihvemur_lr0_examples(table, p, i, lent, &mut place)
     } else {
-        lihvemur::lihvemur_lr1_examples(table, p, i, set_at(more, 3), lent, &mut place)
+        lihvemur::examples::lihvemur_lr1_examples(table, p, i, set_at(more, 3), lent, &mut place)
     };
     say_answer(answer, place);
 }

@@ -65,3 +65,10 @@ pub fn fill(to: &mut [u16]) {
         i += 1;
     }
 }
+
+// Kept as the request before left it, or filled.
+pub fn fill_unless(keep: u16, to: &mut [u16]) {
+    if keep == 0 {
+        fill(to);
+    }
+}

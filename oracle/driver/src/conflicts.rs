@@ -1,85 +1,19 @@
-//! Classifying, choosing and observed symbols for the stored sample: the
-//! answers are a side's, and document 01's rules of lent words are read here.
+//! Classifying, choosing and observed symbols for the stored sample.
 
+use crate::answers::{judged, observed, set_words};
 use crate::generate;
-use crate::listings::{SCRATCH, digest, wide};
 use crate::question::{Case, Question};
-use crate::sample::{Maker, set_words};
+use crate::sample::Maker;
 use crate::side::*;
 use crate::table::*;
 use std::collections::BTreeMap;
 
-/// The words that the program `replay` has for an example.
-const BUFFER: usize = 1_160;
 /// The words that a classification asks for: scratch, both buffers.
 const ASKED: [u16; 3] = [32_000, 1_158, 1_158];
+/// The words of entries that choosing asks for.
+const ENTRIES: u16 = 384;
 /// A table above this number of words is not stored if it is generated.
 const LARGE: usize = 400;
-
-/// A side's answer to `classify`, in its parts.
-struct Judged {
-    class: u32,
-    trials: [u32; 2],
-    own: Vec<u32>,
-    examples: [Vec<u16>; 2],
-}
-
-fn judged(answer: &Answer) -> Judged {
-    let mut at = 4;
-    let mut part = || {
-        let end = at + 1 + answer[at] as usize;
-        let words = answer[at + 1..end].to_vec();
-        at = end;
-        words
-    };
-    let narrow = |words: Vec<u32>| words.iter().map(|&w| w as u16).collect();
-    Judged {
-        class: answer[1],
-        trials: [answer[2], answer[3]],
-        own: part(),
-        examples: [narrow(part()), narrow(part())],
-    }
-}
-
-/// A side's answer where less may be lent than 11 asks for: 1 to 10 go before.
-fn or_short(answer: Answer, short: bool) -> Answer {
-    if short && !(1..=10).contains(&answer[0]) {
-        vec![11, 0]
-    } else {
-        answer
-    }
-}
-
-/// Scratch after a call: zeros where it was worked, to an answer or to one of
-/// 12 to 14.
-fn scratch_after(answer: &Answer) -> Vec<u16> {
-    let mut scratch = vec![7; SCRATCH];
-    if [0, 12, 13, 14].contains(&answer[0]) {
-        scratch[..ASKED[0] as usize].fill(0);
-    }
-    scratch
-}
-
-/// Part 10 read here: whether a buffer holds what its counts say, with the
-/// cursor within the symbols.
-fn is_whole(buffer: &[u16]) -> bool {
-    let [symbols, cursor, reductions, rest @ ..] = buffer else {
-        return false;
-    };
-    rest.len() >= 2 * *symbols as usize + 3 * *reductions as usize && cursor <= symbols
-}
-
-fn observed<'a>(action: &'a [u16], reduce: &'a [u16]) -> &'a [u16] {
-    if !is_whole(action) || !is_whole(reduce) {
-        return &action[..0];
-    }
-    let from = if action[1] >= reduce[1] {
-        action
-    } else {
-        reduce
-    };
-    &from[3..3 + 2 * from[1] as usize]
-}
 
 struct Conflicts<'a, 'b> {
     m: &'a mut Maker<'b>,
@@ -88,9 +22,9 @@ struct Conflicts<'a, 'b> {
 }
 
 impl Conflicts<'_, '_> {
-    fn count(&mut self, verb: &str, answer: &Answer) {
-        let row = match (verb, answer[0]) {
-            ("classify", 0) => format!("{verb} class {}", answer[1]),
+    fn count(&mut self, verb: &str, answer: u32, row: u32) {
+        let row = match (verb, answer) {
+            ("classify", 0) => format!("{verb} class {row}"),
             (_, 0) => verb.into(),
             (_, n) => format!("{verb} refused {n:02}"),
         };
@@ -98,72 +32,48 @@ impl Conflicts<'_, '_> {
     }
 
     /// Op 10.
-    fn classify(&mut self, table: &[u16], c: [u16; 5], lent: [u16; 3]) -> Option<Answer> {
-        let short = lent.iter().zip(ASKED).any(|(&n, asked)| n < asked);
-        let answer = or_short(self.m.side.classify(table, c)?, short);
-        let mut buffers = [vec![7; BUFFER], vec![7; BUFFER]];
-        let mut shown = vec![];
-        let mut out = if answer[0] == 0 {
-            let j = judged(&answer);
-            for (buffer, example) in buffers.iter_mut().zip(&j.examples) {
-                buffer[..example.len()].copy_from_slice(example);
-                shown.extend(wide(example));
-            }
-            [&[0, j.class], &j.own[..], &j.trials].concat()
-        } else {
-            answer.clone()
-        };
-        out.push(digest(&scratch_after(&answer)));
-        out.extend(buffers.iter().map(|b| digest(b)));
-        out.extend(shown);
-        self.m.put(10, table, &[&c[..], &lent].concat(), &out);
-        self.count("classify", &answer);
-        Some(answer)
+    fn classify(&mut self, table: &[u16], c: [u16; 5], lent: [u16; 3]) {
+        if let Some(stored) = self.m.put(10, table, &[&c[..], &lent].concat()) {
+            self.count("classify", stored[0], stored[2]);
+        }
     }
 
     /// Op 11.
-    fn choose(&mut self, table: &[u16], c: [u16; 4], set: u64, lent: u16) -> Option<Answer> {
-        let short = lent < ASKED[0];
-        let answer = or_short(self.m.side.choose(table, c, set)?, short);
-        let mut out = answer.clone();
-        if answer[0] == 0 {
-            out.truncate(2);
-            let mut at = 2;
-            for _ in 0..answer[1] {
-                let end = at + 3 + answer[at + 2] as usize;
-                let mut entry = [&answer[at..at + 2], &answer[at + 3..end]].concat();
-                entry.resize(6, 0);
-                out.extend(entry);
-                at = end;
-            }
+    fn choose(&mut self, table: &[u16], c: [u16; 4], set: u64, lent: u16) {
+        self.choose_into(table, c, set, [lent, ENTRIES]);
+    }
+
+    /// Scratch and entries lent.
+    fn choose_into(&mut self, table: &[u16], c: [u16; 4], set: u64, lent: [u16; 2]) {
+        let more = [&c[..], &set_words(set), &lent].concat();
+        if let Some(stored) = self.m.put(11, table, &more) {
+            self.count("choose", stored[0], stored[0]);
         }
-        out.push(digest(&scratch_after(&answer)));
-        let more = [&c[..], &set_words(set), &[lent]].concat();
-        self.m.put(11, table, &more, &out);
-        self.count("choose", &answer);
-        Some(answer)
     }
 
     /// Op 12, of any two buffers.
     fn observe(&mut self, action: &[u16], reduce: &[u16]) {
-        let part = observed(action, reduce);
         let more = [&[action.len() as u16], action, reduce].concat();
-        let answer: Answer = [0].into_iter().chain(wide(part)).collect();
-        self.m.put(12, &[], &more, &answer);
-        self.count("observed", &answer);
+        self.m.put(12, &[], &more);
+        self.count("observed", 0, 0);
     }
 
-    /// A conflict's examples: the part is the side's. Then with words behind
-    /// them, exchanged, and each one word short.
-    fn observe_examples(&mut self, table: &[u16], c: [u16; 5], answer: &Answer) {
+    /// A classification lent what it asks for, and its observed symbols: the
+    /// part is the side's. Then with words behind the examples, exchanged, and
+    /// each one word short.
+    fn explain(&mut self, table: &[u16], c: [u16; 5]) {
+        self.classify(table, c, ASKED);
+        let Some(answer) = self.m.answers.side.classify(table, c) else {
+            return;
+        };
+        let Some(part) = self.m.answers.side.observed(table, c) else {
+            return;
+        };
         if answer[0] != 0 {
             return;
         }
-        let [action, reduce] = judged(answer).examples;
-        let Some(part) = self.m.side.observed(table, c) else {
-            return;
-        };
-        assert!(wide(observed(&action, &reduce)).eq(part[1..].iter().copied()));
+        let [action, reduce] = judged(&answer).examples;
+        assert!(wide(observed(&action, &reduce).1).eq(part[1..].iter().copied()));
         self.observe(&action, &reduce);
         self.observe(
             &[&action[..], &[7; 9]].concat(),
@@ -172,13 +82,6 @@ impl Conflicts<'_, '_> {
         self.observe(&reduce, &action);
         self.observe(&action[..action.len() - 1], &reduce);
         self.observe(&action, &reduce[..reduce.len() - 1]);
-    }
-
-    /// A classification lent what it asks for, and its observed symbols.
-    fn explain(&mut self, table: &[u16], c: [u16; 5]) {
-        if let Some(answer) = self.classify(table, c, ASKED) {
-            self.observe_examples(table, c, &answer);
-        }
     }
 }
 
@@ -192,9 +95,10 @@ fn on_b(c: &mut Conflicts) {
                 let four = [state, production, action, operand];
                 for token in 0..3 {
                     let full = [state, production, action, operand, token];
-                    let answer = c.classify(&b, full, ASKED);
-                    if let (3, Some(answer)) = (state, answer) {
-                        c.observe_examples(&b, full, &answer);
+                    if state == 3 {
+                        c.explain(&b, full);
+                    } else {
+                        c.classify(&b, full, ASKED);
                     }
                 }
                 for set in 0..8 {
@@ -274,6 +178,13 @@ fn faults(c: &mut Conflicts) {
             c.classify(&b, full, lent);
             c.choose(&b, full[..4].try_into().unwrap(), 0, lent[0]);
             c.choose(&b, full[..4].try_into().unwrap(), 1, lent[0]);
+        }
+        // Fewer or more words of entries; 9 and 10 go before.
+        for entries in [0, 383, 390] {
+            for set in [0, 1, 4, 8] {
+                let four = full[..4].try_into().unwrap();
+                c.choose_into(&b, four, set, [ASKED[0], entries]);
+            }
         }
     }
 }
@@ -552,16 +463,15 @@ fn of_case(c: &mut Conflicts, case: &Case, keep: u32, dull: bool) {
     for q in &case.questions {
         match *q {
             Question::Classify(full) => {
-                let Some(a) = c.m.side.classify(&case.table, full) else {
+                let Some(a) = c.m.answers.side.classify(&case.table, full) else {
                     continue;
                 };
                 if again([a[0], if a[0] == 0 { a[1] } else { 0 }]) {
-                    c.classify(&case.table, full, ASKED);
-                    c.observe_examples(&case.table, full, &a);
+                    c.explain(&case.table, full);
                 }
             }
             Question::Choose(four, set) => {
-                let Some(a) = c.m.side.choose(&case.table, four, set) else {
+                let Some(a) = c.m.answers.side.choose(&case.table, four, set) else {
                     continue;
                 };
                 // By how many are chosen, and the first one's class.
@@ -593,8 +503,9 @@ fn with(m: &mut Maker<'_>, f: impl FnOnce(&mut Conflicts)) {
         asked: BTreeMap::new(),
     };
     f(&mut c);
-    for (row, n) in &c.asked {
-        c.m.out.seeds += &format!("{n:>7}  {row}\n");
+    let asked = std::mem::take(&mut c.asked);
+    for (row, n) in asked {
+        *m.out.asked.entry(row).or_default() += n;
     }
 }
 
@@ -616,6 +527,17 @@ pub fn conflicts(m: &mut Maker<'_>) {
         ] {
             generated(c, kind, seed, count, 1);
         }
+    });
+}
+
+/// A conflict and its observed symbols; the choice among all tokens.
+pub fn conflict(m: &mut Maker<'_>, table: &[u16], c: [u16; 5]) {
+    with(m, |all| {
+        all.explain(table, c);
+        let all_tokens = u64::MAX >> (63 - table[1]);
+        let four = c[..4].try_into().unwrap();
+        all.choose(table, four, all_tokens, ASKED[0]);
+        all.choose(table, four, all_tokens >> 1, ASKED[0]);
     });
 }
 

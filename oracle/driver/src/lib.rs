@@ -1,5 +1,6 @@
 //! Runs of lalrpop's published modules on document 01's words.
 
+pub mod answers;
 pub mod conflicts;
 #[cfg(feature = "port")]
 pub mod costs;
@@ -12,6 +13,7 @@ pub mod port;
 #[cfg(feature = "port")]
 pub mod port_side;
 pub mod question;
+pub mod rules;
 pub mod rust;
 pub mod sample;
 pub mod side;

@@ -1,207 +1,26 @@
-//! Single calls on a listing and lists of calls, for the stored sample: the
-//! listings are a side's, and document 01's rules of lent words, count and
-//! openness are read here.
+//! Single calls on a listing and lists of calls, for the stored sample.
 
+use crate::answers::{FRESH, Listing, OUTPUT, Of, words_of};
 use crate::generate;
-use crate::question::{Question, ask};
+use crate::question::Question;
 use crate::sample::Maker;
-use crate::side::*;
 use crate::table::*;
-use std::collections::BTreeSet;
+use crate::side::*;
 
-/// The words that the program `replay` has.
-const GRAPH: usize = 8_200;
-pub const SCRATCH: usize = 32_008;
-const BUFFER: usize = 2_000;
-const OUTPUT: usize = 32_008;
 /// The words that a call asks for: graph, scratch, buffer.
 const ASKED: [u16; 3] = [8_193, 32_000, 1_158];
 
-/// What a listing is of.
-#[derive(Clone)]
-struct Of {
-    table: Vec<u16>,
-    start: (u16, u16),
-    set: Option<u64>,
-    graph: Vec<u16>,
-}
-
-#[derive(Clone, Copy)]
-struct Listing {
-    count: u32,
-    open: bool,
-}
-
-const FRESH: Listing = Listing {
-    count: 0,
-    open: true,
-};
-
-/// Every example of a start item, handed out or not.
-#[derive(Default)]
-struct Trials {
-    /// Trial, edges, words.
-    examples: Vec<(u32, Vec<u16>, Vec<u16>)>,
-    handed: BTreeSet<u32>,
-    /// None past the limit.
-    all: Option<u32>,
-}
-
-/// Trial and words of each example in a side's answer.
-fn found(answer: &Answer) -> Vec<(u32, Vec<u16>)> {
-    let (mut out, mut at) = (vec![], 4);
-    for _ in 0..answer[3] {
-        let end = at + 2 + answer[at + 1] as usize;
-        let words = answer[at + 2..end].iter().map(|&w| w as u16).collect();
-        out.push((answer[at], words));
-        at = end;
-    }
-    out
-}
-
-fn trials(side: &mut dyn Side, of: &Of, edges: &[[u16; 8]]) -> Option<Trials> {
-    let answer = side.examples(&of.table, &of.graph, of.start, None)?;
-    let mut recount = Recount::new(edges, of.start);
-    let mut examples = vec![];
-    for (trial, words) in found(&answer) {
-        assert!(matches!(recount.step(), Step::Example(t) if t == trial));
-        let path = recount.path.iter().map(|&e| e as u16).collect();
-        examples.push((trial, path, words));
-    }
-    let handed = match of.set {
-        None => examples.iter().map(|e| e.0).collect(),
-        set => {
-            let answer = side.examples(&of.table, &of.graph, of.start, set)?;
-            found(&answer).iter().map(|e| e.0).collect()
-        }
-    };
-    let all = (answer[1] == 0).then_some(answer[2]);
-    Some(Trials {
-        examples,
-        handed,
-        all,
-    })
-}
-
-/// Refusals that go before the lengths.
-fn asked(of: &Of, graph_words: usize) -> Result<Table, Refusal> {
-    check(&of.table)?;
-    let table = decode(&of.table)?;
-    let tokens = of.set.into_iter().flat_map(members);
-    let good = table.item_in_range(of.start)
-        && tokens.into_iter().all(|t| t <= table.terminals)
-        && (graph_words < ASKED[0] as usize || graph_edges(&table, &of.graph).is_ok());
-    if good { Ok(table) } else { refuse(9, 0) }
-}
-
-fn is_node(of: &Of, edges: &[[u16; 8]]) -> bool {
-    let node = [1, of.start.0, of.start.1];
-    edges.iter().any(|e| e[..3] == node || e[3..6] == node)
-}
-
-/// The front of the scratch after an example.
-fn words_of(path: &[u16]) -> Vec<u16> {
-    [&[path.len() as u16], path].concat()
-}
-
-/// One call: answer and place. None where the side does not answer.
-fn advance(
-    side: &mut dyn Side,
-    of: &Of,
-    l: &mut Listing,
-    graph_words: usize,
-    scratch: &mut [u16],
-    buffer: &mut [u16],
-) -> Option<[u32; 2]> {
-    let table = match asked(of, graph_words) {
-        Ok(table) => table,
-        Err(r) => return Some([r.number as u32, r.place as u32]),
-    };
-    let lent = [graph_words, scratch.len(), buffer.len()];
-    if (lent.iter().zip(ASKED)).any(|(&n, asked)| n < asked as usize) {
-        return Some([11, 0]);
-    }
-    let edges = graph_edges(&table, &of.graph).ok()?;
-    let node = is_node(of, &edges);
-    let listed = if node {
-        trials(side, of, &edges)?
-    } else {
-        Trials::default()
-    };
-    let held = listed.examples.iter().find(|e| {
-        let front = words_of(&e.1);
-        scratch.starts_with(&front) && scratch[front.len()..32_000].iter().all(|&w| w == 0)
-    });
-    if l.open && l.count != 0 && held.is_none() {
-        return Some([9, 0]);
-    }
-    if !node {
-        return Some([15, 0]);
-    }
-    if !l.open {
-        return Some([16, 0]);
-    }
-    let from = if l.count == 0 { 0 } else { held?.0 };
-    let next = (listed.examples.iter()).find(|e| e.0 > from && listed.handed.contains(&e.0));
-    let made = match (next, listed.all) {
-        (Some(e), _) => Some(e.0 - from),
-        (None, Some(all)) => Some(all - from),
-        (None, None) if l.count >= from => None,
-        _ => return None,
-    };
-    scratch[..32_000].fill(0);
-    let left = MAX_TRIALS.saturating_sub(l.count);
-    Some(match (made.filter(|&m| m <= left), next) {
-        (None, _) => {
-            *l = Listing {
-                count: MAX_TRIALS,
-                open: false,
-            };
-            [13, 0]
-        }
-        (Some(m), None) => {
-            l.count += m;
-            l.open = false;
-            [16, 0]
-        }
-        (Some(m), Some((_, path, words))) => {
-            l.count += m;
-            let front = words_of(path);
-            scratch[..front.len()].copy_from_slice(&front);
-            buffer[..words.len()].copy_from_slice(words);
-            [0, 0]
-        }
-    })
-}
-
-pub fn digest(words: &[u16]) -> u32 {
-    (words.iter()).fold(1u64, |d, &w| (d * 31 + w as u64) % 65_521) as u32
-}
-
-pub fn wide(words: &[u16]) -> impl Iterator<Item = u32> + '_ {
-    words.iter().map(|&w| w as u32)
-}
-
-/// The requests, and the scratch as the last one left it.
+/// The requests.
 struct Calls<'a, 'b> {
     m: &'a mut Maker<'b>,
-    scratch: Vec<u16>,
 }
 
 impl Of {
     fn words(&self) -> Vec<u16> {
         let set = self.set.unwrap_or(0);
         let mut words = vec![self.start.0, self.start.1, self.set.is_some() as u16];
-        words.extend((0..4).map(|i| (set >> (16 * i)) as u16));
+        words.extend(crate::answers::set_words(set));
         words
-    }
-
-    /// A graph whose count says more edges than there are: the next is bad.
-    fn whole(mut self) -> Of {
-        if self.graph.len() < 8 * self.graph[0] as usize + 1 {
-            self.graph.extend([u16::MAX; 8]);
-        }
-        self
     }
 }
 
@@ -215,29 +34,18 @@ impl Calls<'_, '_> {
         keep: bool,
         front: &[u16],
     ) -> Option<(Listing, u32)> {
-        let mut scratch = self.scratch.clone();
-        if !keep {
-            scratch.fill(7);
-        }
-        scratch[..front.len()].copy_from_slice(front);
-        let mut buffer = vec![0; BUFFER];
-        let (g, s, b) = (lent[0] as usize, lent[1] as usize, lent[2] as usize);
-        let (g, s, b) = (g.min(GRAPH), s.min(SCRATCH), b.min(BUFFER));
-        let mut next = l;
-        let side = &mut *self.m.side;
-        let [n, place] = advance(side, of, &mut next, g, &mut scratch[..s], &mut buffer[..b])?;
         let mut more = of.words();
         more.extend([l.count as u16, (l.count >> 16) as u16, l.open as u16]);
         more.extend(lent);
         more.extend([of.graph.len() as u16, keep as u16]);
         more.extend(&of.graph);
         more.extend(front);
-        let mut answer = vec![n, place, next.count, next.open as u32];
-        answer.extend([digest(&scratch), digest(&buffer)]);
-        answer.extend(wide(&buffer[..16]));
-        self.m.put(8, &of.table, &more, &answer);
-        self.scratch = scratch;
-        Some((next, n))
+        let answer = self.m.put(8, &of.table, &more)?;
+        let next = Listing {
+            count: answer[2],
+            open: answer[3] == 1,
+        };
+        Some((next, answer[0]))
     }
 
     /// A listing from its opening to a call after its end, at most so many
@@ -258,57 +66,18 @@ impl Calls<'_, '_> {
 
     /// Op 9.
     fn list(&mut self, of: &Of, lent: [u16; 3], numbers: &[u16]) {
-        let mut scratch = vec![7; SCRATCH];
-        let mut output = vec![0; OUTPUT];
-        let g = (lent[0] as usize).min(GRAPH);
-        let s = (lent[1] as usize).min(SCRATCH);
-        let o = (lent[2] as usize).min(OUTPUT);
-        let opening = match asked(of, g) {
-            Err(r) => Some([r.number as u32, r.place as u32]),
-            Ok(_) if g < ASKED[0] as usize => Some([11, 0]),
-            Ok(t) => {
-                let edges = graph_edges(&t, &of.graph).unwrap();
-                (!is_node(of, &edges)).then_some([15, 0])
-            }
-        };
-        let room: usize = numbers.chunks_exact(3).map(|c| 3 + c[2] as usize).sum();
-        let own = if numbers.len() % 3 != 0 {
-            Some([9, 0])
-        } else {
-            (room > o).then_some([11, 0])
-        };
-        // The lower number; of two that are equal the opening's.
-        let refused = opening.into_iter().chain(own).min_by_key(|r| r[0]);
-        let mut answer = match refused {
-            Some(r) => r.to_vec(),
-            None => vec![0, numbers.len() as u32 / 3],
-        };
-        if refused.is_none() {
-            let (mut l, mut at) = (FRESH, 0);
-            for c in numbers.chunks_exact(3) {
-                let end = at + 3 + c[2] as usize;
-                let (words, part) = ((c[0] as usize).min(g), (c[1] as usize).min(s));
-                let side = &mut *self.m.side;
-                let buffer = &mut output[at + 3..end];
-                let Some([n, _]) = advance(side, of, &mut l, words, &mut scratch[..part], buffer)
-                else {
-                    return;
-                };
-                output[at] = n as u16;
-                output[at + 1] = l.count as u16;
-                output[at + 2] = (l.count >> 16) as u16;
-                at = end;
-            }
-        }
-        answer.extend([digest(&scratch), digest(&output)]);
-        answer.extend(wide(&output[..24]));
         let mut more = of.words();
         more.extend(lent);
         more.push(numbers.len() as u16);
         more.extend(numbers);
         more.extend(&of.graph);
-        self.m.put(9, &of.table, &more, &answer);
-        self.scratch = scratch;
+        self.m.put(9, &of.table, &more);
+    }
+
+    /// Op 13.
+    fn open(&mut self, of: &Of, lent: u16) {
+        let more = [of.words(), vec![lent], of.graph.clone()].concat();
+        self.m.put(13, &of.table, &more);
     }
 
     /// So many calls with what they ask for, and one between that is lent too
@@ -417,6 +186,9 @@ fn list_faults(c: &mut Calls) {
         let room = 3 * 1_161 + 8 - has(5) as u16;
         let lent = [8_193 - has(6) as u16, 32_000 - has(7) as u16, room];
         c.list(&of, lent, &numbers);
+        if !has(4) && !has(5) && !has(7) {
+            c.open(&of, lent[0]);
+        }
     }
     for numbers in [&[][..], &[0], &[0, 0], &[0, 0, 0], &[8_193, 32_000, 1_158]] {
         for output in [0, 2, 3, 1_160, 1_161, 1_162] {
@@ -545,7 +317,7 @@ fn held_words(c: &mut Calls) {
         };
         let table = decode(&of.table).unwrap();
         let edges = graph_edges(&table, graph).unwrap();
-        let Some(listed) = trials(&mut *c.m.side, &of, &edges) else {
+        let Some(listed) = c.m.answers.trials(&of, &edges) else {
             return;
         };
         let mut fronts: Vec<Vec<u16>> = (listed.examples.iter()).map(|e| words_of(&e.1)).collect();
@@ -612,7 +384,7 @@ fn generated(c: &mut Calls, kind: &str, seed: u64, count: u64, keep: usize, call
                     } else {
                         Question::Shift(*state, *item)
                     };
-                    match ask(&mut *c.m.side, &case.table, &trace) {
+                    match c.m.told(&case.table, &trace) {
                         Some(a) if a[0] == 0 => {
                             (*item, *set, a[1..].iter().map(|&w| w as u16).collect())
                         }
@@ -635,7 +407,6 @@ fn generated(c: &mut Calls, kind: &str, seed: u64, count: u64, keep: usize, call
                 set,
                 graph,
             };
-            let of = of.whole();
             if of.graph.len() + of.table.len() < 250 {
                 c.session(&of, 2);
             }
@@ -645,8 +416,7 @@ fn generated(c: &mut Calls, kind: &str, seed: u64, count: u64, keep: usize, call
 }
 
 pub fn listings(m: &mut Maker<'_>) {
-    let scratch = vec![7; SCRATCH];
-    let mut c = Calls { m, scratch };
+    let mut c = Calls { m };
     faults(&mut c);
     list_faults(&mut c);
     by_hand(&mut c);

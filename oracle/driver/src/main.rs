@@ -220,6 +220,9 @@ fn list(kind: &str, seed: u64, count: u64, side: &str) -> bool {
 fn sample(requests: &str, answers: &str, made: &oracle::sample::Sample) -> bool {
     let bytes: Vec<u8> = made.requests.iter().flat_map(|w| w.to_le_bytes()).collect();
     print!("{}", made.seeds);
+    for (row, n) in &made.asked {
+        println!("{n:>7}  {row}");
+    }
     let count = made.answers.lines().count();
     println!("{count} requests, {} bytes", bytes.len());
     std::fs::write(requests, bytes).unwrap();

@@ -387,20 +387,26 @@ impl Plain<'_> {
             }
             return judged(1, &[], Some(x), Some(y));
         }
-        if action == 0 {
-            if let [p, q] = self.table.nonterminals[nt as usize][..] {
-                for (p, q) in [(p, q), (q, p)] {
-                    if let ([], [(kind, number)]) = (self.symbols(p), self.symbols(q)) {
-                        let own = [nt, *kind, *number];
-                        return judged(4, &own, Some(&actions[0]), Some(&reduces[0]));
-                    }
-                }
-            }
-            if let Some((x, y)) = pairs().find(|(x, y)| self.inline(x, y)) {
-                return judged(3, &[y.reductions[0].2], Some(x), Some(y));
-            }
+        if let (0, Some(own)) = (action, self.question(nt)) {
+            return judged(4, &own, Some(&actions[0]), Some(&reduces[0]));
+        }
+        let inlines = |x: &PlainExample, y: &PlainExample| action == 0 && self.inline(x, y);
+        if let Some((x, y)) = pairs().find(|(x, y)| inlines(x, y)) {
+            return judged(3, &[y.reductions[0].2], Some(x), Some(y));
         }
         judged(6, &[], Some(&actions[0]), Some(&reduces[0]))
+    }
+
+    /// Nonterminal, kind and number, if it is nothing or one symbol.
+    fn question(&self, nt: u16) -> Option<[u16; 3]> {
+        let [p, q] = self.table.nonterminals[nt as usize][..] else {
+            return None;
+        };
+        let lists = (self.symbols(p), self.symbols(q));
+        let (([], [(kind, number)]) | ([(kind, number)], [])) = lists else {
+            return None;
+        };
+        Some([nt, *kind, *number])
     }
 
     fn inline(&self, shift: &PlainExample, reduce: &PlainExample) -> bool {
@@ -411,10 +417,11 @@ impl Plain<'_> {
                 let x = &shift.symbols[shift.cursor + 1..shift.reductions[0].1];
                 let y = &reduce.symbols[inner.1..next.1];
                 match x.iter().zip(y).find(|(a, b)| a != b || a.0 == 2) {
+                    None => false,
                     Some((&a, &b)) if a.0 < 2 && b.0 < 2 => {
                         self.firsts.first0(&[a]) & self.firsts.first0(&[b]) == 0
                     }
-                    _ => false,
+                    Some(_) => false,
                 }
             }
             _ => false,
@@ -475,6 +482,10 @@ fn traced(edges: Vec<[u16; 8]>) -> Result<Answer, Refusal> {
 impl Side for PlainSide {
     fn name(&self) -> &'static str {
         "plain"
+    }
+
+    fn check(&mut self, table: &[u16]) -> Option<Answer> {
+        Some(check(table).map_or_else(refused, |()| vec![0]))
     }
 
     fn first0(&mut self, table: &[u16], symbols: &[Sym]) -> Option<Answer> {

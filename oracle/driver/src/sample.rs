@@ -1,10 +1,12 @@
 //! The stored sample: requests in words for the program `replay`, and the
 //! answers, one a line. The same on every run.
 
+use crate::answers::{Answers, set_words};
 use crate::generate;
 use crate::question::{Question, ask, text};
-use crate::side::{Answer, Side};
-use crate::table::{Sym, check, table_b};
+use crate::side::{Answer, Side, symbol_words};
+use crate::table::{Sym, table_b};
+use std::collections::BTreeMap;
 
 /// Kinds of cases with their first seed, number of seeds, and questions kept
 /// of each case.
@@ -33,17 +35,8 @@ pub struct Sample {
     pub requests: Vec<u16>,
     pub answers: String,
     pub seeds: String,
-}
-
-/// Words after the table: a list, or a number or set and a list.
-struct More(Vec<u16>);
-
-fn list(symbols: &[Sym]) -> Vec<u16> {
-    symbols.iter().flat_map(|s| [s.0, s.1]).collect()
-}
-
-pub fn set_words(set: u64) -> Vec<u16> {
-    (0..4).map(|i| (set >> (16 * i)) as u16).collect()
+    /// How many questions about conflicts of each sort.
+    pub asked: BTreeMap<String, u32>,
 }
 
 /// Words lent where nothing else is said.
@@ -57,67 +50,53 @@ fn traces(q: &Question) -> bool {
     )
 }
 
-fn request(q: &Question) -> Option<(u16, More)> {
+/// Op and further words of a question.
+fn request(q: &Question) -> Option<(u16, Vec<u16>)> {
     Some(match q {
-        Question::Check => (1, More(vec![])),
-        Question::First0(s) => (2, More(list(s))),
-        Question::First1(s, l) => (3, More([set_words(*l), list(s)].concat())),
-        Question::Back(state, s) => (4, More([vec![*state], list(s)].concat())),
-        Question::Shift(state, i) => (5, More(vec![*state, i.0, i.1, GRAPH, SCRATCH])),
-        Question::Reduce(state, i) => (6, More(vec![*state, i.0, i.1, GRAPH, SCRATCH])),
-        Question::Add(e, graph) => {
-            let mut more = [&e[..], &[GRAPH], graph].concat();
-            // The count says more edges than there are: none of those is good.
-            if graph.len() < 8 * graph[0] as usize + 1 {
-                more.extend([u16::MAX; 8]);
-            }
-            (7, More(more))
-        }
+        Question::Check => (1, vec![]),
+        Question::First0(s) => (2, symbol_words(s)),
+        Question::First1(s, l) => (3, [set_words(*l), symbol_words(s)].concat()),
+        Question::Back(state, s) => (4, [vec![*state], symbol_words(s)].concat()),
+        Question::Shift(state, i) => (5, vec![*state, i.0, i.1, GRAPH, SCRATCH]),
+        Question::Reduce(state, i) => (6, vec![*state, i.0, i.1, GRAPH, SCRATCH]),
+        Question::Add(e, graph) => (7, [&e[..], &[GRAPH], graph].concat()),
+        Question::Item(i) => (15, vec![i.0, i.1]),
         _ => return None,
     })
 }
 
 pub struct Maker<'a> {
-    pub side: &'a mut dyn Side,
+    pub answers: Answers<'a>,
     pub out: Sample,
 }
 
 impl Maker<'_> {
-    pub fn put(&mut self, op: u16, table: &[u16], more: &[u16], answer: &Answer) {
+    /// A request, unless the side does not answer it.
+    pub fn put(&mut self, op: u16, table: &[u16], more: &[u16]) -> Option<Answer> {
+        let answer = self.answers.answer(op, table, more)?;
         let w = &mut self.out.requests;
         w.extend([op, table.len() as u16, (table.len() >> 16) as u16]);
         w.extend(table);
         w.push(more.len() as u16);
         w.extend(more);
-        self.out.answers += &text(answer);
+        self.out.answers += &text(&answer);
         self.out.answers += "\n";
+        Some(answer)
     }
 
-    /// A question that the side answers; a table that it cannot hold is left
-    /// out.
-    fn ask(&mut self, table: &[u16], q: &Question) -> bool {
-        let Some((op, More(more))) = request(q) else {
-            return false;
-        };
-        let Some(answer) = ask(self.side, table, q) else {
-            return false;
-        };
-        self.put(op, table, &more, &answer);
-        true
+    pub fn ask(&mut self, table: &[u16], q: &Question) {
+        if let Some((op, more)) = request(q) {
+            self.put(op, table, &more);
+        }
     }
 
-    fn check(&mut self, table: &[u16]) {
+    pub fn check(&mut self, table: &[u16]) {
         self.ask(table, &Question::Check);
     }
 
-    /// A list of an odd number of words: no symbols, so 9 where the table is
-    /// accepted.
-    fn odd(&mut self, op: u16, table: &[u16], more: &[u16]) {
-        let answer = match check(table) {
-            Ok(()) => vec![9, 0],
-            Err(r) => crate::side::refused(r),
-        };
-        self.put(op, table, more, &answer);
+    /// A side's answer that is not stored.
+    pub fn told(&mut self, table: &[u16], q: &Question) -> Option<Answer> {
+        ask(self.answers.side, table, q)
     }
 }
 
@@ -146,14 +125,14 @@ fn on_b(m: &mut Maker) {
             m.ask(&b, &Question::Back(state, s.to_vec()));
         }
     }
-    m.odd(2, &b, &[0]);
-    m.odd(2, &b, &[0, 0, 1]);
-    m.odd(3, &b, &[1, 0, 0, 0, 0]);
-    m.odd(3, &b, &[8, 0, 0, 0, 0, 0, 1]);
-    m.odd(4, &b, &[3, 0]);
-    m.odd(4, &b, &[4, 0]);
-    m.odd(4, &b, &[3, 0, 0, 1]);
-    m.odd(2, &[0, 0, 1, 0], &[0]);
+    m.put(2, &b, &[0]);
+    m.put(2, &b, &[0, 0, 1]);
+    m.put(3, &b, &[1, 0, 0, 0, 0]);
+    m.put(3, &b, &[8, 0, 0, 0, 0, 0, 1]);
+    m.put(4, &b, &[3, 0]);
+    m.put(4, &b, &[4, 0]);
+    m.put(4, &b, &[3, 0, 0, 1]);
+    m.put(2, &[0, 0, 1, 0], &[0]);
 }
 
 /// Table B and records past it up to a number of words.
@@ -296,7 +275,7 @@ fn refused_first(m: &mut Maker) {
             m.ask(&t, &Question::Back(0, s.clone()));
             m.ask(&t, &Question::Back(9, s));
         }
-        m.odd(2, &t, &[0]);
+        m.put(2, &t, &[0]);
     }
     m.ask(&b[..95], &Question::First1(vec![(0, 0)], 1));
     m.ask(&b[..95], &Question::Back(0, vec![(0, 0)]));
@@ -362,45 +341,32 @@ fn lent(m: &mut Maker) {
     ];
     for (graph, scratch) in short {
         for op in [5, 6] {
-            m.put(op, &b, &[3, 0, 1, graph, scratch], &vec![11, 0]);
-            m.put(op, &b, &[4, 0, 1, graph, scratch], &vec![9, 0]);
-            m.put(op, &b, &[3, 0, 4, graph, scratch], &vec![9, 0]);
-            m.put(op, &bad, &[4, 0, 1, graph, scratch], &vec![3, 12]);
+            m.put(op, &b, &[3, 0, 1, graph, scratch]);
+            m.put(op, &b, &[4, 0, 1, graph, scratch]);
+            m.put(op, &b, &[3, 0, 4, graph, scratch]);
+            m.put(op, &bad, &[4, 0, 1, graph, scratch]);
         }
     }
     let edge = [0, 0, 0, 1, 0, 1, 0, 1];
     for graph in [0, 1, 8_192] {
-        let mut add = |table: &[u16], edge: [u16; 8], front: &[u16], answer: [u32; 2]| {
-            m.put(
-                7,
-                table,
-                &[&edge[..], &[graph], front].concat(),
-                &answer.into(),
-            );
+        let mut add = |table: &[u16], edge: [u16; 8], front: &[u16]| {
+            m.put(7, table, &[&edge[..], &[graph], front].concat());
         };
-        add(&b, edge, &[0], [11, 0]);
+        add(&b, edge, &[0]);
         // A graph that is too short is not looked at.
-        add(&b, edge, &[1_025], [11, 0]);
-        add(&b, [0, 1, 0, 1, 0, 1, 0, 1], &[0], [9, 0]);
-        add(&bad, edge, &[0], [3, 12]);
+        add(&b, edge, &[1_025]);
+        add(&b, [0, 1, 0, 1, 0, 1, 0, 1], &[0]);
+        add(&bad, edge, &[0]);
     }
-    for (op, q) in [
-        (5, Question::Shift(3, (0, 1))),
-        (6, Question::Reduce(3, (0, 3))),
-    ] {
-        let answer = ask(m.side, &b, &q).unwrap();
-        let Some((_, More(mut more))) = request(&q) else {
-            continue;
-        };
-        more[3..].copy_from_slice(&[8_200, 32_008]);
-        m.put(op, &b, &more, &answer);
-    }
+    m.put(5, &b, &[3, 0, 1, 8_200, 32_008]);
+    m.put(6, &b, &[3, 0, 3, 8_200, 32_008]);
+    m.put(7, &b, &[&edge[..], &[8_200, 0]].concat());
 }
 
 /// Edges added to graphs over B, good and bad.
 fn edges_added(m: &mut Maker) {
     let b = table_b();
-    let shift = ask(m.side, &b, &Question::Shift(3, (0, 1))).unwrap();
+    let shift = m.told(&b, &Question::Shift(3, (0, 1))).unwrap();
     let graph: Vec<u16> = shift[1..].iter().map(|&w| w as u16).collect();
     let first: [u16; 8] = graph[1..9].try_into().unwrap();
     let mut twice = graph.clone();
@@ -494,8 +460,10 @@ fn maker(side: &mut dyn Side) -> Maker<'_> {
         requests: vec![],
         answers: String::new(),
         seeds: String::new(),
+        asked: BTreeMap::new(),
     };
-    Maker { side, out }
+    let answers = Answers::new(side);
+    Maker { answers, out }
 }
 
 /// The stored sample.
@@ -519,6 +487,7 @@ pub fn sample(side: &mut dyn Side) -> Sample {
     }
     crate::listings::listings(&mut m);
     crate::conflicts::conflicts(&mut m);
+    crate::rules::rules(&mut m);
     m.out
 }
 

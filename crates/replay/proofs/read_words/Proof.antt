@@ -1,4 +1,5 @@
 -- `replay::read_words` meets its contract. Assumes nothing.
+use lib.ListN.{length}
 use native.Mathlib.Omega.{arith}
 use mathlib.Core.Path.{_≡_, sym}
 use lib.Seq.{length-take-le}
