@@ -1,4 +1,4 @@
--- Table C traced, its graphs added to and listed: whole outcomes of the definitions that the public contracts cite, by one statement over one list. The expected answers are the Rust's (oracle/README.md). Assumes nothing.
+-- Table C traced, its graphs added to and listed: whole outcomes of the definitions that the public contracts cite, each a statement. The expected answers are the Rust's (oracle/README.md). Assumes nothing.
 use Prim.Native.Nat.{ℕ}
 use mathlib.Core.Path.{_≡_, refl}
 use mathlib.Core.List.{List, [], _∷_, _++_}
@@ -37,12 +37,6 @@ use Rattle.enumerator.specs.declared.Lookahead.the-variants.{Any, Set}
 use Rattle.listing.specs.declared.Listed.the-variants.{Calls}
 use Rattle.listing.specs.CallList.{lentsIn, outputWords, answerNumber, recordOf, recordsOf, refusalBy, callsRefusal, Ran, listed, listBy, listOf}
 use Rattle.lihvemur.specs.TableC.{tableC}
-
--- an entry of the list: what a trace, an added edge, a list of calls answers and leaves
-pub data Entry : Type 0 where
-  traced : Outcome → Entry
-  added : EdgeOutcome → Entry
-  listing : Ran → Entry
 
 abbrev item : ℕ → ℕ → Item
 item p i = record { production = p; index = i }
@@ -104,36 +98,48 @@ calls = 8195 ∷ 32001 ∷ 1158 ∷ 8195 ∷ 32001 ∷ 1158 ∷ []
 abbrev output : List ℕ
 output = replicate 2323 7
 
-abbrev lists : ℕ → Lookahead → List ℕ → Entry
-lists p ahead ws = listing (listOf tableC (item p 0) ahead calls ws scratch output)
+-- a trace of item 0 of a production, answered by so many edges
+abbrev leaves : ℕ → List ℕ → Outcome
+leaves n g = outcome (Traced n) g (replicate 32000 0 ++ 7 ∷ [])
 
-unfoldable pub asked : List Entry
-asked =
-    traced (shiftOf tableC 1 (item 2 0) graph scratch)
-    ∷ traced (reduceOf tableC 1 (item 3 0) graph scratch) ∷ traced (reduceOf tableC 2 (item 3 0) graph scratch)
-    ∷ added (addEdgeOf tableC (byItem 1) (short shiftC)) ∷ added (addEdgeOf tableC (byItem 0) (short shiftC))
-    ∷ lists 2 Any (short shiftC)
-    ∷ lists 3 (Set (record { 0 = 1 })) (long reduceC)
-    ∷ lists 3 (Set (record { 0 = 2 })) (long reduceBehind) ∷ lists 3 (Set (record { 0 = 1 })) (long reduceBehind)
+pub marked-traces :
+    shiftOf tableC 1 (item 2 0) graph scratch
+    ∷ reduceOf tableC 1 (item 3 0) graph scratch
+    ∷ reduceOf tableC 2 (item 3 0) graph scratch
     ∷ []
+    ≡ leaves 3 (short shiftC) ∷ leaves 4 (long reduceC) ∷ leaves 4 (long reduceBehind) ∷ []
+unfolding upFrom below mem occurrences keep some? every? first? joined sameSymbol symbolOfKind symbolFits has single union meet without members first symbolSets isNonterminal shiftsNonterminal wordAt records stateArea productionArea loose productionRecords looseRecords names against chainBy chain productionChain symbolChain itemChain edgeChain symbolAt itemAt edgeAt orZero ownerIn productionOf stateOf productionsOf meaning row1 row2 nonterminalRecord isState isProduction asSymbol asItem asEdge row3 row4 row5 row6 row7 used row8 offends firstRow checkOf join firstOf first0 grown round same settle firstSets FIRST nullable leads predecessors walkBack traceBack sameItem sameNode labelOf alike sameCursor sameSets sameEdge add isNode place nodeWords edgeWords graphWords nodeOf nodeAt lentEdge edgesIn itemFits nodeFits edgeFits once graphFits nodeIs edgeIs nodeValueFits valueFits untraced pair enter addTo ownerOf symbolsOf canShift prefixOf suffixOf inTurn epsilonItem epsilon shiftTrace shiftEdges reduceStateItem reduceItem reduceState reduceTrace reduceEdges inFront zeroed edgesOutcome traceIn traceBy shiftOf reduceOf
+marked-traces = refl
 
-abbrev leaves : ℕ → List ℕ → Entry
-leaves n g = traced (outcome (Traced n) g (replicate 32000 0 ++ 7 ∷ []))
+pub marked-edges :
+    addEdgeOf tableC (byItem 1) (short shiftC) ∷ addEdgeOf tableC (byItem 0) (short shiftC) ∷ []
+    ≡ edgeOutcome (Added 4) (long shiftMore) ∷ edgeOutcome (Added 3) (short shiftC) ∷ []
+unfolding upFrom below mem occurrences keep some? every? first? joined sameSymbol symbolOfKind symbolFits has single union meet without members first symbolSets isNonterminal shiftsNonterminal wordAt records stateArea productionArea loose productionRecords looseRecords names against chainBy chain productionChain symbolChain itemChain edgeChain symbolAt itemAt edgeAt orZero ownerIn productionOf stateOf productionsOf meaning row1 row2 nonterminalRecord isState isProduction asSymbol asItem asEdge row3 row4 row5 row6 row7 used row8 offends firstRow checkOf join firstOf first0 grown round same settle firstSets FIRST nullable leads predecessors walkBack traceBack sameItem sameNode labelOf alike sameCursor sameSets sameEdge add isNode place nodeWords edgeWords graphWords nodeOf nodeAt lentEdge edgesIn itemFits nodeFits edgeFits once graphFits nodeIs edgeIs nodeValueFits valueFits inFront overTable addedOutcome addEdgeIn addEdgeOf
+marked-edges = refl
+
+abbrev lists : ℕ → Lookahead → List ℕ → Ran
+lists p ahead ws = listOf tableC (item p 0) ahead calls ws scratch output
 
 -- an answer with its count, and words at the front of its buffer; then the end with the count of all trials; the last word of the output as it was
-abbrev told : ℕ → List ℕ → List ℕ → Entry
-told answer ws rest = listing (listed (Calls 2) (replicate 32000 0 ++ 7 ∷ []) (answer ∷ 3 ∷ 0 ∷ ws ++ (rest ++ (16 ∷ 3 ∷ 0 ∷ replicate 1159 7))))
+abbrev told : ℕ → List ℕ → List ℕ → Ran
+told answer ws rest = listed (Calls 2) (replicate 32000 0 ++ 7 ∷ []) (answer ∷ 3 ∷ 0 ∷ ws ++ (rest ++ (16 ∷ 3 ∷ 0 ∷ replicate 1159 7)))
 
-abbrev example : List ℕ → Entry
+abbrev example : List ℕ → Ran
 example ws = told 0 ws (replicate 1138 7)
 
-pub marked : asked ≡
-    leaves 3 (short shiftC)
-    ∷ leaves 4 (long reduceC) ∷ leaves 4 (long reduceBehind)
-    ∷ added (edgeOutcome (Added 4) (long shiftMore)) ∷ added (edgeOutcome (Added 3) (short shiftC))
-    ∷ example lineA
-    ∷ example lineR
-    ∷ example lineBehind ∷ told 16 [] (replicate 1158 7)
-    ∷ []
-unfolding asked upFrom below mem occurrences keep some? every? first? joined sameSymbol symbolOfKind symbolFits has single union meet without members first symbolSets isNonterminal shiftsNonterminal wordAt records stateArea productionArea loose productionRecords looseRecords names against chainBy chain productionChain symbolChain itemChain edgeChain symbolAt itemAt edgeAt orZero ownerIn productionOf stateOf productionsOf meaning row1 row2 nonterminalRecord isState isProduction asSymbol asItem asEdge row3 row4 row5 row6 row7 used row8 offends firstRow checkOf join firstOf first0 grown round same settle firstSets FIRST nullable leads predecessors walkBack traceBack sameItem sameNode labelOf alike sameCursor sameSets sameEdge add isNode place nodeWords edgeWords graphWords nodeOf nodeAt lentEdge edgesIn itemFits nodeFits edgeFits once graphFits nodeIs edgeIs nodeValueFits valueFits untraced pair enter addTo ownerOf symbolsOf canShift prefixOf suffixOf inTurn epsilonItem epsilon shiftTrace shiftEdges reduceStateItem reduceItem reduceState reduceTrace reduceEdges inFront zeroed edgesOutcome traceIn traceBy shiftOf reduceOf overTable addedOutcome addEdgeIn addEdgeOf setsOf prefixes suffixes atCursor middle symbols spans reductions symbolWords reductionWords exampleWords cursorOf ahead meets trials wordsOf pathIn sameWords holdsTrial after enough nodeOwner labelAt labelsOf passes hands says search foundOut foundThen plainFind plainOut plainThen plainRun plainLister setOf startOf aheadFits lentGraphFits askedIn moved putFront zeroedBy foundOutcome restOf lost advanceIn advanceBy advanceOf openIn openBy openOf leftBy listingBy scratchBy called scratchAfter lengths leftOf leftAll lentsIn outputWords answerNumber recordOf recordsOf refusalBy callsRefusal listBy listOf
-marked = refl
+pub marked-shift-listing : lists 2 Any (short shiftC) ≡ example lineA
+unfolding upFrom below mem occurrences keep some? every? first? joined sameSymbol symbolOfKind symbolFits has single union meet without members first symbolSets isNonterminal shiftsNonterminal wordAt records stateArea productionArea loose productionRecords looseRecords names against chainBy chain productionChain symbolChain itemChain edgeChain symbolAt itemAt edgeAt orZero ownerIn productionOf stateOf productionsOf meaning row1 row2 nonterminalRecord isState isProduction asSymbol asItem asEdge row3 row4 row5 row6 row7 used row8 offends firstRow checkOf join firstOf first0 grown round same settle firstSets FIRST nullable leads predecessors walkBack traceBack sameItem sameNode labelOf alike sameCursor sameSets sameEdge add isNode place nodeWords edgeWords graphWords nodeOf nodeAt lentEdge edgesIn itemFits nodeFits edgeFits once graphFits nodeIs edgeIs nodeValueFits valueFits ownerOf symbolsOf setsOf prefixes suffixes atCursor middle symbols spans reductions symbolWords reductionWords exampleWords cursorOf ahead meets trials wordsOf pathIn sameWords holdsTrial after enough nodeOwner labelAt labelsOf passes hands says search foundOut foundThen plainFind plainOut plainThen plainRun plainLister setOf startOf aheadFits lentGraphFits askedIn moved putFront zeroedBy foundOutcome restOf lost advanceIn advanceBy advanceOf openIn openBy openOf leftBy listingBy scratchBy called scratchAfter lengths leftOf leftAll lentsIn outputWords answerNumber recordOf recordsOf refusalBy callsRefusal listBy listOf
+marked-shift-listing = refl
+
+pub marked-reduce-listing : lists 3 (Set (record { 0 = 1 })) (long reduceC) ≡ example lineR
+unfolding upFrom below mem occurrences keep some? every? first? joined sameSymbol symbolOfKind symbolFits has single union meet without members first symbolSets isNonterminal shiftsNonterminal wordAt records stateArea productionArea loose productionRecords looseRecords names against chainBy chain productionChain symbolChain itemChain edgeChain symbolAt itemAt edgeAt orZero ownerIn productionOf stateOf productionsOf meaning row1 row2 nonterminalRecord isState isProduction asSymbol asItem asEdge row3 row4 row5 row6 row7 used row8 offends firstRow checkOf join firstOf first0 grown round same settle firstSets FIRST nullable leads predecessors walkBack traceBack sameItem sameNode labelOf alike sameCursor sameSets sameEdge add isNode place nodeWords edgeWords graphWords nodeOf nodeAt lentEdge edgesIn itemFits nodeFits edgeFits once graphFits nodeIs edgeIs nodeValueFits valueFits ownerOf symbolsOf setsOf prefixes suffixes atCursor middle symbols spans reductions symbolWords reductionWords exampleWords cursorOf ahead meets trials wordsOf pathIn sameWords holdsTrial after enough nodeOwner labelAt labelsOf passes hands says search foundOut foundThen plainFind plainOut plainThen plainRun plainLister setOf startOf aheadFits lentGraphFits askedIn moved putFront zeroedBy foundOutcome restOf lost advanceIn advanceBy advanceOf openIn openBy openOf leftBy listingBy scratchBy called scratchAfter lengths leftOf leftAll lentsIn outputWords answerNumber recordOf recordsOf refusalBy callsRefusal listBy listOf
+marked-reduce-listing = refl
+
+pub marked-behind-listing : lists 3 (Set (record { 0 = 2 })) (long reduceBehind) ≡ example lineBehind
+unfolding upFrom below mem occurrences keep some? every? first? joined sameSymbol symbolOfKind symbolFits has single union meet without members first symbolSets isNonterminal shiftsNonterminal wordAt records stateArea productionArea loose productionRecords looseRecords names against chainBy chain productionChain symbolChain itemChain edgeChain symbolAt itemAt edgeAt orZero ownerIn productionOf stateOf productionsOf meaning row1 row2 nonterminalRecord isState isProduction asSymbol asItem asEdge row3 row4 row5 row6 row7 used row8 offends firstRow checkOf join firstOf first0 grown round same settle firstSets FIRST nullable leads predecessors walkBack traceBack sameItem sameNode labelOf alike sameCursor sameSets sameEdge add isNode place nodeWords edgeWords graphWords nodeOf nodeAt lentEdge edgesIn itemFits nodeFits edgeFits once graphFits nodeIs edgeIs nodeValueFits valueFits ownerOf symbolsOf setsOf prefixes suffixes atCursor middle symbols spans reductions symbolWords reductionWords exampleWords cursorOf ahead meets trials wordsOf pathIn sameWords holdsTrial after enough nodeOwner labelAt labelsOf passes hands says search foundOut foundThen plainFind plainOut plainThen plainRun plainLister setOf startOf aheadFits lentGraphFits askedIn moved putFront zeroedBy foundOutcome restOf lost advanceIn advanceBy advanceOf openIn openBy openOf leftBy listingBy scratchBy called scratchAfter lengths leftOf leftAll lentsIn outputWords answerNumber recordOf recordsOf refusalBy callsRefusal listBy listOf
+marked-behind-listing = refl
+
+-- no example begins with a: the end at once
+pub marked-no-listing : lists 3 (Set (record { 0 = 1 })) (long reduceBehind) ≡ told 16 [] (replicate 1158 7)
+unfolding upFrom below mem occurrences keep some? every? first? joined sameSymbol symbolOfKind symbolFits has single union meet without members first symbolSets isNonterminal shiftsNonterminal wordAt records stateArea productionArea loose productionRecords looseRecords names against chainBy chain productionChain symbolChain itemChain edgeChain symbolAt itemAt edgeAt orZero ownerIn productionOf stateOf productionsOf meaning row1 row2 nonterminalRecord isState isProduction asSymbol asItem asEdge row3 row4 row5 row6 row7 used row8 offends firstRow checkOf join firstOf first0 grown round same settle firstSets FIRST nullable leads predecessors walkBack traceBack sameItem sameNode labelOf alike sameCursor sameSets sameEdge add isNode place nodeWords edgeWords graphWords nodeOf nodeAt lentEdge edgesIn itemFits nodeFits edgeFits once graphFits nodeIs edgeIs nodeValueFits valueFits ownerOf symbolsOf setsOf prefixes suffixes atCursor middle symbols spans reductions symbolWords reductionWords exampleWords cursorOf ahead meets trials wordsOf pathIn sameWords holdsTrial after enough nodeOwner labelAt labelsOf passes hands says search foundOut foundThen plainFind plainOut plainThen plainRun plainLister setOf startOf aheadFits lentGraphFits askedIn moved putFront zeroedBy foundOutcome restOf lost advanceIn advanceBy advanceOf openIn openBy openOf leftBy listingBy scratchBy called scratchAfter lengths leftOf leftAll lentsIn outputWords answerNumber recordOf recordsOf refusalBy callsRefusal listBy listOf
+marked-no-listing = refl

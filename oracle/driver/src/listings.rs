@@ -4,8 +4,8 @@ use crate::answers::{FRESH, Listing, OUTPUT, Of, words_of};
 use crate::generate;
 use crate::question::Question;
 use crate::sample::Maker;
-use crate::table::*;
 use crate::side::*;
+use crate::table::*;
 
 /// The words that a call asks for: graph, scratch, buffer.
 const ASKED: [u16; 3] = [8_193, 32_000, 1_158];

@@ -4,7 +4,7 @@ use oracle::SIDES;
 use oracle::generate::{self, ALONE, KINDS};
 use oracle::question::{self, Question, ask, text};
 use oracle::side::{Answer, Side};
-use oracle::table::table_b;
+use oracle::table::{table_b, table_c};
 use std::collections::BTreeMap;
 use std::io::{BufRead, Read, Write};
 use std::panic::{AssertUnwindSafe, catch_unwind};
@@ -153,9 +153,47 @@ fn marked(side: &str) -> bool {
         ("choose 3 0 0 0 / 0", "= 0 1 0 2 1 0"),
         ("list 1 0 / - / 0", "= 15 0"),
     ];
+    // Table C: those that crates/lihvemur/proofs/Marked states.
+    let beside: [(&str, &str); 9] = [
+        (
+            "shift 1 2 0",
+            "= 0 3 0 1 0 1 2 0 2 0 0 0 0 0 1 0 1 0 1 0 1 0 0 0 0 1",
+        ),
+        (
+            "reduce 1 3 0",
+            "= 0 4 0 1 0 1 3 0 3 0 0 0 0 0 1 0 1 0 0 0 0 1 1 0 1 0 1 0 1 0 0 0 0 1",
+        ),
+        (
+            "reduce 2 3 0",
+            "= 0 4 0 1 0 1 3 0 3 0 0 0 0 0 1 0 1 1 0 0 0 1 1 1 1 1 1 0 1 0 0 0 0 1",
+        ),
+        (
+            "add 0 0 0 0 1 0 1 1 / 3 0 1 0 1 2 0 2 0 0 0 0 0 1 0 1 0 1 0 1 0 0 0 0 1",
+            "= 0 4 0 1 0 1 2 0 2 0 0 0 0 0 1 0 1 0 1 0 1 0 0 0 0 1 0 0 0 0 1 0 1 1",
+        ),
+        (
+            "add 0 0 0 0 1 0 1 0 / 3 0 1 0 1 2 0 2 0 0 0 0 0 1 0 1 0 1 0 1 0 0 0 0 1",
+            "= 0 3 0 1 0 1 2 0 2 0 0 0 0 0 1 0 1 0 1 0 1 0 0 0 0 1",
+        ),
+        (
+            "list-shift 1 2 0 / -",
+            "= 0 0 3 1 3 20 4 1 3 1 1 1 0 0 1 1 1 1 2 1 1 3 0 0 4 0",
+        ),
+        (
+            "list-reduce 1 3 0 / 0",
+            "= 0 0 3 1 3 20 4 1 3 1 1 2 0 0 1 1 1 1 2 1 1 3 0 0 4 0",
+        ),
+        (
+            "list-reduce 2 3 0 / 1",
+            "= 0 0 3 1 3 20 4 2 3 1 1 0 1 2 0 1 1 2 3 1 1 3 0 0 4 0",
+        ),
+        ("list-reduce 2 3 0 / 0", "= 0 0 3 0"),
+    ];
     let mut score = Score::default();
-    for (line, want) in expected {
-        let got = answer_text(&ask(&mut *side, &b, &question::parse(line).unwrap()));
+    let of_b = expected.into_iter().map(|e| (&b, e));
+    let c = table_c();
+    for (table, (line, want)) in of_b.chain(beside.into_iter().map(|e| (&c, e))) {
+        let got = answer_text(&ask(&mut *side, table, &question::parse(line).unwrap()));
         println!("{line}\n  {got}");
         score.count(got == want || got == "= no run", || {
             format!("wanted {want}")

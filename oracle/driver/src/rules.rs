@@ -112,31 +112,65 @@ fn one(
     productions: &[(u16, &[Sym])],
     items: &[(u16, u16)],
 ) -> Vec<u16> {
-    let symbols = (0..nonterminals as u16)
-        .map(N)
-        .chain((0..terminals).map(T));
+    let symbols = (0..nonterminals as u16).map(N).chain((0..terminals).map(T));
     let edges: Vec<(Sym, u16)> = symbols.map(|s| (s, 0)).collect();
     table(nonterminals, terminals, productions, &[(items, &edges)])
 }
 
-/// Both ambiguous and a question: X is nothing or Y, S is X t or Y t.
+/// Both ambiguous and a question: X is nothing or Y, S is u X t or u V, V is
+/// Y t. Then not ambiguous, V is Y t t.
 fn question_after_ambiguity(m: &mut Maker) {
-    let productions: &[(u16, &[Sym])] = &[
-        (0, &[N(1), T(0)]),
-        (0, &[N(2), T(0)]),
-        (1, &[]),
-        (1, &[N(2)]),
-        (2, &[T(1)]),
-        (0, &[T(1), N(0), T(1)]),
+    for shifted in [&[N(3), T(0)][..], &[N(3), T(0), T(0)]] {
+        let productions: &[(u16, &[Sym])] = &[
+            (0, &[T(1), N(1), T(0)]),
+            (0, &[T(1), N(2)]),
+            (1, &[]),
+            (1, &[N(3)]),
+            (2, shifted),
+            (3, &[T(1)]),
+        ];
+        let t = one(4, 2, productions, &[(0, 1), (1, 1), (3, 1), (4, 1)]);
+        conflict(m, &t, [0, 3, 0, 0, 0]);
+    }
+}
+
+/// An item that stands twice in a state: shift items are a set.
+fn items_twice(m: &mut Maker) {
+    let productions: &[(u16, &[Sym])] = &[(0, &[N(0), T(0), N(0)]), (0, &[T(1)])];
+    let items = [(0, 1), (0, 2), (0, 1), (0, 2), (0, 3), (1, 0)];
+    let t = one(1, 2, productions, &items);
+    traces(m, &t);
+    conflict(m, &t, [0, 0, 0, 0, 0]);
+    conflict(m, &t, [0, 0, 0, 1, 1]);
+}
+
+/// Shift items in order of nonterminal, then symbols, then production and
+/// index, whatever the order of production numbers and of the chain.
+fn items_in_order(m: &mut Maker) {
+    let pairs: [[(u16, &[Sym]); 2]; 5] = [
+        [(1, &[T(0), T(2)]), (0, &[T(0), T(2)])],
+        [(0, &[T(0), T(3)]), (0, &[T(0), T(2)])],
+        [(0, &[T(0), T(2)]), (0, &[T(0), N(1)])],
+        [(0, &[T(0), N(2)]), (0, &[T(0), N(1)])],
+        [(0, &[T(0), T(2)]), (0, &[T(0), T(2)])],
     ];
-    let t = one(3, 2, productions, &[(0, 0), (1, 1), (3, 1), (5, 1)]);
-    conflict(m, &t, [0, 3, 0, 0, 0]);
-    // Not ambiguous: X t against Y t t.
-    let longer = [N(2), T(0), T(0)];
-    let mut other = productions.to_vec();
-    other[1].1 = &longer;
-    let t = one(3, 2, &other, &[(0, 0), (1, 1), (3, 1), (5, 1)]);
-    conflict(m, &t, [0, 3, 0, 0, 0]);
+    for pair in pairs {
+        for turned in [0, 1] {
+            // A and B are the pair's, R is nothing, S is u A, u B or u R t.
+            let productions: &[(u16, &[Sym])] = &[
+                pair[turned],
+                pair[1 - turned],
+                (2, &[]),
+                (3, &[T(1), N(0)]),
+                (3, &[T(1), N(1)]),
+                (3, &[T(1), N(2), T(0)]),
+            ];
+            for first in [[(0, 0), (1, 0)], [(1, 0), (0, 0)]] {
+                let items = [&first[..], &[(2, 0), (3, 1), (4, 1), (5, 1)]].concat();
+                conflict(m, &one(4, 4, productions, &items), [0, 2, 0, 0, 0]);
+            }
+        }
+    }
 }
 
 /// A question only for a shift: X is nothing or one symbol, S is X a b or
@@ -427,6 +461,8 @@ pub fn rules(m: &mut Maker<'_>) {
     on_c(m);
     epsilon(m);
     question_after_ambiguity(m);
+    items_twice(m);
+    items_in_order(m);
     question(m);
     inline(m);
     roles(m);
