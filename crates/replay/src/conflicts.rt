@@ -5,7 +5,6 @@ use crate::say::say_halves;
 use crate::say::say_next;
 use crate::say::say_words;
 use crate::words::at;
-use crate::words::fill;
 use crate::words::front;
 use crate::words::least;
 use crate::words::number;
@@ -99,12 +98,12 @@ fn say_examples(class: u16, action: &[u16], reduce: &[u16]) {
     }
 }
 
-pub fn ask_classify(table: &[u16], more: &[u16], scratch: &mut [u16]) {
+pub fn ask_classify(table: &[u16], more: &[u16]) {
+    let mut scratch = [7u16; 32008];
     let mut action = [7u16; 1160];
     let mut reduce = [7u16; 1160];
-    fill(scratch);
-    let class = classify_lent(table, more, scratch, &mut action, &mut reduce);
-    say_digest(scratch);
+    let class = classify_lent(table, more, &mut scratch, &mut action, &mut reduce);
+    say_digest(&scratch);
     say_digest(&action);
     say_digest(&reduce);
     say_examples(class, &action, &reduce);
@@ -151,11 +150,11 @@ fn choose_lent(table: &[u16], more: &[u16], scratch: &mut [u16], entries: &mut [
     if answer == 0 { least(count, 64) * 6 } else { 0 }
 }
 
-pub fn ask_choose(table: &[u16], more: &[u16], scratch: &mut [u16]) {
+pub fn ask_choose(table: &[u16], more: &[u16]) {
+    let mut scratch = [7u16; 32008];
     let mut entries = [7u16; 390];
-    fill(scratch);
-    let n = choose_lent(table, more, scratch, &mut entries);
-    say_digest(scratch);
+    let n = choose_lent(table, more, &mut scratch, &mut entries);
+    say_digest(&scratch);
     say_digest(&entries);
     say_words(front(&entries, n));
 }

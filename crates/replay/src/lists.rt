@@ -5,8 +5,6 @@ use crate::say::say_digest;
 use crate::say::say_next;
 use crate::say::say_words;
 use crate::words::at;
-use crate::words::fill;
-use crate::words::fill_unless;
 use crate::words::front;
 use crate::words::least;
 use crate::words::number;
@@ -14,6 +12,7 @@ use crate::words::number32;
 use crate::words::put;
 use crate::words::rest;
 use crate::words::set_at;
+use crate::words::zero_if;
 ghost use Prim.Native.Nat.{_≤_, _<_};
 ghost use lib.ListN.{length};
 
@@ -76,17 +75,18 @@ fn advance_lent(
 // The words that the request puts into graph and scratch.
 fn put_lent(more: &[u16], graph: &mut [u16], scratch: &mut [u16]) {
     let n = number(more, 13);
-    fill(graph);
     put(front(rest(more, 15), n), graph);
-    fill_unless(at(more, 14), scratch);
+    zero_if(at(more, 14), scratch);
     put(rest(more, 15 + n), scratch);
 }
 
-pub fn ask_advance(table: &[u16], more: &[u16], graph: &mut [u16], scratch: &mut [u16]) {
+pub fn ask_advance(table: &[u16], more: &[u16]) {
+    let mut graph = [7u16; 8200];
+    let mut scratch = [7u16; 32008];
     let mut buffer = [0u16; 2000];
-    put_lent(more, graph, scratch);
-    advance_lent(table, more, graph, scratch, &mut buffer);
-    say_digest(scratch);
+    put_lent(more, &mut graph, &mut scratch);
+    advance_lent(table, more, &graph, &mut scratch, &mut buffer);
+    say_digest(&scratch);
     say_digest(&buffer);
     say_words(front(&buffer, 16));
 }
@@ -156,32 +156,40 @@ fn examples_lent(
     say_next(made as u64);
 }
 
-pub fn ask_examples(table: &[u16], more: &[u16], graph: &mut [u16], scratch: &mut [u16]) {
+// The numbers of the calls are the first n words.
+fn examples_by(table: &[u16], more: &[u16], n: usize, graph: &[u16]) {
     let mut calls = [0u32; 96];
+    let mut scratch = [7u16; 32008];
     let mut output = [0u16; 32008];
-    let n = number(more, 10);
     let m = least(n, 96);
     put_numbers(front(rest(more, 11), n), &mut calls);
-    fill(scratch);
-    fill(graph);
-    put(rest(more, 11 + n), graph);
-    examples_lent(table, more, &calls[..m], graph, scratch, &mut output);
-    say_digest(scratch);
+    examples_lent(table, more, &calls[..m], graph, &mut scratch, &mut output);
+    say_digest(&scratch);
     say_digest(&output);
     say_words(front(&output, 24));
 }
 
-pub fn ask_open(table: &[u16], more: &[u16], graph: &mut [u16]) {
-    let mut place: u16 = 7;
+pub fn ask_examples(table: &[u16], more: &[u16]) {
+    let mut graph = [7u16; 8200];
+    let n = number(more, 10);
+    put(rest(more, 11 + n), &mut graph);
+    examples_by(table, more, n, &graph);
+}
+
+fn open(table: &[u16], more: &[u16], graph: &[u16], place: &mut u16) -> u16 {
     let p = at(more, 0);
     let i = at(more, 1);
-    fill(graph);
-    put(rest(more, 8), graph);
-    let lent = front(graph, number(more, 7));
-    let answer = if at(more, 2) == 0 {
-        lihvemur::examples::lihvemur_lr0_examples(table, p, i, lent, &mut place)
-    } else {
-        lihvemur::examples::lihvemur_lr1_examples(table, p, i, set_at(more, 3), lent, &mut place)
-    };
+    if at(more, 2) == 0 {
+        return lihvemur::examples::lihvemur_lr0_examples(table, p, i, graph, place);
+    }
+    let set = set_at(more, 3);
+    lihvemur::examples::lihvemur_lr1_examples(table, p, i, set, graph, place)
+}
+
+pub fn ask_open(table: &[u16], more: &[u16]) {
+    let mut place: u16 = 7;
+    let mut graph = [7u16; 8200];
+    put(rest(more, 8), &mut graph);
+    let answer = open(table, more, front(&graph, number(more, 7)), &mut place);
     say_answer(answer, place);
 }

@@ -3,7 +3,7 @@
 // Ops: 1 check; 2 first0 (symbols); 3 first1 (the lookahead's four words, low first, then symbols); 4 trace_back (state, then symbols);
 // 5 backtrace_shift, 6 backtrace_reduce (state, production, index, and how many words of graph and scratch are lent);
 // 7 add_edge (the edge's eight words, how many words of the graph are lent, then the words at its front);
-// 8 the next example of any listing (production, index, whether it is filtered, the set's four words, count low and high, whether it is open, how many words of graph, scratch and buffer are lent, number of graph words, whether the scratch is kept as the request before left it, the words at the graph's front, the words at the scratch's front);
+// 8 the next example of any listing (production, index, whether it is filtered, the set's four words, count low and high, whether it is open, how many words of graph, scratch and buffer are lent, number of graph words, whether the first 32,000 words of scratch are zeros, the words at the graph's front, the words at the scratch's front);
 // 9 examples (production, index, whether it is filtered, the set's four words, how many words of graph, scratch and output are lent, number of numbers of the list of calls, the numbers, the words at the graph's front);
 // 10 classify (the conflict's five words, how many words of scratch, of the action's and of the reduce's example buffer are lent);
 // 11 choose (state, production, action, operand, the set's four words, how many words of scratch and of entries are lent);
@@ -44,8 +44,8 @@ ghost use mathlib.Core.Path.{_≡_};
 ghost use Prim.Native.Nat.{_≤_, _<_, _*_};
 ghost use lib.ListN.{length};
 
-// Reads n words to the front of a list; false if the input is shorter.
-fn read_words(n: usize, bytes: &mut [u8], out: &mut [u16]) -> bool
+// Reads n words to the front of a list, by way of bytes; false if the input is shorter.
+fn read_by(n: usize, bytes: &mut [u8], out: &mut [u16]) -> bool
     requires { ⌜ (n * 2 ≤ length (now bytes)) × (n ≤ length (now out)) × (n < 1000000) ⌝ }
 {
     let m = n * 2;
@@ -58,27 +58,34 @@ fn read_words(n: usize, bytes: &mut [u8], out: &mut [u16]) -> bool
     }
 }
 
-fn ask_list(op: u16, table: &[u16], more: &[u16], graph: &mut [u16], scratch: &mut [u16]) {
+fn read_words(n: usize, out: &mut [u16]) -> bool
+    requires { ⌜ (n ≤ 32772) × (n ≤ length (now out)) ⌝ }
+{
+    let mut bytes = [0u8; 65544];
+    read_by(n, &mut bytes, out)
+}
+
+fn ask_list(op: u16, table: &[u16], more: &[u16]) {
     if op == 8 {
-        ask_advance(table, more, graph, scratch);
+        ask_advance(table, more);
     } else {
-        ask_examples(table, more, graph, scratch);
+        ask_examples(table, more);
     }
 }
 
-fn ask_conflict(op: u16, table: &[u16], more: &[u16], scratch: &mut [u16]) {
+fn ask_conflict(op: u16, table: &[u16], more: &[u16]) {
     if op == 10 {
-        ask_classify(table, more, scratch);
+        ask_classify(table, more);
     } else if op == 11 {
-        ask_choose(table, more, scratch);
+        ask_choose(table, more);
     } else {
         ask_observed(more);
     }
 }
 
-fn ask_other(op: u16, table: &[u16], more: &[u16], graph: &mut [u16]) {
+fn ask_other(op: u16, table: &[u16], more: &[u16]) {
     if op == 13 {
-        ask_open(table, more, graph);
+        ask_open(table, more);
     } else if op == 14 {
         ask_sets(more);
     } else if op == 15 {
@@ -88,79 +95,59 @@ fn ask_other(op: u16, table: &[u16], more: &[u16], graph: &mut [u16]) {
     }
 }
 
-fn ask(op: u16, table: &[u16], more: &[u16], graph: &mut [u16], scratch: &mut [u16]) {
+fn ask(op: u16, table: &[u16], more: &[u16]) {
     if op < 5 {
         ask_walk(op, table, more);
     } else if op < 8 {
-        ask_trace(op, table, more, graph, scratch);
+        ask_trace(op, table, more);
     } else if op < 10 {
-        ask_list(op, table, more, graph, scratch);
+        ask_list(op, table, more);
     } else if op < 13 {
-        ask_conflict(op, table, more, scratch);
+        ask_conflict(op, table, more);
     } else {
-        ask_other(op, table, more, graph);
+        ask_other(op, table, more);
     }
+    io::write_all(STDOUT_FILENO, b"\n");
 }
 
 // The further words, and the answer.
-fn replay_rest(
-    op: u16,
-    table: &[u16],
-    bytes: &mut [u8],
-    more: &mut [u16],
-    graph: &mut [u16],
-    scratch: &mut [u16],
-) -> bool
-    requires { ⌜ (65544 ≤ length (now bytes)) × (length (now more) ≡ 8448) ⌝ }
-{
-    if !read_words(1, bytes, more) {
+fn replay_rest(op: u16, table: &[u16]) -> bool {
+    let mut more = [0u16; 8448];
+    if !read_words(1, &mut more) {
         return false;
     }
-    let n = word(more, 0);
+    let n = word(&more, 0);
     if n > 8448 {
         return false;
     }
-    if !read_words(n, bytes, more) {
+    if !read_words(n, &mut more) {
         return false;
     }
-    ask(op, table, &more[..n], graph, scratch);
-    io::write_all(STDOUT_FILENO, b"\n");
+    ask(op, table, &more[..n]);
     true
 }
 
 // One request; false at the end of the input. Document 01 says nothing of this form; it is the sample's own.
-fn replay(
-    bytes: &mut [u8],
-    table: &mut [u16],
-    more: &mut [u16],
-    graph: &mut [u16],
-    scratch: &mut [u16],
-) -> bool
-    requires { ⌜ (65544 ≤ length (now bytes)) × (length (now table) ≡ 32772) × (length (now more) ≡ 8448) ⌝ }
-{
-    if !read_words(3, bytes, more) {
+fn replay() -> bool {
+    let mut head = [0u16; 3];
+    let mut table = [0u16; 32772];
+    if !read_words(3, &mut head) {
         return false;
     }
-    let op = more[0];
-    let n = word(more, 1) + word(more, 2) * 65536;
+    let n = word(&head, 1) + word(&head, 2) * 65536;
     if n > 32772 {
         return false;
     }
-    if !read_words(n, bytes, table) {
+    if !read_words(n, &mut table) {
         return false;
     }
-    replay_rest(op, &table[..n], bytes, more, graph, scratch)
+    replay_rest(head[0], &table[..n])
 }
 
 fn main() {
-    let mut bytes = [0u8; 65544];
-    let mut table = [0u16; 32772];
-    let mut more = [0u16; 8448];
-    let mut graph = [0u16; 8200];
-    let mut scratch = [0u16; 32008];
     let mut left: usize = 1000000;
     while left > 0 {
-        if replay(&mut bytes, &mut table, &mut more, &mut graph, &mut scratch) {
+        if replay() {
             left -= 1;
         } else {
             left = 0;

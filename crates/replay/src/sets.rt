@@ -15,6 +15,7 @@ use lookahead::Changed;
 use lookahead::NextToken;
 use lookahead::TokenSet;
 use lookahead::TokenSetIter;
+use repr::ProductionIndex;
 use repr::symbols;
 use table::Checked;
 use table::read_counts;
@@ -126,7 +127,7 @@ fn ask_item_in(table: &[u16], production: usize, index: usize)
 {
     let counts = read_counts(table);
     let productions = counts.productions;
-    let mut grammar = [0u16; 4608];
+    let mut grammar = [0u16; ProductionIndex::ALL_WORDS];
     read_productions(table, &mut grammar);
     if production < productions {
         let item = Item {

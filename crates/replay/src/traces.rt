@@ -4,7 +4,6 @@ use crate::say::say_digest;
 use crate::say::say_next;
 use crate::say::say_words;
 use crate::words::at;
-use crate::words::fill;
 use crate::words::front;
 use crate::words::least;
 use crate::words::number;
@@ -49,7 +48,6 @@ fn ask_backtrace(op: u16, table: &[u16], more: &[u16], graph: &mut [u16], scratc
     let mut edges: u16 = 7;
     let g = least(number(more, 3), graph.len());
     let s = least(number(more, 4), scratch.len());
-    fill(scratch);
     let answer = backtrace(
         op,
         table,
@@ -97,11 +95,12 @@ fn ask_add_edge(table: &[u16], more: &[u16], graph: &mut [u16]) {
     say_graph(answer, edges, graph);
 }
 
-pub fn ask_trace(op: u16, table: &[u16], more: &[u16], graph: &mut [u16], scratch: &mut [u16]) {
-    fill(graph);
+pub fn ask_trace(op: u16, table: &[u16], more: &[u16]) {
+    let mut graph = [7u16; 8200];
+    let mut scratch = [7u16; 32008];
     if op == 7 {
-        ask_add_edge(table, more, graph);
+        ask_add_edge(table, more, &mut graph);
     } else {
-        ask_backtrace(op, table, more, graph, scratch);
+        ask_backtrace(op, table, more, &mut graph, &mut scratch);
     }
 }

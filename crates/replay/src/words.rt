@@ -58,17 +58,18 @@ pub fn put(from: &[u16], to: &mut [u16]) {
     }
 }
 
-pub fn fill(to: &mut [u16]) {
+// The words of scratch that a listing uses.
+pub fn zero(to: &mut [u16]) {
+    let n = least(32000, to.len());
     let mut i: usize = 0;
-    while i < to.len() {
-        to[i] = 7;
+    while i < n {
+        to[i] = 0;
         i += 1;
     }
 }
 
-// Kept as the request before left it, or filled.
-pub fn fill_unless(keep: u16, to: &mut [u16]) {
-    if keep == 0 {
-        fill(to);
+pub fn zero_if(yes: u16, to: &mut [u16]) {
+    if yes != 0 {
+        zero(to);
     }
 }

@@ -61,7 +61,7 @@ pub struct Trials {
 
 pub struct Answers<'a> {
     pub side: &'a mut dyn Side,
-    /// As the last request left it.
+    /// As the last call of op 8 left it.
     pub scratch: Vec<u16>,
     /// The last listing's trials.
     listed: Option<(Of, Rc<Trials>)>,
@@ -346,7 +346,6 @@ impl<'a> Answers<'a> {
         let mut out = whole(answer[..2].to_vec(), &[7]);
         out.extend([digest(&graph), digest(&scratch)]);
         out.extend(shown);
-        self.scratch = scratch;
         Some(out)
     }
 
@@ -459,9 +458,9 @@ impl<'a> Answers<'a> {
             count: at(more, 7) as u32 | (at(more, 8) as u32) << 16,
             open: at(more, 9) != 0,
         };
-        let mut scratch = self.scratch.clone();
-        if at(more, 14) == 0 {
-            scratch.fill(BEFORE);
+        let mut scratch = vec![BEFORE; SCRATCH];
+        if at(more, 14) != 0 {
+            zero(&mut scratch);
         }
         let words = rest(more, 15 + n);
         scratch[..words.len()].copy_from_slice(words);
@@ -517,7 +516,6 @@ impl<'a> Answers<'a> {
         }
         out.extend([digest(&scratch), digest(&output)]);
         out.extend(wide(&output[..24]));
-        self.scratch = scratch;
         Some(out)
     }
 
@@ -544,7 +542,6 @@ impl<'a> Answers<'a> {
         out.push(digest(&scratch));
         out.extend(buffers.iter().map(|b| digest(b)));
         out.extend(shown);
-        self.scratch = scratch;
         Some(out)
     }
 
@@ -572,7 +569,6 @@ impl<'a> Answers<'a> {
         let entries = over(ENTRIES, &narrow(&shown));
         out.extend([digest(&scratch), digest(&entries)]);
         out.extend(shown);
-        self.scratch = scratch;
         Some(out)
     }
 

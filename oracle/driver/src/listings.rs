@@ -25,19 +25,31 @@ impl Of {
 }
 
 impl Calls<'_, '_> {
-    /// Op 8; the listing and the answer after it.
+    /// The call after another: scratch as that left it.
+    fn next(&mut self, of: &Of, l: Listing) -> Option<(Listing, u32)> {
+        let scratch = &self.m.answers.scratch[..ASKED[1] as usize];
+        if scratch[scratch.len() - 1] != 0 {
+            return self.step(of, l, ASKED, false, &[]);
+        }
+        let used = scratch.iter().rposition(|&w| w != 0).map_or(0, |at| at + 1);
+        let front = scratch[..used].to_vec();
+        self.step(of, l, ASKED, true, &front)
+    }
+
+    /// Op 8, over scratch of zeros or not behind some words; the listing and
+    /// the answer after it.
     fn step(
         &mut self,
         of: &Of,
         l: Listing,
         lent: [u16; 3],
-        keep: bool,
+        zeros: bool,
         front: &[u16],
     ) -> Option<(Listing, u32)> {
         let mut more = of.words();
         more.extend([l.count as u16, (l.count >> 16) as u16, l.open as u16]);
         more.extend(lent);
-        more.extend([of.graph.len() as u16, keep as u16]);
+        more.extend([of.graph.len() as u16, zeros as u16]);
         more.extend(&of.graph);
         more.extend(front);
         let answer = self.m.put(8, &of.table, &more)?;
@@ -51,16 +63,15 @@ impl Calls<'_, '_> {
     /// A listing from its opening to a call after its end, at most so many
     /// calls.
     fn session(&mut self, of: &Of, calls: usize) {
-        let mut l = FRESH;
-        for k in 0..calls {
-            match self.step(of, l, ASKED, k > 0, &[]) {
-                Some((next, 0)) => l = next,
-                Some((next, _)) => {
-                    self.step(of, next, ASKED, true, &[]);
-                    return;
-                }
-                None => return,
+        let mut last = self.step(of, FRESH, ASKED, false, &[]);
+        for _ in 1..calls {
+            match last {
+                Some((l, 0)) => last = self.next(of, l),
+                _ => break,
             }
+        }
+        if let Some((l, 1..)) = last {
+            self.next(of, l);
         }
     }
 
@@ -358,10 +369,6 @@ fn held_words(c: &mut Calls) {
                     if !open && count > 1 {
                         continue;
                     }
-                    // The words behind the front are zeros after an end.
-                    let mut ended = least_of();
-                    ended.start = (0, 1);
-                    c.step(&ended, FRESH, ASKED, false, &[]);
                     let l = Listing { count, open };
                     c.step(&of, l, ASKED, true, front);
                 }

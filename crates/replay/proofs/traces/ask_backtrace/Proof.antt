@@ -12,7 +12,6 @@ use Rattle.replay.proofs.say.say_digest.Reads as say-digest-reads
 use Rattle.replay.proofs.traces.backtrace.Reads as backtrace-reads
 use Rattle.replay.proofs.traces.say_graph.Reads as say-graph-reads
 use Rattle.replay.proofs.traces.say_traced.Reads as say-traced-reads
-use Rattle.replay.proofs.words.fill.Reads as fill-reads
 use Rattle.replay.proofs.words.least.Reads as least-reads
 use Rattle.replay.proofs.words.number.Reads as number-reads
 
@@ -27,9 +26,6 @@ number-requires-2 c κs = search needs
 
 least-requires-2 : tie.Need-least-requires-2
 least-requires-2 c κs = search needs
-
-fill-requires : tie.Need-fill-requires
-fill-requires c κs = search needs
 
 slice-relend-prefix-backtrace : tie.Need-slice-relend-prefix-backtrace
 slice-relend-prefix-backtrace c = search needs
@@ -72,7 +68,6 @@ ask-backtrace-spec =
     least-requires
     number-requires-2
     least-requires-2
-    fill-requires
     slice-relend-prefix-backtrace
     slice-aggregate-backtrace
     slice-relend-prefix-backtrace-2

@@ -1,14 +1,14 @@
--- `replay::read_words` meets its contract. Assumes nothing.
+-- `replay::read_by` meets its contract. Assumes nothing.
 use lib.ListN.{length}
 use native.Mathlib.Omega.{arith}
 use mathlib.Core.Path.{_≡_, sym}
 use lib.Seq.{length-take-le}
 use Rattle.little.proofs.Laws.{half-fits}
 use borrow.Author.Needs.{needs}
-use Rattle.replay.proofs.read_words.Statement.{statement}
-use Rattle.replay.proofs.read_words.Tie as tie
-use Rattle.replay.proofs.read_words.Reads as reads
-use Rattle.replay.proofs.read_words.Lts as lts
+use Rattle.replay.proofs.read_by.Statement.{statement}
+use Rattle.replay.proofs.read_by.Tie as tie
+use Rattle.replay.proofs.read_by.Reads as reads
+use Rattle.replay.proofs.read_by.Lts as lts
 use Rattle.io.proofs.read_full.Reads as read-full-reads
 use Rattle.little.proofs.decode.Reads as decode-reads
 
@@ -48,8 +48,8 @@ same-length-3 c = search needs
 returns-2 : tie.Need-returns-2
 returns-2 c = search needs
 
-pub read-words-spec : {M : Type 1} → statement M
-read-words-spec =
+pub read-by-spec : {M : Type 1} → statement M
+read-by-spec =
     tie.close
     (tie.spec
     mul-m

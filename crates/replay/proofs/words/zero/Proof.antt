@@ -1,19 +1,23 @@
--- `replay::words::fill` meets its contract. Assumes nothing.
+-- `replay::words::zero` meets its contract. Assumes nothing.
 use mathlib.Core.Path.{_≡_}
 use Prim.Native.Nat.{_-_}
 use lib.ListN.{length}
 use borrow.Author.Needs.{needs}
 use native.Mathlib.Omega.{arith}
-use Rattle.replay.proofs.words.fill.Statement.{statement}
-use Rattle.replay.proofs.words.fill.Tie as tie
-use Rattle.replay.proofs.words.fill.Reads as reads
-use Rattle.replay.proofs.words.fill.Lts as lts
+use Rattle.replay.proofs.words.zero.Statement.{statement}
+use Rattle.replay.proofs.words.zero.Tie as tie
+use Rattle.replay.proofs.words.zero.Reads as reads
+use Rattle.replay.proofs.words.zero.Lts as lts
+use Rattle.replay.proofs.words.least.Reads as least-reads
 
 abbrev Inv-loop : tie.InvT-loop
-Inv-loop to₀ i₀ to i = length to ≡ length to₀
+Inv-loop to₀ n i₀ to i = length to ≡ length to₀
 
 abbrev μ-loop : tie.MeasureT-loop
-μ-loop to₀ i₀ to i = length to₀ - i
+μ-loop to₀ n i₀ to i = n - i
+
+least-requires : tie.Need-least-requires Inv-loop μ-loop
+least-requires c κs = search needs
 
 loop-holds : tie.Need-loop-holds Inv-loop μ-loop
 loop-holds c = search needs
@@ -39,12 +43,13 @@ same-length c = search needs
 returns : tie.Need-returns Inv-loop μ-loop
 returns c = search needs
 
-pub fill-spec : {M : Type 1} → statement M
-fill-spec =
+pub zero-spec : {M : Type 1} → statement M
+zero-spec =
     tie.close
     (tie.spec
     Inv-loop
     μ-loop
+    least-requires
     loop-holds
     mul-to
     slice-write-to
