@@ -24,7 +24,7 @@ use Rattle.error.specs.Judge.{Judged, judged}
 use Rattle.error.specs.Outcome.{Outcome, outcome, placeFits, conflictFits, shown, judgedOutcome, gatheredOutcome}
 use Rattle.error.specs.Choose.{Entry, Entries, entries, halts, then, atToken, entryOf, isBetter, classesOf, setFits}
 use Rattle.entries.specs.Entries.{entriesIn, withEntry}
-use Rattle.entries.proofs.Laws.{entries-more, entry-long}
+use Rattle.entries.proofs.Laws.{entries-more}
 use Rattle.chooser.specs.declared.Step.{Step}
 use Rattle.chooser.specs.declared.Step.the-variants.{Counts, Halted}
 use Rattle.chooser.specs.Choosing.{Sorted, sorted, stopped, Stepped, stepped, sortedIn, CountsWithin, tokenEntries, isNaive, addedTo}

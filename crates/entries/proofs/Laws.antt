@@ -163,10 +163,6 @@ module _ (ws ws′ : List ℕ) (k token : ℕ) (class : Class) (long : length ws
       let a = five-long class in
       e ∙ sets-eq (token ∷ classWords class) ws (entryPlace k) (omega arith) ∙ append-assoc (take (entryPlace k) ws) (token ∷ classWords class) rest
 
-  pub entry-long : length ws′ ≡ entriesRoom
-  unfolding withEntry
-  entry-long = ap (λ (l : List ℕ). length l) e ∙ length-sets ws (entryPlace k) (token ∷ classWords class) ∙ long
-
   front-long : length (take (entryPlace k) ws) ≡ entryPlace k
   front-long = length-take-le (entryPlace k) ws (omega arith)
 

@@ -51,23 +51,6 @@ after-number (q ∷ qs) d zero p r e = let z : p ≡ q = cc in after-here p q qs
 after-number (q ∷ qs) d (suc m) p r e =
     after-later p q qs (ne-same-words p q (λ z. all-in (λ x. q ≡ x → ⊥) qs p (d .0) (drop-in m qs p r e) (sym z))) ∙ after-number qs (d .1) m p r e
 
--- each trial has a number, and one only
-pub number-of : (p : Path) (ts : List Path) → List·Memᴰ p ts → (m : ℕ) × (drop m ts ≡ p ∷ drop (suc m) ts)
-number-of p [] m = absurd (List·Memᴰ·not-nil m)
-number-of p (q ∷ ts) m = by (number-of p ts) (List·Memᴰ·cases-cons m)
-  where
-    by : (List·Memᴰ p ts → (k : ℕ) × (drop k ts ≡ p ∷ drop (suc k) ts)) → (p ≡ q) ⊎ List·Memᴰ p ts → (k : ℕ) × (drop k (q ∷ ts) ≡ p ∷ drop (suc k) (q ∷ ts))
-    by ih (inl e) = (0, cc)
-    by ih (inr m′) = let r = ih m′ in (suc (r .0), r .1)
-
-pub number-once : (ts : List Path) → Distinct ts → (m k : ℕ) (p : Path) (r s : List Path) → drop m ts ≡ p ∷ r → drop k ts ≡ p ∷ s → m ≡ k
-number-once [] d zero k p r s e f = let z : _≡_ {A = ℕ} 0 1 = cc in absurd (omega arith)
-number-once [] d (suc m) k p r s e f = let z : _≡_ {A = ℕ} 0 1 = cc in absurd (omega arith)
-number-once (q ∷ qs) d zero zero p r s e f = refl
-number-once (q ∷ qs) d zero (suc k) p r s e f = let z : q ≡ p = cc in absurd (all-in (λ x. q ≡ x → ⊥) qs p (d .0) (drop-in k qs p s f) z)
-number-once (q ∷ qs) d (suc m) zero p r s e f = let z : q ≡ p = cc in absurd (all-in (λ x. q ≡ x → ⊥) qs p (d .0) (drop-in m qs p r e) z)
-number-once (q ∷ qs) d (suc m) (suc k) p r s e f = ap suc (number-once qs (d .1) m k p r s e f)
-
 module _ (G : Ends) (start : Node) where
   -- a run goes on from any of its trials
   run-after : (ts : List Path) (o : Option (List ℕ)) → Run G start o (map reverse ts) → (p : Path) → List·Memᴰ p ts
@@ -91,6 +74,3 @@ module _ (G : Ends) (start : Node) where
 
   pub after-trial : (m : ℕ) (p : Path) (r : List Path) → drop m (trials G start) ≡ p ∷ r → after p (trials G start) ≡ drop (suc m) (trials G start)
   after-trial m p r e = after-number (trials G start) (each-once G start) m p r e
-
-  pub trial-number-once : (m k : ℕ) (p : Path) (r s : List Path) → drop m (trials G start) ≡ p ∷ r → drop k (trials G start) ≡ p ∷ s → m ≡ k
-  trial-number-once m k p r s e f = number-once (trials G start) (each-once G start) m k p r s e f

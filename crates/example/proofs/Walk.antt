@@ -30,9 +30,6 @@ use Rattle.example.proofs.Reductions.{reductions-around, around-nil, ar
 pub example-symbols-few : (ps : List Production) (ws : List ℕ) → Short ps → LabelsFit ps ws → length (symbols ps (labelsIn ws)) ≤ exampleSymbols
 example-symbols-few ps ws short F = at-most-528 ps short (labelsIn ws) (few-labels ws F)
 
-pub example-reductions-few : (ps : List Production) (ws : List ℕ) → LabelsFit ps ws → length (reductions ps (labelsIn ws)) ≤ reductionLimit
-example-reductions-few ps ws F = let a = length-reductions ps (labelsIn ws) in let b = few-labels ws F in omega arith
-
 pub example-words-few : (ps : List Production) (ws : List ℕ) → Short ps → LabelsFit ps ws → length (exampleWords ps (labelsIn ws)) ≤ exampleRoom
 example-words-few ps ws short F = at-most-1158 ps short (labelsIn ws) (few-labels ws F)
 

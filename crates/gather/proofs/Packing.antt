@@ -15,12 +15,6 @@ use Rattle.example.specs.Written.{noLabel, labelAt}
 use Rattle.example.proofs.Labels.{label-count, three-words, label-production, label-index, labels-step}
 use Rattle.gather.specs.Packing.{packedLabel, packed, keptWith, Packable}
 
-pub labels-many : (ws : List ℕ) (many : ℕ) → many ≡ length ws / labelRoom → Packable ws → (1 ≤ many) × (many ≤ reductionLimit)
-labels-many ws many e P =
-    let a = P .fits .some-label in
-    let b = P .fits .few in
-    (omega arith, omega arith)
-
 -- label k
 module _ (ws : List ℕ) (many k : ℕ) (e : many ≡ length ws / labelRoom) (h : k < many) where
   inside : k < length (labelsIn ws)

@@ -72,9 +72,6 @@ module _ (g : List ℕ) (n : ℕ) (P : Packed g n) (ws : List ℕ) (k : ℕ) (H 
         sym (first-owner (productionsIn g n) (keptAt (productionsIn g n) ws k) (omega arith)
         ∙ ap (λ (x : Label). x .nonterminal) (kept-label g n P ws k H 0 s ∙ ap (keptLabel (productionsIn g n)) (sym at-code) ∙ code-label g n P ws k H 0 s code at-code r e))
 
-  pub has-first : keptPlace k + 1 < length ws
-  has-first = omega (arith, has-room g n P ws k H .1 .0)
-
 -- `with_both`
 
 pub both-shown : (ps : List Production) (class : Class) (actions reduces : List ℕ) (i j : ℕ) (a b a′ b′ : List ℕ) → a′ ≡ shown ps (some (keptAt ps actions i)) a → b′ ≡ shown ps (some (keptAt ps reduces j)) b
@@ -107,9 +104,6 @@ other-three true b c = other-two b c
 other-three false b c = refl
 
 module _ (g : List ℕ) (n : ℕ) (P : Packed g n) (p : ℕ) (h : p < n) where
-  pub production-room : productionPlace (p + 1) ≤ length g
-  production-room = omega (arith, P .long, P .few)
-
   owner-is : getD (productionsIn g n) p noProduction .nonterminal ≡ getD g (productionPlace p) 0
   unfolding productionsIn productionIn
   owner-is = ap (λ (q : Production). q .nonterminal) (getD-map-below (productionIn g) n p noProduction h)

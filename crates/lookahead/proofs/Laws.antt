@@ -184,10 +184,6 @@ pub meet-le-left : (a b : ℕ) → meet a b ≤ a
 unfolding meet
 meet-le-left a b = and-le-l a b
 
-pub meet-le-right : (a b : ℕ) → meet a b ≤ b
-unfolding meet
-meet-le-right a b = and-le-r a b
-
 pub meet-lt : (n a b : ℕ) → a < 2 ^ n → meet a b < 2 ^ n
 meet-lt n a b h = lt-of-le-of-lt (meet-le-left a b) h
 
@@ -196,22 +192,3 @@ without-le s k = cases (has s k) (λ e. rw (without-yes s k e) (omega arith)) (�
 
 pub without-lt : (n s k : ℕ) → s < 2 ^ n → without s k < 2 ^ n
 without-lt n s k h = lt-of-le-of-lt (without-le s k) h
-
--- a token that is there and taken off makes the set smaller
-pub without-falls : (s k : ℕ) → has s k ≡ true → without s k < s
-without-falls s k e = rw (without-yes s k e) (omega (arith, has-le s k e, pow-pos k))
-
-pub with-lt : (s k : ℕ) → s < 2 ^ 64 → with s k < 2 ^ 64
-with-lt s k h =
-    cases (ltb k 64)
-    (λ e. rw (with-yes s k (ltb-true k 64 e)) (union-lt 64 s (single k) h (single-lt k 64 (ltb-true k 64 e))))
-    (λ e. rw (with-no s k (ltb-false k 64 e)) h)
-
-pub upTo-lt : (e : ℕ) → upTo e < 2 ^ 64
-upTo-lt e =
-    cases (ltb e 63)
-    (λ t.
-    let h = ltb-true e 63 t in
-    let m : 2 ^ suc e ≤ 2 ^ 64 = pow-mono {i = suc e} {j = 64} (omega arith) in
-    rw (upTo-few e h) (omega (arith, pow-pos (suc e))))
-    (λ t. rw (upTo-all e (ltb-false e 63 t)) (omega arith))

@@ -27,21 +27,6 @@ members-mem s k = mem-keep (has s) k (below 64) ∙ rw (mem-below k 64)
 pub mem-members : (s k : ℕ) → k < 64 → mem k (members s) ≡ has s k
 mem-members s k h = members-mem s k ∙ rw (lt-ltb k 64 h)
 
--- of a word, at every number
-pub mem-members-word : (s k : ℕ) → s < 2 ^ 64 → mem k (members s) ≡ has s k
-mem-members-word s k h =
-    members-mem s k ∙ cases (has s k) (λ e. rw (e, lt-ltb k 64 (has-below s 64 k h e))) (λ e. rw e (and-false (ltb k 64)))
-
-pub members-lt : (s i : ℕ) → i < length (members s) → getD (members s) i 0 < 64
-members-lt s i h =
-    let k = getD (members s) i 0 in
-    cases (ltb k 64)
-    (ltb-true k 64)
-    (λ e. clash (mem k (members s)) (mem-at (members s) i 0 h) (members-mem s k ∙ rw e))
-
-pub members-has : (s i : ℕ) → i < length (members s) → has s (getD (members s) i 0) ≡ true
-members-has s i h = sym (mem-members s (getD (members s) i 0) (members-lt s i h)) ∙ mem-at (members s) i 0 h
-
 pub members-few : (s : ℕ) → length (members s) ≤ 64
 unfolding members
 members-few s = omega (arith, length-keep (has s) (below 64), length-below 64)

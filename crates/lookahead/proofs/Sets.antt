@@ -37,20 +37,6 @@ pub union-le : (a b : ℕ) → a ≤ union a b
 unfolding union
 union-le a b = omega (arith, or-add-and a b, and-le-r a b)
 
-pub union-grows : (a b : ℕ) → (union a b ≡ a → ⊥) → a < union a b
-union-grows a b ne = lt-of-le-ne (union-le a b) (λ e. ne (sym e))
-
--- what `union_with` answers
-pub union-changed : (a b : ℕ) → not (eqb (union a b) a) ≡ true → a < union a b
-union-changed a b e = union-grows a b (eqb-false (union a b) a (not-true (eqb (union a b) a) e))
-
-pub union-unchanged : (a b : ℕ) → not (eqb (union a b) a) ≡ false → union a b ≡ a
-union-unchanged a b e = eqb-true (union a b) a (not-false (eqb (union a b) a) e)
-
-pub union-same : (a : ℕ) → union a a ≡ a
-unfolding union
-union-same a = or-self a
-
 pub union-comm : (a b : ℕ) → union a b ≡ union b a
 unfolding union
 union-comm a b = or-comm a b
@@ -66,10 +52,6 @@ union-zero-left a = or-zero-l a
 pub union-zero-right : (a : ℕ) → union a 0 ≡ a
 unfolding union
 union-zero-right a = or-zero-r a
-
-pub meet-comm : (a b : ℕ) → meet a b ≡ meet b a
-unfolding meet
-meet-comm a b = and-comm a b
 
 -- one set within another
 

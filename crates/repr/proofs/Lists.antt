@@ -49,19 +49,6 @@ pub below-last : (n : ℕ) → below (suc n) ≡ below n ++ n ∷ []
 unfolding below
 below-last n = upFrom-last 0 n ∙ ap (λ (k : ℕ). upFrom 0 n ++ k ∷ []) (omega arith)
 
-upFrom-same : (a b n m : ℕ) → a ≡ b → n ≡ m → upFrom a n ≡ upFrom b m
-upFrom-same a b n m p q = rw (p, q)
-
-pub drop-upFrom : (from n i : ℕ) → i ≤ n → drop i (upFrom from n) ≡ upFrom (from + i) (n - i)
-unfolding upFrom
-drop-upFrom from n zero h = upFrom-same from (from + 0) n (n - 0) (omega arith) (omega arith)
-drop-upFrom from zero (suc i) h = absurd (omega arith)
-drop-upFrom from (suc n) (suc i) h = drop-upFrom (suc from) n i (omega arith) ∙ upFrom-same (suc from + i) (from + suc i) (n - i) (suc n - suc i) (omega arith) (omega arith)
-
-pub drop-below : (n i : ℕ) → i ≤ n → drop i (below n) ≡ upFrom i (n - i)
-unfolding below
-drop-below n i h = drop-upFrom 0 n i h ∙ ap (λ (k : ℕ). upFrom k (n - i)) (omega arith)
-
 module _ {ℓ κ} {A : Type ℓ} {B : Type κ} where
   pub getD-map : (f : A → B) (xs : List A) (i : ℕ) (a : A) (d : B) → i < length xs → getD (map f xs) i d ≡ f (getD xs i a)
   getD-map f [] i a d h = absurd (omega arith)
@@ -119,9 +106,6 @@ mem-index n [] d h = clash (mem n []) h (mem-nil n)
 mem-index n (x ∷ xs) d h =
     cases (eqb n x) (λ e. (0, omega arith, sym (eqb-true n x e))) (λ e. let r = mem-index n xs d (sym (mem-no n x xs e) ∙ h) in (suc (r .0), omega (arith, r .1), r .2))
 
-pub mem-not-at : (n : ℕ) (xs : List ℕ) (i d : ℕ) → mem n xs ≡ false → i < length xs → getD xs i d ≡ n → ⊥
-mem-not-at n xs i d e h q = clash (mem n xs) (ap (λ (k : ℕ). mem k xs) (sym q) ∙ mem-at xs i d h) e
-
 pub mem-upFrom : (k from n : ℕ) → mem k (upFrom from n) ≡ (not (ltb k from) && ltb k (from + n))
 unfolding upFrom
 mem-upFrom k from zero =
@@ -166,10 +150,6 @@ module _ {ℓ} {A : Type ℓ} where
   keep-append t (x ∷ xs) ys =
       let rest = keep-append t xs ys in
       cases (t x) (λ e. rw (keep-yes t x (xs ++ ys) e, keep-yes t x xs e, rest)) (λ e. rw (keep-no t x (xs ++ ys) e, keep-no t x xs e) rest)
-
-  pub keep-all : (t : A → Bool) (xs : List A) (d : A) → ((i : ℕ) → i < length xs → t (getD xs i d) ≡ true) → keep t xs ≡ xs
-  keep-all t [] d h = keep-nil t
-  keep-all t (x ∷ xs) d h = keep-yes t x xs (h 0 (omega arith)) ∙ ap (λ (l : List A). x ∷ l) (keep-all t xs d (λ i l. h (suc i) (omega arith)))
 
   pub keep-none : (t : A → Bool) (xs : List A) (d : A) → ((i : ℕ) → i < length xs → t (getD xs i d) ≡ false) → keep t xs ≡ []
   keep-none t [] d h = keep-nil t

@@ -23,9 +23,5 @@ same-refl (terminal n) = eq-eqb n n refl
 pub equal-same : (x y : Symbol) → x ≡ y → sameSymbol x y ≡ true
 equal-same x y e = ap (sameSymbol x) (sym e) ∙ same-refl x
 
--- both directions
-pub same-iff : (x y : Symbol) → (sameSymbol x y ≡ true) ↔ (x ≡ y)
-same-iff x y = (same-equal x y, equal-same x y)
-
 pub not-same : (x y : Symbol) → sameSymbol x y ≡ false → x ≡ y → ⊥
 not-same x y f e = clash (sameSymbol x y) (equal-same x y e) f

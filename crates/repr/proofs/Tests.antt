@@ -46,12 +46,6 @@ module _ {ℓ} {A : Type ℓ} where
   some?-elim t (x ∷ xs) d h =
       cases (t x) (λ e. (0, omega arith, e)) (λ e. let r = some?-elim t xs d (sym (some?-no t x xs e) ∙ h) in (suc (r .0), omega (arith, r .1), r .2))
 
-  pub some?-none : (t : A → Bool) (xs : List A) (i : ℕ) (d : A) → some? t xs ≡ false → i < length xs → t (getD xs i d) ≡ false
-  some?-none t xs i d h l = cases (t (getD xs i d)) (λ e. clash (some? t xs) (some?-intro t xs i d l e) h) (λ e. e)
-
-  pub some?-none-intro : (t : A → Bool) (xs : List A) (d : A) → ((i : ℕ) → i < length xs → t (getD xs i d) ≡ false) → some? t xs ≡ false
-  some?-none-intro t xs d h = cases (some? t xs) (λ e. let r = some?-elim t xs d e in clash (t (getD xs (r .0) d)) (r .2) (h (r .0) (r .1))) (λ e. e)
-
   -- every
 
   pub every?-nil : (t : A → Bool) → every? t [] ≡ true
@@ -116,9 +110,6 @@ module _ {ℓ} {A : Type ℓ} where
       earlier e i f zero l = e
       earlier e i f (suc j) l = f j (omega arith)
 
-  pub first?-passes : (t : A → Bool) (xs : List A) (x : A) → first? t xs ≡ some x → t x ≡ true
-  first?-passes t xs x h = first?-at t xs x x h .3
-
   pub first?-none : (t : A → Bool) (xs : List A) (i : ℕ) (d : A) → first? t xs ≡ none → i < length xs → t (getD xs i d) ≡ false
   first?-none t [] i d h l = absurd (omega arith)
   first?-none t (x ∷ xs) zero d h l = cases (t x) (λ e. let z : _≡_ {A = ℕ} 0 1 = cc (first?-yes t x xs e) in absurd (omega arith)) (λ e. e)
@@ -136,21 +127,6 @@ module _ {ℓ} {A : Type ℓ} where
   pub first?-none-intro : (t : A → Bool) (xs : List A) (d : A) → ((i : ℕ) → i < length xs → t (getD xs i d) ≡ false) → first? t xs ≡ none
   first?-none-intro t [] d h = first?-nil t
   first?-none-intro t (x ∷ xs) d h = first?-no t x xs (h 0 (omega arith)) ∙ first?-none-intro t xs d (λ i l. h (suc i) (omega arith))
-
-  -- where none of the one list passes, the first is the other's
-  pub first?-append-none : (t : A → Bool) (xs ys : List A) → first? t xs ≡ none → first? t (xs ++ ys) ≡ first? t ys
-  first?-append-none t [] ys h = refl
-  first?-append-none t (x ∷ xs) ys h =
-      cases (t x)
-      (λ e. let z : _≡_ {A = ℕ} 0 1 = cc (first?-yes t x xs e) in absurd (omega arith))
-      (λ e. first?-no t x (xs ++ ys) e ∙ first?-append-none t xs ys (sym (first?-no t x xs e) ∙ h))
-
-  pub first?-append-some : (t : A → Bool) (xs ys : List A) (x : A) → first? t xs ≡ some x → first? t (xs ++ ys) ≡ some x
-  first?-append-some t [] ys x h = let z : _≡_ {A = ℕ} 0 1 = cc (first?-nil t) in absurd (omega arith)
-  first?-append-some t (y ∷ xs) ys x h =
-      cases (t y)
-      (λ e. first?-yes t y (xs ++ ys) e ∙ sym (first?-yes t y xs e) ∙ h)
-      (λ e. first?-no t y (xs ++ ys) e ∙ first?-append-some t xs ys x (sym (first?-no t y xs e) ∙ h))
 
   -- `All`
 
@@ -179,13 +155,6 @@ module _ {ℓ} {A : Type ℓ} where
   unfolding All
   All-append P [] ys a b = b
   All-append P (x ∷ xs) ys a b = (a .0, All-append P xs ys (a .1) b)
-
-  -- from a test to a fact
-  pub All-every? : (P : A → Type 0) (t : A → Bool) (xs : List A) → ((x : A) → t x ≡ true → P x) → every? t xs ≡ true → All P xs
-  unfolding All
-  All-every? P t [] f h = tt
-  All-every? P t (x ∷ xs) f h =
-      cases (t x) (λ e. (f x e, All-every? P t xs f (sym (every?-yes t x xs e) ∙ h))) (λ e. clash (every? t (x ∷ xs)) h (every?-no t x xs e))
 
 -- numbers, by membership
 

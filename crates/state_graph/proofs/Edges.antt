@@ -63,10 +63,6 @@ row-same n t (suc k) x (suc j) y f g =
 
 -- marking
 
-pub marked-length : (ws : List ℕ) (at s : ℕ) → length (marked ws at s) ≡ length ws
-unfolding marked
-marked-length ws at s = length-set ws (at + s / 64) (union (getD ws (at + s / 64) 0) (single (s % 64)))
-
 -- as the code does it
 pub marked-is : (ws : List ℕ) (at s i b : ℕ) → i ≡ at + s / 64 → b ≡ single (s % 64) → set ws i (bitOr (getD ws i 0) b) ≡ marked ws at s
 unfolding marked union

@@ -35,12 +35,6 @@ index-inside t r ne i = edge-inside t r (i .reached ne) .1
 
 -- sets put in
 
-pub united-length : (ws : List ℕ) (at l h : ℕ) → length (united ws at l h) ≡ length ws
-unfolding united
-united-length ws at l h =
-    length-set (set ws at (bitOr (getD ws at 0) l)) (at + 1) (bitOr (getD (set ws at (bitOr (getD ws at 0) l)) (at + 1) 0) h)
-    ∙ length-set ws at (bitOr (getD ws at 0) l)
-
 module _ (ws : List ℕ) (j l h : ℕ) (in-range : j * 2 + 1 < length ws) where
   abbrev first : List ℕ
   first = set ws (j * 2) (bitOr (getD ws (j * 2) 0) l)

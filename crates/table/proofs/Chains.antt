@@ -49,18 +49,12 @@ pub names-good : (a : Area) (r x : ℕ) → a .from ≤ x → x < a .past → r 
 unfolding names
 names-good a r x h l g = rw (le-leb (a .from) x h, lt-ltb x (a .past) l, lt-ltb r x g)
 
-pub names-of : (a : Area) (r x : ℕ) → Named a r x → names a r x ≡ true
-names-of a r x n = names-good a r x (n .inside) (n .early) (n .later)
-
 -- against the rule: before the area, past it, or not larger than the holder
 pub names-before : (a : Area) (r x : ℕ) → x < a .from → names a r x ≡ false
 names-before a r x h = cases (names a r x) (λ e. let n = named a r x e in absurd (omega arith)) (λ e. e)
 
 pub names-past : (a : Area) (r x : ℕ) → a .past ≤ x → names a r x ≡ false
 names-past a r x h = cases (names a r x) (λ e. let n = named a r x e in absurd (omega arith)) (λ e. e)
-
-pub names-back : (a : Area) (r x : ℕ) → x ≤ r → names a r x ≡ false
-names-back a r x h = cases (names a r x) (λ e. let n = named a r x e in absurd (omega arith)) (λ e. e)
 
 -- an index that is not against the rule is 0 or good
 pub against-zero : (a : Area) (r : ℕ) → against a r 0 ≡ false
@@ -77,12 +71,6 @@ against-good a r x e = rw e (cases (not (eqb x 0)) (λ q. rw q) (λ q. rw q))
 
 pub good-of : (a : Area) (r x : ℕ) → against a r x ≡ false → (x ≡ 0 → ⊥) → names a r x ≡ true
 good-of a r x e ne = not-false (names a r x) (sym (against-is a r x ne) ∙ e)
-
-pub bad-of : (a : Area) (r x : ℕ) → against a r x ≡ true → (x ≡ 0 → ⊥) × (names a r x ≡ false)
-unfolding against
-bad-of a r x e =
-    let p = and-true (not (eqb x 0)) (not (names a r x)) e in
-    (eqb-false x 0 (not-true (eqb x 0) (p .0)), not-true (names a r x) (p .1))
 
 -- one step, of any bound on the steps
 
@@ -234,27 +222,12 @@ module _ (t : List ℕ) (a : Area) where
   unfolding chain
   chain-once r x y m = by-once t a (records t) r x y m
 
-  pub chain-at-most : (r x y : ℕ) → occurrences y (chain t a r x) ≤ 1
-  chain-at-most r x y =
-      cases (mem y (chain t a r x))
-      (λ m. let e = chain-once r x y m in omega arith)
-      (λ m. let e = occurrences-none y (chain t a r x) m in omega arith)
-
   -- from the index on, by good next indexes
   pub chain-induct : {P : ℕ → Type 0} (r x : ℕ) → ((x ≡ 0 → ⊥) → names a r x ≡ true → P x)
       → ((z : ℕ) → mem z (chain t a r x) ≡ true → P z → (wordAt t z 0 ≡ 0 → ⊥) → names a z (wordAt t z 0) ≡ true → P (wordAt t z 0))
       → (y : ℕ) → mem y (chain t a r x) ≡ true → P y
   unfolding chain
   chain-induct {P} r x start on y m = by-induct t a {P = P} (records t) r x start on y m
-
-  -- a member is the first, or the good next of a member
-  pub chain-cases : (r x y : ℕ) → mem y (chain t a r x) ≡ true
-      → ((y ≡ x) × (x ≡ 0 → ⊥) × (names a r x ≡ true))
-      ⊎ ((z : ℕ) × (mem z (chain t a r x) ≡ true) × (y ≡ wordAt t z 0) × (y ≡ 0 → ⊥) × (names a z y ≡ true))
-  chain-cases r x y m =
-      chain-induct
-      {P = λ y. ((y ≡ x) × (x ≡ 0 → ⊥) × (names a r x ≡ true)) ⊎ ((z : ℕ) × (mem z (chain t a r x) ≡ true) × (y ≡ wordAt t z 0) × (y ≡ 0 → ⊥) × (names a z y ≡ true))}
-      r x (λ ne e. inl (refl, ne, e)) (λ z i p ne g. inr (z, i, refl, ne, g)) y m
 
   module _ (whole : a .past ≤ records t) where
     pub chain-step : (r x : ℕ) → (x ≡ 0 → ⊥) → names a r x ≡ true → chain t a r x ≡ x ∷ chain t a x (wordAt t x 0)

@@ -119,10 +119,6 @@ room t z =
 pub word-in : {t : List ℕ} → Room t → (r k : ℕ) → r < records t → k < 4 → (r < recordLimit) × ((k < 4) × (r * 4 + k < length t))
 word-in R r k h l = omega arith
 
--- so can the counts
-pub count-in : {t : List ℕ} → Sized t → (k : ℕ) → k < 4 → (0 < recordLimit) × ((k < 4) × (0 * 4 + k < length t))
-count-in {t} s k l = let R = room t s in word-in R 0 k (omega arith) l
-
 -- ---- the areas
 pub surveyed : {t : List ℕ} → Sized t → {n m s p : ℕ} → CountsAre t n m s p
     → AreasOf t (record { records = length t / 4; nonterminals = n; terminals = m; states = s; productions = p; «states_at» = 1 + n; «productions_at» = 1 + n + s; «loose_at» = 1 + n + s + p })

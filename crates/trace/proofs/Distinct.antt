@@ -85,9 +85,6 @@ module _ (T : Table) (s n : ℕ) where
   unfolding shifting distinct
   shifting-member i m = kept-member (canShift T n) i (stateAt T s .items) (distinct-member i (keep (canShift T n) (stateAt T s .items)) [] m)
 
-  pub shifting-fits : TableFits T → (i : Item) → List·Memᴰ i (shifting T s n) → ItemFits T i
-  shifting-fits fits i m = state-item T fits s i (shifting-member i m .0)
-
 -- an item's code
 
 pub code-item : (i : Item) → i .index < indexLimit → itemOf (i .production * indexLimit + i .index) ≡ i

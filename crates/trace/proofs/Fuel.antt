@@ -104,22 +104,6 @@ module _ (T : Table) (fits : TableFits T) where
   pub epsilon-pairs : (f s n : ℕ) (st : Trace) → s < 128 → n < 32 → unentered (st .seen) < f → epsilon T f s n st ≡ epsilon T pairs s n st
   epsilon-pairs f s n st r l h = let q = unentered-le (st .seen) in epsilon-enough f pairs s n st r l h (omega arith)
 
-  -- the turn after a first entry, at fuel f and at any that is enough
-  epsilon-turn-at : (f g s n : ℕ) (st : Trace) → s < 128 → n < 32 → mem (pair s n) (st .seen) ≡ false → unentered (st .seen) ≤ f → unentered (st .seen) ≤ g
-      → epsilon T (suc f) s n st ≡ inTurn (epsilonItem T n (λ m u. epsilon T g s m u)) (stateAt T s .items) (enter s n st)
-  epsilon-turn-at f g s n st r l e hf hg =
-      let d = enter-unentered s n st r l e in
-      epsilon-new T f s n st e
-      ∙ turn-agree (unentered (st .seen)) (epsilonItem T n (λ m u. epsilon T f s m u)) (epsilonItem T n (λ m u. epsilon T g s m u))
-      (epsilonItem-grows T n (λ m u. epsilon T f s m u) (epsilon-grows T f s)) (stateAt T s .items)
-      (λ i _. epsilonItem-agree (unentered (st .seen)) n (λ m u. epsilon T f s m u) (λ m u. epsilon T g s m u)
-      (λ m u lm lu. epsilon-enough f g s m u r lm (omega arith) (omega arith)) i)
-      (enter s n st) (omega arith)
-
-  pub epsilon-turn : (s n : ℕ) (st : Trace) → s < 128 → n < 32 → mem (pair s n) (st .seen) ≡ false
-      → epsilon T pairs s n st ≡ inTurn (epsilonItem T n (λ m u. epsilon T pairs s m u)) (stateAt T s .items) (enter s n st)
-  epsilon-turn s n st r l e = let q = unentered-le (st .seen) in epsilon-turn-at 4096 pairs s n st r l e q (omega arith)
-
   -- `backtrace_reduce`
 
   reduceItem-agree : (k : ℕ) (f g : ℕ → ℕ → Trace → Trace) → ((p m : ℕ) → Adds (f p m))
@@ -180,13 +164,3 @@ module _ (T : Table) (fits : TableFits T) where
 
   pub reduce-pairs : (f s n : ℕ) (st : Trace) → s < 128 → n < 32 → unentered (st .seen) < f → reduceState T f s n st ≡ reduceState T pairs s n st
   reduce-pairs f s n st r l h = let q = unentered-le (st .seen) in reduce-enough f pairs s n st r l h (omega arith)
-
-  pub reduce-turn : (s n : ℕ) (st : Trace) → s < 128 → n < 32 → mem (pair s n) (st .seen) ≡ false
-      → reduceState T pairs s n st
-      ≡ inTurn (reduceStateItem T n (λ i u. reduceItem T (λ p m v. reduceState T pairs p m v) s i u)) (stateAt T s .items) (enter s n st)
-  reduce-turn s n st r l e =
-      let q = unentered-le (st .seen) in
-      let d = enter-unentered s n st r l e in
-      reduce-new T 4096 s n st e
-      ∙ state-agree 4096 (λ p m v. reduceState T 4096 p m v) (λ p m v. reduceState T pairs p m v) (reduce-grows T 4096)
-      (λ p m u rp lm lu. reduce-enough 4096 pairs p m u rp lm lu (omega arith)) s n r (enter s n st) (omega arith)

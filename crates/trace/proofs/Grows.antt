@@ -68,10 +68,6 @@ add-grows T v w i st =
     let r = add-more (T .productions) (record { source = v; target = w; label = i }) (st .edges) in
     record { more = r .0; edges = r .1; entered = []; seen = refl }
 
-pub add-seen : (T : Table) (v w : Node) (i : Item) (st : Trace) → addTo T v w i st .seen ≡ st .seen
-unfolding addTo
-add-seen T v w i st = refl
-
 pub enter-grows : (s n : ℕ) → Adds (enter s n)
 unfolding enter
 enter-grows s n st = record { more = []; edges = sym (append-nil (st .edges)); entered = pair s n ∷ []; seen = refl }

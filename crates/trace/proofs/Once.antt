@@ -127,12 +127,6 @@ module _ (ps : List Production) where
       (λ h. ap (some? (sameEdge ps e)) (add-there e es h) ∙ h)
       (λ h. ap (some? (sameEdge ps e)) (add-new e es h) ∙ one-more (sameEdge ps e) e es ∙ rw (h, edge-same e))
 
-  pub add-keeps : (t : TraceEdge → Bool) (e : TraceEdge) (es : List TraceEdge) → some? t es ≡ true → some? t (add ps e es) ≡ true
-  add-keeps t e es k =
-      cases (some? (sameEdge ps e) es)
-      (λ h. ap (some? t) (add-there e es h) ∙ k)
-      (λ h. ap (some? t) (add-new e es h) ∙ one-more t e es ∙ rw k)
-
   like : (e f : TraceEdge) (es : List TraceEdge) → sameEdge ps f e ≡ true → some? (sameEdge ps e) es ≡ true → some? (sameEdge ps f) es ≡ true
   like e f [] q h = clash (some? (sameEdge ps e) []) h (some?-nil (sameEdge ps e))
   like e f (x ∷ es) q h =
@@ -140,12 +134,6 @@ module _ (ps : List Production) where
       cases (sameEdge ps e x)
       (λ k. some?-yes (sameEdge ps f) x es (edge-trans f e x q k))
       (λ k. some?-cons (sameEdge ps f) x es ∙ rw (rest (sym (some?-no (sameEdge ps e) x es k) ∙ h)) (or-true (sameEdge ps f x)))
-
-  pub add-membership : (e f : TraceEdge) (es : List TraceEdge) → some? (sameEdge ps f) (add ps e es) ≡ (some? (sameEdge ps f) es || sameEdge ps f e)
-  add-membership e f es =
-      cases (some? (sameEdge ps e) es)
-      (λ h. ap (some? (sameEdge ps f)) (add-there e es h) ∙ cases (sameEdge ps f e) (λ k. rw (like e f es k h)) (λ k. rw k (sym (or-false (some? (sameEdge ps f) es)))))
-      (λ h. ap (some? (sameEdge ps f)) (add-new e es h) ∙ one-more (sameEdge ps f) e es)
 
   pub add-all : (P : TraceEdge → Type 0) (e : TraceEdge) (es : List TraceEdge) → P e → All P es → All P (add ps e es)
   unfolding All

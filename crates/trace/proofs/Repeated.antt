@@ -20,7 +20,6 @@ use Rattle.trace.specs.Shift.{epsilonItem, epsilon}
 use Rattle.trace.specs.Reduce.{reduceStateItem, reduceItem, reduceState}
 use Rattle.trace.proofs.Once.{item-equal, add-there, add-has}
 use Rattle.trace.proofs.Grows.{Grows, Adds, grows-seen, grows-some, turn-nil, turn-cons, turn-grows, epsilon-cannot, epsilon-past, epsilon-beginning, epsilon-zero, epsilon-entered, epsilon-new, epsilonItem-grows, epsilon-grows, reduce-cannot, reduce-nullable, reduce-ends, reduceItem-is, reduce-zero, reduce-entered, reduce-new, reduceItem-grows, reduceStateItem-grows, reduce-grows}
-use Rattle.trace.proofs.Fuel.{epsilon-turn, reduce-turn}
 
 -- the clauses of `distinctFrom`
 
@@ -183,11 +182,6 @@ module _ (T : Table) where
       → epsilon T (suc f) s n st ≡ inTurn (epsilonItem T n (λ m u. epsilon T f s m u)) (shifting T s n) (enter s n st)
   epsilon-shifting f s n st e = epsilon-new T f s n st e ∙ sym (epsilon-distinct f s n (enter s n st))
 
-  -- with no fuel to count
-  pub epsilon-shifting-turn : TableFits T → (s n : ℕ) (st : Trace) → s < 128 → n < 32 → mem (pair s n) (st .seen) ≡ false
-      → epsilon T pairs s n st ≡ inTurn (epsilonItem T n (λ m u. epsilon T pairs s m u)) (shifting T s n) (enter s n st)
-  epsilon-shifting-turn fits s n st r l e = epsilon-turn T fits s n st r l e ∙ sym (epsilon-distinct pairs s n (enter s n st))
-
   -- `backtrace_reduce`
 
   reduce-still : (f s m : ℕ) (st : Trace) → Entered f s m st → reduceState T f s m st ≡ st
@@ -305,9 +299,3 @@ module _ (T : Table) where
   pub reduce-shifting : (f s n : ℕ) (st : Trace) → mem (pair s n) (st .seen) ≡ false
       → reduceState T (suc f) s n st ≡ inTurn (reduceStateItem T n (λ i u. reduceItem T (λ p m v. reduceState T f p m v) s i u)) (shifting T s n) (enter s n st)
   reduce-shifting f s n st e = reduce-new T f s n st e ∙ sym (reduce-distinct f s n (enter s n st))
-
-  -- with no fuel to count
-  pub reduce-shifting-turn : TableFits T → (s n : ℕ) (st : Trace) → s < 128 → n < 32 → mem (pair s n) (st .seen) ≡ false
-      → reduceState T pairs s n st
-      ≡ inTurn (reduceStateItem T n (λ i u. reduceItem T (λ p m v. reduceState T pairs p m v) s i u)) (shifting T s n) (enter s n st)
-  reduce-shifting-turn fits s n st r l e = reduce-turn T fits s n st r l e ∙ sym (reduce-distinct pairs s n (enter s n st))

@@ -62,12 +62,6 @@ free-cons n seen m (suc k) h =
     free-in-here q same)
     (λ e. let ne = eqb-false k n e in other ne (free-cons n seen m k (omega arith)))
   where
-    free-in-here : k ≡ n → free k (n ∷ seen) ≡ free k seen → suc (free (suc k) (n ∷ seen)) ≡ free (suc k) seen
-    free-in-here q same =
-        let yes-in : mem k (n ∷ seen) ≡ true = mem-yes k n seen (eq-eqb k n q) in
-        let out : mem k seen ≡ false = ap (λ (j : ℕ). mem j seen) q ∙ m in
-        rw (free-in k (n ∷ seen) yes-in, free-out k seen out, same)
-
     other : (k ≡ n → ⊥) → suc (free k (n ∷ seen)) ≡ free k seen → suc (free (suc k) (n ∷ seen)) ≡ free (suc k) seen
     other ne r =
         let q = apart k n seen ne in
@@ -80,10 +74,6 @@ free-cons n seen m (suc k) h =
 pub unentered-le : (seen : List ℕ) → unentered seen ≤ 4096
 unfolding unentered
 unentered-le seen = free-le 4096 seen
-
-pub unentered-agree : (us vs : List ℕ) → ((j : ℕ) → j < 4096 → mem j us ≡ mem j vs) → unentered us ≡ unentered vs
-unfolding unentered
-unentered-agree us vs h = free-agree 4096 us vs h
 
 -- an entry never raises it, and a first entry lowers it by one
 pub unentered-cons-le : (k : ℕ) (seen : List ℕ) → unentered (k ∷ seen) ≤ unentered seen
@@ -102,7 +92,3 @@ unentered-append (u ∷ us) seen = let a = unentered-cons-le u (us ++ seen) in l
 pub pair-lt : (s n : ℕ) → s < 128 → n < 32 → pair s n < 4096
 unfolding pair
 pair-lt s n hs hn = omega arith
-
-pub pair-same : (s n p m : ℕ) → n < 32 → m < 32 → pair s n ≡ pair p m → (s ≡ p) × (n ≡ m)
-unfolding pair
-pair-same s n p m hn hm e = (omega arith, omega arith)

@@ -41,13 +41,6 @@ joined-long (e ∷ es) =
     let b = joined-long es in
     ap length (joined-cons edgeWords e es) ∙ length-append (edgeWords e) (joined edgeWords es) ∙ omega arith
 
--- words past the edge are as they were
-pub more-past : (ws : List ℕ) (k j : ℕ) (e : TraceEdge) → edgePlace (k + 1) ≤ j → getD (oneMore ws k e) j 0 ≡ getD ws j 0
-unfolding oneMore written
-more-past ws k j e h =
-    let a = edge-words e in
-    getD-set-other (sets ws (edgePlace k) (edgeWords e)) 0 j (k + 1) 0 (λ q. omega arith) ∙ stored-after (edgeWords e) ws (edgePlace k) j (omega arith)
-
 -- a graph's words in front, with any words behind: an edge more takes the next eight
 pub more-front : (es : List TraceEdge) (e : TraceEdge) (rest : List ℕ) → 8 ≤ length rest → oneMore (graphWords es ++ rest) (length es) e ≡ graphWords (es ++ e ∷ []) ++ drop 8 rest
 unfolding oneMore written graphWords

@@ -37,31 +37,6 @@ module _ (u : ℕ → Bool) where
   unfolding newest
   newest-no k e = rw (e, newest)
 
-  -- exactly those below k that pass
-  pub mem-newest : (j k : ℕ) → mem j (newest u k) ≡ (ltb j k && u j)
-  mem-newest j zero = rw newest-none (mem-nil j ∙ rw (le-ltb j 0 (omega arith)))
-  mem-newest j (suc k) =
-      let rest = mem-newest j k in
-      cases (eqb j k)
-      (λ q.
-      let e = eqb-true j k q in
-      cases (u k)
-      (λ s. rw (newest-yes k s) (mem-yes j k (newest u k) q ∙ rw (lt-ltb j (suc k) (omega arith), e, s)))
-      (λ s. rw (newest-no k s) (rest ∙ rw (le-ltb j k (omega arith), lt-ltb j (suc k) (omega arith), e, s))))
-      (λ q.
-      let ne = eqb-false j k q in
-      let same : ltb j k ≡ ltb j (suc k) = cases (ltb j k) (λ l. let h = ltb-true j k l in l ∙ sym (lt-ltb j (suc k) (omega arith))) (λ l. let h = ltb-false j k l in l ∙ sym (le-ltb j (suc k) (away ne h))) in
-      cases (u k)
-      (λ s. rw (newest-yes k s) (mem-no j k (newest u k) q ∙ rest ∙ rw same))
-      (λ s. rw (newest-no k s) (rest ∙ rw same)))
-    where
-      away : {i l : ℕ} → (i ≡ l → ⊥) → l ≤ i → suc l ≤ i
-      away {i} {l} ne h = go (native.Mathlib.Decide.decLe (suc l) i)
-        where
-          go : Dec (suc l ≤ i) → suc l ≤ i
-          go (yes q) = q
-          go (no q) = absurd (ne (omega arith))
-
 -- tests that agree below k
 pub newest-kept : (u u′ : ℕ → Bool) (k : ℕ) → ((j : ℕ) → j < k → u′ j ≡ u j) → newest u′ k ≡ newest u k
 newest-kept u u′ zero h = newest-none u′ ∙ sym (newest-none u)

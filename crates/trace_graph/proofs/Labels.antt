@@ -129,9 +129,6 @@ node-refl (atItem a) = both _ _ (eq-eqb (a .production) (a .production) refl) (e
 pub node-same : (v w : Node) → v ≡ w → sameNode v w ≡ true
 node-same v w e = rw e (node-refl w)
 
-pub node-sym : (v w : Node) → sameNode v w ≡ sameNode w v
-node-sym v w = agree _ _ (λ e. node-same w v (sym (node-equal v w e))) (λ e. node-same v w (sym (node-equal w v e)))
-
 -- edges
 
 pub edge-parts : (ps : List Production) (e f : TraceEdge) → sameEdge ps e f ≡ true
@@ -149,9 +146,6 @@ edge-parts ps e f h =
 pub edge-same : (ps : List Production) (e f : TraceEdge) → e .source ≡ f .source → e .target ≡ f .target → labelOf ps (e .label) ≡ labelOf ps (f .label) → sameEdge ps e f ≡ true
 unfolding sameEdge
 edge-same ps e f s t l = both _ _ (node-same _ _ s) (both _ _ (node-same _ _ t) (rw l (sets-refl (labelOf ps (f .label)))))
-
-pub edge-refl : (ps : List Production) (e : TraceEdge) → sameEdge ps e e ≡ true
-edge-refl ps e = edge-same ps e e refl refl refl
 
 pub edge-sym : (ps : List Production) (e f : TraceEdge) → sameEdge ps e f ≡ sameEdge ps f e
 edge-sym ps e f = agree _ _ (turn e f) (turn f e)

@@ -109,9 +109,6 @@ edges-back es rest =
     let l : k < length es = rw (length-map-below (edgeAt (graphWords es ++ rest)) (length es)) at h in
     getD-map-below (edgeAt (graphWords es ++ rest)) (length es) k noEdge l ∙ edge-at es rest k noEdge l))
 
-pub edges-back-alone : (es : List TraceEdge) → edgesIn (graphWords es) ≡ es
-edges-back-alone es = ap edgesIn (sym (append-nil (graphWords es))) ∙ edges-back es []
-
 -- the graph check
 
 -- both ends and the label in range

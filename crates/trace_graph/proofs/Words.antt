@@ -174,10 +174,6 @@ module _ (ws : List ℕ) (k : ℕ) (v : EdgeValue) where
   unfolding written
   written-long = length-sets ws (edgePlace k) (valueWords v)
 
-  pub written-count : getD (written ws k (valueWords v)) 0 0 ≡ getD ws 0 0
-  unfolding written
-  written-count = stored-before (valueWords v) ws (edgePlace k) 0 (omega arith)
-
   pub read-written : edgePlace (k + 1) ≤ length ws → edgeRead (written ws k (valueWords v)) k ≡ v
   unfolding written
   read-written l =

@@ -3,7 +3,7 @@ use mathlib.Core.Path.{_≡_, refl, sym, ap, _∙_}
 use mathlib.Core.List.{List}
 use Prim.Native.Nat.{ℕ, _+_, _-_, _*_, _≤_, _<_}
 use lib.ListN.{length, getD, length-set}
-use Rattle.gather.proofs.Packing.{labels-many, words-inside, small, label-word, Packs, packs-first, packs-more, packs-all}
+use Rattle.gather.proofs.Packing.{words-inside, small, label-word, Packs, packs-first, packs-more, packs-all}
 use borrow.Author.Needs.{needs}
 use native.Mathlib.Omega.{arith}
 use Rattle.gather.proofs.pack.Statement.{statement}
