@@ -9,6 +9,7 @@ use lr1::backtrace_reduce;
 use lr1::backtrace_shift;
 use repr::ProductionIndex;
 use state_graph::StateIndex;
+use trace_graph::TraceGraph;
 use tracer::Backtrace;
 ghost use mathlib.Core.Path.{_≡_};
 ghost use Prim.Native.Nat.{_+_, _*_, _≤_, _<_};
@@ -123,8 +124,8 @@ fn say(answer: Backtrace) {
 
 fn main() {
     let mut table = [0u16; 1812];
-    let mut graph = [0u16; 8193];
-    let mut scratch = [0u16; 32000];
+    let mut graph = [0u16; TraceGraph::WORDS];
+    let mut scratch = [0u16; TraceGraph::SCRATCH];
     put_productions(&mut table);
     put_symbols(&mut table);
     put_items(&mut table);

@@ -1,6 +1,7 @@
 // The explaining program (document 01, Table B and its program run): reads a table and conflicts from standard input as little-endian words, and prints of each conflict its class and the two readings.
 // A bad table is said in one line, and nothing more is read. A read or a write that fails is said on standard error and ends the run.
 use error::Conflict;
+use example::Example;
 use lines::lines;
 use lines::refused_line;
 use little::decode;
@@ -76,9 +77,9 @@ fn explain_some(table: &[u16], words: &[u16], count: usize, first: u64, out: &mu
     requires { ⌜ (count ≤ 4096) × (count * 5 ≤ length (now words)) ⌝ }
     requires { ⌜ (first < 1152921504606846976) × (65536 ≤ length (now out)) ⌝ }
 {
-    let mut scratch = [0u16; 32000];
-    let mut action = [0u16; 1158];
-    let mut reduce = [0u16; 1158];
+    let mut scratch = [0u16; Conflict::SCRATCH];
+    let mut action = [0u16; Example::WORDS];
+    let mut reduce = [0u16; Example::WORDS];
     let mut k: usize = 0;
     while k < count {
         let conflict = conflict_at(words, k);
