@@ -15,4 +15,17 @@ use Rattle.enumerator.specs.Trials.{Path, endsOf, trials}
 use Rattle.enumerator.specs.Lister.{labelAt, labelsOf, says}
 use Rattle.enumerator.proofs.Short.{short-trial}
 
+pub length-labels : (ps : List Production) (es : List TraceEdge) (p : Path) → length (labelsOf ps es p) ≡ length p
+unfolding labelsOf
+length-labels ps es p = length-mapped (labelAt ps es) p
+
 module _ (T : Table) (F : TableFits T) (es : List TraceEdge) (start : Node) where
+  pub says-fits : (p : Path) → List·Memᴰ p (trials (endsOf es) start) → length (says T es p) ≤ exampleRoom
+  unfolding says
+  says-fits p m =
+      let a = short-trial (endsOf es) start p m in
+      let b = length-labels (T .productions) es p in
+      at-most-1158 (T .productions) (short-of T F) (labelsOf (T .productions) es p) (omega arith)
+
+  pub buffer-stays : (p : Path) (buffer : List ℕ) → List·Memᴰ p (trials (endsOf es) start) → exampleRoom ≤ length buffer → length (inFront (says T es p) buffer) ≡ length buffer
+  buffer-stays p buffer m h = let a = says-fits p m in length-inFront (says T es p) buffer (omega arith)

@@ -62,6 +62,12 @@ free-cons n seen m (suc k) h =
     free-in-here q same)
     (λ e. let ne = eqb-false k n e in other ne (free-cons n seen m k (omega arith)))
   where
+    free-in-here : k ≡ n → free k (n ∷ seen) ≡ free k seen → suc (free (suc k) (n ∷ seen)) ≡ free (suc k) seen
+    free-in-here q same =
+        let yes-in : mem k (n ∷ seen) ≡ true = mem-yes k n seen (eq-eqb k n q) in
+        let out : mem k seen ≡ false = ap (λ (j : ℕ). mem j seen) q ∙ m in
+        rw (free-in k (n ∷ seen) yes-in, free-out k seen out, same)
+
     other : (k ≡ n → ⊥) → suc (free k (n ∷ seen)) ≡ free k seen → suc (free (suc k) (n ∷ seen)) ≡ free (suc k) seen
     other ne r =
         let q = apart k n seen ne in
