@@ -10,8 +10,6 @@ use crate::words::least;
 use crate::words::number;
 use crate::words::rest;
 use crate::words::set_at;
-ghost use Prim.Native.Nat.{_≤_, _<_};
-ghost use lib.ListN.{length};
 
 fn classify(
     table: &[u16],
@@ -43,7 +41,7 @@ fn classify(
     )
 }
 
-// Whether the class has an example on the action's side, and its class number.
+// Prints the numbers and answers the class, 7 where the call was refused.
 fn classify_lent(
     table: &[u16],
     more: &[u16],

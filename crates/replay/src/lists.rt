@@ -13,8 +13,6 @@ use crate::words::put;
 use crate::words::rest;
 use crate::words::set_at;
 use crate::words::zero_if;
-ghost use Prim.Native.Nat.{_≤_, _<_};
-ghost use lib.ListN.{length};
 
 fn advance(
     table: &[u16],

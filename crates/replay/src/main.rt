@@ -40,7 +40,6 @@ use sets::ask_item;
 use sets::ask_sets;
 use traces::ask_trace;
 use walks::ask_walk;
-ghost use mathlib.Core.Path.{_≡_};
 ghost use Prim.Native.Nat.{_≤_, _<_, _*_};
 ghost use lib.ListN.{length};
 

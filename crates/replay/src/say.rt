@@ -1,5 +1,4 @@
 // Numbers of an answer, a line each request.
-use crate::words::number;
 use libc::STDOUT_FILENO;
 use repr::word;
 ghost use Prim.Native.Nat.{_≤_, _<_};

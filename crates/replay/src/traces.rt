@@ -9,7 +9,6 @@ use crate::words::least;
 use crate::words::number;
 use crate::words::put;
 use crate::words::rest;
-ghost use Prim.Native.Nat.{_≤_, _<_};
 
 // The words of an accepted graph.
 fn say_graph(answer: u16, edges: u16, graph: &[u16]) {

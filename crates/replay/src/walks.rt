@@ -11,7 +11,7 @@ fn ask_check(table: &[u16]) {
     say_answer(answer, place);
 }
 
-// A set, and place and members of it; before the call it holds token 7.
+// Before the call a set holds token 7.
 fn ask_first0(table: &[u16], more: &[u16]) {
     let mut place: u16 = 7;
     let mut set: u64 = 128;

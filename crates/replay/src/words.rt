@@ -1,7 +1,6 @@
 // Parts of a request, and words that are lent. Every function is total: words that a request has not are zeros.
 use repr::word;
 ghost use Prim.Native.Nat.{_≤_, _<_};
-ghost use lib.ListN.{length};
 
 pub fn least(a: usize, b: usize) -> usize
     ensures { λ r. ⌜ (r ≤ a) × (r ≤ b) ⌝ }
