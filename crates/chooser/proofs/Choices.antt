@@ -1,8 +1,8 @@
 -- What is chosen of the classes, and refusals 9 to 11 (error/specs/Choose). Assumes nothing.
-use mathlib.Core.Path.{_≡_, refl, sym, ap, _∙_}
+use mathlib.Core.Path.{_≡_, refl, sym, ap, subst, _∙_}
 use mathlib.Core.Bool.{Bool, true, false, _&&_, not}
 use mathlib.Core.List.{List, [], _∷_}
-use Prim.Native.Nat.{ℕ, zero, suc, _^_, _≤_, _<_}
+use Prim.Native.Nat.{ℕ, zero, suc, _+_, _^_, _≤_, _<_}
 use native.Mathlib.Omega.{arith}
 use lib.ListN.{length}
 use lib.Dec.{eqb, ltb}
@@ -21,8 +21,9 @@ use Rattle.entries.proofs.Laws.{entries-long}
 use Rattle.chooser.specs.declared.Step.{Step}
 use Rattle.chooser.specs.declared.Step.the-variants.{Counts, Halted}
 use Rattle.chooser.specs.declared.Chosen.{Chosen}
-use Rattle.chooser.specs.Choosing.{choiceBy, choiceIn, Sorted, sorted, stopped, stepped, sortedIn, isNaive, addedTo, naiveCount}
+use Rattle.chooser.specs.Choosing.{choiceIn, chosenOf, Sorted, sorted, stopped, stepped, sortedIn, CountsWithin, isNaive, addedTo, naiveCount}
 use Rattle.chooser.proofs.Halts.{classes-halt}
+use Rattle.chooser.proofs.Answered.{refused-choice, refused-whole}
 
 -- how many naive ones
 
@@ -42,6 +43,16 @@ unfolding naiveCount
 count-one zero n h e = absurd (h refl)
 count-one (suc a) zero h e = absurd (e refl)
 count-one (suc a) (suc n) h e = refl
+
+pub naive-few : (r a n b m : ℕ) → r ≡ naiveCount a n → b + n ≤ m → r ≤ m
+unfolding naiveCount
+naive-few r zero n b m e h = omega arith
+naive-few r (suc a) zero b m e h = omega arith
+naive-few r (suc a) (suc n) b m e h = omega arith
+
+pub counts-within : (r : Step) (b a n : ℕ) → r ≡ Counts b a → CountsWithin n r → b + a ≤ n
+unfolding CountsWithin
+counts-within r b a n e h = subst (CountsWithin n) e h
 
 naive-entries : (action n : ℕ) (ws : List ℕ) → entriesIn ws (naiveCount action n) ≡ naiveOnes action (entriesIn ws n)
 unfolding naiveCount naiveOnes entriesIn below upFrom
@@ -80,22 +91,21 @@ unfolding entriesIn below upFrom
 no-entries ws = refl
 
 -- by what all tokens came to
-halt-choice : (action x : ℕ) (ws : List ℕ) (E : Entries) → (E ≡ halts 0 → ⊥) → stopped x ≡ addedTo [] [] E → choiceBy x 0 0 ws ≡ choiceOf action E
-unfolding addedTo choiceOf choiceBy
-halt-choice action zero ws (halts n) h e = let z : n ≡ 0 = cc in absurd (h (ap halts z))
-halt-choice action (suc x) ws (halts n) h e = let z : suc x ≡ n = cc in ap (λ (y : ℕ). refused y 0) z
-halt-choice action x ws (entries es) h e = let z : _≡_ {A = ℕ} 0 1 = cc in absurd (omega arith)
+halt-choice : (action x : ℕ) (E : Entries) → (E ≡ halts 0 → ⊥) → stopped x ≡ addedTo [] [] E → (x ≡ 0 → ⊥) × (refused x 0 ≡ choiceOf action E)
+unfolding addedTo choiceOf
+halt-choice action x (halts n) h e = let z : x ≡ n = cc in ((λ q. h (ap halts (sym z ∙ q))), ap (λ (y : ℕ). refused y 0) z)
+halt-choice action x (entries es) h e = let z : _≡_ {A = ℕ} 0 1 = cc in absurd (omega arith)
 
-better-choice : (action b a : ℕ) (better naive : List ℕ) (E : Entries) → (b ≡ 0 → ⊥) → sorted (entriesIn better b) (entriesIn naive a) ≡ addedTo [] [] E → choiceBy 0 0 b better ≡ choiceOf action E
-unfolding addedTo choiceOf choiceBy
+better-choice : (action b a : ℕ) (better naive : List ℕ) (E : Entries) → (b ≡ 0 → ⊥) → sorted (entriesIn better b) (entriesIn naive a) ≡ addedTo [] [] E → chosen (entriesIn better b) ≡ choiceOf action E
+unfolding addedTo choiceOf
 better-choice action b a better naive (halts n) h e = let z : _≡_ {A = ℕ} 0 1 = cc in absurd (omega arith)
 better-choice action b a better naive (entries es) h e =
     let x : entriesIn better b ≡ keep isBetter es = cc in
     let l = entries-long better b in
     ap chosen (better-first action es (entriesIn better b) (λ z. h (sym l ∙ z)) ∙ ap (choiceFrom action es) x)
 
-naive-choice : (action b a : ℕ) (better naive : List ℕ) (E : Entries) → b ≡ 0 → sorted (entriesIn better b) (entriesIn naive a) ≡ addedTo [] [] E → choiceBy 0 0 (naiveCount action a) naive ≡ choiceOf action E
-unfolding addedTo choiceOf choiceBy choiceFrom
+naive-choice : (action b a : ℕ) (better naive : List ℕ) (E : Entries) → b ≡ 0 → sorted (entriesIn better b) (entriesIn naive a) ≡ addedTo [] [] E → chosen (entriesIn naive (naiveCount action a)) ≡ choiceOf action E
+unfolding addedTo choiceOf choiceFrom
 naive-choice action b a better naive (halts n) h e = let z : _≡_ {A = ℕ} 0 1 = cc in absurd (omega arith)
 naive-choice action b a better naive (entries es) h e =
     let x : entriesIn better b ≡ keep isBetter es = cc in
@@ -117,23 +127,29 @@ module _ (T : Table) (c : Conflict) (set : ℕ) (w₀ w w′ better naive : List
   right : w′ ≡ zeroed classifyScratch w₀
   right = stepped-right (sortedIn r better naive) (addedTo [] [] (classesOf T c (members set))) w′ w e ∙ clear
 
-  pub chosen-halts : (x : ℕ) → r ≡ Halted x → (ws : List ℕ) → outcome (choiceIn (record { refusal = x; place = 0; count = 0; entries = ws })) w′ ≡ outcome (choiceOf (c .action) (classesOf T c (members set))) (zeroed classifyScratch w₀)
-  unfolding choiceIn sortedIn
-  chosen-halts x er ws =
-      let p = halt-choice (c .action) x ws (classesOf T c (members set)) (classes-halt T c (members set)) (ap (λ (y : Step). sortedIn y better naive) (sym er) ∙ left) in
-      λ j. outcome (p j) (right j)
+  abbrev Chooses : Chosen → Type 0
+  Chooses x = outcome (choiceIn x) w′ ≡ outcome (choiceOf (c .action) (classesOf T c (members set))) (zeroed classifyScratch w₀)
+
+  pub chosen-halts : (n : ℕ) → r ≡ Halted n → (x : Chosen) → x ≡ chosenOf (refused n 0) → Chooses x × (x ≡ chosenOf (choiceIn x))
+  unfolding sortedIn
+  chosen-halts n er x e =
+      let p = halt-choice (c .action) n (classesOf T c (members set)) (classes-halt T c (members set)) (ap (λ (y : Step). sortedIn y better naive) (sym er) ∙ left) in
+      let q = refused-choice n 0 x (p .0) e ∙ p .1 in
+      ((λ j. outcome (q j) (right j)), refused-whole n 0 x (p .0) e)
 
   module _ (b a : ℕ) (er : r ≡ Counts b a) where
-    pub chosen-better : (b ≡ 0 → ⊥) → outcome (choiceIn (record { refusal = 0; place = 0; count = b; entries = better })) w′ ≡ outcome (choiceOf (c .action) (classesOf T c (members set))) (zeroed classifyScratch w₀)
-    unfolding choiceIn sortedIn
-    chosen-better h =
-        let p = better-choice (c .action) b a better naive (classesOf T c (members set)) h (ap (λ (y : Step). sortedIn y better naive) (sym er) ∙ left) in
+    sorted-left : sorted (entriesIn better b) (entriesIn naive a) ≡ addedTo [] [] (classesOf T c (members set))
+    unfolding sortedIn
+    sorted-left = ap (λ (y : Step). sortedIn y better naive) (sym er) ∙ left
+
+    pub chosen-better : (b ≡ 0 → ⊥) → (x : Chosen) → choiceIn x ≡ chosen (entriesIn better b) → Chooses x
+    chosen-better h x e =
+        let p = e ∙ better-choice (c .action) b a better naive (classesOf T c (members set)) h sorted-left in
         λ j. outcome (p j) (right j)
 
-    pub chosen-naive : b ≡ 0 → (n : ℕ) → n ≡ naiveCount (c .action) a → outcome (choiceIn (record { refusal = 0; place = 0; count = n; entries = naive })) w′ ≡ outcome (choiceOf (c .action) (classesOf T c (members set))) (zeroed classifyScratch w₀)
-    unfolding choiceIn sortedIn
-    chosen-naive h n en =
-        let p = ap (λ (k : ℕ). choiceBy 0 0 k naive) en ∙ naive-choice (c .action) b a better naive (classesOf T c (members set)) h (ap (λ (y : Step). sortedIn y better naive) (sym er) ∙ left) in
+    pub chosen-naive : b ≡ 0 → (n : ℕ) → n ≡ naiveCount (c .action) a → (x : Chosen) → choiceIn x ≡ chosen (entriesIn naive n) → Chooses x
+    chosen-naive h n en x e =
+        let p = e ∙ ap (λ (k : ℕ). chosen (entriesIn naive k)) en ∙ naive-choice (c .action) b a better naive (classesOf T c (members set)) h sorted-left in
         λ j. outcome (p j) (right j)
 
 -- refusals 9 to 11
@@ -144,12 +160,14 @@ end-shift a s t r e q = rw (eq-eqb a 0 e) q
 pub end-other : (a s t : ℕ) → (a ≡ 0 → ⊥) → false ≡ (eqb a 0 && has s t)
 end-other a s t e = rw (ne-eqb a 0 e)
 
-refusal-is : (n : ℕ) (r : Chosen) → (r .refusal ≡ suc n) × (r .place ≡ 0) → choiceIn r ≡ refused (suc n) 0
-unfolding choiceIn choiceBy
-refusal-is n r e = λ j. choiceBy (e .0 j) (e .1 j) (r .count) (r .entries)
+abbrev Refuses : ℕ → Chosen → Type 0
+Refuses n r = r ≡ chosenOf (refused n 0)
+
+refusal-is : (n : ℕ) (r : Chosen) → Refuses (suc n) r → choiceIn r ≡ refused (suc n) 0
+refusal-is n r e = refused-choice (suc n) 0 r (λ z. absurd (omega arith)) e
 
 module _ (T : Table) (c : Conflict) (set : ℕ) (w : List ℕ) where
-  pub not-placed : placeFits T c ≡ false → (r : Chosen) → (r .refusal ≡ 9) × (r .place ≡ 0) → outcome (choiceIn r) w ≡ chooseIn c set w T
+  pub not-placed : placeFits T c ≡ false → (r : Chosen) → Refuses 9 r → outcome (choiceIn r) w ≡ chooseIn c set w T
   unfolding chooseIn setFits
   not-placed p r e = ap (λ (l : Choice). outcome l w) (refusal-is 8 r e) ∙ rw (p, chooseIn)
 
@@ -157,7 +175,7 @@ module _ (T : Table) (c : Conflict) (set : ℕ) (w : List ℕ) where
     within-T : v ≡ ltb set (2 ^ suc (T .terminals))
     within-T = ev ∙ ap (λ (k : ℕ). ltb set (2 ^ suc k)) et
 
-    pub set-past : v ≡ false → (r : Chosen) → (r .refusal ≡ 9) × (r .place ≡ 0) → outcome (choiceIn r) w ≡ chooseIn c set w T
+    pub set-past : v ≡ false → (r : Chosen) → Refuses 9 r → outcome (choiceIn r) w ≡ chooseIn c set w T
     unfolding chooseIn setFits
     set-past q r e = let f : ltb set (2 ^ suc (T .terminals)) ≡ false = sym within-T ∙ q in ap (λ (l : Choice). outcome l w) (refusal-is 8 r e) ∙ rw (p, f, chooseIn)
 
@@ -171,11 +189,11 @@ module _ (T : Table) (c : Conflict) (set : ℕ) (w : List ℕ) where
         unfolding setShiftsEnd
         end-T = ap (λ (k : ℕ). eqb (c .action) 0 && has set k) (sym et) ∙ sym eu
 
-        pub shift-end : u ≡ true → (r : Chosen) → (r .refusal ≡ 10) × (r .place ≡ 0) → outcome (choiceIn r) w ≡ chooseIn c set w T
+        pub shift-end : u ≡ true → (r : Chosen) → Refuses 10 r → outcome (choiceIn r) w ≡ chooseIn c set w T
         unfolding chooseIn
         shift-end s r e = let f : setShiftsEnd T c set ≡ true = end-T ∙ s in ap (λ (l : Choice). outcome l w) (refusal-is 9 r e) ∙ rw (set-fits, f, chooseIn)
 
-        pub short-scratch : u ≡ false → length w < classifyScratch → (r : Chosen) → (r .refusal ≡ 11) × (r .place ≡ 0) → outcome (choiceIn r) w ≡ chooseIn c set w T
+        pub short-scratch : u ≡ false → length w < classifyScratch → (r : Chosen) → Refuses 11 r → outcome (choiceIn r) w ≡ chooseIn c set w T
         unfolding chooseIn
         short-scratch s l r e = let f : setShiftsEnd T c set ≡ false = end-T ∙ s in ap (λ (l : Choice). outcome l w) (refusal-is 10 r e) ∙ rw (set-fits, f, lt-leb classifyScratch (length w) l, chooseIn)
 

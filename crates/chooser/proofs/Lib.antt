@@ -1,3 +1,4 @@
 pub mod Halts
 pub mod Tokens
+pub mod Answered
 pub mod Choices

@@ -7,7 +7,7 @@ use native.Mathlib.Omega.{arith}
 use lib.ListN.{length}
 use lib.Dec.{eqb, ltb, leb}
 use borrow.Author.Tests.{ltb-true, le-leb}
-use Rattle.repr.specs.Sizes.{classifyScratch, entriesRoom}
+use Rattle.repr.specs.Sizes.{classifyScratch, entryLimit, entriesRoom}
 use Rattle.slices.specs.Lent.{zeroed}
 use Rattle.repr.specs.Lists.{keep, below, upFrom}
 use Rattle.repr.specs.Meaning.{Table}
@@ -216,6 +216,14 @@ pub record Turn (T : Table) (c : Conflict) (set : ℕ) (w₀ better₀ naive₀ 
   pub within : k ≤ 64
   pub better-long : length better ≡ length better₀
   pub naive-long : length naive ≡ length naive₀
+
+pub counts-few : (b a k : ℕ) → b + a ≤ k → k ≤ 64 → CountsWithin entryLimit (Counts b a)
+unfolding CountsWithin
+counts-few b a k h l = omega arith
+
+pub halted-few : (n : ℕ) → CountsWithin entryLimit (Halted n)
+unfolding CountsWithin
+halted-few n = tt
 
 stepped-left : (s t : Sorted) (v w : List ℕ) → stepped s v ≡ stepped t w → s ≡ t
 stepped-left s t v w e = cc

@@ -1,6 +1,7 @@
 // Choosing which tokens of a conflict to report (`report_errors` of lr1/error/mod.rs without messages) over an accepted table: part 9 of document 01.
 use classifier::classify_gathered;
 use classifier::place_fits;
+use entries::copy_entries;
 use entries::is_naive;
 use entries::write_entry;
 use enumerator::machine::clear;
@@ -21,17 +22,17 @@ ghost use mathlib.Core.List.{[]};
 ghost use Prim.Native.Nat.{_+_, _≤_, _<_};
 ghost use lib.ListN.{length};
 ghost use lib.Dec.{eqb};
-ghost use Rattle.repr.specs.Sizes.{classifyScratch, entriesRoom};
+ghost use Rattle.repr.specs.Sizes.{classifyScratch, entryLimit, entriesRoom};
 ghost use Rattle.slices.specs.Lent.{zeroed};
 ghost use Rattle.lookahead.specs.Tokens.{has, members};
 ghost use Rattle.table.specs.Decoded.{meaning};
 ghost use Rattle.table.specs.Refusals.{checkOf};
 ghost use Rattle.error.specs.Kept.{Read};
-ghost use Rattle.error.specs.Choose.{outcome, setFits, classesOf, choiceOf, chooseIn};
+ghost use Rattle.error.specs.Choose.{chosen, refused, outcome, setFits, classesOf, choiceOf, chooseIn};
 ghost use Rattle.entries.specs.Entries.{entriesIn};
-ghost use Rattle.chooser.specs.Choosing.{choiceIn, stepped, sortedIn, CountsWithin, tokenEntries, addedTo, naiveCount};
+ghost use Rattle.chooser.specs.Choosing.{choiceIn, chosenOf, stepped, sortedIn, CountsWithin, tokenEntries, addedTo, naiveCount};
 
-// What choosing answers: the refusal, 0 if there is none, and its place; the number of tokens chosen; for each six words, its token, the number of its class, the class's own values, zeros.
+// What choosing answers: the refusal, 0 if there is none, and its place; the number of tokens chosen; for each six words, its token, the number of its class, the class's own values, zeros; zeros behind the last.
 pub struct Chosen {
     pub refusal: u16,
     pub place: u16,
@@ -131,6 +132,7 @@ fn choose_tokens(
     requires { ⌜ (classifyScratch ≤ length (now scratch)) × (now scratch ≡ zeroed classifyScratch (now scratch)) ⌝ }
     requires { ⌜ (length (now better) ≡ entriesRoom) × (length (now naive) ≡ entriesRoom) ⌝ }
     ensures { λ r. ⌜ stepped (sortedIn r (now (better .exit)) (now (naive .exit))) (now (scratch .exit)) ≡ stepped (addedTo [] [] (classesOf (meaning (now (table .entry))) conflict (members (tokens .0)))) (now (scratch .entry)) ⌝ }
+    ensures { λ r. ⌜ CountsWithin entryLimit r ⌝ }
 {
     let mut better_count: usize = 0;
     let mut naive_count: usize = 0;
@@ -178,6 +180,33 @@ fn naive_chosen(action: u16, count: usize) -> usize
     1
 }
 
+fn refuse(refusal: u16) -> Chosen
+    ensures { λ r. ⌜ r ≡ chosenOf (refused refusal 0) ⌝ }
+{
+    Chosen {
+        refusal: refusal,
+        place: 0,
+        count: 0,
+        entries: [0; Class::ALL_WORDS],
+    }
+}
+
+// So many entries chosen: no word of another stays behind them.
+fn answer(entries: &[u16], count: usize) -> Chosen
+    requires { ⌜ (count ≤ entryLimit) × (length (now entries) ≡ entriesRoom) ⌝ }
+    ensures { λ r. ⌜ choiceIn r ≡ chosen (entriesIn (now (entries .entry)) count) ⌝ }
+    ensures { λ r. ⌜ r ≡ chosenOf (choiceIn r) ⌝ }
+{
+    let mut words = [0u16; Class::ALL_WORDS];
+    copy_entries(entries, &mut words, count);
+    Chosen {
+        refusal: 0,
+        place: 0,
+        count: count,
+        entries: words,
+    }
+}
+
 // The better classes if there are any, else the naive ones.
 fn choose_gathered(
     table: &[u16],
@@ -194,6 +223,7 @@ fn choose_gathered(
     requires { ⌜ setFits (meaning (now table)) conflict (tokens .0) ≡ true ⌝ }
     requires { ⌜ classifyScratch ≤ length (now scratch) ⌝ }
     ensures { λ r. ⌜ outcome (choiceIn r) (now (scratch .exit)) ≡ outcome (choiceOf (conflict .action) (classesOf (meaning (now (table .entry))) conflict (members (tokens .0)))) (zeroed classifyScratch (now (scratch .entry))) ⌝ }
+    ensures { λ r. ⌜ r ≡ chosenOf (choiceIn r) ⌝ }
 {
     let mut better = [0u16; Class::ALL_WORDS];
     let mut naive = [0u16; Class::ALL_WORDS];
@@ -211,29 +241,14 @@ fn choose_gathered(
         &mut better,
         &mut naive,
     ) {
-        Step::Halted(refusal) => Chosen {
-            refusal: refusal,
-            place: 0,
-            count: 0,
-            entries: naive,
-        },
+        Step::Halted(refusal) => refuse(refusal),
         Step::Counts(better_count, naive_count) => {
             if better_count != 0 {
-                return Chosen {
-                    refusal: 0,
-                    place: 0,
-                    count: better_count,
-                    entries: better,
-                };
+                return answer(&better, better_count);
             }
             let action = conflict.action;
             let count = naive_chosen(action, naive_count);
-            Chosen {
-                refusal: 0,
-                place: 0,
-                count: count,
-                entries: naive,
-            }
+            answer(&naive, count)
         }
     }
 }
@@ -244,6 +259,7 @@ fn choose_read(table: &[u16], conflict: Conflict, tokens: TokenSet, scratch: &mu
     requires { ⌜ setFits (meaning (now table)) conflict (tokens .0) ≡ true ⌝ }
     requires { ⌜ classifyScratch ≤ length (now scratch) ⌝ }
     ensures { λ r. ⌜ outcome (choiceIn r) (now (scratch .exit)) ≡ outcome (choiceOf (conflict .action) (classesOf (meaning (now (table .entry))) conflict (members (tokens .0)))) (zeroed classifyScratch (now (scratch .entry))) ⌝ }
+    ensures { λ r. ⌜ r ≡ chosenOf (choiceIn r) ⌝ }
 {
     let counts = read_counts(table);
     let n = counts.nonterminals;
@@ -276,21 +292,11 @@ fn set_shifts_end(conflict: Conflict, tokens: TokenSet, terminals: u16) -> bool
     false
 }
 
-fn refuse(refusal: u16) -> Chosen
-    ensures { λ r. ⌜ (r .refusal ≡ refusal) × (r .place ≡ 0) ⌝ }
-{
-    Chosen {
-        refusal: refusal,
-        place: 0,
-        count: 0,
-        entries: [0; Class::ALL_WORDS],
-    }
-}
-
 // `choose` over an accepted table: refusals 9 to 11 change nothing.
 pub fn choose_in(table: &[u16], conflict: Conflict, tokens: TokenSet, scratch: &mut [u16]) -> Chosen
     requires { ⌜ checkOf (now table) ≡ Checked.Accepted ⌝ }
     ensures { λ r. ⌜ outcome (choiceIn r) (now (scratch .exit)) ≡ chooseIn conflict (tokens .0) (now (scratch .entry)) (meaning (now (table .entry))) ⌝ }
+    ensures { λ r. ⌜ r ≡ chosenOf (choiceIn r) ⌝ }
 {
     let counts = read_counts(table);
     let terminals = counts.terminals as u16;

@@ -6,6 +6,7 @@ use mathlib.Core.Option.{Option, none, some}
 use Prim.Native.Nat.{ℕ, zero, suc, _+_, _≤_, _<_}
 use native.Mathlib.Omega.{arith}
 use lib.ListN.{replicate}
+use Rattle.repr.specs.Sizes.{entriesRoom}
 use Rattle.repr.specs.Lists.{below, first?}
 use Rattle.repr.proofs.Lists.{cases}
 use Rattle.table.specs.Words.{records}
@@ -19,7 +20,9 @@ use Rattle.error.specs.declared.Classified.the-variants.{Refused as NotClassifi
 use Rattle.error.specs.Numbers.{readingOf}
 use Rattle.error.specs.Outcome.{Outcome, outcome, classifyIn, classifyBy, classifyOf}
 use Rattle.error.specs.Choose.{Choice, refused, Outcome as ChoiceOutcome, outcome as choosing, chooseIn, chooseBy, chooseOf}
-use Rattle.chooser.specs.Choosing.{choiceBy, choiceIn}
+use Rattle.chooser.specs.declared.Chosen.{Chosen}
+use Rattle.chooser.specs.Choosing.{choiceIn, chosenOf}
+use Rattle.chooser.proofs.Answered.{refused-fields, refused-choice, refused-whole}
 
 -- ---- the number of a refusal is not 0
 unfoldable Numbered : Checked → Type 0
@@ -66,15 +69,19 @@ module _ (t : List ℕ) (c : Conflict) (scratch action reduce : List ℕ) where
   classify-accepted e o h = rw e h
 
 -- ---- choose
-refused-choice : (n r k : ℕ) (ws : List ℕ) → 0 < n → choiceBy n r k ws ≡ refused n r
-unfolding choiceBy
-refused-choice zero r k ws h = absurd (omega arith)
-refused-choice (suc n) r k ws h = refl
+abbrev refusing : ℕ → ℕ → Chosen
+refusing n r = record { refusal = n; place = r; count = 0; entries = replicate entriesRoom 0 }
 
 module _ (t : List ℕ) (c : Conflict) (tokens : ℕ) (scratch : List ℕ) where
-  pub choose-refused : (n r x y : ℕ) (ws : List ℕ) → checkOf t ≡ Refused n r → x ≡ n → y ≡ r → choosing (choiceIn (record { refusal = x; place = y; count = 0; entries = ws })) scratch ≡ chooseOf t c tokens scratch
-  unfolding chooseOf chooseBy choiceIn
-  choose-refused n r x y ws e ex ey = rw (e, ex, ey, refused-choice n r 0 ws (refusal-numbered t n r e))
+  refused-by : (n r : ℕ) → checkOf t ≡ Refused n r → choosing (refused n r) scratch ≡ chooseOf t c tokens scratch
+  unfolding chooseOf chooseBy
+  refused-by n r e = rw e
+
+  pub choose-refused : (n r x y : ℕ) → checkOf t ≡ Refused n r → x ≡ n → y ≡ r → (choosing (choiceIn (refusing x y)) scratch ≡ chooseOf t c tokens scratch) × (refusing x y ≡ chosenOf (choiceIn (refusing x y)))
+  choose-refused n r x y e ex ey =
+      let some : x ≡ 0 → ⊥ = (λ z. let p = refusal-numbered t n r e in absurd (omega arith)) in
+      let q = refused-choice x y (refusing x y) some (refused-fields x y) ∙ (λ j. refused (ex j) (ey j)) in
+      (ap (λ (k : Choice). choosing k scratch) q ∙ refused-by n r e, refused-whole x y (refusing x y) some (refused-fields x y))
 
   pub choose-accepted : checkOf t ≡ Accepted → (o : ChoiceOutcome) → o ≡ chooseIn c tokens scratch (meaning t) → o ≡ chooseOf t c tokens scratch
   unfolding chooseOf chooseBy

@@ -14,7 +14,7 @@ ghost use Rattle.error.specs.Numbers.{readingOf};
 ghost use Rattle.error.specs.Outcome.{outcome as classification, classifyOf};
 ghost use Rattle.error.specs.Choose.{outcome as choosing, chooseOf};
 ghost use Rattle.error.specs.Observed.{wholeExample, observedOf};
-ghost use Rattle.chooser.specs.Choosing.{choiceIn};
+ghost use Rattle.chooser.specs.Choosing.{choiceIn, chosenOf};
 
 // The class of a conflict, its examples at the front of the two buffers; else the refusal and its place.
 pub fn classify(
@@ -32,9 +32,10 @@ pub fn classify(
     }
 }
 
-// The tokens of a conflict that are reported, with their classes; the set stands for the conflict's token.
+// The tokens of a conflict that are reported, with their classes; the set stands for the conflict's token. The choice says every field: zeros behind the chosen entries, and in a refusal no entries.
 pub fn choose(table: &[u16], conflict: Conflict, tokens: TokenSet, scratch: &mut [u16]) -> Chosen
     ensures { λ r. ⌜ choosing (choiceIn r) (now (scratch .exit)) ≡ chooseOf (now (table .entry)) conflict (tokens .0) (now (scratch .entry)) ⌝ }
+    ensures { λ r. ⌜ r ≡ chosenOf (choiceIn r) ⌝ }
 {
     match table_check::check(table) {
         Checked::Refused(refusal, place) => Chosen {

@@ -2,7 +2,7 @@
 use mathlib.Core.Path.{_≡_, refl, sym, ap, _∙_}
 use Prim.Native.Nat.{ℕ, _+_, _-_, _≤_, _<_}
 use Rattle.table.specs.Decoded.{meaning}
-use Rattle.chooser.proofs.Tokens.{Turn, turn-first, turn-end, turn-halts, turn-again}
+use Rattle.chooser.proofs.Tokens.{Turn, turn-first, turn-end, turn-halts, turn-again, counts-few, halted-few}
 use mathlib.Core.List.{List}
 use lib.ListN.{length}
 use borrow.Author.Needs.{needs}
@@ -63,7 +63,7 @@ same-length-3 c = c .before .before .before .before .before .before .before .bef
 
 -- src/lib.rt:156:17
 returns : tie.Need-returns Inv-loop μ-loop
-returns c = turn-halts _ (c .before .before .before .before .before .before .before .before .before .before .before .before .before .before .before .before .before .before .before .before .args .conflict) (c .before .before .before .before .before .before .before .before .before .before .before .before .before .before .before .before .before .before .before .before .args .tokens .0) _ _ _ _ _ _ _ _ _ (c .before .before .before .before .before .before .before .before .before .before .before .before .before .before .loop .inv) (c .before .before .before .before .before .before .before .before .before .before .before .before .before .loop-test .taken) _ _ _ _ (c .before .before .before .before .before .before .before .before .before .choose-token .ensures .0) _ (c .before .refusal .given .1)
+returns c = (turn-halts _ (c .before .before .before .before .before .before .before .before .before .before .before .before .before .before .before .before .before .before .before .before .args .conflict) (c .before .before .before .before .before .before .before .before .before .before .before .before .before .before .before .before .before .before .before .before .args .tokens .0) _ _ _ _ _ _ _ _ _ (c .before .before .before .before .before .before .before .before .before .before .before .before .before .before .loop .inv) (c .before .before .before .before .before .before .before .before .before .before .before .before .before .loop-test .taken) _ _ _ _ (c .before .before .before .before .before .before .before .before .before .choose-token .ensures .0) _ (c .before .refusal .given .1), halted-few _)
 
 -- src/lib.rt:111:1
 same-length-4 : tie.Need-same-length-4 Inv-loop μ-loop
@@ -79,7 +79,7 @@ same-length-6 c = c .before .loop .inv .naive-long
 
 -- src/lib.rt:111:1
 returns-2 : tie.Need-returns-2 Inv-loop μ-loop
-returns-2 c = turn-end _ (c .before .before .before .before .before .before .before .args .conflict) (c .before .before .before .before .before .before .before .args .tokens .0) _ _ _ _ _ _ _ _ _ (c .before .loop .inv) (c .loop-test .left)
+returns-2 c = (turn-end _ (c .before .before .before .before .before .before .before .args .conflict) (c .before .before .before .before .before .before .before .args .tokens .0) _ _ _ _ _ _ _ _ _ (c .before .loop .inv) (c .loop-test .left), counts-few _ _ _ (c .before .loop .inv .few) (c .before .loop .inv .within))
 
 pub choose-tokens-spec : {M : Type 1} → statement M
 choose-tokens-spec =

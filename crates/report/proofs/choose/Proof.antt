@@ -23,13 +23,13 @@ choose-in-requires : tie.Need-choose-in-requires
 choose-in-requires c κs = sym (c .before .before .before .check .ensures) ∙ c .before .enum-told .given .1
 
 returns : tie.Need-returns
-returns c = choose-refused _ _ _ _ _ _ _ _ _ (sym (c .before .before .before .check .ensures) ∙ c .before .refusal .given .1) refl refl
+returns c = choose-refused _ _ _ _ _ _ _ _ (sym (c .before .before .before .check .ensures) ∙ c .before .refusal .given .1) refl refl
 
 same-length : tie.Need-same-length
 same-length c = search needs
 
 returns-2 : tie.Need-returns-2
-returns-2 c = choose-accepted _ _ _ _ (sym (c .before .before .before .before .before .before .check .ensures) ∙ c .before .before .before .before .enum-told .given .1) _ (c .before .before .choose-in .ensures)
+returns-2 c = (choose-accepted _ _ _ _ (sym (c .before .before .before .before .before .before .check .ensures) ∙ c .before .before .before .before .enum-told .given .1) _ (c .before .before .choose-in .ensures .0), c .before .before .choose-in .ensures .1)
 
 pub choose-spec : {M : Type 1} → statement M
 choose-spec =

@@ -26,7 +26,7 @@ same-length : tie.Need-same-length
 same-length c = search needs
 
 returns : tie.Need-returns
-returns c = choose-short _ _ _ _ _ _ (c .before .before .choose .result) _ (omega (arith, c .before .before .before .before .if1 .taken)) (c .before .before .choose .ensures)
+returns c = choose-short _ _ _ _ _ _ (c .before .before .choose .result) _ (omega (arith, c .before .before .before .before .if1 .taken)) (c .before .before .choose .ensures .0)
 
 choose-requires-2 : tie.Need-choose-requires-2
 choose-requires-2 c κs = search needs
@@ -35,14 +35,14 @@ same-length-2 : tie.Need-same-length-2
 same-length-2 c = search needs
 
 returns-2 : tie.Need-returns-2
-returns-2 c = choose-refused _ _ _ _ _ _ (c .before .before .before .choose2 .result) _ (omega (arith, c .before .before .before .before .before .if1 .left)) (c .before .before .before .choose2 .ensures) (c .if2 .taken) _ refl
+returns-2 c = choose-refused _ _ _ _ _ _ (c .before .before .before .choose2 .result) _ (omega (arith, c .before .before .before .before .before .if1 .left)) (c .before .before .before .choose2 .ensures .0) (c .if2 .taken) _ refl
 
 slice-aggregate-copy-entries : tie.Need-slice-aggregate-copy-entries
 slice-aggregate-copy-entries c = search needs
 
 copy-entries-requires : tie.Need-copy-entries-requires
 copy-entries-requires c κs =
-    let few = choose-few _ _ _ _ (c .before .before .before .before .before .before .choose2 .result) _ (c .before .before .before .before .before .before .choose2 .ensures) (c .before .before .before .if2 .left) in
+    let few = choose-few _ _ _ _ (c .before .before .before .before .before .before .choose2 .result) _ (c .before .before .before .before .before .before .choose2 .ensures .0) (c .before .before .before .if2 .left) in
     let long : _≡_ {A = ℕ} entriesRoom (length (c .before .before .before .before .before .before .choose2 .result .entries)) = cc (slice-aggregate-copy-entries (c .before)) in
     (omega arith, sym long, omega (arith, c .before .before .before .before .before .before .before .before .if1 .left))
 
@@ -53,7 +53,7 @@ same-length-4 : tie.Need-same-length-4
 same-length-4 c = search needs
 
 returns-3 : tie.Need-returns-3
-returns-3 c = choose-chosen _ _ _ _ _ _ (c .before .before .before .before .before .before .before .before .before .choose2 .result) _ (omega (arith, c .before .before .before .before .before .before .before .before .before .before .before .if1 .left)) (c .before .before .before .before .before .before .before .before .before .choose2 .ensures) (c .before .before .before .before .before .before .if2 .left) _ (c .before .before .copy-entries .ensures)
+returns-3 c = choose-chosen _ _ _ _ _ _ (c .before .before .before .before .before .before .before .before .before .choose2 .result) _ (omega (arith, c .before .before .before .before .before .before .before .before .before .before .before .if1 .left)) (c .before .before .before .before .before .before .before .before .before .choose2 .ensures .0) (c .before .before .before .before .before .before .if2 .left) _ (c .before .before .copy-entries .ensures)
 
 pub lihvemur-choose-spec : {M : Type 1} → statement M
 lihvemur-choose-spec =
