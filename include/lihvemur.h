@@ -38,10 +38,10 @@ enum {
 /* Refusals 1 to 8 of a table. */
 uint16_t lihvemur_check(const uint16_t *table, size_t table_words, uint16_t *place);
 
-/* FIRST of a list of symbols, kind and number each (0 a nonterminal, 1 a terminal); the set behind `set` with answer 0. */
-uint16_t lihvemur_first0(const uint16_t *table, size_t table_words, const uint16_t *symbols, size_t symbol_words, uint64_t *set, uint16_t *place);
+/* FIRST of a list of symbols, kind and number each (0 a nonterminal, 1 a terminal): with answer 0 its terminals behind `set`, and behind `nullable` whether the list may be empty. */
+uint16_t lihvemur_first0(const uint16_t *table, size_t table_words, const uint16_t *symbols, size_t symbol_words, uint64_t *set, bool *nullable, uint16_t *place);
 
-/* The same, a token of `lookahead` following. */
+/* The same, a token of `lookahead` following: one set, in which the end of input stands only where it is in `lookahead` and the list may be empty. */
 uint16_t lihvemur_first1(const uint16_t *table, size_t table_words, uint64_t lookahead, const uint16_t *symbols, size_t symbol_words, uint64_t *set, uint16_t *place);
 
 /* The states from which a path spells the symbols and ends at `state`: 0 to 63 in `low`, 64 to 127 in `high`. */

@@ -98,10 +98,11 @@ static void check(void)
 static void first0(void)
 {
     uint64_t set = UNWRITTEN;
-    EXPECT(lihvemur_first0(B, COUNT(B), NOTHING, 0, &set, &place) == 0 && place == 0 && set == TOKEN_END);
-    EXPECT(lihvemur_first0(B, COUNT(B), E, COUNT(E), &set, &place) == 0 && place == 0 && set == TOKEN_1);
-    EXPECT(lihvemur_first0(B, COUNT(B), E, 1, &set, &place) == 9 && place == 0 && set == TOKEN_1);
-    EXPECT(lihvemur_first0(bad, COUNT(bad), E, COUNT(E), &set, &place) == 3 && place == 12 && set == TOKEN_1);
+    bool nullable = true;
+    EXPECT(lihvemur_first0(B, COUNT(B), E, COUNT(E), &set, &nullable, &place) == 0 && place == 0 && set == TOKEN_1 && !nullable);
+    EXPECT(lihvemur_first0(B, COUNT(B), NOTHING, 0, &set, &nullable, &place) == 0 && place == 0 && set == 0 && nullable);
+    EXPECT(lihvemur_first0(B, COUNT(B), E, 1, &set, &nullable, &place) == 9 && place == 0 && set == 0 && nullable);
+    EXPECT(lihvemur_first0(bad, COUNT(bad), E, COUNT(E), &set, &nullable, &place) == 3 && place == 12 && set == 0 && nullable);
 }
 
 static void first1(void)

@@ -16,13 +16,13 @@ use Rattle.repr.proofs.Lists.{cases, clash, length-map-below, getD-map-below}
 use Rattle.lookahead.specs.Tokens.{has, union, Within}
 use Rattle.lookahead.proofs.Laws.{has-none, has-union, union-lt}
 use Rattle.lookahead.proofs.Sets.{within-union-left, within-union-right}
-use Rattle.first.specs.First.{FIRST}
+use Rattle.first.specs.Rust.{rustFirst0}
 use Rattle.build.specs.Canonical.{Set, rest, InFirst, Closed, given, added}
 use Rattle.build.specs.States.{places, tokens, from, Move, givesOf, gives, grown, round, closure}
 use Rattle.build.specs.Aheads.{aheadOf, aheadMoves, aheads, spreadAt, spread}
 use Rattle.build.proofs.Members.{below-mem, mem-less, joined-mem, joined-from}
 use Rattle.build.proofs.Rounds.{Sized, MoveFits, grown-cases, grown-other, grown-sized, round-sized, settle-keeps, settle-sized, rest-closed}
-use Rattle.build.proofs.Closure.{Describes, item, item-code, tokens-at, tokens-index, tokens-item, has-inside, behind-fit, FIRST-lt, All-by-member, first-in, first-out}
+use Rattle.build.proofs.Closure.{Describes, item, item-code, tokens-at, tokens-index, tokens-item, has-inside, behind-fit, rust-lt, All-by-member, first-in, first-out}
 use Rattle.build.proofs.Shortcuts.{closure-unique}
 
 -- the moves
@@ -32,7 +32,7 @@ pub record AheadMade (T : Table) (s : ℕ) (ys : List Symbol) (m : Move) : Type 
   pub n : ℕ
   pub β : List Symbol
   pub cursor : ys ≡ nonterminal n ∷ β
-  pub is : m ≡ record { source = s; front = FIRST T β; target = places T + n }
+  pub is : m ≡ record { source = s; front = rustFirst0 T β; target = places T + n }
 
 abbrev Source : Table → Move → Type 0
 Source T m =
@@ -45,7 +45,7 @@ aheadOf-out T s [] m i = absurd (List·Memᴰ·not-nil i)
 aheadOf-out T s (terminal t ∷ β) m i = absurd (List·Memᴰ·not-nil i)
 aheadOf-out T s (nonterminal n ∷ β) m i = record { n = n; β = β; cursor = refl; is = List·Memᴰ·eq-of-singleton i }
 
-aheadOf-in : (T : Table) (s n : ℕ) (ys β : List Symbol) → ys ≡ nonterminal n ∷ β → List·Memᴰ (record { source = s; front = FIRST T β; target = places T + n }) (aheadOf T s ys)
+aheadOf-in : (T : Table) (s n : ℕ) (ys β : List Symbol) → ys ≡ nonterminal n ∷ β → List·Memᴰ (record { source = s; front = rustFirst0 T β; target = places T + n }) (aheadOf T s ys)
 unfolding aheadOf
 aheadOf-in T s n ys β e = rw e (List·Memᴰ·head refl)
 
@@ -66,18 +66,18 @@ module _ (T : Table) where
       inr (r .0, mem-less (length (T .productions)) (r .0) (r .1), aheadOf-out T (places T + productionAt T (r .0) .nonterminal) (productionAt T (r .0) .symbols) m (r .2)))
       (List·Memᴰ·append-cases (joined byItem (below (places T))) i)
 
-  item-in : (x n : ℕ) (β : List Symbol) → x < places T → from T x ≡ nonterminal n ∷ β → List·Memᴰ (record { source = x; front = FIRST T β; target = places T + n }) (aheadMoves T)
+  item-in : (x n : ℕ) (β : List Symbol) → x < places T → from T x ≡ nonterminal n ∷ β → List·Memᴰ (record { source = x; front = rustFirst0 T β; target = places T + n }) (aheadMoves T)
   unfolding aheadMoves
   item-in x n β h e =
       Memᴰ·append-left (joined byProduction (below (length (T .productions))))
-      (joined-mem byItem x (below (places T)) (record { source = x; front = FIRST T β; target = places T + n }) (below-mem (places T) x h) (aheadOf-in T x n (from T x) β e))
+      (joined-mem byItem x (below (places T)) (record { source = x; front = rustFirst0 T β; target = places T + n }) (below-mem (places T) x h) (aheadOf-in T x n (from T x) β e))
 
   production-in : (p n : ℕ) (β : List Symbol) → p < length (T .productions) → productionAt T p .symbols ≡ nonterminal n ∷ β
-      → List·Memᴰ (record { source = places T + productionAt T p .nonterminal; front = FIRST T β; target = places T + n }) (aheadMoves T)
+      → List·Memᴰ (record { source = places T + productionAt T p .nonterminal; front = rustFirst0 T β; target = places T + n }) (aheadMoves T)
   unfolding aheadMoves
   production-in p n β h e =
       Memᴰ·append-right (joined byItem (below (places T)))
-      (joined-mem byProduction p (below (length (T .productions))) (record { source = places T + productionAt T p .nonterminal; front = FIRST T β; target = places T + n })
+      (joined-mem byProduction p (below (length (T .productions))) (record { source = places T + productionAt T p .nonterminal; front = rustFirst0 T β; target = places T + n })
       (below-mem (length (T .productions)) p h) (aheadOf-in T (places T + productionAt T p .nonterminal) n (productionAt T p .symbols) β e))
 
   -- the sets of a state
@@ -111,7 +111,7 @@ module _ (T : Table) (F : TableFits T) where
   unfolding All SymbolFits
   made-fit i s m w =
       let f = behind-fit T F i (nonterminal (w .n)) (w .β) (w .cursor) in
-      rw (w .is) (record { target = omega (arith, f .0, F .few-nonterminals); front = FIRST-lt T F (w .β) (f .1) })
+      rw (w .is) (record { target = omega (arith, f .0, F .few-nonterminals); front = rust-lt T F (w .β) (f .1) })
 
   abbrev head : ℕ → Item
   head p = record { production = p; index = 0 }
@@ -172,7 +172,7 @@ module _ (T : Table) (F : TableFits T) where
         at : m .target ≡ places T + w .n
         at = ap (λ (m : Move). m .target) (w .is)
 
-        more : (n b : ℕ) → places T + n ≡ m .target → has (givesOf (T .terminals) (FIRST T (w .β)) (getD L s 0)) b ≡ true
+        more : (n b : ℕ) → places T + n ≡ m .target → has (givesOf (T .terminals) (rustFirst0 T (w .β)) (getD L s 0)) b ≡ true
             → (q : ℕ) → q < length (T .productions) → productionAt T q .nonterminal ≡ n → Closed T Given (record { production = q; index = 0 }) b
         more n b e g q l o =
             let v = first-out T F (w .β) (tail-fits i (w .n) (w .β) (w .cursor)) (getD L s 0) b (y .fits s) g in
@@ -238,13 +238,13 @@ module _ (T : Table) (F : TableFits T) where
 
     by-item : (i : Item) (n x a b : ℕ) (β : List Symbol) → x < places T → from T x ≡ nonterminal n ∷ β → has (getD L x 0) a ≡ true → InFirst T β a b → has (getD L (places T + n) 0) b ≡ true
     by-item i n x a b β h e g f =
-        aheads-closed (record { source = x; front = FIRST T β; target = places T + n }) (item-in T x n β h e) b
+        aheads-closed (record { source = x; front = rustFirst0 T β; target = places T + n }) (item-in T x n β h e) b
         (first-in T F β (tail-fits (item x) n β e) (getD L x 0) a b g f)
 
     by-production : (p n a b : ℕ) (β : List Symbol) → p < length (T .productions) → productionAt T p .symbols ≡ nonterminal n ∷ β
         → has (getD L (places T + productionAt T p .nonterminal) 0) a ≡ true → InFirst T β a b → has (getD L (places T + n) 0) b ≡ true
     by-production p n a b β h e g f =
-        aheads-closed (record { source = places T + productionAt T p .nonterminal; front = FIRST T β; target = places T + n }) (production-in T p n β h e) b
+        aheads-closed (record { source = places T + productionAt T p .nonterminal; front = rustFirst0 T β; target = places T + n }) (production-in T p n β h e) b
         (first-in T F β (tail-fits (head p) n β e) (getD L (places T + productionAt T p .nonterminal) 0) a b g f)
 
     spread-complete : (i : Item) (a : ℕ) → Closed T Given i a → has (tokens R i) a ≡ true

@@ -10,7 +10,8 @@ use Rattle.slices.specs.Same.{sameWords}
 use Rattle.repr.specs.Lists.{upFrom, below, keep, every?, joined}
 use Rattle.repr.specs.Meaning.{Symbol, nonterminal, terminal, sameSymbol, Edge, Table}
 use Rattle.lookahead.specs.Tokens.{has, single, union, without, meet, members}
-use Rattle.first.specs.First.{join, firstOf, first0, grown, round, settle, firstSets, FIRST}
+use Rattle.first.specs.First.{join, firstOf, endMarked, grown, round, settle, firstSets}
+use Rattle.first.specs.Rust.{rustFirst0}
 use Rattle.build.specs.Canonical.{Clash}
 use Rattle.build.specs.States
 use Rattle.build.specs.States.{Collected, built, halted, build, collect, take, tried, add, place, nothing?, startState, goto, moved, movedTo, begins, closure, moves, moveTo, givesOf, clashes, clashesOf, reduces, shifts}
@@ -58,7 +59,7 @@ pub sum-states : statesOf (build tableSum 0)
     ∷ (at 1 0 5 ∷ at 1 2 5 ∷ at 2 0 5 ∷ [])
     ∷ (at 1 1 5 ∷ at 1 3 5 ∷ [])
     ∷ []
-unfolding build collect take tried add place nothing? startState goto moved movedTo begins closure moves moveTo givesOf States.grown States.round States.settle every? joined below upFrom sameSymbol FIRST first0 firstOf firstSets settle sameWords round grown join has single union without keep clashes clashesOf reduces shifts meet members
+unfolding build collect take tried add place nothing? startState goto moved movedTo begins closure moves moveTo givesOf States.grown States.round States.settle every? joined below upFrom sameSymbol rustFirst0 endMarked firstOf firstSets settle sameWords round grown join has single union without keep clashes clashesOf reduces shifts meet members
 sum-states = refl
 
 pub sum-edges : edgesOf (build tableSum 0)
@@ -68,7 +69,7 @@ pub sum-edges : edgesOf (build tableSum 0)
     ∷ (edge (nonterminal 1) 4 ∷ edge (terminal 1) 2 ∷ [])
     ∷ (edge (terminal 0) 3 ∷ [])
     ∷ []
-unfolding build collect take tried add place nothing? startState goto moved movedTo begins closure moves moveTo givesOf States.grown States.round States.settle every? joined below upFrom sameSymbol FIRST first0 firstOf firstSets settle sameWords round grown join has single union without keep clashes clashesOf reduces shifts meet members
+unfolding build collect take tried add place nothing? startState goto moved movedTo begins closure moves moveTo givesOf States.grown States.round States.settle every? joined below upFrom sameSymbol rustFirst0 endMarked firstOf firstSets settle sameWords round grown join has single union without keep clashes clashesOf reduces shifts meet members
 sum-edges = refl
 
 pub sum-conflicts : clashesAll tableSum (build tableSum 0)
@@ -78,7 +79,7 @@ pub sum-conflicts : clashesAll tableSum (build tableSum 0)
     ∷ []
     ∷ (word 1 0 0 0 ∷ [])
     ∷ []
-unfolding build collect take tried add place nothing? startState goto moved movedTo begins closure moves moveTo givesOf States.grown States.round States.settle every? joined below upFrom sameSymbol FIRST first0 firstOf firstSets settle sameWords round grown join has single union without keep clashes clashesOf reduces shifts meet members
+unfolding build collect take tried add place nothing? startState goto moved movedTo begins closure moves moveTo givesOf States.grown States.round States.settle every? joined below upFrom sameSymbol rustFirst0 endMarked firstOf firstSets settle sameWords round grown join has single union without keep clashes clashesOf reduces shifts meet members
 sum-conflicts = refl
 
 -- Z → S, S → C C, C → c C, C → d (Aho, Sethi, Ullman, example 4.42): ten states, none merged
@@ -106,7 +107,7 @@ pub lazy-states : statesOf (build tableLazy 0)
     ∷ (at 2 2 3 ∷ [])
     ∷ (at 2 2 4 ∷ [])
     ∷ []
-unfolding build collect take tried add place nothing? startState goto moved movedTo begins closure moves moveTo givesOf States.grown States.round States.settle every? joined below upFrom sameSymbol FIRST first0 firstOf firstSets settle sameWords round grown join has single union without keep clashes clashesOf reduces shifts meet members
+unfolding build collect take tried add place nothing? startState goto moved movedTo begins closure moves moveTo givesOf States.grown States.round States.settle every? joined below upFrom sameSymbol rustFirst0 endMarked firstOf firstSets settle sameWords round grown join has single union without keep clashes clashesOf reduces shifts meet members
 lazy-states = refl
 
 pub lazy-edges : edgesOf (build tableLazy 0)
@@ -121,7 +122,7 @@ pub lazy-edges : edgesOf (build tableLazy 0)
     ∷ []
     ∷ []
     ∷ []
-unfolding build collect take tried add place nothing? startState goto moved movedTo begins closure moves moveTo givesOf States.grown States.round States.settle every? joined below upFrom sameSymbol FIRST first0 firstOf firstSets settle sameWords round grown join has single union without keep clashes clashesOf reduces shifts meet members
+unfolding build collect take tried add place nothing? startState goto moved movedTo begins closure moves moveTo givesOf States.grown States.round States.settle every? joined below upFrom sameSymbol rustFirst0 endMarked firstOf firstSets settle sameWords round grown join has single union without keep clashes clashesOf reduces shifts meet members
 lazy-edges = refl
 
 pub lazy-conflicts : clashesAll tableLazy (build tableLazy 0)
@@ -136,7 +137,7 @@ pub lazy-conflicts : clashesAll tableLazy (build tableLazy 0)
     ∷ []
     ∷ []
     ∷ []
-unfolding build collect take tried add place nothing? startState goto moved movedTo begins closure moves moveTo givesOf States.grown States.round States.settle every? joined below upFrom sameSymbol FIRST first0 firstOf firstSets settle sameWords round grown join has single union without keep clashes clashesOf reduces shifts meet members
+unfolding build collect take tried add place nothing? startState goto moved movedTo begins closure moves moveTo givesOf States.grown States.round States.settle every? joined below upFrom sameSymbol rustFirst0 endMarked firstOf firstSets settle sameWords round grown join has single union without keep clashes clashesOf reduces shifts meet members
 lazy-conflicts = refl
 
 -- Z → S, S → S, S → a: reductions against one another
@@ -156,7 +157,7 @@ pub loop-states : statesOf (build tableLoop 0)
     ∷ (at 0 1 2 ∷ at 1 1 2 ∷ [])
     ∷ (at 2 1 2 ∷ [])
     ∷ []
-unfolding build collect take tried add place nothing? startState goto moved movedTo begins closure moves moveTo givesOf States.grown States.round States.settle every? joined below upFrom sameSymbol FIRST first0 firstOf firstSets settle sameWords round grown join has single union without keep clashes clashesOf reduces shifts meet members
+unfolding build collect take tried add place nothing? startState goto moved movedTo begins closure moves moveTo givesOf States.grown States.round States.settle every? joined below upFrom sameSymbol rustFirst0 endMarked firstOf firstSets settle sameWords round grown join has single union without keep clashes clashesOf reduces shifts meet members
 loop-states = refl
 
 pub loop-edges : edgesOf (build tableLoop 0)
@@ -164,7 +165,7 @@ pub loop-edges : edgesOf (build tableLoop 0)
     ∷ []
     ∷ []
     ∷ []
-unfolding build collect take tried add place nothing? startState goto moved movedTo begins closure moves moveTo givesOf States.grown States.round States.settle every? joined below upFrom sameSymbol FIRST first0 firstOf firstSets settle sameWords round grown join has single union without keep clashes clashesOf reduces shifts meet members
+unfolding build collect take tried add place nothing? startState goto moved movedTo begins closure moves moveTo givesOf States.grown States.round States.settle every? joined below upFrom sameSymbol rustFirst0 endMarked firstOf firstSets settle sameWords round grown join has single union without keep clashes clashesOf reduces shifts meet members
 loop-edges = refl
 
 pub loop-conflicts : clashesAll tableLoop (build tableLoop 0)
@@ -172,7 +173,7 @@ pub loop-conflicts : clashesAll tableLoop (build tableLoop 0)
     ∷ (word 0 1 1 1 ∷ [])
     ∷ []
     ∷ []
-unfolding build collect take tried add place nothing? startState goto moved movedTo begins closure moves moveTo givesOf States.grown States.round States.settle every? joined below upFrom sameSymbol FIRST first0 firstOf firstSets settle sameWords round grown join has single union without keep clashes clashesOf reduces shifts meet members
+unfolding build collect take tried add place nothing? startState goto moved movedTo begins closure moves moveTo givesOf States.grown States.round States.settle every? joined below upFrom sameSymbol rustFirst0 endMarked firstOf firstSets settle sameWords round grown join has single union without keep clashes clashesOf reduces shifts meet members
 loop-conflicts = refl
 
 -- Z → S, S → A S b, S → c, A → nothing: reductions of an empty production
@@ -200,7 +201,7 @@ pub gone-states : statesOf (build tableGone 0)
     ∷ (at 1 2 1 ∷ [])
     ∷ (at 1 3 1 ∷ [])
     ∷ []
-unfolding build collect take tried add place nothing? startState goto moved movedTo begins closure moves moveTo givesOf States.grown States.round States.settle every? joined below upFrom sameSymbol FIRST first0 firstOf firstSets settle sameWords round grown join has single union without keep clashes clashesOf reduces shifts meet members
+unfolding build collect take tried add place nothing? startState goto moved movedTo begins closure moves moveTo givesOf States.grown States.round States.settle every? joined below upFrom sameSymbol rustFirst0 endMarked firstOf firstSets settle sameWords round grown join has single union without keep clashes clashesOf reduces shifts meet members
 gone-states = refl
 
 pub gone-edges : edgesOf (build tableGone 0)
@@ -215,7 +216,7 @@ pub gone-edges : edgesOf (build tableGone 0)
     ∷ (edge (terminal 0) 9 ∷ [])
     ∷ []
     ∷ []
-unfolding build collect take tried add place nothing? startState goto moved movedTo begins closure moves moveTo givesOf States.grown States.round States.settle every? joined below upFrom sameSymbol FIRST first0 firstOf firstSets settle sameWords round grown join has single union without keep clashes clashesOf reduces shifts meet members
+unfolding build collect take tried add place nothing? startState goto moved movedTo begins closure moves moveTo givesOf States.grown States.round States.settle every? joined below upFrom sameSymbol rustFirst0 endMarked firstOf firstSets settle sameWords round grown join has single union without keep clashes clashesOf reduces shifts meet members
 gone-edges = refl
 
 pub gone-conflicts : clashesAll tableGone (build tableGone 0)
@@ -230,7 +231,7 @@ pub gone-conflicts : clashesAll tableGone (build tableGone 0)
     ∷ []
     ∷ []
     ∷ []
-unfolding build collect take tried add place nothing? startState goto moved movedTo begins closure moves moveTo givesOf States.grown States.round States.settle every? joined below upFrom sameSymbol FIRST first0 firstOf firstSets settle sameWords round grown join has single union without keep clashes clashesOf reduces shifts meet members
+unfolding build collect take tried add place nothing? startState goto moved movedTo begins closure moves moveTo givesOf States.grown States.round States.settle every? joined below upFrom sameSymbol rustFirst0 endMarked firstOf firstSets settle sameWords round grown join has single union without keep clashes clashesOf reduces shifts meet members
 gone-conflicts = refl
 
 -- S → A X, A → a, and X has no production: FIRST(X end) is empty, so A → . a is no item of state 0 and no edge leaves it on a
@@ -249,7 +250,7 @@ pub dead-states : statesOf (build tableDead 0)
     ∷ (at 0 1 2 ∷ [])
     ∷ (at 0 2 2 ∷ [])
     ∷ []
-unfolding build collect take tried add place nothing? startState goto moved movedTo begins closure moves moveTo givesOf States.grown States.round States.settle every? joined below upFrom sameSymbol FIRST first0 firstOf firstSets settle sameWords round grown join has single union without keep clashes clashesOf reduces shifts meet members
+unfolding build collect take tried add place nothing? startState goto moved movedTo begins closure moves moveTo givesOf States.grown States.round States.settle every? joined below upFrom sameSymbol rustFirst0 endMarked firstOf firstSets settle sameWords round grown join has single union without keep clashes clashesOf reduces shifts meet members
 dead-states = refl
 
 pub dead-edges : edgesOf (build tableDead 0)
@@ -257,7 +258,7 @@ pub dead-edges : edgesOf (build tableDead 0)
     ∷ (edge (nonterminal 2) 2 ∷ [])
     ∷ []
     ∷ []
-unfolding build collect take tried add place nothing? startState goto moved movedTo begins closure moves moveTo givesOf States.grown States.round States.settle every? joined below upFrom sameSymbol FIRST first0 firstOf firstSets settle sameWords round grown join has single union without keep clashes clashesOf reduces shifts meet members
+unfolding build collect take tried add place nothing? startState goto moved movedTo begins closure moves moveTo givesOf States.grown States.round States.settle every? joined below upFrom sameSymbol rustFirst0 endMarked firstOf firstSets settle sameWords round grown join has single union without keep clashes clashesOf reduces shifts meet members
 dead-edges = refl
 
 pub dead-conflicts : clashesAll tableDead (build tableDead 0)
@@ -265,5 +266,5 @@ pub dead-conflicts : clashesAll tableDead (build tableDead 0)
     ∷ []
     ∷ []
     ∷ []
-unfolding build collect take tried add place nothing? startState goto moved movedTo begins closure moves moveTo givesOf States.grown States.round States.settle every? joined below upFrom sameSymbol FIRST first0 firstOf firstSets settle sameWords round grown join has single union without keep clashes clashesOf reduces shifts meet members
+unfolding build collect take tried add place nothing? startState goto moved movedTo begins closure moves moveTo givesOf States.grown States.round States.settle every? joined below upFrom sameSymbol rustFirst0 endMarked firstOf firstSets settle sameWords round grown join has single union without keep clashes clashesOf reduces shifts meet members
 dead-conflicts = refl

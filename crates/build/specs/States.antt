@@ -10,7 +10,8 @@ use Rattle.slices.specs.Same.{sameWords}
 use Rattle.repr.specs.Lists.{below, keep, every?, joined, some?}
 use Rattle.repr.specs.Meaning.{Symbol, nonterminal, terminal, sameSymbol, Item, Edge, Table, productionAt}
 use Rattle.lookahead.specs.Tokens.{has, single, union, meet, members}
-use Rattle.first.specs.First.{join, FIRST}
+use Rattle.first.specs.First.{join}
+use Rattle.first.specs.Rust.{rustFirst0}
 use Rattle.build.specs.Canonical.{Clash}
 
 -- how many items a state has room for, the tokens of one
@@ -24,7 +25,7 @@ tokens S i = elim (ltb (i .index) 17) [ true ↦ getD S (17 * i .production + i 
 abbrev pub from : Table → ℕ → List Symbol
 from T x = drop (x % 17) (productionAt T (x / 17) .symbols)
 
--- closure(I): a move takes tokens from an item with its cursor at B to a first item of B; `front` is FIRST of what stands behind B
+-- closure(I): a move takes tokens from an item with its cursor at B to a first item of B; `front` is FIRST of what stands behind B, with end for "nullable"
 pub record Move : Type 0 where
   pub source : ℕ
   pub front : ℕ
@@ -33,7 +34,7 @@ pub record Move : Type 0 where
 unfoldable pub moveTo : Table → ℕ → ℕ → List Symbol → List Move
 moveTo T x q [] = []
 moveTo T x q (terminal t ∷ β) = []
-moveTo T x q (nonterminal n ∷ β) = elim (eqb (productionAt T q .nonterminal) n) [ true ↦ record { source = x; front = FIRST T β; target = 17 * q } ∷ [] | false ↦ [] ]
+moveTo T x q (nonterminal n ∷ β) = elim (eqb (productionAt T q .nonterminal) n) [ true ↦ record { source = x; front = rustFirst0 T β; target = 17 * q } ∷ [] | false ↦ [] ]
 
 unfoldable pub moves : Table → List Move
 moves T = joined (λ x. joined (λ q. moveTo T x q (from T x)) (below (length (T .productions)))) (below (places T))

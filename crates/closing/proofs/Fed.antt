@@ -15,7 +15,9 @@ use Rattle.repr.specs.Meaning.{Symbol, nonterminal, terminal, Production, Table
 use Rattle.repr.proofs.Lists.{below-last}
 use Rattle.lookahead.specs.Tokens.{union}
 use Rattle.lookahead.proofs.Sets.{union-zero-right}
-use Rattle.first.specs.First.{FIRST, join, first0, first1}
+use Rattle.first.specs.First.{join, first1}
+use Rattle.first.specs.Rust.{rustFirst0}
+use Rattle.first.proofs.Join.{first1-join}
 use Rattle.build.specs.States.{places, from, givesOf}
 use Rattle.build.proofs.Rounds.{gives-none, gives-some}
 use Rattle.build.proofs.Closure.{behind-fit}
@@ -30,7 +32,7 @@ pub feed-none : (T : Table) (A : List ℕ) (ys : List Symbol) (s : ℕ) → s �
 unfolding feed
 feed-none T A [] s z = refl
 feed-none T A (terminal t ∷ β) s z = refl
-feed-none T A (nonterminal n ∷ β) s z = rw (gives-none (T .terminals) (FIRST T β) s z, union-zero-right (getD A n 0), set-getD A n 0)
+feed-none T A (nonterminal n ∷ β) s z = rw (gives-none (T .terminals) (rustFirst0 T β) s z, union-zero-right (getD A n 0), set-getD A n 0)
 
 pub feed-other : (T : Table) (A : List ℕ) (ys : List Symbol) (s c : ℕ) → c ≡ cursorCode ys → 32 ≤ c → ((n : ℕ) (β : List Symbol) → ys ≡ nonterminal n ∷ β → n < 32) → A ≡ feed T A ys s
 unfolding feed cursorCode symbolCode
@@ -39,15 +41,11 @@ feed-other T A (terminal t ∷ β) s c e h f = refl
 feed-other T A (nonterminal n ∷ β) s c e h f = absurd (omega (arith, f n β refl))
 
 -- FIRST(β s) by the code's sets
-pub first1-join : (e : ℕ) (sets : List ℕ) (β : List Symbol) (s : ℕ) → first1 e sets β s ≡ join e (first0 e sets β) s
-unfolding first1 join
-first1-join e sets β s = refl
-
 pub feed-some : (T : Table) (g : List ℕ) (k e : ℕ) (sets A : List ℕ) (ys β : List Symbol) (s n m u : ℕ) → Grammar T g k e sets → (s ≡ 0 → ⊥) → ys ≡ nonterminal n ∷ β
     → m ≡ first1 e sets β s → u ≡ union (getD A n 0) m → set A n u ≡ feed T A ys s
-unfolding feed FIRST
+unfolding feed rustFirst0
 feed-some T g k e sets A ys β s n m u G ne q em eu =
-    rw (q, gives-some (T .terminals) (FIRST T β) s ne, eu, em, first1-join e sets β s, G .tokens, G .firsts)
+    rw (q, gives-some (T .terminals) (rustFirst0 T β) s ne, eu, em, first1-join e sets β s, G .tokens, G .firsts)
 
 -- items in turn
 

@@ -17,7 +17,7 @@ use Rattle.repr.specs.Lists.{upFrom, below, joined}
 use Rattle.repr.specs.Meaning.{Symbol, nonterminal, terminal, Production, Table, productionAt, TableFits}
 use Rattle.repr.proofs.Lists.{cases, clash, below-last, joined-nil, joined-cons}
 use Rattle.lookahead.specs.Tokens.{union}
-use Rattle.first.specs.First.{FIRST}
+use Rattle.first.specs.Rust.{rustFirst0}
 use Rattle.build.specs.States.{places, from, Move, givesOf, gives, grown, round, settle, closure}
 use Rattle.build.specs.Aheads.{aheadOf, aheadMoves, aheads, spread}
 use Rattle.build.proofs.Members.{mem-less}
@@ -66,8 +66,8 @@ module _ (T : Table) (S : List ℕ) (long : length S ≡ places T) where
   one A x [] = refl
   one A x (terminal t ∷ β) = refl
   one A x (nonterminal n ∷ β) =
-      rw (behind A n) (subst (λ (k : ℕ). set (S ++ A) (k + n) (union (getD A n 0) (givesOf (T .terminals) (FIRST T β) (getD (S ++ A) x 0))) ≡ S ++ set A n (union (getD A n 0) (givesOf (T .terminals) (FIRST T β) (getD (S ++ A) x 0)))) long
-      (set-behind S A n (union (getD A n 0) (givesOf (T .terminals) (FIRST T β) (getD (S ++ A) x 0)))))
+      rw (behind A n) (subst (λ (k : ℕ). set (S ++ A) (k + n) (union (getD A n 0) (givesOf (T .terminals) (rustFirst0 T β) (getD (S ++ A) x 0))) ≡ S ++ set A n (union (getD A n 0) (givesOf (T .terminals) (rustFirst0 T β) (getD (S ++ A) x 0)))) long
+      (set-behind S A n (union (getD A n 0) (givesOf (T .terminals) (rustFirst0 T β) (getD (S ++ A) x 0)))))
 
   items : (A xs : List ℕ) → ((y : ℕ) → List·Memᴰ y xs → y < places T) → round (T .terminals) (S ++ A) (joined (λ x. aheadOf T x (from T x)) xs) ≡ S ++ fedByItems T S A xs
   unfolding fedByItems round

@@ -7,14 +7,14 @@ use lib.ListN.{length, getD, set}
 use Rattle.repr.specs.Lists.{below}
 use Rattle.repr.specs.Meaning.{Symbol, nonterminal, terminal, Table, productionAt}
 use Rattle.lookahead.specs.Tokens.{union}
-use Rattle.first.specs.First.{FIRST}
+use Rattle.first.specs.Rust.{rustFirst0}
 use Rattle.build.specs.States.{places, from, givesOf}
 
 -- an item with the tokens s and the symbols ys from its cursor on: FIRST(β s) goes to the nonterminal at the cursor
 unfoldable pub feed : Table → List ℕ → List Symbol → ℕ → List ℕ
 feed T A [] s = A
 feed T A (terminal t ∷ β) s = A
-feed T A (nonterminal n ∷ β) s = set A n (union (getD A n 0) (givesOf (T .terminals) (FIRST T β) s))
+feed T A (nonterminal n ∷ β) s = set A n (union (getD A n 0) (givesOf (T .terminals) (rustFirst0 T β) s))
 
 -- by the items given, S, each x of the list in turn
 unfoldable pub fedByItems : Table → List ℕ → List ℕ → List ℕ → List ℕ

@@ -14,7 +14,7 @@ use Rattle.repr.specs.Listed.{symbolOfKind, symbolFits}
 use Rattle.repr.specs.Meaning.{Item, sameSymbol}
 use Rattle.lookahead.specs.Tokens.{has, single, union, meet, without}
 use Rattle.core.specs.Items.{first, symbolSets}
-use Rattle.first.specs.First.{join, firstOf, first0, grown, round, settle, firstSets}
+use Rattle.first.specs.First.{join, firstOf, endMarked, unmarked, first0, meetsAhead, grown, round, settle, firstSets}
 use Rattle.table.specs.Words.{wordAt, records, stateArea, productionArea, loose, productionRecords, looseRecords, names, against, chainBy, chain}
 use Rattle.table.specs.Decoded.{productionChain, symbolChain, itemChain, edgeChain, symbolAt, itemAt, edgeAt, orZero, ownerOf, productionOf, stateOf, productionsOf, meaning}
 use Rattle.table.specs.Refusals.{row1, row2, isNonterminal, isState, isProduction, asSymbol, asItem, asEdge, row3, row4, row5, row6, row7, used, row8, offends, firstRow, checkOf}
@@ -74,7 +74,7 @@ pub marked-listings :
     ≡ (saying (5 ∷ 3 ∷ 2 ∷ 0 ∷ 0 ∷ 1 ∷ 0 ∷ 0 ∷ 0 ∷ 1 ∷ 0 ∷ 0 ∷ 0 ∷ 2 ∷ 5 ∷ 0 ∷ 0 ∷ 5 ∷ 0 ∷ []) 3 ∷ ending 3 ∷ ending 3 ∷ [])
     ∷ (saying (5 ∷ 3 ∷ 2 ∷ 0 ∷ 0 ∷ 1 ∷ 0 ∷ 0 ∷ 0 ∷ 1 ∷ 0 ∷ 0 ∷ 0 ∷ 0 ∷ 3 ∷ 0 ∷ 0 ∷ 5 ∷ 0 ∷ []) 3 ∷ ending 3 ∷ ending 3 ∷ [])
     ∷ []
-unfolding upFrom below mem some? every? first? joined symbolOfKind sameSymbol has single union meet without first symbolSets join firstOf first0 grown round sameWords settle firstSets wordAt records stateArea productionArea loose productionRecords looseRecords names against chainBy chain productionChain symbolChain itemChain edgeChain symbolAt itemAt edgeAt orZero ownerOf productionOf stateOf productionsOf meaning sameItem sameNode setsOf prefixes suffixes atCursor middle symbols spans reductions symbolWords reductionWords exampleWords cursorOf ahead meets trials enough nodeOwner labelAt labelsOf passes hands says search foundOut foundThen plainFind plainOut plainThen plainRun plainLister
+unfolding upFrom below mem some? every? first? joined symbolOfKind sameSymbol has single union meet without first symbolSets join firstOf endMarked unmarked first0 meetsAhead grown round sameWords settle firstSets wordAt records stateArea productionArea loose productionRecords looseRecords names against chainBy chain productionChain symbolChain itemChain edgeChain symbolAt itemAt edgeAt orZero ownerOf productionOf stateOf productionsOf meaning sameItem sameNode setsOf prefixes suffixes atCursor middle symbols spans reductions symbolWords reductionWords exampleWords cursorOf ahead meets trials enough nodeOwner labelAt labelsOf passes hands says search foundOut foundThen plainFind plainOut plainThen plainRun plainLister
 marked-listings = refl
 
 -- the listings end: of three calls the second says so, after the one path that is an example
@@ -83,7 +83,7 @@ pub marked-ends :
     ∷ ends (pathLister (meaning tableB) reduceB (item 0 3) (some 1) (whole ∷ whole ∷ whole ∷ []))
     ∷ []
     ≡ true ∷ true ∷ []
-unfolding upFrom below mem some? every? first? joined symbolOfKind sameSymbol has single union meet without first symbolSets join firstOf first0 grown round sameWords settle firstSets wordAt records stateArea productionArea loose productionRecords looseRecords names against chainBy chain productionChain symbolChain itemChain edgeChain symbolAt itemAt edgeAt orZero ownerOf productionOf stateOf productionsOf meaning sameItem sameNode setsOf prefixes suffixes atCursor middle symbols spans reductions symbolWords reductionWords exampleWords cursorOf ahead meets trials enough nodeOwner labelAt labelsOf passes hands says search foundOut foundThen plainFind plainOut plainThen plainRun pathLister
+unfolding upFrom below mem some? every? first? joined symbolOfKind sameSymbol has single union meet without first symbolSets join firstOf endMarked unmarked first0 meetsAhead grown round sameWords settle firstSets wordAt records stateArea productionArea loose productionRecords looseRecords names against chainBy chain productionChain symbolChain itemChain edgeChain symbolAt itemAt edgeAt orZero ownerOf productionOf stateOf productionsOf meaning sameItem sameNode setsOf prefixes suffixes atCursor middle symbols spans reductions symbolWords reductionWords exampleWords cursorOf ahead meets trials enough nodeOwner labelAt labelsOf passes hands says search foundOut foundThen plainFind plainOut plainThen plainRun pathLister
 marked-ends = refl
 
 pub marked-paths :
@@ -91,7 +91,7 @@ pub marked-paths :
     ∷ handed (pathLister (meaning tableB) reduceB (item 0 3) (some 1) (whole ∷ whole ∷ whole ∷ []))
     ∷ []
     ≡ ((0 ∷ 1 ∷ []) ∷ []) ∷ ((0 ∷ 1 ∷ []) ∷ []) ∷ []
-unfolding upFrom below mem some? every? first? joined symbolOfKind sameSymbol has single union meet without first symbolSets join firstOf first0 grown round sameWords settle firstSets wordAt records stateArea productionArea loose productionRecords looseRecords names against chainBy chain productionChain symbolChain itemChain edgeChain symbolAt itemAt edgeAt orZero ownerOf productionOf stateOf productionsOf meaning sameItem sameNode setsOf prefixes suffixes atCursor middle symbols spans reductions symbolWords reductionWords exampleWords cursorOf ahead meets trials enough nodeOwner labelAt labelsOf passes hands says search foundOut foundThen plainFind plainOut plainThen plainRun pathLister
+unfolding upFrom below mem some? every? first? joined symbolOfKind sameSymbol has single union meet without first symbolSets join firstOf endMarked unmarked first0 meetsAhead grown round sameWords settle firstSets wordAt records stateArea productionArea loose productionRecords looseRecords names against chainBy chain productionChain symbolChain itemChain edgeChain symbolAt itemAt edgeAt orZero ownerOf productionOf stateOf productionsOf meaning sameItem sameNode setsOf prefixes suffixes atCursor middle symbols spans reductions symbolWords reductionWords exampleWords cursorOf ahead meets trials enough nodeOwner labelAt labelsOf passes hands says search foundOut foundThen plainFind plainOut plainThen plainRun pathLister
 marked-paths = refl
 
 -- the two graphs as a caller lends them

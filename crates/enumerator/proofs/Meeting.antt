@@ -1,9 +1,9 @@
--- The filter's test is what a lookahead asks of a path: the two sets share a token (`Meets` of specs/Told, part 6 of document 01). Assumes nothing.
+-- The filter's test is what a lookahead asks of a path (`Meets` of specs/Told, part 6 of document 01): a terminal in common, or end where all is nullable. Assumes nothing.
 use Prim.Native.Nat.{ℕ, suc, _%_}
 use native.Mathlib.Omega.{arith}
 use mathlib.Core.Path.{_≡_, refl, sym, ap, _∙_}
-use mathlib.Core.Logic.{_↔_}
-use mathlib.Core.Bool.{true, not}
+use mathlib.Core.Logic.{_↔_, inl, inr, ⊎-elim}
+use mathlib.Core.Bool.{Bool, true, _&&_, _||_, not, or-true}
 use mathlib.Core.List.{List}
 use mathlib.Core.Option.{Option, none, some}
 use lib.Dec.{eqb}
@@ -13,7 +13,7 @@ use Rattle.repr.specs.Meaning.{Table}
 use Rattle.repr.proofs.Lists.{cases, clash}
 use Rattle.lookahead.specs.Tokens.{has, meet}
 use Rattle.lookahead.proofs.Laws.{has-none, has-lowest, has-half, has-meet}
-use Rattle.first.specs.First.{FIRST}
+use Rattle.first.specs.First.{meetsAhead, FIRST}
 use Rattle.example.specs.Example.{ahead, meets}
 use Rattle.trace_graph.specs.Graph.{TraceEdge}
 use Rattle.enumerator.specs.Trials.{Path}
@@ -44,8 +44,19 @@ sharing a b k h l =
     (λ e. rw e)
 
 pub passes-meets : (T : Table) (es : List TraceEdge) (a : Option ℕ) (p : Path) → (passes T es a p ≡ true) ↔ Meets T es a p
-unfolding passes meets Meets FIRST
+unfolding passes meets Meets FIRST meetsAhead
 passes-meets T es none p = (λ e. tt, λ m. refl)
 passes-meets T es (some set) p =
-    let f = FIRST T (ahead (T .productions) (labelsOf (T .productions) es p)) in
-    (λ e. shared f set e, λ m. sharing f set (m .0) (m .1) (m .2))
+    let a = FIRST T (ahead (T .productions) (labelsOf (T .productions) es p)) in
+    let token = not (eqb (meet (a .tokens .0) set) 0) in
+    let end = a .nullable && has set (T .terminals) in (
+      λ e. cases token
+          (λ y. inl (shared (a .tokens .0) set y))
+          (λ n.
+          let b : end ≡ true = sym (ap (λ (c : Bool). c || end) n) ∙ e in
+          inr (and-left (a .nullable) (has set (T .terminals)) b, and-right (a .nullable) (has set (T .terminals)) b)),
+      λ m. ⊎-elim
+          (λ w. ap (λ (c : Bool). c || end) (sharing (a .tokens .0) set (w .0) (w .1) (w .2)))
+          (λ w. ap (λ (c : Bool). token || c) (rw (w .0, w .1) refl) ∙ or-true token)
+          m,
+    )

@@ -1,7 +1,7 @@
 -- The second half of demand 3, part 6 of document 01: what the plain lister's answers to a list of calls tell of the paths. Assumes nothing: these are definitions.
 use Prim.Native.Nat.{ℕ, suc, _≤_, _<_}
 use mathlib.Core.Path.{_≡_}
-use mathlib.Core.Logic.{_↔_}
+use mathlib.Core.Logic.{_⊎_, _↔_}
 use mathlib.Core.Bool.{Bool, true, false}
 use mathlib.Core.List.{List, [], _∷_, _++_, map, List·Memᴰ}
 use mathlib.Core.Option.{Option, none, some}
@@ -93,10 +93,12 @@ abbrev pub Numbered : List Path → ℕ → List Out → Type 0
 Numbered ts c [] = Unit {0}
 Numbered ts c (o ∷ os) = NumberedAt ts c (o .answer) (o .count) (Numbered ts (o .count) os) (Closed (o .count) os)
 
--- what a lookahead asks of a path: `first0` of the first edge's cursor, then of the suffixes outward, has one of its tokens
+-- what a lookahead asks of a path: FIRST of the first edge's cursor, then of the suffixes outward, has one of its terminals; or the lookahead has end, and all that is nullable
 unfoldable pub Meets : Table → List TraceEdge → Option ℕ → Path → Type 0
 Meets T es none p = Unit {0}
-Meets T es (some set) p = (k : ℕ) × (has (FIRST T (ahead (T .productions) (labelsOf (T .productions) es p))) k ≡ true) × (has set k ≡ true)
+Meets T es (some set) p =
+    let a = FIRST T (ahead (T .productions) (labelsOf (T .productions) es p)) in
+    ((k : ℕ) × (has (a .tokens .0) k ≡ true) × (has set k ≡ true)) ⊎ ((a .nullable ≡ true) × (has set (T .terminals) ≡ true))
 
 -- a path to hand out: a trial whose last edge comes from an item, and that the lookahead, if there is one, takes
 pub record IsHanded (T : Table) (es : List TraceEdge) (start : Item) (a : Option ℕ) (p : Path) : Type 0 where

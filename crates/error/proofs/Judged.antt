@@ -1,7 +1,7 @@
 -- Laws of judging (specs/Judge), one for each condition that part 8 of document 01 leaves to the Rust: precedence, ambiguous reduction, and the inline test's zip. Assumes nothing.
 use Prim.Native.Nat.{ℕ, suc}
 use mathlib.Core.Path.{_≡_, refl, ap, _∙_}
-use mathlib.Core.Bool.{true, false}
+use mathlib.Core.Bool.{true, false, and-false}
 use mathlib.Core.List.{List, [], _∷_, _++_}
 use mathlib.Core.Option.{none, some}
 use lib.Dec.{eqb}
@@ -9,9 +9,8 @@ use borrow.Author.Tests.{eq-eqb, ne-eqb}
 use Rattle.repr.specs.Meaning.{Symbol, nonterminal, terminal, sameSymbol, Production, Table, productionAt}
 use Rattle.repr.proofs.SameSymbol.{same-refl, same-equal}
 use Rattle.repr.proofs.Lists.{cases, clash}
-use Rattle.lookahead.specs.Tokens.{has, meet}
-use Rattle.lookahead.proofs.Laws.{has-meet, has-none}
-use Rattle.first.specs.First.{FIRST, nullable}
+use Rattle.lookahead.specs.Tokens.{meet}
+use Rattle.first.specs.First.{disjoint, FIRST, nullable}
 use Rattle.example.specs.Example.{ExampleSymbol, symbol, epsilon}
 use Rattle.error.specs.declared.Class.the-variants.{Ambiguity, Precedence, AmbiguousReduction}
 use Rattle.error.specs.Sorted.{Pair}
@@ -88,14 +87,11 @@ module _ (T : Table) where
   exhausted-second (symbol x ∷ xs) ys = diverge-alike x (xs ++ ys) xs ∙ exhausted-second xs ys
 
   -- at the first difference the FIRST sets decide
-  pub differ-first : (x y : Symbol) (xs ys : List ExampleSymbol) → sameSymbol x y ≡ false → diverge T (symbol x ∷ xs) (symbol y ∷ ys) ≡ eqb (meet (FIRST T (x ∷ [])) (FIRST T (y ∷ []))) 0
+  pub differ-first : (x y : Symbol) (xs ys : List ExampleSymbol) → sameSymbol x y ≡ false → diverge T (symbol x ∷ xs) (symbol y ∷ ys) ≡ disjoint (FIRST T (x ∷ [])) (FIRST T (y ∷ []))
   unfolding diverge
   differ-first x y xs ys e = rw (e, diverge)
 
-  -- end counts on both sides: two nullable symbols are not disjoint
+  -- two nullable symbols are not disjoint
   pub nullable-no : (x y : Symbol) (xs ys : List ExampleSymbol) → sameSymbol x y ≡ false → nullable T (x ∷ []) ≡ true → nullable T (y ∷ []) ≡ true → diverge T (symbol x ∷ xs) (symbol y ∷ ys) ≡ false
-  unfolding nullable
-  nullable-no x y xs ys e a b =
-      differ-first x y xs ys e
-      ∙ ne-eqb (meet (FIRST T (x ∷ [])) (FIRST T (y ∷ []))) 0
-      (λ z. clash (has (meet (FIRST T (x ∷ [])) (FIRST T (y ∷ []))) (T .terminals)) (has-meet (FIRST T (x ∷ [])) (FIRST T (y ∷ [])) (T .terminals) ∙ rw (a, b)) (ap (λ (m : ℕ). has m (T .terminals)) z ∙ has-none (T .terminals)))
+  unfolding nullable disjoint
+  nullable-no x y xs ys e a b = differ-first x y xs ys e ∙ rw (a, b) (and-false (eqb (meet (FIRST T (x ∷ []) .tokens .0) (FIRST T (y ∷ []) .tokens .0)) 0))

@@ -6,3 +6,4 @@ pub mod Items
 pub mod Judged
 pub mod Marked
 pub mod Listing
+pub mod Rust

@@ -1,7 +1,7 @@
 -- Document 01's marked examples, shown of the definitions that the contracts cite: one statement over one list. Assumes nothing.
 use Prim.Native.Nat.{ℕ}
 use mathlib.Core.Path.{_≡_, refl}
-use mathlib.Core.Bool.{Bool, true}
+use mathlib.Core.Bool.{Bool, true, false}
 use mathlib.Core.List.{List, [], _∷_, _++_, map}
 use mathlib.Core.Option.{none, some}
 use lib.ListN.{length, replicate}
@@ -19,7 +19,8 @@ use Rattle.table.specs.Refusals.{row1, row2, isNonterminal as nonterminalRecord
 use Rattle.table.specs.TableB.{tableB}
 use Rattle.table.specs.declared.Checked.{Checked}
 use Rattle.table.specs.declared.Checked.the-variants.{Accepted, Refused as NotAccepted}
-use Rattle.first.specs.First.{join, firstOf, first0, grown, round, settle, firstSets, FIRST, nullable}
+use Rattle.first.specs.declared.Answer.{Answer}
+use Rattle.first.specs.First.{join, firstOf, endMarked, unmarked, first0, meetsAhead, disjoint, grown, round, settle, firstSets, FIRST, nullable}
 use Rattle.state_graph.specs.Walk.{leads, predecessors, walkBack, traceBack}
 use Rattle.trace_graph.specs.Graph.{atItem, sameItem, sameNode, TraceEdge, labelOf, sameSymbols as alike, sameCursor, sameSets, sameEdge, add, isNode}
 use Rattle.trace_graph.specs.Words.{nodeWords, edgeWords, graphWords, nodeOf, nodeAt, edgeAt as lentEdge, edgesIn}
@@ -39,12 +40,16 @@ use Rattle.error.specs.Judge.{withBoth, symbolCount, cursorAt, reduction
 use Rattle.error.specs.Outcome.{Outcome, outcome, operandFits, placeFits, conflictFits, shiftsEnd, shown, judgedOutcome, gatheredOutcome, classifyIn, classifyBy, classifyOf}
 use Rattle.error.specs.Observed.{wholeExample, beforeCursor, observedOf}
 
--- an entry of the list: numbers; tests; a lister's answers; what classifying answers and leaves
+-- an entry of the list: numbers; tokens with yes or no; tests; a lister's answers; what classifying answers and leaves
 pub data Entry : Type 0 where
   numbers : List ℕ → Entry
+  answer : List ℕ → Bool → Entry
   tests : List Bool → Entry
   listing : List Out → Entry
   classifying : Outcome → Entry
+
+abbrev answered : Answer → Entry
+answered a = answer (members (a .tokens .0)) (a .nullable)
 
 -- accepted is 0, a refusal its number and place
 unfoldable pub checked : Checked → List ℕ
@@ -103,7 +108,7 @@ lineR = 5 ∷ 3 ∷ 2 ∷ 0 ∷ 0 ∷ 1 ∷ 0 ∷ 0 ∷ 0 ∷ 1 ∷ 0 ∷ 0 ∷ 
 unfoldable pub asked : Table → List Entry
 asked B =
     numbers (checked (checkOf tableB))
-    ∷ numbers (members (FIRST B [])) ∷ numbers (members (FIRST B (E ∷ [])))
+    ∷ answered (FIRST B []) ∷ answered (FIRST B (E ∷ []))
     ∷ numbers (traceBack B 3 (E ∷ plus ∷ E ∷ [])) ∷ numbers (traceBack B 3 []) ∷ numbers (traceBack B 0 (E ∷ []))
     ∷ tests (map (λ es. graphFits (length (B .nonterminals)) (B .productions) (graphWords es)) (shiftB B ∷ reduceB B ∷ []))
     ∷ tests (isNode (atItem (item 0 1)) (shiftB B) ∷ isNode (atItem (item 0 3)) (reduceB B) ∷ [])
@@ -124,7 +129,7 @@ written ws = ws ++ replicate 1139 7
 
 pub marked : asked (meaning tableB) ≡
     numbers (0 ∷ [])
-    ∷ numbers (2 ∷ []) ∷ numbers (1 ∷ [])
+    ∷ answer [] true ∷ answer (1 ∷ []) false
     ∷ numbers (0 ∷ 2 ∷ []) ∷ numbers (3 ∷ []) ∷ numbers []
     ∷ tests (true ∷ true ∷ []) ∷ tests (true ∷ true ∷ [])
     ∷ listing (saying lineA 3 ∷ ending 3 ∷ ending 3 ∷ []) ∷ listing (saying lineR 3 ∷ ending 3 ∷ ending 3 ∷ [])
@@ -135,5 +140,5 @@ pub marked : asked (meaning tableB) ≡
     ∷ leaves (classed 5 (0 ∷ 9 ∷ 0 ∷ 9 ∷ []) 3 3) (written lineR) buffer
     ∷ numbers (0 ∷ 0 ∷ 1 ∷ 0 ∷ 0 ∷ 0 ∷ [])
     ∷ []
-unfolding checked shiftB reduceB classified asked upFrom below mem occurrences keep some? every? first? joined sameSymbol symbolOfKind symbolFits has single union meet without members first symbolSets isNonterminal shiftsNonterminal wordAt records stateArea productionArea loose productionRecords looseRecords names against chainBy chain productionChain symbolChain itemChain edgeChain symbolAt itemAt edgeAt orZero ownerIn productionOf stateOf productionsOf meaning row1 row2 nonterminalRecord isState isProduction asSymbol asItem asEdge row3 row4 row5 row6 row7 used row8 offends firstRow checkOf join firstOf first0 grown round sameWords settle firstSets FIRST nullable leads predecessors walkBack traceBack sameItem sameNode labelOf alike sameCursor sameSets sameEdge add isNode nodeWords edgeWords graphWords nodeOf nodeAt lentEdge edgesIn itemFits nodeFits edgeFits once graphFits untraced pair enter addTo ownerOf symbolsOf canShift prefixOf suffixOf inTurn epsilonItem epsilon shiftTrace shiftEdges reduceStateItem reduceItem reduceState reduceTrace reduceEdges setsOf prefixes suffixes atCursor middle symbols spans reductions symbolWords reductionWords exampleWords cursorOf ahead meets trials enough nodeOwner labelAt labelsOf passes hands says search foundOut foundThen plainFind plainOut plainThen plainRun plainLister classNumber classValues symbolBefore symbolsBefore productionBefore placed inOrder productionOrder cursorItems allItems isTerminal shiftsToken shiftItems listingSide withMore examplesIn shiftSideFrom shiftSide itemAtEnd reduceSide actionSideOf bothSides gather inserted sortedFrom sortedBy product firstPair withBoth symbolCount cursorAt reductionAt sameExampleSymbol sameExampleSymbols sameReading sameSymbols isOperator shiftAmbiguity reduceAmbiguity ambiguityOf optional optionalOf questionOf suggestQuestion between shiftUpcoming reduceUpcoming diverge inlines inlineOr questionOr unambiguous ambiguousOr judge judged inFront zeroed operandFits placeFits conflictFits shiftsEnd shown judgedOutcome gatheredOutcome classifyIn classifyBy classifyOf wholeExample beforeCursor observedOf
+unfolding checked shiftB reduceB classified asked upFrom below mem occurrences keep some? every? first? joined sameSymbol symbolOfKind symbolFits has single union meet without members first symbolSets isNonterminal shiftsNonterminal wordAt records stateArea productionArea loose productionRecords looseRecords names against chainBy chain productionChain symbolChain itemChain edgeChain symbolAt itemAt edgeAt orZero ownerIn productionOf stateOf productionsOf meaning row1 row2 nonterminalRecord isState isProduction asSymbol asItem asEdge row3 row4 row5 row6 row7 used row8 offends firstRow checkOf join firstOf endMarked unmarked first0 meetsAhead disjoint grown round sameWords settle firstSets FIRST nullable leads predecessors walkBack traceBack sameItem sameNode labelOf alike sameCursor sameSets sameEdge add isNode nodeWords edgeWords graphWords nodeOf nodeAt lentEdge edgesIn itemFits nodeFits edgeFits once graphFits untraced pair enter addTo ownerOf symbolsOf canShift prefixOf suffixOf inTurn epsilonItem epsilon shiftTrace shiftEdges reduceStateItem reduceItem reduceState reduceTrace reduceEdges setsOf prefixes suffixes atCursor middle symbols spans reductions symbolWords reductionWords exampleWords cursorOf ahead meets trials enough nodeOwner labelAt labelsOf passes hands says search foundOut foundThen plainFind plainOut plainThen plainRun plainLister classNumber classValues symbolBefore symbolsBefore productionBefore placed inOrder productionOrder cursorItems allItems isTerminal shiftsToken shiftItems listingSide withMore examplesIn shiftSideFrom shiftSide itemAtEnd reduceSide actionSideOf bothSides gather inserted sortedFrom sortedBy product firstPair withBoth symbolCount cursorAt reductionAt sameExampleSymbol sameExampleSymbols sameReading sameSymbols isOperator shiftAmbiguity reduceAmbiguity ambiguityOf optional optionalOf questionOf suggestQuestion between shiftUpcoming reduceUpcoming diverge inlines inlineOr questionOr unambiguous ambiguousOr judge judged inFront zeroed operandFits placeFits conflictFits shiftsEnd shown judgedOutcome gatheredOutcome classifyIn classifyBy classifyOf wholeExample beforeCursor observedOf
 marked = refl

@@ -6,8 +6,7 @@ use mathlib.Core.Option.{Option, none, some}
 use lib.ListN.{length, getD, take, drop}
 use lib.Dec.{eqb, ltb}
 use Rattle.repr.specs.Meaning.{Symbol, nonterminal, terminal, sameSymbol, Production, noProduction, Table, productionAt}
-use Rattle.lookahead.specs.Tokens.{meet}
-use Rattle.first.specs.First.{FIRST}
+use Rattle.first.specs.First.{disjoint, FIRST}
 use Rattle.example.specs.Example.{Label, ExampleSymbol, symbol, epsilon, symbols, prefixes, Reduction, reductions}
 use Rattle.error.specs.declared.Conflict.{Conflict}
 use Rattle.error.specs.declared.Class.{Class}
@@ -114,14 +113,14 @@ shiftUpcoming ps a = between (suc (cursorAt ps a)) (reductionAt ps a 0 .end) (sy
 unfoldable pub reduceUpcoming : List Production → Example → List ExampleSymbol
 reduceUpcoming ps r = between (reductionAt ps r 0 .end) (reductionAt ps r 1 .end) (symbols ps r)
 
--- at the first difference the FIRST sets are disjoint, end counting on both sides; an exhausted list is a no, and so is the empty mark
+-- at the first difference FIRST is disjoint: no terminal in both, and not both nullable; an exhausted list is a no, and so is the empty mark
 unfoldable pub diverge : Table → List ExampleSymbol → List ExampleSymbol → Bool
 diverge T [] ys = false
 diverge T (x ∷ xs) [] = false
 diverge T (epsilon ∷ xs) (y ∷ ys) = false
 diverge T (symbol x ∷ xs) (epsilon ∷ ys) = false
 diverge T (symbol x ∷ xs) (symbol y ∷ ys) =
-    elim (sameSymbol x y) [ true ↦ diverge T xs ys | false ↦ eqb (meet (FIRST T (x ∷ [])) (FIRST T (y ∷ []))) 0 ]
+    elim (sameSymbol x y) [ true ↦ diverge T xs ys | false ↦ disjoint (FIRST T (x ∷ [])) (FIRST T (y ∷ [])) ]
 
 -- the second reduction is the first to shift more, and its nonterminal is another
 unfoldable pub inlines : Table → Example → Example → Bool

@@ -9,3 +9,4 @@ pub mod Choose
 pub mod Kept
 pub mod Observed
 pub mod Order
+pub mod Rust

@@ -14,9 +14,9 @@ use Rattle.repr.specs.Listed.{listed}
 use Rattle.repr.specs.Packed.{productionsIn, Packed}
 use Rattle.repr.proofs.Lists.{joined-nil, joined-append}
 use Rattle.core.specs.Items.{counts, held, countsOf}
-use Rattle.lookahead.specs.Tokens.{has, union, without}
-use Rattle.first.specs.First.{join, first0}
-use Rattle.first.proofs.Join.{join-null, join-own, join-assoc, join-single-right, first0-nil, first0-append}
+use Rattle.first.specs.declared.Answer.{Answer}
+use Rattle.first.specs.First.{joinAnswers, first0}
+use Rattle.first.proofs.Answers.{join-answers-assoc, join-empty-right, first0-nil, first0-append}
 use Rattle.example.specs.Example.{Label, setsOf, symbol, epsilon, prefixes, suffixes, atCursor, middle, symbols, reductions, symbolWords, exampleWords, cursorOf, ahead}
 use Rattle.example.specs.Labels.{labelsIn, LabelsFit}
 use Rattle.example.specs.Written.{labelAt, wordsOf, Part, aroundWords}
@@ -263,29 +263,25 @@ module _ (ps : List Production) (ls : List Label) where
 -- what the example expects next, part by part
 
 module _ (e : ℕ) (sets : List ℕ) (ps : List Production) (ws : List ℕ) where
-  pub ahead-start : (part : List ℕ) (r : ℕ) → Part part (cursorOf ps (labelsIn ws)) → r ≡ first0 e sets (listed part)
-      → join e r (first0 e sets (suffixes ps (drop 0 (labelsIn ws)))) ≡ first0 e sets (ahead ps (labelsIn ws))
+  pub ahead-start : (part : List ℕ) (r : Answer) → Part part (cursorOf ps (labelsIn ws)) → r ≡ first0 e sets (listed part)
+      → joinAnswers r (first0 e sets (suffixes ps (drop 0 (labelsIn ws)))) ≡ first0 e sets (ahead ps (labelsIn ws))
   unfolding ahead
   ahead-start part r C er =
       rw (er, part-listed part (cursorOf ps (labelsIn ws)) C) (sym (first0-append e sets (cursorOf ps (labelsIn ws)) (suffixes ps (labelsIn ws))))
 
-  pub ahead-stop : (r b : ℕ) (c : Bool) → c ≡ has r e → c ≡ false → r ≡ join e r b
-  ahead-stop r b c ec f = sym (join-own e r b (sym ec ∙ f))
-
   pub ahead-more : (j : ℕ) → j < length (labelsIn ws) → (part : List ℕ) → Part part (setsOf ps (labelAt ws j) .suffix)
-      → (r t a u : ℕ) (c : Bool) → t ≡ without r e → c ≡ has r e → c ≡ true → a ≡ first0 e sets (listed part) → u ≡ union t a
-      → join e u (first0 e sets (suffixes ps (drop (j + 1) (labelsIn ws)))) ≡ join e r (first0 e sets (suffixes ps (drop j (labelsIn ws))))
+      → (r a u : Answer) → a ≡ first0 e sets (listed part) → u ≡ joinAnswers r a
+      → joinAnswers u (first0 e sets (suffixes ps (drop (j + 1) (labelsIn ws)))) ≡ joinAnswers r (first0 e sets (suffixes ps (drop j (labelsIn ws))))
   unfolding suffixes
-  ahead-more j h part S r t a u c et ec yes-end ea eu =
+  ahead-more j h part S r a u ea eu =
       let rest = first0 e sets (suffixes ps (drop (j + 1) (labelsIn ws))) in
-      let joined-is : u ≡ join e r a = eu ∙ rw et (sym (join-null e r a (sym ec ∙ yes-end))) in
       let own : first0 e sets (setsOf ps (labelAt ws j) .suffix) ≡ a = ap (first0 e sets) (sym (part-listed part (setsOf ps (labelAt ws j) .suffix) S)) ∙ sym ea in
-      let next : first0 e sets (suffixes ps (drop j (labelsIn ws))) ≡ join e a rest =
+      let next : first0 e sets (suffixes ps (drop j (labelsIn ws))) ≡ joinAnswers a rest =
       ap (λ (l : List Label). first0 e sets (suffixes ps l)) (labels-step ws j h)
       ∙ first0-append e sets (setsOf ps (labelAt ws j) .suffix) (suffixes ps (drop (j + 1) (labelsIn ws)))
-      ∙ ap (λ (k : ℕ). join e k rest) own in
-      ap (λ (k : ℕ). join e k rest) joined-is ∙ join-assoc e r a rest ∙ ap (join e r) (sym next)
+      ∙ ap (λ (k : Answer). joinAnswers k rest) own in
+      ap (λ (k : Answer). joinAnswers k rest) eu ∙ join-answers-assoc r a rest ∙ ap (joinAnswers r) (sym next)
 
-  pub ahead-end : (j r : ℕ) → length (labelsIn ws) ≤ j → r ≡ join e r (first0 e sets (suffixes ps (drop j (labelsIn ws))))
+  pub ahead-end : (j : ℕ) (r : Answer) → length (labelsIn ws) ≤ j → r ≡ joinAnswers r (first0 e sets (suffixes ps (drop j (labelsIn ws))))
   unfolding suffixes
-  ahead-end j r h = sym (rw (drop-of-length-le (labelsIn ws) {i = j} h, first0-nil e sets) (join-single-right e r))
+  ahead-end j r h = sym (rw (drop-of-length-le (labelsIn ws) {i = j} h, first0-nil e sets) (join-empty-right r))

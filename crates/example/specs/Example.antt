@@ -1,16 +1,14 @@
 -- An example, part 7 of document 01, as `example` and `first0` of lr1/trace/trace_graph build them: on a list of labels, innermost first.
 -- Assumes nothing: these are definitions.
 use Prim.Native.Nat.{ℕ, zero, suc, _+_, _-_}
-use mathlib.Core.Bool.{Bool, true, false, not}
+use mathlib.Core.Bool.{Bool}
 use mathlib.Core.List.{List, [], _∷_, _++_, map, reverse}
 use mathlib.Core.Option.{Option, none, some}
 use lib.ListN.{length, getD}
-use lib.Dec.{eqb}
 use Rattle.repr.specs.Lists.{joined}
 use Rattle.repr.specs.Meaning.{Symbol, nonterminal, terminal, Production, noProduction}
 use Rattle.core.specs.Items.{Sets, symbolSets}
-use Rattle.lookahead.specs.Tokens.{meet}
-use Rattle.first.specs.First.{first0}
+use Rattle.first.specs.First.{first0, meetsAhead}
 
 -- the nonterminal of the node that an edge comes from, and the item that is the edge's label
 pub record Label : Type 0 where
@@ -86,6 +84,6 @@ cursorOf ps (l ∷ ls) = elim (setsOf ps l .cursor) [ some x ↦ x ∷ [] | none
 unfoldable pub ahead : List Production → List Label → List Symbol
 ahead ps ls = cursorOf ps ls ++ suffixes ps ls
 
--- the filter: its `first0` meets the lookahead; e is the end of input, sets the FIRST sets
+-- the filter: the lookahead meets FIRST of that; e is the end of input, sets the FIRST sets
 unfoldable pub meets : ℕ → List ℕ → List Production → ℕ → List Label → Bool
-meets e sets ps lookahead ls = not (eqb (meet (first0 e sets (ahead ps ls)) lookahead) 0)
+meets e sets ps lookahead ls = meetsAhead e (first0 e sets (ahead ps ls)) lookahead

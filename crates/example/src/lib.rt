@@ -2,7 +2,7 @@
 use core::Item;
 use core::prefix;
 use core::suffix;
-use lookahead::TokenSet;
+use first::Answer;
 use repr::NonterminalString;
 use repr::ProductionIndex;
 use repr::word;
@@ -319,26 +319,23 @@ pub fn write_example(grammar: &[u16], productions: usize, labels: &[u16], buffer
     write_reductions(grammar, productions, labels, places, buffer, end);
 }
 
-// The tokens that the example expects next: label by label outward, up to the first whose symbols may not derive the empty string.
+// FIRST of what the example expects next: label by label outward, up to the first whose symbols may not derive the empty string.
 pub fn first0(
     map: &[u64; NonterminalString::LIMIT],
     terminals: u16,
     grammar: &[u16],
     productions: usize,
     labels: &[u16],
-) -> TokenSet
+) -> Answer
     requires { ⌜ Packed (now grammar) productions × (terminals ≤ 63) ⌝ }
     requires { ⌜ LabelsFit (productionsIn (now grammar) productions) (now labels) ⌝ }
-    ensures { λ r. ⌜ r .0 ≡ first0 terminals (now (map .entry)) (ahead (productionsIn (now (grammar .entry)) productions) (labelsIn (now (labels .entry)))) ⌝ }
+    ensures { λ r. ⌜ r ≡ first0 terminals (now (map .entry)) (ahead (productionsIn (now (grammar .entry)) productions) (labelsIn (now (labels .entry)))) ⌝ }
 {
     let count = label_count(labels);
     let mut result = first::first0(map, terminals, cursor_part(grammar, productions, labels));
     let mut asked: usize = 0;
     while asked < count {
-        let taken = result.take_eof(terminals);
-        let nullable = taken.changed;
-        let rest = taken.set;
-        if !nullable {
+        if !result.nullable {
             return result;
         }
         let next = first::first0(
@@ -346,7 +343,7 @@ pub fn first0(
             terminals,
             suffix_part(grammar, productions, labels, asked),
         );
-        result = rest.union_with(next).set;
+        result = result.join(next);
         asked += 1;
     }
     result

@@ -1,11 +1,11 @@
 -- FIRST computed from its definition: table B of document 01, and S → a X where X has no production. Assumes nothing.
-use mathlib.Core.Bool.{false}
+use mathlib.Core.Bool.{true, false}
 use mathlib.Core.Path.{_≡_, refl}
 use mathlib.Core.List.{[], _∷_}
 use Rattle.slices.specs.Same.{sameWords}
 use Rattle.repr.specs.Meaning.{nonterminal, terminal, Table}
 use Rattle.lookahead.specs.Tokens.{has, single, union, without}
-use Rattle.first.specs.First.{join, firstOf, first0, grown, round, settle, firstSets, FIRST, nullable}
+use Rattle.first.specs.First.{join, firstOf, endMarked, unmarked, first0, grown, round, settle, firstSets, FIRST}
 
 -- E → E + E, E → n; the terminals are + and n
 abbrev pub tableB : Table
@@ -18,19 +18,15 @@ tableB = record {
   states = [];
 }
 
--- of nothing: end
-pub b-nothing : FIRST tableB [] ≡ 4
-unfolding FIRST first0 single
+-- of nothing: no terminal, and yes
+pub b-nothing : FIRST tableB [] ≡ record { tokens = record { 0 = 0 }; nullable = true }
+unfolding FIRST first0 unmarked endMarked has single without
 b-nothing = refl
 
--- of E: n
-pub b-e : FIRST tableB (nonterminal 0 ∷ []) ≡ 2
-unfolding FIRST first0 firstOf firstSets settle sameWords round grown join has single union without
+-- of E: n, and no
+pub b-e : FIRST tableB (nonterminal 0 ∷ []) ≡ record { tokens = record { 0 = 2 }; nullable = false }
+unfolding FIRST first0 unmarked endMarked firstOf firstSets settle sameWords round grown join has single union without
 b-e = refl
-
-pub b-e-not-nullable : nullable tableB (nonterminal 0 ∷ []) ≡ false
-unfolding nullable FIRST first0 firstOf firstSets settle sameWords round grown join has single union without
-b-e-not-nullable = refl
 
 -- S → a X, and X has no production; the terminal is a
 abbrev pub tableSaX : Table
@@ -41,12 +37,12 @@ tableSaX = record {
   states = [];
 }
 
--- of S: a
-pub s-a : FIRST tableSaX (nonterminal 0 ∷ []) ≡ 1
-unfolding FIRST first0 firstOf firstSets settle sameWords round grown join has single union without
+-- of S: a, and no
+pub s-a : FIRST tableSaX (nonterminal 0 ∷ []) ≡ record { tokens = record { 0 = 1 }; nullable = false }
+unfolding FIRST first0 unmarked endMarked firstOf firstSets settle sameWords round grown join has single union without
 s-a = refl
 
--- of X: nothing
-pub x-none : FIRST tableSaX (nonterminal 1 ∷ []) ≡ 0
-unfolding FIRST first0 firstOf firstSets settle sameWords round grown join has single union without
+-- of X: nothing, and no
+pub x-none : FIRST tableSaX (nonterminal 1 ∷ []) ≡ record { tokens = record { 0 = 0 }; nullable = false }
+unfolding FIRST first0 unmarked endMarked firstOf firstSets settle sameWords round grown join has single union without
 x-none = refl

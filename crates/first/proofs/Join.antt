@@ -1,5 +1,5 @@
 -- Laws of `join`, FIRST of two joined lists (part 2 of document 01): what it has, that it is associative with `single e` neutral and grows with both
--- arguments; so `first0` of joined lists from the two answers, "nullable" asked through one law, and `first1`. Assumes nothing.
+-- arguments; so `endMarked` of joined lists from the two answers, "nullable" asked through one law, and `first1`. Assumes nothing.
 use mathlib.Core.Path.{_≡_, refl, sym, ap, _∙_}
 use mathlib.Core.Bool.{Bool, true, false, _&&_, _||_, not, and-true, and-false, or-true, or-false}
 use mathlib.Core.List.{List, [], _∷_, _++_}
@@ -11,9 +11,9 @@ use borrow.Author.Tests.{eqb-true, eqb-false, eq-eqb, ne-eqb}
 use Rattle.repr.specs.Meaning.{Symbol, nonterminal, terminal, All}
 use Rattle.repr.proofs.Lists.{cases, clash}
 use Rattle.lookahead.specs.Tokens.{has, single, union, without, Within}
-use Rattle.lookahead.proofs.Laws.{has-union, has-without, has-single, union-lt, without-lt, single-lt}
+use Rattle.lookahead.proofs.Laws.{has-union, has-without, without-no, has-single, union-lt, without-lt, single-lt}
 use Rattle.lookahead.proofs.Sets.{same-set, within-refl}
-use Rattle.first.specs.First.{join, firstOf, first0, first1}
+use Rattle.first.specs.First.{join, firstOf, endMarked, unmarked, first0, followed, first1}
 
 -- the two ways
 
@@ -122,43 +122,43 @@ firstOf-nonterminal sets n = refl
 
 -- of a list
 
-pub first0-nil : (e : ℕ) (sets : List ℕ) → first0 e sets [] ≡ single e
-unfolding first0
-first0-nil e sets = refl
+pub endMarked-nil : (e : ℕ) (sets : List ℕ) → endMarked e sets [] ≡ single e
+unfolding endMarked
+endMarked-nil e sets = refl
 
-pub first0-cons : (e : ℕ) (sets : List ℕ) (x : Symbol) (xs : List Symbol) → first0 e sets (x ∷ xs) ≡ join e (firstOf sets x) (first0 e sets xs)
-unfolding first0
-first0-cons e sets x xs = refl
+pub endMarked-cons : (e : ℕ) (sets : List ℕ) (x : Symbol) (xs : List Symbol) → endMarked e sets (x ∷ xs) ≡ join e (firstOf sets x) (endMarked e sets xs)
+unfolding endMarked
+endMarked-cons e sets x xs = refl
 
-pub first0-one : (e : ℕ) (sets : List ℕ) (x : Symbol) → first0 e sets (x ∷ []) ≡ firstOf sets x
-first0-one e sets x = first0-cons e sets x [] ∙ ap (join e (firstOf sets x)) (first0-nil e sets) ∙ join-single-right e (firstOf sets x)
+pub endMarked-one : (e : ℕ) (sets : List ℕ) (x : Symbol) → endMarked e sets (x ∷ []) ≡ firstOf sets x
+endMarked-one e sets x = endMarked-cons e sets x [] ∙ ap (join e (firstOf sets x)) (endMarked-nil e sets) ∙ join-single-right e (firstOf sets x)
 
 -- of two joined lists from the two answers
-pub first0-append : (e : ℕ) (sets : List ℕ) (xs ys : List Symbol) → first0 e sets (xs ++ ys) ≡ join e (first0 e sets xs) (first0 e sets ys)
-first0-append e sets [] ys = sym (ap (λ (a : ℕ). join e a (first0 e sets ys)) (first0-nil e sets) ∙ join-single-left e (first0 e sets ys))
-first0-append e sets (x ∷ xs) ys =
-    first0-cons e sets x (xs ++ ys) ∙ ap (join e (firstOf sets x)) (first0-append e sets xs ys)
-    ∙ sym (join-assoc e (firstOf sets x) (first0 e sets xs) (first0 e sets ys))
-    ∙ ap (λ (a : ℕ). join e a (first0 e sets ys)) (sym (first0-cons e sets x xs))
+pub endMarked-append : (e : ℕ) (sets : List ℕ) (xs ys : List Symbol) → endMarked e sets (xs ++ ys) ≡ join e (endMarked e sets xs) (endMarked e sets ys)
+endMarked-append e sets [] ys = sym (ap (λ (a : ℕ). join e a (endMarked e sets ys)) (endMarked-nil e sets) ∙ join-single-left e (endMarked e sets ys))
+endMarked-append e sets (x ∷ xs) ys =
+    endMarked-cons e sets x (xs ++ ys) ∙ ap (join e (firstOf sets x)) (endMarked-append e sets xs ys)
+    ∙ sym (join-assoc e (firstOf sets x) (endMarked e sets xs) (endMarked e sets ys))
+    ∙ ap (λ (a : ℕ). join e a (endMarked e sets ys)) (sym (endMarked-cons e sets x xs))
 
-pub first0-snoc : (e : ℕ) (sets : List ℕ) (xs : List Symbol) (x : Symbol) → first0 e sets (xs ++ x ∷ []) ≡ join e (first0 e sets xs) (firstOf sets x)
-first0-snoc e sets xs x = first0-append e sets xs (x ∷ []) ∙ ap (join e (first0 e sets xs)) (first0-one e sets x)
+pub endMarked-snoc : (e : ℕ) (sets : List ℕ) (xs : List Symbol) (x : Symbol) → endMarked e sets (xs ++ x ∷ []) ≡ join e (endMarked e sets xs) (firstOf sets x)
+endMarked-snoc e sets xs x = endMarked-append e sets xs (x ∷ []) ∙ ap (join e (endMarked e sets xs)) (endMarked-one e sets x)
 
 -- a list that begins with a terminal
-pub first0-terminal : (e : ℕ) (sets : List ℕ) (t : ℕ) (xs : List Symbol) → (t ≡ e → ⊥) → first0 e sets (terminal t ∷ xs) ≡ single t
-first0-terminal e sets t xs n =
-    first0-cons e sets (terminal t) xs ∙ ap (λ (a : ℕ). join e a (first0 e sets xs)) (firstOf-terminal sets t)
-    ∙ join-own e (single t) (first0 e sets xs) (has-single t e ∙ ne-eqb e t (λ q. n (sym q)))
+pub endMarked-terminal : (e : ℕ) (sets : List ℕ) (t : ℕ) (xs : List Symbol) → (t ≡ e → ⊥) → endMarked e sets (terminal t ∷ xs) ≡ single t
+endMarked-terminal e sets t xs n =
+    endMarked-cons e sets (terminal t) xs ∙ ap (λ (a : ℕ). join e a (endMarked e sets xs)) (firstOf-terminal sets t)
+    ∙ join-own e (single t) (endMarked e sets xs) (has-single t e ∙ ne-eqb e t (λ q. n (sym q)))
 
 -- nullable: end is in the answer exactly if it is in that of each symbol
-pub nullable-nil : (e : ℕ) (sets : List ℕ) → has (first0 e sets []) e ≡ true
-nullable-nil e sets = ap (λ (a : ℕ). has a e) (first0-nil e sets) ∙ has-single e e ∙ eq-eqb e e refl
+pub nullable-nil : (e : ℕ) (sets : List ℕ) → has (endMarked e sets []) e ≡ true
+nullable-nil e sets = ap (λ (a : ℕ). has a e) (endMarked-nil e sets) ∙ has-single e e ∙ eq-eqb e e refl
 
-pub nullable-cons : (e : ℕ) (sets : List ℕ) (x : Symbol) (xs : List Symbol) → has (first0 e sets (x ∷ xs)) e ≡ (has (firstOf sets x) e && has (first0 e sets xs) e)
-nullable-cons e sets x xs = ap (λ (a : ℕ). has a e) (first0-cons e sets x xs) ∙ has-join-end e (firstOf sets x) (first0 e sets xs)
+pub nullable-cons : (e : ℕ) (sets : List ℕ) (x : Symbol) (xs : List Symbol) → has (endMarked e sets (x ∷ xs)) e ≡ (has (firstOf sets x) e && has (endMarked e sets xs) e)
+nullable-cons e sets x xs = ap (λ (a : ℕ). has a e) (endMarked-cons e sets x xs) ∙ has-join-end e (firstOf sets x) (endMarked e sets xs)
 
-pub nullable-append : (e : ℕ) (sets : List ℕ) (xs ys : List Symbol) → has (first0 e sets (xs ++ ys)) e ≡ (has (first0 e sets xs) e && has (first0 e sets ys) e)
-nullable-append e sets xs ys = ap (λ (a : ℕ). has a e) (first0-append e sets xs ys) ∙ has-join-end e (first0 e sets xs) (first0 e sets ys)
+pub nullable-append : (e : ℕ) (sets : List ℕ) (xs ys : List Symbol) → has (endMarked e sets (xs ++ ys)) e ≡ (has (endMarked e sets xs) e && has (endMarked e sets ys) e)
+nullable-append e sets xs ys = ap (λ (a : ℕ). has a e) (endMarked-append e sets xs ys) ∙ has-join-end e (endMarked e sets xs) (endMarked e sets ys)
 
 pub nullable-terminal : (e : ℕ) (sets : List ℕ) (t : ℕ) → (t ≡ e → ⊥) → has (firstOf sets (terminal t)) e ≡ false
 nullable-terminal e sets t n = ap (λ (a : ℕ). has a e) (firstOf-terminal sets t) ∙ has-single t e ∙ ne-eqb e t (λ q. n (sym q))
@@ -169,11 +169,11 @@ unfolding firstOf
 firstOf-within S R h (terminal t) = within-refl (single t)
 firstOf-within S R h (nonterminal n) = h n
 
-pub first0-within : (e : ℕ) (S R : List ℕ) → ((n : ℕ) → Within (getD S n 0) (getD R n 0)) → (xs : List Symbol) → Within (first0 e S xs) (first0 e R xs)
-unfolding first0
-first0-within e S R h [] = within-refl (single e)
-first0-within e S R h (x ∷ xs) =
-    join-within e (firstOf S x) (first0 e S xs) (firstOf R x) (first0 e R xs) (firstOf-within S R h x) (first0-within e S R h xs)
+pub endMarked-within : (e : ℕ) (S R : List ℕ) → ((n : ℕ) → Within (getD S n 0) (getD R n 0)) → (xs : List Symbol) → Within (endMarked e S xs) (endMarked e R xs)
+unfolding endMarked
+endMarked-within e S R h [] = within-refl (single e)
+endMarked-within e S R h (x ∷ xs) =
+    join-within e (firstOf S x) (endMarked e S xs) (firstOf R x) (endMarked e R xs) (firstOf-within S R h x) (endMarked-within e S R h xs)
 
 -- it fits: every terminal and end below n, each set below 2 ^ n
 unfoldable pub TerminalBelow : ℕ → Symbol → Type 0
@@ -185,25 +185,26 @@ unfolding firstOf TerminalBelow
 firstOf-lt n sets h (terminal t) l = single-lt t n l
 firstOf-lt n sets h (nonterminal m) l = h m
 
-pub first0-lt : (e n : ℕ) (sets : List ℕ) → e < n → ((m : ℕ) → getD sets m 0 < 2 ^ n) → (xs : List Symbol) → All (TerminalBelow n) xs → first0 e sets xs < 2 ^ n
-unfolding first0 All
-first0-lt e n sets h l [] f = single-lt e n h
-first0-lt e n sets h l (x ∷ xs) f = join-lt e n (firstOf sets x) (first0 e sets xs) (firstOf-lt n sets l x (f .0)) (first0-lt e n sets h l xs (f .1))
+pub endMarked-lt : (e n : ℕ) (sets : List ℕ) → e < n → ((m : ℕ) → getD sets m 0 < 2 ^ n) → (xs : List Symbol) → All (TerminalBelow n) xs → endMarked e sets xs < 2 ^ n
+unfolding endMarked All
+endMarked-lt e n sets h l [] f = single-lt e n h
+endMarked-lt e n sets h l (x ∷ xs) f = join-lt e n (firstOf sets x) (endMarked e sets xs) (firstOf-lt n sets l x (f .0)) (endMarked-lt e n sets h l xs (f .1))
 
 -- a lookahead in the place of end
 
-pub first1-join : (e : ℕ) (sets : List ℕ) (xs : List Symbol) (ahead : ℕ) → first1 e sets xs ahead ≡ join e (first0 e sets xs) ahead
-unfolding first1 join
-first1-join e sets xs ahead = refl
+pub followed-join : (e s ahead : ℕ) → followed (unmarked e s) ahead ≡ join e s ahead
+unfolding followed unmarked
+followed-join e s ahead =
+    cases (has s e)
+    (λ y. rw y (sym (join-null e s ahead y)))
+    (λ n. rw n (without-no s e n ∙ sym (join-own e s ahead n)))
 
-pub first1-null : (e : ℕ) (sets : List ℕ) (xs : List Symbol) (ahead : ℕ) → has (first0 e sets xs) e ≡ true → first1 e sets xs ahead ≡ union (without (first0 e sets xs) e) ahead
-first1-null e sets xs ahead h = first1-join e sets xs ahead ∙ join-null e (first0 e sets xs) ahead h
-
-pub first1-own : (e : ℕ) (sets : List ℕ) (xs : List Symbol) (ahead : ℕ) → has (first0 e sets xs) e ≡ false → first1 e sets xs ahead ≡ first0 e sets xs
-first1-own e sets xs ahead h = first1-join e sets xs ahead ∙ join-own e (first0 e sets xs) ahead h
+pub first1-join : (e : ℕ) (sets : List ℕ) (xs : List Symbol) (ahead : ℕ) → first1 e sets xs ahead ≡ join e (endMarked e sets xs) ahead
+unfolding first1 first0
+first1-join e sets xs ahead = followed-join e (endMarked e sets xs) ahead
 
 pub first1-append : (e : ℕ) (sets : List ℕ) (xs ys : List Symbol) (ahead : ℕ) → first1 e sets (xs ++ ys) ahead ≡ first1 e sets xs (first1 e sets ys ahead)
 first1-append e sets xs ys ahead =
-    first1-join e sets (xs ++ ys) ahead ∙ ap (λ (a : ℕ). join e a ahead) (first0-append e sets xs ys)
-    ∙ join-assoc e (first0 e sets xs) (first0 e sets ys) ahead
-    ∙ sym (first1-join e sets xs (first1 e sets ys ahead) ∙ ap (join e (first0 e sets xs)) (first1-join e sets ys ahead))
+    first1-join e sets (xs ++ ys) ahead ∙ ap (λ (a : ℕ). join e a ahead) (endMarked-append e sets xs ys)
+    ∙ join-assoc e (endMarked e sets xs) (endMarked e sets ys) ahead
+    ∙ sym (first1-join e sets xs (first1 e sets ys ahead) ∙ ap (join e (endMarked e sets xs)) (first1-join e sets ys ahead))

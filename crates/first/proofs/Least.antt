@@ -19,8 +19,8 @@ use Rattle.repr.proofs.Lists.{cases, clash}
 use Rattle.lookahead.specs.Tokens.{union, Within}
 use Rattle.lookahead.proofs.Laws.{union-lt}
 use Rattle.lookahead.proofs.Sets.{union-within, within-refl, within-trans, within-none, within-union-left, within-antisym, within-same-union, within-le, union-within-union}
-use Rattle.first.specs.First.{first0, grown, round, settle, rounds, firstSets}
-use Rattle.first.proofs.Join.{first0-within, first0-lt, TerminalBelow}
+use Rattle.first.specs.First.{endMarked, grown, round, settle, rounds, firstSets}
+use Rattle.first.proofs.Join.{endMarked-within, endMarked-lt, TerminalBelow}
 
 -- one production
 
@@ -28,39 +28,39 @@ pub length-grown : (e : ℕ) (S : List ℕ) (p : Production) → length (grown e
 unfolding grown
 length-grown e S p = simp length-set
 
-pub grown-at : (e : ℕ) (S : List ℕ) (p : Production) → p .nonterminal < length S → getD (grown e S p) (p .nonterminal) 0 ≡ union (getD S (p .nonterminal) 0) (first0 e S (p .symbols))
+pub grown-at : (e : ℕ) (S : List ℕ) (p : Production) → p .nonterminal < length S → getD (grown e S p) (p .nonterminal) 0 ≡ union (getD S (p .nonterminal) 0) (endMarked e S (p .symbols))
 unfolding grown
-grown-at e S p h = getD-set-same S (p .nonterminal) (union (getD S (p .nonterminal) 0) (first0 e S (p .symbols))) 0 h
+grown-at e S p h = getD-set-same S (p .nonterminal) (union (getD S (p .nonterminal) 0) (endMarked e S (p .symbols))) 0 h
 
 pub grown-other : (e : ℕ) (S : List ℕ) (p : Production) (n : ℕ) → (n ≡ p .nonterminal → ⊥) → getD (grown e S p) n 0 ≡ getD S n 0
 unfolding grown
-grown-other e S p n h = getD-set-other S (p .nonterminal) n (union (getD S (p .nonterminal) 0) (first0 e S (p .symbols))) 0 h
+grown-other e S p n h = getD-set-other S (p .nonterminal) n (union (getD S (p .nonterminal) 0) (endMarked e S (p .symbols))) 0 h
 
 pub grown-out : (e : ℕ) (S : List ℕ) (p : Production) → length S ≤ p .nonterminal → grown e S p ≡ S
 unfolding grown
-grown-out e S p h = set-out S (p .nonterminal) (union (getD S (p .nonterminal) 0) (first0 e S (p .symbols))) h
+grown-out e S p h = set-out S (p .nonterminal) (union (getD S (p .nonterminal) 0) (endMarked e S (p .symbols))) h
 
 -- what a grown set is: as before, or the nonterminal's with what the production gives
-pub grown-cases {ℓ} : (e : ℕ) (S : List ℕ) (p : Production) (n : ℕ) (P : ℕ → Type ℓ) → P (getD S n 0) → (n ≡ p .nonterminal → P (union (getD S n 0) (first0 e S (p .symbols)))) → P (getD (grown e S p) n 0)
+pub grown-cases {ℓ} : (e : ℕ) (S : List ℕ) (p : Production) (n : ℕ) (P : ℕ → Type ℓ) → P (getD S n 0) → (n ≡ p .nonterminal → P (union (getD S n 0) (endMarked e S (p .symbols)))) → P (getD (grown e S p) n 0)
 grown-cases e S p n P old new =
     cases (eqb n (p .nonterminal))
     (λ t.
     let q = eqb-true n (p .nonterminal) t in
     cases (ltb (p .nonterminal) (length S))
-    (λ u. subst P (sym (ap (λ (m : ℕ). getD (grown e S p) m 0) q ∙ grown-at e S p (ltb-true (p .nonterminal) (length S) u) ∙ ap (λ (m : ℕ). union (getD S m 0) (first0 e S (p .symbols))) (sym q))) (new q))
+    (λ u. subst P (sym (ap (λ (m : ℕ). getD (grown e S p) m 0) q ∙ grown-at e S p (ltb-true (p .nonterminal) (length S) u) ∙ ap (λ (m : ℕ). union (getD S m 0) (endMarked e S (p .symbols))) (sym q))) (new q))
     (λ u. subst P (sym (ap (λ (l : List ℕ). getD l n 0) (grown-out e S p (ltb-false (p .nonterminal) (length S) u)))) old))
     (λ t. subst P (sym (grown-other e S p n (eqb-false n (p .nonterminal) t))) old)
 
 pub grown-inside : (e : ℕ) (S : List ℕ) (p : Production) → Inside S (grown e S p)
 grown-inside e S p n =
-    grown-cases e S p n (Within (getD S n 0)) (within-refl (getD S n 0)) (λ q. within-union-left (getD S n 0) (first0 e S (p .symbols)))
+    grown-cases e S p n (Within (getD S n 0)) (within-refl (getD S n 0)) (λ q. within-union-left (getD S n 0) (endMarked e S (p .symbols)))
 
 -- in what is closed under the production it stays
-pub grown-below : (e : ℕ) (S R : List ℕ) (p : Production) → Inside S R → Within (first0 e R (p .symbols)) (getD R (p .nonterminal) 0) → Inside (grown e S p) R
+pub grown-below : (e : ℕ) (S R : List ℕ) (p : Production) → Inside S R → Within (endMarked e R (p .symbols)) (getD R (p .nonterminal) 0) → Inside (grown e S p) R
 grown-below e S R p f c n =
     grown-cases e S p n (λ (a : ℕ). Within a (getD R n 0)) (f n) (λ q.
-    union-within (getD S n 0) (first0 e S (p .symbols)) (getD R n 0) (f n)
-    (rw q (within-trans (first0 e S (p .symbols)) (first0 e R (p .symbols)) (getD R (p .nonterminal) 0) (first0-within e S R f (p .symbols)) c)))
+    union-within (getD S n 0) (endMarked e S (p .symbols)) (getD R n 0) (f n)
+    (rw q (within-trans (endMarked e S (p .symbols)) (endMarked e R (p .symbols)) (getD R (p .nonterminal) 0) (endMarked-within e S R f (p .symbols)) c)))
 
 pub grown-within : (e : ℕ) (S R : List ℕ) (p : Production) → length S ≡ length R → Inside S R → Inside (grown e S p) (grown e R p)
 grown-within e S R p l f n =
@@ -70,19 +70,19 @@ grown-within e S R p l f n =
     grown-cases e S p n (λ (a : ℕ). Within a (getD (grown e R p) n 0))
     (within-trans (getD S n 0) (getD R n 0) (getD (grown e R p) n 0) (f n) (grown-inside e R p n))
     (λ q. rw (q, grown-at e R p h)
-    (union-within-union (getD S (p .nonterminal) 0) (first0 e S (p .symbols)) (getD R (p .nonterminal) 0) (first0 e R (p .symbols)) (f (p .nonterminal)) (first0-within e S R f (p .symbols)))))
+    (union-within-union (getD S (p .nonterminal) 0) (endMarked e S (p .symbols)) (getD R (p .nonterminal) 0) (endMarked e R (p .symbols)) (f (p .nonterminal)) (endMarked-within e S R f (p .symbols)))))
     (λ u.
     let h = ltb-false (p .nonterminal) (length R) u in
     rw (grown-out e S p (rw l h), grown-out e R p h) (f n))
 
 -- a grown list is the same exactly if the production gives nothing new
-pub grown-same : (e : ℕ) (S : List ℕ) (p : Production) → p .nonterminal < length S → sameWords (grown e S p) S ≡ eqb (union (getD S (p .nonterminal) 0) (first0 e S (p .symbols))) (getD S (p .nonterminal) 0)
+pub grown-same : (e : ℕ) (S : List ℕ) (p : Production) → p .nonterminal < length S → sameWords (grown e S p) S ≡ eqb (union (getD S (p .nonterminal) 0) (endMarked e S (p .symbols))) (getD S (p .nonterminal) 0)
 grown-same e S p h =
-    cases (eqb (union (getD S (p .nonterminal) 0) (first0 e S (p .symbols))) (getD S (p .nonterminal) 0))
+    cases (eqb (union (getD S (p .nonterminal) 0) (endMarked e S (p .symbols))) (getD S (p .nonterminal) 0))
     (λ t. rw t (eq-same-words (grown e S p) S (ext-getD 0 (grown e S p) S (length-grown e S p) (λ i l.
-    grown-cases e S p i (λ (a : ℕ). a ≡ getD S i 0) refl (λ q. rw q (eqb-true (union (getD S (p .nonterminal) 0) (first0 e S (p .symbols))) (getD S (p .nonterminal) 0) t))))))
+    grown-cases e S p i (λ (a : ℕ). a ≡ getD S i 0) refl (λ q. rw q (eqb-true (union (getD S (p .nonterminal) 0) (endMarked e S (p .symbols))) (getD S (p .nonterminal) 0) t))))))
     (λ t. rw t (cases (sameWords (grown e S p) S)
-    (λ u. absurd (eqb-false (union (getD S (p .nonterminal) 0) (first0 e S (p .symbols))) (getD S (p .nonterminal) 0) t (sym (grown-at e S p h) ∙ ap (λ (l : List ℕ). getD l (p .nonterminal) 0) (same-words-eq (grown e S p) S u))))
+    (λ u. absurd (eqb-false (union (getD S (p .nonterminal) 0) (endMarked e S (p .symbols))) (getD S (p .nonterminal) 0) t (sym (grown-at e S p h) ∙ ap (λ (l : List ℕ). getD l (p .nonterminal) 0) (same-words-eq (grown e S p) S u))))
     (λ u. u)))
 
 -- a round
@@ -159,7 +159,7 @@ pub grown-sized : (e : ℕ) (S : List ℕ) (p : Production) → e ≤ terminalLi
 grown-sized e S p h k z = record {
   long = length-grown e S p ∙ z .long;
   fits = λ n. grown-cases e S p n (λ (a : ℕ). a < 2 ^ 64) (z .fits n) (λ q.
-      union-lt 64 (getD S n 0) (first0 e S (p .symbols)) (z .fits n) (first0-lt e 64 S (omega arith) (z .fits) (p .symbols) (k .symbols)));
+      union-lt 64 (getD S n 0) (endMarked e S (p .symbols)) (z .fits n) (endMarked-lt e 64 S (omega arith) (z .fits) (p .symbols) (k .symbols)));
 }
 
 pub round-sized : (e : ℕ) (S : List ℕ) (ps : List Production) → e ≤ terminalLimit → All ProductionSmall ps → Sized nonterminalLimit S → Sized nonterminalLimit (round e S ps)
@@ -242,7 +242,7 @@ loop-done e S ps h = settle-stop rounds e S ps h
 -- a solution: what each production gives is in its nonterminal's set
 
 abbrev pub Closed : ℕ → List ℕ → List Production → Type 0
-Closed e R ps = (p : Production) → List·Memᴰ p ps → Within (first0 e R (p .symbols)) (getD R (p .nonterminal) 0)
+Closed e R ps = (p : Production) → List·Memᴰ p ps → Within (endMarked e R (p .symbols)) (getD R (p .nonterminal) 0)
 
 -- where a round changes nothing, no production does
 fixed-grown : (e : ℕ) (S : List ℕ) (p : Production) (ps : List Production) → round e S (p ∷ ps) ≡ S → grown e S p ≡ S
@@ -251,19 +251,19 @@ fixed-grown e S p ps h =
     (subst (Inside (grown e S p)) (sym (round-cons e S p ps) ∙ h) (round-inside e (grown e S p) ps))
     (grown-inside e S p)
 
-fixed-closed : (e : ℕ) (S : List ℕ) (ps : List Production) → length S ≡ nonterminalLimit → All ProductionSmall ps → round e S ps ≡ S → All (λ p. Within (first0 e S (p .symbols)) (getD S (p .nonterminal) 0)) ps
+fixed-closed : (e : ℕ) (S : List ℕ) (ps : List Production) → length S ≡ nonterminalLimit → All ProductionSmall ps → round e S ps ≡ S → All (λ p. Within (endMarked e S (p .symbols)) (getD S (p .nonterminal) 0)) ps
 unfolding All
 fixed-closed e S [] l k h = tt
 fixed-closed e S (p ∷ ps) l k h =
     let g = fixed-grown e S p ps h in
-    let at : union (getD S (p .nonterminal) 0) (first0 e S (p .symbols)) ≡ getD S (p .nonterminal) 0 = sym (grown-at e S p (omega (arith, k .0 .owner))) ∙ ap (λ (l : List ℕ). getD l (p .nonterminal) 0) g in (
-      within-same-union (getD S (p .nonterminal) 0) (first0 e S (p .symbols)) at,
+    let at : union (getD S (p .nonterminal) 0) (endMarked e S (p .symbols)) ≡ getD S (p .nonterminal) 0 = sym (grown-at e S p (omega (arith, k .0 .owner))) ∙ ap (λ (l : List ℕ). getD l (p .nonterminal) 0) g in (
+      within-same-union (getD S (p .nonterminal) 0) (endMarked e S (p .symbols)) at,
       fixed-closed e S ps l (k .1) (ap (λ (l : List ℕ). round e l ps) (sym g) ∙ sym (round-cons e S p ps) ∙ h),
     )
 
 pub solution : (e : ℕ) (ps : List Production) → Small e ps → Closed e (firstSets e ps) ps
 solution e ps small p m =
-    All-member (λ q. Within (first0 e (firstSets e ps) (q .symbols)) (getD (firstSets e ps) (q .nonterminal) 0))
+    All-member (λ q. Within (endMarked e (firstSets e ps) (q .symbols)) (getD (firstSets e ps) (q .nonterminal) 0))
     (fixed-closed e (firstSets e ps) ps (firstSets-sized e ps small .long) (small .productions) (settled e ps small)) m
 
 -- and the least one

@@ -6,3 +6,5 @@ pub mod Textbook
 pub mod Examples
 pub mod Walk
 pub mod Rounds
+pub mod Rust
+pub mod Answers

@@ -18,13 +18,13 @@ use Rattle.repr.specs.Listed.{listed}
 use Rattle.repr.specs.Packed.{Packed, symbolWords, productionIn, productionsIn}
 use Rattle.repr.proofs.Lists.{cases, clash}
 use Rattle.lookahead.specs.Tokens.{union}
-use Rattle.first.specs.First.{first0, grown, round, settle, rounds, firstSets}
+use Rattle.first.specs.First.{endMarked, grown, round, settle, rounds, firstSets}
 use Rattle.first.proofs.Least.{grown-same, round-nil, round-snoc, length-round, round-same-snoc, round-sized, round-less, loop-more, loop-start, loop-done}
 use Rattle.first.proofs.Packed.{packed-small, productionsIn-none, productionsIn-more}
 
 -- one production
 
-pub one-grown : (e : ℕ) (g map ws : List ℕ) (p n f u : ℕ) (c : Bool) → n < length map → n ≡ getD g (productionPlace p) 0 → ws ≡ symbolWords g p → f ≡ first0 e map (listed ws)
+pub one-grown : (e : ℕ) (g map ws : List ℕ) (p n f u : ℕ) (c : Bool) → n < length map → n ≡ getD g (productionPlace p) 0 → ws ≡ symbolWords g p → f ≡ endMarked e map (listed ws)
     → u ≡ union (getD map n 0) f → c ≡ not (eqb (union (getD map n 0) f) (getD map n 0))
     → (set map n u ≡ grown e map (productionIn g p)) × (c ≡ not (sameWords (set map n u) map))
 unfolding grown productionIn

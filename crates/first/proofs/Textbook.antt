@@ -1,4 +1,4 @@
--- FIRST is the textbook's (part 2 of document 01), for every accepted table: a terminal is in FIRST of a list of symbols exactly if the list derives a
+-- The Rust's FIRST is the textbook's (part 2 of document 01), for every accepted table: a terminal is in it exactly if the list of symbols derives a
 -- list that begins with it, end exactly if it derives the empty list, and nothing else is in it. No nonterminal need be productive or reachable.
 -- Assumes nothing.
 use mathlib.Core.Path.{_≡_, refl, sym, ap, _∙_}
@@ -18,9 +18,10 @@ use Rattle.repr.proofs.Lists.{cases, clash}
 use Rattle.lookahead.specs.Tokens.{has, Within}
 use Rattle.lookahead.proofs.Laws.{has-none, has-union, has-single}
 use Rattle.lookahead.proofs.Sets.{within-refl, within-trans}
-use Rattle.first.specs.First.{join, firstOf, first0, grown, round, settle, rounds, firstSets, FIRST, nullable}
+use Rattle.first.specs.First.{join, firstOf, endMarked, grown, round, settle, rounds, firstSets, first0, unmarked, FIRST, nullable}
+use Rattle.first.specs.Rust.{rustFirst0}
 use Rattle.first.specs.Derives.{Derives, done, step}
-use Rattle.first.proofs.Join.{has-join-end, join-cases, join-within, first0-append, first0-cons, first0-terminal, firstOf-nonterminal, nullable-nil, TerminalBelow}
+use Rattle.first.proofs.Join.{has-join-end, join-cases, join-within, endMarked-append, endMarked-cons, endMarked-terminal, firstOf-nonterminal, nullable-nil, TerminalBelow}
 use Rattle.first.proofs.Least.{grown-cases, grown-other, settle-stop, settle-again, Closed, solution, table-small}
 use Rattle.first.proofs.Derivations.{derives-trans, derives-before, derives-production}
 
@@ -46,15 +47,15 @@ module _ (e : ℕ) (ps : List Production) where
       inr (omega arith, ([], rw r done))
   firstOf-sound S s (nonterminal n) h k q = s n k q
 
-  pub first0-sound : (S : List ℕ) → Sound e ps S → (xs : List Symbol) → All (TerminalBelow e) xs → (k : ℕ) → has (first0 e S xs) k ≡ true → Origin e ps xs k
-  unfolding first0 All
-  first0-sound S s [] f k h = inl (eqb-true k e (sym (has-single e k) ∙ h), done)
-  first0-sound S s (x ∷ xs) f k h =
-      let rest = first0-sound S s xs (f .1) k in
+  pub endMarked-sound : (S : List ℕ) → Sound e ps S → (xs : List Symbol) → All (TerminalBelow e) xs → (k : ℕ) → has (endMarked e S xs) k ≡ true → Origin e ps xs k
+  unfolding endMarked All
+  endMarked-sound S s [] f k h = inl (eqb-true k e (sym (has-single e k) ∙ h), done)
+  endMarked-sound S s (x ∷ xs) f k h =
+      let rest = endMarked-sound S s xs (f .1) k in
       ⊎-elim
       (λ w. begins (w .1) (firstOf-sound S s x (f .0) k (w .0)))
       (λ w. origin-from (x ∷ xs) xs k (vanishes (firstOf-sound S s x (f .0) e (w .0))) (rest (w .1)))
-      (join-cases e (firstOf S x) (first0 e S xs) k h)
+      (join-cases e (firstOf S x) (endMarked e S xs) k h)
     where
       begins : (k ≡ e → ⊥) → Origin e ps (x ∷ []) k → Origin e ps (x ∷ xs) k
       begins n (inl o) = absurd (n (o .0))
@@ -69,7 +70,7 @@ module _ (e : ℕ) (ps : List Production) where
       grown-cases e S p n (λ (a : ℕ). has a k ≡ true → Origin e ps (nonterminal n ∷ []) k) (s n k) (λ q h.
       cases (has (getD S n 0) k) (s n k) (λ o.
       rw q (origin-from (nonterminal (p .nonterminal) ∷ []) (p .symbols) k (derives-production p m)
-      (first0-sound S s (p .symbols) f k (sym (has-union (getD S n 0) (first0 e S (p .symbols)) k ∙ rw o) ∙ h)))))
+      (endMarked-sound S s (p .symbols) f k (sym (has-union (getD S n 0) (endMarked e S (p .symbols)) k ∙ rw o) ∙ h)))))
 
   round-sound : (S : List ℕ) (qs : List Production) → ((p : Production) → List·Memᴰ p qs → List·Memᴰ p ps) → All (λ p. All (TerminalBelow e) (p .symbols)) qs → Sound e ps S → Sound e ps (round e S qs)
   unfolding round All
@@ -92,17 +93,17 @@ module _ (e : ℕ) (ps : List Production) where
 
   -- complete: FIRST of what a list derives is within FIRST of the list
 
-  production-within : (S : List ℕ) (us vs : List Symbol) (p : Production) → Within (first0 e S (p .symbols)) (getD S (p .nonterminal) 0)
-      → Within (first0 e S (us ++ (p .symbols ++ vs))) (first0 e S (us ++ (nonterminal (p .nonterminal) ∷ vs)))
+  production-within : (S : List ℕ) (us vs : List Symbol) (p : Production) → Within (endMarked e S (p .symbols)) (getD S (p .nonterminal) 0)
+      → Within (endMarked e S (us ++ (p .symbols ++ vs))) (endMarked e S (us ++ (nonterminal (p .nonterminal) ∷ vs)))
   production-within S us vs p h =
-      rw (first0-append e S us (p .symbols ++ vs), first0-append e S (p .symbols) vs, first0-append e S us (nonterminal (p .nonterminal) ∷ vs), first0-cons e S (nonterminal (p .nonterminal)) vs, firstOf-nonterminal S (p .nonterminal))
-      (join-within e (first0 e S us) (join e (first0 e S (p .symbols)) (first0 e S vs)) (first0 e S us) (join e (getD S (p .nonterminal) 0) (first0 e S vs)) (within-refl (first0 e S us))
-      (join-within e (first0 e S (p .symbols)) (first0 e S vs) (getD S (p .nonterminal) 0) (first0 e S vs) h (within-refl (first0 e S vs))))
+      rw (endMarked-append e S us (p .symbols ++ vs), endMarked-append e S (p .symbols) vs, endMarked-append e S us (nonterminal (p .nonterminal) ∷ vs), endMarked-cons e S (nonterminal (p .nonterminal)) vs, firstOf-nonterminal S (p .nonterminal))
+      (join-within e (endMarked e S us) (join e (endMarked e S (p .symbols)) (endMarked e S vs)) (endMarked e S us) (join e (getD S (p .nonterminal) 0) (endMarked e S vs)) (within-refl (endMarked e S us))
+      (join-within e (endMarked e S (p .symbols)) (endMarked e S vs) (getD S (p .nonterminal) 0) (endMarked e S vs) h (within-refl (endMarked e S vs))))
 
-  pub derives-within : (S : List ℕ) → Closed e S ps → {xs ys : List Symbol} → Derives ps xs ys → Within (first0 e S ys) (first0 e S xs)
-  derives-within S c {xs} done = within-refl (first0 e S xs)
+  pub derives-within : (S : List ℕ) → Closed e S ps → {xs ys : List Symbol} → Derives ps xs ys → Within (endMarked e S ys) (endMarked e S xs)
+  derives-within S c {xs} done = within-refl (endMarked e S xs)
   derives-within S c {xs} {ys} (step us vs p m q d) =
-      rw q (within-trans (first0 e S ys) (first0 e S (us ++ (p .symbols ++ vs))) (first0 e S (us ++ (nonterminal (p .nonterminal) ∷ vs)))
+      rw q (within-trans (endMarked e S ys) (endMarked e S (us ++ (p .symbols ++ vs))) (endMarked e S (us ++ (nonterminal (p .nonterminal) ∷ vs)))
       (derives-within S c d) (production-within S us vs p (c p m)))
 
 -- for a table
@@ -115,35 +116,35 @@ symbol-below T (nonterminal n) h = tt
 pub symbols-below : (T : Table) (xs : List Symbol) → All (SymbolFits T) xs → All (TerminalBelow (T .terminals)) xs
 symbols-below T xs h = All-map (SymbolFits T) (TerminalBelow (T .terminals)) (symbol-below T) xs h
 
--- two joined lists from the two answers, and "nullable" of them
-pub FIRST-append : (T : Table) (xs ys : List Symbol) → FIRST T (xs ++ ys) ≡ join (T .terminals) (FIRST T xs) (FIRST T ys)
-unfolding FIRST
-FIRST-append T xs ys = first0-append (T .terminals) (firstSets (T .terminals) (T .productions)) xs ys
+-- two joined lists from the two sets, and "nullable" of them
+pub rust-append : (T : Table) (xs ys : List Symbol) → rustFirst0 T (xs ++ ys) ≡ join (T .terminals) (rustFirst0 T xs) (rustFirst0 T ys)
+unfolding rustFirst0
+rust-append T xs ys = endMarked-append (T .terminals) (firstSets (T .terminals) (T .productions)) xs ys
 
 pub nullable-joined : (T : Table) (xs ys : List Symbol) → nullable T (xs ++ ys) ≡ (nullable T xs && nullable T ys)
-unfolding nullable
-nullable-joined T xs ys = ap (λ (a : ℕ). has a (T .terminals)) (FIRST-append T xs ys) ∙ has-join-end (T .terminals) (FIRST T xs) (FIRST T ys)
+unfolding nullable FIRST first0 unmarked rustFirst0
+nullable-joined T xs ys = ap (λ (a : ℕ). has a (T .terminals)) (rust-append T xs ys) ∙ has-join-end (T .terminals) (rustFirst0 T xs) (rustFirst0 T ys)
 
 module _ (T : Table) (F : TableFits T) where
-  pub first-origin : (xs : List Symbol) → All (SymbolFits T) xs → (k : ℕ) → has (FIRST T xs) k ≡ true → Origin (T .terminals) (T .productions) xs k
-  unfolding FIRST
+  pub first-origin : (xs : List Symbol) → All (SymbolFits T) xs → (k : ℕ) → has (rustFirst0 T xs) k ≡ true → Origin (T .terminals) (T .productions) xs k
+  unfolding rustFirst0
   first-origin xs f k h =
-      first0-sound (T .terminals) (T .productions) (firstSets (T .terminals) (T .productions))
+      endMarked-sound (T .terminals) (T .productions) (firstSets (T .terminals) (T .productions))
       (firstSets-sound (T .terminals) (T .productions) (All-map (ProductionFits T) (λ p. All (TerminalBelow (T .terminals)) (p .symbols)) (λ p g. symbols-below T (p .symbols) (g .symbols)) (T .productions) (F .productions)))
       xs (symbols-below T xs f) k h
 
-  pub first-derived : (xs ys : List Symbol) → Derives (T .productions) xs ys → Within (FIRST T ys) (FIRST T xs)
-  unfolding FIRST
+  pub first-derived : (xs ys : List Symbol) → Derives (T .productions) xs ys → Within (rustFirst0 T ys) (rustFirst0 T xs)
+  unfolding rustFirst0
   first-derived xs ys d =
       derives-within (T .terminals) (T .productions) (firstSets (T .terminals) (T .productions)) (solution (T .terminals) (T .productions) (table-small T F)) d
 
-  first-own : (t : ℕ) → t < T .terminals → (ys : List Symbol) → has (FIRST T (terminal t ∷ ys)) t ≡ true
-  unfolding FIRST
+  first-own : (t : ℕ) → t < T .terminals → (ys : List Symbol) → has (rustFirst0 T (terminal t ∷ ys)) t ≡ true
+  unfolding rustFirst0
   first-own t l ys =
-      ap (λ (a : ℕ). has a t) (first0-terminal (T .terminals) (firstSets (T .terminals) (T .productions)) t ys (λ q. omega arith)) ∙ has-single t t ∙ eq-eqb t t refl
+      ap (λ (a : ℕ). has a t) (endMarked-terminal (T .terminals) (firstSets (T .terminals) (T .productions)) t ys (λ q. omega arith)) ∙ has-single t t ∙ eq-eqb t t refl
 
   -- a terminal is in FIRST exactly if the list derives one that begins with it
-  pub first-terminal : (xs : List Symbol) → All (SymbolFits T) xs → (t : ℕ) → t < T .terminals → (has (FIRST T xs) t ≡ true) ↔ ((ys : List Symbol) × Derives (T .productions) xs (terminal t ∷ ys))
+  pub first-terminal : (xs : List Symbol) → All (SymbolFits T) xs → (t : ℕ) → t < T .terminals → (has (rustFirst0 T xs) t ≡ true) ↔ ((ys : List Symbol) × Derives (T .productions) xs (terminal t ∷ ys))
   first-terminal xs f t l = (λ h. begins (first-origin xs f t h), λ d. first-derived xs (terminal t ∷ d .0) (d .1) t (first-own t l (d .0)))
     where
       begins : Origin (T .terminals) (T .productions) xs t → (ys : List Symbol) × Derives (T .productions) xs (terminal t ∷ ys)
@@ -151,8 +152,8 @@ module _ (T : Table) (F : TableFits T) where
       begins (inr o) = o .1
 
   -- end is in it exactly if the list derives the empty list
-  pub first-end : (xs : List Symbol) → All (SymbolFits T) xs → (has (FIRST T xs) (T .terminals) ≡ true) ↔ Derives (T .productions) xs []
-  unfolding FIRST
+  pub first-end : (xs : List Symbol) → All (SymbolFits T) xs → (has (rustFirst0 T xs) (T .terminals) ≡ true) ↔ Derives (T .productions) xs []
+  unfolding rustFirst0
   first-end xs f = (λ h. vanishes (first-origin xs f (T .terminals) h), λ d. first-derived xs [] d (T .terminals) (nullable-nil (T .terminals) (firstSets (T .terminals) (T .productions))))
     where
       vanishes : Origin (T .terminals) (T .productions) xs (T .terminals) → Derives (T .productions) xs []
@@ -160,14 +161,14 @@ module _ (T : Table) (F : TableFits T) where
       vanishes (inr o) = absurd (omega (arith, o .0))
 
   pub first-nullable : (xs : List Symbol) → All (SymbolFits T) xs → (nullable T xs ≡ true) ↔ Derives (T .productions) xs []
-  unfolding nullable
+  unfolding nullable FIRST first0 unmarked rustFirst0
   first-nullable xs f = first-end xs f
 
   -- no other token is in it
-  pub first-only : (xs : List Symbol) → All (SymbolFits T) xs → (k : ℕ) → T .terminals < k → has (FIRST T xs) k ≡ false
-  first-only xs f k l = cases (has (FIRST T xs) k) (λ h. outside (first-origin xs f k h)) (λ h. h)
+  pub first-only : (xs : List Symbol) → All (SymbolFits T) xs → (k : ℕ) → T .terminals < k → has (rustFirst0 T xs) k ≡ false
+  first-only xs f k l = cases (has (rustFirst0 T xs) k) (λ h. outside (first-origin xs f k h)) (λ h. h)
     where
-      outside : Origin (T .terminals) (T .productions) xs k → has (FIRST T xs) k ≡ false
+      outside : Origin (T .terminals) (T .productions) xs k → has (rustFirst0 T xs) k ≡ false
       outside (inl o) = absurd (omega (arith, o .0))
       outside (inr o) = absurd (omega (arith, o .0))
 

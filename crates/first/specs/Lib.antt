@@ -1,2 +1,3 @@
 pub mod First
 pub mod Derives
+pub mod Rust

@@ -12,9 +12,62 @@ ghost use Rattle.repr.specs.Sizes.{nonterminalLimit, terminalLimit};
 ghost use Rattle.slices.specs.Same.{sameWords};
 ghost use Rattle.repr.specs.Listed.{symbolOfKind, symbolFits, listed, listFits};
 ghost use Rattle.repr.specs.Packed.{Packed, productionIn, productionsIn};
-ghost use Rattle.first.specs.First.{firstOf, first0, first1, grown, round, firstSets};
+ghost use Rattle.first.specs.First.{firstOf, endMarked, first0, first1, joinAnswers, meetsAhead, disjoint, grown, round, firstSets};
 
-// The sets, one for each nonterminal.
+// FIRST of a list: the terminals that begin what it derives, never the end of input; and whether it derives the empty list.
+pub struct Answer {
+    pub tokens: TokenSet,
+    pub nullable: bool,
+}
+
+impl Answer {
+    // FIRST of two joined lists from their answers.
+    pub fn join(self, next: Answer) -> Answer
+        ensures { λ r. ⌜ r ≡ joinAnswers self next ⌝ }
+    {
+        if self.nullable {
+            let tokens = self.tokens;
+            let more = next.tokens;
+            let united = tokens.union_with(more).set;
+            return Answer {
+                tokens: united,
+                nullable: next.nullable,
+            };
+        }
+        self
+    }
+
+    // Whether a lookahead meets it: in a terminal, or in the end of input where the list is nullable.
+    pub fn meets(self, terminals: u16, lookahead: TokenSet) -> bool
+        ensures { λ r. ⌜ r ≡ meetsAhead terminals self (lookahead .0) ⌝ }
+    {
+        let tokens = self.tokens;
+        if tokens.is_intersecting(lookahead) {
+            return true;
+        }
+        if self.nullable {
+            return lookahead.contains_eof(terminals);
+        }
+        false
+    }
+
+    // Whether no terminal is in both, and not both lists are nullable.
+    pub fn is_disjoint(self, other: Answer) -> bool
+        ensures { λ r. ⌜ r ≡ disjoint self other ⌝ }
+    {
+        let tokens = self.tokens;
+        let others = other.tokens;
+        if tokens.is_intersecting(others) {
+            return false;
+        }
+        if self.nullable {
+            return !other.nullable;
+        }
+        true
+    }
+}
+
+// The sets, one for each nonterminal. The end of input is in a set as its mark of "nullable": these sets are no answer.
 pub struct FirstSets {
     pub map: [u64; NonterminalString::LIMIT],
 }
@@ -34,7 +87,7 @@ impl FirstSets {
     }
 }
 
-// FIRST of one symbol: the terminal itself, or the nonterminal's set. first0 asks either for the end of input; a terminal of a table never has it.
+// Of one symbol: the terminal itself, or the nonterminal's set. `end_marked` asks either for the end of input; a terminal of a table never has it.
 fn symbol_first(map: &[u64; NonterminalString::LIMIT], kind: usize, number: usize) -> TokenSet
     requires { ⌜ symbolFits nonterminalLimit terminalLimit kind number ≡ true ⌝ }
     ensures { λ r. ⌜ r .0 ≡ firstOf (now (map .entry)) (symbolOfKind kind number) ⌝ }
@@ -46,10 +99,10 @@ fn symbol_first(map: &[u64; NonterminalString::LIMIT], kind: usize, number: usiz
     }
 }
 
-// FIRST of a list of symbols; with the end of input in it exactly if the list may derive the empty string.
-pub fn first0(map: &[u64; NonterminalString::LIMIT], terminals: u16, symbols: &[u16]) -> TokenSet
+// FIRST of a list of symbols as the sets have it, with the end of input in it exactly if the list may derive the empty string.
+fn end_marked(map: &[u64; NonterminalString::LIMIT], terminals: u16, symbols: &[u16]) -> TokenSet
     requires { ⌜ (terminals ≤ terminalLimit) × (listFits nonterminalLimit terminalLimit (now symbols) ≡ true) ⌝ }
-    ensures { λ r. ⌜ r .0 ≡ first0 terminals (now (map .entry)) (listed (now (symbols .entry))) ⌝ }
+    ensures { λ r. ⌜ r .0 ≡ endMarked terminals (now (map .entry)) (listed (now (symbols .entry))) ⌝ }
 {
     let mut result = TokenSet::new();
     let mut at: usize = 0;
@@ -69,6 +122,19 @@ pub fn first0(map: &[u64; NonterminalString::LIMIT], terminals: u16, symbols: &[
     result.insert_eof(terminals).set
 }
 
+// FIRST of a list of symbols.
+pub fn first0(map: &[u64; NonterminalString::LIMIT], terminals: u16, symbols: &[u16]) -> Answer
+    requires { ⌜ (terminals ≤ terminalLimit) × (listFits nonterminalLimit terminalLimit (now symbols) ≡ true) ⌝ }
+    ensures { λ r. ⌜ r ≡ first0 terminals (now (map .entry)) (listed (now (symbols .entry))) ⌝ }
+{
+    let taken = end_marked(map, terminals, symbols).take_eof(terminals);
+    let tokens = taken.set;
+    Answer {
+        tokens: tokens,
+        nullable: taken.changed,
+    }
+}
+
 // FIRST of a list that a token of the lookahead follows.
 pub fn first1(
     map: &[u64; NonterminalString::LIMIT],
@@ -79,13 +145,12 @@ pub fn first1(
     requires { ⌜ (terminals ≤ terminalLimit) × (listFits nonterminalLimit terminalLimit (now symbols) ≡ true) ⌝ }
     ensures { λ r. ⌜ r .0 ≡ first1 terminals (now (map .entry)) (listed (now (symbols .entry))) (lookahead .0) ⌝ }
 {
-    let set = first0(map, terminals, symbols);
-    let taken = set.take_eof(terminals);
-    let rest = taken.set;
-    if taken.changed {
-        rest.union_with(lookahead).set
+    let answer = first0(map, terminals, symbols);
+    let tokens = answer.tokens;
+    if answer.nullable {
+        tokens.union_with(lookahead).set
     } else {
-        rest
+        tokens
     }
 }
 
@@ -101,7 +166,7 @@ fn grow_one(
     ensures { λ r. ⌜ (now (map .exit) ≡ grown terminals (now (map .entry)) (productionIn (now (grammar .entry)) production)) × (r ≡ not (sameWords (now (map .exit)) (now (map .entry)))) ⌝ }
 {
     let nonterminal = word(grammar, production * ProductionIndex::WORDS);
-    let lookahead = first0(map, terminals, symbols(grammar, production, productions));
+    let lookahead = end_marked(map, terminals, symbols(grammar, production, productions));
     let united = TokenSet(map[nonterminal]).union_with(lookahead);
     map[nonterminal] = united.set.0;
     united.changed

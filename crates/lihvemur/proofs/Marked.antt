@@ -14,7 +14,7 @@ use Rattle.core.specs.Items.{first, symbolSets, isNonterminal, shiftsNontermina
 use Rattle.table.specs.Words.{wordAt, records, stateArea, productionArea, loose, productionRecords, looseRecords, names, against, chainBy, chain}
 use Rattle.table.specs.Decoded.{productionChain, symbolChain, itemChain, edgeChain, symbolAt, itemAt, edgeAt, orZero, ownerOf as ownerIn, productionOf, stateOf, productionsOf, meaning}
 use Rattle.table.specs.Refusals.{row1, row2, isNonterminal as nonterminalRecord, isState, isProduction, asSymbol, asItem, asEdge, row3, row4, row5, row6, row7, used, row8, offends, firstRow, checkOf}
-use Rattle.first.specs.First.{join, firstOf, first0, grown, round, settle, firstSets, FIRST, nullable}
+use Rattle.first.specs.First.{join, firstOf, endMarked, unmarked, first0, meetsAhead, disjoint, grown, round, settle, firstSets, FIRST, nullable}
 use Rattle.state_graph.specs.Walk.{leads, predecessors, walkBack, traceBack}
 use Rattle.trace_graph.specs.declared.TraceEdge.{TraceEdge as EdgeValue}
 use Rattle.trace_graph.specs.Graph.{sameItem, sameNode, labelOf, sameSymbols as alike, sameCursor, sameSets, sameEdge, add, isNode}
@@ -111,13 +111,13 @@ pub marked-traces :
     ∷ reduceOf tableC 2 (item 3 0) graph scratch
     ∷ []
     ≡ leaves 3 (short shiftC) ∷ leaves 4 (long reduceC) ∷ leaves 4 (long reduceBehind) ∷ []
-unfolding upFrom below mem occurrences keep some? every? first? joined sameSymbol symbolOfKind symbolFits has single union meet without members first symbolSets isNonterminal shiftsNonterminal wordAt records stateArea productionArea loose productionRecords looseRecords names against chainBy chain productionChain symbolChain itemChain edgeChain symbolAt itemAt edgeAt orZero ownerIn productionOf stateOf productionsOf meaning row1 row2 nonterminalRecord isState isProduction asSymbol asItem asEdge row3 row4 row5 row6 row7 used row8 offends firstRow checkOf join firstOf first0 grown round settle firstSets FIRST nullable leads predecessors walkBack traceBack sameItem sameNode labelOf alike sameCursor sameSets sameEdge add isNode nodeWords edgeWords graphWords nodeOf nodeAt lentEdge edgesIn itemFits nodeFits edgeFits once graphFits nodeIs edgeIs nodeValueFits valueFits untraced pair enter addTo ownerOf symbolsOf canShift prefixOf suffixOf inTurn epsilonItem epsilon shiftTrace shiftEdges reduceStateItem reduceItem reduceState reduceTrace reduceEdges inFront zeroed edgesOutcome traceIn traceBy shiftOf reduceOf sameWords
+unfolding upFrom below mem occurrences keep some? every? first? joined sameSymbol symbolOfKind symbolFits has single union meet without members first symbolSets isNonterminal shiftsNonterminal wordAt records stateArea productionArea loose productionRecords looseRecords names against chainBy chain productionChain symbolChain itemChain edgeChain symbolAt itemAt edgeAt orZero ownerIn productionOf stateOf productionsOf meaning row1 row2 nonterminalRecord isState isProduction asSymbol asItem asEdge row3 row4 row5 row6 row7 used row8 offends firstRow checkOf join firstOf endMarked unmarked first0 meetsAhead disjoint grown round settle firstSets FIRST nullable leads predecessors walkBack traceBack sameItem sameNode labelOf alike sameCursor sameSets sameEdge add isNode nodeWords edgeWords graphWords nodeOf nodeAt lentEdge edgesIn itemFits nodeFits edgeFits once graphFits nodeIs edgeIs nodeValueFits valueFits untraced pair enter addTo ownerOf symbolsOf canShift prefixOf suffixOf inTurn epsilonItem epsilon shiftTrace shiftEdges reduceStateItem reduceItem reduceState reduceTrace reduceEdges inFront zeroed edgesOutcome traceIn traceBy shiftOf reduceOf sameWords
 marked-traces = refl
 
 pub marked-edges :
     addEdgeOf tableC (byItem 1) (short shiftC) ∷ addEdgeOf tableC (byItem 0) (short shiftC) ∷ []
     ≡ edgeOutcome (Added 4) (long shiftMore) ∷ edgeOutcome (Added 3) (short shiftC) ∷ []
-unfolding upFrom below mem occurrences keep some? every? first? joined sameSymbol symbolOfKind symbolFits has single union meet without members first symbolSets isNonterminal shiftsNonterminal wordAt records stateArea productionArea loose productionRecords looseRecords names against chainBy chain productionChain symbolChain itemChain edgeChain symbolAt itemAt edgeAt orZero ownerIn productionOf stateOf productionsOf meaning row1 row2 nonterminalRecord isState isProduction asSymbol asItem asEdge row3 row4 row5 row6 row7 used row8 offends firstRow checkOf join firstOf first0 grown round settle firstSets FIRST nullable leads predecessors walkBack traceBack sameItem sameNode labelOf alike sameCursor sameSets sameEdge add isNode nodeWords edgeWords graphWords nodeOf nodeAt lentEdge edgesIn itemFits nodeFits edgeFits once graphFits nodeIs edgeIs nodeValueFits valueFits inFront overTable addedOutcome addEdgeIn addEdgeOf sameWords zeroed
+unfolding upFrom below mem occurrences keep some? every? first? joined sameSymbol symbolOfKind symbolFits has single union meet without members first symbolSets isNonterminal shiftsNonterminal wordAt records stateArea productionArea loose productionRecords looseRecords names against chainBy chain productionChain symbolChain itemChain edgeChain symbolAt itemAt edgeAt orZero ownerIn productionOf stateOf productionsOf meaning row1 row2 nonterminalRecord isState isProduction asSymbol asItem asEdge row3 row4 row5 row6 row7 used row8 offends firstRow checkOf join firstOf endMarked unmarked first0 meetsAhead disjoint grown round settle firstSets FIRST nullable leads predecessors walkBack traceBack sameItem sameNode labelOf alike sameCursor sameSets sameEdge add isNode nodeWords edgeWords graphWords nodeOf nodeAt lentEdge edgesIn itemFits nodeFits edgeFits once graphFits nodeIs edgeIs nodeValueFits valueFits inFront overTable addedOutcome addEdgeIn addEdgeOf sameWords zeroed
 marked-edges = refl
 
 abbrev lists : ℕ → Lookahead → List ℕ → Ran
@@ -131,18 +131,18 @@ abbrev example : List ℕ → Ran
 example ws = told 0 ws (replicate 1138 7)
 
 pub marked-shift-listing : lists 2 Any (short shiftC) ≡ example lineA
-unfolding upFrom below mem occurrences keep some? every? first? joined sameSymbol symbolOfKind symbolFits has single union meet without members first symbolSets isNonterminal shiftsNonterminal wordAt records stateArea productionArea loose productionRecords looseRecords names against chainBy chain productionChain symbolChain itemChain edgeChain symbolAt itemAt edgeAt orZero ownerIn productionOf stateOf productionsOf meaning row1 row2 nonterminalRecord isState isProduction asSymbol asItem asEdge row3 row4 row5 row6 row7 used row8 offends firstRow checkOf join firstOf first0 grown round settle firstSets FIRST nullable leads predecessors walkBack traceBack sameItem sameNode labelOf alike sameCursor sameSets sameEdge add isNode nodeWords edgeWords graphWords nodeOf nodeAt lentEdge edgesIn itemFits nodeFits edgeFits once graphFits nodeIs edgeIs nodeValueFits valueFits ownerOf symbolsOf setsOf prefixes suffixes atCursor middle symbols spans reductions symbolWords reductionWords exampleWords cursorOf ahead meets trials wordsOf pathIn sameWords holdsTrial after enough nodeOwner labelAt labelsOf passes hands says search foundOut foundThen plainFind plainOut plainThen plainRun plainLister setOf startOf aheadFits lentGraphFits askedIn moved foundOutcome restOf lost advanceIn advanceBy advanceOf openIn openBy openOf leftBy listingBy scratchBy called scratchAfter lengths leftOf leftAll lentsIn outputWords answerNumber recordOf recordsOf refusalBy callsRefusal listBy listOf inFront zeroed
+unfolding upFrom below mem occurrences keep some? every? first? joined sameSymbol symbolOfKind symbolFits has single union meet without members first symbolSets isNonterminal shiftsNonterminal wordAt records stateArea productionArea loose productionRecords looseRecords names against chainBy chain productionChain symbolChain itemChain edgeChain symbolAt itemAt edgeAt orZero ownerIn productionOf stateOf productionsOf meaning row1 row2 nonterminalRecord isState isProduction asSymbol asItem asEdge row3 row4 row5 row6 row7 used row8 offends firstRow checkOf join firstOf endMarked unmarked first0 meetsAhead disjoint grown round settle firstSets FIRST nullable leads predecessors walkBack traceBack sameItem sameNode labelOf alike sameCursor sameSets sameEdge add isNode nodeWords edgeWords graphWords nodeOf nodeAt lentEdge edgesIn itemFits nodeFits edgeFits once graphFits nodeIs edgeIs nodeValueFits valueFits ownerOf symbolsOf setsOf prefixes suffixes atCursor middle symbols spans reductions symbolWords reductionWords exampleWords cursorOf ahead meets trials wordsOf pathIn sameWords holdsTrial after enough nodeOwner labelAt labelsOf passes hands says search foundOut foundThen plainFind plainOut plainThen plainRun plainLister setOf startOf aheadFits lentGraphFits askedIn moved foundOutcome restOf lost advanceIn advanceBy advanceOf openIn openBy openOf leftBy listingBy scratchBy called scratchAfter lengths leftOf leftAll lentsIn outputWords answerNumber recordOf recordsOf refusalBy callsRefusal listBy listOf inFront zeroed
 marked-shift-listing = refl
 
 pub marked-reduce-listing : lists 3 (Set (record { 0 = 1 })) (long reduceC) ≡ example lineR
-unfolding upFrom below mem occurrences keep some? every? first? joined sameSymbol symbolOfKind symbolFits has single union meet without members first symbolSets isNonterminal shiftsNonterminal wordAt records stateArea productionArea loose productionRecords looseRecords names against chainBy chain productionChain symbolChain itemChain edgeChain symbolAt itemAt edgeAt orZero ownerIn productionOf stateOf productionsOf meaning row1 row2 nonterminalRecord isState isProduction asSymbol asItem asEdge row3 row4 row5 row6 row7 used row8 offends firstRow checkOf join firstOf first0 grown round settle firstSets FIRST nullable leads predecessors walkBack traceBack sameItem sameNode labelOf alike sameCursor sameSets sameEdge add isNode nodeWords edgeWords graphWords nodeOf nodeAt lentEdge edgesIn itemFits nodeFits edgeFits once graphFits nodeIs edgeIs nodeValueFits valueFits ownerOf symbolsOf setsOf prefixes suffixes atCursor middle symbols spans reductions symbolWords reductionWords exampleWords cursorOf ahead meets trials wordsOf pathIn sameWords holdsTrial after enough nodeOwner labelAt labelsOf passes hands says search foundOut foundThen plainFind plainOut plainThen plainRun plainLister setOf startOf aheadFits lentGraphFits askedIn moved foundOutcome restOf lost advanceIn advanceBy advanceOf openIn openBy openOf leftBy listingBy scratchBy called scratchAfter lengths leftOf leftAll lentsIn outputWords answerNumber recordOf recordsOf refusalBy callsRefusal listBy listOf inFront zeroed
+unfolding upFrom below mem occurrences keep some? every? first? joined sameSymbol symbolOfKind symbolFits has single union meet without members first symbolSets isNonterminal shiftsNonterminal wordAt records stateArea productionArea loose productionRecords looseRecords names against chainBy chain productionChain symbolChain itemChain edgeChain symbolAt itemAt edgeAt orZero ownerIn productionOf stateOf productionsOf meaning row1 row2 nonterminalRecord isState isProduction asSymbol asItem asEdge row3 row4 row5 row6 row7 used row8 offends firstRow checkOf join firstOf endMarked unmarked first0 meetsAhead disjoint grown round settle firstSets FIRST nullable leads predecessors walkBack traceBack sameItem sameNode labelOf alike sameCursor sameSets sameEdge add isNode nodeWords edgeWords graphWords nodeOf nodeAt lentEdge edgesIn itemFits nodeFits edgeFits once graphFits nodeIs edgeIs nodeValueFits valueFits ownerOf symbolsOf setsOf prefixes suffixes atCursor middle symbols spans reductions symbolWords reductionWords exampleWords cursorOf ahead meets trials wordsOf pathIn sameWords holdsTrial after enough nodeOwner labelAt labelsOf passes hands says search foundOut foundThen plainFind plainOut plainThen plainRun plainLister setOf startOf aheadFits lentGraphFits askedIn moved foundOutcome restOf lost advanceIn advanceBy advanceOf openIn openBy openOf leftBy listingBy scratchBy called scratchAfter lengths leftOf leftAll lentsIn outputWords answerNumber recordOf recordsOf refusalBy callsRefusal listBy listOf inFront zeroed
 marked-reduce-listing = refl
 
 pub marked-behind-listing : lists 3 (Set (record { 0 = 2 })) (long reduceBehind) ≡ example lineBehind
-unfolding upFrom below mem occurrences keep some? every? first? joined sameSymbol symbolOfKind symbolFits has single union meet without members first symbolSets isNonterminal shiftsNonterminal wordAt records stateArea productionArea loose productionRecords looseRecords names against chainBy chain productionChain symbolChain itemChain edgeChain symbolAt itemAt edgeAt orZero ownerIn productionOf stateOf productionsOf meaning row1 row2 nonterminalRecord isState isProduction asSymbol asItem asEdge row3 row4 row5 row6 row7 used row8 offends firstRow checkOf join firstOf first0 grown round settle firstSets FIRST nullable leads predecessors walkBack traceBack sameItem sameNode labelOf alike sameCursor sameSets sameEdge add isNode nodeWords edgeWords graphWords nodeOf nodeAt lentEdge edgesIn itemFits nodeFits edgeFits once graphFits nodeIs edgeIs nodeValueFits valueFits ownerOf symbolsOf setsOf prefixes suffixes atCursor middle symbols spans reductions symbolWords reductionWords exampleWords cursorOf ahead meets trials wordsOf pathIn sameWords holdsTrial after enough nodeOwner labelAt labelsOf passes hands says search foundOut foundThen plainFind plainOut plainThen plainRun plainLister setOf startOf aheadFits lentGraphFits askedIn moved foundOutcome restOf lost advanceIn advanceBy advanceOf openIn openBy openOf leftBy listingBy scratchBy called scratchAfter lengths leftOf leftAll lentsIn outputWords answerNumber recordOf recordsOf refusalBy callsRefusal listBy listOf inFront zeroed
+unfolding upFrom below mem occurrences keep some? every? first? joined sameSymbol symbolOfKind symbolFits has single union meet without members first symbolSets isNonterminal shiftsNonterminal wordAt records stateArea productionArea loose productionRecords looseRecords names against chainBy chain productionChain symbolChain itemChain edgeChain symbolAt itemAt edgeAt orZero ownerIn productionOf stateOf productionsOf meaning row1 row2 nonterminalRecord isState isProduction asSymbol asItem asEdge row3 row4 row5 row6 row7 used row8 offends firstRow checkOf join firstOf endMarked unmarked first0 meetsAhead disjoint grown round settle firstSets FIRST nullable leads predecessors walkBack traceBack sameItem sameNode labelOf alike sameCursor sameSets sameEdge add isNode nodeWords edgeWords graphWords nodeOf nodeAt lentEdge edgesIn itemFits nodeFits edgeFits once graphFits nodeIs edgeIs nodeValueFits valueFits ownerOf symbolsOf setsOf prefixes suffixes atCursor middle symbols spans reductions symbolWords reductionWords exampleWords cursorOf ahead meets trials wordsOf pathIn sameWords holdsTrial after enough nodeOwner labelAt labelsOf passes hands says search foundOut foundThen plainFind plainOut plainThen plainRun plainLister setOf startOf aheadFits lentGraphFits askedIn moved foundOutcome restOf lost advanceIn advanceBy advanceOf openIn openBy openOf leftBy listingBy scratchBy called scratchAfter lengths leftOf leftAll lentsIn outputWords answerNumber recordOf recordsOf refusalBy callsRefusal listBy listOf inFront zeroed
 marked-behind-listing = refl
 
 -- no example begins with a: the end at once
 pub marked-no-listing : lists 3 (Set (record { 0 = 1 })) (long reduceBehind) ≡ told 16 [] (replicate 1158 7)
-unfolding upFrom below mem occurrences keep some? every? first? joined sameSymbol symbolOfKind symbolFits has single union meet without members first symbolSets isNonterminal shiftsNonterminal wordAt records stateArea productionArea loose productionRecords looseRecords names against chainBy chain productionChain symbolChain itemChain edgeChain symbolAt itemAt edgeAt orZero ownerIn productionOf stateOf productionsOf meaning row1 row2 nonterminalRecord isState isProduction asSymbol asItem asEdge row3 row4 row5 row6 row7 used row8 offends firstRow checkOf join firstOf first0 grown round settle firstSets FIRST nullable leads predecessors walkBack traceBack sameItem sameNode labelOf alike sameCursor sameSets sameEdge add isNode nodeWords edgeWords graphWords nodeOf nodeAt lentEdge edgesIn itemFits nodeFits edgeFits once graphFits nodeIs edgeIs nodeValueFits valueFits ownerOf symbolsOf setsOf prefixes suffixes atCursor middle symbols spans reductions symbolWords reductionWords exampleWords cursorOf ahead meets trials wordsOf pathIn sameWords holdsTrial after enough nodeOwner labelAt labelsOf passes hands says search foundOut foundThen plainFind plainOut plainThen plainRun plainLister setOf startOf aheadFits lentGraphFits askedIn moved foundOutcome restOf lost advanceIn advanceBy advanceOf openIn openBy openOf leftBy listingBy scratchBy called scratchAfter lengths leftOf leftAll lentsIn outputWords answerNumber recordOf recordsOf refusalBy callsRefusal listBy listOf inFront zeroed
+unfolding upFrom below mem occurrences keep some? every? first? joined sameSymbol symbolOfKind symbolFits has single union meet without members first symbolSets isNonterminal shiftsNonterminal wordAt records stateArea productionArea loose productionRecords looseRecords names against chainBy chain productionChain symbolChain itemChain edgeChain symbolAt itemAt edgeAt orZero ownerIn productionOf stateOf productionsOf meaning row1 row2 nonterminalRecord isState isProduction asSymbol asItem asEdge row3 row4 row5 row6 row7 used row8 offends firstRow checkOf join firstOf endMarked unmarked first0 meetsAhead disjoint grown round settle firstSets FIRST nullable leads predecessors walkBack traceBack sameItem sameNode labelOf alike sameCursor sameSets sameEdge add isNode nodeWords edgeWords graphWords nodeOf nodeAt lentEdge edgesIn itemFits nodeFits edgeFits once graphFits nodeIs edgeIs nodeValueFits valueFits ownerOf symbolsOf setsOf prefixes suffixes atCursor middle symbols spans reductions symbolWords reductionWords exampleWords cursorOf ahead meets trials wordsOf pathIn sameWords holdsTrial after enough nodeOwner labelAt labelsOf passes hands says search foundOut foundThen plainFind plainOut plainThen plainRun plainLister setOf startOf aheadFits lentGraphFits askedIn moved foundOutcome restOf lost advanceIn advanceBy advanceOf openIn openBy openOf leftBy listingBy scratchBy called scratchAfter lengths leftOf leftAll lentsIn outputWords answerNumber recordOf recordsOf refusalBy callsRefusal listBy listOf inFront zeroed
 marked-no-listing = refl

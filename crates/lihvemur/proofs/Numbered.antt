@@ -1,5 +1,6 @@
 -- The ways through the exported functions, one law each. Assumes nothing.
 use mathlib.Core.Path.{_≡_, refl, sym, ap, _∙_}
+use mathlib.Core.Bool.{Bool}
 use mathlib.Core.List.{List}
 use Prim.Native.Nat.{ℕ}
 use Rattle.table.specs.declared.Checked.{Checked}
@@ -8,7 +9,10 @@ use Rattle.lookahead.specs.declared.TokenSet.{TokenSet}
 use Rattle.state_graph.specs.declared.StateSet.{StateSet}
 use Rattle.state_graph.specs.States.{statesIn}
 use Rattle.lr1.specs.declared.First.{First}
-use Rattle.lr1.specs.declared.First.the-variants.{Tokens, Refused as NoTokens}
+use Rattle.lr1.specs.declared.First.the-variants.{Answered, Refused as NoAnswer}
+use Rattle.lr1.specs.declared.Followed.{Followed}
+use Rattle.lr1.specs.declared.Followed.the-variants.{Tokens, Refused as NoTokens}
+use Rattle.first.specs.declared.Answer.{Answer}
 use Rattle.lr1.specs.declared.Walked.{Walked}
 use Rattle.lr1.specs.declared.Walked.the-variants.{States, Refused as NoStates}
 use Rattle.lr1.specs.Entries.{Walk, states, refused, walkOf}
@@ -18,7 +22,7 @@ use Rattle.lr1.specs.declared.AddEdge.the-variants.{Edges as GraphEdges, Refuse
 use Rattle.tracer.specs.Outcome.{Outcome, outcome}
 use Rattle.tracer.specs.declared.Backtrace.{Backtrace}
 use Rattle.tracer.specs.declared.Backtrace.the-variants.{Edges as TraceEdges, Refused as NoTrace}
-use Rattle.lihvemur.specs.Exported.{numbers, checkNumbers, setNumbers, firstNumbers, stateNumbers, walkNumbers, addNumbers, edgeNumbers, traceNumbers, backtraceNumbers}
+use Rattle.lihvemur.specs.Exported.{numbers, checkNumbers, setNumbers, followedNumbers, answerNumbers, firstNumbers, stateNumbers, walkNumbers, addNumbers, edgeNumbers, traceNumbers, backtraceNumbers}
 
 -- c: what the entry answers, d: what its contract says it is
 module _ (c d : Checked) (e : c ≡ d) where
@@ -30,14 +34,23 @@ module _ (c d : Checked) (e : c ≡ d) where
   unfolding checkNumbers
   check-refused n r h = rw (sym e ∙ h)
 
-module _ (old : ℕ) (c d : First) (e : c ≡ d) where
-  pub first-tokens : (s : TokenSet) → c ≡ Tokens s → setNumbers 0 0 (s .0) ≡ firstNumbers old d
+module _ (old : ℕ) (was : Bool) (c d : First) (e : c ≡ d) where
+  pub first-answered : (a : Answer) → c ≡ Answered a → answerNumbers 0 0 (a .tokens .0) (a .nullable) ≡ firstNumbers old was d
   unfolding firstNumbers
-  first-tokens s h = rw (sym e ∙ h)
+  first-answered a h = rw (sym e ∙ h)
 
-  pub first-refused : (n r : ℕ) → c ≡ NoTokens n r → setNumbers n r old ≡ firstNumbers old d
+  pub first-refused : (n r : ℕ) → c ≡ NoAnswer n r → answerNumbers n r old was ≡ firstNumbers old was d
   unfolding firstNumbers
   first-refused n r h = rw (sym e ∙ h)
+
+module _ (old : ℕ) (c d : Followed) (e : c ≡ d) where
+  pub followed-tokens : (s : TokenSet) → c ≡ Tokens s → setNumbers 0 0 (s .0) ≡ followedNumbers old d
+  unfolding followedNumbers
+  followed-tokens s h = rw (sym e ∙ h)
+
+  pub followed-refused : (n r : ℕ) → c ≡ NoTokens n r → setNumbers n r old ≡ followedNumbers old d
+  unfolding followedNumbers
+  followed-refused n r h = rw (sym e ∙ h)
 
 module _ (old : List ℕ) (c : Walked) (d : Walk) (e : walkOf c ≡ d) where
   pub walk-states : (s : StateSet) → c ≡ States s → stateNumbers 0 0 (statesIn (s .low) (s .high)) ≡ walkNumbers old d

@@ -1,12 +1,15 @@
 -- What the exported functions answer in numbers: 0, or the refusal, whose place stands behind `place`. A number behind another reference changes only with answer 0; lent words are those that the entry leaves.
 -- Assumes nothing: these are definitions.
 use Prim.Native.Nat.{ℕ, zero, suc}
+use mathlib.Core.Bool.{Bool}
 use mathlib.Core.List.{List}
 use Rattle.table.specs.declared.Checked.{Checked}
 use Rattle.table.specs.declared.Checked.the-variants.{Accepted, Refused}
 use Rattle.state_graph.specs.States.{statesIn}
 use Rattle.lr1.specs.declared.First.{First}
-use Rattle.lr1.specs.declared.First.the-variants.{Tokens, Refused as NoTokens}
+use Rattle.lr1.specs.declared.First.the-variants.{Answered, Refused as NoAnswer}
+use Rattle.lr1.specs.declared.Followed.{Followed}
+use Rattle.lr1.specs.declared.Followed.the-variants.{Tokens, Refused as NoTokens}
 use Rattle.lr1.specs.declared.Walked.{Walked}
 use Rattle.lr1.specs.declared.Walked.the-variants.{States, Refused as NoStates}
 use Rattle.lr1.specs.Entries.{Walk, states, refused}
@@ -27,9 +30,17 @@ checkNumbers (Refused n r) = numbers n r
 pub data SetNumbers : Type 0 where
   setNumbers : ℕ → ℕ → ℕ → SetNumbers
 
-unfoldable pub firstNumbers : ℕ → First → SetNumbers
-firstNumbers old (Tokens s) = setNumbers 0 0 (s .0)
-firstNumbers old (NoTokens n r) = setNumbers n r old
+unfoldable pub followedNumbers : ℕ → Followed → SetNumbers
+followedNumbers old (Tokens s) = setNumbers 0 0 (s .0)
+followedNumbers old (NoTokens n r) = setNumbers n r old
+
+-- refusal, place, set, and yes or no; both as they were where the call is refused
+pub data AnswerNumbers : Type 0 where
+  answerNumbers : ℕ → ℕ → ℕ → Bool → AnswerNumbers
+
+unfoldable pub firstNumbers : ℕ → Bool → First → AnswerNumbers
+firstNumbers old was (Answered a) = answerNumbers 0 0 (a .tokens .0) (a .nullable)
+firstNumbers old was (NoAnswer n r) = answerNumbers n r old was
 
 -- refusal, place and the states of two words
 pub data StateNumbers : Type 0 where

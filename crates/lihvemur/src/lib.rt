@@ -6,6 +6,7 @@ pub mod examples;
 use lookahead::TokenSet;
 use lr1::AddEdge;
 use lr1::First;
+use lr1::Followed;
 use lr1::Walked;
 use repr::ProductionIndex;
 use state_graph::StateIndex;
@@ -18,7 +19,7 @@ ghost use Rattle.state_graph.specs.States.{statesIn};
 ghost use Rattle.lr1.specs.Entries.{first0Of, first1Of, traceBackOf};
 ghost use Rattle.lr1.specs.Edges.{addEdgeOf};
 ghost use Rattle.tracer.specs.Outcome.{shiftOf, reduceOf};
-ghost use Rattle.lihvemur.specs.Exported.{numbers, checkNumbers, setNumbers, firstNumbers, stateNumbers, walkNumbers, addNumbers, edgeNumbers, traceNumbers, backtraceNumbers};
+ghost use Rattle.lihvemur.specs.Exported.{numbers, checkNumbers, setNumbers, followedNumbers, answerNumbers, firstNumbers, stateNumbers, walkNumbers, addNumbers, edgeNumbers, traceNumbers, backtraceNumbers};
 
 #[no_mangle]
 pub extern "C" fn lihvemur_check(table: &[u16], place: &mut u16) -> u16
@@ -41,14 +42,16 @@ pub extern "C" fn lihvemur_first0(
     table: &[u16],
     symbols: &[u16],
     set: &mut u64,
+    nullable: &mut bool,
     place: &mut u16,
 ) -> u16
-    ensures { λ r. ⌜ setNumbers r (now (place .exit)) (now (set .exit)) ≡ firstNumbers (now (set .entry)) (first0Of (now (table .entry)) (now (symbols .entry))) ⌝ }
+    ensures { λ r. ⌜ answerNumbers r (now (place .exit)) (now (set .exit)) (now (nullable .exit)) ≡ firstNumbers (now (set .entry)) (now (nullable .entry)) (first0Of (now (table .entry)) (now (symbols .entry))) ⌝ }
 {
     match lr1::first0(table, symbols) {
-        First::Tokens(tokens) => {
+        First::Answered(answer) => {
             *place = 0;
-            *set = tokens.0;
+            *set = answer.tokens.0;
+            *nullable = answer.nullable;
             0
         }
         First::Refused(refusal, at) => {
@@ -66,15 +69,15 @@ pub extern "C" fn lihvemur_first1(
     set: &mut u64,
     place: &mut u16,
 ) -> u16
-    ensures { λ r. ⌜ setNumbers r (now (place .exit)) (now (set .exit)) ≡ firstNumbers (now (set .entry)) (first1Of (now (table .entry)) (now (symbols .entry)) lookahead) ⌝ }
+    ensures { λ r. ⌜ setNumbers r (now (place .exit)) (now (set .exit)) ≡ followedNumbers (now (set .entry)) (first1Of (now (table .entry)) (now (symbols .entry)) lookahead) ⌝ }
 {
     match lr1::first1(table, TokenSet(lookahead), symbols) {
-        First::Tokens(tokens) => {
+        Followed::Tokens(tokens) => {
             *place = 0;
             *set = tokens.0;
             0
         }
-        First::Refused(refusal, at) => {
+        Followed::Refused(refusal, at) => {
             *place = at;
             refusal
         }

@@ -14,11 +14,12 @@ use Rattle.repr.specs.Packed.{productionsIn}
 use Rattle.table.specs.Decoded.{meaning}
 use Rattle.table.specs.declared.Checked.{Checked}
 use Rattle.table.specs.declared.Checked.the-variants.{Accepted, Refused}
-use Rattle.first.specs.First.{FIRST, first0, first1, firstSets}
-use Rattle.first.proofs.Join.{first1-join}
+use Rattle.first.specs.First.{FIRST, first0, first1, followed, firstSets}
+use Rattle.first.specs.declared.Answer.{Answer}
 use Rattle.state_graph.specs.Walk.{traceBack}
 use Rattle.lr1.specs.Entries.{overTable, symbolsFit, tokensFit, first0In, first1In, states, refused, traceBackIn}
-use Rattle.lr1.specs.declared.First.the-variants.{Tokens, Refused as NoTokens}
+use Rattle.lr1.specs.declared.First.the-variants.{Answered, Refused as NoAnswer}
+use Rattle.lr1.specs.declared.Followed.the-variants.{Tokens, Refused as NoTokens}
 
 module _ {A : Type 0} (refuse : ℕ → ℕ → A) (answer : Table → A) (t : List ℕ) where
   pub over-refused : (n r : ℕ) (c : Checked) → c ≡ Refused n r → refuse n r ≡ overTable refuse answer t c
@@ -38,11 +39,11 @@ module _ (ws : List ℕ) (T : Table) (n t : ℕ) (en : n ≡ length (T .nontermi
   unfolding symbolsFit
   fits-by = rw (← en, ← et) eb
 
-  pub first0-yes : b ≡ true → (map : List ℕ) → map ≡ firstSets (T .terminals) (T .productions) → (s : ℕ) → s ≡ first0 t map (listed ws) → Tokens (record { 0 = s }) ≡ first0In ws T
+  pub first0-yes : b ≡ true → (map : List ℕ) → map ≡ firstSets (T .terminals) (T .productions) → (a : Answer) → a ≡ first0 t map (listed ws) → Answered a ≡ first0In ws T
   unfolding first0In FIRST
-  first0-yes f map em s es = rw (sym fits-by ∙ f, first0In, es, em, et)
+  first0-yes f map em a ea = rw (sym fits-by ∙ f, first0In, ea, em, et)
 
-  pub first0-no : b ≡ false → NoTokens 9 0 ≡ first0In ws T
+  pub first0-no : b ≡ false → NoAnswer 9 0 ≡ first0In ws T
   unfolding first0In
   first0-no f = rw (sym fits-by ∙ f, first0In)
 
@@ -61,8 +62,8 @@ module _ (ws : List ℕ) (T : Table) (n t : ℕ) (en : n ≡ length (T .nontermi
       first1-set h = rw (sym fits-by ∙ f, sym set-is ∙ h, first1In)
 
       pub first1-yes : d ≡ true → (map : List ℕ) → map ≡ firstSets (T .terminals) (T .productions) → (s : ℕ) → s ≡ first1 t map (listed ws) ahead → Tokens (record { 0 = s }) ≡ first1In ws ahead T
-      unfolding first1In FIRST
-      first1-yes h map em s es = rw (sym fits-by ∙ f, sym set-is ∙ h, first1In, es, first1-join t map (listed ws) ahead, em, et)
+      unfolding first1In FIRST first1
+      first1-yes h map em s es = rw (sym fits-by ∙ f, sym set-is ∙ h, first1In, es, em, et)
 
 -- ---- the walk
 module _ (s : ℕ) (ws : List ℕ) (T : Table) where

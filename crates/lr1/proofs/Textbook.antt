@@ -10,24 +10,27 @@ use lib.ListN.{length, getD}
 use lib.Dec.{eqb}
 use borrow.Author.Tests.{lt-ltb, ne-eqb, eqb-false}
 use Rattle.repr.specs.Lists.{mem}
-use Rattle.repr.specs.Meaning.{Symbol, nonterminal, terminal, Production, noProduction, Table, SymbolFits, All}
+use Rattle.repr.specs.Meaning.{Symbol, nonterminal, terminal, Production, noProduction, Table, TableFits, SymbolFits, All}
 use Rattle.repr.specs.Listed.{symbolOfKind, listed, symbolFits, listFits}
 use Rattle.repr.proofs.Lists.{cases, clash, mem-nil}
 use Rattle.lookahead.specs.Tokens.{has, single, without}
-use Rattle.lookahead.proofs.Laws.{has-without}
+use Rattle.lookahead.proofs.Laws.{has-none, has-without, without-no}
 use Rattle.table.specs.Decoded.{meaning}
 use Rattle.table.specs.Refusals.{checkOf}
 use Rattle.table.specs.declared.Checked.the-variants.{Accepted}
 use Rattle.table.proofs.Chains.{and-true as both-true}
 use Rattle.table.proofs.Accepted.{accepts}
 use Rattle.table.proofs.Decoding.{symbol-fits, fits, owned}
-use Rattle.first.specs.First.{FIRST, join, firstOf, first0, firstSets}
+use Rattle.first.specs.declared.Answer.{Answer}
+use Rattle.first.specs.First.{FIRST, join, firstOf, endMarked, unmarked, first0, firstSets}
+use Rattle.first.specs.Rust.{rustFirst0}
 use Rattle.first.specs.Derives.{Derives}
-use Rattle.first.proofs.Join.{join-left, join-right, join-cases, join-single-right}
+use Rattle.first.proofs.Join.{join-left, join-right, join-cases, join-single-right, followed-join}
 use Rattle.first.proofs.Textbook.{first-terminal, first-end, first-only, first-none}
 use Rattle.lr1.specs.Entries.{overTable, symbolsFit, tokensFit, first0In, first0Of, first1In, first1Of}
 use Rattle.lr1.specs.Textbook.{IsFirst, IsFirst1}
-use Rattle.lr1.specs.declared.First.the-variants.{Tokens}
+use Rattle.lr1.specs.declared.First.the-variants.{Answered}
+use Rattle.lr1.specs.declared.Followed.the-variants.{Tokens}
 
 listed-fits : (T : Table) (ws : List ℕ) → listFits (length (T .nonterminals)) (T .terminals) ws ≡ true → All (SymbolFits T) (listed ws)
 unfolding listFits listed All
@@ -38,50 +41,49 @@ listed-fits T (k ∷ x ∷ ws) h =
     let b = both-true (symbolFits (length (T .nonterminals)) (T .terminals) k x) _ h in
     (symbol-fits T k x (b .0), rest (b .1))
 
+-- the answer is the textbook's, for every table whose numbers are in range
+pub first-is : (T : Table) → TableFits T → (xs : List Symbol) → All (SymbolFits T) xs → IsFirst T xs (FIRST T xs)
+unfolding FIRST first0 unmarked rustFirst0
+first-is T F xs inside =
+    let s = rustFirst0 T xs in
+    let e = T .terminals in
+    record {
+      begins = λ k h.
+          let q : has (without s e) k ≡ has s k = has-without s e k ∙ rw (ne-eqb k e (λ z. omega arith)) (and-true (has s k)) in
+          let r = first-terminal T F xs inside k h in
+          (λ z. r .0 (sym q ∙ z), λ d. q ∙ r .1 d);
+      vanishes = first-end T F xs inside;
+      only = λ k h.
+          has-without s e k
+          ∙ cases (eqb k e)
+          (λ z. rw z (and-false (has s k)))
+          (λ z. ap (λ (b : Bool). b && not (eqb k e)) (first-only T F xs inside k (above k e h (eqb-false k e z))));
+    }
+  where
+    above : (k e : ℕ) → e ≤ k → (k ≡ e → ⊥) → e < k
+    above k e h n = omega arith
+
 module _ (t ws : List ℕ) (A : checkOf t ≡ Accepted) (f : symbolsFit (meaning t) ws ≡ true) where
   inside : All (SymbolFits (meaning t)) (listed ws)
   unfolding symbolsFit
   inside = listed-fits (meaning t) ws f
 
-  -- `first0` answers the tokens, with end as the mark of "nullable" (docs/DIFFERENCES.md)
-  pub first0-textbook : (s : ℕ) × (first0Of t ws ≡ Tokens (record { 0 = s }))
-      × IsFirst (meaning t) (listed ws) (without s (meaning t .terminals)) (has s (meaning t .terminals))
+  -- `first0` answers it
+  pub first0-textbook : (a : Answer) × (first0Of t ws ≡ Answered a) × IsFirst (meaning t) (listed ws) a
   unfolding first0Of overTable first0In
-  first0-textbook =
-      let T = meaning t in
-      let F = fits t A in
-      let s = FIRST T (listed ws) in
-      let e = T .terminals in (
-        s,
-        rw (A, f, overTable, first0In),
-        record {
-          begins = λ k h.
-              let q : has (without s e) k ≡ has s k = has-without s e k ∙ rw (ne-eqb k e (λ z. omega arith)) (and-true (has s k)) in
-              let r = first-terminal T F (listed ws) inside k h in
-              (λ z. r .0 (sym q ∙ z), λ d. q ∙ r .1 d);
-          vanishes = first-end T F (listed ws) inside;
-          only = λ k h.
-              has-without s e k
-              ∙ cases (eqb k e)
-              (λ z. rw z (and-false (has s k)))
-              (λ z. ap (λ (b : Bool). b && not (eqb k e)) (first-only T F (listed ws) inside k (above k e h (eqb-false k e z))));
-        },
-      )
-    where
-      above : (k e : ℕ) → e ≤ k → (k ≡ e → ⊥) → e < k
-      above k e h n = omega arith
+  first0-textbook = (FIRST (meaning t) (listed ws), rw (A, f, overTable, first0In), first-is (meaning t) (fits t A) (listed ws) inside)
 
   -- `first1`: what begins what the list derives, and where it vanishes the lookahead
   pub first1-textbook : (ahead : ℕ) → tokensFit (meaning t) ahead ≡ true
       → (s : ℕ) × (first1Of t ws ahead ≡ Tokens (record { 0 = s })) × IsFirst1 (meaning t) (listed ws) ahead s
-  unfolding first1Of overTable first1In
-  first1-textbook ahead g = (join e s ahead, rw (A, f, g, overTable, first1In), record { begins = λ k. (there k, back k) })
+  unfolding first1Of overTable first1In FIRST first0 rustFirst0
+  first1-textbook ahead g = (join e s ahead, rw (A, f, g, overTable, first1In, followed-join e s ahead), record { begins = λ k. (there k, back k) })
     where
       e : ℕ
       e = meaning t .terminals
 
       s : ℕ
-      s = FIRST (meaning t) (listed ws)
+      s = rustFirst0 (meaning t) (listed ws)
 
       D : List Symbol → Type 0
       D ys = Derives (meaning t .productions) (listed ws) ys
@@ -108,7 +110,7 @@ module _ (t ws : List ℕ) (A : checkOf t ≡ Accepted) (f : symbolsFit (meaning
           join-left e s ahead k (first-terminal (meaning t) (fits t A) (listed ws) inside k (d .0) .1 (d .1)) (λ z. let l = d .0 in omega arith)
       back k (inr d) = join-right e s ahead k (first-end (meaning t) (fits t A) (listed ws) inside .1 (d .0)) (d .1)
 
--- a nonterminal without productions has the empty set
+-- a nonterminal without productions has no terminal, and is not nullable
 
 member-at : (x : Production) (xs : List Production) → List·Memᴰ x xs → (i : ℕ) × (i < length xs) × (getD xs i noProduction ≡ x)
 member-at x (y ∷ ys) (List·Memᴰ·head q) = (0, omega arith, sym q)
@@ -123,9 +125,9 @@ none-owned t A n h e p m q =
     clash (mem (r .0) (getD (meaning t .nonterminals) n [])) o (ap (mem (r .0)) e ∙ mem-nil (r .0))
 
 pub first0-none : (t : List ℕ) → checkOf t ≡ Accepted → (n : ℕ) → n < length (meaning t .nonterminals) → getD (meaning t .nonterminals) n [] ≡ []
-    → first0Of t (0 ∷ n ∷ []) ≡ Tokens (record { 0 = 0 })
-unfolding first0Of overTable first0In symbolsFit listFits symbolFits listed symbolOfKind FIRST first0 firstOf
+    → first0Of t (0 ∷ n ∷ []) ≡ Answered (record { tokens = record { 0 = 0 }; nullable = false })
+unfolding first0Of overTable first0In symbolsFit listFits symbolFits listed symbolOfKind FIRST first0 endMarked firstOf unmarked
 first0-none t A n h e =
     let z : getD (firstSets (meaning t .terminals) (meaning t .productions)) n 0 ≡ 0 =
     first-none (meaning t .terminals) n (meaning t .productions) (none-owned t A n h e) in
-    rw (A, lt-ltb n (length (meaning t .nonterminals)) h, overTable, first0In, z, join-single-right (meaning t .terminals) 0)
+    rw (A, lt-ltb n (length (meaning t .nonterminals)) h, overTable, first0In, z, join-single-right (meaning t .terminals) 0, without-no 0 (meaning t .terminals) (has-none (meaning t .terminals)), has-none (meaning t .terminals))

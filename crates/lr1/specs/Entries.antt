@@ -11,11 +11,13 @@ use Rattle.table.specs.Decoded.{meaning}
 use Rattle.table.specs.Refusals.{checkOf}
 use Rattle.table.specs.declared.Checked.{Checked}
 use Rattle.table.specs.declared.Checked.the-variants.{Accepted, Refused}
-use Rattle.first.specs.First.{FIRST, join}
+use Rattle.first.specs.First.{FIRST, followed}
 use Rattle.state_graph.specs.Walk.{traceBack}
 use Rattle.state_graph.specs.States.{statesIn}
 use Rattle.lr1.specs.declared.First.{First}
-use Rattle.lr1.specs.declared.First.the-variants.{Tokens, Refused as NoTokens}
+use Rattle.lr1.specs.declared.First.the-variants.{Answered, Refused as NoAnswer}
+use Rattle.lr1.specs.declared.Followed.{Followed}
+use Rattle.lr1.specs.declared.Followed.the-variants.{Tokens, Refused as NoTokens}
 use Rattle.lr1.specs.declared.Walked.{Walked}
 use Rattle.lr1.specs.declared.Walked.the-variants.{States, Refused as NoStates}
 
@@ -33,19 +35,19 @@ unfoldable pub tokensFit : Table → ℕ → Bool
 tokensFit T s = ltb s (2 ^ suc (T .terminals))
 
 unfoldable pub first0In : List ℕ → Table → First
-first0In ws T = elim (symbolsFit T ws) [ true ↦ Tokens (record { 0 = FIRST T (listed ws) }) | false ↦ NoTokens 9 0 ]
+first0In ws T = elim (symbolsFit T ws) [ true ↦ Answered (FIRST T (listed ws)) | false ↦ NoAnswer 9 0 ]
 
 unfoldable pub first0Of : List ℕ → List ℕ → First
-first0Of t ws = overTable NoTokens (first0In ws) t (checkOf t)
+first0Of t ws = overTable NoAnswer (first0In ws) t (checkOf t)
 
--- a lookahead in the place of end
-unfoldable pub first1In : List ℕ → ℕ → Table → First
+-- a list that a token of the lookahead follows
+unfoldable pub first1In : List ℕ → ℕ → Table → Followed
 first1In ws ahead T = elim (symbolsFit T ws && tokensFit T ahead) [
-  | true ↦ Tokens (record { 0 = join (T .terminals) (FIRST T (listed ws)) ahead })
+  | true ↦ Tokens (record { 0 = followed (FIRST T (listed ws)) ahead })
   | false ↦ NoTokens 9 0
 ]
 
-unfoldable pub first1Of : List ℕ → List ℕ → ℕ → First
+unfoldable pub first1Of : List ℕ → List ℕ → ℕ → Followed
 first1Of t ws ahead = overTable NoTokens (first1In ws ahead) t (checkOf t)
 
 -- what a walk answers: the states, ascending, or a refusal and its place

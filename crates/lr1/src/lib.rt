@@ -1,5 +1,6 @@
 // The public surface. Every entry is total, refuses by document 01's table of refusals, and is equated with a definition of specs/Entries, specs/Edges or tracer's specs/Outcome.
 // Parameters: table, then numbers, then lent lists.
+use first::Answer;
 use first::FirstSets;
 use lookahead::TokenSet;
 use repr::ProductionIndex;
@@ -33,13 +34,13 @@ pub fn check(table: &[u16]) -> Checked
     table_check::check(table)
 }
 
-// A set of tokens; else the refusal and its place.
+// FIRST of a list; else the refusal and its place.
 pub enum First {
-    Tokens(TokenSet),
+    Answered(Answer),
     Refused(u16, u16),
 }
 
-// FIRST of a list of symbols, kind and number each; the end of input is in it exactly if the list may derive the empty string.
+// FIRST of a list of symbols, kind and number each: the terminals that begin what it derives, and whether it derives the empty list.
 pub fn first0(table: &[u16], symbols: &[u16]) -> First
     ensures { λ r. ⌜ r ≡ first0Of (now (table .entry)) (now (symbols .entry)) ⌝ }
 {
@@ -69,23 +70,29 @@ fn first0_in(table: &[u16], symbols: &[u16]) -> First
     if list_fits(counts.nonterminals, terminals, symbols) {
         let sets = first_sets(table);
         let map = sets.map;
-        First::Tokens(first::first0(&map, terminals as u16, symbols))
+        First::Answered(first::first0(&map, terminals as u16, symbols))
     } else {
         First::Refused(9, 0)
     }
 }
 
+// A set of tokens; else the refusal and its place.
+pub enum Followed {
+    Tokens(TokenSet),
+    Refused(u16, u16),
+}
+
 // FIRST of a list that a token of the lookahead follows.
-pub fn first1(table: &[u16], lookahead: TokenSet, symbols: &[u16]) -> First
+pub fn first1(table: &[u16], lookahead: TokenSet, symbols: &[u16]) -> Followed
     ensures { λ r. ⌜ r ≡ first1Of (now (table .entry)) (now (symbols .entry)) (lookahead .0) ⌝ }
 {
     match table_check::check(table) {
-        Checked::Refused(refusal, place) => First::Refused(refusal, place),
+        Checked::Refused(refusal, place) => Followed::Refused(refusal, place),
         Checked::Accepted => first1_in(table, lookahead, symbols),
     }
 }
 
-fn first1_in(table: &[u16], lookahead: TokenSet, symbols: &[u16]) -> First
+fn first1_in(table: &[u16], lookahead: TokenSet, symbols: &[u16]) -> Followed
     requires { ⌜ checkOf (now table) ≡ Checked.Accepted ⌝ }
     ensures { λ r. ⌜ r ≡ first1In (now (symbols .entry)) (lookahead .0) (meaning (now (table .entry))) ⌝ }
 {
@@ -96,10 +103,10 @@ fn first1_in(table: &[u16], lookahead: TokenSet, symbols: &[u16]) -> First
         if lookahead.fits(terminals) {
             let sets = first_sets(table);
             let map = sets.map;
-            return First::Tokens(first::first1(&map, terminals as u16, symbols, lookahead));
+            return Followed::Tokens(first::first1(&map, terminals as u16, symbols, lookahead));
         }
     }
-    First::Refused(9, 0)
+    Followed::Refused(9, 0)
 }
 
 // States, ascending when gone through in order; else the refusal and its place.

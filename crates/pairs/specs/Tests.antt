@@ -6,8 +6,7 @@ use lib.ListN.{length, getD}
 use lib.Dec.{eqb, ltb}
 use Rattle.repr.specs.Meaning.{Symbol, sameSymbol, Production}
 use Rattle.repr.specs.Listed.{symbolOfKind}
-use Rattle.lookahead.specs.Tokens.{meet}
-use Rattle.first.specs.First.{first0}
+use Rattle.first.specs.First.{first0, disjoint}
 use Rattle.example.specs.Example.{ExampleSymbol, symbol, epsilon, reductions}
 use Rattle.error.specs.Judge.{Example, sameExampleSymbols, between, reductionAt, shiftUpcoming, reduceUpcoming}
 use Rattle.pairs.specs.Words.{placesIn, reductionIn}
@@ -17,9 +16,9 @@ use Rattle.pairs.specs.declared.Compared.the-variants.{Same, Disjoint, O
 unfoldable pub sameReadingIn : List ℕ → List ℕ → Bool
 sameReadingIn a r = sameExampleSymbols (placesIn a) (placesIn r) && eqb (getD a 1 0) (getD r 1 0)
 
--- FIRST of two symbols disjoint
+-- FIRST of two symbols disjoint: no terminal in both, and not both nullable
 unfoldable pub apart : ℕ → List ℕ → Symbol → Symbol → Bool
-apart e sets x y = eqb (meet (first0 e sets (x ∷ [])) (first0 e sets (y ∷ []))) 0
+apart e sets x y = disjoint (first0 e sets (x ∷ [])) (first0 e sets (y ∷ []))
 
 unfoldable pub disjointBy : ℕ → List ℕ → List ℕ → ℕ → List ℕ → ℕ → Bool
 disjointBy e sets a i r j =

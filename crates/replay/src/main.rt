@@ -10,8 +10,8 @@
 // 12 observed (number of words of the first buffer, its words, then the second's);
 // 13 opening a listing (production, index, whether it is filtered, the set's four words, how many words of the graph are lent, the words at its front);
 // 14 token sets (number of terminals, token, four words of a first set, four of a second); 15 an item (production, index).
-// An answer begins with answer and place, then what stands behind the other references, whether the call wrote it or not: it was 7 before (a set: token 7; a count of entries: 77).
-// 2, 3: the set's tokens. 4: the states. 5, 6, 7: number of edges, digest of the graph, of 5 and 6 that of the scratch; with answer 0 the count and the edges.
+// An answer begins with answer and place, then what stands behind the other references, whether the call wrote it or not: it was 7 before (a set: token 7; whether a list is nullable: yes; a count of entries: 77).
+// 2: whether the list is nullable, the set's tokens. 3: the set's tokens. 4: the states. 5, 6, 7: number of edges, digest of the graph, of 5 and 6 that of the scratch; with answer 0 the count and the edges.
 // 8: count, openness, digests of scratch and buffer, the buffer's first 16 words. 9: number of calls, digests of scratch and output, the output's first 24 words.
 // 10: class, own values in halves of one word, trials of both sides, digests of scratch and both buffers, the words of each example that the class has. 11: count, digests of scratch and entries, the entries.
 // 12: in which buffer, number of words, the words (no place). 14: length, whether it has the token, whether the end; the set after insert, insert_eof, take_eof and whether each did something; the same of union_with;

@@ -1,5 +1,6 @@
 // Ops 1 to 4: check, first0, first1, trace_back.
 use crate::say::say_answer;
+use crate::say::say_bool;
 use crate::say::say_ones;
 use crate::words::at;
 use crate::words::rest;
@@ -11,12 +12,14 @@ fn ask_check(table: &[u16]) {
     say_answer(answer, place);
 }
 
-// Before the call a set holds token 7.
+// Place, whether the list is nullable, and the set's members; before the call yes, and token 7.
 fn ask_first0(table: &[u16], more: &[u16]) {
     let mut place: u16 = 7;
+    let mut nullable = true;
     let mut set: u64 = 128;
-    let answer = lihvemur::lihvemur_first0(table, more, &mut set, &mut place);
+    let answer = lihvemur::lihvemur_first0(table, more, &mut set, &mut nullable, &mut place);
     say_answer(answer, place);
+    say_bool(nullable);
     say_ones(set, 0);
 }
 

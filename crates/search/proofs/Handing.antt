@@ -1,15 +1,14 @@
 -- The ways through the filter (`meets`, `passes`, `hands`), by specs/Filter. Assumes nothing.
 use Prim.Native.Nat.{ℕ}
 use mathlib.Core.Path.{_≡_, sym, ap, _∙_}
-use mathlib.Core.Bool.{Bool, true, false, _&&_, not}
+use mathlib.Core.Bool.{Bool, true, false, _&&_}
 use mathlib.Core.List.{List, _++_, reverse, reverse-reverse}
 use mathlib.Core.Option.{Option, some}
 use lib.ListN.{getD}
-use lib.Dec.{eqb}
 use Rattle.repr.specs.Meaning.{Production}
 use Rattle.lookahead.specs.declared.TokenSet.{TokenSet}
-use Rattle.lookahead.specs.Tokens.{meet}
-use Rattle.first.specs.First.{first0}
+use Rattle.first.specs.First.{first0, meetsAhead}
+use Rattle.first.specs.declared.Answer.{Answer}
 use Rattle.trace_graph.specs.Graph.{TraceEdge}
 use Rattle.example.specs.Example.{Label, ahead, meets}
 use Rattle.enumerator.specs.Trials.{Path, endsOf, isExample}
@@ -33,11 +32,11 @@ tried-stacked T = stacked-of (T .path) (T .rest) (T .words) (T .few) (T .edges)
 
 module _ (e : ℕ) (sets : List ℕ) (ps : List Production) (es : List TraceEdge) where
   -- `meets`
-  pub meets-is : (set x : ℕ) (r : Bool) (ls : List Label) (p : Path) → x ≡ first0 e sets (ahead ps ls) → r ≡ not (eqb (meet x set) 0) → ls ≡ labelsOf ps es p
+  pub meets-is : (set : ℕ) (x : Answer) (r : Bool) (ls : List Label) (p : Path) → x ≡ first0 e sets (ahead ps ls) → r ≡ meetsAhead e x set → ls ≡ labelsOf ps es p
       → r ≡ passesBy e sets ps es (some set) p
   unfolding passesBy meets
   meets-is set x r ls p ex er el =
-      er ∙ ap (λ (y : ℕ). not (eqb (meet y set) 0)) ex ∙ ap (λ (l : List Label). not (eqb (meet (first0 e sets (ahead ps l)) set) 0)) el
+      er ∙ ap (λ (y : Answer). meetsAhead e y set) ex ∙ ap (λ (l : List Label). meetsAhead e (first0 e sets (ahead ps l)) set) el
 
   -- `passes`
   pub passes-any : (l : Lookahead) → l ≡ Any → (p : Path) → true ≡ passesBy e sets ps es (setOf l) p

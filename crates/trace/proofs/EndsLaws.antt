@@ -20,6 +20,7 @@ use Rattle.repr.proofs.Parts.{symbols-long}
 use Rattle.core.specs.Items.{symbolSets}
 use Rattle.lookahead.specs.Tokens.{has}
 use Rattle.first.specs.First.{first0, firstSets, FIRST, nullable}
+use Rattle.first.specs.declared.Answer.{Answer}
 use Rattle.state_graph.specs.Walk.{walkBack, traceBack}
 use Rattle.state_graph.specs.States.{hasState, statesIn}
 use Rattle.state_graph.proofs.States.{states-one}
@@ -106,11 +107,11 @@ module _ (g : List ℕ) (n p : ℕ) (P : Packed g n) (h : p < n) where
       let c = P .short p h in
       (a, omega arith)
 
-  -- its suffix's flag: b is what the code asks FIRST for
-  pub ends-is : (T : Table) (i e x : ℕ) (sets ws : List ℕ) (b : Bool) → T .productions ≡ productionsIn g n → T .terminals ≡ e → sets ≡ firstSets e (productionsIn g n)
-      → listed ws ≡ symbolSets (listed (symbolWords g p)) i .suffix → x ≡ first0 e sets (listed ws) → b ≡ has x e → b ≡ nullable T (suffixOf T (itemAt p i))
+  -- its suffix's flag, from the answer that the code asks for
+  pub ends-is : (T : Table) (i e : ℕ) (sets ws : List ℕ) (x : Answer) → T .productions ≡ productionsIn g n → T .terminals ≡ e → sets ≡ firstSets e (productionsIn g n)
+      → listed ws ≡ symbolSets (listed (symbolWords g p)) i .suffix → x ≡ first0 e sets (listed ws) → x .nullable ≡ nullable T (suffixOf T (itemAt p i))
   unfolding nullable FIRST
-  ends-is T i e x sets ws b ep et es ew ex eb = rw (eb, ex, es, ew, suffix-is T i ep, ep, et) refl
+  ends-is T i e sets ws x ep et es ew ex = rw (ex, es, ew, suffix-is T i ep, ep, et) refl
 
   -- its prefix has the table's range
   pub prefix-fits : (T : Table) (i : ℕ) (ws : List ℕ) → TableFits T → T .productions ≡ productionsIn g n → ws ≡ take (2 * i) (symbolWords g p) → listFits (length (T .nonterminals)) (T .terminals) ws ≡ true

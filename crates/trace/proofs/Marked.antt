@@ -8,7 +8,7 @@ use Rattle.repr.specs.Lists.{upFrom, below, mem, keep, some?, every?, joined}
 use Rattle.repr.specs.Meaning.{nonterminal, terminal, sameSymbol, Item, Table}
 use Rattle.lookahead.specs.Tokens.{has, single, union, without}
 use Rattle.core.specs.Items.{first, symbolSets, isNonterminal, shiftsNonterminal}
-use Rattle.first.specs.First.{join, firstOf, first0, grown, round, settle, firstSets, FIRST, nullable}
+use Rattle.first.specs.First.{join, firstOf, endMarked, unmarked, first0, grown, round, settle, firstSets, FIRST, nullable}
 use Rattle.state_graph.specs.Walk.{leads, predecessors, walkBack, traceBack}
 use Rattle.trace_graph.specs.Graph.{Node, atNonterminal, atItem, sameItem, sameNode, TraceEdge, labelOf, sameSymbols, sameCursor, sameSets, sameEdge, add, isNode}
 use Rattle.trace_graph.specs.Words.{nodeWords, edgeWords, graphWords, nodeOf, nodeAt, edgeAt, edgesIn}
@@ -68,7 +68,7 @@ shiftN =
     ∷ []
 
 pub marked-traces : shiftEdges tableB 3 (item 0 1) ∷ reduceEdges tableB 3 (item 0 3) ∷ reduceEdges tableB 3 (item 1 1) ∷ shiftEdges tableB 2 (item 1 0) ∷ [] ≡ shiftB ∷ reduceB ∷ reduceN ∷ shiftN ∷ []
-unfolding upFrom below mem keep some? sameSymbol has single union without first symbolSets isNonterminal shiftsNonterminal join firstOf first0 grown round sameWords settle firstSets FIRST nullable leads predecessors walkBack traceBack sameItem sameNode labelOf sameSymbols sameCursor sameSets sameEdge add untraced pair enter addTo ownerOf symbolsOf canShift prefixOf suffixOf inTurn epsilonItem epsilon shiftTrace shiftEdges reduceStateItem reduceItem reduceState reduceTrace reduceEdges
+unfolding upFrom below mem keep some? sameSymbol has single union without first symbolSets isNonterminal shiftsNonterminal join firstOf endMarked unmarked first0 grown round sameWords settle firstSets FIRST nullable leads predecessors walkBack traceBack sameItem sameNode labelOf sameSymbols sameCursor sameSets sameEdge add untraced pair enter addTo ownerOf symbolsOf canShift prefixOf suffixOf inTurn epsilonItem epsilon shiftTrace shiftEdges reduceStateItem reduceItem reduceState reduceTrace reduceEdges
 marked-traces = refl
 
 -- their graphs pass the check of a lent graph, and the traced items are nodes

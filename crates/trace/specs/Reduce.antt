@@ -9,7 +9,7 @@ use Rattle.state_graph.specs.Walk.{traceBack}
 use Rattle.trace_graph.specs.Graph.{TraceEdge, atNonterminal, atItem}
 use Rattle.trace.specs.Traced.{Trace, untraced, pair, enter, addTo, ownerOf, canShift, prefixOf, suffixOf, inTurn, pairs}
 
--- one item of the state that can shift nonterminal n: where its suffix has end in its FIRST, an edge from its nonterminal, and it is traced on; else an edge from the item
+-- one item of the state that can shift nonterminal n: where its suffix is nullable, an edge from its nonterminal, and it is traced on; else an edge from the item
 unfoldable pub reduceStateItem : Table → ℕ → (Item → Trace → Trace) → Item → Trace → Trace
 reduceStateItem T n go i st = elim (canShift T n i) [
   | true ↦ elim (nullable T (suffixOf T i)) [

@@ -61,7 +61,7 @@ fn item_ends(
         index: index,
     };
     let rest = suffix(grammar, productions, item);
-    if first0(map, terminals, rest).contains_eof(terminals) {
+    if first0(map, terminals, rest).nullable {
         return 1;
     }
     0
@@ -100,7 +100,7 @@ fn production_ends(
     }
 }
 
-// The flags of all items, made once: tracing asks for each item that it meets whether FIRST of its suffix has the end of input.
+// The flags of all items, made once: tracing asks for each item that it meets whether its suffix is nullable.
 pub fn suffix_ends(
     grammar: &[u16],
     productions: usize,
@@ -268,7 +268,7 @@ pub fn trace_reduce_item(
     }
 }
 
-// `trace_reduce_from_state`: the items of the state that can shift the nonterminal, each once. Where FIRST of an item's suffix has the end of input, it is traced on.
+// `trace_reduce_from_state`: the items of the state that can shift the nonterminal, each once. An item with a nullable suffix is traced on.
 pub fn trace_reduce_from_state(
     table: &[u16],
     grammar: &[u16],

@@ -284,7 +284,7 @@ impl<'a> Answers<'a> {
     pub fn answer(&mut self, op: u16, table: &[u16], more: &[u16]) -> Option<Answer> {
         match op {
             1 => Some(whole(self.side.check(table)?, &[])),
-            2 => self.list_of(table, more, |side, s| side.first0(table, s), &[7]),
+            2 => self.list_of(table, more, |side, s| side.first0(table, s), &[1, 7]),
             3 => {
                 let set = set_at(more, 0);
                 let ask = |side: &mut dyn Side, s: &[Sym]| side.first1(table, s, set);

@@ -223,11 +223,9 @@ fn closure(table: &Table, firsts: &Firsts, kernel: &Kernel) -> Kernel {
         let Some(&(0, nt)) = symbols.get(i as usize) else {
             continue;
         };
-        let end = 1u64 << table.terminals;
-        let mut ahead = firsts.first0(&symbols[i as usize + 1..]);
-        if ahead & end != 0 {
-            ahead = ahead & !end | items[&(p, i)];
-        }
+        let ahead = firsts
+            .first0(&symbols[i as usize + 1..])
+            .followed(items[&(p, i)]);
         for &q in &table.nonterminals[nt as usize] {
             let known = items.entry((q, 0)).or_insert(0);
             let fresh = *known == 0 || ahead & !*known != 0;

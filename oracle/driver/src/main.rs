@@ -119,8 +119,8 @@ fn marked(side: &str) -> bool {
     let b = table_b();
     let expected: [(&str, &str); 17] = [
         ("check", "= 0"),
-        ("first0", "= 0 2"),
-        ("first0 0 0", "= 0 1"),
+        ("first0", "= 0 1"),
+        ("first0 0 0", "= 0 0 1"),
         ("back 3 0 0 1 0 0 0", "= 0 0 2"),
         ("back 3", "= 0 3"),
         ("back 0 0 0", "= 0"),

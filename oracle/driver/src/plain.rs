@@ -4,47 +4,68 @@
 use crate::side::*;
 use crate::table::*;
 
-/// FIRST of every nonterminal: bit i is token i, bit `terminals` the end.
-pub struct Firsts {
-    end: u16,
-    sets: Vec<u64>,
+/// FIRST (request 04): bit i is terminal i; and whether the empty list is derived.
+#[derive(Clone, Copy, Default, PartialEq)]
+pub struct First {
+    pub terminals: u64,
+    pub nullable: bool,
 }
+
+impl First {
+    /// With a lookahead for what follows.
+    pub fn followed(self, lookahead: u64) -> u64 {
+        self.terminals | if self.nullable { lookahead } else { 0 }
+    }
+
+    /// Whether a lookahead meets it; `end` is its end of input.
+    fn meets(self, lookahead: u64, end: u16) -> bool {
+        self.terminals & lookahead != 0 || self.nullable && lookahead >> end & 1 == 1
+    }
+
+    fn disjoint(self, other: First) -> bool {
+        self.terminals & other.terminals == 0 && !(self.nullable && other.nullable)
+    }
+}
+
+/// FIRST of every nonterminal.
+pub struct Firsts(Vec<First>);
 
 impl Firsts {
     pub fn new(table: &Table) -> Self {
-        let mut f = Firsts {
-            end: table.terminals,
-            sets: vec![0; table.nonterminals.len()],
-        };
+        let mut f = Firsts(vec![First::default(); table.nonterminals.len()]);
         loop {
-            let before = f.sets.clone();
+            let before = f.0.clone();
             for p in &table.productions {
-                f.sets[p.nonterminal as usize] |= f.first0(&p.symbols);
+                let more = f.first0(&p.symbols);
+                let own = &mut f.0[p.nonterminal as usize];
+                own.terminals |= more.terminals;
+                own.nullable |= more.nullable;
             }
-            if f.sets == before {
+            if f.0 == before {
                 return f;
             }
         }
     }
 
-    pub fn first0(&self, symbols: &[Sym]) -> u64 {
-        let end = 1u64 << self.end;
-        let mut out = 0;
+    pub fn first0(&self, symbols: &[Sym]) -> First {
+        let mut out = First::default();
         for &(kind, number) in symbols {
             if kind == 1 {
-                return out | 1 << number;
+                out.terminals |= 1 << number;
+                return out;
             }
-            let set = self.sets[number as usize];
-            out |= set & !end;
-            if set & end == 0 {
+            let own = self.0[number as usize];
+            out.terminals |= own.terminals;
+            if !own.nullable {
                 return out;
             }
         }
-        out | end
+        out.nullable = true;
+        out
     }
 
     fn nullable(&self, symbols: &[Sym]) -> bool {
-        self.first0(symbols) >> self.end & 1 == 1
+        self.first0(symbols).nullable
     }
 }
 
@@ -194,8 +215,8 @@ impl Plain<'_> {
         }
     }
 
-    /// Tokens that may follow: first edge's cursor, then suffixes outward.
-    fn following(&self, path: &[[u16; 8]]) -> u64 {
+    /// FIRST of what follows: first edge's cursor, then suffixes outward.
+    fn following(&self, path: &[[u16; 8]]) -> First {
         let mut symbols: Vec<Sym> = self.parts((path[0][6], path[0][7])).1.into_iter().collect();
         for e in path {
             symbols.extend(self.parts((e[6], e[7])).2);
@@ -275,7 +296,7 @@ impl Plain<'_> {
         let (mut found, mut count) = (vec![], 0);
         let end = [1, start.0, start.1];
         let out = self.trials(edges, &mut vec![], end, &mut count, &mut |trial, path| {
-            if lookahead.is_some_and(|l| self.following(path) & l == 0) {
+            if lookahead.is_some_and(|l| !self.following(path).meets(l, self.table.terminals)) {
                 return Ok(());
             }
             if found.len() == room {
@@ -419,7 +440,7 @@ impl Plain<'_> {
                 match x.iter().zip(y).find(|(a, b)| a != b || a.0 == 2) {
                     None => false,
                     Some((&a, &b)) if a.0 < 2 && b.0 < 2 => {
-                        self.firsts.first0(&[a]) & self.firsts.first0(&[b]) == 0
+                        self.firsts.first0(&[a]).disjoint(self.firsts.first0(&[b]))
                     }
                     Some(_) => false,
                 }
@@ -492,7 +513,11 @@ impl Side for PlainSide {
         ask(
             table,
             |t| good_list(t, symbols),
-            |p| Ok(members(p.firsts.first0(symbols)).map(u32::from).collect()),
+            |p| {
+                let first = p.firsts.first0(symbols);
+                let terminals = members(first.terminals).map(u32::from);
+                Ok(std::iter::once(first.nullable.into()).chain(terminals).collect())
+            },
         )
     }
 
@@ -501,12 +526,7 @@ impl Side for PlainSide {
             table,
             |t| good_list(t, symbols) && good_set(t, lookahead),
             |p| {
-                let (set, end) = (p.firsts.first0(symbols), 1u64 << p.table.terminals);
-                let set = if set & end != 0 {
-                    set & !end | lookahead
-                } else {
-                    set
-                };
+                let set = p.firsts.first0(symbols).followed(lookahead);
                 Ok(members(set).map(u32::from).collect())
             },
         )

@@ -43,7 +43,9 @@ macro_rules! entries {
 
 entries! {
     check is lihvemur_check(table: &[u16], place: &mut u16);
-    first0 is lihvemur_first0(table: &[u16], symbols: &[u16], set: &mut u64, place: &mut u16);
+    first0 is lihvemur_first0(
+        table: &[u16], symbols: &[u16], set: &mut u64, nullable: &mut bool, place: &mut u16
+    );
     first1 is lihvemur_first1(
         table: &[u16], lookahead: u64, symbols: &[u16], set: &mut u64, place: &mut u16
     );

@@ -239,9 +239,12 @@ impl Side for PortSide {
     }
 
     fn first0(&mut self, table: &[u16], symbols: &[Sym]) -> Option<Answer> {
-        let (mut place, mut set) = (0, 0);
-        let refusal = first0(table, &symbol_words(symbols), &mut set, &mut place);
-        answer((refusal, place), || tokens(set))
+        let (mut place, mut set, mut nullable) = (0, 0, false);
+        let symbols = symbol_words(symbols);
+        let refusal = first0(table, &symbols, &mut set, &mut nullable, &mut place);
+        answer((refusal, place), || {
+            std::iter::once(nullable.into()).chain(tokens(set))
+        })
     }
 
     fn first1(&mut self, table: &[u16], symbols: &[Sym], ahead: u64) -> Option<Answer> {

@@ -790,7 +790,12 @@ impl Side for RustSide {
 
     fn first0(&mut self, table: &[u16], symbols: &[Sym]) -> Option<Answer> {
         let good = |t: &Table| symbols.iter().all(|&s| t.symbol_in_range(s));
-        self.ask(table, good, |r| Ok(wide(&r.first0(symbols)).collect()))
+        // The Rust marks a nullable list by the end in its set (request 04).
+        self.ask(table, good, |r| {
+            let mut tokens = r.first0(symbols);
+            let nullable = tokens.pop_if(|t| *t == r.table.terminals).is_some();
+            Ok(std::iter::once(nullable.into()).chain(wide(&tokens)).collect())
+        })
     }
 
     fn first1(&mut self, table: &[u16], symbols: &[Sym], lookahead: u64) -> Option<Answer> {

@@ -7,7 +7,8 @@ use crate::table::{Refusal, Sym, Table, refuse};
 /// | question | after the 0 |
 /// |---|---|
 /// | check | nothing |
-/// | first0, first1 | the tokens, ascending |
+/// | first0 | 1 if the list is nullable else 0, its terminals, ascending |
+/// | first1 | the tokens, ascending |
 /// | trace_back | the states, ascending |
 /// | backtrace, add_edge | number of edges, eight words an edge |
 /// | examples | 1 if refused by 13 else 0, count, number of examples; of each: trial, number of words, words |

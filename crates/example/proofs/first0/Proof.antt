@@ -1,21 +1,22 @@
 -- `first0` gives what the example expects next. The loop's invariant: what the parts so far gave, joined with FIRST of the rest, is the answer; the measure
 -- is the number of labels left. Assumes nothing.
 use Prim.Native.Nat.{_-_, _≤_}
-use mathlib.Core.Path.{_≡_, _∙_}
+use mathlib.Core.Path.{_≡_, sym, _∙_}
 use borrow.Author.Tests.{not-true, not-false}
 use lib.ListN.{drop}
 use Rattle.repr.specs.Packed.{productionsIn}
-use Rattle.first.specs.First.{join, first0}
+use Rattle.first.specs.First.{joinAnswers, first0}
+use Rattle.first.proofs.Answers.{join-stop}
 use Rattle.example.specs.Example.{suffixes, ahead}
 use Rattle.example.specs.Labels.{labelsIn}
-use Rattle.example.proofs.Walk.{ahead-start, ahead-stop, ahead-more, ahead-end}
+use Rattle.example.proofs.Walk.{ahead-start, ahead-more, ahead-end}
 use borrow.Author.Needs.{needs}
 use native.Mathlib.Omega.{arith}
 use Rattle.example.proofs.first0.Statement.{statement}
 use Rattle.example.proofs.first0.Tie as tie
 
 abbrev Inv-loop : tie.InvT-loop
-Inv-loop map terminals grammar productions labels count result₀ asked₀ result asked = (join terminals (result .0) (first0 terminals map (suffixes (productionsIn grammar productions) (drop asked (labelsIn labels)))) ≡ first0 terminals map (ahead (productionsIn grammar productions) (labelsIn labels))) × (asked ≤ count)
+Inv-loop map terminals grammar productions labels count result₀ asked₀ result asked = (joinAnswers result (first0 terminals map (suffixes (productionsIn grammar productions) (drop asked (labelsIn labels)))) ≡ first0 terminals map (ahead (productionsIn grammar productions) (labelsIn labels))) × (asked ≤ count)
 
 abbrev μ-loop : tie.MeasureT-loop
 μ-loop map terminals grammar productions labels count result₀ asked₀ result asked = count - asked
@@ -32,20 +33,17 @@ first0-requires c κs = (c .before .before .before .before .pre .0 .1, c .cursor
 loop-holds : tie.Need-loop-holds Inv-loop μ-loop
 loop-holds c = (ahead-start _ _ _ _ _ _ (c .before .cursor-part .ensures) (c .first0 .ensures), omega arith)
 
-take-eof-requires : tie.Need-take-eof-requires Inv-loop μ-loop
-take-eof-requires c κs = search needs
-
 returns : tie.Need-returns Inv-loop μ-loop
-returns c = ahead-stop _ (c .before .before .before .before .before .before .before .before .before .before .args .map .now) (productionsIn (c .before .before .before .before .before .before .before .before .before .before .args .grammar .now) (c .before .before .before .before .before .before .before .before .before .before .args .productions)) (c .before .before .before .before .before .before .before .before .before .before .args .labels .now) _ _ _ (c .before .before .take-eof .ensures .1) (not-true _ (c .if1 .taken)) ∙ c .before .before .before .before .loop .inv .0
+returns c = sym (join-stop _ _ (not-true _ (c .if1 .taken))) ∙ c .before .before .before .loop .inv .0
 
 suffix-part-requires : tie.Need-suffix-part-requires Inv-loop μ-loop
-suffix-part-requires c κs = (c .before .before .before .before .before .before .before .before .before .before .pre .0 .0, (c .before .before .before .before .before .before .before .before .before .before .pre .1, omega (arith, c .before .before .before .before .before .before .before .label-count .ensures .0, c .before .before .before .loop-test .taken)))
+suffix-part-requires c κs = (c .before .before .before .before .before .before .before .before .before .pre .0 .0, (c .before .before .before .before .before .before .before .before .before .pre .1, omega (arith, c .before .before .before .before .before .before .label-count .ensures .0, c .before .before .loop-test .taken)))
 
 first0-requires-2 : tie.Need-first0-requires-2 Inv-loop μ-loop
-first0-requires-2 c κs = (c .before .before .before .before .before .before .before .before .before .before .before .pre .0 .1, c .suffix-part .ensures .fits)
+first0-requires-2 c κs = (c .before .before .before .before .before .before .before .before .before .before .pre .0 .1, c .suffix-part .ensures .fits)
 
-union-with-requires : tie.Need-union-with-requires Inv-loop μ-loop
-union-with-requires c κs = search needs
+join-requires : tie.Need-join-requires Inv-loop μ-loop
+join-requires c κs = search needs
 
 add-asked : tie.Need-add-asked Inv-loop μ-loop
 add-asked c = search needs
@@ -55,9 +53,8 @@ loop-less c = search needs
 
 loop-again : tie.Need-loop-again Inv-loop μ-loop
 loop-again c = (
-  ahead-more _ _ _ _ _ (omega (arith, c .before .before .before .before .before .before .before .before .before .before .before .label-count .ensures .0, c .before .before .before .before .before .before .before .loop-test .taken)) _ (c .before .before .before .suffix-part .ensures) _ _ _ _ _ (c .before .before .before .before .before .before .take-eof .ensures .0) (c .before .before .before .before .before .before .take-eof .ensures .1) (not-false _ (c .before .before .before .before .if1 .left)) (c .before .before .first02 .ensures) (c .before .union-with .ensures .0)
-      ∙ c .before .before .before .before .before .before .before .before .loop .inv .0,
-  omega (arith, c .before .before .before .before .before .before .before .loop-test .taken),
+  ahead-more _ _ _ _ _ (omega (arith, c .before .before .before .before .before .before .before .before .before .label-count .ensures .0, c .before .before .before .before .before .loop-test .taken)) _ (c .before .before .suffix-part .ensures) _ _ _ (c .before .first02 .ensures) (c .join .ensures) ∙ c .before .before .before .before .before .before .loop .inv .0,
+  omega (arith, c .before .before .before .before .before .loop-test .taken),
 )
 
 returns-2 : tie.Need-returns-2 Inv-loop μ-loop
@@ -73,11 +70,10 @@ first0-spec =
     cursor-part-requires
     first0-requires
     loop-holds
-    take-eof-requires
     returns
     suffix-part-requires
     first0-requires-2
-    union-with-requires
+    join-requires
     add-asked
     loop-less
     loop-again

@@ -17,8 +17,8 @@ word-requires c κs = search needs
 symbols-requires : tie.Need-symbols-requires
 symbols-requires c κs = search needs
 
-first0-requires : tie.Need-first0-requires
-first0-requires c κs = (c .before .before .before .before .pre .2, ap (listFits nonterminalLimit terminalLimit) (c .symbols .ensures) ∙ c .before .before .before .before .pre .0 .fits _ (c .before .before .before .before .pre .1))
+end-marked-requires : tie.Need-end-marked-requires
+end-marked-requires c κs = (c .before .before .before .before .pre .2, ap (listFits nonterminalLimit terminalLimit) (c .symbols .ensures) ∙ c .before .before .before .before .pre .0 .fits _ (c .before .before .before .before .pre .1))
 
 mul-t9 : tie.Need-mul-t9
 mul-t9 c = search needs
@@ -37,7 +37,7 @@ element-write-map c = omega (arith, c .before .before .before .before .before .b
 
 returns : tie.Need-returns
 returns c =
-    one-grown _ _ _ _ _ _ _ _ _ (omega (arith, c .before .before .before .before .before .before .before .pre .0 .owner _ (c .before .before .before .before .before .before .before .pre .1), c .before .before .before .before .before .word .ensures .0, c .before .before .before .before .before .before .before .pre .3)) (c .before .before .before .before .before .word .ensures .0) (c .before .before .before .symbols .ensures) (c .before .before .first0 .ensures) (c .union-with .ensures .0) (c .union-with .ensures .1)
+    one-grown _ _ _ _ _ _ _ _ _ (omega (arith, c .before .before .before .before .before .before .before .pre .0 .owner _ (c .before .before .before .before .before .before .before .pre .1), c .before .before .before .before .before .word .ensures .0, c .before .before .before .before .before .before .before .pre .3)) (c .before .before .before .before .before .word .ensures .0) (c .before .before .before .symbols .ensures) (c .before .before .end-marked .ensures) (c .union-with .ensures .0) (c .union-with .ensures .1)
 
 pub grow-one-spec : {M : Type 1} → statement M
 grow-one-spec =
@@ -46,7 +46,7 @@ grow-one-spec =
     mul-word
     word-requires
     symbols-requires
-    first0-requires
+    end-marked-requires
     mul-t9
     element-copy-out-t14
     union-with-requires

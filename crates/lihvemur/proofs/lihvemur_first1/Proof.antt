@@ -1,5 +1,5 @@
 -- `lihvemur::lihvemur_first1` meets its contract. Assumes nothing.
-use Rattle.lihvemur.proofs.Numbered.{check-accepted, check-refused, first-tokens, first-refused, walk-states, walk-refused}
+use Rattle.lihvemur.proofs.Numbered.{followed-tokens, followed-refused}
 use native.Mathlib.Omega.{arith}
 use borrow.Author.Needs.{needs}
 use Rattle.lihvemur.proofs.lihvemur_first1.Statement.{statement}
@@ -18,10 +18,10 @@ enum-known-refusal : tie.Need-enum-known-refusal
 enum-known-refusal c = search needs
 
 returns : tie.Need-returns
-returns c = first-tokens _ _ _ (c .before .before .before .first1 .ensures) _ (c .before .tokens .given .1)
+returns c = followed-tokens _ _ _ (c .before .before .before .first1 .ensures) _ (c .before .tokens .given .1)
 
 returns-2 : tie.Need-returns-2
-returns-2 c = first-refused _ _ _ (c .before .before .before .first1 .ensures) _ _ (c .before .refusal .given .1)
+returns-2 c = followed-refused _ _ _ (c .before .before .before .first1 .ensures) _ _ (c .before .refusal .given .1)
 
 pub lihvemur-first1-spec : {M : Type 1} → statement M
 lihvemur-first1-spec =

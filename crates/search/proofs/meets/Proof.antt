@@ -28,15 +28,15 @@ slice-aggregate-first0 c =
 first0-requires : tie.Need-first0-requires
 first0-requires c κs = search needs
 
-is-intersecting-requires : tie.Need-is-intersecting-requires
-is-intersecting-requires c κs = search needs
+meets-requires : tie.Need-meets-requires
+meets-requires c κs = search needs
 
 returns : tie.Need-returns
 returns c =
     let S = c .before .before .before .before .before .before .before .before .before in
     λ p rest w.
-    meets-is (S .args .terminals) (S .args .map .now) (productionsIn (S .args .grammar .now) (S .args .productions)) (edgesIn (S .args .graph .now)) (S .args .set .0) (c .before .first0 .result .0) (c .is-intersecting .result)
-    (labelsIn (take (c .before .before .before .before .read-labels .result) (c .before .before .before .before .read-labels .last .1 .1 .1 .1 .0))) p (c .before .first0 .ensures) (c .is-intersecting .ensures) (c .before .before .before .before .read-labels .ensures .1 p rest w)
+    meets-is (S .args .terminals) (S .args .map .now) (productionsIn (S .args .grammar .now) (S .args .productions)) (edgesIn (S .args .graph .now)) (S .args .set .0) (c .before .first0 .result) (c .meets .result)
+    (labelsIn (take (c .before .before .before .before .read-labels .result) (c .before .before .before .before .read-labels .last .1 .1 .1 .1 .0))) p (c .before .first0 .ensures) (c .meets .ensures) (c .before .before .before .before .read-labels .ensures .1 p rest w)
 
 pub meets-spec : {M : Type 1} → statement M
 meets-spec =
@@ -47,5 +47,5 @@ meets-spec =
     array-share-prefix-labels
     slice-aggregate-first0
     first0-requires
-    is-intersecting-requires
+    meets-requires
     returns)

@@ -100,9 +100,9 @@ fn first(name: &str, table: &[u16], symbols: &[Sym]) {
     let held = held(table);
     let r = held.rust();
     let list = symbol_words(symbols);
-    let (mut place, mut set) = (0, 0);
+    let (mut place, mut set, mut nullable) = (0, 0, false);
     let port = least(&mut || {
-        black_box(port::first0(table, &list, &mut set, &mut place));
+        black_box(port::first0(table, &list, &mut set, &mut nullable, &mut place));
     });
     let rust = least(&mut || {
         black_box(r.first0(symbols));
