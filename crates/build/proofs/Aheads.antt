@@ -9,6 +9,7 @@ use lib.Dec.{eqb, ltb}
 use lib.ListN.{length, getD, replicate, length-append, length-replicate, List·getD-append, List·getD-eq-default}
 use lib.Seq.{getD-append-add}
 use borrow.Author.Tests.{eqb-true, eqb-false, eq-eqb, ne-eqb, ltb-true, ltb-false}
+use Rattle.repr.specs.Sizes.{indexLimit}
 use Rattle.lookahead.proofs.Growing.{getD-none}
 use Rattle.repr.specs.Lists.{below, joined}
 use Rattle.repr.specs.Meaning.{Symbol, nonterminal, terminal, Item, Table, productionAt, SymbolFits, All, TableFits}
@@ -82,13 +83,13 @@ module _ (T : Table) where
 
   -- the sets of a state
 
-  pub spread-first : (L : List ℕ) (x : ℕ) → x < places T → x % 17 ≡ 0 → getD (spread T L) x 0 ≡ union (getD L x 0) (getD L (places T + productionAt T (x / 17) .nonterminal) 0)
+  pub spread-first : (L : List ℕ) (x : ℕ) → x < places T → x % indexLimit ≡ 0 → getD (spread T L) x 0 ≡ union (getD L x 0) (getD L (places T + productionAt T (x / indexLimit) .nonterminal) 0)
   unfolding spread spreadAt
-  spread-first L x h e = getD-map-below (spreadAt T L) (places T) x 0 h ∙ rw (eq-eqb (x % 17) 0 e, spreadAt)
+  spread-first L x h e = getD-map-below (spreadAt T L) (places T) x 0 h ∙ rw (eq-eqb (x % indexLimit) 0 e, spreadAt)
 
-  pub spread-later : (L : List ℕ) (x : ℕ) → x < places T → (x % 17 ≡ 0 → ⊥) → getD (spread T L) x 0 ≡ getD L x 0
+  pub spread-later : (L : List ℕ) (x : ℕ) → x < places T → (x % indexLimit ≡ 0 → ⊥) → getD (spread T L) x 0 ≡ getD L x 0
   unfolding spread spreadAt
-  spread-later L x h n = getD-map-below (spreadAt T L) (places T) x 0 h ∙ rw (ne-eqb (x % 17) 0 n, spreadAt)
+  spread-later L x h n = getD-map-below (spreadAt T L) (places T) x 0 h ∙ rw (ne-eqb (x % indexLimit) 0 n, spreadAt)
 
   pub length-spread : (L : List ℕ) → length (spread T L) ≡ places T
   unfolding spread
@@ -98,9 +99,9 @@ module _ (T : Table) where
   spread-sized L f = record {
     long = length-spread L;
     fits = λ x. cases (ltb x (places T))
-        (λ t. let h = ltb-true x (places T) t in cases (eqb (x % 17) 0)
-        (λ u. rw (spread-first L x h (eqb-true (x % 17) 0 u)) (union-lt 64 (getD L x 0) (getD L (places T + productionAt T (x / 17) .nonterminal) 0) (f x) (f (places T + productionAt T (x / 17) .nonterminal))))
-        (λ u. rw (spread-later L x h (eqb-false (x % 17) 0 u)) (f x)))
+        (λ t. let h = ltb-true x (places T) t in cases (eqb (x % indexLimit) 0)
+        (λ u. rw (spread-first L x h (eqb-true (x % indexLimit) 0 u)) (union-lt 64 (getD L x 0) (getD L (places T + productionAt T (x / indexLimit) .nonterminal) 0) (f x) (f (places T + productionAt T (x / indexLimit) .nonterminal))))
+        (λ u. rw (spread-later L x h (eqb-false (x % indexLimit) 0 u)) (f x)))
         (λ t.
         let o : length (spread T L) ≤ x = rw (length-spread L) (ltb-false x (places T) t) in
         rw (List·getD-eq-default (spread T L) 0 o) (omega arith));
@@ -222,19 +223,19 @@ module _ (T : Table) (F : TableFits T) where
 
     spread-has : (x a : ℕ) → x < places T → has (getD L x 0) a ≡ true → has (getD R x 0) a ≡ true
     spread-has x a h g =
-        cases (eqb (x % 17) 0)
-        (λ t. rw (spread-first T L x h (eqb-true (x % 17) 0 t)) (within-union-left (getD L x 0) (getD L (places T + productionAt T (x / 17) .nonterminal) 0) a g))
-        (λ t. rw (spread-later T L x h (eqb-false (x % 17) 0 t)) g)
+        cases (eqb (x % indexLimit) 0)
+        (λ t. rw (spread-first T L x h (eqb-true (x % indexLimit) 0 t)) (within-union-left (getD L x 0) (getD L (places T + productionAt T (x / indexLimit) .nonterminal) 0) a g))
+        (λ t. rw (spread-later T L x h (eqb-false (x % indexLimit) 0 t)) g)
 
     arrives : (j : Item) (n b : ℕ) → j .index ≡ 0 → j .production < length (T .productions) → productionAt T (j .production) .nonterminal ≡ n → has (getD L (places T + n) 0) b ≡ true → has (tokens R j) b ≡ true
     arrives j n b y l o g =
-        let x : ℕ = 17 * j .production + j .index in
+        let x : ℕ = indexLimit * j .production + j .index in
         let xl : x < places T = omega arith in
-        let r : x % 17 ≡ 0 = omega arith in
-        let q : x / 17 ≡ j .production = omega arith in
-        let v : productionAt T (x / 17) .nonterminal ≡ n = ap (λ (p : ℕ). productionAt T p .nonterminal) q ∙ o in
+        let r : x % indexLimit ≡ 0 = omega arith in
+        let q : x / indexLimit ≡ j .production = omega arith in
+        let v : productionAt T (x / indexLimit) .nonterminal ≡ n = ap (λ (p : ℕ). productionAt T p .nonterminal) q ∙ o in
         rw (tokens-at R j (omega arith), spread-first T L x xl r)
-        (within-union-right (getD L x 0) (getD L (places T + productionAt T (x / 17) .nonterminal) 0) b (rw v g))
+        (within-union-right (getD L x 0) (getD L (places T + productionAt T (x / indexLimit) .nonterminal) 0) b (rw v g))
 
     by-item : (i : Item) (n x a b : ℕ) (β : List Symbol) → x < places T → from T x ≡ nonterminal n ∷ β → has (getD L x 0) a ≡ true → InFirst T β a b → has (getD L (places T + n) 0) b ≡ true
     by-item i n x a b β h e g f =
@@ -250,7 +251,7 @@ module _ (T : Table) (F : TableFits T) where
     spread-complete : (i : Item) (a : ℕ) → Closed T Given i a → has (tokens R i) a ≡ true
     spread-complete i a (given k) =
         let u = tokens-index S i a k in
-        let x : ℕ = 17 * i .production + i .index in
+        let x : ℕ = indexLimit * i .production + i .index in
         let g : has (getD S x 0) a ≡ true = rw (tokens-at S i u) at k in
         let xl : x < places T = rw (z .long) at (has-inside S x a g) in
         rw (tokens-at R i u) (spread-has x a xl (rw (aheads-sound .old x xl) g))
@@ -259,37 +260,37 @@ module _ (T : Table) (F : TableFits T) where
         by : has (tokens R i) a ≡ true → has (getD L (places T + n) 0) b ≡ true
         by h =
             let u = tokens-index R i a h in
-            let x : ℕ = 17 * i .production + i .index in
+            let x : ℕ = indexLimit * i .production + i .index in
             let g : has (getD R x 0) a ≡ true = rw (tokens-at R i u) at h in
             let xl : x < places T = rw (length-spread T L) at (has-inside R x a g) in
             let cur : from T x ≡ nonterminal n ∷ β = ap (rest T) (item-code i u) ∙ e in
             cases (has (getD L x 0) a)
             (λ t. by-item i n x a b β xl cur t f)
-            (λ t. cases (eqb (x % 17) 0)
+            (λ t. cases (eqb (x % indexLimit) 0)
             (λ v.
-            let r = eqb-true (x % 17) 0 v in
-            let w : has (getD L (places T + productionAt T (x / 17) .nonterminal) 0) a ≡ true =
-            sym (has-union (getD L x 0) (getD L (places T + productionAt T (x / 17) .nonterminal) 0) a ∙ rw t) ∙ (rw (spread-first T L x xl r) at g) in
-            by-production (x / 17) n a b β (omega arith) (rw r at cur) w f)
-            (λ v. clash (has (getD L x 0) a) (rw (spread-later T L x xl (eqb-false (x % 17) 0 v)) at g) t))
+            let r = eqb-true (x % indexLimit) 0 v in
+            let w : has (getD L (places T + productionAt T (x / indexLimit) .nonterminal) 0) a ≡ true =
+            sym (has-union (getD L x 0) (getD L (places T + productionAt T (x / indexLimit) .nonterminal) 0) a ∙ rw t) ∙ (rw (spread-first T L x xl r) at g) in
+            by-production (x / indexLimit) n a b β (omega arith) (rw r at cur) w f)
+            (λ v. clash (has (getD L x 0) a) (rw (spread-later T L x xl (eqb-false (x % indexLimit) 0 v)) at g) t))
 
     spread-sound : (i : Item) (a : ℕ) → has (tokens R i) a ≡ true → Closed T Given i a
     spread-sound i a h =
         let u = tokens-index R i a h in
-        let x : ℕ = 17 * i .production + i .index in
+        let x : ℕ = indexLimit * i .production + i .index in
         let g : has (getD R x 0) a ≡ true = rw (tokens-at R i u) at h in
         let xl : x < places T = rw (length-spread T L) at (has-inside R x a g) in
         subst (λ (j : Item). Closed T Given j a) (item-code i u)
         (cases (has (getD L x 0) a)
         (λ t. given (rw (tokens-item S x) (rw (aheads-sound .old x xl) at t)))
-        (λ t. cases (eqb (x % 17) 0)
+        (λ t. cases (eqb (x % indexLimit) 0)
         (λ v.
-        let r : x % 17 ≡ 0 = eqb-true (x % 17) 0 v in
-        let w : has (getD L (places T + productionAt T (x / 17) .nonterminal) 0) a ≡ true =
-        sym (has-union (getD L x 0) (getD L (places T + productionAt T (x / 17) .nonterminal) 0) a ∙ rw t) ∙ (rw (spread-first T L x xl r) at g) in
-        subst (λ (k : ℕ). Closed T Given (record { production = x / 17; index = k }) a) (sym r)
-        (aheads-sound .new (productionAt T (x / 17) .nonterminal) a w (x / 17) (omega arith) refl))
-        (λ v. clash (has (getD L x 0) a) (rw (spread-later T L x xl (eqb-false (x % 17) 0 v)) at g) t)))
+        let r : x % indexLimit ≡ 0 = eqb-true (x % indexLimit) 0 v in
+        let w : has (getD L (places T + productionAt T (x / indexLimit) .nonterminal) 0) a ≡ true =
+        sym (has-union (getD L x 0) (getD L (places T + productionAt T (x / indexLimit) .nonterminal) 0) a ∙ rw t) ∙ (rw (spread-first T L x xl r) at g) in
+        subst (λ (k : ℕ). Closed T Given (record { production = x / indexLimit; index = k }) a) (sym r)
+        (aheads-sound .new (productionAt T (x / indexLimit) .nonterminal) a w (x / indexLimit) (omega arith) refl))
+        (λ v. clash (has (getD L x 0) a) (rw (spread-later T L x xl (eqb-false (x % indexLimit) 0 v)) at g) t)))
 
     pub closure-by-aheads : spread T (aheads T S) ≡ closure T S
     closure-by-aheads =

@@ -9,6 +9,7 @@ use native.Mathlib.Omega.{arith}
 use lib.Dec.{eqb, ltb}
 use lib.ListN.{length, getD, drop, take, length-take}
 use borrow.Author.Tests.{ltb-false, ne-eqb, eqb-true}
+use Rattle.repr.specs.Sizes.{recordLimit}
 use Rattle.repr.specs.Lists.{below, keep, joined}
 use Rattle.repr.specs.Meaning.{Symbol, nonterminal, terminal, Production, Item, Edge, State, Table, productionAt, SymbolFits, All, ItemFits, EdgeFits, StateFits, ProductionFits, TableFits}
 use Rattle.repr.proofs.Lists.{cases, clash, length-map-below, getD-map-below, joined-nil, joined-cons}
@@ -188,6 +189,6 @@ few-items T room Rs k n p l h =
     cases (eqb k 128)
     (λ t. clash (stopsAt T room Rs k) (rw (t, stopsAt)) h)
     (λ t.
-    let r : ltb (min room 8192) (records T (take (suc k) Rs)) ≡ false = sym (rw (t, stopsAt)) ∙ h in
+    let r : ltb (min room recordLimit) (records T (take (suc k) Rs)) ≡ false = sym (rw (t, stopsAt)) ∙ h in
     let m : length (take (suc k) Rs) ≡ suc k = length-take (suc k) Rs ∙ omega arith in
-    omega (arith, ltb-false (min room 8192) (records T (take (suc k) Rs)) r, m))
+    omega (arith, ltb-false (min room recordLimit) (records T (take (suc k) Rs)) r, m))

@@ -6,6 +6,7 @@ use mathlib.Core.List.{List, [], _∷_, _++_, map}
 use Prim.Native.Nat.{ℕ, _/_, _%_}
 use lib.Dec.{eqb}
 use lib.ListN.{length, getD}
+use Rattle.repr.specs.Sizes.{indexLimit}
 use Rattle.slices.specs.Same.{sameWords}
 use Rattle.repr.specs.Lists.{upFrom, below, keep, every?, joined}
 use Rattle.repr.specs.Meaning.{Symbol, nonterminal, terminal, sameSymbol, Edge, Table}
@@ -26,7 +27,7 @@ abbrev word : ℕ → ℕ → ℕ → ℕ → Clash
 word p a o t = record { production = p; action = a; other = o; token = t }
 
 abbrev shown : List ℕ → List (List ℕ)
-shown S = map (λ x. at (x / 17) (x % 17) (getD S x 0)) (keep (λ x. not (eqb (getD S x 0) 0)) (below (length S)))
+shown S = map (λ x. at (x / indexLimit) (x % indexLimit) (getD S x 0)) (keep (λ x. not (eqb (getD S x 0) 0)) (below (length S)))
 
 abbrev statesOf : Collected → List (List (List ℕ))
 statesOf (built Rs es) = map shown Rs

@@ -11,6 +11,7 @@ use lib.Dec.{eqb, ltb}
 use lib.ListN.{length, getD, take, length-take}
 use lib.Seq.{ext-getD, getD-take}
 use borrow.Author.Tests.{eqb-true, eqb-false, eq-eqb, ne-eqb, ltb-true, ltb-false}
+use Rattle.repr.specs.Sizes.{indexLimit, recordLimit}
 use Rattle.repr.specs.Lists.{below, first?}
 use Rattle.repr.specs.Meaning.{Edge, Table, TableFits}
 use Rattle.repr.proofs.Lists.{cases, clash}
@@ -26,7 +27,7 @@ stops-128 : (T : Table) (room : ℕ) (Rs : List (List ℕ)) → stopsAt T room R
 unfolding stopsAt
 stops-128 T room Rs = refl
 
-stops-other : (T : Table) (room : ℕ) (Rs : List (List ℕ)) (k : ℕ) → (k ≡ 128 → ⊥) → stopsAt T room Rs k ≡ ltb (min room 8192) (records T (take (suc k) Rs))
+stops-other : (T : Table) (room : ℕ) (Rs : List (List ℕ)) (k : ℕ) → (k ≡ 128 → ⊥) → stopsAt T room Rs k ≡ ltb (min room recordLimit) (records T (take (suc k) Rs))
 unfolding stopsAt
 stops-other T room Rs k n = rw (ne-eqb k 128 n, stopsAt)
 
@@ -46,7 +47,7 @@ stops-more T room Rs Qs k f h =
     (λ t. rw (eqb-true k 128 t) (stops-128 T room Qs ∙ sym (stops-128 T room Rs)))
     (λ t.
     let n = eqb-false k 128 t in
-    stops-other T room Qs k n ∙ ap (λ (l : List (List ℕ)). ltb (min room 8192) (records T l)) (front-same Rs Qs k f h) ∙ sym (stops-other T room Rs k n))
+    stops-other T room Qs k n ∙ ap (λ (l : List (List ℕ)). ltb (min room recordLimit) (records T l)) (front-same Rs Qs k f h) ∙ sym (stops-other T room Rs k n))
 
 collect-extends : (f : ℕ) (T : Table) (Rs : List (List ℕ)) (es : List (List Edge)) → Extends Rs (statesOf (collect f T Rs es))
 unfolding collect
@@ -91,7 +92,7 @@ halted-stops T F start h room Rs e n =
 unfoldable pub Means : Table → ℕ → ℕ → ℕ → Outcome → Type 0
 Means T start room words (refused n) = Unit {0}
 Means T start room words (full Rs es) =
-    (build T start ≡ built Rs es) × (records T Rs + sum (λ (ds : List Edge). length ds) es ≤ min room 8192) × (5 * sum (λ (S : List ℕ). length (clashes T S)) Rs ≤ words)
+    (build T start ≡ built Rs es) × (records T Rs + sum (λ (ds : List Edge). length ds) es ≤ min room recordLimit) × (5 * sum (λ (S : List ℕ). length (clashes T S)) Rs ≤ words)
 
 module _ (T : Table) (start room words : ℕ) where
   refused-means : (n : ℕ) → Means T start room words (refused n)
@@ -99,21 +100,21 @@ module _ (T : Table) (start room words : ℕ) where
   refused-means n = tt
 
   module _ (Rs : List (List ℕ)) (es : List (List Edge)) where
-    finish-edges : ltb (min room 8192) (records T Rs + sum (λ (ds : List Edge). length ds) es) ≡ true → finish T room words (built Rs es) ≡ refused 17
+    finish-edges : ltb (min room recordLimit) (records T Rs + sum (λ (ds : List Edge). length ds) es) ≡ true → finish T room words (built Rs es) ≡ refused 17
     unfolding finish
     finish-edges t = rw (t, finish)
 
-    finish-conflicts : ltb (min room 8192) (records T Rs + sum (λ (ds : List Edge). length ds) es) ≡ false → ltb words (5 * sum (λ (S : List ℕ). length (clashes T S)) Rs) ≡ true
+    finish-conflicts : ltb (min room recordLimit) (records T Rs + sum (λ (ds : List Edge). length ds) es) ≡ false → ltb words (5 * sum (λ (S : List ℕ). length (clashes T S)) Rs) ≡ true
         → finish T room words (built Rs es) ≡ refused 17
     unfolding finish
     finish-conflicts t u = rw (t, u, finish)
 
-    finish-full : ltb (min room 8192) (records T Rs + sum (λ (ds : List Edge). length ds) es) ≡ false → ltb words (5 * sum (λ (S : List ℕ). length (clashes T S)) Rs) ≡ false
+    finish-full : ltb (min room recordLimit) (records T Rs + sum (λ (ds : List Edge). length ds) es) ≡ false → ltb words (5 * sum (λ (S : List ℕ). length (clashes T S)) Rs) ≡ false
         → finish T room words (built Rs es) ≡ full Rs es
     unfolding finish
     finish-full t u = rw (t, u, finish)
 
-    full-means : build T start ≡ built Rs es → records T Rs + sum (λ (ds : List Edge). length ds) es ≤ min room 8192 → 5 * sum (λ (S : List ℕ). length (clashes T S)) Rs ≤ words
+    full-means : build T start ≡ built Rs es → records T Rs + sum (λ (ds : List Edge). length ds) es ≤ min room recordLimit → 5 * sum (λ (S : List ℕ). length (clashes T S)) Rs ≤ words
         → Means T start room words (full Rs es)
     unfolding Means
     full-means e h l = (e, h, l)
@@ -125,12 +126,12 @@ module _ (T : Table) (start room words : ℕ) where
   finish-means : (b : Collected) → build T start ≡ b → Means T start room words (finish T room words b)
   finish-means (halted Rs) e = subst (Means T start room words) (sym (finish-halted Rs)) (refused-means 16)
   finish-means (built Rs es) e =
-      cases (ltb (min room 8192) (records T Rs + sum (λ (ds : List Edge). length ds) es))
-      (λ t. subst (Means T start room words) (sym (finish-edges Rs es t)) (refused-means 17))
+      cases (ltb (min room recordLimit) (records T Rs + sum (λ (ds : List Edge). length ds) es))
+      (λ t. subst (Means T start room words) (sym (finish-edges Rs es t)) (refused-means indexLimit))
       (λ t. cases (ltb words (5 * sum (λ (S : List ℕ). length (clashes T S)) Rs))
-      (λ u. subst (Means T start room words) (sym (finish-conflicts Rs es t u)) (refused-means 17))
+      (λ u. subst (Means T start room words) (sym (finish-conflicts Rs es t u)) (refused-means indexLimit))
       (λ u. subst (Means T start room words) (sym (finish-full Rs es t u))
-      (full-means Rs es e (ltb-false (min room 8192) (records T Rs + sum (λ (ds : List Edge). length ds) es) t) (ltb-false words (5 * sum (λ (S : List ℕ). length (clashes T S)) Rs) u))))
+      (full-means Rs es e (ltb-false (min room recordLimit) (records T Rs + sum (λ (ds : List Edge). length ds) es) t) (ltb-false words (5 * sum (λ (S : List ℕ). length (clashes T S)) Rs) u))))
 
   outcome-means : Means T start room words (outcome T start room words)
   unfolding outcome
@@ -141,6 +142,6 @@ module _ (T : Table) (start room words : ℕ) where
       by (some k) q = subst (Means T start room words) (sym (answer-some T room words (build T start) k q)) (refused-means (numberOf k))
 
   pub outcome-full : (Rs : List (List ℕ)) (es : List (List Edge)) → outcome T start room words ≡ full Rs es
-      → (build T start ≡ built Rs es) × (records T Rs + sum (λ (ds : List Edge). length ds) es ≤ min room 8192) × (5 * sum (λ (S : List ℕ). length (clashes T S)) Rs ≤ words)
+      → (build T start ≡ built Rs es) × (records T Rs + sum (λ (ds : List Edge). length ds) es ≤ min room recordLimit) × (5 * sum (λ (S : List ℕ). length (clashes T S)) Rs ≤ words)
   unfolding Means
   outcome-full Rs es e = subst (Means T start room words) e outcome-means

@@ -5,6 +5,7 @@ use mathlib.Core.List.{List, [], _∷_}
 use mathlib.Core.Option.{Option, none, some}
 use lib.ListN.{length, take}
 use lib.Dec.{eqb, ltb}
+use Rattle.repr.specs.Sizes.{recordLimit}
 use Rattle.repr.specs.Lists.{below, first?}
 use Rattle.repr.specs.Meaning.{Production, Edge, Table}
 use Rattle.build.specs.States.{Collected, built, halted, build, written, clashes}
@@ -20,7 +21,7 @@ records T Rs = 1 + length (T .nonterminals) + length Rs + length (T .productions
 
 -- as state k is found: 16 for state 128, else 17 where the records so far pass the room or 8,192
 unfoldable pub stopsAt : Table → ℕ → List (List ℕ) → ℕ → Bool
-stopsAt T room Rs k = elim (eqb k 128) [ true ↦ true | false ↦ ltb (min room 8192) (records T (take (suc k) Rs)) ]
+stopsAt T room Rs k = elim (eqb k 128) [ true ↦ true | false ↦ ltb (min room recordLimit) (records T (take (suc k) Rs)) ]
 
 unfoldable pub numberOf : ℕ → ℕ
 numberOf k = elim (eqb k 128) [ true ↦ 16 | false ↦ 17 ]
@@ -37,7 +38,7 @@ pub data Outcome : Type 0 where
 unfoldable pub finish : Table → ℕ → ℕ → Collected → Outcome
 finish T room words (halted Rs) = refused 16
 finish T room words (built Rs es) =
-    elim (ltb (min room 8192) (records T Rs + sum (λ (ds : List Edge). length ds) es)) [
+    elim (ltb (min room recordLimit) (records T Rs + sum (λ (ds : List Edge). length ds) es)) [
       | true ↦ refused 17
       | false ↦ elim (ltb words (5 * sum (λ (S : List ℕ). length (clashes T S)) Rs)) [ true ↦ refused 17 | false ↦ full Rs es ]
     ]

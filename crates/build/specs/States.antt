@@ -6,6 +6,7 @@ use mathlib.Core.List.{List, [], _∷_, _++_, map}
 use mathlib.Core.Option.{Option, none, some}
 use lib.ListN.{length, getD, set, replicate, drop}
 use lib.Dec.{eqb, ltb}
+use Rattle.repr.specs.Sizes.{indexLimit}
 use Rattle.slices.specs.Same.{sameWords}
 use Rattle.repr.specs.Lists.{below, keep, every?, joined, some?}
 use Rattle.repr.specs.Meaning.{Symbol, nonterminal, terminal, sameSymbol, Item, Edge, Table, productionAt}
@@ -16,14 +17,14 @@ use Rattle.build.specs.Canonical.{Clash}
 
 -- how many items a state has room for, the tokens of one
 abbrev pub places : Table → ℕ
-places T = 17 * length (T .productions)
+places T = indexLimit * length (T .productions)
 
 unfoldable pub tokens : List ℕ → Item → ℕ
-tokens S i = elim (ltb (i .index) 17) [ true ↦ getD S (17 * i .production + i .index) 0 | false ↦ 0 ]
+tokens S i = elim (ltb (i .index) indexLimit) [ true ↦ getD S (indexLimit * i .production + i .index) 0 | false ↦ 0 ]
 
 -- the symbols from the cursor of item x on
 abbrev pub from : Table → ℕ → List Symbol
-from T x = drop (x % 17) (productionAt T (x / 17) .symbols)
+from T x = drop (x % indexLimit) (productionAt T (x / indexLimit) .symbols)
 
 -- closure(I): a move takes tokens from an item with its cursor at B to a first item of B; `front` is FIRST of what stands behind B, with end for "nullable"
 pub record Move : Type 0 where
@@ -34,7 +35,7 @@ pub record Move : Type 0 where
 unfoldable pub moveTo : Table → ℕ → ℕ → List Symbol → List Move
 moveTo T x q [] = []
 moveTo T x q (terminal t ∷ β) = []
-moveTo T x q (nonterminal n ∷ β) = elim (eqb (productionAt T q .nonterminal) n) [ true ↦ record { source = x; front = rustFirst0 T β; target = 17 * q } ∷ [] | false ↦ [] ]
+moveTo T x q (nonterminal n ∷ β) = elim (eqb (productionAt T q .nonterminal) n) [ true ↦ record { source = x; front = rustFirst0 T β; target = indexLimit * q } ∷ [] | false ↦ [] ]
 
 unfoldable pub moves : Table → List Move
 moves T = joined (λ x. joined (λ q. moveTo T x q (from T x)) (below (length (T .productions)))) (below (places T))
@@ -68,16 +69,16 @@ begins X (Y ∷ ys) = sameSymbol X Y
 
 unfoldable pub movedTo : Table → Symbol → List ℕ → ℕ → ℕ → ℕ
 movedTo T X S p zero = 0
-movedTo T X S p (suc i) = elim (begins X (drop i (productionAt T p .symbols))) [ true ↦ getD S (17 * p + i) 0 | false ↦ 0 ]
+movedTo T X S p (suc i) = elim (begins X (drop i (productionAt T p .symbols))) [ true ↦ getD S (indexLimit * p + i) 0 | false ↦ 0 ]
 
 unfoldable pub moved : Table → Symbol → List ℕ → List ℕ
-moved T X S = map (λ y. movedTo T X S (y / 17) (y % 17)) (below (places T))
+moved T X S = map (λ y. movedTo T X S (y / indexLimit) (y % indexLimit)) (below (places T))
 
 unfoldable pub goto : Table → Symbol → List ℕ → List ℕ
 goto T X S = closure T (moved T X S)
 
 unfoldable pub startState : Table → ℕ → List ℕ
-startState T start = closure T (set (replicate (places T) 0) (17 * start) (single (T .terminals)))
+startState T start = closure T (set (replicate (places T) 0) (indexLimit * start) (single (T .terminals)))
 
 -- the number of a state, that of the next one where it is new: lookaheads are compared too
 unfoldable pub place : List ℕ → List (List ℕ) → ℕ
@@ -137,11 +138,11 @@ walk es k (X ∷ w) = elim (targetOf X (getD es k [])) [ none ↦ none | some j 
 
 -- the pairs that are written: each (production, index) with a token, by production, then index
 unfoldable pub written : List ℕ → List Item
-written S = map (λ x. record { production = x / 17; index = x % 17 }) (keep (λ x. not (eqb (getD S x 0) 0)) (below (length S)))
+written S = map (λ x. record { production = x / indexLimit; index = x % indexLimit }) (keep (λ x. not (eqb (getD S x 0) 0)) (below (length S)))
 
 -- conflicts of a state (specs/Canonical): by production, shift before reduce, the other's number, token
 unfoldable pub reduces : Table → List ℕ → ℕ → ℕ
-reduces T S p = getD S (17 * p + length (productionAt T p .symbols)) 0
+reduces T S p = getD S (indexLimit * p + length (productionAt T p .symbols)) 0
 
 unfoldable pub shifts : Table → List ℕ → ℕ → Bool
 shifts T S t = not (nothing? (moved T (terminal t) S))

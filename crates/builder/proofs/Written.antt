@@ -6,6 +6,7 @@ use Prim.Native.Nat.{ℕ, zero, suc, _+_, _*_, _≤_, _<_, min}
 use native.Mathlib.Omega.{arith}
 use lib.ListN.{length, getD}
 use lib.Seq.{ext-getD}
+use Rattle.repr.specs.Sizes.{recordLimit}
 use Rattle.repr.specs.Lists.{below}
 use Rattle.repr.specs.Meaning.{Production, Item, Edge, State, Table, noState, TableFits}
 use Rattle.repr.proofs.Lists.{length-mapped, length-map-below, getD-map, getD-map-below}
@@ -88,7 +89,7 @@ module _ (t : List ℕ) (accepted : checkOf t ≡ Accepted) (start room words : 
   written-ordered = ordered-parts (meaning t) (builtTable (meaning t) Rs es) refl refl (meaning-ordered t accepted)
 
   -- 17 is not met by what is written
-  pub build-room : recordsOf (builtTable (meaning t) Rs es) ≤ min room 8192
+  pub build-room : recordsOf (builtTable (meaning t) Rs es) ≤ min room recordLimit
   build-room = rw (records-are (meaning t) Rs es taken) (outcome-full (meaning t) start room words Rs es e .1)
 
   pub build-accepted : checkOf (spell (builtTable (meaning t) Rs es)) ≡ Accepted

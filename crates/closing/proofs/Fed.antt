@@ -8,6 +8,7 @@ use lib.Dec.{eqb}
 use lib.ListN.{length, getD, set, drop, length-set}
 use lib.Seq.{set-getD}
 use native.Mathlib.Numerals.{add-one}
+use Rattle.repr.specs.Sizes.{indexLimit, productionRoom}
 use Rattle.repr.specs.Lists.{upFrom, below}
 use Rattle.repr.specs.Packed.{symbolWords, productionIn}
 use Rattle.repr.specs.Listed.{listed}
@@ -58,10 +59,10 @@ unfolding fedByItems
 items-snoc T S A [] x = refl
 items-snoc T S A (y ∷ xs) x = items-snoc T S (feed T A (from T y) (getD S y 0)) xs x
 
-pub items-more : (T : Table) (g : List ℕ) (k e : ℕ) (sets S A A′ A″ : List ℕ) (x : ℕ) → Grammar T g k e sets → x < 17 * k → A′ ≡ fedByItems T S A (below x)
-    → A″ ≡ feed T A′ (drop (x % 17) (productionIn g (x / 17) .symbols)) (getD S x 0) → A″ ≡ fedByItems T S A (below (x + 1))
+pub items-more : (T : Table) (g : List ℕ) (k e : ℕ) (sets S A A′ A″ : List ℕ) (x : ℕ) → Grammar T g k e sets → x < indexLimit * k → A′ ≡ fedByItems T S A (below x)
+    → A″ ≡ feed T A′ (drop (x % indexLimit) (productionIn g (x / indexLimit) .symbols)) (getD S x 0) → A″ ≡ fedByItems T S A (below (x + 1))
 items-more T g k e sets S A A′ A″ x G h q r =
-    let p : productionAt T (x / 17) ≡ productionIn g (x / 17) = production-at T g k e sets G (x / 17) (omega arith) in
+    let p : productionAt T (x / indexLimit) ≡ productionIn g (x / indexLimit) = production-at T g k e sets G (x / indexLimit) (omega arith) in
     r ∙ rw (add-one x, below-last x, items-snoc T S A (below x) x, q, p)
 
 pub firsts-none : (T : Table) (A : List ℕ) → A ≡ fedByFirsts T A (below 0)
@@ -73,7 +74,7 @@ unfolding fedByFirsts
 firsts-snoc T A [] p = refl
 firsts-snoc T A (q ∷ ps) p = firsts-snoc T (feed T A (productionAt T q .symbols) (getD A (productionAt T q .nonterminal) 0)) ps p
 
-pub firsts-more : (T : Table) (g : List ℕ) (k e : ℕ) (sets A A′ A″ : List ℕ) (p n : ℕ) → Grammar T g k e sets → p < k → n ≡ getD g (p * 36) 0 → A′ ≡ fedByFirsts T A (below p)
+pub firsts-more : (T : Table) (g : List ℕ) (k e : ℕ) (sets A A′ A″ : List ℕ) (p n : ℕ) → Grammar T g k e sets → p < k → n ≡ getD g (p * productionRoom) 0 → A′ ≡ fedByFirsts T A (below p)
     → A″ ≡ feed T A′ (productionIn g p .symbols) (getD A′ n 0) → A″ ≡ fedByFirsts T A (below (p + 1))
 unfolding productionIn
 firsts-more T g k e sets A A′ A″ p n G h en q r =
@@ -111,7 +112,7 @@ feed-step T g k e sets A ws p i s n m u G ne ec l ew em eu =
     feed-some T g k e sets A (drop i (listed (symbolWords g p))) (drop (suc i) (listed (symbolWords g p))) s n m u G ne (code-shows g p i n ec l) (em ∙ ap (λ (b : List Symbol). first1 e sets b s) ew) eu
 
 -- the loops' ends
-pub items-end : (T : Table) (S A A′ : List ℕ) (x k : ℕ) → x ≤ 17 * k → 17 * k ≤ x → A′ ≡ fedByItems T S A (below x) → A′ ≡ fedByItems T S A (below (17 * k))
+pub items-end : (T : Table) (S A A′ : List ℕ) (x k : ℕ) → x ≤ indexLimit * k → indexLimit * k ≤ x → A′ ≡ fedByItems T S A (below x) → A′ ≡ fedByItems T S A (below (indexLimit * k))
 items-end T S A A′ x k h l q = let z : x ≡ 17 * k = omega arith in rw (← z) q
 
 pub firsts-end : (T : Table) (A A′ : List ℕ) (p k : ℕ) → p ≤ k → k ≤ p → A′ ≡ fedByFirsts T A (below p) → A′ ≡ fedByFirsts T A (below k)

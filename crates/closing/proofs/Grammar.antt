@@ -8,6 +8,7 @@ use lib.Dec.{ltb}
 use lib.ListN.{length, getD, drop, drop-of-length-le}
 use lib.Seq.{drop-drop}
 use borrow.Author.Tests.{ltb-true, ltb-false}
+use Rattle.repr.specs.Sizes.{productionRoom}
 use Rattle.repr.specs.Meaning.{Symbol, nonterminal, terminal, Table, noProduction, productionAt}
 use Rattle.repr.specs.Listed.{symbolOfKind, listed, listFits}
 use Rattle.repr.specs.Packed.{Packed, symbolWords, productionIn, productionsIn}
@@ -38,23 +39,23 @@ unfolding codeIn cursorCode
 code-none g p i h = rw (drop-of-length-le (listed (symbolWords g p)) {i = i} h) refl
 
 module _ (g : List ℕ) (n p i : ℕ) (P : Packed g n) (h : p < n) (l : i < length (listed (symbolWords g p))) where
-  here : drop i (listed (symbolWords g p)) ≡ symbolOfKind (getD g (p * 36 + 4 + 2 * i) 0) (getD g (p * 36 + 4 + 2 * i + 1) 0) ∷ drop (suc i) (listed (symbolWords g p))
+  here : drop i (listed (symbolWords g p)) ≡ symbolOfKind (getD g (p * productionRoom + 4 + 2 * i) 0) (getD g (p * productionRoom + 4 + 2 * i + 1) 0) ∷ drop (suc i) (listed (symbolWords g p))
   here =
       let s = symbols-long g n p P h in
       let w = words-long g n p P h in
-      let e : p * 36 + 4 + 2 * i + 1 ≡ p * 36 + 4 + (2 * i + 1) = omega arith in
+      let e : p * productionRoom + 4 + 2 * i + 1 ≡ p * productionRoom + 4 + (2 * i + 1) = omega arith in
       listed-at (symbolWords g p) i (omega arith)
       ∙ rw (word-of g n p (2 * i) P h (omega arith), word-of g n p (2 * i + 1) P h (omega arith), e)
 
-  pub code-nonterminal : (k x : ℕ) → k ≡ getD g (p * 36 + 4 + 2 * i) 0 → x ≡ getD g (p * 36 + 4 + 2 * i + 1) 0 → k ≡ 0 → x ≡ codeIn g p i
+  pub code-nonterminal : (k x : ℕ) → k ≡ getD g (p * productionRoom + 4 + 2 * i) 0 → x ≡ getD g (p * productionRoom + 4 + 2 * i + 1) 0 → k ≡ 0 → x ≡ codeIn g p i
   unfolding codeIn cursorCode symbolCode symbolOfKind
   code-nonterminal k x ek ex z = rw (here, ← ek, z, ex)
 
-  pub code-terminal : (k x : ℕ) → k ≡ getD g (p * 36 + 4 + 2 * i) 0 → x ≡ getD g (p * 36 + 4 + 2 * i + 1) 0 → (k ≡ 0 → ⊥) → 32 + x ≡ codeIn g p i
+  pub code-terminal : (k x : ℕ) → k ≡ getD g (p * productionRoom + 4 + 2 * i) 0 → x ≡ getD g (p * productionRoom + 4 + 2 * i + 1) 0 → (k ≡ 0 → ⊥) → 32 + x ≡ codeIn g p i
   unfolding codeIn cursorCode symbolCode symbolOfKind
   code-terminal k x ek ex z = rw (here, ← ek, ex) (go k z)
     where
-      go : (c : ℕ) → (c ≡ 0 → ⊥) → 32 + getD g (p * 36 + 4 + 2 * i + 1) 0 ≡ symbolCode (symbolOfKind c (getD g (p * 36 + 4 + 2 * i + 1) 0))
+      go : (c : ℕ) → (c ≡ 0 → ⊥) → 32 + getD g (p * productionRoom + 4 + 2 * i + 1) 0 ≡ symbolCode (symbolOfKind c (getD g (p * productionRoom + 4 + 2 * i + 1) 0))
       go zero a = absurd (a refl)
       go (suc c) a = refl
 

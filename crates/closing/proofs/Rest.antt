@@ -10,6 +10,7 @@ use lib.Dec.{eqb, ltb}
 use lib.ListN.{length, getD, set, take, drop, replicate, length-append, length-set, length-drop, length-take, List·getD-append, List·getD-eq-default}
 use lib.Seq.{drop-cons, getD-append-add, getD-take, getD-drop, drop-length, getD-set-same, getD-set-other, ext-getD}
 use borrow.Author.Tests.{eqb-true, eqb-false, eq-eqb, ne-eqb, ltb-true, ltb-false}
+use Rattle.repr.specs.Sizes.{indexLimit, itemLimit, productionRoom}
 use Rattle.lookahead.proofs.Growing.{total}
 use Rattle.slices.proofs.Same.{same-words-eq}
 use Rattle.slices.specs.Same.{sameWords}
@@ -96,16 +97,16 @@ module _ (T : Table) (S : List ℕ) (long : length S ≡ places T) where
 -- what is given, as a front of the code's array
 
 front-long : (K : List ℕ) (k : ℕ) → Flat K → k ≤ 128 → length (take (17 * k) K) ≡ 17 * k
-front-long K k f h = length-take (17 * k) K ∙ omega (arith, f .long)
+front-long K k f h = length-take (indexLimit * k) K ∙ omega (arith, f .long)
 
-pub front-sized : (T : Table) (K : List ℕ) (k : ℕ) → Flat K → k ≤ 128 → k ≡ length (T .productions) → Sized (places T) (take (17 * k) K)
+pub front-sized : (T : Table) (K : List ℕ) (k : ℕ) → Flat K → k ≤ 128 → k ≡ length (T .productions) → Sized (places T) (take (indexLimit * k) K)
 front-sized T K k f h e = record {
-  long = front-long K k f h ∙ ap (λ (n : ℕ). 17 * n) e;
-  fits = λ x. cases (ltb x (17 * k))
-      (λ t. rw (getD-take (17 * k) K x 0 (ltb-true x (17 * k) t)) (f .fits x))
+  long = front-long K k f h ∙ ap (λ (n : ℕ). indexLimit * n) e;
+  fits = λ x. cases (ltb x (indexLimit * k))
+      (λ t. rw (getD-take (indexLimit * k) K x 0 (ltb-true x (indexLimit * k) t)) (f .fits x))
       (λ t.
-      let o : length (take (17 * k) K) ≤ x = rw (front-long K k f h) (ltb-false x (17 * k) t) in
-      rw (List·getD-eq-default (take (17 * k) K) 0 o) (omega arith));
+      let o : length (take (indexLimit * k) K) ≤ x = rw (front-long K k f h) (ltb-false x (indexLimit * k) t) in
+      rw (List·getD-eq-default (take (indexLimit * k) K) 0 o) (omega arith));
 }
 
 items-front : (T : Table) (K A xs : List ℕ) (n : ℕ) → ((y : ℕ) → List·Memᴰ y xs → y < n) → fedByItems T (take n K) A xs ≡ fedByItems T K A xs
@@ -120,93 +121,93 @@ items-front T K A (x ∷ xs) n f =
 length-spreadIn : (g A K ps : List ℕ) → length (spreadIn g A K ps) ≡ length K
 unfolding spreadIn
 length-spreadIn g A K [] = refl
-length-spreadIn g A K (p ∷ ps) = length-spreadIn g A (set K (p * 17) (union (getD K (p * 17) 0) (getD A (getD g (p * 36) 0) 0))) ps ∙ simp length-set
+length-spreadIn g A K (p ∷ ps) = length-spreadIn g A (set K (p * indexLimit) (union (getD K (p * indexLimit) 0) (getD A (getD g (p * productionRoom) 0) 0))) ps ∙ simp length-set
 
-spreadIn-snoc : (g A K ps : List ℕ) (p : ℕ) → spreadIn g A K (ps ++ p ∷ []) ≡ set (spreadIn g A K ps) (p * 17) (union (getD (spreadIn g A K ps) (p * 17) 0) (getD A (getD g (p * 36) 0) 0))
+spreadIn-snoc : (g A K ps : List ℕ) (p : ℕ) → spreadIn g A K (ps ++ p ∷ []) ≡ set (spreadIn g A K ps) (p * indexLimit) (union (getD (spreadIn g A K ps) (p * indexLimit) 0) (getD A (getD g (p * productionRoom) 0) 0))
 unfolding spreadIn
 spreadIn-snoc g A K [] p = refl
-spreadIn-snoc g A K (q ∷ ps) p = spreadIn-snoc g A (set K (q * 17) (union (getD K (q * 17) 0) (getD A (getD g (q * 36) 0) 0))) ps p
+spreadIn-snoc g A K (q ∷ ps) p = spreadIn-snoc g A (set K (q * indexLimit) (union (getD K (q * indexLimit) 0) (getD A (getD g (q * productionRoom) 0) 0))) ps p
 
 pub spread-none : (g A K : List ℕ) → K ≡ spreadIn g A K (below 0)
 unfolding spreadIn below upFrom
 spread-none g A K = refl
 
-pub spread-long : (g A K R : List ℕ) (p : ℕ) → R ≡ spreadIn g A K (below p) → length K ≡ 2176 → length R ≡ 2176
+pub spread-long : (g A K R : List ℕ) (p : ℕ) → R ≡ spreadIn g A K (below p) → length K ≡ itemLimit → length R ≡ itemLimit
 spread-long g A K R p q l = ap length q ∙ length-spreadIn g A K (below p) ∙ l
 
-pub spread-more : (g A K R : List ℕ) (p n u : ℕ) → R ≡ spreadIn g A K (below p) → n ≡ getD g (p * 36) 0 → u ≡ union (getD R (p * 17) 0) (getD A n 0) → set R (p * 17) u ≡ spreadIn g A K (below (p + 1))
+pub spread-more : (g A K R : List ℕ) (p n u : ℕ) → R ≡ spreadIn g A K (below p) → n ≡ getD g (p * productionRoom) 0 → u ≡ union (getD R (p * indexLimit) 0) (getD A n 0) → set R (p * indexLimit) u ≡ spreadIn g A K (below (p + 1))
 spread-more g A K R p n u q en eu = rw (add-one p, below-last p, spreadIn-snoc g A K (below p) p, eu, en, q)
 
 pub spread-end : (g A K R : List ℕ) (p k : ℕ) → p ≤ k → k ≤ p → R ≡ spreadIn g A K (below p) → R ≡ spreadIn g A K (below k)
 spread-end g A K R p k h l q = let z : p ≡ k = omega arith in rw (← z) q
 
 module _ (g A K : List ℕ) where
-  spread-other : (m x : ℕ) → ((p : ℕ) → p < m → x ≡ p * 17 → ⊥) → getD (spreadIn g A K (below m)) x 0 ≡ getD K x 0
+  spread-other : (m x : ℕ) → ((p : ℕ) → p < m → x ≡ p * indexLimit → ⊥) → getD (spreadIn g A K (below m)) x 0 ≡ getD K x 0
   spread-other zero x f = ap (λ (l : List ℕ). getD l x 0) (sym (spread-none g A K))
   spread-other (suc m) x f =
       let more = spread-other m x (λ p h. f p (omega arith)) in
-      rw (below-last m, spreadIn-snoc g A K (below m) m, getD-set-other (spreadIn g A K (below m)) (m * 17) x (union (getD (spreadIn g A K (below m)) (m * 17) 0) (getD A (getD g (m * 36) 0) 0)) 0 (f m (omega arith))) more
+      rw (below-last m, spreadIn-snoc g A K (below m) m, getD-set-other (spreadIn g A K (below m)) (m * indexLimit) x (union (getD (spreadIn g A K (below m)) (m * indexLimit) 0) (getD A (getD g (m * productionRoom) 0) 0)) 0 (f m (omega arith))) more
 
-  spread-here : (m p : ℕ) → p < m → p * 17 < length K → getD (spreadIn g A K (below m)) (p * 17) 0 ≡ union (getD K (p * 17) 0) (getD A (getD g (p * 36) 0) 0)
+  spread-here : (m p : ℕ) → p < m → p * indexLimit < length K → getD (spreadIn g A K (below m)) (p * indexLimit) 0 ≡ union (getD K (p * indexLimit) 0) (getD A (getD g (p * productionRoom) 0) 0)
   spread-here zero p h l = absurd (omega arith)
   spread-here (suc m) p h l =
       let more = spread-here m p in
       rw (below-last m, spreadIn-snoc g A K (below m) m) (cases (eqb p m)
       (λ t.
       let q : p ≡ m = eqb-true p m t in
-      rw q (getD-set-same (spreadIn g A K (below m)) (m * 17) (union (getD (spreadIn g A K (below m)) (m * 17) 0) (getD A (getD g (m * 36) 0) 0)) 0 (rw (length-spreadIn g A K (below m)) (rw q at l))
-      ∙ ap (λ (s : ℕ). union s (getD A (getD g (m * 36) 0) 0)) (spread-other m (m * 17) (λ r u w. omega arith))))
+      rw q (getD-set-same (spreadIn g A K (below m)) (m * indexLimit) (union (getD (spreadIn g A K (below m)) (m * indexLimit) 0) (getD A (getD g (m * productionRoom) 0) 0)) 0 (rw (length-spreadIn g A K (below m)) (rw q at l))
+      ∙ ap (λ (s : ℕ). union s (getD A (getD g (m * productionRoom) 0) 0)) (spread-other m (m * indexLimit) (λ r u w. omega arith))))
       (λ t.
       let ne = eqb-false p m t in
-      getD-set-other (spreadIn g A K (below m)) (m * 17) (p * 17) (union (getD (spreadIn g A K (below m)) (m * 17) 0) (getD A (getD g (m * 36) 0) 0)) 0 (λ w. ne (omega arith))
+      getD-set-other (spreadIn g A K (below m)) (m * indexLimit) (p * indexLimit) (union (getD (spreadIn g A K (below m)) (m * indexLimit) 0) (getD A (getD g (m * productionRoom) 0) 0)) 0 (λ w. ne (omega arith))
       ∙ more (omega (arith, ne)) l))
 
-module _ (T : Table) (g : List ℕ) (k e : ℕ) (sets : List ℕ) (G : Grammar T g k e sets) (K A : List ℕ) (f : Flat K) (q : aheads T (take (17 * k) K) ≡ take (17 * k) K ++ A) where
-  many : 17 * k ≡ places T
-  many = ap (λ (n : ℕ). 17 * n) (G .many)
+module _ (T : Table) (g : List ℕ) (k e : ℕ) (sets : List ℕ) (G : Grammar T g k e sets) (K A : List ℕ) (f : Flat K) (q : aheads T (take (indexLimit * k) K) ≡ take (indexLimit * k) K ++ A) where
+  many : indexLimit * k ≡ places T
+  many = ap (λ (n : ℕ). indexLimit * n) (G .many)
 
-  closed-is : closure T (take (17 * k) K) ≡ spread T (take (17 * k) K ++ A)
-  closed-is = sym (closure-by-aheads T (G .fits) (take (17 * k) K) (front-sized T K k f (G .packed .few) (G .many))) ∙ ap (spread T) q
+  closed-is : closure T (take (indexLimit * k) K) ≡ spread T (take (indexLimit * k) K ++ A)
+  closed-is = sym (closure-by-aheads T (G .fits) (take (indexLimit * k) K) (front-sized T K k f (G .packed .few) (G .many))) ∙ ap (spread T) q
 
   long : length (spread T (take (17 * k) K ++ A)) ≡ 17 * k
-  long = length-spread T (take (17 * k) K ++ A) ∙ sym many
+  long = length-spread T (take (indexLimit * k) K ++ A) ∙ sym many
 
-  front : (x : ℕ) → x < 17 * k → getD (take (17 * k) K ++ A) x 0 ≡ getD K x 0
-  front x h = List·getD-append (take (17 * k) K) A 0 x (rw (front-long K k f (G .packed .few)) h) ∙ getD-take (17 * k) K x 0 h
+  front : (x : ℕ) → x < indexLimit * k → getD (take (indexLimit * k) K ++ A) x 0 ≡ getD K x 0
+  front x h = List·getD-append (take (indexLimit * k) K) A 0 x (rw (front-long K k f (G .packed .few)) h) ∙ getD-take (indexLimit * k) K x 0 h
 
-  ahead : (n : ℕ) → getD (take (17 * k) K ++ A) (places T + n) 0 ≡ getD A n 0
-  ahead n = rw (← many) (ap (λ (m : ℕ). getD (take (17 * k) K ++ A) (m + n) 0) (sym (front-long K k f (G .packed .few))) ∙ getD-append-add (take (17 * k) K) A n 0)
+  ahead : (n : ℕ) → getD (take (indexLimit * k) K ++ A) (places T + n) 0 ≡ getD A n 0
+  ahead n = rw (← many) (ap (λ (m : ℕ). getD (take (indexLimit * k) K ++ A) (m + n) 0) (sym (front-long K k f (G .packed .few))) ∙ getD-append-add (take (indexLimit * k) K) A n 0)
 
-  owner : (p : ℕ) → p < k → productionAt T p .nonterminal ≡ getD g (p * 36) 0
+  owner : (p : ℕ) → p < k → productionAt T p .nonterminal ≡ getD g (p * productionRoom) 0
   unfolding productionIn
   owner p h = ap (λ (r : Production). r .nonterminal) (production-at T g k e sets G p h)
 
-  inside : (x : ℕ) → x < 17 * k → getD (spreadIn g A K (below k)) x 0 ≡ getD (spread T (take (17 * k) K ++ A)) x 0
-  inside x h = cases (eqb (x % 17) 0)
+  inside : (x : ℕ) → x < indexLimit * k → getD (spreadIn g A K (below k)) x 0 ≡ getD (spread T (take (indexLimit * k) K ++ A)) x 0
+  inside x h = cases (eqb (x % indexLimit) 0)
       (λ t.
-      let r : x % 17 ≡ 0 = eqb-true (x % 17) 0 t in
-      let y : x ≡ x / 17 * 17 = omega arith in
+      let r : x % indexLimit ≡ 0 = eqb-true (x % indexLimit) 0 t in
+      let y : x ≡ x / indexLimit * indexLimit = omega arith in
       ap (λ (z : ℕ). getD (spreadIn g A K (below k)) z 0) y
-      ∙ spread-here g A K k (x / 17) (omega arith) (omega (arith, f .long, G .packed .few))
-      ∙ sym (spread-first T (take (17 * k) K ++ A) x (rw (← many) h) r ∙ rw (front x h, ahead (productionAt T (x / 17) .nonterminal), owner (x / 17) (omega arith), ← y)))
+      ∙ spread-here g A K k (x / indexLimit) (omega arith) (omega (arith, f .long, G .packed .few))
+      ∙ sym (spread-first T (take (indexLimit * k) K ++ A) x (rw (← many) h) r ∙ rw (front x h, ahead (productionAt T (x / indexLimit) .nonterminal), owner (x / indexLimit) (omega arith), ← y)))
       (λ t.
-      let n = eqb-false (x % 17) 0 t in
-      spread-other g A K k x (λ p u w. n (omega arith)) ∙ sym (spread-later T (take (17 * k) K ++ A) x (rw (← many) h) n ∙ front x h))
+      let n = eqb-false (x % indexLimit) 0 t in
+      spread-other g A K k x (λ p u w. n (omega arith)) ∙ sym (spread-later T (take (indexLimit * k) K ++ A) x (rw (← many) h) n ∙ front x h))
 
-  pub spread-closed : spreadIn g A K (below k) ≡ closure T (take (17 * k) K) ++ drop (17 * k) K
+  pub spread-closed : spreadIn g A K (below k) ≡ closure T (take (indexLimit * k) K) ++ drop (indexLimit * k) K
   spread-closed =
       let few : k ≤ 128 = G .packed .few in
-      let size : length (spread T (take (17 * k) K ++ A) ++ drop (17 * k) K) ≡ length K = length-append (spread T (take (17 * k) K ++ A)) (drop (17 * k) K) ∙ rw (long, length-drop (17 * k) K) (omega (arith, f .long)) in
-      rw closed-is (ext-getD 0 (spreadIn g A K (below k)) (spread T (take (17 * k) K ++ A) ++ drop (17 * k) K) (length-spreadIn g A K (below k) ∙ sym size) (λ x l.
-      cases (ltb x (17 * k))
-      (λ t. let h = ltb-true x (17 * k) t in inside x h ∙ sym (List·getD-append (spread T (take (17 * k) K ++ A)) (drop (17 * k) K) 0 x (rw long h)))
+      let size : length (spread T (take (indexLimit * k) K ++ A) ++ drop (indexLimit * k) K) ≡ length K = length-append (spread T (take (indexLimit * k) K ++ A)) (drop (indexLimit * k) K) ∙ rw (long, length-drop (indexLimit * k) K) (omega (arith, f .long)) in
+      rw closed-is (ext-getD 0 (spreadIn g A K (below k)) (spread T (take (indexLimit * k) K ++ A) ++ drop (indexLimit * k) K) (length-spreadIn g A K (below k) ∙ sym size) (λ x l.
+      cases (ltb x (indexLimit * k))
+      (λ t. let h = ltb-true x (indexLimit * k) t in inside x h ∙ sym (List·getD-append (spread T (take (indexLimit * k) K ++ A)) (drop (indexLimit * k) K) 0 x (rw long h)))
       (λ t.
-      let h = ltb-false x (17 * k) t in
-      let y : 17 * k + (x - 17 * k) ≡ x = omega arith in
+      let h = ltb-false x (indexLimit * k) t in
+      let y : indexLimit * k + (x - indexLimit * k) ≡ x = omega arith in
       spread-other g A K k x (λ p u w. omega arith)
-      ∙ sym (ap (λ (z : ℕ). getD (spread T (take (17 * k) K ++ A) ++ drop (17 * k) K) z 0) (sym y ∙ ap (λ (m : ℕ). m + (x - 17 * k)) (sym long))
-      ∙ getD-append-add (spread T (take (17 * k) K ++ A)) (drop (17 * k) K) (x - 17 * k) 0
-      ∙ getD-drop (17 * k) K (x - 17 * k) 0 ∙ ap (λ (z : ℕ). getD K z 0) y))))
+      ∙ sym (ap (λ (z : ℕ). getD (spread T (take (indexLimit * k) K ++ A) ++ drop (indexLimit * k) K) z 0) (sym y ∙ ap (λ (m : ℕ). m + (x - indexLimit * k)) (sym long))
+      ∙ getD-append-add (spread T (take (indexLimit * k) K ++ A)) (drop (indexLimit * k) K) (x - indexLimit * k) 0
+      ∙ getD-drop (indexLimit * k) K (x - indexLimit * k) 0 ∙ ap (λ (z : ℕ). getD K z 0) y))))
 
 -- round after round
 
@@ -225,9 +226,9 @@ unfolding aheads
 turn-start T F S z = record { sized = begin-sized T F S z; same = refl; done = λ q. clash true refl q }
 
 module _ (T : Table) (g : List ℕ) (k e : ℕ) (sets : List ℕ) (G : Grammar T g k e sets) (K A A₁ A₂ : List ℕ) (f : Flat K) (c c′ b : Bool)
-    (turn : Turn T (take (17 * k) K) A c) (q₁ : A₁ ≡ fedByItems T K A (below (17 * k))) (q₂ : A₂ ≡ fedByFirsts T A₁ (below k)) (ec : c′ ≡ not b) (eb : b ≡ sameWords A₂ A) where
+    (turn : Turn T (take (indexLimit * k) K) A c) (q₁ : A₁ ≡ fedByItems T K A (below (indexLimit * k))) (q₂ : A₂ ≡ fedByFirsts T A₁ (below k)) (ec : c′ ≡ not b) (eb : b ≡ sameWords A₂ A) where
   S : List ℕ
-  S = take (17 * k) K
+  S = take (indexLimit * k) K
 
   given : Sized (places T) S
   unfolding S
@@ -236,9 +237,9 @@ module _ (T : Table) (g : List ℕ) (k e : ℕ) (sets : List ℕ) (G : Grammar T
   next : round (T .terminals) (S ++ A) (aheadMoves T) ≡ S ++ A₂
   unfolding S fed
   next =
-      let n : 17 * k ≡ places T = ap (λ (n : ℕ). 17 * n) (G .many) in
-      round-fed T (take (17 * k) K) (given .long) A ∙ ap (λ (l : List ℕ). take (17 * k) K ++ l) (sym (
-      q₂ ∙ rw (q₁, ← G .many, ← items-front T K A (below (17 * k)) (17 * k) (λ y m. mem-less (17 * k) y m))))
+      let n : indexLimit * k ≡ places T = ap (λ (n : ℕ). indexLimit * n) (G .many) in
+      round-fed T (take (indexLimit * k) K) (given .long) A ∙ ap (λ (l : List ℕ). take (indexLimit * k) K ++ l) (sym (
+      q₂ ∙ rw (q₁, ← G .many, ← items-front T K A (below (indexLimit * k)) (indexLimit * k) (λ y m. mem-less (indexLimit * k) y m))))
 
   quiet : (v : Bool) → c′ ≡ v → sameWords (round (T .terminals) (S ++ A) (aheadMoves T)) (S ++ A) ≡ not v
   quiet v y = rw (next, same-behind S A₂ A) (sym eb ∙ by b (sym ec ∙ y))
@@ -247,33 +248,33 @@ module _ (T : Table) (g : List ℕ) (k e : ℕ) (sets : List ℕ) (G : Grammar T
       by true u = rw (← u) refl
       by false u = rw (← u) refl
 
-  pub turn-again : Turn T (take (17 * k) K) A₂ c′
+  pub turn-again : Turn T (take (indexLimit * k) K) A₂ c′
   unfolding S
   turn-again = cases c′ (λ y. more y) (λ y. stop y)
     where
-      sized′ : Sized (places T + 32) (take (17 * k) K ++ A₂)
-      sized′ = subst (Sized (places T + 32)) next (round-sized (T .terminals) (places T + 32) (take (17 * k) K ++ A) (aheadMoves T) (turn .sized) (aheads-fit T (G .fits)))
+      sized′ : Sized (places T + 32) (take (indexLimit * k) K ++ A₂)
+      sized′ = subst (Sized (places T + 32)) next (round-sized (T .terminals) (places T + 32) (take (indexLimit * k) K ++ A) (aheadMoves T) (turn .sized) (aheads-fit T (G .fits)))
 
-      more : c′ ≡ true → Turn T (take (17 * k) K) A₂ c′
+      more : c′ ≡ true → Turn T (take (indexLimit * k) K) A₂ c′
       more y = record {
         sized = sized′;
-        same = rw (← next) (loop-more (T .terminals) (places T + 32) (aheadMoves T) (aheads-fit T (G .fits)) (take (17 * k) K ++ A) (turn .sized) (quiet true y) ∙ turn .same);
+        same = rw (← next) (loop-more (T .terminals) (places T + 32) (aheadMoves T) (aheads-fit T (G .fits)) (take (indexLimit * k) K ++ A) (turn .sized) (quiet true y) ∙ turn .same);
         done = λ z. clash c′ y z;
       }
 
-      stop : c′ ≡ false → Turn T (take (17 * k) K) A₂ c′
+      stop : c′ ≡ false → Turn T (take (indexLimit * k) K) A₂ c′
       stop y =
-          let s : take (17 * k) K ++ A₂ ≡ take (17 * k) K ++ A = sym next ∙ same-words-eq (round (T .terminals) (take (17 * k) K ++ A) (aheadMoves T)) (take (17 * k) K ++ A) (quiet false y) in
+          let s : take (indexLimit * k) K ++ A₂ ≡ take (indexLimit * k) K ++ A = sym next ∙ same-words-eq (round (T .terminals) (take (indexLimit * k) K ++ A) (aheadMoves T)) (take (indexLimit * k) K ++ A) (quiet false y) in
           record {
             sized = sized′;
             same = rw s (turn .same);
-            done = λ z. sym (turn .same) ∙ settle-stop (suc ((places T + 32) * 2 ^ 64)) (T .terminals) (take (17 * k) K ++ A) (aheadMoves T) (quiet false y) ∙ sym s;
+            done = λ z. sym (turn .same) ∙ settle-stop (suc ((places T + 32) * 2 ^ 64)) (T .terminals) (take (indexLimit * k) K ++ A) (aheadMoves T) (quiet false y) ∙ sym s;
           }
 
-  pub turn-less : c ≡ true → left (17 * k + 32) c′ (take (17 * k) K ++ A₂) < left (17 * k + 32) c (take (17 * k) K ++ A)
+  pub turn-less : c ≡ true → left (indexLimit * k + 32) c′ (take (indexLimit * k) K ++ A₂) < left (indexLimit * k + 32) c (take (indexLimit * k) K ++ A)
   unfolding left S
   turn-less t =
-      let n : 17 * k + 32 ≡ places T + 32 = omega (arith, G .many) in
+      let n : indexLimit * k + 32 ≡ places T + 32 = omega (arith, G .many) in
       rw (t, n, ← next) (cases c′
-      (λ y. rw y (omega (arith, round-less (T .terminals) (places T + 32) (aheadMoves T) (aheads-fit T (G .fits)) (take (17 * k) K ++ A) (turn .sized) (quiet true y))))
-      (λ y. rw (y, same-words-eq (round (T .terminals) (take (17 * k) K ++ A) (aheadMoves T)) (take (17 * k) K ++ A) (quiet false y)) (omega arith)))
+      (λ y. rw y (omega (arith, round-less (T .terminals) (places T + 32) (aheadMoves T) (aheads-fit T (G .fits)) (take (indexLimit * k) K ++ A) (turn .sized) (quiet true y))))
+      (λ y. rw (y, same-words-eq (round (T .terminals) (take (indexLimit * k) K ++ A) (aheadMoves T)) (take (indexLimit * k) K ++ A) (quiet false y)) (omega arith)))

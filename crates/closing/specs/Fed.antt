@@ -4,6 +4,7 @@ use Prim.Native.Nat.{ℕ, _*_, _^_, _<_}
 use mathlib.Core.Path.{_≡_}
 use mathlib.Core.List.{List, [], _∷_}
 use lib.ListN.{length, getD, set}
+use Rattle.repr.specs.Sizes.{indexLimit, itemLimit, productionRoom}
 use Rattle.repr.specs.Lists.{below}
 use Rattle.repr.specs.Meaning.{Symbol, nonterminal, terminal, Table, productionAt}
 use Rattle.lookahead.specs.Tokens.{union}
@@ -32,10 +33,10 @@ fed T S A = fedByFirsts T (fedByItems T S A (below (places T))) (below (length (
 
 -- a state while it is worked on: room for 128 productions, each place a word of 64 bits
 pub record Flat (K : List ℕ) : Type 0 where
-  pub long : length K ≡ 2176
+  pub long : length K ≡ itemLimit
   pub fits : (x : ℕ) → getD K x 0 < 2 ^ 64
 
 -- the first item of each production p of the list gets its nonterminal's tokens besides
 unfoldable pub spreadIn : List ℕ → List ℕ → List ℕ → List ℕ → List ℕ
 spreadIn g A K [] = K
-spreadIn g A K (p ∷ ps) = spreadIn g A (set K (p * 17) (union (getD K (p * 17) 0) (getD A (getD g (p * 36) 0) 0))) ps
+spreadIn g A K (p ∷ ps) = spreadIn g A (set K (p * indexLimit) (union (getD K (p * indexLimit) 0) (getD A (getD g (p * productionRoom) 0) 0))) ps

@@ -4,11 +4,13 @@ use core::Item;
 use core::suffix;
 use first::first1;
 use lookahead::TokenSet;
+use repr::ProductionIndex;
 use repr::word;
 ghost use mathlib.Core.Path.{_≡_};
 ghost use mathlib.Core.List.{List, _++_};
 ghost use Prim.Native.Nat.{ℕ, _+_, _*_, _≤_, _<_};
 ghost use lib.ListN.{length, getD, take, drop};
+ghost use Rattle.repr.specs.Sizes.{indexLimit, itemLimit};
 ghost use Rattle.slices.specs.Same.{sameWords};
 ghost use Rattle.repr.specs.Lists.{below};
 ghost use Rattle.repr.specs.Meaning.{Table};
@@ -26,7 +28,7 @@ pub fn cursor(grammar: &[u16], productions: usize, item: Item) -> usize
     let production = item.production;
     let index = item.index;
     if index < item.length(grammar, productions) {
-        let at = production * 36 + 4 + 2 * index;
+        let at = production * ProductionIndex::WORDS + 4 + 2 * index;
         let number = word(grammar, at + 1);
         if word(grammar, at) == 0 {
             return number;
@@ -66,18 +68,18 @@ fn feed_items(
     productions: usize,
     terminals: u16,
     first: &[u64; 32],
-    kernel: &[u64; 2176],
+    kernel: &[u64; Item::LIMIT],
     aheads: &mut [u64; 32],
 )
     requires { ⌜ Packed (now grammar) productions × (terminals ≤ 63) × (length (now aheads) ≡ 32) ⌝ }
-    ensures { λ _. ⌜ (length (now (aheads .exit)) ≡ 32) × ((T : Table) → Grammar T (now (grammar .entry)) productions terminals (now (first .entry)) → now (aheads .exit) ≡ fedByItems T (now (kernel .entry)) (now (aheads .entry)) (below (17 * productions))) ⌝ }
+    ensures { λ _. ⌜ (length (now (aheads .exit)) ≡ 32) × ((T : Table) → Grammar T (now (grammar .entry)) productions terminals (now (first .entry)) → now (aheads .exit) ≡ fedByItems T (now (kernel .entry)) (now (aheads .entry)) (below (indexLimit * productions))) ⌝ }
 {
-    let places = 17 * productions;
+    let places = ProductionIndex::INDEXES * productions;
     let mut place: usize = 0;
     while place < places {
         let item = Item {
-            production: place / 17,
-            index: place % 17,
+            production: place / ProductionIndex::INDEXES,
+            index: place % ProductionIndex::INDEXES,
         };
         feed(
             grammar,
@@ -109,7 +111,7 @@ fn feed_firsts(
             production: production,
             index: 0,
         };
-        let nonterminal = word(grammar, production * 36);
+        let nonterminal = word(grammar, production * ProductionIndex::WORDS);
         let set = TokenSet(aheads[nonterminal]);
         feed(grammar, productions, terminals, first, item, set, aheads);
         production += 1;
@@ -142,11 +144,11 @@ fn aheads_of(
     productions: usize,
     terminals: u16,
     first: &[u64; 32],
-    kernel: &[u64; 2176],
+    kernel: &[u64; Item::LIMIT],
 ) -> Aheads
     requires { ⌜ Held (now grammar) productions terminals (now first) ⌝ }
     requires { ⌜ Flat (now kernel) ⌝ }
-    ensures { λ r. ⌜ (length (r .map) ≡ 32) × ((T : Table) → Grammar T (now (grammar .entry)) productions terminals (now (first .entry)) → aheads T (take (17 * productions) (now (kernel .entry))) ≡ take (17 * productions) (now (kernel .entry)) ++ r .map) ⌝ }
+    ensures { λ r. ⌜ (length (r .map) ≡ 32) × ((T : Table) → Grammar T (now (grammar .entry)) productions terminals (now (first .entry)) → aheads T (take (indexLimit * productions) (now (kernel .entry))) ≡ take (indexLimit * productions) (now (kernel .entry)) ++ r .map) ⌝ }
 {
     let mut aheads = [0u64; 32];
     let mut changed = true;
@@ -160,16 +162,16 @@ fn aheads_of(
 }
 
 // Each production's index-0 item gets its nonterminal's lookaheads besides its own.
-fn spread(grammar: &[u16], productions: usize, aheads: &[u64; 32], state: &mut [u64; 2176])
-    requires { ⌜ Packed (now grammar) productions × (length (now state) ≡ 2176) ⌝ }
+fn spread(grammar: &[u16], productions: usize, aheads: &[u64; 32], state: &mut [u64; Item::LIMIT])
+    requires { ⌜ Packed (now grammar) productions × (length (now state) ≡ itemLimit) ⌝ }
     ensures { λ _. ⌜ now (state .exit) ≡ spreadIn (now (grammar .entry)) (now (aheads .entry)) (now (state .entry)) (below productions) ⌝ }
 {
     let mut production: usize = 0;
     while production < productions {
-        let nonterminal = word(grammar, production * 36);
-        let own = TokenSet(state[production * 17]);
+        let nonterminal = word(grammar, production * ProductionIndex::WORDS);
+        let own = TokenSet(state[production * ProductionIndex::INDEXES]);
         let ahead = TokenSet(aheads[nonterminal]);
-        state[production * 17] = own.union_with(ahead).set.0;
+        state[production * ProductionIndex::INDEXES] = own.union_with(ahead).set.0;
         production += 1;
     }
 }
@@ -180,11 +182,11 @@ pub fn transitive_closure(
     productions: usize,
     terminals: u16,
     first: &[u64; 32],
-    state: &mut [u64; 2176],
+    state: &mut [u64; Item::LIMIT],
 )
     requires { ⌜ Held (now grammar) productions terminals (now first) ⌝ }
     requires { ⌜ Flat (now state) ⌝ }
-    ensures { λ _. ⌜ (length (now (state .exit)) ≡ 2176) × ((T : Table) → Grammar T (now (grammar .entry)) productions terminals (now (first .entry)) → now (state .exit) ≡ closure T (take (17 * productions) (now (state .entry))) ++ drop (17 * productions) (now (state .entry))) ⌝ }
+    ensures { λ _. ⌜ (length (now (state .exit)) ≡ itemLimit) × ((T : Table) → Grammar T (now (grammar .entry)) productions terminals (now (first .entry)) → now (state .exit) ≡ closure T (take (indexLimit * productions) (now (state .entry))) ++ drop (indexLimit * productions) (now (state .entry))) ⌝ }
 {
     let aheads = aheads_of(grammar, productions, terminals, first, state);
     let map = aheads.map;

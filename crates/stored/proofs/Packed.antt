@@ -7,6 +7,7 @@ use native.Mathlib.Omega.{arith}
 use lib.Dec.{eqb, ltb}
 use lib.ListN.{length, getD, drop, List·getD-eq-default}
 use borrow.Author.Tests.{eqb-true, eqb-false, eq-eqb, ne-eqb, ltb-true, ltb-false}
+use Rattle.repr.specs.Sizes.{indexLimit}
 use Rattle.repr.specs.Lists.{upFrom, below, keep}
 use Rattle.repr.specs.Meaning.{Symbol, nonterminal, terminal, sameSymbol, Production, Table, productionAt, SymbolFits, All, TableFits}
 use Rattle.repr.specs.Packed.{productionIn}
@@ -47,17 +48,17 @@ held-none S x xs z = rw (keep-no (λ x. not (eqb (getD S x 0) 0)) x xs (rw (eq-e
 held-some : (S : List ℕ) (x : ℕ) (xs : List ℕ) → (getD S x 0 ≡ 0 → ⊥) → held S (x ∷ xs) ≡ record { place = x; set = getD S x 0 } ∷ held S xs
 held-some S x xs z = rw (keep-yes (λ x. not (eqb (getD S x 0) 0)) x xs (rw (ne-eqb (getD S x 0) 0 z)))
 
-over-here : (g : List ℕ) (code : ℕ) (e : Entry) (es : List Entry) → eqb (codeIn g (e .place / 17) (e .place % 17)) code ≡ true → movedOver g code (e ∷ es) ≡ record { place = e .place + 1; set = e .set } ∷ movedOver g code es
+over-here : (g : List ℕ) (code : ℕ) (e : Entry) (es : List Entry) → eqb (codeIn g (e .place / indexLimit) (e .place % indexLimit)) code ≡ true → movedOver g code (e ∷ es) ≡ record { place = e .place + 1; set = e .set } ∷ movedOver g code es
 unfolding movedOver
 over-here g code e es t = rw (t, movedOver)
 
-over-past : (g : List ℕ) (code : ℕ) (e : Entry) (es : List Entry) → eqb (codeIn g (e .place / 17) (e .place % 17)) code ≡ false → movedOver g code (e ∷ es) ≡ movedOver g code es
+over-past : (g : List ℕ) (code : ℕ) (e : Entry) (es : List Entry) → eqb (codeIn g (e .place / indexLimit) (e .place % indexLimit)) code ≡ false → movedOver g code (e ∷ es) ≡ movedOver g code es
 unfolding movedOver
 over-past g code e es t = rw (t, movedOver)
 
 -- M holds what S holds one place before, where the cursor stands at the symbol
-module _ (g : List ℕ) (code : ℕ) (S M : List ℕ) (n : ℕ) (at : (x : ℕ) → x < n → eqb (codeIn g (x / 17) (x % 17)) code ≡ true → getD M (suc x) 0 ≡ getD S x 0)
-    (off : (x : ℕ) → x < n → eqb (codeIn g (x / 17) (x % 17)) code ≡ false → getD M (suc x) 0 ≡ 0) where
+module _ (g : List ℕ) (code : ℕ) (S M : List ℕ) (n : ℕ) (at : (x : ℕ) → x < n → eqb (codeIn g (x / indexLimit) (x % indexLimit)) code ≡ true → getD M (suc x) 0 ≡ getD S x 0)
+    (off : (x : ℕ) → x < n → eqb (codeIn g (x / indexLimit) (x % indexLimit)) code ≡ false → getD M (suc x) 0 ≡ 0) where
   pub held-moved : (x m : ℕ) → x + m ≤ n → movedOver g code (held S (upFrom x m)) ≡ held M (upFrom (suc x) m)
   unfolding upFrom movedOver
   held-moved x zero h = rw (keep-nil (λ x. not (eqb (getD S x 0) 0)), keep-nil (λ x. not (eqb (getD M x 0) 0)))
@@ -67,11 +68,11 @@ module _ (g : List ℕ) (code : ℕ) (S M : List ℕ) (n : ℕ) (at : (x : ℕ) 
       cases (eqb (getD S x 0) 0)
       (λ t.
       let z = eqb-true (getD S x 0) 0 t in
-      let none : getD M (suc x) 0 ≡ 0 = cases (eqb (codeIn g (x / 17) (x % 17)) code) (λ u. at x l u ∙ z) (λ u. off x l u) in
+      let none : getD M (suc x) 0 ≡ 0 = cases (eqb (codeIn g (x / indexLimit) (x % indexLimit)) code) (λ u. at x l u ∙ z) (λ u. off x l u) in
       ap (movedOver g code) (held-none S x (upFrom (suc x) m) z) ∙ more ∙ sym (held-none M (suc x) (upFrom (suc (suc x)) m) none))
       (λ t.
       let z = eqb-false (getD S x 0) 0 t in
-      ap (movedOver g code) (held-some S x (upFrom (suc x) m) z) ∙ cases (eqb (codeIn g (x / 17) (x % 17)) code)
+      ap (movedOver g code) (held-some S x (upFrom (suc x) m) z) ∙ cases (eqb (codeIn g (x / indexLimit) (x % indexLimit)) code)
       (λ u.
       let e = at x l u in
       let one : x + 1 ≡ suc x = omega arith in
@@ -84,7 +85,7 @@ module _ (g : List ℕ) (code : ℕ) (S M : List ℕ) (n : ℕ) (at : (x : ℕ) 
 
 -- M at the place behind x
 
-behind-yes : (T : Table) (X : Symbol) (S : List ℕ) (p i : ℕ) → begins X (drop i (productionAt T p .symbols)) ≡ true → movedTo T X S p (suc i) ≡ getD S (17 * p + i) 0
+behind-yes : (T : Table) (X : Symbol) (S : List ℕ) (p i : ℕ) → begins X (drop i (productionAt T p .symbols)) ≡ true → movedTo T X S p (suc i) ≡ getD S (indexLimit * p + i) 0
 unfolding movedTo
 behind-yes T X S p i t = rw (t, movedTo)
 
@@ -103,27 +104,27 @@ begins-long X i ys t = by (drop i ys) refl t
 module _ (T : Table) (F : TableFits T) (X : Symbol) (S : List ℕ) where
   next-yes : (x : ℕ) → x < places T → begins X (from T x) ≡ true → getD (moved T X S) (suc x) 0 ≡ getD S x 0
   next-yes x h t =
-      let l : x % 17 < length (productionAt T (x / 17) .symbols) = begins-long X (x % 17) (productionAt T (x / 17) .symbols) t in
-      let k : x % 17 < 16 = omega (arith, l, symbols-short T F (x / 17)) in
-      let p : suc x / 17 ≡ x / 17 = omega arith in
-      let i : suc x % 17 ≡ suc (x % 17) = omega arith in
-      let y : 17 * (x / 17) + x % 17 ≡ x = omega arith in
-      moved-at T X S (suc x) (omega arith) ∙ rw (p, i) (behind-yes T X S (x / 17) (x % 17) t ∙ ap (λ (z : ℕ). getD S z 0) y)
+      let l : x % indexLimit < length (productionAt T (x / indexLimit) .symbols) = begins-long X (x % indexLimit) (productionAt T (x / indexLimit) .symbols) t in
+      let k : x % indexLimit < 16 = omega (arith, l, symbols-short T F (x / indexLimit)) in
+      let p : suc x / indexLimit ≡ x / indexLimit = omega arith in
+      let i : suc x % indexLimit ≡ suc (x % indexLimit) = omega arith in
+      let y : indexLimit * (x / indexLimit) + x % indexLimit ≡ x = omega arith in
+      moved-at T X S (suc x) (omega arith) ∙ rw (p, i) (behind-yes T X S (x / indexLimit) (x % indexLimit) t ∙ ap (λ (z : ℕ). getD S z 0) y)
 
   next-no : (x : ℕ) → x < places T → begins X (from T x) ≡ false → getD (moved T X S) (suc x) 0 ≡ 0
   next-no x h t =
       cases (ltb (suc x) (places T))
-      (λ u. moved-at T X S (suc x) (ltb-true (suc x) (places T) u) ∙ cases (eqb (x % 17) 16)
+      (λ u. moved-at T X S (suc x) (ltb-true (suc x) (places T) u) ∙ cases (eqb (x % indexLimit) 16)
       (λ v.
-      let w : x % 17 ≡ 16 = eqb-true (x % 17) 16 v in
-      let i : suc x % 17 ≡ 0 = omega arith in
-      rw i (movedTo-zero T X S (suc x / 17)))
+      let w : x % indexLimit ≡ 16 = eqb-true (x % indexLimit) 16 v in
+      let i : suc x % indexLimit ≡ 0 = omega arith in
+      rw i (movedTo-zero T X S (suc x / indexLimit)))
       (λ v.
-      let w = eqb-false (x % 17) 16 v in
-      let k : x % 17 < 16 = omega (arith, w) in
-      let p : suc x / 17 ≡ x / 17 = omega arith in
-      let i : suc x % 17 ≡ suc (x % 17) = omega arith in
-      rw (p, i) (behind-no T X S (x / 17) (x % 17) t)))
+      let w = eqb-false (x % indexLimit) 16 v in
+      let k : x % indexLimit < 16 = omega (arith, w) in
+      let p : suc x / indexLimit ≡ x / indexLimit = omega arith in
+      let i : suc x % indexLimit ≡ suc (x % indexLimit) = omega arith in
+      rw (p, i) (behind-no T X S (x / indexLimit) (x % indexLimit) t)))
       (λ u.
       let o : length (moved T X S) ≤ suc x = rw (length-moved T X S) (ltb-false (suc x) (places T) u) in
       List·getD-eq-default (moved T X S) 0 o)
@@ -151,13 +152,13 @@ module _ (T : Table) (g : List ℕ) (k e : ℕ) (sets : List ℕ) (G : Grammar T
     where
       by : (ys : List Symbol) → from T x ≡ ys → All (SymbolFits T) ys
       by [] q = tt
-      by (y ∷ β) q = behind-fit T (G .fits) (record { production = x / 17; index = x % 17 }) y β q
+      by (y ∷ β) q = behind-fit T (G .fits) (record { production = x / indexLimit; index = x % indexLimit }) y β q
 
-  agree : (x : ℕ) → x < places T → eqb (codeIn g (x / 17) (x % 17)) (symbolCode X) ≡ begins X (from T x)
+  agree : (x : ℕ) → x < places T → eqb (codeIn g (x / indexLimit) (x % indexLimit)) (symbolCode X) ≡ begins X (from T x)
   unfolding codeIn productionIn
   agree x h =
-      let l : x / 17 < k = omega (arith, G .many) in
-      ap (λ (r : Production). eqb (cursorCode (drop (x % 17) (r .symbols))) (symbolCode X)) (sym (production-at T g k e sets G (x / 17) l))
+      let l : x / indexLimit < k = omega (arith, G .many) in
+      ap (λ (r : Production). eqb (cursorCode (drop (x % indexLimit) (r .symbols))) (symbolCode X)) (sym (production-at T g k e sets G (x / indexLimit) l))
       ∙ codes-agree T (G .fits) X (from T x) fit (from-fits x)
 
   -- what `move_over` gives is the kernel of the goto

@@ -9,6 +9,7 @@ use lib.Dec.{eqb}
 use lib.ListN.{length, getD, set, length-set}
 use lib.Seq.{getD-set-same, getD-set-other}
 use borrow.Author.Tests.{eqb-true, eqb-false, eq-eqb, ne-eqb}
+use Rattle.repr.specs.Sizes.{indexLimit}
 use Rattle.repr.specs.Lists.{upFrom}
 use Rattle.repr.proofs.Lists.{cases, upFrom-last}
 use Rattle.closing.specs.Grammar.{codeIn}
@@ -136,13 +137,13 @@ entries-put ws n x s h =
 -- moving over a symbol
 
 module _ (g : List ℕ) (code x s : ℕ) (es : List Entry) where
-  over-yes : codeIn g (x / 17) (x % 17) ≡ code → movedOver g code (record { place = x; set = s } ∷ es) ≡ record { place = x + 1; set = s } ∷ movedOver g code es
+  over-yes : codeIn g (x / indexLimit) (x % indexLimit) ≡ code → movedOver g code (record { place = x; set = s } ∷ es) ≡ record { place = x + 1; set = s } ∷ movedOver g code es
   unfolding movedOver
-  over-yes e = rw (eq-eqb (codeIn g (x / 17) (x % 17)) code e, movedOver)
+  over-yes e = rw (eq-eqb (codeIn g (x / indexLimit) (x % indexLimit)) code e, movedOver)
 
-  over-no : (codeIn g (x / 17) (x % 17) ≡ code → ⊥) → movedOver g code (record { place = x; set = s } ∷ es) ≡ movedOver g code es
+  over-no : (codeIn g (x / indexLimit) (x % indexLimit) ≡ code → ⊥) → movedOver g code (record { place = x; set = s } ∷ es) ≡ movedOver g code es
   unfolding movedOver
-  over-no e = rw (ne-eqb (codeIn g (x / 17) (x % 17)) code e, movedOver)
+  over-no e = rw (ne-eqb (codeIn g (x / indexLimit) (x % indexLimit)) code e, movedOver)
 
 over-nil : (g : List ℕ) (code : ℕ) → movedOver g code [] ≡ []
 unfolding movedOver
@@ -150,15 +151,15 @@ over-nil g code = refl
 
 over-split : (g : List ℕ) (code : ℕ) (e : Entry) (es : List Entry) → movedOver g code (e ∷ es) ≡ movedOver g code (e ∷ []) ++ movedOver g code es
 over-split g code e es =
-    cases (eqb (codeIn g (e .place / 17) (e .place % 17)) code)
+    cases (eqb (codeIn g (e .place / indexLimit) (e .place % indexLimit)) code)
     (λ t.
-    let q = eqb-true (codeIn g (e .place / 17) (e .place % 17)) code t in
+    let q = eqb-true (codeIn g (e .place / indexLimit) (e .place % indexLimit)) code t in
     over-yes g code (e .place) (e .set) es q ∙ rw (over-yes g code (e .place) (e .set) [] q, over-nil g code))
     (λ t.
-    let q = eqb-false (codeIn g (e .place / 17) (e .place % 17)) code t in
+    let q = eqb-false (codeIn g (e .place / indexLimit) (e .place % indexLimit)) code t in
     over-no g code (e .place) (e .set) es q ∙ rw (over-no g code (e .place) (e .set) [] q, over-nil g code))
 
-pub appended : (g : List ℕ) (code x s : ℕ) (k k′ : List ℕ) (n c : ℕ) → n * 5 + 5 ≤ length k → c ≡ codeIn g (x / 17) (x % 17) → c ≡ code → k′ ≡ putEntry k n (x + 1) s → Appended g code x s k k′ n (n + 1)
+pub appended : (g : List ℕ) (code x s : ℕ) (k k′ : List ℕ) (n c : ℕ) → n * 5 + 5 ≤ length k → c ≡ codeIn g (x / indexLimit) (x % indexLimit) → c ≡ code → k′ ≡ putEntry k n (x + 1) s → Appended g code x s k k′ n (n + 1)
 appended g code x s k k′ n c h ec e q = record {
   long = ap length q ∙ length-put k n (x + 1) s;
   low = omega arith;
@@ -166,7 +167,7 @@ appended g code x s k k′ n c h ec e q = record {
   is = rw (q, over-yes g code x s [] (sym ec ∙ e), over-nil g code) (entries-put k n (x + 1) s h);
 }
 
-pub passed : (g : List ℕ) (code x s : ℕ) (k : List ℕ) (n c : ℕ) → c ≡ codeIn g (x / 17) (x % 17) → (c ≡ code → ⊥) → Appended g code x s k k n n
+pub passed : (g : List ℕ) (code x s : ℕ) (k : List ℕ) (n c : ℕ) → c ≡ codeIn g (x / indexLimit) (x % indexLimit) → (c ≡ code → ⊥) → Appended g code x s k k n n
 passed g code x s k n c ec e = record {
   long = refl;
   low = omega arith;
@@ -190,18 +191,18 @@ over-end g code ws k m past n all h q = sym (append-nil (entries k 0 n)) ∙ (rw
 -- comparing kernels
 
 module _ (x s : ℕ) (es : List Entry) where
-  kernel-pass : (ds : List Entry) → x % 17 ≡ 0 → sameKernel (record { place = x; set = s } ∷ es) ds ≡ sameKernel es ds
+  kernel-pass : (ds : List Entry) → x % indexLimit ≡ 0 → sameKernel (record { place = x; set = s } ∷ es) ds ≡ sameKernel es ds
   unfolding sameKernel
-  kernel-pass [] z = rw (eq-eqb (x % 17) 0 z, sameKernel)
-  kernel-pass (d ∷ ds) z = rw (eq-eqb (x % 17) 0 z, sameKernel)
+  kernel-pass [] z = rw (eq-eqb (x % indexLimit) 0 z, sameKernel)
+  kernel-pass (d ∷ ds) z = rw (eq-eqb (x % indexLimit) 0 z, sameKernel)
 
-  kernel-short : (x % 17 ≡ 0 → ⊥) → sameKernel (record { place = x; set = s } ∷ es) [] ≡ false
+  kernel-short : (x % indexLimit ≡ 0 → ⊥) → sameKernel (record { place = x; set = s } ∷ es) [] ≡ false
   unfolding sameKernel
-  kernel-short z = rw (ne-eqb (x % 17) 0 z, sameKernel)
+  kernel-short z = rw (ne-eqb (x % indexLimit) 0 z, sameKernel)
 
-  kernel-both : (d : Entry) (ds : List Entry) → (x % 17 ≡ 0 → ⊥) → sameKernel (record { place = x; set = s } ∷ es) (d ∷ ds) ≡ (sameEntry (record { place = x; set = s }) d && sameKernel es ds)
+  kernel-both : (d : Entry) (ds : List Entry) → (x % indexLimit ≡ 0 → ⊥) → sameKernel (record { place = x; set = s } ∷ es) (d ∷ ds) ≡ (sameEntry (record { place = x; set = s }) d && sameKernel es ds)
   unfolding sameKernel
-  kernel-both d ds z = rw (ne-eqb (x % 17) 0 z, sameKernel)
+  kernel-both d ds z = rw (ne-eqb (x % indexLimit) 0 z, sameKernel)
 
 kernel-nil : sameKernel [] [] ≡ true
 unfolding sameKernel
@@ -222,17 +223,17 @@ alike : (x s y t : ℕ) → x ≡ y → s ≡ t → sameEntry (record { place = 
 unfolding sameEntry
 alike x s y t p q = rw (eq-eqb x y p, eq-eqb s t q) refl
 
-pub met-pass : (x s : ℕ) (k : List ℕ) (m n : ℕ) → m ≤ n → x % 17 ≡ 0 → MetAfter x s k m n m
+pub met-pass : (x s : ℕ) (k : List ℕ) (m n : ℕ) → m ≤ n → x % indexLimit ≡ 0 → MetAfter x s k m n m
 met-pass x s k m n h z = record { high = omega arith; goes = λ l es. kernel-pass x s es (entries k m (n - m)) z; stops = λ l. absurd (omega arith) }
 
-pub met-short : (x s : ℕ) (k : List ℕ) (m n : ℕ) → m ≡ n → (x % 17 ≡ 0 → ⊥) → MetAfter x s k m n (n + 1)
+pub met-short : (x s : ℕ) (k : List ℕ) (m n : ℕ) → m ≡ n → (x % indexLimit ≡ 0 → ⊥) → MetAfter x s k m n (n + 1)
 met-short x s k m n e z = record {
   high = omega arith;
   goes = λ l. absurd (omega arith);
   stops = λ l es. rw (entries-none k m n (omega arith)) (kernel-short x s es z);
 }
 
-module _ (x s y t : ℕ) (k : List ℕ) (m n : ℕ) (h : m < n) (z : x % 17 ≡ 0 → ⊥) (e : record { place = y; set = t } ≡ entryAt k m) where
+module _ (x s y t : ℕ) (k : List ℕ) (m n : ℕ) (h : m < n) (z : x % indexLimit ≡ 0 → ⊥) (e : record { place = y; set = t } ≡ entryAt k m) where
   pub met-differs : ((x ≡ y) × (s ≡ t) → ⊥) → MetAfter x s k m n (n + 1)
   met-differs ne = record {
     high = omega arith;

@@ -6,6 +6,7 @@ use mathlib.Core.Bool.{Bool, true, false, _&&_, not}
 use mathlib.Core.List.{List, [], _∷_, _++_, map}
 use lib.ListN.{length, getD, set}
 use lib.Dec.{eqb}
+use Rattle.repr.specs.Sizes.{indexLimit}
 use Rattle.repr.specs.Lists.{upFrom, below, keep}
 use Rattle.closing.specs.Grammar.{codeIn}
 
@@ -39,7 +40,7 @@ packed S = map (λ x. record { place = x; set = getD S x 0 }) (keep (λ x. not (
 -- those with the cursor at a symbol, moved over it
 unfoldable pub movedOver : List ℕ → ℕ → List Entry → List Entry
 movedOver g code [] = []
-movedOver g code (e ∷ es) = elim (eqb (codeIn g (e .place / 17) (e .place % 17)) code) [
+movedOver g code (e ∷ es) = elim (eqb (codeIn g (e .place / indexLimit) (e .place % indexLimit)) code) [
   | true ↦ record { place = e .place + 1; set = e .set } ∷ movedOver g code es
   | false ↦ movedOver g code es
 ]
@@ -51,8 +52,8 @@ sameEntry e d = eqb (e .place) (d .place) && eqb (e .set) (d .set)
 unfoldable pub sameKernel : List Entry → List Entry → Bool
 sameKernel [] [] = true
 sameKernel [] (d ∷ ds) = false
-sameKernel (e ∷ es) [] = elim (eqb (e .place % 17) 0) [ true ↦ sameKernel es [] | false ↦ false ]
-sameKernel (e ∷ es) (d ∷ ds) = elim (eqb (e .place % 17) 0) [ true ↦ sameKernel es (d ∷ ds) | false ↦ sameEntry e d && sameKernel es ds ]
+sameKernel (e ∷ es) [] = elim (eqb (e .place % indexLimit) 0) [ true ↦ sameKernel es [] | false ↦ false ]
+sameKernel (e ∷ es) (d ∷ ds) = elim (eqb (e .place % indexLimit) 0) [ true ↦ sameKernel es (d ∷ ds) | false ↦ sameEntry e d && sameKernel es ds ]
 
 -- one item more taken over a symbol, k and k′ the kernel's words before and after
 pub record Appended (g : List ℕ) (code x s : ℕ) (k k′ : List ℕ) (n r : ℕ) : Type 0 where

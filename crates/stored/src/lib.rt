@@ -1,11 +1,13 @@
 // Items with their tokens in words (specs/Stored): reading and writing one, moving those with the cursor at a symbol over it, comparing kernels.
 use closing::cursor;
 use core::Item;
+use repr::ProductionIndex;
 use repr::word;
 ghost use mathlib.Core.Path.{_≡_};
 ghost use mathlib.Core.List.{List};
 ghost use Prim.Native.Nat.{ℕ, _+_, _-_, _*_, _^_, _≤_, _<_};
 ghost use lib.ListN.{length, getD};
+ghost use Rattle.repr.specs.Sizes.{indexLimit, recordLimit};
 ghost use Rattle.repr.specs.Packed.{Packed};
 ghost use Rattle.stored.specs.Stored.{entryAt, entries, putEntry, movedOver, sameKernel, Appended, MetAfter};
 
@@ -24,7 +26,7 @@ fn part(words: &[u16], at: usize) -> u64
 }
 
 pub fn read_item(words: &[u16], at: usize) -> StoredItem
-    requires { ⌜ (at < 8192) × (at * 5 + 5 ≤ length (now words)) ⌝ }
+    requires { ⌜ (at < recordLimit) × (at * 5 + 5 ≤ length (now words)) ⌝ }
     ensures { λ r. ⌜ (record { place = r .place; set = r .set } ≡ entryAt (now (words .entry)) at) × (r .set < 2 ^ 64) ⌝ }
 {
     let base = at * 5;
@@ -40,7 +42,7 @@ pub fn read_item(words: &[u16], at: usize) -> StoredItem
 }
 
 pub fn write_item(words: &mut [u16], at: usize, item: StoredItem)
-    requires { ⌜ (at < 8192) × (at * 5 + 5 ≤ length (now words)) × (item .place < 65536) ⌝ }
+    requires { ⌜ (at < recordLimit) × (at * 5 + 5 ≤ length (now words)) × (item .place < 65536) ⌝ }
     ensures { λ _. ⌜ now (words .exit) ≡ putEntry (now (words .entry)) at (item .place) (item .set) ⌝ }
 {
     let base = at * 5;
@@ -64,14 +66,14 @@ fn move_one(
     kernel: &mut [u16],
     many: usize,
 ) -> usize
-    requires { ⌜ Packed (now grammar) productions × (read .place < 17 * productions) × (read .set < 2 ^ 64) ⌝ }
-    requires { ⌜ (many < 8192) × (many * 5 + 5 ≤ length (now kernel)) ⌝ }
+    requires { ⌜ Packed (now grammar) productions × (read .place < indexLimit * productions) × (read .set < 2 ^ 64) ⌝ }
+    requires { ⌜ (many < recordLimit) × (many * 5 + 5 ≤ length (now kernel)) ⌝ }
     ensures { λ r. ⌜ Appended (now (grammar .entry)) symbol (read .place) (read .set) (now (kernel .entry)) (now (kernel .exit)) many r ⌝ }
 {
     let place = read.place;
     let item = Item {
-        production: place / 17,
-        index: place % 17,
+        production: place / ProductionIndex::INDEXES,
+        index: place % ProductionIndex::INDEXES,
     };
     if cursor(grammar, productions, item) == symbol {
         let next = StoredItem {
@@ -95,8 +97,8 @@ pub fn move_over(
     kernel: &mut [u16],
 ) -> usize
     requires { ⌜ Packed (now grammar) productions ⌝ }
-    requires { ⌜ (from ≤ past) × (past ≤ 8192) × (past * 5 ≤ length (now words)) × ((past - from) * 5 ≤ length (now kernel)) ⌝ }
-    requires { ⌜ ((m : ℕ) → from ≤ m → m < past → entryAt (now words) m .place < 17 * productions) ⌝ }
+    requires { ⌜ (from ≤ past) × (past ≤ recordLimit) × (past * 5 ≤ length (now words)) × ((past - from) * 5 ≤ length (now kernel)) ⌝ }
+    requires { ⌜ ((m : ℕ) → from ≤ m → m < past → entryAt (now words) m .place < indexLimit * productions) ⌝ }
     ensures { λ r. ⌜ (r ≤ past - from) × (length (now (kernel .exit)) ≡ length (now (kernel .entry))) × (entries (now (kernel .exit)) 0 r ≡ movedOver (now (grammar .entry)) symbol (entries (now (words .entry)) from (past - from))) ⌝ }
 {
     let mut many: usize = 0;
@@ -111,10 +113,10 @@ pub fn move_over(
 
 // How many of a kernel's items are met after one item more: an index-0 item is passed over; one more than the kernel has if the item is not the kernel's next.
 fn meet_one(mine: StoredItem, kernel: &[u16], met: usize, many: usize) -> usize
-    requires { ⌜ (met ≤ many) × (many ≤ 8192) × (many * 5 ≤ length (now kernel)) ⌝ }
+    requires { ⌜ (met ≤ many) × (many ≤ recordLimit) × (many * 5 ≤ length (now kernel)) ⌝ }
     ensures { λ r. ⌜ MetAfter (mine .place) (mine .set) (now (kernel .entry)) met many r ⌝ }
 {
-    if mine.place % 17 == 0 {
+    if mine.place % ProductionIndex::INDEXES == 0 {
         return met;
     }
     if met == many {
@@ -132,7 +134,7 @@ fn meet_one(mine: StoredItem, kernel: &[u16], met: usize, many: usize) -> usize
 
 // Whether the items number `from` up to `past` have exactly these past index 0.
 pub fn same_kernel(words: &[u16], from: usize, past: usize, kernel: &[u16], many: usize) -> bool
-    requires { ⌜ (from ≤ past) × (past ≤ 8192) × (past * 5 ≤ length (now words)) × (many ≤ 8192) × (many * 5 ≤ length (now kernel)) ⌝ }
+    requires { ⌜ (from ≤ past) × (past ≤ recordLimit) × (past * 5 ≤ length (now words)) × (many ≤ recordLimit) × (many * 5 ≤ length (now kernel)) ⌝ }
     ensures { λ r. ⌜ r ≡ sameKernel (entries (now (words .entry)) from (past - from)) (entries (now (kernel .entry)) 0 many) ⌝ }
 {
     let mut at = from;

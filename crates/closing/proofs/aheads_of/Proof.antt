@@ -3,6 +3,7 @@ use mathlib.Core.Path.{_≡_, refl}
 use mathlib.Core.List.{_++_}
 use Prim.Native.Nat.{_+_, _*_}
 use lib.ListN.{length, take}
+use Rattle.repr.specs.Sizes.{indexLimit}
 use Rattle.repr.specs.Meaning.{Table}
 use Rattle.closing.specs.Grammar.{Grammar}
 use Rattle.closing.proofs.Rest.{left, Turn, front-sized, turn-start, turn-again, turn-less}
@@ -12,10 +13,10 @@ use Rattle.closing.proofs.aheads_of.Statement.{statement}
 use Rattle.closing.proofs.aheads_of.Tie as tie
 
 abbrev Inv-loop : tie.InvT-loop
-Inv-loop grammar productions terminals first kernel aheads₀ changed₀ aheads changed = (length aheads ≡ 32) × ((T : Table) → Grammar T grammar productions terminals first → Turn T (take (17 * productions) kernel) aheads changed)
+Inv-loop grammar productions terminals first kernel aheads₀ changed₀ aheads changed = (length aheads ≡ 32) × ((T : Table) → Grammar T grammar productions terminals first → Turn T (take (indexLimit * productions) kernel) aheads changed)
 
 abbrev μ-loop : tie.MeasureT-loop
-μ-loop grammar productions terminals first kernel aheads₀ changed₀ aheads changed = left (17 * productions + 32) changed (take (17 * productions) kernel ++ aheads)
+μ-loop grammar productions terminals first kernel aheads₀ changed₀ aheads changed = left (indexLimit * productions + 32) changed (take (indexLimit * productions) kernel ++ aheads)
 
 loop-holds : tie.Need-loop-holds Inv-loop μ-loop
 loop-holds c = (refl, λ T G. turn-start T (G .fits) _ (front-sized T _ _ (c .before .pre .1) (G .packed .few) (G .many)))

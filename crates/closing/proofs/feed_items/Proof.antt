@@ -2,6 +2,7 @@
 use mathlib.Core.Path.{_≡_}
 use Prim.Native.Nat.{_*_, _-_, _≤_}
 use lib.ListN.{length}
+use Rattle.repr.specs.Sizes.{indexLimit}
 use Rattle.repr.specs.Lists.{below}
 use Rattle.repr.specs.Meaning.{Table}
 use Rattle.closing.specs.Grammar.{Grammar}
@@ -13,10 +14,10 @@ use Rattle.closing.proofs.feed_items.Statement.{statement}
 use Rattle.closing.proofs.feed_items.Tie as tie
 
 abbrev Inv-loop : tie.InvT-loop
-Inv-loop grammar productions terminals first kernel aheads₀ places place₀ aheads place = (place ≤ 17 * productions) × (length aheads ≡ 32) × ((T : Table) → Grammar T grammar productions terminals first → aheads ≡ fedByItems T kernel aheads₀ (below place))
+Inv-loop grammar productions terminals first kernel aheads₀ places place₀ aheads place = (place ≤ indexLimit * productions) × (length aheads ≡ 32) × ((T : Table) → Grammar T grammar productions terminals first → aheads ≡ fedByItems T kernel aheads₀ (below place))
 
 abbrev μ-loop : tie.MeasureT-loop
-μ-loop grammar productions terminals first kernel aheads₀ places place₀ aheads place = 17 * productions - place
+μ-loop grammar productions terminals first kernel aheads₀ places place₀ aheads place = indexLimit * productions - place
 
 mul-places : tie.Need-mul-places Inv-loop μ-loop
 mul-places c = search needs
