@@ -1,0 +1,3 @@
+-- What the contracts cite. Assumes nothing.
+pub mod Text
+pub mod Outcome
