@@ -24,11 +24,11 @@ use Rattle.build.proofs.Goto.{goto-sized, goto-exact, start-sized, star
 
 -- a number, or the next one
 
-place-here : (S R : List ℕ) (Rs : List (List ℕ)) → sameWords S R ≡ true → place S (R ∷ Rs) ≡ 0
+pub place-here : (S R : List ℕ) (Rs : List (List ℕ)) → sameWords S R ≡ true → place S (R ∷ Rs) ≡ 0
 unfolding place
 place-here S R Rs h = rw (h, place)
 
-place-there : (S R : List ℕ) (Rs : List (List ℕ)) → sameWords S R ≡ false → place S (R ∷ Rs) ≡ suc (place S Rs)
+pub place-there : (S R : List ℕ) (Rs : List (List ℕ)) → sameWords S R ≡ false → place S (R ∷ Rs) ≡ suc (place S Rs)
 unfolding place
 place-there S R Rs h = rw (h, place)
 
@@ -88,7 +88,7 @@ pub add-new : (S : List ℕ) (Rs : List (List ℕ)) → length Rs ≤ place S Rs
 unfolding add
 add-new S Rs h = rw (le-ltb (place S Rs) (length Rs) h, add)
 
-add-extends : (S : List ℕ) (Rs : List (List ℕ)) → Extends Rs (add S Rs)
+pub add-extends : (S : List ℕ) (Rs : List (List ℕ)) → Extends Rs (add S Rs)
 add-extends S Rs =
     cases (ltb (place S Rs) (length Rs))
     (λ t. rw (add-old S Rs (ltb-true (place S Rs) (length Rs) t)) (extends-refl Rs))

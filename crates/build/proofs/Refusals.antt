@@ -23,11 +23,11 @@ use Rattle.build.proofs.Collection.{Extends, extends-refl, extends-tran
 
 -- the test of state k
 
-stops-128 : (T : Table) (room : ℕ) (Rs : List (List ℕ)) → stopsAt T room Rs 128 ≡ true
+pub stops-128 : (T : Table) (room : ℕ) (Rs : List (List ℕ)) → stopsAt T room Rs 128 ≡ true
 unfolding stopsAt
 stops-128 T room Rs = refl
 
-stops-other : (T : Table) (room : ℕ) (Rs : List (List ℕ)) (k : ℕ) → (k ≡ 128 → ⊥) → stopsAt T room Rs k ≡ ltb (min room recordLimit) (records T (take (suc k) Rs))
+pub stops-other : (T : Table) (room : ℕ) (Rs : List (List ℕ)) (k : ℕ) → (k ≡ 128 → ⊥) → stopsAt T room Rs k ≡ ltb (min room recordLimit) (records T (take (suc k) Rs))
 unfolding stopsAt
 stops-other T room Rs k n = rw (ne-eqb k 128 n, stopsAt)
 
@@ -41,7 +41,7 @@ front-same Rs Qs k f h =
     let m : i < suc k = rw a at l in
     getD-take (suc k) Qs i [] m ∙ f .same i (omega arith) ∙ sym (getD-take (suc k) Rs i [] m))
 
-stops-more : (T : Table) (room : ℕ) (Rs Qs : List (List ℕ)) (k : ℕ) → Extends Rs Qs → k < length Rs → stopsAt T room Qs k ≡ stopsAt T room Rs k
+pub stops-more : (T : Table) (room : ℕ) (Rs Qs : List (List ℕ)) (k : ℕ) → Extends Rs Qs → k < length Rs → stopsAt T room Qs k ≡ stopsAt T room Rs k
 stops-more T room Rs Qs k f h =
     cases (eqb k 128)
     (λ t. rw (eqb-true k 128 t) (stops-128 T room Qs ∙ sym (stops-128 T room Rs)))
@@ -49,7 +49,7 @@ stops-more T room Rs Qs k f h =
     let n = eqb-false k 128 t in
     stops-other T room Qs k n ∙ ap (λ (l : List (List ℕ)). ltb (min room recordLimit) (records T l)) (front-same Rs Qs k f h) ∙ sym (stops-other T room Rs k n))
 
-collect-extends : (f : ℕ) (T : Table) (Rs : List (List ℕ)) (es : List (List Edge)) → Extends Rs (statesOf (collect f T Rs es))
+pub collect-extends : (f : ℕ) (T : Table) (Rs : List (List ℕ)) (es : List (List Edge)) → Extends Rs (statesOf (collect f T Rs es))
 unfolding collect
 collect-extends zero T Rs es = extends-refl Rs
 collect-extends (suc f) T Rs es =
@@ -68,11 +68,11 @@ stops-early T room f Rs es k h = stops-more T room Rs (statesOf (collect f T Rs 
 
 -- the first decides
 
-answer-some : (T : Table) (room words : ℕ) (b : Collected) (k : ℕ) → first? (stopsAt T room (statesOf b)) (below (length (statesOf b))) ≡ some k → answer T room words b ≡ refused (numberOf k)
+pub answer-some : (T : Table) (room words : ℕ) (b : Collected) (k : ℕ) → first? (stopsAt T room (statesOf b)) (below (length (statesOf b))) ≡ some k → answer T room words b ≡ refused (numberOf k)
 unfolding answer
 answer-some T room words b k h = rw (h, answer)
 
-answer-none : (T : Table) (room words : ℕ) (b : Collected) → first? (stopsAt T room (statesOf b)) (below (length (statesOf b))) ≡ none → answer T room words b ≡ finish T room words b
+pub answer-none : (T : Table) (room words : ℕ) (b : Collected) → first? (stopsAt T room (statesOf b)) (below (length (statesOf b))) ≡ none → answer T room words b ≡ finish T room words b
 unfolding answer
 answer-none T room words b h = rw (h, answer)
 

@@ -17,7 +17,7 @@ use Rattle.build.proofs.Closure.{behind-fit}
 use Rattle.build.proofs.Goto.{drop-long, length-moved, moved-at, movedTo-zero, symbols-short}
 use Rattle.closing.specs.Grammar.{Grammar, symbolCode, cursorCode, codeIn}
 use Rattle.closing.proofs.Grammar.{production-at}
-use Rattle.stored.specs.Stored.{Entry, packed, movedOver}
+use Rattle.stored.specs.Stored.{Entry, held, packed, movedOver}
 
 turned : (n m : ℕ) → eqb n m ≡ eqb m n
 turned n m =
@@ -39,13 +39,11 @@ codes-agree T F (terminal t) (terminal u ∷ ys) h f =
     (λ a. let q = eqb-false t u a in ne-eqb (32 + u) (32 + t) (λ w. q (omega arith)) ∙ sym a)
 
 -- places of a range that have a token
-abbrev held : List ℕ → List ℕ → List Entry
-held S xs = map (λ x. record { place = x; set = getD S x 0 }) (keep (λ x. not (eqb (getD S x 0) 0)) xs)
 
-held-none : (S : List ℕ) (x : ℕ) (xs : List ℕ) → getD S x 0 ≡ 0 → held S (x ∷ xs) ≡ held S xs
+pub held-none : (S : List ℕ) (x : ℕ) (xs : List ℕ) → getD S x 0 ≡ 0 → held S (x ∷ xs) ≡ held S xs
 held-none S x xs z = rw (keep-no (λ x. not (eqb (getD S x 0) 0)) x xs (rw (eq-eqb (getD S x 0) 0 z)))
 
-held-some : (S : List ℕ) (x : ℕ) (xs : List ℕ) → (getD S x 0 ≡ 0 → ⊥) → held S (x ∷ xs) ≡ record { place = x; set = getD S x 0 } ∷ held S xs
+pub held-some : (S : List ℕ) (x : ℕ) (xs : List ℕ) → (getD S x 0 ≡ 0 → ⊥) → held S (x ∷ xs) ≡ record { place = x; set = getD S x 0 } ∷ held S xs
 held-some S x xs z = rw (keep-yes (λ x. not (eqb (getD S x 0) 0)) x xs (rw (ne-eqb (getD S x 0) 0 z)))
 
 over-here : (g : List ℕ) (code : ℕ) (e : Entry) (es : List Entry) → eqb (codeIn g (e .place / indexLimit) (e .place % indexLimit)) code ≡ true → movedOver g code (e ∷ es) ≡ record { place = e .place + 1; set = e .set } ∷ movedOver g code es

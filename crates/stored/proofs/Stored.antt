@@ -98,11 +98,11 @@ read-is ws m p a b c d ep ea eb ec ed = rw (ep, ea, eb, ec, ed)
 
 -- items one behind the other
 
-entries-none : (ws : List ℕ) (m k : ℕ) → k ≤ m → entries ws m (k - m) ≡ []
+pub entries-none : (ws : List ℕ) (m k : ℕ) → k ≤ m → entries ws m (k - m) ≡ []
 unfolding entries upFrom
 entries-none ws m k h = let z : k - m ≡ 0 = omega arith in rw z refl
 
-entries-more : (ws : List ℕ) (m n : ℕ) → entries ws m (suc n) ≡ entryAt ws m ∷ entries ws (suc m) n
+pub entries-more : (ws : List ℕ) (m n : ℕ) → entries ws m (suc n) ≡ entryAt ws m ∷ entries ws (suc m) n
 unfolding entries upFrom
 entries-more ws m n = refl
 
@@ -111,7 +111,7 @@ entries-at ws m k h =
     let z : k - m ≡ suc (k - (m + 1)) = omega arith in
     rw (z, entries-more ws m (k - (m + 1)), add-one m)
 
-entries-same : (ws vs : List ℕ) (m n : ℕ) → ((i : ℕ) → m ≤ i → i < m + n → entryAt vs i ≡ entryAt ws i) → entries vs m n ≡ entries ws m n
+pub entries-same : (ws vs : List ℕ) (m n : ℕ) → ((i : ℕ) → m ≤ i → i < m + n → entryAt vs i ≡ entryAt ws i) → entries vs m n ≡ entries ws m n
 unfolding entries upFrom
 entries-same ws vs m zero f = refl
 entries-same ws vs m (suc n) f =
@@ -191,35 +191,35 @@ over-end g code ws k m past n all h q = sym (append-nil (entries k 0 n)) ∙ (rw
 -- comparing kernels
 
 module _ (x s : ℕ) (es : List Entry) where
-  kernel-pass : (ds : List Entry) → x % indexLimit ≡ 0 → sameKernel (record { place = x; set = s } ∷ es) ds ≡ sameKernel es ds
+  pub kernel-pass : (ds : List Entry) → x % indexLimit ≡ 0 → sameKernel (record { place = x; set = s } ∷ es) ds ≡ sameKernel es ds
   unfolding sameKernel
   kernel-pass [] z = rw (eq-eqb (x % indexLimit) 0 z, sameKernel)
   kernel-pass (d ∷ ds) z = rw (eq-eqb (x % indexLimit) 0 z, sameKernel)
 
-  kernel-short : (x % indexLimit ≡ 0 → ⊥) → sameKernel (record { place = x; set = s } ∷ es) [] ≡ false
+  pub kernel-short : (x % indexLimit ≡ 0 → ⊥) → sameKernel (record { place = x; set = s } ∷ es) [] ≡ false
   unfolding sameKernel
   kernel-short z = rw (ne-eqb (x % indexLimit) 0 z, sameKernel)
 
-  kernel-both : (d : Entry) (ds : List Entry) → (x % indexLimit ≡ 0 → ⊥) → sameKernel (record { place = x; set = s } ∷ es) (d ∷ ds) ≡ (sameEntry (record { place = x; set = s }) d && sameKernel es ds)
+  pub kernel-both : (d : Entry) (ds : List Entry) → (x % indexLimit ≡ 0 → ⊥) → sameKernel (record { place = x; set = s } ∷ es) (d ∷ ds) ≡ (sameEntry (record { place = x; set = s }) d && sameKernel es ds)
   unfolding sameKernel
   kernel-both d ds z = rw (ne-eqb (x % indexLimit) 0 z, sameKernel)
 
-kernel-nil : sameKernel [] [] ≡ true
+pub kernel-nil : sameKernel [] [] ≡ true
 unfolding sameKernel
 kernel-nil = refl
 
-kernel-long : (d : Entry) (ds : List Entry) → sameKernel [] (d ∷ ds) ≡ false
+pub kernel-long : (d : Entry) (ds : List Entry) → sameKernel [] (d ∷ ds) ≡ false
 unfolding sameKernel
 kernel-long d ds = refl
 
-differs : (x s y t : ℕ) → ((x ≡ y) × (s ≡ t) → ⊥) → sameEntry (record { place = x; set = s }) (record { place = y; set = t }) ≡ false
+pub differs : (x s y t : ℕ) → ((x ≡ y) × (s ≡ t) → ⊥) → sameEntry (record { place = x; set = s }) (record { place = y; set = t }) ≡ false
 unfolding sameEntry
 differs x s y t ne =
     cases (eqb x y)
     (λ a. rw a (cases (eqb s t) (λ b. absurd (ne (eqb-true x y a, eqb-true s t b))) (λ b. b)))
     (λ a. rw a refl)
 
-alike : (x s y t : ℕ) → x ≡ y → s ≡ t → sameEntry (record { place = x; set = s }) (record { place = y; set = t }) ≡ true
+pub alike : (x s y t : ℕ) → x ≡ y → s ≡ t → sameEntry (record { place = x; set = s }) (record { place = y; set = t }) ≡ true
 unfolding sameEntry
 alike x s y t p q = rw (eq-eqb x y p, eq-eqb s t q) refl
 

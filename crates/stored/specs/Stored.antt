@@ -33,9 +33,12 @@ unfoldable pub putEntry : List ℕ → ℕ → ℕ → ℕ → List ℕ
 putEntry ws m x s =
     set (set (set (set (set ws (m * 5) x) (m * 5 + 1) (s % 65536)) (m * 5 + 2) (s / 65536 % 65536)) (m * 5 + 3) (s / 65536 / 65536 % 65536)) (m * 5 + 4) (s / 65536 / 65536 / 65536)
 
--- the items of a state: the places that have a token
+-- the items of a state: the places that have a token, of a list of places and of all
+abbrev pub held : List ℕ → List ℕ → List Entry
+held S xs = map (λ x. record { place = x; set = getD S x 0 }) (keep (λ x. not (eqb (getD S x 0) 0)) xs)
+
 unfoldable pub packed : List ℕ → List Entry
-packed S = map (λ x. record { place = x; set = getD S x 0 }) (keep (λ x. not (eqb (getD S x 0) 0)) (below (length S)))
+packed S = held S (below (length S))
 
 -- those with the cursor at a symbol, moved over it
 unfoldable pub movedOver : List ℕ → ℕ → List Entry → List Entry
