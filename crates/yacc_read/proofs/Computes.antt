@@ -10,8 +10,9 @@ use Rattle.spelling.specs.Spelled.{headOf, chainFrom, chainsFrom, placeOf, size
 use Rattle.yacc_text.specs.Grammar.{isWhite, isLetter, isDigit, kindOf, goesOn, noStart, oneStart, spellId, spellToken, spellPiece, tokensIn, slashNext, closes, literalByte, stops}
 use Rattle.yacc_text.specs.Lex.{rest, runOf, pastRun, strip, literalIf, nextLiteral, wordIf, startOr, tokenOr, markOr, longer, inComment, commentOr, nextOf, next, before, after, lexSteps, lex}
 use Rattle.yacc_text.specs.Parse.{leftSide as leftSideOf, marked, declared, begun, step, run, whole, fileOf, laid, parsed, parse}
+use Rattle.yacc_text.specs.Places.{widthOf, placed}
 use Rattle.yacc_text.specs.Forward.{begins, sides, move}
-use Rattle.yacc_read.specs.Events.{widthOf, placed, eventOf, events}
+use Rattle.yacc_read.specs.Events.{eventOf, events}
 use Rattle.yacc_read.specs.Source.{sameId, isKnown, numberIn, enter, entered, leftSide, literalUse, tokenUse, startUse, spanStart, spanEnd, alternative, alternativesFrom, sourceOf}
 use Rattle.yacc_read.specs.Meaning.{symbolOf, productionOf, productionsOf, owned, tableOf, placesOf, startOf}
 use Rattle.yacc_read.specs.Outcome.{Outcome, unchanged, nowhere, undefinedUse, bothWays, undefinedStart, misnamed, tooMany, tooLong, room, answerOf, fittedOf, countedOf, namedOf, sourceIn, parsedOf, readOf}

@@ -1,1 +1,4 @@
 pub mod Computes
+pub mod Known
+pub mod Said
+pub mod Fits

@@ -1,26 +1,10 @@
 -- What the tokens of a text say, in text order, with their places (docs/YACC.md, Meaning): which ids a TOKEN list declares, the START id, left sides, ids of bodies, ends of bodies.
 -- Assumes nothing: these are definitions.
-use Prim.Native.Nat.{ℕ, _+_}
+use Prim.Native.Nat.{ℕ}
 use mathlib.Core.List.{List, [], _∷_, _++_}
-use lib.ListN.{length}
-use Rattle.yacc_text.specs.Grammar.{Id, Token, ident, token, start, mark, colon, bar, semi, Piece, white, comment, piece, spellPiece}
+use Rattle.yacc_text.specs.Grammar.{Id, Token, ident, token, start, mark, colon, bar, semi}
+use Rattle.yacc_text.specs.Places.{Placed}
 use Rattle.yacc_text.specs.Forward.{Mode, top, wanted, listed, starting, ruled, sided, bodied, done, dead, move}
-
--- a token, the place of its first byte and the place behind its last; places are of bytes, from 0
-pub record Placed : Type 0 where
-  pub token : Token
-  pub from : ℕ
-  pub past : ℕ
-
-unfoldable pub widthOf : Piece → ℕ
-widthOf p = length (spellPiece p [])
-
--- the tokens of the pieces that stand from place `at` on
-unfoldable pub placed : ℕ → List Piece → List Placed
-placed at [] = []
-placed at (white b ∷ ps) = placed (at + widthOf (white b)) ps
-placed at (comment cs ∷ ps) = placed (at + widthOf (comment cs)) ps
-placed at (piece t ∷ ps) = record { token = t; from = at; past = at + widthOf (piece t) } ∷ placed (at + widthOf (piece t)) ps
 
 -- an id of a TOKEN list; the START id; a left side; an id of a body; the `|` or `;` behind a body: each with its place
 pub data Event : Type 0 where

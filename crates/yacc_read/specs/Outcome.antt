@@ -12,9 +12,10 @@ use Rattle.repr.specs.Lists.{some?}
 use Rattle.repr.specs.Meaning.{Table}
 use Rattle.spelling.specs.Spelled.{productionsAt, recordsOf, spell}
 use Rattle.yacc_text.specs.Grammar.{Id, Piece, Layout, textLimit}
+use Rattle.yacc_text.specs.Places.{placed}
 use Rattle.yacc_text.specs.Forward.{top}
 use Rattle.yacc_text.specs.Parse.{parse}
-use Rattle.yacc_read.specs.Events.{placed, events}
+use Rattle.yacc_read.specs.Events.{events}
 use Rattle.yacc_read.specs.Source.{Known, isKnown, Alternative, Source, sourceOf}
 use Rattle.yacc_read.specs.Meaning.{tableOf, placesOf, startOf}
 use Rattle.yacc_read.specs.declared.Reading.{Reading}

@@ -153,7 +153,7 @@ next-complete (comment cs) k o a = comment-all cs k o
 next-complete (piece t) k o a = next-token t k o a
 
 -- what an answer says of the text
-abbrev Reads : Next → List ℕ → Type 0
+abbrev pub Reads : Next → List ℕ → Type 0
 Reads (goes p k) t = (okPiece p ≡ true) × (apart p k ≡ true) × (spellPiece p k ≡ t)
 Reads ends t = t ≡ []
 Reads outside t = Unit {0}
@@ -405,3 +405,23 @@ lex-complete ps f = steps-all ps (length (spellAll ps)) f (omega arith)
 pub lex-sound : (t : List ℕ) (ps : List Piece) → lex t ≡ some ps → Spelled ps t
 unfolding lex
 lex-sound t ps e = steps-sound (length t) t ps e
+
+-- one piece, then the rest: the bound on steps never cuts
+after-same : (x : Next) (t : List ℕ) (f g : List ℕ → Option (List Piece)) → Reads x t → ((k : List ℕ) → length k < length t → f k ≡ g k) → after x f ≡ after x g
+unfolding after
+after-same (goes p k) t f g R h = let s = shorter p k in let e : length (spellPiece p k) ≡ length t = ap length (R .2) in ap (before p) (h k (omega arith))
+after-same ends t f g R h = refl
+after-same outside t f g R h = refl
+
+steps-same : (n m : ℕ) (t : List ℕ) → length t ≤ n → length t ≤ m → lexSteps n t ≡ lexSteps m t
+unfolding lexSteps
+steps-same zero zero t a b = refl
+steps-same zero (suc m) t a b = after-same (next t) t (λ k. none) (λ k. lexSteps m k) (next-sound t) (λ k l. absurd (omega arith))
+steps-same (suc n) zero t a b = after-same (next t) t (λ k. lexSteps n k) (λ k. none) (next-sound t) (λ k l. absurd (omega arith))
+steps-same (suc n) (suc m) t a b = after-same (next t) t (λ k. lexSteps n k) (λ k. lexSteps m k) (next-sound t) (λ k l. steps-same n m k (omega arith) (omega arith))
+
+pub lex-step : (t : List ℕ) → lex t ≡ after (next t) lex
+unfolding lex lexSteps
+lex-step t =
+    steps-same (length t) (suc (length t)) t (omega arith) (omega arith)
+    ∙ after-same (next t) t (λ k. lexSteps (length t) k) (λ k. lexSteps (length k) k) (next-sound t) (λ k l. steps-same (length t) (length k) k (omega arith) (omega arith))
