@@ -1,5 +1,5 @@
 -- What the tokens of a file say, without places, is what the file says: its alternatives are the file's. Assumes nothing.
-use Prim.Native.Nat.{ℕ, _+_, _≤_}
+use Prim.Native.Nat.{ℕ, _≤_}
 use native.Mathlib.Omega.{arith}
 use mathlib.Core.Bool.{Bool, true, false}
 use mathlib.Core.Path.{_≡_, refl, sym, ap, _∙_, subst}
@@ -8,9 +8,10 @@ use lib.ListN.{length, getD}
 use Rattle.repr.specs.Lists.{joined}
 use Rattle.repr.specs.Meaning.{All}
 use Rattle.repr.proofs.Lists.{length-mapped}
-use Rattle.yacc_text.specs.Grammar.{Id, named, quoted, Token, ident, token, start, mark, colon, bar, semi, Piece, white, comment, piece, tokensIn, Rule, rule, Def, starts, tokens, File, idsTo, altsTo, ruleTo, rulesTo, defTo, defsTo, tokensOf, noStart, oneStart, Layout, Sound}
-use Rattle.yacc_text.specs.Places.{Placed, widthOf, placed}
+use Rattle.yacc_text.specs.Grammar.{Id, named, quoted, Token, ident, token, start, mark, colon, bar, semi, Rule, rule, Def, starts, tokens, File, idsTo, altsTo, ruleTo, rulesTo, defTo, defsTo, tokensOf, noStart, oneStart, Layout, Sound}
+use Rattle.yacc_text.specs.Places.{Placed, placed}
 use Rattle.yacc_text.specs.Forward.{Mode, top, wanted, listed, starting, ruled, sided, bodied, done, dead, begins, sides, move}
+use Rattle.yacc_tokens.proofs.Laws.{tokens-placed}
 use Rattle.yacc_read.specs.Events.{Event, lists, opens, defines, uses, shuts, eventOf, events}
 use Rattle.yacc_read.specs.Source.{Known, isKnown, entered, leftSide, Use, Alternative, alternative, alternativesFrom, noId, sourceOf}
 use Rattle.yacc_read.specs.Files.{Bare, bareOf, ruleBares, fileBares}
@@ -153,13 +154,6 @@ unfolding tokensOf
 file-said f e =
     defs-said (f .defs) false false (ruleTo (f .first) (rulesTo (f .more))) e
     ∙ ap (declaresTo (f .defs)) (first-said (f .first) (rulesTo (f .more)) ∙ ap (definesTo (f .first)) (rules-said (f .more)))
-
-tokens-placed : (at : ℕ) (ps : List Piece) → map (λ p. p .token) (placed at ps) ≡ tokensIn ps
-unfolding placed tokensIn
-tokens-placed at [] = refl
-tokens-placed at (white b ∷ ps) = tokens-placed (at + widthOf (white b)) ps
-tokens-placed at (comment cs ∷ ps) = tokens-placed (at + widthOf (comment cs)) ps
-tokens-placed at (piece k ∷ ps) = ap (λ (l : List Token). k ∷ l) (tokens-placed (at + widthOf (piece k)) ps)
 
 -- the events of a text, without places, are its file's
 pub events-file : (l : Layout) → Sound l → map said (events (top false) (placed 0 (l .pieces))) ≡ declaresTo (l .file .defs) (definesTo (l .file .first) (allTo (l .file .more)))

@@ -1,1 +1,4 @@
 pub mod Computes
+pub mod Names
+pub mod Layouts
+pub mod Sound

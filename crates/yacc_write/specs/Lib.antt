@@ -1,3 +1,4 @@
 -- What the contracts cite. Assumes nothing.
 pub mod Text
+pub mod Files
 pub mod Outcome
