@@ -19,7 +19,7 @@ use Rattle.yacc_read.specs.Outcome.{sourceIn}
 use Rattle.yacc_read.proofs.Known.{entered-all}
 
 -- an event without its places
-abbrev said : Event → Event
+abbrev pub said : Event → Event
 said (lists x at) = lists x 0
 said (opens x) = opens x
 said (defines x at) = defines x 0
@@ -72,26 +72,26 @@ events-said m (p ∷ ps) =
     ∙ ap (λ (l : List Event). eventOf m (p .token) 0 0 ++ l) (events-said (move m (p .token)) ps)
 
 -- a file's events, each in front of those that follow
-abbrev usesTo : List Id → List Event → List Event
+abbrev pub usesTo : List Id → List Event → List Event
 usesTo [] k = k
 usesTo (x ∷ xs) k = uses x 0 0 ∷ usesTo xs k
 
-abbrev bodiesTo : List Id → List (List Id) → List Event → List Event
+abbrev pub bodiesTo : List Id → List (List Id) → List Event → List Event
 bodiesTo b [] k = usesTo b (shuts 0 ∷ k)
 bodiesTo b (c ∷ cs) k = usesTo b (shuts 0 ∷ bodiesTo c cs k)
 
-abbrev definesTo : Rule → List Event → List Event
+abbrev pub definesTo : Rule → List Event → List Event
 definesTo (rule n ns b cs) k = defines (named n ns) 0 ∷ bodiesTo b cs k
 
-abbrev allTo : List Rule → List Event
+abbrev pub allTo : List Rule → List Event
 allTo [] = []
 allTo (r ∷ rs) = definesTo r (allTo rs)
 
-abbrev listsTo : List Id → List Event → List Event
+abbrev pub listsTo : List Id → List Event → List Event
 listsTo [] k = k
 listsTo (x ∷ xs) k = lists x 0 ∷ listsTo xs k
 
-abbrev declaresTo : List Def → List Event → List Event
+abbrev pub declaresTo : List Def → List Event → List Event
 declaresTo [] k = k
 declaresTo (starts x ∷ ds) k = opens x ∷ declaresTo ds k
 declaresTo (tokens x xs ∷ ds) k = lists x 0 ∷ listsTo xs (declaresTo ds k)
@@ -161,6 +161,16 @@ events-file l S =
     events-said (top false) (placed 0 (l .pieces))
     ∙ ap (saidFrom (top false)) (tokens-placed 0 (l .pieces) ∙ S .written)
     ∙ file-said (l .file) (S .once)
+
+-- what an event says of ids alone is the file's
+joined-said : (g : Event → List Id) → ((e : Event) → g (said e) ≡ g e) → (es : List Event) → joined g (map said es) ≡ joined g es
+unfolding joined
+joined-said g h [] = refl
+joined-said g h (e ∷ es) = ap (λ (k : List Id). k ++ joined g (map said es)) (h e) ∙ ap (λ (k : List Id). g e ++ k) (joined-said g h es)
+
+pub joined-file : (g : Event → List Id) → ((e : Event) → g (said e) ≡ g e) → (l : Layout) → Sound l
+    → joined g (events (top false) (placed 0 (l .pieces))) ≡ joined g (declaresTo (l .file .defs) (definesTo (l .file .first) (allTo (l .file .more))))
+joined-file g h l S = sym (joined-said g h (events (top false) (placed 0 (l .pieces)))) ∙ ap (joined g) (events-file l S)
 
 -- the body so far, without places
 abbrev idsOf : List Use → List Id

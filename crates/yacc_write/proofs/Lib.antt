@@ -2,3 +2,5 @@ pub mod Computes
 pub mod Names
 pub mod Layouts
 pub mod Sound
+pub mod Order
+pub mod Again
