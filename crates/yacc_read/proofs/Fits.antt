@@ -51,7 +51,7 @@ records-are Q = omega arith
 
 -- the numbers of nonterminals and productions
 module _ (Q : Source) where
-  count-nonterminals : length (tableOf Q .nonterminals) ≡ length (Q .nonterminals)
+  pub count-nonterminals : length (tableOf Q .nonterminals) ≡ length (Q .nonterminals)
   unfolding tableOf
   count-nonterminals = length-map-below (owned (productionsOf Q)) (length (Q .nonterminals))
 
@@ -125,7 +125,7 @@ module _ (Q : Source) where
   sizes-small [] A = omega arith
   sizes-small (p ∷ ps) A = let s = A .0 .short in let i = sizes-small ps (A .1) in omega arith
 
-  ordered : Ordered (tableOf Q)
+  pub ordered : Ordered (tableOf Q)
   unfolding tableOf owns owned
   ordered = record {
     lists = λ n h. getD-map-below (owned (productionsOf Q)) (length (Q .nonterminals)) n [] (let c = length-map-below (owned (productionsOf Q)) (length (Q .nonterminals)) in omega arith);

@@ -26,7 +26,8 @@ unfoldable pub enteredIds : List Id → List Id → List Id
 enteredIds xs [] = xs
 enteredIds xs (o ∷ os) = enteredIds (enterId xs o) os
 
-by-test : (t : Bool) (a b c d : Bool) → a ≡ elim t [ true ↦ true | false ↦ c ] → b ≡ elim t [ true ↦ true | false ↦ d ] → c ≡ d → a ≡ b
+-- two tests that begin alike
+pub by-test : (t : Bool) (a b c d : Bool) → a ≡ elim t [ true ↦ true | false ↦ c ] → b ≡ elim t [ true ↦ true | false ↦ d ] → c ≡ d → a ≡ b
 by-test true a b c d p q r = p ∙ sym q
 by-test false a b c d p q r = p ∙ r ∙ sym q
 

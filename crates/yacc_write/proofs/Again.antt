@@ -14,6 +14,7 @@ use Rattle.repr.proofs.Tests.{All-at, some?-no, some?-nil}
 use Rattle.spelling.specs.Spelled.{owns, Ordered}
 use Rattle.spelling.proofs.Rising.{Rising, rising-wider, rising-from}
 use Rattle.yacc_text.specs.Grammar.{Id, named, quoted, Token, mark, colon, semi, spellAll}
+use Rattle.yacc_text.proofs.Lexing.{and-split}
 use Rattle.yacc_text.specs.Places.{placed}
 use Rattle.yacc_text.specs.Forward.{top}
 use Rattle.yacc_read.specs.Events.{Event, lists, opens, defines, uses, shuts, events}
@@ -28,10 +29,6 @@ use Rattle.yacc_write.specs.Files.{ruleOf, defsOf, fileOf, layoutOf}
 use Rattle.yacc_write.proofs.Names.{numberOf}
 use Rattle.yacc_write.proofs.Sound.{layout-sound}
 use Rattle.yacc_write.proofs.Order.{names-differ, known-below, number-below-is, Follows, entered-follows, Firsts, follows}
-
-and-split : (a b : Bool) → (a && b) ≡ true → (a ≡ true) × (b ≡ true)
-and-split true b e = (refl, e)
-and-split false b e = clash false e refl
 
 -- first productions that ascend
 headOr : List ℕ → ℕ
@@ -258,15 +255,15 @@ module _ (T : Table) (p : Production) (ps : List Production) (F : TableFits T) (
       ∙ append-nil (map (λ t. nameOf (terminal t)) (below (T .terminals)))
 
   -- no START
-  starts-back : sourceIn (piecesOf T) .starts ≡ []
+  pub starts-back : sourceIn (piecesOf T) .starts ≡ []
   unfolding sourceIn sourceOf
   starts-back = as-file startUse start-said ∙ defs-none startUse start-lists (T .terminals) (allTo (map ruleOf (T .productions))) ∙ rules-silent startUse start-silent start-shut (T .productions) ∙ no-start (T .productions)
 
 -- numbered as before
-abbrev N-name : ℕ → Id
+abbrev pub N-name : ℕ → Id
 N-name n = nameOf (nonterminal n)
 
-abbrev T-name : ℕ → Id
+abbrev pub T-name : ℕ → Id
 T-name t = nameOf (terminal t)
 
 small-N : (a : ℕ) → a < 63 → numberOf (nonterminal a) < 63
@@ -277,13 +274,17 @@ small-T : (a : ℕ) → a < 63 → numberOf (terminal a) < 63
 unfolding numberOf
 small-T a h = h
 
-N-differ : (a b : ℕ) → a < 63 → b < 63 → sameId (N-name a) (N-name b) ≡ eqb a b
+pub N-differ : (a b : ℕ) → a < 63 → b < 63 → sameId (N-name a) (N-name b) ≡ eqb a b
 unfolding sameSymbol
 N-differ a b g h = names-differ (nonterminal a) (nonterminal b) (small-N a g) (small-N b h)
 
-T-differ : (a b : ℕ) → a < 63 → b < 63 → sameId (T-name a) (T-name b) ≡ eqb a b
+pub T-differ : (a b : ℕ) → a < 63 → b < 63 → sameId (T-name a) (T-name b) ≡ eqb a b
 unfolding sameSymbol
 T-differ a b g h = names-differ (terminal a) (terminal b) (small-T a g) (small-T b h)
+
+pub N-T : (a b : ℕ) → a < 63 → b < 63 → sameId (N-name a) (T-name b) ≡ false
+unfolding sameSymbol
+N-T a b g h = names-differ (nonterminal a) (terminal b) (small-N a g) (small-T b h)
 
 T-N : (a b : ℕ) → a < 63 → b < 63 → sameId (T-name a) (N-name b) ≡ false
 unfolding sameSymbol
@@ -298,13 +299,18 @@ follows-up (suc k) c = (
       rw (eq-eqb c c refl) (subst (λ (n : ℕ). Follows (suc c) (upFrom (suc c) k) n) z (follows-up k (suc c)))),
 )
 
+-- a test that fails of each name
+pub none-up : (t : Id → Bool) (f : ℕ → Id) (k from : ℕ) → ((b : ℕ) → b < from + k → t (f b) ≡ false) → some? t (map f (upFrom from k)) ≡ false
+unfolding upFrom
+none-up t f zero from h = some?-nil t
+none-up t f (suc k) from h = some?-no t (f from) (map f (upFrom (suc from) k)) (h from (omega arith)) ∙ none-up t f k (suc from) (λ b l. h b (omega arith))
+
 none-known : (k from a : ℕ) → a < 63 → from + k ≤ 63 → knownId (map N-name (upFrom from k)) (T-name a) ≡ false
-unfolding knownId upFrom
-none-known zero from a g h = some?-nil (λ y. sameId (T-name a) y)
-none-known (suc k) from a g h = some?-no (λ y. sameId (T-name a) y) (N-name from) (map N-name (upFrom (suc from) k)) (T-N a from g (omega arith)) ∙ none-known k (suc from) a g (omega arith)
+unfolding knownId
+none-known k from a g h = none-up (λ y. sameId (T-name a) y) N-name k from (λ b l. T-N a b g (omega arith))
 
 -- a production's alternative
-abbrev mk : Production → Bare
+abbrev pub mk : Production → Bare
 mk q = record { left = N-name (q .nonterminal); ids = map nameOf (q .symbols) }
 
 bares : (qs : List Production) → joined ruleBares (map ruleOf qs) ≡ map mk qs
@@ -345,7 +351,7 @@ module _ (T : Table) (p : Production) (ps : List Production) (F : TableFits T) (
       let s = table-firsts T F O A .small (x .0) (x .1) in
       subst (λ (j : ℕ). j < length (T .nonterminals)) (x .2) s
 
-  ids-N : idsOf (Q .nonterminals) ≡ map N-name (below (length (T .nonterminals)))
+  pub ids-N : idsOf (Q .nonterminals) ≡ map N-name (below (length (T .nonterminals)))
   unfolding sourceIn sourceOf leftIds below upFrom
   ids-N =
       let f = F .few-nonterminals in
@@ -353,7 +359,7 @@ module _ (T : Table) (p : Production) (ps : List Production) (F : TableFits T) (
       ∙ ap (enteredIds []) (joined-ids leftSide (eventsOf T) ∙ lefts-back T p ps F e)
       ∙ entered-follows N-name N-differ (owners T) 0 (length (T .nonterminals)) (omega arith) (omega arith) (follows (owners T) (length (T .nonterminals)) (firstOf T) (table-firsts T F O A)) owner-member
 
-  ids-T : idsOf (Q .terminals) ≡ map T-name (below (T .terminals))
+  pub ids-T : idsOf (Q .terminals) ≡ map T-name (below (T .terminals))
   unfolding sourceIn sourceOf tokenIds below upFrom
   ids-T =
       let z : 0 + T .terminals ≡ T .terminals = omega arith in
@@ -370,7 +376,7 @@ module _ (T : Table) (p : Production) (ps : List Production) (F : TableFits T) (
   terminals-back = sym (length-mapped (λ (k : Known). k .id) (Q .terminals)) ∙ ap length ids-T ∙ length-map-below T-name (T .terminals)
 
   -- the same symbols
-  known-N : (x : Id) → isKnown (Q .nonterminals) x ≡ knownId (map N-name (below (length (T .nonterminals)))) x
+  pub known-N : (x : Id) → isKnown (Q .nonterminals) x ≡ knownId (map N-name (below (length (T .nonterminals)))) x
   known-N x = known-ids (Q .nonterminals) x ∙ ap (λ (l : List Id). knownId l x) ids-N
 
   number-N : (n : ℕ) → n < length (T .nonterminals) → numberIn (Q .nonterminals) (N-name n) ≡ n
@@ -403,7 +409,7 @@ module _ (T : Table) (p : Production) (ps : List Production) (F : TableFits T) (
   symbols-list [] h = refl
   symbols-list (s ∷ ss) h = ap (λ (x : Symbol). x ∷ map (symbolOf Q) (map nameOf ss)) (symbol-back s (h .0)) ∙ ap (λ (l : List Symbol). s ∷ l) (symbols-list ss (h .1))
 
-  alternatives-back : map bareOf (Q .alternatives) ≡ map mk (T .productions)
+  pub alternatives-back : map bareOf (Q .alternatives) ≡ map mk (T .productions)
   unfolding layoutOf
   alternatives-back =
       read-alternatives (layoutOf T p ps) (layout-sound T p ps F e)

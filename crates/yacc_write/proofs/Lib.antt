@@ -4,3 +4,5 @@ pub mod Layouts
 pub mod Sound
 pub mod Order
 pub mod Again
+pub mod Back
+pub mod Reread

@@ -16,7 +16,7 @@ use Rattle.repr.proofs.Tests.{every?-below}
 use Rattle.lines.specs.Lines.{numeralBy, numeral}
 use Rattle.yacc_text.specs.Grammar.{Id}
 use Rattle.yacc_read.specs.Source.{sameId}
-use Rattle.yacc_read.proofs.Ids.{knownId, numberId, enterId, enteredIds}
+use Rattle.yacc_read.proofs.Ids.{by-test, knownId, numberId, enterId, enteredIds}
 use Rattle.yacc_write.specs.Text.{nameOf}
 use Rattle.yacc_write.proofs.Names.{numberOf}
 
@@ -74,10 +74,6 @@ follows-le (o ∷ os) c n F = cases (eqb o c) (λ e. let i = follows-le os (suc 
 
 -- names f of numbers below 63 that differ as the numbers do
 module _ (f : ℕ → Id) (differ : (a b : ℕ) → a < 63 → b < 63 → sameId (f a) (f b) ≡ eqb a b) where
-  by-test : (t : Bool) (a b c d : Bool) → a ≡ elim t [ true ↦ true | false ↦ c ] → b ≡ elim t [ true ↦ true | false ↦ d ] → c ≡ d → a ≡ b
-  by-test true a b c d p q r = p ∙ sym q
-  by-test false a b c d p q r = p ∙ r ∙ sym q
-
   known-up : (k from o : ℕ) → o < 63 → from + k ≤ 63 → knownId (map f (upFrom from k)) (f o) ≡ mem o (upFrom from k)
   unfolding knownId some? mem upFrom
   known-up zero from o g h = refl
