@@ -39,7 +39,7 @@ pub enum Goto {
 }
 
 // Whether one state more has room; then it is stored behind the others.
-fn append(
+pub fn append(
     state: &[u64; Item::LIMIT],
     sizes: Sizes,
     words: &mut [u16],
@@ -62,7 +62,7 @@ fn append(
 }
 
 // A kernel closed.
-fn close(grammar: &[u16], sizes: Sizes, first: &[u64; 32], kernel: &[u16], many: usize) -> State
+pub fn close(grammar: &[u16], sizes: Sizes, first: &[u64; 32], kernel: &[u16], many: usize) -> State
     requires { ⌜ Held (now grammar) (sizes .productions) (sizes .terminals) (now first) ⌝ }
     requires { ⌜ (many ≤ recordLimit) × (many * 5 ≤ length (now kernel)) × KernelIn (now kernel) many (sizes .productions) ⌝ }
     ensures { λ r. ⌜ (length (r .map) ≡ itemLimit) × ((T : Table) (M : List ℕ) → Grammar T (now (grammar .entry)) (sizes .productions) (sizes .terminals) (now (first .entry)) → length M ≡ indexLimit * sizes .productions → entries (now (kernel .entry)) 0 many ≡ packed M → take (indexLimit * sizes .productions) (r .map) ≡ closure T M) ⌝ }
