@@ -1,0 +1,1 @@
+// The conflicts of a state, by token sets (specs/Clashes).
