@@ -29,7 +29,7 @@ use Rattle.builder.proofs.Written.{build-accepted, build-meaning}
 
 -- a conflict of state k as `classify` takes it
 abbrev pub conflictOf : ℕ → Clash → Conflict
-conflictOf k c = record { state = k; production = c .production; action = c .action; operand = c .other; token = c .token }
+conflictOf k c = record { state = record { 0 = k }; production = record { 0 = c .production }; action = c .action; operand = c .other; token = c .token }
 
 operand-shift : (T : Table) (a o : ℕ) → a ≡ 0 → o < T .terminals → operandFits T a o ≡ true
 unfolding operandFits

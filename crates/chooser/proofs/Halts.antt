@@ -69,8 +69,8 @@ both (gathered xs m) (gathered ys n) h k e = let z : _≡_ {A = ℕ} 0 1 = cc in
 pub gather-halts : (T : Table) (c : Conflict) → gather T c ≡ halted 0 → ⊥
 unfolding gather
 gather-halts T c e =
-    both (actionSideOf T (c .state) (c .action) (c .operand) (c .token)) (reduceSide T (c .state) (c .production) (c .token))
-    (action T (c .state) (c .action) (c .operand) (c .token)) (reduce T (c .state) (c .production) (c .token)) e
+    both (actionSideOf T (c .state .0) (c .action) (c .operand) (c .token)) (reduceSide T (c .state .0) (c .production .0) (c .token))
+    (action T (c .state .0) (c .action) (c .operand) (c .token)) (reduce T (c .state .0) (c .production .0) (c .token)) e
 
 then-halts : (T : Table) (c : Conflict) (k : ℕ) (G : Gathered) (R : Entries) → (G ≡ halted 0 → ⊥) → (R ≡ halts 0 → ⊥) → then T c k G R ≡ halts 0 → ⊥
 unfolding then

@@ -60,23 +60,23 @@ operand-same T (suc zero) o = refl
 operand-same T (suc (suc a)) o = refl
 
 module _ (T : Table) (n t s p : ℕ) (C : CountsOf T n t s p) (c : Conflict) where
-  pub place-state : s ≤ c .state → false ≡ placeFits T c
+  pub place-state : s ≤ c .state .0 → false ≡ placeFits T c
   unfolding placeFits
-  place-state h = let e = C .states in rw (le-ltb (c .state) (length (T .states)) (omega arith))
+  place-state h = let e = C .states in rw (le-ltb (c .state .0) (length (T .states)) (omega arith))
 
-  pub place-production : c .state < s → p ≤ c .production → false ≡ placeFits T c
+  pub place-production : c .state .0 < s → p ≤ c .production .0 → false ≡ placeFits T c
   unfolding placeFits
   place-production h k =
       let e = C .states in
       let f = C .productions in
-      rw (lt-ltb (c .state) (length (T .states)) (omega arith), le-ltb (c .production) (length (T .productions)) (omega arith))
+      rw (lt-ltb (c .state .0) (length (T .states)) (omega arith), le-ltb (c .production .0) (length (T .productions)) (omega arith))
 
-  pub place-operand : c .state < s → c .production < p → (r : Bool) → r ≡ operandIn t p (c .action) (c .operand) → r ≡ placeFits T c
+  pub place-operand : c .state .0 < s → c .production .0 < p → (r : Bool) → r ≡ operandIn t p (c .action) (c .operand) → r ≡ placeFits T c
   unfolding placeFits
   place-operand h k r q =
       let e = C .states in
       let f = C .productions in
-      rw (lt-ltb (c .state) (length (T .states)) (omega arith), lt-ltb (c .production) (length (T .productions)) (omega arith)) (rw (C .terminals, C .productions) at q ∙ operand-same T (c .action) (c .operand))
+      rw (lt-ltb (c .state .0) (length (T .states)) (omega arith), lt-ltb (c .production .0) (length (T .productions)) (omega arith)) (rw (C .terminals, C .productions) at q ∙ operand-same T (c .action) (c .operand))
 
 -- refusal 10
 

@@ -49,8 +49,8 @@ pub fn place_fits(table: &[u16], conflict: Conflict) -> bool
     let states = counts.states;
     let productions = counts.productions;
     let terminals = counts.terminals;
-    let state = conflict.state as usize;
-    let production = conflict.production as usize;
+    let state = conflict.state.0 as usize;
+    let production = conflict.production.0 as usize;
     let action = conflict.action as usize;
     let operand = conflict.operand as usize;
     if state >= states {

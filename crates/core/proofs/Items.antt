@@ -17,8 +17,12 @@ use Rattle.repr.proofs.Parts.{listed-take, listed-drop, listed-at, symbols-long
 use Rattle.core.specs.Items.{Sets, noSets, first, symbolSets, counts, held, countsOf, isNonterminal, shiftsNonterminal, setsIn}
 
 pub sets-none : (ws : List ℕ) → setsIn ws 0 0 0 ≡ noSets
-unfolding setsIn noSets first listed
+unfolding setsIn first listed
 sets-none ws = refl
+
+pub counts-none : counts 0 0 0 ≡ countsOf noSets
+unfolding countsOf held
+counts-none = refl
 
 first-one : (xs : List Symbol) → first (take 1 xs) ≡ first xs
 unfolding first

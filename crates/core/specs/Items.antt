@@ -15,7 +15,7 @@ pub record Sets : Type 0 where
   pub suffix : List Symbol
 
 -- the empty sets that `SymbolSets::new` gives
-unfoldable pub noSets : Sets
+abbrev pub noSets : Sets
 noSets = record { prefix = []; cursor = none; suffix = [] }
 
 unfoldable pub first : List Symbol → Option Symbol

@@ -23,6 +23,7 @@ impl SymbolSets {
     // The empty sets.
     pub fn new() -> SymbolSets
         ensures { λ r. ⌜ ((ws : List ℕ) → setsIn ws (r .prefix) (r .cursor) (r .suffix) ≡ noSets) ⌝ }
+        ensures { λ r. ⌜ counts (r .prefix) (r .cursor) (r .suffix) ≡ countsOf noSets ⌝ }
     {
         SymbolSets {
             prefix: 0,

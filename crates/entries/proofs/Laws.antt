@@ -11,6 +11,7 @@ use Rattle.repr.specs.Sizes.{entryRoom, entryPlace, entriesRoom}
 use Rattle.repr.specs.Lists.{upFrom, below, joined}
 use Rattle.repr.proofs.Lists.{below-last, length-map-below, getD-map-below, joined-nil, joined-cons, joined-append}
 use Rattle.repr.proofs.Fronts.{same-part, same-word}
+use Rattle.repr.specs.declared.NonterminalString.{NonterminalString}
 use Rattle.error.specs.declared.Class.{Class}
 use Rattle.error.specs.declared.Class.the-variants.{Naive, Ambiguity, Precedence, SuggestInline, SuggestQuestion, AmbiguousReduction, InsufficientLookahead}
 use Rattle.error.specs.Numbers.{classNumber, classValues}
@@ -33,15 +34,15 @@ module _ (class : Class) (v : List ℕ) where
   unfolding classWords
   ambiguity-words e q = q ∙ ap classWords (sym e)
 
-  pub precedence-words : (n : ℕ) → class ≡ Precedence n → v ≡ 2 ∷ n ∷ 0 ∷ 0 ∷ 0 ∷ [] → v ≡ classWords class
+  pub precedence-words : (n : NonterminalString) → class ≡ Precedence n → v ≡ 2 ∷ n .0 ∷ 0 ∷ 0 ∷ 0 ∷ [] → v ≡ classWords class
   unfolding classWords
   precedence-words n e q = q ∙ ap classWords (sym e)
 
-  pub inline-words : (n : ℕ) → class ≡ SuggestInline n → v ≡ 3 ∷ n ∷ 0 ∷ 0 ∷ 0 ∷ [] → v ≡ classWords class
+  pub inline-words : (n : NonterminalString) → class ≡ SuggestInline n → v ≡ 3 ∷ n .0 ∷ 0 ∷ 0 ∷ 0 ∷ [] → v ≡ classWords class
   unfolding classWords
   inline-words n e q = q ∙ ap classWords (sym e)
 
-  pub question-words : (n k x : ℕ) → class ≡ SuggestQuestion n k x → v ≡ 4 ∷ n ∷ k ∷ x ∷ 0 ∷ [] → v ≡ classWords class
+  pub question-words : (n : NonterminalString) (k x : ℕ) → class ≡ SuggestQuestion n k x → v ≡ 4 ∷ n .0 ∷ k ∷ x ∷ 0 ∷ [] → v ≡ classWords class
   unfolding classWords
   question-words n k x e q = q ∙ ap classWords (sym e)
 
@@ -66,15 +67,15 @@ pub not-ambiguity : false ≡ eqb (classNumber Ambiguity) 0
 unfolding classNumber
 not-ambiguity = refl
 
-pub not-precedence : (n : ℕ) → false ≡ eqb (classNumber (Precedence n)) 0
+pub not-precedence : (n : NonterminalString) → false ≡ eqb (classNumber (Precedence n)) 0
 unfolding classNumber
 not-precedence n = refl
 
-pub not-inline : (n : ℕ) → false ≡ eqb (classNumber (SuggestInline n)) 0
+pub not-inline : (n : NonterminalString) → false ≡ eqb (classNumber (SuggestInline n)) 0
 unfolding classNumber
 not-inline n = refl
 
-pub not-question : (n k x : ℕ) → false ≡ eqb (classNumber (SuggestQuestion n k x)) 0
+pub not-question : (n : NonterminalString) (k x : ℕ) → false ≡ eqb (classNumber (SuggestQuestion n k x)) 0
 unfolding classNumber
 not-question n k x = refl
 

@@ -17,9 +17,9 @@ use Rattle.entries.specs.declared.Numbered.{Numbered}
 unfoldable pub classWords : Class → List ℕ
 classWords Naive = 0 ∷ 0 ∷ 0 ∷ 0 ∷ 0 ∷ []
 classWords Ambiguity = 1 ∷ 0 ∷ 0 ∷ 0 ∷ 0 ∷ []
-classWords (Precedence n) = 2 ∷ n ∷ 0 ∷ 0 ∷ 0 ∷ []
-classWords (SuggestInline n) = 3 ∷ n ∷ 0 ∷ 0 ∷ 0 ∷ []
-classWords (SuggestQuestion n k x) = 4 ∷ n ∷ k ∷ x ∷ 0 ∷ []
+classWords (Precedence n) = 2 ∷ n .0 ∷ 0 ∷ 0 ∷ 0 ∷ []
+classWords (SuggestInline n) = 3 ∷ n .0 ∷ 0 ∷ 0 ∷ 0 ∷ []
+classWords (SuggestQuestion n k x) = 4 ∷ n .0 ∷ k ∷ x ∷ 0 ∷ []
 classWords (AmbiguousReduction a b c d) = 5 ∷ a ∷ b ∷ c ∷ d ∷ []
 classWords InsufficientLookahead = 6 ∷ 0 ∷ 0 ∷ 0 ∷ 0 ∷ []
 

@@ -53,11 +53,11 @@ fn number_class(class: Class) -> Numbered
     match class {
         Class::Naive => five_words(0, 0, 0, 0, 0),
         Class::Ambiguity => five_words(1, 0, 0, 0, 0),
-        Class::Precedence(nonterminal) => five_words(2, nonterminal, 0, 0, 0),
-        Class::SuggestInline(nonterminal) => five_words(3, nonterminal, 0, 0, 0),
+        Class::Precedence(nonterminal) => five_words(2, nonterminal.0, 0, 0, 0),
+        Class::SuggestInline(nonterminal) => five_words(3, nonterminal.0, 0, 0, 0),
         Class::SuggestQuestion(nonterminal, kind, symbol) => five_words(
             4,
-            nonterminal,
+            nonterminal.0,
             kind,
             symbol,
             0,

@@ -36,7 +36,7 @@ setOf Any = none
 setOf (Set s) = some (s .0)
 
 unfoldable pub startOf : Listing → Item
-startOf l = record { production = l .production; index = l .index }
+startOf l = record { production = l .production .0; index = l .index }
 
 -- refusal 9 before the words are asked: the start item, the lookahead, and the graph if it is long enough
 unfoldable pub aheadFits : Table → Option ℕ → Bool
@@ -103,7 +103,7 @@ openIn i ahead g T = elim (asked T i (setOf ahead) g) [
     | false ↦ NotOpened 11 0
     | true ↦ elim (isNode (atItem i) (edgesIn g)) [
       | false ↦ NotOpened 15 0
-      | true ↦ Opens (record { production = i .production; index = i .index; lookahead = ahead; count = 0; «is_open» = true })
+      | true ↦ Opens (record { production = record { 0 = i .production }; index = i .index; lookahead = ahead; count = 0; «is_open» = true })
     ]
   ]
 ]

@@ -17,7 +17,7 @@ use Rattle.enumerator.specs.declared.Listing.{Listing}
 
 -- "A listing holds its start item, any lookahead, its count and whether it is open"
 abbrev pub listing : Item → Lookahead → ℕ → Bool → Listing
-listing i ahead c o = record { production = i .production; index = i .index; lookahead = ahead; count = c; «is_open» = o }
+listing i ahead c o = record { production = record { 0 = i .production }; index = i .index; lookahead = ahead; count = c; «is_open» = o }
 
 -- what opening asks: no refusal of 1 to 9, 11 and 15
 pub record Ready (t : List ℕ) (i : Item) (ahead : Lookahead) (g : List ℕ) : Type 0 where

@@ -1,5 +1,6 @@
 // Listing the examples of a trace graph (`PathEnumerator` and `FilteredPathEnumerator` of lr1/trace/trace_graph/mod.rs).
 use lookahead::TokenSet;
+use repr::ProductionIndex;
 
 pub mod machine;
 
@@ -11,7 +12,7 @@ pub enum Lookahead {
 
 // A listing: its start item, any lookahead, its count and whether it is open. What it has come to stands in the lent words.
 pub struct Listing {
-    pub production: u16,
+    pub production: ProductionIndex,
     pub index: u16,
     pub lookahead: Lookahead,
     pub count: u32,

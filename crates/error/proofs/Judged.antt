@@ -42,7 +42,7 @@ module _ (T : Table) (production operand : ℕ) (p : Pair Example) where
   abbrev reduced : Production
   reduced = productionAt T production
 
-  pub is-precedence : reduced .symbols ≡ operatorOf (reduced .nonterminal) operand → ambiguityOf T production 0 operand p ≡ withBoth (Precedence (reduced .nonterminal)) p
+  pub is-precedence : reduced .symbols ≡ operatorOf (reduced .nonterminal) operand → ambiguityOf T production 0 operand p ≡ withBoth (Precedence (record { 0 = reduced .nonterminal })) p
   unfolding ambiguityOf shiftAmbiguity isOperator
   is-precedence e =
       let b : sameSymbols (reduced .symbols) (operatorOf (reduced .nonterminal) operand) ≡ true = rw e (same-list (operatorOf (reduced .nonterminal) operand)) in

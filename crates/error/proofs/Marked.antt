@@ -76,7 +76,7 @@ abbrev ending : ℕ → Out
 ending n = record { answer = end; count = n }
 
 abbrev conflict : ℕ → ℕ → ℕ → ℕ → ℕ → Conflict
-conflict s p a o k = record { state = s; production = p; action = a; operand = o; token = k }
+conflict s p a o k = record { state = record { 0 = s }; production = record { 0 = p }; action = a; operand = o; token = k }
 
 -- the traced edges of E = E (*) + E and of E = E + E (*) in state 3
 unfoldable pub shiftB : Table → List TraceEdge

@@ -65,7 +65,7 @@ unfoldable pub isOperator : Production → ℕ → Bool
 isOperator P operand = sameSymbols (P .symbols) (nonterminal (P .nonterminal) ∷ terminal operand ∷ nonterminal (P .nonterminal) ∷ [])
 
 unfoldable pub shiftAmbiguity : Production → ℕ → Pair Example → Judged
-shiftAmbiguity P operand p = elim (isOperator P operand) [ true ↦ withBoth (Precedence (P .nonterminal)) p | false ↦ withBoth Ambiguity p ]
+shiftAmbiguity P operand p = elim (isOperator P operand) [ true ↦ withBoth (Precedence (record { 0 = P .nonterminal })) p | false ↦ withBoth Ambiguity p ]
 
 -- both first reductions are to one nonterminal: the action's example, the conflict's span first
 unfoldable pub reduceAmbiguity : List Production → Production → Production → Pair Example → Judged
@@ -99,8 +99,8 @@ unfoldable pub questionOf : Table → ℕ → Option Symbol
 questionOf T n = optionalOf (map (λ p. productionAt T p .symbols) (getD (T .nonterminals) n []))
 
 unfoldable pub suggestQuestion : ℕ → Symbol → Class
-suggestQuestion n (nonterminal m) = SuggestQuestion n 0 m
-suggestQuestion n (terminal t) = SuggestQuestion n 1 t
+suggestQuestion n (nonterminal m) = SuggestQuestion (record { 0 = n }) 0 m
+suggestQuestion n (terminal t) = SuggestQuestion (record { 0 = n }) 1 t
 
 -- `try_classify_inline_example`: places a to b
 unfoldable pub between : ℕ → ℕ → List ExampleSymbol → List ExampleSymbol
@@ -134,7 +134,7 @@ inlines T a r =
 -- the first pair that inlining would help, else insufficient lookahead with the first of each
 unfoldable pub inlineOr : List Production → Pair Example → Option (Pair Example) → Judged
 inlineOr ps firsts none = withBoth InsufficientLookahead firsts
-inlineOr ps firsts (some p) = withBoth (SuggestInline (reductionAt ps (p .reduce) 0 .nonterminal)) p
+inlineOr ps firsts (some p) = withBoth (SuggestInline (record { 0 = reductionAt ps (p .reduce) 0 .nonterminal })) p
 
 unfoldable pub questionOr : ℕ → Pair Example → Option Symbol → Judged → Judged
 questionOr n firsts none other = other
@@ -149,7 +149,7 @@ unambiguous T production (suc k) as′ rs firsts = withBoth InsufficientLookahea
 
 unfoldable pub ambiguousOr : Table → Conflict → Option (Pair Example) → Judged → Judged
 ambiguousOr T c none other = other
-ambiguousOr T c (some p) other = ambiguityOf T (c .production) (c .action) (c .operand) p
+ambiguousOr T c (some p) other = ambiguityOf T (c .production .0) (c .action) (c .operand) p
 
 -- either empty: naive. Then ambiguity, question, inline, else insufficient lookahead
 unfoldable pub judge : Table → Conflict → List Example → List Example → Judged
@@ -157,7 +157,7 @@ judge T c [] rs = record { class = Naive; action = none; reduce = none }
 judge T c (a ∷ as′) [] = record { class = Naive; action = none; reduce = none }
 judge T c (a ∷ as′) (r ∷ rs) =
     ambiguousOr T c (firstPair (sameReading (T .productions)) (a ∷ as′) (r ∷ rs))
-    (unambiguous T (c .production) (c .action) (a ∷ as′) (r ∷ rs) (record { action = a; reduce = r }))
+    (unambiguous T (c .production .0) (c .action) (a ∷ as′) (r ∷ rs) (record { action = a; reduce = r }))
 
 -- sides sorted by symbol count
 unfoldable pub judged : Table → Conflict → List Example → List Example → Judged

@@ -19,9 +19,9 @@ classNumber InsufficientLookahead = 6
 unfoldable pub classValues : Class → List ℕ
 classValues Naive = []
 classValues Ambiguity = []
-classValues (Precedence n) = n ∷ []
-classValues (SuggestInline n) = n ∷ []
-classValues (SuggestQuestion n k x) = n ∷ k ∷ x ∷ []
+classValues (Precedence n) = n .0 ∷ []
+classValues (SuggestInline n) = n .0 ∷ []
+classValues (SuggestQuestion n k x) = n .0 ∷ k ∷ x ∷ []
 classValues (AmbiguousReduction a b c d) = a ∷ b ∷ c ∷ d ∷ []
 classValues InsufficientLookahead = []
 

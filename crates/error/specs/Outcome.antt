@@ -29,7 +29,7 @@ operandFits T (suc (suc k)) operand = false
 
 -- refusal 9 for all of a conflict but its token
 unfoldable pub placeFits : Table → Conflict → Bool
-placeFits T c = ltb (c .state) (length (T .states)) && (ltb (c .production) (length (T .productions)) && operandFits T (c .action) (c .operand))
+placeFits T c = ltb (c .state .0) (length (T .states)) && (ltb (c .production .0) (length (T .productions)) && operandFits T (c .action) (c .operand))
 
 unfoldable pub conflictFits : Table → Conflict → Bool
 conflictFits T c = placeFits T c && leb (c .token) (T .terminals)

@@ -80,4 +80,4 @@ bothSides (gathered xs m) (stopped n) = halted n
 bothSides (gathered xs m) (gathered ys n) = sides xs m ys n
 
 unfoldable pub gather : Table → Conflict → Gathered
-gather T c = bothSides (actionSideOf T (c .state) (c .action) (c .operand) (c .token)) (reduceSide T (c .state) (c .production) (c .token))
+gather T c = bothSides (actionSideOf T (c .state .0) (c .action) (c .operand) (c .token)) (reduceSide T (c .state .0) (c .production .0) (c .token))

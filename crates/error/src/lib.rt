@@ -1,12 +1,15 @@
 // Conflicts and what is said of them (`ConflictClassification` of lr1/error/mod.rs), in numbers.
 use example::Example;
 use lookahead::TokenSet;
+use repr::NonterminalString;
+use repr::ProductionIndex;
+use state_graph::StateIndex;
 use trace_graph::TraceGraph;
 
 // A conflict as document 01 has it, five words: the action is 0 for a shift, its operand a terminal, or 1 for a reduce, its operand a production.
 pub struct Conflict {
-    pub state: u16,
-    pub production: u16,
+    pub state: StateIndex,
+    pub production: ProductionIndex,
     pub action: u16,
     pub operand: u16,
     pub token: u16,
@@ -28,9 +31,9 @@ impl Conflict {
 pub enum Class {
     Naive,
     Ambiguity,
-    Precedence(u16),
-    SuggestInline(u16),
-    SuggestQuestion(u16, u16, u16),
+    Precedence(NonterminalString),
+    SuggestInline(NonterminalString),
+    SuggestQuestion(NonterminalString, u16, u16),
     AmbiguousReduction(u16, u16, u16, u16),
     InsufficientLookahead,
 }

@@ -13,7 +13,7 @@ use Rattle.repr.specs.Meaning.{Symbol, Production}
 use Rattle.repr.specs.Listed.{listed}
 use Rattle.repr.specs.Packed.{productionsIn, Packed}
 use Rattle.repr.proofs.Lists.{joined-nil, joined-append}
-use Rattle.core.specs.Items.{counts, held, countsOf}
+use Rattle.core.specs.Items.{noSets, counts, held, countsOf}
 use Rattle.first.specs.declared.Answer.{Answer}
 use Rattle.first.specs.First.{joinAnswers, first0}
 use Rattle.first.proofs.Answers.{join-answers-assoc, join-empty-right, first0-nil, first0-append}
@@ -42,6 +42,11 @@ module _ (g : List ℕ) (n : ℕ) (P : Packed g n) (ws : List ℕ) (F : LabelsFi
 
   pub words-1158 : length (exampleWords (productionsIn g n) (labelsIn ws)) ≤ exampleRoom
   words-1158 = example-words-few (productionsIn g n) ws (short-in g n P) F
+
+-- the counts of the empty sets
+pub none-counted : (a b c : ℕ) → counts a b c ≡ countsOf noSets → (a ≡ 0) × (c ≡ 0)
+unfolding countsOf
+none-counted a b c e = (cc, cc)
 
 module _ (ps : List Production) (ws : List ℕ) where
   -- totals

@@ -7,7 +7,7 @@ use mathlib.Core.Option.{Option, none, some}
 use lib.ListN.{length, getD}
 use Rattle.repr.specs.Lists.{joined}
 use Rattle.repr.specs.Meaning.{Symbol, nonterminal, terminal, Production, noProduction}
-use Rattle.core.specs.Items.{Sets, symbolSets}
+use Rattle.core.specs.Items.{Sets, noSets, symbolSets}
 use Rattle.first.specs.First.{first0, meetsAhead}
 
 -- the nonterminal of the node that an edge comes from, and the item that is the edge's label
@@ -24,14 +24,14 @@ pub data ExampleSymbol : Type 0 where
   symbol : Symbol → ExampleSymbol
   epsilon : ExampleSymbol
 
--- prefixes, outermost first
+-- prefixes, outermost first; a walk's first entry, at the start item, has the empty sets
 unfoldable pub prefixes : List Production → List Label → List Symbol
-prefixes ps [] = []
+prefixes ps [] = noSets .prefix
 prefixes ps (l ∷ ls) = prefixes ps ls ++ setsOf ps l .prefix
 
 -- suffixes, innermost first
 unfoldable pub suffixes : List Production → List Label → List Symbol
-suffixes ps [] = []
+suffixes ps [] = noSets .suffix
 suffixes ps (l ∷ ls) = setsOf ps l .suffix ++ suffixes ps ls
 
 -- at the cursor place: the first edge's cursor symbol, or the empty mark if it has neither cursor nor prefix

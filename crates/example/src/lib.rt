@@ -1,5 +1,6 @@
 // Examples (lr1/example, and `example` and `first0` of lr1/trace/trace_graph/mod.rs), on a list of labels.
 use core::Item;
+use core::SymbolSets;
 use core::prefix;
 use core::suffix;
 use first::Answer;
@@ -114,14 +115,15 @@ fn cursor_part<'a>(grammar: &'a [u16], productions: usize, labels: &[u16]) -> &'
     &grammar[..0]
 }
 
-// How many symbols stand before the cursors of all labels.
+// How many symbols stand before the cursors of all labels; the walk's first entry has the empty sets.
 fn prefix_total(grammar: &[u16], productions: usize, labels: &[u16]) -> usize
     requires { ⌜ Packed (now grammar) productions ⌝ }
     requires { ⌜ LabelsFit (productionsIn (now grammar) productions) (now labels) ⌝ }
     ensures { λ r. ⌜ r ≡ length (prefixes (productionsIn (now (grammar .entry)) productions) (labelsIn (now (labels .entry)))) ⌝ }
 {
     let count = label_count(labels);
-    let mut total: usize = 0;
+    let first = SymbolSets::new();
+    let mut total = first.prefix;
     let mut label: usize = 0;
     while label < count {
         total += prefix_part(grammar, productions, labels, label).len() / 2;
@@ -130,14 +132,15 @@ fn prefix_total(grammar: &[u16], productions: usize, labels: &[u16]) -> usize
     total
 }
 
-// How many stand after them.
+// How many stand after them, in the same way.
 fn suffix_total(grammar: &[u16], productions: usize, labels: &[u16]) -> usize
     requires { ⌜ Packed (now grammar) productions ⌝ }
     requires { ⌜ LabelsFit (productionsIn (now grammar) productions) (now labels) ⌝ }
     ensures { λ r. ⌜ r ≡ length (suffixes (productionsIn (now (grammar .entry)) productions) (labelsIn (now (labels .entry)))) ⌝ }
 {
     let count = label_count(labels);
-    let mut total: usize = 0;
+    let first = SymbolSets::new();
+    let mut total = first.suffix;
     let mut label: usize = 0;
     while label < count {
         total += suffix_part(grammar, productions, labels, label).len() / 2;

@@ -138,8 +138,8 @@ both-few (gathered xs m) (gathered ys n) x y = (x, y)
 gather-few : (T : Table) (c : Conflict) → GatheredFew (gather T c)
 unfolding gather
 gather-few T c =
-    both-few (actionSideOf T (c .state) (c .action) (c .operand) (c .token)) (reduceSide T (c .state) (c .production) (c .token))
-    (action-few T (c .state) (c .action) (c .operand) (c .token)) (reduce-few T (c .state) (c .production) (c .token))
+    both-few (actionSideOf T (c .state .0) (c .action) (c .operand) (c .token)) (reduceSide T (c .state .0) (c .production .0) (c .token))
+    (action-few T (c .state .0) (c .action) (c .operand) (c .token)) (reduce-few T (c .state .0) (c .production .0) (c .token))
 
 -- the class
 
@@ -183,7 +183,7 @@ unfolding ambiguityOf shiftAmbiguity reduceAmbiguity classNumber SomeFew
 ambiguity-few T production zero operand p h =
     let P = productionAt T production in
     cases (isOperator P operand)
-    (λ e. rw (e, shiftAmbiguity) (with-few (Precedence (P .nonterminal)) p h))
+    (λ e. rw (e, shiftAmbiguity) (with-few (Precedence (record { 0 = P .nonterminal })) p h))
     (λ e. rw (e, shiftAmbiguity) (with-few Ambiguity p h))
 ambiguity-few T production (suc k) operand p h =
     let ps = T .productions in
@@ -194,7 +194,7 @@ ambiguity-few T production (suc k) operand p h =
 inline-few : (ps : List Production) (firsts : Pair Example) (o : Option (Pair Example)) → PairFew firsts → Held PairFew o → JudgedFew (inlineOr ps firsts o)
 unfolding inlineOr Held
 inline-few ps firsts none h k = with-few InsufficientLookahead firsts h
-inline-few ps firsts (some p) h k = with-few (SuggestInline (reductionAt ps (p .reduce) 0 .nonterminal)) p k
+inline-few ps firsts (some p) h k = with-few (SuggestInline (record { 0 = reductionAt ps (p .reduce) 0 .nonterminal })) p k
 
 question-few : (n : ℕ) (firsts : Pair Example) (o : Option Symbol) (other : Judged) → PairFew firsts → JudgedFew other → JudgedFew (questionOr n firsts o other)
 unfolding questionOr
@@ -212,16 +212,16 @@ unambiguous-few T production (suc k) as′ rs firsts a r h = with-few Insufficie
 ambiguous-few : (T : Table) (c : Conflict) (o : Option (Pair Example)) (other : Judged) → Held PairFew o → JudgedFew other → JudgedFew (ambiguousOr T c o other)
 unfolding ambiguousOr Held
 ambiguous-few T c none other h k = k
-ambiguous-few T c (some p) other h k = ambiguity-few T (c .production) (c .action) (c .operand) p h
+ambiguous-few T c (some p) other h k = ambiguity-few T (c .production .0) (c .action) (c .operand) p h
 
 judge-few : (T : Table) (c : Conflict) (as′ rs : List Example) → All Few as′ → All Few rs → JudgedFew (judge T c as′ rs)
 unfolding judge All
 judge-few T c [] rs a r = naive-few
 judge-few T c (x ∷ as′) [] a r = naive-few
 judge-few T c (x ∷ as′) (y ∷ rs) a r =
-    ambiguous-few T c (firstPair (sameReading (T .productions)) (x ∷ as′) (y ∷ rs)) (unambiguous T (c .production) (c .action) (x ∷ as′) (y ∷ rs) (record { action = x; reduce = y }))
+    ambiguous-few T c (firstPair (sameReading (T .productions)) (x ∷ as′) (y ∷ rs)) (unambiguous T (c .production .0) (c .action) (x ∷ as′) (y ∷ rs) (record { action = x; reduce = y }))
     (pair-few (sameReading (T .productions)) (x ∷ as′) (y ∷ rs) a r)
-    (unambiguous-few T (c .production) (c .action) (x ∷ as′) (y ∷ rs) (record { action = x; reduce = y }) a r (a .0, r .0))
+    (unambiguous-few T (c .production .0) (c .action) (x ∷ as′) (y ∷ rs) (record { action = x; reduce = y }) a r (a .0, r .0))
 
 judged-few : (T : Table) (c : Conflict) (as′ rs : List Example) → All Few as′ → All Few rs → JudgedFew (judged T c as′ rs)
 unfolding judged

@@ -10,8 +10,8 @@ use Rattle.lines.specs.Lines.{linesOf, ReadingShown}
 -- conflict k of some words, five each
 unfoldable pub conflictAt : List ℕ → ℕ → Conflict
 conflictAt words k = record {
-  state = getD words (k * 5) 0;
-  production = getD words (k * 5 + 1) 0;
+  state = record { 0 = getD words (k * 5) 0 };
+  production = record { 0 = getD words (k * 5 + 1) 0 };
   action = getD words (k * 5 + 2) 0;
   operand = getD words (k * 5 + 3) 0;
   token = getD words (k * 5 + 4) 0;

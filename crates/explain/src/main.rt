@@ -6,7 +6,9 @@ use lines::lines;
 use lines::refused_line;
 use little::decode;
 use report::classify;
+use repr::ProductionIndex;
 use repr::word;
+use state_graph::StateIndex;
 use streams::read;
 use streams::write;
 use table::Checked;
@@ -63,12 +65,17 @@ fn conflict_at(words: &[u16], k: usize) -> Conflict
     ensures { λ r. ⌜ r ≡ conflictAt (now (words .entry)) k ⌝ }
 {
     let at = k * 5;
+    let state = words[at];
+    let production = words[at + 1];
+    let action = words[at + 2];
+    let operand = words[at + 3];
+    let token = words[at + 4];
     Conflict {
-        state: words[at],
-        production: words[at + 1],
-        action: words[at + 2],
-        operand: words[at + 3],
-        token: words[at + 4],
+        state: StateIndex(state),
+        production: ProductionIndex(production),
+        action: action,
+        operand: operand,
+        token: token,
     }
 }
 

@@ -101,27 +101,27 @@ module _ (T : Table) (c : Conflict) (h : conflictFits T c ≡ true) where
   unfolding conflictFits
   token-in = leb-true (c .token) (T .terminals) (and-right (placeFits T c) (leb (c .token) (T .terminals)) h)
 
-  pub state-in : c .state < length (T .states)
+  pub state-in : c .state .0 < length (T .states)
   unfolding placeFits
-  state-in = ltb-true (c .state) (length (T .states)) (and-left (ltb (c .state) (length (T .states))) (ltb (c .production) (length (T .productions)) && operandFits T (c .action) (c .operand)) place)
+  state-in = ltb-true (c .state .0) (length (T .states)) (and-left (ltb (c .state .0) (length (T .states))) (ltb (c .production .0) (length (T .productions)) && operandFits T (c .action) (c .operand)) place)
 
-  rest : ltb (c .production) (length (T .productions)) && operandFits T (c .action) (c .operand) ≡ true
+  rest : ltb (c .production .0) (length (T .productions)) && operandFits T (c .action) (c .operand) ≡ true
   unfolding placeFits
-  rest = and-right (ltb (c .state) (length (T .states))) (ltb (c .production) (length (T .productions)) && operandFits T (c .action) (c .operand)) place
+  rest = and-right (ltb (c .state .0) (length (T .states))) (ltb (c .production .0) (length (T .productions)) && operandFits T (c .action) (c .operand)) place
 
-  pub production-in : c .production < length (T .productions)
-  production-in = ltb-true (c .production) (length (T .productions)) (and-left (ltb (c .production) (length (T .productions))) (operandFits T (c .action) (c .operand)) rest)
+  pub production-in : c .production .0 < length (T .productions)
+  production-in = ltb-true (c .production .0) (length (T .productions)) (and-left (ltb (c .production .0) (length (T .productions))) (operandFits T (c .action) (c .operand)) rest)
 
   pub operand-in : (c .action ≡ 0 → ⊥) → c .operand < length (T .productions)
-  operand-in ne = operand-reduce T (c .action) (c .operand) (and-right (ltb (c .production) (length (T .productions))) (operandFits T (c .action) (c .operand)) rest) ne
+  operand-in ne = operand-reduce T (c .action) (c .operand) (and-right (ltb (c .production .0) (length (T .productions))) (operandFits T (c .action) (c .operand)) rest) ne
 
-  pub action-shift : c .action ≡ 0 → (r : SideValue) (s′ w′ w₀ : List ℕ) → sided (sideIn (T .productions) r s′) w′ ≡ sided (shiftSide T (c .state) (c .token)) w₀
-      → sided (sideIn (T .productions) r s′) w′ ≡ sided (actionSideOf T (c .state) (c .action) (c .operand) (c .token)) w₀
-  action-shift e r s′ w′ w₀ a = a ∙ ap (λ (l : Side). sided l w₀) (action-zero T (c .state) (c .action) (c .operand) (c .token) e)
+  pub action-shift : c .action ≡ 0 → (r : SideValue) (s′ w′ w₀ : List ℕ) → sided (sideIn (T .productions) r s′) w′ ≡ sided (shiftSide T (c .state .0) (c .token)) w₀
+      → sided (sideIn (T .productions) r s′) w′ ≡ sided (actionSideOf T (c .state .0) (c .action) (c .operand) (c .token)) w₀
+  action-shift e r s′ w′ w₀ a = a ∙ ap (λ (l : Side). sided l w₀) (action-zero T (c .state .0) (c .action) (c .operand) (c .token) e)
 
-  pub action-reduce : (c .action ≡ 0 → ⊥) → (r : SideValue) (s′ w′ w₀ : List ℕ) → sided (sideIn (T .productions) r s′) w′ ≡ sided (reduceSide T (c .state) (c .operand) (c .token)) w₀
-      → sided (sideIn (T .productions) r s′) w′ ≡ sided (actionSideOf T (c .state) (c .action) (c .operand) (c .token)) w₀
-  action-reduce e r s′ w′ w₀ a = a ∙ ap (λ (l : Side). sided l w₀) (action-other T (c .state) (c .action) (c .operand) (c .token) e)
+  pub action-reduce : (c .action ≡ 0 → ⊥) → (r : SideValue) (s′ w′ w₀ : List ℕ) → sided (sideIn (T .productions) r s′) w′ ≡ sided (reduceSide T (c .state .0) (c .operand) (c .token)) w₀
+      → sided (sideIn (T .productions) r s′) w′ ≡ sided (actionSideOf T (c .state .0) (c .action) (c .operand) (c .token)) w₀
+  action-reduce e r s′ w′ w₀ a = a ∙ ap (λ (l : Side). sided l w₀) (action-other T (c .state .0) (c .action) (c .operand) (c .token) e)
 
 -- both sides, w the words after clearing
 
@@ -161,12 +161,12 @@ both-sides A B xs ys m n e f = λ j. bothSides (e j) (f j)
 
 -- w₀: the scratch, w: cleared; r, r′ the answers of the two sides
 module _ (T : Table) (c : Conflict) (w₀ w : List ℕ) (ew : w ≡ wordsOf [] ++ drop scratchWords w₀) (r : SideValue) (as′ w′ : List ℕ)
-    (a : sided (sideIn (T .productions) r as′) w′ ≡ sided (actionSideOf T (c .state) (c .action) (c .operand) (c .token)) w) where
+    (a : sided (sideIn (T .productions) r as′) w′ ≡ sided (actionSideOf T (c .state .0) (c .action) (c .operand) (c .token)) w) where
   abbrev A : Side
-  A = actionSideOf T (c .state) (c .action) (c .operand) (c .token)
+  A = actionSideOf T (c .state .0) (c .action) (c .operand) (c .token)
 
   abbrev B : Side
-  B = reduceSide T (c .state) (c .production) (c .token)
+  B = reduceSide T (c .state .0) (c .production .0) (c .token)
 
   pub words-clear : Clear w′
   words-clear = rw (words-part (sideIn (T .productions) r as′) A w′ w a) (cleared-clear w₀ w ew)
@@ -179,7 +179,7 @@ module _ (T : Table) (c : Conflict) (w₀ w : List ℕ) (ew : w ≡ wordsOf [] +
       let q = both-stopped A B x e in
       ((λ j. both (q j) (v j)), tt)
 
-  module _ (n m : ℕ) (er : r ≡ Examples n m) (r′ : SideValue) (rs w″ : List ℕ) (b : sided (sideIn (T .productions) r′ rs) w″ ≡ sided (reduceSide T (c .state) (c .production) (c .token)) w′) where
+  module _ (n m : ℕ) (er : r ≡ Examples n m) (r′ : SideValue) (rs w″ : List ℕ) (b : sided (sideIn (T .productions) r′ rs) w″ ≡ sided (reduceSide T (c .state .0) (c .production .0) (c .token)) w′) where
     side-a : gathered (kept (T .productions) as′ n) m ≡ A
     unfolding sideIn
     side-a = ap (λ (y : SideValue). sideIn (T .productions) y as′) (sym er) ∙ side-part (sideIn (T .productions) r as′) A w′ w a

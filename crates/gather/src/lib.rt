@@ -321,10 +321,10 @@ fn gather_action(
     requires { ⌜ conflictFits (meaning (now table)) conflict ≡ true ⌝ }
     requires { ⌜ Clear (now words) ⌝ }
     requires { ⌜ sideRoom ≤ length (now side) ⌝ }
-    ensures { λ r. ⌜ sided (sideIn (meaning (now (table .entry)) .productions) r (now (side .exit))) (now (words .exit)) ≡ sided (actionSideOf (meaning (now (table .entry))) (conflict .state) (conflict .action) (conflict .operand) (conflict .token)) (now (words .entry)) ⌝ }
+    ensures { λ r. ⌜ sided (sideIn (meaning (now (table .entry)) .productions) r (now (side .exit))) (now (words .exit)) ≡ sided (actionSideOf (meaning (now (table .entry))) (conflict .state .0) (conflict .action) (conflict .operand) (conflict .token)) (now (words .entry)) ⌝ }
     ensures { λ r. ⌜ KeptIn (meaning (now (table .entry)) .productions) r (now (side .exit)) ⌝ }
 {
-    let state = conflict.state as usize;
+    let state = conflict.state.0 as usize;
     let operand = conflict.operand as usize;
     let token = conflict.token;
     if conflict.action == 0 {
@@ -389,8 +389,8 @@ pub fn gather(
     ) {
         Side::Stopped(refusal) => Gathered::Halted(refusal),
         Side::Examples(actions, action_trials) => {
-            let state = conflict.state as usize;
-            let production = conflict.production as usize;
+            let state = conflict.state.0 as usize;
+            let production = conflict.production.0 as usize;
             let token = conflict.token;
             match gather_reduce(
                 table,

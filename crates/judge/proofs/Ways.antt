@@ -188,7 +188,7 @@ module _ (g : List ℕ) (n : ℕ) (P : Packed g n) (p : ℕ) (h : p < n) where
 
 module _ (g : List ℕ) (n : ℕ) (P : Packed g n) (p : ℕ) (h : p < n) (o : ℕ) (q : Pair Example) where
   pub ambiguity-operator : (w : ℕ) → w ≡ getD g (productionPlace p) 0 → true ≡ isOperator (getD (productionsIn g n) p noProduction) o
-      → withBoth (Precedence w) q ≡ shiftAmbiguity (getD (productionsIn g n) p noProduction) o q
+      → withBoth (Precedence (record { 0 = w })) q ≡ shiftAmbiguity (getD (productionsIn g n) p noProduction) o q
   unfolding shiftAmbiguity
   ambiguity-operator w ew e = rw (← e, shiftAmbiguity, owner-is g n P p h, ← ew)
 
@@ -280,14 +280,14 @@ optional-right (u ∷ []) (y ∷ ys) e = refl
 optional-right (u ∷ v ∷ xs) [] e = refl
 optional-right (u ∷ v ∷ xs) (y ∷ ys) e = refl
 
-question-kind : (w k x : ℕ) → QuestionFits (OfSymbol k x) → SuggestQuestion w k x ≡ suggestQuestion w (symbolOfKind k x)
+question-kind : (w k x : ℕ) → QuestionFits (OfSymbol k x) → SuggestQuestion (record { 0 = w }) k x ≡ suggestQuestion w (symbolOfKind k x)
 unfolding suggestQuestion symbolOfKind QuestionFits
 question-kind w zero x h = refl
 question-kind w (suc zero) x h = refl
 question-kind w (suc (suc k)) x h = absurd (omega arith)
 
 judge-cons : (T : Table) (c : Conflict) (ps : List Production) (actions rows reduces columns : List ℕ) → 0 < length rows → 0 < length columns
-    → judge T c (ordered ps actions rows) (ordered ps reduces columns) ≡ ambiguousOr T c (firstPair (sameReading (T .productions)) (ordered ps actions rows) (ordered ps reduces columns)) (unambiguous T (c .production) (c .action) (ordered ps actions rows) (ordered ps reduces columns) (firstOf ps actions rows reduces columns))
+    → judge T c (ordered ps actions rows) (ordered ps reduces columns) ≡ ambiguousOr T c (firstPair (sameReading (T .productions)) (ordered ps actions rows) (ordered ps reduces columns)) (unambiguous T (c .production .0) (c .action) (ordered ps actions rows) (ordered ps reduces columns) (firstOf ps actions rows reduces columns))
 unfolding judge ordered firstOf pairAt
 judge-cons T c ps actions [] reduces columns ha hr = absurd (omega arith)
 judge-cons T c ps actions (x ∷ rows) reduces [] ha hr = absurd (omega arith)
@@ -372,7 +372,7 @@ module _ (t g : List ℕ) (n terminals : ℕ) (sets : List ℕ) (R : Reads t g n
     inline-table = pair-agree (inlinesBy terminals sets (productionsIn g n)) (inlines T) (λ a r. rw (R .read .tokens, R .read .firsts, R .read .same) (inlines-is T a r)) as′ rs
 
     module _ (p w : ℕ) (ew : w ≡ productionAt T p .nonterminal) (r : OptionalSymbol) (er : questionIn r ≡ questionOf T w) where
-      pub unambiguous-question : (k x : ℕ) → r ≡ OfSymbol k x → QuestionFits r → withBoth (SuggestQuestion w k x) firsts ≡ unambiguous T p 0 as′ rs firsts
+      pub unambiguous-question : (k x : ℕ) → r ≡ OfSymbol k x → QuestionFits r → withBoth (SuggestQuestion (record { 0 = w }) k x) firsts ≡ unambiguous T p 0 as′ rs firsts
       unfolding unambiguous questionOr questionIn
       unambiguous-question k x e f =
           let q : questionOf T (productionAt T p .nonterminal) ≡ some (symbolOfKind k x) = rw (← ew, ← er, e) in
@@ -383,16 +383,16 @@ module _ (t g : List ℕ) (n terminals : ℕ) (sets : List ℕ) (R : Reads t g n
       unambiguous-inline e = let q : questionOf T (productionAt T p .nonterminal) ≡ none = rw (← ew, ← er, e) in rw q
 
     module _ (c : Conflict) (ha : 0 < length rows) (hr : 0 < length columns) (f : Found) (ef : pairOf (keptAt (productionsIn g n) actions) (keptAt (productionsIn g n) reduces) f ≡ firstPair (sameReading (productionsIn g n)) as′ rs) where
-      judge-is : judge T c as′ rs ≡ ambiguousOr T c (firstPair (sameReading (T .productions)) as′ rs) (unambiguous T (c .production) (c .action) as′ rs firsts)
+      judge-is : judge T c as′ rs ≡ ambiguousOr T c (firstPair (sameReading (T .productions)) as′ rs) (unambiguous T (c .production .0) (c .action) as′ rs firsts)
       judge-is = judge-cons T c (productionsIn g n) actions rows reduces columns ha hr
 
-      pub judge-pair : (i j : ℕ) → f ≡ At i j → ambiguityOf T (c .production) (c .action) (c .operand) (pairAt (productionsIn g n) actions reduces i j) ≡ judge T c as′ rs
+      pub judge-pair : (i j : ℕ) → f ≡ At i j → ambiguityOf T (c .production .0) (c .action) (c .operand) (pairAt (productionsIn g n) actions reduces i j) ≡ judge T c as′ rs
       unfolding ambiguousOr pairOf pairAt
       judge-pair i j e =
           let q : firstPair (sameReading (T .productions)) as′ rs ≡ some (record { action = keptAt (productionsIn g n) actions i; reduce = keptAt (productionsIn g n) reduces j }) = rw (← R .read .same) (sym ef ∙ rw e) in
           sym (judge-is ∙ rw q)
 
-      pub judge-none : f ≡ Nothing → unambiguous T (c .production) (c .action) as′ rs firsts ≡ judge T c as′ rs
+      pub judge-none : f ≡ Nothing → unambiguous T (c .production .0) (c .action) as′ rs firsts ≡ judge T c as′ rs
       unfolding ambiguousOr pairOf
       judge-none e =
           let q : firstPair (sameReading (T .productions)) as′ rs ≡ none = rw (← R .read .same) (sym ef ∙ rw e) in
@@ -407,9 +407,9 @@ and-right : (a b : Bool) → a && b ≡ true → b ≡ true
 and-right true b e = e
 and-right false b e = clash false e refl
 
-pub conflict-production : (T : Table) (c : Conflict) → placeFits T c ≡ true → c .production < length (T .productions)
+pub conflict-production : (T : Table) (c : Conflict) → placeFits T c ≡ true → c .production .0 < length (T .productions)
 unfolding placeFits
-conflict-production T c e = ltb-true (c .production) (length (T .productions)) (and-left _ _ (and-right (ltb (c .state) (length (T .states))) _ e))
+conflict-production T c e = ltb-true (c .production .0) (length (T .productions)) (and-left _ _ (and-right (ltb (c .state .0) (length (T .states))) _ e))
 
 operand-inside : (T : Table) (k o : ℕ) → operandFits T k o ≡ true → (k ≡ 0 → ⊥) → o < length (T .productions)
 unfolding operandFits
@@ -420,7 +420,7 @@ operand-inside T (suc (suc k)) o e ne = clash false e refl
 pub conflict-operand : (T : Table) (c : Conflict) → placeFits T c ≡ true → (c .action ≡ 0 → ⊥) → c .operand < length (T .productions)
 unfolding placeFits
 conflict-operand T c e ne =
-    operand-inside T (c .action) (c .operand) (and-right (ltb (c .production) (length (T .productions))) _ (and-right (ltb (c .state) (length (T .states))) _ e)) ne
+    operand-inside T (c .action) (c .operand) (and-right (ltb (c .production .0) (length (T .productions))) _ (and-right (ltb (c .state .0) (length (T .states))) _ e)) ne
 
 -- the action of a conflict
 pub ambiguity-shift : (T : Table) (p k o : ℕ) (q : Pair Example) → k ≡ 0 → shiftAmbiguity (productionAt T p) o q ≡ ambiguityOf T p k o q
@@ -442,7 +442,7 @@ unambiguous-reduce T p (suc k) as′ rs q ne = refl
 
 -- `inline_or`
 module _ (ps : List Production) (firsts : Pair Example) (actions reduces : List ℕ) (f : Found) (o : Option (Pair Example)) (ef : pairOf (keptAt ps actions) (keptAt ps reduces) f ≡ o) where
-  pub inline-pair-is : (i j w : ℕ) → f ≡ At i j → w ≡ reductionAt ps (keptAt ps reduces j) 0 .nonterminal → withBoth (SuggestInline w) (pairAt ps actions reduces i j) ≡ inlineOr ps firsts o
+  pub inline-pair-is : (i j w : ℕ) → f ≡ At i j → w ≡ reductionAt ps (keptAt ps reduces j) 0 .nonterminal → withBoth (SuggestInline (record { 0 = w })) (pairAt ps actions reduces i j) ≡ inlineOr ps firsts o
   unfolding inlineOr pairOf pairAt
   inline-pair-is i j w e ew = rw (← ef, e, ← ew)
 

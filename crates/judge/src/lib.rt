@@ -109,7 +109,7 @@ fn shift_ambiguity(
     let nonterminal = grammar[at];
     if is_operator(grammar, productions, production, terminal) {
         return with_both(
-            Class::Precedence(nonterminal),
+            Class::Precedence(NonterminalString(nonterminal)),
             grammar,
             productions,
             actions,
@@ -262,7 +262,7 @@ fn inline_or(
         Pair::At(i, j) => {
             let nonterminal = first_nonterminal(grammar, productions, reduces, j);
             with_both(
-                Class::SuggestInline(nonterminal),
+                Class::SuggestInline(NonterminalString(nonterminal)),
                 grammar,
                 productions,
                 actions,
@@ -318,7 +318,7 @@ fn shift_unambiguous(
             let x = word(rows, 0);
             let y = word(columns, 0);
             with_both(
-                Class::SuggestQuestion(nonterminal as u16, kind, number),
+                Class::SuggestQuestion(NonterminalString(nonterminal as u16), kind, number),
                 grammar,
                 productions,
                 actions,
@@ -365,7 +365,7 @@ fn judge_sorted(
     requires { ⌜ (exampleRoom ≤ length (now action)) × (exampleRoom ≤ length (now reduce)) ⌝ }
     ensures { λ r. ⌜ judgedWords r (now (action .exit)) (now (reduce .exit)) ≡ shownOf (productionsIn (now (grammar .entry)) productions) (now (action .entry)) (now (reduce .entry)) (judge (meaning (now (table .entry))) conflict (ordered (productionsIn (now (grammar .entry)) productions) (now (actions .entry)) (now (rows .entry))) (ordered (productionsIn (now (grammar .entry)) productions) (now (reduces .entry)) (now (columns .entry)))) ⌝ }
 {
-    let production = conflict.production as usize;
+    let production = conflict.production.0 as usize;
     let operand = conflict.operand as usize;
     match ambiguous_pair(grammar, productions, actions, rows, reduces, columns) {
         Pair::At(i, j) => {

@@ -4,6 +4,7 @@ use mathlib.Core.Bool.{Bool, true, false}
 use mathlib.Core.List.{List}
 use Prim.Native.Nat.{ℕ}
 use Rattle.repr.specs.Meaning.{Item}
+use Rattle.repr.specs.declared.ProductionIndex.{ProductionIndex}
 use Rattle.enumerator.specs.Advance.{outcome, advanceOf}
 use Rattle.enumerator.specs.declared.Lookahead.{Lookahead}
 use Rattle.enumerator.specs.declared.Lookahead.the-variants.{Any, Set}
@@ -37,7 +38,7 @@ module _ (c d : Opened) (e : c ≡ d) where
   open-refused n r h = rw (sym e ∙ h)
 
 -- ahead: what `lookahead_of` answers, ahead′: what its contract says it is
-module _ (p i n : ℕ) (o : Bool) (t g scratch₀ buffer₀ : List ℕ) (ahead ahead′ : Lookahead) (ea : ahead ≡ ahead′) (a : Advanced) (next : Listing) (scratch buffer : List ℕ) (e : outcome a next scratch buffer ≡ advanceOf (record { production = p; index = i; lookahead = ahead; count = n; «is_open» = o }) t g scratch₀ buffer₀) where
+module _ (p : ProductionIndex) (i n : ℕ) (o : Bool) (t g scratch₀ buffer₀ : List ℕ) (ahead ahead′ : Lookahead) (ea : ahead ≡ ahead′) (a : Advanced) (next : Listing) (scratch buffer : List ℕ) (e : outcome a next scratch buffer ≡ advanceOf (record { production = p; index = i; lookahead = ahead; count = n; «is_open» = o }) t g scratch₀ buffer₀) where
   answered : (b : Advanced) → a ≡ b → advancedNumbers (outcome b next scratch buffer) ≡ advancedNumbers (advanceOf (record { production = p; index = i; lookahead = ahead′; count = n; «is_open» = o }) t g scratch₀ buffer₀)
   answered b h = ap (λ (b : Advanced). advancedNumbers (outcome b next scratch buffer)) (sym h) ∙ ap advancedNumbers (e ∙ ap (λ (x : Lookahead). advanceOf (record { production = p; index = i; lookahead = x; count = n; «is_open» = o }) t g scratch₀ buffer₀) ea)
 

@@ -18,6 +18,7 @@ use Rattle.table.specs.Decoded.{meaning}
 use Rattle.table.specs.Refusals.{checkOf}
 use Rattle.table.specs.declared.Checked.{Checked}
 use Rattle.table.specs.declared.Checked.the-variants.{Accepted, Refused as NotAccepted}
+use Rattle.repr.specs.declared.NonterminalString.{NonterminalString}
 use Rattle.error.specs.declared.Conflict.{Conflict}
 use Rattle.error.specs.declared.Class.{Class}
 use Rattle.error.specs.declared.Class.the-variants.{Naive, Ambiguity, Precedence, SuggestInline, SuggestQuestion, AmbiguousReduction, InsufficientLookahead}
@@ -41,15 +42,15 @@ unfolding packed
 pack-is a b c d = omega arith
 
 module _ (k : Class) (r : ℕ) where
-  pub values-precedence : (n : ℕ) → k ≡ Precedence n → r ≡ packed (n ∷ 0 ∷ 0 ∷ 0 ∷ []) → r ≡ packed (classValues k)
+  pub values-precedence : (n : NonterminalString) → k ≡ Precedence n → r ≡ packed (n .0 ∷ 0 ∷ 0 ∷ 0 ∷ []) → r ≡ packed (classValues k)
   unfolding packed classValues
   values-precedence n e h = rw e h
 
-  pub values-inline : (n : ℕ) → k ≡ SuggestInline n → r ≡ packed (n ∷ 0 ∷ 0 ∷ 0 ∷ []) → r ≡ packed (classValues k)
+  pub values-inline : (n : NonterminalString) → k ≡ SuggestInline n → r ≡ packed (n .0 ∷ 0 ∷ 0 ∷ 0 ∷ []) → r ≡ packed (classValues k)
   unfolding packed classValues
   values-inline n e h = rw e h
 
-  pub values-question : (n x y : ℕ) → k ≡ SuggestQuestion n x y → r ≡ packed (n ∷ x ∷ y ∷ 0 ∷ []) → r ≡ packed (classValues k)
+  pub values-question : (n : NonterminalString) (x y : ℕ) → k ≡ SuggestQuestion n x y → r ≡ packed (n .0 ∷ x ∷ y ∷ 0 ∷ []) → r ≡ packed (classValues k)
   unfolding packed classValues
   values-question n x y e h = rw e h
 

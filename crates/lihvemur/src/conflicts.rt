@@ -8,7 +8,9 @@ use lookahead::TokenSet;
 use report::choose;
 use report::classify;
 use report::observed;
+use repr::ProductionIndex;
 use repr::word;
+use state_graph::StateIndex;
 ghost use mathlib.Core.Path.{_≡_};
 ghost use mathlib.Core.List.{[], _∷_};
 ghost use Rattle.error.specs.Numbers.{classValues};
@@ -29,9 +31,9 @@ fn class_values(class: Class) -> u64
     match class {
         Class::Naive => 0,
         Class::Ambiguity => 0,
-        Class::Precedence(n) => pack(n, 0, 0, 0),
-        Class::SuggestInline(n) => pack(n, 0, 0, 0),
-        Class::SuggestQuestion(n, kind, number) => pack(n, kind, number, 0),
+        Class::Precedence(n) => pack(n.0, 0, 0, 0),
+        Class::SuggestInline(n) => pack(n.0, 0, 0, 0),
+        Class::SuggestQuestion(n, kind, number) => pack(n.0, kind, number, 0),
         Class::AmbiguousReduction(a, b, c, d) => pack(a, b, c, d),
         Class::InsufficientLookahead => 0,
     }
@@ -55,11 +57,11 @@ pub extern "C" fn lihvemur_classify(
     reduce_trials: &mut u32,
     place: &mut u16,
 ) -> u16
-    ensures { λ r. ⌜ classNumbers r (now (place .exit)) (now (class .exit)) (now (values .exit)) (now («action_trials» .exit)) (now («reduce_trials» .exit)) (now (scratch .exit)) (now («action_example» .exit)) (now («reduce_example» .exit)) ≡ classifiedNumbers (now (class .entry)) (now (values .entry)) (now («action_trials» .entry)) (now («reduce_trials» .entry)) (classifyOf (now (table .entry)) (record { state = state; production = production; action = action; operand = operand; token = token }) (now (scratch .entry)) (now («action_example» .entry)) (now («reduce_example» .entry))) ⌝ }
+    ensures { λ r. ⌜ classNumbers r (now (place .exit)) (now (class .exit)) (now (values .exit)) (now («action_trials» .exit)) (now («reduce_trials» .exit)) (now (scratch .exit)) (now («action_example» .exit)) (now («reduce_example» .exit)) ≡ classifiedNumbers (now (class .entry)) (now (values .entry)) (now («action_trials» .entry)) (now («reduce_trials» .entry)) (classifyOf (now (table .entry)) (record { state = record { 0 = state }; production = record { 0 = production }; action = action; operand = operand; token = token }) (now (scratch .entry)) (now («action_example» .entry)) (now («reduce_example» .entry))) ⌝ }
 {
     let conflict = Conflict {
-        state: state,
-        production: production,
+        state: StateIndex(state),
+        production: ProductionIndex(production),
         action: action,
         operand: operand,
         token: token,
@@ -94,11 +96,11 @@ pub extern "C" fn lihvemur_choose(
     count: &mut usize,
     place: &mut u16,
 ) -> u16
-    ensures { λ r. ⌜ choiceNumbers r (now (place .exit)) (now (count .exit)) (now (entries .exit)) (now (scratch .exit)) ≡ chooseNumbers (now (count .entry)) (now (entries .entry)) (now (table .entry)) (record { state = state; production = production; action = action; operand = operand; token = 0 }) tokens (now (scratch .entry)) ⌝ }
+    ensures { λ r. ⌜ choiceNumbers r (now (place .exit)) (now (count .exit)) (now (entries .exit)) (now (scratch .exit)) ≡ chooseNumbers (now (count .entry)) (now (entries .entry)) (now (table .entry)) (record { state = record { 0 = state }; production = record { 0 = production }; action = action; operand = operand; token = 0 }) tokens (now (scratch .entry)) ⌝ }
 {
     let conflict = Conflict {
-        state: state,
-        production: production,
+        state: StateIndex(state),
+        production: ProductionIndex(production),
         action: action,
         operand: operand,
         token: 0,

@@ -85,10 +85,10 @@ pub extern "C" fn lihvemur_advance(
     is_open: &mut bool,
     place: &mut u16,
 ) -> u16
-    ensures { λ r. ⌜ advanceNumbers r (now (place .exit)) (now (count .exit)) (now («is_open» .exit)) (now (scratch .exit)) (now (buffer .exit)) ≡ advancedNumbers (advanceOf (record { production = production; index = index; lookahead = aheadOf filtered lookahead; count = now (count .entry); «is_open» = now («is_open» .entry) }) (now (table .entry)) (now (graph .entry)) (now (scratch .entry)) (now (buffer .entry))) ⌝ }
+    ensures { λ r. ⌜ advanceNumbers r (now (place .exit)) (now (count .exit)) (now («is_open» .exit)) (now (scratch .exit)) (now (buffer .exit)) ≡ advancedNumbers (advanceOf (record { production = record { 0 = production }; index = index; lookahead = aheadOf filtered lookahead; count = now (count .entry); «is_open» = now («is_open» .entry) }) (now (table .entry)) (now (graph .entry)) (now (scratch .entry)) (now (buffer .entry))) ⌝ }
 {
     let l = Listing {
-        production: production,
+        production: ProductionIndex(production),
         index: index,
         lookahead: lookahead_of(filtered, lookahead),
         count: *count,

@@ -11,7 +11,7 @@ use lr1::Walked;
 use repr::ProductionIndex;
 use state_graph::StateIndex;
 use table::Checked;
-use trace_graph::Node;
+use trace_graph::TraceGraphNode;
 use tracer::Backtrace;
 ghost use mathlib.Core.Path.{_≡_};
 ghost use Rattle.table.specs.Refusals.{checkOf};
@@ -127,16 +127,8 @@ pub extern "C" fn lihvemur_add_edge(
 ) -> u16
     ensures { λ r. ⌜ addNumbers r (now (place .exit)) (now (edges .exit)) (now (graph .exit)) ≡ edgeNumbers (now (edges .entry)) (addEdgeOf (now (table .entry)) (record { source = record { kind = «source_kind»; number = source; index = «source_index» }; target = record { kind = «target_kind»; number = target; index = «target_index» }; production = production; index = index }) (now (graph .entry))) ⌝ }
 {
-    let from = Node {
-        kind: source_kind as usize,
-        number: source as usize,
-        index: source_index as usize,
-    };
-    let to = Node {
-        kind: target_kind as usize,
-        number: target as usize,
-        index: target_index as usize,
-    };
+    let from = TraceGraphNode::of(source_kind, source, source_index);
+    let to = TraceGraphNode::of(target_kind, target, target_index);
     match lr1::add_edge(table, from, to, ProductionIndex(production), index, graph) {
         AddEdge::Edges(count) => {
             *place = 0;

@@ -9,6 +9,7 @@ use borrow.Author.Tests.{eq-eqb, ne-eqb}
 use Rattle.repr.specs.Sizes.{reductionRoom}
 use Rattle.repr.specs.Lists.{joined}
 use Rattle.error.specs.Numbers.{classNumber, classValues, readingOf}
+use Rattle.repr.specs.declared.NonterminalString.{NonterminalString}
 use Rattle.error.specs.declared.Class.{Class}
 use Rattle.error.specs.declared.Class.the-variants.{Naive, Ambiguity, Precedence, SuggestInline, SuggestQuestion, AmbiguousReduction, InsufficientLookahead}
 use Rattle.error.specs.declared.Classified.{Classified}
@@ -42,15 +43,15 @@ pub own-insufficient : {k : Class} (a : List ℕ) (at : ℕ) → k ≡ Insuffici
 unfolding ownText classValues
 own-insufficient a at e = (rw e (put-nothing a at), omega arith)
 
-pub own-precedence : {k : Class} {a b : List ℕ} {at r n : ℕ} → k ≡ Precedence n → Put a at (32 ∷ numeral n) b r → Put a at (ownText (classValues k)) b r
+pub own-precedence : {k : Class} {a b : List ℕ} {at r : ℕ} {n : NonterminalString} → k ≡ Precedence n → Put a at (32 ∷ numeral (n .0)) b r → Put a at (ownText (classValues k)) b r
 unfolding ownText classValues spaced
 own-precedence e P = rw e P
 
-pub own-inline : {k : Class} {a b : List ℕ} {at r n : ℕ} → k ≡ SuggestInline n → Put a at (32 ∷ numeral n) b r → Put a at (ownText (classValues k)) b r
+pub own-inline : {k : Class} {a b : List ℕ} {at r : ℕ} {n : NonterminalString} → k ≡ SuggestInline n → Put a at (32 ∷ numeral (n .0)) b r → Put a at (ownText (classValues k)) b r
 unfolding ownText classValues spaced
 own-inline e P = rw e P
 
-pub own-question : {k : Class} {a b c : List ℕ} {at m r n s x : ℕ} → k ≡ SuggestQuestion n s x → Put a at (32 ∷ numeral n) b m → Put b m (symbolText s x) c r → Put a at (ownText (classValues k)) c r
+pub own-question : {k : Class} {a b c : List ℕ} {at m r s x : ℕ} {n : NonterminalString} → k ≡ SuggestQuestion n s x → Put a at (32 ∷ numeral (n .0)) b m → Put b m (symbolText s x) c r → Put a at (ownText (classValues k)) c r
 unfolding ownText classValues spaced
 own-question e P Q = rw e (put-then P Q)
 

@@ -134,10 +134,10 @@ fn put_own(out: &mut [u8], at: usize, class: Class) -> usize
     match class {
         Class::Naive => at,
         Class::Ambiguity => at,
-        Class::Precedence(nonterminal) => put_after(out, at, b' ', nonterminal as u64),
-        Class::SuggestInline(nonterminal) => put_after(out, at, b' ', nonterminal as u64),
+        Class::Precedence(nonterminal) => put_after(out, at, b' ', nonterminal.0 as u64),
+        Class::SuggestInline(nonterminal) => put_after(out, at, b' ', nonterminal.0 as u64),
         Class::SuggestQuestion(nonterminal, kind, number) => {
-            let next = put_after(out, at, b' ', nonterminal as u64);
+            let next = put_after(out, at, b' ', nonterminal.0 as u64);
             put_symbol(out, next, kind as usize, number as usize)
         }
         Class::AmbiguousReduction(start, end, other_start, other_end) => {

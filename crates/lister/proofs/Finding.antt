@@ -40,7 +40,7 @@ lostBy o z h = o && (not z && not h)
 
 module _ (es : List TraceEdge) (l : Listing) (ws : List ℕ) where
   abbrev start : Node
-  start = atItem (record { production = l .production; index = l .index })
+  start = atItem (record { production = l .production .0; index = l .index })
 
   abbrev holds : Bool
   holds = holdsTrial (endsOf es) start ws
@@ -94,8 +94,8 @@ start-by G start (suc c) ws h =
     }
 
 pub start-at : (es : List TraceEdge) (l : Listing) (ws : List ℕ) → l .«is_open» ≡ true → lost es l ws ≡ false
-    → Start (endsOf es) (atItem (record { production = l .production; index = l .index })) (l .count) ws
-start-at es l ws o f = start-by (endsOf es) (atItem (record { production = l .production; index = l .index })) (l .count) ws (λ ne. held es l ws o ne f)
+    → Start (endsOf es) (atItem (record { production = l .production .0; index = l .index })) (l .count) ws
+start-at es l ws o f = start-by (endsOf es) (atItem (record { production = l .production .0; index = l .index })) (l .count) ws (λ ne. held es l ws o ne f)
 
 pub searching : {ps : List Production} {g ix : List ℕ} {p i c : ℕ} {ws : List ℕ} (ws′ : List ℕ) → Listable ps g ix p i
     → Start (endsOf (edgesIn g)) (atItem (record { production = p; index = i })) c ws → ws′ ≡ begun c ws → Searching ps g ix ws′ p i

@@ -87,7 +87,7 @@ module _ (T : Table) (p i : ℕ) (a : Lookahead) (g : List ℕ) (b : Bool) (eb :
       unfolding openIn
       open-stray f = rw (sym eb ∙ t, le-leb graphRoom (length g) h, sym ec ∙ f, openIn)
 
-      pub open-fresh : c ≡ true → (o : Bool) → o ≡ true → Opens (record { production = p; index = i; lookahead = a; count = 0; «is_open» = o }) ≡ openIn (record { production = p; index = i }) a g T
+      pub open-fresh : c ≡ true → (o : Bool) → o ≡ true → Opens (record { production = record { 0 = p }; index = i; lookahead = a; count = 0; «is_open» = o }) ≡ openIn (record { production = p; index = i }) a g T
       unfolding openIn
       open-fresh u o eo = rw (sym eb ∙ t, le-leb graphRoom (length g) h, sym ec ∙ u, openIn, eo)
 
@@ -117,7 +117,7 @@ module _ (g : List ℕ) (l : Listing) (scratch buffer : List ℕ) (T : Table) wh
   unfolding advanceIn
   advance-refused e = rw (e, advanceIn)
 
-  module _ (b : Bool) (eb : b ≡ asked T (record { production = l .production; index = l .index }) (setOf (l .lookahead)) g) (x : Listing) (a : Advanced) where
+  module _ (b : Bool) (eb : b ≡ asked T (record { production = l .production .0; index = l .index }) (setOf (l .lookahead)) g) (x : Listing) (a : Advanced) where
     pub step-refused : b ≡ false → (x ≡ l) × (a ≡ Refused 9 0) → outcome a x scratch buffer ≡ advanceIn g l scratch buffer T
     unfolding startOf
     step-refused f e = leaves x a (Refused 9 0) e ∙ sym (advance-refused (sym eb ∙ f))
@@ -152,7 +152,7 @@ module _ (g : List ℕ) (l : Listing) (scratch buffer : List ℕ) (T : Table) wh
     pub go-lost : k ≡ true → (x : Listing) (a : Advanced) → (x ≡ l) × (a ≡ Refused 9 0) → outcome a x scratch buffer ≡ advanceIn g l scratch buffer T
     go-lost t x a e = leaves x a (Refused 9 0) e ∙ sym (advance-lost (sym ek ∙ t))
 
-    module _ (f : k ≡ false) (m : Bool) (em : m ≡ isNode (atItem (record { production = l .production; index = l .index })) (edgesIn g)) where
+    module _ (f : k ≡ false) (m : Bool) (em : m ≡ isNode (atItem (record { production = l .production .0; index = l .index })) (edgesIn g)) where
       pub go-stray : m ≡ false → (x : Listing) (a : Advanced) → (x ≡ l) × (a ≡ Refused 15 0) → outcome a x scratch buffer ≡ advanceIn g l scratch buffer T
       unfolding startOf
       go-stray n x a e = leaves x a (Refused 15 0) e ∙ sym (advance-stray (sym ek ∙ f) (sym em ∙ n))

@@ -130,14 +130,15 @@ fn is_node(graph: &[u16], production: usize, index: usize) -> bool
 // `lr0_examples` and `lr1_examples`: a fresh listing, or refusal 9, 11 or 15.
 pub fn open_in(
     table: &[u16],
-    production: u16,
+    production: ProductionIndex,
     index: u16,
     lookahead: Lookahead,
     graph: &[u16],
 ) -> Opened
     requires { ⌜ checkOf (now table) ≡ Checked.Accepted ⌝ }
-    ensures { λ r. ⌜ r ≡ openIn (record { production = production; index = index }) lookahead (now (graph .entry)) (meaning (now (table .entry))) ⌝ }
+    ensures { λ r. ⌜ r ≡ openIn (record { production = production .0; index = index }) lookahead (now (graph .entry)) (meaning (now (table .entry))) ⌝ }
 {
+    let p = production.0 as usize;
     let counts = read_counts(table);
     let mut grammar = [0u16; ProductionIndex::ALL_WORDS];
     read_productions(table, &mut grammar);
@@ -147,7 +148,7 @@ pub fn open_in(
         counts.productions,
         counts.nonterminals,
         counts.terminals,
-        production as usize,
+        p,
         index as usize,
         lookahead,
         graph,
@@ -156,7 +157,7 @@ pub fn open_in(
         if graph.len() < TraceGraph::WORDS {
             return Opened::Refused(11, 0);
         }
-        if is_node(graph, production as usize, index as usize) {
+        if is_node(graph, p, index as usize) {
             return Opened::Listing(Listing {
                 production: production,
                 index: index,
@@ -200,7 +201,7 @@ fn begin(words: &mut [u16], count: u32)
 
 // Whether an open listing past count 0 is lent words that hold no example's trial (refusal 9).
 fn lost(l: Listing, graph: &[u16], ix: &[u16], words: &[u16]) -> bool
-    requires { ⌜ Started (now graph) (now ix) (l .production) (l .index) ⌝ }
+    requires { ⌜ Started (now graph) (now ix) (l .production .0) (l .index) ⌝ }
     requires { ⌜ scratchWords ≤ length (now words) ⌝ }
     ensures { λ r. ⌜ r ≡ lost (edgesIn (now (graph .entry))) l (now (words .entry)) ⌝ }
 {
@@ -208,7 +209,7 @@ fn lost(l: Listing, graph: &[u16], ix: &[u16], words: &[u16]) -> bool
         if l.count == 0 {
             return false;
         }
-        let production = l.production as usize;
+        let production = l.production.0 as usize;
         let index = l.index as usize;
         if holds_trial(graph, ix, words, production, index) {
             return false;
@@ -240,9 +241,10 @@ fn write_trial(
 fn moved(l: Listing, count: u32, is_open: bool) -> Listing
     ensures { λ r. ⌜ r ≡ moved l count is_open ⌝ }
 {
+    let production = l.production;
     let lookahead = l.lookahead;
     Listing {
-        production: l.production,
+        production: production,
         index: l.index,
         lookahead: lookahead,
         count: count,
@@ -272,12 +274,12 @@ fn find_next(
     buffer: &mut [u16],
 ) -> Stepped
     requires { ⌜ Packed (now grammar) productions × (terminals ≤ 63) ⌝ }
-    requires { ⌜ Listable (productionsIn (now grammar) productions) (now graph) (now ix) (l .production) (l .index) ⌝ }
+    requires { ⌜ Listable (productionsIn (now grammar) productions) (now graph) (now ix) (l .production .0) (l .index) ⌝ }
     requires { ⌜ (scratchWords ≤ length (now scratch)) × (exampleRoom ≤ length (now buffer)) ⌝ }
     requires { ⌜ (l .«is_open» ≡ true) × (lost (edgesIn (now graph)) l (now scratch) ≡ false) ⌝ }
     ensures { λ r. ⌜ ((n : ℕ) (T : Table) → Read T n terminals (productionsIn (now (grammar .entry)) productions) → outcome (r .answer) (r .next) (now (scratch .exit)) (now (buffer .exit)) ≡ foundOutcome T (edgesIn (now (graph .entry))) l (now (scratch .entry)) (now (buffer .entry)) (search (hands T (edgesIn (now (graph .entry))) (setOf (l .lookahead))) (trialLimit - l .count) (l .count) (restOf (l .count) (now (scratch .entry)) (trials (endsOf (edgesIn (now (graph .entry)))) (atItem (startOf l)))))) ⌝ }
 {
-    let production = l.production as usize;
+    let production = l.production.0 as usize;
     let index = l.index as usize;
     let lookahead = l.lookahead;
     let count = l.count;
@@ -327,11 +329,11 @@ fn go_on(
     buffer: &mut [u16],
 ) -> Stepped
     requires { ⌜ Packed (now grammar) productions × (terminals ≤ 63) ⌝ }
-    requires { ⌜ Listable (productionsIn (now grammar) productions) (now graph) (now ix) (l .production) (l .index) ⌝ }
+    requires { ⌜ Listable (productionsIn (now grammar) productions) (now graph) (now ix) (l .production .0) (l .index) ⌝ }
     requires { ⌜ (scratchWords ≤ length (now scratch)) × (exampleRoom ≤ length (now buffer)) ⌝ }
     ensures { λ r. ⌜ ((n : ℕ) (T : Table) → Read T n terminals (productionsIn (now (grammar .entry)) productions) → asked T (startOf l) (setOf (l .lookahead)) (now (graph .entry)) ≡ true → outcome (r .answer) (r .next) (now (scratch .exit)) (now (buffer .exit)) ≡ advanceIn (now (graph .entry)) l (now (scratch .entry)) (now (buffer .entry)) T) ⌝ }
 {
-    let production = l.production as usize;
+    let production = l.production.0 as usize;
     let index = l.index as usize;
     let strayed = lost(l, graph, ix, scratch);
     let node = is_node(graph, production, index);
@@ -373,7 +375,7 @@ pub fn step_in(
     let mut grammar = [0u16; ProductionIndex::ALL_WORDS];
     read_productions(table, &mut grammar);
     let mut ix = [0u16; TraceGraph::INDEX_WORDS];
-    let production = l.production as usize;
+    let production = l.production.0 as usize;
     let index = l.index as usize;
     let lookahead = l.lookahead;
     if asked(

@@ -23,7 +23,7 @@ pub fn lr0_examples(table: &[u16], production: ProductionIndex, index: u16, grap
 {
     match table_check::check(table) {
         Checked::Refused(refusal, place) => Opened::Refused(refusal, place),
-        Checked::Accepted => open_in(table, production.0, index, Lookahead::Any, graph),
+        Checked::Accepted => open_in(table, production, index, Lookahead::Any, graph),
     }
 }
 
@@ -39,7 +39,7 @@ pub fn lr1_examples(
 {
     match table_check::check(table) {
         Checked::Refused(refusal, place) => Opened::Refused(refusal, place),
-        Checked::Accepted => open_in(table, production.0, index, Lookahead::Set(lookahead), graph),
+        Checked::Accepted => open_in(table, production, index, Lookahead::Set(lookahead), graph),
     }
 }
 

@@ -16,6 +16,7 @@ use Rattle.repr.specs.Packed.{productionsIn}
 use Rattle.table.specs.Decoded.{meaning}
 use Rattle.table.specs.declared.Checked.{Checked}
 use Rattle.table.specs.declared.Checked.the-variants.{Accepted, Refused as NotAccepted}
+use Rattle.trace_graph.specs.declared.Node.{Node as NodeValue}
 use Rattle.trace_graph.specs.declared.TraceEdge.{TraceEdge as EdgeValue}
 use Rattle.trace_graph.specs.Graph.{TraceEdge, sameEdge, add}
 use Rattle.trace_graph.specs.Words.{graphWords, edgesIn}
@@ -28,7 +29,7 @@ use Rattle.tracer.specs.declared.Backtrace.{Backtrace}
 use Rattle.tracer.specs.declared.Backtrace.the-variants.{Refused as NoTrace}
 use Rattle.tracer.specs.Outcome.{Outcome, outcome, traceIn, traceBy}
 use Rattle.tracer.proofs.Words.{built, words-long}
-use Rattle.lr1.specs.Edges.{EdgeOutcome, edgeOutcome, addedOutcome, addEdgeIn}
+use Rattle.lr1.specs.Edges.{EdgeOutcome, edgeOutcome, addedOutcome, addEdgeIn, addEdgeOf}
 use Rattle.lr1.specs.declared.AddEdge.{AddEdge}
 use Rattle.lr1.specs.declared.AddEdge.the-variants.{Edges, Refused}
 
@@ -175,3 +176,8 @@ module _ (v : EdgeValue) (graph : List ℕ) (T : Table) (n m : ℕ) (g : List �
         edge-over {graph′} {ix} {ix′} F =
             let h = overfull-long (productionsIn g m) (edgeIs v) graph ix graph′ ix′ F in
             ap (edgeOutcome (Refused 12 0)) (F .words) ∙ sym (added-over graph _ (omega arith)) ∙ all-fit
+
+-- an edge between equal nodes
+pub edge-between : (t : List ℕ) {a a′ b b′ : NodeValue} (p i : ℕ) (graph : List ℕ) → a ≡ a′ → b ≡ b′
+    → addEdgeOf t (record { source = a; target = b; production = p; index = i }) graph ≡ addEdgeOf t (record { source = a′; target = b′; production = p; index = i }) graph
+edge-between t p i graph e f = λ j. addEdgeOf t (record { source = e j; target = f j; production = p; index = i }) graph

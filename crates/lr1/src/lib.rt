@@ -12,9 +12,9 @@ use table::Checked;
 use table::read_counts;
 use table::read_productions;
 use trace_graph::Inserted;
-use trace_graph::Node;
 use trace_graph::TraceEdge;
 use trace_graph::TraceGraph;
+use trace_graph::TraceGraphNode;
 use trace_graph::check_graph;
 use trace_graph::edge_fits;
 use trace_graph::insert;
@@ -23,6 +23,7 @@ ghost use mathlib.Core.Path.{_≡_};
 ghost use Rattle.first.specs.First.{firstSets};
 ghost use Rattle.table.specs.Decoded.{meaning};
 ghost use Rattle.table.specs.Refusals.{checkOf};
+ghost use Rattle.trace_graph.specs.Nodes.{nodeValue};
 ghost use Rattle.tracer.specs.Outcome.{outcome, shiftOf, reduceOf};
 ghost use Rattle.lr1.specs.Edges.{edgeOutcome, addEdgeIn, addEdgeOf};
 ghost use Rattle.lr1.specs.Entries.{first0In, first0Of, first1In, first1Of, walkOf, traceBackIn, traceBackOf};
@@ -148,21 +149,24 @@ pub enum AddEdge {
 // Puts an edge, whose label is the item at `index` of `production`, into a graph that the caller lends, unless an equal one is there (part 4 of document 01).
 pub fn add_edge(
     table: &[u16],
-    source: Node,
-    target: Node,
+    source: TraceGraphNode,
+    target: TraceGraphNode,
     production: ProductionIndex,
     index: u16,
     graph: &mut [u16],
 ) -> AddEdge
-    ensures { λ r. ⌜ edgeOutcome r (now (graph .exit)) ≡ addEdgeOf (now (table .entry)) (record { source = source; target = target; production = production .0; index = index }) (now (graph .entry)) ⌝ }
+    ensures { λ r. ⌜ edgeOutcome r (now (graph .exit)) ≡ addEdgeOf (now (table .entry)) (record { source = nodeValue source; target = nodeValue target; production = production .0; index = index }) (now (graph .entry)) ⌝ }
 {
     match table_check::check(table) {
         Checked::Refused(refusal, place) => AddEdge::Refused(refusal, place),
         Checked::Accepted => {
+            let from = source.words();
+            let to = target.words();
+            let p = production.0 as usize;
             let edge = TraceEdge {
-                source: source,
-                target: target,
-                production: production.0 as usize,
+                source: from,
+                target: to,
+                production: p,
                 index: index as usize,
             };
             add_edge_in(table, edge, graph)

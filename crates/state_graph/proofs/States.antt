@@ -19,6 +19,7 @@ use Rattle.lookahead.proofs.Members.{members-none, members-step}
 use Rattle.lookahead.proofs.Words.{shifted, contained}
 use Rattle.state_graph.specs.Walk.{Ascending}
 use Rattle.state_graph.specs.States.{hasState, statesIn, NextIs}
+use Rattle.state_graph.specs.declared.StateIndex.{StateIndex}
 use Rattle.state_graph.specs.declared.StateSet.{StateSet}
 use Rattle.state_graph.specs.declared.NextState.the-variants as next
 use Rattle.state_graph.proofs.Exact.{kept-ascending}
@@ -206,11 +207,14 @@ members-token s k i e = go (members s) refl e
         let r = members-step s j ks q in
         q ∙ rw (a, b, r .2)
 
-pub next-low : (l h k : ℕ) (i : TokenSetIter) → Token k i ≡ nextOf l → NextIs l h (next.State k (record { low = i .0; high = h }))
+pub token-small : (s k : ℕ) (i : TokenSetIter) → Token k i ≡ nextOf s → k < 64
+token-small s k i e = members-step s k (members (i .0)) (members-token s k i e) .0
+
+pub next-low : (l h k : ℕ) (i : TokenSetIter) → Token k i ≡ nextOf l → NextIs l h (next.State (record { 0 = k }) (record { low = i .0; high = h }))
 unfolding NextIs
 next-low l h k i e = rw (states-words l h, states-words (i .0) h, members-token l k i e)
 
-pub next-high : (l h k : ℕ) (i : TokenSetIter) → Done ≡ nextOf l → Token k i ≡ nextOf h → NextIs l h (next.State (64 + k) (record { low = 0; high = i .0 }))
+pub next-high : (l h k : ℕ) (i : TokenSetIter) → Done ≡ nextOf l → Token k i ≡ nextOf h → NextIs l h (next.State (record { 0 = 64 + k }) (record { low = 0; high = i .0 }))
 unfolding NextIs
 next-high l h k i d e = rw (states-words l h, states-words 0 (i .0), members-done l d, members-none, members-token h k i e)
 
@@ -219,7 +223,7 @@ unfolding NextIs
 next-done l h d e = rw (states-words l h, members-done l d, members-done h e)
 
 -- what a caller reads of it
-pub next-states : (l h s : ℕ) (r : StateSet) → NextIs l h (next.State s r) → statesIn l h ≡ s ∷ statesIn (r .low) (r .high)
+pub next-states : (l h : ℕ) (s : StateIndex) (r : StateSet) → NextIs l h (next.State s r) → statesIn l h ≡ s .0 ∷ statesIn (r .low) (r .high)
 unfolding NextIs
 next-states l h s r e = e
 
@@ -227,7 +231,7 @@ pub next-none : (l h : ℕ) → NextIs l h next.Done → statesIn l h ≡ []
 unfolding NextIs
 next-none l h e = e
 
-pub next-less : (l h s : ℕ) (r : StateSet) → NextIs l h (next.State s r) → length (statesIn (r .low) (r .high)) < length (statesIn l h)
+pub next-less : (l h : ℕ) (s : StateIndex) (r : StateSet) → NextIs l h (next.State s r) → length (statesIn (r .low) (r .high)) < length (statesIn l h)
 next-less l h s r e = omega (arith, ap length (next-states l h s r e))
 
 -- membership as the code tests it

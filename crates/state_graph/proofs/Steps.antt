@@ -95,18 +95,18 @@ gathering-start ws s row l h i = record { inside = i; same = λ p. rw (state-non
 
 module _ (ws : List ℕ) (s row l₀ h₀ low high l h : ℕ) (G : Gathering ws s row l₀ h₀ low high l h) where
   -- the two words of the least state are there
-  pub gathering-there : (m : ℕ) (r : StateSet) → NextIs l h (State m r) → (row * s + m) * 2 + 1 < length ws
-  gathering-there m r e = G .inside m (ap (mem m) (next-states l h m r e) ∙ mem-cons-here m (statesIn (r .low) (r .high)))
+  pub gathering-there : (m : ℕ) (r : StateSet) → NextIs l h (State (record { 0 = m }) r) → (row * s + m) * 2 + 1 < length ws
+  gathering-there m r e = G .inside m (ap (mem m) (next-states l h (record { 0 = m }) r e) ∙ mem-cons-here m (statesIn (r .low) (r .high)))
 
-  pub gathering-more : (m : ℕ) (r : StateSet) → NextIs l h (State m r) → (i : ℕ) → i ≡ (row * s + m) * 2
+  pub gathering-more : (m : ℕ) (r : StateSet) → NextIs l h (State (record { 0 = m }) r) → (i : ℕ) → i ≡ (row * s + m) * 2
       → Gathering ws s row l₀ h₀ (bitOr low (getD ws i 0)) (bitOr high (getD ws (i + 1) 0)) (r .low) (r .high)
   unfolding predHas
   gathering-more m r e i ei = record {
-    inside = λ k b. G .inside k (ap (mem k) (next-states l h m r e) ∙ mem-cons-there k m (statesIn (r .low) (r .high)) b);
+    inside = λ k b. G .inside k (ap (mem k) (next-states l h (record { 0 = m }) r e) ∙ mem-cons-there k m (statesIn (r .low) (r .high)) b);
     same = λ p.
         rw (ei, state-or low high (getD ws ((row * s + m) * 2) 0) (getD ws ((row * s + m) * 2 + 1) 0) p)
         (or-assoc (hasState low high p) (predHas ws s row m p) (some? (λ m. predHas ws s row m p) (statesIn (r .low) (r .high)))
-        ∙ rw (← some?-cons (λ m. predHas ws s row m p) m (statesIn (r .low) (r .high)), ← next-states l h m r e) (G .same p));
+        ∙ rw (← some?-cons (λ m. predHas ws s row m p) m (statesIn (r .low) (r .high)), ← next-states l h (record { 0 = m }) r e) (G .same p));
   }
 
   pub gathering-done : NextIs l h Done → (p : ℕ) → hasState low high p ≡ some? (λ m. predHas ws s row m p) (statesIn l₀ h₀)

@@ -19,4 +19,4 @@ statesIn low high = keep (hasState low high) (below 128)
 -- what `next` answers: of an empty set nothing, else the least state and a set of the others
 unfoldable pub NextIs : ℕ → ℕ → NextState → Type 0
 NextIs low high Done = statesIn low high ≡ []
-NextIs low high (State s rest) = statesIn low high ≡ s ∷ statesIn (rest .low) (rest .high)
+NextIs low high (State s rest) = statesIn low high ≡ s .0 ∷ statesIn (rest .low) (rest .high)

@@ -40,7 +40,7 @@ pub struct StateSet {
 
 // The least state of a set, and the others.
 pub enum NextState {
-    State(usize, StateSet),
+    State(StateIndex, StateSet),
     Done,
 }
 
@@ -109,7 +109,7 @@ impl StateSet {
     {
         match TokenSetIter(self.low).next() {
             NextToken::Token(s, rest) => NextState::State(
-                s as usize,
+                StateIndex(s),
                 StateSet {
                     low: rest.0,
                     high: self.high,
@@ -117,7 +117,7 @@ impl StateSet {
             ),
             NextToken::Done => match TokenSetIter(self.high).next() {
                 NextToken::Token(s, rest) => NextState::State(
-                    64 + s as usize,
+                    StateIndex(64 + s),
                     StateSet {
                         low: 0,
                         high: rest.0,
@@ -302,7 +302,7 @@ fn step(
     loop {
         match rest.next() {
             NextState::State(m, others) => {
-                let at = (row * states + m) * 2;
+                let at = (row * states + m.0 as usize) * 2;
                 low = low | preds[at];
                 high = high | preds[at + 1];
                 rest = others;

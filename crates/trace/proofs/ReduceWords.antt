@@ -18,6 +18,7 @@ use Rattle.table.specs.Decoded.{meaning}
 use Rattle.first.specs.First.{nullable}
 use Rattle.state_graph.specs.Walk.{traceBack}
 use Rattle.state_graph.specs.States.{statesIn, NextIs}
+use Rattle.state_graph.specs.declared.StateIndex.{StateIndex}
 use Rattle.state_graph.specs.declared.StateSet.{StateSet}
 use Rattle.state_graph.specs.declared.NextState.the-variants.{State, Done}
 use Rattle.state_graph.proofs.States.{next-states, next-none}
@@ -222,12 +223,12 @@ module _ {t g : List ℕ} {productions n : ℕ} {starts codes ends preds : List 
 
   module _ (o : ℕ) {all : List ℕ} {g₀ ix₀ v₀ graph ix v : List ℕ} (low high : ℕ)
       (W : Turn (fromState (meaning t) o) all (statesIn low high) n (productionsIn g productions) g₀ ix₀ v₀ graph ix v) where
-    pub item-next : (p : ℕ) (rest : StateSet) → NextIs low high (State p rest) → (graph′ ix′ v′ : List ℕ)
-        → Stepped n (productionsIn g productions) (λ (f : ℕ) (st : Trace). reduceState (meaning t) f p o st) graph v graph′ ix′ v′
+    pub item-next : (p : StateIndex) (rest : StateSet) → NextIs low high (State p rest) → (graph′ ix′ v′ : List ℕ)
+        → Stepped n (productionsIn g productions) (λ (f : ℕ) (st : Trace). reduceState (meaning t) f (p .0) o st) graph v graph′ ix′ v′
         → zeros v′ ≤ zeros v → length graph′ ≡ length graph → length ix′ ≡ length ix → length v′ ≡ length v
         → Turn (fromState (meaning t) o) all (statesIn (rest .low) (rest .high)) n (productionsIn g productions) g₀ ix₀ v₀ graph′ ix′ v′
     item-next p rest e graph′ ix′ v′ S z la lb lc =
-        turn-next p (statesIn (rest .low) (rest .high)) graph′ ix′ v′ (rw (next-states low high p rest e) at W) (S .holding) z (S .good) la lb lc
+        turn-next (p .0) (statesIn (rest .low) (rest .high)) graph′ ix′ v′ (rw (next-states low high p rest e) at W) (S .holding) z (S .good) la lb lc
 
     module _ {g₁ : List ℕ} (s p i : ℕ) (owner : o ≡ getD g (productionPlace p) 0) (fits : itemFits (productionsIn g productions) p i ≡ true)
         (a : Added n (productionsIn g productions) (edgeToItem (getD g (productionPlace p) 0) (itemAt p i)) g₁ g₀ ix₀) (found : all ≡ traceBack (meaning t) s (prefixOf (meaning t) (itemAt p i))) where
@@ -240,11 +241,11 @@ module _ {t g : List ℕ} {productions n : ℕ} {starts codes ends preds : List 
           item-done (meaning t) n (productionsIn g productions) (R .tracing .same) s o (itemAt p i) owned g₁ v₀ g₀ ix₀ (rw (← owner) at a) all found graph ix v
           (rw (next-none low high e) at (W .left)) (W .good)
 
-      pub item-stop : (q : ℕ) (rest : StateSet) → NextIs low high (State q rest) → Overrun (λ (f : ℕ) (st : Trace). reduceState (meaning t) f q o st) graph v
+      pub item-stop : (q : StateIndex) (rest : StateSet) → NextIs low high (State q rest) → Overrun (λ (f : ℕ) (st : Trace). reduceState (meaning t) f (q .0) o st) graph v
           → Overrun (λ (f : ℕ) (st : Trace). reduceItem (meaning t) (λ (q m : ℕ) (u : Trace). reduceState (meaning t) f q m u) s (itemAt p i) st) g₁ v₀
       item-stop q rest e over =
           item-over (meaning t) n (productionsIn g productions) (R .tracing .same) s o (itemAt p i) owned g₁ v₀ g₀ ix₀ (rw (← owner) at a) all found
-          q (statesIn (rest .low) (rest .high)) graph v (rw (next-states low high q rest e) at (W .left)) over
+          (q .0) (statesIn (rest .low) (rest .high)) graph v (rw (next-states low high q rest e) at (W .left)) over
 
   pub item-none : (s p i : ℕ) (graph ix v graph′ ix′ : List ℕ) → itemFits (productionsIn g productions) p i ≡ true
       → Overfull (productionsIn g productions) (edgeToItem (getD g (productionPlace p) 0) (itemAt p i)) graph ix graph′ ix′
@@ -253,10 +254,10 @@ module _ {t g : List ℕ} {productions n : ℕ} {starts codes ends preds : List 
       item-full (meaning t) n (productionsIn g productions) (R .tracing .same) s (getD g (productionPlace p) 0) (itemAt p i) (item-owner p i fits .1) graph v ix graph′ ix′ a
 
 -- the states left after one are among those that were left
-pub rest-inside : (low high p bound : ℕ) (rest : StateSet) → NextIs low high (State p rest) → ((k : ℕ) → mem k (statesIn low high) ≡ true → k < bound) → (p < bound) × ((k : ℕ) → mem k (statesIn (rest .low) (rest .high)) ≡ true → k < bound)
+pub rest-inside : (low high : ℕ) (p : StateIndex) (bound : ℕ) (rest : StateSet) → NextIs low high (State p rest) → ((k : ℕ) → mem k (statesIn low high) ≡ true → k < bound) → (p .0 < bound) × ((k : ℕ) → mem k (statesIn (rest .low) (rest .high)) ≡ true → k < bound)
 rest-inside low high p bound rest e h =
     let q = next-states low high p rest e in
-    (h p (rw q (mem-cons-here p (statesIn (rest .low) (rest .high)))), λ k a. h k (rw q (mem-cons-there k p (statesIn (rest .low) (rest .high)) a)))
+    (h (p .0) (rw q (mem-cons-here (p .0) (statesIn (rest .low) (rest .high)))), λ k a. h k (rw q (mem-cons-there k (p .0) (statesIn (rest .low) (rest .high)) a)))
 
 -- the two answers are not equal
 pub not-both : {P : Type 0} → _≡_ {A = Inserted} inserted.Done inserted.Full → P

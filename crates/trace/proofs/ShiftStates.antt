@@ -50,14 +50,14 @@ module _ {T : Table} {ps : List Production} {n m : ℕ} where
         let r = U .same st k in
         rw (← (r .2), next-none l h e, turn-nil (stateStep T m) (r .0)) (r .1)
 
-    module _ (s : ℕ) (r : StateSet) (e : NextIs l h (State s r)) where
+    module _ (s : ℕ) (r : StateSet) (e : NextIs l h (State (record { 0 = s }) r)) where
       pub rounds-inside : s < length (T .states)
-      rounds-inside = U .inside s (rw (next-states l h s r e) (mem-cons-here s (statesIn (r .low) (r .high))))
+      rounds-inside = U .inside s (rw (next-states l h (record { 0 = s }) r e) (mem-cons-here s (statesIn (r .low) (r .high))))
 
       opened : (st : Trace) (k : Holding g₀ v₀ st) → inTurn (stateStep T m) (statesIn (r .low) (r .high)) (epsilon T pairs s m (U .same st k .0)) ≡ inTurn (stateStep T m) (statesIn l₀ h₀) st
       opened st k =
           let q = U .same st k in
-          sym (turn-cons (stateStep T m) s (statesIn (r .low) (r .high)) (q .0)) ∙ ap (λ (ss : List ℕ). inTurn (stateStep T m) ss (q .0)) (sym (next-states l h s r e)) ∙ q .2
+          sym (turn-cons (stateStep T m) s (statesIn (r .low) (r .high)) (q .0)) ∙ ap (λ (ss : List ℕ). inTurn (stateStep T m) ss (q .0)) (sym (next-states l h (record { 0 = s }) r e)) ∙ q .2
 
       -- the number of pairs is fuel enough
       enough : length v₀ ≤ 4096 → zeros v ≤ pairs
@@ -66,7 +66,7 @@ module _ {T : Table} {ps : List Production} {n m : ℕ} where
       pub rounds-more : length v₀ ≤ 4096 → (g′ ix′ v′ : List ℕ) → ((f : ℕ) → zeros v ≤ f → Steps (epsilon T f s m) g v g′ v′) → Graphed n ps g′ ix′ (getD g′ 0 0)
           → length v′ ≡ length v → length g′ ≡ length g → length ix′ ≡ length ix → Rounds T ps n m l₀ h₀ g₀ ix₀ v₀ (r .low) (r .high) g′ ix′ v′
       rounds-more long g′ ix′ v′ call good lv lg li = record {
-        inside = λ k hk. U .inside k (rw (next-states l h s r e) (mem-cons-there k s (statesIn (r .low) (r .high)) hk));
+        inside = λ k hk. U .inside k (rw (next-states l h (record { 0 = s }) r e) (mem-cons-there k s (statesIn (r .low) (r .high)) hk));
         v-len = lv ∙ U .v-len;
         g-len = lg ∙ U .g-len;
         ix-len = li ∙ U .ix-len;

@@ -6,7 +6,7 @@ use mathlib.Core.List.{List, [], _∷_}
 use lib.ListN.{take, drop}
 use Rattle.repr.specs.Meaning.{Symbol, Item, Table, productionAt}
 use Rattle.core.specs.Items.{shiftsNonterminal, symbolSets}
-use Rattle.trace_graph.specs.Graph.{Node, atNonterminal, atItem, TraceEdge, add}
+use Rattle.trace_graph.specs.Graph.{Node, atNonterminal, atItem, TraceEdge, emptyGraph, add}
 
 pub record Trace : Type 0 where
   pub edges : List TraceEdge
@@ -14,7 +14,7 @@ pub record Trace : Type 0 where
 
 -- nothing traced yet
 unfoldable pub untraced : Trace
-untraced = record { edges = []; seen = [] }
+untraced = record { edges = emptyGraph; seen = [] }
 
 unfoldable pub pair : ℕ → ℕ → ℕ
 pair s n = s * 32 + n

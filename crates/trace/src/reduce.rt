@@ -238,6 +238,7 @@ pub fn trace_reduce_item(
     loop {
         match rest.next() {
             NextState::State(p, others) => {
+                let from = p.0 as usize;
                 match trace_reduce_from_state(
                     table,
                     grammar,
@@ -250,7 +251,7 @@ pub fn trace_reduce_item(
                     graph,
                     ix,
                     visited,
-                    p,
+                    from,
                     owner,
                 ) {
                     Inserted::Done => {

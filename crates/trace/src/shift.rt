@@ -221,6 +221,7 @@ fn trace_states(
     loop {
         match rest.next() {
             NextState::State(state, others) => {
+                let from = state.0 as usize;
                 match trace_epsilon_edges(
                     table,
                     grammar,
@@ -231,7 +232,7 @@ fn trace_states(
                     graph,
                     ix,
                     visited,
-                    state,
+                    from,
                     nonterminal,
                 ) {
                     Inserted::Done => {}

@@ -11,3 +11,4 @@ pub mod Inserts
 pub mod Checks
 pub mod Front
 pub mod RoundTrip
+pub mod Nodes

@@ -30,6 +30,10 @@ pub record TraceEdge : Type 0 where
   pub target : Node
   pub label : Item
 
+-- the empty graph that `TraceGraph::new` gives
+abbrev pub emptyGraph : List TraceEdge
+emptyGraph = []
+
 unfoldable pub labelOf : List Production → Item → Sets
 labelOf ps i = symbolSets (getD ps (i .production) noProduction .symbols) (i .index)
 

@@ -4,3 +4,4 @@ pub mod Fits
 pub mod Index
 pub mod Values
 pub mod Insert
+pub mod Nodes

@@ -15,11 +15,12 @@ ghost use Rattle.repr.specs.Lists.{some?};
 ghost use Rattle.repr.specs.Listed.{listed, listFits};
 ghost use Rattle.repr.specs.Packed.{Packed, productionsIn};
 ghost use Rattle.trace_graph.specs.declared.Inserted.the-variants.{Done, Full};
-ghost use Rattle.trace_graph.specs.Graph.{labelOf, sameSets, sameEdge};
+ghost use Rattle.trace_graph.specs.Graph.{emptyGraph, labelOf, sameSets, sameEdge};
 ghost use Rattle.trace_graph.specs.Words.{nodeAt, edgeAt};
 ghost use Rattle.trace_graph.specs.Fits.{itemFits, edgeFits, graphFits};
 ghost use Rattle.trace_graph.specs.Index.{nodeNumber, mixed, bucketOf, nodeLimit, bucketLimit, bucketLinks, indexRoom};
 ghost use Rattle.trace_graph.specs.Values.{nodeIs, edgeIs, sameValue, nodeValueFits, valueFits, SmallNode, SmallEdge, nodeRead, edgeRead, valueWords, written, firstEdges};
+ghost use Rattle.trace_graph.specs.Nodes.{graphNode, nodeValue};
 ghost use Rattle.trace_graph.specs.Insert.{Graphed, chained, linkedAt, Added, Overfull, fresh};
 
 pub struct TraceGraph {
@@ -51,13 +52,61 @@ impl TraceGraph {
 
     // The empty graph.
     pub fn new() -> TraceGraph
-        ensures { λ r. ⌜ r .edges ≡ 0 ⌝ }
+        ensures { λ r. ⌜ r .edges ≡ length emptyGraph ⌝ }
     {
         TraceGraph { edges: 0 }
     }
 }
 
-// `TraceGraphNode`: of kind 0 the nonterminal `number`, of kind 1 the item at `index` of production `number`.
+// `TraceGraphNode`, and three words that are no node.
+pub enum TraceGraphNode {
+    Nonterminal(NonterminalString),
+    Item(ProductionIndex, u16),
+    Other(u16, u16, u16),
+}
+
+impl TraceGraphNode {
+    // The node of three words.
+    pub fn of(kind: u16, number: u16, index: u16) -> TraceGraphNode
+        ensures { λ r. ⌜ r ≡ graphNode kind number index ⌝ }
+    {
+        if kind == 0 {
+            if index == 0 {
+                return TraceGraphNode::Nonterminal(NonterminalString(number));
+            }
+            return TraceGraphNode::Other(kind, number, index);
+        }
+        if kind == 1 {
+            return TraceGraphNode::Item(ProductionIndex(number), index);
+        }
+        TraceGraphNode::Other(kind, number, index)
+    }
+
+    // Its three words.
+    pub fn words(self) -> Node
+        ensures { λ r. ⌜ r ≡ nodeValue self ⌝ }
+    {
+        match self {
+            TraceGraphNode::Nonterminal(n) => Node {
+                kind: 0,
+                number: n.0 as usize,
+                index: 0,
+            },
+            TraceGraphNode::Item(p, index) => Node {
+                kind: 1,
+                number: p.0 as usize,
+                index: index as usize,
+            },
+            TraceGraphNode::Other(kind, number, index) => Node {
+                kind: kind as usize,
+                number: number as usize,
+                index: index as usize,
+            },
+        }
+    }
+}
+
+// A node in words while the code works: of kind 0 the nonterminal `number`, of kind 1 the item at `index` of production `number`.
 pub struct Node {
     pub kind: usize,
     pub number: usize,

@@ -17,7 +17,7 @@ use Rattle.table.specs.Decoded.{meaning}
 use Rattle.table.proofs.Decoding.{fits}
 use Rattle.state_graph.specs.Preds.{Preds}
 use Rattle.state_graph.specs.Walk.{traceBack}
-use Rattle.trace_graph.specs.Graph.{atNonterminal, atItem}
+use Rattle.trace_graph.specs.Graph.{atNonterminal, atItem, emptyGraph}
 use Rattle.trace_graph.specs.Insert.{Graphed}
 use Rattle.trace_graph.specs.Values.{firstEdges}
 use Rattle.trace_graph.proofs.Words.{edges-first, first-none}
@@ -52,8 +52,8 @@ holding-none ws v z e = record {
   free = λ k h q. mem-nil k;
 }
 
-pub emptied : (ws : List ℕ) → graphRoom ≤ length ws → getD (set ws 0 0) 0 0 ≡ 0
-emptied ws h = getD-set-same ws 0 0 0 (omega arith)
+pub emptied : (ws : List ℕ) (k : ℕ) → k ≡ length emptyGraph → graphRoom ≤ length ws → getD (set ws 0 k) 0 0 ≡ 0
+emptied ws k e h = getD-set-same ws 0 k 0 (omega arith) ∙ e
 
 module _ {t g : List ℕ} {productions n s p i : ℕ} (A : Asked t g productions n s p i) where
   pub asked-words : (p < productions) × (i ≤ length (listed (symbolWords g p)))
@@ -68,15 +68,15 @@ module _ {t g : List ℕ} {productions n s p i : ℕ} (A : Asked t g productions
   pub tracing : {starts codes v : List ℕ} → Lent (meaning t) starts codes v → Tracing t g productions n starts codes
   tracing L = record { accepted = A .accepted; packed = A .packed; same = A .same; nonterminals = A .nonterminals; items = L .items }
 
-  pub empty-graph : (ws ix : List ℕ) → graphRoom ≤ length ws → ix ≡ replicate indexRoom 0 → Graphed n (productionsIn g productions) (set ws 0 0) ix (getD (set ws 0 0) 0 0)
-  empty-graph ws ix h e =
-      let z = emptied ws h in
+  pub empty-graph : (ws ix : List ℕ) (k : ℕ) → k ≡ length emptyGraph → graphRoom ≤ length ws → ix ≡ replicate indexRoom 0 → Graphed n (productionsIn g productions) (set ws 0 k) ix (getD (set ws 0 k) 0 0)
+  empty-graph ws ix k ek h e =
+      let z = emptied ws k ek h in
       rw z (record {
         nonterminals = asked-few;
-        long = rw (length-set ws 0 0) h;
+        long = rw (length-set ws 0 k) h;
         few = omega arith;
         fits = λ j l. absurd (omega arith);
-        index = index-none n (productionsIn g productions) (bounds g productions (A .packed) n asked-few) (set ws 0 0) ix e;
+        index = index-none n (productionsIn g productions) (bounds g productions (A .packed) n asked-few) (set ws 0 k) ix e;
       })
 
   pub found-is : (ls ws : List ℕ) → listed ws ≡ symbolSets (listed (symbolWords g p)) i .prefix → ls ≡ traceBack (meaning t) s (listed ws) → ls ≡ traceBack (meaning t) s (prefixOf (meaning t) (itemAt p i))

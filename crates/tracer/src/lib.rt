@@ -78,7 +78,8 @@ fn trace_shift(
     ensures { λ r. ⌜ (r ≡ Done → Built (shiftEdges (meaning (now (table .entry))) state (record { production = production; index = index })) (now (graph .exit))) ⌝ }
     ensures { λ r. ⌜ (r ≡ Full → edgeLimit < length (shiftEdges (meaning (now (table .entry))) state (record { production = production; index = index }))) ⌝ }
 {
-    graph[0] = 0;
+    let empty = TraceGraph::new();
+    graph[0] = empty.edges as u16;
     let mut ix = [0u16; TraceGraph::INDEX_WORDS];
     let item = Item {
         production: production,
@@ -130,7 +131,8 @@ fn reduce_over(
     let mut ends = [0u8; Item::LIMIT];
     suffix_ends(grammar, productions, terminals, &map, &mut ends);
     state_graph::index(table, preds);
-    graph[0] = 0;
+    let empty = TraceGraph::new();
+    graph[0] = empty.edges as u16;
     let mut ix = [0u16; TraceGraph::INDEX_WORDS];
     trace_reduce_item(
         table,

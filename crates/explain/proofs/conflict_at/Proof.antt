@@ -11,47 +11,47 @@ use Rattle.explain.proofs.conflict_at.Lts as lts
 mul-at : tie.Need-mul-at
 mul-at c = search needs
 
-mul-t4 : tie.Need-mul-t4
-mul-t4 c = search needs
+mul-state : tie.Need-mul-state
+mul-state c = search needs
 
-shared-slice-read-t6 : tie.Need-shared-slice-read-t6
-shared-slice-read-t6 c = search needs
+shared-slice-read-state : tie.Need-shared-slice-read-state
+shared-slice-read-state c = search needs
 
-add-t7 : tie.Need-add-t7
-add-t7 c = search needs
+add-production : tie.Need-add-production
+add-production c = search needs
 
-mul-t8 : tie.Need-mul-t8
-mul-t8 c = search needs
+mul-production : tie.Need-mul-production
+mul-production c = search needs
 
-shared-slice-read-t10 : tie.Need-shared-slice-read-t10
-shared-slice-read-t10 c = search needs
+shared-slice-read-production : tie.Need-shared-slice-read-production
+shared-slice-read-production c = search needs
 
-add-t11 : tie.Need-add-t11
-add-t11 c = search needs
+add-action : tie.Need-add-action
+add-action c = search needs
 
-mul-t12 : tie.Need-mul-t12
-mul-t12 c = search needs
+mul-action : tie.Need-mul-action
+mul-action c = search needs
 
-shared-slice-read-t14 : tie.Need-shared-slice-read-t14
-shared-slice-read-t14 c = search needs
+shared-slice-read-action : tie.Need-shared-slice-read-action
+shared-slice-read-action c = search needs
 
-add-t15 : tie.Need-add-t15
-add-t15 c = search needs
+add-operand : tie.Need-add-operand
+add-operand c = search needs
 
-mul-t16 : tie.Need-mul-t16
-mul-t16 c = search needs
+mul-operand : tie.Need-mul-operand
+mul-operand c = search needs
 
-shared-slice-read-t18 : tie.Need-shared-slice-read-t18
-shared-slice-read-t18 c = search needs
+shared-slice-read-operand : tie.Need-shared-slice-read-operand
+shared-slice-read-operand c = search needs
 
-add-t19 : tie.Need-add-t19
-add-t19 c = search needs
+add-token : tie.Need-add-token
+add-token c = search needs
 
-mul-t20 : tie.Need-mul-t20
-mul-t20 c = search needs
+mul-token : tie.Need-mul-token
+mul-token c = search needs
 
-shared-slice-read-t22 : tie.Need-shared-slice-read-t22
-shared-slice-read-t22 c = search needs
+shared-slice-read-token : tie.Need-shared-slice-read-token
+shared-slice-read-token c = search needs
 
 returns : tie.Need-returns
 unfolding conflictAt
@@ -62,18 +62,18 @@ conflict-at-spec =
     tie.close
     (tie.spec
     mul-at
-    mul-t4
-    shared-slice-read-t6
-    add-t7
-    mul-t8
-    shared-slice-read-t10
-    add-t11
-    mul-t12
-    shared-slice-read-t14
-    add-t15
-    mul-t16
-    shared-slice-read-t18
-    add-t19
-    mul-t20
-    shared-slice-read-t22
+    mul-state
+    shared-slice-read-state
+    add-production
+    mul-production
+    shared-slice-read-production
+    add-action
+    mul-action
+    shared-slice-read-action
+    add-operand
+    mul-operand
+    shared-slice-read-operand
+    add-token
+    mul-token
+    shared-slice-read-token
     returns)

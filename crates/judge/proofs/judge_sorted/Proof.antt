@@ -34,7 +34,7 @@ same-length-2 : tie.Need-same-length-2
 same-length-2 c = search needs
 
 returns : tie.Need-returns
-returns c = let S = c .before .before .before .before .before .before .before .before .before .before .before .before .before .before .before .before .before .before .before .before .before .before .before in shown-same (productionsIn (S .args .grammar .now) (S .args .productions)) (S .args .action .now) (S .args .reduce .now) _ _ _ (c .before .before .before .before .shift-ambiguity .ensures) (shift-reads (S .args .table .now) (S .args .grammar .now) (S .args .productions) (S .args .terminals) (S .args .map .now) (S .pre .0 .0) (S .args .conflict .production) (S .args .conflict .operand) _ ∙ ambiguity-shift (meaning (S .args .table .now)) (S .args .conflict .production) _ (S .args .conflict .operand) _ (c .before .before .before .before .before .before .before .if1 .taken) ∙ judge-pair (S .args .table .now) (S .args .grammar .now) (S .args .productions) (S .args .terminals) (S .args .map .now) (S .pre .0 .0) (S .args .actions .now) (S .args .rows .now) (S .args .reduces .now) (S .args .columns .now) (S .args .conflict) (S .pre .1 .0 .1) (S .pre .1 .1 .0 .1) _ (c .before .before .before .before .before .before .before .before .before .before .before .before .ambiguous-pair .ensures .0) _ _ (c .before .before .before .before .before .before .before .before .before .before .i .given .1))
+returns c = let S = c .before .before .before .before .before .before .before .before .before .before .before .before .before .before .before .before .before .before .before .before .before .before .before in shown-same (productionsIn (S .args .grammar .now) (S .args .productions)) (S .args .action .now) (S .args .reduce .now) _ _ _ (c .before .before .before .before .shift-ambiguity .ensures) (shift-reads (S .args .table .now) (S .args .grammar .now) (S .args .productions) (S .args .terminals) (S .args .map .now) (S .pre .0 .0) (S .args .conflict .production .0) (S .args .conflict .operand) _ ∙ ambiguity-shift (meaning (S .args .table .now)) (S .args .conflict .production .0) _ (S .args .conflict .operand) _ (c .before .before .before .before .before .before .before .if1 .taken) ∙ judge-pair (S .args .table .now) (S .args .grammar .now) (S .args .productions) (S .args .terminals) (S .args .map .now) (S .pre .0 .0) (S .args .actions .now) (S .args .rows .now) (S .args .reduces .now) (S .args .columns .now) (S .args .conflict) (S .pre .1 .0 .1) (S .pre .1 .1 .0 .1) _ (c .before .before .before .before .before .before .before .before .before .before .before .before .ambiguous-pair .ensures .0) _ _ (c .before .before .before .before .before .before .before .before .before .before .i .given .1))
 
 reduce-ambiguity-requires : tie.Need-reduce-ambiguity-requires
 reduce-ambiguity-requires c κs = let S = c .before .before .before .before .before .before .before .before .before .before .before .before .before .before .before .before .before .before in ((reads-packed (S .args .table .now) (S .args .grammar .now) (S .args .productions) (S .args .terminals) (S .args .map .now) (S .pre .0 .0), omega (arith, S .pre .0 .0 .read .many, conflict-production (meaning (S .args .table .now)) (S .args .conflict) (S .pre .0 .1)), omega (arith, S .pre .0 .0 .read .many, conflict-operand (meaning (S .args .table .now)) (S .args .conflict) (S .pre .0 .1) (c .before .before .if1 .left))), (pair-has (productionsIn (S .args .grammar .now) (S .args .productions)) (S .args .actions .now) (S .args .reduces .now) _ _ _ (c .before .before .before .before .before .before .before .ambiguous-pair .ensures .1) (c .before .before .before .before .before .i .given .1), S .pre .1 .1 .1))
@@ -46,7 +46,7 @@ same-length-4 : tie.Need-same-length-4
 same-length-4 c = search needs
 
 returns-2 : tie.Need-returns-2
-returns-2 c = let S = c .before .before .before .before .before .before .before .before .before .before .before .before .before .before .before .before .before .before .before .before .before .before .before in shown-same (productionsIn (S .args .grammar .now) (S .args .productions)) (S .args .action .now) (S .args .reduce .now) _ _ _ (c .before .before .before .before .reduce-ambiguity .ensures) (reduce-reads (S .args .table .now) (S .args .grammar .now) (S .args .productions) (S .args .terminals) (S .args .map .now) (S .pre .0 .0) (S .args .conflict .production) (S .args .conflict .operand) _ ∙ ambiguity-reduce (meaning (S .args .table .now)) (S .args .conflict .production) _ (S .args .conflict .operand) _ (c .before .before .before .before .before .before .before .if1 .left) ∙ judge-pair (S .args .table .now) (S .args .grammar .now) (S .args .productions) (S .args .terminals) (S .args .map .now) (S .pre .0 .0) (S .args .actions .now) (S .args .rows .now) (S .args .reduces .now) (S .args .columns .now) (S .args .conflict) (S .pre .1 .0 .1) (S .pre .1 .1 .0 .1) _ (c .before .before .before .before .before .before .before .before .before .before .before .before .ambiguous-pair .ensures .0) _ _ (c .before .before .before .before .before .before .before .before .before .before .i .given .1))
+returns-2 c = let S = c .before .before .before .before .before .before .before .before .before .before .before .before .before .before .before .before .before .before .before .before .before .before .before in shown-same (productionsIn (S .args .grammar .now) (S .args .productions)) (S .args .action .now) (S .args .reduce .now) _ _ _ (c .before .before .before .before .reduce-ambiguity .ensures) (reduce-reads (S .args .table .now) (S .args .grammar .now) (S .args .productions) (S .args .terminals) (S .args .map .now) (S .pre .0 .0) (S .args .conflict .production .0) (S .args .conflict .operand) _ ∙ ambiguity-reduce (meaning (S .args .table .now)) (S .args .conflict .production .0) _ (S .args .conflict .operand) _ (c .before .before .before .before .before .before .before .if1 .left) ∙ judge-pair (S .args .table .now) (S .args .grammar .now) (S .args .productions) (S .args .terminals) (S .args .map .now) (S .pre .0 .0) (S .args .actions .now) (S .args .rows .now) (S .args .reduces .now) (S .args .columns .now) (S .args .conflict) (S .pre .1 .0 .1) (S .pre .1 .1 .0 .1) _ (c .before .before .before .before .before .before .before .before .before .before .before .before .ambiguous-pair .ensures .0) _ _ (c .before .before .before .before .before .before .before .before .before .before .i .given .1))
 
 enum-told : tie.Need-enum-told
 enum-told c = search needs
@@ -61,7 +61,7 @@ same-length-6 : tie.Need-same-length-6
 same-length-6 c = search needs
 
 returns-3 : tie.Need-returns-3
-returns-3 c = let S = c .before .before .before .before .before .before .before .before .before .before .before .before .before .before .before .before .before .before .before .before .before .before in shown-same (productionsIn (S .args .grammar .now) (S .args .productions)) (S .args .action .now) (S .args .reduce .now) _ _ _ (c .before .before .before .before .shift-unambiguous .ensures) (unambiguous-shift (meaning (S .args .table .now)) (S .args .conflict .production) _ _ _ _ (c .before .before .before .before .before .before .before .if2 .taken) ∙ judge-none (S .args .table .now) (S .args .grammar .now) (S .args .productions) (S .args .terminals) (S .args .map .now) (S .pre .0 .0) (S .args .actions .now) (S .args .rows .now) (S .args .reduces .now) (S .args .columns .now) (S .args .conflict) (S .pre .1 .0 .1) (S .pre .1 .1 .0 .1) _ (c .before .before .before .before .before .before .before .before .before .before .before .ambiguous-pair .ensures .0) (c .before .before .before .before .before .before .before .before .before .enum-told .given .1))
+returns-3 c = let S = c .before .before .before .before .before .before .before .before .before .before .before .before .before .before .before .before .before .before .before .before .before .before in shown-same (productionsIn (S .args .grammar .now) (S .args .productions)) (S .args .action .now) (S .args .reduce .now) _ _ _ (c .before .before .before .before .shift-unambiguous .ensures) (unambiguous-shift (meaning (S .args .table .now)) (S .args .conflict .production .0) _ _ _ _ (c .before .before .before .before .before .before .before .if2 .taken) ∙ judge-none (S .args .table .now) (S .args .grammar .now) (S .args .productions) (S .args .terminals) (S .args .map .now) (S .pre .0 .0) (S .args .actions .now) (S .args .rows .now) (S .args .reduces .now) (S .args .columns .now) (S .args .conflict) (S .pre .1 .0 .1) (S .pre .1 .1 .0 .1) _ (c .before .before .before .before .before .before .before .before .before .before .before .ambiguous-pair .ensures .0) (c .before .before .before .before .before .before .before .before .before .enum-told .given .1))
 
 word-requires : tie.Need-word-requires
 word-requires c κs = search needs
@@ -79,7 +79,7 @@ same-length-8 : tie.Need-same-length-8
 same-length-8 c = search needs
 
 returns-4 : tie.Need-returns-4
-returns-4 c = let S = c .before .before .before .before .before .before .before .before .before .before .before .before .before .before .before .before .before .before .before .before .before .before .before .before in shown-same (productionsIn (S .args .grammar .now) (S .args .productions)) (S .args .action .now) (S .args .reduce .now) _ _ _ (c .before .before .before .before .with-both .ensures) (ap (withBoth InsufficientLookahead) (first-is (productionsIn (S .args .grammar .now) (S .args .productions)) (S .args .actions .now) (S .args .rows .now) (S .args .reduces .now) (S .args .columns .now) _ _ (c .before .before .before .before .before .before .before .before .word .ensures .0) (c .before .before .before .before .before .before .before .word2 .ensures .0)) ∙ unambiguous-reduce (meaning (S .args .table .now)) (S .args .conflict .production) _ _ _ _ (c .before .before .before .before .before .before .before .before .before .if2 .left) ∙ judge-none (S .args .table .now) (S .args .grammar .now) (S .args .productions) (S .args .terminals) (S .args .map .now) (S .pre .0 .0) (S .args .actions .now) (S .args .rows .now) (S .args .reduces .now) (S .args .columns .now) (S .args .conflict) (S .pre .1 .0 .1) (S .pre .1 .1 .0 .1) _ (c .before .before .before .before .before .before .before .before .before .before .before .before .before .ambiguous-pair .ensures .0) (c .before .before .before .before .before .before .before .before .before .before .before .enum-told .given .1))
+returns-4 c = let S = c .before .before .before .before .before .before .before .before .before .before .before .before .before .before .before .before .before .before .before .before .before .before .before .before in shown-same (productionsIn (S .args .grammar .now) (S .args .productions)) (S .args .action .now) (S .args .reduce .now) _ _ _ (c .before .before .before .before .with-both .ensures) (ap (withBoth InsufficientLookahead) (first-is (productionsIn (S .args .grammar .now) (S .args .productions)) (S .args .actions .now) (S .args .rows .now) (S .args .reduces .now) (S .args .columns .now) _ _ (c .before .before .before .before .before .before .before .before .word .ensures .0) (c .before .before .before .before .before .before .before .word2 .ensures .0)) ∙ unambiguous-reduce (meaning (S .args .table .now)) (S .args .conflict .production .0) _ _ _ _ (c .before .before .before .before .before .before .before .before .before .if2 .left) ∙ judge-none (S .args .table .now) (S .args .grammar .now) (S .args .productions) (S .args .terminals) (S .args .map .now) (S .pre .0 .0) (S .args .actions .now) (S .args .rows .now) (S .args .reduces .now) (S .args .columns .now) (S .args .conflict) (S .pre .1 .0 .1) (S .pre .1 .1 .0 .1) _ (c .before .before .before .before .before .before .before .before .before .before .before .before .before .ambiguous-pair .ensures .0) (c .before .before .before .before .before .before .before .before .before .before .before .enum-told .given .1))
 
 pub judge-sorted-spec : {M : Type 1} → statement M
 judge-sorted-spec =

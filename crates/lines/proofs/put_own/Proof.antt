@@ -91,19 +91,19 @@ same-length : tie.Need-same-length
 same-length c = search needs
 
 returns-3 : tie.Need-returns-3
-returns-3 c = (own-precedence (c .before .before .before .before .before .class .given .1) (c .before .before .put-after .ensures .0), omega (arith, c .before .before .put-after .ensures .1))
+returns-3 c = (own-precedence (c .before .before .before .before .before .before .class .given .1) (c .before .before .put-after .ensures .0), omega (arith, c .before .before .put-after .ensures .1))
 
 same-length-2 : tie.Need-same-length-2
 same-length-2 c = search needs
 
 returns-4 : tie.Need-returns-4
-returns-4 c = (own-inline (c .before .before .before .before .before .class2 .given .1) (c .before .before .put-after2 .ensures .0), omega (arith, c .before .before .put-after2 .ensures .1))
+returns-4 c = (own-inline (c .before .before .before .before .before .before .class2 .given .1) (c .before .before .put-after2 .ensures .0), omega (arith, c .before .before .put-after2 .ensures .1))
 
 same-length-3 : tie.Need-same-length-3
 same-length-3 c = search needs
 
 returns-5 : tie.Need-returns-5
-returns-5 c = (own-question (c .before .before .before .before .before .before .before .before .before .class3 .given .1) (c .before .before .before .before .before .before .put-after3 .ensures .0) (c .before .before .put-symbol .ensures .0), omega (arith, c .before .before .before .before .before .before .put-after3 .ensures .1, c .before .before .put-symbol .ensures .1))
+returns-5 c = (own-question (c .before .before .before .before .before .before .before .before .before .before .class3 .given .1) (c .before .before .before .before .before .before .put-after3 .ensures .0) (c .before .before .put-symbol .ensures .0), omega (arith, c .before .before .before .before .before .before .put-after3 .ensures .1, c .before .before .put-symbol .ensures .1))
 
 same-length-4 : tie.Need-same-length-4
 same-length-4 c = search needs

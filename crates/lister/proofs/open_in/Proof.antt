@@ -5,6 +5,9 @@ use borrow.Author.Needs.{needs}
 use Rattle.lister.proofs.open_in.Statement.{statement}
 use Rattle.lister.proofs.open_in.Tie as tie
 
+cast-p : tie.Need-cast-p
+cast-p c = search needs
+
 read-counts-requires : tie.Need-read-counts-requires
 read-counts-requires c κs = search needs
 
@@ -42,6 +45,7 @@ pub open-in-spec : {M : Type 1} → statement M
 open-in-spec =
     tie.close
     (tie.spec
+    cast-p
     read-counts-requires
     slice-aggregate-read-productions
     read-productions-requires

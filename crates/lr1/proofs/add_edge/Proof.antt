@@ -2,6 +2,7 @@
 use mathlib.Core.Path.{_≡_, refl, sym, _∙_}
 use Rattle.lr1.specs.Edges.{addEdgeOf}
 use Rattle.lr1.proofs.Entered.{over-refused, over-accepted}
+use Rattle.lr1.proofs.Graphs.{edge-between}
 use native.Mathlib.Omega.{arith}
 use borrow.Author.Needs.{needs}
 use Rattle.lr1.proofs.add_edge.Statement.{statement}
@@ -20,11 +21,17 @@ enum-known-refusal c = search needs
 enum-told : tie.Need-enum-told
 enum-told c = search needs
 
-cast-t12 : tie.Need-cast-t12
-cast-t12 c = search needs
+words-requires : tie.Need-words-requires
+words-requires c κs = search needs
+
+words-requires-2 : tie.Need-words-requires-2
+words-requires-2 c κs = search needs
+
+cast-p : tie.Need-cast-p
+cast-p c = search needs
 
 add-edge-in-requires : tie.Need-add-edge-in-requires
-add-edge-in-requires c κs = sym (c .before .before .before .before .check .ensures) ∙ c .before .before .enum-told .given .1
+add-edge-in-requires c κs = sym (c .before .before .before .before .before .before .check .ensures) ∙ c .before .before .before .before .enum-told .given .1
 
 returns : tie.Need-returns
 unfolding addEdgeOf
@@ -35,7 +42,9 @@ same-length c = search needs
 
 returns-2 : tie.Need-returns-2
 unfolding addEdgeOf
-returns-2 c = over-accepted _ _ _ _ (sym (c .before .before .before .before .before .before .before .check .ensures) ∙ c .before .before .before .before .before .enum-told .given .1) _ (c .before .before .add-edge-in .ensures)
+returns-2 c =
+    over-accepted _ _ _ _ (sym (c .before .before .before .before .before .before .before .before .before .check .ensures) ∙ c .before .before .before .before .before .before .before .enum-told .given .1) _ (c .before .before .add-edge-in .ensures)
+    ∙ edge-between _ _ _ _ (c .before .before .before .before .before .before .words .ensures) (c .before .before .before .before .before .words2 .ensures)
 
 pub add-edge-spec : {M : Type 1} → statement M
 add-edge-spec =
@@ -44,7 +53,9 @@ add-edge-spec =
     check-requires
     enum-known-refusal
     enum-told
-    cast-t12
+    words-requires
+    words-requires-2
+    cast-p
     add-edge-in-requires
     returns
     same-length

@@ -23,8 +23,8 @@ told : (c : tie.After-known-told Inv-loop μ-loop) → NextIs (c .before .before
 told c = rw (c .before .m .given .1) at (c .before .before .before .next .ensures)
 
 inside : (c : tie.After-known-told Inv-loop μ-loop)
-    → (c .before .before .before .before .before .row-of .result * c .before .before .before .before .before .before .before .args .states + c .before .m .given .0 .0) * 2 + 1 < length (c .before .before .before .before .before .before .before .args .preds .now)
-inside c = gathering-there _ _ _ _ _ _ _ _ _ (c .before .before .before .before .loop .inv) (c .before .m .given .0 .0) (c .before .m .given .0 .1 .0) (told c)
+    → (c .before .before .before .before .before .row-of .result * c .before .before .before .before .before .before .before .args .states + c .before .m .given .0 .0 .0) * 2 + 1 < length (c .before .before .before .before .before .before .before .args .preds .now)
+inside c = gathering-there _ _ _ _ _ _ _ _ _ (c .before .before .before .before .loop .inv) (c .before .m .given .0 .0 .0) (c .before .m .given .0 .1 .0) (told c)
 
 row-of-requires : tie.Need-row-of-requires Inv-loop μ-loop
 row-of-requires c κs = search needs
@@ -41,32 +41,35 @@ enum-known-m c = search needs
 mul-at : tie.Need-mul-at Inv-loop μ-loop
 mul-at c = omega (arith, inside c, c .before .before .before .before .before .before .before .good)
 
+cast-at : tie.Need-cast-at Inv-loop μ-loop
+cast-at c = search needs
+
 add-at : tie.Need-add-at Inv-loop μ-loop
-add-at c = omega (arith, inside c, c .before .before .before .before .before .before .before .good)
+add-at c = omega (arith, inside (c .before), c .before .before .before .before .before .before .before .before .good)
 
 mul-at-2 : tie.Need-mul-at-2 Inv-loop μ-loop
-mul-at-2 c = omega (arith, inside c, c .before .before .before .before .before .before .before .good)
+mul-at-2 c = omega (arith, inside (c .before), c .before .before .before .before .before .before .before .before .good)
 
 mul-low : tie.Need-mul-low Inv-loop μ-loop
-mul-low c = omega (arith, inside c, c .before .before .before .before .before .before .before .good)
+mul-low c = omega (arith, inside (c .before), c .before .before .before .before .before .before .before .before .good)
 
 shared-slice-read-low : tie.Need-shared-slice-read-low Inv-loop μ-loop
-shared-slice-read-low c = omega (arith, inside (c .before))
+shared-slice-read-low c = omega (arith, inside (c .before .before))
 
 add-high : tie.Need-add-high Inv-loop μ-loop
-add-high c = omega (arith, inside (c .before), c .before .before .before .before .before .before .before .before .good)
+add-high c = omega (arith, inside (c .before .before), c .before .before .before .before .before .before .before .before .before .good)
 
 mul-high : tie.Need-mul-high Inv-loop μ-loop
-mul-high c = omega (arith, inside (c .before), c .before .before .before .before .before .before .before .before .good)
+mul-high c = omega (arith, inside (c .before .before), c .before .before .before .before .before .before .before .before .before .good)
 
 shared-slice-read-high : tie.Need-shared-slice-read-high Inv-loop μ-loop
-shared-slice-read-high c = inside (c .before .before)
+shared-slice-read-high c = inside (c .before .before .before)
 
 loop-less : tie.Need-loop-less Inv-loop μ-loop
-loop-less c = next-less (c .before .before .before .before .before .before .loop .rest .low) (c .before .before .before .before .before .before .loop .rest .high) (c .before .before .before .m .given .0 .0) (c .before .before .before .m .given .0 .1 .0) (told (c .before .before))
+loop-less c = next-less (c .before .before .before .before .before .before .before .loop .rest .low) (c .before .before .before .before .before .before .before .loop .rest .high) (c .before .before .before .before .m .given .0 .0) (c .before .before .before .before .m .given .0 .1 .0) (told (c .before .before .before))
 
 loop-again : tie.Need-loop-again Inv-loop μ-loop
-loop-again c = gathering-more _ _ _ _ _ _ _ _ _ (c .before .before .before .before .before .before .loop .inv) (c .before .before .before .m .given .0 .0) (c .before .before .before .m .given .0 .1 .0) (told (c .before .before)) _ refl
+loop-again c = gathering-more _ _ _ _ _ _ _ _ _ (c .before .before .before .before .before .before .before .loop .inv) (c .before .before .before .before .m .given .0 .0 .0) (c .before .before .before .before .m .given .0 .1 .0) (told (c .before .before .before)) _ refl
 
 enum-told : tie.Need-enum-told Inv-loop μ-loop
 enum-told c = search needs
@@ -85,6 +88,7 @@ step-spec =
     next-requires
     enum-known-m
     mul-at
+    cast-at
     add-at
     mul-at-2
     mul-low

@@ -27,8 +27,14 @@ suffix-ends-requires c κs = let C = c .before .before .before .before .before .
 index-requires : tie.Need-index-requires
 index-requires c κs = (c .before .before .before .before .before .before .before .before .before .before .before .before .before .before .before .before .pre .0 .accepted, c .before .before .before .before .before .before .before .before .before .before .before .before .before .before .before .before .pre .1 .1 .0)
 
+new-requires-2 : tie.Need-new-requires-2
+new-requires-2 c κs = search needs
+
+cast-graph : tie.Need-cast-graph
+cast-graph c = omega (arith, c .before .new2 .ensures)
+
 slice-write-graph : tie.Need-slice-write-graph
-slice-write-graph c = omega (arith, c .before .before .before .before .before .before .before .before .before .before .before .before .before .before .before .before .before .before .before .pre .1 .1 .1)
+slice-write-graph c = omega (arith, c .before .before .before .before .before .before .before .before .before .before .before .before .before .before .before .before .before .before .before .before .before .pre .1 .1 .1)
 
 slice-aggregate-trace-reduce-item : tie.Need-slice-aggregate-trace-reduce-item
 slice-aggregate-trace-reduce-item c = search needs
@@ -38,24 +44,24 @@ slice-aggregate-trace-reduce-item-2 c = search needs
 
 trace-reduce-item-requires : tie.Need-trace-reduce-item-requires
 trace-reduce-item-requires c κs =
-    let S = c .before .before .before .before .before .before .before .before .before .before .before .before .before .before .before .before .before .before .before .before .before .before .before .before in
+    let S = c .before .before .before .before .before .before .before .before .before .before .before .before .before .before .before .before .before .before .before .before .before .before .before .before .before .before in
     let A = S .pre .0 in
-    (reducing A _ (S .pre .1 .0) (c .before .before .before .before .before .before .before .before .before .before .before .before .before .before .before .before .read-counts .ensures .terminals) (c .before .before .before .before .before .before .before .before .before .before .suffix-ends .ensures) (c .before .before .before .before .before .before .before .index .ensures), (empty-graph A (S .args .graph .now) _ (S .pre .1 .1 .1) refl, (S .pre .1 .0 .flags, (A .state, A .item))))
+    (reducing A _ (S .pre .1 .0) (c .before .before .before .before .before .before .before .before .before .before .before .before .before .before .before .before .before .before .read-counts .ensures .terminals) (c .before .before .before .before .before .before .before .before .before .before .before .before .suffix-ends .ensures) (c .before .before .before .before .before .before .before .before .before .index .ensures), (empty-graph A (S .args .graph .now) _ _ (c .before .before .before .before .before .before .new2 .ensures) (S .pre .1 .1 .1) refl, (S .pre .1 .0 .flags, (A .state, A .item))))
 
 same-length : tie.Need-same-length
 same-length c = c .before .before .before .before .before .trace-reduce-item .kept .1 .1 .1 .1 .1 .1 .1 .1 .1 .1 .0
 
 same-length-2 : tie.Need-same-length-2
-same-length-2 c = c .before .before .before .before .before .before .before .before .before .before .before .before .before .index .kept .1 .0
+same-length-2 c = c .before .before .before .before .before .before .before .before .before .before .before .before .before .before .before .index .kept .1 .0
 
 same-length-3 : tie.Need-same-length-3
-same-length-3 c = c .before .before .before .before .before .trace-reduce-item .kept .1 .1 .1 .1 .1 .1 .1 .1 .0 ∙ length-set (c .before .before .before .before .before .before .before .before .before .before .before .before .before .before .before .before .before .before .before .before .before .before .before .before .before .before .before .before .before .before .args .graph .now) 0 0
+same-length-3 c = c .before .before .before .before .before .trace-reduce-item .kept .1 .1 .1 .1 .1 .1 .1 .1 .0 ∙ length-set (c .before .before .before .before .before .before .before .before .before .before .before .before .before .before .before .before .before .before .before .before .before .before .before .before .before .before .before .before .before .before .before .before .args .graph .now) 0 _
 
 returns : tie.Need-returns
 returns c =
-    let S = c .before .before .before .before .before .before .before .before .before .before .before .before .before .before .before .before .before .before .before .before .before .before .before .before .before .before .before .before .before .before in
+    let S = c .before .before .before .before .before .before .before .before .before .before .before .before .before .before .before .before .before .before .before .before .before .before .before .before .before .before .before .before .before .before .before .before in
     let A = S .pre .0 in
-    let z = emptied (S .args .graph .now) (S .pre .1 .1 .1) in
+    let z = emptied (S .args .graph .now) _ (c .before .before .before .before .before .before .before .before .before .before .before .before .new2 .ensures) (S .pre .1 .1 .1) in
     let F = S .pre .1 .0 .flags .few in
     let e = S .pre .1 .0 .clear in
     ((λ q. reduce-made A _ _ z F e _ _ _ (c .before .before .before .before .before .trace-reduce-item .ensures .0 q)), (λ q. reduce-over A _ _ z F e (c .before .before .before .before .before .trace-reduce-item .ensures .1 .0 q)))
@@ -70,6 +76,8 @@ reduce-over-spec =
     slice-aggregate-suffix-ends
     suffix-ends-requires
     index-requires
+    new-requires-2
+    cast-graph
     slice-write-graph
     slice-aggregate-trace-reduce-item
     slice-aggregate-trace-reduce-item-2

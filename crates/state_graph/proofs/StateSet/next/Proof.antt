@@ -1,6 +1,7 @@
 -- `StateSet::next`: the least of the low word, or of the high one where the low one has none. Assumes nothing.
-use Rattle.state_graph.proofs.States.{next-low, next-high, next-done}
+use Rattle.state_graph.proofs.States.{token-small, next-low, next-high, next-done}
 use mathlib.Core.Path.{sym, _∙_}
+use native.Mathlib.Omega.{arith}
 use borrow.Author.Needs.{needs}
 use Rattle.state_graph.proofs.StateSet.next.Statement.{statement}
 use Rattle.state_graph.proofs.StateSet.next.Tie as tie
@@ -11,9 +12,6 @@ next-requires c κs = search needs
 enum-known-s : tie.Need-enum-known-s
 enum-known-s c = search needs
 
-cast-t9 : tie.Need-cast-t9
-cast-t9 c = search needs
-
 enum-told : tie.Need-enum-told
 enum-told c = search needs
 
@@ -23,11 +21,8 @@ next-requires-2 c κs = search needs
 enum-known-s-2 : tie.Need-enum-known-s-2
 enum-known-s-2 c = search needs
 
-cast-t14 : tie.Need-cast-t14
-cast-t14 c = search needs
-
-add-t15 : tie.Need-add-t15
-add-t15 c = search needs
+add-t14 : tie.Need-add-t14
+add-t14 c = omega (arith, token-small _ _ _ (sym (c .before .s2 .given .1) ∙ c .before .before .before .next2 .ensures))
 
 enum-told-2 : tie.Need-enum-told-2
 enum-told-2 c = search needs
@@ -47,12 +42,10 @@ next-spec =
     (tie.spec
     next-requires
     enum-known-s
-    cast-t9
     enum-told
     next-requires-2
     enum-known-s-2
-    cast-t14
-    add-t15
+    add-t14
     enum-told-2
     returns
     returns-2

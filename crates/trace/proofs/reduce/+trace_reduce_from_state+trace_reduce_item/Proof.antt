@@ -364,52 +364,55 @@ trace-reduce-item-next-requires t c κs = search needs
 trace-reduce-item-enum-known-p : (t : ℕ) → trace-reduce-item-lts.Need-enum-known-p (trace-reduce-item-given t) (trace-reduce-item-at t) trace-reduce-item.Post trace-reduce-item-Inv-loop trace-reduce-item-μ-loop
 trace-reduce-item-enum-known-p t c = search needs
 
+trace-reduce-item-cast-from : (t : ℕ) → trace-reduce-item-lts.Need-cast-from (trace-reduce-item-given t) (trace-reduce-item-at t) trace-reduce-item.Post trace-reduce-item-Inv-loop trace-reduce-item-μ-loop
+trace-reduce-item-cast-from t c = search needs
+
 trace-reduce-item-trace-reduce-from-state-requires : (t : ℕ) → trace-reduce-item-lts.Need-trace-reduce-from-state-requires (trace-reduce-item-given t) (trace-reduce-item-at t) trace-reduce-item.Post trace-reduce-item-Inv-loop trace-reduce-item-μ-loop
 trace-reduce-item-trace-reduce-from-state-requires t c κs =
-    let S = c .before .before .before .before .before .before .before .before .before .before .before .before .before .before .before .before .before .before .before .before .before .before .before .before .before .before .before .before in
+    let S = c .before .before .before .before .before .before .before .before .before .before .before .before .before .before .before .before .before .before .before .before .before .before .before .before .before .before .before .before .before in
     let R = S .pre .1 .0 in
     let o = item-owner R _ _ (S .pre .1 .1 .1 .1 .1) .2 in
-    let e = c .before .before .before .before .before .before .before .before .before .word .ensures .0 in
-    let w = c .before .before .before .before .before .before .before .loop .inv .0 .left .fewer in
+    let e = c .before .before .before .before .before .before .before .before .before .before .word .ensures .0 in
+    let w = c .before .before .before .before .before .before .before .before .loop .inv .0 .left .fewer in
     let m = S .pre .0 in
-    (omega arith, (R, (c .before .before .before .before .before .before .before .loop .inv .0 .good, (flags-kept _ _ _ (c .before .before .before .before .before .before .before .loop .inv .0 .v-len) (S .pre .1 .1 .1 .0), (rest-inside _ _ _ _ _ (rw (c .before .before .before .before .p .given .1) at (c .before .before .before .before .before .before .next .ensures)) (c .before .before .before .before .before .before .before .loop .inv .1) .0, omega arith)))))
+    (omega arith, (R, (c .before .before .before .before .before .before .before .before .loop .inv .0 .good, (flags-kept _ _ _ (c .before .before .before .before .before .before .before .before .loop .inv .0 .v-len) (S .pre .1 .1 .1 .0), (rest-inside _ _ _ _ _ (rw (c .before .before .before .before .before .p .given .1) at (c .before .before .before .before .before .before .before .next .ensures)) (c .before .before .before .before .before .before .before .before .loop .inv .1) .0, omega arith)))))
 
 trace-reduce-item-enum-told-3 : (t : ℕ) → trace-reduce-item-lts.Need-enum-told-3 (trace-reduce-item-given t) (trace-reduce-item-at t) trace-reduce-item.Post trace-reduce-item-Inv-loop trace-reduce-item-μ-loop
 trace-reduce-item-enum-told-3 t c = search needs
 
 trace-reduce-item-loop-less : (t : ℕ) → trace-reduce-item-lts.Need-loop-less (trace-reduce-item-given t) (trace-reduce-item-at t) trace-reduce-item.Post trace-reduce-item-Inv-loop trace-reduce-item-μ-loop
-trace-reduce-item-loop-less t c = next-less _ _ _ _ (rw (c .before .before .before .before .before .before .before .before .before .before .before .before .before .p .given .1) at (c .before .before .before .before .before .before .before .before .before .before .before .before .before .before .before .next .ensures))
+trace-reduce-item-loop-less t c = next-less _ _ _ _ (rw (c .before .before .before .before .before .before .before .before .before .before .before .before .before .before .p .given .1) at (c .before .before .before .before .before .before .before .before .before .before .before .before .before .before .before .before .next .ensures))
 
 trace-reduce-item-loop-again : (t : ℕ) → trace-reduce-item-lts.Need-loop-again (trace-reduce-item-given t) (trace-reduce-item-at t) trace-reduce-item.Post trace-reduce-item-Inv-loop trace-reduce-item-μ-loop
 trace-reduce-item-loop-again t c =
-    let S = c .before .before .before .before .before .before .before .before .before .before .before .before .before .before .before .before .before .before .before .before .before .before .before .before .before .before .before .before .before .before .before .before .before .before .before .before .before in (
-      item-next (S .pre .1 .0) (c .before .before .before .before .before .before .before .before .before .before .before .before .before .before .before .before .before .before .word .result) _ _ (c .before .before .before .before .before .before .before .before .before .before .before .before .before .before .before .before .loop .inv .0) _ _ (rw (c .before .before .before .before .before .before .before .before .before .before .before .before .before .p .given .1) at (c .before .before .before .before .before .before .before .before .before .before .before .before .before .before .before .next .ensures)) _ _ _ (c .before .before .before .before .before .before .before .before .trace-reduce-from-state .ensures .0 (c .enum-told3 .given .1)) (c .before .before .before .before .before .before .before .before .trace-reduce-from-state .ensures .1 .1)
+    let S = c .before .before .before .before .before .before .before .before .before .before .before .before .before .before .before .before .before .before .before .before .before .before .before .before .before .before .before .before .before .before .before .before .before .before .before .before .before .before in (
+      item-next (S .pre .1 .0) (c .before .before .before .before .before .before .before .before .before .before .before .before .before .before .before .before .before .before .before .word .result) _ _ (c .before .before .before .before .before .before .before .before .before .before .before .before .before .before .before .before .before .loop .inv .0) _ _ (rw (c .before .before .before .before .before .before .before .before .before .before .before .before .before .before .p .given .1) at (c .before .before .before .before .before .before .before .before .before .before .before .before .before .before .before .before .next .ensures)) _ _ _ (c .before .before .before .before .before .before .before .before .trace-reduce-from-state .ensures .0 (c .enum-told3 .given .1)) (c .before .before .before .before .before .before .before .before .trace-reduce-from-state .ensures .1 .1)
           (c .before .before .before .before .before .before .before .before .trace-reduce-from-state .kept .1 .1 .1 .1 .1 .1 .1 .1 .0) (c .before .before .before .before .before .before .before .before .trace-reduce-from-state .kept .1 .1 .1 .1 .1 .1 .1 .1 .1 .0) (c .before .before .before .before .before .before .before .before .trace-reduce-from-state .kept .1 .1 .1 .1 .1 .1 .1 .1 .1 .1 .0),
-      rest-inside _ _ _ _ _ (rw (c .before .before .before .before .before .before .before .before .before .before .before .before .before .p .given .1) at (c .before .before .before .before .before .before .before .before .before .before .before .before .before .before .before .next .ensures)) (c .before .before .before .before .before .before .before .before .before .before .before .before .before .before .before .before .loop .inv .1) .1,
+      rest-inside _ _ _ _ _ (rw (c .before .before .before .before .before .before .before .before .before .before .before .before .before .before .p .given .1) at (c .before .before .before .before .before .before .before .before .before .before .before .before .before .before .before .before .next .ensures)) (c .before .before .before .before .before .before .before .before .before .before .before .before .before .before .before .before .before .loop .inv .1) .1,
     )
 
 trace-reduce-item-enum-told-4 : (t : ℕ) → trace-reduce-item-lts.Need-enum-told-4 (trace-reduce-item-given t) (trace-reduce-item-at t) trace-reduce-item.Post trace-reduce-item-Inv-loop trace-reduce-item-μ-loop
 trace-reduce-item-enum-told-4 t c = search needs
 
 trace-reduce-item-same-length-3 : (t : ℕ) → trace-reduce-item-lts.Need-same-length-3 (trace-reduce-item-given t) (trace-reduce-item-at t) trace-reduce-item.Post trace-reduce-item-Inv-loop trace-reduce-item-μ-loop
-trace-reduce-item-same-length-3 t c = c .before .before .before .before .before .before .before .before .trace-reduce-from-state .kept .1 .1 .1 .1 .1 .1 .1 .1 .0 ∙ c .before .before .before .before .before .before .before .before .before .before .before .before .before .before .before .before .loop .inv .0 .g-len ∙ c .before .before .before .before .before .before .before .before .before .before .before .before .before .before .before .before .before .before .before .before .before .before .before .before .before .edge-to-item .kept .1 .1 .1 .0
+trace-reduce-item-same-length-3 t c = c .before .before .before .before .before .before .before .before .trace-reduce-from-state .kept .1 .1 .1 .1 .1 .1 .1 .1 .0 ∙ c .before .before .before .before .before .before .before .before .before .before .before .before .before .before .before .before .before .loop .inv .0 .g-len ∙ c .before .before .before .before .before .before .before .before .before .before .before .before .before .before .before .before .before .before .before .before .before .before .before .before .before .before .edge-to-item .kept .1 .1 .1 .0
 
 trace-reduce-item-same-length-4 : (t : ℕ) → trace-reduce-item-lts.Need-same-length-4 (trace-reduce-item-given t) (trace-reduce-item-at t) trace-reduce-item.Post trace-reduce-item-Inv-loop trace-reduce-item-μ-loop
-trace-reduce-item-same-length-4 t c = c .before .before .before .before .before .before .before .before .trace-reduce-from-state .kept .1 .1 .1 .1 .1 .1 .1 .1 .1 .0 ∙ c .before .before .before .before .before .before .before .before .before .before .before .before .before .before .before .before .loop .inv .0 .ix-len ∙ c .before .before .before .before .before .before .before .before .before .before .before .before .before .before .before .before .before .before .before .before .before .before .before .before .before .edge-to-item .kept .1 .1 .1 .1 .0
+trace-reduce-item-same-length-4 t c = c .before .before .before .before .before .before .before .before .trace-reduce-from-state .kept .1 .1 .1 .1 .1 .1 .1 .1 .1 .0 ∙ c .before .before .before .before .before .before .before .before .before .before .before .before .before .before .before .before .before .loop .inv .0 .ix-len ∙ c .before .before .before .before .before .before .before .before .before .before .before .before .before .before .before .before .before .before .before .before .before .before .before .before .before .before .edge-to-item .kept .1 .1 .1 .1 .0
 
 trace-reduce-item-same-length-5 : (t : ℕ) → trace-reduce-item-lts.Need-same-length-5 (trace-reduce-item-given t) (trace-reduce-item-at t) trace-reduce-item.Post trace-reduce-item-Inv-loop trace-reduce-item-μ-loop
-trace-reduce-item-same-length-5 t c = c .before .before .before .before .before .before .before .before .trace-reduce-from-state .kept .1 .1 .1 .1 .1 .1 .1 .1 .1 .1 .0 ∙ c .before .before .before .before .before .before .before .before .before .before .before .before .before .before .before .before .loop .inv .0 .v-len
+trace-reduce-item-same-length-5 t c = c .before .before .before .before .before .before .before .before .trace-reduce-from-state .kept .1 .1 .1 .1 .1 .1 .1 .1 .1 .1 .0 ∙ c .before .before .before .before .before .before .before .before .before .before .before .before .before .before .before .before .before .loop .inv .0 .v-len
 
 trace-reduce-item-returns-2 : (t : ℕ) → trace-reduce-item-lts.Need-returns-2 (trace-reduce-item-given t) (trace-reduce-item-at t) trace-reduce-item.Post trace-reduce-item-Inv-loop trace-reduce-item-μ-loop
 trace-reduce-item-returns-2 t c =
-    let S = c .before .before .before .before .before .before .before .before .before .before .before .before .before .before .before .before .before .before .before .before .before .before .before .before .before .before .before .before .before .before .before .before .before .before .before .before .before in
+    let S = c .before .before .before .before .before .before .before .before .before .before .before .before .before .before .before .before .before .before .before .before .before .before .before .before .before .before .before .before .before .before .before .before .before .before .before .before .before .before in
     let u = c .before .before .before .before .before .before .before .before .trace-reduce-from-state .ensures .1 .1 in
-    let w = c .before .before .before .before .before .before .before .before .before .before .before .before .before .before .before .before .loop .inv .0 .left .fewer in (
+    let w = c .before .before .before .before .before .before .before .before .before .before .before .before .before .before .before .before .before .loop .inv .0 .left .fewer in (
       λ e. not-both (sym e),
       (
         λ _.
-            item-stop (S .pre .1 .0) (c .before .before .before .before .before .before .before .before .before .before .before .before .before .before .before .before .before .before .word .result) _ _ (c .before .before .before .before .before .before .before .before .before .before .before .before .before .before .before .before .loop .inv .0) _ _ _ (c .before .before .before .before .before .before .before .before .before .before .before .before .before .before .before .before .before .before .word .ensures .0) (S .pre .1 .1 .1 .1 .1) (c .before .before .before .before .before .before .before .before .before .before .before .before .before .before .before .before .before .before .before .before .before .before .before .before .before .edge-to-item .ensures .0 (c .before .before .before .before .before .before .before .before .before .before .before .before .before .before .before .before .before .before .before .enum-told .given .1)) (c .before .before .before .before .before .before .before .before .before .before .before .before .before .before .before .before .before .states-before .ensures)
-            _ _ (rw (c .before .before .before .before .before .before .before .before .before .before .before .before .before .p .given .1) at (c .before .before .before .before .before .before .before .before .before .before .before .before .before .before .before .next .ensures)) (c .before .before .before .before .before .before .before .before .trace-reduce-from-state .ensures .1 .0 (c .enum-told4 .given .1)),
+            item-stop (S .pre .1 .0) (c .before .before .before .before .before .before .before .before .before .before .before .before .before .before .before .before .before .before .before .word .result) _ _ (c .before .before .before .before .before .before .before .before .before .before .before .before .before .before .before .before .before .loop .inv .0) _ _ _ (c .before .before .before .before .before .before .before .before .before .before .before .before .before .before .before .before .before .before .before .word .ensures .0) (S .pre .1 .1 .1 .1 .1) (c .before .before .before .before .before .before .before .before .before .before .before .before .before .before .before .before .before .before .before .before .before .before .before .before .before .before .edge-to-item .ensures .0 (c .before .before .before .before .before .before .before .before .before .before .before .before .before .before .before .before .before .before .before .before .enum-told .given .1)) (c .before .before .before .before .before .before .before .before .before .before .before .before .before .before .before .before .before .before .states-before .ensures)
+            _ _ (rw (c .before .before .before .before .before .before .before .before .before .before .before .before .before .before .p .given .1) at (c .before .before .before .before .before .before .before .before .before .before .before .before .before .before .before .before .next .ensures)) (c .before .before .before .before .before .before .before .before .trace-reduce-from-state .ensures .1 .0 (c .enum-told4 .given .1)),
         omega arith,
       ),
     )
@@ -493,6 +496,7 @@ pub +trace-reduce-from-state+trace-reduce-item-spec : {M : Type 1} → statement
     (trace-reduce-item-loop-holds t)
     (trace-reduce-item-next-requires t)
     (trace-reduce-item-enum-known-p t)
+    (trace-reduce-item-cast-from t)
     (trace-reduce-item-trace-reduce-from-state-requires t)
     (trace-reduce-item-enum-told-3 t)
     (trace-reduce-item-loop-less t)

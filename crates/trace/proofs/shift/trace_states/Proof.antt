@@ -29,9 +29,12 @@ next-requires c κs = search needs
 enum-known-state : tie.Need-enum-known-state Inv-loop μ-loop
 enum-known-state c = search needs
 
+cast-from : tie.Need-cast-from Inv-loop μ-loop
+cast-from c = search needs
+
 trace-epsilon-edges-requires : tie.Need-trace-epsilon-edges-requires Inv-loop μ-loop
-trace-epsilon-edges-requires c κs = let S = c .before .before .before .before .before .before .before .before .before .before .before .before .before .before .before in
-    (S .pre .0, (c .before .before .before .before .before .before .before .loop .inv .good, (flags-kept _ _ _ (c .before .before .before .before .before .before .before .loop .inv .v-len) (S .pre .1 .1 .0 .0), (rounds-inside (c .before .before .before .before .before .before .before .loop .inv) (c .before .before .before .before .state .given .0 .0) (c .before .before .before .before .state .given .0 .1 .0) (rw (c .before .before .before .before .state .given .1) at (c .before .before .before .before .before .before .next .ensures)), S .pre .1 .1 .0 .1))))
+trace-epsilon-edges-requires c κs = let S = c .before .before .before .before .before .before .before .before .before .before .before .before .before .before .before .before in
+    (S .pre .0, (c .before .before .before .before .before .before .before .before .loop .inv .good, (flags-kept _ _ _ (c .before .before .before .before .before .before .before .before .loop .inv .v-len) (S .pre .1 .1 .0 .0), (rounds-inside (c .before .before .before .before .before .before .before .before .loop .inv) (c .before .before .before .before .before .state .given .0 .0 .0) (c .before .before .before .before .before .state .given .0 .1 .0) (rw (c .before .before .before .before .before .state .given .1) at (c .before .before .before .before .before .before .before .next .ensures)), S .pre .1 .1 .0 .1))))
 
 enum-told : tie.Need-enum-told Inv-loop μ-loop
 enum-told c = search needs
@@ -40,24 +43,24 @@ enum-told-2 : tie.Need-enum-told-2 Inv-loop μ-loop
 enum-told-2 c = search needs
 
 same-length : tie.Need-same-length Inv-loop μ-loop
-same-length c = c .before .before .before .before .before .before .before .before .trace-epsilon-edges .kept .1 .1 .1 .1 .1 .1 .0 ∙ c .before .before .before .before .before .before .before .before .before .before .before .before .before .before .before .before .loop .inv .g-len
+same-length c = c .before .before .before .before .before .before .before .before .trace-epsilon-edges .kept .1 .1 .1 .1 .1 .1 .0 ∙ c .before .before .before .before .before .before .before .before .before .before .before .before .before .before .before .before .before .loop .inv .g-len
 
 same-length-2 : tie.Need-same-length-2 Inv-loop μ-loop
-same-length-2 c = c .before .before .before .before .before .before .before .before .trace-epsilon-edges .kept .1 .1 .1 .1 .1 .1 .1 .0 ∙ c .before .before .before .before .before .before .before .before .before .before .before .before .before .before .before .before .loop .inv .ix-len
+same-length-2 c = c .before .before .before .before .before .before .before .before .trace-epsilon-edges .kept .1 .1 .1 .1 .1 .1 .1 .0 ∙ c .before .before .before .before .before .before .before .before .before .before .before .before .before .before .before .before .before .loop .inv .ix-len
 
 same-length-3 : tie.Need-same-length-3 Inv-loop μ-loop
-same-length-3 c = c .before .before .before .before .before .before .before .before .trace-epsilon-edges .kept .1 .1 .1 .1 .1 .1 .1 .1 .0 ∙ c .before .before .before .before .before .before .before .before .before .before .before .before .before .before .before .before .loop .inv .v-len
+same-length-3 c = c .before .before .before .before .before .before .before .before .trace-epsilon-edges .kept .1 .1 .1 .1 .1 .1 .1 .1 .0 ∙ c .before .before .before .before .before .before .before .before .before .before .before .before .before .before .before .before .before .loop .inv .v-len
 
 returns : tie.Need-returns Inv-loop μ-loop
-returns c = let S = c .before .before .before .before .before .before .before .before .before .before .before .before .before .before .before .before .before .before .before .before .before .before .before .before in
-    ((λ e. full-done e), (λ _. rounds-full (c .before .before .before .before .before .before .before .before .before .before .before .before .before .before .before .before .loop .inv) (c .before .before .before .before .before .before .before .before .before .before .before .before .before .state .given .0 .0) (c .before .before .before .before .before .before .before .before .before .before .before .before .before .state .given .0 .1 .0) (rw (c .before .before .before .before .before .before .before .before .before .before .before .before .before .state .given .1) at (c .before .before .before .before .before .before .before .before .before .before .before .before .before .before .before .next .ensures)) (S .pre .1 .1 .0 .0 .few) (c .before .before .before .before .before .before .before .before .trace-epsilon-edges .ensures .1 .0 (c .enum-told2 .given .1))))
+returns c = let S = c .before .before .before .before .before .before .before .before .before .before .before .before .before .before .before .before .before .before .before .before .before .before .before .before .before in
+    ((λ e. full-done e), (λ _. rounds-full (c .before .before .before .before .before .before .before .before .before .before .before .before .before .before .before .before .before .loop .inv) (c .before .before .before .before .before .before .before .before .before .before .before .before .before .before .state .given .0 .0 .0) (c .before .before .before .before .before .before .before .before .before .before .before .before .before .before .state .given .0 .1 .0) (rw (c .before .before .before .before .before .before .before .before .before .before .before .before .before .before .state .given .1) at (c .before .before .before .before .before .before .before .before .before .before .before .before .before .before .before .before .next .ensures)) (S .pre .1 .1 .0 .0 .few) (c .before .before .before .before .before .before .before .before .trace-epsilon-edges .ensures .1 .0 (c .enum-told2 .given .1))))
 
 loop-less : tie.Need-loop-less Inv-loop μ-loop
-loop-less c = next-less (c .before .before .before .before .before .before .before .before .before .before .before .before .before .before .before .before .loop .rest .low) (c .before .before .before .before .before .before .before .before .before .before .before .before .before .before .before .before .loop .rest .high) (c .before .before .before .before .before .before .before .before .before .before .before .before .before .state .given .0 .0) (c .before .before .before .before .before .before .before .before .before .before .before .before .before .state .given .0 .1 .0) (rw (c .before .before .before .before .before .before .before .before .before .before .before .before .before .state .given .1) at (c .before .before .before .before .before .before .before .before .before .before .before .before .before .before .before .next .ensures))
+loop-less c = next-less (c .before .before .before .before .before .before .before .before .before .before .before .before .before .before .before .before .before .loop .rest .low) (c .before .before .before .before .before .before .before .before .before .before .before .before .before .before .before .before .before .loop .rest .high) (c .before .before .before .before .before .before .before .before .before .before .before .before .before .before .state .given .0 .0) (c .before .before .before .before .before .before .before .before .before .before .before .before .before .before .state .given .0 .1 .0) (rw (c .before .before .before .before .before .before .before .before .before .before .before .before .before .before .state .given .1) at (c .before .before .before .before .before .before .before .before .before .before .before .before .before .before .before .before .next .ensures))
 
 loop-again : tie.Need-loop-again Inv-loop μ-loop
-loop-again c = let S = c .before .before .before .before .before .before .before .before .before .before .before .before .before .before .before .before .before .before .before .before .before .before .before .before in
-    rounds-more (c .before .before .before .before .before .before .before .before .before .before .before .before .before .before .before .before .loop .inv) (c .before .before .before .before .before .before .before .before .before .before .before .before .before .state .given .0 .0) (c .before .before .before .before .before .before .before .before .before .before .before .before .before .state .given .0 .1 .0) (rw (c .before .before .before .before .before .before .before .before .before .before .before .before .before .state .given .1) at (c .before .before .before .before .before .before .before .before .before .before .before .before .before .before .before .next .ensures)) (S .pre .1 .1 .0 .0 .few) _ _ _ (c .before .before .before .before .before .before .before .before .trace-epsilon-edges .ensures .0 (c .enum-told .given .1) .0) (c .before .before .before .before .before .before .before .before .trace-epsilon-edges .ensures .0 (c .enum-told .given .1) .1) (c .before .before .before .before .before .before .before .before .trace-epsilon-edges .kept .1 .1 .1 .1 .1 .1 .1 .1 .0) (c .before .before .before .before .before .before .before .before .trace-epsilon-edges .kept .1 .1 .1 .1 .1 .1 .0) (c .before .before .before .before .before .before .before .before .trace-epsilon-edges .kept .1 .1 .1 .1 .1 .1 .1 .0)
+loop-again c = let S = c .before .before .before .before .before .before .before .before .before .before .before .before .before .before .before .before .before .before .before .before .before .before .before .before .before in
+    rounds-more (c .before .before .before .before .before .before .before .before .before .before .before .before .before .before .before .before .before .loop .inv) (c .before .before .before .before .before .before .before .before .before .before .before .before .before .before .state .given .0 .0 .0) (c .before .before .before .before .before .before .before .before .before .before .before .before .before .before .state .given .0 .1 .0) (rw (c .before .before .before .before .before .before .before .before .before .before .before .before .before .before .state .given .1) at (c .before .before .before .before .before .before .before .before .before .before .before .before .before .before .before .before .next .ensures)) (S .pre .1 .1 .0 .0 .few) _ _ _ (c .before .before .before .before .before .before .before .before .trace-epsilon-edges .ensures .0 (c .enum-told .given .1) .0) (c .before .before .before .before .before .before .before .before .trace-epsilon-edges .ensures .0 (c .enum-told .given .1) .1) (c .before .before .before .before .before .before .before .before .trace-epsilon-edges .kept .1 .1 .1 .1 .1 .1 .1 .1 .0) (c .before .before .before .before .before .before .before .before .trace-epsilon-edges .kept .1 .1 .1 .1 .1 .1 .0) (c .before .before .before .before .before .before .before .before .trace-epsilon-edges .kept .1 .1 .1 .1 .1 .1 .1 .0)
 
 enum-told-3 : tie.Need-enum-told-3 Inv-loop μ-loop
 enum-told-3 c = search needs
@@ -83,6 +86,7 @@ trace-states-spec =
     loop-holds
     next-requires
     enum-known-state
+    cast-from
     trace-epsilon-edges-requires
     enum-told
     enum-told-2
