@@ -5,3 +5,5 @@ pub mod Parts
 pub mod Reductions
 pub mod Walk
 pub mod LabelWords
+pub mod Asked
+pub mod Marked

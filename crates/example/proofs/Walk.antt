@@ -1,28 +1,23 @@
 -- One law for each way through the code of this crate (src/lib), label by label. Assumes nothing.
 use mathlib.Core.Path.{_≡_, refl, sym, ap, _∙_}
-use mathlib.Core.Bool.{Bool, true, false}
 use mathlib.Core.List.{List, [], _∷_, _++_, map, append-nil, append-assoc}
 use mathlib.Core.Option.{Option, none, some}
 use Prim.Native.Nat.{ℕ, zero, suc, _+_, _-_, _*_, _/_, _≤_, _<_}
 use native.Mathlib.Omega.{arith}
 use lib.ListN.{length, take, drop, drop-of-length-le}
 use lib.Seq.{take-all}
-use Rattle.repr.specs.Sizes.{reductionLimit, exampleSymbols, exampleRoom}
+use Rattle.repr.specs.Sizes.{exampleSymbols, exampleRoom}
 use Rattle.repr.specs.Lists.{joined}
 use Rattle.repr.specs.Meaning.{Symbol, Production}
-use Rattle.repr.specs.Listed.{listed}
 use Rattle.repr.specs.Packed.{productionsIn, Packed}
 use Rattle.repr.proofs.Lists.{joined-nil, joined-append}
 use Rattle.core.specs.Items.{noSets, counts, held, countsOf}
-use Rattle.first.specs.declared.Answer.{Answer}
-use Rattle.first.specs.First.{joinAnswers, first0}
-use Rattle.first.proofs.Answers.{join-answers-assoc, join-empty-right, first0-nil, first0-append}
-use Rattle.example.specs.Example.{Label, setsOf, symbol, epsilon, prefixes, suffixes, atCursor, middle, symbols, reductions, symbolWords, exampleWords, cursorOf, ahead}
+use Rattle.example.specs.Example.{Label, setsOf, symbol, epsilon, prefixes, suffixes, atCursor, middle, symbols, reductions, symbolWords, exampleWords, cursorOf}
 use Rattle.example.specs.Labels.{labelsIn, LabelsFit}
 use Rattle.example.specs.Written.{labelAt, wordsOf, Part, aroundWords}
-use Rattle.example.proofs.Sizes.{Short, prefixes-cons, suffixes-cons, around, length-symbols, length-reductions, at-most-528, at-most-1158}
+use Rattle.example.proofs.Sizes.{Short, prefixes-cons, suffixes-cons, around, length-symbols, at-most-528, at-most-1158}
 use Rattle.example.proofs.Labels.{labels-step, labels-back, few-labels, short-in}
-use Rattle.example.proofs.Parts.{words-append, part-listed, part-length, listOf, first-cursor}
+use Rattle.example.proofs.Parts.{words-append, part-length, listOf, first-cursor}
 use Rattle.example.proofs.Reductions.{reductions-around, around-nil, around-cons}
 
 -- sizes: at most 528 symbols, 33 reductions, 1,158 words
@@ -264,29 +259,3 @@ module _ (ps : List Production) (ls : List Label) where
   pub example-parts : (x y z : ℕ) → x ≡ length (symbols ps ls) → y ≡ length (prefixes ps ls) → z ≡ length ls → exampleWords ps ls ≡ (x ∷ y ∷ z ∷ []) ++ afterCounts
   unfolding exampleWords aroundWords
   example-parts x y z ex ey ez = rw (ex, ey, ez, symbol-words, reductions-around ps ls) (simp append-assoc)
-
--- what the example expects next, part by part
-
-module _ (e : ℕ) (sets : List ℕ) (ps : List Production) (ws : List ℕ) where
-  pub ahead-start : (part : List ℕ) (r : Answer) → Part part (cursorOf ps (labelsIn ws)) → r ≡ first0 e sets (listed part)
-      → joinAnswers r (first0 e sets (suffixes ps (drop 0 (labelsIn ws)))) ≡ first0 e sets (ahead ps (labelsIn ws))
-  unfolding ahead
-  ahead-start part r C er =
-      rw (er, part-listed part (cursorOf ps (labelsIn ws)) C) (sym (first0-append e sets (cursorOf ps (labelsIn ws)) (suffixes ps (labelsIn ws))))
-
-  pub ahead-more : (j : ℕ) → j < length (labelsIn ws) → (part : List ℕ) → Part part (setsOf ps (labelAt ws j) .suffix)
-      → (r a u : Answer) → a ≡ first0 e sets (listed part) → u ≡ joinAnswers r a
-      → joinAnswers u (first0 e sets (suffixes ps (drop (j + 1) (labelsIn ws)))) ≡ joinAnswers r (first0 e sets (suffixes ps (drop j (labelsIn ws))))
-  unfolding suffixes
-  ahead-more j h part S r a u ea eu =
-      let rest = first0 e sets (suffixes ps (drop (j + 1) (labelsIn ws))) in
-      let own : first0 e sets (setsOf ps (labelAt ws j) .suffix) ≡ a = ap (first0 e sets) (sym (part-listed part (setsOf ps (labelAt ws j) .suffix) S)) ∙ sym ea in
-      let next : first0 e sets (suffixes ps (drop j (labelsIn ws))) ≡ joinAnswers a rest =
-      ap (λ (l : List Label). first0 e sets (suffixes ps l)) (labels-step ws j h)
-      ∙ first0-append e sets (setsOf ps (labelAt ws j) .suffix) (suffixes ps (drop (j + 1) (labelsIn ws)))
-      ∙ ap (λ (k : Answer). joinAnswers k rest) own in
-      ap (λ (k : Answer). joinAnswers k rest) eu ∙ join-answers-assoc r a rest ∙ ap (joinAnswers r) (sym next)
-
-  pub ahead-end : (j : ℕ) (r : Answer) → length (labelsIn ws) ≤ j → r ≡ joinAnswers r (first0 e sets (suffixes ps (drop j (labelsIn ws))))
-  unfolding suffixes
-  ahead-end j r h = sym (rw (drop-of-length-le (labelsIn ws) {i = j} h, first0-nil e sets) (join-empty-right r))

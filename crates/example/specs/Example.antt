@@ -1,7 +1,7 @@
 -- An example, part 7 of document 01, as `example` and `first0` of lr1/trace/trace_graph build them: on a list of labels, innermost first.
 -- Assumes nothing: these are definitions.
 use Prim.Native.Nat.{ℕ, zero, suc, _+_, _-_}
-use mathlib.Core.Bool.{Bool}
+use mathlib.Core.Bool.{Bool, true, false}
 use mathlib.Core.List.{List, [], _∷_, _++_, map, reverse}
 use mathlib.Core.Option.{Option, none, some}
 use lib.ListN.{length, getD}
@@ -83,6 +83,19 @@ cursorOf ps (l ∷ ls) = elim (setsOf ps l .cursor) [ some x ↦ x ∷ [] | none
 
 unfoldable pub ahead : List Production → List Label → List Symbol
 ahead ps ls = cursorOf ps ls ++ suffixes ps ls
+
+-- what is asked label by label, innermost first: of the first label its cursor symbol, if it has one, followed by its suffix; of every other its suffix
+unfoldable pub askedParts : List Production → List Label → List (List Symbol)
+askedParts ps [] = []
+askedParts ps (l ∷ ls) = (cursorOf ps (l ∷ ls) ++ setsOf ps l .suffix) ∷ map (λ (m : Label). setsOf ps m .suffix) ls
+
+-- how many are asked: up to the first that is not nullable
+unfoldable pub askedIn : ℕ → List ℕ → List (List Symbol) → ℕ
+askedIn e sets [] = 0
+askedIn e sets (xs ∷ rest) = elim (first0 e sets xs .nullable) [ true ↦ suc (askedIn e sets rest) | false ↦ 1 ]
+
+unfoldable pub askedOf : ℕ → List ℕ → List Production → List Label → ℕ
+askedOf e sets ps ls = askedIn e sets (askedParts ps ls)
 
 -- the filter: the lookahead meets FIRST of that; e is the end of input, sets the FIRST sets
 unfoldable pub meets : ℕ → List ℕ → List Production → ℕ → List Label → Bool

@@ -4,19 +4,20 @@ use core::SymbolSets;
 use core::prefix;
 use core::suffix;
 use first::Answer;
+use lookahead::TokenSet;
 use repr::NonterminalString;
 use repr::ProductionIndex;
 use repr::word;
 ghost use mathlib.Core.Path.{_≡_};
 ghost use mathlib.Core.List.{[], _∷_};
 ghost use Prim.Native.Nat.{_+_, _*_, _≤_, _<_};
-ghost use lib.ListN.{length};
-ghost use Rattle.repr.specs.Sizes.{exampleSymbols, reductionRoom, exampleRoom, labelRoom};
+ghost use lib.ListN.{length, getD};
+ghost use Rattle.repr.specs.Sizes.{terminalLimit, exampleSymbols, reductionRoom, exampleRoom, labelRoom};
 ghost use Rattle.slices.specs.Lent.{inFront};
 ghost use Rattle.repr.specs.Lists.{joined};
 ghost use Rattle.repr.specs.Packed.{Packed, productionsIn};
 ghost use Rattle.first.specs.First.{first0};
-ghost use Rattle.example.specs.Example.{setsOf, prefixes, suffixes, middle, symbols, symbolWords, exampleWords, cursorOf, ahead};
+ghost use Rattle.example.specs.Example.{setsOf, prefixes, suffixes, middle, symbols, symbolWords, exampleWords, cursorOf, ahead, askedParts, askedOf};
 ghost use Rattle.example.specs.Labels.{labelsIn, LabelsFit};
 ghost use Rattle.example.specs.Written.{labelAt, wordsOf, Part, putAt, aroundWords};
 
@@ -322,32 +323,76 @@ pub fn write_example(grammar: &[u16], productions: usize, labels: &[u16], buffer
     write_reductions(grammar, productions, labels, places, buffer, end);
 }
 
-// FIRST of what the example expects next: label by label outward, up to the first whose symbols may not derive the empty string.
+// FIRST of what the example expects next, and how many labels were asked for it.
+pub struct Expected {
+    pub answer: Answer,
+    pub asked: usize,
+}
+
+// FIRST of what is asked of a label: of the first its cursor symbol followed by its suffix, of any other its suffix.
+fn label_first0(
+    map: &[u64; NonterminalString::LIMIT],
+    terminals: u16,
+    grammar: &[u16],
+    productions: usize,
+    labels: &[u16],
+    label: usize,
+) -> Answer
+    requires { ⌜ Packed (now grammar) productions × (terminals ≤ terminalLimit) ⌝ }
+    requires { ⌜ LabelsFit (productionsIn (now grammar) productions) (now labels) ⌝ }
+    requires { ⌜ label < length (labelsIn (now labels)) ⌝ }
+    ensures { λ r. ⌜ r ≡ first0 terminals (now (map .entry)) (getD (askedParts (productionsIn (now (grammar .entry)) productions) (labelsIn (now (labels .entry)))) label []) ⌝ }
+{
+    if label > 0 {
+        return first::first0(
+            map,
+            terminals,
+            suffix_part(grammar, productions, labels, label),
+        );
+    }
+    let own = first::first0(map, terminals, cursor_part(grammar, productions, labels));
+    if !own.nullable {
+        return own;
+    }
+    let after = first::first0(
+        map,
+        terminals,
+        suffix_part(grammar, productions, labels, label),
+    );
+    own.join(after)
+}
+
+// Asked label by label outward, up to the first whose symbols may not derive the empty string; no list of them is written.
 pub fn first0(
     map: &[u64; NonterminalString::LIMIT],
     terminals: u16,
     grammar: &[u16],
     productions: usize,
     labels: &[u16],
-) -> Answer
-    requires { ⌜ Packed (now grammar) productions × (terminals ≤ 63) ⌝ }
+) -> Expected
+    requires { ⌜ Packed (now grammar) productions × (terminals ≤ terminalLimit) ⌝ }
     requires { ⌜ LabelsFit (productionsIn (now grammar) productions) (now labels) ⌝ }
-    ensures { λ r. ⌜ r ≡ first0 terminals (now (map .entry)) (ahead (productionsIn (now (grammar .entry)) productions) (labelsIn (now (labels .entry)))) ⌝ }
+    ensures { λ r. ⌜ (r .answer ≡ first0 terminals (now (map .entry)) (ahead (productionsIn (now (grammar .entry)) productions) (labelsIn (now (labels .entry))))) × (r .asked ≡ askedOf terminals (now (map .entry)) (productionsIn (now (grammar .entry)) productions) (labelsIn (now (labels .entry)))) ⌝ }
 {
     let count = label_count(labels);
-    let mut result = first::first0(map, terminals, cursor_part(grammar, productions, labels));
+    let mut answer = Answer {
+        tokens: TokenSet::new(),
+        nullable: true,
+    };
     let mut asked: usize = 0;
     while asked < count {
-        if !result.nullable {
-            return result;
+        let next = label_first0(map, terminals, grammar, productions, labels, asked);
+        answer = answer.join(next);
+        if !answer.nullable {
+            return Expected {
+                answer: answer,
+                asked: asked + 1,
+            };
         }
-        let next = first::first0(
-            map,
-            terminals,
-            suffix_part(grammar, productions, labels, asked),
-        );
-        result = result.join(next);
         asked += 1;
     }
-    result
+    Expected {
+        answer: answer,
+        asked: count,
+    }
 }

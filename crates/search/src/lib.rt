@@ -104,7 +104,8 @@ fn meets(
     let mut labels = [0u16; Example::ALL_LABEL_WORDS];
     let size = read_labels(grammar, productions, graph, words, &mut labels);
     let expected = first0(map, terminals, grammar, productions, &labels[..size]);
-    expected.meets(terminals, set)
+    let answer = expected.answer;
+    answer.meets(terminals, set)
 }
 
 // The filter: without a lookahead every example passes.

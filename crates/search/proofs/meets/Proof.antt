@@ -33,10 +33,10 @@ meets-requires c κs = search needs
 
 returns : tie.Need-returns
 returns c =
-    let S = c .before .before .before .before .before .before .before .before .before in
+    let S = c .before .before .before .before .before .before .before .before .before .before in
     λ p rest w.
-    meets-is (S .args .terminals) (S .args .map .now) (productionsIn (S .args .grammar .now) (S .args .productions)) (edgesIn (S .args .graph .now)) (S .args .set .0) (c .before .first0 .result) (c .meets .result)
-    (labelsIn (take (c .before .before .before .before .read-labels .result) (c .before .before .before .before .read-labels .last .1 .1 .1 .1 .0))) p (c .before .first0 .ensures) (c .meets .ensures) (c .before .before .before .before .read-labels .ensures .1 p rest w)
+    meets-is (S .args .terminals) (S .args .map .now) (productionsIn (S .args .grammar .now) (S .args .productions)) (edgesIn (S .args .graph .now)) (S .args .set .0) (c .before .before .first0 .result .answer) (c .meets .result)
+    (labelsIn (take (c .before .before .before .before .before .read-labels .result) (c .before .before .before .before .before .read-labels .last .1 .1 .1 .1 .0))) p (c .before .before .first0 .ensures .0) (c .meets .ensures) (c .before .before .before .before .before .read-labels .ensures .1 p rest w)
 
 pub meets-spec : {M : Type 1} → statement M
 meets-spec =

@@ -1,6 +1,6 @@
 //! Listings: whole ones beside the Rust, and single calls of `advance`.
 
-use super::tables::largest;
+use super::tables::{largest, long_labels};
 use super::*;
 use crate::port::{END, Listing};
 use crate::question::Question;
@@ -239,6 +239,20 @@ pub fn costs() {
     };
     let name = "one call, no example";
     listed(name, &no_example(&at, &edges_at));
+    for nullable in [true, false] {
+        let (table, edges) = long_labels(nullable);
+        let of = Of {
+            table: &table,
+            edges: &edges,
+            start: (0, 16),
+            set: Some(1),
+        };
+        let asked = if nullable { "all" } else { "two" };
+        listed(
+            &format!("one call, labels of 15 symbols, filtered, {asked} asked"),
+            &of,
+        );
+    }
 
     head(&["one call", "answer", "trials", "ms", "trials a second"]);
     let name = "100,000 trials, traced, no example";

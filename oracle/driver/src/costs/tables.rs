@@ -114,3 +114,38 @@ pub fn first_chain() -> Vec<u16> {
     }
     table.encode(true, || 0).unwrap()
 }
+
+/// A graph of labels with 15 symbols behind the cursor: into the start item
+/// (0, 16) from N0, twice from each nonterminal to the next up to N14, and twice
+/// from items into that. N15 and N16, which the labels end in, are nullable or
+/// begin with t1.
+pub fn long_labels(nullable: bool) -> (Vec<u16>, Vec<[u16; 8]>) {
+    let mut table = Table {
+        terminals: 2,
+        nonterminals: vec![vec![]; 17],
+        states: vec![State::default()],
+        ..Table::default()
+    };
+    let behind = |last| [vec![(0, 0)], vec![(0, 15); 14], vec![(0, last)]].concat();
+    let short = if nullable { vec![] } else { vec![(1, 1)] };
+    let rules = [
+        (0, behind(15)),
+        (0, behind(16)),
+        (15, short.clone()),
+        (16, short),
+    ];
+    for (p, (nonterminal, symbols)) in rules.into_iter().enumerate() {
+        table.nonterminals[nonterminal as usize].push(p as u16);
+        table.productions.push(Production {
+            nonterminal,
+            symbols,
+            span: (0, 0),
+        });
+    }
+    let mut edges = vec![[0, 0, 0, 1, 0, 16, 0, 16]];
+    for n in 0..14 {
+        edges.extend([0, 1].map(|p| [0, n + 1, 0, 0, n, 0, p, 0]));
+    }
+    edges.extend([0, 1].map(|p| [1, p, 0, 0, 14, 0, p, 0]));
+    (table.encode(true, || 0).unwrap(), edges)
+}
