@@ -41,11 +41,17 @@ uint16_t lihvemur_check(const uint16_t *table, size_t table_words, uint16_t *pla
 /* FIRST of a list of symbols, kind and number each (0 a nonterminal, 1 a terminal): with answer 0 its terminals behind `set`, and behind `nullable` whether the list may be empty. */
 uint16_t lihvemur_first0(const uint16_t *table, size_t table_words, const uint16_t *symbols, size_t symbol_words, uint64_t *set, bool *nullable, uint16_t *place);
 
-/* The same, a token of `lookahead` following: one set, in which the end of input stands only where it is in `lookahead` and the list may be empty. */
+/* FIRST of two lists joined: as `lihvemur_first0` of the words of `xs` and then those of `ys`. Two lists of an odd number of words share a symbol. */
+uint16_t lihvemur_first0_joined(const uint16_t *table, size_t table_words, const uint16_t *xs, size_t xs_words, const uint16_t *ys, size_t ys_words, uint64_t *set, bool *nullable, uint16_t *place);
+
+/* FIRST of a list, a token of `lookahead` following: one set, in which the end of input stands only where it is in `lookahead` and the list may be empty. */
 uint16_t lihvemur_first1(const uint16_t *table, size_t table_words, uint64_t lookahead, const uint16_t *symbols, size_t symbol_words, uint64_t *set, uint16_t *place);
 
 /* The states from which a path spells the symbols and ends at `state`: 0 to 63 in `low`, 64 to 127 in `high`. */
 uint16_t lihvemur_trace_back(const uint16_t *table, size_t table_words, uint16_t state, const uint16_t *symbols, size_t symbol_words, uint64_t *low, uint64_t *high, uint16_t *place);
+
+/* The same over two lists joined, the words of `xs` and then those of `ys`. */
+uint16_t lihvemur_trace_back_joined(const uint16_t *table, size_t table_words, uint16_t state, const uint16_t *xs, size_t xs_words, const uint16_t *ys, size_t ys_words, uint64_t *low, uint64_t *high, uint16_t *place);
 
 /* Adds an edge to a graph, unless an equal one is there; the number of edges behind `edges`. A node is kind (0 nonterminal, 1 item), number (nonterminal or production), index (0, or the item's). */
 uint16_t lihvemur_add_edge(const uint16_t *table, size_t table_words,

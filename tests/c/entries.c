@@ -105,6 +105,20 @@ static void first0(void)
     EXPECT(lihvemur_first0(bad, COUNT(bad), E, COUNT(E), &set, &nullable, &place) == 3 && place == 12 && set == 0 && nullable);
 }
 
+static void first0_joined(void)
+{
+    uint64_t set = UNWRITTEN;
+    bool nullable = true;
+    for (size_t cut = 0; cut <= COUNT(E_PLUS_E); cut++) {
+        set = UNWRITTEN;
+        EXPECT(lihvemur_first0_joined(B, COUNT(B), E_PLUS_E, cut, E_PLUS_E + cut, COUNT(E_PLUS_E) - cut, &set, &nullable, &place) == 0 && place == 0 && set == TOKEN_1 && !nullable);
+    }
+    EXPECT(lihvemur_first0_joined(B, COUNT(B), NOTHING, 0, NOTHING, 0, &set, &nullable, &place) == 0 && place == 0 && set == 0 && nullable);
+    EXPECT(lihvemur_first0_joined(B, COUNT(B), E, 1, NOTHING, 0, &set, &nullable, &place) == 9 && place == 0 && set == 0 && nullable);
+    EXPECT(lihvemur_first0_joined(B, COUNT(B), E, COUNT(E), E, 1, &set, &nullable, &place) == 9 && place == 0 && set == 0 && nullable);
+    EXPECT(lihvemur_first0_joined(bad, COUNT(bad), E, 1, E, 1, &set, &nullable, &place) == 3 && place == 12 && set == 0 && nullable);
+}
+
 static void first1(void)
 {
     uint64_t set = UNWRITTEN;
@@ -123,6 +137,20 @@ static void trace_back(void)
     low = high = UNWRITTEN;
     EXPECT(lihvemur_trace_back(B, COUNT(B), 4, E, COUNT(E), &low, &high, &place) == 9 && place == 0 && low == UNWRITTEN && high == UNWRITTEN);
     EXPECT(lihvemur_trace_back(bad, COUNT(bad), 0, E, COUNT(E), &low, &high, &place) == 3 && place == 12 && low == UNWRITTEN && high == UNWRITTEN);
+}
+
+static void trace_back_joined(void)
+{
+    uint64_t low, high;
+    for (size_t cut = 0; cut <= COUNT(E_PLUS_E); cut++) {
+        low = high = UNWRITTEN;
+        EXPECT(lihvemur_trace_back_joined(B, COUNT(B), 3, E_PLUS_E, cut, E_PLUS_E + cut, COUNT(E_PLUS_E) - cut, &low, &high, &place) == 0 && place == 0 && low == (1 << 0 | 1 << 2) && high == 0);
+    }
+    EXPECT(lihvemur_trace_back_joined(B, COUNT(B), 3, NOTHING, 0, NOTHING, 0, &low, &high, &place) == 0 && place == 0 && low == 1 << 3 && high == 0);
+    low = high = UNWRITTEN;
+    EXPECT(lihvemur_trace_back_joined(B, COUNT(B), 3, E, 1, E, COUNT(E), &low, &high, &place) == 9 && place == 0 && low == UNWRITTEN && high == UNWRITTEN);
+    EXPECT(lihvemur_trace_back_joined(B, COUNT(B), 4, E, 1, E, 1, &low, &high, &place) == 9 && place == 0 && low == UNWRITTEN && high == UNWRITTEN);
+    EXPECT(lihvemur_trace_back_joined(bad, COUNT(bad), 4, E, 1, E, 1, &low, &high, &place) == 3 && place == 12 && low == UNWRITTEN && high == UNWRITTEN);
 }
 
 static void add_edge(void)
@@ -294,8 +322,10 @@ int main(void)
     bad[12 * 4] = 12;
     check();
     first0();
+    first0_joined();
     first1();
     trace_back();
+    trace_back_joined();
     add_edge();
     backtrace(lihvemur_backtrace_shift, 1, SHIFT_GRAPH, COUNT(SHIFT_GRAPH));
     backtrace(lihvemur_backtrace_reduce, 3, REDUCE_GRAPH, COUNT(REDUCE_GRAPH));

@@ -8,3 +8,4 @@ pub mod Walk
 pub mod Rounds
 pub mod Rust
 pub mod Answers
+pub mod Joined

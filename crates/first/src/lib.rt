@@ -6,6 +6,7 @@ use repr::symbols;
 use repr::word;
 ghost use mathlib.Core.Path.{_≡_};
 ghost use mathlib.Core.Bool.{true, not};
+ghost use mathlib.Core.List.{_++_};
 ghost use Prim.Native.Nat.{_≤_, _<_};
 ghost use lib.ListN.{length};
 ghost use Rattle.repr.specs.Sizes.{nonterminalLimit, terminalLimit};
@@ -133,6 +134,43 @@ pub fn first0(map: &[u64; NonterminalString::LIMIT], terminals: u16, symbols: &[
         tokens: tokens,
         nullable: taken.changed,
     }
+}
+
+// FIRST of a list with an answer, and of the symbols behind it: they are asked only where the answer is nullable.
+fn followed_by(
+    answer: Answer,
+    map: &[u64; NonterminalString::LIMIT],
+    terminals: u16,
+    symbols: &[u16],
+) -> Answer
+    requires { ⌜ (terminals ≤ terminalLimit) × (listFits nonterminalLimit terminalLimit (now symbols) ≡ true) ⌝ }
+    ensures { λ r. ⌜ r ≡ joinAnswers answer (first0 terminals (now (map .entry)) (listed (now (symbols .entry)))) ⌝ }
+{
+    if answer.nullable {
+        return answer.join(first0(map, terminals, symbols));
+    }
+    answer
+}
+
+// FIRST of two lists joined. Where the first is odd, a symbol begins with its last word and ends with the other's first.
+pub fn first0_joined(
+    map: &[u64; NonterminalString::LIMIT],
+    terminals: u16,
+    xs: &[u16],
+    ys: &[u16],
+) -> Answer
+    requires { ⌜ (terminals ≤ terminalLimit) × (listFits nonterminalLimit terminalLimit (now xs ++ now ys) ≡ true) ⌝ }
+    ensures { λ r. ⌜ r ≡ first0 terminals (now (map .entry)) (listed (now (xs .entry) ++ now (ys .entry))) ⌝ }
+{
+    if xs.len() % 2 == 0 {
+        let answer = first0(map, terminals, xs);
+        return followed_by(answer, map, terminals, ys);
+    }
+    let last = xs.len() - 1;
+    let straddling = [xs[last], ys[0]];
+    let front = first0(map, terminals, &xs[..last]);
+    let answer = followed_by(front, map, terminals, &straddling);
+    followed_by(answer, map, terminals, &ys[1..])
 }
 
 // FIRST of a list that a token of the lookahead follows.

@@ -14,6 +14,7 @@ use table::Checked;
 use trace_graph::TraceGraphNode;
 use tracer::Backtrace;
 ghost use mathlib.Core.Path.{_≡_};
+ghost use mathlib.Core.List.{_++_};
 ghost use Rattle.table.specs.Refusals.{checkOf};
 ghost use Rattle.state_graph.specs.States.{statesIn};
 ghost use Rattle.lr1.specs.Entries.{first0Of, first1Of, traceBackOf};
@@ -47,7 +48,21 @@ pub extern "C" fn lihvemur_first0(
 ) -> u16
     ensures { λ r. ⌜ answerNumbers r (now (place .exit)) (now (set .exit)) (now (nullable .exit)) ≡ firstNumbers (now (set .entry)) (now (nullable .entry)) (first0Of (now (table .entry)) (now (symbols .entry))) ⌝ }
 {
-    match lr1::first0(table, symbols) {
+    lihvemur_first0_joined(table, &symbols[..0], symbols, set, nullable, place)
+}
+
+#[no_mangle]
+pub extern "C" fn lihvemur_first0_joined(
+    table: &[u16],
+    xs: &[u16],
+    ys: &[u16],
+    set: &mut u64,
+    nullable: &mut bool,
+    place: &mut u16,
+) -> u16
+    ensures { λ r. ⌜ answerNumbers r (now (place .exit)) (now (set .exit)) (now (nullable .exit)) ≡ firstNumbers (now (set .entry)) (now (nullable .entry)) (first0Of (now (table .entry)) (now (xs .entry) ++ now (ys .entry))) ⌝ }
+{
+    match lr1::first0_joined(table, xs, ys) {
         First::Answered(answer) => {
             *place = 0;
             *set = answer.tokens.0;
@@ -95,7 +110,22 @@ pub extern "C" fn lihvemur_trace_back(
 ) -> u16
     ensures { λ r. ⌜ stateNumbers r (now (place .exit)) (statesIn (now (low .exit)) (now (high .exit))) ≡ walkNumbers (statesIn (now (low .entry)) (now (high .entry))) (traceBackOf (now (table .entry)) state (now (symbols .entry))) ⌝ }
 {
-    match lr1::trace_back(table, StateIndex(state), symbols) {
+    lihvemur_trace_back_joined(table, state, &symbols[..0], symbols, low, high, place)
+}
+
+#[no_mangle]
+pub extern "C" fn lihvemur_trace_back_joined(
+    table: &[u16],
+    state: u16,
+    xs: &[u16],
+    ys: &[u16],
+    low: &mut u64,
+    high: &mut u64,
+    place: &mut u16,
+) -> u16
+    ensures { λ r. ⌜ stateNumbers r (now (place .exit)) (statesIn (now (low .exit)) (now (high .exit))) ≡ walkNumbers (statesIn (now (low .entry)) (now (high .entry))) (traceBackOf (now (table .entry)) state (now (xs .entry) ++ now (ys .entry))) ⌝ }
+{
+    match lr1::trace_back_joined(table, StateIndex(state), xs, ys) {
         Walked::States(states) => {
             *place = 0;
             *low = states.low;

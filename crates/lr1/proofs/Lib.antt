@@ -1,3 +1,4 @@
 pub mod Entered
 pub mod Graphs
 pub mod Textbook
+pub mod Joining

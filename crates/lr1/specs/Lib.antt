@@ -1,3 +1,4 @@
 pub mod Entries
 pub mod Edges
 pub mod Textbook
+pub mod Joining

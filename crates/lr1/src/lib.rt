@@ -4,6 +4,7 @@ use first::Answer;
 use first::FirstSets;
 use lookahead::TokenSet;
 use repr::ProductionIndex;
+use repr::joined_fits;
 use repr::list_fits;
 use repr::word;
 use state_graph::StateIndex;
@@ -20,6 +21,7 @@ use trace_graph::edge_fits;
 use trace_graph::insert;
 use tracer::Backtrace;
 ghost use mathlib.Core.Path.{_≡_};
+ghost use mathlib.Core.List.{_++_};
 ghost use Rattle.first.specs.First.{firstSets};
 ghost use Rattle.table.specs.Decoded.{meaning};
 ghost use Rattle.table.specs.Refusals.{checkOf};
@@ -45,9 +47,16 @@ pub enum First {
 pub fn first0(table: &[u16], symbols: &[u16]) -> First
     ensures { λ r. ⌜ r ≡ first0Of (now (table .entry)) (now (symbols .entry)) ⌝ }
 {
+    first0_joined(table, &symbols[..0], symbols)
+}
+
+// FIRST of two lists joined, which may break a symbol between them (request 14 of document 02).
+pub fn first0_joined(table: &[u16], xs: &[u16], ys: &[u16]) -> First
+    ensures { λ r. ⌜ r ≡ first0Of (now (table .entry)) (now (xs .entry) ++ now (ys .entry)) ⌝ }
+{
     match table_check::check(table) {
         Checked::Refused(refusal, place) => First::Refused(refusal, place),
-        Checked::Accepted => first0_in(table, symbols),
+        Checked::Accepted => first0_in(table, xs, ys),
     }
 }
 
@@ -62,16 +71,16 @@ fn first_sets(table: &[u16]) -> FirstSets
     FirstSets::new(&grammar, counts.productions, counts.terminals as u16)
 }
 
-fn first0_in(table: &[u16], symbols: &[u16]) -> First
+fn first0_in(table: &[u16], xs: &[u16], ys: &[u16]) -> First
     requires { ⌜ checkOf (now table) ≡ Checked.Accepted ⌝ }
-    ensures { λ r. ⌜ r ≡ first0In (now (symbols .entry)) (meaning (now (table .entry))) ⌝ }
+    ensures { λ r. ⌜ r ≡ first0In (now (xs .entry) ++ now (ys .entry)) (meaning (now (table .entry))) ⌝ }
 {
     let counts = read_counts(table);
     let terminals = counts.terminals;
-    if list_fits(counts.nonterminals, terminals, symbols) {
+    if joined_fits(counts.nonterminals, terminals, xs, ys) {
         let sets = first_sets(table);
         let map = sets.map;
-        First::Answered(first::first0(&map, terminals as u16, symbols))
+        First::Answered(first::first0_joined(&map, terminals as u16, xs, ys))
     } else {
         First::Refused(9, 0)
     }
@@ -120,21 +129,28 @@ pub enum Walked {
 pub fn trace_back(table: &[u16], state: StateIndex, symbols: &[u16]) -> Walked
     ensures { λ r. ⌜ walkOf r ≡ traceBackOf (now (table .entry)) (state .0) (now (symbols .entry)) ⌝ }
 {
+    trace_back_joined(table, state, &symbols[..0], symbols)
+}
+
+// The same over two lists joined, which may break a symbol between them (request 14 of document 02).
+pub fn trace_back_joined(table: &[u16], state: StateIndex, xs: &[u16], ys: &[u16]) -> Walked
+    ensures { λ r. ⌜ walkOf r ≡ traceBackOf (now (table .entry)) (state .0) (now (xs .entry) ++ now (ys .entry)) ⌝ }
+{
     match table_check::check(table) {
         Checked::Refused(refusal, place) => Walked::Refused(refusal, place),
-        Checked::Accepted => trace_back_in(table, state, symbols),
+        Checked::Accepted => trace_back_in(table, state, xs, ys),
     }
 }
 
-fn trace_back_in(table: &[u16], state: StateIndex, symbols: &[u16]) -> Walked
+fn trace_back_in(table: &[u16], state: StateIndex, xs: &[u16], ys: &[u16]) -> Walked
     requires { ⌜ checkOf (now table) ≡ Checked.Accepted ⌝ }
-    ensures { λ r. ⌜ walkOf r ≡ traceBackIn (state .0) (now (symbols .entry)) (meaning (now (table .entry))) ⌝ }
+    ensures { λ r. ⌜ walkOf r ≡ traceBackIn (state .0) (now (xs .entry) ++ now (ys .entry)) (meaning (now (table .entry))) ⌝ }
 {
     let counts = read_counts(table);
     let number = state.0 as usize;
     if number < counts.states {
-        if list_fits(counts.nonterminals, counts.terminals, symbols) {
-            return Walked::States(state_graph::trace_back(table, number, symbols));
+        if joined_fits(counts.nonterminals, counts.terminals, xs, ys) {
+            return Walked::States(state_graph::trace_back_joined(table, number, xs, ys));
         }
     }
     Walked::Refused(9, 0)

@@ -9,9 +9,10 @@
 // 11 choose (state, production, action, operand, the set's four words, how many words of scratch and of entries are lent);
 // 12 observed (number of words of the first buffer, its words, then the second's);
 // 13 opening a listing (production, index, whether it is filtered, the set's four words, how many words of the graph are lent, the words at its front);
-// 14 token sets (number of terminals, token, four words of a first set, four of a second); 15 an item (production, index).
+// 14 token sets (number of terminals, token, four words of a first set, four of a second); 15 an item (production, index);
+// 16 first0_joined (number of words of the first list, its words, then the second's); 17 trace_back_joined (state, then as 16).
 // An answer begins with answer and place, then what stands behind the other references, whether the call wrote it or not: it was 7 before (a set: token 7; whether a list is nullable: yes; a count of entries: 77).
-// 2: whether the list is nullable, the set's tokens. 3: the set's tokens. 4: the states. 5, 6, 7: number of edges, digest of the graph, of 5 and 6 that of the scratch; with answer 0 the count and the edges.
+// 2, 16: whether the list is nullable, the set's tokens. 3: the set's tokens. 4, 17: the states. 5, 6, 7: number of edges, digest of the graph, of 5 and 6 that of the scratch; with answer 0 the count and the edges.
 // 8: count, openness, digests of scratch and buffer, the buffer's first 16 words. 9: number of calls, digests of scratch and output, the output's first 24 words.
 // 10: class, own values in halves of one word, trials of both sides, digests of scratch and both buffers, the words of each example that the class has. 11: count, digests of scratch and entries, the entries.
 // 12: in which buffer, number of words, the words (no place). 14: length, whether it has the token, whether the end; the set after insert, insert_eof, take_eof and whether each did something; the same of union_with;
@@ -39,6 +40,7 @@ use repr::word;
 use sets::ask_item;
 use sets::ask_sets;
 use traces::ask_trace;
+use walks::ask_joined;
 use walks::ask_walk;
 ghost use Prim.Native.Nat.{_≤_, _<_, _*_};
 ghost use lib.ListN.{length};
@@ -89,6 +91,10 @@ fn ask_other(op: u16, table: &[u16], more: &[u16]) {
         ask_sets(more);
     } else if op == 15 {
         ask_item(table, more);
+    } else if op == 16 {
+        ask_joined(op, table, more);
+    } else if op == 17 {
+        ask_joined(op, table, more);
     } else {
         io::write_all(STDOUT_FILENO, b"?");
     }

@@ -5,3 +5,4 @@ pub mod Packed
 pub mod Parts
 pub mod SameSymbol
 pub mod Fronts
+pub mod Joined

@@ -80,11 +80,11 @@ symbol-wider n t n′ t′ zero x hn ht e = let h = ltb-true x n e in lt-ltb x n
 symbol-wider n t n′ t′ (suc zero) x hn ht e = let h = ltb-true x t e in lt-ltb x t′ (omega arith)
 symbol-wider n t n′ t′ (suc (suc k)) x hn ht e = e
 
-and-left : (a b : Bool) → a && b ≡ true → a ≡ true
+pub and-left : (a b : Bool) → a && b ≡ true → a ≡ true
 and-left true b e = refl
 and-left false b e = e
 
-and-right : (a b : Bool) → a && b ≡ true → b ≡ true
+pub and-right : (a b : Bool) → a && b ≡ true → b ≡ true
 and-right true b e = e
 and-right false b e = let z : _≡_ {A = ℕ} 0 1 = cc in absurd (omega arith)
 

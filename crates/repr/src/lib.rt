@@ -1,7 +1,7 @@
 // Kinds of number, kept apart as in the Rust, and the productions of a table in a fixed number of words (specs/Packed).
 ghost use mathlib.Core.Path.{_≡_};
 ghost use mathlib.Core.Bool.{Bool, true, false};
-ghost use mathlib.Core.List.{List, map};
+ghost use mathlib.Core.List.{List, map, _++_};
 ghost use Prim.Native.Nat.{ℕ, _+_, _*_, _≤_, _<_};
 ghost use lib.ListN.{length, getD};
 ghost use lib.Seq.{slice};
@@ -69,6 +69,30 @@ pub fn list_fits(n: usize, t: usize, list: &[u16]) -> bool
         }
     }
     true
+}
+
+// The same of two lists joined. Where the first is odd, a symbol begins with its last word and ends with the other's first.
+pub fn joined_fits(n: usize, t: usize, xs: &[u16], ys: &[u16]) -> bool
+    ensures { λ r. ⌜ r ≡ listFits n t (now (xs .entry) ++ now (ys .entry)) ⌝ }
+{
+    if xs.len() % 2 == 0 {
+        if list_fits(n, t, xs) {
+            return list_fits(n, t, ys);
+        }
+        return false;
+    }
+    if ys.len() == 0 {
+        return false;
+    }
+    let last = xs.len() - 1;
+    if list_fits(n, t, &xs[..last]) {
+        let kind = word(xs, last);
+        let number = word(ys, 0);
+        if symbol_fits(n, t, kind, number) {
+            return list_fits(n, t, &ys[1..]);
+        }
+    }
+    false
 }
 
 // A production's symbols, as a part of the packed words.

@@ -3,3 +3,5 @@ pub mod States
 pub mod Edges
 pub mod Sources
 pub mod Steps
+pub mod Joined
+pub mod Merged

@@ -122,7 +122,7 @@ pub states-has : (l h s : ℕ) → mem s (statesIn l h) ≡ true → hasState l 
 states-has l h s e = sym (mem-states l h s (states-below l h s e)) ∙ e
 
 -- one state
-one-of-range : (t from n : ℕ) → from ≤ t → t < from + n → keep (λ (s : ℕ). eqb s t) (upFrom from n) ≡ t ∷ []
+pub one-of-range : (t from n : ℕ) → from ≤ t → t < from + n → keep (λ (s : ℕ). eqb s t) (upFrom from n) ≡ t ∷ []
 unfolding upFrom
 one-of-range t from zero i j = absurd (omega arith)
 one-of-range t from (suc n) i j =

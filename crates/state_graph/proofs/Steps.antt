@@ -64,7 +64,7 @@ module _ (T : Table) where
       some?-agree-on (λ m. predHas ws (length (T .states)) (rowOf (length (T .nonterminals)) k x) m p) (λ m. hasEdge T (symbolOfKind k x) m p) ss (λ m e. P .exact k x m p f (inside m e) h)
       ∙ sym (leads-some (symbolOfKind k x) ss p)
 
-range-more : (t : ℕ → Bool) (n d : ℕ) → ((k : ℕ) → n ≤ k → t k ≡ false) → keep t (below (n + d)) ≡ keep t (below n)
+pub range-more : (t : ℕ → Bool) (n d : ℕ) → ((k : ℕ) → n ≤ k → t k ≡ false) → keep t (below (n + d)) ≡ keep t (below n)
 unfolding below
 range-more t n d f =
     ap (keep t) (range-two 0 n d) ∙ keep-append t (upFrom 0 n) (upFrom (0 + n) d)
@@ -132,12 +132,12 @@ pub record Walking (T : Table) (ws : List ℕ) (l₀ h₀ l h i : ℕ) : Type 0 
   pub same : statesIn l h ≡ walkBack T (statesIn l₀ h₀) (listed (drop (2 * i) ws))
 
 module _ (T : Table) (ws : List ℕ) (f : listFits (length (T .nonterminals)) (T .terminals) ws ≡ true) where
-  pub walking-start : (l h i : ℕ) → i ≡ length ws / 2 → ((s : ℕ) → hasState l h s ≡ true → s < length (T .states)) → Walking T ws l h l h i
+  pub walking-start : (l h i : ℕ) → i ≡ length ws / 2 → ((s : ℕ) → mem s (statesIn l h) ≡ true → s < length (T .states)) → Walking T ws l h l h i
   walking-start l h i e inside =
       let even = length-listed (length (T .nonterminals)) (T .terminals) ws f in
       record {
         on = omega arith;
-        inside = λ s m. inside s (states-has l h s m);
+        inside = inside;
         same = rw (listed-none ws (2 * i) (omega arith), walk-nil T (statesIn l h));
       }
 
@@ -177,9 +177,9 @@ module _ (T : Table) (ws : List ℕ) (f : listFits (length (T .nonterminals)) (T
   walking-done l₀ h₀ l h i W e = rw e at (W .same)
 
 -- back from one state: the set of it, and the walk
-pub one-inside : (l h s n : ℕ) → s < n → ((k : ℕ) → hasState l h k ≡ (ltb k 128 && eqb k s)) → (k : ℕ) → hasState l h k ≡ true → k < n
+pub one-inside : (l h s n : ℕ) → s < n → ((k : ℕ) → hasState l h k ≡ (ltb k 128 && eqb k s)) → (k : ℕ) → mem k (statesIn l h) ≡ true → k < n
 one-inside l h s n i f k e =
-    let q = eqb-true k s (and-both (ltb k 128) (eqb k s) (sym (f k) ∙ e) .1) in
+    let q = eqb-true k s (and-both (ltb k 128) (eqb k s) (sym (f k) ∙ states-has l h k e) .1) in
     omega arith
 
 pub traced : (T : Table) → TableFits T → (s : ℕ) → s < length (T .states) → (a b l h : ℕ) (xs : List Symbol) → ((k : ℕ) → hasState a b k ≡ (ltb k 128 && eqb k s))

@@ -1,5 +1,5 @@
 -- The state walk, part 3 of document 01 (lr1/state_graph.rs). Assumes nothing: these are definitions.
-use Prim.Native.Nat.{ℕ, _<_}
+use Prim.Native.Nat.{ℕ, suc, _+_, _<_}
 use mathlib.Core.Bool.{Bool, true, false, _&&_}
 use mathlib.Core.Path.{_≡_}
 use mathlib.Core.List.{List, [], _∷_, List·Memᴰ}
@@ -28,6 +28,15 @@ walkBack T ss (x ∷ xs) = predecessors T x (walkBack T ss xs)
 -- `trace_back`: the states from which a path spells the symbols and ends at state s, ascending, once each (`trace-exact` and `trace-ascending` of proofs/Exact)
 unfoldable pub traceBack : Table → ℕ → List Symbol → List ℕ
 traceBack T s xs = walkBack T (s ∷ []) xs
+
+-- a number above all of these
+unfoldable pub above : List ℕ → ℕ
+above [] = 0
+above (n ∷ ns) = suc n + above ns
+
+-- numbers merged: ascending, once each
+unfoldable pub merged : List ℕ → List ℕ
+merged ns = keep (λ n. mem n ns) (below (above ns))
 
 -- ascending, so once each
 abbrev pub Ascending : List ℕ → Type 0

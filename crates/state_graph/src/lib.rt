@@ -9,7 +9,7 @@ use table::first_edge;
 use table::read_counts;
 ghost use mathlib.Core.Path.{_≡_};
 ghost use mathlib.Core.Bool.{Bool, true, false, _&&_, _||_};
-ghost use mathlib.Core.List.{List};
+ghost use mathlib.Core.List.{List, _++_};
 ghost use Prim.Native.Nat.{ℕ, _+_, _*_, _≤_, _<_};
 ghost use lib.Dec.{eqb, ltb};
 ghost use lib.ListN.{length, getD, replicate};
@@ -321,7 +321,7 @@ fn step(
 pub fn walk_back(table: &[u16], preds: &[u64], set: StateSet, symbols: &[u16]) -> StateSet
     requires { ⌜ checkOf (now table) ≡ Checked.Accepted ⌝ }
     requires { ⌜ Preds (meaning (now table)) (now preds) ⌝ }
-    requires { ⌜ (listFits (length (meaning (now table) .nonterminals)) (meaning (now table) .terminals) (now symbols) ≡ true) × ((s : ℕ) → hasState (set .low) (set .high) s ≡ true → s < length (meaning (now table) .states)) ⌝ }
+    requires { ⌜ (listFits (length (meaning (now table) .nonterminals)) (meaning (now table) .terminals) (now symbols) ≡ true) × ((s : ℕ) → mem s (statesIn (set .low) (set .high)) ≡ true → s < length (meaning (now table) .states)) ⌝ }
     ensures { λ r. ⌜ statesIn (r .low) (r .high) ≡ walkBack (meaning (now (table .entry))) (statesIn (set .low) (set .high)) (listed (now (symbols .entry))) ⌝ }
 {
     let counts = read_counts(table);
@@ -338,47 +338,84 @@ pub fn walk_back(table: &[u16], preds: &[u64], set: StateSet, symbols: &[u16]) -
     found
 }
 
-// With the index in words that are lent.
-fn trace_over(table: &[u16], preds: &mut [u64], state: usize, symbols: &[u16]) -> StateSet
+// Back over two lists joined: over the second and, from the states found, over the first. Where the first is odd, a symbol begins with its last word and ends with the other's first.
+fn walk_joined(table: &[u16], preds: &[u64], set: StateSet, xs: &[u16], ys: &[u16]) -> StateSet
     requires { ⌜ checkOf (now table) ≡ Checked.Accepted ⌝ }
-    requires { ⌜ (state < length (meaning (now table) .states)) × (listFits (length (meaning (now table) .nonterminals)) (meaning (now table) .terminals) (now symbols) ≡ true) ⌝ }
+    requires { ⌜ Preds (meaning (now table)) (now preds) ⌝ }
+    requires { ⌜ (listFits (length (meaning (now table) .nonterminals)) (meaning (now table) .terminals) (now xs ++ now ys) ≡ true) × ((s : ℕ) → mem s (statesIn (set .low) (set .high)) ≡ true → s < length (meaning (now table) .states)) ⌝ }
+    ensures { λ r. ⌜ statesIn (r .low) (r .high) ≡ walkBack (meaning (now (table .entry))) (statesIn (set .low) (set .high)) (listed (now (xs .entry) ++ now (ys .entry))) ⌝ }
+{
+    if xs.len() % 2 == 0 {
+        let found = walk_back(table, preds, set, ys);
+        return walk_back(table, preds, found, xs);
+    }
+    let last = xs.len() - 1;
+    let straddling = [xs[last], ys[0]];
+    let behind = walk_back(table, preds, set, &ys[1..]);
+    let found = walk_back(table, preds, behind, &straddling);
+    walk_back(table, preds, found, &xs[..last])
+}
+
+// With the index in words that are lent.
+fn trace_over(table: &[u16], preds: &mut [u64], state: usize, xs: &[u16], ys: &[u16]) -> StateSet
+    requires { ⌜ checkOf (now table) ≡ Checked.Accepted ⌝ }
+    requires { ⌜ (state < length (meaning (now table) .states)) × (listFits (length (meaning (now table) .nonterminals)) (meaning (now table) .terminals) (now xs ++ now ys) ≡ true) ⌝ }
     requires { ⌜ (predWords (meaning (now table)) ≤ length (now preds)) × (now preds ≡ replicate (length (now preds)) 0) ⌝ }
-    ensures { λ r. ⌜ statesIn (r .low) (r .high) ≡ traceBack (meaning (now (table .entry))) state (listed (now (symbols .entry))) ⌝ }
+    ensures { λ r. ⌜ statesIn (r .low) (r .high) ≡ traceBack (meaning (now (table .entry))) state (listed (now (xs .entry) ++ now (ys .entry))) ⌝ }
 {
     index(table, preds);
-    walk_back(table, preds, StateSet::of(state), symbols)
+    walk_joined(table, preds, StateSet::of(state), xs, ys)
 }
 
 // With the index in an array of at most 512 words.
-fn trace_few(table: &[u16], state: usize, symbols: &[u16]) -> StateSet
+fn trace_few(table: &[u16], state: usize, xs: &[u16], ys: &[u16]) -> StateSet
     requires { ⌜ checkOf (now table) ≡ Checked.Accepted ⌝ }
-    requires { ⌜ (state < length (meaning (now table) .states)) × (listFits (length (meaning (now table) .nonterminals)) (meaning (now table) .terminals) (now symbols) ≡ true) ⌝ }
+    requires { ⌜ (state < length (meaning (now table) .states)) × (listFits (length (meaning (now table) .nonterminals)) (meaning (now table) .terminals) (now xs ++ now ys) ≡ true) ⌝ }
     requires { ⌜ predWords (meaning (now table)) ≤ 512 ⌝ }
-    ensures { λ r. ⌜ statesIn (r .low) (r .high) ≡ traceBack (meaning (now (table .entry))) state (listed (now (symbols .entry))) ⌝ }
+    ensures { λ r. ⌜ statesIn (r .low) (r .high) ≡ traceBack (meaning (now (table .entry))) state (listed (now (xs .entry) ++ now (ys .entry))) ⌝ }
 {
     let mut preds = [0u64; 512];
-    trace_over(table, &mut preds, state, symbols)
+    trace_over(table, &mut preds, state, xs, ys)
 }
 
 // The same for at most 4,096 words.
-fn trace_some(table: &[u16], state: usize, symbols: &[u16]) -> StateSet
+fn trace_some(table: &[u16], state: usize, xs: &[u16], ys: &[u16]) -> StateSet
     requires { ⌜ checkOf (now table) ≡ Checked.Accepted ⌝ }
-    requires { ⌜ (state < length (meaning (now table) .states)) × (listFits (length (meaning (now table) .nonterminals)) (meaning (now table) .terminals) (now symbols) ≡ true) ⌝ }
+    requires { ⌜ (state < length (meaning (now table) .states)) × (listFits (length (meaning (now table) .nonterminals)) (meaning (now table) .terminals) (now xs ++ now ys) ≡ true) ⌝ }
     requires { ⌜ predWords (meaning (now table)) ≤ 4096 ⌝ }
-    ensures { λ r. ⌜ statesIn (r .low) (r .high) ≡ traceBack (meaning (now (table .entry))) state (listed (now (symbols .entry))) ⌝ }
+    ensures { λ r. ⌜ statesIn (r .low) (r .high) ≡ traceBack (meaning (now (table .entry))) state (listed (now (xs .entry) ++ now (ys .entry))) ⌝ }
 {
     let mut preds = [0u64; 4096];
-    trace_over(table, &mut preds, state, symbols)
+    trace_over(table, &mut preds, state, xs, ys)
 }
 
 // For every table: at most 95 rows of 128 states.
-fn trace_many(table: &[u16], state: usize, symbols: &[u16]) -> StateSet
+fn trace_many(table: &[u16], state: usize, xs: &[u16], ys: &[u16]) -> StateSet
     requires { ⌜ checkOf (now table) ≡ Checked.Accepted ⌝ }
-    requires { ⌜ (state < length (meaning (now table) .states)) × (listFits (length (meaning (now table) .nonterminals)) (meaning (now table) .terminals) (now symbols) ≡ true) ⌝ }
-    ensures { λ r. ⌜ statesIn (r .low) (r .high) ≡ traceBack (meaning (now (table .entry))) state (listed (now (symbols .entry))) ⌝ }
+    requires { ⌜ (state < length (meaning (now table) .states)) × (listFits (length (meaning (now table) .nonterminals)) (meaning (now table) .terminals) (now xs ++ now ys) ≡ true) ⌝ }
+    ensures { λ r. ⌜ statesIn (r .low) (r .high) ≡ traceBack (meaning (now (table .entry))) state (listed (now (xs .entry) ++ now (ys .entry))) ⌝ }
 {
     let mut preds = [0u64; 24320];
-    trace_over(table, &mut preds, state, symbols)
+    trace_over(table, &mut preds, state, xs, ys)
+}
+
+// `trace_back` of one state, over two lists joined.
+pub fn trace_back_joined(table: &[u16], state: usize, xs: &[u16], ys: &[u16]) -> StateSet
+    requires { ⌜ checkOf (now table) ≡ Checked.Accepted ⌝ }
+    requires { ⌜ (state < length (meaning (now table) .states)) × (listFits (length (meaning (now table) .nonterminals)) (meaning (now table) .terminals) (now xs ++ now ys) ≡ true) ⌝ }
+    ensures { λ r. ⌜ statesIn (r .low) (r .high) ≡ traceBack (meaning (now (table .entry))) state (listed (now (xs .entry) ++ now (ys .entry))) ⌝ }
+{
+    let counts = read_counts(table);
+    let rows = counts.nonterminals + counts.terminals;
+    let states = counts.states;
+    let words = rows * states * 2;
+    if words <= 512 {
+        trace_few(table, state, xs, ys)
+    } else if words <= 4096 {
+        trace_some(table, state, xs, ys)
+    } else {
+        trace_many(table, state, xs, ys)
+    }
 }
 
 // `trace_back` of one state.
@@ -387,15 +424,5 @@ pub fn trace_back(table: &[u16], state: usize, symbols: &[u16]) -> StateSet
     requires { ⌜ (state < length (meaning (now table) .states)) × (listFits (length (meaning (now table) .nonterminals)) (meaning (now table) .terminals) (now symbols) ≡ true) ⌝ }
     ensures { λ r. ⌜ statesIn (r .low) (r .high) ≡ traceBack (meaning (now (table .entry))) state (listed (now (symbols .entry))) ⌝ }
 {
-    let counts = read_counts(table);
-    let rows = counts.nonterminals + counts.terminals;
-    let states = counts.states;
-    let words = rows * states * 2;
-    if words <= 512 {
-        trace_few(table, state, symbols)
-    } else if words <= 4096 {
-        trace_some(table, state, symbols)
-    } else {
-        trace_many(table, state, symbols)
-    }
+    trace_back_joined(table, state, &symbols[..0], symbols)
 }

@@ -15,6 +15,7 @@ use Rattle.repr.specs.Meaning.{Symbol, Production, Table, productionAt, noProdu
 use Rattle.repr.specs.Listed.{symbolOfKind, listed, symbolFits, listFits}
 use Rattle.repr.specs.Packed.{symbolWords, productionIn, productionsIn, Packed}
 use Rattle.repr.proofs.Listed.{symbol-range, symbol-wider}
+use Rattle.repr.proofs.Joined.{listed-append, fits-append, fits-one}
 use Rattle.repr.proofs.Lists.{cases, clash, mem-nil, mem-no, mem-cons-here, mem-cons-there, length-map-below, getD-map-below}
 use Rattle.repr.proofs.Tests.{All-at}
 use Rattle.table.specs.Words.{wordAt, nonterminals, productions, productionArea, looseRecords, chain, productionRecords}
@@ -170,21 +171,10 @@ module _ (t : List ℕ) (e : checkOf t ≡ Accepted) where
 
 pub listed-snoc : (n : ℕ) (ws : List ℕ) (k x : ℕ) → length ws ≡ 2 * n → listed (ws ++ k ∷ x ∷ []) ≡ listed ws ++ symbolOfKind k x ∷ []
 unfolding listed
-listed-snoc zero [] k x l = refl
-listed-snoc zero (a ∷ ws) k x l = absurd (omega arith)
-listed-snoc (suc n) [] k x l = absurd (omega arith)
-listed-snoc (suc n) (a ∷ []) k x l = absurd (omega arith)
-listed-snoc (suc n) (a ∷ b ∷ ws) k x l = ap (λ (s : List Symbol). symbolOfKind a b ∷ s) (listed-snoc n ws k x (omega arith))
+listed-snoc n ws k x l = listed-append ws (k ∷ x ∷ []) (omega arith)
 
 pub fits-snoc : (n t m : ℕ) (ws : List ℕ) (k x : ℕ) → length ws ≡ 2 * m → listFits n t ws ≡ true → symbolFits n t k x ≡ true → listFits n t (ws ++ k ∷ x ∷ []) ≡ true
-unfolding listFits
-fits-snoc n t zero [] k x l e f = rw f
-fits-snoc n t zero (a ∷ ws) k x l e f = absurd (omega arith)
-fits-snoc n t (suc m) [] k x l e f = absurd (omega arith)
-fits-snoc n t (suc m) (a ∷ []) k x l e f = absurd (omega arith)
-fits-snoc n t (suc m) (a ∷ b ∷ ws) k x l e f =
-    let p = and-true (symbolFits n t a b) (listFits n t ws) e in
-    and-both (symbolFits n t a b) (listFits n t (ws ++ k ∷ x ∷ [])) (p .0) (fits-snoc n t m ws k x (omega arith) (p .1) f)
+fits-snoc n t m ws k x l e f = fits-append n t ws (k ∷ x ∷ []) (omega arith) ∙ rw (e, fits-one n t k x, f)
 
 put-two : (g : List ℕ) (a j k x : ℕ) → a + j + 1 < length g → take (j + 2) (drop a (set (set g (a + j) k) (a + j + 1) x)) ≡ take j (drop a g) ++ k ∷ x ∷ []
 put-two g a j k x h =

@@ -138,12 +138,6 @@ fits-words g n p i e =
     let c = leb-true i (length (getD (productionsIn g n) p noProduction .symbols)) (r .1) in
     (h, rw (getD-map-below (productionIn g) n p noProduction h) at c)
 
--- the set of one state
-pub one-inside : (l h s m : ℕ) → ((k : ℕ) → hasState l h k ≡ (ltb k 128 && eqb k s)) → s < m → (k : ℕ) → hasState l h k ≡ true → k < m
-one-inside l h s m e a k t =
-    let q = eqb-true k s (and-both (ltb k 128) (eqb k s) (sym (e k) ∙ t) .1) in
-    omega arith
-
 -- the flags, item by item
 
 short-in : (g : List ℕ) (n : ℕ) (P : Packed g n) (T : Table) → T .productions ≡ productionsIn g n → (j : Item) → ItemFits T j → (j .production < n) × (j .index ≤ 16)

@@ -88,12 +88,14 @@ fn rest(more: &[u16], from: usize) -> &[u16] {
     &more[from.min(more.len())..]
 }
 
-fn set_at(more: &[u16], i: usize) -> u64 {
-    (0..4).fold(0, |set, k| set | (at(more, i + k) as u64) << (16 * k))
+/// Two lists of words, in front the first one's number.
+fn two_lists(more: &[u16]) -> (&[u16], &[u16]) {
+    let words = rest(more, 1);
+    words.split_at(number(more, 0).min(words.len()))
 }
 
-fn pairs(words: &[u16]) -> Option<Vec<Sym>> {
-    (words.len() % 2 == 0).then(|| words.chunks(2).map(|c| (c[0], c[1])).collect())
+fn set_at(more: &[u16], i: usize) -> u64 {
+    (0..4).fold(0, |set, k| set | (at(more, i + k) as u64) << (16 * k))
 }
 
 /// Words at the front of a lent list that held other words.
@@ -302,9 +304,8 @@ impl<'a> Answers<'a> {
             10 => self.classify(table, more),
             11 => self.choose(table, more),
             12 => {
-                let n = number(more, 0);
-                let action = &rest(more, 1)[..n.min(rest(more, 1).len())];
-                let (which, part) = observed(action, rest(more, 1 + n));
+                let (action, reduce) = two_lists(more);
+                let (which, part) = observed(action, reduce);
                 let mut out = vec![which, part.len() as u32];
                 out.extend(wide(part));
                 Some(out)
@@ -315,12 +316,20 @@ impl<'a> Answers<'a> {
             }
             14 => self.sets(more),
             15 => self.item(table, more),
+            16 => {
+                let (xs, ys) = two_lists(more);
+                Some(whole(self.side.first0_joined(table, xs, ys)?, &[1, 7]))
+            }
+            17 => {
+                let (xs, ys) = two_lists(rest(more, 1));
+                let answer = self.side.trace_back_joined(table, at(more, 0), xs, ys)?;
+                Some(whole(answer, &[7, 71]))
+            }
             _ => None,
         }
     }
 
-    /// Ops 2 to 4. A list of an odd number of words is no list of symbols: 9
-    /// where the table is accepted.
+    /// Ops 2 to 4.
     fn list_of(
         &mut self,
         table: &[u16],
@@ -328,9 +337,9 @@ impl<'a> Answers<'a> {
         ask: impl FnOnce(&mut dyn Side, &[Sym]) -> Option<Answer>,
         before: &[u32],
     ) -> Option<Answer> {
-        let answer = match pairs(words) {
+        let answer = match symbols_of(words) {
             Some(symbols) => ask(self.side, &symbols)?,
-            None => check(table).map_or_else(refused, |()| vec![9, 0]),
+            None => no_list(table),
         };
         Some(whole(answer, before))
     }

@@ -3,7 +3,7 @@
 
 use crate::plain::Firsts;
 use crate::question::{Case, Question};
-use crate::side::{graph_words, members};
+use crate::side::{graph_words, members, symbol_words};
 use crate::table::*;
 use std::collections::BTreeMap;
 
@@ -422,7 +422,30 @@ fn questions(rng: &mut Rng, table: &Table, conflicts: &[([u16; 4], u64)]) -> Vec
         }
         out.push(Question::Choose(c, tokens));
     }
+    let joined: Vec<Question> = (0..).zip(&out).flat_map(|(k, q)| in_two(k, q)).collect();
+    out.extend(joined);
     out
+}
+
+/// The question of a list asked of it in two parts, whole or with a word more.
+fn in_two(k: usize, q: &Question) -> Vec<Question> {
+    let parts = |s: &[Sym]| -> Vec<(Vec<u16>, Vec<u16>)> {
+        let words = symbol_words(s);
+        let cut = k % (words.len() + 1);
+        let half = |at: usize| (words[..at].to_vec(), words[at..].to_vec());
+        let (xs, mut ys) = half(words.len() - cut);
+        ys.push(0);
+        vec![half(cut), (xs, ys)]
+    };
+    match q {
+        Question::First0(s) => (parts(s).into_iter())
+            .map(|(xs, ys)| Question::FirstJoined(xs, ys))
+            .collect(),
+        Question::Back(state, s) => (parts(s).into_iter())
+            .map(|(xs, ys)| Question::BackJoined(*state, xs, ys))
+            .collect(),
+        _ => vec![],
+    }
 }
 
 fn finish(rng: &mut Rng, table: &Table, conflicts: &[([u16; 4], u64)]) -> Option<Case> {
@@ -820,6 +843,8 @@ fn damaged(rng: &mut Rng) -> Option<Case> {
             Question::Check,
             Question::First0(vec![(0, 0)]),
             Question::Classify([0, 0, 1, 0, 0]),
+            Question::FirstJoined(vec![0], vec![0]),
+            Question::BackJoined(0, vec![0], vec![0]),
         ],
     })
 }

@@ -52,6 +52,13 @@ entries! {
     trace_back is lihvemur_trace_back(
         table: &[u16], state: u16, symbols: &[u16], low: &mut u64, high: &mut u64, place: &mut u16
     );
+    first0_joined is lihvemur_first0_joined(
+        table: &[u16], xs: &[u16], ys: &[u16], set: &mut u64, nullable: &mut bool, place: &mut u16
+    );
+    trace_back_joined is lihvemur_trace_back_joined(
+        table: &[u16], state: u16, xs: &[u16], ys: &[u16], low: &mut u64, high: &mut u64,
+        place: &mut u16
+    );
     add_edge is lihvemur_add_edge(
         table: &[u16],
         [source_kind, source, source_index, target_kind, target, target_index, production, index]:

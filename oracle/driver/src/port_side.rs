@@ -262,6 +262,28 @@ impl Side for PortSide {
         })
     }
 
+    fn first0_joined(&mut self, table: &[u16], xs: &[u16], ys: &[u16]) -> Option<Answer> {
+        let (mut place, mut set, mut nullable) = (0, 0, false);
+        let refusal = first0_joined(table, xs, ys, &mut set, &mut nullable, &mut place);
+        answer((refusal, place), || {
+            std::iter::once(nullable.into()).chain(tokens(set))
+        })
+    }
+
+    fn trace_back_joined(
+        &mut self,
+        table: &[u16],
+        state: u16,
+        xs: &[u16],
+        ys: &[u16],
+    ) -> Option<Answer> {
+        let (mut place, mut low, mut high) = (0, 0, 0);
+        let refusal = trace_back_joined(table, state, xs, ys, &mut low, &mut high, &mut place);
+        answer((refusal, place), || {
+            tokens(low).chain(tokens(high).map(|s| 64 + s))
+        })
+    }
+
     /// Accepted it writes count and edges at the graph's front, with refusal 12
     /// nothing of the graph, and zeroes scratch; else it writes nothing.
     fn backtrace(&mut self, reduce: bool, table: &[u16], from: Traced) -> Option<Answer> {

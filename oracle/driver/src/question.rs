@@ -9,6 +9,9 @@ pub enum Question {
     First0(Vec<Sym>),
     First1(Vec<Sym>, u64),
     Back(u16, Vec<Sym>),
+    /// Two lists of words.
+    FirstJoined(Vec<u16>, Vec<u16>),
+    BackJoined(u16, Vec<u16>, Vec<u16>),
     Shift(u16, (u16, u16)),
     Reduce(u16, (u16, u16)),
     /// An edge's eight words, graph words.
@@ -40,6 +43,8 @@ pub fn ask(side: &mut dyn Side, table: &[u16], question: &Question) -> Option<An
         Question::First0(s) => side.first0(table, s),
         Question::First1(s, l) => side.first1(table, s, *l),
         Question::Back(state, s) => side.trace_back(table, *state, s),
+        Question::FirstJoined(xs, ys) => side.first0_joined(table, xs, ys),
+        Question::BackJoined(state, xs, ys) => side.trace_back_joined(table, *state, xs, ys),
         Question::Shift(state, item) => side.backtrace(false, table, (*state, *item)),
         Question::Reduce(state, item) => side.backtrace(true, table, (*state, *item)),
         Question::Add(edge, graph) => side.add_edge(table, graph, *edge),
@@ -83,6 +88,10 @@ impl std::fmt::Display for Question {
             Question::First0(s) => format!("first0 {}", pairs(s)),
             Question::First1(s, l) => format!("first1 {} / {}", pairs(s), set(Some(*l))),
             Question::Back(state, s) => format!("back {state} {}", pairs(s)),
+            Question::FirstJoined(xs, ys) => format!("first0-joined {} / {}", text(xs), text(ys)),
+            Question::BackJoined(state, xs, ys) => {
+                format!("back-joined {state} {} / {}", text(xs), text(ys))
+            }
             Question::Shift(state, i) => format!("shift {state} {} {}", i.0, i.1),
             Question::Reduce(state, i) => format!("reduce {state} {} {}", i.0, i.1),
             Question::Add(e, g) => format!("add {} / {}", text(e), text(g)),
@@ -139,6 +148,10 @@ pub fn parse(line: &str) -> Option<Question> {
         ("first0", s) => Question::First0(symbols(s)?),
         ("first1", s) => Question::First1(symbols(s)?, tokens(1)?),
         ("back", [state, s @ ..]) => Question::Back(*state, symbols(s)?),
+        ("first0-joined", xs) => Question::FirstJoined(xs.to_vec(), numbers(1)?),
+        ("back-joined", [state, xs @ ..]) => {
+            Question::BackJoined(*state, xs.to_vec(), numbers(1)?)
+        }
         ("shift", &[state, p, i]) => Question::Shift(state, (p, i)),
         ("reduce", &[state, p, i]) => Question::Reduce(state, (p, i)),
         ("add", e) => Question::Add(e.try_into().ok()?, numbers(1)?),

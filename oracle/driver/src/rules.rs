@@ -5,6 +5,7 @@ use crate::answers::set_words;
 use crate::conflicts::conflict;
 use crate::question::Question;
 use crate::sample::Maker;
+use crate::side::symbol_words;
 use crate::table::*;
 
 const N: fn(u16) -> Sym = |n| (0, n);
@@ -447,6 +448,69 @@ fn sets(m: &mut Maker) {
     }
 }
 
+/// Request 14 of document 02: lists in two parts at every word, of an odd
+/// number of words too, over tables that are refused too.
+fn in_two(m: &mut Maker) {
+    let productions: &[(u16, &[Sym])] = &[
+        (0, &[]),
+        (0, &[T(0)]),
+        (1, &[T(1)]),
+        (2, &[N(0), N(0)]),
+        (4, &[N(3), T(2)]),
+    ];
+    let states: &[(&[(u16, u16)], &[(Sym, u16)])] = &[
+        (&[(1, 0)], &[(N(0), 1), (T(0), 2), (T(1), 3)]),
+        (&[], &[(N(0), 2), (T(1), 3)]),
+        (&[], &[(N(0), 3), (T(0), 1)]),
+        (&[], &[(N(0), 2), (T(1), 4), (N(1), 0)]),
+        (&[], &[(T(0), 3), (N(0), 4), (N(1), 1)]),
+    ];
+    let t = table(5, 3, productions, states);
+    m.check(&t);
+    let lists: [&[Sym]; 16] = [
+        &[],
+        &[N(0)],
+        &[N(1)],
+        &[N(3)],
+        &[T(2)],
+        &[N(0), N(2)],
+        &[N(0), N(1)],
+        &[N(1), N(0)],
+        &[N(2), T(0)],
+        &[N(0), N(0), T(1)],
+        &[N(3), N(1)],
+        &[T(1), N(0), T(0)],
+        &[N(4), N(0)],
+        &[N(0), T(3)],
+        &[N(5), N(0)],
+        &[(2, 0), N(0)],
+    ];
+    for list in lists {
+        let words = symbol_words(list);
+        halves(m, &t, &words, &[0, 1, 2, 3, 4, 5]);
+        let more = [&words[..], &[1]].concat();
+        halves(m, &t, &more, &[3, 5]);
+    }
+    let b = table_b();
+    let words = symbol_words(&[N(0), T(0), N(0)]);
+    halves(m, &b, &words, &[0, 1, 2, 3, 4, 65_535]);
+    let mut bad = b.clone();
+    bad[48] = 12;
+    halves(m, &bad, &words, &[3, 4]);
+    halves(m, &bad, &words[..3], &[3, 4]);
+    halves(m, &[], &words[..2], &[0]);
+}
+
+fn halves(m: &mut Maker, t: &[u16], words: &[u16], states: &[u16]) {
+    for cut in 0..=words.len() {
+        let (xs, ys) = words.split_at(cut);
+        m.ask(t, &Question::FirstJoined(xs.to_vec(), ys.to_vec()));
+        for &state in states {
+            m.ask(t, &Question::BackJoined(state, xs.to_vec(), ys.to_vec()));
+        }
+    }
+}
+
 /// Accepted items of B, and a refused table before them.
 fn items_of_b(m: &mut Maker) {
     let b = table_b();
@@ -472,4 +536,5 @@ pub fn rules(m: &mut Maker<'_>) {
     last_bit(m);
     sets(m);
     items_of_b(m);
+    in_two(m);
 }

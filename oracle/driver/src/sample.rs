@@ -50,6 +50,10 @@ fn traces(q: &Question) -> bool {
     )
 }
 
+fn joins(q: &Question) -> bool {
+    matches!(q, Question::FirstJoined(..) | Question::BackJoined(..))
+}
+
 /// Op and further words of a question.
 fn request(q: &Question) -> Option<(u16, Vec<u16>)> {
     Some(match q {
@@ -61,6 +65,10 @@ fn request(q: &Question) -> Option<(u16, Vec<u16>)> {
         Question::Reduce(state, i) => (6, vec![*state, i.0, i.1, GRAPH, SCRATCH]),
         Question::Add(e, graph) => (7, [&e[..], &[GRAPH], graph].concat()),
         Question::Item(i) => (15, vec![i.0, i.1]),
+        Question::FirstJoined(xs, ys) => (16, [&[xs.len() as u16], &xs[..], ys].concat()),
+        Question::BackJoined(state, xs, ys) => {
+            (17, [&[*state, xs.len() as u16], &xs[..], ys].concat())
+        }
         _ => return None,
     })
 }
@@ -476,7 +484,7 @@ pub fn sample(side: &mut dyn Side) -> Sample {
     refused_first(&mut m);
     no_productions(&mut m);
     for kind in KINDS {
-        generated(&mut m, kind, |q| !traces(q));
+        generated(&mut m, kind, |q| !traces(q) && !joins(q));
     }
     traces_on_b(&mut m);
     lent(&mut m);

@@ -1,6 +1,6 @@
 //! One side of a comparison: the questions, and answers as words.
 
-use crate::table::{Refusal, Sym, Table, refuse};
+use crate::table::{Refusal, Sym, Table, check, refuse};
 
 /// Answer words. First 0 for an answer, or the refusal's number and place.
 ///
@@ -10,6 +10,7 @@ use crate::table::{Refusal, Sym, Table, refuse};
 /// | first0 | 1 if the list is nullable else 0, its terminals, ascending |
 /// | first1 | the tokens, ascending |
 /// | trace_back | the states, ascending |
+/// | first0_joined, trace_back_joined | as first0, trace_back |
 /// | backtrace, add_edge | number of edges, eight words an edge |
 /// | examples | 1 if refused by 13 else 0, count, number of examples; of each: trial, number of words, words |
 /// | classify | class, trials of action and reduce side, number of own words, own words, then for both examples: number of words (0 for none), words |
@@ -46,6 +47,28 @@ pub trait Side {
     }
     fn trace_back(&mut self, _table: &[u16], _state: u16, _symbols: &[Sym]) -> Option<Answer> {
         None
+    }
+    /// Two lists of words (request 14 of document 02): answered as on the
+    /// joined one, so a symbol may begin in the one and end in the other.
+    fn first0_joined(&mut self, table: &[u16], xs: &[u16], ys: &[u16]) -> Option<Answer> {
+        let asked = [xs, ys].concat();
+        match symbols_of(&asked) {
+            Some(symbols) => self.first0(table, &symbols),
+            None => Some(no_list(table)),
+        }
+    }
+    fn trace_back_joined(
+        &mut self,
+        table: &[u16],
+        state: u16,
+        xs: &[u16],
+        ys: &[u16],
+    ) -> Option<Answer> {
+        let walked = [xs, ys].concat();
+        match symbols_of(&walked) {
+            Some(symbols) => self.trace_back(table, state, &symbols),
+            None => Some(no_list(table)),
+        }
     }
     /// `backtrace_reduce` if `reduce`, else `backtrace_shift`.
     fn backtrace(&mut self, _reduce: bool, _table: &[u16], _from: Traced) -> Option<Answer> {
@@ -85,6 +108,17 @@ pub trait Side {
 
 pub fn refused(r: Refusal) -> Answer {
     vec![r.number as u32, r.place as u32]
+}
+
+/// Words as symbols, if they are an even number.
+pub fn symbols_of(words: &[u16]) -> Option<Vec<Sym>> {
+    (words.len() % 2 == 0).then(|| words.chunks(2).map(|c| (c[0], c[1])).collect())
+}
+
+/// A list of an odd number of words is no list of symbols: 9 where the table
+/// is accepted.
+pub fn no_list(table: &[u16]) -> Answer {
+    check(table).map_or_else(refused, |()| vec![9, 0])
 }
 
 /// A token set's members, ascending.

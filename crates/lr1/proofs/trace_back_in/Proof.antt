@@ -6,11 +6,6 @@ use native.Mathlib.Omega.{arith}
 use borrow.Author.Needs.{needs}
 use Rattle.lr1.proofs.trace_back_in.Statement.{statement}
 use Rattle.lr1.proofs.trace_back_in.Tie as tie
-use Rattle.lr1.proofs.trace_back_in.Reads as reads
-use Rattle.lr1.proofs.trace_back_in.Lts as lts
-use Rattle.repr.proofs.list_fits.Reads as list-fits-reads
-use Rattle.state_graph.proofs.trace_back.Reads as trace-back-reads
-use Rattle.table.proofs.read_counts.Reads as read-counts-reads
 
 read-counts-requires : tie.Need-read-counts-requires
 read-counts-requires c κs = search needs
@@ -18,19 +13,19 @@ read-counts-requires c κs = search needs
 cast-number : tie.Need-cast-number
 cast-number c = search needs
 
-list-fits-requires : tie.Need-list-fits-requires
-list-fits-requires c κs = search needs
+joined-fits-requires : tie.Need-joined-fits-requires
+joined-fits-requires c κs = search needs
 
-trace-back-requires : tie.Need-trace-back-requires
-trace-back-requires c κs = (c .before .before .before .before .before .before .before .before .pre, (rw (c .before .before .before .before .before .read-counts .ensures .states) at (c .before .before .if1 .taken), rw (c .before .before .before .before .before .read-counts .ensures .nonterminals, c .before .before .before .before .before .read-counts .ensures .terminals) at (sym (c .before .list-fits .ensures) ∙ c .if2 .taken)))
+trace-back-joined-requires : tie.Need-trace-back-joined-requires
+trace-back-joined-requires c κs = (c .before .before .before .before .before .before .before .before .before .pre, (rw (c .before .before .before .before .before .read-counts .ensures .states) at (c .before .before .if1 .taken), rw (c .before .before .before .before .before .read-counts .ensures .nonterminals, c .before .before .before .before .before .read-counts .ensures .terminals) at (sym (c .before .joined-fits .ensures) ∙ c .if2 .taken)))
 
 returns : tie.Need-returns
 unfolding walkOf
-returns c = walk-yes _ _ _ (rw (c .before .before .before .before .before .before .read-counts .ensures .states) at (c .before .before .before .if1 .taken)) (sym (fits-by _ _ _ _ (c .before .before .before .before .before .before .read-counts .ensures .nonterminals) (c .before .before .before .before .before .before .read-counts .ensures .terminals) _ (c .before .before .list-fits .ensures)) ∙ c .before .if2 .taken) _ (c .trace-back .ensures)
+returns c = walk-yes _ _ _ (rw (c .before .before .before .before .before .before .read-counts .ensures .states) at (c .before .before .before .if1 .taken)) (sym (fits-by _ _ _ _ (c .before .before .before .before .before .before .read-counts .ensures .nonterminals) (c .before .before .before .before .before .before .read-counts .ensures .terminals) _ (c .before .before .joined-fits .ensures)) ∙ c .before .if2 .taken) _ (c .trace-back-joined .ensures)
 
 returns-2 : tie.Need-returns-2
 unfolding walkOf
-returns-2 c = walk-list _ _ _ (rw (c .before .before .before .before .before .read-counts .ensures .states) at (c .before .before .if1 .taken)) (sym (fits-by _ _ _ _ (c .before .before .before .before .before .read-counts .ensures .nonterminals) (c .before .before .before .before .before .read-counts .ensures .terminals) _ (c .before .list-fits .ensures)) ∙ c .if2 .left)
+returns-2 c = walk-list _ _ _ (rw (c .before .before .before .before .before .read-counts .ensures .states) at (c .before .before .if1 .taken)) (sym (fits-by _ _ _ _ (c .before .before .before .before .before .read-counts .ensures .nonterminals) (c .before .before .before .before .before .read-counts .ensures .terminals) _ (c .before .joined-fits .ensures)) ∙ c .if2 .left)
 
 returns-3 : tie.Need-returns-3
 unfolding walkOf
@@ -42,8 +37,8 @@ trace-back-in-spec =
     (tie.spec
     read-counts-requires
     cast-number
-    list-fits-requires
-    trace-back-requires
+    joined-fits-requires
+    trace-back-joined-requires
     returns
     returns-2
     returns-3)

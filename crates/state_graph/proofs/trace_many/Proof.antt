@@ -11,7 +11,7 @@ slice-aggregate-trace-over c = search needs
 
 trace-over-requires : tie.Need-trace-over-requires
 trace-over-requires c κs =
-    let S = c .before .before .before in
+    let S = c .before .before .before .before in
     (S .pre .0, (S .pre .1, zeros-asked 24320 _ (words-few (meaning (S .args .table .now)) (fits (S .args .table .now) (S .pre .0)))))
 
 returns : tie.Need-returns

@@ -12,9 +12,9 @@ index-requires c κs = search needs
 of-requires : tie.Need-of-requires
 of-requires c κs = search needs
 
-walk-back-requires : tie.Need-walk-back-requires
-walk-back-requires c κs =
-    let S = c .before .before .before .before .before .before .before .before .before in
+walk-joined-requires : tie.Need-walk-joined-requires
+walk-joined-requires c κs =
+    let S = c .before .before .before .before .before .before .before .before .before .before in
     (S .pre .0, (c .before .before .before .before .index .ensures, (S .pre .1 .0 .1, one-inside _ _ (S .args .state) _ (S .pre .1 .0 .0) (c .of .ensures))))
 
 same-length : tie.Need-same-length
@@ -22,9 +22,9 @@ same-length c = search needs
 
 returns : tie.Need-returns
 returns c =
-    let S = c .before .before .before .before .before .before .before .before .before .before in
-    traced (meaning (S .args .table .now)) (fits (S .args .table .now) (S .pre .0)) (S .args .state) (S .pre .1 .0 .0) _ _ _ _ _ (c .before .of .ensures) (c .walk-back .ensures)
+    let S = c .before .before .before .before .before .before .before .before .before .before .before in
+    traced (meaning (S .args .table .now)) (fits (S .args .table .now) (S .pre .0)) (S .args .state) (S .pre .1 .0 .0) _ _ _ _ _ (c .before .of .ensures) (c .walk-joined .ensures)
 
 pub trace-over-spec : {M : Type 1} → statement M
 trace-over-spec =
-    tie.close (tie.spec index-requires of-requires walk-back-requires same-length returns)
+    tie.close (tie.spec index-requires of-requires walk-joined-requires same-length returns)

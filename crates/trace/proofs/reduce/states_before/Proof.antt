@@ -2,7 +2,8 @@
 use mathlib.Core.Path.{sym}
 use Rattle.table.proofs.Decoding.{fits}
 use Rattle.state_graph.proofs.States.{states-one}
-use Rattle.trace.proofs.EndsLaws.{fits-words, prefix-fits, one-inside, before-is}
+use Rattle.trace.proofs.EndsLaws.{fits-words, prefix-fits, before-is}
+use Rattle.state_graph.proofs.Steps.{one-inside}
 use native.Mathlib.Omega.{arith}
 use borrow.Author.Needs.{needs}
 use Rattle.trace.proofs.reduce.states_before.Statement.{statement}
@@ -17,7 +18,7 @@ of-requires c κs = search needs
 walk-back-requires : tie.Need-walk-back-requires
 walk-back-requires c κs =
     let q = fits-words _ _ _ _ (c .before .before .before .before .before .pre .1 .1 .1) in
-    (c .before .before .before .before .before .pre .0 .0, (c .before .before .before .before .before .pre .0 .1, (prefix-fits _ _ _ (c .before .before .before .before .before .pre .1 .0 .0) (q .0) _ (c .before .before .before .before .before .args .index) _ (fits _ (c .before .before .before .before .before .pre .0 .0)) (sym (c .before .before .before .before .before .pre .1 .0 .1)) (c .before .prefix .ensures .0), one-inside _ _ _ _ (c .of .ensures) (c .before .before .before .before .before .pre .1 .1 .0))))
+    (c .before .before .before .before .before .pre .0 .0, (c .before .before .before .before .before .pre .0 .1, (prefix-fits _ _ _ (c .before .before .before .before .before .pre .1 .0 .0) (q .0) _ (c .before .before .before .before .before .args .index) _ (fits _ (c .before .before .before .before .before .pre .0 .0)) (sym (c .before .before .before .before .before .pre .1 .0 .1)) (c .before .prefix .ensures .0), one-inside _ _ _ _ (c .before .before .before .before .before .pre .1 .1 .0) (c .of .ensures))))
 
 returns : tie.Need-returns
 returns c =

@@ -1,15 +1,10 @@
--- `lr1::first0` meets its contract. Assumes nothing.
+-- `lr1::first0_joined` meets its contract. Assumes nothing.
 use mathlib.Core.Path.{_≡_, refl, sym, _∙_}
-use Rattle.lr1.specs.Entries.{first0Of, first1Of, traceBackOf, walkOf}
+use Rattle.lr1.specs.Entries.{first0Of}
 use Rattle.lr1.proofs.Entered.{over-refused, over-accepted}
-use native.Mathlib.Omega.{arith}
 use borrow.Author.Needs.{needs}
-use Rattle.lr1.proofs.first0.Statement.{statement}
-use Rattle.lr1.proofs.first0.Tie as tie
-use Rattle.lr1.proofs.first0.Reads as reads
-use Rattle.lr1.proofs.first0.Lts as lts
-use Rattle.lr1.proofs.first0_in.Reads as first0-in-reads
-use Rattle.table_check.proofs.check.Reads as check-reads
+use Rattle.lr1.proofs.first0_joined.Statement.{statement}
+use Rattle.lr1.proofs.first0_joined.Tie as tie
 
 check-requires : tie.Need-check-requires
 check-requires c κs = search needs
@@ -31,7 +26,7 @@ returns-2 : tie.Need-returns-2
 unfolding first0Of
 returns-2 c = over-accepted _ _ _ _ (sym (c .before .before .before .check .ensures) ∙ c .before .enum-told .given .1) _ (c .first0-in .ensures)
 
-pub first0-spec : {M : Type 1} → statement M
-first0-spec =
+pub first0-joined-spec : {M : Type 1} → statement M
+first0-joined-spec =
     tie.close
     (tie.spec check-requires enum-known-refusal enum-told first0-in-requires returns returns-2)

@@ -1,15 +1,10 @@
--- `lr1::trace_back` meets its contract. Assumes nothing.
+-- `lr1::trace_back_joined` meets its contract. Assumes nothing.
 use mathlib.Core.Path.{_≡_, refl, sym, _∙_}
-use Rattle.lr1.specs.Entries.{first0Of, first1Of, traceBackOf, walkOf}
+use Rattle.lr1.specs.Entries.{traceBackOf, walkOf}
 use Rattle.lr1.proofs.Entered.{over-refused, over-accepted}
-use native.Mathlib.Omega.{arith}
 use borrow.Author.Needs.{needs}
-use Rattle.lr1.proofs.trace_back.Statement.{statement}
-use Rattle.lr1.proofs.trace_back.Tie as tie
-use Rattle.lr1.proofs.trace_back.Reads as reads
-use Rattle.lr1.proofs.trace_back.Lts as lts
-use Rattle.lr1.proofs.trace_back_in.Reads as trace-back-in-reads
-use Rattle.table_check.proofs.check.Reads as check-reads
+use Rattle.lr1.proofs.trace_back_joined.Statement.{statement}
+use Rattle.lr1.proofs.trace_back_joined.Tie as tie
 
 check-requires : tie.Need-check-requires
 check-requires c κs = search needs
@@ -31,7 +26,7 @@ returns-2 : tie.Need-returns-2
 unfolding traceBackOf walkOf
 returns-2 c = over-accepted _ _ _ _ (sym (c .before .before .before .check .ensures) ∙ c .before .enum-told .given .1) _ (c .trace-back-in .ensures)
 
-pub trace-back-spec : {M : Type 1} → statement M
-trace-back-spec =
+pub trace-back-joined-spec : {M : Type 1} → statement M
+trace-back-joined-spec =
     tie.close
     (tie.spec check-requires enum-known-refusal enum-told trace-back-in-requires returns returns-2)

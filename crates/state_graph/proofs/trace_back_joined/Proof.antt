@@ -1,9 +1,9 @@
--- `trace_back` counts the words of the index and takes the least array that has them. Assumes nothing.
+-- `trace_back_joined` counts the words of the index and takes the least array that has them. Assumes nothing.
 use Rattle.state_graph.proofs.Steps.{words-few, words-counted}
 use native.Mathlib.Omega.{arith}
 use borrow.Author.Needs.{needs}
-use Rattle.state_graph.proofs.trace_back.Statement.{statement}
-use Rattle.state_graph.proofs.trace_back.Tie as tie
+use Rattle.state_graph.proofs.trace_back_joined.Statement.{statement}
+use Rattle.state_graph.proofs.trace_back_joined.Tie as tie
 
 read-counts-requires : tie.Need-read-counts-requires
 read-counts-requires c κs = search needs
@@ -18,10 +18,10 @@ mul-words-2 : tie.Need-mul-words-2
 mul-words-2 c = let C = c .before .read-counts .ensures in let e = words-counted _ _ _ _ _ C in let f = words-few _ (C .fits) in omega arith
 
 trace-few-requires : tie.Need-trace-few-requires
-trace-few-requires c κs = let S = c .before .before .before .before .before in let e = words-counted _ _ _ _ _ (c .before .before .read-counts .ensures) in (S .pre .0, (S .pre .1, rw e at (c .if1 .taken)))
+trace-few-requires c κs = let S = c .before .before .before .before .before .before in let e = words-counted _ _ _ _ _ (c .before .before .read-counts .ensures) in (S .pre .0, (S .pre .1, rw e at (c .if1 .taken)))
 
 trace-some-requires : tie.Need-trace-some-requires
-trace-some-requires c κs = let S = c .before .before .before .before .before .before in let e = words-counted _ _ _ _ _ (c .before .before .before .read-counts .ensures) in (S .pre .0, (S .pre .1, rw e at (c .if2 .taken)))
+trace-some-requires c κs = let S = c .before .before .before .before .before .before .before in let e = words-counted _ _ _ _ _ (c .before .before .before .read-counts .ensures) in (S .pre .0, (S .pre .1, rw e at (c .if2 .taken)))
 
 trace-many-requires : tie.Need-trace-many-requires
 trace-many-requires c κs = search needs
@@ -35,8 +35,8 @@ returns-2 c = search needs
 returns-3 : tie.Need-returns-3
 returns-3 c = search needs
 
-pub trace-back-spec : {M : Type 1} → statement M
-trace-back-spec =
+pub trace-back-joined-spec : {M : Type 1} → statement M
+trace-back-joined-spec =
     tie.close
     (tie.spec
     read-counts-requires
