@@ -82,6 +82,24 @@ precedence() { # how many
 conflicts() { # how many, and what follows them
     { table_b; awk -v n="$1" 'BEGIN { for (k = 0; k < n; k++) print "3 0 0 0 0" }'; echo "$2"; } | typed
 }
+# one of each class that B has, refusals 10 and 9, and one cut short
+{ table_b; echo '3 0 0 0 0  3 0 0 1 0  3 0 0 0 1  3 0 0 0 2  3 0 1 1 2  3 0 1 0 0  4 0 0 0 0  3 0 0'; } | typed
+cat >"$work/expected" <<'LINES'
+1 2 3 3 0
+a 5 3 0/0 1/0 0/0 1/0 0/0 2-5/0 0-5/0
+r 5 3 0/0 1/0 0/0 1/0 0/0 0-3/0 0-5/0
+2 1 3 3
+a 5 3 0/0 1/0 0/0 1/0 0/0 2-5/0 0-5/0
+r 5 3 0/0 1/0 0/0 1/0 0/0 0-3/0 0-5/0
+3 0 0 3
+4 refused 10 0
+5 0 1 3
+6 5 3 3 0 9 0 9
+a 5 3 0/0 1/0 0/0 1/0 0/0 0-3/0 0-5/0
+7 refused 9 0
+8 refused 9 0
+LINES
+explains "table B, conflicts of each class"
 conflicts 0 ''
 : >"$work/expected"
 explains "no conflict"

@@ -2,3 +2,4 @@
 pub mod Laws
 pub mod Numerals
 pub mod Texts
+pub mod Length

@@ -5,7 +5,9 @@ use mathlib.Core.Path.{_≡_, refl, sym, ap, _∙_, subst}
 use mathlib.Core.List.{List, [], _∷_, _++_, append-assoc, append-nil}
 use lib.ListN.{length, getD, take, drop, length-drop}
 use lib.Seq.{take-add, drop-cons, take-all, length-take-le}
+use lib.Dec.{eqb}
 use borrow.Author.Tests.{eq-eqb, ne-eqb}
+use Rattle.repr.proofs.Lists.{cases}
 use Rattle.repr.specs.Sizes.{reductionRoom}
 use Rattle.repr.specs.Lists.{joined}
 use Rattle.error.specs.Numbers.{classNumber, classValues, readingOf}
@@ -14,7 +16,7 @@ use Rattle.error.specs.declared.Class.{Class}
 use Rattle.error.specs.declared.Class.the-variants.{Naive, Ambiguity, Precedence, SuggestInline, SuggestQuestion, AmbiguousReduction, InsufficientLookahead}
 use Rattle.error.specs.declared.Classified.{Classified}
 use Rattle.error.specs.declared.Classified.the-variants.{Class as IsClass, Refused}
-use Rattle.lines.specs.Lines.{Put, Shown, ReadingShown, numeral, spaced, symbolText, reductionText, symbolTexts, reductionTexts, exampleLine, ownText, classLine, refusedText, refusedLine, exampleLines, linesOf}
+use Rattle.lines.specs.Lines.{Put, Shown, ReadingShown, numeral, spaced, symbolText, reductionText, symbolTexts, reductionTexts, counted, symbolTotal, printedLength, exampleLine, ownText, classLine, refusedText, refusedLine, exampleLines, linesOf}
 use Rattle.lines.proofs.Laws.{put-nothing, put-then, put-as, put-all, put-within}
 
 pub symbol-put : {a b c : List ℕ} {at m r : ℕ} (k n : ℕ) → Put a at (32 ∷ numeral k) b m → Put b m (47 ∷ numeral n) c r → Put a at (symbolText k n) c r
@@ -116,6 +118,60 @@ symbols-end {old} {at} {words} {n} {new} {place} {i} S h =
     let e : i * 2 ≡ 2 * n = omega arith in
     (put-as (S .put) (ap (λ (k : ℕ). symbolTexts (take k words)) e), omega arith)
 
+-- how many are symbols
+counted-more : (x y z w : ℕ) → y ≡ z + w → x + y ≡ x + z + w
+counted-more x y z w e = omega arith
+
+pub total-append : (k : ℕ) (l m : List ℕ) → length l ≡ k * 2 → symbolTotal (l ++ m) ≡ symbolTotal l + symbolTotal m
+unfolding symbolTotal
+total-append k [] m e = omega arith
+total-append k (a ∷ []) m e = absurd (omega arith)
+total-append zero (a ∷ b ∷ l) m e = absurd (omega arith)
+total-append (suc k) (a ∷ b ∷ l) m e = counted-more (counted a) _ _ _ (total-append k l m (omega arith))
+
+pub counted-mark : (k : ℕ) → k ≡ 2 → 0 ≡ counted k
+unfolding counted
+counted-mark k e = rw (eq-eqb k 2 e, counted) refl
+
+pub counted-symbol : (k : ℕ) → (k ≡ 2 → ⊥) → 1 ≡ counted k
+unfolding counted
+counted-symbol k ne = rw (ne-eqb k 2 ne, counted) refl
+
+pub counted-small : (k : ℕ) → counted k ≤ 1
+unfolding counted
+counted-small k = cases (eqb k 2) (λ q. rw (q, counted) (omega arith)) (λ q. rw (q, counted) (omega arith))
+
+pub record Total (words : List ℕ) (n total i : ℕ) : Type 0 where
+  pub within : i ≤ n
+  pub is : total ≡ symbolTotal (take (i * 2) words)
+  pub few : total ≤ i
+
+pub total-first : (words : List ℕ) (n : ℕ) → Total words n 0 0
+unfolding symbolTotal
+total-first words n = record { within = omega arith; is = refl; few = omega arith }
+
+pub total-more : {words : List ℕ} {n total i k c : ℕ} → Total words n total i → i < n → 2 * n ≤ length words → k ≡ getD words (i * 2) 0 → c ≡ counted k
+    → Total words n (total + c) (i + 1)
+unfolding symbolTotal
+total-more {words} {n} {total} {i} {k} {c} S h l ek ec =
+    let f = S .few in
+    let small = counted-small k in
+    let two = getD words (i * 2) 0 ∷ getD words (i * 2 + 1) 0 ∷ [] in
+    let j : i * 2 + 2 ≡ (i + 1) * 2 = omega arith in
+    let e : symbolTotal (take ((i + 1) * 2) words) ≡ total + (counted k + 0) =
+    ap (λ (m : ℕ). symbolTotal (take m words)) (sym j)
+    ∙ ap symbolTotal (two-at words (i * 2) (omega arith))
+    ∙ total-append i (take (i * 2) words) two (length-take-le (i * 2) words (omega arith))
+    ∙ ap (λ (m : ℕ). m + symbolTotal two) (sym (S .is))
+    ∙ ap (λ (m : ℕ). total + (counted m + 0)) (sym ek) in
+    record { within = omega arith; is = omega (arith, e, ec); few = omega arith }
+
+pub total-end : {words : List ℕ} {n total i : ℕ} → Total words n total i → n ≤ i → total ≡ symbolTotal (take (2 * n) words)
+total-end {words} {n} {total} {i} S h =
+    let w = S .within in
+    let e : i * 2 ≡ 2 * n = omega arith in
+    S .is ∙ ap (λ (k : ℕ). symbolTotal (take k words)) e
+
 -- reductions
 reductions-append : (k : ℕ) (l m : List ℕ) → length l ≡ k * reductionRoom → reductionTexts (l ++ m) ≡ reductionTexts l ++ reductionTexts m
 unfolding reductionTexts
@@ -180,19 +236,25 @@ rest-is k l = let e = length-drop k l in take-all (length l - k) (drop k l) (ome
 pub rest-long : (m k : ℕ) (l : List ℕ) → k + m ≤ length l → m ≤ length (take (length l - k) (drop k l))
 rest-long m k l h = let e = length-drop k l in let f = ap length (rest-is k l) in omega (arith, e, f)
 
+pub length-put : {a b : List ℕ} {at r s total : ℕ} (example : List ℕ) → s ≡ getD example 0 0 → total ≡ symbolTotal (take (2 * s) (take (length example - 3) (drop 3 example)))
+    → Put a at (32 ∷ numeral total) b r → Put a at (32 ∷ numeral (printedLength example)) b r
+unfolding printedLength
+length-put {s = s} example es et P =
+    put-as P (ap (λ (k : ℕ). 32 ∷ numeral k)
+    (et ∙ ap (λ (l : List ℕ). symbolTotal (take (2 * s) l)) (rest-is 3 example) ∙ ap (λ (k : ℕ). symbolTotal (take (2 * k) (drop 3 example))) es))
+
 pub example-put : {a b c d e f g : List ℕ} {at m₁ m₂ m₃ m₄ m₅ r : ℕ} {letter cursor s q : ℕ} (example : List ℕ) → s ≡ getD example 0 0 → cursor ≡ getD example 1 0 → q ≡ getD example 2 0
-    → Put a at (letter ∷ []) b m₁ → Put b m₁ (32 ∷ numeral s) c m₂ → Put c m₂ (32 ∷ numeral cursor) d m₃
+    → Put a at (letter ∷ []) b m₁ → Put b m₁ (32 ∷ numeral (printedLength example)) c m₂ → Put c m₂ (32 ∷ numeral cursor) d m₃
     → Put d m₃ (symbolTexts (take (2 * s) (take (length example - 3) (drop 3 example)))) e m₄
     → Put e m₄ (reductionTexts (take (reductionRoom * q) (take (length example - (3 + s * 2)) (drop (3 + s * 2) example)))) f m₅
     → Put f m₅ (10 ∷ []) g r → Put a at (exampleLine letter example) g r
 unfolding exampleLine spaced
 example-put {s = s} {q} example es ec eq P Q R S T U =
     let en : 3 + s * 2 ≡ 3 + 2 * getD example 0 0 = omega arith in
-    let Q' = put-as Q (ap (λ (k : ℕ). 32 ∷ numeral k) es) in
     let R' = put-as R (ap (λ (k : ℕ). 32 ∷ numeral k) ec) in
     let S' = put-as S (ap (λ (l : List ℕ). symbolTexts (take (2 * s) l)) (rest-is 3 example) ∙ ap (λ (k : ℕ). symbolTexts (take (2 * k) (drop 3 example))) es) in
     let T' = put-as T (ap (λ (l : List ℕ). reductionTexts (take (reductionRoom * q) l)) (rest-is (3 + s * 2) example) ∙ ap (λ (k : ℕ). reductionTexts (take (reductionRoom * k) (drop (3 + s * 2) example))) eq ∙ ap (λ (k : ℕ). reductionTexts (take (reductionRoom * getD example 2 0) (drop k example))) en) in
-    put-then P (put-then Q' (put-then R' (put-then S' (put-then T' U))))
+    put-then P (put-then Q (put-then R' (put-then S' (put-then T' U))))
 
 -- which examples are shown
 pub examples-naive : (a : List ℕ) (at k : ℕ) (x y : List ℕ) → k ≡ 0 → Put a at (exampleLines k x y) a at

@@ -40,11 +40,24 @@ reductionTexts (a ∷ []) = []
 reductionTexts (a ∷ b ∷ []) = []
 reductionTexts (a ∷ b ∷ n ∷ ws) = reductionText a b n ++ reductionTexts ws
 
--- `a` or `r`, then length (places in the symbol list), cursor, symbols, reductions
+-- how many symbols stand in a list of places: all but the empty mark, kind 2
+unfoldable pub counted : ℕ → ℕ
+counted k = elim (eqb k 2) [ true ↦ 0 | false ↦ 1 ]
+
+unfoldable pub symbolTotal : List ℕ → ℕ
+symbolTotal [] = 0
+symbolTotal (k ∷ []) = 0
+symbolTotal (k ∷ n ∷ ws) = counted k + symbolTotal ws
+
+-- of an example in words
+unfoldable pub printedLength : List ℕ → ℕ
+printedLength b = symbolTotal (take (2 * getD b 0 0) (drop 3 b))
+
+-- `a` or `r`, then length (symbols; the empty mark is printed in its place and not counted), cursor (a place), symbols, reductions
 unfoldable pub exampleLine : ℕ → List ℕ → List ℕ
 exampleLine letter b =
     letter
-    ∷ (spaced (getD b 0 0)
+    ∷ (spaced (printedLength b)
     ++ (spaced (getD b 1 0)
     ++ (symbolTexts (take (2 * getD b 0 0) (drop 3 b))
     ++ (reductionTexts (take (reductionRoom * getD b 2 0) (drop (3 + 2 * getD b 0 0) b)) ++ (10 ∷ [])))))

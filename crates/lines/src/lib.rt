@@ -10,7 +10,7 @@ ghost use Prim.Native.Nat.{_+_, _*_, _≤_, _<_};
 ghost use lib.ListN.{length, take, drop};
 ghost use Rattle.repr.specs.Sizes.{reductionLimit, exampleSymbols, reductionRoom};
 ghost use Rattle.error.specs.Numbers.{classNumber, classValues, readingOf};
-ghost use Rattle.lines.specs.Lines.{Put, Whole, Shown, ReadingShown, numeral, symbolText, reductionText, symbolTexts, reductionTexts, exampleLine, ownText, refusedText, refusedLine, classLine, exampleLines, linesOf};
+ghost use Rattle.lines.specs.Lines.{Put, Whole, Shown, ReadingShown, numeral, symbolText, reductionText, symbolTexts, reductionTexts, counted, symbolTotal, printedLength, exampleLine, ownText, refusedText, refusedLine, classLine, exampleLines, linesOf};
 
 // A byte; the place after it.
 fn put(out: &mut [u8], at: usize, byte: u8) -> usize
@@ -108,6 +108,41 @@ fn put_reductions(out: &mut [u8], at: usize, words: &[u16], n: usize) -> usize
     place
 }
 
+// 1 for a symbol, 0 for the empty mark.
+fn counted(kind: usize) -> usize
+    ensures { λ r. ⌜ r ≡ counted kind ⌝ }
+{
+    if kind == 2 {
+        return 0;
+    }
+    1
+}
+
+// How many symbols an example has, its empty mark left out.
+fn symbol_total(words: &[u16], n: usize) -> usize
+    requires { ⌜ (2 * n ≤ length (now words)) × (n ≤ exampleSymbols) ⌝ }
+    ensures { λ r. ⌜ r ≡ symbolTotal (take (2 * n) (now (words .entry))) ⌝ }
+{
+    let mut total: usize = 0;
+    let mut i: usize = 0;
+    while i < n {
+        total += counted(word(words, i * 2));
+        i += 1;
+    }
+    total
+}
+
+// The length of an example: its symbols, not its places.
+fn put_length(out: &mut [u8], at: usize, example: &[u16]) -> usize
+    requires { ⌜ Whole (now example) ⌝ }
+    requires { ⌜ at + 21 ≤ length (now out) ⌝ }
+    ensures { λ r. ⌜ Put (now (out .entry)) at (32 ∷ numeral (printedLength (now (example .entry)))) (now (out .exit)) r × (r ≤ at + 21) ⌝ }
+{
+    let symbols = word(example, 0);
+    let total = symbol_total(&example[3..], symbols);
+    put_after(out, at, b' ', total as u64)
+}
+
 // The line of an example, `a` or `r`.
 fn put_example(out: &mut [u8], at: usize, letter: u8, example: &[u16]) -> usize
     requires { ⌜ Whole (now example) ⌝ }
@@ -118,7 +153,7 @@ fn put_example(out: &mut [u8], at: usize, letter: u8, example: &[u16]) -> usize
     let cursor = word(example, 1);
     let reductions = word(example, 2);
     let first = put(out, at, letter);
-    let second = put_after(out, first, b' ', symbols as u64);
+    let second = put_length(out, first, example);
     let third = put_after(out, second, b' ', cursor as u64);
     let fourth = put_symbols(out, third, &example[3..], symbols);
     let from = 3 + symbols * Example::SYMBOL_WORDS;

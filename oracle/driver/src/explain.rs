@@ -57,8 +57,10 @@ fn lines(number: u32, a: &[u32]) -> String {
         let &[symbols, cursor, _, ref words @ ..] = example else {
             continue;
         };
-        write!(out, "{letter} {symbols} {cursor}").unwrap();
         let (pairs, reductions) = words.split_at(2 * symbols as usize);
+        // The printed length leaves the empty mark out (request 05).
+        let length = pairs.chunks(2).filter(|p| p[0] != 2).count();
+        write!(out, "{letter} {length} {cursor}").unwrap();
         for p in pairs.chunks(2) {
             write!(out, " {}/{}", p[0], p[1]).unwrap();
         }

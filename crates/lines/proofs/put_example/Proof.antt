@@ -33,12 +33,12 @@ put-requires : tie.Need-put-requires
 put-requires c κs = omega (arith, c .before .before .before .before .before .before .pre .1)
 
 -- src/lib.rt:119:9
-put-after-requires : tie.Need-put-after-requires
-put-after-requires c κs = let p = c .before .before .before .put .ensures .place in let l = c .before .before .before .put .ensures .long in omega (arith, c .before .before .before .before .before .before .before .before .before .before .pre .1, p, l)
+put-length-requires : tie.Need-put-length-requires
+put-length-requires c κs = let p = c .before .before .before .put .ensures .place in let l = c .before .before .before .put .ensures .long in omega (arith, c .before .before .before .before .before .before .before .before .before .before .pre .1, p, l)
 
 -- src/lib.rt:120:9
-put-after-requires-2 : tie.Need-put-after-requires-2
-put-after-requires-2 c κs = let p = c .before .before .before .before .before .before .before .put .ensures .place in let l = c .before .before .before .before .before .before .before .put .ensures .long in let k = c .before .before .before .put-after .ensures .0 .long in omega (arith, c .before .before .before .before .before .before .before .before .before .before .before .before .before .before .pre .1, p, l, k, c .before .before .before .put-after .ensures .1)
+put-after-requires : tie.Need-put-after-requires
+put-after-requires c κs = let p = c .before .before .before .before .before .before .before .put .ensures .place in let l = c .before .before .before .before .before .before .before .put .ensures .long in let k = c .before .before .before .put-length .ensures .0 .long in omega (arith, c .before .before .before .before .before .before .before .before .before .before .before .before .before .before .pre .1, p, l, k, c .before .before .before .put-length .ensures .1)
 
 -- src/lib.rt:121:42
 sub-put-symbols : tie.Need-sub-put-symbols
@@ -54,7 +54,7 @@ part-put-symbols-end c = omega (arith, c .before .before .before .before .before
 
 -- src/lib.rt:121:9
 put-symbols-requires : tie.Need-put-symbols-requires
-put-symbols-requires c κs = let p = c .before .before .before .before .before .before .before .before .before .before .before .before .put .ensures .place in let l = c .before .before .before .before .before .before .before .before .before .before .before .before .put .ensures .long in let k = c .before .before .before .before .before .before .before .before .put-after .ensures .0 .long in let j = c .before .before .before .before .put-after2 .ensures .0 .long in ((rest-long (2 * c .before .before .before .before .before .before .before .before .before .before .before .before .before .before .before .before .word .result) 3 (c .before .before .before .before .before .before .before .before .before .before .before .before .before .before .before .before .before .before .before .args .example .now) (omega (arith, c .before .before .before .before .before .before .before .before .before .before .before .before .before .before .before .before .before .before .before .pre .0 .long, c .before .before .before .before .before .before .before .before .before .before .before .before .before .before .before .before .word .ensures .0)), omega (arith, c .before .before .before .before .before .before .before .before .before .before .before .before .before .before .before .before .before .before .before .pre .0 .few-symbols, c .before .before .before .before .before .before .before .before .before .before .before .before .before .before .before .before .word .ensures .0)), omega (arith, c .before .before .before .before .before .before .before .before .before .before .before .before .before .before .before .before .before .before .before .pre .1, c .before .before .before .before .before .before .before .before .before .before .before .before .before .before .before .before .before .before .before .pre .0 .few-symbols, c .before .before .before .before .before .before .before .before .before .before .before .before .before .before .before .before .word .ensures .0, p, l, k, j, c .before .before .before .before .before .before .before .before .put-after .ensures .1, c .before .before .before .before .put-after2 .ensures .1))
+put-symbols-requires c κs = let p = c .before .before .before .before .before .before .before .before .before .before .before .before .put .ensures .place in let l = c .before .before .before .before .before .before .before .before .before .before .before .before .put .ensures .long in let k = c .before .before .before .before .before .before .before .before .put-length .ensures .0 .long in let j = c .before .before .before .before .put-after .ensures .0 .long in ((rest-long (2 * c .before .before .before .before .before .before .before .before .before .before .before .before .before .before .before .before .word .result) 3 (c .before .before .before .before .before .before .before .before .before .before .before .before .before .before .before .before .before .before .before .args .example .now) (omega (arith, c .before .before .before .before .before .before .before .before .before .before .before .before .before .before .before .before .before .before .before .pre .0 .long, c .before .before .before .before .before .before .before .before .before .before .before .before .before .before .before .before .word .ensures .0)), omega (arith, c .before .before .before .before .before .before .before .before .before .before .before .before .before .before .before .before .before .before .before .pre .0 .few-symbols, c .before .before .before .before .before .before .before .before .before .before .before .before .before .before .before .before .word .ensures .0)), omega (arith, c .before .before .before .before .before .before .before .before .before .before .before .before .before .before .before .before .before .before .before .pre .1, c .before .before .before .before .before .before .before .before .before .before .before .before .before .before .before .before .before .before .before .pre .0 .few-symbols, c .before .before .before .before .before .before .before .before .before .before .before .before .before .before .before .before .word .ensures .0, p, l, k, j, c .before .before .before .before .before .before .before .before .put-length .ensures .1, c .before .before .before .before .put-after .ensures .1))
 
 -- src/lib.rt:122:20
 mul-from : tie.Need-mul-from
@@ -82,19 +82,19 @@ part-put-reductions-end c = omega (arith, c .before .before .before .before .bef
 
 -- src/lib.rt:123:9
 put-reductions-requires : tie.Need-put-reductions-requires
-put-reductions-requires c κs = let p = c .before .before .before .before .before .before .before .before .before .before .before .before .before .before .before .before .before .put .ensures .place in let l = c .before .before .before .before .before .before .before .before .before .before .before .before .before .before .before .before .before .put .ensures .long in let k = c .before .before .before .before .before .before .before .before .before .before .before .before .before .put-after .ensures .0 .long in let j = c .before .before .before .before .before .before .before .before .before .put-after2 .ensures .0 .long in let i = c .before .before .before .before .put-symbols .ensures .0 .long in ((rest-long (reductionRoom * c .before .before .before .before .before .before .before .before .before .before .before .before .before .before .before .before .before .before .before .word3 .result) (3 + c .before .before .before .before .before .before .before .before .before .before .before .before .before .before .before .before .before .before .before .before .before .word .result * 2) (c .before .before .before .before .before .before .before .before .before .before .before .before .before .before .before .before .before .before .before .before .before .before .before .before .args .example .now) (omega (arith, c .before .before .before .before .before .before .before .before .before .before .before .before .before .before .before .before .before .before .before .before .before .before .before .before .pre .0 .long, c .before .before .before .before .before .before .before .before .before .before .before .before .before .before .before .before .before .before .before .before .before .word .ensures .0, c .before .before .before .before .before .before .before .before .before .before .before .before .before .before .before .before .before .before .before .word3 .ensures .0)), omega (arith, c .before .before .before .before .before .before .before .before .before .before .before .before .before .before .before .before .before .before .before .before .before .before .before .before .pre .0 .few-reductions, c .before .before .before .before .before .before .before .before .before .before .before .before .before .before .before .before .before .before .before .word3 .ensures .0)), omega (arith, c .before .before .before .before .before .before .before .before .before .before .before .before .before .before .before .before .before .before .before .before .before .before .before .before .pre .1, c .before .before .before .before .before .before .before .before .before .before .before .before .before .before .before .before .before .before .before .before .before .before .before .before .pre .0 .few-symbols, c .before .before .before .before .before .before .before .before .before .before .before .before .before .before .before .before .before .before .before .before .before .before .before .before .pre .0 .few-reductions, c .before .before .before .before .before .before .before .before .before .before .before .before .before .before .before .before .before .before .before .before .before .word .ensures .0, c .before .before .before .before .before .before .before .before .before .before .before .before .before .before .before .before .before .before .before .word3 .ensures .0, p, l, k, j, i, c .before .before .before .before .before .before .before .before .before .before .before .before .before .put-after .ensures .1, c .before .before .before .before .before .before .before .before .before .put-after2 .ensures .1, c .before .before .before .before .put-symbols .ensures .1))
+put-reductions-requires c κs = let p = c .before .before .before .before .before .before .before .before .before .before .before .before .before .before .before .before .before .put .ensures .place in let l = c .before .before .before .before .before .before .before .before .before .before .before .before .before .before .before .before .before .put .ensures .long in let k = c .before .before .before .before .before .before .before .before .before .before .before .before .before .put-length .ensures .0 .long in let j = c .before .before .before .before .before .before .before .before .before .put-after .ensures .0 .long in let i = c .before .before .before .before .put-symbols .ensures .0 .long in ((rest-long (reductionRoom * c .before .before .before .before .before .before .before .before .before .before .before .before .before .before .before .before .before .before .before .word3 .result) (3 + c .before .before .before .before .before .before .before .before .before .before .before .before .before .before .before .before .before .before .before .before .before .word .result * 2) (c .before .before .before .before .before .before .before .before .before .before .before .before .before .before .before .before .before .before .before .before .before .before .before .before .args .example .now) (omega (arith, c .before .before .before .before .before .before .before .before .before .before .before .before .before .before .before .before .before .before .before .before .before .before .before .before .pre .0 .long, c .before .before .before .before .before .before .before .before .before .before .before .before .before .before .before .before .before .before .before .before .before .word .ensures .0, c .before .before .before .before .before .before .before .before .before .before .before .before .before .before .before .before .before .before .before .word3 .ensures .0)), omega (arith, c .before .before .before .before .before .before .before .before .before .before .before .before .before .before .before .before .before .before .before .before .before .before .before .before .pre .0 .few-reductions, c .before .before .before .before .before .before .before .before .before .before .before .before .before .before .before .before .before .before .before .word3 .ensures .0)), omega (arith, c .before .before .before .before .before .before .before .before .before .before .before .before .before .before .before .before .before .before .before .before .before .before .before .before .pre .1, c .before .before .before .before .before .before .before .before .before .before .before .before .before .before .before .before .before .before .before .before .before .before .before .before .pre .0 .few-symbols, c .before .before .before .before .before .before .before .before .before .before .before .before .before .before .before .before .before .before .before .before .before .before .before .before .pre .0 .few-reductions, c .before .before .before .before .before .before .before .before .before .before .before .before .before .before .before .before .before .before .before .before .before .word .ensures .0, c .before .before .before .before .before .before .before .before .before .before .before .before .before .before .before .before .before .before .before .word3 .ensures .0, p, l, k, j, i, c .before .before .before .before .before .before .before .before .before .before .before .before .before .put-length .ensures .1, c .before .before .before .before .before .before .before .before .before .put-after .ensures .1, c .before .before .before .before .put-symbols .ensures .1))
 
 -- src/lib.rt:124:5
 put-requires-2 : tie.Need-put-requires-2
-put-requires-2 c κs = let p = c .before .before .before .before .before .before .before .before .before .before .before .before .before .before .before .before .before .before .before .before .before .put .ensures .place in let l = c .before .before .before .before .before .before .before .before .before .before .before .before .before .before .before .before .before .before .before .before .before .put .ensures .long in let k = c .before .before .before .before .before .before .before .before .before .before .before .before .before .before .before .before .before .put-after .ensures .0 .long in let j = c .before .before .before .before .before .before .before .before .before .before .before .before .before .put-after2 .ensures .0 .long in let i = c .before .before .before .before .before .before .before .before .put-symbols .ensures .0 .long in let h = c .before .before .before .put-reductions .ensures .0 .long in omega (arith, c .before .before .before .before .before .before .before .before .before .before .before .before .before .before .before .before .before .before .before .before .before .before .before .before .before .before .before .before .pre .1, c .before .before .before .before .before .before .before .before .before .before .before .before .before .before .before .before .before .before .before .before .before .before .before .before .before .before .before .before .pre .0 .few-symbols, c .before .before .before .before .before .before .before .before .before .before .before .before .before .before .before .before .before .before .before .before .before .before .before .before .before .before .before .before .pre .0 .few-reductions, c .before .before .before .before .before .before .before .before .before .before .before .before .before .before .before .before .before .before .before .before .before .before .before .before .before .word .ensures .0, c .before .before .before .before .before .before .before .before .before .before .before .before .before .before .before .before .before .before .before .before .before .before .before .word3 .ensures .0, p, l, k, j, i, h, c .before .before .before .before .before .before .before .before .before .before .before .before .before .before .before .before .before .put-after .ensures .1, c .before .before .before .before .before .before .before .before .before .before .before .before .before .put-after2 .ensures .1, c .before .before .before .before .before .before .before .before .put-symbols .ensures .1, c .before .before .before .put-reductions .ensures .1)
+put-requires-2 c κs = let p = c .before .before .before .before .before .before .before .before .before .before .before .before .before .before .before .before .before .before .before .before .before .put .ensures .place in let l = c .before .before .before .before .before .before .before .before .before .before .before .before .before .before .before .before .before .before .before .before .before .put .ensures .long in let k = c .before .before .before .before .before .before .before .before .before .before .before .before .before .before .before .before .before .put-length .ensures .0 .long in let j = c .before .before .before .before .before .before .before .before .before .before .before .before .before .put-after .ensures .0 .long in let i = c .before .before .before .before .before .before .before .before .put-symbols .ensures .0 .long in let h = c .before .before .before .put-reductions .ensures .0 .long in omega (arith, c .before .before .before .before .before .before .before .before .before .before .before .before .before .before .before .before .before .before .before .before .before .before .before .before .before .before .before .before .pre .1, c .before .before .before .before .before .before .before .before .before .before .before .before .before .before .before .before .before .before .before .before .before .before .before .before .before .before .before .before .pre .0 .few-symbols, c .before .before .before .before .before .before .before .before .before .before .before .before .before .before .before .before .before .before .before .before .before .before .before .before .before .before .before .before .pre .0 .few-reductions, c .before .before .before .before .before .before .before .before .before .before .before .before .before .before .before .before .before .before .before .before .before .before .before .before .before .word .ensures .0, c .before .before .before .before .before .before .before .before .before .before .before .before .before .before .before .before .before .before .before .before .before .before .before .word3 .ensures .0, p, l, k, j, i, h, c .before .before .before .before .before .before .before .before .before .before .before .before .before .before .before .before .before .put-length .ensures .1, c .before .before .before .before .before .before .before .before .before .before .before .before .before .put-after .ensures .1, c .before .before .before .before .before .before .before .before .put-symbols .ensures .1, c .before .before .before .put-reductions .ensures .1)
 
 -- src/lib.rt:110:1
 same-length : tie.Need-same-length
-same-length c = c .before .before .put2 .ensures .long ∙ c .before .before .before .before .before .before .put-reductions .ensures .0 .long ∙ c .before .before .before .before .before .before .before .before .before .before .before .put-symbols .ensures .0 .long ∙ c .before .before .before .before .before .before .before .before .before .before .before .before .before .before .before .before .put-after2 .ensures .0 .long ∙ c .before .before .before .before .before .before .before .before .before .before .before .before .before .before .before .before .before .before .before .before .put-after .ensures .0 .long ∙ c .before .before .before .before .before .before .before .before .before .before .before .before .before .before .before .before .before .before .before .before .before .before .before .before .put .ensures .long
+same-length c = c .before .before .put2 .ensures .long ∙ c .before .before .before .before .before .before .put-reductions .ensures .0 .long ∙ c .before .before .before .before .before .before .before .before .before .before .before .put-symbols .ensures .0 .long ∙ c .before .before .before .before .before .before .before .before .before .before .before .before .before .before .before .before .put-after .ensures .0 .long ∙ c .before .before .before .before .before .before .before .before .before .before .before .before .before .before .before .before .before .before .before .before .put-length .ensures .0 .long ∙ c .before .before .before .before .before .before .before .before .before .before .before .before .before .before .before .before .before .before .before .before .before .before .before .before .put .ensures .long
 
 -- src/lib.rt:110:1
 returns : tie.Need-returns
-returns c = let p = c .before .before .before .before .before .before .before .before .before .before .before .before .before .before .before .before .before .before .before .before .before .before .before .before .put .ensures .place in let q = c .before .before .put2 .ensures .place in (example-put (c .before .before .before .before .before .before .before .before .before .before .before .before .before .before .before .before .before .before .before .before .before .before .before .before .before .before .before .before .before .before .before .args .example .now) (c .before .before .before .before .before .before .before .before .before .before .before .before .before .before .before .before .before .before .before .before .before .before .before .before .before .before .before .before .word .ensures .0) (c .before .before .before .before .before .before .before .before .before .before .before .before .before .before .before .before .before .before .before .before .before .before .before .before .before .before .before .word2 .ensures .0) (c .before .before .before .before .before .before .before .before .before .before .before .before .before .before .before .before .before .before .before .before .before .before .before .before .before .before .word3 .ensures .0) (c .before .before .before .before .before .before .before .before .before .before .before .before .before .before .before .before .before .before .before .before .before .before .before .before .put .ensures) (put-as (c .before .before .before .before .before .before .before .before .before .before .before .before .before .before .before .before .before .before .before .before .put-after .ensures .0) (cc)) (put-as (c .before .before .before .before .before .before .before .before .before .before .before .before .before .before .before .before .put-after2 .ensures .0) (cc)) (c .before .before .before .before .before .before .before .before .before .before .before .put-symbols .ensures .0) (c .before .before .before .before .before .before .put-reductions .ensures .0) (c .before .before .put2 .ensures), omega (arith, c .before .before .before .before .before .before .before .before .before .before .before .before .before .before .before .before .before .before .before .before .before .before .before .before .before .before .before .before .before .before .before .pre .0 .few-symbols, c .before .before .before .before .before .before .before .before .before .before .before .before .before .before .before .before .before .before .before .before .before .before .before .before .before .before .before .before .before .before .before .pre .0 .few-reductions, c .before .before .before .before .before .before .before .before .before .before .before .before .before .before .before .before .before .before .before .before .before .before .before .before .before .before .before .before .word .ensures .0, c .before .before .before .before .before .before .before .before .before .before .before .before .before .before .before .before .before .before .before .before .before .before .before .before .before .before .word3 .ensures .0, p, q, c .before .before .before .before .before .before .before .before .before .before .before .before .before .before .before .before .before .before .before .before .put-after .ensures .1, c .before .before .before .before .before .before .before .before .before .before .before .before .before .before .before .before .put-after2 .ensures .1, c .before .before .before .before .before .before .before .before .before .before .before .put-symbols .ensures .1, c .before .before .before .before .before .before .put-reductions .ensures .1))
+returns c = let p = c .before .before .before .before .before .before .before .before .before .before .before .before .before .before .before .before .before .before .before .before .before .before .before .before .put .ensures .place in let q = c .before .before .put2 .ensures .place in (example-put (c .before .before .before .before .before .before .before .before .before .before .before .before .before .before .before .before .before .before .before .before .before .before .before .before .before .before .before .before .before .before .before .args .example .now) (c .before .before .before .before .before .before .before .before .before .before .before .before .before .before .before .before .before .before .before .before .before .before .before .before .before .before .before .before .word .ensures .0) (c .before .before .before .before .before .before .before .before .before .before .before .before .before .before .before .before .before .before .before .before .before .before .before .before .before .before .before .word2 .ensures .0) (c .before .before .before .before .before .before .before .before .before .before .before .before .before .before .before .before .before .before .before .before .before .before .before .before .before .before .word3 .ensures .0) (c .before .before .before .before .before .before .before .before .before .before .before .before .before .before .before .before .before .before .before .before .before .before .before .before .put .ensures) (put-as (c .before .before .before .before .before .before .before .before .before .before .before .before .before .before .before .before .before .before .before .before .put-length .ensures .0) (cc)) (put-as (c .before .before .before .before .before .before .before .before .before .before .before .before .before .before .before .before .put-after .ensures .0) (cc)) (c .before .before .before .before .before .before .before .before .before .before .before .put-symbols .ensures .0) (c .before .before .before .before .before .before .put-reductions .ensures .0) (c .before .before .put2 .ensures), omega (arith, c .before .before .before .before .before .before .before .before .before .before .before .before .before .before .before .before .before .before .before .before .before .before .before .before .before .before .before .before .before .before .before .pre .0 .few-symbols, c .before .before .before .before .before .before .before .before .before .before .before .before .before .before .before .before .before .before .before .before .before .before .before .before .before .before .before .before .before .before .before .pre .0 .few-reductions, c .before .before .before .before .before .before .before .before .before .before .before .before .before .before .before .before .before .before .before .before .before .before .before .before .before .before .before .before .word .ensures .0, c .before .before .before .before .before .before .before .before .before .before .before .before .before .before .before .before .before .before .before .before .before .before .before .before .before .before .word3 .ensures .0, p, q, c .before .before .before .before .before .before .before .before .before .before .before .before .before .before .before .before .before .before .before .before .put-length .ensures .1, c .before .before .before .before .before .before .before .before .before .before .before .before .before .before .before .before .put-after .ensures .1, c .before .before .before .before .before .before .before .before .before .before .before .put-symbols .ensures .1, c .before .before .before .before .before .before .put-reductions .ensures .1))
 
 pub put-example-spec : {M : Type 1} → statement M
 put-example-spec =
@@ -104,8 +104,8 @@ put-example-spec =
     word-requires-2
     word-requires-3
     put-requires
+    put-length-requires
     put-after-requires
-    put-after-requires-2
     sub-put-symbols
     part-put-symbols-start
     part-put-symbols-end
