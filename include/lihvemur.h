@@ -38,6 +38,10 @@ enum {
 /* Refusals 1 to 8 of a table. */
 uint16_t lihvemur_check(const uint16_t *table, size_t table_words, uint16_t *place);
 
+/* Writes an accepted table afresh in the single spelling of its meaning, at the front of `out`; how many records that are behind `records`. Refusals 1 to 8, then 17 where they pass
+ * 8,192 or the room of `out` (its words divided by 4); no refusal changes a word. Two tables that are written have equal words exactly if they mean the same. */
+uint16_t lihvemur_respell(const uint16_t *table, size_t table_words, uint16_t *out, size_t out_words, uint16_t *records, uint16_t *place);
+
 /* FIRST of a list of symbols, kind and number each (0 a nonterminal, 1 a terminal): with answer 0 its terminals behind `set`, and behind `nullable` whether the list may be empty. */
 uint16_t lihvemur_first0(const uint16_t *table, size_t table_words, const uint16_t *symbols, size_t symbol_words, uint64_t *set, bool *nullable, uint16_t *place);
 

@@ -1,5 +1,5 @@
 #!/bin/sh
-# Tries the two built programs, words and explain, on the tables of this folder and on inputs made here, and compares what they write.
+# Tries the built programs words, explain, respell and text on the tables of this folder and on inputs made here, and compares what they write.
 # Where an expected output comes from: TABLE.out is what the Rust's explaining program writes for that table (`oracle explain`, oracle/README.md),
 # and so is every expected line below that is not a refusal; the refusals are document 01's rows, applied by hand where they stand.
 cd "$(dirname "$0")/.." || exit 1
@@ -39,6 +39,53 @@ for t in tables/*.txt; do
     cp "${t%.txt}.out" "$work/expected"
     explains "$t"
 done
+
+# Input through a program to output, nothing being said.
+through() { # program
+    "target/bin/$1" <"$work/input" >"$work/output" 2>"$work/said" && [ ! -s "$work/said" ]
+}
+# Written afresh, a table is explained as before, and written again it stays; as text it is read back word for word, its conflicts too.
+for t in tables/*.txt; do
+    typed <"$t"
+    cp "$work/input" "$work/given"
+    through text
+    verdict "$t as text" $?
+    target/bin/words <"$work/output" | cmp -s - "$work/given"
+    verdict "$t as text, read back" $?
+    through respell
+    verdict "$t written afresh" $?
+    cp "$work/output" "$work/input"
+    through respell && cmp -s "$work/input" "$work/output"
+    verdict "$t written twice" $?
+    cp "${t%.txt}.out" "$work/expected"
+    explains "$t written afresh, explained"
+done
+# Table B with its two symbol chains exchanged and an unreached record between them: the same text, once written afresh.
+{
+    echo '25  1 2 4 2  6 0 0 0  13 21 0 0  15 22 0 0  16 23 0 0  19 24 0 0  7 10 0 9  0 8 12 13  0 1 1 0  9 9 9 9  11 0 0 0  12 1 0 0  0 0 0 0'
+    echo '14 0 0 0  0 1 0 0  0 0 1 0  17 0 2 0  18 0 0 0  0 1 0 0  20 0 3 0  0 0 1 0  0 0 0 1  0 1 0 2  0 0 0 3  0 1 0 2  3 0 0 0 0'
+} | typed
+through respell
+target/bin/text <"$work/output" >"$work/expected"
+typed <tables/table_b.txt
+through text
+cmp -s "$work/output" "$work/expected"
+verdict "two layouts of table B, one text" $?
+
+# Refused: a line on standard error and nothing on standard output.
+refuses() { # program, refusal and place
+    "target/bin/$1" <"$work/input" >"$work/output" 2>"$work/said"
+    echo "refused $2" | cmp -s - "$work/said" && [ ! -s "$work/output" ]
+    verdict "$1 refused $2" $?
+}
+table_b 48 12 | typed
+for p in respell text; do refuses "$p" '3 12'; done
+: >"$work/input"
+for p in respell text; do refuses "$p" '1 0'; done
+# 128 states that share 8,062 edges: the spelling would have a million records
+{ echo 8192; awk 'BEGIN { print "1 1 128 0  0 0 0 0"; for (s = 0; s < 128; s++) print "0 130 0 0"
+    for (r = 130; r < 8192; r++) print (r < 8191 ? r + 1 : 0), 1, 0, 0 }'; } | typed
+refuses respell '17 0'
 
 # Bad tables: document 01's own inputs of refusals 2, 3, 4 and 7; a place is record * 4 + word.
 refused_table() { # refusal, place, changed place, word
@@ -177,6 +224,14 @@ target/bin/explain <"$work/one" >/dev/full 2>"$work/said"
 says "explain to a full device" 'standard output'
 target/bin/words <tables/table_b.txt >/dev/full 2>"$work/said"
 says "words to a full device" 'standard output'
+for p in respell text; do
+    "target/bin/$p" <"$work/one" >/dev/full 2>"$work/said"
+    says "$p to a full device" 'standard output'
+    "target/bin/$p" <tables >"$work/output" 2>"$work/said"
+    says "$p of a folder" 'standard input'
+    [ ! -s "$work/output" ]
+    verdict "$p of a folder, nothing written" $?
+done
 target/bin/explain <tables >"$work/output" 2>"$work/said"
 says "explain of a folder" 'standard input'
 [ ! -s "$work/output" ]

@@ -5,6 +5,8 @@
 mod answers;
 #[path = "../driver/src/plain.rs"]
 mod plain;
+#[path = "../driver/src/rewrites.rs"]
+mod rewrites;
 #[path = "../driver/src/side.rs"]
 mod side;
 #[path = "../driver/src/table.rs"]

@@ -95,6 +95,32 @@ static void check(void)
     EXPECT(lihvemur_check(B, 0, &place) == 1 && place == 0);
 }
 
+/* B is its own spelling. With the symbols of its two productions in the other order, and a record behind it that no chain reaches, it is written as B too; a word less than 24 records is no room. */
+static void respell(void)
+{
+    uint16_t other[COUNT(B) + 4], records = UNWRITTEN;
+    fresh();
+    EXPECT(lihvemur_respell(B, COUNT(B), output, COUNT(B), &records, &place) == 0 && place == 0 && records == COUNT(B) / 4);
+    EXPECT(begins(output, B, COUNT(B)));
+    memcpy(other, B, sizeof B);
+    memcpy(&other[8 * 4], &B[11 * 4], 4 * sizeof B[0]);
+    memcpy(&other[9 * 4], &B[8 * 4], 12 * sizeof B[0]);
+    other[6 * 4 + 1] = 9;
+    other[7 * 4 + 1] = 8;
+    other[9 * 4] = 10;
+    other[10 * 4] = 11;
+    for (size_t i = COUNT(B); i < COUNT(other); i++)
+        other[i] = UNWRITTEN;
+    fresh();
+    records = UNWRITTEN;
+    EXPECT(lihvemur_respell(other, COUNT(other), output, LENT, &records, &place) == 0 && place == 0 && records == COUNT(B) / 4);
+    EXPECT(begins(output, B, COUNT(B)));
+    fresh();
+    records = UNWRITTEN;
+    EXPECT(lihvemur_respell(B, COUNT(B), output, COUNT(B) - 1, &records, &place) == 17 && place == 0 && records == UNWRITTEN && untouched(output));
+    EXPECT(lihvemur_respell(bad, COUNT(bad), output, COUNT(B), &records, &place) == 3 && place == 12 && records == UNWRITTEN && untouched(output));
+}
+
 static void first0(void)
 {
     uint64_t set = UNWRITTEN;
@@ -321,6 +347,7 @@ int main(void)
     memcpy(bad, B, sizeof bad);
     bad[12 * 4] = 12;
     check();
+    respell();
     first0();
     first0_joined();
     first1();

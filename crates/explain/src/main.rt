@@ -5,9 +5,10 @@ use example::Example;
 use lines::lines;
 use lines::refused_line;
 use little::decode;
+use pipe::Given;
+use pipe::read_table;
 use report::classify;
 use repr::ProductionIndex;
-use repr::word;
 use state_graph::StateIndex;
 use streams::read;
 use streams::write;
@@ -153,19 +154,9 @@ fn explain_conflicts(table: &[u16], bytes: &mut [u8])
 }
 
 // The table and its conflicts, the number of records being read.
-fn explain(records: usize, bytes: &mut [u8], table: &mut [u16])
-    requires { ⌜ (records ≤ 8192) × ((65536 ≤ length (now bytes)) × (32768 ≤ length (now table))) ⌝ }
+fn explain(records: usize, bytes: &mut [u8], table: &[u16])
+    requires { ⌜ (records ≤ 8192) × ((65536 ≤ length (now bytes)) × (records * 4 ≤ length (now table))) ⌝ }
 {
-    let size = records * 8;
-    let input = read(&mut bytes[..size]);
-    if input.failed {
-        return;
-    }
-    if input.got < size {
-        say_refused(0, 1, 0);
-        return;
-    }
-    decode(&bytes[..size], table);
     let length = records * 4;
     match check(&table[..length]) {
         Checked::Refused(refusal, place) => {
@@ -175,25 +166,17 @@ fn explain(records: usize, bytes: &mut [u8], table: &mut [u16])
     }
 }
 
-// All of the input. One without its first word, or with a number of records above the largest table's, is refusal 1.
+// All of the input. A stream that ends before its table does is refusal 1.
 fn explain_input(bytes: &mut [u8], table: &mut [u16])
     requires { ⌜ (65536 ≤ length (now bytes)) × (32768 ≤ length (now table)) ⌝ }
 {
-    let input = read(&mut bytes[..2]);
-    if input.failed {
-        return;
+    match read_table(bytes, table) {
+        Given::Table(records) => explain(records, bytes, table),
+        Given::Cut => {
+            say_refused(0, 1, 0);
+        }
+        Given::Failed => {}
     }
-    if input.got < 2 {
-        say_refused(0, 1, 0);
-        return;
-    }
-    decode(&bytes[..2], table);
-    let records = word(table, 0);
-    if records > 8192 {
-        say_refused(0, 1, 0);
-        return;
-    }
-    explain(records, bytes, table);
 }
 
 fn main() {

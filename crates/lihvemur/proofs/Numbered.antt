@@ -5,6 +5,9 @@ use mathlib.Core.List.{List}
 use Prim.Native.Nat.{ℕ}
 use Rattle.table.specs.declared.Checked.{Checked}
 use Rattle.table.specs.declared.Checked.the-variants.{Accepted, Refused}
+use Rattle.spelling.specs.Outcome.{Outcome as Spelling}
+use Rattle.spelling.specs.declared.Respelled.{Respelled}
+use Rattle.spelling.specs.declared.Respelled.the-variants.{Records, Refused as NotSpelled}
 use Rattle.lookahead.specs.declared.TokenSet.{TokenSet}
 use Rattle.state_graph.specs.declared.StateSet.{StateSet}
 use Rattle.state_graph.specs.States.{statesIn}
@@ -22,7 +25,7 @@ use Rattle.lr1.specs.declared.AddEdge.the-variants.{Edges as GraphEdges, Refuse
 use Rattle.tracer.specs.Outcome.{Outcome, outcome}
 use Rattle.tracer.specs.declared.Backtrace.{Backtrace}
 use Rattle.tracer.specs.declared.Backtrace.the-variants.{Edges as TraceEdges, Refused as NoTrace}
-use Rattle.lihvemur.specs.Exported.{numbers, checkNumbers, setNumbers, followedNumbers, answerNumbers, firstNumbers, stateNumbers, walkNumbers, addNumbers, edgeNumbers, traceNumbers, backtraceNumbers}
+use Rattle.lihvemur.specs.Exported.{numbers, checkNumbers, spellNumbers, respellNumbers, setNumbers, followedNumbers, answerNumbers, firstNumbers, stateNumbers, walkNumbers, addNumbers, edgeNumbers, traceNumbers, backtraceNumbers}
 
 -- c: what the entry answers, d: what its contract says it is
 module _ (c d : Checked) (e : c ≡ d) where
@@ -33,6 +36,15 @@ module _ (c d : Checked) (e : c ≡ d) where
   pub check-refused : (n r : ℕ) → c ≡ Refused n r → numbers n r ≡ checkNumbers d
   unfolding checkNumbers
   check-refused n r h = rw (sym e ∙ h)
+
+module _ (old : ℕ) (c : Respelled) (words : List ℕ) (d : Spelling) (e : record { answer = c; out = words } ≡ d) where
+  pub spell-made : (count : ℕ) → c ≡ Records count → spellNumbers 0 0 count words ≡ respellNumbers old d
+  unfolding respellNumbers
+  spell-made count h = rw (← e, h)
+
+  pub spell-refused : (n r : ℕ) → c ≡ NotSpelled n r → spellNumbers n r old words ≡ respellNumbers old d
+  unfolding respellNumbers
+  spell-refused n r h = rw (← e, h)
 
 module _ (old : ℕ) (was : Bool) (c d : First) (e : c ≡ d) where
   pub first-answered : (a : Answer) → c ≡ Answered a → answerNumbers 0 0 (a .tokens .0) (a .nullable) ≡ firstNumbers old was d

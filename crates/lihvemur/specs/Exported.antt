@@ -5,6 +5,8 @@ use mathlib.Core.Bool.{Bool}
 use mathlib.Core.List.{List}
 use Rattle.table.specs.declared.Checked.{Checked}
 use Rattle.table.specs.declared.Checked.the-variants.{Accepted, Refused}
+use Rattle.spelling.specs.Outcome.{Outcome as Spelling}
+use Rattle.spelling.specs.declared.Respelled.the-variants.{Records, Refused as NotSpelled}
 use Rattle.state_graph.specs.States.{statesIn}
 use Rattle.lr1.specs.declared.First.{First}
 use Rattle.lr1.specs.declared.First.the-variants.{Answered, Refused as NoAnswer}
@@ -25,6 +27,13 @@ pub data Numbers : Type 0 where
 unfoldable pub checkNumbers : Checked → Numbers
 checkNumbers Accepted = numbers 0 0
 checkNumbers (Refused n r) = numbers n r
+
+-- refusal, place, number of records and output words
+pub data SpellNumbers : Type 0 where
+  spellNumbers : ℕ → ℕ → ℕ → List ℕ → SpellNumbers
+
+unfoldable pub respellNumbers : ℕ → Spelling → SpellNumbers
+respellNumbers old o = elim (o .answer) [ Records count ↦ spellNumbers 0 0 count (o .out) | NotSpelled n r ↦ spellNumbers n r old (o .out) ]
 
 -- refusal, place and set; the set as it was where the call is refused
 pub data SetNumbers : Type 0 where

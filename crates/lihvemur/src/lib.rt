@@ -9,6 +9,7 @@ use lr1::First;
 use lr1::Followed;
 use lr1::Walked;
 use repr::ProductionIndex;
+use spelling::Respelled;
 use state_graph::StateIndex;
 use table::Checked;
 use trace_graph::TraceGraphNode;
@@ -16,11 +17,12 @@ use tracer::Backtrace;
 ghost use mathlib.Core.Path.{_≡_};
 ghost use mathlib.Core.List.{_++_};
 ghost use Rattle.table.specs.Refusals.{checkOf};
+ghost use Rattle.spelling.specs.Outcome.{respellOf};
 ghost use Rattle.state_graph.specs.States.{statesIn};
 ghost use Rattle.lr1.specs.Entries.{first0Of, first1Of, traceBackOf};
 ghost use Rattle.lr1.specs.Edges.{addEdgeOf};
 ghost use Rattle.tracer.specs.Outcome.{shiftOf, reduceOf};
-ghost use Rattle.lihvemur.specs.Exported.{numbers, checkNumbers, setNumbers, followedNumbers, answerNumbers, firstNumbers, stateNumbers, walkNumbers, addNumbers, edgeNumbers, traceNumbers, backtraceNumbers};
+ghost use Rattle.lihvemur.specs.Exported.{numbers, checkNumbers, spellNumbers, respellNumbers, setNumbers, followedNumbers, answerNumbers, firstNumbers, stateNumbers, walkNumbers, addNumbers, edgeNumbers, traceNumbers, backtraceNumbers};
 
 #[no_mangle]
 pub extern "C" fn lihvemur_check(table: &[u16], place: &mut u16) -> u16
@@ -32,6 +34,28 @@ pub extern "C" fn lihvemur_check(table: &[u16], place: &mut u16) -> u16
             0
         }
         Checked::Refused(refusal, at) => {
+            *place = at;
+            refusal
+        }
+    }
+}
+
+#[no_mangle]
+pub extern "C" fn lihvemur_respell(
+    table: &[u16],
+    out: &mut [u16],
+    records: &mut u16,
+    place: &mut u16,
+) -> u16
+    ensures { λ r. ⌜ spellNumbers r (now (place .exit)) (now (records .exit)) (now (out .exit)) ≡ respellNumbers (now (records .entry)) (respellOf (now (table .entry)) (now (out .entry))) ⌝ }
+{
+    match lr1::respell(table, out) {
+        Respelled::Records(count) => {
+            *place = 0;
+            *records = count;
+            0
+        }
+        Respelled::Refused(refusal, at) => {
             *place = at;
             refusal
         }

@@ -13,7 +13,7 @@ ghost use Rattle.error.specs.Numbers.{classNumber, classValues, readingOf};
 ghost use Rattle.lines.specs.Lines.{Put, Whole, Shown, ReadingShown, numeral, symbolText, reductionText, symbolTexts, reductionTexts, counted, symbolTotal, printedLength, exampleLine, ownText, refusedText, refusedLine, classLine, exampleLines, linesOf};
 
 // A byte; the place after it.
-fn put(out: &mut [u8], at: usize, byte: u8) -> usize
+pub fn put(out: &mut [u8], at: usize, byte: u8) -> usize
     requires { ⌜ at < length (now out) ⌝ }
     ensures { λ r. ⌜ Put (now (out .entry)) at (byte ∷ []) (now (out .exit)) r ⌝ }
 {
@@ -22,7 +22,7 @@ fn put(out: &mut [u8], at: usize, byte: u8) -> usize
 }
 
 // A text.
-fn put_text(out: &mut [u8], at: usize, text: &[u8]) -> usize
+pub fn put_text(out: &mut [u8], at: usize, text: &[u8]) -> usize
     requires { ⌜ at + length (now text) ≤ length (now out) ⌝ }
     ensures { λ r. ⌜ Put (now (out .entry)) at (now (text .entry)) (now (out .exit)) r ⌝ }
 {
@@ -46,7 +46,7 @@ fn put_number(out: &mut [u8], at: usize, n: u64) -> usize
 }
 
 // A byte, then a number: at most 21 bytes.
-fn put_after(out: &mut [u8], at: usize, byte: u8, n: u64) -> usize
+pub fn put_after(out: &mut [u8], at: usize, byte: u8, n: u64) -> usize
     requires { ⌜ at + 21 ≤ length (now out) ⌝ }
     ensures { λ r. ⌜ Put (now (out .entry)) at (byte ∷ numeral n) (now (out .exit)) r × (r ≤ at + 21) ⌝ }
 {
@@ -55,7 +55,7 @@ fn put_after(out: &mut [u8], at: usize, byte: u8, n: u64) -> usize
 }
 
 // A symbol: kind/number.
-fn put_symbol(out: &mut [u8], at: usize, kind: usize, number: usize) -> usize
+pub fn put_symbol(out: &mut [u8], at: usize, kind: usize, number: usize) -> usize
     requires { ⌜ at + 42 ≤ length (now out) ⌝ }
     ensures { λ r. ⌜ Put (now (out .entry)) at (symbolText kind number) (now (out .exit)) r × (r ≤ at + 42) ⌝ }
 {
@@ -74,7 +74,7 @@ fn put_reduction(out: &mut [u8], at: usize, start: usize, end: usize, nontermina
 }
 
 // The symbols of an example, from their words on.
-fn put_symbols(out: &mut [u8], at: usize, words: &[u16], n: usize) -> usize
+pub fn put_symbols(out: &mut [u8], at: usize, words: &[u16], n: usize) -> usize
     requires { ⌜ (2 * n ≤ length (now words)) × (n ≤ exampleSymbols) ⌝ }
     requires { ⌜ at + 42 * n ≤ length (now out) ⌝ }
     ensures { λ r. ⌜ Put (now (out .entry)) at (symbolTexts (take (2 * n) (now (words .entry)))) (now (out .exit)) r × (r ≤ at + 42 * n) ⌝ }

@@ -1,4 +1,4 @@
-// The public surface. Every entry is total, refuses by document 01's table of refusals, and is equated with a definition of specs/Entries, specs/Edges or tracer's specs/Outcome.
+// The public surface. Every entry is total, refuses by document 01's table of refusals, and is equated with a definition of specs/Entries, specs/Edges or the specs/Outcome of tracer and of spelling.
 // Parameters: table, then numbers, then lent lists.
 use first::Answer;
 use first::FirstSets;
@@ -7,6 +7,7 @@ use repr::ProductionIndex;
 use repr::joined_fits;
 use repr::list_fits;
 use repr::word;
+use spelling::Respelled;
 use state_graph::StateIndex;
 use state_graph::StateSet;
 use table::Checked;
@@ -25,6 +26,7 @@ ghost use mathlib.Core.List.{_++_};
 ghost use Rattle.first.specs.First.{firstSets};
 ghost use Rattle.table.specs.Decoded.{meaning};
 ghost use Rattle.table.specs.Refusals.{checkOf};
+ghost use Rattle.spelling.specs.Outcome.{respellOf};
 ghost use Rattle.trace_graph.specs.Nodes.{nodeValue};
 ghost use Rattle.tracer.specs.Outcome.{outcome, shiftOf, reduceOf};
 ghost use Rattle.lr1.specs.Edges.{edgeOutcome, addEdgeIn, addEdgeOf};
@@ -35,6 +37,14 @@ pub fn check(table: &[u16]) -> Checked
     ensures { λ r. ⌜ r ≡ checkOf (now (table .entry)) ⌝ }
 {
     table_check::check(table)
+}
+
+// Writes an accepted table afresh in the single spelling of its meaning, at the front of `out` (Req 02), and answers how many records that are. Refusals 1 to 8, then 17 where they
+// pass 8,192 or the room of `out`; no refusal changes a word.
+pub fn respell(table: &[u16], out: &mut [u16]) -> Respelled
+    ensures { λ r. ⌜ record { answer = r; out = now (out .exit) } ≡ respellOf (now (table .entry)) (now (out .entry)) ⌝ }
+{
+    spelling::respell(table, out)
 }
 
 // FIRST of a list; else the refusal and its place.

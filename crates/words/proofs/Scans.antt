@@ -8,7 +8,8 @@ use mathlib.Core.List.{List, [], _∷_, _++_, append-assoc, append-nil}
 use lib.ListN.{length, getD, take, drop, set, length-set, drop-of-length-le, length-append}
 use lib.Seq.{drop-cons, take-suc-set}
 use Rattle.words.specs.Text.{Reader, Step, goes, fails, step, Scan, reads, stops, withWords, scan}
-use Rattle.words.specs.Bytes.{readerOf, fedOf, Near, encoded, inBytes, Written, wrote, stopped, writtenOf, tell, putWords, stepInto, scanInto}
+use Rattle.little.specs.Little.{encoded}
+use Rattle.words.specs.Bytes.{readerOf, fedOf, Near, inBytes, Written, wrote, stopped, writtenOf, tell, putWords, stepInto, scanInto}
 use Rattle.words.specs.declared.Reader.{Reader as Held}
 use Rattle.words.specs.declared.Turn.{Turn}
 use Rattle.words.specs.declared.Fed.{Fed}

@@ -1,8 +1,9 @@
--- Words as bytes, the low one first, and what the program's own types say in the terms of specs/Text. Assumes nothing: these are definitions.
+-- What the program's own types say in the terms of specs/Text. Assumes nothing: these are definitions.
 use Prim.Native.Nat.{ℕ, _+_, _*_, _/_, _%_, _≤_, _<_}
 use mathlib.Core.Bool.{Bool, true, false}
 use mathlib.Core.List.{List, [], _∷_, _++_}
 use lib.ListN.{length, take, set}
+use Rattle.little.specs.Little.{encoded}
 use Rattle.words.specs.Text.{Reader, Step, goes, fails, step, Scan, reads, stops}
 use Rattle.words.specs.declared.Reader.{Reader as Held}
 use Rattle.words.specs.declared.Turn.{Turn}
@@ -25,10 +26,6 @@ pub record Below (r : Reader) (n : ℕ) : Type 0 where
 pub record Near (r q : Reader) (n : ℕ) : Type 0 where
   pub line-near : q .line ≤ r .line + n
   pub column-near : q .column ≤ r .column + n
-
-unfoldable pub encoded : List ℕ → List ℕ
-encoded [] = []
-encoded (w ∷ ws) = w % 256 ∷ w / 256 ∷ encoded ws
 
 -- the scan of a text with bytes for words
 unfoldable pub inBytes : Scan → Scan

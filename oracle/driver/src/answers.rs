@@ -3,6 +3,7 @@
 //! and openness, which are read here. crates/replay/src/main.rt says what a
 //! request and an answer hold, op by op.
 
+use crate::rewrites;
 use crate::side::*;
 use crate::table::*;
 use std::collections::BTreeSet;
@@ -15,6 +16,7 @@ pub const BUFFER: usize = 2_000;
 pub const OUTPUT: usize = 32_008;
 pub const EXAMPLE: usize = 1_160;
 pub const ENTRIES: usize = 390;
+pub const REWRITTEN: usize = 32_776;
 
 /// The words that a call asks for: 11, and document 01's rules of scratch.
 pub const GRAPH_ASKED: usize = 8_193;
@@ -244,6 +246,18 @@ fn is_node(of: &Of, edges: &[[u16; 8]]) -> bool {
     edges.iter().any(|e| e[..3] == node || e[3..6] == node)
 }
 
+/// Op 18, by document 02 and not by a side: the Rust has no such call.
+fn respell(table: &[u16], more: &[u16]) -> Answer {
+    let lent = number(more, 0).min(REWRITTEN);
+    let (head, words) = match rewrites::respell(table, lent) {
+        Ok(records) => ([0, 0, records.len() as u32], records.concat()),
+        Err(r) => ([r.number as u32, r.place as u32, 7], vec![]),
+    };
+    let out = over(REWRITTEN, &words);
+    let shown = head.into_iter().chain([digest(&out)]);
+    shown.chain(wide(&out[..24])).collect()
+}
+
 /// Opening a listing.
 fn open(of: &Of) -> Result<(), Refusal> {
     let table = asked(of)?;
@@ -325,6 +339,7 @@ impl<'a> Answers<'a> {
                 let answer = self.side.trace_back_joined(table, at(more, 0), xs, ys)?;
                 Some(whole(answer, &[7, 71]))
             }
+            18 => Some(respell(table, more)),
             _ => None,
         }
     }

@@ -43,7 +43,7 @@ impl Rng {
 }
 
 /// The kinds of cases, each made from a seed.
-pub const KINDS: [&str; 8] = [
+pub const KINDS: [&str; 9] = [
     "classic",
     "random",
     "bent",
@@ -52,6 +52,7 @@ pub const KINDS: [&str; 8] = [
     "graph",
     "damaged",
     "limit",
+    "layouts",
 ];
 
 /// Kinds that are no part of `all`: they take long.
@@ -69,6 +70,7 @@ pub fn case(kind: &str, seed: u64) -> Option<Case> {
         "graph" => graphs(&mut rng),
         "damaged" => damaged(&mut rng),
         "limit" => limit(&mut rng, seed),
+        "layouts" => crate::layouts::case(seed),
         "heavy" => heavy(seed),
         "most" => most(seed),
         _ => panic!("kinds: {KINDS:?}, {ALONE:?}"),
@@ -588,7 +590,7 @@ fn try_conflicts(rng: &mut Rng, table: &Table, count: usize) -> Vec<([u16; 4], u
 }
 
 /// Any items and edges, one target per symbol.
-fn arbitrary_table(rng: &mut Rng, big: bool) -> Table {
+pub fn arbitrary_table(rng: &mut Rng, big: bool) -> Table {
     let (n, t, s, p) = if big {
         (
             rng.from_to(1, 32),
@@ -845,6 +847,7 @@ fn damaged(rng: &mut Rng) -> Option<Case> {
             Question::Classify([0, 0, 1, 0, 0]),
             Question::FirstJoined(vec![0], vec![0]),
             Question::BackJoined(0, vec![0], vec![0]),
+            Question::Respell(32_768),
         ],
     })
 }

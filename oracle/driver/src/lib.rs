@@ -6,6 +6,7 @@ pub mod conflicts;
 pub mod costs;
 pub mod explain;
 pub mod generate;
+pub mod layouts;
 pub mod listings;
 pub mod plain;
 #[cfg(feature = "port")]
@@ -13,6 +14,7 @@ pub mod port;
 #[cfg(feature = "port")]
 pub mod port_side;
 pub mod question;
+pub mod rewrites;
 pub mod rules;
 pub mod rust;
 pub mod sample;

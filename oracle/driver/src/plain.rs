@@ -509,6 +509,16 @@ impl Side for PlainSide {
         Some(check(table).map_or_else(refused, |()| vec![0]))
     }
 
+    fn respell(&mut self, table: &[u16], words: usize) -> Option<Answer> {
+        Some(match crate::rewrites::respell(table, words) {
+            Ok(records) => {
+                let words = records.concat();
+                [0, records.len() as u32].into_iter().chain(wide(&words)).collect()
+            }
+            Err(r) => refused(r),
+        })
+    }
+
     fn first0(&mut self, table: &[u16], symbols: &[Sym]) -> Option<Answer> {
         ask(
             table,

@@ -43,6 +43,9 @@ macro_rules! entries {
 
 entries! {
     check is lihvemur_check(table: &[u16], place: &mut u16);
+    respell is lihvemur_respell(
+        table: &[u16], out: &mut [u16], records: &mut u16, place: &mut u16
+    );
     first0 is lihvemur_first0(
         table: &[u16], symbols: &[u16], set: &mut u64, nullable: &mut bool, place: &mut u16
     );

@@ -238,6 +238,24 @@ impl Side for PortSide {
         answer((refusal, place), || tokens(0))
     }
 
+    /// Accepted it writes the records that it answers at the output's front and
+    /// nothing past them, else nothing.
+    fn respell(&mut self, table: &[u16], words: usize) -> Option<Answer> {
+        self.fill = self.fill.wrapping_add(1);
+        let mut out = Lent::new(words, self.fill);
+        let (mut place, mut records) = (u16::MAX, u16::MAX);
+        let refusal = respell(table, &mut out.words[..words], &mut records, &mut place);
+        let front = match refusal {
+            0 => 4 * records as usize,
+            _ => 0,
+        };
+        out.kept(front, "output");
+        assert!(if refusal == 0 { place == 0 } else { records == u16::MAX });
+        answer((refusal, place), || {
+            std::iter::once(records.into()).chain(wide(&out.words[..front]))
+        })
+    }
+
     fn first0(&mut self, table: &[u16], symbols: &[Sym]) -> Option<Answer> {
         let (mut place, mut set, mut nullable) = (0, 0, false);
         let symbols = symbol_words(symbols);

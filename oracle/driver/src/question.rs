@@ -27,6 +27,8 @@ pub enum Question {
     /// Two token sets and a token.
     Sets(u64, u64, u16),
     Item((u16, u16)),
+    /// Words of the output.
+    Respell(u16),
 }
 
 /// A table with questions about it.
@@ -62,6 +64,7 @@ pub fn ask(side: &mut dyn Side, table: &[u16], question: &Question) -> Option<An
         Question::Observed(c) => side.observed(table, *c),
         Question::Sets(a, b, token) => side.sets(table, *a, *b, *token),
         Question::Item(item) => side.item(table, *item),
+        Question::Respell(words) => side.respell(table, *words as usize),
     }
 }
 
@@ -109,6 +112,7 @@ impl std::fmt::Display for Question {
                 format!("sets {token} / {} / {}", set(Some(*a)), set(Some(*b)))
             }
             Question::Item(i) => format!("item {} {}", i.0, i.1),
+            Question::Respell(words) => format!("respell {words}"),
         };
         f.write_str(line.trim_end())
     }
@@ -162,6 +166,7 @@ pub fn parse(line: &str) -> Option<Question> {
         ("choose", c) => Question::Choose(c.try_into().ok()?, tokens(1)?),
         ("sets", &[token]) => Question::Sets(tokens(1)?, tokens(2)?, token),
         ("item", &[p, i]) => Question::Item((p, i)),
+        ("respell", &[words]) => Question::Respell(words),
         ("observed", c) => Question::Observed(c.try_into().ok()?),
         _ => return None,
     })

@@ -54,6 +54,11 @@ fn joins(q: &Question) -> bool {
     matches!(q, Question::FirstJoined(..) | Question::BackJoined(..))
 }
 
+/// Those that the sample has in a part of its own.
+fn rewrites(q: &Question) -> bool {
+    matches!(q, Question::Respell(..))
+}
+
 /// Op and further words of a question.
 fn request(q: &Question) -> Option<(u16, Vec<u16>)> {
     Some(match q {
@@ -69,6 +74,7 @@ fn request(q: &Question) -> Option<(u16, Vec<u16>)> {
         Question::BackJoined(state, xs, ys) => {
             (17, [&[*state, xs.len() as u16], &xs[..], ys].concat())
         }
+        Question::Respell(words) => (18, vec![*words]),
         _ => return None,
     })
 }
@@ -484,7 +490,7 @@ pub fn sample(side: &mut dyn Side) -> Sample {
     refused_first(&mut m);
     no_productions(&mut m);
     for kind in KINDS {
-        generated(&mut m, kind, |q| !traces(q) && !joins(q));
+        generated(&mut m, kind, |q| !traces(q) && !joins(q) && !rewrites(q));
     }
     traces_on_b(&mut m);
     lent(&mut m);
@@ -496,6 +502,7 @@ pub fn sample(side: &mut dyn Side) -> Sample {
     crate::listings::listings(&mut m);
     crate::conflicts::conflicts(&mut m);
     crate::rules::rules(&mut m);
+    crate::layouts::layouts(&mut m);
     m.out
 }
 

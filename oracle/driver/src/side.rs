@@ -17,6 +17,7 @@ use crate::table::{Refusal, Sym, Table, check, refuse};
 /// | choose | number chosen; of each: token, class, number of own words, own words |
 /// | observed | the words |
 /// | sets | see `SETS` |
+/// | respell | number of records, the words written |
 /// | item | number of prefix symbols, the symbols; 1 and the cursor's symbol or 0; number of suffix symbols, the symbols; the nonterminal it can shift plus 1 or 0 |
 pub type Answer = Vec<u32>;
 
@@ -92,6 +93,10 @@ pub trait Side {
     }
     /// `conflict` without its token.
     fn choose(&mut self, _table: &[u16], _conflict: [u16; 4], _tokens: u64) -> Option<Answer> {
+        None
+    }
+    /// Into an output of so many words.
+    fn respell(&mut self, _table: &[u16], _words: usize) -> Option<Answer> {
         None
     }
     fn sets(&mut self, _table: &[u16], _a: u64, _b: u64, _token: u16) -> Option<Answer> {
