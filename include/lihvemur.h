@@ -42,6 +42,10 @@ uint16_t lihvemur_check(const uint16_t *table, size_t table_words, uint16_t *pla
  * 8,192 or the room of `out` (its words divided by 4); no refusal changes a word. Two tables that are written have equal words exactly if they mean the same. */
 uint16_t lihvemur_respell(const uint16_t *table, size_t table_words, uint16_t *out, size_t out_words, uint16_t *records, uint16_t *place);
 
+/* Takes back, in place, the records of an accepted table that no chain reaches; how many are left behind `records`. Those that are reached move down in their order and stay shared, indexes follow, and
+ * every word behind them is 0. Refusals 1 to 8 alone; they change no word. The whole table and its front of that many records both mean what the table meant. */
+uint16_t lihvemur_compact(uint16_t *table, size_t table_words, uint16_t *records, uint16_t *place);
+
 /* FIRST of a list of symbols, kind and number each (0 a nonterminal, 1 a terminal): with answer 0 its terminals behind `set`, and behind `nullable` whether the list may be empty. */
 uint16_t lihvemur_first0(const uint16_t *table, size_t table_words, const uint16_t *symbols, size_t symbol_words, uint64_t *set, bool *nullable, uint16_t *place);
 

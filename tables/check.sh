@@ -1,5 +1,5 @@
 #!/bin/sh
-# Tries the built programs words, explain, respell and text on the tables of this folder and on inputs made here, and compares what they write.
+# Tries the built programs words, explain, respell, text and compact on the tables of this folder and on inputs made here, and compares what they write.
 # Where an expected output comes from: TABLE.out is what the Rust's explaining program writes for that table (`oracle explain`, oracle/README.md),
 # and so is every expected line below that is not a refusal; the refusals are document 01's rows, applied by hand where they stand.
 cd "$(dirname "$0")/.." || exit 1
@@ -79,13 +79,49 @@ refuses() { # program, refusal and place
     verdict "$1 refused $2" $?
 }
 table_b 48 12 | typed
-for p in respell text; do refuses "$p" '3 12'; done
+for p in respell text compact; do refuses "$p" '3 12'; done
 : >"$work/input"
-for p in respell text; do refuses "$p" '1 0'; done
+for p in respell text compact; do refuses "$p" '1 0'; done
 # 128 states that share 8,062 edges: the spelling would have a million records
 { echo 8192; awk 'BEGIN { print "1 1 128 0  0 0 0 0"; for (s = 0; s < 128; s++) print "0 130 0 0"
     for (r = 130; r < 8192; r++) print (r < 8191 ? r + 1 : 0), 1, 0, 0 }'; } | typed
 refuses respell '17 0'
+
+# With unused records taken back the same is explained, from a table that has none and from one with records between and behind its own.
+compacted() { # name
+    through compact
+    verdict "$1, compact" $?
+    cp "$work/output" "$work/input"
+    explains "$1, compact, explained"
+}
+# A table of words, each loose record before an unused one.
+spread() {
+    sed 's/#.*//' "$1" | awk '
+        { for (i = 1; i <= NF; i++) w[n++] = $i }
+        function to(x) { return x == 0 ? 0 : loose + 2 * (x - loose) }
+        END {
+            first = 1 + w[1]; second = first + w[3]; loose = second + w[4]
+            print 2 * w[0] - loose
+            for (r = 0; r < w[0]; r++) {
+                a = w[1 + 4 * r]; b = w[2 + 4 * r]
+                if (r >= first && r < second || r >= loose) a = to(a)
+                if (r >= first && r < loose) b = to(b)
+                print a, b, w[3 + 4 * r], w[4 + 4 * r]
+                if (r >= loose) print 1, 2, 3, 4
+            }
+            for (i = 1 + 4 * w[0]; i < n; i++) print w[i]
+        }'
+}
+for t in tables/*.txt; do
+    cp "${t%.txt}.out" "$work/expected"
+    typed <"$t"
+    cp "$work/input" "$work/typed"
+    compacted "$t"
+    spread "$t" | typed
+    compacted "$t, spread"
+    cmp -s "$work/input" "$work/typed"
+    verdict "$t, spread, compact: its own words" $?
+done
 
 # Bad tables: document 01's own inputs of refusals 2, 3, 4 and 7; a place is record * 4 + word.
 refused_table() { # refusal, place, changed place, word

@@ -121,6 +121,32 @@ static void respell(void)
     EXPECT(lihvemur_respell(bad, COUNT(bad), output, COUNT(B), &records, &place) == 3 && place == 12 && records == UNWRITTEN && untouched(output));
 }
 
+/* B has nothing to take back. With a record that no chain reaches between its areas and its symbols, and one behind it, it is B again, and the freed end is zero. */
+static void compact(void)
+{
+    uint16_t other[COUNT(B) + 8], records = UNWRITTEN;
+    const size_t areas = 8 * 4;
+    memcpy(other, B, sizeof B);
+    EXPECT(lihvemur_compact(other, COUNT(B), &records, &place) == 0 && place == 0 && records == COUNT(B) / 4 && memcmp(other, B, sizeof B) == 0);
+    memcpy(&other[areas + 4], &B[areas], sizeof B - areas * sizeof B[0]);
+    for (size_t i = 0; i < 4; i++)
+        other[areas + i] = other[COUNT(B) + 4 + i] = UNWRITTEN;
+    for (size_t r = 2; r < COUNT(B) / 4 + 1; r++)
+        if (r != 8) {
+            if ((r < 6 || r > 8) && other[r * 4] != 0)
+                other[r * 4]++;
+            if (r < 8 && other[r * 4 + 1] != 0)
+                other[r * 4 + 1]++;
+        }
+    records = UNWRITTEN;
+    EXPECT(lihvemur_compact(other, COUNT(other), &records, &place) == 0 && place == 0 && records == COUNT(B) / 4 && memcmp(other, B, sizeof B) == 0);
+    for (size_t i = COUNT(B); i < COUNT(other); i++)
+        EXPECT(other[i] == 0);
+    memcpy(other, bad, sizeof bad);
+    records = UNWRITTEN;
+    EXPECT(lihvemur_compact(other, COUNT(bad), &records, &place) == 3 && place == 12 && records == UNWRITTEN && memcmp(other, bad, sizeof bad) == 0);
+}
+
 static void first0(void)
 {
     uint64_t set = UNWRITTEN;
@@ -348,6 +374,7 @@ int main(void)
     bad[12 * 4] = 12;
     check();
     respell();
+    compact();
     first0();
     first0_joined();
     first1();

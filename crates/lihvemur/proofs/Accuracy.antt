@@ -1,7 +1,7 @@
 -- The accuracy rule: accepted tables with the same counts, productions, spans, items in order and edges in order get the same answers, whatever their words. Assumes nothing.
 use mathlib.Core.Path.{_≡_, refl, sym, ap, _∙_}
 use mathlib.Core.List.{List, [], _∷_, _++_}
-use Prim.Native.Nat.{ℕ, zero, suc}
+use Prim.Native.Nat.{ℕ, zero, suc, _*_}
 use lib.ListN.{length, take}
 use Rattle.repr.specs.Meaning.{Item, Table}
 use Rattle.table.specs.Decoded.{meaning}
@@ -13,6 +13,9 @@ use Rattle.spelling.specs.Outcome.{writtenOf, respellOf}
 use Rattle.spelling.proofs.Same.{same-is}
 use Rattle.spelling.proofs.Rising.{meaning-ordered}
 use Rattle.spelling.proofs.Wrote.{respell-accepted}
+use Rattle.compaction.specs.Outcome.{compactOf}
+use Rattle.compaction.specs.declared.Compacted.the-variants.{Records}
+use Rattle.compaction.proofs.Called.{left, left-accepted, left-meaning, front-accepted, front-meaning}
 use Rattle.lr1.specs.Entries.{overTable, first0Of, first1Of, traceBackOf}
 use Rattle.lr1.specs.Edges.{addEdgeOf}
 use Rattle.tracer.specs.Outcome.{traceBy, shiftOf, reduceOf}
@@ -115,3 +118,9 @@ module _ (t u : List ℕ) (a : checkOf t ≡ Accepted) (b : checkOf u ≡ Accept
 -- for tables that the rule of Req 02 calls the same
 pub same-answers : (t u : List ℕ) → checkOf t ≡ Accepted → checkOf u ≡ Accepted → SameTable (meaning t) (meaning u) → SameAnswers t u
 same-answers t u a b s = all-same t u a b (same-is (meaning t) (meaning u) (meaning-ordered t a) (meaning-ordered u b) s)
+
+-- and for what `compact` leaves (Req 08): the whole slice, and its front of the records that are left
+pub compact-same : (t ws : List ℕ) (n : ℕ) → compactOf t ≡ record { answer = Records n; table = ws } → SameAnswers t ws × SameAnswers t (take (4 * n) ws)
+compact-same t ws n e =
+    let a = left t n ws e .accepted in
+    (all-same t ws a (left-accepted t n ws e) (sym (left-meaning t n ws e)), all-same t (take (4 * n) ws) a (front-accepted t n ws e) (sym (front-meaning t n ws e)))

@@ -8,6 +8,9 @@ use Rattle.table.specs.declared.Checked.the-variants.{Accepted, Refused}
 use Rattle.spelling.specs.Outcome.{Outcome as Spelling}
 use Rattle.spelling.specs.declared.Respelled.{Respelled}
 use Rattle.spelling.specs.declared.Respelled.the-variants.{Records, Refused as NotSpelled}
+use Rattle.compaction.specs.Outcome.{Outcome as Compaction}
+use Rattle.compaction.specs.declared.Compacted.{Compacted}
+use Rattle.compaction.specs.declared.Compacted.the-variants.{Records as Left, Refused as NotCompacted}
 use Rattle.lookahead.specs.declared.TokenSet.{TokenSet}
 use Rattle.state_graph.specs.declared.StateSet.{StateSet}
 use Rattle.state_graph.specs.States.{statesIn}
@@ -25,7 +28,7 @@ use Rattle.lr1.specs.declared.AddEdge.the-variants.{Edges as GraphEdges, Refuse
 use Rattle.tracer.specs.Outcome.{Outcome, outcome}
 use Rattle.tracer.specs.declared.Backtrace.{Backtrace}
 use Rattle.tracer.specs.declared.Backtrace.the-variants.{Edges as TraceEdges, Refused as NoTrace}
-use Rattle.lihvemur.specs.Exported.{numbers, checkNumbers, spellNumbers, respellNumbers, setNumbers, followedNumbers, answerNumbers, firstNumbers, stateNumbers, walkNumbers, addNumbers, edgeNumbers, traceNumbers, backtraceNumbers}
+use Rattle.lihvemur.specs.Exported.{numbers, checkNumbers, spellNumbers, respellNumbers, compactNumbers, setNumbers, followedNumbers, answerNumbers, firstNumbers, stateNumbers, walkNumbers, addNumbers, edgeNumbers, traceNumbers, backtraceNumbers}
 
 -- c: what the entry answers, d: what its contract says it is
 module _ (c d : Checked) (e : c ≡ d) where
@@ -45,6 +48,15 @@ module _ (old : ℕ) (c : Respelled) (words : List ℕ) (d : Spelling) (e : reco
   pub spell-refused : (n r : ℕ) → c ≡ NotSpelled n r → spellNumbers n r old words ≡ respellNumbers old d
   unfolding respellNumbers
   spell-refused n r h = rw (← e, h)
+
+module _ (old : ℕ) (c : Compacted) (words : List ℕ) (d : Compaction) (e : record { answer = c; table = words } ≡ d) where
+  pub compact-left : (count : ℕ) → c ≡ Left count → spellNumbers 0 0 count words ≡ compactNumbers old d
+  unfolding compactNumbers
+  compact-left count h = rw (← e, h)
+
+  pub compact-refused : (n r : ℕ) → c ≡ NotCompacted n r → spellNumbers n r old words ≡ compactNumbers old d
+  unfolding compactNumbers
+  compact-refused n r h = rw (← e, h)
 
 module _ (old : ℕ) (was : Bool) (c d : First) (e : c ≡ d) where
   pub first-answered : (a : Answer) → c ≡ Answered a → answerNumbers 0 0 (a .tokens .0) (a .nullable) ≡ firstNumbers old was d

@@ -7,6 +7,8 @@ use Rattle.table.specs.declared.Checked.{Checked}
 use Rattle.table.specs.declared.Checked.the-variants.{Accepted, Refused}
 use Rattle.spelling.specs.Outcome.{Outcome as Spelling}
 use Rattle.spelling.specs.declared.Respelled.the-variants.{Records, Refused as NotSpelled}
+use Rattle.compaction.specs.Outcome.{Outcome as Compaction}
+use Rattle.compaction.specs.declared.Compacted.the-variants.{Records as Left, Refused as NotCompacted}
 use Rattle.state_graph.specs.States.{statesIn}
 use Rattle.lr1.specs.declared.First.{First}
 use Rattle.lr1.specs.declared.First.the-variants.{Answered, Refused as NoAnswer}
@@ -28,12 +30,15 @@ unfoldable pub checkNumbers : Checked → Numbers
 checkNumbers Accepted = numbers 0 0
 checkNumbers (Refused n r) = numbers n r
 
--- refusal, place, number of records and output words
+-- refusal, place, number of records and the words written
 pub data SpellNumbers : Type 0 where
   spellNumbers : ℕ → ℕ → ℕ → List ℕ → SpellNumbers
 
 unfoldable pub respellNumbers : ℕ → Spelling → SpellNumbers
 respellNumbers old o = elim (o .answer) [ Records count ↦ spellNumbers 0 0 count (o .out) | NotSpelled n r ↦ spellNumbers n r old (o .out) ]
+
+unfoldable pub compactNumbers : ℕ → Compaction → SpellNumbers
+compactNumbers old o = elim (o .answer) [ Left count ↦ spellNumbers 0 0 count (o .table) | NotCompacted n r ↦ spellNumbers n r old (o .table) ]
 
 -- refusal, place and set; the set as it was where the call is refused
 pub data SetNumbers : Type 0 where

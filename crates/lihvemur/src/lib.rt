@@ -3,6 +3,7 @@
 pub mod conflicts;
 pub mod examples;
 
+use compaction::Compacted;
 use lookahead::TokenSet;
 use lr1::AddEdge;
 use lr1::First;
@@ -18,11 +19,12 @@ ghost use mathlib.Core.Path.{_≡_};
 ghost use mathlib.Core.List.{_++_};
 ghost use Rattle.table.specs.Refusals.{checkOf};
 ghost use Rattle.spelling.specs.Outcome.{respellOf};
+ghost use Rattle.compaction.specs.Outcome.{compactOf};
 ghost use Rattle.state_graph.specs.States.{statesIn};
 ghost use Rattle.lr1.specs.Entries.{first0Of, first1Of, traceBackOf};
 ghost use Rattle.lr1.specs.Edges.{addEdgeOf};
 ghost use Rattle.tracer.specs.Outcome.{shiftOf, reduceOf};
-ghost use Rattle.lihvemur.specs.Exported.{numbers, checkNumbers, spellNumbers, respellNumbers, setNumbers, followedNumbers, answerNumbers, firstNumbers, stateNumbers, walkNumbers, addNumbers, edgeNumbers, traceNumbers, backtraceNumbers};
+ghost use Rattle.lihvemur.specs.Exported.{numbers, checkNumbers, spellNumbers, respellNumbers, compactNumbers, setNumbers, followedNumbers, answerNumbers, firstNumbers, stateNumbers, walkNumbers, addNumbers, edgeNumbers, traceNumbers, backtraceNumbers};
 
 #[no_mangle]
 pub extern "C" fn lihvemur_check(table: &[u16], place: &mut u16) -> u16
@@ -56,6 +58,23 @@ pub extern "C" fn lihvemur_respell(
             0
         }
         Respelled::Refused(refusal, at) => {
+            *place = at;
+            refusal
+        }
+    }
+}
+
+#[no_mangle]
+pub extern "C" fn lihvemur_compact(table: &mut [u16], records: &mut u16, place: &mut u16) -> u16
+    ensures { λ r. ⌜ spellNumbers r (now (place .exit)) (now (records .exit)) (now (table .exit)) ≡ compactNumbers (now (records .entry)) (compactOf (now (table .entry))) ⌝ }
+{
+    match lr1::compact(table) {
+        Compacted::Records(count) => {
+            *place = 0;
+            *records = count;
+            0
+        }
+        Compacted::Refused(refusal, at) => {
             *place = at;
             refusal
         }

@@ -1,5 +1,6 @@
-// The public surface. Every entry is total, refuses by document 01's table of refusals, and is equated with a definition of specs/Entries, specs/Edges or the specs/Outcome of tracer and of spelling.
+// The public surface. Every entry is total, refuses by document 01's table of refusals, and is equated with a definition of specs/Entries, specs/Edges or the specs/Outcome of tracer, of spelling and of compaction.
 // Parameters: table, then numbers, then lent lists.
+use compaction::Compacted;
 use first::Answer;
 use first::FirstSets;
 use lookahead::TokenSet;
@@ -27,6 +28,7 @@ ghost use Rattle.first.specs.First.{firstSets};
 ghost use Rattle.table.specs.Decoded.{meaning};
 ghost use Rattle.table.specs.Refusals.{checkOf};
 ghost use Rattle.spelling.specs.Outcome.{respellOf};
+ghost use Rattle.compaction.specs.Outcome.{compactOf};
 ghost use Rattle.trace_graph.specs.Nodes.{nodeValue};
 ghost use Rattle.tracer.specs.Outcome.{outcome, shiftOf, reduceOf};
 ghost use Rattle.lr1.specs.Edges.{edgeOutcome, addEdgeIn, addEdgeOf};
@@ -45,6 +47,14 @@ pub fn respell(table: &[u16], out: &mut [u16]) -> Respelled
     ensures { λ r. ⌜ record { answer = r; out = now (out .exit) } ≡ respellOf (now (table .entry)) (now (out .entry)) ⌝ }
 {
     spelling::respell(table, out)
+}
+
+// Takes back the records of an accepted table that no chain reaches, in place (Req 08): the reached ones move down, the freed end is 0; answers how many are left.
+// Refusals 1 to 8 alone; they change no word.
+pub fn compact(table: &mut [u16]) -> Compacted
+    ensures { λ r. ⌜ record { answer = r; table = now (table .exit) } ≡ compactOf (now (table .entry)) ⌝ }
+{
+    compaction::compact(table)
 }
 
 // FIRST of a list; else the refusal and its place.

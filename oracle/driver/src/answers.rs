@@ -254,8 +254,21 @@ fn respell(table: &[u16], more: &[u16]) -> Answer {
         Err(r) => ([r.number as u32, r.place as u32, 7], vec![]),
     };
     let out = over(REWRITTEN, &words);
-    let shown = head.into_iter().chain([digest(&out)]);
-    shown.chain(wide(&out[..24])).collect()
+    rewritten(head, &out)
+}
+
+/// Op 19, the same: in place, lent words behind the table.
+fn compact(table: &[u16]) -> Answer {
+    let (head, words) = match rewrites::compact(table) {
+        Ok((left, records)) => ([0, 0, left as u32], records.concat()),
+        Err(r) => ([r.number as u32, r.place as u32, 7], table.to_vec()),
+    };
+    rewritten(head, &over(REWRITTEN, &words))
+}
+
+fn rewritten(head: [u32; 3], lent: &[u16]) -> Answer {
+    let shown = head.into_iter().chain([digest(lent)]);
+    shown.chain(wide(&lent[..24])).collect()
 }
 
 /// Opening a listing.
@@ -340,6 +353,7 @@ impl<'a> Answers<'a> {
                 Some(whole(answer, &[7, 71]))
             }
             18 => Some(respell(table, more)),
+            19 => Some(compact(table)),
             _ => None,
         }
     }

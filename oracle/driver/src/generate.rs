@@ -848,6 +848,7 @@ fn damaged(rng: &mut Rng) -> Option<Case> {
             Question::FirstJoined(vec![0], vec![0]),
             Question::BackJoined(0, vec![0], vec![0]),
             Question::Respell(32_768),
+            Question::Compact,
         ],
     })
 }

@@ -1,5 +1,5 @@
-//! Request 02: meanings laid out in any order, and what tells one reading of
-//! the request from another.
+//! Requests 02 and 08: meanings laid out in any order, and what tells one
+//! reading of the requests from another.
 
 use crate::generate::{Rng, arbitrary_table};
 use crate::question::{Case, Question};
@@ -178,7 +178,11 @@ pub fn case(seed: u64) -> Option<Case> {
     Some(Case {
         name: format!("{records} records"),
         table: words,
-        questions: rooms(records).map(Question::Respell).to_vec(),
+        questions: [
+            &rooms(records).map(Question::Respell)[..],
+            &[Question::Compact],
+        ]
+        .concat(),
     })
 }
 
@@ -211,6 +215,7 @@ fn laid_out(m: &mut Maker) {
         if let Some(words) = scattered(&mut rng, &table).filter(|w| w.len() < 3_000) {
             let all = rooms(before.len());
             ask(m, &words, &all[..if seed < 12 { 6 } else { 2 }]);
+            m.put(19, &words, &[]);
         }
     }
 }
@@ -226,19 +231,86 @@ fn limits(m: &mut Maker) {
     let past = shared_edges(&[0, shared as u16 - 3], shared);
     ask(m, &past, &[32_768, 32_776]);
     ask(m, &shared_edges(&[0; 128], 8_062), &[32_776]);
+    m.put(19, &full, &[]);
+    // From the middle on.
+    m.put(19, &shared_edges(&[4_000], 8_189), &[]);
+}
+
+/// One production, one state; the first records of symbols, items and edges,
+/// and the loose records. A record of zeros may be of any kind.
+fn three(heads: [u16; 3], loose: &[[u16; 4]]) -> Vec<u16> {
+    let [symbols, items, edges] = heads;
+    let mut out = vec![
+        [1, 1, 1, 1],
+        [3, 0, 0, 0],
+        [items, edges, 0, 0],
+        [0, symbols, 5, 9],
+    ];
+    out.extend(loose);
+    out.concat()
+}
+
+/// Nothing reached; a record that is reached in two kinds and in three, by a
+/// head and by a next index; all that a chain of every second record leaves.
+fn gaps(m: &mut Maker) {
+    let unused = [7, 65_535, 4, 8];
+    let zero = [0; 4];
+    let to = |next| [next, 0, 0, 0];
+    for heads in [
+        [0; 3],
+        [5, 0, 0],
+        [0, 5, 0],
+        [0, 0, 5],
+        [5, 5, 0],
+        [5, 0, 5],
+        [0, 5, 5],
+        [5; 3],
+    ] {
+        m.put(19, &three(heads, &[unused, zero, unused]), &[]);
+        m.put(19, &three(heads, &[unused, to(7), unused, zero]), &[]);
+    }
+    m.put(
+        19,
+        &three(
+            [4, 6, 8],
+            &[to(8), unused, to(8), unused, to(10), unused, zero],
+        ),
+        &[],
+    );
+    m.put(19, &three([4, 5, 6], &[zero; 3]), &[]);
+    m.put(19, &three([6, 5, 4], &[zero; 4]), &[]);
+    m.put(19, &three([0; 3], &[unused; 8_188]), &[]);
+    m.put(19, &three([0; 3], &[unused; 8_189]), &[]);
+    let every_second = |r: u16| {
+        if r % 2 == 0 {
+            unused
+        } else {
+            to(if r < 8_191 { r + 2 } else { 0 })
+        }
+    };
+    let half: Vec<[u16; 4]> = (4..8_192).map(every_second).collect();
+    m.put(19, &three([8_185, 5, 5], &half), &[]);
+    // States that share a chain, one from its middle on.
+    let shared = shared_edges(&[6, 2, 6, 0, 9], 12);
+    m.put(19, &shared, &[]);
+    m.put(19, &shared_edges(&[6, 4, 6, 8, 9], 12), &[]);
 }
 
 pub fn layouts(m: &mut Maker) {
     let b = table_b();
     ask(m, &b, &rooms(24));
+    m.put(19, &b, &[]);
     for c in [table_c(), b[..92].to_vec(), vec![], vec![0, 0, 1, 0]] {
         ask(m, &c, &[0, 103, 104, 32_768]);
+        m.put(19, &c, &[]);
     }
     for (at, word) in [(48, 12), (24, 0), (33, 2), (74, 4), (7, 1)] {
         let mut t = b.clone();
         t[at] = word;
         ask(m, &t, &[96, 0]);
+        m.put(19, &t, &[]);
     }
     laid_out(m);
     limits(m);
+    gaps(m);
 }

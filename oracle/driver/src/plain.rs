@@ -519,6 +519,16 @@ impl Side for PlainSide {
         })
     }
 
+    fn compact(&mut self, table: &[u16]) -> Option<Answer> {
+        Some(match crate::rewrites::compact(table) {
+            Ok((left, records)) => {
+                let words = records.concat();
+                [0, left as u32].into_iter().chain(wide(&words)).collect()
+            }
+            Err(r) => refused(r),
+        })
+    }
+
     fn first0(&mut self, table: &[u16], symbols: &[Sym]) -> Option<Answer> {
         ask(
             table,

@@ -46,6 +46,7 @@ entries! {
     respell is lihvemur_respell(
         table: &[u16], out: &mut [u16], records: &mut u16, place: &mut u16
     );
+    compact is lihvemur_compact(table: &mut [u16], records: &mut u16, place: &mut u16);
     first0 is lihvemur_first0(
         table: &[u16], symbols: &[u16], set: &mut u64, nullable: &mut bool, place: &mut u16
     );

@@ -256,6 +256,31 @@ impl Side for PortSide {
         })
     }
 
+    /// In place, other words behind the table. A refusal changes nothing; done
+    /// again, on all of it or on what is left, it changes nothing either.
+    fn compact(&mut self, table: &[u16]) -> Option<Answer> {
+        self.fill = self.fill.wrapping_add(1);
+        let n = table.len();
+        let mut lent = Lent::new(n, self.fill);
+        lent.words[..n].copy_from_slice(table);
+        let (mut place, mut records) = (u16::MAX, u16::MAX);
+        let refusal = compact(&mut lent.words[..n], &mut records, &mut place);
+        lent.kept(n, "behind the table");
+        if refusal == 0 {
+            assert!(place == 0);
+            for words in [n, 4 * records as usize] {
+                let (mut again, mut left) = (lent.words[..words].to_vec(), 0);
+                assert!(compact(&mut again, &mut left, &mut place) == 0);
+                assert!(left == records && again == lent.words[..words]);
+            }
+        } else {
+            assert!(records == u16::MAX && lent.words[..n] == *table);
+        }
+        answer((refusal, place), || {
+            std::iter::once(records.into()).chain(wide(&lent.words[..n]))
+        })
+    }
+
     fn first0(&mut self, table: &[u16], symbols: &[Sym]) -> Option<Answer> {
         let (mut place, mut set, mut nullable) = (0, 0, false);
         let symbols = symbol_words(symbols);

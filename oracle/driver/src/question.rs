@@ -29,6 +29,7 @@ pub enum Question {
     Item((u16, u16)),
     /// Words of the output.
     Respell(u16),
+    Compact,
 }
 
 /// A table with questions about it.
@@ -65,6 +66,7 @@ pub fn ask(side: &mut dyn Side, table: &[u16], question: &Question) -> Option<An
         Question::Sets(a, b, token) => side.sets(table, *a, *b, *token),
         Question::Item(item) => side.item(table, *item),
         Question::Respell(words) => side.respell(table, *words as usize),
+        Question::Compact => side.compact(table),
     }
 }
 
@@ -113,6 +115,7 @@ impl std::fmt::Display for Question {
             }
             Question::Item(i) => format!("item {} {}", i.0, i.1),
             Question::Respell(words) => format!("respell {words}"),
+            Question::Compact => "compact".into(),
         };
         f.write_str(line.trim_end())
     }
@@ -167,6 +170,7 @@ pub fn parse(line: &str) -> Option<Question> {
         ("sets", &[token]) => Question::Sets(tokens(1)?, tokens(2)?, token),
         ("item", &[p, i]) => Question::Item((p, i)),
         ("respell", &[words]) => Question::Respell(words),
+        ("compact", []) => Question::Compact,
         ("observed", c) => Question::Observed(c.try_into().ok()?),
         _ => return None,
     })

@@ -1,7 +1,9 @@
 //! Tables rewritten, read plainly from document 02 over document 01's table:
-//! request 02, a table written afresh. Nothing of it is the port's.
+//! request 02, a table written afresh, and request 08, its unused records taken
+//! back. Nothing of it is the port's.
 
 use crate::table::*;
+use std::collections::{BTreeMap, BTreeSet};
 
 /// The records that a table may have.
 const MOST: usize = 8_192;
@@ -77,4 +79,44 @@ pub fn respell(table: &[u16], words: usize) -> Result<Vec<[u16; 4]>, Refusal> {
         return refuse(17, 0);
     }
     Ok(records)
+}
+
+/// `compact`: the number of records that are left, and all records of the
+/// slice; or the refusal.
+pub fn compact(table: &[u16]) -> Result<(usize, Vec<[u16; 4]>), Refusal> {
+    let meant = decode(table)?;
+    let old: &[[u16; 4]] = table.as_chunks().0;
+    let first_state = 1 + meant.nonterminals.len();
+    let first_production = first_state + meant.states.len();
+    let loose = first_production + meant.productions.len();
+    // The words that hold a chain's first record: of symbols, items, edges.
+    let symbols = (first_production..loose).map(|p| (p, 1));
+    let items = (first_state..first_production).map(|s| (s, 0));
+    let edges = (first_state..first_production).map(|s| (s, 1));
+    let heads: Vec<(usize, usize)> = symbols.chain(items).chain(edges).collect();
+    // A record of several chains, or of several kinds, is one record.
+    let mut reached = BTreeSet::new();
+    for &(r, k) in &heads {
+        let mut at = old[r][k];
+        while at != 0 {
+            reached.insert(at);
+            at = old[at as usize][0];
+        }
+    }
+    // New numbers in the present order; 0 stays 0.
+    let mut number = BTreeMap::from([(0, 0)]);
+    for (new, &r) in (loose..).zip(&reached) {
+        number.insert(r, new as u16);
+    }
+    let mut out = old[..loose].to_vec();
+    for &(r, k) in &heads {
+        out[r][k] = number[&old[r][k]];
+    }
+    for &r in &reached {
+        let [next, a, b, c] = old[r as usize];
+        out.push([number[&next], a, b, c]);
+    }
+    let left = out.len();
+    out.resize(old.len(), [0; 4]);
+    Ok((left, out))
 }

@@ -56,7 +56,7 @@ fn joins(q: &Question) -> bool {
 
 /// Those that the sample has in a part of its own.
 fn rewrites(q: &Question) -> bool {
-    matches!(q, Question::Respell(..))
+    matches!(q, Question::Respell(..) | Question::Compact)
 }
 
 /// Op and further words of a question.
@@ -75,6 +75,7 @@ fn request(q: &Question) -> Option<(u16, Vec<u16>)> {
             (17, [&[*state, xs.len() as u16], &xs[..], ys].concat())
         }
         Question::Respell(words) => (18, vec![*words]),
+        Question::Compact => (19, vec![]),
         _ => return None,
     })
 }

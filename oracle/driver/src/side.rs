@@ -18,6 +18,7 @@ use crate::table::{Refusal, Sym, Table, check, refuse};
 /// | observed | the words |
 /// | sets | see `SETS` |
 /// | respell | number of records, the words written |
+/// | compact | number of records left, the table's words |
 /// | item | number of prefix symbols, the symbols; 1 and the cursor's symbol or 0; number of suffix symbols, the symbols; the nonterminal it can shift plus 1 or 0 |
 pub type Answer = Vec<u32>;
 
@@ -97,6 +98,9 @@ pub trait Side {
     }
     /// Into an output of so many words.
     fn respell(&mut self, _table: &[u16], _words: usize) -> Option<Answer> {
+        None
+    }
+    fn compact(&mut self, _table: &[u16]) -> Option<Answer> {
         None
     }
     fn sets(&mut self, _table: &[u16], _a: u64, _b: u64, _token: u16) -> Option<Answer> {
