@@ -1,1 +1,2 @@
 pub mod Reductions
+pub mod Clashed
