@@ -24,7 +24,7 @@ use Rattle.yacc_lex.specs.declared.Word.the-variants.{Name, Literal, Token as T
 use Rattle.yacc_tokens.specs.Accepted.{modeOf, wordNumber, moves, movesTo, judged, isGrammar}
 
 -- a test of every number below n
-at-number {ℓ} : {A : Type ℓ} (f g : ℕ → A) (d : A) (n : ℕ) → map f (below n) ≡ map g (below n) → (m : ℕ) → m < n → f m ≡ g m
+pub at-number {ℓ} : {A : Type ℓ} (f g : ℕ → A) (d : A) (n : ℕ) → map f (below n) ≡ map g (below n) → (m : ℕ) → m < n → f m ≡ g m
 at-number {A} f g d n e m h = sym (getD-map-below f n m d h) ∙ ap (λ (xs : List A). getD xs m d) e ∙ getD-map-below g n m d h
 
 -- the table of moves
@@ -39,7 +39,7 @@ each-word Colon t from past = refl
 each-word Bar t from past = refl
 each-word Semi t from past = refl
 
-moves-is : (m : ℕ) → m < 12 → (w : Word) (t : List ℕ) (from past : ℕ) → modeOf (movesTo m (wordNumber w)) ≡ move (modeOf m) (tokenAt t w from past)
+pub moves-is : (m : ℕ) → m < 12 → (w : Word) (t : List ℕ) (from past : ℕ) → modeOf (movesTo m (wordNumber w)) ≡ move (modeOf m) (tokenAt t w from past)
 moves-is m h w t from past = at-number (λ k. modeOf (movesTo k (wordNumber w))) (λ k. move (modeOf k) (tokenAt t w from past)) dead 12 (each-word w t from past) m h
 
 each-small : map (λ i. ltb (getD moves i 0) 12) (below 96) ≡ map (λ i. true) (below 96)
