@@ -5,7 +5,7 @@ ghost use lib.ListN.{length, getD, set};
 ghost use lib.Seq.{slice};
 ghost use Rattle.slices.specs.Same.{sameWords};
 ghost use Rattle.trace_graph.specs.Insert.{chained};
-ghost use Rattle.yacc_names.specs.Names.{bucketLimit, bucketOf, isName, latest, Entered};
+ghost use Rattle.yacc_names.specs.Names.{bucketLimit, bucketOf, isName, latest, Entered, left, placing};
 use repr::word;
 
 // Buckets; the links follow their words.
@@ -99,4 +99,40 @@ pub fn enter(
     let older = ix[bucket];
     ix[BUCKETS + k] = older;
     ix[bucket] = (k + 1) as u16;
+}
+
+// The number of a name, and how many there are then.
+pub struct Placed {
+    pub number: usize,
+    pub names: usize,
+}
+
+// The name that stands from a place up to another, entered unless it is there.
+pub fn place(
+    text: &[u8],
+    starts: &mut [u16],
+    pasts: &mut [u16],
+    ix: &mut [u16],
+    k: usize,
+    from: usize,
+    past: usize,
+) -> Placed
+    requires { ⌜ Entered (now text) (now starts) (now pasts) (now ix) k ⌝ }
+    requires { ⌜ (k < length (now starts)) × (k < length (now pasts)) × (bucketLimit + k < length (now ix)) × (k < 65535) ⌝ }
+    requires { ⌜ (from ≤ past) × (past ≤ length (now text)) × (past < 65536) ⌝ }
+    ensures { λ r. ⌜ left (now (starts .exit)) (now (pasts .exit)) (now (ix .exit)) r ≡ placing (now (text .entry)) (now (starts .entry)) (now (pasts .entry)) (now (ix .entry)) k from past ⌝ }
+{
+    let found = find(text, starts, pasts, ix, k, from, past);
+    if found != 0 {
+        return Placed {
+            number: found - 1,
+            names: k,
+        };
+    }
+    let bucket = bucket_of(text, from, past);
+    enter(starts, pasts, ix, k, bucket, from, past);
+    Placed {
+        number: k,
+        names: k + 1,
+    }
 }
