@@ -108,3 +108,13 @@ module _ (ids : ℕ → Id) (room : ℕ) (xs : List ℕ) (ks : List Known) (n j 
 
   pub numbers-more : Numbers ids room (numbered xs j n) (enter ks k) (numberedTo xs j n)
   numbers-more = cases (eqb (getD xs j 0) 0) (λ e. numbers-new (eqb-true (getD xs j 0) 0 e)) (λ e. numbers-kept (eqb-false (getD xs j 0) 0 e))
+
+-- one id more that is not known
+pub numbers-grown : (ids ids′ : ℕ → Id) (k : ℕ) (xs : List ℕ) (ks : List Known) (n : ℕ) → Numbers ids k xs ks n → ((j : ℕ) → j < k → ids′ j ≡ ids j) → k < length xs → getD xs k 0 ≡ 0 → isKnown ks (ids′ k) ≡ false → Numbers ids′ (suc k) xs ks n
+numbers-grown ids ids′ k xs ks n N s h z f = record {
+  count = N .count;
+  long = omega (arith, h);
+  place = λ i m. cases (eqb i k)
+      (λ e. let q = eqb-true i k e in rw q (z ∙ sym (place-no ks (ids′ k) f)))
+      (λ e. let l : i < k = omega (arith, m, eqb-false i k e) in N .place i l ∙ ap (placeIn ks) (sym (s i l)));
+}
