@@ -1,15 +1,21 @@
 -- Laws of the whole list. Assumes nothing.
 use mathlib.Core.Path.{_≡_, ap, _∙_}
-use mathlib.Core.List.{List}
-use Prim.Native.Nat.{ℕ, _+_, _-_, _≤_, _<_}
+use mathlib.Core.List.{List, [], _∷_, append-nil}
+use Prim.Native.Nat.{ℕ, zero, suc, _+_, _-_, _*_, _≤_, _<_}
 use native.Mathlib.Omega.{arith}
-use lib.ListN.{length}
+use lib.ListN.{length, getD, take, length-append}
+use lib.Seq.{take-suc, take-length}
 use Rattle.slices.specs.Lent.{inFront}
 use Rattle.repr.specs.Lists.{upFrom, below, joined}
 use Rattle.repr.specs.Meaning.{Table}
+use Rattle.repr.proofs.Lists.{below-last, joined-append}
 use Rattle.example.specs.Written.{putAt}
 use Rattle.example.proofs.Put.{put-front, Turn, turn-start, turn-room, turn-next, turn-end}
-use Rattle.build.specs.Built.{conflictWords}
+use Rattle.build.specs.Canonical.{Clash}
+use Rattle.build.specs.States.{clashes}
+use Rattle.build.specs.Built.{clashWords, conflictWords}
+use Rattle.build.specs.Outcome.{sum}
+use Rattle.states.proofs.Holds.{sum-append}
 use Rattle.conflicts.proofs.Counts.{joined-more, joined-end, joined-start}
 use Rattle.conflict_list.specs.Listed.{stateWords}
 
@@ -31,3 +37,27 @@ module _ (T : Table) (Rs : List (List ℕ)) (n : ℕ) (many : n ≡ length Rs) (
 
     pub list-end : n ≤ k → list ≡ inFront (conflictWords T Rs) first
     list-end h = turn-end t (joined-end (stateWords T Rs) k n h) .0 ∙ put-front (conflictWords T Rs) first
+
+-- how long the list is
+
+five-each : (k : ℕ) (cs : List Clash) → length (joined (clashWords k) cs) ≡ 5 * length cs
+unfolding joined clashWords
+five-each k [] = omega arith
+five-each k (c ∷ cs) = let more = five-each k cs in omega arith
+
+module _ (T : Table) (Rs : List (List ℕ)) where
+  long-to : (k : ℕ) → k ≤ length Rs → length (joined (stateWords T Rs) (below k)) ≡ 5 * sum (λ (S : List ℕ). length (clashes T S)) (take k Rs)
+  unfolding below upFrom joined sum
+  long-to zero h = omega arith
+  long-to (suc k) h =
+      let more = long-to k (omega arith) in
+      let here = five-each k (clashes T (getD Rs k [])) in
+      let last = ap (λ (xs : List ℕ). length (joined (stateWords T Rs) xs)) (below-last k) ∙ ap length (joined-append (stateWords T Rs) (below k) (k ∷ [])) ∙ length-append (joined (stateWords T Rs) (below k)) (joined (stateWords T Rs) (k ∷ [])) in
+      let one : length (joined (stateWords T Rs) (k ∷ [])) ≡ length (stateWords T Rs k) = ap length (append-nil (stateWords T Rs k)) in
+      let all = ap (sum (λ (S : List ℕ). length (clashes T S))) (take-suc Rs k [] (omega arith)) ∙ sum-append (λ (S : List ℕ). length (clashes T S)) (take k Rs) (getD Rs k []) in
+      omega (arith, more, here, last, one, all)
+
+  -- so its room is what `measure` asks for
+  pub list-long : length (conflictWords T Rs) ≡ 5 * sum (λ (S : List ℕ). length (clashes T S)) Rs
+  unfolding conflictWords
+  list-long = long-to (length Rs) (omega arith) ∙ ap (λ (l : List (List ℕ)). 5 * sum (λ (S : List ℕ). length (clashes T S)) l) (take-length Rs)

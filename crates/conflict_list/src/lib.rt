@@ -2,8 +2,7 @@
 use conflict_words::write_state;
 use states::unpack;
 ghost use mathlib.Core.Path.{_≡_};
-ghost use mathlib.Core.List.{List};
-ghost use Prim.Native.Nat.{ℕ, _+_, _≤_, _<_};
+ghost use Prim.Native.Nat.{_+_, _≤_, _<_};
 ghost use lib.ListN.{length};
 ghost use Rattle.slices.specs.Lent.{inFront};
 ghost use Rattle.example.specs.Written.{putAt};

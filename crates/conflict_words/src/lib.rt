@@ -10,7 +10,7 @@ use repr::ProductionIndex;
 ghost use mathlib.Core.Path.{_≡_};
 ghost use mathlib.Core.List.{List};
 ghost use Prim.Native.Nat.{ℕ, _+_, _-_, _*_, _≤_, _<_};
-ghost use lib.ListN.{length, getD, take};
+ghost use lib.ListN.{length, take};
 ghost use Rattle.repr.specs.Sizes.{indexLimit, productionLimit, stateLimit};
 ghost use Rattle.repr.specs.Lists.{upFrom, below, joined};
 ghost use Rattle.repr.specs.Meaning.{Table};

@@ -10,7 +10,7 @@ ghost use mathlib.Core.List.{List};
 ghost use Prim.Native.Nat.{ℕ, _+_, _-_, _*_, _≤_, _<_};
 ghost use lib.Dec.{ltb};
 ghost use lib.ListN.{length, getD, take};
-ghost use Rattle.repr.specs.Sizes.{indexLimit, itemLimit, productionLimit};
+ghost use Rattle.repr.specs.Sizes.{indexLimit, productionLimit};
 ghost use Rattle.repr.specs.Meaning.{Table};
 ghost use Rattle.repr.specs.Lists.{upFrom, below, joined};
 ghost use Rattle.repr.specs.Packed.{Packed};

@@ -1,13 +1,12 @@
 // All states measured at the end of the search: the records of the table and the conflicts, or refusal 17 (specs/Complete).
 use conflicts::count_state;
-use core::Item;
 use finding::Sizes;
 use states::unpack;
 ghost use mathlib.Core.Path.{_≡_};
 ghost use mathlib.Core.List.{List, []};
 ghost use Prim.Native.Nat.{ℕ, _+_, _*_, _≤_, _<_};
 ghost use lib.ListN.{length, getD};
-ghost use Rattle.repr.specs.Meaning.{Edge, Table};
+ghost use Rattle.repr.specs.Meaning.{Edge};
 ghost use Rattle.build.specs.States.{clashes};
 ghost use Rattle.build.specs.Outcome.{sum, records};
 ghost use Rattle.collecting.specs.Rows.{rowsIn};
