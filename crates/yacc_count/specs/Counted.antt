@@ -1,8 +1,8 @@
 -- The counts of a text's alternatives, and as the loop makes them. Assumes nothing: these are definitions.
-use Prim.Native.Nat.{ℕ, suc, _+_, _≤_, _<_}
-use mathlib.Core.Bool.{Bool, true, false, _&&_}
-use mathlib.Core.List.{List, [], _∷_, map}
-use mathlib.Core.Option.{Option, none, some}
+use Prim.Native.Nat.{ℕ, _+_, _≤_}
+use mathlib.Core.Bool.{true, false, _&&_}
+use mathlib.Core.List.{List, [], map}
+use mathlib.Core.Option.{none, some}
 use lib.Dec.{eqb, leb}
 use lib.ListN.{length}
 use Rattle.repr.specs.Sizes.{symbolLimit}
@@ -10,7 +10,6 @@ use Rattle.spelling.specs.Spelled.{sizeOf}
 use Rattle.yacc_text.specs.Grammar.{textLimit}
 use Rattle.yacc_text.specs.Places.{placedFrom}
 use Rattle.yacc_text.specs.Forward.{top}
-use Rattle.yacc_read.specs.Events.{Event, lists, opens, defines, uses, shuts}
 use Rattle.yacc_read.specs.Source.{noId, Alternative, alternativesFrom}
 use Rattle.yacc_read.specs.Outcome.{tooLong}
 use Rattle.yacc_said.specs.Said.{ofSaid}

@@ -5,16 +5,16 @@ use native.Mathlib.Numerals.{add-one}
 use mathlib.Core.Bool.{Bool, true, false, _&&_}
 use mathlib.Core.Path.{_≡_, refl, sym, ap, _∙_, subst}
 use mathlib.Core.List.{List, [], _∷_}
-use lib.ListN.{length, getD, set, take, drop, length-set, length-take, length-drop, drop-of-length-le}
+use lib.ListN.{length, getD, set, take, length-set, drop-of-length-le}
 use lib.Seq.{slice, slice-cons, length-take-le, getD-set-same, getD-set-other}
 use lib.Dec.{eqb, leb}
-use borrow.Author.Tests.{eqb-true, eqb-false, eq-eqb, ne-eqb, le-leb, lt-leb, leb-true, leb-false}
+use borrow.Author.Tests.{eqb-true, eqb-false, eq-eqb, ne-eqb, leb-true, leb-false}
 use Rattle.slices.specs.Same.{sameWords}
 use Rattle.slices.proofs.Same.{same-words-eq, eq-same-words}
 use Rattle.repr.proofs.Lists.{cases, clash}
 use Rattle.trace_graph.specs.Index.{newest, Linked}
 use Rattle.trace_graph.specs.Insert.{chained}
-use Rattle.trace_graph.proofs.Index.{newest-none, newest-yes, newest-no, newest-kept, linked-top, linked-step, chained-long, chain-joined, chain-beside}
+use Rattle.trace_graph.proofs.Index.{newest-yes, newest-no, newest-kept, linked-top, linked-step, chained-long, chain-joined, chain-beside}
 use Rattle.yacc_names.specs.declared.Placed.{Placed}
 use Rattle.yacc_names.specs.Names.{bucketLimit, mixed, bucketOf, nameIn, inBucket, isName, latest, Entered, Distinct, Left, left, placedBy, placing, Placing}
 

@@ -1,22 +1,21 @@
 -- What a word says is its event; the turns of a loop over the tokens; what a text says whole. Assumes nothing.
-use Prim.Native.Nat.{ℕ, zero, suc, _+_, _≤_, _<_}
+use Prim.Native.Nat.{ℕ, _≤_, _<_}
 use native.Mathlib.Omega.{arith}
-use mathlib.Core.Bool.{Bool, true, false}
+use mathlib.Core.Bool.{true, false}
 use mathlib.Core.Path.{_≡_, refl, sym, ap, _∙_}
-use mathlib.Core.List.{List, [], _∷_, _++_, map}
+use mathlib.Core.List.{List, [], _++_, map}
 use mathlib.Core.Option.{Option, none, some}
 use lib.Dec.{eqb, ltb}
-use lib.ListN.{length}
-use borrow.Author.Tests.{lt-ltb, le-ltb, eq-eqb, ne-eqb}
+use borrow.Author.Tests.{lt-ltb, le-ltb, ne-eqb}
 use Rattle.repr.specs.Lists.{upFrom, below}
-use Rattle.yacc_text.specs.Grammar.{Id, Token, Piece, Layout, File, tokensIn}
+use Rattle.yacc_text.specs.Grammar.{Token, Piece, Layout, File, tokensIn}
 use Rattle.yacc_text.specs.Places.{Placed, placed, placedIn, placedFrom}
 use Rattle.yacc_text.specs.Forward.{Mode, top, move}
 use Rattle.yacc_text.specs.Lex.{lex}
 use Rattle.yacc_text.specs.Parse.{run, fileOf, laid, parsed, parse}
 use Rattle.yacc_lex.specs.Steps.{tokenAt, front, Leads, Told}
 use Rattle.yacc_lex.specs.declared.Next.{Next}
-use Rattle.yacc_lex.specs.declared.Next.the-variants.{Token as Lexed, End as Ends, Outside as NoToken}
+use Rattle.yacc_lex.specs.declared.Next.the-variants.{End as Ends, Outside as NoToken}
 use Rattle.yacc_lex.specs.declared.Word.{Word}
 use Rattle.yacc_lex.specs.declared.Word.the-variants.{Name, Literal, Token as TheToken, Start, Mark, Colon, Bar, Semi}
 use Rattle.yacc_tokens.specs.Accepted.{modeOf, wordNumber, movesTo}

@@ -5,10 +5,10 @@ use mathlib.Core.Path.{_≡_, refl, sym, ap, _∙_}
 use mathlib.Core.List.{List, [], _∷_, _++_, map}
 use Rattle.repr.specs.Lists.{some?}
 use Rattle.repr.proofs.Lists.{cases}
-use Rattle.repr.proofs.Tests.{some?-nil, some?-yes, some?-no, some?-append}
+use Rattle.repr.proofs.Tests.{some?-nil, some?-yes, some?-no}
 use Rattle.yacc_text.specs.Grammar.{Id}
 use Rattle.yacc_read.specs.Events.{Event, lists, opens, defines, uses, shuts}
-use Rattle.yacc_read.specs.Source.{noId, Use, Alternative, alternative, alternativesFrom, Source, sourceOf}
+use Rattle.yacc_read.specs.Source.{noId, Use, Alternative, alternative, alternativesFrom, sourceOf}
 use Rattle.yacc_read.specs.Outcome.{nowhere, undefinedUse}
 use Rattle.yacc_said.specs.declared.Saying.{Saying}
 use Rattle.yacc_said.specs.declared.Saying.the-variants.{Lists, Opens, Defines, Uses, Shuts, Nothing}
