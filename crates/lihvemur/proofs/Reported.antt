@@ -1,13 +1,12 @@
 -- The ways through the exported functions of classifying, one law each. Assumes nothing.
 use mathlib.Core.Path.{_≡_, refl, sym, ap, _∙_, subst}
-use mathlib.Core.Bool.{Bool, true, false}
+use mathlib.Core.Bool.{true, false}
 use mathlib.Core.List.{List, [], _∷_, _++_}
-use Prim.Native.Nat.{ℕ, zero, suc, _+_, _*_, _-_, _≤_, _<_}
+use Prim.Native.Nat.{ℕ, zero, suc, _+_, _*_, _≤_, _<_}
 use native.Mathlib.Omega.{arith}
-use lib.ListN.{length, getD, take, drop, length-drop}
-use lib.Seq.{length-take-le}
+use lib.ListN.{length, drop}
 use lib.Dec.{leb}
-use borrow.Author.Tests.{le-leb, lt-leb, leb-true, leb-false}
+use borrow.Author.Tests.{le-leb, lt-leb}
 use Rattle.repr.specs.Sizes.{scratchWords, entryRoom, entriesRoom}
 use Rattle.repr.specs.Lists.{keep, joined}
 use Rattle.repr.specs.Meaning.{Table}
@@ -28,13 +27,13 @@ use Rattle.error.specs.Numbers.{classNumber, classValues, readingOf}
 use Rattle.error.specs.Outcome.{Outcome, outcome}
 use Rattle.error.specs.Sides.{Gathered, sides, halted, gather}
 use Rattle.error.specs.Choose.{Entry, Choice, chosen, refused, Outcome as ChoiceOutcome, outcome as choosing, atToken, Entries, entries, halts, then, classesOf, isBetter, naiveOnes, choiceFrom, choiceOf, setFits, setShiftsEnd, chooseIn, chooseBy, chooseOf}
-use Rattle.error.specs.Observed.{wholeExample, observedOf}
 use Rattle.chooser.specs.declared.Chosen.{Chosen}
 use Rattle.entries.specs.Entries.{entriesIn, entryWords}
 use Rattle.entries.proofs.Laws.{entries-long}
 use Rattle.chooser.specs.Choosing.{choiceBy, choiceIn}
-use Rattle.lihvemur.specs.Reports.{packed, classNumbers, classifiedNumbers, choiceNumbers, chosenNumbers, shortNumbers, chooseNumbers, partNumbers, partIn, observedIn, observedNumbers}
-use Rattle.report.proofs.Seen.{whole-long, whole-words, none-action, none-reduce, action-part, reduce-part}
+use Rattle.lihvemur.specs.Reports.{packed, classNumbers, classifiedNumbers, choiceNumbers, chosenNumbers, shortNumbers, chooseNumbers, partNumbers, observedNumbers}
+use Rattle.report.specs.declared.Part.{Part}
+use Rattle.report.specs.declared.Part.the-variants.{Action, Reduce}
 
 -- ---- a class in numbers
 pub pack-is : (a b c d : ℕ) → a + 65536 * (b + 65536 * (c + 65536 * d)) ≡ packed (a ∷ b ∷ c ∷ d ∷ [])
@@ -215,86 +214,11 @@ module _ (count : ℕ) (old : List ℕ) where
         ∙ ap (shortNumbers count old scratch) e)
 
 -- ---- observed
-take-own : (k : ℕ) (xs : List ℕ) → take (length (take k xs)) xs ≡ take k xs
-take-own zero xs = refl
-take-own (suc k) [] = refl
-take-own (suc k) (x ∷ xs) = ap (λ (l : List ℕ). x ∷ l) (take-own k xs)
+module _ (o : Part) (n : ℕ) where
+  pub of-action : o ≡ Action n → partNumbers 0 n ≡ observedNumbers o
+  unfolding observedNumbers
+  of-action e = rw e
 
-empty-is : (xs : List ℕ) → length xs ≡ 0 → xs ≡ []
-empty-is [] e = refl
-empty-is (x ∷ xs) e = absurd (omega arith)
-
-module _ (a b : List ℕ) where
-  in-none : wholeExample a ≡ false → 0 ≡ observedIn a b
-  unfolding observedIn
-  in-none p = rw (p, observedIn)
-
-  module _ (p : wholeExample a ≡ true) where
-    in-first : wholeExample b ≡ false → 0 ≡ observedIn a b
-    unfolding observedIn
-    in-first q = rw (p, q, observedIn)
-
-    in-action : wholeExample b ≡ true → getD b 1 0 ≤ getD a 1 0 → 0 ≡ observedIn a b
-    unfolding observedIn
-    in-action q h = rw (p, q, le-leb _ _ h, observedIn)
-
-    in-reduce : wholeExample b ≡ true → getD a 1 0 < getD b 1 0 → 1 ≡ observedIn a b
-    unfolding observedIn
-    in-reduce q h = rw (p, q, lt-leb _ _ h, observedIn)
-
-    -- a farther cursor of the reduce's example has symbols before it
-    some-observed : wholeExample b ≡ true → getD a 1 0 < getD b 1 0 → 0 < length (observedOf a b)
-    some-observed q h =
-        let w = ap length (reduce-part a b p q (getD a 1 0) (getD b 1 0) refl refl h (3 + 2 * getD b 1 0) refl) in
-        let k = whole-words b q in
-        let d = length-drop 3 b in
-        let t = length-take-le (3 + 2 * getD b 1 0 - 3) (drop 3 b) (omega arith) in
-        omega arith
-
-  in-empty : length (observedOf a b) ≡ 0 → 0 ≡ observedIn a b
-  in-empty h =
-      cases (wholeExample a)
-      (λ p. cases (wholeExample b)
-      (λ q. cases (leb (getD b 1 0) (getD a 1 0))
-      (λ k. in-action p q (leb-true _ _ k))
-      (λ k. let s = some-observed p q (leb-false _ _ k) in absurd (omega arith)))
-      (λ q. in-first p q))
-      (λ p. in-none p)
-
-module _ (a b part : List ℕ) (e : part ≡ observedOf a b) where
-  pub part-none : length part ≡ 0 → partNumbers 0 (partIn a b 0 (length part)) (length part) ≡ observedNumbers a b
-  unfolding partIn observedNumbers
-  part-none h =
-      let p : take (length part) (drop 3 a) ≡ observedOf a b = ap (λ (k : ℕ). take k (drop 3 a)) h ∙ sym (empty-is part h) ∙ e in
-      let z = in-empty a b (sym (ap length e) ∙ h) in
-      (λ j. partNumbers (z j) (p j) (length (e j)))
-
-  module _ (ne : length part ≡ 0 → ⊥) where
-    both-whole : (wholeExample a ≡ true) × (wholeExample b ≡ true)
-    both-whole =
-        cases (wholeExample a)
-        (λ q. cases (wholeExample b) (λ k. (q, k)) (λ k. absurd (ne (ap length (e ∙ sym (none-reduce a b q k))))))
-        (λ q. absurd (ne (ap length (e ∙ sym (none-action a b q)))))
-
-    pub action-long : 3 ≤ length a
-    action-long = whole-long a (both-whole .0)
-
-    pub reduce-long : 3 ≤ length b
-    reduce-long = whole-long b (both-whole .1)
-
-    module _ (ca cb : ℕ) (fa : ca ≡ getD a 1 0) (fb : cb ≡ getD b 1 0) where
-      pub part-action : cb ≤ ca → partNumbers 0 (partIn a b 0 (length part)) (length part) ≡ observedNumbers a b
-      unfolding partIn observedNumbers
-      part-action h =
-          let w = action-part a b (both-whole .0) (both-whole .1) ca cb fa fb h (3 + 2 * ca) refl in
-          let p : take (length part) (drop 3 a) ≡ observedOf a b = ap (λ (l : List ℕ). take (length l) (drop 3 a)) (e ∙ sym w) ∙ take-own (3 + 2 * ca - 3) (drop 3 a) ∙ w in
-          let z = in-action a b (both-whole .0) (both-whole .1) (omega arith) in
-          (λ j. partNumbers (z j) (p j) (length (e j)))
-
-      pub part-reduce : ca < cb → partNumbers 1 (partIn a b 1 (length part)) (length part) ≡ observedNumbers a b
-      unfolding partIn observedNumbers
-      part-reduce h =
-          let w = reduce-part a b (both-whole .0) (both-whole .1) ca cb fa fb h (3 + 2 * cb) refl in
-          let p : take (length part) (drop 3 b) ≡ observedOf a b = ap (λ (l : List ℕ). take (length l) (drop 3 b)) (e ∙ sym w) ∙ take-own (3 + 2 * cb - 3) (drop 3 b) ∙ w in
-          let z = in-reduce a b (both-whole .0) (both-whole .1) (omega arith) in
-          (λ j. partNumbers (z j) (p j) (length (e j)))
+  pub of-reduce : o ≡ Reduce n → partNumbers 1 n ≡ observedNumbers o
+  unfolding observedNumbers
+  of-reduce e = rw e

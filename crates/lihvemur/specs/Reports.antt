@@ -1,8 +1,8 @@
 -- What the exported functions of classifying answer in numbers, as in Exported. Assumes nothing: these are definitions.
-use Prim.Native.Nat.{ℕ, zero, suc, _+_, _*_}
-use mathlib.Core.Bool.{true, false, _&&_}
+use Prim.Native.Nat.{ℕ, _+_, _*_}
+use mathlib.Core.Bool.{true, false}
 use mathlib.Core.List.{List, [], _∷_, _++_}
-use lib.ListN.{length, getD, take, drop}
+use lib.ListN.{length, drop}
 use lib.Dec.{leb}
 use Rattle.repr.specs.Sizes.{entryRoom, entriesRoom}
 use Rattle.repr.specs.Lists.{joined}
@@ -10,7 +10,8 @@ use Rattle.error.specs.declared.Conflict.{Conflict}
 use Rattle.error.specs.Numbers.{classed, refused}
 use Rattle.error.specs.Outcome.{Outcome, outcome}
 use Rattle.error.specs.Choose.{chosen, refused as notChosen, Outcome as ChoiceOutcome, outcome as choosing, chooseOf}
-use Rattle.error.specs.Observed.{wholeExample, observedOf}
+use Rattle.report.specs.declared.Part.{Part}
+use Rattle.report.specs.declared.Part.the-variants.{Action, Reduce}
 use Rattle.entries.specs.Entries.{entryWords}
 
 -- a class's own values in one word, 16 bits each, the first lowest
@@ -47,20 +48,10 @@ chooseNumbers count entries t c tokens scratch = elim (leb entriesRoom (length e
   | false ↦ shortNumbers count entries scratch (chooseOf t c tokens [])
 ]
 
--- the buffer, the action's (0) or the reduce's (1), the words there from word 3 on, and how many
+-- the buffer, the action's (0) or the reduce's (1), and how many words of it from word 3 on
 pub data PartNumbers : Type 0 where
-  partNumbers : ℕ → List ℕ → ℕ → PartNumbers
+  partNumbers : ℕ → ℕ → PartNumbers
 
-unfoldable pub partIn : List ℕ → List ℕ → ℕ → ℕ → List ℕ
-partIn action reduce zero words = take words (drop 3 action)
-partIn action reduce (suc k) words = take words (drop 3 reduce)
-
--- the reduce's where both are whole and its cursor is farther, else the action's: an empty part is the action's
-unfoldable pub observedIn : List ℕ → List ℕ → ℕ
-observedIn action reduce = elim (wholeExample action && wholeExample reduce) [
-  | false ↦ 0
-  | true ↦ elim (leb (getD reduce 1 0) (getD action 1 0)) [ true ↦ 0 | false ↦ 1 ]
-]
-
-unfoldable pub observedNumbers : List ℕ → List ℕ → PartNumbers
-observedNumbers action reduce = partNumbers (observedIn action reduce) (observedOf action reduce) (length (observedOf action reduce))
+unfoldable pub observedNumbers : Part → PartNumbers
+observedNumbers (Action n) = partNumbers 0 n
+observedNumbers (Reduce n) = partNumbers 1 n

@@ -5,17 +5,18 @@ use error::Class;
 use error::Classified;
 use error::Conflict;
 use lookahead::TokenSet;
+use report::Part;
 use report::choose;
 use report::classify;
-use report::observed;
+use report::observed_part;
 use repr::ProductionIndex;
-use repr::word;
 use state_graph::StateIndex;
 ghost use mathlib.Core.Path.{_≡_};
 ghost use mathlib.Core.List.{[], _∷_};
 ghost use Rattle.error.specs.Numbers.{classValues};
 ghost use Rattle.error.specs.Outcome.{classifyOf};
-ghost use Rattle.lihvemur.specs.Reports.{packed, classNumbers, classifiedNumbers, choiceNumbers, chooseNumbers, partNumbers, partIn, observedNumbers};
+ghost use Rattle.lihvemur.specs.Reports.{packed, classNumbers, classifiedNumbers, choiceNumbers, chooseNumbers, partNumbers, observedNumbers};
+ghost use Rattle.report.specs.Part.{observedPart};
 
 // Four values in one word, the first lowest.
 fn pack(a: u16, b: u16, c: u16, d: u16) -> u64
@@ -126,23 +127,17 @@ pub extern "C" fn lihvemur_choose(
 
 // In which buffer the observed symbols lie, 0 the action's, 1 the reduce's, and behind `words` how many words they have there from word 3 on.
 #[no_mangle]
-pub extern "C" fn lihvemur_observed<'a>(
-    action: &'a [u16],
-    reduce: &'a [u16],
-    words: &mut usize,
-) -> u16
-    ensures { λ r. ⌜ partNumbers r (partIn (now (action .entry)) (now (reduce .entry)) r (now (words .exit))) (now (words .exit)) ≡ observedNumbers (now (action .entry)) (now (reduce .entry)) ⌝ }
+pub extern "C" fn lihvemur_observed(action: &[u16], reduce: &[u16], words: &mut usize) -> u16
+    ensures { λ r. ⌜ partNumbers r (now (words .exit)) ≡ observedNumbers (observedPart (now (action .entry)) (now (reduce .entry))) ⌝ }
 {
-    let part = observed(action, reduce);
-    let n = part.len();
-    *words = n;
-    if n == 0 {
-        return 0;
+    match observed_part(action, reduce) {
+        Part::Action(n) => {
+            *words = n;
+            0
+        }
+        Part::Reduce(n) => {
+            *words = n;
+            1
+        }
     }
-    let a = word(action, 1);
-    let b = word(reduce, 1);
-    if a >= b {
-        return 0;
-    }
-    1
 }

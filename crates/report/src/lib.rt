@@ -15,6 +15,7 @@ ghost use Rattle.error.specs.Outcome.{outcome as classification, classifyOf};
 ghost use Rattle.error.specs.Choose.{outcome as choosing, chooseOf};
 ghost use Rattle.error.specs.Observed.{wholeExample, observedOf};
 ghost use Rattle.chooser.specs.Choosing.{choiceIn, chosenOf};
+ghost use Rattle.report.specs.Part.{observedPart, partWords};
 
 // The class of a conflict, its examples at the front of the two buffers; else the refusal and its place.
 pub fn classify(
@@ -64,22 +65,46 @@ fn whole_example(buffer: &[u16]) -> bool
     cursor <= symbols
 }
 
-// The symbols before the cursor (`report_error_not_lr1_core`), of the action's example if its cursor is at least the other's.
-pub fn observed<'a>(action: &'a [u16], reduce: &'a [u16]) -> &'a [u16]
-    ensures { λ r. ⌜ now r ≡ observedOf (now (action .entry)) (now (reduce .entry)) ⌝ }
+// In which buffer the observed symbols lie, and how many words they have there from word 3 on.
+pub enum Part {
+    Action(usize),
+    Reduce(usize),
+}
+
+// The symbols before the cursor (`report_error_not_lr1_core`) are a part of the action's example if its cursor is at least the other's; where either is not whole, an empty part of the first.
+pub fn observed_part(action: &[u16], reduce: &[u16]) -> Part
+    ensures { λ r. ⌜ r ≡ observedPart (now (action .entry)) (now (reduce .entry)) ⌝ }
 {
     if whole_example(action) {
         if whole_example(reduce) {
             let a = word(action, 1);
             let b = word(reduce, 1);
             if a >= b {
-                let end = 3 + 2 * a;
-                return &action[3..end];
+                return Part::Action(2 * a);
             }
-            let end = 3 + 2 * b;
-            return &reduce[3..end];
+            return Part::Reduce(2 * b);
         }
-        return &action[..0];
+        return Part::Action(0);
     }
-    &action[..0]
+    Part::Action(0)
+}
+
+// That part.
+pub fn observed<'a>(action: &'a [u16], reduce: &'a [u16]) -> &'a [u16]
+    ensures { λ r. ⌜ now r ≡ partWords (observedPart (now (action .entry)) (now (reduce .entry))) (now (action .entry)) (now (reduce .entry)) ⌝ }
+    ensures { λ r. ⌜ now r ≡ observedOf (now (action .entry)) (now (reduce .entry)) ⌝ }
+{
+    match observed_part(action, reduce) {
+        Part::Action(words) => {
+            if words == 0 {
+                return &action[..0];
+            }
+            let end = 3 + words;
+            &action[3..end]
+        }
+        Part::Reduce(words) => {
+            let end = 3 + words;
+            &reduce[3..end]
+        }
+    }
 }
