@@ -165,9 +165,5 @@ pub fn ask_observed(more: &[u16]) {
     let which = lihvemur::conflicts::lihvemur_observed(action, reduce, &mut words);
     io::print_decimal(libc::STDOUT_FILENO, which as u64);
     say_next(words as u64);
-    if which == 0 {
-        say_words(front(rest(action, 3), words));
-    } else {
-        say_words(front(rest(reduce, 3), words));
-    }
+    say_words(report::observed(action, reduce));
 }
