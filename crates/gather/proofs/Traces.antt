@@ -5,14 +5,15 @@ use mathlib.Core.Option.{Option}
 use mathlib.Core.List.{List, [], _∷_, _++_, map}
 use Prim.Native.Nat.{ℕ, zero, suc, _+_, _-_, _≤_, _<_}
 use native.Mathlib.Omega.{arith}
-use lib.ListN.{length, getD, take, drop, take-append-drop}
+use lib.ListN.{length, getD, take, drop}
 use lib.Dec.{ltb}
 use borrow.Author.Tests.{lt-ltb, le-ltb}
-use Rattle.repr.specs.Sizes.{edgeLimit, edgePlace, trialLimit, exampleLimit}
+use Rattle.repr.specs.Sizes.{edgeLimit, trialLimit, exampleLimit}
 use Rattle.repr.specs.Lists.{keep}
 use Rattle.repr.specs.Meaning.{Production, noProduction, Item, Table, All}
 use Rattle.repr.specs.Packed.{Packed, productionsIn}
 use Rattle.repr.proofs.Lists.{cases, keep-agree}
+use Rattle.slices.specs.Lent.{inFront}
 use Rattle.table.specs.Decoded.{meaning}
 use Rattle.table.proofs.Decoding.{fits}
 use Rattle.first.specs.First.{firstSets}
@@ -24,7 +25,7 @@ use Rattle.trace_graph.proofs.RoundTrip.{edges-back, EdgeInRange, graph-fits}
 use Rattle.trace.specs.Traced.{ownerOf}
 use Rattle.trace.specs.Sound.{nodeOwner as ownerAt, EdgeSound, Sound}
 use Rattle.trace.proofs.Traced.{fits-item, shift-sound, reduce-sound}
-use Rattle.tracer.specs.Built.{Asked, Built, edgesBy}
+use Rattle.tracer.specs.Built.{Asked, edgesBy}
 use Rattle.enumerator.specs.Trials.{Path, endsOf, trials}
 use Rattle.enumerator.specs.Lister.{hands, labelsOf, nodeOwner}
 use Rattle.error.specs.Sides.{Side, gathered, stopped, listingSide}
@@ -111,15 +112,16 @@ module _ (t g : List ℕ) (productions n terminals : ℕ) (sets : List ℕ) (R :
     trace-sound true = shift-sound (meaning t) (fits t (R .accepted)) s item (fits-item (meaning t) item f)
     trace-sound false = reduce-sound (meaning t) (fits t (R .accepted)) s item (fits-item (meaning t) item f)
 
-    module _ (shift : Bool) (ws : List ℕ) (B : Built (edgesBy shift (meaning t) s item) ws) where
+    module _ (shift : Bool) (g₀ ws : List ℕ) (B : (length (edgesBy shift (meaning t) s item) ≤ edgeLimit) × (ws ≡ inFront (graphWords (edgesBy shift (meaning t) s item)) g₀)) where
       abbrev es : List TraceEdge
       es = edgesBy shift (meaning t) s (record { production = p; index = i })
 
       abbrev rest : List ℕ
-      rest = drop (edgePlace (length es)) ws
+      rest = drop (length (graphWords es)) g₀
 
       split : ws ≡ graphWords es ++ rest
-      split = sym (take-append-drop (edgePlace (length es)) ws) ∙ ap (λ (l : List ℕ). l ++ rest) (B .words)
+      unfolding inFront
+      split = B .1
 
       pub edges-same : edgesIn ws ≡ es
       edges-same = ap edgesIn split ∙ edges-back es rest
@@ -128,7 +130,7 @@ module _ (t g : List ℕ) (productions n terminals : ℕ) (sets : List ℕ) (R :
       graph-passes r e =
           let S = trace-sound shift in
           e ∙ rw (R .same, R .nonterminals) (ap (graphFits (length (meaning t .nonterminals)) (meaning t .productions)) split
-          ∙ graph-fits (length (meaning t .nonterminals)) (meaning t .productions) es rest (B .few) (all-map (EdgeSound (meaning t)) (EdgeInRange (length (meaning t .nonterminals)) (meaning t .productions)) (sound-range (meaning t)) es (S .edges)) (S .once))
+          ∙ graph-fits (length (meaning t .nonterminals)) (meaning t .productions) es rest (B .0) (all-map (EdgeSound (meaning t)) (EdgeInRange (length (meaning t .nonterminals)) (meaning t .productions)) (sound-range (meaning t)) es (S .edges)) (S .once))
 
       pub listable : (ix : List ℕ) → Graphed n (productionsIn g productions) ws ix (getD ws 0 0) → Listable (productionsIn g productions) ws ix p i
       listable ix G = record {
@@ -146,7 +148,7 @@ module _ (t g : List ℕ) (productions n terminals : ℕ) (sets : List ℕ) (R :
       listing-made k ahead s₀ w₀ r s′ w′ K e h =
           let e₁ = rw (R .same, R .tokens, R .firsts, edges-same) at e in
           let h₁ = rw (R .same) at (h .0) in
-          (e₁ ∙ ap (λ (l : Side). sided (onto (kept (meaning t .productions) s₀ k) l) w₀) (listing-is (meaning t) es item ahead k (B .few) (K .few)), (h₁, h .1))
+          (e₁ ∙ ap (λ (l : Side). sided (onto (kept (meaning t .productions) s₀ k) l) w₀) (listing-is (meaning t) es item ahead k (B .0) (K .few)), (h₁, h .1))
 
     pub listing-full : (shift : Bool) (k : ℕ) (ahead : Option ℕ) (s₀ w₀ : List ℕ) → edgeLimit < length (edgesBy shift (meaning t) s (record { production = p; index = i }))
         → (sided (sideIn (meaning t .productions) (Stopped 12) s₀) w₀ ≡ sided (onto (kept (meaning t .productions) s₀ k) (listingSide (meaning t) (edgesBy shift (meaning t) s (record { production = p; index = i })) (record { production = p; index = i }) ahead k)) w₀)

@@ -15,14 +15,13 @@ use Rattle.repr.proofs.Lists.{cases, keep-nil, keep-yes, keep-no, keep-append, 
 use Rattle.repr.proofs.Parts.{symbols-long}
 use Rattle.trace_graph.specs.Graph.{sameItem}
 use Rattle.trace.specs.Shifting.{itemOf}
-use Rattle.shifting.specs.Coded.{Grammar, CodesOf}
 use Rattle.trace.proofs.Distinct.{code-item}
-use Rattle.shifting.proofs.Codes.{codes-kept}
 use Rattle.error.specs.Items.{shiftsToken, cursorItems, allItems, productionOrder, shiftItems}
-use Rattle.shift_items.specs.Codes.{marked, codesOf, shiftsCode, wanted}
+use Rattle.shift_items.specs.Codes.{Grammar, marked, codesOf, shiftsCode, wanted, CodesOf}
 use Rattle.shift_items.specs.Order.{Below, Ordered}
 use Rattle.shift_items.proofs.Before.{production-at}
 use Rattle.shift_items.proofs.Marks.{InCodes, items-in, marked-only}
+use Rattle.shift_items.proofs.Spreading.{codes-kept}
 use Rattle.shift_items.proofs.Wanted.{codes-long, code-at}
 
 abbrev at-place : ℕ → ℕ → Item

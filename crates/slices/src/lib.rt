@@ -4,6 +4,7 @@ ghost use mathlib.Core.List.{_++_};
 ghost use Prim.Native.Nat.{_≤_, _<_, suc};
 ghost use lib.ListN.{length, take, drop};
 ghost use Rattle.slices.specs.Insert.{insertAt};
+ghost use Rattle.slices.specs.Lent.{zeroed};
 
 // The first words of one slice copied to the front of another.
 pub fn copy_words(from: &[u16], to: &mut [u16], n: usize)
@@ -29,5 +30,17 @@ pub fn insert_at(list: &mut [u16], at: usize, n: usize, x: u16)
         list[k] = carry;
         carry = y;
         k += 1;
+    }
+}
+
+// The first n words zero.
+pub fn zero(words: &mut [u16], n: usize)
+    requires { ⌜ n ≤ length (now words) ⌝ }
+    ensures { λ _. ⌜ now (words .exit) ≡ zeroed n (now (words .entry)) ⌝ }
+{
+    let mut i: usize = 0;
+    while i < n {
+        words[i] = 0;
+        i += 1;
     }
 }

@@ -1,21 +1,15 @@
 -- The walk over two lists of words joined, as the code makes it. Assumes nothing.
 use mathlib.Core.Path.{_≡_, sym, ap, _∙_}
-use mathlib.Core.Bool.{true}
 use mathlib.Core.List.{List, [], _∷_, _++_}
 use Prim.Native.Nat.{ℕ, _-_, _%_, _<_}
 use lib.ListN.{length, getD, take}
-use Rattle.repr.specs.Lists.{mem}
 use Rattle.repr.specs.Meaning.{Symbol, Table}
 use Rattle.repr.specs.Listed.{listed}
 use Rattle.repr.proofs.Joined.{behind, listed-append, listed-straddled}
 use Rattle.state_graph.specs.Walk.{walkBack}
-use Rattle.state_graph.proofs.Exact.{walk-inside, walk-append}
+use Rattle.state_graph.proofs.Exact.{walk-append}
 
 module _ (T : Table) where
-  -- what was found is in range
-  pub found-inside : (ss us : List ℕ) (zs : List Symbol) → ((s : ℕ) → mem s ss ≡ true → s < length (T .states)) → us ≡ walkBack T ss zs → (s : ℕ) → mem s us ≡ true → s < length (T .states)
-  found-inside ss us zs inside e s m = walk-inside T ss inside zs s (ap (mem s) (sym e) ∙ m)
-
   module _ (ss xs ys : List ℕ) where
     pub joined-even : length xs % 2 ≡ 0 → (us vs : List ℕ) → us ≡ walkBack T ss (listed ys) → vs ≡ walkBack T us (listed xs) → vs ≡ walkBack T ss (listed (xs ++ ys))
     joined-even q us vs eu ev =

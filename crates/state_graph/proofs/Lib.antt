@@ -1,7 +1,6 @@
 pub mod Exact
 pub mod States
-pub mod Edges
-pub mod Sources
 pub mod Steps
+pub mod Hits
 pub mod Joined
 pub mod Merged

@@ -115,11 +115,21 @@ states-mem l h s = mem-keep (hasState l h) s (below 128) ∙ rw (mem-below s 128
 pub mem-states : (l h s : ℕ) → s < 128 → mem s (statesIn l h) ≡ hasState l h s
 mem-states l h s i = states-mem l h s ∙ rw (lt-ltb s 128 i)
 
+-- of words, at every number
+pub mem-states-word : (l h s : ℕ) → h < 2 ^ 64 → mem s (statesIn l h) ≡ hasState l h s
+mem-states-word l h s i =
+    states-mem l h s ∙ cases (hasState l h s) (λ e. rw (e, lt-ltb s 128 (state-below l h s i e))) (λ e. rw e (and-false (ltb s 128)))
+
 pub states-below : (l h s : ℕ) → mem s (statesIn l h) ≡ true → s < 128
 states-below l h s e = cases (ltb s 128) (ltb-true s 128) (λ b. clash (mem s (statesIn l h)) e (states-mem l h s ∙ rw b))
 
 pub states-has : (l h s : ℕ) → mem s (statesIn l h) ≡ true → hasState l h s ≡ true
 states-has l h s e = sym (mem-states l h s (states-below l h s e)) ∙ e
+
+-- no states
+pub states-none : statesIn 0 0 ≡ []
+unfolding statesIn
+states-none = keep-none (hasState 0 0) (below 128) 0 (λ i j. state-none (getD (below 128) i 0))
 
 -- one state
 pub one-of-range : (t from n : ℕ) → from ≤ t → t < from + n → keep (λ (s : ℕ). eqb s t) (upFrom from n) ≡ t ∷ []

@@ -1,4 +1,4 @@
 pub mod Walk
 pub mod States
-pub mod Preds
-pub mod Sources
+pub mod Hits
+pub mod Remembered

@@ -1,12 +1,14 @@
 // The walk back over edges (lr1/state_graph.rs), by sets of states.
+use bits::is_set;
+use bits::put;
 use lookahead::NextToken;
 use lookahead::TokenSet;
 use lookahead::TokenSetIter;
-use repr::word;
+use repr::NonterminalString;
 use table::Checked;
-use table::edge;
 use table::first_edge;
 use table::read_counts;
+use table::word;
 ghost use mathlib.Core.Path.{_≡_};
 ghost use mathlib.Core.Bool.{Bool, true, false, _&&_, _||_};
 ghost use mathlib.Core.List.{List, _++_};
@@ -14,16 +16,15 @@ ghost use Prim.Native.Nat.{ℕ, _+_, _*_, _≤_, _<_};
 ghost use lib.Dec.{eqb, ltb};
 ghost use lib.ListN.{length, getD, replicate};
 ghost use Rattle.repr.specs.Sizes.{recordLimit};
-ghost use Rattle.repr.specs.Lists.{mem, some?};
-ghost use Rattle.repr.specs.Listed.{listed, listFits};
+ghost use Rattle.repr.specs.Listed.{symbolOfKind, symbolFits, listed, listFits};
+ghost use Rattle.table.specs.Words.{records};
+ghost use Rattle.table.specs.Quads.{putQuad};
 ghost use Rattle.table.specs.Decoded.{meaning};
 ghost use Rattle.table.specs.Refusals.{checkOf};
-ghost use Rattle.state_graph.specs.Walk.{walkBack, traceBack};
+ghost use Rattle.state_graph.specs.Walk.{predecessors, walkBack, traceBack};
 ghost use Rattle.state_graph.specs.States.{hasState, statesIn, NextIs};
-ghost use Rattle.table.specs.Words.{records};
-ghost use Rattle.table.specs.Index.{EdgeIndex};
-ghost use Rattle.state_graph.specs.Preds.{Preds, predWords, rowOf, predHas, marked};
-ghost use Rattle.state_graph.specs.Sources.{noSource, united, Heads, Passed};
+ghost use Rattle.state_graph.specs.Hits.{hitWords, endsIn, hitNow, Hits};
+ghost use Rattle.state_graph.specs.Remembered.{Remembered};
 
 // The number of a state.
 pub struct StateIndex(pub u16);
@@ -45,6 +46,11 @@ pub enum NextState {
 }
 
 impl StateSet {
+    // A bit for each record of a table, and four words for each symbol, while walking back.
+    pub const HIT_WORDS: usize = 128;
+
+    pub const STEP_WORDS: usize = 380;
+
     pub fn new() -> StateSet
         ensures { λ r. ⌜ ((k : ℕ) → hasState (r .low) (r .high) k ≡ false) ⌝ }
     {
@@ -129,49 +135,65 @@ impl StateSet {
     }
 }
 
-// The row of a symbol.
-fn row_of(n: usize, kind: usize, number: usize) -> usize
-    requires { ⌜ (n < 1000000) × (number < 1000000) ⌝ }
-    ensures { λ r. ⌜ r ≡ rowOf n kind number ⌝ }
+// Whether a record, read as an edge, goes by the symbol into the set.
+fn ends_in(table: &[u16], r: usize, kind: usize, number: usize, set: StateSet) -> bool
+    requires { ⌜ (r < recordLimit) × (r * 4 + 3 < length (now table)) ⌝ }
+    ensures { λ b. ⌜ b ≡ endsIn (now (table .entry)) kind number (set .low) (set .high) r ⌝ }
 {
-    if kind == 0 { number } else { n + number }
-}
-
-// State `state` marked in the two words from `at` on.
-fn mark(preds: &mut [u64], at: usize, state: usize)
-    requires { ⌜ (at + 1 < length (now preds)) × (state < 128) ⌝ }
-    ensures { λ _. ⌜ now (preds .exit) ≡ marked (now (preds .entry)) at state ⌝ }
-{
-    let i = at + state / 64;
-    preds[i] = preds[i] | 1 << (state % 64);
-}
-
-// A set of states put into the two words from `at` on.
-fn unite(words: &mut [u64], at: usize, low: u64, high: u64)
-    requires { ⌜ at + 1 < length (now words) ⌝ }
-    ensures { λ _. ⌜ now (words .exit) ≡ united (now (words .entry)) at low high ⌝ }
-{
-    words[at] = words[at] | low;
-    words[at + 1] = words[at + 1] | high;
-}
-
-// Whether no state's chain comes to a record.
-fn no_source(sources: &[u64], r: usize) -> bool
-    requires { ⌜ (r < recordLimit) × (r * 2 + 1 < length (now sources)) ⌝ }
-    ensures { λ b. ⌜ b ≡ noSource (now (sources .entry)) r ⌝ }
-{
-    if sources[r * 2] == 0 {
-        return sources[r * 2 + 1] == 0;
+    if word(table, r, 1) != kind {
+        return false;
     }
-    false
+    if word(table, r, 2) != number {
+        return false;
+    }
+    set.contains(word(table, r, 3))
 }
 
-// Each state put where its chain begins.
-fn heads(table: &[u16], sources: &mut [u64], states: usize)
-    requires { ⌜ checkOf (now table) ≡ Checked.Accepted ⌝ }
-    requires { ⌜ (states ≡ length (meaning (now table) .states)) × (records (now table) * 2 ≤ length (now sources)) × (now sources ≡ replicate (length (now sources)) 0) ⌝ }
-    ensures { λ _. ⌜ Heads (now (table .entry)) states (now (sources .exit)) ⌝ }
+// Whether it does, or the record after it is hit. A record that no chain reaches may hold anything, so its next index is looked at only where it keeps the rule.
+fn hit_now(table: &[u16], hits: &[u64], r: usize, kind: usize, number: usize, set: StateSet) -> bool
+    requires { ⌜ (records (now table) ≤ recordLimit) × (length (now table) ≡ 4 * records (now table)) × (r < records (now table)) × (length (now hits) ≡ hitWords) ⌝ }
+    ensures { λ b. ⌜ b ≡ hitNow (now (table .entry)) (now (hits .entry)) kind number (set .low) (set .high) r ⌝ }
 {
+    if ends_in(table, r, kind, number, set) {
+        return true;
+    }
+    let next = word(table, r, 0);
+    if next <= r {
+        return false;
+    }
+    if next >= table.len() / 4 {
+        return false;
+    }
+    is_set(hits, next)
+}
+
+// The records from the last down: a next index is larger than its record's number, so what follows a record is known when it is read.
+fn sweep(table: &[u16], hits: &mut [u64], kind: usize, number: usize, set: StateSet)
+    requires { ⌜ checkOf (now table) ≡ Checked.Accepted ⌝ }
+    requires { ⌜ symbolFits (length (meaning (now table) .nonterminals)) (meaning (now table) .terminals) kind number ≡ true ⌝ }
+    requires { ⌜ now hits ≡ replicate hitWords 0 ⌝ }
+    ensures { λ _. ⌜ Hits (now (table .entry)) kind number (set .low) (set .high) (now (hits .exit)) ⌝ }
+{
+    let mut r = table.len() / 4;
+    while r > 0 {
+        r -= 1;
+        if hit_now(table, hits, r, kind, number, set) {
+            put(hits, r);
+        }
+    }
+}
+
+// With the hits in words that are lent.
+fn step_over(table: &[u16], hits: &mut [u64], kind: usize, number: usize, set: StateSet) -> StateSet
+    requires { ⌜ checkOf (now table) ≡ Checked.Accepted ⌝ }
+    requires { ⌜ symbolFits (length (meaning (now table) .nonterminals)) (meaning (now table) .terminals) kind number ≡ true ⌝ }
+    requires { ⌜ now hits ≡ replicate hitWords 0 ⌝ }
+    ensures { λ r. ⌜ statesIn (r .low) (r .high) ≡ predecessors (meaning (now (table .entry))) (symbolOfKind kind number) (statesIn (set .low) (set .high)) ⌝ }
+{
+    sweep(table, hits, kind, number, set);
+    let counts = read_counts(table);
+    let states = counts.states;
+    let mut found = StateSet::new();
     let mut s: usize = 0;
     while s < states {
         let head = first_edge(table, s);
@@ -179,224 +201,100 @@ fn heads(table: &[u16], sources: &mut [u64], states: usize)
             s += 1;
             continue;
         }
-        mark(sources, head * 2, s);
-        s += 1;
-    }
-}
-
-// The edge at a record, for all the states whose chains come to it; they go on to the next.
-fn pass(table: &[u16], preds: &mut [u64], sources: &mut [u64], n: usize, states: usize, r: usize)
-    requires { ⌜ checkOf (now table) ≡ Checked.Accepted ⌝ }
-    requires { ⌜ (n ≡ length (meaning (now table) .nonterminals)) × (states ≡ length (meaning (now table) .states)) × (predWords (meaning (now table)) ≤ length (now preds)) × (records (now table) * 2 ≤ length (now sources)) ⌝ }
-    requires { ⌜ (r ≡ 0 → ⊥) × EdgeIndex (now table) r ⌝ }
-    ensures { λ _. ⌜ Passed (now (table .entry)) n states r (now (preds .entry)) (now (sources .entry)) (now (preds .exit)) (now (sources .exit)) ⌝ }
-{
-    let low = sources[r * 2];
-    let high = sources[r * 2 + 1];
-    let e = edge(table, r);
-    let target = e.target;
-    let next = e.next;
-    let row = row_of(n, e.kind, e.number);
-    unite(preds, (row * states + target) * 2, low, high);
-    if next != 0 {
-        unite(sources, next * 2, low, high);
-    }
-}
-
-// The records in order: a next index is larger than its record's number, so each edge is read once, however many states share it.
-fn sweep(table: &[u16], preds: &mut [u64], sources: &mut [u64], n: usize, states: usize)
-    requires { ⌜ checkOf (now table) ≡ Checked.Accepted ⌝ }
-    requires { ⌜ (n ≡ length (meaning (now table) .nonterminals)) × (states ≡ length (meaning (now table) .states)) × (records (now table) * 2 ≤ length (now sources)) × Heads (now table) states (now sources) ⌝ }
-    requires { ⌜ (predWords (meaning (now table)) ≤ length (now preds)) × (now preds ≡ replicate (length (now preds)) 0) ⌝ }
-    ensures { λ _. ⌜ Preds (meaning (now (table .entry))) (now (preds .exit)) ⌝ }
-{
-    let records = table.len() / 4;
-    let mut r: usize = 0;
-    while r < records {
-        if no_source(sources, r) {
-            r += 1;
+        if is_set(hits, head) {
+            found = found.insert(s);
+            s += 1;
             continue;
         }
-        pass(table, preds, sources, n, states, r);
-        r += 1;
+        s += 1;
+    }
+    found
+}
+
+// The two words of a set.
+fn set_at(words: &[u64], at: usize) -> StateSet
+    requires { ⌜ at + 1 < length (now words) ⌝ }
+    ensures { λ r. ⌜ (r .low ≡ getD (now (words .entry)) at 0) × (r .high ≡ getD (now (words .entry)) (at + 1) 0) ⌝ }
+{
+    StateSet {
+        low: words[at],
+        high: words[at + 1],
     }
 }
 
-fn index_over(table: &[u16], preds: &mut [u64], sources: &mut [u64])
-    requires { ⌜ checkOf (now table) ≡ Checked.Accepted ⌝ }
-    requires { ⌜ (predWords (meaning (now table)) ≤ length (now preds)) × (now preds ≡ replicate (length (now preds)) 0) ⌝ }
-    requires { ⌜ (records (now table) * 2 ≤ length (now sources)) × (now sources ≡ replicate (length (now sources)) 0) ⌝ }
-    ensures { λ _. ⌜ Preds (meaning (now (table .entry))) (now (preds .exit)) ⌝ }
+// What a step over a symbol found, until the next step over it.
+fn remember(steps: &mut [u64], row: usize, set: StateSet, found: StateSet)
+    requires { ⌜ (row * 4 + 3 < length (now steps)) × (row < 1000) ⌝ }
+    ensures { λ _. ⌜ now (steps .exit) ≡ putQuad (now (steps .entry)) row (set .low) (set .high) (found .low) (found .high) ⌝ }
 {
-    let counts = read_counts(table);
-    let n = counts.nonterminals;
-    let states = counts.states;
-    heads(table, sources, states);
-    sweep(table, preds, sources, n, states);
+    steps[row * 4] = set.low;
+    steps[row * 4 + 1] = set.high;
+    steps[row * 4 + 2] = found.low;
+    steps[row * 4 + 3] = found.high;
 }
 
-// With the sources in an array for at most 128 records.
-fn index_few(table: &[u16], preds: &mut [u64])
-    requires { ⌜ checkOf (now table) ≡ Checked.Accepted ⌝ }
-    requires { ⌜ (predWords (meaning (now table)) ≤ length (now preds)) × (now preds ≡ replicate (length (now preds)) 0) ⌝ }
-    requires { ⌜ length (now table) ≤ 512 ⌝ }
-    ensures { λ _. ⌜ Preds (meaning (now (table .entry))) (now (preds .exit)) ⌝ }
-{
-    let mut sources = [0u64; 256];
-    index_over(table, preds, &mut sources);
-}
-
-// The same for at most 1,024 records.
-fn index_some(table: &[u16], preds: &mut [u64])
-    requires { ⌜ checkOf (now table) ≡ Checked.Accepted ⌝ }
-    requires { ⌜ (predWords (meaning (now table)) ≤ length (now preds)) × (now preds ≡ replicate (length (now preds)) 0) ⌝ }
-    requires { ⌜ length (now table) ≤ 4096 ⌝ }
-    ensures { λ _. ⌜ Preds (meaning (now (table .entry))) (now (preds .exit)) ⌝ }
-{
-    let mut sources = [0u64; 2048];
-    index_over(table, preds, &mut sources);
-}
-
-// For every table: at most 8,192 records.
-fn index_many(table: &[u16], preds: &mut [u64])
-    requires { ⌜ checkOf (now table) ≡ Checked.Accepted ⌝ }
-    requires { ⌜ (predWords (meaning (now table)) ≤ length (now preds)) × (now preds ≡ replicate (length (now preds)) 0) ⌝ }
-    ensures { λ _. ⌜ Preds (meaning (now (table .entry))) (now (preds .exit)) ⌝ }
-{
-    let mut sources = [0u64; 16384];
-    index_over(table, preds, &mut sources);
-}
-
-// The predecessors of every state by every symbol, from the edges of the table: each edge is read once, and no walk reads a chain again.
-pub fn index(table: &[u16], preds: &mut [u64])
-    requires { ⌜ checkOf (now table) ≡ Checked.Accepted ⌝ }
-    requires { ⌜ (predWords (meaning (now table)) ≤ length (now preds)) × (now preds ≡ replicate (length (now preds)) 0) ⌝ }
-    ensures { λ _. ⌜ Preds (meaning (now (table .entry))) (now (preds .exit)) ⌝ }
-{
-    if table.len() <= 512 {
-        index_few(table, preds);
-    } else if table.len() <= 4096 {
-        index_some(table, preds);
-    } else {
-        index_many(table, preds);
-    }
-}
-
-// The states with an edge by one symbol into the set: the two words of each of its states.
-fn step(
-    preds: &[u64],
-    n: usize,
-    states: usize,
+// The states with an edge by one symbol into the set; where the last step over the symbol was from this set, what it found.
+fn step_back(
+    table: &[u16],
+    steps: &mut [u64],
     kind: usize,
     number: usize,
     set: StateSet,
 ) -> StateSet
-    requires { ⌜ (n < 1000000) × (number < 1000000) ⌝ }
-    requires { ⌜ ((m : ℕ) → mem m (statesIn (set .low) (set .high)) ≡ true → (rowOf n kind number * states + m) * 2 + 1 < length (now preds)) ⌝ }
-    ensures { λ r. ⌜ ((p : ℕ) → p < 128 → hasState (r .low) (r .high) p ≡ some? (λ m. predHas (now (preds .entry)) states (rowOf n kind number) m p) (statesIn (set .low) (set .high))) ⌝ }
+    requires { ⌜ checkOf (now table) ≡ Checked.Accepted ⌝ }
+    requires { ⌜ symbolFits (length (meaning (now table) .nonterminals)) (meaning (now table) .terminals) kind number ≡ true ⌝ }
+    requires { ⌜ Remembered (meaning (now table)) (now steps) ⌝ }
+    ensures { λ r. ⌜ statesIn (r .low) (r .high) ≡ predecessors (meaning (now (table .entry))) (symbolOfKind kind number) (statesIn (set .low) (set .high)) ⌝ }
+    ensures { λ r. ⌜ Remembered (meaning (now (table .entry))) (now (steps .exit)) ⌝ }
 {
-    let row = row_of(n, kind, number);
-    let mut low: u64 = 0;
-    let mut high: u64 = 0;
-    let mut rest = set;
-    loop {
-        match rest.next() {
-            NextState::State(m, others) => {
-                let at = (row * states + m.0 as usize) * 2;
-                low = low | preds[at];
-                high = high | preds[at + 1];
-                rest = others;
-            }
-            NextState::Done => {
-                return StateSet {
-                    low: low,
-                    high: high,
-                };
-            }
+    let row = kind * NonterminalString::LIMIT + number;
+    let last = set_at(steps, row * 4);
+    if last.low == set.low {
+        if last.high == set.high {
+            return set_at(steps, row * 4 + 2);
         }
     }
+    let mut hits = [0u64; StateSet::HIT_WORDS];
+    let found = step_over(table, &mut hits, kind, number, set);
+    remember(steps, row, set, found);
+    found
 }
 
 // The states from which a path spells the symbols and ends in the set.
-pub fn walk_back(table: &[u16], preds: &[u64], set: StateSet, symbols: &[u16]) -> StateSet
+pub fn walk_back(table: &[u16], steps: &mut [u64], set: StateSet, symbols: &[u16]) -> StateSet
     requires { ⌜ checkOf (now table) ≡ Checked.Accepted ⌝ }
-    requires { ⌜ Preds (meaning (now table)) (now preds) ⌝ }
-    requires { ⌜ (listFits (length (meaning (now table) .nonterminals)) (meaning (now table) .terminals) (now symbols) ≡ true) × ((s : ℕ) → mem s (statesIn (set .low) (set .high)) ≡ true → s < length (meaning (now table) .states)) ⌝ }
+    requires { ⌜ listFits (length (meaning (now table) .nonterminals)) (meaning (now table) .terminals) (now symbols) ≡ true ⌝ }
+    requires { ⌜ Remembered (meaning (now table)) (now steps) ⌝ }
     ensures { λ r. ⌜ statesIn (r .low) (r .high) ≡ walkBack (meaning (now (table .entry))) (statesIn (set .low) (set .high)) (listed (now (symbols .entry))) ⌝ }
+    ensures { λ r. ⌜ Remembered (meaning (now (table .entry))) (now (steps .exit)) ⌝ }
 {
-    let counts = read_counts(table);
-    let n = counts.nonterminals;
-    let states = counts.states;
     let mut found = set;
     let mut i = symbols.len() / 2;
     while i > 0 {
         i -= 1;
-        let kind = word(symbols, 2 * i);
-        let number = word(symbols, 2 * i + 1);
-        found = step(preds, n, states, kind, number, found);
+        let kind = repr::word(symbols, 2 * i);
+        let number = repr::word(symbols, 2 * i + 1);
+        found = step_back(table, steps, kind, number, found);
     }
     found
 }
 
 // Back over two lists joined: over the second and, from the states found, over the first. Where the first is odd, a symbol begins with its last word and ends with the other's first.
-fn walk_joined(table: &[u16], preds: &[u64], set: StateSet, xs: &[u16], ys: &[u16]) -> StateSet
+fn walk_joined(table: &[u16], steps: &mut [u64], set: StateSet, xs: &[u16], ys: &[u16]) -> StateSet
     requires { ⌜ checkOf (now table) ≡ Checked.Accepted ⌝ }
-    requires { ⌜ Preds (meaning (now table)) (now preds) ⌝ }
-    requires { ⌜ (listFits (length (meaning (now table) .nonterminals)) (meaning (now table) .terminals) (now xs ++ now ys) ≡ true) × ((s : ℕ) → mem s (statesIn (set .low) (set .high)) ≡ true → s < length (meaning (now table) .states)) ⌝ }
+    requires { ⌜ listFits (length (meaning (now table) .nonterminals)) (meaning (now table) .terminals) (now xs ++ now ys) ≡ true ⌝ }
+    requires { ⌜ Remembered (meaning (now table)) (now steps) ⌝ }
     ensures { λ r. ⌜ statesIn (r .low) (r .high) ≡ walkBack (meaning (now (table .entry))) (statesIn (set .low) (set .high)) (listed (now (xs .entry) ++ now (ys .entry))) ⌝ }
 {
     if xs.len() % 2 == 0 {
-        let found = walk_back(table, preds, set, ys);
-        return walk_back(table, preds, found, xs);
+        let found = walk_back(table, steps, set, ys);
+        return walk_back(table, steps, found, xs);
     }
     let last = xs.len() - 1;
     let straddling = [xs[last], ys[0]];
-    let behind = walk_back(table, preds, set, &ys[1..]);
-    let found = walk_back(table, preds, behind, &straddling);
-    walk_back(table, preds, found, &xs[..last])
-}
-
-// With the index in words that are lent.
-fn trace_over(table: &[u16], preds: &mut [u64], state: usize, xs: &[u16], ys: &[u16]) -> StateSet
-    requires { ⌜ checkOf (now table) ≡ Checked.Accepted ⌝ }
-    requires { ⌜ (state < length (meaning (now table) .states)) × (listFits (length (meaning (now table) .nonterminals)) (meaning (now table) .terminals) (now xs ++ now ys) ≡ true) ⌝ }
-    requires { ⌜ (predWords (meaning (now table)) ≤ length (now preds)) × (now preds ≡ replicate (length (now preds)) 0) ⌝ }
-    ensures { λ r. ⌜ statesIn (r .low) (r .high) ≡ traceBack (meaning (now (table .entry))) state (listed (now (xs .entry) ++ now (ys .entry))) ⌝ }
-{
-    index(table, preds);
-    walk_joined(table, preds, StateSet::of(state), xs, ys)
-}
-
-// With the index in an array of at most 512 words.
-fn trace_few(table: &[u16], state: usize, xs: &[u16], ys: &[u16]) -> StateSet
-    requires { ⌜ checkOf (now table) ≡ Checked.Accepted ⌝ }
-    requires { ⌜ (state < length (meaning (now table) .states)) × (listFits (length (meaning (now table) .nonterminals)) (meaning (now table) .terminals) (now xs ++ now ys) ≡ true) ⌝ }
-    requires { ⌜ predWords (meaning (now table)) ≤ 512 ⌝ }
-    ensures { λ r. ⌜ statesIn (r .low) (r .high) ≡ traceBack (meaning (now (table .entry))) state (listed (now (xs .entry) ++ now (ys .entry))) ⌝ }
-{
-    let mut preds = [0u64; 512];
-    trace_over(table, &mut preds, state, xs, ys)
-}
-
-// The same for at most 4,096 words.
-fn trace_some(table: &[u16], state: usize, xs: &[u16], ys: &[u16]) -> StateSet
-    requires { ⌜ checkOf (now table) ≡ Checked.Accepted ⌝ }
-    requires { ⌜ (state < length (meaning (now table) .states)) × (listFits (length (meaning (now table) .nonterminals)) (meaning (now table) .terminals) (now xs ++ now ys) ≡ true) ⌝ }
-    requires { ⌜ predWords (meaning (now table)) ≤ 4096 ⌝ }
-    ensures { λ r. ⌜ statesIn (r .low) (r .high) ≡ traceBack (meaning (now (table .entry))) state (listed (now (xs .entry) ++ now (ys .entry))) ⌝ }
-{
-    let mut preds = [0u64; 4096];
-    trace_over(table, &mut preds, state, xs, ys)
-}
-
-// For every table: at most 95 rows of 128 states.
-fn trace_many(table: &[u16], state: usize, xs: &[u16], ys: &[u16]) -> StateSet
-    requires { ⌜ checkOf (now table) ≡ Checked.Accepted ⌝ }
-    requires { ⌜ (state < length (meaning (now table) .states)) × (listFits (length (meaning (now table) .nonterminals)) (meaning (now table) .terminals) (now xs ++ now ys) ≡ true) ⌝ }
-    ensures { λ r. ⌜ statesIn (r .low) (r .high) ≡ traceBack (meaning (now (table .entry))) state (listed (now (xs .entry) ++ now (ys .entry))) ⌝ }
-{
-    let mut preds = [0u64; 24320];
-    trace_over(table, &mut preds, state, xs, ys)
+    let behind = walk_back(table, steps, set, &ys[1..]);
+    let found = walk_back(table, steps, behind, &straddling);
+    walk_back(table, steps, found, &xs[..last])
 }
 
 // `trace_back` of one state, over two lists joined.
@@ -405,17 +303,8 @@ pub fn trace_back_joined(table: &[u16], state: usize, xs: &[u16], ys: &[u16]) ->
     requires { ⌜ (state < length (meaning (now table) .states)) × (listFits (length (meaning (now table) .nonterminals)) (meaning (now table) .terminals) (now xs ++ now ys) ≡ true) ⌝ }
     ensures { λ r. ⌜ statesIn (r .low) (r .high) ≡ traceBack (meaning (now (table .entry))) state (listed (now (xs .entry) ++ now (ys .entry))) ⌝ }
 {
-    let counts = read_counts(table);
-    let rows = counts.nonterminals + counts.terminals;
-    let states = counts.states;
-    let words = rows * states * 2;
-    if words <= 512 {
-        trace_few(table, state, xs, ys)
-    } else if words <= 4096 {
-        trace_some(table, state, xs, ys)
-    } else {
-        trace_many(table, state, xs, ys)
-    }
+    let mut steps = [0u64; StateSet::STEP_WORDS];
+    walk_joined(table, &mut steps, StateSet::of(state), xs, ys)
 }
 
 // `trace_back` of one state.

@@ -1,14 +1,14 @@
 -- Laws of the flags of suffixes that may derive the empty string (specs/Ends), and of an item's words among the packed productions. Assumes nothing.
 use mathlib.Core.Path.{_≡_, refl, sym, ap, _∙_}
-use mathlib.Core.Bool.{Bool, true, false, _&&_, not}
-use mathlib.Core.List.{List, [], _∷_, map}
+use mathlib.Core.Bool.{Bool, true, false}
+use mathlib.Core.List.{List, [], _∷_}
 use Prim.Native.Nat.{ℕ, zero, suc, _+_, _*_, _≤_, _<_}
 use native.Mathlib.Omega.{arith}
 use native.Mathlib.Decide.{decLt}
 use lib.ListN.{length, getD, set, take, drop, length-set}
 use lib.Seq.{getD-set-same, getD-set-other}
-use lib.Dec.{eqb, ltb, leb}
-use borrow.Author.Tests.{ne-eqb, eqb-true, ltb-true, leb-true, lt-ltb}
+use lib.Dec.{ltb, leb}
+use borrow.Author.Tests.{ltb-true, leb-true, lt-ltb}
 use Rattle.repr.specs.Sizes.{nonterminalLimit, terminalLimit, indexLimit, itemLimit}
 use Rattle.repr.specs.Lists.{mem}
 use Rattle.repr.specs.Meaning.{Symbol, nonterminal, terminal, Item, Production, noProduction, Table, TableFits, ProductionFits, SymbolFits, productionAt, All, ItemFits}
@@ -22,27 +22,11 @@ use Rattle.lookahead.specs.Tokens.{has}
 use Rattle.first.specs.First.{first0, firstSets, FIRST, nullable}
 use Rattle.first.specs.declared.Answer.{Answer}
 use Rattle.state_graph.specs.Walk.{walkBack, traceBack}
-use Rattle.state_graph.specs.States.{hasState, statesIn}
-use Rattle.state_graph.proofs.States.{states-one}
 use Rattle.state_graph.proofs.Exact.{and-both}
 use Rattle.trace_graph.specs.Fits.{itemFits}
 use Rattle.trace.specs.Traced.{symbolsOf, prefixOf, suffixOf}
 use Rattle.trace.specs.Ends.{flag, EndsTo, Ends}
-use Rattle.trace.specs.Reducing.{itemAt}
-
--- a flag that is tested
-pub flag-set : (x : ℕ) (b : Bool) → b ≡ not (eqb x 0) → b ≡ true → x ≡ 0 → ⊥
-flag-set zero b e h = λ _. let z : _≡_ {A = Bool} true false = sym h ∙ e in let w : _≡_ {A = ℕ} 0 1 = cc in omega arith
-flag-set (suc x) b e h = λ (z : suc x ≡ 0). omega arith
-
-pub flag-clear : (x : ℕ) (b : Bool) → b ≡ not (eqb x 0) → b ≡ false → x ≡ 0
-flag-clear zero b e h = refl
-flag-clear (suc x) b e h = let z : _≡_ {A = Bool} false true = sym h ∙ e ∙ ap not (ne-eqb (suc x) 0 (λ (q : suc x ≡ 0). omega arith)) in let w : _≡_ {A = ℕ} 0 1 = cc in absurd (omega arith)
-
-pub flag-tells : (x : ℕ) (b c : Bool) → x ≡ flag c → b ≡ not (eqb x 0) → c ≡ b
-unfolding flag
-flag-tells x b true e h = sym (h ∙ rw e refl)
-flag-tells x b false e h = sym (h ∙ rw e refl)
+use Rattle.trace.specs.Edges.{itemAt}
 
 -- lists of symbols in words that fit, in parts
 

@@ -2,14 +2,9 @@ pub mod Seen
 pub mod Once
 pub mod Grows
 pub mod Fuel
+pub mod Steps
 pub mod Repeated
 pub mod Traced
 pub mod Distinct
-pub mod HoldingLaws
-pub mod ShiftLaws
-pub mod ShiftStates
-pub mod Turns
 pub mod EndsLaws
-pub mod ReduceLaws
-pub mod ReduceWords
 pub mod Marked

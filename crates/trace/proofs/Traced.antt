@@ -23,7 +23,7 @@ use Rattle.trace_graph.proofs.RoundTrip.{EdgeInRange, graph-fits-alone}
 use Rattle.trace.specs.Traced.{Trace, untraced, pair, enter, addTo, ownerOf, canShift, prefixOf, suffixOf, inTurn, pairs}
 use Rattle.trace.specs.Shift.{epsilonItem, epsilon, shiftTrace, shiftEdges}
 use Rattle.trace.specs.Reduce.{reduceStateItem, reduceItem, reduceState, reduceTrace, reduceEdges}
-use Rattle.trace.specs.Sound.{nodeOwner, EdgeSound, ShiftStep, ReduceStep, Known, Rooted, bare, one-more, Sound}
+use Rattle.trace.specs.Sound.{apartEnds, nodeOwner, EdgeSound, ShiftStep, ReduceStep, Known, Rooted, bare, one-more, Sound}
 use Rattle.trace.proofs.Once.{node-same, edge-equal, add-there, add-new, add-all, add-once, once-nil}
 use Rattle.trace.proofs.Grows.{Adds, Grows, grows-some, turn-nil, turn-cons, turn-grows, add-grows, enter-grows, epsilon-cannot, epsilon-past, epsilon-beginning, epsilon-zero, epsilon-entered, epsilon-new, epsilonItem-grows, epsilon-grows, reduce-cannot, reduce-nullable, reduce-ends, reduceItem-is, reduce-zero, reduce-entered, reduce-new, reduceItem-grows, reduceStateItem-grows, reduce-grows}
 use Rattle.trace.proofs.Fuel.{owner-lt}
@@ -97,8 +97,8 @@ record Going (T : Table) (Step : TraceEdge → Type 0) (i : Item) (n : ℕ) (st 
 module _ (T : Table) (fits : TableFits T) where
   -- the three kinds of edges
 
-  to-item-sound : (i : Item) → ItemFits T i → EdgeSound T (record { source = atNonterminal (ownerOf T i); target = atItem i; label = i })
-  unfolding nodeOwner InRange
+  pub to-item-sound : (i : Item) → ItemFits T i → EdgeSound T (record { source = atNonterminal (ownerOf T i); target = atItem i; label = i })
+  unfolding nodeOwner InRange apartEnds
   to-item-sound i h = record {
     source = owner-lt T fits i;
     target = item-fits T i h;
@@ -107,11 +107,12 @@ module _ (T : Table) (fits : TableFits T) where
     cursor = λ n e. let z : _≡_ {A = ℕ} 0 1 = cc in absurd (omega arith);
     from-item = λ j e. let z : _≡_ {A = ℕ} 0 1 = cc in absurd (omega arith);
     to-item = λ j e. (cc);
+    apart = refl;
   }
 
-  from-item-sound : (n : ℕ) (i : Item) → n < length (T .nonterminals) → ItemFits T i → canShift T n i ≡ true
+  pub from-item-sound : (n : ℕ) (i : Item) → n < length (T .nonterminals) → ItemFits T i → canShift T n i ≡ true
       → EdgeSound T (record { source = atItem i; target = atNonterminal n; label = i })
-  unfolding nodeOwner InRange
+  unfolding nodeOwner InRange apartEnds
   from-item-sound n i l h c = record {
     source = item-fits T i h;
     target = l;
@@ -120,11 +121,12 @@ module _ (T : Table) (fits : TableFits T) where
     cursor = λ m e. let q : n ≡ m = cc in rw (← q) c;
     from-item = λ j e. (cc);
     to-item = λ j e. let z : _≡_ {A = ℕ} 0 1 = cc in absurd (omega arith);
+    apart = refl;
   }
 
-  between-sound : (n : ℕ) (i : Item) → n < length (T .nonterminals) → ItemFits T i → canShift T n i ≡ true
+  pub between-sound : (n : ℕ) (i : Item) → n < length (T .nonterminals) → ItemFits T i → canShift T n i ≡ true
       → EdgeSound T (record { source = atNonterminal (ownerOf T i); target = atNonterminal n; label = i })
-  unfolding nodeOwner InRange
+  unfolding nodeOwner InRange apartEnds
   between-sound n i l h c = record {
     source = owner-lt T fits i;
     target = l;
@@ -133,6 +135,7 @@ module _ (T : Table) (fits : TableFits T) where
     cursor = λ m e. let q : n ≡ m = cc in rw (← q) c;
     from-item = λ j e. let z : _≡_ {A = ℕ} 0 1 = cc in absurd (omega arith);
     to-item = λ j e. let z : _≡_ {A = ℕ} 0 1 = cc in absurd (omega arith);
+    apart = refl;
   }
 
   -- the items of a state are in range; a number that is no state's has none

@@ -4,7 +4,5 @@ pub mod Shifting
 pub mod Shift
 pub mod Reduce
 pub mod Sound
-pub mod Holding
-pub mod Steps
+pub mod Edges
 pub mod Ends
-pub mod Reducing

@@ -1,7 +1,7 @@
 -- What holds of every accepted trace (acceptance R6; `shift-sound` and `reduce-sound` of proofs/Traced): its numbers are in range and no edge stands twice, so its graph passes the check of
 -- a lent graph; the traced item is a node of it; how the ends of an edge go with its label; and how one edge leads to another. Assumes nothing: these are definitions.
 use Prim.Native.Nat.{ℕ, _≤_}
-use mathlib.Core.Bool.{true}
+use mathlib.Core.Bool.{Bool, true, false}
 use mathlib.Core.Path.{_≡_}
 use mathlib.Core.Logic.{_⊎_}
 use mathlib.Core.List.{List, [], _∷_, _++_, List·Memᴰ}
@@ -20,6 +20,12 @@ unfoldable pub nodeOwner : Table → Node → ℕ
 nodeOwner T (atNonterminal n) = n
 nodeOwner T (atItem i) = ownerOf T i
 
+-- not both ends are items
+unfoldable pub apartEnds : Node → Node → Bool
+apartEnds (atNonterminal n) w = true
+apartEnds (atItem i) (atNonterminal m) = true
+apartEnds (atItem i) (atItem j) = false
+
 pub record EdgeSound (T : Table) (e : TraceEdge) : Type 0 where
   pub source : InRange (length (T .nonterminals)) (T .productions) (e .source)
   pub target : InRange (length (T .nonterminals)) (T .productions) (e .target)
@@ -31,6 +37,7 @@ pub record EdgeSound (T : Table) (e : TraceEdge) : Type 0 where
   -- out of or into an item: it is the label
   pub from-item : (i : Item) → e .source ≡ atItem i → i ≡ e .label
   pub to-item : (i : Item) → e .target ≡ atItem i → i ≡ e .label
+  pub apart : apartEnds (e .source) (e .target) ≡ true
 
 -- how a nonterminal leads to a nonterminal: in a shift trace by a label at its beginning ("follows index-0 items"), in a reduce trace by one whose suffix is nullable
 pub record ShiftStep (T : Table) (e : TraceEdge) : Type 0 where

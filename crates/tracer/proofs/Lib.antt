@@ -1,5 +1,9 @@
+pub mod Adding
+pub mod Turns
+pub mod States
+pub mod Begin
+pub mod ReduceSteps
+pub mod Whole
 pub mod Words
-pub mod Traces
 pub mod Ways
-pub mod Codes
 pub mod Traced

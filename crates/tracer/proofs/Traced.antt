@@ -1,9 +1,9 @@
 -- Of every accepted trace, the lent buffer as `shiftOf` and `reduceOf` leave it (`Traced` of specs/Traced). Assumes nothing.
 use Prim.Native.Nat.{ℕ, _≤_}
 use native.Mathlib.Omega.{arith}
-use mathlib.Core.Path.{_≡_, refl, sym, ap, _∙_}
-use mathlib.Core.Bool.{Bool, true, false, _&&_}
-use mathlib.Core.List.{List, _++_}
+use mathlib.Core.Path.{_≡_, refl, ap, _∙_}
+use mathlib.Core.Bool.{true, _&&_}
+use mathlib.Core.List.{List}
 use lib.ListN.{length, drop, length-append, length-drop}
 use lib.Dec.{ltb, leb}
 use borrow.Author.Tests.{leb-true}
@@ -21,7 +21,7 @@ use Rattle.trace_graph.specs.Graph.{TraceEdge, atItem, isNode}
 use Rattle.trace_graph.specs.Words.{graphWords, edgesIn}
 use Rattle.trace_graph.specs.Fits.{itemFits, graphFits}
 use Rattle.trace_graph.proofs.RoundTrip.{edges-back, graph-fits}
-use Rattle.trace.specs.Sound.{EdgeSound, ShiftStep, ReduceStep, Rooted, Sound}
+use Rattle.trace.specs.Sound.{ShiftStep, ReduceStep, Sound}
 use Rattle.trace.specs.Shift.{shiftEdges}
 use Rattle.trace.specs.Reduce.{reduceEdges}
 use Rattle.trace.proofs.Traced.{fits-item, in-range, shift-sound, shift-steps, reduce-sound, reduce-steps}

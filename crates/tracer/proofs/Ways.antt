@@ -1,29 +1,32 @@
 -- The ways through a trace: refusals 9, 11 and 12, and the graph handed over. Assumes nothing.
 use mathlib.Core.Path.{_≡_, refl, sym, ap, _∙_}
-use mathlib.Core.Bool.{Bool, true, false, _&&_}
+use mathlib.Core.Bool.{Bool, true, false, _&&_, not}
 use mathlib.Core.List.{List, _++_}
 use Prim.Native.Nat.{ℕ, _+_, _≤_, _<_}
-use native.Mathlib.Omega.{arith}
-use lib.ListN.{length, getD, take, drop, List·getD-append}
-use lib.Seq.{take-append-le, length-take-le}
+use lib.ListN.{length, getD, drop}
 use lib.Dec.{ltb, leb}
 use borrow.Author.Tests.{lt-ltb, le-ltb, le-leb, lt-leb}
-use Rattle.repr.specs.Sizes.{edgeLimit, edgePlace, graphRoom, scratchWords}
-use Rattle.slices.proofs.Lent.{zeroed-lent}
+use Rattle.repr.specs.Sizes.{productionLimit, edgeLimit, edgePlace, graphRoom, scratchWords}
 use Rattle.slices.specs.Lent.{inFront, zeroed}
-use Rattle.repr.specs.Meaning.{Item, Table, Production}
+use Rattle.repr.specs.Meaning.{Item, Table, Production, ItemFits}
 use Rattle.repr.specs.Packed.{Packed, productionsIn}
 use Rattle.trace_graph.specs.Graph.{TraceEdge}
 use Rattle.trace_graph.specs.Words.{graphWords}
 use Rattle.trace_graph.specs.Fits.{itemFits}
-use Rattle.tracer.specs.declared.Backtrace.{Backtrace}
 use Rattle.tracer.specs.declared.Backtrace.the-variants.{Edges, Refused}
 use Rattle.tracer.specs.Outcome.{Outcome, outcome, edgesOutcome, traceIn}
 use Rattle.table.specs.Decoded.{meaning}
+use Rattle.table.proofs.Decoding.{fits}
+use Rattle.trace.proofs.Traced.{fits-item}
+use Rattle.codes.specs.Coded.{Coded, Leasts}
+use Rattle.codes.specs.Carried.{Carried}
 use Rattle.table.specs.Refusals.{checkOf}
 use Rattle.table.specs.Index.{CountsOf}
 use Rattle.table.specs.declared.Checked.the-variants.{Accepted}
-use Rattle.tracer.specs.Built.{Asked, Built}
+use Rattle.trace.specs.Shift.{shiftEdges}
+use Rattle.trace.specs.Reduce.{reduceEdges}
+use Rattle.tracer.specs.Built.{Asked, edgesBy}
+use Rattle.tracer.specs.Held.{Working}
 use Rattle.tracer.proofs.Words.{words-long}
 
 -- the tests of a trace, in their order
@@ -94,47 +97,18 @@ module _ (edges : Table → ℕ → Item → List TraceEdge) (s p i : ℕ) (grap
 pub item-tells : (g : List ℕ) (ps : List Production) (m p i : ℕ) (b c : Bool) → m ≡ length ps → productionsIn g (length ps) ≡ ps → b ≡ itemFits (productionsIn g m) p i → b ≡ c → itemFits ps p i ≡ c
 item-tells g ps m p i b c e f q r = ap (λ (l : List Production). itemFits l p i) (sym (ap (productionsIn g) e ∙ f)) ∙ sym q ∙ r
 
--- the graph was built in the first words of scratch
+-- the answer is one of the two
 
-module _ (es : List TraceEdge) (graph scratch front scratch′ : List ℕ) (ef : length front ≡ length (take graphRoom scratch)) (ls : scratchWords ≤ length scratch) (ez : scratch′ ≡ zeroed scratchWords (front ++ drop graphRoom scratch)) where
-  front-long : length front ≡ graphRoom
-  front-long = ef ∙ length-take-le graphRoom scratch (omega arith)
-
-  zero-left : scratch′ ≡ zeroed scratchWords scratch
-  zero-left = ez ∙ zeroed-lent scratchWords graphRoom front scratch front-long (omega arith)
-
-  pub handed-over : (graph′ : List ℕ) (count : ℕ) → Built es front → count ≡ getD (front ++ drop graphRoom scratch) 0 0
-      → graph′ ≡ take (edgePlace count) (front ++ drop graphRoom scratch) ++ drop (edgePlace count) graph → outcome (Edges count) graph′ scratch′ ≡ edgesOutcome graph scratch es
-  unfolding inFront
-  handed-over graph′ count B ec eg = make c gw zero-left ∙ sym (edges-either graph scratch es ∙ rw (le-leb (length es) edgeLimit (B .few)) (either-true _ _))
+module _ (es : List TraceEdge) (graph scratch graph′ scratch′ : List ℕ) (ez : scratch′ ≡ zeroed scratchWords scratch) where
+  pub handed-over : (count : ℕ) → length es ≤ edgeLimit → graph′ ≡ inFront (graphWords es) graph → count ≡ getD graph′ 0 0 → outcome (Edges count) graph′ scratch′ ≡ edgesOutcome graph scratch es
+  unfolding inFront graphWords
+  handed-over count few eg ec = make (ec ∙ ap (λ (l : List ℕ). getD l 0 0) eg) eg ez ∙ sym (edges-either graph scratch es ∙ rw (le-leb (length es) edgeLimit few) (either-true _ _))
     where
-      c : count ≡ length es
-      c = let fl = front-long in ec ∙ List·getD-append front (drop graphRoom scratch) 0 0 (omega arith) ∙ B .count
-
-      gw : graph′ ≡ graphWords es ++ drop (length (graphWords es)) graph
-      gw =
-          let f = B .few in
-          let fl = front-long in
-          eg ∙ ap (λ (k : ℕ). take (edgePlace k) (front ++ drop graphRoom scratch) ++ drop (edgePlace k) graph) c
-          ∙ ap (λ (l : List ℕ). l ++ drop (edgePlace (length es)) graph) (take-append-le (edgePlace (length es)) front (drop graphRoom scratch) (omega arith) ∙ B .words)
-          ∙ ap (λ (k : ℕ). graphWords es ++ drop k graph) (sym (words-long es))
-
       make : {a b : ℕ} {x y u v : List ℕ} → a ≡ b → x ≡ y → u ≡ v → outcome (Edges a) x u ≡ outcome (Edges b) y v
       make e f g = λ j. outcome (Edges (e j)) (f j) (g j)
 
-  pub overfull : edgeLimit < length es → outcome (Refused 12 0) graph scratch′ ≡ edgesOutcome graph scratch es
-  overfull h = ap (outcome (Refused 12 0) graph) zero-left ∙ sym (edges-either graph scratch es ∙ rw (lt-leb (length es) edgeLimit h) (either-false _ _))
-
-pub lent-long : (scratch : List ℕ) → scratchWords ≤ length scratch → graphRoom ≤ length (take graphRoom scratch)
-lent-long scratch h = let l = length-take-le graphRoom scratch (omega arith) in omega arith
-
-pub count-few : (es : List TraceEdge) (scratch front rest : List ℕ) (count : ℕ) → length front ≡ length (take graphRoom scratch) → scratchWords ≤ length scratch → Built es front → count ≡ getD (front ++ rest) 0 0 → count ≤ edgeLimit
-count-few es scratch front rest count ef h B e =
-    let l = length-take-le graphRoom scratch (omega arith) in
-    let a = List·getD-append front rest 0 0 (omega arith) in
-    let b = B .count in
-    let f = B .few in
-    omega arith
+  pub overfull : edgeLimit < length es → graph′ ≡ graph → outcome (Refused 12 0) graph′ scratch′ ≡ edgesOutcome graph scratch es
+  overfull h eg = rw (eg, ez) (sym (edges-either graph scratch es ∙ rw (lt-leb (length es) edgeLimit h) (either-false _ _)))
 
 -- an accepted table, its productions read, a state and an item in range
 pub asked : {t g : List ℕ} {n terminals states productions s p i : ℕ} → checkOf t ≡ Accepted → CountsOf (meaning t) n terminals states productions → Packed g (length (meaning t .productions))
@@ -148,3 +122,46 @@ asked {g = g} a C P e h f = record {
   state = h;
   item = f;
 }
+
+-- a test the other way round
+pub told : (b : Bool) → not b ≡ false → b ≡ true
+told true e = refl
+told false e = sym e
+
+pub told-not : (b : Bool) → not b ≡ true → b ≡ false
+told-not true e = sym e
+told-not false e = refl
+
+-- what a trace works over, and its words
+
+module _ {t g : List ℕ} {productions n s p i : ℕ} (A : Asked t g productions n s p i) where
+  pub working : (ls : List ℕ) → Leasts (productionsIn g productions) ls → ((j : ℕ) → j < productionLimit → getD ls j 0 < productionLimit) → Working t g productions ls
+  working ls L small = record { accepted = A .accepted; packed = A .packed; same = A .same; least = rw (A .same) at L; small = small }
+
+  pub asked-item : ItemFits (meaning t) (record { production = p; index = i })
+  asked-item = fits-item (meaning t) (record { production = p; index = i }) (ap (λ (ps : List Production). itemFits ps p i) (sym (A .same)) ∙ A .item)
+
+  pub carried : (ws fs : List ℕ) (es : List TraceEdge) → Coded (meaning t) ws fs es → Carried g productions ws (meaning t) es
+  carried ws fs es C = record {
+    fits = fits t (A .accepted);
+    packed = A .packed;
+    same = A .same;
+    long = C .long;
+    few = C .few;
+    count = C .count;
+    codes = C .codes;
+    traced = C .traced;
+  }
+
+pub front-is : (es : List TraceEdge) (graph graph′ : List ℕ) → graph′ ≡ graphWords es ++ drop (edgePlace (length es)) graph → graph′ ≡ inFront (graphWords es) graph
+unfolding inFront
+front-is es graph graph′ e = e ∙ ap (λ (k : ℕ). graphWords es ++ drop k graph) (sym (words-long es))
+
+-- the one trace or the other
+pub by-shift : (b : Bool) → b ≡ true → edgesBy b ≡ shiftEdges
+unfolding edgesBy
+by-shift b e = rw e
+
+pub by-reduce : (b : Bool) → b ≡ false → edgesBy b ≡ reduceEdges
+unfolding edgesBy
+by-reduce b e = rw e

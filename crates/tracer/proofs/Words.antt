@@ -1,4 +1,4 @@
--- The words of a graph that was built in scratch are those of its edges; zeroing. Assumes nothing.
+-- The words of a graph that was built are those of its edges. Assumes nothing.
 use mathlib.Core.Path.{_≡_, refl, sym, ap, _∙_}
 use mathlib.Core.List.{List, [], _∷_, append-nil}
 use Prim.Native.Nat.{ℕ, zero, suc, _+_, _*_, _≤_, _<_}

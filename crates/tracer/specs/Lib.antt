@@ -1,3 +1,4 @@
 pub mod Outcome
+pub mod Held
 pub mod Built
 pub mod Traced

@@ -49,7 +49,7 @@ slice-aggregate-list-examples-2 c = search needs
 
 -- src/lib.rt:186:13
 list-examples-requires : tie.Need-list-examples-requires
-list-examples-requires c κs = ((c .before .before .before .before .before .before .before .before .before .before .before .before .before .before .before .before .before .pre .0 .packed, read-terminals _ _ _ _ _ _ (c .before .before .before .before .before .before .before .before .before .before .before .before .before .before .before .before .before .pre .0)), (listable _ _ _ _ _ _ (c .before .before .before .before .before .before .before .before .before .before .before .before .before .before .before .before .before .pre .0) _ _ _ (c .before .before .before .before .before .before .before .before .before .before .before .before .before .before .before .before .before .pre .1 .0 .1) _ _ (c .before .before .before .before .before .before .before .before .before .before .before .build .ensures .0 (c .before .before .before .before .before .before .before .before .enum-told .given .1)) _ (c .before .before .before .before .before .check-graph .ensures .1 (graph-passes _ _ _ _ _ _ (c .before .before .before .before .before .before .before .before .before .before .before .before .before .before .before .before .before .pre .0) _ _ _ (c .before .before .before .before .before .before .before .before .before .before .before .before .before .before .before .before .before .pre .1 .0 .1) _ _ (c .before .before .before .before .before .before .before .before .before .before .before .build .ensures .0 (c .before .before .before .before .before .before .before .before .enum-told .given .1)) _ (c .before .before .before .before .before .check-graph .ensures .0))), (c .before .before .before .before .before .before .before .before .before .before .before .before .before .before .before .before .before .pre .1 .1 .0, rw (c .before .before .before .before .before .before .before .before .before .before .before .before .before .before .before .before .before .pre .0 .same) (c .before .before .before .before .before .before .before .before .before .before .before .before .before .before .before .before .before .pre .1 .1 .1))))
+list-examples-requires c κs = ((c .before .before .before .before .before .before .before .before .before .before .before .before .before .before .before .before .before .pre .0 .packed, read-terminals _ _ _ _ _ _ (c .before .before .before .before .before .before .before .before .before .before .before .before .before .before .before .before .before .pre .0)), (listable _ _ _ _ _ _ (c .before .before .before .before .before .before .before .before .before .before .before .before .before .before .before .before .before .pre .0) _ _ _ (c .before .before .before .before .before .before .before .before .before .before .before .before .before .before .before .before .before .pre .1 .0 .1) _ _ _ (c .before .before .before .before .before .before .before .before .before .before .before .build .ensures .0 (c .before .before .before .before .before .before .before .before .enum-told .given .1)) _ (c .before .before .before .before .before .check-graph .ensures .1 (graph-passes _ _ _ _ _ _ (c .before .before .before .before .before .before .before .before .before .before .before .before .before .before .before .before .before .pre .0) _ _ _ (c .before .before .before .before .before .before .before .before .before .before .before .before .before .before .before .before .before .pre .1 .0 .1) _ _ _ (c .before .before .before .before .before .before .before .before .before .before .before .build .ensures .0 (c .before .before .before .before .before .before .before .before .enum-told .given .1)) _ (c .before .before .before .before .before .check-graph .ensures .0))), (c .before .before .before .before .before .before .before .before .before .before .before .before .before .before .before .before .before .pre .1 .1 .0, rw (c .before .before .before .before .before .before .before .before .before .before .before .before .before .before .before .before .before .pre .0 .same) (c .before .before .before .before .before .before .before .before .before .before .before .before .before .before .before .before .before .pre .1 .1 .1))))
 
 -- src/lib.rt:201:27
 enum-told-2 : tie.Need-enum-told-2
@@ -65,11 +65,11 @@ same-length-2 c = search needs
 
 -- src/lib.rt:148:1
 returns : tie.Need-returns
-returns c = listing-made _ _ _ _ _ _ (c .before .before .before .before .before .before .before .before .before .before .before .before .before .before .before .before .before .before .before .before .before .before .pre .0) _ _ _ (c .before .before .before .before .before .before .before .before .before .before .before .before .before .before .before .before .before .before .before .before .before .before .pre .1 .0 .1) _ _ (c .before .before .before .before .before .before .before .before .before .before .before .before .before .before .before .before .build .ensures .0 (c .before .before .before .before .before .before .before .before .before .before .before .before .before .enum-told .given .1)) _ _ _ _ _ _ _ (c .before .before .before .before .before .before .before .before .before .before .before .before .before .before .before .before .before .before .before .before .before .before .pre .1 .1 .1) (c .before .before .before .before .list-examples .ensures .0) (c .before .before .before .before .list-examples .ensures .1)
+returns c = listing-made _ _ _ _ _ _ (c .before .before .before .before .before .before .before .before .before .before .before .before .before .before .before .before .before .before .before .before .before .before .pre .0) _ _ _ (c .before .before .before .before .before .before .before .before .before .before .before .before .before .before .before .before .before .before .before .before .before .before .pre .1 .0 .1) _ _ _ (c .before .before .before .before .before .before .before .before .before .before .before .before .before .before .before .before .build .ensures .0 (c .before .before .before .before .before .before .before .before .before .before .before .before .before .enum-told .given .1)) _ _ _ _ _ _ _ (c .before .before .before .before .before .before .before .before .before .before .before .before .before .before .before .before .before .before .before .before .before .before .pre .1 .1 .1) (c .before .before .before .before .list-examples .ensures .0) (c .before .before .before .before .list-examples .ensures .1)
 
 -- src/lib.rt:148:1
 returns-2 : tie.Need-returns-2
-returns-2 c = listing-full _ _ _ _ _ _ (c .before .before .before .before .before .before .before .before .before .pre .0) _ _ _ (c .before .before .before .before .before .before .before .before .before .pre .1 .0 .1) _ _ _ _ _ (c .before .before .before .build .ensures .1 (c .enum-told2 .given .1))
+returns-2 c = listing-full _ _ _ _ _ _ (c .before .before .before .before .before .before .before .before .before .pre .0) _ _ _ (c .before .before .before .before .before .before .before .before .before .pre .1 .0 .1) _ _ _ _ _ (c .before .before .before .build .ensures .1 (c .enum-told2 .given .1) .0)
 
 pub gather-listing-spec : {M : Type 1} → statement M
 gather-listing-spec =

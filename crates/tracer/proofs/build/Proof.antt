@@ -1,70 +1,59 @@
--- `build` meets its contract. Assumes nothing.
-use Rattle.tracer.proofs.Codes.{done-not, full-not}
+-- `build` traces in words of one edge each and writes the graph. Assumes nothing.
+use mathlib.Core.Path.{refl}
+use Prim.Native.Nat.{ℕ}
+use lib.ListN.{length-replicate}
+use Rattle.table.specs.Decoded.{meaning}
+use Rattle.trace.proofs.Steps.{done-full, full-done}
+use Rattle.codes.specs.Coded.{codesRoom}
+use Rattle.tracer.proofs.Ways.{working, asked-item, carried, front-is}
+use native.Mathlib.Omega.{arith}
 use borrow.Author.Needs.{needs}
 use Rattle.tracer.proofs.build.Statement.{statement}
 use Rattle.tracer.proofs.build.Tie as tie
+use Rattle.tracer.proofs.build.Reads as reads
+use Rattle.tracer.proofs.build.Lts as lts
+use Rattle.codes.proofs.fill_least.Reads as fill-least-reads
+use Rattle.tracer.proofs.trace_codes.Reads as trace-codes-reads
+use Rattle.codes.proofs.write_codes.Reads as write-codes-reads
 
-read-counts-requires : tie.Need-read-counts-requires
-read-counts-requires c κs = search needs
+slice-aggregate-fill-least : tie.Need-slice-aggregate-fill-least
+slice-aggregate-fill-least c = search needs
 
-trace-large-requires : tie.Need-trace-large-requires
-trace-large-requires c κs = search needs
+fill-least-requires : tie.Need-fill-least-requires
+fill-least-requires c κs = (c .before .before .before .before .pre .0 .packed, refl)
 
-same-length : tie.Need-same-length
-same-length c = search needs
+slice-aggregate-trace-codes : tie.Need-slice-aggregate-trace-codes
+slice-aggregate-trace-codes c = search needs
 
-returns : tie.Need-returns
-returns c = search needs
+slice-aggregate-trace-codes-2 : tie.Need-slice-aggregate-trace-codes-2
+slice-aggregate-trace-codes-2 c = search needs
 
-trace-few-requires : tie.Need-trace-few-requires
-trace-few-requires c κs = search needs
+trace-codes-requires : tie.Need-trace-codes-requires
+trace-codes-requires c κs = let A = c .before .before .before .before .before .before .before .before .pre .0 in ((working A _ (c .before .before .before .fill-least .ensures .0) (c .before .before .before .fill-least .ensures .1), length-replicate {A = ℕ} codesRoom 0), (A .state, asked-item A))
 
 enum-told : tie.Need-enum-told
 enum-told c = search needs
 
+slice-aggregate-write-codes : tie.Need-slice-aggregate-write-codes
+slice-aggregate-write-codes c = search needs
+
+write-codes-requires : tie.Need-write-codes-requires
+write-codes-requires c κs = let S = c .before .before .before .before .before .before .before .before .before .before .before .before .before .before in let C = c .before .before .before .before .before .trace-codes .ensures .0 (c .before .before .enum-told .given .1) in ((S .args .productions, (meaning (S .args .table .now), (_, carried (S .pre .0) _ _ _ (C .1)))), S .pre .1)
+
 enum-told-2 : tie.Need-enum-told-2
 enum-told-2 c = search needs
 
-enum-told-3 : tie.Need-enum-told-3
-enum-told-3 c = search needs
+same-length : tie.Need-same-length
+same-length c = c .before .before .write-codes .kept .1 .1 .0
 
-trace-large-requires-2 : tie.Need-trace-large-requires-2
-trace-large-requires-2 c κs = search needs
-
-same-length-2 : tie.Need-same-length-2
-same-length-2 c = search needs
+returns : tie.Need-returns
+returns c =
+    let S = c .before .before .before .before .before .before .before .before .before .before .before .before .before .before .before .before .before in
+    let C = c .before .before .before .before .before .before .before .before .trace-codes .ensures .0 (c .before .before .before .before .before .enum-told .given .1) in
+    ((λ _. (C .1 .few, front-is _ _ _ (c .before .before .write-codes .ensures _ _ _ (carried (S .pre .0) _ _ _ (C .1))))), (λ q. done-full q))
 
 returns-2 : tie.Need-returns-2
-returns-2 c = ((λ q. c .before .before .before .before .trace-few .ensures .0 (c .enum-told .given .1)), (λ q. absurd (done-not q)))
-
-same-length-3 : tie.Need-same-length-3
-same-length-3 c = search needs
-
-returns-3 : tie.Need-returns-3
-returns-3 c = ((λ q. absurd (full-not q)), (λ q. c .before .before .before .before .trace-few .ensures .1 (c .enum-told2 .given .1)))
-
-same-length-4 : tie.Need-same-length-4
-same-length-4 c = search needs
-
-returns-4 : tie.Need-returns-4
-returns-4 c = search needs
+returns-2 c = ((λ q. full-done q), (λ _. (c .before .before .before .trace-codes .ensures .1 (c .enum-told2 .given .1), refl)))
 
 pub build-spec : {M : Type 1} → statement M
-build-spec =
-    tie.close
-    (tie.spec
-    read-counts-requires
-    trace-large-requires
-    same-length
-    returns
-    trace-few-requires
-    enum-told
-    enum-told-2
-    enum-told-3
-    trace-large-requires-2
-    same-length-2
-    returns-2
-    same-length-3
-    returns-3
-    same-length-4
-    returns-4)
+build-spec = tie.close (tie.spec slice-aggregate-fill-least fill-least-requires slice-aggregate-trace-codes slice-aggregate-trace-codes-2 trace-codes-requires enum-told slice-aggregate-write-codes write-codes-requires enum-told-2 same-length returns returns-2)

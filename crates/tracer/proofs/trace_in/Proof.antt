@@ -7,8 +7,7 @@ use Rattle.repr.specs.Sizes.{grammarRoom}
 use Rattle.table.specs.Decoded.{meaning}
 use Rattle.repr.specs.Packed.{Packed, productionsIn}
 use Rattle.tracer.specs.Built.{edgesBy}
-use Rattle.tracer.proofs.Ways.{refused-state, refused-item, refused-graph, refused-scratch, traced, item-tells, asked}
-use Rattle.tracer.proofs.Codes.{told, told-not}
+use Rattle.tracer.proofs.Ways.{refused-state, refused-item, refused-graph, refused-scratch, traced, item-tells, asked, told, told-not}
 use native.Mathlib.Omega.{arith}
 use borrow.Author.Needs.{needs}
 use Rattle.tracer.proofs.trace_in.Statement.{statement}

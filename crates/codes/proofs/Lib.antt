@@ -1,0 +1,5 @@
+pub mod Keys
+pub mod Coding
+pub mod Least
+pub mod Decoded
+pub mod Writing

@@ -1,0 +1,3 @@
+pub mod Codes
+pub mod Coded
+pub mod Carried

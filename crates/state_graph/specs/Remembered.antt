@@ -1,0 +1,26 @@
+-- The last step back over each symbol, as the code keeps it: four words a symbol, the set that was stepped back from and what was found. Assumes nothing: these are definitions.
+use Prim.Native.Nat.{ℕ, _+_, _*_}
+use mathlib.Core.Bool.{true}
+use mathlib.Core.Path.{_≡_}
+use mathlib.Core.List.{List}
+use lib.ListN.{length, getD}
+use Rattle.repr.specs.Sizes.{nonterminalLimit, terminalLimit}
+use Rattle.repr.specs.Meaning.{Table}
+use Rattle.repr.specs.Listed.{symbolOfKind, symbolFits}
+use Rattle.state_graph.specs.States.{statesIn}
+use Rattle.state_graph.specs.Walk.{predecessors}
+
+-- terminals behind the nonterminals
+abbrev pub stepRow : ℕ → ℕ → ℕ
+stepRow kind number = kind * nonterminalLimit + number
+
+abbrev pub stepWords : ℕ
+stepWords = (nonterminalLimit + terminalLimit) * 4
+
+-- the set in the two words from a place on
+abbrev pub setAt : List ℕ → ℕ → List ℕ
+setAt ws at = statesIn (getD ws at 0) (getD ws (at + 1) 0)
+
+pub record Remembered (T : Table) (ws : List ℕ) : Type 0 where
+  pub long : length ws ≡ stepWords
+  pub exact : (k x : ℕ) → symbolFits (length (T .nonterminals)) (T .terminals) k x ≡ true → setAt ws (stepRow k x * 4 + 2) ≡ predecessors T (symbolOfKind k x) (setAt ws (stepRow k x * 4))
