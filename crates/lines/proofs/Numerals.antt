@@ -9,7 +9,7 @@ use lib.Dec.{ltb, leb}
 use lib.ListN.{length, length-append}
 use borrow.Author.Tests.{lt-ltb, le-ltb, leb-true, leb-false}
 use Rattle.io.specs.Digits.{digits, glyph, Fewest}
-use Rattle.lines.specs.Lines.{numeral, numeralBy}
+use Rattle.numerals.specs.Numeral.{numeralBy, numeral}
 
 small-glyph : (d : ℕ) → d < 10 → glyph d ≡ 48 + d
 small-glyph d h = rw (lt-ltb d 10 h)

@@ -16,7 +16,8 @@ use Rattle.error.specs.declared.Class.{Class}
 use Rattle.error.specs.declared.Class.the-variants.{Naive, Ambiguity, Precedence, SuggestInline, SuggestQuestion, AmbiguousReduction, InsufficientLookahead}
 use Rattle.error.specs.declared.Classified.{Classified}
 use Rattle.error.specs.declared.Classified.the-variants.{Class as IsClass, Refused}
-use Rattle.lines.specs.Lines.{Put, Shown, ReadingShown, numeral, spaced, symbolText, reductionText, symbolTexts, reductionTexts, counted, symbolTotal, printedLength, exampleLine, ownText, classLine, refusedText, refusedLine, exampleLines, linesOf}
+use Rattle.numerals.specs.Numeral.{numeral}
+use Rattle.lines.specs.Lines.{Put, Shown, ReadingShown, spaced, symbolText, reductionText, symbolTexts, reductionTexts, counted, symbolTotal, printedLength, exampleLine, ownText, classLine, refusedText, refusedLine, exampleLines, linesOf}
 use Rattle.lines.proofs.Laws.{put-nothing, put-then, put-as, put-all, put-within}
 
 pub symbol-put : {a b c : List ℕ} {at m r : ℕ} (k n : ℕ) → Put a at (32 ∷ numeral k) b m → Put b m (47 ∷ numeral n) c r → Put a at (symbolText k n) c r

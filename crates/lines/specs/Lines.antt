@@ -1,21 +1,14 @@
 -- The lines that the explaining program prints (document 01, Table B and its program run), as bytes. Assumes nothing: these are definitions.
-use Prim.Native.Nat.{ℕ, zero, suc, _+_, _*_, _/_, _%_, _≤_}
+use Prim.Native.Nat.{ℕ, _+_, _*_, _≤_}
 use mathlib.Core.Path.{_≡_}
 use mathlib.Core.Bool.{true, false}
 use mathlib.Core.List.{List, [], _∷_, _++_}
 use lib.ListN.{length, getD, take, drop}
-use lib.Dec.{eqb, ltb}
+use lib.Dec.{eqb}
 use Rattle.repr.specs.Sizes.{reductionLimit, exampleSymbols, reductionRoom, reductionPlace}
 use Rattle.repr.specs.Lists.{joined}
+use Rattle.numerals.specs.Numeral.{numeral}
 use Rattle.error.specs.Numbers.{Reading, classed, refused}
-
--- decimal, without leading zeros; f bounds the digits, and 20 are enough for 64 bits (`numeral-digits` of proofs/Numerals)
-unfoldable pub numeralBy : ℕ → ℕ → List ℕ
-numeralBy zero n = []
-numeralBy (suc f) n = elim (ltb n 10) [ true ↦ (48 + n) ∷ [] | false ↦ numeralBy f (n / 10) ++ ((48 + n % 10) ∷ []) ]
-
-unfoldable pub numeral : ℕ → List ℕ
-numeral n = numeralBy 20 n
 
 -- a number after a space
 unfoldable pub spaced : ℕ → List ℕ

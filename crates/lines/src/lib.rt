@@ -9,8 +9,9 @@ ghost use mathlib.Core.List.{_++_, _∷_, []};
 ghost use Prim.Native.Nat.{_+_, _*_, _≤_, _<_};
 ghost use lib.ListN.{length, take, drop};
 ghost use Rattle.repr.specs.Sizes.{reductionLimit, exampleSymbols, reductionRoom};
+ghost use Rattle.numerals.specs.Numeral.{numeral};
 ghost use Rattle.error.specs.Numbers.{classNumber, classValues, readingOf};
-ghost use Rattle.lines.specs.Lines.{Put, Whole, Shown, ReadingShown, numeral, symbolText, reductionText, symbolTexts, reductionTexts, counted, symbolTotal, printedLength, exampleLine, ownText, refusedText, refusedLine, classLine, exampleLines, linesOf};
+ghost use Rattle.lines.specs.Lines.{Put, Whole, Shown, ReadingShown, symbolText, reductionText, symbolTexts, reductionTexts, counted, symbolTotal, printedLength, exampleLine, ownText, refusedText, refusedLine, classLine, exampleLines, linesOf};
 
 // A byte; the place after it.
 pub fn put(out: &mut [u8], at: usize, byte: u8) -> usize

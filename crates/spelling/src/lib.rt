@@ -30,7 +30,7 @@ impl Respelled {
 }
 
 // The next index of a record that is followed by the next one, or by none.
-fn next_of(next: usize, at: usize) -> usize
+pub fn next_of(next: usize, at: usize) -> usize
     requires { ⌜ at < recordLimit ⌝ }
     ensures { λ r. ⌜ (next ≡ 0 → r ≡ 0) × ((next ≡ 0 → ⊥) → r ≡ at + 1) ⌝ }
 {
@@ -116,7 +116,7 @@ fn count_chains(table: &[u16], first: usize, past: usize, k: usize, most: usize)
 }
 
 // The head of a chain of `count` records that begins at record `at`.
-fn head_of(count: usize, at: usize) -> usize
+pub fn head_of(count: usize, at: usize) -> usize
     ensures { λ r. ⌜ (count ≡ 0 → r ≡ 0) × ((count ≡ 0 → ⊥) → r ≡ at) ⌝ }
 {
     if count == 0 { 0 } else { at }

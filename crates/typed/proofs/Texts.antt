@@ -13,7 +13,8 @@ use Rattle.repr.specs.Lists.{joined}
 use Rattle.repr.specs.Packed.{symbolWords}
 use Rattle.repr.proofs.Lists.{joined-append}
 use Rattle.table.specs.Words.{wordAt, stateArea, productionArea, loose}
-use Rattle.lines.specs.Lines.{Put, numeral, spaced, symbolText, symbolTexts}
+use Rattle.numerals.specs.Numeral.{numeral}
+use Rattle.lines.specs.Lines.{Put, spaced, symbolText, symbolTexts}
 use Rattle.lines.proofs.Laws.{put-nothing, put-then, put-as, put-all, put-within}
 use Rattle.lines.proofs.Texts.{rest-is}
 use Rattle.typed.specs.Typed.{hashText, countsText, nonterminalText, stateText, productionText, symbolPlace, itemPlace, equalsText, dotText, byNonterminal, byTerminal, toState, unusedText, named, symbolPart, ruleText, itemPart, byText, edgePart, unusedPart, looseText, areaText, recordText, lineOf, recordLine}

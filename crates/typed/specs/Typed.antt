@@ -8,7 +8,8 @@ use Rattle.repr.specs.Sizes.{productionPlace}
 use Rattle.repr.specs.Lists.{joined}
 use Rattle.repr.specs.Packed.{symbolWords}
 use Rattle.table.specs.Words.{wordAt, stateArea, productionArea, loose}
-use Rattle.lines.specs.Lines.{numeral, spaced, symbolText, symbolTexts}
+use Rattle.numerals.specs.Numeral.{numeral}
+use Rattle.lines.specs.Lines.{spaced, symbolText, symbolTexts}
 use Rattle.typed.specs.declared.Roles.{Roles}
 
 -- texts, byte for byte

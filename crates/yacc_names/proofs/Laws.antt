@@ -3,20 +3,19 @@ use Prim.Native.Nat.{ℕ, zero, suc, _+_, _-_, _*_, _%_, _≤_, _<_}
 use native.Mathlib.Omega.{arith}
 use native.Mathlib.Numerals.{add-one}
 use mathlib.Core.Bool.{Bool, true, false, _&&_}
-use mathlib.Core.Path.{_≡_, refl, sym, ap, _∙_, subst}
+use mathlib.Core.Path.{_≡_, refl, sym, ap, _∙_}
 use mathlib.Core.List.{List, [], _∷_}
 use lib.ListN.{length, getD, set, take, length-set, drop-of-length-le}
 use lib.Seq.{slice, slice-cons, length-take-le, getD-set-same, getD-set-other}
 use lib.Dec.{eqb, leb}
 use borrow.Author.Tests.{eqb-true, eqb-false, eq-eqb, ne-eqb, leb-true, leb-false}
 use Rattle.slices.specs.Same.{sameWords}
-use Rattle.slices.proofs.Same.{same-words-eq, eq-same-words}
-use Rattle.repr.proofs.Lists.{cases, clash}
+use Rattle.slices.proofs.Same.{same-words-eq}
+use Rattle.repr.proofs.Lists.{cases}
 use Rattle.trace_graph.specs.Index.{newest, Linked}
 use Rattle.trace_graph.specs.Insert.{chained}
 use Rattle.trace_graph.proofs.Index.{newest-yes, newest-no, newest-kept, linked-top, linked-step, chained-long, chain-joined, chain-beside}
-use Rattle.yacc_names.specs.declared.Placed.{Placed}
-use Rattle.yacc_names.specs.Names.{bucketLimit, mixed, bucketOf, nameIn, inBucket, isName, latest, Entered, Distinct, Left, left, placedBy, placing, Placing}
+use Rattle.yacc_names.specs.Names.{bucketLimit, mixed, bucketOf, nameIn, inBucket, isName, latest, Entered, left, placedBy, placing}
 
 -- bytes from a place up to another
 pub slice-next : (t : List ℕ) (i past : ℕ) → i < past → past ≤ length t → slice i past t ≡ getD t i 0 ∷ slice (i + 1) past t
@@ -38,6 +37,10 @@ module _ (t : List ℕ) (past sum at r : ℕ) (inv : mixed sum (slice at past t)
 pub bucket-is : (sum : ℕ) (bs : List ℕ) → sum ≡ mixed 0 bs → sum % bucketLimit ≡ bucketOf bs
 unfolding bucketOf
 bucket-is sum bs e = ap (λ (n : ℕ). n % bucketLimit) e
+
+pub bucket-small : (bs : List ℕ) → bucketOf bs < bucketLimit
+unfolding bucketOf
+bucket-small bs = omega arith
 
 -- `same_bytes`
 module _ (t : List ℕ) (i past j end : ℕ) (r : Bool) (h : past ≤ length t) (l : end ≤ length t) (inv : sameWords (slice i past t) (slice j end t) ≡ r) where
@@ -244,14 +247,14 @@ module _ (t starts pasts ix : List ℕ) (k from past f : ℕ) (e : f ≡ latest 
   place-new z b starts′ pasts′ ix′ q s p x = rw (s, p, x, q) (by-found 0 z)
 
 -- the latest is one that passes, and none that passes is behind it
-latest-low : (u : ℕ → Bool) (k j : ℕ) → latest u k ≡ suc j → (j < k) × (u j ≡ true)
+pub latest-low : (u : ℕ → Bool) (k j : ℕ) → latest u k ≡ suc j → (j < k) × (u j ≡ true)
 latest-low u zero j e = let z = latest-none u in absurd (omega (arith, z, e))
 latest-low u (suc k) j e =
     cases (u k)
     (λ y. let q : k ≡ j = omega (arith, latest-yes u k y, e) in (omega (arith, q), ap u (sym q) ∙ y))
     (λ n. let r = latest-low u k j (sym (latest-no u k n) ∙ e) in (omega (arith, r .0), r .1))
 
-latest-zero : (u : ℕ → Bool) (k j : ℕ) → latest u k ≡ 0 → j < k → u j ≡ false
+pub latest-zero : (u : ℕ → Bool) (k j : ℕ) → latest u k ≡ 0 → j < k → u j ≡ false
 latest-zero u zero j e h = absurd (omega (arith, h))
 latest-zero u (suc k) j e h =
     cases (u k)
@@ -259,77 +262,3 @@ latest-zero u (suc k) j e h =
     (λ n. cases (eqb j k)
     (λ s. ap u (eqb-true j k s) ∙ n)
     (λ d. let ne = eqb-false j k d in latest-zero u k j (sym (latest-no u k n) ∙ e) (omega (arith, h, ne))))
-
-is-name-of : (t starts pasts bs : List ℕ) (j : ℕ) → isName t starts pasts bs j ≡ sameWords bs (nameIn t starts pasts j)
-unfolding isName
-is-name-of t starts pasts bs j = refl
-
--- what it leaves is good
-unfoldable GoodLeft : List ℕ → List ℕ → List ℕ → ℕ → List ℕ → Left → Type 0
-GoodLeft t starts pasts k bs (left starts′ pasts′ ix′ r) = Placing t starts pasts k bs starts′ pasts′ ix′ r
-
-module _ (t starts pasts ix : List ℕ) (k from past : ℕ) (E : Entered t starts pasts ix k) (D : Distinct t starts pasts k) (hs : k < length starts) (hp : k < length pasts) (hx : bucketLimit + k < length ix) (small : bucketOf (slice from past t) < bucketLimit) (fit : past ≤ length t) where
-  abbrev test : ℕ → Bool
-  test = isName t starts pasts (slice from past t)
-
-  abbrev after : ℕ → List ℕ
-  after j = nameIn t (set starts k from) (set pasts k past) j
-
-  module _ (z : latest (isName t starts pasts (slice from past t)) k ≡ 0) where
-    absent : (j : ℕ) → j < k → slice from past t ≡ nameIn t starts pasts j → ⊥
-    absent j h q = clash (test j) (is-name-of t starts pasts (slice from past t) j ∙ eq-same-words (slice from past t) (nameIn t starts pasts j) q) (latest-zero test k j z h)
-
-    apart : (i j : ℕ) → i < suc k → j < suc k → after i ≡ after j → i ≡ j
-    apart i j hi hj q =
-        let last = name-new t starts pasts k from past hs hp in
-        cases (eqb i k)
-        (λ a. let ia = eqb-true i k a in
-        cases (eqb j k)
-        (λ b. ia ∙ sym (eqb-true j k b))
-        (λ b. let jb : j < k = omega (arith, hj, eqb-false j k b) in
-        absurd (absent j jb (sym (ap after ia ∙ last) ∙ q ∙ name-kept t starts pasts k from past j jb))))
-        (λ a. let ia : i < k = omega (arith, hi, eqb-false i k a) in
-        cases (eqb j k)
-        (λ b. absurd (absent i ia (sym (ap after (eqb-true j k b) ∙ last) ∙ sym q ∙ name-kept t starts pasts k from past i ia)))
-        (λ b. let jb : j < k = omega (arith, hj, eqb-false j k b) in
-        let o : nameIn t starts pasts i ≡ nameIn t starts pasts j = sym (name-kept t starts pasts k from past i ia) ∙ q ∙ name-kept t starts pasts k from past j jb in
-        D .same i j ia jb (is-name-of t starts pasts (nameIn t starts pasts i) j ∙ eq-same-words (nameIn t starts pasts i) (nameIn t starts pasts j) o)))
-
-    good-new : Placing t starts pasts k (slice from past t) (set starts k from) (set pasts k past) (chained ix bucketLimit (bucketOf (slice from past t)) k) (record { number = k; names = k + 1 })
-    good-new =
-        let F : Entered t (set starts k from) (set pasts k past) (chained ix bucketLimit (bucketOf (slice from past t)) k) (k + 1) = rw (add-one k) (entered-more t starts pasts ix k from past (bucketOf (slice from past t)) E hs hp hx small refl fit) in
-        record {
-          entered = F;
-          distinct = record { same = λ i j hi hj e. apart i j (omega (arith, hi)) (omega (arith, hj)) (same-words-eq (after i) (after j) (sym (is-name-of t (set starts k from) (set pasts k past) (after i) j) ∙ e)) };
-          low = omega arith;
-          least = omega arith;
-          most = omega arith;
-          is = name-new t starts pasts k from past hs hp;
-          kept = name-kept t starts pasts k from past;
-        }
-
-  good-old : (j : ℕ) → latest (isName t starts pasts (slice from past t)) k ≡ suc j → Placing t starts pasts k (slice from past t) starts pasts ix (record { number = j; names = k })
-  good-old j e =
-      let l = latest-low test k j e in
-      record {
-        entered = E;
-        distinct = D;
-        low = l .0;
-        least = omega arith;
-        most = omega arith;
-        is = sym (same-words-eq (slice from past t) (nameIn t starts pasts j) (sym (is-name-of t starts pasts (slice from past t) j) ∙ l .1));
-        kept = λ i h. refl;
-      }
-
-  good-by : (n : ℕ) → latest (isName t starts pasts (slice from past t)) k ≡ n → GoodLeft t starts pasts k (slice from past t) (placedBy n t starts pasts ix k from past)
-  unfolding GoodLeft placedBy
-  good-by zero e = good-new e
-  good-by (suc j) e = good-old j e
-
-  good-all : GoodLeft t starts pasts k (slice from past t) (placing t starts pasts ix k from past)
-  unfolding placing
-  good-all = good-by (latest (isName t starts pasts (slice from past t)) k) refl
-
-  pub placing-good : (starts′ pasts′ ix′ : List ℕ) (r : Placed) → left starts′ pasts′ ix′ r ≡ placing t starts pasts ix k from past → Placing t starts pasts k (slice from past t) starts′ pasts′ ix′ r
-  unfolding GoodLeft
-  placing-good starts′ pasts′ ix′ r e = subst (GoodLeft t starts pasts k (slice from past t)) (sym e) good-all

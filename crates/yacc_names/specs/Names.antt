@@ -3,7 +3,6 @@
 use Prim.Native.Nat.{ℕ, zero, suc, _+_, _*_, _%_, _≤_, _<_}
 use mathlib.Core.Bool.{Bool, true, false}
 use mathlib.Core.List.{List, [], _∷_}
-use mathlib.Core.Path.{_≡_}
 use lib.ListN.{length, getD, set}
 use lib.Seq.{slice}
 use lib.Dec.{eqb}
@@ -46,10 +45,6 @@ pub record Entered (t starts pasts ix : List ℕ) (k : ℕ) : Type 0 where
   pub inside : (j : ℕ) → j < k → getD pasts j 0 ≤ length t
   pub linked : (b : ℕ) → b < bucketLimit → Linked ix bucketLimit (getD ix b 0) (newest (inBucket t starts pasts b) k)
 
--- no two of the first k names are the same
-pub record Distinct (t starts pasts : List ℕ) (k : ℕ) : Type 0 where
-  pub same : (i j : ℕ) → i < k → j < k → isName t starts pasts (nameIn t starts pasts i) j ≡ true → i ≡ j
-
 -- what `place` leaves: the words after it, and its answer
 pub data Left : Type 0 where
   left : List ℕ → List ℕ → List ℕ → Placed → Left
@@ -61,13 +56,3 @@ placedBy (suc j) t starts pasts ix k from past = left starts pasts ix (record { 
 
 unfoldable pub placing : List ℕ → List ℕ → List ℕ → List ℕ → ℕ → ℕ → ℕ → Left
 placing t starts pasts ix k from past = placedBy (latest (isName t starts pasts (slice from past t)) k) t starts pasts ix k from past
-
--- the names and the index after it: name `number` has those bytes, the names that were there are the same
-pub record Placing (t starts pasts : List ℕ) (k : ℕ) (bs starts′ pasts′ ix′ : List ℕ) (r : Placed) : Type 0 where
-  pub entered : Entered t starts′ pasts′ ix′ (r .names)
-  pub distinct : Distinct t starts′ pasts′ (r .names)
-  pub low : r .number < r .names
-  pub least : k ≤ r .names
-  pub most : r .names ≤ suc k
-  pub is : nameIn t starts′ pasts′ (r .number) ≡ bs
-  pub kept : (j : ℕ) → j < k → nameIn t starts′ pasts′ j ≡ nameIn t starts pasts j

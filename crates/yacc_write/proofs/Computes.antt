@@ -8,7 +8,7 @@ use Rattle.repr.specs.Listed.{symbolOfKind, symbolFits}
 use Rattle.table.specs.Words.{wordAt, records, stateArea, productionArea, loose, productionRecords, looseRecords, names, against, chainBy, chain}
 use Rattle.table.specs.Decoded.{productionChain, symbolChain, itemChain, edgeChain, symbolAt, itemAt, edgeAt, orZero, ownerOf, productionOf, stateOf, productionsOf, meaning}
 use Rattle.table.specs.Refusals.{row1, row2, isNonterminal, isState, isProduction, asSymbol, asItem, asEdge, row3, row4, row5, row6, row7, used, row8, offends, firstRow, checkOf}
-use Rattle.lines.specs.Lines.{numeralBy, numeral}
+use Rattle.numerals.specs.Numeral.{numeralBy, numeral}
 use Rattle.yacc_text.specs.Grammar.{spellId, spellToken, spellPiece, spellAll}
 use Rattle.yacc_write.specs.Text.{ascending, nameOf, tokenLine, productionLine, lines, spaced, line, piecesOf, textOf}
 use Rattle.yacc_write.specs.Outcome.{Outcome, writtenOf, writeOf}

@@ -11,7 +11,7 @@ use borrow.Author.Tests.{leb-true}
 use Rattle.repr.specs.Lists.{upFrom, below, every?, joined}
 use Rattle.repr.specs.Meaning.{Symbol, nonterminal, terminal, Production, Table, SymbolFits, All, ProductionFits, TableFits}
 use Rattle.repr.proofs.Tests.{every?-below}
-use Rattle.lines.specs.Lines.{numeralBy, numeral}
+use Rattle.numerals.specs.Numeral.{numeralBy, numeral}
 use Rattle.yacc_text.specs.Grammar.{isWhite, isLetter, isDigit, kindOf, blank?, goesOn, Id, named, quoted, Token, ident, token, start, mark, colon, bar, semi, Piece, white, comment, piece, Rule, rule, Def, tokens, File, idsTo, altsTo, ruleTo, rulesTo, defTo, defsTo, tokensOf, oneStart, spellId, spellToken, spellPiece, spellAll, tokensIn, okId, okToken, okPiece, stops, apartId, apartToken, apart, fits, Layout, spell, Sound}
 use Rattle.yacc_text.specs.Parse.{parse}
 use Rattle.yacc_text.proofs.Exact.{parse-complete}

@@ -10,7 +10,7 @@ use borrow.Author.Tests.{leb-true}
 use Rattle.repr.specs.Lists.{upFrom, below, every?}
 use Rattle.repr.specs.Meaning.{Symbol, nonterminal, terminal, Table, SymbolFits, TableFits}
 use Rattle.repr.proofs.Tests.{every?-below}
-use Rattle.lines.specs.Lines.{numeralBy, numeral}
+use Rattle.numerals.specs.Numeral.{numeralBy, numeral}
 use Rattle.yacc_text.specs.Grammar.{isWhite, isLetter, isDigit, kindOf, letter?, goesOn, spellId, allRun, okId}
 use Rattle.yacc_write.specs.Text.{nameOf}
 

@@ -13,7 +13,7 @@ use Rattle.repr.specs.Lists.{upFrom, below, mem, some?, every?}
 use Rattle.repr.specs.Meaning.{Symbol, nonterminal, terminal, sameSymbol}
 use Rattle.repr.proofs.Lists.{cases, mem-below, mem-cons-here, mem-cons-there, below-last}
 use Rattle.repr.proofs.Tests.{every?-below}
-use Rattle.lines.specs.Lines.{numeralBy, numeral}
+use Rattle.numerals.specs.Numeral.{numeralBy, numeral}
 use Rattle.yacc_text.specs.Grammar.{Id}
 use Rattle.yacc_read.specs.Source.{sameId}
 use Rattle.yacc_read.proofs.Ids.{by-test, knownId, numberId, enterId, enteredIds}

@@ -3,7 +3,7 @@ use Prim.Native.Nat.{ℕ, zero, suc}
 use mathlib.Core.List.{List, [], _∷_, map}
 use Rattle.repr.specs.Lists.{upFrom}
 use Rattle.repr.specs.Meaning.{terminal, Production, Table}
-use Rattle.lines.specs.Lines.{numeral}
+use Rattle.numerals.specs.Numeral.{numeral}
 use Rattle.yacc_text.specs.Grammar.{Id, Rule, rule, Def, tokens, File, Layout}
 use Rattle.yacc_write.specs.Text.{nameOf, piecesOf}
 

@@ -5,7 +5,7 @@ use mathlib.Core.List.{List, [], _∷_, _++_, map}
 use lib.Dec.{leb}
 use Rattle.repr.specs.Lists.{below, joined}
 use Rattle.repr.specs.Meaning.{Symbol, nonterminal, terminal, Production, Table}
-use Rattle.lines.specs.Lines.{numeral}
+use Rattle.numerals.specs.Numeral.{numeral}
 use Rattle.yacc_text.specs.Grammar.{Id, named, Token, ident, token, mark, colon, semi, Piece, white, piece, spellAll}
 
 -- 23: a nonterminal without productions, or whose first one is not above the one before's; from production lo on

@@ -1,0 +1,4 @@
+pub mod Packed
+pub mod Owned
+pub mod Areas
+pub mod Symbols

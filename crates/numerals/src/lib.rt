@@ -1,0 +1,1 @@
+// Decimal numerals as bytes (specs/Numeral).

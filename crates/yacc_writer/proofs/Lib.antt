@@ -1,0 +1,4 @@
+pub mod Laws
+pub mod Texts
+pub mod Turns
+pub mod Round
