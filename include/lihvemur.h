@@ -5,6 +5,7 @@
  *
  * A function answers 0, or the number of a refusal (docs/ANSWERS.md says what each means), and writes the refusal's place behind `place`, its last parameter.
  * Three numbers are no refusals: LIHVEMUR_END of `lihvemur_advance`, the same in the records of `lihvemur_examples`, and the answer of `lihvemur_observed`, 0 or 1, which refuses nothing.
+ * Refusal 16 of `lihvemur_build_states` has the number of LIHVEMUR_END; no call gives both.
  * A result behind another pointer is written only with answer 0, unless this header says otherwise.
  *
  * Stack: a trace, and so a class or a choice, calls on itself, at most 4,096 times nested; there 3,235 KiB were the least that sufficed. A thread of 2 MiB is too small; 8 MiB suffice for every call.
@@ -24,7 +25,9 @@ extern "C" {
 
 enum {
     LIHVEMUR_TABLE_WORDS = 32768,   /* a table at most (refusal 1) */
-    LIHVEMUR_SCRATCH_WORDS = 32000, /* scratch at least (refusal 11) */
+    LIHVEMUR_SCRATCH_WORDS = 32000, /* scratch at least (refusal 11), but where states are built */
+    LIHVEMUR_BUILD_WORDS = 64000,   /* scratch at least to build states (11) */
+    LIHVEMUR_CONFLICT_WORDS = 5,    /* a conflict of those that are built */
     LIHVEMUR_EXAMPLE_WORDS = 1158,  /* an example's buffer at least (11) */
     LIHVEMUR_GRAPH_WORDS = 8193,    /* a graph at least (11): a count, then its edges */
     LIHVEMUR_EDGE_WORDS = 8,        /* an edge of a graph */
@@ -45,6 +48,14 @@ uint16_t lihvemur_respell(const uint16_t *table, size_t table_words, uint16_t *o
 /* Takes back, in place, the records of an accepted table that no chain reaches; how many are left behind `records`. Those that are reached move down in their order and stay shared, indexes follow, and
  * every word behind them is 0. Refusals 1 to 8 alone; they change no word. The whole table and its front of that many records both mean what the table meant. */
 uint16_t lihvemur_compact(uint16_t *table, size_t table_words, uint16_t *records, uint16_t *place);
+
+/* Builds the canonical LR(1) states of a grammar, a table of one state that has no items and no edges, from production `start`: the full table at the front of `out`, in the spelling of
+ * `lihvemur_respell`, and its conflicts at the front of `conflicts`, LIHVEMUR_CONFLICT_WORDS each (state, production, action, its terminal or production, token), ascending; behind `records` how many
+ * records the table has, behind `count` how many conflicts there are. Refusals 1 to 8, then 11 for scratch, then 18 for a start production out of range or states already given, then, as states are
+ * found, 16 for the 129th and 17 where the records pass 8,192 or the room of `out` (its words divided by 4); at the end 17 also where `conflicts` has too few words. 1 to 11 change no word. Success and
+ * 16 to 18 zero the first LIHVEMUR_BUILD_WORDS of `scratch`; a refusal writes nothing in `out` and `conflicts`. */
+uint16_t lihvemur_build_states(const uint16_t *table, size_t table_words, uint16_t start, uint16_t *scratch, size_t scratch_words,
+                               uint16_t *out, size_t out_words, uint16_t *conflicts, size_t conflict_words, uint16_t *records, uint32_t *count, uint16_t *place);
 
 /* FIRST of a list of symbols, kind and number each (0 a nonterminal, 1 a terminal): with answer 0 its terminals behind `set`, and behind `nullable` whether the list may be empty. */
 uint16_t lihvemur_first0(const uint16_t *table, size_t table_words, const uint16_t *symbols, size_t symbol_words, uint64_t *set, bool *nullable, uint16_t *place);

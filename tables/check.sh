@@ -1,7 +1,8 @@
 #!/bin/sh
-# Tries the built programs words, explain, respell, text and compact on the tables of this folder and on inputs made here, and compares what they write.
+# Tries the built programs words, states, explain, respell, text and compact on the tables of this folder and on inputs made here, and compares what they write.
 # Where an expected output comes from: TABLE.out is what the Rust's explaining program writes for that table (`oracle explain`, oracle/README.md),
 # and so is every expected line below that is not a refusal; the refusals are document 01's rows, applied by hand where they stand.
+# GRAMMAR.out is what that program writes for the states and conflicts of the oracle's own reader of request 01, GRAMMAR.err what `explain.sh` says.
 cd "$(dirname "$0")/.." || exit 1
 work=$(mktemp -d) || exit 1
 trap 'rm -rf "$work"' EXIT
@@ -79,13 +80,71 @@ refuses() { # program, refusal and place
     verdict "$1 refused $2" $?
 }
 table_b 48 12 | typed
-for p in respell text compact; do refuses "$p" '3 12'; done
+for p in respell text compact states; do refuses "$p" '3 12'; done
 : >"$work/input"
-for p in respell text compact; do refuses "$p" '1 0'; done
+for p in respell text compact states; do refuses "$p" '1 0'; done
+# states already given; a start production out of range, and none
+{ table_b; echo 0; } | typed
+refuses states '18 0'
+for start in 3 ''; do
+    { sed '$d' tables/sum.grammar; echo "$start"; } | typed
+    refuses states '18 0'
+done
 # 128 states that share 8,062 edges: the spelling would have a million records
 { echo 8192; awk 'BEGIN { print "1 1 128 0  0 0 0 0"; for (s = 0; s < 128; s++) print "0 130 0 0"
     for (r = 130; r < 8192; r++) print (r < 8191 ? r + 1 : 0), 1, 0, 0 }'; } | typed
 refuses respell '17 0'
+
+# A grammar is explained from its text alone; where its states are not built `explain.sh` fails with the refusal, and where it has no conflicts it says so.
+for g in tables/*.grammar; do
+    : >"$work/expected"
+    [ ! -f "$g.err" ] || cp "$g.err" "$work/expected"
+    ! grep -q refused "$work/expected"
+    fails=$?
+    ./explain.sh "$g" >"$work/output" 2>"$work/said"
+    [ $? -eq "$fails" ] && cmp -s "$work/output" "$g.out" && cmp -s "$work/said" "$work/expected"
+    verdict "$g" $?
+done
+# The table that is built is its own spelling and has nothing to take back; the rest is passed on behind the conflicts.
+for g in dangling_else sum optional_part at_the_end levels; do
+    typed <"tables/$g.grammar"
+    through states
+    verdict "$g, states" $?
+    cp "$work/output" "$work/input"
+    through respell && cmp -s "$work/input" "$work/output"
+    verdict "$g, states, written afresh: its own words" $?
+    through compact && cmp -s "$work/input" "$work/output"
+    verdict "$g, states, compact: its own words" $?
+done
+# G = S, S = A and one of 63 terminals, and so many empty productions of A: with 46 of them there are 65,205 conflicts in state 0, with 47 more than there is room for.
+empties() { # how many
+    awk -v k="$1" 'BEGIN {
+        first = 5; symbols = first + 64 + k
+        print symbols + 127
+        print 3, 63, 1, 64 + k
+        print first, 0, 0, 0
+        print first + 1, 0, 0, 0
+        print first + 64, 0, 0, 0
+        print 0, 0, 0, 0
+        print 0, symbols, 0, 0
+        for (i = 1; i <= 63; i++) print (i < 63 ? first + i + 1 : 0), symbols + 2 * i - 1, 0, 0
+        for (j = 1; j <= k; j++) print (j < k ? first + 64 + j : 0), 0, 0, 0
+        print 0, 0, 1, 0
+        for (i = 1; i <= 63; i++) { print symbols + 2 * i, 0, 2, 0; print 0, 1, i - 1, 0 }
+        print 0
+    }'
+}
+awk 'BEGIN { for (p = 64; p < 110; p++) for (q = p + 1; q < 110; q++) for (t = 0; t < 63; t++) print 0, p, 1, q, t }' | target/bin/words >"$work/expected"
+empties 46 | typed
+through states && tail -c "$(wc -c <"$work/expected")" "$work/output" | cmp -s - "$work/expected"
+verdict "65,205 conflicts" $?
+empties 47 | typed
+refuses states '17 0'
+{ cat tables/sum.grammar; echo '4 1 0 0 0'; } | typed
+through states
+cp "$work/output" "$work/input"
+{ cat tables/sum.grammar.out; sed 's/^1 /2 /' tables/sum.grammar.out; } >"$work/expected"
+explains "a conflict typed behind a grammar comes after those found"
 
 # With unused records taken back the same is explained, from a table that has none and from one with records between and behind its own.
 compacted() { # name
@@ -268,6 +327,13 @@ for p in respell text; do
     [ ! -s "$work/output" ]
     verdict "$p of a folder, nothing written" $?
 done
+typed <tables/sum.grammar
+target/bin/states <"$work/input" >/dev/full 2>"$work/said"
+says "states to a full device" 'standard output'
+target/bin/states <tables >"$work/output" 2>"$work/said"
+says "states of a folder" 'standard input'
+[ ! -s "$work/output" ]
+verdict "states of a folder, nothing written" $?
 target/bin/explain <tables >"$work/output" 2>"$work/said"
 says "explain of a folder" 'standard input'
 [ ! -s "$work/output" ]

@@ -9,6 +9,8 @@ mod plain;
 mod rewrites;
 #[path = "../driver/src/side.rs"]
 mod side;
+#[path = "../driver/src/states.rs"]
+mod states;
 #[path = "../driver/src/table.rs"]
 mod table;
 

@@ -7,7 +7,7 @@
 
 enum {
     UNWRITTEN = 0x5A5A,
-    LENT = LIHVEMUR_SCRATCH_WORDS + 2, /* words of each buffer here, some more than any call is lent */
+    LENT = LIHVEMUR_BUILD_WORDS + 2, /* words of each buffer here, some more than any call is lent */
     TOKEN_0 = 1,
     TOKEN_1 = 2,
     TOKEN_END = 4
@@ -24,6 +24,18 @@ static const uint16_t B[] = {
 
 /* B with record 12's next index 12: refusal 3 at place 12. */
 static uint16_t bad[COUNT(B)];
+
+/* The grammar of B alone, and its table with the six states from production 0: state 4, behind E + E, has the one conflict. */
+static const uint16_t GRAMMAR[] = {
+    1, 2, 1, 2, 3, 0, 0, 0, 0, 0, 0, 0, 4, 5, 0, 9, 0, 8, 12, 13, 6, 0, 0, 0,
+    7, 1, 0, 0, 0, 0, 0, 0, 0, 1, 1, 0};
+static const uint16_t BUILT[] = {
+    1, 2, 6, 2, 8, 0, 0, 0, 14, 24, 0, 0, 16, 26, 0, 0, 17, 0, 0, 0, 18, 27, 0, 0,
+    21, 29, 0, 0, 23, 0, 0, 0, 9, 10, 0, 9, 0, 13, 12, 13, 11, 0, 0, 0, 12, 1, 0, 0,
+    0, 0, 0, 0, 0, 1, 1, 0, 15, 0, 0, 0, 0, 1, 0, 0, 0, 0, 1, 0, 0, 1, 1, 0,
+    19, 0, 0, 0, 20, 0, 2, 0, 0, 1, 0, 0, 22, 0, 1, 0, 0, 0, 3, 0, 0, 1, 1, 0,
+    25, 0, 0, 1, 0, 1, 1, 2, 0, 1, 0, 3, 28, 0, 0, 4, 0, 1, 1, 5, 0, 1, 0, 3};
+static const uint16_t CONFLICT[] = {4, 0, 0, 0, 0};
 
 /* Symbols, kind and number each. */
 static const uint16_t E[] = {0, 0}, E_PLUS_E[] = {0, 0, 1, 0, 0, 0}, NOTHING[] = {0};
@@ -76,9 +88,14 @@ static bool begins(const uint16_t *words, const uint16_t *front, size_t n)
 }
 
 /* Zeroed as far as a call asks for it, and not past that. */
+static bool zeroed_to(const uint16_t *words, size_t n)
+{
+    return all(words, 0, n, 0) && all(words, n, LENT, UNWRITTEN);
+}
+
 static bool zeroed(const uint16_t *words)
 {
-    return all(words, 0, LIHVEMUR_SCRATCH_WORDS, 0) && all(words, LIHVEMUR_SCRATCH_WORDS, LENT, UNWRITTEN);
+    return zeroed_to(words, LIHVEMUR_SCRATCH_WORDS);
 }
 
 static void lend_graph(const uint16_t *words, size_t n)
@@ -145,6 +162,46 @@ static void compact(void)
     memcpy(other, bad, sizeof bad);
     records = UNWRITTEN;
     EXPECT(lihvemur_compact(other, COUNT(bad), &records, &place) == 3 && place == 12 && records == UNWRITTEN && memcmp(other, bad, sizeof bad) == 0);
+}
+
+typedef struct {
+    uint16_t refusal, records;
+    uint32_t count;
+} built;
+
+/* States built, with so many words lent. */
+static built build(const uint16_t *table, size_t words, uint16_t start, size_t scratch_words, size_t out_words, size_t conflict_words)
+{
+    built b = {0, UNWRITTEN, UNWRITTEN};
+    fresh();
+    b.refusal = lihvemur_build_states(table, words, start, scratch, scratch_words, output, out_words, action, conflict_words, &b.records, &b.count, &place);
+    return b;
+}
+
+/* A refusal writes nothing. */
+static bool not_built(built b, uint16_t refusal, uint16_t at)
+{
+    return b.refusal == refusal && place == at && b.records == UNWRITTEN && b.count == UNWRITTEN && untouched(output) && untouched(action);
+}
+
+/* From 16 on scratch is zeroed, else it stays. */
+static void build_states(void)
+{
+    built b = build(GRAMMAR, COUNT(GRAMMAR), 0, LIHVEMUR_BUILD_WORDS, COUNT(BUILT), COUNT(CONFLICT));
+    EXPECT(b.refusal == 0 && place == 0 && b.records == COUNT(BUILT) / 4 && b.count == 1 && zeroed_to(scratch, LIHVEMUR_BUILD_WORDS));
+    EXPECT(begins(output, BUILT, COUNT(BUILT)) && begins(action, CONFLICT, COUNT(CONFLICT)));
+    b = build(GRAMMAR, COUNT(GRAMMAR), 0, LIHVEMUR_BUILD_WORDS, COUNT(BUILT) - 1, COUNT(CONFLICT));
+    EXPECT(not_built(b, 17, 0) && zeroed_to(scratch, LIHVEMUR_BUILD_WORDS));
+    b = build(GRAMMAR, COUNT(GRAMMAR), 0, LIHVEMUR_BUILD_WORDS, COUNT(BUILT), COUNT(CONFLICT) - 1);
+    EXPECT(not_built(b, 17, 0) && zeroed_to(scratch, LIHVEMUR_BUILD_WORDS));
+    b = build(GRAMMAR, COUNT(GRAMMAR), 2, LIHVEMUR_BUILD_WORDS, COUNT(BUILT), COUNT(CONFLICT));
+    EXPECT(not_built(b, 18, 0) && zeroed_to(scratch, LIHVEMUR_BUILD_WORDS));
+    b = build(B, COUNT(B), 0, LIHVEMUR_BUILD_WORDS, COUNT(BUILT), COUNT(CONFLICT));
+    EXPECT(not_built(b, 18, 0) && zeroed_to(scratch, LIHVEMUR_BUILD_WORDS));
+    b = build(GRAMMAR, COUNT(GRAMMAR), 2, LIHVEMUR_BUILD_WORDS - 1, COUNT(BUILT), COUNT(CONFLICT));
+    EXPECT(not_built(b, 11, 0) && untouched(scratch));
+    b = build(bad, COUNT(bad), 0, LIHVEMUR_BUILD_WORDS - 1, COUNT(BUILT), COUNT(CONFLICT));
+    EXPECT(not_built(b, 3, 12) && untouched(scratch));
 }
 
 static void first0(void)
@@ -375,6 +432,7 @@ int main(void)
     check();
     respell();
     compact();
+    build_states();
     first0();
     first0_joined();
     first1();

@@ -1,10 +1,10 @@
 -- Every conflict in the list is one that `classify` does not refuse by 1 to 11 on the table that is written. Assumes nothing.
-use mathlib.Core.Path.{_≡_, refl, sym, ap, _∙_}
-use mathlib.Core.Bool.{Bool, true, false, _&&_}
+use mathlib.Core.Path.{_≡_, _∙_}
+use mathlib.Core.Bool.{true, false}
 use mathlib.Core.List.{List, [], map, List·Memᴰ}
-use Prim.Native.Nat.{ℕ, zero, suc, _≤_, _<_}
+use Prim.Native.Nat.{ℕ, _≤_, _<_}
 use native.Mathlib.Omega.{arith}
-use lib.Dec.{eqb, ltb, leb}
+use lib.Dec.{eqb, ltb}
 use lib.ListN.{length, getD}
 use borrow.Author.Tests.{eqb-true, ne-eqb, lt-ltb, le-leb}
 use Rattle.repr.specs.Lists.{below}
@@ -18,18 +18,15 @@ use Rattle.table.proofs.Decoding.{fits}
 use Rattle.spelling.specs.Spelled.{spell}
 use Rattle.error.specs.declared.Conflict.{Conflict}
 use Rattle.error.specs.Sides.{gather}
-use Rattle.error.specs.Outcome.{Outcome, operandFits, placeFits, conflictFits, shiftsEnd, gatheredOutcome, classifyIn, classifyBy, classifyOf}
+use Rattle.error.specs.Outcome.{operandFits, placeFits, conflictFits, shiftsEnd, gatheredOutcome, classifyIn, classifyBy, classifyOf}
 use Rattle.build.specs.Canonical.{Clash}
 use Rattle.build.specs.States.{built, build, clashes}
 use Rattle.build.specs.Built.{builtState, builtTable}
 use Rattle.build.specs.Outcome.{full, outcome}
 use Rattle.build.proofs.Built.{ClashFits, clash-fits}
 use Rattle.build.proofs.Refusals.{outcome-full}
+use Rattle.builder.specs.Canonical.{conflictOf}
 use Rattle.builder.proofs.Written.{build-accepted, build-meaning}
-
--- a conflict of state k as `classify` takes it
-abbrev pub conflictOf : ℕ → Clash → Conflict
-conflictOf k c = record { state = record { 0 = k }; production = record { 0 = c .production }; action = c .action; operand = c .other; token = c .token }
 
 operand-shift : (T : Table) (a o : ℕ) → a ≡ 0 → o < T .terminals → operandFits T a o ≡ true
 unfolding operandFits

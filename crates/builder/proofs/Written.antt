@@ -1,14 +1,13 @@
 -- The table that is written is accepted, means what was built and is its own spelling; its records are those that were counted. Assumes nothing.
 use mathlib.Core.Path.{_≡_, refl, sym, ap, _∙_}
-use mathlib.Core.Bool.{true, false}
-use mathlib.Core.List.{List, [], _∷_, _++_, map}
-use Prim.Native.Nat.{ℕ, zero, suc, _+_, _*_, _≤_, _<_, min}
+use mathlib.Core.List.{List, [], _∷_, map}
+use Prim.Native.Nat.{ℕ, _+_, _≤_, _<_, min}
 use native.Mathlib.Omega.{arith}
-use lib.ListN.{length, getD}
+use lib.ListN.{length}
 use lib.Seq.{ext-getD}
 use Rattle.repr.specs.Sizes.{recordLimit}
 use Rattle.repr.specs.Lists.{below}
-use Rattle.repr.specs.Meaning.{Production, Item, Edge, State, Table, noState, TableFits}
+use Rattle.repr.specs.Meaning.{Production, Edge, State, Table, noState, TableFits}
 use Rattle.repr.proofs.Lists.{length-mapped, length-map-below, getD-map, getD-map-below}
 use Rattle.table.specs.Decoded.{meaning}
 use Rattle.table.specs.Refusals.{checkOf}
@@ -19,7 +18,7 @@ use Rattle.spelling.proofs.Accepted.{spell-accepted}
 use Rattle.spelling.proofs.Meaning.{spell-meaning}
 use Rattle.spelling.proofs.Rising.{meaning-ordered}
 use Rattle.spelling.proofs.Same.{ordered-parts}
-use Rattle.build.specs.States.{built, build, written, clashes}
+use Rattle.build.specs.States.{built, build, written}
 use Rattle.build.specs.Built.{builtState, builtTable}
 use Rattle.build.specs.Outcome.{sum, records, full, outcome}
 use Rattle.build.proofs.Collection.{build-right}
@@ -28,7 +27,7 @@ use Rattle.build.proofs.Refusals.{outcome-full}
 
 -- records counted as found and as spelled
 
-size-map {ℓ} : {A : Type ℓ} {B : Type 0} (f : A → List B) (xs : List A) → sizeOf (map f xs) ≡ sum (λ x. length (f x)) xs
+pub size-map {ℓ} : {A : Type ℓ} {B : Type 0} (f : A → List B) (xs : List A) → sizeOf (map f xs) ≡ sum (λ x. length (f x)) xs
 unfolding sizeOf sum
 size-map f [] = refl
 size-map f (x ∷ xs) = ap (λ (n : ℕ). length (f x) + n) (size-map f xs)
@@ -42,7 +41,7 @@ module _ (T : Table) (Rs : List (List ℕ)) (es : List (List Edge)) where
   abbrev U : Table
   U = builtTable T Rs es
 
-  items-are : itemLists U ≡ map written Rs
+  pub items-are : itemLists U ≡ map written Rs
   unfolding builtTable builtState
   items-are =
       ext-getD [] (map (λ (s : State). s .items) (map (builtState Rs es) (below (length Rs)))) (map written Rs)
@@ -53,7 +52,7 @@ module _ (T : Table) (Rs : List (List ℕ)) (es : List (List Edge)) where
       ∙ ap (λ (s : State). s .items) (getD-map-below (builtState Rs es) (length Rs) i noState l)
       ∙ sym (getD-map written Rs i [] [] l))
 
-  edges-are : length es ≡ length Rs → edgeLists U ≡ es
+  pub edges-are : length es ≡ length Rs → edgeLists U ≡ es
   unfolding builtTable builtState
   edges-are e =
       ext-getD [] (map (λ (s : State). s .edges) (map (builtState Rs es) (below (length Rs)))) es

@@ -4,7 +4,7 @@ use mathlib.Core.Bool.{Bool, true, false, _&&_}
 use mathlib.Core.List.{List}
 use lib.ListN.{length}
 use lib.Dec.{eqb, ltb}
-use Rattle.repr.specs.Meaning.{Edge, State, Table, stateAt}
+use Rattle.repr.specs.Meaning.{Table, stateAt}
 use Rattle.slices.specs.Lent.{inFront, zeroed}
 use Rattle.table.specs.Decoded.{meaning}
 use Rattle.table.specs.Refusals.{checkOf}

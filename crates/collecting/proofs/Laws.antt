@@ -13,7 +13,7 @@ use Rattle.repr.specs.Lists.{upFrom, below, mem}
 use Rattle.repr.specs.Meaning.{Edge, Table}
 use Rattle.repr.proofs.Lists.{cases, below-last, length-map-below, mem-cons-here, mem-cons-there, mem-below}
 use Rattle.build.specs.States.{tried}
-use Rattle.states.specs.Made.{Holds}
+use Rattle.kept_states.specs.Made.{Holds}
 use Rattle.finding.specs.Steps.{Told, stopped, told, takeTo, Found, halts, found, collectTo}
 use Rattle.finding.specs.Search.{Search}
 use Rattle.finding.proofs.Steps.{to-end, to-halt, to-more}

@@ -5,7 +5,7 @@ use mathlib.Core.List.{List, map}
 use lib.ListN.{length, getD}
 use Rattle.repr.specs.Lists.{below}
 use Rattle.repr.specs.Meaning.{Edge, Table}
-use Rattle.states.specs.Made.{Holds}
+use Rattle.kept_states.specs.Made.{Holds}
 use Rattle.finding.specs.Steps.{Found, halts, found}
 use Rattle.taking.specs.Taking.{edgesIn}
 use Rattle.collecting.specs.declared.States.{States}

@@ -15,8 +15,8 @@ use Rattle.build.specs.Canonical.{Clash}
 use Rattle.build.specs.States.{clashes}
 use Rattle.build.specs.Built.{clashWords, conflictWords}
 use Rattle.build.specs.Outcome.{sum}
-use Rattle.states.proofs.Holds.{sum-append}
-use Rattle.conflicts.proofs.Counts.{joined-more, joined-end, joined-start}
+use Rattle.kept_states.proofs.Holds.{sum-append}
+use Rattle.conflict_counts.proofs.Counts.{joined-more, joined-end, joined-start}
 use Rattle.conflict_list.specs.Listed.{stateWords}
 
 -- what is left to write, from state k of n on

@@ -1,6 +1,6 @@
 // The list of conflicts: those of all states, five words each (`conflictWords` of specs/Built of build).
 use conflict_words::write_state;
-use states::unpack;
+use kept_states::unpack;
 ghost use mathlib.Core.Path.{_≡_};
 ghost use Prim.Native.Nat.{_+_, _≤_, _<_};
 ghost use lib.ListN.{length};

@@ -18,8 +18,8 @@ use Rattle.example.specs.Written.{putAt}
 use Rattle.example.proofs.Put.{Turn, turn-start, turn-room, turn-next, turn-end}
 use Rattle.build.specs.Built.{clashWords}
 use Rattle.clashing.specs.Clashes.{shiftClash, reduceClash}
-use Rattle.conflicts.specs.Clashed.{pairsIn, clashesIn}
-use Rattle.conflicts.proofs.Counts.{pairs-more, pairs-end, joined-more, joined-end}
+use Rattle.conflict_counts.specs.Clashed.{pairsIn, clashesIn}
+use Rattle.conflict_counts.proofs.Counts.{pairs-more, pairs-end, joined-more, joined-end}
 use Rattle.conflict_words.specs.Tokens.{otherOf, tokenWords}
 
 -- one conflict

@@ -1,8 +1,8 @@
 // The conflicts of a state in words, five each (`clashWords` of specs/Built of build), one behind the other from a place of the list on.
-use conflicts::common;
-use conflicts::reductions;
-use conflicts::shift_set;
-use conflicts::shifts_of;
+use conflict_counts::common;
+use conflict_counts::reductions;
+use conflict_counts::shift_set;
+use conflict_counts::shifts_of;
 use core::Item;
 use lookahead::NextToken;
 use lookahead::TokenSet;
@@ -20,7 +20,7 @@ ghost use Rattle.build.specs.States.{clashes};
 ghost use Rattle.build.specs.Built.{clashWords};
 ghost use Rattle.closing.specs.Grammar.{Grammar};
 ghost use Rattle.closing.specs.Fed.{Flat};
-ghost use Rattle.conflicts.specs.Clashed.{pairsIn, clashesIn};
+ghost use Rattle.conflict_counts.specs.Clashed.{pairsIn, clashesIn};
 ghost use Rattle.conflict_words.specs.Tokens.{otherOf, tokenWords};
 
 // A conflict without its token: action 0 shifts it, 1 reduces by production `other`.

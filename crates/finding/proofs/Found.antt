@@ -22,10 +22,10 @@ use Rattle.build.proofs.Goto.{length-moved, moved-sized}
 use Rattle.closing.specs.Grammar.{Grammar, symbolCode}
 use Rattle.stored.specs.Stored.{Entry, entryAt, entries, held, packed, movedOver}
 use Rattle.stored.proofs.Packed.{held-none, held-some, packed-moved}
-use Rattle.states.specs.Kept.{putAll, stateIn, statesIn, Begun, kernelPlace}
-use Rattle.states.specs.Made.{Made, next, Holds}
-use Rattle.states.proofs.Holds.{holds-more, length-packed, sum-append, holds-counted, holds-place}
-use Rattle.states.proofs.Kernels.{made-sized, moved-kernel}
+use Rattle.kept_states.specs.Kept.{putAll, stateIn, statesIn, Begun, kernelPlace}
+use Rattle.kept_states.specs.Made.{Made, next, Holds}
+use Rattle.kept_states.proofs.Holds.{holds-more, length-packed, sum-append, holds-counted, holds-place}
+use Rattle.kept_states.proofs.Kernels.{made-sized, moved-kernel}
 use Rattle.finding.specs.Steps.{Reach, nowhere, stops, reach, addTo, gotoTo}
 use Rattle.finding.specs.Search.{KernelIn, Stored, Search, Keeps, Reached, symbolOfCode, CodeFits}
 use Rattle.finding.specs.declared.Goto.{Goto}

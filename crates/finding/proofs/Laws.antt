@@ -20,8 +20,8 @@ use Rattle.closing.specs.Grammar.{Grammar, Held}
 use Rattle.closing.specs.Fed.{Flat}
 use Rattle.stored.specs.Stored.{Entry, noEntry, entryAt, entries, held, packed}
 use Rattle.stored.proofs.Packed.{held-none, held-some}
-use Rattle.states.specs.Kept.{unpacked, putAll}
-use Rattle.states.proofs.Flat.{unpacked-packed}
+use Rattle.kept_states.specs.Kept.{unpacked, putAll}
+use Rattle.kept_states.proofs.Flat.{unpacked-packed}
 use Rattle.finding.specs.Search.{KernelIn, Stored}
 
 -- `append`

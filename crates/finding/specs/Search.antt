@@ -10,8 +10,8 @@ use Rattle.repr.specs.Meaning.{Symbol, nonterminal, terminal, Production, Table
 use Rattle.closing.specs.Grammar.{Grammar}
 use Rattle.build.specs.Outcome.{sum}
 use Rattle.stored.specs.Stored.{Entry, entries, packed}
-use Rattle.states.specs.Kept.{putAll}
-use Rattle.states.specs.Made.{Holds}
+use Rattle.kept_states.specs.Kept.{putAll}
+use Rattle.kept_states.specs.Made.{Holds}
 use Rattle.finding.specs.Steps.{Reach, nowhere, stops, reach}
 use Rattle.finding.specs.declared.Goto.{Goto}
 use Rattle.finding.specs.declared.Goto.the-variants.{Nowhere, To, Stops}

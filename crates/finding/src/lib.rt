@@ -1,12 +1,12 @@
 // Finding the states (`build_states` of lr1/build as far as states and edges): specs/Steps says what is found, specs/Search what stands in the words.
 use closing::transitive_closure;
 use core::Item;
+use kept_states::State;
+use kept_states::count_items;
+use kept_states::find;
+use kept_states::pack;
+use kept_states::unpack;
 use repr::ProductionIndex;
-use states::State;
-use states::count_items;
-use states::find;
-use states::pack;
-use states::unpack;
 use stored::move_over;
 ghost use mathlib.Core.Path.{_≡_};
 ghost use mathlib.Core.Bool.{Bool, true, false};
@@ -18,7 +18,7 @@ ghost use Rattle.repr.specs.Meaning.{Table};
 ghost use Rattle.closing.specs.Grammar.{Grammar, Held};
 ghost use Rattle.build.specs.States.{closure, place};
 ghost use Rattle.stored.specs.Stored.{entries, packed};
-ghost use Rattle.states.specs.Made.{Made};
+ghost use Rattle.kept_states.specs.Made.{Made};
 ghost use Rattle.finding.specs.Steps.{addTo, gotoTo};
 ghost use Rattle.finding.specs.Search.{KernelIn, Stored, Search, CodeFits, symbolOfCode, Reached};
 

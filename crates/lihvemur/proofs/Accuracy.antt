@@ -16,6 +16,7 @@ use Rattle.spelling.proofs.Wrote.{respell-accepted}
 use Rattle.compaction.specs.Outcome.{compactOf}
 use Rattle.compaction.specs.declared.Compacted.the-variants.{Records}
 use Rattle.compaction.proofs.Called.{left, left-accepted, left-meaning, front-accepted, front-meaning}
+use Rattle.builder.specs.Outcome.{buildOf}
 use Rattle.lr1.specs.Entries.{overTable, first0Of, first1Of, traceBackOf}
 use Rattle.lr1.specs.Edges.{addEdgeOf}
 use Rattle.tracer.specs.Outcome.{traceBy, shiftOf, reduceOf}
@@ -34,6 +35,10 @@ use Rattle.lihvemur.specs.Accuracy.{SameAnswers}
 module _ (t u : List ℕ) (a : checkOf t ≡ Accepted) (b : checkOf u ≡ Accepted) (m : meaning t ≡ meaning u) where
   respell-same : (out : List ℕ) → respellOf t out ≡ respellOf u out
   respell-same out = respell-accepted t out a ∙ ap (λ (T : Table). writtenOf T out) m ∙ sym (respell-accepted u out b)
+
+  build-same : (start : ℕ) (scratch out conflicts : List ℕ) → buildOf t start scratch out conflicts ≡ buildOf u start scratch out conflicts
+  unfolding buildOf
+  build-same start scratch out conflicts = rw (a, b, m, buildOf)
 
   first0-same : (symbols : List ℕ) → first0Of t symbols ≡ first0Of u symbols
   unfolding first0Of overTable
@@ -100,6 +105,7 @@ module _ (t u : List ℕ) (a : checkOf t ≡ Accepted) (b : checkOf u ≡ Accept
   all-same : SameAnswers t u
   all-same = record {
     respell = respell-same;
+    build-states = build-same;
     first0 = first0-same;
     first0-joined = λ xs ys. first0-same (xs ++ ys);
     first1 = first1-same;

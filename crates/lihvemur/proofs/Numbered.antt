@@ -11,6 +11,9 @@ use Rattle.spelling.specs.declared.Respelled.the-variants.{Records, Refused as 
 use Rattle.compaction.specs.Outcome.{Outcome as Compaction}
 use Rattle.compaction.specs.declared.Compacted.{Compacted}
 use Rattle.compaction.specs.declared.Compacted.the-variants.{Records as Left, Refused as NotCompacted}
+use Rattle.builder.specs.Outcome.{Left as Building}
+use Rattle.builder.specs.declared.Built.{Built}
+use Rattle.builder.specs.declared.Built.the-variants.{States as Full, Refused as NotBuilt}
 use Rattle.lookahead.specs.declared.TokenSet.{TokenSet}
 use Rattle.state_graph.specs.declared.StateSet.{StateSet}
 use Rattle.state_graph.specs.States.{statesIn}
@@ -28,7 +31,7 @@ use Rattle.lr1.specs.declared.AddEdge.the-variants.{Edges as GraphEdges, Refuse
 use Rattle.tracer.specs.Outcome.{Outcome, outcome}
 use Rattle.tracer.specs.declared.Backtrace.{Backtrace}
 use Rattle.tracer.specs.declared.Backtrace.the-variants.{Edges as TraceEdges, Refused as NoTrace}
-use Rattle.lihvemur.specs.Exported.{numbers, checkNumbers, spellNumbers, respellNumbers, compactNumbers, setNumbers, followedNumbers, answerNumbers, firstNumbers, stateNumbers, walkNumbers, addNumbers, edgeNumbers, traceNumbers, backtraceNumbers}
+use Rattle.lihvemur.specs.Exported.{numbers, checkNumbers, spellNumbers, respellNumbers, compactNumbers, buildNumbers, builtNumbers, setNumbers, followedNumbers, answerNumbers, firstNumbers, stateNumbers, walkNumbers, addNumbers, edgeNumbers, traceNumbers, backtraceNumbers}
 
 -- c: what the entry answers, d: what its contract says it is
 module _ (c d : Checked) (e : c ≡ d) where
@@ -57,6 +60,15 @@ module _ (old : ℕ) (c : Compacted) (words : List ℕ) (d : Compaction) (e : re
   pub compact-refused : (n r : ℕ) → c ≡ NotCompacted n r → spellNumbers n r old words ≡ compactNumbers old d
   unfolding compactNumbers
   compact-refused n r h = rw (← e, h)
+
+module _ (records count : ℕ) (c : Built) (ss os cs : List ℕ) (d : Building) (e : record { answer = c; scratch = ss; out = os; conflicts = cs } ≡ d) where
+  pub build-made : (written found : ℕ) → c ≡ Full written found → buildNumbers 0 0 written found ss os cs ≡ builtNumbers records count d
+  unfolding builtNumbers
+  build-made written found h = rw (← e, h)
+
+  pub build-refused : (n r : ℕ) → c ≡ NotBuilt n r → buildNumbers n r records count ss os cs ≡ builtNumbers records count d
+  unfolding builtNumbers
+  build-refused n r h = rw (← e, h)
 
 module _ (old : ℕ) (was : Bool) (c d : First) (e : c ≡ d) where
   pub first-answered : (a : Answer) → c ≡ Answered a → answerNumbers 0 0 (a .tokens .0) (a .nullable) ≡ firstNumbers old was d

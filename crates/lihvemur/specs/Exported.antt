@@ -9,6 +9,8 @@ use Rattle.spelling.specs.Outcome.{Outcome as Spelling}
 use Rattle.spelling.specs.declared.Respelled.the-variants.{Records, Refused as NotSpelled}
 use Rattle.compaction.specs.Outcome.{Outcome as Compaction}
 use Rattle.compaction.specs.declared.Compacted.the-variants.{Records as Left, Refused as NotCompacted}
+use Rattle.builder.specs.Outcome.{Left as Building}
+use Rattle.builder.specs.declared.Built.the-variants.{States as Full, Refused as NotBuilt}
 use Rattle.state_graph.specs.States.{statesIn}
 use Rattle.lr1.specs.declared.First.{First}
 use Rattle.lr1.specs.declared.First.the-variants.{Answered, Refused as NoAnswer}
@@ -39,6 +41,16 @@ respellNumbers old o = elim (o .answer) [ Records count ↦ spellNumbers 0 0 cou
 
 unfoldable pub compactNumbers : ℕ → Compaction → SpellNumbers
 compactNumbers old o = elim (o .answer) [ Left count ↦ spellNumbers 0 0 count (o .table) | NotCompacted n r ↦ spellNumbers n r old (o .table) ]
+
+-- refusal, place, number of records, number of conflicts, scratch words, and the words written of the table and of the conflicts
+pub data BuildNumbers : Type 0 where
+  buildNumbers : ℕ → ℕ → ℕ → ℕ → List ℕ → List ℕ → List ℕ → BuildNumbers
+
+unfoldable pub builtNumbers : ℕ → ℕ → Building → BuildNumbers
+builtNumbers records count o = elim (o .answer) [
+  | Full written found ↦ buildNumbers 0 0 written found (o .scratch) (o .out) (o .conflicts)
+  | NotBuilt n r ↦ buildNumbers n r records count (o .scratch) (o .out) (o .conflicts)
+]
 
 -- refusal, place and set; the set as it was where the call is refused
 pub data SetNumbers : Type 0 where

@@ -3,6 +3,7 @@
 pub mod conflicts;
 pub mod examples;
 
+use builder::Built;
 use compaction::Compacted;
 use lookahead::TokenSet;
 use lr1::AddEdge;
@@ -20,11 +21,12 @@ ghost use mathlib.Core.List.{_++_};
 ghost use Rattle.table.specs.Refusals.{checkOf};
 ghost use Rattle.spelling.specs.Outcome.{respellOf};
 ghost use Rattle.compaction.specs.Outcome.{compactOf};
+ghost use Rattle.builder.specs.Outcome.{buildOf};
 ghost use Rattle.state_graph.specs.States.{statesIn};
 ghost use Rattle.lr1.specs.Entries.{first0Of, first1Of, traceBackOf};
 ghost use Rattle.lr1.specs.Edges.{addEdgeOf};
 ghost use Rattle.tracer.specs.Outcome.{shiftOf, reduceOf};
-ghost use Rattle.lihvemur.specs.Exported.{numbers, checkNumbers, spellNumbers, respellNumbers, compactNumbers, setNumbers, followedNumbers, answerNumbers, firstNumbers, stateNumbers, walkNumbers, addNumbers, edgeNumbers, traceNumbers, backtraceNumbers};
+ghost use Rattle.lihvemur.specs.Exported.{numbers, checkNumbers, spellNumbers, respellNumbers, compactNumbers, buildNumbers, builtNumbers, setNumbers, followedNumbers, answerNumbers, firstNumbers, stateNumbers, walkNumbers, addNumbers, edgeNumbers, traceNumbers, backtraceNumbers};
 
 #[no_mangle]
 pub extern "C" fn lihvemur_check(table: &[u16], place: &mut u16) -> u16
@@ -75,6 +77,34 @@ pub extern "C" fn lihvemur_compact(table: &mut [u16], records: &mut u16, place: 
             0
         }
         Compacted::Refused(refusal, at) => {
+            *place = at;
+            refusal
+        }
+    }
+}
+
+// The number of conflicts may pass 65,535, so it has 32 bits.
+#[no_mangle]
+pub extern "C" fn lihvemur_build_states(
+    table: &[u16],
+    start: u16,
+    scratch: &mut [u16],
+    out: &mut [u16],
+    conflicts: &mut [u16],
+    records: &mut u16,
+    count: &mut u32,
+    place: &mut u16,
+) -> u16
+    ensures { λ r. ⌜ buildNumbers r (now (place .exit)) (now (records .exit)) (now (count .exit)) (now (scratch .exit)) (now (out .exit)) (now (conflicts .exit)) ≡ builtNumbers (now (records .entry)) (now (count .entry)) (buildOf (now (table .entry)) start (now (scratch .entry)) (now (out .entry)) (now (conflicts .entry))) ⌝ }
+{
+    match lr1::build_states(table, ProductionIndex(start), scratch, out, conflicts) {
+        Built::States(written, found) => {
+            *place = 0;
+            *records = written;
+            *count = found;
+            0
+        }
+        Built::Refused(refusal, at) => {
             *place = at;
             refusal
         }

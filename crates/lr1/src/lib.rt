@@ -1,5 +1,6 @@
-// The public surface. Every entry is total, refuses by document 01's table of refusals, and is equated with a definition of specs/Entries, specs/Edges or the specs/Outcome of tracer, of spelling and of compaction.
+// The public surface. Every entry is total, refuses by document 01's table of refusals, and is equated with a definition of specs/Entries, specs/Edges or the specs/Outcome of tracer, of spelling, of compaction and of builder.
 // Parameters: table, then numbers, then lent lists.
+use builder::Built;
 use compaction::Compacted;
 use first::Answer;
 use first::FirstSets;
@@ -29,6 +30,7 @@ ghost use Rattle.table.specs.Decoded.{meaning};
 ghost use Rattle.table.specs.Refusals.{checkOf};
 ghost use Rattle.spelling.specs.Outcome.{respellOf};
 ghost use Rattle.compaction.specs.Outcome.{compactOf};
+ghost use Rattle.builder.specs.Outcome.{buildOf};
 ghost use Rattle.trace_graph.specs.Nodes.{nodeValue};
 ghost use Rattle.tracer.specs.Outcome.{outcome, shiftOf, reduceOf};
 ghost use Rattle.lr1.specs.Edges.{edgeOutcome, addEdgeIn, addEdgeOf};
@@ -55,6 +57,20 @@ pub fn compact(table: &mut [u16]) -> Compacted
     ensures { λ r. ⌜ record { answer = r; table = now (table .exit) } ≡ compactOf (now (table .entry)) ⌝ }
 {
     compaction::compact(table)
+}
+
+// Builds the canonical LR(1) states of a grammar, a table of one state without items and edges (Req 01), from a start production: the full table at the front of `out`, its conflicts, five words
+// each, at the front of `conflicts`; answers how many records and how many conflicts. Refusals 1 to 8, 11, 18, then 16 or 17 as states are found; from 16 on scratch is zeroed, as with success.
+pub fn build_states(
+    table: &[u16],
+    start: ProductionIndex,
+    scratch: &mut [u16],
+    out: &mut [u16],
+    conflicts: &mut [u16],
+) -> Built
+    ensures { λ r. ⌜ record { answer = r; scratch = now (scratch .exit); out = now (out .exit); conflicts = now (conflicts .exit) } ≡ buildOf (now (table .entry)) (start .0) (now (scratch .entry)) (now (out .entry)) (now (conflicts .entry)) ⌝ }
+{
+    builder::build_states(table, start, scratch, out, conflicts)
 }
 
 // FIRST of a list; else the refusal and its place.

@@ -19,10 +19,10 @@ use Rattle.build.specs.Outcome.{sum, records, finish}
 use Rattle.build.proofs.Rounds.{Sized}
 use Rattle.closing.specs.Fed.{Flat}
 use Rattle.stored.specs.Stored.{entryAt, entries, packed}
-use Rattle.states.specs.Kept.{unpacked, stateIn}
-use Rattle.states.proofs.Flat.{unpacked-packed}
-use Rattle.states.proofs.Holds.{sum-append, holds-counted}
-use Rattle.states.proofs.Kernels.{made-sized}
+use Rattle.kept_states.specs.Kept.{unpacked, stateIn}
+use Rattle.kept_states.proofs.Flat.{unpacked-packed}
+use Rattle.kept_states.proofs.Holds.{sum-append, holds-counted}
+use Rattle.kept_states.proofs.Kernels.{made-sized}
 use Rattle.finding.proofs.Laws.{entry-places}
 use Rattle.taking.specs.Taking.{edgeOf, edgesIn}
 use Rattle.taking.proofs.Laws.{map-last}
@@ -91,7 +91,7 @@ sum-end T Rs n k m q e w = w ∙ ap (sum (λ (S : List ℕ). length (clashes T S
 
 -- edges
 
-length-row : (E es : List ℕ) (k : ℕ) → length (rowIn E es k) ≡ getD es (k + 1) 0 - getD es k 0
+pub length-row : (E es : List ℕ) (k : ℕ) → length (rowIn E es k) ≡ getD es (k + 1) 0 - getD es k 0
 unfolding rowIn edgesIn
 length-row E es k = length-mapped (λ i. edgeOf (getD E i 0)) (upFrom (getD es k 0) (getD es (k + 1) 0 - getD es k 0)) ∙ length-upFrom (getD es k 0) (getD es (k + 1) 0 - getD es k 0)
 
@@ -144,6 +144,6 @@ module _ (g : List ℕ) (N P f l : ℕ) (ws bs es : List ℕ) (n : ℕ) (s : Com
       unfolding MeasuredAs finish
       conflicts-pass h = rw (limited false (le-ltb l r low), ← many, lt-ltb words (5 * c) h, finish) refl
 
-      pub measured : 5 * c ≤ words → MeasuredAs (s .T) (s .room) words (s .all .Rs) (rowsIn (s .E) es n) (Fits r c)
+      pub measured : 5 * c ≤ words → c ≤ 135266304 → MeasuredAs (s .T) (s .room) words (s .all .Rs) (rowsIn (s .E) es n) (Fits r c)
       unfolding MeasuredAs finish
-      measured h = (rw (limited false (le-ltb l r low), ← many, le-ltb words (5 * c) h, finish) refl, is, many)
+      measured h few = (rw (limited false (le-ltb l r low), ← many, le-ltb words (5 * c) h, finish) refl, is, many, few)

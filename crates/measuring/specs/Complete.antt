@@ -7,7 +7,7 @@ use Rattle.repr.specs.Meaning.{Edge, Table}
 use Rattle.closing.specs.Grammar.{Grammar}
 use Rattle.build.specs.States.{built, clashes}
 use Rattle.build.specs.Outcome.{sum, records, refused, full, finish}
-use Rattle.states.specs.Made.{Holds}
+use Rattle.kept_states.specs.Made.{Holds}
 use Rattle.finding.specs.Steps.{Found}
 use Rattle.starting.specs.Start.{Counted}
 use Rattle.collecting.specs.Rows.{rowsIn, FoundAll}
@@ -54,8 +54,8 @@ collection g N P f l ws bs es n s = record {
   many = s .all .many;
 }
 
--- refusal 17 for the edges or the conflicts, else how many records and conflicts there are
+-- refusal 17 for the edges or the conflicts, else how many records and conflicts there are, which 32 bits hold
 unfoldable pub MeasuredAs : Table → ℕ → ℕ → List (List ℕ) → List (List Edge) → Measured → Type 0
 MeasuredAs T room words Rs ds Stops = finish T room words (built Rs ds) ≡ refused 17
 MeasuredAs T room words Rs ds (Fits r c) =
-    (finish T room words (built Rs ds) ≡ full Rs ds) × (r ≡ records T Rs + sum (λ (es : List Edge). length es) ds) × (c ≡ sum (λ (S : List ℕ). length (clashes T S)) Rs)
+    (finish T room words (built Rs ds) ≡ full Rs ds) × (r ≡ records T Rs + sum (λ (es : List Edge). length es) ds) × (c ≡ sum (λ (S : List ℕ). length (clashes T S)) Rs) × (c ≤ 135266304)

@@ -1,7 +1,7 @@
 // All states measured at the end of the search: the records of the table and the conflicts, or refusal 17 (specs/Complete).
-use conflicts::count_state;
+use conflict_counts::count_state;
 use finding::Sizes;
-use states::unpack;
+use kept_states::unpack;
 ghost use mathlib.Core.Path.{_≡_};
 ghost use mathlib.Core.List.{List, []};
 ghost use Prim.Native.Nat.{ℕ, _+_, _*_, _≤_, _<_};

@@ -5,7 +5,7 @@ use little::encode;
 use repr::word;
 use streams::read;
 use streams::write;
-ghost use Prim.Native.Nat.{_*_, _≤_};
+ghost use Prim.Native.Nat.{_*_, _≤_, _<_};
 ghost use lib.ListN.{length};
 ghost use Rattle.repr.specs.Sizes.{recordLimit};
 ghost use Rattle.pipe.specs.Given.{Holds};
@@ -78,7 +78,7 @@ fn pass_piece(bytes: &mut [u8]) -> bool {
 }
 
 // The rest, byte for byte. A loop has to end, so it counts its pieces down from a number that no run uses up.
-fn pass_on(bytes: &mut [u8]) {
+pub fn pass_on(bytes: &mut [u8]) {
     let mut pieces: u64 = 1099511627776;
     while pieces > 0 {
         if !pass_piece(bytes) {
@@ -88,21 +88,53 @@ fn pass_on(bytes: &mut [u8]) {
     }
 }
 
+// How many of so many words are written at a time.
+fn piece(left: usize) -> usize
+    ensures { λ r. ⌜ (r ≤ left) × ((r ≤ 32768) × (0 < left → 0 < r)) ⌝ }
+{
+    if left < 32768 {
+        return left;
+    }
+    32768
+}
+
+// Words as bytes, 32,768 at a time; whether they were written.
+pub fn write_words(words: &[u16], bytes: &mut [u8]) -> bool
+    requires { ⌜ 65536 ≤ length (now bytes) ⌝ }
+{
+    let n = words.len();
+    let mut at: usize = 0;
+    while at < n {
+        let left = n - at;
+        let some = piece(left);
+        let end = at + some;
+        let size = some * 2;
+        encode(&words[at..end], bytes);
+        if !write(&bytes[..size]) {
+            return false;
+        }
+        at = end;
+    }
+    true
+}
+
+// A table of so many records; whether it was written.
+pub fn write_records(records: usize, table: &[u16], bytes: &mut [u8]) -> bool
+    requires { ⌜ (records ≤ recordLimit) × ((65536 ≤ length (now bytes)) × (records * 4 ≤ length (now table))) ⌝ }
+{
+    let count = [records as u16; 1];
+    if !write_words(&count, bytes) {
+        return false;
+    }
+    let words = records * 4;
+    write_words(&table[..words], bytes)
+}
+
 // A table of so many records, then the rest of the input.
 pub fn write_table(records: usize, table: &[u16], bytes: &mut [u8])
     requires { ⌜ (records ≤ recordLimit) × ((65536 ≤ length (now bytes)) × (records * 4 ≤ length (now table))) ⌝ }
 {
-    let count = [records as u16; 1];
-    let mut first = [0u8; 2];
-    encode(&count, &mut first);
-    if !write(&first) {
-        return;
+    if write_records(records, table, bytes) {
+        pass_on(bytes);
     }
-    let words = records * 4;
-    let size = records * 8;
-    encode(&table[..words], bytes);
-    if !write(&bytes[..size]) {
-        return;
-    }
-    pass_on(bytes);
 }

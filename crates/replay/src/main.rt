@@ -10,7 +10,8 @@
 // 12 observed (number of words of the first buffer, its words, then the second's);
 // 13 opening a listing (production, index, whether it is filtered, the set's four words, how many words of the graph are lent, the words at its front);
 // 14 token sets (number of terminals, token, four words of a first set, four of a second); 15 an item (production, index);
-// 16 first0_joined (number of words of the first list, its words, then the second's); 17 trace_back_joined (state, then as 16); 18 respell (how many words of output are lent); 19 compact.
+// 16 first0_joined (number of words of the first list, its words, then the second's); 17 trace_back_joined (state, then as 16); 18 respell (how many words of output are lent); 19 compact;
+// 20 build_states (start production, how many words of scratch, of output and of conflicts are lent).
 // An answer begins with answer and place, then what stands behind the other references, whether the call wrote it or not: it was 7 before (a set: token 7; whether a list is nullable: yes; a count of entries: 77).
 // 2, 16: whether the list is nullable, the set's tokens. 3: the set's tokens. 4, 17: the states. 5, 6, 7: number of edges, digest of the graph, of 5 and 6 that of the scratch; with answer 0 the count and the edges.
 // 8: count, openness, digests of scratch and buffer, the buffer's first 16 words. 9: number of calls, digests of scratch and output, the output's first 24 words.
@@ -18,8 +19,10 @@
 // 12: in which buffer, number of words, the words (no place). 14: length, whether it has the token, whether the end; the set after insert, insert_eof, take_eof and whether each did something; the same of union_with;
 // the intersection, whether they are disjoint, whether they meet; the sets of new, from, all, eof; the members; a set is two numbers, its low half first. 15: numbers of symbols before, at and after the cursor, whether it can shift,
 // whether it can reduce, the nonterminal that it can shift plus 1 or 0; the symbols before it, all, those after it. 18, 19: number of records, digest of the output or of the table with the lent words behind it, its first 24 words.
+// 20: numbers of records and of conflicts, digests of scratch, output and conflicts, the first 24 words of the output and 20 of the conflicts.
 // Lent words are sevens before (buffers and outputs of listings zeros), but for what the request puts there. An unknown op gets `?`; a request that is cut short or too long for the buffers ends the run.
 // The table's buffer holds one record more than document 01 accepts, so that refusal 1 for 32,772 words can be asked.
+pub mod builds;
 pub mod conflicts;
 pub mod lists;
 pub mod rewrites;
@@ -29,6 +32,7 @@ pub mod traces;
 pub mod walks;
 pub mod words;
 
+use builds::ask_build;
 use conflicts::ask_choose;
 use conflicts::ask_classify;
 use conflicts::ask_observed;
@@ -101,6 +105,8 @@ fn ask_other(op: u16, table: &[u16], more: &[u16]) {
         ask_rewrite(op, table, more);
     } else if op == 19 {
         ask_rewrite(op, table, more);
+    } else if op == 20 {
+        ask_build(table, more);
     } else {
         io::write_all(STDOUT_FILENO, b"?");
     }

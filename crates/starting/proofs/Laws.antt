@@ -24,9 +24,9 @@ use Rattle.closing.specs.Grammar.{Grammar, Held}
 use Rattle.stored.specs.Stored.{Entry, entries, putEntry, held, packed}
 use Rattle.stored.proofs.Stored.{entries-put, length-put}
 use Rattle.stored.proofs.Packed.{held-none, held-some}
-use Rattle.states.specs.Kept.{putAll, Begun}
-use Rattle.states.specs.Made.{Made, first, Holds}
-use Rattle.states.proofs.Holds.{holds-more, length-packed}
+use Rattle.kept_states.specs.Kept.{putAll, Begun}
+use Rattle.kept_states.specs.Made.{Made, first, Holds}
+use Rattle.kept_states.proofs.Holds.{holds-more, length-packed}
 use Rattle.finding.specs.Search.{KernelIn, Stored}
 use Rattle.starting.specs.Start.{Counted, Started}
 

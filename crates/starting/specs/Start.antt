@@ -8,7 +8,7 @@ use Rattle.repr.specs.Sizes.{recordLimit}
 use Rattle.repr.specs.Meaning.{Production, Table}
 use Rattle.build.specs.States.{startState}
 use Rattle.build.specs.Outcome.{sum, stopsAt}
-use Rattle.states.specs.Made.{Holds}
+use Rattle.kept_states.specs.Made.{Holds}
 
 -- the numbers that a search gets are the table's and the output's
 pub record Counted (T : Table) (room nonterminals fixed limit : ℕ) : Type 0 where

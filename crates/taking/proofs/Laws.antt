@@ -14,7 +14,7 @@ use Rattle.repr.specs.Lists.{upFrom, below}
 use Rattle.repr.specs.Meaning.{Symbol, nonterminal, terminal, Edge, Table, TableFits}
 use Rattle.repr.proofs.Lists.{cases, upFrom-last, length-map-below, getD-map-below}
 use Rattle.build.specs.States.{tried}
-use Rattle.states.specs.Made.{Holds}
+use Rattle.kept_states.specs.Made.{Holds}
 use Rattle.finding.specs.Steps.{Reach, nowhere, stops, reach, gotoTo, Told, stopped, told, behind, takeTo}
 use Rattle.finding.specs.Search.{Search, Keeps, Reached, symbolOfCode, CodeFits}
 use Rattle.finding.specs.declared.Goto.{Goto}

@@ -9,7 +9,7 @@ use lib.Dec.{ltb}
 use Rattle.repr.specs.Sizes.{stateLimit}
 use Rattle.repr.specs.Lists.{upFrom}
 use Rattle.repr.specs.Meaning.{Symbol, Edge, Table}
-use Rattle.states.specs.Made.{Holds}
+use Rattle.kept_states.specs.Made.{Holds}
 use Rattle.finding.specs.Steps.{Reach, nowhere, stops, reach, Told, stopped, told}
 use Rattle.finding.specs.Search.{Keeps, symbolOfCode}
 use Rattle.taking.specs.declared.Taken.{Taken}

@@ -5,6 +5,7 @@
 
 use crate::rewrites;
 use crate::side::*;
+use crate::states;
 use crate::table::*;
 use std::collections::BTreeSet;
 use std::rc::Rc;
@@ -17,6 +18,8 @@ pub const OUTPUT: usize = 32_008;
 pub const EXAMPLE: usize = 1_160;
 pub const ENTRIES: usize = 390;
 pub const REWRITTEN: usize = 32_776;
+pub const BUILDING: usize = 64_008;
+pub const CONFLICTS: usize = 10_008;
 
 /// The words that a call asks for: 11, and document 01's rules of scratch.
 pub const GRAPH_ASKED: usize = 8_193;
@@ -271,6 +274,31 @@ fn rewritten(head: [u32; 3], lent: &[u16]) -> Answer {
     shown.chain(wide(&lent[..24])).collect()
 }
 
+/// Op 20, the same. Success and refusals from 16 on leave zeros in the scratch
+/// that is asked for.
+fn build(table: &[u16], more: &[u16]) -> Answer {
+    let lent = [(1, BUILDING), (2, REWRITTEN), (3, CONFLICTS)];
+    let lent = lent.map(|(i, most)| number(more, i).min(most));
+    let (head, records, conflicts) = match states::build(table, at(more, 0), lent) {
+        Ok(b) => (
+            [0, 0, b.records.len() as u32, b.conflicts.len() as u32],
+            b.records.concat(),
+            b.conflicts.concat(),
+        ),
+        Err(r) => ([r.number as u32, r.place as u32, 7, 7], vec![], vec![]),
+    };
+    let mut scratch = vec![BEFORE; BUILDING];
+    if head[0] == 0 || head[0] >= 16 {
+        scratch[..states::SCRATCH].fill(0);
+    }
+    let out = over(REWRITTEN, &records);
+    let list = over(CONFLICTS, &conflicts);
+    let digests = [&scratch, &out, &list].map(|words| digest(words));
+    let shown = head.into_iter().chain(digests);
+    let fronts = wide(&out[..24]).chain(wide(&list[..20]));
+    shown.chain(fronts).collect()
+}
+
 /// Opening a listing.
 fn open(of: &Of) -> Result<(), Refusal> {
     let table = asked(of)?;
@@ -354,6 +382,7 @@ impl<'a> Answers<'a> {
             }
             18 => Some(respell(table, more)),
             19 => Some(compact(table)),
+            20 => Some(build(table, more)),
             _ => None,
         }
     }

@@ -8,6 +8,7 @@
 //! the graph); the second figure has the time of making them from the words,
 //! by this driver, in it.
 
+mod building;
 mod conflicts;
 mod listings;
 mod tables;
@@ -25,16 +26,17 @@ use std::time::{Duration, Instant};
 
 /// The parts of docs/COSTS.md in its order, and one that takes too long to be
 /// asked with the others.
-pub const PARTS: [&str; 4] = ["traces", "listings", "conflicts", "longest"];
+pub const PARTS: [&str; 5] = ["traces", "listings", "conflicts", "building", "longest"];
 
-/// The tables of some parts, of the first three if none is named.
+/// The tables of some parts, of the first four if none is named.
 pub fn costs(parts: &[&str]) {
-    let parts = if parts.is_empty() { &PARTS[..3] } else { parts };
+    let parts = if parts.is_empty() { &PARTS[..4] } else { parts };
     for part in parts {
         match *part {
             "traces" => traces::costs(),
             "listings" => listings::costs(),
             "conflicts" => conflicts::costs(),
+            "building" => building::costs(),
             _ => conflicts::longest(),
         }
     }

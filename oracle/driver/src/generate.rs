@@ -32,10 +32,10 @@ impl Rng {
     fn set(&mut self, n: usize) -> u64 {
         (0..n).fold(0, |set, i| set | (self.below(2) as u64) << i)
     }
-    fn from_to(&mut self, low: usize, high: usize) -> usize {
+    pub fn from_to(&mut self, low: usize, high: usize) -> usize {
         low + self.below(high - low + 1)
     }
-    fn shuffle<T>(&mut self, list: &mut [T]) {
+    pub fn shuffle<T>(&mut self, list: &mut [T]) {
         for i in (1..list.len()).rev() {
             list.swap(i, self.below(i + 1));
         }
@@ -43,7 +43,7 @@ impl Rng {
 }
 
 /// The kinds of cases, each made from a seed.
-pub const KINDS: [&str; 9] = [
+pub const KINDS: [&str; 11] = [
     "classic",
     "random",
     "bent",
@@ -53,6 +53,8 @@ pub const KINDS: [&str; 9] = [
     "damaged",
     "limit",
     "layouts",
+    "build",
+    "built",
 ];
 
 /// Kinds that are no part of `all`: they take long.
@@ -71,6 +73,8 @@ pub fn case(kind: &str, seed: u64) -> Option<Case> {
         "damaged" => damaged(&mut rng),
         "limit" => limit(&mut rng, seed),
         "layouts" => crate::layouts::case(seed),
+        "build" => crate::builds::case(seed),
+        "built" => crate::builds::built(seed),
         "heavy" => heavy(seed),
         "most" => most(seed),
         _ => panic!("kinds: {KINDS:?}, {ALONE:?}"),
@@ -83,7 +87,7 @@ pub fn case(kind: &str, seed: u64) -> Option<Case> {
 
 /// Nonterminals are words that begin with a capital letter, in order of their
 /// rules; the first is the start. An added last nonterminal derives the start.
-const CLASSIC: [&str; 27] = [
+pub const CLASSIC: [&str; 27] = [
     "E: E + E | n",
     "E: E + E | E * E | ( E ) | n",
     "E: E + T | T ; T: T * F | F ; F: ( E ) | n",
@@ -114,14 +118,14 @@ const CLASSIC: [&str; 27] = [
 ];
 
 /// A grammar's productions and counts.
-struct Rules {
-    nonterminals: usize,
-    terminals: usize,
-    productions: Vec<(u16, Vec<Sym>)>,
-    start: u16,
+pub struct Rules {
+    pub nonterminals: usize,
+    pub terminals: usize,
+    pub productions: Vec<(u16, Vec<Sym>)>,
+    pub start: u16,
 }
 
-fn parse_rules(text: &str) -> Rules {
+pub fn parse_rules(text: &str) -> Rules {
     let rules: Vec<(&str, &str)> = text
         .split(';')
         .map(|r| r.trim().split_once(':').unwrap())
@@ -155,7 +159,7 @@ fn parse_rules(text: &str) -> Rules {
     }
 }
 
-fn random_rules(rng: &mut Rng) -> Rules {
+pub fn random_rules(rng: &mut Rng) -> Rules {
     let nonterminals = rng.from_to(1, 5);
     let terminals = rng.from_to(1, 4);
     let longest = rng.from_to(1, 4);
@@ -185,7 +189,7 @@ fn random_rules(rng: &mut Rng) -> Rules {
 
 /// The start between two terminals of its own: without a context around it
 /// the start's own items have no example.
-fn wrap(mut rules: Rules) -> Rules {
+pub fn wrap(mut rules: Rules) -> Rules {
     let t = rules.terminals as u16;
     rules.productions.last_mut().unwrap().1 = vec![(1, t), (0, 0), (1, t + 1)];
     rules.terminals += 2;
@@ -193,7 +197,7 @@ fn wrap(mut rules: Rules) -> Rules {
 }
 
 /// A table's productions, numbered afresh in any order.
-fn grammar_table(rng: &mut Rng, rules: &Rules) -> Table {
+pub fn grammar_table(rng: &mut Rng, rules: &Rules) -> Table {
     let mut productions = rules.productions.clone();
     rng.shuffle(&mut productions);
     let mut table = Table {
@@ -849,6 +853,7 @@ fn damaged(rng: &mut Rng) -> Option<Case> {
             Question::BackJoined(0, vec![0], vec![0]),
             Question::Respell(32_768),
             Question::Compact,
+            Question::Build(0, [64_000, 32_768, 100]),
         ],
     })
 }
@@ -885,7 +890,7 @@ fn one_nonterminal() -> Table {
 }
 
 /// No productions and no states.
-fn empty_table(terminals: u16, nonterminals: usize) -> Table {
+pub fn empty_table(terminals: u16, nonterminals: usize) -> Table {
     Table {
         terminals,
         nonterminals: vec![vec![]; nonterminals],
@@ -894,7 +899,7 @@ fn empty_table(terminals: u16, nonterminals: usize) -> Table {
 }
 
 /// One more production, its number.
-fn add_production(table: &mut Table, nonterminal: u16, symbols: Vec<Sym>) -> u16 {
+pub fn add_production(table: &mut Table, nonterminal: u16, symbols: Vec<Sym>) -> u16 {
     let p = table.productions.len() as u16;
     table.nonterminals[nonterminal as usize].push(p);
     table.productions.push(Production {

@@ -1,6 +1,8 @@
 //! Runs of lalrpop's published modules on document 01's words.
 
 pub mod answers;
+pub mod bison;
+pub mod builds;
 pub mod conflicts;
 #[cfg(feature = "port")]
 pub mod costs;
@@ -19,6 +21,7 @@ pub mod rules;
 pub mod rust;
 pub mod sample;
 pub mod side;
+pub mod states;
 pub mod table;
 
 /// Runs `f` on a thread with a large stack: the Rust's enumerator and tracing

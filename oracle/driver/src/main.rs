@@ -19,8 +19,9 @@ oracle compare KIND SEED COUNT [SIDE ..] [only=VERB,..]
                                         asks all sides, or those named, the same (KIND may be all)
 oracle sample REQUESTS ANSWERS [KIND SEED COUNT]
                                         writes the stored sample of the program replay, or one of some seeds
+oracle bison SEED COUNT [SIDE ..]       request 01 against bison's canonical LR(1) automata, so many grammars
 oracle costs [PART ..]                  times of the Rust and the port, if linked, in markdown: the tables of docs/COSTS.md
-                                        (PART: traces, listings, conflicts; or longest, which takes long)
+                                        (PART: traces, listings, conflicts, building; or longest, which takes long)
 sides: rust, plain, and port if linked";
 
 fn main() {
@@ -54,6 +55,7 @@ fn run(args: &[&str]) -> bool {
             let made = oracle::sample::cases(&mut *side, kind, seed, count);
             sample(requests, answers, &made)
         }
+        ["bison", seed, count, ref sides @ ..] => bison(number(seed), number(count), sides),
         #[cfg(feature = "port")]
         ["costs", ref parts @ ..] if parts.iter().all(|p| oracle::costs::PARTS.contains(p)) => {
             oracle::costs::costs(parts);
@@ -252,6 +254,33 @@ fn list(kind: &str, seed: u64, count: u64, side: &str) -> bool {
         }
     }
     false
+}
+
+/// The plain reader of request 01 and bison, and the sides named held to the
+/// reader.
+fn bison(seed: u64, count: u64, sides: &[&str]) -> bool {
+    let mut asked: Vec<Box<dyn Side>> = sides.iter().map(|name| oracle::side(name)).collect();
+    let (told, found) = oracle::bison::compare(seed, count as usize, &mut asked);
+    println!(
+        "{} grammars, and {} of more than 128 states: {} states, {} items, {} transitions, \
+         {} lookaheads of complete items, {} shift/reduce and {} reduce/reduce conflicts",
+        told.grammars,
+        told.refused,
+        told.states,
+        told.items,
+        told.transitions,
+        told.lookaheads,
+        told.conflicts[0],
+        told.conflicts[1]
+    );
+    let mut score = Score {
+        passed: (told.grammars + told.refused) as u64,
+        failed: 0,
+    };
+    if let Some(what) = found {
+        score.count(false, || what);
+    }
+    score.end()
 }
 
 /// The stored sample of the program `replay`: its input and its output.

@@ -529,6 +529,17 @@ impl Side for PlainSide {
         })
     }
 
+    fn build(&mut self, table: &[u16], start: u16, lent: [usize; 3]) -> Option<Answer> {
+        Some(match crate::states::build(table, start, lent) {
+            Ok(built) => {
+                let counts = [0, built.records.len() as u32, built.conflicts.len() as u32];
+                let words = [built.records.concat(), built.conflicts.concat()].concat();
+                counts.into_iter().chain(wide(&words)).collect()
+            }
+            Err(r) => refused(r),
+        })
+    }
+
     fn first0(&mut self, table: &[u16], symbols: &[Sym]) -> Option<Answer> {
         ask(
             table,

@@ -47,6 +47,10 @@ entries! {
         table: &[u16], out: &mut [u16], records: &mut u16, place: &mut u16
     );
     compact is lihvemur_compact(table: &mut [u16], records: &mut u16, place: &mut u16);
+    build_states is lihvemur_build_states(
+        table: &[u16], start: u16, scratch: &mut [u16], out: &mut [u16], conflicts: &mut [u16],
+        records: &mut u16, count: &mut u32, place: &mut u16
+    );
     first0 is lihvemur_first0(
         table: &[u16], symbols: &[u16], set: &mut u64, nullable: &mut bool, place: &mut u16
     );
@@ -111,6 +115,7 @@ pub const GRAPH_WORDS: usize = 8_193;
 pub const EXAMPLE_WORDS: usize = 1_158;
 pub const ENTRY_WORDS: usize = 384;
 pub const SCRATCH_WORDS: usize = 32_000;
+pub const BUILD_SCRATCH_WORDS: usize = 64_000;
 
 /// `backtrace_reduce` if `reduce`, else `backtrace_shift`.
 pub fn backtrace(

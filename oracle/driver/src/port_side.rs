@@ -47,8 +47,8 @@ struct Lent {
 impl Lent {
     /// Of any content: a call must not look at it.
     fn new(words: usize, fill: u16) -> Lent {
-        let words: Vec<u16> = (0..(words + PAST) as u16)
-            .map(|i| i.wrapping_mul(7).wrapping_add(fill))
+        let words: Vec<u16> = (0..words + PAST)
+            .map(|i| (i as u16).wrapping_mul(7).wrapping_add(fill))
             .collect();
         Lent {
             before: words.clone(),
@@ -278,6 +278,50 @@ impl Side for PortSide {
         }
         answer((refusal, place), || {
             std::iter::once(records.into()).chain(wide(&lent.words[..n]))
+        })
+    }
+
+    /// Accepted it writes the records and the conflicts that it answers at the
+    /// fronts of their lists and nothing past them. Accepted or refused from 16
+    /// on it leaves zeros in the scratch that it asks for, else it changes
+    /// nothing. What it writes is its own spelling, with nothing to take back.
+    fn build(&mut self, table: &[u16], start: u16, lent: [usize; 3]) -> Option<Answer> {
+        self.fill = self.fill.wrapping_add(1);
+        let mut lists = lent.map(|words| Lent::new(words, self.fill));
+        let (mut place, mut records, mut count) = (u16::MAX, u16::MAX, u32::MAX);
+        let [scratch, out, conflicts] = &mut lists;
+        let refusal = build_states(
+            table,
+            start,
+            &mut scratch.words[..lent[0]],
+            &mut out.words[..lent[1]],
+            &mut conflicts.words[..lent[2]],
+            &mut records,
+            &mut count,
+            &mut place,
+        );
+        let fronts = match refusal {
+            0 => [BUILD_SCRATCH_WORDS, 4 * records as usize, 5 * count as usize],
+            16.. => [BUILD_SCRATCH_WORDS, 0, 0],
+            _ => [0; 3],
+        };
+        let names = ["scratch", "output", "conflicts"];
+        for ((list, front), name) in lists.iter_mut().zip(fronts).zip(names) {
+            list.kept(front, name);
+        }
+        let [scratch, out, conflicts] = lists.map(|list| list.words);
+        assert!(scratch[..fronts[0]].iter().all(|&w| w == 0), "scratch is not zero");
+        let (out, conflicts) = (&out[..fronts[1]], &conflicts[..fronts[2]]);
+        if refusal == 0 {
+            assert!(place == 0);
+            let again: Answer = [0, records as u32].into_iter().chain(wide(out)).collect();
+            assert!(self.respell(out, out.len()).as_ref() == Some(&again));
+            assert!(self.compact(out) == Some(again));
+        } else {
+            assert!(records == u16::MAX && count == u32::MAX);
+        }
+        answer((refusal, place), || {
+            [records as u32, count].into_iter().chain(wide(out)).chain(wide(conflicts))
         })
     }
 

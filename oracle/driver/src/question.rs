@@ -30,6 +30,8 @@ pub enum Question {
     /// Words of the output.
     Respell(u16),
     Compact,
+    /// The start production, and words of scratch, output and conflicts.
+    Build(u16, [usize; 3]),
 }
 
 /// A table with questions about it.
@@ -67,6 +69,7 @@ pub fn ask(side: &mut dyn Side, table: &[u16], question: &Question) -> Option<An
         Question::Item(item) => side.item(table, *item),
         Question::Respell(words) => side.respell(table, *words as usize),
         Question::Compact => side.compact(table),
+        Question::Build(start, lent) => side.build(table, *start, *lent),
     }
 }
 
@@ -116,6 +119,7 @@ impl std::fmt::Display for Question {
             Question::Item(i) => format!("item {} {}", i.0, i.1),
             Question::Respell(words) => format!("respell {words}"),
             Question::Compact => "compact".into(),
+            Question::Build(start, lent) => format!("build {start} / {}", text(lent)),
         };
         f.write_str(line.trim_end())
     }
@@ -149,6 +153,10 @@ pub fn parse(line: &str) -> Option<Question> {
             tokens(i).map(Some)
         }
     };
+    let lent = |i: usize| -> Option<Vec<usize>> {
+        let words = parts.get(i)?.split_whitespace();
+        words.map(|w| w.parse().ok()).collect()
+    };
     let first = numbers(0)?;
     Some(match (verb, &first[..]) {
         ("check", []) => Question::Check,
@@ -171,6 +179,7 @@ pub fn parse(line: &str) -> Option<Question> {
         ("item", &[p, i]) => Question::Item((p, i)),
         ("respell", &[words]) => Question::Respell(words),
         ("compact", []) => Question::Compact,
+        ("build", &[start]) => Question::Build(start, lent(1)?.try_into().ok()?),
         ("observed", c) => Question::Observed(c.try_into().ok()?),
         _ => return None,
     })

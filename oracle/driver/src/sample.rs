@@ -56,7 +56,10 @@ fn joins(q: &Question) -> bool {
 
 /// Those that the sample has in a part of its own.
 fn rewrites(q: &Question) -> bool {
-    matches!(q, Question::Respell(..) | Question::Compact)
+    matches!(
+        q,
+        Question::Respell(..) | Question::Compact | Question::Build(..)
+    )
 }
 
 /// Op and further words of a question.
@@ -76,6 +79,10 @@ fn request(q: &Question) -> Option<(u16, Vec<u16>)> {
         }
         Question::Respell(words) => (18, vec![*words]),
         Question::Compact => (19, vec![]),
+        Question::Build(start, lent) => {
+            let lent = lent.map(|words| words.min(u16::MAX as usize) as u16);
+            (20, [&[*start], &lent[..]].concat())
+        }
         _ => return None,
     })
 }
@@ -504,6 +511,7 @@ pub fn sample(side: &mut dyn Side) -> Sample {
     crate::conflicts::conflicts(&mut m);
     crate::rules::rules(&mut m);
     crate::layouts::layouts(&mut m);
+    crate::builds::builds(&mut m);
     m.out
 }
 

@@ -19,6 +19,7 @@ use crate::table::{Refusal, Sym, Table, check, refuse};
 /// | sets | see `SETS` |
 /// | respell | number of records, the words written |
 /// | compact | number of records left, the table's words |
+/// | build | number of records, number of conflicts, the words of the records, the words of the conflicts |
 /// | item | number of prefix symbols, the symbols; 1 and the cursor's symbol or 0; number of suffix symbols, the symbols; the nonterminal it can shift plus 1 or 0 |
 pub type Answer = Vec<u32>;
 
@@ -101,6 +102,10 @@ pub trait Side {
         None
     }
     fn compact(&mut self, _table: &[u16]) -> Option<Answer> {
+        None
+    }
+    /// Lent so many words of scratch, output and conflicts.
+    fn build(&mut self, _table: &[u16], _start: u16, _lent: [usize; 3]) -> Option<Answer> {
         None
     }
     fn sets(&mut self, _table: &[u16], _a: u64, _b: u64, _token: u16) -> Option<Answer> {

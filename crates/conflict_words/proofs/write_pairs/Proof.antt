@@ -1,6 +1,6 @@
 -- `conflict_words::write_pairs` meets its contract. The loop's invariant and measure stand first. Assumes nothing.
 use Rattle.conflict_words.proofs.Laws.{pair-words, pair-none, pair-room}
-use Rattle.conflicts.specs.Clashed.{pairsIn}
+use Rattle.conflict_counts.specs.Clashed.{pairsIn}
 use Rattle.example.proofs.Put.{Turn, turn-start, turn-next, turn-end}
 use Rattle.build.specs.Built.{clashWords}
 use Rattle.repr.specs.Lists.{upFrom, joined}

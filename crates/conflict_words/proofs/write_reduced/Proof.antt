@@ -1,7 +1,7 @@
 -- `conflict_words::write_reduced` meets its contract. The loop's invariant and measure stand first. Assumes nothing.
 use Rattle.conflict_words.proofs.Laws.{state-words, state-none, state-room}
-use Rattle.conflicts.proofs.Counts.{joined-start}
-use Rattle.conflicts.specs.Clashed.{clashesIn}
+use Rattle.conflict_counts.proofs.Counts.{joined-start}
+use Rattle.conflict_counts.specs.Clashed.{clashesIn}
 use Rattle.example.proofs.Put.{Turn, turn-start, turn-next, turn-end}
 use Rattle.build.specs.Built.{clashWords}
 use Rattle.repr.specs.Lists.{upFrom, below, joined}

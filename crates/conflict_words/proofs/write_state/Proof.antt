@@ -1,5 +1,5 @@
 -- `conflict_words::write_state` meets its contract. Assumes nothing.
-use Rattle.conflicts.proofs.Counts.{clashes-in}
+use Rattle.conflict_counts.proofs.Counts.{clashes-in}
 use borrow.Author.Needs.{needs}
 use Rattle.conflict_words.proofs.write_state.Statement.{statement}
 use Rattle.conflict_words.proofs.write_state.Tie as tie

@@ -21,7 +21,7 @@ returns-2 : tie.Need-returns-2
 returns-2 c = λ s. conflicts-pass _ _ _ _ _ _ _ _ _ s _ (c .before .before .before .before .table-records .ensures s) _ (c .before .before .if1 .left) _ (c .before .count-conflicts .ensures .1 (collection _ _ _ _ _ _ _ _ _ s)) (c .if2 .taken)
 
 returns-3 : tie.Need-returns-3
-returns-3 c = λ s. measured _ _ _ _ _ _ _ _ _ s _ (c .before .before .before .before .table-records .ensures s) _ (c .before .before .if1 .left) _ (c .before .count-conflicts .ensures .1 (collection _ _ _ _ _ _ _ _ _ s)) (c .if2 .left)
+returns-3 c = λ s. measured _ _ _ _ _ _ _ _ _ s _ (c .before .before .before .before .table-records .ensures s) _ (c .before .before .if1 .left) _ (c .before .count-conflicts .ensures .1 (collection _ _ _ _ _ _ _ _ _ s)) (c .if2 .left) (c .before .count-conflicts .ensures .0)
 
 pub measure-spec : {M : Type 1} → statement M
 measure-spec =

@@ -1,0 +1,4 @@
+pub mod Kept
+pub mod Flat
+pub mod Kernels
+pub mod Holds
