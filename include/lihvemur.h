@@ -28,6 +28,8 @@ enum {
     LIHVEMUR_SCRATCH_WORDS = 32000, /* scratch at least (refusal 11), but where states are built */
     LIHVEMUR_BUILD_WORDS = 64000,   /* scratch at least to build states (11) */
     LIHVEMUR_CONFLICT_WORDS = 5,    /* a conflict of those that are built */
+    LIHVEMUR_TEXT_BYTES = 65535,    /* a yacc text at most (refusal 20) */
+    LIHVEMUR_WRITTEN_BYTES = 9468,  /* a yacc text that is written has no more */
     LIHVEMUR_EXAMPLE_WORDS = 1158,  /* an example's buffer at least (11) */
     LIHVEMUR_GRAPH_WORDS = 8193,    /* a graph at least (11): a count, then its edges */
     LIHVEMUR_EDGE_WORDS = 8,        /* an edge of a graph */
@@ -56,6 +58,17 @@ uint16_t lihvemur_compact(uint16_t *table, size_t table_words, uint16_t *records
  * 16 to 18 zero the first LIHVEMUR_BUILD_WORDS of `scratch`; a refusal writes nothing in `out` and `conflicts`. */
 uint16_t lihvemur_build_states(const uint16_t *table, size_t table_words, uint16_t start, uint16_t *scratch, size_t scratch_words,
                                uint16_t *out, size_t out_words, uint16_t *conflicts, size_t conflict_words, uint16_t *records, uint32_t *count, uint16_t *place);
+
+/* Reads the rules of a yacc text (docs/YACC.md says which texts) into a grammar, a table of one state that has no items and no edges, at the front of `table`, and the places of its ids to the front of
+ * `places`: for each nonterminal by number the first byte of its first left side, then for each terminal by number that of the occurrence that numbered it. With answer 0 the records behind `records`,
+ * the places behind `count`, the start nonterminal behind `start`. Refusals 20 (no text of the grammar, or above LIHVEMUR_TEXT_BYTES), 21 (a name that nothing defines, or two ways), 2, 5, 17 in
+ * this order; they change no word. */
+uint16_t lihvemur_read_yacc(const uint8_t *text, size_t text_bytes, uint16_t *table, size_t table_words, uint16_t *places, size_t place_words,
+                            uint16_t *records, uint16_t *count, uint16_t *start, uint16_t *place);
+
+/* Writes the grammar of a table as a yacc text at the front of `text`, its nonterminals N0, N1, .. and its terminals T0, T1, ..; how many bytes that are behind `bytes`. Refusals 1 to 8, then 23 where a
+ * nonterminal has no production or the first ones do not ascend, then 17 for room (LIHVEMUR_WRITTEN_BYTES are room for every table); they change no byte. */
+uint16_t lihvemur_write_yacc(const uint16_t *table, size_t table_words, uint8_t *text, size_t text_bytes, uint16_t *bytes, uint16_t *place);
 
 /* FIRST of a list of symbols, kind and number each (0 a nonterminal, 1 a terminal): with answer 0 its terminals behind `set`, and behind `nullable` whether the list may be empty. */
 uint16_t lihvemur_first0(const uint16_t *table, size_t table_words, const uint16_t *symbols, size_t symbol_words, uint64_t *set, bool *nullable, uint16_t *place);

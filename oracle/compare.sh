@@ -1,6 +1,6 @@
 #!/bin/sh
 # One command for the comparison with the Rust, from a fresh machine: LALRPOP_SRC=FOLDER sh oracle/compare.sh [SEED [COUNT]].
-# Builds the proved library and programs, the Rust beside them, and compares: marked examples, every sort of question in one process, the stored sample, the explaining program byte for byte, and the states that are built with bison's.
+# Builds the proved library and programs, the Rust beside them, and compares: marked examples, every sort of question in one process, the stored sample, the explaining program byte for byte, the states that are built with bison's, and yacc files with byacc and bison.
 # The last line is 'N passed, 0 failed'.
 set -eu
 cd "$(dirname "$0")/.."
@@ -21,5 +21,6 @@ run target/oracle/oracle marked
 run target/oracle/oracle compare all "$seed" "$count"
 run python3 oracle/explain.py target/oracle/oracle target/bin/explain "$seed" "$count" target/bin/states
 run sh oracle/bison.sh 0 1000 port
+run sh oracle/yacc.sh 0 1000
 sh oracle/sample.sh --check
 echo "$passed passed, 0 failed"

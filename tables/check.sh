@@ -1,8 +1,8 @@
 #!/bin/sh
-# Tries the built programs words, states, explain, respell, text and compact on the tables of this folder and on inputs made here, and compares what they write.
+# Tries the built programs yacc, unyacc, words, states, explain, respell, text and compact on the tables of this folder and on inputs made here, and compares what they write.
 # Where an expected output comes from: TABLE.out is what the Rust's explaining program writes for that table (`oracle explain`, oracle/README.md),
 # and so is every expected line below that is not a refusal; the refusals are document 01's rows, applied by hand where they stand.
-# GRAMMAR.out is what that program writes for the states and conflicts of the oracle's own reader of request 01, GRAMMAR.err what `explain.sh` says.
+# GRAMMAR.out is what that program writes for the states and conflicts of the oracle's own reader of request 01, of a yacc file read by its reader of request 09 first, GRAMMAR.err what `explain.sh` says.
 cd "$(dirname "$0")/.." || exit 1
 work=$(mktemp -d) || exit 1
 trap 'rm -rf "$work"' EXIT
@@ -80,9 +80,9 @@ refuses() { # program, refusal and place
     verdict "$1 refused $2" $?
 }
 table_b 48 12 | typed
-for p in respell text compact states; do refuses "$p" '3 12'; done
+for p in respell text compact states unyacc; do refuses "$p" '3 12'; done
 : >"$work/input"
-for p in respell text compact states; do refuses "$p" '1 0'; done
+for p in respell text compact states unyacc; do refuses "$p" '1 0'; done
 # states already given; a start production out of range, and none
 { table_b; echo 0; } | typed
 refuses states '18 0'
@@ -96,7 +96,7 @@ done
 refuses respell '17 0'
 
 # A grammar is explained from its text alone; where its states are not built `explain.sh` fails with the refusal, and where it has no conflicts it says so.
-for g in tables/*.grammar; do
+for g in tables/*.grammar tables/*.y; do
     : >"$work/expected"
     [ ! -f "$g.err" ] || cp "$g.err" "$work/expected"
     ! grep -q refused "$work/expected"
@@ -145,6 +145,61 @@ through states
 cp "$work/output" "$work/input"
 { cat tables/sum.grammar.out; sed 's/^1 /2 /' tables/sum.grammar.out; } >"$work/expected"
 explains "a conflict typed behind a grammar comes after those found"
+
+# A grammar written as a yacc file and read again is the same but for its spans, and written again the same file; the start production is its first.
+for g in dangling_else sum optional_part at_the_end levels brackets; do
+    typed <"tables/$g.grammar"
+    through unyacc
+    verdict "$g, unyacc" $?
+    cp "$work/output" "$work/file"
+    sed 's/#.*//' "tables/$g.grammar" | awk '
+        { for (i = 1; i <= NF; i++) w[n++] = $i }
+        END { first = 1 + w[1] + w[3]; for (i = 0; i < n; i++) { r = int((i - 1) / 4); print (i > 0 && r >= first && r < first + w[4] && (i - 1) % 4 > 1 ? "span" : w[i]) } }' >"$work/expected"
+    cp "$work/file" "$work/input"
+    through yacc
+    cp "$work/output" "$work/input"
+    od -An -v -tu2 -w2 "$work/input" | awk '
+        { w[n++] = $1 }
+        END { first = 1 + w[1] + w[3]; for (i = 0; i < n; i++) { r = int((i - 1) / 4); print (i > 0 && r >= first && r < first + w[4] && (i - 1) % 4 > 1 ? "span" : w[i]) } }' | cmp -s - "$work/expected"
+    verdict "$g, unyacc, yacc: its own words but for the spans" $?
+    through unyacc && cmp -s "$work/file" "$work/output"
+    verdict "$g, written twice" $?
+done
+# Of a first nonterminal that stands nowhere else and has one production no production is added; of any other, one behind all others, until no number is left.
+rules() { # how many rules of one nonterminal each, text in front of the last `;`
+    awk -v n="$1" -v last="$2" 'BEGIN { print "%%"; for (k = 0; k < n; k++) printf "a%d : %s ;\n", k, (k == n - 1 ? last : "") }'
+}
+rules 32 '' >"$work/input"
+through yacc && [ "$(od -An -tu2 -j2 -N8 "$work/output" | tr -s ' ')" = ' 32 0 1 32' ]
+verdict "32 nonterminals, no production added" $?
+rules 31 'a0' >"$work/input"
+through yacc && [ "$(od -An -tu2 -j2 -N8 "$work/output" | tr -s ' ')" = ' 32 0 1 32' ]
+verdict "31 nonterminals, one added" $?
+rules 32 'a0' >"$work/input"
+refuses yacc '2 0'
+rules 33 '' >"$work/input"
+refuses yacc '2 0'
+# Where a text leaves the grammar: line and column of the byte.
+strays() { # refusal, line, column, what is wrong
+    target/bin/yacc <"$work/input" >"$work/output" 2>"$work/said"
+    printf 'refused %s 0\nline %s column %s: %s\n' "$1" "$2" "$3" "$4" | cmp -s - "$work/said" && [ ! -s "$work/output" ]
+    verdict "yacc refused $1 at line $2 column $3" $?
+}
+printf '%%%%\na : b' >"$work/input"
+strays 20 2 6 'the text ends too early'
+printf '%%%%\na : b ;\n%%%%\n' >"$work/input"
+strays 20 3 1 'cannot read this'
+printf '%%token a\r\n%%%%\na : ;\n' >"$work/input"
+strays 20 1 9 'cannot read this'
+printf '%%start b\n%%%%\na : ;\n' >"$work/input"
+strays 21 1 8 'cannot use this name'
+printf '%%token b\n%%%%\na : c ;\nb : ;\n' >"$work/input"
+strays 21 3 5 'cannot use this name'
+{ printf '%%%%\na : ;\n'; head -c 65527 /dev/zero | tr '\0' ' '; } >"$work/input"
+strays 20 3 65527 'the text is too long'
+{ printf '%%%%\na : ;\n'; head -c 65526 /dev/zero | tr '\0' ' '; } >"$work/input"
+through yacc
+verdict "65,535 bytes" $?
 
 # With unused records taken back the same is explained, from a table that has none and from one with records between and behind its own.
 compacted() { # name
@@ -334,6 +389,15 @@ target/bin/states <tables >"$work/output" 2>"$work/said"
 says "states of a folder" 'standard input'
 [ ! -s "$work/output" ]
 verdict "states of a folder, nothing written" $?
+for p in yacc unyacc; do
+    case $p in yacc) cp tables/sum.y "$work/input" ;; unyacc) typed <tables/sum.grammar ;; esac
+    "target/bin/$p" <"$work/input" >/dev/full 2>"$work/said"
+    says "$p to a full device" 'standard output'
+    "target/bin/$p" <tables >"$work/output" 2>"$work/said"
+    says "$p of a folder" 'standard input'
+    [ ! -s "$work/output" ]
+    verdict "$p of a folder, nothing written" $?
+done
 target/bin/explain <tables >"$work/output" 2>"$work/said"
 says "explain of a folder" 'standard input'
 [ ! -s "$work/output" ]

@@ -13,6 +13,8 @@ mod side;
 mod states;
 #[path = "../driver/src/table.rs"]
 mod table;
+#[path = "../driver/src/yacc.rs"]
+mod yacc;
 
 use std::panic::{AssertUnwindSafe, catch_unwind};
 

@@ -37,6 +37,10 @@ static const uint16_t BUILT[] = {
     25, 0, 0, 1, 0, 1, 1, 2, 0, 1, 0, 3, 28, 0, 0, 4, 0, 1, 1, 5, 0, 1, 0, 3};
 static const uint16_t CONFLICT[] = {4, 0, 0, 0, 0};
 
+/* The same grammar as a yacc text, with what is read of it: GRAMMAR but for the spans, and where E, '+' and n stand; and as it is written. */
+static const char TEXT[] = "%token '+' n\n%%\nE : E '+' E | n ;\n", UNDEFINED[] = "%% E : n ;", WRITTEN[] = "%token T0 T1\n%%\nN0 : N0 T0 N0 ;\nN0 : T1 ;\n";
+static const uint16_t SPANS[] = {20, 27, 30, 31}, PLACES[] = {16, 7, 11};
+
 /* Symbols, kind and number each. */
 static const uint16_t E[] = {0, 0}, E_PLUS_E[] = {0, 0, 1, 0, 0, 0}, NOTHING[] = {0};
 
@@ -202,6 +206,53 @@ static void build_states(void)
     EXPECT(not_built(b, 11, 0) && untouched(scratch));
     b = build(bad, COUNT(bad), 0, LIHVEMUR_BUILD_WORDS - 1, COUNT(BUILT), COUNT(CONFLICT));
     EXPECT(not_built(b, 3, 12) && untouched(scratch));
+}
+
+typedef struct {
+    uint16_t refusal, records, count, start;
+} was_read;
+
+/* A text read, with so many words lent. */
+static was_read read_text(const char *text, size_t bytes, size_t table_words, size_t place_words)
+{
+    was_read r = {0, UNWRITTEN, UNWRITTEN, UNWRITTEN};
+    fresh();
+    r.refusal = lihvemur_read_yacc((const uint8_t *)text, bytes, output, table_words, action, place_words, &r.records, &r.count, &r.start, &place);
+    return r;
+}
+
+static bool not_read(was_read r, uint16_t refusal)
+{
+    return r.refusal == refusal && place == 0 && r.records == UNWRITTEN && r.count == UNWRITTEN && r.start == UNWRITTEN && untouched(output) && untouched(action);
+}
+
+static void read_yacc(void)
+{
+    uint16_t words[COUNT(GRAMMAR)];
+    memcpy(words, GRAMMAR, sizeof GRAMMAR);
+    for (size_t p = 0; p < 2; p++)
+        for (size_t i = 0; i < 2; i++)
+            words[(3 + p) * 4 + 2 + i] = SPANS[p * 2 + i];
+    was_read r = read_text(TEXT, strlen(TEXT), COUNT(words), COUNT(PLACES));
+    EXPECT(r.refusal == 0 && place == 0 && r.records == COUNT(words) / 4 && r.count == COUNT(PLACES) && r.start == 0);
+    EXPECT(begins(output, words, COUNT(words)) && begins(action, PLACES, COUNT(PLACES)));
+    EXPECT(not_read(read_text(TEXT, strlen(TEXT), COUNT(words) - 1, COUNT(PLACES)), 17));
+    EXPECT(not_read(read_text(TEXT, strlen(TEXT), COUNT(words), COUNT(PLACES) - 1), 17));
+    EXPECT(not_read(read_text(TEXT, strlen(TEXT) - 2, COUNT(words), COUNT(PLACES)), 20));
+    EXPECT(not_read(read_text(UNDEFINED, strlen(UNDEFINED), COUNT(words), COUNT(PLACES)), 21));
+}
+
+static void write_yacc(void)
+{
+    char text[sizeof WRITTEN];
+    size_t size = strlen(WRITTEN);
+    uint16_t bytes = UNWRITTEN;
+    memset(text, '?', sizeof text);
+    EXPECT(lihvemur_write_yacc(GRAMMAR, COUNT(GRAMMAR), (uint8_t *)text, size - 1, &bytes, &place) == 17 && place == 0 && bytes == UNWRITTEN && text[0] == '?');
+    EXPECT(lihvemur_write_yacc(bad, COUNT(bad), (uint8_t *)text, size, &bytes, &place) == 3 && place == 12 && bytes == UNWRITTEN && text[0] == '?');
+    EXPECT(lihvemur_write_yacc(GRAMMAR, COUNT(GRAMMAR), (uint8_t *)text, size + 1, &bytes, &place) == 0 && place == 0 && bytes == size);
+    EXPECT(memcmp(text, WRITTEN, size) == 0 && text[size] == '?');
+    EXPECT(lihvemur_write_yacc(B, COUNT(B), (uint8_t *)text, size, &bytes, &place) == 0 && bytes == size && memcmp(text, WRITTEN, size) == 0);
 }
 
 static void first0(void)
@@ -433,6 +484,8 @@ int main(void)
     respell();
     compact();
     build_states();
+    read_yacc();
+    write_yacc();
     first0();
     first0_joined();
     first1();

@@ -106,7 +106,7 @@ fn append(grammar: &mut [u16], productions: usize, owner: usize, n: usize)
 }
 
 // Writes a grammar alone, if there is room.
-fn write_started(grammar: &[u16], counts: Counts, production: usize, out: &mut [u16]) -> Started
+pub fn write_started(grammar: &[u16], counts: Counts, production: usize, out: &mut [u16]) -> Started
     requires { ⌜ ((U : Table) × GrammarOf U (counts .nonterminals) (counts .terminals) (counts .states) (counts .productions) (now grammar)) ⌝ }
     requires { ⌜ production < productionLimit ⌝ }
     ensures { λ r. ⌜ ((U : Table) → GrammarOf U (counts .nonterminals) (counts .terminals) (counts .states) (counts .productions) (now (grammar .entry)) → record { answer = r; out = now (out .exit) } ≡ startedIn U production (now (out .entry))) ⌝ }

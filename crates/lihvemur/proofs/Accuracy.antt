@@ -17,6 +17,7 @@ use Rattle.compaction.specs.Outcome.{compactOf}
 use Rattle.compaction.specs.declared.Compacted.the-variants.{Records}
 use Rattle.compaction.proofs.Called.{left, left-accepted, left-meaning, front-accepted, front-meaning}
 use Rattle.builder.specs.Outcome.{buildOf}
+use Rattle.yacc_write.specs.Outcome.{writeOf}
 use Rattle.lr1.specs.Entries.{overTable, first0Of, first1Of, traceBackOf}
 use Rattle.lr1.specs.Edges.{addEdgeOf}
 use Rattle.tracer.specs.Outcome.{traceBy, shiftOf, reduceOf}
@@ -39,6 +40,10 @@ module _ (t u : List ℕ) (a : checkOf t ≡ Accepted) (b : checkOf u ≡ Accept
   build-same : (start : ℕ) (scratch out conflicts : List ℕ) → buildOf t start scratch out conflicts ≡ buildOf u start scratch out conflicts
   unfolding buildOf
   build-same start scratch out conflicts = rw (a, b, m, buildOf)
+
+  write-same : (text : List ℕ) → writeOf t text ≡ writeOf u text
+  unfolding writeOf
+  write-same text = rw (a, b, m, writeOf)
 
   first0-same : (symbols : List ℕ) → first0Of t symbols ≡ first0Of u symbols
   unfolding first0Of overTable
@@ -106,6 +111,7 @@ module _ (t u : List ℕ) (a : checkOf t ≡ Accepted) (b : checkOf u ≡ Accept
   all-same = record {
     respell = respell-same;
     build-states = build-same;
+    write-yacc = write-same;
     first0 = first0-same;
     first0-joined = λ xs ys. first0-same (xs ++ ys);
     first1 = first1-same;

@@ -14,6 +14,13 @@ use Rattle.compaction.specs.declared.Compacted.the-variants.{Records as Left, R
 use Rattle.builder.specs.Outcome.{Left as Building}
 use Rattle.builder.specs.declared.Built.{Built}
 use Rattle.builder.specs.declared.Built.the-variants.{States as Full, Refused as NotBuilt}
+use Rattle.repr.specs.declared.NonterminalString.{NonterminalString}
+use Rattle.yacc_read.specs.Outcome.{Outcome as ReadOutcome}
+use Rattle.yacc_read.specs.declared.Reading.{Reading}
+use Rattle.yacc_read.specs.declared.Reading.the-variants.{Read, Refused as NotRead}
+use Rattle.yacc_write.specs.Outcome.{Outcome as WriteOutcome}
+use Rattle.yacc_write.specs.declared.Writing.{Writing}
+use Rattle.yacc_write.specs.declared.Writing.the-variants.{Bytes, Refused as NotWritten}
 use Rattle.lookahead.specs.declared.TokenSet.{TokenSet}
 use Rattle.state_graph.specs.declared.StateSet.{StateSet}
 use Rattle.state_graph.specs.States.{statesIn}
@@ -31,7 +38,7 @@ use Rattle.lr1.specs.declared.AddEdge.the-variants.{Edges as GraphEdges, Refuse
 use Rattle.tracer.specs.Outcome.{Outcome, outcome}
 use Rattle.tracer.specs.declared.Backtrace.{Backtrace}
 use Rattle.tracer.specs.declared.Backtrace.the-variants.{Edges as TraceEdges, Refused as NoTrace}
-use Rattle.lihvemur.specs.Exported.{numbers, checkNumbers, spellNumbers, respellNumbers, compactNumbers, buildNumbers, builtNumbers, setNumbers, followedNumbers, answerNumbers, firstNumbers, stateNumbers, walkNumbers, addNumbers, edgeNumbers, traceNumbers, backtraceNumbers}
+use Rattle.lihvemur.specs.Exported.{numbers, checkNumbers, spellNumbers, respellNumbers, compactNumbers, buildNumbers, builtNumbers, readNumbers, readingNumbers, writeNumbers, writingNumbers, setNumbers, followedNumbers, answerNumbers, firstNumbers, stateNumbers, walkNumbers, addNumbers, edgeNumbers, traceNumbers, backtraceNumbers}
 
 -- c: what the entry answers, d: what its contract says it is
 module _ (c d : Checked) (e : c ≡ d) where
@@ -69,6 +76,24 @@ module _ (records count : ℕ) (c : Built) (ss os cs : List ℕ) (d : Building) 
   pub build-refused : (n r : ℕ) → c ≡ NotBuilt n r → buildNumbers n r records count ss os cs ≡ builtNumbers records count d
   unfolding builtNumbers
   build-refused n r h = rw (← e, h)
+
+module _ (records count start : ℕ) (c : Reading) (ws vs : List ℕ) (d : ReadOutcome) (e : record { answer = c; table = ws; places = vs } ≡ d) where
+  pub read-made : (written listed : ℕ) (first : NonterminalString) → c ≡ Read written listed first → readNumbers 0 0 written listed (first .0) ws vs ≡ readingNumbers records count start d
+  unfolding readingNumbers
+  read-made written listed first h = rw (← e, h)
+
+  pub read-refused : (n r : ℕ) → c ≡ NotRead n r → readNumbers n r records count start ws vs ≡ readingNumbers records count start d
+  unfolding readingNumbers
+  read-refused n r h = rw (← e, h)
+
+module _ (old : ℕ) (c : Writing) (text : List ℕ) (d : WriteOutcome) (e : record { answer = c; text = text } ≡ d) where
+  pub write-made : (written : ℕ) → c ≡ Bytes written → writeNumbers 0 0 written text ≡ writingNumbers old d
+  unfolding writingNumbers
+  write-made written h = rw (← e, h)
+
+  pub write-refused : (n r : ℕ) → c ≡ NotWritten n r → writeNumbers n r old text ≡ writingNumbers old d
+  unfolding writingNumbers
+  write-refused n r h = rw (← e, h)
 
 module _ (old : ℕ) (was : Bool) (c d : First) (e : c ≡ d) where
   pub first-answered : (a : Answer) → c ≡ Answered a → answerNumbers 0 0 (a .tokens .0) (a .nullable) ≡ firstNumbers old was d

@@ -10,6 +10,7 @@ use Rattle.enumerator.specs.declared.Listing.{Listing}
 use Rattle.error.specs.declared.Conflict.{Conflict}
 use Rattle.spelling.specs.Outcome.{respellOf}
 use Rattle.builder.specs.Outcome.{buildOf}
+use Rattle.yacc_write.specs.Outcome.{writeOf}
 use Rattle.lr1.specs.Entries.{first0Of, first1Of, traceBackOf}
 use Rattle.lr1.specs.Edges.{addEdgeOf}
 use Rattle.tracer.specs.Outcome.{shiftOf, reduceOf}
@@ -21,6 +22,7 @@ use Rattle.error.specs.Choose.{chooseOf}
 pub record SameAnswers (t u : List ℕ) : Type 0 where
   pub respell : (out : List ℕ) → respellOf t out ≡ respellOf u out
   pub build-states : (start : ℕ) (scratch out conflicts : List ℕ) → buildOf t start scratch out conflicts ≡ buildOf u start scratch out conflicts
+  pub write-yacc : (text : List ℕ) → writeOf t text ≡ writeOf u text
   pub first0 : (symbols : List ℕ) → first0Of t symbols ≡ first0Of u symbols
   pub first0-joined : (xs ys : List ℕ) → first0Of t (xs ++ ys) ≡ first0Of u (xs ++ ys)
   pub first1 : (symbols : List ℕ) (ahead : ℕ) → first1Of t symbols ahead ≡ first1Of u symbols ahead

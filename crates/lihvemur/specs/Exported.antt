@@ -11,6 +11,10 @@ use Rattle.compaction.specs.Outcome.{Outcome as Compaction}
 use Rattle.compaction.specs.declared.Compacted.the-variants.{Records as Left, Refused as NotCompacted}
 use Rattle.builder.specs.Outcome.{Left as Building}
 use Rattle.builder.specs.declared.Built.the-variants.{States as Full, Refused as NotBuilt}
+use Rattle.yacc_read.specs.Outcome.{Outcome as ReadOutcome}
+use Rattle.yacc_read.specs.declared.Reading.the-variants.{Read, Refused as NotRead}
+use Rattle.yacc_write.specs.Outcome.{Outcome as WriteOutcome}
+use Rattle.yacc_write.specs.declared.Writing.the-variants.{Bytes, Refused as NotWritten}
 use Rattle.state_graph.specs.States.{statesIn}
 use Rattle.lr1.specs.declared.First.{First}
 use Rattle.lr1.specs.declared.First.the-variants.{Answered, Refused as NoAnswer}
@@ -51,6 +55,23 @@ builtNumbers records count o = elim (o .answer) [
   | Full written found ↦ buildNumbers 0 0 written found (o .scratch) (o .out) (o .conflicts)
   | NotBuilt n r ↦ buildNumbers n r records count (o .scratch) (o .out) (o .conflicts)
 ]
+
+-- refusal, place, number of records, number of places, start nonterminal, and the words written of the table and of the places
+pub data ReadNumbers : Type 0 where
+  readNumbers : ℕ → ℕ → ℕ → ℕ → ℕ → List ℕ → List ℕ → ReadNumbers
+
+unfoldable pub readingNumbers : ℕ → ℕ → ℕ → ReadOutcome → ReadNumbers
+readingNumbers records count start o = elim (o .answer) [
+  | Read written listed first ↦ readNumbers 0 0 written listed (first .0) (o .table) (o .places)
+  | NotRead n r ↦ readNumbers n r records count start (o .table) (o .places)
+]
+
+-- refusal, place, number of bytes and the text
+pub data WriteNumbers : Type 0 where
+  writeNumbers : ℕ → ℕ → ℕ → List ℕ → WriteNumbers
+
+unfoldable pub writingNumbers : ℕ → WriteOutcome → WriteNumbers
+writingNumbers old o = elim (o .answer) [ Bytes written ↦ writeNumbers 0 0 written (o .text) | NotWritten n r ↦ writeNumbers n r old (o .text) ]
 
 -- refusal, place and set; the set as it was where the call is refused
 pub data SetNumbers : Type 0 where

@@ -16,17 +16,21 @@ use state_graph::StateIndex;
 use table::Checked;
 use trace_graph::TraceGraphNode;
 use tracer::Backtrace;
+use yacc_read::Reading;
+use yacc_write::Writing;
 ghost use mathlib.Core.Path.{_≡_};
 ghost use mathlib.Core.List.{_++_};
 ghost use Rattle.table.specs.Refusals.{checkOf};
 ghost use Rattle.spelling.specs.Outcome.{respellOf};
 ghost use Rattle.compaction.specs.Outcome.{compactOf};
 ghost use Rattle.builder.specs.Outcome.{buildOf};
+ghost use Rattle.yacc_read.specs.Outcome.{readOf};
+ghost use Rattle.yacc_write.specs.Outcome.{writeOf};
 ghost use Rattle.state_graph.specs.States.{statesIn};
 ghost use Rattle.lr1.specs.Entries.{first0Of, first1Of, traceBackOf};
 ghost use Rattle.lr1.specs.Edges.{addEdgeOf};
 ghost use Rattle.tracer.specs.Outcome.{shiftOf, reduceOf};
-ghost use Rattle.lihvemur.specs.Exported.{numbers, checkNumbers, spellNumbers, respellNumbers, compactNumbers, buildNumbers, builtNumbers, setNumbers, followedNumbers, answerNumbers, firstNumbers, stateNumbers, walkNumbers, addNumbers, edgeNumbers, traceNumbers, backtraceNumbers};
+ghost use Rattle.lihvemur.specs.Exported.{numbers, checkNumbers, spellNumbers, respellNumbers, compactNumbers, buildNumbers, builtNumbers, readNumbers, readingNumbers, writeNumbers, writingNumbers, setNumbers, followedNumbers, answerNumbers, firstNumbers, stateNumbers, walkNumbers, addNumbers, edgeNumbers, traceNumbers, backtraceNumbers};
 
 #[no_mangle]
 pub extern "C" fn lihvemur_check(table: &[u16], place: &mut u16) -> u16
@@ -105,6 +109,55 @@ pub extern "C" fn lihvemur_build_states(
             0
         }
         Built::Refused(refusal, at) => {
+            *place = at;
+            refusal
+        }
+    }
+}
+
+#[no_mangle]
+pub extern "C" fn lihvemur_read_yacc(
+    text: &[u8],
+    table: &mut [u16],
+    places: &mut [u16],
+    records: &mut u16,
+    count: &mut u16,
+    start: &mut u16,
+    place: &mut u16,
+) -> u16
+    ensures { λ r. ⌜ readNumbers r (now (place .exit)) (now (records .exit)) (now (count .exit)) (now (start .exit)) (now (table .exit)) (now (places .exit)) ≡ readingNumbers (now (records .entry)) (now (count .entry)) (now (start .entry)) (readOf (now (text .entry)) (now (table .entry)) (now (places .entry))) ⌝ }
+{
+    match lr1::read_yacc(text, table, places) {
+        Reading::Read(written, listed, first) => {
+            *place = 0;
+            *records = written;
+            *count = listed;
+            *start = first.0;
+            0
+        }
+        Reading::Refused(refusal, at) => {
+            *place = at;
+            refusal
+        }
+    }
+}
+
+#[no_mangle]
+pub extern "C" fn lihvemur_write_yacc(
+    table: &[u16],
+    text: &mut [u8],
+    bytes: &mut u16,
+    place: &mut u16,
+) -> u16
+    ensures { λ r. ⌜ writeNumbers r (now (place .exit)) (now (bytes .exit)) (now (text .exit)) ≡ writingNumbers (now (bytes .entry)) (writeOf (now (table .entry)) (now (text .entry))) ⌝ }
+{
+    match lr1::write_yacc(table, text) {
+        Writing::Bytes(written) => {
+            *place = 0;
+            *bytes = written;
+            0
+        }
+        Writing::Refused(refusal, at) => {
             *place = at;
             refusal
         }

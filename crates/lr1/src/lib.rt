@@ -1,4 +1,4 @@
-// The public surface. Every entry is total, refuses by document 01's table of refusals, and is equated with a definition of specs/Entries, specs/Edges or the specs/Outcome of tracer, of spelling, of compaction and of builder.
+// The public surface. Every entry is total, refuses by document 01's table of refusals, and is equated with a definition of specs/Entries, specs/Edges or the specs/Outcome of tracer, of spelling, of compaction, of builder, of yacc_read and of yacc_write.
 // Parameters: table, then numbers, then lent lists.
 use builder::Built;
 use compaction::Compacted;
@@ -23,6 +23,8 @@ use trace_graph::check_graph;
 use trace_graph::edge_fits;
 use trace_graph::insert;
 use tracer::Backtrace;
+use yacc_read::Reading;
+use yacc_write::Writing;
 ghost use mathlib.Core.Path.{_≡_};
 ghost use mathlib.Core.List.{_++_};
 ghost use Rattle.first.specs.First.{firstSets};
@@ -31,6 +33,8 @@ ghost use Rattle.table.specs.Refusals.{checkOf};
 ghost use Rattle.spelling.specs.Outcome.{respellOf};
 ghost use Rattle.compaction.specs.Outcome.{compactOf};
 ghost use Rattle.builder.specs.Outcome.{buildOf};
+ghost use Rattle.yacc_read.specs.Outcome.{readOf};
+ghost use Rattle.yacc_write.specs.Outcome.{writeOf};
 ghost use Rattle.trace_graph.specs.Nodes.{nodeValue};
 ghost use Rattle.tracer.specs.Outcome.{outcome, shiftOf, reduceOf};
 ghost use Rattle.lr1.specs.Edges.{edgeOutcome, addEdgeIn, addEdgeOf};
@@ -71,6 +75,22 @@ pub fn build_states(
     ensures { λ r. ⌜ record { answer = r; scratch = now (scratch .exit); out = now (out .exit); conflicts = now (conflicts .exit) } ≡ buildOf (now (table .entry)) (start .0) (now (scratch .entry)) (now (out .entry)) (now (conflicts .entry)) ⌝ }
 {
     builder::build_states(table, start, scratch, out, conflicts)
+}
+
+// Reads the rules of a yacc text (docs/YACC.md) into a grammar, a table of one state without items and edges, at the front of `table` (Req 09), and where each nonterminal and each terminal got its number
+// to the front of `places`; answers how many records, how many places, and the start nonterminal. Refusals 20, 21, 2, 5, 17 in this order; they change no word.
+pub fn read_yacc(text: &[u8], table: &mut [u16], places: &mut [u16]) -> Reading
+    ensures { λ r. ⌜ record { answer = r; table = now (table .exit); places = now (places .exit) } ≡ readOf (now (text .entry)) (now (table .entry)) (now (places .entry)) ⌝ }
+{
+    yacc_reader::read_yacc(text, table, places)
+}
+
+// Writes the grammar of a table as a yacc text at the front of `text` (Req 09), and answers how many bytes that are. Refusals 1 to 8, then 23 where a nonterminal has no production or the first ones do
+// not ascend, then 17; they change no byte.
+pub fn write_yacc(table: &[u16], text: &mut [u8]) -> Writing
+    ensures { λ r. ⌜ record { answer = r; text = now (text .exit) } ≡ writeOf (now (table .entry)) (now (text .entry)) ⌝ }
+{
+    yacc_writer::write_yacc(table, text)
 }
 
 // FIRST of a list; else the refusal and its place.

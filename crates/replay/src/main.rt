@@ -11,7 +11,9 @@
 // 13 opening a listing (production, index, whether it is filtered, the set's four words, how many words of the graph are lent, the words at its front);
 // 14 token sets (number of terminals, token, four words of a first set, four of a second); 15 an item (production, index);
 // 16 first0_joined (number of words of the first list, its words, then the second's); 17 trace_back_joined (state, then as 16); 18 respell (how many words of output are lent); 19 compact;
-// 20 build_states (start production, how many words of scratch, of output and of conflicts are lent).
+// 20 build_states (start production, how many words of scratch, of output and of conflicts are lent);
+// 21 read_yacc (in place of a table the text's bytes, two a word, the low one first; how many words of the table and of the places are lent, number of bytes, at which of them one stands several times, how many times more);
+// 22 write_yacc (how many bytes are lent).
 // An answer begins with answer and place, then what stands behind the other references, whether the call wrote it or not: it was 7 before (a set: token 7; whether a list is nullable: yes; a count of entries: 77).
 // 2, 16: whether the list is nullable, the set's tokens. 3: the set's tokens. 4, 17: the states. 5, 6, 7: number of edges, digest of the graph, of 5 and 6 that of the scratch; with answer 0 the count and the edges.
 // 8: count, openness, digests of scratch and buffer, the buffer's first 16 words. 9: number of calls, digests of scratch and output, the output's first 24 words.
@@ -20,6 +22,7 @@
 // the intersection, whether they are disjoint, whether they meet; the sets of new, from, all, eof; the members; a set is two numbers, its low half first. 15: numbers of symbols before, at and after the cursor, whether it can shift,
 // whether it can reduce, the nonterminal that it can shift plus 1 or 0; the symbols before it, all, those after it. 18, 19: number of records, digest of the output or of the table with the lent words behind it, its first 24 words.
 // 20: numbers of records and of conflicts, digests of scratch, output and conflicts, the first 24 words of the output and 20 of the conflicts.
+// 21: numbers of records and of places, the start, digests of table and places, the first 24 words of the table and 12 of the places. 22: number of bytes, their digest, the first 24, a byte as a word.
 // Lent words are sevens before (buffers and outputs of listings zeros), but for what the request puts there. An unknown op gets `?`; a request that is cut short or too long for the buffers ends the run.
 // The table's buffer holds one record more than document 01 accepts, so that refusal 1 for 32,772 words can be asked.
 pub mod builds;
@@ -31,6 +34,7 @@ pub mod sets;
 pub mod traces;
 pub mod walks;
 pub mod words;
+pub mod yaccs;
 
 use builds::ask_build;
 use conflicts::ask_choose;
@@ -48,6 +52,8 @@ use sets::ask_sets;
 use traces::ask_trace;
 use walks::ask_joined;
 use walks::ask_walk;
+use yaccs::ask_read_yacc;
+use yaccs::ask_write_yacc;
 ghost use Prim.Native.Nat.{_≤_, _<_, _*_};
 ghost use lib.ListN.{length};
 
@@ -107,6 +113,10 @@ fn ask_other(op: u16, table: &[u16], more: &[u16]) {
         ask_rewrite(op, table, more);
     } else if op == 20 {
         ask_build(table, more);
+    } else if op == 21 {
+        ask_read_yacc(table, more);
+    } else if op == 22 {
+        ask_write_yacc(table, more);
     } else {
         io::write_all(STDOUT_FILENO, b"?");
     }

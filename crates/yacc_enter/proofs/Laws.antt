@@ -425,7 +425,7 @@ noBoth = record { nonterminals = []; terminals = [] }
 unfoldable pub bothIn : List ℕ → Both
 bothIn t = ofSaid noBoth (behind [] []) (modeOf 0) (placedFrom t 0)
 
-behind-said : (s : Saying) (ns ts : List Known) (x : Id) (from past : ℕ) (es : List Event) → behind (entered ns (joined leftSide (eventsOf s x from past))) (entered ts (joined tokenUse (eventsOf s x from past))) es ≡ behind ns ts (eventsOf s x from past ++ es)
+pub behind-said : (s : Saying) (ns ts : List Known) (x : Id) (from past : ℕ) (es : List Event) → behind (entered ns (joined leftSide (eventsOf s x from past))) (entered ts (joined tokenUse (eventsOf s x from past))) es ≡ behind ns ts (eventsOf s x from past ++ es)
 unfolding behind joined leftSide tokenUse literalUse eventsOf entered
 behind-said Lists ns ts x from past es = refl
 behind-said Opens ns ts x from past es = refl

@@ -26,6 +26,17 @@ pub struct Ids {
     pub terminals: usize,
 }
 
+impl Ids {
+    // Words for the names of any text: it has fewer than bytes.
+    pub const NAMES: usize = 65535;
+
+    // The words of their index, behind those of its buckets.
+    pub const INDEX_WORDS: usize = 2048 + Ids::NAMES;
+
+    // The words of the terminals: the literals', then the names'.
+    pub const TOKEN_WORDS: usize = 256 + Ids::NAMES;
+}
+
 // The byte at a place, or 0.
 pub fn byte(text: &[u8], at: usize) -> usize
     ensures { λ r. ⌜ (r ≡ getD (now (text .entry)) at 0) × (r < byteLimit) ⌝ }

@@ -41,7 +41,7 @@ pub enum Next {
     Outside,
 }
 
-fn is_white(b: u8) -> bool
+pub fn is_white(b: u8) -> bool
     ensures { λ r. ⌜ r ≡ isWhite b ⌝ }
 {
     b == 32 || (b == 9 || (b == 10 || b == 12))
@@ -53,13 +53,13 @@ fn between(b: u8, low: u8, high: u8) -> bool
     low <= b && b <= high
 }
 
-fn is_digit(b: u8) -> bool
+pub fn is_digit(b: u8) -> bool
     ensures { λ r. ⌜ r ≡ isDigit b ⌝ }
 {
     between(b, 48, 57)
 }
 
-fn is_letter(b: u8) -> bool
+pub fn is_letter(b: u8) -> bool
     ensures { λ r. ⌜ r ≡ isLetter b ⌝ }
 {
     if between(b, 65, 90) {
@@ -71,7 +71,7 @@ fn is_letter(b: u8) -> bool
     b == 46 || b == 95
 }
 
-fn is_literal(b: u8) -> bool
+pub fn is_literal(b: u8) -> bool
     ensures { λ r. ⌜ r ≡ literalByte b ⌝ }
 {
     if b == 0 {
@@ -87,7 +87,7 @@ fn is_literal(b: u8) -> bool
 }
 
 // Goes a byte on a name.
-fn goes_on(b: u8) -> bool
+pub fn goes_on(b: u8) -> bool
     ensures { λ r. ⌜ r ≡ goesOn (kindOf b) ⌝ }
 {
     if is_white(b) {

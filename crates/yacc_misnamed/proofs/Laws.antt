@@ -57,14 +57,14 @@ or-true true b e = refl
 or-true false b e = e
 
 -- an id that is known in both
-known-both : (ts ks : List Known) (x : Id) → isKnown ks x ≡ true → isKnown ts x ≡ true → some? (λ k. isKnown ts (k .id)) ks ≡ true
+pub known-both : (ts ks : List Known) (x : Id) → isKnown ks x ≡ true → isKnown ts x ≡ true → some? (λ k. isKnown ts (k .id)) ks ≡ true
 known-both ts [] x h y = clash (isKnown [] x) h (known-none x)
 known-both ts (k ∷ ks) x h y =
     cases (sameId x (k .id))
     (λ e. some?-yes (λ j. isKnown ts (j .id)) k ks (ap (isKnown ts) (sym (same-id-eq x (k .id) e)) ∙ y))
     (λ e. some?-cons (λ j. isKnown ts (j .id)) k ks ∙ or-true (isKnown ts (k .id)) (some? (λ j. isKnown ts (j .id)) ks) (known-both ts ks x (sym (known-cons k ks x ∙ ap (λ (b : Bool). b || isKnown ks x) e) ∙ h) y))
 
-none-both : (ts ks : List Known) → ((x : Id) → isKnown ks x ≡ true → isKnown ts x ≡ false) → some? (λ k. isKnown ts (k .id)) ks ≡ false
+pub none-both : (ts ks : List Known) → ((x : Id) → isKnown ks x ≡ true → isKnown ts x ≡ false) → some? (λ k. isKnown ts (k .id)) ks ≡ false
 none-both ts [] f = some?-nil (λ (j : Known). isKnown ts (j .id))
 none-both ts (k ∷ ks) f =
     some?-no (λ j. isKnown ts (j .id)) k ks (f (k .id) (known-cons k ks (k .id) ∙ ap (λ (b : Bool). b || isKnown ks (k .id)) (same-id (k .id))))
@@ -267,9 +267,21 @@ pub use-word : (m : Mode) (w : Word) (s : Saying) → s ≡ saidIn m w → s ≡
 unfolding ofId
 use-word m w s e q = id-word m w (sym (ap ofId e) ∙ ap ofId q)
 
+pub lists-word : (m : Mode) (w : Word) (s : Saying) → s ≡ saidIn m w → s ≡ Lists → isId w ≡ true
+unfolding ofId
+lists-word m w s e q = id-word m w (sym (ap ofId e) ∙ ap ofId q)
+
+pub defines-word : (m : Mode) (w : Word) (s : Saying) → s ≡ saidIn m w → s ≡ Defines → isId w ≡ true
+unfolding ofId
+defines-word m w s e q = id-word m w (sym (ap ofId e) ∙ ap ofId q)
+
 pub start-word : (m : Mode) (w : Word) (s : Saying) → s ≡ saidIn m w → s ≡ Opens → isId w ≡ true
 unfolding ofId
 start-word m w s e q = id-word m w (sym (ap ofId e) ∙ ap ofId q)
+
+pub define-word : (m : Mode) (w : Word) (s : Saying) → s ≡ saidIn m w → s ≡ Defines → isId w ≡ true
+unfolding ofId
+define-word m w s e q = id-word m w (sym (ap ofId e) ∙ ap ofId q)
 
 -- `uses_nowhere`
 pub uses-first : (t : List ℕ) (l : Layout) → parse t ≡ some l → ofSaid false (verdictOf (nowhere (sourceIn (l .pieces))) (record { bad = false; body = false })) (modeOf 0) (placedFrom t 0) ≡ undefinedUse (sourceIn (l .pieces))

@@ -16,7 +16,7 @@ use Rattle.yacc_read.proofs.Known.{same-id, same-id-eq, known-cons, known-none,
 use Rattle.yacc_numbers.specs.Numbers.{placeIn, numbered, numberedTo, Numbers}
 
 -- the number of an id, of those in front and of one behind them
-number-front : (ks js : List Known) (x : Id) → isKnown ks x ≡ true → numberIn (ks ++ js) x ≡ numberIn ks x
+pub number-front : (ks js : List Known) (x : Id) → isKnown ks x ≡ true → numberIn (ks ++ js) x ≡ numberIn ks x
 number-front [] js x h = clash (isKnown [] x) h (known-none x)
 number-front (k ∷ ks) js x h =
     cases (sameId x (k .id))
@@ -25,7 +25,7 @@ number-front (k ∷ ks) js x h =
     let rest : isKnown ks x ≡ true = sym (known-cons k ks x ∙ ap (λ (t : Bool). t || isKnown ks x) e) ∙ h in
     number-there k (ks ++ js) x e ∙ ap suc (number-front ks js x rest) ∙ sym (number-there k ks x e))
 
-number-behind : (ks : List Known) (k : Known) (x : Id) → isKnown ks x ≡ false → sameId x (k .id) ≡ true → numberIn (ks ++ (k ∷ [])) x ≡ length ks
+pub number-behind : (ks : List Known) (k : Known) (x : Id) → isKnown ks x ≡ false → sameId x (k .id) ≡ true → numberIn (ks ++ (k ∷ [])) x ≡ length ks
 number-behind [] k x h s = number-here k [] x s
 number-behind (j ∷ ks) k x h s =
     cases (sameId x (j .id))
@@ -35,11 +35,11 @@ number-behind (j ∷ ks) k x h s =
     number-there j (ks ++ (k ∷ [])) x e ∙ ap suc (number-behind ks k x rest s))
 
 -- places
-place-yes : (ks : List Known) (x : Id) → isKnown ks x ≡ true → placeIn ks x ≡ suc (numberIn ks x)
+pub place-yes : (ks : List Known) (x : Id) → isKnown ks x ≡ true → placeIn ks x ≡ suc (numberIn ks x)
 unfolding placeIn
 place-yes ks x e = rw (e, placeIn)
 
-place-no : (ks : List Known) (x : Id) → isKnown ks x ≡ false → placeIn ks x ≡ 0
+pub place-no : (ks : List Known) (x : Id) → isKnown ks x ≡ false → placeIn ks x ≡ 0
 unfolding placeIn
 place-no ks x e = rw (e, placeIn)
 

@@ -169,7 +169,7 @@ run-none : (b : ℕ) (k : List ℕ) → goesOn (kindOf b) ≡ false → runOf (b
 unfolding runOf
 run-none b k e = rw (e, runOf)
 
-past-none : (b : ℕ) (k : List ℕ) → goesOn (kindOf b) ≡ false → pastRun (b ∷ k) ≡ b ∷ k
+pub past-none : (b : ℕ) (k : List ℕ) → goesOn (kindOf b) ≡ false → pastRun (b ∷ k) ≡ b ∷ k
 unfolding pastRun
 past-none b k e = rw (e, pastRun)
 
@@ -209,11 +209,11 @@ literal-sound (c ∷ d ∷ k) = literal-by c d k (literalByte c && eqb d 39) ref
 no-list : (k : List ℕ) → _≡_ {A = Option (List ℕ)} none (some k) → ⊥
 no-list k q = let w : _≡_ {A = ℕ} 0 1 = ap (λ (o : Option (List ℕ)). elim o [ none ↦ 0 | some c ↦ 1 ]) q in omega arith
 
-strip-yes : (p : ℕ) (ps : List ℕ) (b : ℕ) (t : List ℕ) → eqb p b ≡ true → strip (p ∷ ps) (b ∷ t) ≡ strip ps t
+pub strip-yes : (p : ℕ) (ps : List ℕ) (b : ℕ) (t : List ℕ) → eqb p b ≡ true → strip (p ∷ ps) (b ∷ t) ≡ strip ps t
 unfolding strip
 strip-yes p ps b t e = rw (e, strip)
 
-strip-no : (p : ℕ) (ps : List ℕ) (b : ℕ) (t : List ℕ) → eqb p b ≡ false → strip (p ∷ ps) (b ∷ t) ≡ none
+pub strip-no : (p : ℕ) (ps : List ℕ) (b : ℕ) (t : List ℕ) → eqb p b ≡ false → strip (p ∷ ps) (b ∷ t) ≡ none
 unfolding strip
 strip-no p ps b t e = rw (e, strip)
 

@@ -15,7 +15,7 @@ use Rattle.numerals.specs.Numeral.{numeralBy, numeral}
 use Rattle.yacc_text.specs.Grammar.{isWhite, isLetter, isDigit, kindOf, blank?, goesOn, Id, named, quoted, Token, ident, token, start, mark, colon, bar, semi, Piece, white, comment, piece, Rule, rule, Def, tokens, File, idsTo, altsTo, ruleTo, rulesTo, defTo, defsTo, tokensOf, oneStart, spellId, spellToken, spellPiece, spellAll, tokensIn, okId, okToken, okPiece, stops, apartId, apartToken, apart, fits, Layout, spell, Sound}
 use Rattle.yacc_text.specs.Parse.{parse}
 use Rattle.yacc_text.proofs.Exact.{parse-complete}
-use Rattle.yacc_write.specs.Text.{nameOf, nameToken, tokenLine, productionLine, lines, spaced, line, piecesOf, textOf}
+use Rattle.yacc_write.specs.Text.{textMost, nameOf, nameToken, tokenLine, productionLine, lines, spaced, line, piecesOf, textOf}
 use Rattle.yacc_write.specs.Files.{ruleOf, defsOf, fileOf, layoutOf}
 use Rattle.yacc_write.proofs.Names.{numberOf, number-small, name-ok, name-wide}
 
@@ -131,8 +131,8 @@ middle-size : (ps : List Production) → length (spellAll (joined line ((mark �
 unfolding joined line spaced spellAll spellPiece spellToken
 middle-size ps = omega arith
 
--- what is written fits in 9,468 bytes
-pub text-size : (T : Table) → TableFits T → length (textOf T) ≤ 9468
+-- what is written has few bytes
+pub text-size : (T : Table) → TableFits T → length (textOf T) ≤ textMost
 unfolding textOf piecesOf lines
 text-size T F =
     let a = tokens-size (T .terminals) (F .few-terminals) in

@@ -8,6 +8,10 @@ use Rattle.repr.specs.Meaning.{Symbol, nonterminal, terminal, Production, Table
 use Rattle.numerals.specs.Numeral.{numeral}
 use Rattle.yacc_text.specs.Grammar.{Id, named, Token, ident, token, mark, colon, semi, Piece, white, piece, spellAll}
 
+-- bytes of a written text at most
+abbrev pub textMost : ℕ
+textMost = 9468
+
 -- 23: a nonterminal without productions, or whose first one is not above the one before's; from production lo on
 unfoldable pub ascending : ℕ → List (List ℕ) → Bool
 ascending lo [] = true

@@ -5,3 +5,8 @@ pub enum Writing {
     Bytes(u16),
     Refused(u16, u16),
 }
+
+impl Writing {
+    // No text that is written has more bytes (`text-size`, proofs/Layouts).
+    pub const MOST: usize = 9468;
+}

@@ -7,6 +7,7 @@ use crate::rewrites;
 use crate::side::*;
 use crate::states;
 use crate::table::*;
+use crate::yacc;
 use std::collections::BTreeSet;
 use std::rc::Rc;
 
@@ -20,6 +21,11 @@ pub const ENTRIES: usize = 390;
 pub const REWRITTEN: usize = 32_776;
 pub const BUILDING: usize = 64_008;
 pub const CONFLICTS: usize = 10_008;
+pub const YACC_TABLE: usize = 8_848;
+pub const YACC_PLACES: usize = 104;
+pub const YACC_WRITTEN: usize = 9_480;
+/// And bytes of a text that is read: more than are read.
+pub const YACC_TEXT: usize = 65_544;
 
 /// The words that a call asks for: 11, and document 01's rules of scratch.
 pub const GRAPH_ASKED: usize = 8_193;
@@ -299,6 +305,78 @@ fn build(table: &[u16], more: &[u16]) -> Answer {
     shown.chain(fronts).collect()
 }
 
+/// A text as the words of a request and five further ones: the words that are
+/// lent, the number of bytes in the request's words (two a word, the low one
+/// first), and which of them stands how often more: of the longest run.
+pub fn text_request(text: &[u8], lent: [usize; 2]) -> (Vec<u16>, Vec<u16>) {
+    let mut longest = 0..1;
+    let mut from = 0;
+    for run in text.chunk_by(|a, b| a == b) {
+        if run.len() > longest.len() {
+            longest = from..from + run.len();
+        }
+        from += run.len();
+    }
+    let [from, more] = [longest.start, longest.len() - 1];
+    let given = [&text[..from], &text[from + more..]].concat();
+    let words = given
+        .chunks(2)
+        .map(|b| b[0] as u16 | (*b.get(1).unwrap_or(&0) as u16) << 8);
+    let numbers = [lent[0], lent[1], given.len(), from, more];
+    (
+        words.collect(),
+        numbers.map(|n| n.min(u16::MAX as usize) as u16).to_vec(),
+    )
+}
+
+/// The text of such a request.
+fn text_of(words: &[u16], more: &[u16]) -> Vec<u8> {
+    let bytes: Vec<u8> = words.iter().flat_map(|w| w.to_le_bytes()).collect();
+    let [given, from, times] = [2, 3, 4].map(|i| number(more, i));
+    let at = |i: usize| {
+        if i < from {
+            i
+        } else {
+            i.saturating_sub(times).max(from)
+        }
+    };
+    let all = (given + times).min(YACC_TEXT);
+    (0..all)
+        .map(|i| bytes.get(at(i)).copied().unwrap_or(0))
+        .collect()
+}
+
+/// Op 21, the same: the text in place of a table.
+fn read_yacc(words: &[u16], more: &[u16]) -> Answer {
+    let lent = [(0, YACC_TABLE), (1, YACC_PLACES)];
+    let lent = lent.map(|(i, most)| number(more, i).min(most));
+    let (head, records, places) = match yacc::read(&text_of(words, more), lent) {
+        Ok(r) => {
+            let counts = [r.records.len() as u32, r.places.len() as u32];
+            let head = [0, 0, counts[0], counts[1], r.start as u32];
+            (head, r.records.concat(), r.places)
+        }
+        Err(r) => ([r.number as u32, r.place as u32, 7, 7, 7], vec![], vec![]),
+    };
+    let (table, list) = (over(YACC_TABLE, &records), over(YACC_PLACES, &places));
+    let shown = head.into_iter().chain([digest(&table), digest(&list)]);
+    shown
+        .chain(wide(&table[..24]))
+        .chain(wide(&list[..12]))
+        .collect()
+}
+
+/// Op 22, the same; a byte is shown as a word.
+fn write_yacc(table: &[u16], more: &[u16]) -> Answer {
+    let (head, text) = match yacc::write(table, number(more, 0).min(YACC_WRITTEN)) {
+        Ok(text) => ([0, 0, text.len() as u32], text),
+        Err(r) => ([r.number as u32, r.place as u32, 7], vec![]),
+    };
+    let words: Vec<u16> = text.iter().map(|&b| b as u16).collect();
+    let lent = over(YACC_WRITTEN, &words);
+    rewritten(head, &lent)
+}
+
 /// Opening a listing.
 fn open(of: &Of) -> Result<(), Refusal> {
     let table = asked(of)?;
@@ -383,6 +461,8 @@ impl<'a> Answers<'a> {
             18 => Some(respell(table, more)),
             19 => Some(compact(table)),
             20 => Some(build(table, more)),
+            21 => Some(read_yacc(table, more)),
+            22 => Some(write_yacc(table, more)),
             _ => None,
         }
     }

@@ -43,7 +43,7 @@ impl Rng {
 }
 
 /// The kinds of cases, each made from a seed.
-pub const KINDS: [&str; 11] = [
+pub const KINDS: [&str; 12] = [
     "classic",
     "random",
     "bent",
@@ -55,6 +55,7 @@ pub const KINDS: [&str; 11] = [
     "layouts",
     "build",
     "built",
+    "yacc",
 ];
 
 /// Kinds that are no part of `all`: they take long.
@@ -75,6 +76,7 @@ pub fn case(kind: &str, seed: u64) -> Option<Case> {
         "layouts" => crate::layouts::case(seed),
         "build" => crate::builds::case(seed),
         "built" => crate::builds::built(seed),
+        "yacc" => crate::yaccs::case(seed),
         "heavy" => heavy(seed),
         "most" => most(seed),
         _ => panic!("kinds: {KINDS:?}, {ALONE:?}"),
@@ -854,6 +856,7 @@ fn damaged(rng: &mut Rng) -> Option<Case> {
             Question::Respell(32_768),
             Question::Compact,
             Question::Build(0, [64_000, 32_768, 100]),
+            Question::WriteYacc(9_468),
         ],
     })
 }

@@ -23,6 +23,9 @@ pub mod sample;
 pub mod side;
 pub mod states;
 pub mod table;
+pub mod tools;
+pub mod yacc;
+pub mod yaccs;
 
 /// Runs `f` on a thread with a large stack: the Rust's enumerator and tracing
 /// recurse.

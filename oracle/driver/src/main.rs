@@ -20,6 +20,7 @@ oracle compare KIND SEED COUNT [SIDE ..] [only=VERB,..]
 oracle sample REQUESTS ANSWERS [KIND SEED COUNT]
                                         writes the stored sample of the program replay, or one of some seeds
 oracle bison SEED COUNT [SIDE ..]       request 01 against bison's canonical LR(1) automata, so many grammars
+oracle yacc SEED COUNT                  request 09 against byacc and bison, so many files
 oracle costs [PART ..]                  times of the Rust and the port, if linked, in markdown: the tables of docs/COSTS.md
                                         (PART: traces, listings, conflicts, building; or longest, which takes long)
 sides: rust, plain, and port if linked";
@@ -56,6 +57,7 @@ fn run(args: &[&str]) -> bool {
             sample(requests, answers, &made)
         }
         ["bison", seed, count, ref sides @ ..] => bison(number(seed), number(count), sides),
+        ["yacc", seed, count] => yacc(number(seed), number(count)),
         #[cfg(feature = "port")]
         ["costs", ref parts @ ..] if parts.iter().all(|p| oracle::costs::PARTS.contains(p)) => {
             oracle::costs::costs(parts);
@@ -278,6 +280,34 @@ fn bison(seed: u64, count: u64, sides: &[&str]) -> bool {
         failed: 0,
     };
     if let Some(what) = found {
+        score.count(false, || what);
+    }
+    score.end()
+}
+
+/// The plain reader of request 09, byacc and bison.
+fn yacc(seed: u64, count: u64) -> bool {
+    let (told, found) = oracle::tools::compare(seed, count as usize);
+    println!(
+        "{} files that all read: {} productions, {} symbols, {} terminals",
+        told.files, told.productions, told.symbols, told.terminals
+    );
+    println!("classes: here, files, read by byacc, read by bison");
+    let mut score = Score {
+        passed: told.files as u64,
+        failed: 0,
+    };
+    for (name, here, [files, byacc, bison], good) in told.kinds {
+        println!("{here:>5} {files:>5} {byacc:>5} {bison:>5}  {name}");
+        score.passed += if good { files as u64 } else { 0 };
+    }
+    println!("a byte changed: here, byacc, bison, files");
+    for ((here, byacc, bison), files) in told.bent {
+        let read = |yes: bool| if yes { "reads" } else { "refuses" };
+        println!("{here:>5} {:>8} {:>8} {files:>5}", read(byacc), read(bison));
+    }
+    println!("{} files of which a tool died", told.died);
+    for what in found {
         score.count(false, || what);
     }
     score.end()

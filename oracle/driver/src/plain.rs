@@ -540,6 +540,28 @@ impl Side for PlainSide {
         })
     }
 
+    fn read_yacc(&mut self, text: &[u8], lent: [usize; 2]) -> Option<Answer> {
+        Some(match crate::yacc::read(text, lent) {
+            Ok(read) => {
+                let counts = [read.records.len() as u32, read.places.len() as u32];
+                let words = [read.records.concat(), read.places].concat();
+                let head = [0, counts[0], counts[1], read.start as u32];
+                head.into_iter().chain(wide(&words)).collect()
+            }
+            Err(r) => refused(r),
+        })
+    }
+
+    fn write_yacc(&mut self, table: &[u16], bytes: usize) -> Option<Answer> {
+        Some(match crate::yacc::write(table, bytes) {
+            Ok(text) => {
+                let head = [0, text.len() as u32];
+                head.into_iter().chain(text.into_iter().map(u32::from)).collect()
+            }
+            Err(r) => refused(r),
+        })
+    }
+
     fn first0(&mut self, table: &[u16], symbols: &[Sym]) -> Option<Answer> {
         ask(
             table,

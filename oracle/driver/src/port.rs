@@ -30,6 +30,14 @@ macro_rules! entries {
         entries! { @ $n $e ($($s)* $a: &mut [u16],) ($($d)* _: *mut u16, _: usize,)
         ($($c)* $a.as_mut_ptr(), $a.len(),) $($more)* }
     };
+    (@ $n:ident $e:ident ($($s:tt)*) ($($d:tt)*) ($($c:tt)*) $a:ident: &[u8], $($more:tt)*) => {
+        entries! { @ $n $e ($($s)* $a: &[u8],) ($($d)* _: *const u8, _: usize,)
+        ($($c)* $a.as_ptr(), $a.len(),) $($more)* }
+    };
+    (@ $n:ident $e:ident ($($s:tt)*) ($($d:tt)*) ($($c:tt)*) $a:ident: &mut [u8], $($more:tt)*) => {
+        entries! { @ $n $e ($($s)* $a: &mut [u8],) ($($d)* _: *mut u8, _: usize,)
+        ($($c)* $a.as_mut_ptr(), $a.len(),) $($more)* }
+    };
     (@ $n:ident $e:ident ($($s:tt)*) ($($d:tt)*) ($($c:tt)*) [$($a:ident),*]: $t:ty, $($more:tt)*) => {
         entries! { @ $n $e ($($s)* [$($a),*]: $t,) ($($d)* $($a: u16,)*) ($($c)* $($a,)*) $($more)* }
     };
@@ -106,6 +114,13 @@ entries! {
     );
     // In which of the two the symbols lie; nothing is refused.
     observed is lihvemur_observed(action: &[u16], reduce: &[u16], words: &mut usize);
+    read_yacc is lihvemur_read_yacc(
+        text: &[u8], table: &mut [u16], places: &mut [u16],
+        records: &mut u16, count: &mut u16, start: &mut u16, place: &mut u16
+    );
+    write_yacc is lihvemur_write_yacc(
+        table: &[u16], text: &mut [u8], bytes: &mut u16, place: &mut u16
+    );
 }
 
 /// What `advance` answers at the end of a listing.

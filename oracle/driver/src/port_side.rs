@@ -325,6 +325,84 @@ impl Side for PortSide {
         })
     }
 
+    /// Accepted it writes the records and the places that it answers at the
+    /// fronts of their lists and nothing past them, else nothing. What it writes
+    /// is its own spelling, with nothing to take back.
+    fn read_yacc(&mut self, text: &[u8], lent: [usize; 2]) -> Option<Answer> {
+        self.fill = self.fill.wrapping_add(1);
+        let mut lists = lent.map(|words| Lent::new(words, self.fill));
+        let (mut place, mut results) = (u16::MAX, [u16::MAX; 3]);
+        let [table, places] = &mut lists;
+        let [records, count, start] = &mut results;
+        let refusal = read_yacc(
+            text,
+            &mut table.words[..lent[0]],
+            &mut places.words[..lent[1]],
+            records,
+            count,
+            start,
+            &mut place,
+        );
+        let fronts = match refusal {
+            0 => [4 * results[0] as usize, results[1] as usize],
+            _ => [0; 2],
+        };
+        for ((list, front), name) in lists.iter_mut().zip(fronts).zip(["table", "places"]) {
+            list.kept(front, name);
+        }
+        let [table, places] = lists.map(|list| list.words);
+        let (table, places) = (&table[..fronts[0]], &places[..fronts[1]]);
+        if refusal == 0 {
+            assert!(place == 0);
+            let again: Answer = [0, results[0] as u32].into_iter().chain(wide(table)).collect();
+            assert!(self.respell(table, table.len()).as_ref() == Some(&again));
+            assert!(self.compact(table) == Some(again));
+        } else {
+            assert!(results == [u16::MAX; 3]);
+        }
+        answer((refusal, place), || {
+            let words = wide(&results).chain(wide(table)).chain(wide(places));
+            words.collect::<Answer>().into_iter()
+        })
+    }
+
+    /// Accepted it writes so many bytes as it answers and nothing past them, else
+    /// nothing. Read back and written again, they are the same bytes.
+    fn write_yacc(&mut self, table: &[u16], bytes: usize) -> Option<Answer> {
+        self.fill = self.fill.wrapping_add(1);
+        let fill = |i: usize| (i as u8).wrapping_mul(7).wrapping_add(self.fill as u8);
+        let before: Vec<u8> = (0..bytes + PAST).map(fill).collect();
+        let mut text = before.clone();
+        let (mut place, mut written) = (u16::MAX, u16::MAX);
+        let refusal = write_yacc(table, &mut text[..bytes], &mut written, &mut place);
+        let front = if refusal == 0 { written as usize } else { 0 };
+        assert!(text[front..] == before[front..], "text: bytes changed from {front} on");
+        let text = &text[..front];
+        if refusal == 0 {
+            assert!(place == 0);
+            let (mut read, mut places) = ([0; 8_840], [0; 95]);
+            let [mut records, mut count, mut start] = [u16::MAX; 3];
+            let back = read_yacc(
+                text,
+                &mut read,
+                &mut places,
+                &mut records,
+                &mut count,
+                &mut start,
+                &mut place,
+            );
+            assert!(back == 0 && start == 0 && count == table[0] + table[1]);
+            let mut again = vec![0; front];
+            let read = &read[..4 * records as usize];
+            assert!(write_yacc(read, &mut again, &mut written, &mut place) == 0 && again == text);
+        } else {
+            assert!(written == u16::MAX);
+        }
+        answer((refusal, place), || {
+            std::iter::once(front as u32).chain(text.iter().map(|&b| b.into()))
+        })
+    }
+
     fn first0(&mut self, table: &[u16], symbols: &[Sym]) -> Option<Answer> {
         let (mut place, mut set, mut nullable) = (0, 0, false);
         let symbols = symbol_words(symbols);

@@ -32,6 +32,10 @@ pub enum Question {
     Compact,
     /// The start production, and words of scratch, output and conflicts.
     Build(u16, [usize; 3]),
+    /// A text, and words of the table and of the places; of no table.
+    ReadYacc(Vec<u8>, [usize; 2]),
+    /// Bytes of the output.
+    WriteYacc(usize),
 }
 
 /// A table with questions about it.
@@ -70,6 +74,8 @@ pub fn ask(side: &mut dyn Side, table: &[u16], question: &Question) -> Option<An
         Question::Respell(words) => side.respell(table, *words as usize),
         Question::Compact => side.compact(table),
         Question::Build(start, lent) => side.build(table, *start, *lent),
+        Question::ReadYacc(text, lent) => side.read_yacc(text, *lent),
+        Question::WriteYacc(bytes) => side.write_yacc(table, *bytes),
     }
 }
 
@@ -120,6 +126,10 @@ impl std::fmt::Display for Question {
             Question::Respell(words) => format!("respell {words}"),
             Question::Compact => "compact".into(),
             Question::Build(start, lent) => format!("build {start} / {}", text(lent)),
+            Question::ReadYacc(bytes, lent) => {
+                format!("read-yacc {} / {}", text(lent), text(bytes))
+            }
+            Question::WriteYacc(bytes) => format!("write-yacc {bytes}"),
         };
         f.write_str(line.trim_end())
     }
@@ -180,6 +190,11 @@ pub fn parse(line: &str) -> Option<Question> {
         ("respell", &[words]) => Question::Respell(words),
         ("compact", []) => Question::Compact,
         ("build", &[start]) => Question::Build(start, lent(1)?.try_into().ok()?),
+        ("read-yacc", &[table, places]) => {
+            let bytes = numbers(1)?.into_iter().map(|b| b.try_into().ok());
+            Question::ReadYacc(bytes.collect::<Option<_>>()?, [table.into(), places.into()])
+        }
+        ("write-yacc", &[bytes]) => Question::WriteYacc(bytes.into()),
         ("observed", c) => Question::Observed(c.try_into().ok()?),
         _ => return None,
     })

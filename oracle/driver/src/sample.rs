@@ -1,7 +1,7 @@
 //! The stored sample: requests in words for the program `replay`, and the
 //! answers, one a line. The same on every run.
 
-use crate::answers::{Answers, set_words};
+use crate::answers::{Answers, set_words, text_request};
 use crate::generate;
 use crate::question::{Question, ask, text};
 use crate::side::{Answer, Side, symbol_words};
@@ -58,7 +58,11 @@ fn joins(q: &Question) -> bool {
 fn rewrites(q: &Question) -> bool {
     matches!(
         q,
-        Question::Respell(..) | Question::Compact | Question::Build(..)
+        Question::Respell(..)
+            | Question::Compact
+            | Question::Build(..)
+            | Question::ReadYacc(..)
+            | Question::WriteYacc(..)
     )
 }
 
@@ -83,6 +87,8 @@ fn request(q: &Question) -> Option<(u16, Vec<u16>)> {
             let lent = lent.map(|words| words.min(u16::MAX as usize) as u16);
             (20, [&[*start], &lent[..]].concat())
         }
+        Question::ReadYacc(text, lent) => (21, text_request(text, *lent).1),
+        Question::WriteYacc(bytes) => (22, vec![*bytes as u16]),
         _ => return None,
     })
 }
@@ -107,8 +113,13 @@ impl Maker<'_> {
     }
 
     pub fn ask(&mut self, table: &[u16], q: &Question) {
+        // A text stands in place of a table.
+        let text = match q {
+            Question::ReadYacc(text, lent) => Some(text_request(text, *lent).0),
+            _ => None,
+        };
         if let Some((op, more)) = request(q) {
-            self.put(op, table, &more);
+            self.put(op, text.as_deref().unwrap_or(table), &more);
         }
     }
 
@@ -512,6 +523,7 @@ pub fn sample(side: &mut dyn Side) -> Sample {
     crate::rules::rules(&mut m);
     crate::layouts::layouts(&mut m);
     crate::builds::builds(&mut m);
+    crate::yaccs::yaccs(&mut m);
     m.out
 }
 

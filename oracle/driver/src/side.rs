@@ -20,6 +20,8 @@ use crate::table::{Refusal, Sym, Table, check, refuse};
 /// | respell | number of records, the words written |
 /// | compact | number of records left, the table's words |
 /// | build | number of records, number of conflicts, the words of the records, the words of the conflicts |
+/// | read_yacc | number of records, number of places, the start's nonterminal, the words of the records, the places |
+/// | write_yacc | number of bytes, the bytes |
 /// | item | number of prefix symbols, the symbols; 1 and the cursor's symbol or 0; number of suffix symbols, the symbols; the nonterminal it can shift plus 1 or 0 |
 pub type Answer = Vec<u32>;
 
@@ -106,6 +108,14 @@ pub trait Side {
     }
     /// Lent so many words of scratch, output and conflicts.
     fn build(&mut self, _table: &[u16], _start: u16, _lent: [usize; 3]) -> Option<Answer> {
+        None
+    }
+    /// Lent so many words for the table and for the places.
+    fn read_yacc(&mut self, _text: &[u8], _lent: [usize; 2]) -> Option<Answer> {
+        None
+    }
+    /// Into so many bytes.
+    fn write_yacc(&mut self, _table: &[u16], _bytes: usize) -> Option<Answer> {
         None
     }
     fn sets(&mut self, _table: &[u16], _a: u64, _b: u64, _token: u16) -> Option<Answer> {

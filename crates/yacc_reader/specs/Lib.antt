@@ -1,0 +1,3 @@
+-- What the contracts cite. Assumes nothing.
+pub mod Passed
+pub mod Reading

@@ -1,0 +1,5 @@
+pub mod Automaton
+pub mod Live
+pub mod Numbers
+pub mod Places
+pub mod Examples

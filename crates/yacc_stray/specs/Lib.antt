@@ -1,0 +1,4 @@
+-- What the contracts cite. Assumes nothing.
+pub mod Stray
+pub mod Automaton
+pub mod Numbers
