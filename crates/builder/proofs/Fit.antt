@@ -18,7 +18,7 @@ use Rattle.table.proofs.Decoding.{fits}
 use Rattle.spelling.specs.Spelled.{spell}
 use Rattle.error.specs.declared.Conflict.{Conflict}
 use Rattle.error.specs.Sides.{gather}
-use Rattle.error.specs.Outcome.{operandFits, placeFits, conflictFits, shiftsEnd, gatheredOutcome, classifyIn, classifyBy, classifyOf}
+use Rattle.error.specs.Outcome.{operandFits, placeFits, conflictFits, shiftsEnd, gatheredOutcome, classifyIn, classifyInWith, classifyByWith, classifyOf, classifyWith}
 use Rattle.build.specs.Canonical.{Clash}
 use Rattle.build.specs.States.{built, build, clashes}
 use Rattle.build.specs.Built.{builtState, builtTable}
@@ -40,15 +40,15 @@ operand-reduction T a o e h = rw (e, lt-ltb o (length (T .productions)) h)
 
 over-accepted : (t : List ℕ) (T : Table) (c : Conflict) (scratch action reduce : List ℕ) → checkOf t ≡ Accepted → meaning t ≡ T
     → classifyOf t c scratch action reduce ≡ classifyIn c scratch action reduce T
-unfolding classifyOf classifyBy
+unfolding classifyWith classifyByWith
 over-accepted t T c scratch action reduce a e = rw (a, e)
 
 in-range : (T : Table) (c : Conflict) (scratch action reduce : List ℕ) → conflictFits T c ≡ true → shiftsEnd T c ≡ false
     → classifyScratch ≤ length scratch → exampleRoom ≤ length action → exampleRoom ≤ length reduce
     → classifyIn c scratch action reduce T ≡ gatheredOutcome T c scratch action reduce (gather T c)
-unfolding classifyIn
+unfolding classifyInWith
 in-range T c scratch action reduce f s ls la lr =
-    rw (f, s, le-leb classifyScratch (length scratch) ls, le-leb exampleRoom (length action) la, le-leb exampleRoom (length reduce) lr, classifyIn)
+    rw (f, s, le-leb classifyScratch (length scratch) ls, le-leb exampleRoom (length action) la, le-leb exampleRoom (length reduce) lr, classifyInWith)
 
 module _ (T : Table) (F : TableFits T) (start : ℕ) (h : start < length (T .productions)) (Rs : List (List ℕ)) (es : List (List Edge)) (e : build T start ≡ built Rs es)
     (k : ℕ) (l : k < length Rs) (c : Clash) (m : List·Memᴰ c (clashes T (getD Rs k []))) where

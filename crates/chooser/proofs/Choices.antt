@@ -15,14 +15,14 @@ use Rattle.repr.proofs.Lists.{keep-nil, keep-yes, keep-no, cases}
 use Rattle.lookahead.specs.Tokens.{has, members}
 use Rattle.error.specs.declared.Conflict.{Conflict}
 use Rattle.error.specs.Outcome.{placeFits}
-use Rattle.error.specs.Choose.{Entry, Choice, chosen, refused, Outcome, outcome, Entries, entries, halts, isBetter, classesOf, naiveOnes, choiceFrom, choiceOf, setFits, setShiftsEnd, chooseIn}
+use Rattle.error.specs.Choose.{Entry, Choice, chosen, refused, Outcome, outcome, Entries, entries, halts, isBetter, classesOf, naiveOnes, choiceFrom, choiceOf, setFits, setShiftsEnd, chooseIn, chooseInWith}
+use Rattle.error.proofs.Late.{LateHalts, classes-late}
 use Rattle.entries.specs.Entries.{entriesIn}
 use Rattle.entries.proofs.Laws.{entries-long}
 use Rattle.chooser.specs.declared.Step.{Step}
 use Rattle.chooser.specs.declared.Step.the-variants.{Counts, Halted}
 use Rattle.chooser.specs.declared.Chosen.{Chosen}
 use Rattle.chooser.specs.Choosing.{choiceIn, chosenOf, Sorted, sorted, stopped, stepped, sortedIn, CountsWithin, isNaive, addedTo, naiveCount}
-use Rattle.chooser.proofs.Halts.{classes-halt}
 use Rattle.chooser.proofs.Answered.{refused-choice, refused-whole}
 
 -- how many naive ones
@@ -91,9 +91,9 @@ unfolding entriesIn below upFrom
 no-entries ws = refl
 
 -- by what all tokens came to
-halt-choice : (action x : ℕ) (E : Entries) → (E ≡ halts 0 → ⊥) → stopped x ≡ addedTo [] [] E → (x ≡ 0 → ⊥) × (refused x 0 ≡ choiceOf action E)
+halt-choice : (action x : ℕ) (E : Entries) → LateHalts E → stopped x ≡ addedTo [] [] E → (x ≡ 0 → ⊥) × (refused x 0 ≡ choiceOf action E)
 unfolding addedTo choiceOf
-halt-choice action x (halts n) h e = let z : x ≡ n = cc in ((λ q. h (ap halts (sym z ∙ q))), ap (λ (y : ℕ). refused y 0) z)
+halt-choice action x (halts n) h e = let z : x ≡ n = cc in ((λ q. absurd (omega (arith, h))), ap (λ (y : ℕ). refused y 0) z)
 halt-choice action x (entries es) h e = let z : _≡_ {A = ℕ} 0 1 = cc in absurd (omega arith)
 
 better-choice : (action b a : ℕ) (better naive : List ℕ) (E : Entries) → (b ≡ 0 → ⊥) → sorted (entriesIn better b) (entriesIn naive a) ≡ addedTo [] [] E → chosen (entriesIn better b) ≡ choiceOf action E
@@ -133,7 +133,7 @@ module _ (T : Table) (c : Conflict) (set : ℕ) (w₀ w w′ better naive : List
   pub chosen-halts : (n : ℕ) → r ≡ Halted n → (x : Chosen) → x ≡ chosenOf (refused n 0) → Chooses x × (x ≡ chosenOf (choiceIn x))
   unfolding sortedIn
   chosen-halts n er x e =
-      let p = halt-choice (c .action) n (classesOf T c (members set)) (classes-halt T c (members set)) (ap (λ (y : Step). sortedIn y better naive) (sym er) ∙ left) in
+      let p = halt-choice (c .action) n (classesOf T c (members set)) (classes-late T c (members set)) (ap (λ (y : Step). sortedIn y better naive) (sym er) ∙ left) in
       let q = refused-choice n 0 x (p .0) e ∙ p .1 in
       ((λ j. outcome (q j) (right j)), refused-whole n 0 x (p .0) e)
 
@@ -168,16 +168,16 @@ refusal-is n r e = refused-choice (suc n) 0 r (λ z. absurd (omega arith)) e
 
 module _ (T : Table) (c : Conflict) (set : ℕ) (w : List ℕ) where
   pub not-placed : placeFits T c ≡ false → (r : Chosen) → Refuses 9 r → outcome (choiceIn r) w ≡ chooseIn c set w T
-  unfolding chooseIn setFits
-  not-placed p r e = ap (λ (l : Choice). outcome l w) (refusal-is 8 r e) ∙ rw (p, chooseIn)
+  unfolding chooseInWith setFits
+  not-placed p r e = ap (λ (l : Choice). outcome l w) (refusal-is 8 r e) ∙ rw (p, chooseInWith)
 
   module _ (p : placeFits T c ≡ true) (t : ℕ) (et : t ≡ T .terminals) (v : Bool) (ev : v ≡ ltb set (2 ^ suc t)) where
     within-T : v ≡ ltb set (2 ^ suc (T .terminals))
     within-T = ev ∙ ap (λ (k : ℕ). ltb set (2 ^ suc k)) et
 
     pub set-past : v ≡ false → (r : Chosen) → Refuses 9 r → outcome (choiceIn r) w ≡ chooseIn c set w T
-    unfolding chooseIn setFits
-    set-past q r e = let f : ltb set (2 ^ suc (T .terminals)) ≡ false = sym within-T ∙ q in ap (λ (l : Choice). outcome l w) (refusal-is 8 r e) ∙ rw (p, f, chooseIn)
+    unfolding chooseInWith setFits
+    set-past q r e = let f : ltb set (2 ^ suc (T .terminals)) ≡ false = sym within-T ∙ q in ap (λ (l : Choice). outcome l w) (refusal-is 8 r e) ∙ rw (p, f, chooseInWith)
 
     module _ (q : v ≡ true) where
       pub set-fits : setFits T c set ≡ true
@@ -190,13 +190,13 @@ module _ (T : Table) (c : Conflict) (set : ℕ) (w : List ℕ) where
         end-T = ap (λ (k : ℕ). eqb (c .action) 0 && has set k) (sym et) ∙ sym eu
 
         pub shift-end : u ≡ true → (r : Chosen) → Refuses 10 r → outcome (choiceIn r) w ≡ chooseIn c set w T
-        unfolding chooseIn
-        shift-end s r e = let f : setShiftsEnd T c set ≡ true = end-T ∙ s in ap (λ (l : Choice). outcome l w) (refusal-is 9 r e) ∙ rw (set-fits, f, chooseIn)
+        unfolding chooseInWith
+        shift-end s r e = let f : setShiftsEnd T c set ≡ true = end-T ∙ s in ap (λ (l : Choice). outcome l w) (refusal-is 9 r e) ∙ rw (set-fits, f, chooseInWith)
 
         pub short-scratch : u ≡ false → length w < classifyScratch → (r : Chosen) → Refuses 11 r → outcome (choiceIn r) w ≡ chooseIn c set w T
-        unfolding chooseIn
-        short-scratch s l r e = let f : setShiftsEnd T c set ≡ false = end-T ∙ s in ap (λ (l : Choice). outcome l w) (refusal-is 10 r e) ∙ rw (set-fits, f, lt-leb classifyScratch (length w) l, chooseIn)
+        unfolding chooseInWith
+        short-scratch s l r e = let f : setShiftsEnd T c set ≡ false = end-T ∙ s in ap (λ (l : Choice). outcome l w) (refusal-is 10 r e) ∙ rw (set-fits, f, lt-leb classifyScratch (length w) l, chooseInWith)
 
         pub chosen-whole : u ≡ false → classifyScratch ≤ length w → (o : Outcome) → o ≡ outcome (choiceOf (c .action) (classesOf T c (members set))) (zeroed classifyScratch w) → o ≡ chooseIn c set w T
-        unfolding chooseIn
-        chosen-whole s l o e = let f : setShiftsEnd T c set ≡ false = end-T ∙ s in rw (set-fits, f, le-leb classifyScratch (length w) l, chooseIn) e
+        unfolding chooseInWith
+        chosen-whole s l o e = let f : setShiftsEnd T c set ≡ false = end-T ∙ s in rw (set-fits, f, le-leb classifyScratch (length w) l, chooseInWith) e

@@ -1,4 +1,3 @@
-pub mod Halts
 pub mod Tokens
 pub mod Answered
 pub mod Choices

@@ -21,7 +21,7 @@ use Rattle.error.specs.declared.Classified.the-variants.{Class as IsClass, Refu
 use Rattle.error.specs.Numbers.{classNumber, classValues, classed, refused, readingOf}
 use Rattle.error.specs.Sides.{Gathered, sides, halted, gather}
 use Rattle.error.specs.Judge.{Judged, judged}
-use Rattle.error.specs.Outcome.{Outcome, outcome, placeFits, conflictFits, shown, judgedOutcome, gatheredOutcome}
+use Rattle.error.specs.Outcome.{Outcome, outcome, placeFits, conflictFits, shown, judgedOutcome, judgedWith, gatheredOutcome, gatheredWith}
 use Rattle.error.specs.Choose.{Entry, Entries, entries, halts, then, atToken, entryOf, isBetter, classesOf, setFits}
 use Rattle.entries.specs.Entries.{entriesIn, withEntry}
 use Rattle.entries.proofs.Laws.{entries-more}
@@ -58,7 +58,7 @@ entryBy k class = record { token = k; class = classNumber class; values = classV
 module _ (T : Table) (c : Conflict) (k : ℕ) (w w′ a a′ b b′ : List ℕ) (r : Classified) where
   refused-by : (G : Gathered) (x p : ℕ) → r ≡ Refused x p → outcome (readingOf r) w′ a′ b′ ≡ gatheredOutcome T (atToken c k) w a b G
       → (then T c k G (entries []) ≡ halts x) × (w′ ≡ zeroed classifyScratch w)
-  unfolding readingOf gatheredOutcome judgedOutcome then
+  unfolding readingOf gatheredWith judgedWith then
   refused-by (halted n) x p er e =
       let f : outcome (refused x p) w′ a′ b′ ≡ outcome (refused n 0) (zeroed classifyScratch w) a b = ap (λ (y : Classified). outcome (readingOf y) w′ a′ b′) (sym er) ∙ e in
       let z : n ≡ x = cc in
@@ -69,7 +69,7 @@ module _ (T : Table) (c : Conflict) (k : ℕ) (w w′ a a′ b b′ : List ℕ) 
 
   classed-by : (G : Gathered) (class : Class) (i j : ℕ) → r ≡ IsClass class i j → outcome (readingOf r) w′ a′ b′ ≡ gatheredOutcome T (atToken c k) w a b G
       → (then T c k G (entries []) ≡ entries (entryBy k class ∷ [])) × (w′ ≡ zeroed classifyScratch w)
-  unfolding readingOf gatheredOutcome judgedOutcome then entryOf
+  unfolding readingOf gatheredWith judgedWith then entryOf
   classed-by (halted n) class i j er e =
       let f : outcome (classed (classNumber class) (classValues class) i j) w′ a′ b′ ≡ outcome (refused n 0) (zeroed classifyScratch w) a b = ap (λ (y : Classified). outcome (readingOf y) w′ a′ b′) (sym er) ∙ e in
       let z : _≡_ {A = ℕ} 0 1 = cc in absurd (omega arith)

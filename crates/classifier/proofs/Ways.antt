@@ -25,7 +25,7 @@ use Rattle.error.specs.Numbers.{classNumber, classValues, classed, refused, rea
 use Rattle.error.specs.Sides.{Gathered, sides, halted, gather}
 use Rattle.error.specs.Judge.{Judged, judged}
 use Rattle.error.specs.Kept.{Read, kept, Kept}
-use Rattle.error.specs.Outcome.{Outcome, outcome, operandFits, placeFits, conflictFits, shiftsEnd, shown, judgedOutcome, gatheredOutcome, classifyIn}
+use Rattle.error.specs.Outcome.{Outcome, outcome, operandFits, placeFits, conflictFits, shiftsEnd, shown, judgedWith, gatheredOutcome, gatheredWith, classifyIn, classifyInWith}
 use Rattle.gather.specs.declared.Gathered.{Gathered as GatheredValue}
 use Rattle.gather.specs.declared.Gathered.the-variants.{Sides, Halted}
 use Rattle.gather.specs.Answers.{gatheredIn, GatherOutcome, both, KeptBoth}
@@ -122,7 +122,7 @@ kept-both ps r as′ rs n m k l e h = rw e at h
 
 module _ (T : Table) (c : Conflict) (w₀ action reduce : List ℕ) (r : GatheredValue) (as′ rs w′ : List ℕ) (a : both (gatheredIn (T .productions) r as′ rs) w′ ≡ both (gather T c) (zeroed classifyScratch w₀)) where
   pub gathered-halts : (x : ℕ) → r ≡ Halted x → outcome (readingOf (Refused x 0)) w′ action reduce ≡ gatheredOutcome T c w₀ action reduce (gather T c)
-  unfolding readingOf gatheredIn gatheredOutcome
+  unfolding readingOf gatheredIn gatheredWith
   gathered-halts x er =
       let e : halted x ≡ gather T c = ap (λ (y : GatheredValue). gatheredIn (T .productions) y as′ rs) (sym er) ∙ both-left (gatheredIn (T .productions) r as′ rs) (gather T c) w′ (zeroed classifyScratch w₀) a in
       ap (λ (l : List ℕ). outcome (refused x 0) l action reduce) (both-right (gatheredIn (T .productions) r as′ rs) (gather T c) w′ (zeroed classifyScratch w₀) a)
@@ -131,7 +131,7 @@ module _ (T : Table) (c : Conflict) (w₀ action reduce : List ℕ) (r : Gathere
   pub gathered-judged : (n m k l : ℕ) → r ≡ Sides n m k l → (class : Class) (action′ reduce′ : List ℕ)
       → judgedWords class action′ reduce′ ≡ shownOf (T .productions) action reduce (judged T c (kept (T .productions) as′ n) (kept (T .productions) rs k))
       → outcome (readingOf (IsClass class m l)) w′ action′ reduce′ ≡ gatheredOutcome T c w₀ action reduce (gather T c)
-  unfolding readingOf gatheredIn gatheredOutcome judgedOutcome shownOf
+  unfolding readingOf gatheredIn gatheredWith judgedWith shownOf
   gathered-judged n m k l er class action′ reduce′ j =
       let J = judged T c (kept (T .productions) as′ n) (kept (T .productions) rs k) in
       let e : sides (kept (T .productions) as′ n) m (kept (T .productions) rs k) l ≡ gather T c = ap (λ (y : GatheredValue). gatheredIn (T .productions) y as′ rs) (sym er) ∙ both-left (gatheredIn (T .productions) r as′ rs) (gather T c) w′ (zeroed classifyScratch w₀) a in
@@ -143,7 +143,7 @@ module _ (T : Table) (c : Conflict) (w₀ action reduce : List ℕ) (r : Gathere
 
 -- over words that were zeroed before
 pub gathered-again : (T : Table) (c : Conflict) (w₀ w action reduce : List ℕ) (G : Gathered) → w ≡ wordsOf [] ++ drop classifyScratch w₀ → gatheredOutcome T c w action reduce G ≡ gatheredOutcome T c w₀ action reduce G
-unfolding gatheredOutcome judgedOutcome
+unfolding gatheredWith judgedWith
 gathered-again T c w₀ w action reduce (halted n) e = ap (λ (l : List ℕ). outcome (refused n 0) l action reduce) (zeroed-twice classifyScratch w₀ w (cleared w₀ w e))
 gathered-again T c w₀ w action reduce (sides as′ m rs n) e =
     let j = judged T c as′ rs in
@@ -153,13 +153,13 @@ gathered-again T c w₀ w action reduce (sides as′ m rs n) e =
 
 module _ (T : Table) (c : Conflict) (scratch action reduce : List ℕ) where
   pub not-placed : placeFits T c ≡ false → outcome (readingOf (Refused 9 0)) scratch action reduce ≡ classifyIn c scratch action reduce T
-  unfolding readingOf classifyIn conflictFits
-  not-placed e = rw (e, classifyIn)
+  unfolding readingOf classifyInWith conflictFits
+  not-placed e = rw (e, classifyInWith)
 
   module _ (p : placeFits T c ≡ true) (n t s q : ℕ) (C : CountsOf T n t s q) where
     pub token-past : t < c .token → outcome (readingOf (Refused 9 0)) scratch action reduce ≡ classifyIn c scratch action reduce T
-    unfolding readingOf classifyIn conflictFits
-    token-past h = let e = C .terminals in rw (p, lt-leb (c .token) (T .terminals) (omega arith), classifyIn)
+    unfolding readingOf classifyInWith conflictFits
+    token-past h = let e = C .terminals in rw (p, lt-leb (c .token) (T .terminals) (omega arith), classifyInWith)
 
     module _ (h : c .token ≤ t) where
       pub conflict-fits : conflictFits T c ≡ true
@@ -167,27 +167,27 @@ module _ (T : Table) (c : Conflict) (scratch action reduce : List ℕ) where
       conflict-fits = let e = C .terminals in rw (p, le-leb (c .token) (T .terminals) (omega arith))
 
       pub shift-end : (b : Bool) → b ≡ (eqb (c .action) 0 && eqb (c .token) t) → b ≡ true → outcome (readingOf (Refused 10 0)) scratch action reduce ≡ classifyIn c scratch action reduce T
-      unfolding readingOf classifyIn shiftsEnd
+      unfolding readingOf classifyInWith shiftsEnd
       shift-end b e i =
           let f : eqb (c .action) 0 && eqb (c .token) (T .terminals) ≡ true = ap (λ (x : ℕ). eqb (c .action) 0 && eqb (c .token) x) (sym (C .terminals)) ∙ sym e ∙ i in
-          rw (conflict-fits, f, classifyIn)
+          rw (conflict-fits, f, classifyInWith)
 
       module _ (b : Bool) (e : b ≡ (eqb (c .action) 0 && eqb (c .token) t)) (i : b ≡ false) where
         no-end : eqb (c .action) 0 && eqb (c .token) (T .terminals) ≡ false
         no-end = ap (λ (x : ℕ). eqb (c .action) 0 && eqb (c .token) x) (sym (C .terminals)) ∙ sym e ∙ i
 
         pub short-scratch : length scratch < classifyScratch → outcome (readingOf (Refused 11 0)) scratch action reduce ≡ classifyIn c scratch action reduce T
-        unfolding readingOf classifyIn shiftsEnd
-        short-scratch l = rw (conflict-fits, no-end, lt-leb classifyScratch (length scratch) l, classifyIn)
+        unfolding readingOf classifyInWith shiftsEnd
+        short-scratch l = rw (conflict-fits, no-end, lt-leb classifyScratch (length scratch) l, classifyInWith)
 
         pub short-action : classifyScratch ≤ length scratch → length action < exampleRoom → outcome (readingOf (Refused 11 0)) scratch action reduce ≡ classifyIn c scratch action reduce T
-        unfolding readingOf classifyIn shiftsEnd
-        short-action k l = rw (conflict-fits, no-end, le-leb classifyScratch (length scratch) k, lt-leb exampleRoom (length action) l, classifyIn)
+        unfolding readingOf classifyInWith shiftsEnd
+        short-action k l = rw (conflict-fits, no-end, le-leb classifyScratch (length scratch) k, lt-leb exampleRoom (length action) l, classifyInWith)
 
         pub short-reduce : classifyScratch ≤ length scratch → exampleRoom ≤ length action → length reduce < exampleRoom → outcome (readingOf (Refused 11 0)) scratch action reduce ≡ classifyIn c scratch action reduce T
-        unfolding readingOf classifyIn shiftsEnd
-        short-reduce k m l = rw (conflict-fits, no-end, le-leb classifyScratch (length scratch) k, le-leb exampleRoom (length action) m, lt-leb exampleRoom (length reduce) l, classifyIn)
+        unfolding readingOf classifyInWith shiftsEnd
+        short-reduce k m l = rw (conflict-fits, no-end, le-leb classifyScratch (length scratch) k, le-leb exampleRoom (length action) m, lt-leb exampleRoom (length reduce) l, classifyInWith)
 
         pub classified : classifyScratch ≤ length scratch → exampleRoom ≤ length action → exampleRoom ≤ length reduce → (o : Outcome) → o ≡ gatheredOutcome T c scratch action reduce (gather T c) → o ≡ classifyIn c scratch action reduce T
-        unfolding classifyIn shiftsEnd
-        classified k m l o q′ = rw (conflict-fits, no-end, le-leb classifyScratch (length scratch) k, le-leb exampleRoom (length action) m, le-leb exampleRoom (length reduce) l, classifyIn) q′
+        unfolding classifyInWith shiftsEnd
+        classified k m l o q′ = rw (conflict-fits, no-end, le-leb classifyScratch (length scratch) k, le-leb exampleRoom (length action) m, le-leb exampleRoom (length reduce) l, classifyInWith) q′

@@ -7,3 +7,5 @@ pub mod Judged
 pub mod Marked
 pub mod Listing
 pub mod Rust
+pub mod Late
+pub mod Fewer

@@ -37,7 +37,7 @@ use Rattle.error.specs.Items.{symbolBefore, symbolsBefore, productionBef
 use Rattle.error.specs.Sides.{listingSide, withMore, examplesIn, shiftSideFrom, shiftSide, reduceItem as itemAtEnd, reduceSide, actionSideOf, bothSides, gather}
 use Rattle.error.specs.Sorted.{inserted, sortedFrom, sortedBy, product, firstPair}
 use Rattle.error.specs.Judge.{withBoth, symbolCount, cursorAt, reductionAt, sameExampleSymbol, sameExampleSymbols, sameReading, sameSymbols, isOperator, shiftAmbiguity, reduceAmbiguity, ambiguityOf, optional, optionalOf, questionOf, suggestQuestion, between, shiftUpcoming, reduceUpcoming, diverge, inlines, inlineOr, questionOr, unambiguous, ambiguousOr, judge, judged}
-use Rattle.error.specs.Outcome.{Outcome, outcome, operandFits, placeFits, conflictFits, shiftsEnd, shown, judgedOutcome, gatheredOutcome, classifyIn, classifyBy, classifyOf}
+use Rattle.error.specs.Outcome.{Outcome, outcome, operandFits, placeFits, conflictFits, shiftsEnd, shown, judgedWith, gatheredWith, classifyInWith, classifyByWith, classifyOf, classifyWith}
 use Rattle.error.specs.Observed.{wholeExample, beforeCursor, observedOf}
 
 -- an entry of the list: numbers; tokens with yes or no; tests; a lister's answers; what classifying answers and leaves
@@ -140,5 +140,5 @@ pub marked : asked (meaning tableB) ≡
     ∷ leaves (classed 5 (0 ∷ 9 ∷ 0 ∷ 9 ∷ []) 3 3) (written lineR) buffer
     ∷ numbers (0 ∷ 0 ∷ 1 ∷ 0 ∷ 0 ∷ 0 ∷ [])
     ∷ []
-unfolding checked shiftB reduceB classified asked upFrom below mem occurrences keep some? every? first? joined sameSymbol symbolOfKind symbolFits has single union meet without members first symbolSets isNonterminal shiftsNonterminal wordAt records stateArea productionArea loose productionRecords looseRecords names against chainBy chain productionChain symbolChain itemChain edgeChain symbolAt itemAt edgeAt orZero ownerIn productionOf stateOf productionsOf meaning row1 row2 nonterminalRecord isState isProduction asSymbol asItem asEdge row3 row4 row5 row6 row7 used row8 offends firstRow checkOf join firstOf endMarked unmarked first0 meetsAhead disjoint grown round sameWords settle firstSets FIRST nullable leads predecessors walkBack traceBack sameItem sameNode labelOf alike sameCursor sameSets sameEdge add isNode nodeWords edgeWords graphWords nodeOf nodeAt lentEdge edgesIn itemFits nodeFits edgeFits once graphFits untraced pair enter addTo ownerOf symbolsOf canShift prefixOf suffixOf inTurn epsilonItem epsilon shiftTrace shiftEdges reduceStateItem reduceItem reduceState reduceTrace reduceEdges setsOf prefixes suffixes atCursor middle symbols spans reductions symbolWords reductionWords exampleWords cursorOf ahead meets trials enough nodeOwner labelAt labelsOf passes hands says search foundOut foundThen plainFind plainOut plainThen plainRun plainLister classNumber classValues symbolBefore symbolsBefore productionBefore placed inOrder productionOrder cursorItems allItems isTerminal shiftsToken shiftItems listingSide withMore examplesIn shiftSideFrom shiftSide itemAtEnd reduceSide actionSideOf bothSides gather inserted sortedFrom sortedBy product firstPair withBoth symbolCount cursorAt reductionAt sameExampleSymbol sameExampleSymbols sameReading sameSymbols isOperator shiftAmbiguity reduceAmbiguity ambiguityOf optional optionalOf questionOf suggestQuestion between shiftUpcoming reduceUpcoming diverge inlines inlineOr questionOr unambiguous ambiguousOr judge judged inFront zeroed operandFits placeFits conflictFits shiftsEnd shown judgedOutcome gatheredOutcome classifyIn classifyBy classifyOf wholeExample beforeCursor observedOf
+unfolding checked shiftB reduceB classified asked upFrom below mem occurrences keep some? every? first? joined sameSymbol symbolOfKind symbolFits has single union meet without members first symbolSets isNonterminal shiftsNonterminal wordAt records stateArea productionArea loose productionRecords looseRecords names against chainBy chain productionChain symbolChain itemChain edgeChain symbolAt itemAt edgeAt orZero ownerIn productionOf stateOf productionsOf meaning row1 row2 nonterminalRecord isState isProduction asSymbol asItem asEdge row3 row4 row5 row6 row7 used row8 offends firstRow checkOf join firstOf endMarked unmarked first0 meetsAhead disjoint grown round sameWords settle firstSets FIRST nullable leads predecessors walkBack traceBack sameItem sameNode labelOf alike sameCursor sameSets sameEdge add isNode nodeWords edgeWords graphWords nodeOf nodeAt lentEdge edgesIn itemFits nodeFits edgeFits once graphFits untraced pair enter addTo ownerOf symbolsOf canShift prefixOf suffixOf inTurn epsilonItem epsilon shiftTrace shiftEdges reduceStateItem reduceItem reduceState reduceTrace reduceEdges setsOf prefixes suffixes atCursor middle symbols spans reductions symbolWords reductionWords exampleWords cursorOf ahead meets trials enough nodeOwner labelAt labelsOf passes hands says search foundOut foundThen plainFind plainOut plainThen plainRun plainLister classNumber classValues symbolBefore symbolsBefore productionBefore placed inOrder productionOrder cursorItems allItems isTerminal shiftsToken shiftItems listingSide withMore examplesIn shiftSideFrom shiftSide itemAtEnd reduceSide actionSideOf bothSides gather inserted sortedFrom sortedBy product firstPair withBoth symbolCount cursorAt reductionAt sameExampleSymbol sameExampleSymbols sameReading sameSymbols isOperator shiftAmbiguity reduceAmbiguity ambiguityOf optional optionalOf questionOf suggestQuestion between shiftUpcoming reduceUpcoming diverge inlines inlineOr questionOr unambiguous ambiguousOr judge judged inFront zeroed operandFits placeFits conflictFits shiftsEnd shown judgedWith gatheredWith classifyInWith classifyByWith classifyWith wholeExample beforeCursor observedOf
 marked = refl

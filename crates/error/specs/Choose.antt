@@ -77,22 +77,34 @@ setFits T c set = placeFits T c && ltb set (2 ^ suc (T .terminals))
 unfoldable pub setShiftsEnd : Table → Conflict → ℕ → Bool
 setShiftsEnd T c set = eqb (c .action) 0 && has set (T .terminals)
 
-unfoldable pub chooseIn : Conflict → ℕ → List ℕ → Table → Outcome
-chooseIn c set scratch T = elim (setFits T c set) [
-  | false ↦ outcome (refused 9 0) scratch
-  | true ↦ elim (setShiftsEnd T c set) [
-    | true ↦ outcome (refused 10 0) scratch
-    | false ↦ elim (leb classifyScratch (length scratch)) [
-      | false ↦ outcome (refused 11 0) scratch
-      | true ↦ outcome (choiceOf (c .action) (classesOf T c (members set))) (zeroed classifyScratch scratch)
+-- over W words of scratch, as in specs/Outcome
+module _ (W : ℕ) where
+  unfoldable pub chooseInWith : Conflict → ℕ → List ℕ → Table → Outcome
+  chooseInWith c set scratch T = elim (setFits T c set) [
+    | false ↦ outcome (refused 9 0) scratch
+    | true ↦ elim (setShiftsEnd T c set) [
+      | true ↦ outcome (refused 10 0) scratch
+      | false ↦ elim (leb W (length scratch)) [
+        | false ↦ outcome (refused 11 0) scratch
+        | true ↦ outcome (choiceOf (c .action) (classesOf T c (members set))) (zeroed W scratch)
+      ]
     ]
   ]
-]
 
-unfoldable pub chooseBy : List ℕ → Conflict → ℕ → List ℕ → Checked → Outcome
-chooseBy t c set scratch (NotAccepted n r) = outcome (refused n r) scratch
-chooseBy t c set scratch Accepted = chooseIn c set scratch (meaning t)
+  unfoldable pub chooseByWith : List ℕ → Conflict → ℕ → List ℕ → Checked → Outcome
+  chooseByWith t c set scratch (NotAccepted n r) = outcome (refused n r) scratch
+  chooseByWith t c set scratch Accepted = chooseInWith c set scratch (meaning t)
 
--- `choose`: the conflict's token is not looked at; the set stands for it
-unfoldable pub chooseOf : List ℕ → Conflict → ℕ → List ℕ → Outcome
-chooseOf t c set scratch = chooseBy t c set scratch (checkOf t)
+  -- the conflict's token is not looked at; the set stands for it
+  unfoldable pub chooseWith : List ℕ → Conflict → ℕ → List ℕ → Outcome
+  chooseWith t c set scratch = chooseByWith t c set scratch (checkOf t)
+
+-- over those of document 01; `chooseOf` is `choose`
+abbrev pub chooseIn : Conflict → ℕ → List ℕ → Table → Outcome
+chooseIn = chooseInWith classifyScratch
+
+abbrev pub chooseBy : List ℕ → Conflict → ℕ → List ℕ → Checked → Outcome
+chooseBy = chooseByWith classifyScratch
+
+abbrev pub chooseOf : List ℕ → Conflict → ℕ → List ℕ → Outcome
+chooseOf = chooseWith classifyScratch

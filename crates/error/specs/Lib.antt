@@ -6,6 +6,7 @@ pub mod Sorted
 pub mod Judge
 pub mod Outcome
 pub mod Choose
+pub mod Fewer
 pub mod Kept
 pub mod Observed
 pub mod Order

@@ -43,32 +43,50 @@ unfoldable pub shown : List Production → Option Example → List ℕ → List 
 shown ps none buffer = buffer
 shown ps (some ls) buffer = inFront (exampleWords ps ls) buffer
 
-unfoldable pub judgedOutcome : List Production → ℕ → ℕ → List ℕ → List ℕ → List ℕ → Judged → Outcome
-judgedOutcome ps m n scratch action reduce j =
-    outcome (classed (classNumber (j .class)) (classValues (j .class)) m n) (zeroed classifyScratch scratch) (shown ps (j .action) action) (shown ps (j .reduce) reduce)
+-- over W words of scratch: 11 asks for them, and they are zeroed
+module _ (W : ℕ) where
+  unfoldable pub judgedWith : List Production → ℕ → ℕ → List ℕ → List ℕ → List ℕ → Judged → Outcome
+  judgedWith ps m n scratch action reduce j =
+      outcome (classed (classNumber (j .class)) (classValues (j .class)) m n) (zeroed W scratch) (shown ps (j .action) action) (shown ps (j .reduce) reduce)
 
--- judge what was gathered; 12 to 14 zero the scratch and change nothing else
-unfoldable pub gatheredOutcome : Table → Conflict → List ℕ → List ℕ → List ℕ → Gathered → Outcome
-gatheredOutcome T c scratch action reduce (halted n) = outcome (refused n 0) (zeroed classifyScratch scratch) action reduce
-gatheredOutcome T c scratch action reduce (sides as′ m rs n) = judgedOutcome (T .productions) m n scratch action reduce (judged T c as′ rs)
+  -- judge what was gathered; 12 to 14 zero the scratch and change nothing else
+  unfoldable pub gatheredWith : Table → Conflict → List ℕ → List ℕ → List ℕ → Gathered → Outcome
+  gatheredWith T c scratch action reduce (halted n) = outcome (refused n 0) (zeroed W scratch) action reduce
+  gatheredWith T c scratch action reduce (sides as′ m rs n) = judgedWith (T .productions) m n scratch action reduce (judged T c as′ rs)
 
--- refusals 9 to 11 change nothing
-unfoldable pub classifyIn : Conflict → List ℕ → List ℕ → List ℕ → Table → Outcome
-classifyIn c scratch action reduce T = elim (conflictFits T c) [
-  | false ↦ outcome (refused 9 0) scratch action reduce
-  | true ↦ elim (shiftsEnd T c) [
-    | true ↦ outcome (refused 10 0) scratch action reduce
-    | false ↦ elim (leb classifyScratch (length scratch) && (leb exampleRoom (length action) && leb exampleRoom (length reduce))) [
-      | false ↦ outcome (refused 11 0) scratch action reduce
-      | true ↦ gatheredOutcome T c scratch action reduce (gather T c)
+  -- refusals 9 to 11 change nothing
+  unfoldable pub classifyInWith : Conflict → List ℕ → List ℕ → List ℕ → Table → Outcome
+  classifyInWith c scratch action reduce T = elim (conflictFits T c) [
+    | false ↦ outcome (refused 9 0) scratch action reduce
+    | true ↦ elim (shiftsEnd T c) [
+      | true ↦ outcome (refused 10 0) scratch action reduce
+      | false ↦ elim (leb W (length scratch) && (leb exampleRoom (length action) && leb exampleRoom (length reduce))) [
+        | false ↦ outcome (refused 11 0) scratch action reduce
+        | true ↦ gatheredWith T c scratch action reduce (gather T c)
+      ]
     ]
   ]
-]
 
-unfoldable pub classifyBy : List ℕ → Conflict → List ℕ → List ℕ → List ℕ → Checked → Outcome
-classifyBy t c scratch action reduce (NotAccepted n r) = outcome (refused n r) scratch action reduce
-classifyBy t c scratch action reduce Accepted = classifyIn c scratch action reduce (meaning t)
+  unfoldable pub classifyByWith : List ℕ → Conflict → List ℕ → List ℕ → List ℕ → Checked → Outcome
+  classifyByWith t c scratch action reduce (NotAccepted n r) = outcome (refused n r) scratch action reduce
+  classifyByWith t c scratch action reduce Accepted = classifyInWith c scratch action reduce (meaning t)
 
--- `classify`: table, conflict, scratch, the action's buffer, the reduce's
-unfoldable pub classifyOf : List ℕ → Conflict → List ℕ → List ℕ → List ℕ → Outcome
-classifyOf t c scratch action reduce = classifyBy t c scratch action reduce (checkOf t)
+  -- table, conflict, scratch, the action's buffer, the reduce's
+  unfoldable pub classifyWith : List ℕ → Conflict → List ℕ → List ℕ → List ℕ → Outcome
+  classifyWith t c scratch action reduce = classifyByWith t c scratch action reduce (checkOf t)
+
+-- over those of document 01; `classifyOf` is `classify`
+abbrev pub judgedOutcome : List Production → ℕ → ℕ → List ℕ → List ℕ → List ℕ → Judged → Outcome
+judgedOutcome = judgedWith classifyScratch
+
+abbrev pub gatheredOutcome : Table → Conflict → List ℕ → List ℕ → List ℕ → Gathered → Outcome
+gatheredOutcome = gatheredWith classifyScratch
+
+abbrev pub classifyIn : Conflict → List ℕ → List ℕ → List ℕ → Table → Outcome
+classifyIn = classifyInWith classifyScratch
+
+abbrev pub classifyBy : List ℕ → Conflict → List ℕ → List ℕ → List ℕ → Checked → Outcome
+classifyBy = classifyByWith classifyScratch
+
+abbrev pub classifyOf : List ℕ → Conflict → List ℕ → List ℕ → List ℕ → Outcome
+classifyOf = classifyWith classifyScratch

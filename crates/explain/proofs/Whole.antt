@@ -36,7 +36,7 @@ use Rattle.error.specs.Order.{Permutation, empty, alike, swap, through}
 use Rattle.error.specs.Sides.{Side, gathered, stopped, listingSide, withMore, examplesIn, shiftSideFrom, shiftSide, reduceItem, reduceSide, actionSideOf, Gathered, sides, halted, bothSides, gather}
 use Rattle.error.specs.Sorted.{sortedBy, Pair, product, firstPair}
 use Rattle.error.specs.Judge.{Example, Judged, withBoth, symbolCount, reductionAt, sameReading, isOperator, shiftAmbiguity, reduceAmbiguity, ambiguityOf, questionOf, suggestQuestion, inlines, inlineOr, questionOr, unambiguous, ambiguousOr, judge, judged}
-use Rattle.error.specs.Outcome.{Outcome, outcome, shown, judgedOutcome, gatheredOutcome, conflictFits, shiftsEnd, classifyIn, classifyBy, classifyOf}
+use Rattle.error.specs.Outcome.{Outcome, outcome, shown, judgedOutcome, judgedWith, gatheredOutcome, gatheredWith, conflictFits, shiftsEnd, classifyIn, classifyInWith, classifyBy, classifyByWith, classifyOf, classifyWith}
 use Rattle.error.proofs.Sorted.{sorted-permutation}
 use Rattle.lines.specs.Lines.{Whole, ReadingShown}
 use Rattle.explain.specs.Printed.{OutcomeShown}
@@ -244,37 +244,37 @@ words-whole ps short (some ls) buffer h = record {
 }
 
 judged-shown : (ps : List Production) → Short ps → (m n : ℕ) (scratch action reduce : List ℕ) (j : Judged) → JudgedFew j → OutcomeShown (judgedOutcome ps m n scratch action reduce j)
-unfolding judgedOutcome OutcomeShown ReadingShown
+unfolding judgedWith OutcomeShown ReadingShown
 judged-shown ps short m n scratch action reduce j J = record {
   action-whole = λ a. words-whole ps short (j .action) action (J .action-few a);
   reduce-whole = λ a b. words-whole ps short (j .reduce) reduce (J .reduce-few a b);
 }
 
 gathered-shown : (T : Table) → Short (T .productions) → (c : Conflict) (scratch action reduce : List ℕ) (g : Gathered) → GatheredFew g → OutcomeShown (gatheredOutcome T c scratch action reduce g)
-unfolding gatheredOutcome GatheredFew OutcomeShown ReadingShown
+unfolding gatheredWith GatheredFew OutcomeShown ReadingShown
 gathered-shown T short c scratch action reduce (halted n) h = tt
 gathered-shown T short c scratch action reduce (sides as′ m rs n) h =
     judged-shown (T .productions) short m n scratch action reduce (judged T c as′ rs) (judged-few T c as′ rs (h .0) (h .1))
 
 in-shown : (c : Conflict) (scratch action reduce : List ℕ) (T : Table) → Short (T .productions) → OutcomeShown (classifyIn c scratch action reduce T)
-unfolding classifyIn OutcomeShown ReadingShown
+unfolding classifyInWith OutcomeShown ReadingShown
 in-shown c scratch action reduce T short =
     cases (conflictFits T c)
     (λ a. cases (shiftsEnd T c)
-    (λ b. rw (a, b, classifyIn) tt)
+    (λ b. rw (a, b, classifyInWith) tt)
     (λ b. cases (leb classifyScratch (length scratch) && (leb exampleRoom (length action) && leb exampleRoom (length reduce)))
-    (λ d. rw (a, b, d, classifyIn) (gathered-shown T short c scratch action reduce (gather T c) (gather-few T c)))
-    (λ d. rw (a, b, d, classifyIn) tt)))
-    (λ a. rw (a, classifyIn) tt)
+    (λ d. rw (a, b, d, classifyInWith) (gathered-shown T short c scratch action reduce (gather T c) (gather-few T c)))
+    (λ d. rw (a, b, d, classifyInWith) tt)))
+    (λ a. rw (a, classifyInWith) tt)
 
 by-shown : (t : List ℕ) (c : Conflict) (scratch action reduce : List ℕ) (k : Checked) → checkOf t ≡ k → OutcomeShown (classifyBy t c scratch action reduce k)
-unfolding classifyBy OutcomeShown ReadingShown
+unfolding classifyByWith OutcomeShown ReadingShown
 by-shown t c scratch action reduce (NotAccepted n r) e = tt
 by-shown t c scratch action reduce Accepted e = in-shown c scratch action reduce (meaning t) (short-of (meaning t) (fits t e))
 
 -- whatever is classified, the examples that are printed are whole
 pub outcome-shown : (t : List ℕ) (c : Conflict) (scratch action reduce : List ℕ) → OutcomeShown (classifyOf t c scratch action reduce)
-unfolding classifyOf
+unfolding classifyWith
 outcome-shown t c scratch action reduce = by-shown t c scratch action reduce (checkOf t) refl
 
 pub reading-shown : {q : Reading} {scratch action reduce : List ℕ} {o : Outcome} → outcome q scratch action reduce ≡ o → OutcomeShown o → ReadingShown q action reduce

@@ -29,8 +29,8 @@ use Rattle.enumerator.specs.declared.Opened.{Opened}
 use Rattle.enumerator.specs.declared.Opened.the-variants.{Listing as Opens, Refused as NotOpened}
 use Rattle.listing.specs.CallList.{lentsIn, callsRefusal, listBy, listOf}
 use Rattle.error.specs.declared.Conflict.{Conflict}
-use Rattle.error.specs.Outcome.{classifyBy, classifyOf}
-use Rattle.error.specs.Choose.{chooseBy, chooseOf}
+use Rattle.error.specs.Outcome.{classifyByWith, classifyOf, classifyWith}
+use Rattle.error.specs.Choose.{chooseByWith, chooseOf, chooseWith}
 use Rattle.lihvemur.specs.Accuracy.{SameAnswers}
 
 module _ (t u : List ℕ) (a : checkOf t ≡ Accepted) (b : checkOf u ≡ Accepted) (m : meaning t ≡ meaning u) where
@@ -78,11 +78,11 @@ module _ (t u : List ℕ) (a : checkOf t ≡ Accepted) (b : checkOf u ≡ Accept
   advance-same l graph scratch buffer = rw (a, b, m)
 
   classify-same : (c : Conflict) (scratch action reduce : List ℕ) → classifyOf t c scratch action reduce ≡ classifyOf u c scratch action reduce
-  unfolding classifyOf classifyBy
+  unfolding classifyWith classifyByWith
   classify-same c scratch action reduce = rw (a, b, m)
 
   choose-same : (c : Conflict) (set : ℕ) (scratch : List ℕ) → chooseOf t c set scratch ≡ chooseOf u c set scratch
-  unfolding chooseOf chooseBy
+  unfolding chooseWith chooseByWith
   choose-same c set scratch = rw (a, b, m)
 
   -- a list of calls

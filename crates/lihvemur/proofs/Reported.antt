@@ -26,7 +26,7 @@ use Rattle.error.specs.declared.Classified.the-variants.{Class as IsClass, Refu
 use Rattle.error.specs.Numbers.{classNumber, classValues, readingOf}
 use Rattle.error.specs.Outcome.{Outcome, outcome}
 use Rattle.error.specs.Sides.{Gathered, sides, halted, gather}
-use Rattle.error.specs.Choose.{Entry, Choice, chosen, refused, Outcome as ChoiceOutcome, outcome as choosing, atToken, Entries, entries, halts, then, classesOf, isBetter, naiveOnes, choiceFrom, choiceOf, setFits, setShiftsEnd, chooseIn, chooseBy, chooseOf}
+use Rattle.error.specs.Choose.{Entry, Choice, chosen, refused, Outcome as ChoiceOutcome, outcome as choosing, atToken, Entries, entries, halts, then, classesOf, isBetter, naiveOnes, choiceFrom, choiceOf, setFits, setShiftsEnd, chooseIn, chooseInWith, chooseBy, chooseByWith, chooseOf, chooseWith}
 use Rattle.chooser.specs.declared.Chosen.{Chosen}
 use Rattle.entries.specs.Entries.{entriesIn, entryWords}
 use Rattle.entries.proofs.Laws.{entries-long}
@@ -76,22 +76,22 @@ record Refuses (o : ChoiceOutcome) : Type 0 where
 
 module _ (c : Conflict) (tokens : ℕ) where
   in-refuses : (T : Table) → Refuses (chooseIn c tokens [] T)
-  unfolding chooseIn
+  unfolding chooseInWith
   in-refuses T =
       cases (setFits T c tokens)
       (λ q.
       cases (setShiftsEnd T c tokens)
-      (λ k. record { number = 10; place = 0; is = rw (q, k, chooseIn) })
-      (λ k. record { number = 11; place = 0; is = rw (q, k, chooseIn) }))
-      (λ q. record { number = 9; place = 0; is = rw (q, chooseIn) })
+      (λ k. record { number = 10; place = 0; is = rw (q, k, chooseInWith) })
+      (λ k. record { number = 11; place = 0; is = rw (q, k, chooseInWith) }))
+      (λ q. record { number = 9; place = 0; is = rw (q, chooseInWith) })
 
   by-refuses : (t : List ℕ) (k : Checked) → Refuses (chooseBy t c tokens [] k)
-  unfolding chooseBy
+  unfolding chooseByWith
   by-refuses t (NotAccepted n r) = record { number = n; place = r; is = refl }
   by-refuses t Accepted = in-refuses (meaning t)
 
   none-refuses : (t : List ℕ) → Refuses (chooseOf t c tokens [])
-  unfolding chooseOf
+  unfolding chooseWith
   none-refuses t = by-refuses t (checkOf t)
 
 -- at most 64 are chosen, one a token
@@ -135,23 +135,23 @@ module _ (c : Conflict) (tokens : ℕ) where
   few-more m n (halts x) h k = tt
 
   few-in : (T : Table) (w : List ℕ) → FewIn (chooseIn c tokens w T)
-  unfolding chooseIn
+  unfolding chooseInWith
   few-in T w =
       let f = few-choice (c .action) (classesOf T c (members tokens)) (few-more (length (members tokens)) 64 (classesOf T c (members tokens)) (members-few tokens) (few-classes T (members tokens))) in
       cases (setFits T c tokens)
       (λ q.
       cases (setShiftsEnd T c tokens)
-      (λ k. rw (q, k, chooseIn) tt)
-      (λ k. cases (leb scratchWords (length w)) (λ l. rw (q, k, l, chooseIn) f) (λ l. rw (q, k, l, chooseIn) tt)))
-      (λ q. rw (q, chooseIn) tt)
+      (λ k. rw (q, k, chooseInWith) tt)
+      (λ k. cases (leb scratchWords (length w)) (λ l. rw (q, k, l, chooseInWith) f) (λ l. rw (q, k, l, chooseInWith) tt)))
+      (λ q. rw (q, chooseInWith) tt)
 
   few-by : (t w : List ℕ) (k : Checked) → FewIn (chooseBy t c tokens w k)
-  unfolding chooseBy
+  unfolding chooseByWith
   few-by t w (NotAccepted n r) = tt
   few-by t w Accepted = few-in (meaning t) w
 
   few-of : (t w : List ℕ) → FewIn (chooseOf t c tokens w)
-  unfolding chooseOf
+  unfolding chooseWith
   few-of t w = few-by t w (checkOf t)
 
 few-count : (n p k : ℕ) (ws : List ℕ) → n ≡ 0 → Few (choiceBy n p k ws) → k ≤ 64

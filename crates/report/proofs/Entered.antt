@@ -18,8 +18,8 @@ use Rattle.error.specs.declared.Conflict.{Conflict}
 use Rattle.error.specs.declared.Classified.{Classified}
 use Rattle.error.specs.declared.Classified.the-variants.{Refused as NotClassified}
 use Rattle.error.specs.Numbers.{readingOf}
-use Rattle.error.specs.Outcome.{Outcome, outcome, classifyIn, classifyBy, classifyOf}
-use Rattle.error.specs.Choose.{Choice, refused, Outcome as ChoiceOutcome, outcome as choosing, chooseIn, chooseBy, chooseOf}
+use Rattle.error.specs.Outcome.{Outcome, outcome, classifyIn, classifyByWith, classifyOf, classifyWith}
+use Rattle.error.specs.Choose.{Choice, refused, Outcome as ChoiceOutcome, outcome as choosing, chooseIn, chooseByWith, chooseOf, chooseWith}
 use Rattle.chooser.specs.declared.Chosen.{Chosen}
 use Rattle.chooser.specs.Choosing.{choiceIn, chosenOf}
 use Rattle.chooser.proofs.Answered.{refused-fields, refused-choice, refused-whole}
@@ -61,11 +61,11 @@ refusal-numbered t n r e = rw e at (check-numbered t)
 -- ---- classify
 module _ (t : List ℕ) (c : Conflict) (scratch action reduce : List ℕ) where
   pub classify-refused : (n r x y : ℕ) → checkOf t ≡ Refused n r → x ≡ n → y ≡ r → outcome (readingOf (NotClassified x y)) scratch action reduce ≡ classifyOf t c scratch action reduce
-  unfolding classifyOf classifyBy readingOf
+  unfolding classifyWith classifyByWith readingOf
   classify-refused n r x y e ex ey = rw (e, ex, ey)
 
   pub classify-accepted : checkOf t ≡ Accepted → (o : Outcome) → o ≡ classifyIn c scratch action reduce (meaning t) → o ≡ classifyOf t c scratch action reduce
-  unfolding classifyOf classifyBy
+  unfolding classifyWith classifyByWith
   classify-accepted e o h = rw e h
 
 -- ---- choose
@@ -74,7 +74,7 @@ refusing n r = record { refusal = n; place = r; count = 0; entries = replicate e
 
 module _ (t : List ℕ) (c : Conflict) (tokens : ℕ) (scratch : List ℕ) where
   refused-by : (n r : ℕ) → checkOf t ≡ Refused n r → choosing (refused n r) scratch ≡ chooseOf t c tokens scratch
-  unfolding chooseOf chooseBy
+  unfolding chooseWith chooseByWith
   refused-by n r e = rw e
 
   pub choose-refused : (n r x y : ℕ) → checkOf t ≡ Refused n r → x ≡ n → y ≡ r → (choosing (choiceIn (refusing x y)) scratch ≡ chooseOf t c tokens scratch) × (refusing x y ≡ chosenOf (choiceIn (refusing x y)))
@@ -84,5 +84,5 @@ module _ (t : List ℕ) (c : Conflict) (tokens : ℕ) (scratch : List ℕ) where
       (ap (λ (k : Choice). choosing k scratch) q ∙ refused-by n r e, refused-whole x y (refusing x y) some (refused-fields x y))
 
   pub choose-accepted : checkOf t ≡ Accepted → (o : ChoiceOutcome) → o ≡ chooseIn c tokens scratch (meaning t) → o ≡ chooseOf t c tokens scratch
-  unfolding chooseOf chooseBy
+  unfolding chooseWith chooseByWith
   choose-accepted e o h = rw e h

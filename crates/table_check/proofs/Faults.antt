@@ -5,9 +5,10 @@ use mathlib.Core.List.{List, [], _∷_}
 use mathlib.Core.Option.{Option, none, some}
 use Prim.Native.Nat.{ℕ, _+_, _-_, min, _≤_, _<_}
 use native.Mathlib.Omega.{arith}
-use lib.ListN.{length, getD}
+use lib.ListN.{length}
 use lib.Dec.{eqb, ltb, leb}
 use borrow.Author.Tests.{ne-eqb, lt-ltb, le-ltb, le-leb, lt-leb, ltb-false, leb-false}
+use Rattle.bits.specs.Bits.{bitAt}
 use Rattle.repr.specs.Sizes.{indexLimit}
 use Rattle.repr.specs.Lists.{below, first?, occurrences, joined}
 use Rattle.repr.proofs.Lists.{cases}
@@ -195,7 +196,7 @@ module _ (t : List ℕ) (r : ℕ) where
 
 -- ---- what a loose record is reached as, from the marks where all before it are passed
 module _ (t : List ℕ) (r : ℕ) (ss is es : List ℕ) (R : Reaching t r ss is es) (low : loose t ≤ r) where
-  pub fault-marked : (s i e : Bool) → s ≡ eqb (getD ss r 0) 1 → i ≡ eqb (getD is r 0) 1 → e ≡ eqb (getD es r 0) 1 → looseFault t r s i e ≡ faultAt t r
+  pub fault-marked : (s i e : Bool) → s ≡ bitAt ss r → i ≡ bitAt is r → e ≡ bitAt es r → looseFault t r s i e ≡ faultAt t r
   fault-marked s i e ps pi pe =
       fault-loose t r low s i e (ps ∙ marked (R .symbols) ∙ sym (symbol-is t r)) (pi ∙ marked (R .items) ∙ sym (item-is t r))
       (pe ∙ marked (R .edges) ∙ sym (edge-is t r))

@@ -165,7 +165,7 @@ module _ (from past r x : ℕ) where
   against-named ne b e = rw (ne-eqb _ _ ne, e)
 
 -- ---- blank marks
-pub blank : {t : List ℕ} (n : ℕ) → records t ≤ n → Blank t (replicate n 0)
+pub blank : {t : List ℕ} (n : ℕ) → records t ≤ n * 64 → Blank t (replicate n 0)
 blank n h = record { room = rw (length-replicate {A = ℕ} n 0) h; blank = rw (length-replicate {A = ℕ} n 0) }
 
 -- ---- what was gathered, by the areas

@@ -18,7 +18,7 @@ ghost use Rattle.table_check.specs.Passed.{Blank};
 
 // Rows 3 to 8, of a table that rows 1 and 2 let through, over blank marks. The heads of all chains are marked; then one pass looks at each record and marks its
 // next as what it is marked as itself, however chains are shared.
-fn inspect_over(table: &[u16], symbols: &mut [u8], items: &mut [u8], edges: &mut [u8]) -> Checked
+fn inspect_over(table: &[u16], symbols: &mut [u64], items: &mut [u64], edges: &mut [u64]) -> Checked
     requires { ⌜ Sized (now table) ⌝ }
     requires { ⌜ Blank (now table) (now symbols) × (Blank (now table) (now items) × Blank (now table) (now edges)) ⌝ }
     ensures { λ r. ⌜ r ≡ firstRow (now (table .entry)) (3 ∷ 4 ∷ 5 ∷ 6 ∷ 7 ∷ 8 ∷ []) ⌝ }
@@ -49,20 +49,20 @@ fn inspect_few(table: &[u16]) -> Checked
     requires { ⌜ Sized (now table) × (records (now table) ≤ 512) ⌝ }
     ensures { λ r. ⌜ r ≡ firstRow (now (table .entry)) (3 ∷ 4 ∷ 5 ∷ 6 ∷ 7 ∷ 8 ∷ []) ⌝ }
 {
-    let mut symbols = [0u8; 512];
-    let mut items = [0u8; 512];
-    let mut edges = [0u8; 512];
+    let mut symbols = [0u64; 8];
+    let mut items = [0u64; 8];
+    let mut edges = [0u64; 8];
     inspect_over(table, &mut symbols, &mut items, &mut edges)
 }
 
-// Over one mark for each record that a table can have.
+// Over a flag for each record that a table can have.
 fn inspect_many(table: &[u16]) -> Checked
     requires { ⌜ Sized (now table) ⌝ }
     ensures { λ r. ⌜ r ≡ firstRow (now (table .entry)) (3 ∷ 4 ∷ 5 ∷ 6 ∷ 7 ∷ 8 ∷ []) ⌝ }
 {
-    let mut symbols = [0u8; 8192];
-    let mut items = [0u8; 8192];
-    let mut edges = [0u8; 8192];
+    let mut symbols = [0u64; 128];
+    let mut items = [0u64; 128];
+    let mut edges = [0u64; 128];
     inspect_over(table, &mut symbols, &mut items, &mut edges)
 }
 

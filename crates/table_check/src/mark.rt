@@ -1,13 +1,15 @@
 // Marks the records that chains of loose records reach: the heads first, then the next of each marked record, record by record. A next index is larger than its
 // record's number, so one pass over the records in order follows every chain, however many heads share it.
 use crate::areas;
+use bits::is_set;
+use bits::put;
 use table::word;
 ghost use mathlib.Core.Bool.{true};
 ghost use mathlib.Core.List.{List};
 ghost use mathlib.Core.Path.{_≡_};
-ghost use Prim.Native.Nat.{ℕ, _+_, _≤_, _<_};
-ghost use lib.ListN.{length, getD};
-ghost use lib.Dec.{eqb};
+ghost use Prim.Native.Nat.{ℕ, _+_, _/_, _≤_, _<_};
+ghost use lib.ListN.{length};
+ghost use Rattle.bits.specs.Bits.{bitAt};
 ghost use Rattle.table.specs.Words.{wordAt, loose, records, looseRecords, names};
 ghost use Rattle.table_check.specs.Marks.{Sized};
 ghost use Rattle.table_check.specs.Passed.{Blank, Passed};
@@ -20,7 +22,7 @@ pub fn mark_heads(
     k: usize,
     from: usize,
     past: usize,
-    marks: &mut [u8],
+    marks: &mut [u64],
 )
     requires { ⌜ Sized (now table) ⌝ }
     requires { ⌜ (from ≡ loose (now table)) × (past ≡ records (now table)) ⌝ }
@@ -32,24 +34,16 @@ pub fn mark_heads(
         let r = first + i;
         let x = word(table, r, k);
         if areas::names(from, past, r, x) {
-            marks[x] = 1;
+            put(marks, x);
         }
         i += 1;
     }
 }
 
-// Whether record r is marked.
-pub fn marked(marks: &[u8], r: usize) -> bool
-    requires { ⌜ r < length (now marks) ⌝ }
-    ensures { λ b. ⌜ b ≡ eqb (getD (now (marks .entry)) r 0) 1 ⌝ }
-{
-    marks[r] == 1
-}
-
-// The same; if so, its next index x, which is by the rule, is marked too. From whatever heads the marks began.
-pub fn mark_next(marks: &mut [u8], r: usize, x: usize) -> bool
-    requires { ⌜ (r < length (now marks)) × (x < length (now marks)) ⌝ }
-    ensures { λ b. ⌜ b ≡ eqb (getD (now (marks .entry)) r 0) 1 ⌝ }
+// Whether record r is marked; if so, its next index x, which is by the rule, is marked too. From whatever heads the marks began.
+pub fn mark_next(marks: &mut [u64], r: usize, x: usize) -> bool
+    requires { ⌜ (r / 64 < length (now marks)) × (x / 64 < length (now marks)) ⌝ }
+    ensures { λ b. ⌜ b ≡ bitAt (now (marks .entry)) r ⌝ }
     ensures { λ _. ⌜
         ((t : List ℕ) (first n k : ℕ)
         → x ≡ wordAt t r 0
@@ -58,9 +52,8 @@ pub fn mark_next(marks: &mut [u8], r: usize, x: usize) -> bool
         → Passed t first n k n (r + 1) (now (marks .exit)))
         ⌝ }
 {
-    let m = marks[r];
-    if m == 1 {
-        marks[x] = 1;
+    if is_set(marks, r) {
+        put(marks, x);
         return true;
     }
     false

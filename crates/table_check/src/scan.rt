@@ -3,6 +3,7 @@ use crate::areas;
 use crate::areas::Areas;
 use crate::fault;
 use crate::mark;
+use bits::is_set;
 use table::Checked;
 use table::word;
 ghost use mathlib.Core.Path.{_≡_};
@@ -65,9 +66,9 @@ fn scan_areas(table: &[u16], a: Areas, held: &[u8], lengths: &[u8]) -> Lowest
 fn pass(
     table: &[u16],
     a: Areas,
-    symbols: &mut [u8],
-    items: &mut [u8],
-    edges: &mut [u8],
+    symbols: &mut [u64],
+    items: &mut [u64],
+    edges: &mut [u64],
     lengths: &[u8],
     r: usize,
 ) -> u16
@@ -85,9 +86,9 @@ fn pass(
         return fault::loose_fault(table, a, lengths, r, false, symbol, item, edge);
     }
     let bad = areas::bad_loose_index(table, a, r, 0);
-    let symbol = mark::marked(symbols, r);
-    let item = mark::marked(items, r);
-    let edge = mark::marked(edges, r);
+    let symbol = is_set(symbols, r);
+    let item = is_set(items, r);
+    let edge = is_set(edges, r);
     fault::loose_fault(table, a, lengths, r, bad, symbol, item, edge)
 }
 
@@ -95,9 +96,9 @@ fn pass(
 fn scan_loose(
     table: &[u16],
     a: Areas,
-    symbols: &mut [u8],
-    items: &mut [u8],
-    edges: &mut [u8],
+    symbols: &mut [u64],
+    items: &mut [u64],
+    edges: &mut [u64],
     lengths: &[u8],
     first: Lowest,
 ) -> Lowest
@@ -122,9 +123,9 @@ fn scan_loose(
 pub fn scan(
     table: &[u16],
     a: Areas,
-    symbols: &mut [u8],
-    items: &mut [u8],
-    edges: &mut [u8],
+    symbols: &mut [u64],
+    items: &mut [u64],
+    edges: &mut [u64],
     held: &[u8],
     lengths: &[u8],
 ) -> Checked

@@ -15,7 +15,7 @@ slice-aggregate-inspect-over-3 c = search needs
 
 inspect-over-requires : tie.Need-inspect-over-requires
 inspect-over-requires c κs =
-    let b = blank 512 (c .before .before .before .before .pre .1) in
+    let b = blank 8 (c .before .before .before .before .pre .1) in
     (c .before .before .before .before .pre .0, (b, (b, b)))
 
 returns : tie.Need-returns

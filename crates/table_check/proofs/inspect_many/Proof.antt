@@ -1,5 +1,4 @@
 -- `inspect_many` meets its contract: a table has at most 8,192 records. Assumes nothing.
-use Rattle.repr.specs.Sizes.{recordLimit}
 use Rattle.table_check.proofs.Sizes.{room, blank}
 use borrow.Author.Needs.{needs}
 use Rattle.table_check.proofs.inspect_many.Statement.{statement}
@@ -16,7 +15,7 @@ slice-aggregate-inspect-over-3 c = search needs
 
 inspect-over-requires : tie.Need-inspect-over-requires
 inspect-over-requires c κs =
-    let b = blank recordLimit (room _ (c .before .before .before .before .pre) .few) in
+    let b = blank 128 (room _ (c .before .before .before .before .pre) .few) in
     (c .before .before .before .before .pre, (b, (b, b)))
 
 returns : tie.Need-returns

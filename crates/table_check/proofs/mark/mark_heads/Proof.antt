@@ -2,9 +2,9 @@
 use borrow.Author.Needs.{needs}
 use native.Mathlib.Omega.{arith}
 use Prim.Native.Nat.{_-_, _≤_}
-use mathlib.Core.Path.{_≡_, refl}
+use mathlib.Core.Path.{_≡_, refl, _∙_}
 use mathlib.Core.Logic.{⊎-elim}
-use lib.ListN.{length, length-set}
+use lib.ListN.{length}
 use Rattle.table.proofs.Reached.{loose-named}
 use Rattle.table.specs.Words.{loose}
 use Rattle.table_check.specs.Passed.{Passed}
@@ -34,11 +34,11 @@ word-requires c κs =
 names-requires : tie.Need-names-requires Inv-loop μ-loop
 names-requires c κs = search needs
 
-slice-write-marks : tie.Need-slice-write-marks Inv-loop μ-loop
-slice-write-marks c =
-    let S = c .before .before .before .before .before .before .before in
-    let N = loose-named _ _ _ (tested _ _ _ _ _ (S .pre .1 .0 .0) (S .pre .1 .0 .1) (c .before .names .ensures) (c .if1 .taken)) in
-    omega (arith, N .early, c .before .before .before .before .loop .inv .1 .1 .long)
+put-requires : tie.Need-put-requires Inv-loop μ-loop
+put-requires c κs =
+    let S = c .before .before .before .before .before .before .before .before in
+    let N = loose-named _ _ _ (tested _ _ _ _ _ (S .pre .1 .0 .0) (S .pre .1 .0 .1) (c .before .before .names .ensures) (c .before .if1 .taken)) in
+    omega (arith, N .early, c .before .before .before .before .before .loop .inv .1 .1 .long)
 
 add-i : tie.Need-add-i Inv-loop μ-loop
 add-i c = search needs
@@ -54,7 +54,10 @@ loop-again c =
     let x = c .before .before .word .result in (
       omega arith,
       ⊎-elim
-          (λ w. (rw (w .1) (simp length-set (inv .1 .0)), rw (w .1) (head-yes P x (c .before .before .before .loop-test .taken) (omega arith) (c .before .before .word .ensures .0) (tested _ _ _ _ _ (S .pre .1 .0 .0) (S .pre .1 .0 .1) (c .before .names .ensures) (w .0 .taken)))))
+          (λ w.
+          let put = w .2 in
+          let now = w .5 in
+          (rw now (put .kept .0 ∙ inv .1 .0), rw (now, put .ensures) (head-yes P x (c .before .before .before .loop-test .taken) (omega arith) (c .before .before .word .ensures .0) (tested _ _ _ _ _ (S .pre .1 .0 .0) (S .pre .1 .0 .1) (c .before .names .ensures) (w .0 .taken)))))
           (λ w. (rw (w .1) (inv .1 .0), rw (w .1) (head-no P x (c .before .before .word .ensures .0) (tested _ _ _ _ _ (S .pre .1 .0 .0) (S .pre .1 .0 .1) (c .before .names .ensures) (w .0 .left)))))
           (c .if1 .came),
     )
@@ -77,7 +80,7 @@ mark-heads-spec =
     add-r
     word-requires
     names-requires
-    slice-write-marks
+    put-requires
     add-i
     loop-less
     loop-again

@@ -72,14 +72,14 @@ returns c =
 bad-loose-index-requires : tie.Need-bad-loose-index-requires
 bad-loose-index-requires c κs = search needs
 
-marked-requires : tie.Need-marked-requires
-marked-requires c κs = search needs
+is-set-requires : tie.Need-is-set-requires
+is-set-requires c κs = search needs
 
-marked-requires-2 : tie.Need-marked-requires-2
-marked-requires-2 c κs = search needs
+is-set-requires-2 : tie.Need-is-set-requires-2
+is-set-requires-2 c κs = search needs
 
-marked-requires-3 : tie.Need-marked-requires-3
-marked-requires-3 c κs = search needs
+is-set-requires-3 : tie.Need-is-set-requires-3
+is-set-requires-3 c κs = search needs
 
 loose-fault-requires-2 : tie.Need-loose-fault-requires-2
 loose-fault-requires-2 c κs = search needs
@@ -101,7 +101,7 @@ returns-2 c =
     let w = c .before .before .before .before .before .before .before .before .before .before .word .ensures .0 in
     let g = tested (S .args .table .now) _ _ _ _ (A .looseAt) (A .records) (c .before .before .before .before .before .before .before .before .before .names .ensures) (c .before .before .before .before .before .before .before .before .if1 .left) in (
       c .loose-fault2 .ensures
-          ∙ fault-marked _ _ _ _ _ R (omega (arith, S .pre .1 .1 .0, A .looseAt)) _ _ _ (c .before .before .before .before .before .marked .ensures) (c .before .before .before .marked2 .ensures) (c .before .marked3 .ensures),
+          ∙ fault-marked _ _ _ _ _ R (omega (arith, S .pre .1 .1 .0, A .looseAt)) _ _ _ (c .before .before .before .before .before .is-set .ensures) (c .before .before .before .is-set2 .ensures) (c .before .is-set3 .ensures),
       record { symbols = next-no (R .symbols) _ w g; items = next-no (R .items) _ w g; edges = next-no (R .edges) _ w g },
     )
 
@@ -120,9 +120,9 @@ pass-spec =
     same-length-3
     returns
     bad-loose-index-requires
-    marked-requires
-    marked-requires-2
-    marked-requires-3
+    is-set-requires
+    is-set-requires-2
+    is-set-requires-3
     loose-fault-requires-2
     same-length-4
     same-length-5
