@@ -2,14 +2,13 @@
 use Prim.Native.Nat.{ℕ}
 use mathlib.Core.Path.{_≡_, refl, sym, ap, _∙_, subst}
 use mathlib.Core.Bool.{Bool, true, false}
-use mathlib.Core.List.{List, [], _∷_, _++_, map, reverse, reverse-reverse, List·Memᴰ, List·Memᴰ·head, List·Memᴰ·tail}
-use mathlib.Core.Option.{Option, none, some}
+use mathlib.Core.List.{List, [], _∷_, map, reverse, reverse-reverse, List·Memᴰ, List·Memᴰ·head, List·Memᴰ·tail}
+use mathlib.Core.Option.{Option, some}
 use Rattle.slices.specs.Same.{sameWords}
 use Rattle.trace_graph.specs.Graph.{Node}
 use Rattle.enumerator.specs.Trials.{Path, Ends, trials, Small}
-use Rattle.enumerator.specs.Words.{wordsOf, after}
+use Rattle.enumerator.specs.Words.{after}
 use Rattle.enumerator.specs.Machine.{next, Run}
-use Rattle.enumerator.specs.Stacks.{stepped, stepOf}
 use Rattle.enumerator.proofs.Run.{next-runs}
 use Rattle.enumerator.proofs.After.{after-here, after-later, next-after}
 
@@ -35,14 +34,3 @@ module _ (G : Ends) (start : Node) where
   next-trial small p s m e =
       after-in p (reverse s) (trials G start)
       (run-head s (after p (trials G start)) (subst (λ (o : Option (List ℕ)). Run G start o (map reverse (after p (trials G start)))) e (next-after G start small p m)))
-
--- what a step's answer says: none, or a stack and its words
-pub step-ends : (o : Option (List ℕ)) (rest ws : List ℕ) → stepped false ws ≡ stepOf o rest → (o ≡ none) × (ws ≡ wordsOf [] ++ rest)
-unfolding stepOf
-step-ends none rest ws e = (refl, cc)
-step-ends (some s) rest ws e = let z : _≡_ {A = Bool} false true = cc in absurd (mathlib.Core.Bool.true≢false (sym z))
-
-pub step-goes : (o : Option (List ℕ)) (rest ws : List ℕ) → stepped true ws ≡ stepOf o rest → (s : List ℕ) × (o ≡ some s) × (ws ≡ wordsOf (reverse s) ++ rest)
-unfolding stepOf
-step-goes none rest ws e = let z : _≡_ {A = Bool} true false = cc in absurd (mathlib.Core.Bool.true≢false z)
-step-goes (some s) rest ws e = (s, refl, cc)

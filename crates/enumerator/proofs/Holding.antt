@@ -282,7 +282,7 @@ unfolding Within
 within-append k [] ys a b = b
 within-append k (x ∷ xs) ys a b = (a .0, within-append k xs ys (a .1) b)
 
-within-reverse : (k : ℕ) (xs : List ℕ) → Within k xs → Within k (reverse xs)
+pub within-reverse : (k : ℕ) (xs : List ℕ) → Within k xs → Within k (reverse xs)
 unfolding Within
 within-reverse k [] a = tt
 within-reverse k (x ∷ xs) a = rw (reverse-cons x xs) (within-append k (reverse xs) (x ∷ []) (within-reverse k xs (a .1)) (a .0, tt))
@@ -301,14 +301,6 @@ stacked-of {k} p rest w s e = record {
   short = omega (arith, length-reverse p);
   edges = within-reverse k p e;
 }
-
--- what the code of the machine is given: a trial's words, or those of no edge
-pub stacked-trial : (g : List ℕ) (start : Node) (p rest ws : List ℕ) → List·Memᴰ p (trials (ends g) start) → ws ≡ wordsOf p ++ rest → Stacked (getD g 0 0) ws
-stacked-trial g start p rest ws m w =
-    stacked-of p rest w (short-trial (ends g) start p m) (rw (sym (edges-count g)) (trial-within (ends g) p [] start (sound (ends g) start p m)))
-
-pub stacked-none : (k : ℕ) (rest ws : List ℕ) → ws ≡ wordsOf [] ++ rest → Stacked k ws
-stacked-none k rest ws w = stacked-of [] rest w (omega arith) (within-none k)
 
 nonterminal-range : (n : ℕ) (ps : List Production) (m : ℕ) → InRange n ps (atNonterminal m) → m < n
 unfolding InRange

@@ -11,7 +11,6 @@ pub mod Edges
 pub mod Steps
 pub mod Run
 pub mod After
-pub mod Linked
 pub mod WordsOf
 pub mod Tested
 pub mod Search

@@ -1,10 +1,10 @@
--- Words that hold a stack (specs/Stacks): an edge more, another last edge, one fewer; the words of one stack are those of no other. Assumes nothing.
+-- Words that hold a stack (specs/Stacks): its top; the words of one stack are those of no other. Assumes nothing.
 use Prim.Native.Nat.{ℕ, zero, suc, _+_, _-_, _≤_, _<_}
 use native.Mathlib.Omega.{arith}
 use mathlib.Core.Path.{_≡_, refl, sym, ap, _∙_}
 use mathlib.Core.List.{List, [], _∷_, _++_, reverse, append-assoc, reverse-cons, reverse-reverse, reverse-append}
-use lib.ListN.{length, getD, set, take, drop, replicate, length-append, length-reverse}
-use lib.Seq.{set-at, getD-at, take-at, take-suc, drop-append-seam}
+use lib.ListN.{length, getD, take, drop, replicate, length-append, length-reverse}
+use lib.Seq.{getD-at, take-suc, drop-append-seam}
 use Rattle.repr.specs.Sizes.{scratchWords}
 use Rattle.enumerator.specs.Words.{wordsOf, pathIn, pathRoom}
 use Rattle.enumerator.specs.Stacks.{Within, Stacked, stackIn}
@@ -17,14 +17,10 @@ words-head p rest = refl
 pub words-all : (p rest : List ℕ) → length p ≤ pathRoom → scratchWords ≤ length (wordsOf p ++ rest)
 words-all p rest h = omega (arith, words-long p h, length-append (wordsOf p) rest)
 
--- the words with their first spare zero, and with their last edge
-spare : (p rest : List ℕ) (m : ℕ) → pathRoom - length p ≡ suc m → wordsOf p ++ rest ≡ length p ∷ (p ++ 0 ∷ (replicate m 0 ++ rest))
-unfolding wordsOf
-spare p rest m e = ap (λ (l : List ℕ). length p ∷ l) (append-assoc p (replicate (pathRoom - length p) 0) rest ∙ ap (λ (k : ℕ). p ++ (replicate k 0 ++ rest)) e)
-
 length-last : (p : List ℕ) (e : ℕ) → length (p ++ e ∷ []) ≡ suc (length p)
 length-last p e = omega (arith, length-append p (e ∷ []))
 
+-- the words with their last edge
 last : (p rest : List ℕ) (e m : ℕ) → pathRoom - length p ≡ suc m → wordsOf (p ++ e ∷ []) ++ rest ≡ suc (length p) ∷ (p ++ e ∷ (replicate m 0 ++ rest))
 unfolding wordsOf
 last p rest e m h =
@@ -37,49 +33,6 @@ last p rest e m h =
 
 room : (n : ℕ) → n < pathRoom → pathRoom - n ≡ suc (pathRoom - 1 - n)
 room n h = omega arith
-
--- an edge more
-pub pushed : (ws : List ℕ) (w f : ℕ) → w ≡ getD ws 0 0 → getD ws 0 0 < pathRoom → (p rest : List ℕ) → ws ≡ wordsOf p ++ rest
-    → set (set ws (w + 1) f) 0 (w + 1) ≡ wordsOf (p ++ f ∷ []) ++ rest
-pushed ws w f ew h p rest e =
-    let n : getD ws 0 0 ≡ length p = ap (λ (l : List ℕ). getD l 0 0) e ∙ words-head p rest in
-    let r = room (length p) (omega arith) in
-    let q : w + 1 ≡ suc (length p) = omega arith in
-    let X = replicate (pathRoom - 1 - length p) 0 ++ rest in
-    ap (λ (k : ℕ). set (set ws k f) 0 k) q
-    ∙ ap (λ (l : List ℕ). set (set l (suc (length p)) f) 0 (suc (length p))) (e ∙ spare p rest (pathRoom - 1 - length p) r)
-    ∙ ap (λ (l : List ℕ). suc (length p) ∷ l) (set-at p 0 X f (length p) refl)
-    ∙ sym (last p rest f (pathRoom - 1 - length p) r)
-
--- the depth of words with a last edge
-last-deep : (ws : List ℕ) (p : List ℕ) (e : ℕ) (rest : List ℕ) → ws ≡ wordsOf (p ++ e ∷ []) ++ rest → getD ws 0 0 ≡ suc (length p)
-last-deep ws p e rest h = ap (λ (l : List ℕ). getD l 0 0) h ∙ words-head (p ++ e ∷ []) rest ∙ length-last p e
-
--- another last edge
-pub replaced : (ws : List ℕ) (w f : ℕ) → w ≡ getD ws 0 0 → getD ws 0 0 < scratchWords → (p : List ℕ) (e : ℕ) (rest : List ℕ) → ws ≡ wordsOf (p ++ e ∷ []) ++ rest
-    → set ws w f ≡ wordsOf (p ++ f ∷ []) ++ rest
-replaced ws w f ew h p e rest x =
-    let n = last-deep ws p e rest x in
-    let r = room (length p) (omega arith) in
-    let X = replicate (pathRoom - 1 - length p) 0 ++ rest in
-    ap (λ (k : ℕ). set ws k f) (ew ∙ n)
-    ∙ ap (λ (l : List ℕ). set l (suc (length p)) f) (x ∙ last p rest e (pathRoom - 1 - length p) r)
-    ∙ ap (λ (l : List ℕ). suc (length p) ∷ l) (set-at p e X f (length p) refl)
-    ∙ sym (last p rest f (pathRoom - 1 - length p) r)
-
--- one fewer
-pub popped : (ws : List ℕ) (w : ℕ) → w ≡ getD ws 0 0 → getD ws 0 0 < scratchWords → (p : List ℕ) (e : ℕ) (rest : List ℕ) → ws ≡ wordsOf (p ++ e ∷ []) ++ rest
-    → set (set ws w 0) 0 (w - 1) ≡ wordsOf p ++ rest
-popped ws w ew h p e rest x =
-    let n = last-deep ws p e rest x in
-    let r = room (length p) (omega arith) in
-    let X = replicate (pathRoom - 1 - length p) 0 ++ rest in
-    let q : w - 1 ≡ length p = omega arith in
-    ap (λ (k : ℕ). set (set ws w 0) 0 k) q
-    ∙ ap (λ (k : ℕ). set (set ws k 0) 0 (length p)) (ew ∙ n)
-    ∙ ap (λ (l : List ℕ). set (set l (suc (length p)) 0) 0 (length p)) (x ∙ last p rest e (pathRoom - 1 - length p) r)
-    ∙ ap (λ (l : List ℕ). length p ∷ l) (set-at p e X 0 (length p) refl)
-    ∙ sym (spare p rest (pathRoom - 1 - length p) r)
 
 -- the last edge's word
 pub last-word : (ws : List ℕ) (p : List ℕ) (e : ℕ) (rest : List ℕ) → length p < pathRoom → ws ≡ wordsOf (p ++ e ∷ []) ++ rest → getD ws (suc (length p)) 0 ≡ e
@@ -152,24 +105,6 @@ module _ {k : ℕ} {ws : List ℕ} (S : Stacked k ws) where
     pub top-below : T .edge < k
     unfolding Within
     top-below = within-both .0
-
-    pub under-within : Within k (T .under)
-    unfolding Within
-    under-within = within-both .1
-
-    -- the stack under it, read from the words
-    pub under-read : (d : ℕ) → d ≡ getD ws 0 0 → stackIn ws (d - 1) ≡ T .under
-    unfolding stackIn
-    under-read d e =
-        let u = reverse (T .under) in
-        let l = length-reverse (T .under) in
-        let s = top-short in
-        let X = replicate (pathRoom - 1 - length u) 0 ++ S .rest in
-        let q : d - 1 ≡ length u = omega (arith, top-depth) in
-        ap (λ (n : ℕ). reverse (take n (drop 1 ws))) q
-        ∙ ap (λ (x : List ℕ). reverse (take (length u) (drop 1 x))) (top-words ∙ last u (S .rest) (T .edge) (pathRoom - 1 - length u) (room (length u) (omega arith)))
-        ∙ ap reverse (take-at u (T .edge ∷ X) (length u) refl)
-        ∙ reverse-reverse (T .under)
 
 -- the top as the code reads it
 module _ {k : ℕ} {ws : List ℕ} (S : Stacked k ws) {d : ℕ} (ed : d ≡ getD ws 0 0) (ne : d ≡ 0 → ⊥) {x : ℕ} (ex : x ≡ getD ws d 0) where

@@ -2,9 +2,8 @@
 -- Assumes nothing: these are definitions.
 use Prim.Native.Nat.{ℕ, _≤_, _<_}
 use mathlib.Core.Path.{_≡_}
-use mathlib.Core.Bool.{Bool, true, false}
+use mathlib.Core.Bool.{Bool, true}
 use mathlib.Core.List.{List, [], _∷_, _++_, reverse}
-use mathlib.Core.Option.{Option, none, some}
 use lib.ListN.{length, getD, take, drop}
 use Rattle.repr.specs.Sizes.{edgeLimit, graphRoom, reductionLimit}
 use Rattle.repr.specs.Meaning.{Production, noProduction}
@@ -46,10 +45,6 @@ pub record Stacked (k : ℕ) (ws : List ℕ) : Type 0 where
 unfoldable pub stackIn : List ℕ → ℕ → List ℕ
 stackIn ws d = reverse (take d (drop 1 ws))
 
--- the answer of a step, and the words that it leaves: those of the next stack, or of none
+-- the answer of a step, and the words that it leaves
 pub data Stepped : Type 0 where
   stepped : Bool → List ℕ → Stepped
-
-unfoldable pub stepOf : Option (List ℕ) → List ℕ → Stepped
-stepOf none rest = stepped false (wordsOf [] ++ rest)
-stepOf (some st) rest = stepped true (wordsOf (reverse st) ++ rest)

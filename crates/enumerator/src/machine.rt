@@ -1,130 +1,26 @@
-// The machine that steps from trial to trial (`find_next_trace` and what it calls), over the words of a trial: the number of its edges, then its edges from the start item on, then zeros.
+// Whether the words of a public listing hold a trial of a lent graph, and clearing them: the number of its edges, then its edges from the start item on, then zeros. Crate view has the steps from trial to trial.
 use example::Example;
 use repr::word;
 use trace_graph::Node;
 use trace_graph::TraceGraph;
-use trace_graph::node_number;
 use trace_graph::read_node;
 use trace_graph::same_node;
 ghost use mathlib.Core.Path.{_≡_};
-ghost use mathlib.Core.Bool.{Bool, true, false, _&&_};
-ghost use mathlib.Core.List.{List, [], _∷_, _++_, reverse};
-ghost use Prim.Native.Nat.{ℕ, _+_, _-_, _≤_, _<_};
+ghost use mathlib.Core.Bool.{true, _&&_};
+ghost use mathlib.Core.List.{List, [], _++_, reverse};
+ghost use Prim.Native.Nat.{ℕ, _-_, _≤_, _<_};
 ghost use lib.ListN.{length, getD, take, drop, replicate};
 ghost use lib.Dec.{ltb};
-ghost use Rattle.repr.specs.Sizes.{edgeLimit, scratchWords, reductionLimit};
+ghost use Rattle.repr.specs.Sizes.{scratchWords};
 ghost use Rattle.slices.specs.Same.{sameWords};
 ghost use Rattle.repr.specs.Lists.{mem};
 ghost use Rattle.trace_graph.specs.Graph.{atNonterminal, atItem, sameNode};
 ghost use Rattle.trace_graph.specs.Words.{edgesIn};
 ghost use Rattle.trace_graph.specs.Values.{nodeIs, nodeValueFits};
 ghost use Rattle.enumerator.specs.Trials.{endsOf, isExample};
-ghost use Rattle.enumerator.specs.Words.{wordsOf, holdsTrial, pathRoom};
-ghost use Rattle.enumerator.specs.Machine.{onWalk, back, seek, next, usedOf, trialFrom?};
-ghost use Rattle.enumerator.specs.Stacks.{Ground, Started, Roomy, Within, Stacked, stackIn, Stepped, stepped, stepOf};
-ghost use Rattle.enumerator.specs.Counts.{Counted, WalkCounted, EdgesCounted};
-
-// One edge more.
-pub fn push(words: &mut [u16], edge: usize)
-    requires { ⌜ (scratchWords ≤ length (now words)) × ((getD (now words) 0 0 < pathRoom) × (edge < edgeLimit)) ⌝ }
-    ensures { λ _. ⌜ ((p rest : List ℕ) → now (words .entry) ≡ wordsOf p ++ rest → now (words .exit) ≡ wordsOf (p ++ edge ∷ []) ++ rest) ⌝ }
-{
-    let depth = word(words, 0) + 1;
-    words[depth] = edge as u16;
-    words[0] = depth as u16;
-}
-
-// Another last edge.
-pub fn replace(words: &mut [u16], edge: usize)
-    requires { ⌜ (scratchWords ≤ length (now words)) × ((getD (now words) 0 0 < scratchWords) × (edge < edgeLimit)) ⌝ }
-    ensures { λ _. ⌜ ((p : List ℕ) (e : ℕ) (rest : List ℕ) → now (words .entry) ≡ wordsOf (p ++ e ∷ []) ++ rest → now (words .exit) ≡ wordsOf (p ++ edge ∷ []) ++ rest) ⌝ }
-{
-    let depth = word(words, 0);
-    words[depth] = edge as u16;
-}
-
-// The last edge taken off; its word becomes 0.
-pub fn pop(words: &mut [u16])
-    requires { ⌜ (scratchWords ≤ length (now words)) × ((0 < getD (now words) 0 0) × (getD (now words) 0 0 < scratchWords)) ⌝ }
-    ensures { λ _. ⌜ ((p : List ℕ) (e : ℕ) (rest : List ℕ) → now (words .entry) ≡ wordsOf (p ++ e ∷ []) ++ rest → now (words .exit) ≡ wordsOf p ++ rest) ⌝ }
-{
-    let depth = word(words, 0);
-    words[depth] = 0;
-    words[0] = (depth - 1) as u16;
-}
-
-// An edge joins the walk: the nonterminal that it comes from counts one more. A walk has at most 33 edges, so a byte holds a count.
-fn join(graph: &[u16], edge: usize, counts: &mut [u8])
-    requires { ⌜ ((ix : List ℕ) × Ground (now graph) ix) ⌝ }
-    requires { ⌜ edge < getD (now graph) 0 0 ⌝ }
-    requires { ⌜ ((us : List ℕ) × (length us ≤ reductionLimit) × Counted us (now counts)) ⌝ }
-    ensures { λ _. ⌜ ((us : List ℕ) → Counted us (now (counts .entry)) → Counted (onWalk (endsOf (edgesIn (now (graph .entry))) .source edge) us) (now (counts .exit))) ⌝ }
-{
-    let source = read_node(graph, edge * TraceGraph::EDGE_WORDS + 1);
-    if source.kind != 0 {
-        return;
-    }
-    let nonterminal = source.number;
-    counts[nonterminal] = counts[nonterminal] + 1;
-}
-
-// The last edge leaves the walk: the nonterminal that it comes from counts one fewer.
-fn leave(graph: &[u16], words: &[u16], counts: &mut [u8])
-    requires { ⌜ ((ix : List ℕ) × Ground (now graph) ix) ⌝ }
-    requires { ⌜ Stacked (getD (now graph) 0 0) (now words) ⌝ }
-    requires { ⌜ EdgesCounted (now graph) (now words) (now counts) ⌝ }
-    ensures { λ _. ⌜ WalkCounted (now (graph .entry)) (now (words .entry)) (now (counts .exit)) ⌝ }
-{
-    let depth = word(words, 0);
-    if depth == 0 {
-        return;
-    }
-    let edge = word(words, depth);
-    let source = read_node(graph, edge * TraceGraph::EDGE_WORDS + 1);
-    if source.kind != 0 {
-        return;
-    }
-    let nonterminal = source.number;
-    counts[nonterminal] = counts[nonterminal] - 1;
-}
-
-// The counts of the walk that the words hold, from none counted.
-pub fn count_walk(graph: &[u16], words: &[u16], counts: &mut [u8])
-    requires { ⌜ ((ix : List ℕ) × Ground (now graph) ix) ⌝ }
-    requires { ⌜ Stacked (getD (now graph) 0 0) (now words) ⌝ }
-    requires { ⌜ Counted [] (now counts) ⌝ }
-    ensures { λ _. ⌜ WalkCounted (now (graph .entry)) (now (words .entry)) (now (counts .exit)) ⌝ }
-{
-    let depth = word(words, 0);
-    let mut at: usize = 0;
-    while at + 1 < depth {
-        join(graph, word(words, at + 1), counts);
-        at += 1;
-    }
-}
-
-// The last edge gives way to the next older one into the same node; where there is none it is taken off, the edge before it leaves the walk, and gives way.
-pub fn back(graph: &[u16], ix: &[u16], words: &mut [u16], counts: &mut [u8]) -> bool
-    requires { ⌜ Ground (now graph) (now ix) ⌝ }
-    requires { ⌜ Stacked (getD (now graph) 0 0) (now words) ⌝ }
-    requires { ⌜ WalkCounted (now graph) (now words) (now counts) ⌝ }
-    ensures { λ r. ⌜ ((st rest : List ℕ) → now (words .entry) ≡ wordsOf (reverse st) ++ rest → stepped r (now (words .exit)) ≡ stepOf (back (endsOf (edgesIn (now (graph .entry)))) st) rest) ⌝ }
-    ensures { λ _. ⌜ WalkCounted (now (graph .entry)) (now (words .exit)) (now (counts .exit)) ⌝ }
-{
-    let mut depth = word(words, 0);
-    while depth != 0 {
-        let edge = word(words, depth);
-        let older = word(ix, TraceGraph::NODES + edge);
-        if older != 0 {
-            replace(words, older - 1);
-            return true;
-        }
-        pop(words);
-        leave(graph, words, counts);
-        depth -= 1;
-    }
-    false
-}
+ghost use Rattle.enumerator.specs.Words.{wordsOf, holdsTrial};
+ghost use Rattle.enumerator.specs.Machine.{usedOf, trialFrom?};
+ghost use Rattle.enumerator.specs.Stacks.{Ground, Started, Roomy, Within, Stacked, stackIn};
 
 // Whether an edge comes from a nonterminal.
 fn comes_from(graph: &[u16], edge: usize, nonterminal: usize) -> bool
@@ -155,61 +51,6 @@ fn uses(graph: &[u16], words: &[u16], depth: usize, nonterminal: usize) -> bool
         k -= 1;
     }
     false
-}
-
-// One edge more, the latest into the node, where the edges before it are counted; where there is none, back.
-fn seek(graph: &[u16], ix: &[u16], words: &mut [u16], node: Node, counts: &mut [u8]) -> bool
-    requires { ⌜ ((G : Ground (now graph) (now ix)) × (nodeValueFits (G .nonterminals) (G .productions) node ≡ true)) ⌝ }
-    requires { ⌜ Stacked (getD (now graph) 0 0) (now words) ⌝ }
-    requires { ⌜ EdgesCounted (now graph) (now words) (now counts) ⌝ }
-    ensures { λ r. ⌜ ((st rest : List ℕ) → now (words .entry) ≡ wordsOf (reverse st) ++ rest → stepped r (now (words .exit)) ≡ stepOf (seek (endsOf (edgesIn (now (graph .entry)))) (nodeIs node) (endsOf (edgesIn (now (graph .entry))) .count) st) rest) ⌝ }
-    ensures { λ _. ⌜ WalkCounted (now (graph .entry)) (now (words .exit)) (now (counts .exit)) ⌝ }
-{
-    let number = node_number(node);
-    let latest = word(ix, number);
-    if latest == 0 {
-        leave(graph, words, counts);
-        return back(graph, ix, words, counts);
-    }
-    push(words, latest - 1);
-    true
-}
-
-// The trial after the one that the words hold; after the empty words, the first from the start item.
-pub fn next(
-    graph: &[u16],
-    ix: &[u16],
-    words: &mut [u16],
-    production: usize,
-    index: usize,
-    counts: &mut [u8],
-) -> bool
-    requires { ⌜ Started (now graph) (now ix) production index ⌝ }
-    requires { ⌜ Stacked (getD (now graph) 0 0) (now words) ⌝ }
-    requires { ⌜ WalkCounted (now graph) (now words) (now counts) ⌝ }
-    ensures { λ r. ⌜ ((st rest : List ℕ) → now (words .entry) ≡ wordsOf (reverse st) ++ rest → stepped r (now (words .exit)) ≡ stepOf (next (endsOf (edgesIn (now (graph .entry)))) (atItem (record { production = production; index = index })) st) rest) ⌝ }
-    ensures { λ _. ⌜ WalkCounted (now (graph .entry)) (now (words .exit)) (now (counts .exit)) ⌝ }
-{
-    let depth = word(words, 0);
-    if depth == 0 {
-        let start = Node {
-            kind: 1,
-            number: production,
-            index: index,
-        };
-        return seek(graph, ix, words, start, counts);
-    }
-    let edge = word(words, depth);
-    let source = read_node(graph, edge * TraceGraph::EDGE_WORDS + 1);
-    if source.kind != 0 {
-        return back(graph, ix, words, counts);
-    }
-    let nonterminal = source.number;
-    if counts[nonterminal] != 0 {
-        return back(graph, ix, words, counts);
-    }
-    join(graph, edge, counts);
-    seek(graph, ix, words, source, counts)
 }
 
 // Whether the trial is an example: its last edge comes from an item.

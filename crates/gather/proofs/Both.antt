@@ -2,7 +2,7 @@
 use mathlib.Core.Path.{_≡_, refl, sym, ap, _∙_}
 use mathlib.Core.Bool.{Bool, true, false, _&&_, true≢false}
 use mathlib.Core.Option.{Option, none, some}
-use mathlib.Core.List.{List, [], _∷_, _++_}
+use mathlib.Core.List.{List, [], _∷_, _++_, append-assoc}
 use Prim.Native.Nat.{ℕ, zero, suc, _+_, _-_, _*_, _≤_, _<_}
 use native.Mathlib.Omega.{arith}
 use lib.ListN.{length, getD, take, drop, replicate, length-append}
@@ -31,6 +31,8 @@ use Rattle.enumerator.specs.Words.{wordsOf}
 use Rattle.enumerator.specs.Advance.{setOf}
 use Rattle.enumerator.proofs.WordsOf.{words-long}
 use Rattle.enumerator.specs.declared.Lookahead.the-variants.{Set}
+use Rattle.view.specs.Trial.{trialRoom, trialWords}
+use Rattle.view.proofs.Trial.{trial-long, words-trial}
 use Rattle.error.specs.declared.Conflict.{Conflict}
 use Rattle.error.specs.Sides.{Side, gathered, stopped, listingSide, reduceItem, reduceSide, shiftSide, actionSideOf, Gathered, sides, halted, bothSides, gather}
 use Rattle.error.specs.Kept.{Read, kept, Kept}
@@ -39,7 +41,7 @@ use Rattle.gather.specs.declared.Side.{Side as SideValue}
 use Rattle.gather.specs.declared.Side.the-variants.{Examples, Stopped}
 use Rattle.gather.specs.declared.Gathered.{Gathered as GatheredValue}
 use Rattle.gather.specs.declared.Gathered.the-variants.{Sides, Halted}
-use Rattle.gather.specs.Listing.{onto, Clear}
+use Rattle.gather.specs.Listing.{onto, Clear, Idle}
 use Rattle.gather.specs.Answers.{sideIn, gatheredIn, sided, both, KeptIn, KeptBoth, TrialsIn}
 use Rattle.gather.proofs.Shifts.{kept-none, side-part, words-part}
 
@@ -142,6 +144,14 @@ cleared-clear w₀ w e =
 pub clear-words : (w : List ℕ) → Clear w → w ≡ wordsOf [] ++ drop scratchWords w
 unfolding Clear
 clear-words w K = K
+
+-- and so are a trial's
+pub clear-idle : (w : List ℕ) → Clear w → Idle w
+unfolding Clear Idle
+clear-idle w C =
+    let R = replicate (scratchWords - trialRoom) 0 ++ drop scratchWords w in
+    let e : w ≡ trialWords [] ++ R = C ∙ ap (λ (l : List ℕ). l ++ drop scratchWords w) (words-trial [] (omega arith)) ∙ append-assoc (trialWords []) (replicate (scratchWords - trialRoom) 0) (drop scratchWords w) in
+    e ∙ ap (λ (l : List ℕ). trialWords [] ++ l) (sym (ap (drop trialRoom) e ∙ drop-at (trialWords []) R trialRoom (trial-long [] (omega arith))))
 
 pub zeroed-clear : (w : List ℕ) → w ≡ zeroed classifyScratch w → Clear w
 unfolding Clear zeroed

@@ -8,7 +8,7 @@ use native.Mathlib.Omega.{arith}
 use lib.ListN.{length, getD, take, drop}
 use lib.Dec.{ltb}
 use borrow.Author.Tests.{lt-ltb, le-ltb}
-use Rattle.repr.specs.Sizes.{edgeLimit, trialLimit, exampleLimit}
+use Rattle.repr.specs.Sizes.{edgeLimit, graphRoom, trialLimit, exampleLimit}
 use Rattle.repr.specs.Lists.{keep}
 use Rattle.repr.specs.Meaning.{Production, noProduction, Item, Table, All}
 use Rattle.repr.specs.Packed.{Packed, productionsIn}
@@ -20,7 +20,6 @@ use Rattle.first.specs.First.{firstSets}
 use Rattle.trace_graph.specs.Graph.{TraceEdge, Node, atNonterminal, atItem}
 use Rattle.trace_graph.specs.Words.{graphWords, edgesIn}
 use Rattle.trace_graph.specs.Fits.{itemFits, graphFits}
-use Rattle.trace_graph.specs.Insert.{Graphed}
 use Rattle.trace_graph.proofs.RoundTrip.{edges-back, EdgeInRange, graph-fits}
 use Rattle.trace.specs.Traced.{ownerOf}
 use Rattle.trace.specs.Sound.{nodeOwner as ownerAt, EdgeSound, Sound}
@@ -28,6 +27,8 @@ use Rattle.trace.proofs.Traced.{fits-item, shift-sound, reduce-sound}
 use Rattle.tracer.specs.Built.{Asked, edgesBy}
 use Rattle.enumerator.specs.Trials.{Path, endsOf, trials}
 use Rattle.enumerator.specs.Lister.{hands, labelsOf, nodeOwner}
+use Rattle.view.specs.View.{View, Ranged}
+use Rattle.view.proofs.Made.{ranged-fits}
 use Rattle.error.specs.Sides.{Side, gathered, stopped, listingSide}
 use Rattle.error.specs.Kept.{Read, kept, Kept}
 use Rattle.gather.specs.declared.Side.{Side as SideValue}
@@ -132,12 +133,15 @@ module _ (t g : List ℕ) (productions n terminals : ℕ) (sets : List ℕ) (R :
           e ∙ rw (R .same, R .nonterminals) (ap (graphFits (length (meaning t .nonterminals)) (meaning t .productions)) split
           ∙ graph-fits (length (meaning t .nonterminals)) (meaning t .productions) es rest (B .0) (all-map (EdgeSound (meaning t)) (EdgeInRange (length (meaning t .nonterminals)) (meaning t .productions)) (sound-range (meaning t)) es (S .edges)) (S .once))
 
-      pub listable : (ix : List ℕ) → Graphed n (productionsIn g productions) ws ix (getD ws 0 0) → Listable (productionsIn g productions) ws ix p i
-      listable ix G = record {
-        nonterminals = n;
-        graphed = G;
+      pub ranged : graphRoom ≤ length ws → Ranged (productionsIn g productions) ws
+      ranged l = ranged-fits n (productionsIn g productions) ws (graph-passes (graphFits n (productionsIn g productions) ws) refl) read-nonterminals l
+
+      pub listable : {sources older latest : List ℕ} → graphRoom ≤ length ws → View (edgesIn ws) (record { production = p; index = i }) sources older latest
+          → Listable (productionsIn g productions) ws sources older latest (record { production = p; index = i })
+      listable l W = record {
+        ranged = ranged l;
         owned = rw (edges-same, R .same) (all-map (EdgeSound (meaning t)) (EdgeOwned (meaning t .productions)) (sound-owned (meaning t)) es (trace-sound shift .edges));
-        fits = rw (R .same) f;
+        view = W;
       }
 
       pub listing-made : (k : ℕ) (ahead : Option ℕ) (s₀ w₀ : List ℕ) (r : SideValue) (s′ w′ : List ℕ) → Kept (meaning t .productions) s₀ k

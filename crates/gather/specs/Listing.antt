@@ -11,12 +11,12 @@ use Rattle.repr.specs.Sizes.{scratchWords, trialLimit, exampleLimit}
 use Rattle.repr.specs.Meaning.{Production, noProduction, Item, All}
 use Rattle.trace_graph.specs.Graph.{TraceEdge, Node, atItem}
 use Rattle.trace_graph.specs.Words.{edgesIn}
-use Rattle.trace_graph.specs.Fits.{itemFits}
-use Rattle.trace_graph.specs.Insert.{Graphed}
 use Rattle.example.specs.Example.{Label}
 use Rattle.enumerator.specs.Trials.{Path, endsOf, trials}
 use Rattle.enumerator.specs.Lister.{labelsOf, nodeOwner}
 use Rattle.enumerator.specs.Words.{wordsOf}
+use Rattle.view.specs.View.{View, Ranged}
+use Rattle.view.specs.Trial.{trialRoom, trialWords}
 use Rattle.error.specs.Sides.{Side, gathered, stopped}
 use Rattle.search.specs.Filter.{handsBy}
 
@@ -54,9 +54,12 @@ Clear ws = ws ≡ wordsOf [] ++ drop scratchWords ws
 unfoldable pub EdgeOwned : List Production → TraceEdge → Type 0
 EdgeOwned ps e = nodeOwner ps (e .source) ≡ getD ps (e .label .production) noProduction .nonterminal
 
--- a graph with its index, whose labels can be packed, and an item
-pub record Listable (ps : List Production) (g ix : List ℕ) (production index : ℕ) : Type 0 where
-  pub nonterminals : ℕ
-  pub graphed : Graphed nonterminals ps g ix (getD g 0 0)
+-- the first 34 words are those of no edge
+unfoldable pub Idle : List ℕ → Type 0
+Idle ws = ws ≡ trialWords [] ++ drop trialRoom ws
+
+-- a graph whose labels can be packed, and its view from an item
+pub record Listable (ps : List Production) (g sources older latest : List ℕ) (start : Item) : Type 0 where
+  pub ranged : Ranged ps g
   pub owned : All (EdgeOwned ps) (edgesIn g)
-  pub fits : itemFits ps production index ≡ true
+  pub view : View (edgesIn g) start sources older latest

@@ -1,7 +1,6 @@
 // What a conflict's two sides gather (`shift_examples`, `reduce_examples` of lr1/error/mod.rs), part 8 of document 01: every example of each listing, its labels kept in one word each.
 use core::Item;
 use enumerator::Lookahead;
-use enumerator::machine::clear;
 use error::Conflict;
 use example::Example;
 use lookahead::TokenSet;
@@ -14,8 +13,10 @@ use search::search;
 use shift_items::conflicting_shift_items;
 use trace_graph::Inserted;
 use trace_graph::TraceGraph;
-use trace_graph::check_graph;
 use tracer::build;
+use view::View;
+use view::machine::clear;
+use view::making::make_view;
 ghost use mathlib.Core.Path.{_≡_};
 ghost use mathlib.Core.Bool.{true, false};
 ghost use mathlib.Core.List.{List, [], _++_};
@@ -23,6 +24,7 @@ ghost use Prim.Native.Nat.{ℕ, _+_, _-_, _*_, _≤_, _<_};
 ghost use lib.ListN.{length};
 ghost use Rattle.repr.specs.Sizes.{classifyScratch, trialLimit, exampleLimit, sideRoom};
 ghost use Rattle.slices.specs.Lent.{zeroed};
+ghost use Rattle.repr.specs.Meaning.{Item as ItemOf};
 ghost use Rattle.repr.specs.Packed.{Packed, productionsIn};
 ghost use Rattle.table.specs.Decoded.{meaning};
 ghost use Rattle.trace_graph.specs.Words.{edgesIn};
@@ -30,14 +32,14 @@ ghost use Rattle.trace_graph.specs.Fits.{itemFits};
 ghost use Rattle.tracer.specs.Built.{edgesBy};
 ghost use Rattle.example.specs.Labels.{labelsIn};
 ghost use Rattle.enumerator.specs.Lister.{labelsOf};
-ghost use Rattle.enumerator.specs.Words.{wordsOf};
+ghost use Rattle.view.specs.Trial.{trialWords};
 ghost use Rattle.enumerator.specs.Advance.{setOf};
 ghost use Rattle.error.specs.Sides.{listingSide, shiftSide, reduceSide, actionSideOf, gather};
 ghost use Rattle.error.specs.Kept.{Read, kept, Kept};
 ghost use Rattle.error.specs.Outcome.{conflictFits};
 ghost use Rattle.search.specs.Given.{Tried};
 ghost use Rattle.gather.specs.Packing.{keptWith, Packable, Fitting};
-ghost use Rattle.gather.specs.Listing.{onto, listedBy, Clear, Listable};
+ghost use Rattle.gather.specs.Listing.{onto, listedBy, Clear, Idle, Listable};
 ghost use Rattle.gather.specs.Answers.{sideIn, gatheredIn, sided, both, KeptIn, KeptBoth, TrialsIn};
 
 // One side: how many examples its words hold and how many trials were made; else the refusal, 12 to 14.
@@ -82,14 +84,14 @@ fn append(
     requires { ⌜ Packed (now grammar) productions ⌝ }
     requires { ⌜ Tried (productionsIn (now grammar) productions) (now graph) (now words) ⌝ }
     requires { ⌜ (count < exampleLimit) × (sideRoom ≤ length (now side)) ⌝ }
-    ensures { λ _. ⌜ ((p rest : List ℕ) → now (words .entry) ≡ wordsOf p ++ rest → (now (side .exit) ≡ keptWith (now (side .entry)) count (labelsOf (productionsIn (now (grammar .entry)) productions) (edgesIn (now (graph .entry))) p)) × Fitting (productionsIn (now (grammar .entry)) productions) (labelsOf (productionsIn (now (grammar .entry)) productions) (edgesIn (now (graph .entry))) p)) ⌝ }
+    ensures { λ _. ⌜ ((p rest : List ℕ) → now (words .entry) ≡ trialWords p ++ rest → (now (side .exit) ≡ keptWith (now (side .entry)) count (labelsOf (productionsIn (now (grammar .entry)) productions) (edgesIn (now (graph .entry))) p)) × Fitting (productionsIn (now (grammar .entry)) productions) (labelsOf (productionsIn (now (grammar .entry)) productions) (edgesIn (now (graph .entry))) p)) ⌝ }
 {
     let mut labels = [0u16; Example::ALL_LABEL_WORDS];
     let size = read_labels(grammar, productions, graph, words, &mut labels);
     pack(&labels[..size], side, count);
 }
 
-// Every example of a graph's listing, put behind those of its side; the search goes from one to the next. Example 193 of the side is refusal 14, trial 100,001 refusal 13. The words are cleared again.
+// Every example of a graph's listing, put behind those of its side; the search goes from one to the next. Example 193 of the side is refusal 14, trial 100,001 refusal 13. The words of a trial are cleared again. The view says from which item.
 fn list_examples(
     grammar: &[u16],
     productions: usize,
@@ -97,18 +99,18 @@ fn list_examples(
     map: &[u64; NonterminalString::LIMIT],
     lookahead: Lookahead,
     graph: &[u16],
-    ix: &[u16],
-    production: usize,
-    index: usize,
+    sources: &[u8],
+    older: &[u16],
+    latest: &[u16],
     words: &mut [u16],
     side: &mut [u16],
     count: usize,
 ) -> Side
     requires { ⌜ Packed (now grammar) productions × (terminals ≤ 63) ⌝ }
-    requires { ⌜ Listable (productionsIn (now grammar) productions) (now graph) (now ix) production index ⌝ }
-    requires { ⌜ Clear (now words) ⌝ }
+    requires { ⌜ ((start : ItemOf) × Listable (productionsIn (now grammar) productions) (now graph) (now sources) (now older) (now latest) start) ⌝ }
+    requires { ⌜ Idle (now words) ⌝ }
     requires { ⌜ Kept (productionsIn (now grammar) productions) (now side) count ⌝ }
-    ensures { λ r. ⌜ sided (sideIn (productionsIn (now (grammar .entry)) productions) r (now (side .exit))) (now (words .exit)) ≡ sided (onto (kept (productionsIn (now (grammar .entry)) productions) (now (side .entry)) count) (listedBy terminals (now (map .entry)) (productionsIn (now (grammar .entry)) productions) (edgesIn (now (graph .entry))) (setOf lookahead) (record { production = production; index = index }) count)) (now (words .entry)) ⌝ }
+    ensures { λ r. ⌜ ((start : ItemOf) → Listable (productionsIn (now (grammar .entry)) productions) (now (graph .entry)) (now (sources .entry)) (now (older .entry)) (now (latest .entry)) start → sided (sideIn (productionsIn (now (grammar .entry)) productions) r (now (side .exit))) (now (words .exit)) ≡ sided (onto (kept (productionsIn (now (grammar .entry)) productions) (now (side .entry)) count) (listedBy terminals (now (map .entry)) (productionsIn (now (grammar .entry)) productions) (edgesIn (now (graph .entry))) (setOf lookahead) start count)) (now (words .entry))) ⌝ }
     ensures { λ r. ⌜ KeptIn (productionsIn (now (grammar .entry)) productions) r (now (side .exit)) × TrialsIn trialLimit r ⌝ }
 {
     let mut total = count;
@@ -121,10 +123,10 @@ fn list_examples(
             map,
             lookahead,
             graph,
-            ix,
+            sources,
+            older,
+            latest,
             words,
-            production,
-            index,
             made,
         ) {
             Searched::Hit(number) => {
@@ -183,8 +185,17 @@ fn gather_listing(
         shift,
     ) {
         Inserted::Done => {
-            let mut ix = [0u16; TraceGraph::INDEX_WORDS];
-            check_graph(grammar, productions, n, &graph, &mut ix);
+            let mut sources = [0u8; View::EDGES];
+            let mut older = [0u16; View::EDGES];
+            let mut latest = [0u16; View::NODES];
+            make_view(
+                &graph,
+                production,
+                index,
+                &mut sources,
+                &mut older,
+                &mut latest,
+            );
             list_examples(
                 grammar,
                 productions,
@@ -192,9 +203,9 @@ fn gather_listing(
                 map,
                 lookahead,
                 &graph,
-                &ix,
-                production,
-                index,
+                &sources,
+                &older,
+                &latest,
                 words,
                 side,
                 count,

@@ -3,14 +3,14 @@ use Prim.Native.Nat.{ℕ, zero, suc, _-_, _≤_}
 use native.Mathlib.Omega.{arith}
 use mathlib.Core.Path.{_≡_, refl, sym, ap, _∙_}
 use mathlib.Core.Bool.{Bool, true, false, _&&_, not}
-use mathlib.Core.List.{List, [], _++_, List·Memᴰ}
+use mathlib.Core.List.{List, [], _++_, append-assoc, List·Memᴰ}
 use mathlib.Core.Option.{Option, none, some}
-use lib.ListN.{length, drop}
+use lib.ListN.{length, drop, replicate}
 use lib.Dec.{eqb}
 use borrow.Author.Tests.{eq-eqb, ne-eqb}
 use Rattle.repr.specs.Sizes.{scratchWords, trialLimit, reductionLimit}
 use Rattle.slices.specs.Lent.{inFront, zeroed}
-use Rattle.repr.specs.Meaning.{Production, Table}
+use Rattle.repr.specs.Meaning.{Item, Production, Table}
 use Rattle.repr.proofs.Lists.{cases, clash}
 use Rattle.first.specs.First.{firstSets}
 use Rattle.trace_graph.specs.Graph.{Node, atItem, TraceEdge}
@@ -25,12 +25,15 @@ use Rattle.enumerator.specs.declared.Listing.{Listing}
 use Rattle.enumerator.specs.declared.Advanced.the-variants.{Example, End, Refused}
 use Rattle.enumerator.proofs.Short.{short-trial}
 use Rattle.enumerator.proofs.WordsOf.{words-long, held-trial}
+use Rattle.view.specs.View.{View, Ranged}
+use Rattle.view.specs.Trial.{trialRoom, trialWords}
+use Rattle.view.proofs.Trial.{words-trial}
 use Rattle.search.specs.declared.Searched.{Searched}
 use Rattle.search.specs.declared.Searched.the-variants.{Hit, Out, Over}
 use Rattle.search.specs.Filter.{handsBy}
 use Rattle.search.specs.Given.{Begun, Searching, Tried}
 use Rattle.search.specs.Found.{searched, searchedOf, laterThan}
-use Rattle.lister.specs.Context.{Read, Listable, setsFor, begun}
+use Rattle.lister.specs.Context.{Read, setsFor, begun}
 use Rattle.search.proofs.Filter.{hands-by, hands-any, search-same}
 use Rattle.search.proofs.Calling.{begun-none, begun-trial, held-whole, rest-later, rest-first, searched-hit, searched-out, searched-over, search-trial, tried-trial}
 
@@ -74,21 +77,29 @@ module _ (es : List TraceEdge) (l : Listing) (ws : List ℕ) where
       held : lost es l ws ≡ false → holds ≡ true
       held f = cases holds (λ h. h) (λ h. clash (lost es l ws) (sym (lost-other holds refl h)) f)
 
+-- the 32,000 words of a trial are its 34 and zeros
+abbrev behind : List ℕ → List ℕ
+behind ws = replicate (scratchWords - trialRoom) 0 ++ drop scratchWords ws
+
+trial-behind : (p : Path) (ws : List ℕ) → length p ≤ reductionLimit → wordsOf p ++ drop scratchWords ws ≡ trialWords p ++ behind ws
+trial-behind p ws h =
+    ap (λ (l : List ℕ). l ++ drop scratchWords ws) (words-trial p h) ∙ append-assoc (trialWords p) (replicate (scratchWords - trialRoom) 0) (drop scratchWords ws)
+
 -- where the search starts
 pub record Start (G : Ends) (start : Node) (c : ℕ) (ws : List ℕ) : Type 0 where
   pub path : Path
-  pub words : begun c ws ≡ wordsOf path ++ drop scratchWords ws
+  pub words : begun c ws ≡ trialWords path ++ (replicate (scratchWords - trialRoom) 0 ++ drop scratchWords ws)
   pub begins : Begun G start path
   pub later : laterThan path (trials G start) ≡ restOf c ws (trials G start)
 
 start-by : (G : Ends) (start : Node) (c : ℕ) (ws : List ℕ) → ((c ≡ 0 → ⊥) → holdsTrial G start ws ≡ true) → Start G start c ws
 unfolding begun
-start-by G start zero ws h = record { path = []; words = refl; begins = begun-none G start; later = sym (rest-first 0 ws (trials G start) refl) }
+start-by G start zero ws h = record { path = []; words = trial-behind [] ws (omega arith); begins = begun-none G start; later = sym (rest-first 0 ws (trials G start) refl) }
 start-by G start (suc c) ws h =
     let ne : suc c ≡ 0 → ⊥ = λ z. omega arith in
     record {
       path = pathIn ws;
-      words = held-whole G start ws (h ne);
+      words = held-whole G start ws (h ne) ∙ trial-behind (pathIn ws) ws (short-trial G start (pathIn ws) (held-trial G start ws (h ne)));
       begins = begun-trial G start (pathIn ws) (held-trial G start ws (h ne));
       later = sym (rest-later G start (suc c) ws (h ne) ne);
     }
@@ -97,14 +108,13 @@ pub start-at : (es : List TraceEdge) (l : Listing) (ws : List ℕ) → l .«is_o
     → Start (endsOf es) (atItem (record { production = l .production .0; index = l .index })) (l .count) ws
 start-at es l ws o f = start-by (endsOf es) (atItem (record { production = l .production .0; index = l .index })) (l .count) ws (λ ne. held es l ws o ne f)
 
-pub searching : {ps : List Production} {g ix : List ℕ} {p i c : ℕ} {ws : List ℕ} (ws′ : List ℕ) → Listable ps g ix p i
-    → Start (endsOf (edgesIn g)) (atItem (record { production = p; index = i })) c ws → ws′ ≡ begun c ws → Searching ps g ix ws′ p i
-searching {ws = ws} ws′ L S e = record {
-  nonterminals = L .nonterminals;
-  graphed = L .graphed;
-  fits = L .fits;
+pub searching : {ps : List Production} {g sources older latest : List ℕ} {start : Item} {c : ℕ} {ws : List ℕ} (ws′ : List ℕ) → Ranged ps g → View (edgesIn g) start sources older latest
+    → Start (endsOf (edgesIn g)) (atItem start) c ws → ws′ ≡ begun c ws → Searching ps g sources older latest ws′ start
+searching {ws = ws} ws′ R W S e = record {
+  ranged = R;
+  view = W;
   path = S .path;
-  rest = drop scratchWords ws;
+  rest = behind ws;
   words = e ∙ S .words;
   begun = S .begins;
 }
@@ -129,27 +139,27 @@ unfolding inFront
 path-front p ws h = ap (λ (k : ℕ). wordsOf p ++ drop k ws) (sym (words-long p (omega arith)))
 
 -- what is found
-module _ {ps : List Production} {g ix : List ℕ} {p i c : ℕ} {ws : List ℕ} (L : Listable ps g ix p i)
-    (S : Start (endsOf (edgesIn g)) (atItem (record { production = p; index = i })) c ws) (t : Path → Bool) (r : Searched) (ws′ ws″ : List ℕ) (eb : ws′ ≡ begun c ws)
-    (found : (q rest : List ℕ) → ws′ ≡ wordsOf q ++ rest
-    → searched r ws″ ≡ searchedOf rest (search t (trialLimit - c) c (laterThan q (trials (endsOf (edgesIn g)) (atItem (record { production = p; index = i })))))) where
+module _ {ps : List Production} {g : List ℕ} {start : Item} {c : ℕ} {ws : List ℕ} (L : Ranged ps g)
+    (S : Start (endsOf (edgesIn g)) (atItem start) c ws) (t : Path → Bool) (r : Searched) (ws′ ws″ : List ℕ) (eb : ws′ ≡ begun c ws)
+    (found : (q rest : List ℕ) → ws′ ≡ trialWords q ++ rest
+    → searched r ws″ ≡ searchedOf rest (search t (trialLimit - c) c (laterThan q (trials (endsOf (edgesIn g)) (atItem start))))) where
   abbrev ts : List Path
-  ts = trials (endsOf (edgesIn g)) (atItem (record { production = p; index = i }))
+  ts = trials (endsOf (edgesIn g)) (atItem start)
 
   abbrev finds : Found
   finds = search t (trialLimit - c) c (laterThan (S .path) ts)
 
-  answers : searched r ws″ ≡ searchedOf (drop scratchWords ws) finds
-  answers = found (S .path) (drop scratchWords ws) (eb ∙ S .words)
+  answers : searched r ws″ ≡ searchedOf (behind ws) finds
+  answers = found (S .path) (behind ws) (eb ∙ S .words)
 
-  hits : (n : ℕ) → r ≡ Hit n → (q : Path) × (finds ≡ hit n q) × (ws″ ≡ wordsOf q ++ drop scratchWords ws)
-  hits n er = searched-hit n ws″ (drop scratchWords ws) finds (ap (λ (x : Searched). searched x ws″) (sym er) ∙ answers)
+  hits : (n : ℕ) → r ≡ Hit n → (q : Path) × (finds ≡ hit n q) × (ws″ ≡ trialWords q ++ behind ws)
+  hits n er = searched-hit n ws″ (behind ws) finds (ap (λ (x : Searched). searched x ws″) (sym er) ∙ answers)
 
   hit-in : (n : ℕ) (er : r ≡ Hit n) → List·Memᴰ (hits n er .0) ts
-  hit-in n er = search-trial t (endsOf (edgesIn g)) (atItem (record { production = p; index = i })) (S .path) (trialLimit - c) c n (hits n er .0) (hits n er .1) .0
+  hit-in n er = search-trial t (endsOf (edgesIn g)) (atItem start) (S .path) (trialLimit - c) c n (hits n er .0) (hits n er .1) .0
 
   pub hit-tried : (n : ℕ) → r ≡ Hit n → Tried ps g ws″
-  hit-tried n er = tried-trial (L .graphed) (atItem (record { production = p; index = i })) (hits n er .0) (drop scratchWords ws) ws″ (hit-in n er) (hits n er .2)
+  hit-tried n er = tried-trial L (atItem start) (hits n er .0) (behind ws) ws″ (hit-in n er) (hits n er .2)
 
   module _ {k e : ℕ} (T : Table) (R : Read T k e ps) (l : Listing) (buffer : List ℕ) (a : Option ℕ) (same : (q : Path) → hands T (edgesIn g) a q ≡ t q) where
     abbrev whole : Found
@@ -165,30 +175,31 @@ module _ {ps : List Production} {g ix : List ℕ} {p i c : ℕ} {ws : List ℕ} 
     says-is q = ap (λ (x : List Production). exampleWords x (labelsOf x (edgesIn g) q)) (R .productions)
 
     pub found-hit : (n : ℕ) → r ≡ Hit n → (x : Listing) (o : Bool) → x ≡ moved l n o → o ≡ true → (b : List ℕ)
-        → ((q rest : List ℕ) → ws″ ≡ wordsOf q ++ rest → b ≡ inFront (exampleWords ps (labelsOf ps (edgesIn g) q)) buffer)
+        → ((q rest : List ℕ) → ws″ ≡ trialWords q ++ rest → b ≡ inFront (exampleWords ps (labelsOf ps (edgesIn g) q)) buffer)
         → outcome Example x ws″ b ≡ foundOutcome T (edgesIn g) l ws buffer whole
     unfolding foundOutcome
     found-hit n er x o ex eo b w =
         let q = hits n er .0 in
         let f : whole ≡ hit n q = sym whole-is ∙ hits n er .1 in
-        let s : ws″ ≡ inFront (wordsOf q) ws = hits n er .2 ∙ path-front q ws (short-trial (endsOf (edgesIn g)) (atItem (record { production = p; index = i })) q (hit-in n er)) in
-        let d : b ≡ inFront (says T (edgesIn g) q) buffer = w q (drop scratchWords ws) (hits n er .2) ∙ ap (λ (y : List ℕ). inFront y buffer) (says-is q) in
+        let h = short-trial (endsOf (edgesIn g)) (atItem start) q (hit-in n er) in
+        let s : ws″ ≡ inFront (wordsOf q) ws = hits n er .2 ∙ sym (trial-behind q ws h) ∙ path-front q ws h in
+        let d : b ≡ inFront (says T (edgesIn g) q) buffer = w q (behind ws) (hits n er .2) ∙ ap (λ (y : List ℕ). inFront y buffer) (says-is q) in
         (λ j. outcome Example ((ex ∙ ap (moved l n) eo) j) (s j) (d j)) ∙ ap (foundOutcome T (edgesIn g) l ws buffer) (sym f)
 
     pub found-out : (n : ℕ) → r ≡ Out n → (x : Listing) (u : Bool) → x ≡ moved l n u → u ≡ false → outcome End x ws″ buffer ≡ foundOutcome T (edgesIn g) l ws buffer whole
     unfolding foundOutcome
     found-out n er x u ex eu =
-        let o = searched-out n ws″ (drop scratchWords ws) finds (ap (λ (y : Searched). searched y ws″) (sym er) ∙ answers) in
+        let o = searched-out n ws″ (behind ws) finds (ap (λ (y : Searched). searched y ws″) (sym er) ∙ answers) in
         let f : whole ≡ out n = sym whole-is ∙ o .0 in
-        let s : ws″ ≡ zeroed scratchWords ws = o .1 ∙ none-zeroed ws in
+        let s : ws″ ≡ zeroed scratchWords ws = o .1 ∙ sym (trial-behind [] ws (omega arith)) ∙ none-zeroed ws in
         (λ j. outcome End ((ex ∙ ap (moved l n) eu) j) (s j) buffer) ∙ ap (foundOutcome T (edgesIn g) l ws buffer) (sym f)
 
     pub found-over : r ≡ Over → (x : Listing) (n : ℕ) (u : Bool) → x ≡ moved l n u → n ≡ trialLimit → u ≡ false → outcome (Refused 13 0) x ws″ buffer ≡ foundOutcome T (edgesIn g) l ws buffer whole
     unfolding foundOutcome
     found-over er x n u ex en eu =
-        let o = searched-over ws″ (drop scratchWords ws) finds (ap (λ (y : Searched). searched y ws″) (sym er) ∙ answers) in
+        let o = searched-over ws″ (behind ws) finds (ap (λ (y : Searched). searched y ws″) (sym er) ∙ answers) in
         let f : whole ≡ over = sym whole-is ∙ o .0 in
-        let s : ws″ ≡ zeroed scratchWords ws = o .1 ∙ none-zeroed ws in
+        let s : ws″ ≡ zeroed scratchWords ws = o .1 ∙ sym (trial-behind [] ws (omega arith)) ∙ none-zeroed ws in
         (λ j. outcome (Refused 13 0) ((ex ∙ (λ k. moved l (en k) (eu k))) j) (s j) buffer) ∙ ap (foundOutcome T (edgesIn g) l ws buffer) (sym f)
 
 -- the example that is written is that of the labels read

@@ -22,6 +22,8 @@ use trace_graph::TraceGraph;
 use trace_graph::check_graph;
 use trace_graph::item_fits;
 use trace_graph::read_node;
+use view::View;
+use view::making::make_view;
 ghost use mathlib.Core.Path.{_≡_};
 ghost use mathlib.Core.Bool.{true, false};
 ghost use mathlib.Core.List.{List, _++_};
@@ -40,9 +42,10 @@ ghost use Rattle.trace_graph.specs.Index.{indexRoom};
 ghost use Rattle.example.specs.Example.{exampleWords};
 ghost use Rattle.enumerator.specs.Trials.{endsOf, trials};
 ghost use Rattle.enumerator.specs.Lister.{labelsOf, hands, search};
-ghost use Rattle.enumerator.specs.Words.{wordsOf};
 ghost use Rattle.enumerator.specs.Advance.{outcome, setOf, startOf, asked, moved, foundOutcome, restOf, lost, advanceIn, openIn};
 ghost use Rattle.enumerator.specs.Stacks.{Roomy, Started};
+ghost use Rattle.view.specs.View.{Ranged};
+ghost use Rattle.view.specs.Trial.{trialWords};
 ghost use Rattle.search.specs.Given.{Tried};
 ghost use Rattle.lister.specs.Context.{Read, Listable, aheadBy, setsFor, begun};
 
@@ -230,7 +233,7 @@ fn write_trial(
     requires { ⌜ Packed (now grammar) productions ⌝ }
     requires { ⌜ Tried (productionsIn (now grammar) productions) (now graph) (now words) ⌝ }
     requires { ⌜ exampleRoom ≤ length (now buffer) ⌝ }
-    ensures { λ _. ⌜ ((p rest : List ℕ) → now (words .entry) ≡ wordsOf p ++ rest → now (buffer .exit) ≡ inFront (exampleWords (productionsIn (now (grammar .entry)) productions) (labelsOf (productionsIn (now (grammar .entry)) productions) (edgesIn (now (graph .entry))) p)) (now (buffer .entry))) ⌝ }
+    ensures { λ _. ⌜ ((p rest : List ℕ) → now (words .entry) ≡ trialWords p ++ rest → now (buffer .exit) ≡ inFront (exampleWords (productionsIn (now (grammar .entry)) productions) (labelsOf (productionsIn (now (grammar .entry)) productions) (edgesIn (now (graph .entry))) p)) (now (buffer .entry))) ⌝ }
 {
     let mut labels = [0u16; Example::ALL_LABEL_WORDS];
     let size = read_labels(grammar, productions, graph, words, &mut labels);
@@ -262,19 +265,18 @@ fn unmoved(l: Listing, answer: Advanced) -> Stepped
     }
 }
 
-// The search of an open listing: the next example, the end, or refusal 13.
+// The search of an open listing, over the view of its graph: the next example, the end, or refusal 13.
 fn find_next(
     l: Listing,
     grammar: &[u16],
     productions: usize,
     terminals: u16,
     graph: &[u16],
-    ix: &[u16],
     scratch: &mut [u16],
     buffer: &mut [u16],
 ) -> Stepped
     requires { ⌜ Packed (now grammar) productions × (terminals ≤ 63) ⌝ }
-    requires { ⌜ Listable (productionsIn (now grammar) productions) (now graph) (now ix) (l .production .0) (l .index) ⌝ }
+    requires { ⌜ Ranged (productionsIn (now grammar) productions) (now graph) ⌝ }
     requires { ⌜ (scratchWords ≤ length (now scratch)) × (exampleRoom ≤ length (now buffer)) ⌝ }
     requires { ⌜ (l .«is_open» ≡ true) × (lost (edgesIn (now graph)) l (now scratch) ≡ false) ⌝ }
     ensures { λ r. ⌜ ((n : ℕ) (T : Table) → Read T n terminals (productionsIn (now (grammar .entry)) productions) → outcome (r .answer) (r .next) (now (scratch .exit)) (now (buffer .exit)) ≡ foundOutcome T (edgesIn (now (graph .entry))) l (now (scratch .entry)) (now (buffer .entry)) (search (hands T (edgesIn (now (graph .entry))) (setOf (l .lookahead))) (trialLimit - l .count) (l .count) (restOf (l .count) (now (scratch .entry)) (trials (endsOf (edgesIn (now (graph .entry)))) (atItem (startOf l)))))) ⌝ }
@@ -285,6 +287,17 @@ fn find_next(
     let count = l.count;
     let sets = first_sets(grammar, productions, terminals, lookahead);
     let map = sets.map;
+    let mut sources = [0u8; View::EDGES];
+    let mut older = [0u16; View::EDGES];
+    let mut latest = [0u16; View::NODES];
+    make_view(
+        graph,
+        production,
+        index,
+        &mut sources,
+        &mut older,
+        &mut latest,
+    );
     begin(scratch, count);
     match search(
         grammar,
@@ -293,10 +306,10 @@ fn find_next(
         &map,
         lookahead,
         graph,
-        ix,
+        &sources,
+        &older,
+        &latest,
         scratch,
-        production,
-        index,
         count,
     ) {
         Searched::Hit(number) => {
@@ -342,16 +355,7 @@ fn go_on(
     }
     if node {
         if l.is_open {
-            return find_next(
-                l,
-                grammar,
-                productions,
-                terminals,
-                graph,
-                ix,
-                scratch,
-                buffer,
-            );
+            return find_next(l, grammar, productions, terminals, graph, scratch, buffer);
         }
         return unmoved(l, Advanced::End);
     }

@@ -10,7 +10,6 @@ use Rattle.slices.specs.Same.{sameWords}
 use Rattle.repr.specs.Meaning.{Production}
 use Rattle.trace_graph.specs.Graph.{Node}
 use Rattle.trace_graph.specs.Words.{edgesIn}
-use Rattle.trace_graph.specs.Insert.{Graphed}
 use Rattle.enumerator.specs.Trials.{Path, Ends, endsOf, trials}
 use Rattle.enumerator.specs.Lister.{Found, hit, out, over, search}
 use Rattle.enumerator.specs.Words.{wordsOf, pathIn, holdsTrial, after}
@@ -22,6 +21,8 @@ use Rattle.enumerator.proofs.Short.{short-trial}
 use Rattle.enumerator.proofs.Search.{search-hit, search-on}
 use Rattle.enumerator.proofs.WordsOf.{held-words, held-trial}
 use Rattle.enumerator.proofs.Holding.{trial-within}
+use Rattle.view.specs.View.{Ranged}
+use Rattle.view.specs.Trial.{trialWords}
 use Rattle.search.specs.declared.Searched.the-variants.{Hit, Out, Over}
 use Rattle.search.specs.Given.{Begun, Tried}
 use Rattle.search.specs.Found.{searched, searchedOf, laterThan}
@@ -69,19 +70,19 @@ rest-first (suc c) ws ts e = absurd (omega arith)
 
 -- what an answer says
 
-pub searched-hit : (n : ℕ) (ws rest : List ℕ) (F : Found) → searched (Hit n) ws ≡ searchedOf rest F → (p : Path) × (F ≡ hit n p) × (ws ≡ wordsOf p ++ rest)
+pub searched-hit : (n : ℕ) (ws rest : List ℕ) (F : Found) → searched (Hit n) ws ≡ searchedOf rest F → (p : Path) × (F ≡ hit n p) × (ws ≡ trialWords p ++ rest)
 unfolding searchedOf
 searched-hit n ws rest (hit m p) e = let z : n ≡ m = cc in (p, ap (λ (k : ℕ). hit k p) (sym z), cc)
 searched-hit n ws rest (out m) e = let z : _≡_ {A = ℕ} 0 1 = cc in absurd (omega arith)
 searched-hit n ws rest over e = let z : _≡_ {A = ℕ} 0 1 = cc in absurd (omega arith)
 
-pub searched-out : (n : ℕ) (ws rest : List ℕ) (F : Found) → searched (Out n) ws ≡ searchedOf rest F → (F ≡ out n) × (ws ≡ wordsOf [] ++ rest)
+pub searched-out : (n : ℕ) (ws rest : List ℕ) (F : Found) → searched (Out n) ws ≡ searchedOf rest F → (F ≡ out n) × (ws ≡ trialWords [] ++ rest)
 unfolding searchedOf
 searched-out n ws rest (hit m p) e = let z : _≡_ {A = ℕ} 0 1 = cc in absurd (omega arith)
 searched-out n ws rest (out m) e = let z : n ≡ m = cc in (ap out (sym z), cc)
 searched-out n ws rest over e = let z : _≡_ {A = ℕ} 0 1 = cc in absurd (omega arith)
 
-pub searched-over : (ws rest : List ℕ) (F : Found) → searched Over ws ≡ searchedOf rest F → (F ≡ over) × (ws ≡ wordsOf [] ++ rest)
+pub searched-over : (ws rest : List ℕ) (F : Found) → searched Over ws ≡ searchedOf rest F → (F ≡ over) × (ws ≡ trialWords [] ++ rest)
 unfolding searchedOf
 searched-over ws rest (hit m p) e = let z : _≡_ {A = ℕ} 0 1 = cc in absurd (omega arith)
 searched-over ws rest (out m) e = let z : _≡_ {A = ℕ} 0 1 = cc in absurd (omega arith)
@@ -123,14 +124,9 @@ search-trial t G start q l c n p e =
     (later-in q p (trials G start) (r .0), r .1)
 
 -- words of a trial, for `read_labels` and `passes`
-pub tried-trial : {n : ℕ} {ps : List Production} {g ix : List ℕ} → Graphed n ps g ix (getD g 0 0) → (start : Node) (p rest ws : List ℕ)
-    → List·Memᴰ p (trials (endsOf (edgesIn g)) start) → ws ≡ wordsOf p ++ rest → Tried ps g ws
-tried-trial {n} {ps} {g} B start p rest ws m w = record {
-  nonterminals = n;
-  few-nonterminals = B .nonterminals;
-  long = B .long;
-  few-edges = B .few;
-  fits = B .fits;
+pub tried-trial : {ps : List Production} {g : List ℕ} → Ranged ps g → (start : Node) (p rest ws : List ℕ) → List·Memᴰ p (trials (endsOf (edgesIn g)) start) → ws ≡ trialWords p ++ rest → Tried ps g ws
+tried-trial {ps} {g} R start p rest ws m w = record {
+  ranged = R;
   path = p;
   rest = rest;
   words = w;

@@ -1,34 +1,42 @@
 -- The ways through the filter (`meets`, `passes`, `hands`), by specs/Filter. Assumes nothing.
 use Prim.Native.Nat.{ℕ}
-use mathlib.Core.Path.{_≡_, sym, ap, _∙_}
+use mathlib.Core.Path.{_≡_, sym, ap, subst, _∙_}
 use mathlib.Core.Bool.{Bool, true, false, _&&_}
 use mathlib.Core.List.{List, _++_, reverse, reverse-reverse}
 use mathlib.Core.Option.{Option, some}
-use lib.ListN.{getD}
+use lib.ListN.{length}
 use Rattle.repr.specs.Meaning.{Production}
 use Rattle.lookahead.specs.declared.TokenSet.{TokenSet}
 use Rattle.first.specs.First.{first0, meetsAhead}
 use Rattle.first.specs.declared.Answer.{Answer}
 use Rattle.trace_graph.specs.Graph.{TraceEdge}
+use Rattle.trace_graph.specs.Words.{edgesIn}
 use Rattle.example.specs.Example.{Label, ahead, meets}
 use Rattle.enumerator.specs.Trials.{Path, endsOf, isExample}
 use Rattle.enumerator.specs.Lister.{labelsOf}
-use Rattle.enumerator.specs.Words.{wordsOf}
 use Rattle.enumerator.specs.Advance.{setOf}
-use Rattle.enumerator.specs.Stacks.{Roomy, Stacked}
+use Rattle.enumerator.specs.Stacks.{Within}
 use Rattle.enumerator.specs.declared.Lookahead.{Lookahead}
 use Rattle.enumerator.specs.declared.Lookahead.the-variants.{Any, Set}
-use Rattle.enumerator.proofs.Holding.{stacked-of}
+use Rattle.enumerator.proofs.Edges.{edges-count}
+use Rattle.enumerator.proofs.Holding.{within-reverse}
+use Rattle.view.specs.View.{Sourced}
+use Rattle.view.specs.Trial.{trialWords, Held}
+use Rattle.view.specs.Steps.{exampleBy}
+use Rattle.view.proofs.Trial.{words-once, held-path}
+use Rattle.view.proofs.Viewing.{example-by}
 use Rattle.search.specs.Filter.{passesBy, handsBy}
 use Rattle.search.specs.Given.{Tried}
 
 -- the words are such as the machine asks
-pub tried-roomy : {ps : List Production} {g ws : List ℕ} → Tried ps g ws → Roomy g
-unfolding Roomy
-tried-roomy T = (T .long, T .few-edges)
+pub tried-held : {ps : List Production} {g ws : List ℕ} → Tried ps g ws → Held ws
+tried-held T = held-path (T .path) (T .rest) (T .words) (T .few) (T .ranged .few-edges) (T .edges)
 
-pub tried-stacked : {ps : List Production} {g ws : List ℕ} → Tried ps g ws → Stacked (getD g 0 0) ws
-tried-stacked T = stacked-of (T .path) (T .rest) (T .words) (T .few) (T .edges)
+-- its edges are the graph's
+pub tried-inside : {ps : List Production} {g ws : List ℕ} → Tried ps g ws → (p rest : List ℕ) → ws ≡ trialWords p ++ rest → Within (length (edgesIn g)) p
+tried-inside {g = g} T p rest w =
+    let o = words-once (T .path) p (T .rest) rest (sym (T .words) ∙ w) .0 in
+    subst (Within (length (edgesIn g))) o (rw (edges-count g) (T .edges))
 
 module _ (e : ℕ) (sets : List ℕ) (ps : List Production) (es : List TraceEdge) where
   -- `meets`
@@ -48,10 +56,12 @@ module _ (e : ℕ) (sets : List ℕ) (ps : List Production) (es : List TraceEdge
   passes-set l s q r p h = h ∙ sym (ap (λ (y : Lookahead). passesBy e sets ps es (setOf y) p) q)
 
   -- `hands`
-  module _ (o : Option ℕ) (b : Bool) (ws : List ℕ) (f : (st rest : List ℕ) → ws ≡ wordsOf (reverse st) ++ rest → b ≡ isExample (endsOf es) (reverse st)) (p rest : List ℕ) (w : ws ≡ wordsOf p ++ rest) where
+  module _ (o : Option ℕ) (b : Bool) (ws sources : List ℕ) (S : Sourced es sources) (inside : (p rest : List ℕ) → ws ≡ trialWords p ++ rest → Within (length es) p)
+      (f : (st rest : List ℕ) → ws ≡ trialWords (reverse st) ++ rest → b ≡ exampleBy sources st) (p rest : List ℕ) (w : ws ≡ trialWords p ++ rest) where
     example-is : b ≡ isExample (endsOf es) p
     example-is =
-        f (reverse p) rest (w ∙ ap (λ (l : List ℕ). wordsOf l ++ rest) (sym (reverse-reverse p))) ∙ ap (λ (l : List ℕ). isExample (endsOf es) l) (reverse-reverse p)
+        f (reverse p) rest (w ∙ ap (λ (l : List ℕ). trialWords l ++ rest) (sym (reverse-reverse p)))
+        ∙ example-by S (reverse p) (within-reverse (length es) p (inside p rest w)) ∙ ap (λ (l : List ℕ). isExample (endsOf es) l) (reverse-reverse p)
 
     pub hands-example : b ≡ true → (r : Bool) → r ≡ passesBy e sets ps es o p → r ≡ handsBy e sets ps es o p
     unfolding handsBy

@@ -6,7 +6,7 @@ use mathlib.Core.Bool.{true}
 use mathlib.Core.List.{List, [], _∷_, _++_, map, append-assoc, append-nil}
 use lib.ListN.{length, getD, set, take, drop, length-set}
 use lib.Seq.{take-suc, take-length, getD-take, getD-drop}
-use Rattle.repr.specs.Sizes.{edgeLimit, graphRoom, scratchWords, reductionLimit, labelRoom, labelsRoom}
+use Rattle.repr.specs.Sizes.{edgeLimit, graphRoom, reductionLimit, labelRoom, labelsRoom}
 use Rattle.repr.specs.Lists.{joined}
 use Rattle.repr.specs.Meaning.{Production, All}
 use Rattle.repr.specs.Packed.{Packed, productionsIn}
@@ -23,11 +23,11 @@ use Rattle.example.specs.Labels.{labelsIn, LabelFits, LabelsFit}
 use Rattle.example.proofs.LabelWords.{labelWords, labels-read, words-count, front-more}
 use Rattle.enumerator.specs.Trials.{Path, noEdge}
 use Rattle.enumerator.specs.Lister.{nodeOwner, labelAt, labelsOf}
-use Rattle.enumerator.specs.Words.{wordsOf, pathIn}
+use Rattle.enumerator.specs.Words.{pathIn}
 use Rattle.enumerator.specs.Stacks.{Within}
 use Rattle.enumerator.proofs.Edges.{edges-at}
-use Rattle.enumerator.proofs.WordsOf.{path-in-words}
-use Rattle.enumerator.proofs.StackWords.{words-head, words-all, words-once}
+use Rattle.view.specs.Trial.{trialRoom, trialWords}
+use Rattle.view.proofs.Trial.{path-in-trial, words-head, words-all, words-once}
 use Rattle.search.specs.Given.{Tried}
 use Rattle.search.proofs.Owner.{owner-small}
 
@@ -77,14 +77,14 @@ pub record Reading (ps : List Production) (g ws labels₀ : List ℕ) (count : �
   pub front : take (labelRoom * at) labels ≡ joined labelWords (labelsOf ps (edgesIn g) (take at (tried .path)))
 
 module _ {ps : List Production} {g ws : List ℕ} (T : Tried ps g ws) where
-  pub tried-long : scratchWords ≤ length ws
+  pub tried-long : trialRoom ≤ length ws
   tried-long = let a = words-all (T .path) (T .rest) (omega (arith, T .few)) in omega (arith, ap length (T .words))
 
   pub tried-depth : getD ws 0 0 ≡ length (T .path)
   tried-depth = ap (λ (l : List ℕ). getD l 0 0) (T .words) ∙ words-head (T .path) (T .rest)
 
   tried-path : pathIn ws ≡ T .path
-  tried-path = ap pathIn (T .words) ∙ path-in-words (T .path) (T .rest)
+  tried-path = ap pathIn (T .words) ∙ path-in-trial (T .path) (T .rest)
 
   -- an edge's word
   pub tried-word : (at : ℕ) → at < length (T .path) → getD ws (at + 1) 0 ≡ getD (T .path) at 0
@@ -106,7 +106,7 @@ labels-more ps es (x ∷ p) e =
     ∙ sym (append-assoc (labelWords (labelAt ps es x)) (joined labelWords (map (labelAt ps es) p)) (labelWords (labelAt ps es e)))
 
 module _ {ps : List Production} {g ws labels₀ : List ℕ} {count : ℕ} {labels : List ℕ} {at : ℕ} (R : Reading ps g ws labels₀ count labels at) where
-  pub reading-few : (count ≤ reductionLimit) × ((scratchWords ≤ length ws) × (labelsRoom ≤ length labels))
+  pub reading-few : (count ≤ reductionLimit) × ((trialRoom ≤ length ws) × (labelsRoom ≤ length labels))
   reading-few = (omega (arith, R .depth, R .tried .few), (tried-long (R .tried), omega (arith, R .size, R .room)))
 
   module _ (more : at < count) where
@@ -121,18 +121,18 @@ module _ {ps : List Production} {g ws labels₀ : List ℕ} {count : ℕ} {label
       reading-edge = let w = within-at (getD g 0 0) (R .tried .path) at (R .tried .edges) (omega (arith, R .depth)) in omega (arith, edge-of)
 
       pub reading-low : (x < edgeLimit) × (graphRoom ≤ length g)
-      reading-low = (omega (arith, reading-edge, R .tried .few-edges), R .tried .long)
+      reading-low = (omega (arith, reading-edge, R .tried .ranged .few-edges), R .tried .ranged .long)
 
       module _ {v : EdgeValue} (q : v ≡ edgeRead g x) where
-        pub reading-fits : valueFits (R .tried .nonterminals) ps v ≡ true
-        reading-fits = ap (valueFits (R .tried .nonterminals) ps) q ∙ fits-read (R .tried .nonterminals) ps g x ∙ R .tried .fits x reading-edge
+        pub reading-fits : valueFits (R .tried .ranged .nonterminals) ps v ≡ true
+        reading-fits = ap (valueFits (R .tried .ranged .nonterminals) ps) q ∙ fits-read (R .tried .ranged .nonterminals) ps g x ∙ R .tried .ranged .fits x reading-edge
 
         pub reading-source : (n : ℕ) × (n ≤ 32) × (nodeValueFits n ps (v .source) ≡ true)
-        reading-source = (R .tried .nonterminals, R .tried .few-nonterminals, source-fits (R .tried .nonterminals) ps v reading-fits)
+        reading-source = (R .tried .ranged .nonterminals, R .tried .ranged .few-nonterminals, source-fits (R .tried .ranged .nonterminals) ps v reading-fits)
 
-        pub reading-small : Bounds (R .tried .nonterminals) ps → (v .production < 65536) × (v .index < 65536)
+        pub reading-small : Bounds (R .tried .ranged .nonterminals) ps → (v .production < 65536) × (v .index < 65536)
         reading-small B =
-            let f = label-fits (R .tried .nonterminals) ps v reading-fits in
+            let f = label-fits (R .tried .ranged .nonterminals) ps v reading-fits in
             (omega (arith, B .production (v .production) (v .index) f), omega (arith, B .index (v .production) (v .index) f))
 
         pub reading-again : {o : ℕ} → o ≡ nodeOwner ps (nodeIs (v .source))
@@ -166,7 +166,7 @@ module _ {ps : List Production} {g ws labels₀ : List ℕ} {count : ℕ} {label
         ap (λ (j : ℕ). take (labelRoom * j) labels) k ∙ R .front
         ∙ ap (λ (p : Path). joined labelWords (labelsOf ps (edgesIn g) p)) (ap (λ (j : ℕ). take j (R .tried .path)) l ∙ take-length (R .tried .path))
 
-    pub reading-labels : (p rest : List ℕ) → ws ≡ wordsOf p ++ rest → labelsIn (take (labelRoom * count) labels) ≡ labelsOf ps (edgesIn g) p
+    pub reading-labels : (p rest : List ℕ) → ws ≡ trialWords p ++ rest → labelsIn (take (labelRoom * count) labels) ≡ labelsOf ps (edgesIn g) p
     reading-labels p rest w =
         let o = words-once (R .tried .path) p (R .tried .rest) rest (sym (R .tried .words) ∙ w) in
         ap labelsIn whole ∙ labels-read (labelsOf ps (edgesIn g) (R .tried .path)) ∙ ap (labelsOf ps (edgesIn g)) (o .0)
@@ -186,6 +186,6 @@ reading-fit gr m P {g = g} {count = count} {labels = labels} R end =
         some-label = omega (arith, T .some-edge);
         few = omega (arith, T .few);
         whole = (length ls, s);
-        each = rw (ap labelsIn w ∙ labels-read ls) (labels-each gr m P g (T .nonterminals) (T .few-nonterminals) (T .fits) (T .path) (T .edges));
+        each = rw (ap labelsIn w ∙ labels-read ls) (labels-each gr m P g (T .ranged .nonterminals) (T .ranged .few-nonterminals) (T .ranged .fits) (T .path) (T .edges));
       },
     )

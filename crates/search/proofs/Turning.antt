@@ -4,28 +4,26 @@ use native.Mathlib.Omega.{arith}
 use mathlib.Core.Path.{_≡_, refl, sym, ap, _∙_}
 use mathlib.Core.Bool.{Bool, true, false}
 use mathlib.Core.List.{List, [], _∷_, _++_, map, reverse, reverse-reverse, List·Memᴰ}
-use mathlib.Core.Option.{some}
-use lib.ListN.{length, getD, drop}
+use mathlib.Core.Option.{Option, some}
+use lib.ListN.{length, drop, length-reverse}
 use lib.Seq.{drop-at}
-use Rattle.repr.specs.Sizes.{scratchWords, trialLimit}
-use Rattle.repr.specs.Packed.{Packed, productionsIn}
+use Rattle.repr.specs.Sizes.{trialLimit, reductionLimit}
+use Rattle.repr.specs.Meaning.{Production, Item}
 use Rattle.trace_graph.specs.Graph.{Node, atItem}
 use Rattle.trace_graph.specs.Words.{edgesIn}
-use Rattle.trace_graph.proofs.Fits.{productions-long}
-use Rattle.example.proofs.Labels.{short-in}
 use Rattle.enumerator.specs.Trials.{Path, Ends, endsOf, trials, Small}
 use Rattle.enumerator.specs.Lister.{hit, out, over, search}
-use Rattle.enumerator.specs.Words.{wordsOf}
 use Rattle.enumerator.specs.Machine.{next, Run, walk}
-use Rattle.enumerator.specs.Stacks.{Ground, Started, Stacked, stepped, stepOf}
+use Rattle.enumerator.specs.Stacks.{stepped}
 use Rattle.enumerator.proofs.Run.{next-runs}
 use Rattle.enumerator.proofs.After.{next-after}
 use Rattle.enumerator.proofs.Short.{short-trial}
-use Rattle.enumerator.proofs.WordsOf.{words-long}
-use Rattle.enumerator.proofs.StackWords.{words-all, words-once}
-use Rattle.enumerator.proofs.Holding.{stacked-trial, stacked-none, small-ground}
-use Rattle.enumerator.proofs.Following.{first-trial, next-trial, step-ends, step-goes}
+use Rattle.enumerator.proofs.Following.{first-trial, next-trial}
 use Rattle.enumerator.proofs.Walk.{walk-end, walk-over, walk-hit, walk-on, walk-search}
+use Rattle.view.specs.Trial.{trialRoom, trialWords, Held, Fitting, stepWords}
+use Rattle.view.specs.Steps.{nextBy}
+use Rattle.view.proofs.Trial.{trial-long, words-all, words-once}
+use Rattle.view.proofs.Viewing.{Entering, next-view, held-view, fitting-view, entering-trial, step-ends, step-goes}
 use Rattle.search.specs.declared.Searched.{Searched}
 use Rattle.search.specs.declared.Searched.the-variants.{Hit, Out, Over}
 use Rattle.search.specs.Given.{Begun, Searching, Tried}
@@ -45,93 +43,88 @@ module _ (G : Ends) (start : Node) (small : Small G) where
   begun-next [] s b e = first-trial G start small s e
   begun-next (x ∷ p) s b e = next-trial G start small (x ∷ p) s b e
 
-begun-stacked : (g : List ℕ) (start : Node) (p rest ws : List ℕ) → Begun (endsOf (edgesIn g)) start p → ws ≡ wordsOf p ++ rest → Stacked (getD g 0 0) ws
+begun-short : (G : Ends) (start : Node) (p : Path) → Begun G start p → length p ≤ reductionLimit
 unfolding Begun
-begun-stacked g start [] rest ws b w = stacked-none (getD g 0 0) rest ws w
-begun-stacked g start (e ∷ p) rest ws b w = stacked-trial g start (e ∷ p) rest ws b w
+begun-short G start [] b = omega arith
+begun-short G start (e ∷ p) b = short-trial G start (e ∷ p) b
+
+begun-entering : (G : Ends) (start : Item) → Small G → (p : Path) → Begun G (atItem start) p → Entering G start (reverse p)
+unfolding Begun
+begun-entering G start small [] b = tt
+begun-entering G start small (e ∷ p) b = entering-trial G start small (e ∷ p) b
 
 -- the answers
 
-found-hit : (rest ws : List ℕ) (n k : ℕ) (p : Path) → n ≡ k → ws ≡ wordsOf p ++ rest → searched (Hit n) ws ≡ searchedOf rest (hit k p)
+found-hit : (rest ws : List ℕ) (n k : ℕ) (p : Path) → n ≡ k → ws ≡ trialWords p ++ rest → searched (Hit n) ws ≡ searchedOf rest (hit k p)
 unfolding searchedOf
 found-hit rest ws n k p e w = ap (λ (x : ℕ). searched (Hit x) ws) e ∙ ap (searched (Hit k)) w
 
-found-out : (rest ws : List ℕ) (n k : ℕ) → n ≡ k → ws ≡ wordsOf [] ++ rest → searched (Out n) ws ≡ searchedOf rest (out k)
+found-out : (rest ws : List ℕ) (n k : ℕ) → n ≡ k → ws ≡ trialWords [] ++ rest → searched (Out n) ws ≡ searchedOf rest (out k)
 unfolding searchedOf
 found-out rest ws n k e w = ap (λ (x : ℕ). searched (Out x) ws) e ∙ ap (searched (Out k)) w
 
-found-over : (rest ws : List ℕ) → ws ≡ wordsOf [] ++ rest → searched Over ws ≡ searchedOf rest over
+found-over : (rest ws : List ℕ) → ws ≡ trialWords [] ++ rest → searched Over ws ≡ searchedOf rest over
 unfolding searchedOf
 found-over rest ws w = ap (searched Over) w
 
-module _ (gr : List ℕ) (m : ℕ) (P : Packed gr m) {g ix ws : List ℕ} {production index : ℕ} (S : Searching (productionsIn gr m) g ix ws production index) where
-  abbrev start : Node
-  start = atItem (record { production = production; index = index })
-
+module _ {ps : List Production} {g sources older latest ws : List ℕ} {start : Item} (S : Searching ps g sources older latest ws start) where
   abbrev G : Ends
   G = endsOf (edgesIn g)
 
-  pub ground-of : Ground g ix
-  ground-of = record {
-    nonterminals = S .nonterminals;
-    productions = productionsIn gr m;
-    graphed = S .graphed;
-    few = omega (arith, productions-long gr m, P .few);
-    short = short-in gr m P;
-  }
+  entering : Entering G start (reverse (S .path))
+  entering = begun-entering G start (S .view .small) (S .path) (S .begun)
 
-  pub started-of : Started g ix production index
-  unfolding ground-of
-  started-of = record { ground = ground-of; fits = S .fits }
+  stack-words : ws ≡ trialWords (reverse (reverse (S .path))) ++ S .rest
+  stack-words = S .words ∙ ap (λ (l : List ℕ). trialWords l ++ S .rest) (sym (reverse-reverse (S .path)))
 
-  pub stacked-of-words : Stacked (getD g 0 0) ws
-  stacked-of-words = begun-stacked g start (S .path) (S .rest) ws (S .begun) (S .words)
+  -- what the machine asks of the words
+  pub searching-held : Held ws
+  searching-held = held-view (S .view) (reverse (S .path)) (S .rest) entering (omega (arith, length-reverse (S .path), begun-short G (atItem start) (S .path) (S .begun))) stack-words
 
-  small : Small G
-  small = small-ground ground-of
+  pub searching-fitting : Fitting (nextBy sources older latest) ws
+  searching-fitting =
+      fitting-view (S .view) (reverse (S .path)) (S .rest) entering
+      (λ s q. omega (arith, length-reverse s, short-trial G (atItem start) (reverse s) (begun-next G (atItem start) (S .view .small) (S .path) s (S .begun) q))) stack-words
 
 -- where the search stands
-pub record Turn (t : Path → Bool) (gr : List ℕ) (m : ℕ) (g ix ws₀ : List ℕ) (production index count : ℕ) (ws : List ℕ) (made : ℕ) : Type 0 where
-  pub packed : Packed gr m
-  pub held : Searching (productionsIn gr m) g ix ws production index
+pub record Turn (t : Path → Bool) (ps : List Production) (g sources older latest ws₀ : List ℕ) (start : Item) (count : ℕ) (ws : List ℕ) (made : ℕ) : Type 0 where
+  pub held : Searching ps g sources older latest ws start
   pub size : length ws ≡ length ws₀
-  pub same : (p rest : List ℕ) → ws₀ ≡ wordsOf p ++ rest
-      → searchedOf (held .rest) (walk (endsOf (edgesIn g)) (atItem (record { production = production; index = index })) t (trialLimit - made) made (next (endsOf (edgesIn g)) (atItem (record { production = production; index = index })) (reverse (held .path))))
-      ≡ searchedOf rest (search t (trialLimit - count) count (laterThan p (trials (endsOf (edgesIn g)) (atItem (record { production = production; index = index })))))
+  pub same : (p rest : List ℕ) → ws₀ ≡ trialWords p ++ rest
+      → searchedOf (held .rest) (walk (endsOf (edgesIn g)) (atItem start) t (trialLimit - made) made (next (endsOf (edgesIn g)) (atItem start) (reverse (held .path))))
+      ≡ searchedOf rest (search t (trialLimit - count) count (laterThan p (trials (endsOf (edgesIn g)) (atItem start))))
 
-pub turn-first : {t : Path → Bool} {gr : List ℕ} {m : ℕ} (P : Packed gr m) {g ix ws : List ℕ} {production index count made : ℕ} → Searching (productionsIn gr m) g ix ws production index
-    → made ≡ count → Turn t gr m g ix ws production index count ws made
-turn-first {t} {gr} {m} P {g} {ix} {ws} {production} {index} {count} {made} S e = record {
-  packed = P;
+pub turn-first : {t : Path → Bool} {ps : List Production} {g sources older latest ws : List ℕ} {start : Item} {count made : ℕ} → Searching ps g sources older latest ws start
+    → made ≡ count → Turn t ps g sources older latest ws start count ws made
+turn-first {t} {g = g} {start = start} {count = count} S e = record {
   held = S;
   size = refl;
   same = λ p rest w.
-      let A = start gr m P S in
-      let E = G gr m P S in
+      let A = atItem start in
+      let E = endsOf (edgesIn g) in
       let o = words-once (S .path) p (S .rest) rest (sym (S .words) ∙ w) in
       ap (λ (k : ℕ). searchedOf (S .rest) (walk E A t (trialLimit - k) k (next E A (reverse (S .path))))) e
-      ∙ ap (searchedOf (S .rest)) (walk-search E A t (trialLimit - count) count (next E A (reverse (S .path))) (laterThan (S .path) (trials E A)) (begun-runs E A (small gr m P S) (S .path) (S .begun)))
+      ∙ ap (searchedOf (S .rest)) (walk-search E A t (trialLimit - count) count (next E A (reverse (S .path))) (laterThan (S .path) (trials E A)) (begun-runs E A (S .view .small) (S .path) (S .begun)))
       ∙ ap (λ (x : List ℕ). searchedOf x (search t (trialLimit - count) count (laterThan (S .path) (trials E A)))) (o .1)
       ∙ ap (λ (x : Path). searchedOf rest (search t (trialLimit - count) count (laterThan x (trials E A)))) (o .0);
 }
 
-module _ {t : Path → Bool} {gr : List ℕ} {m : ℕ} {g ix ws₀ : List ℕ} {production index count : ℕ} {ws : List ℕ} {made : ℕ} (T : Turn t gr m g ix ws₀ production index count ws made)
-    {r : Bool} {ws′ : List ℕ}
-    (f : (st rest : List ℕ) → ws ≡ wordsOf (reverse st) ++ rest → stepped r ws′ ≡ stepOf (next (endsOf (edgesIn g)) (atItem (record { production = production; index = index })) st) rest) where
-  abbrev S : Searching (productionsIn gr m) g ix ws production index
+module _ {t : Path → Bool} {ps : List Production} {g sources older latest ws₀ : List ℕ} {start : Item} {count : ℕ} {ws : List ℕ} {made : ℕ} (T : Turn t ps g sources older latest ws₀ start count ws made)
+    {r : Bool} {ws′ : List ℕ} (f : (st rest : List ℕ) → ws ≡ trialWords (reverse st) ++ rest → stepped r ws′ ≡ stepWords (nextBy sources older latest st) rest) where
+  abbrev S : Searching ps g sources older latest ws start
   S = T .held
 
   abbrev A : Node
-  A = atItem (record { production = production; index = index })
+  A = atItem start
 
   abbrev E : Ends
   E = endsOf (edgesIn g)
 
-  stepped-on : stepped r ws′ ≡ stepOf (next E A (reverse (S .path))) (S .rest)
-  stepped-on = f (reverse (S .path)) (S .rest) (S .words ∙ ap (λ (l : List ℕ). wordsOf l ++ S .rest) (sym (reverse-reverse (S .path))))
+  stepped-on : stepped r ws′ ≡ stepWords (next E A (reverse (S .path))) (S .rest)
+  stepped-on = f (reverse (S .path)) (S .rest) (stack-words S) ∙ ap (λ (o : Option (List ℕ)). stepWords o (S .rest)) (next-view (S .view) (reverse (S .path)) (entering S))
 
   -- no trial more
-  pub turn-end : r ≡ false → {k : ℕ} → k ≡ made → (p rest : List ℕ) → ws₀ ≡ wordsOf p ++ rest → searched (Out k) ws′ ≡ searchedOf rest (search t (trialLimit - count) count (laterThan p (trials E A)))
+  pub turn-end : r ≡ false → {k : ℕ} → k ≡ made → (p rest : List ℕ) → ws₀ ≡ trialWords p ++ rest → searched (Out k) ws′ ≡ searchedOf rest (search t (trialLimit - count) count (laterThan p (trials E A)))
   turn-end q {k} ek p rest w =
       let e = step-ends (next E A (reverse (S .path))) (S .rest) ws′ (ap (λ (b : Bool). stepped b ws′) (sym q) ∙ stepped-on) in
       found-out (S .rest) ws′ k made ek (e .1)
@@ -139,40 +132,40 @@ module _ {t : Path → Bool} {gr : List ℕ} {m : ℕ} {g ix ws₀ : List ℕ} {
       ∙ T .same p rest w
 
   module _ (q : r ≡ true) where
-    went : (s : List ℕ) × (next E A (reverse (S .path)) ≡ some s) × (ws′ ≡ wordsOf (reverse s) ++ S .rest)
+    went : (s : List ℕ) × (next E A (reverse (S .path)) ≡ some s) × (ws′ ≡ trialWords (reverse s) ++ S .rest)
     went = step-goes (next E A (reverse (S .path))) (S .rest) ws′ (ap (λ (b : Bool). stepped b ws′) (sym q) ∙ stepped-on)
 
     abbrev trial : Path
     trial = reverse (went .0)
 
     is-trial : List·Memᴰ trial (trials E A)
-    is-trial = begun-next E A (small gr m (T .packed) S) (S .path) (went .0) (S .begun) (went .1)
+    is-trial = begun-next E A (S .view .small) (S .path) (went .0) (S .begun) (went .1)
 
-    pub turn-tried : Tried (productionsIn gr m) g ws′
-    turn-tried = tried-trial (S .graphed) A trial (S .rest) ws′ is-trial (went .2)
+    pub turn-tried : Tried ps g ws′
+    turn-tried = tried-trial (S .ranged) A trial (S .rest) ws′ is-trial (went .2)
 
-    pub turn-long : scratchWords ≤ length ws′
+    pub turn-long : trialRoom ≤ length ws′
     turn-long = let s = short-trial E A trial is-trial in omega (arith, ap length (went .2), words-all trial (S .rest) (omega arith))
 
     walked : (l : ℕ) → trialLimit - made ≡ l → walk E A t (trialLimit - made) made (next E A (reverse (S .path))) ≡ walk E A t l made (some (went .0))
     walked l e = ap (λ (k : ℕ). walk E A t k made (next E A (reverse (S .path)))) e ∙ ap (walk E A t l made) (went .1)
 
     -- trial 100,001
-    pub turn-over : trialLimit ≤ made → {o : Searched} {ws″ : List ℕ} → searched o ws″ ≡ searched Over (wordsOf [] ++ drop scratchWords ws′)
-        → (p rest : List ℕ) → ws₀ ≡ wordsOf p ++ rest → searched o ws″ ≡ searchedOf rest (search t (trialLimit - count) count (laterThan p (trials E A)))
+    pub turn-over : trialLimit ≤ made → {o : Searched} {ws″ : List ℕ} → searched o ws″ ≡ searched Over (trialWords [] ++ drop trialRoom ws′)
+        → (p rest : List ℕ) → ws₀ ≡ trialWords p ++ rest → searched o ws″ ≡ searchedOf rest (search t (trialLimit - count) count (laterThan p (trials E A)))
     turn-over h c p rest w =
         let s = short-trial E A trial is-trial in
-        let d : drop scratchWords ws′ ≡ S .rest = ap (drop scratchWords) (went .2) ∙ drop-at (wordsOf trial) (S .rest) scratchWords (words-long trial (omega arith)) in
-        c ∙ found-over (S .rest) (wordsOf [] ++ drop scratchWords ws′) (ap (λ (l : List ℕ). wordsOf [] ++ l) d)
+        let d : drop trialRoom ws′ ≡ S .rest = ap (drop trialRoom) (went .2) ∙ drop-at (trialWords trial) (S .rest) trialRoom (trial-long trial (omega arith)) in
+        c ∙ found-over (S .rest) (trialWords [] ++ drop trialRoom ws′) (ap (λ (l : List ℕ). trialWords [] ++ l) d)
         ∙ ap (searchedOf (S .rest)) (sym (walked 0 (omega arith) ∙ walk-over E A t made (went .0)))
         ∙ T .same p rest w
 
-    module _ (low : made < trialLimit) {h : Bool} (asks : (p rest : List ℕ) → ws′ ≡ wordsOf p ++ rest → h ≡ t p) {k : ℕ} (ek : k ≡ made + 1) where
+    module _ (low : made < trialLimit) {h : Bool} (asks : (p rest : List ℕ) → ws′ ≡ trialWords p ++ rest → h ≡ t p) {k : ℕ} (ek : k ≡ made + 1) where
       left : trialLimit - made ≡ suc (trialLimit - (made + 1))
       left = omega arith
 
       -- handed out
-      pub turn-hit : h ≡ true → (p rest : List ℕ) → ws₀ ≡ wordsOf p ++ rest → searched (Hit k) ws′ ≡ searchedOf rest (search t (trialLimit - count) count (laterThan p (trials E A)))
+      pub turn-hit : h ≡ true → (p rest : List ℕ) → ws₀ ≡ trialWords p ++ rest → searched (Hit k) ws′ ≡ searchedOf rest (search t (trialLimit - count) count (laterThan p (trials E A)))
       turn-hit y p rest w =
           let u : t trial ≡ true = sym (asks trial (S .rest) (went .2)) ∙ y in
           found-hit (S .rest) ws′ k (suc made) trial (omega arith) (went .2)
@@ -180,16 +173,14 @@ module _ {t : Path → Bool} {gr : List ℕ} {m : ℕ} {g ix ws₀ : List ℕ} {
           ∙ T .same p rest w
 
       -- passed over
-      pub turn-again : h ≡ false → length ws′ ≡ length ws → Turn t gr m g ix ws₀ production index count ws′ k
+      pub turn-again : h ≡ false → length ws′ ≡ length ws → Turn t ps g sources older latest ws₀ start count ws′ k
       turn-again y l =
           let u : t trial ≡ false = sym (asks trial (S .rest) (went .2)) ∙ y in
           let e : suc made ≡ made + 1 = omega arith in
           record {
-            packed = T .packed;
             held = record {
-              nonterminals = S .nonterminals;
-              graphed = S .graphed;
-              fits = S .fits;
+              ranged = S .ranged;
+              view = S .view;
               path = trial;
               rest = S .rest;
               words = went .2;

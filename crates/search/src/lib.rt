@@ -1,9 +1,5 @@
 // The search of a listing from one trial handed out to the next (part 6 of document 01; `FilteredPathEnumerator` of lr1/trace/trace_graph/mod.rs): the labels of a trial, the filter, the count of trials.
 use enumerator::Lookahead;
-use enumerator::machine::clear;
-use enumerator::machine::count_walk;
-use enumerator::machine::is_example;
-use enumerator::machine::next;
 use example::Example;
 use example::first0;
 use lookahead::TokenSet;
@@ -12,13 +8,18 @@ use repr::ProductionIndex;
 use repr::word;
 use trace_graph::Node;
 use trace_graph::read_edge;
+use view::machine::clear;
+use view::machine::count_walk;
+use view::machine::is_example;
+use view::machine::next;
 ghost use mathlib.Core.Path.{_≡_};
 ghost use mathlib.Core.Bool.{true};
 ghost use mathlib.Core.List.{List, [], _++_};
 ghost use mathlib.Core.Option.{some};
 ghost use Prim.Native.Nat.{ℕ, _-_, _≤_, _<_};
 ghost use lib.ListN.{length, take, drop};
-ghost use Rattle.repr.specs.Sizes.{scratchWords, trialLimit, labelsRoom};
+ghost use Rattle.repr.specs.Sizes.{trialLimit, labelsRoom};
+ghost use Rattle.repr.specs.Meaning.{Item};
 ghost use Rattle.repr.specs.Packed.{Packed, productionsIn};
 ghost use Rattle.trace_graph.specs.Graph.{atItem};
 ghost use Rattle.trace_graph.specs.Words.{edgesIn};
@@ -26,8 +27,9 @@ ghost use Rattle.trace_graph.specs.Values.{nodeIs, nodeValueFits};
 ghost use Rattle.example.specs.Labels.{labelsIn, LabelsFit};
 ghost use Rattle.enumerator.specs.Trials.{endsOf, trials};
 ghost use Rattle.enumerator.specs.Lister.{nodeOwner, labelsOf, search};
-ghost use Rattle.enumerator.specs.Words.{wordsOf};
 ghost use Rattle.enumerator.specs.Advance.{setOf};
+ghost use Rattle.view.specs.View.{Sourced};
+ghost use Rattle.view.specs.Trial.{trialRoom, trialWords};
 ghost use Rattle.search.specs.declared.Searched.the-variants.{Over};
 ghost use Rattle.search.specs.Filter.{passesBy, handsBy};
 ghost use Rattle.search.specs.Given.{Searching, Tried};
@@ -70,7 +72,7 @@ pub fn read_labels(
     requires { ⌜ Tried (productionsIn (now grammar) productions) (now graph) (now words) ⌝ }
     requires { ⌜ labelsRoom ≤ length (now labels) ⌝ }
     ensures { λ r. ⌜ (r ≤ labelsRoom) × LabelsFit (productionsIn (now (grammar .entry)) productions) (take r (now (labels .exit))) ⌝ }
-    ensures { λ r. ⌜ ((p rest : List ℕ) → now (words .entry) ≡ wordsOf p ++ rest → labelsIn (take r (now (labels .exit))) ≡ labelsOf (productionsIn (now (grammar .entry)) productions) (edgesIn (now (graph .entry))) p) ⌝ }
+    ensures { λ r. ⌜ ((p rest : List ℕ) → now (words .entry) ≡ trialWords p ++ rest → labelsIn (take r (now (labels .exit))) ≡ labelsOf (productionsIn (now (grammar .entry)) productions) (edgesIn (now (graph .entry))) p) ⌝ }
 {
     let count = word(words, 0);
     let mut at: usize = 0;
@@ -99,7 +101,7 @@ fn meets(
 ) -> bool
     requires { ⌜ Packed (now grammar) productions × (terminals ≤ 63) ⌝ }
     requires { ⌜ Tried (productionsIn (now grammar) productions) (now graph) (now words) ⌝ }
-    ensures { λ r. ⌜ ((p rest : List ℕ) → now (words .entry) ≡ wordsOf p ++ rest → r ≡ passesBy terminals (now (map .entry)) (productionsIn (now (grammar .entry)) productions) (edgesIn (now (graph .entry))) (some (set .0)) p) ⌝ }
+    ensures { λ r. ⌜ ((p rest : List ℕ) → now (words .entry) ≡ trialWords p ++ rest → r ≡ passesBy terminals (now (map .entry)) (productionsIn (now (grammar .entry)) productions) (edgesIn (now (graph .entry))) (some (set .0)) p) ⌝ }
 {
     let mut labels = [0u16; Example::ALL_LABEL_WORDS];
     let size = read_labels(grammar, productions, graph, words, &mut labels);
@@ -120,7 +122,7 @@ pub fn passes(
 ) -> bool
     requires { ⌜ Packed (now grammar) productions × (terminals ≤ 63) ⌝ }
     requires { ⌜ Tried (productionsIn (now grammar) productions) (now graph) (now words) ⌝ }
-    ensures { λ r. ⌜ ((p rest : List ℕ) → now (words .entry) ≡ wordsOf p ++ rest → r ≡ passesBy terminals (now (map .entry)) (productionsIn (now (grammar .entry)) productions) (edgesIn (now (graph .entry))) (setOf lookahead) p) ⌝ }
+    ensures { λ r. ⌜ ((p rest : List ℕ) → now (words .entry) ≡ trialWords p ++ rest → r ≡ passesBy terminals (now (map .entry)) (productionsIn (now (grammar .entry)) productions) (edgesIn (now (graph .entry))) (setOf lookahead) p) ⌝ }
 {
     match lookahead {
         Lookahead::Any => true,
@@ -136,13 +138,14 @@ fn hands(
     map: &[u64; NonterminalString::LIMIT],
     ahead: Lookahead,
     graph: &[u16],
+    sources: &[u8],
     words: &[u16],
 ) -> bool
     requires { ⌜ Packed (now grammar) productions × (terminals ≤ 63) ⌝ }
-    requires { ⌜ Tried (productionsIn (now grammar) productions) (now graph) (now words) ⌝ }
-    ensures { λ r. ⌜ ((p rest : List ℕ) → now (words .entry) ≡ wordsOf p ++ rest → r ≡ handsBy terminals (now (map .entry)) (productionsIn (now (grammar .entry)) productions) (edgesIn (now (graph .entry))) (setOf ahead) p) ⌝ }
+    requires { ⌜ Tried (productionsIn (now grammar) productions) (now graph) (now words) × Sourced (edgesIn (now graph)) (now sources) ⌝ }
+    ensures { λ r. ⌜ ((p rest : List ℕ) → now (words .entry) ≡ trialWords p ++ rest → r ≡ handsBy terminals (now (map .entry)) (productionsIn (now (grammar .entry)) productions) (edgesIn (now (graph .entry))) (setOf ahead) p) ⌝ }
 {
-    if is_example(graph, words) {
+    if is_example(sources, words) {
         return passes(grammar, productions, terminals, map, ahead, graph, words);
     }
     false
@@ -150,14 +153,14 @@ fn hands(
 
 // A trial past the limit: the words hold none.
 fn overrun(words: &mut [u16]) -> Searched
-    requires { ⌜ scratchWords ≤ length (now words) ⌝ }
-    ensures { λ r. ⌜ searched r (now (words .exit)) ≡ searched Over (wordsOf [] ++ drop scratchWords (now (words .entry))) ⌝ }
+    requires { ⌜ trialRoom ≤ length (now words) ⌝ }
+    ensures { λ r. ⌜ searched r (now (words .exit)) ≡ searched Over (trialWords [] ++ drop trialRoom (now (words .entry))) ⌝ }
 {
     clear(words);
     Searched::Over
 }
 
-// From the trial that the words hold on, past `count` trials made: the next that is handed out.
+// From the trial that the words hold on, past `count` trials made: the next that is handed out. The view says from which item.
 pub fn search(
     grammar: &[u16],
     productions: usize,
@@ -165,21 +168,21 @@ pub fn search(
     map: &[u64; NonterminalString::LIMIT],
     lookahead: Lookahead,
     graph: &[u16],
-    ix: &[u16],
+    sources: &[u8],
+    older: &[u16],
+    latest: &[u16],
     words: &mut [u16],
-    production: usize,
-    index: usize,
     count: u32,
 ) -> Searched
     requires { ⌜ Packed (now grammar) productions × (terminals ≤ 63) ⌝ }
-    requires { ⌜ Searching (productionsIn (now grammar) productions) (now graph) (now ix) (now words) production index ⌝ }
-    ensures { λ r. ⌜ ((p rest : List ℕ) → now (words .entry) ≡ wordsOf p ++ rest → searched r (now (words .exit)) ≡ searchedOf rest (search (handsBy terminals (now (map .entry)) (productionsIn (now (grammar .entry)) productions) (edgesIn (now (graph .entry))) (setOf lookahead)) (trialLimit - count) count (laterThan p (trials (endsOf (edgesIn (now (graph .entry)))) (atItem (record { production = production; index = index })))))) ⌝ }
+    requires { ⌜ ((start : Item) × Searching (productionsIn (now grammar) productions) (now graph) (now sources) (now older) (now latest) (now words) start) ⌝ }
+    ensures { λ r. ⌜ ((start : Item) → Searching (productionsIn (now (grammar .entry)) productions) (now (graph .entry)) (now (sources .entry)) (now (older .entry)) (now (latest .entry)) (now (words .entry)) start → (p rest : List ℕ) → now (words .entry) ≡ trialWords p ++ rest → searched r (now (words .exit)) ≡ searchedOf rest (search (handsBy terminals (now (map .entry)) (productionsIn (now (grammar .entry)) productions) (edgesIn (now (graph .entry))) (setOf lookahead)) (trialLimit - count) count (laterThan p (trials (endsOf (edgesIn (now (graph .entry)))) (atItem start))))) ⌝ }
 {
     let mut counts = [0u8; NonterminalString::LIMIT];
-    count_walk(graph, words, &mut counts);
+    count_walk(sources, words, &mut counts);
     let mut made = count;
     loop {
-        if next(graph, ix, words, production, index, &mut counts) {
+        if next(sources, older, latest, words, &mut counts) {
             if made >= Searched::TRIALS {
                 return overrun(words);
             }
@@ -191,6 +194,7 @@ pub fn search(
                 map,
                 lookahead,
                 graph,
+                sources,
                 words,
             ) {
                 return Searched::Hit(made);

@@ -1,73 +1,77 @@
--- `gather_listing` meets its contract. Assumes nothing.
-use mathlib.Core.Path.{_≡_, refl, sym, ap, _∙_}
-use mathlib.Core.List.{List}
-use Prim.Native.Nat.{ℕ, _+_, _-_, _*_, _≤_, _<_}
-use lib.ListN.{length, getD, length-replicate}
+-- `gather_listing` meets its contract: the trace's graph is in range, so that its view can be made. Assumes nothing.
+use mathlib.Core.Path.{refl, _∙_}
+use Prim.Native.Nat.{ℕ}
+use lib.ListN.{length-replicate}
 use Rattle.repr.specs.Sizes.{graphRoom}
-use Rattle.gather.proofs.Traces.{read-asked, read-nonterminals, read-terminals, listable, graph-passes, listing-made, listing-full}
+use Rattle.view.proofs.Made.{viewable}
+use Rattle.gather.proofs.Both.{clear-idle}
+use Rattle.gather.proofs.Traces.{read-asked, read-terminals, ranged, listable, listing-made, listing-full}
 use native.Mathlib.Omega.{arith}
 use borrow.Author.Needs.{needs}
 use Rattle.gather.proofs.gather_listing.Statement.{statement}
 use Rattle.gather.proofs.gather_listing.Tie as tie
-use Rattle.gather.proofs.gather_listing.Reads as reads
-use Rattle.gather.proofs.gather_listing.Lts as lts
-use Rattle.gather.proofs.list_examples.Reads as list-examples-reads
-use Rattle.trace_graph.proofs.check_graph.Reads as check-graph-reads
-use Rattle.tracer.proofs.build.Reads as build-reads
 
--- src/lib.rt:177:9
 slice-aggregate-build : tie.Need-slice-aggregate-build
 slice-aggregate-build c = search needs
 
--- src/lib.rt:172:11
 build-requires : tie.Need-build-requires
 build-requires c κs = (read-asked _ _ _ _ _ _ (c .before .before .before .before .before .pre .0) _ _ _ (c .before .before .before .before .before .pre .1 .0 .1) (c .before .before .before .before .before .pre .1 .0 .0), rw (length-replicate {A = ℕ} graphRoom 0) (omega arith))
 
--- src/lib.rt:184:17
 enum-told : tie.Need-enum-told
 enum-told c = search needs
 
--- src/lib.rt:185:50
-slice-aggregate-check-graph : tie.Need-slice-aggregate-check-graph
-slice-aggregate-check-graph c = search needs
+slice-aggregate-make-view : tie.Need-slice-aggregate-make-view
+slice-aggregate-make-view c = search needs
 
--- src/lib.rt:185:58
-slice-aggregate-check-graph-2 : tie.Need-slice-aggregate-check-graph-2
-slice-aggregate-check-graph-2 c = search needs
+slice-aggregate-make-view-2 : tie.Need-slice-aggregate-make-view-2
+slice-aggregate-make-view-2 c = search needs
 
--- src/lib.rt:185:13
-check-graph-requires : tie.Need-check-graph-requires
-check-graph-requires c κs = (c .before .before .before .before .before .before .before .before .before .before .before .pre .0 .packed, ((read-nonterminals _ _ _ _ _ _ (c .before .before .before .before .before .before .before .before .before .before .before .pre .0), (let l = c .before .before .before .before .before .build .kept .1 .1 .1 .1 .0 ∙ length-replicate {A = ℕ} graphRoom 0 in omega arith)), refl))
+slice-aggregate-make-view-3 : tie.Need-slice-aggregate-make-view-3
+slice-aggregate-make-view-3 c = search needs
 
--- src/lib.rt:192:17
+slice-aggregate-make-view-4 : tie.Need-slice-aggregate-make-view-4
+slice-aggregate-make-view-4 c = search needs
+
+make-view-requires : tie.Need-make-view-requires
+make-view-requires c κs =
+    let P = c .before .before .before .before .before .before .before .before .before .before .before .before .before .pre in
+    let l = c .before .before .before .before .before .before .before .build .kept .1 .1 .1 .1 .0 ∙ length-replicate {A = ℕ} graphRoom 0 in
+    (viewable (ranged _ _ _ _ _ _ (P .0) _ _ _ (P .1 .0 .1) _ _ _ (c .before .before .before .before .before .before .before .build .ensures .0 (c .before .before .before .before .enum-told .given .1)) (omega arith)), (refl, (refl, refl)))
+
 slice-aggregate-list-examples : tie.Need-slice-aggregate-list-examples
 slice-aggregate-list-examples c = search needs
 
--- src/lib.rt:193:17
 slice-aggregate-list-examples-2 : tie.Need-slice-aggregate-list-examples-2
 slice-aggregate-list-examples-2 c = search needs
 
--- src/lib.rt:186:13
-list-examples-requires : tie.Need-list-examples-requires
-list-examples-requires c κs = ((c .before .before .before .before .before .before .before .before .before .before .before .before .before .before .before .before .before .pre .0 .packed, read-terminals _ _ _ _ _ _ (c .before .before .before .before .before .before .before .before .before .before .before .before .before .before .before .before .before .pre .0)), (listable _ _ _ _ _ _ (c .before .before .before .before .before .before .before .before .before .before .before .before .before .before .before .before .before .pre .0) _ _ _ (c .before .before .before .before .before .before .before .before .before .before .before .before .before .before .before .before .before .pre .1 .0 .1) _ _ _ (c .before .before .before .before .before .before .before .before .before .before .before .build .ensures .0 (c .before .before .before .before .before .before .before .before .enum-told .given .1)) _ (c .before .before .before .before .before .check-graph .ensures .1 (graph-passes _ _ _ _ _ _ (c .before .before .before .before .before .before .before .before .before .before .before .before .before .before .before .before .before .pre .0) _ _ _ (c .before .before .before .before .before .before .before .before .before .before .before .before .before .before .before .before .before .pre .1 .0 .1) _ _ _ (c .before .before .before .before .before .before .before .before .before .before .before .build .ensures .0 (c .before .before .before .before .before .before .before .before .enum-told .given .1)) _ (c .before .before .before .before .before .check-graph .ensures .0))), (c .before .before .before .before .before .before .before .before .before .before .before .before .before .before .before .before .before .pre .1 .1 .0, rw (c .before .before .before .before .before .before .before .before .before .before .before .before .before .before .before .before .before .pre .0 .same) (c .before .before .before .before .before .before .before .before .before .before .before .before .before .before .before .before .before .pre .1 .1 .1))))
+slice-aggregate-list-examples-3 : tie.Need-slice-aggregate-list-examples-3
+slice-aggregate-list-examples-3 c = search needs
 
--- src/lib.rt:201:27
+slice-aggregate-list-examples-4 : tie.Need-slice-aggregate-list-examples-4
+slice-aggregate-list-examples-4 c = search needs
+
+list-examples-requires : tie.Need-list-examples-requires
+list-examples-requires c κs =
+    let P = c .before .before .before .before .before .before .before .before .before .before .before .before .before .before .before .before .before .before .before .before .before .before .before .pre in
+    let l = c .before .before .before .before .before .before .before .before .before .before .before .before .before .before .before .before .before .build .kept .1 .1 .1 .1 .0 ∙ length-replicate {A = ℕ} graphRoom 0 in
+    ((P .0 .packed, read-terminals _ _ _ _ _ _ (P .0)), ((_, listable _ _ _ _ _ _ (P .0) _ _ _ (P .1 .0 .1) _ _ _ (c .before .before .before .before .before .before .before .before .before .before .before .before .before .before .before .before .before .build .ensures .0 (c .before .before .before .before .before .before .before .before .before .before .before .before .before .before .enum-told .given .1)) (omega arith) (c .before .before .before .before .before .before .before .before .before .make-view .ensures)), (clear-idle _ (P .1 .1 .0), rw (P .0 .same) (P .1 .1 .1))))
+
 enum-told-2 : tie.Need-enum-told-2
 enum-told-2 c = search needs
 
--- src/lib.rt:148:1
 same-length : tie.Need-same-length
 same-length c = search needs
 
--- src/lib.rt:148:1
 same-length-2 : tie.Need-same-length-2
 same-length-2 c = search needs
 
--- src/lib.rt:148:1
 returns : tie.Need-returns
-returns c = listing-made _ _ _ _ _ _ (c .before .before .before .before .before .before .before .before .before .before .before .before .before .before .before .before .before .before .before .before .before .before .pre .0) _ _ _ (c .before .before .before .before .before .before .before .before .before .before .before .before .before .before .before .before .before .before .before .before .before .before .pre .1 .0 .1) _ _ _ (c .before .before .before .before .before .before .before .before .before .before .before .before .before .before .before .before .build .ensures .0 (c .before .before .before .before .before .before .before .before .before .before .before .before .before .enum-told .given .1)) _ _ _ _ _ _ _ (c .before .before .before .before .before .before .before .before .before .before .before .before .before .before .before .before .before .before .before .before .before .before .pre .1 .1 .1) (c .before .before .before .before .list-examples .ensures .0) (c .before .before .before .before .list-examples .ensures .1)
+returns c =
+    let P = c .before .before .before .before .before .before .before .before .before .before .before .before .before .before .before .before .before .before .before .before .before .before .before .before .before .before .before .before .pre in
+    let B = c .before .before .before .before .before .before .before .before .before .before .before .before .before .before .before .before .before .before .before .before .before .before .build .ensures .0 (c .before .before .before .before .before .before .before .before .before .before .before .before .before .before .before .before .before .before .before .enum-told .given .1) in
+    let l = c .before .before .before .before .before .before .before .before .before .before .before .before .before .before .before .before .before .before .before .before .before .before .build .kept .1 .1 .1 .1 .0 ∙ length-replicate {A = ℕ} graphRoom 0 in
+    listing-made _ _ _ _ _ _ (P .0) _ _ _ (P .1 .0 .1) _ _ _ B _ _ _ _ _ _ _ (P .1 .1 .1) (c .before .before .before .before .list-examples .ensures .0 _ (listable _ _ _ _ _ _ (P .0) _ _ _ (P .1 .0 .1) _ _ _ B (omega arith) (c .before .before .before .before .before .before .before .before .before .before .before .before .before .before .make-view .ensures))) (c .before .before .before .before .list-examples .ensures .1)
 
--- src/lib.rt:148:1
 returns-2 : tie.Need-returns-2
 returns-2 c = listing-full _ _ _ _ _ _ (c .before .before .before .before .before .before .before .before .before .pre .0) _ _ _ (c .before .before .before .before .before .before .before .before .before .pre .1 .0 .1) _ _ _ _ _ (c .before .before .before .build .ensures .1 (c .enum-told2 .given .1) .0)
 
@@ -78,11 +82,15 @@ gather-listing-spec =
     slice-aggregate-build
     build-requires
     enum-told
-    slice-aggregate-check-graph
-    slice-aggregate-check-graph-2
-    check-graph-requires
+    slice-aggregate-make-view
+    slice-aggregate-make-view-2
+    slice-aggregate-make-view-3
+    slice-aggregate-make-view-4
+    make-view-requires
     slice-aggregate-list-examples
     slice-aggregate-list-examples-2
+    slice-aggregate-list-examples-3
+    slice-aggregate-list-examples-4
     list-examples-requires
     enum-told-2
     same-length

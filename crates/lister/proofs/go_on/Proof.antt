@@ -1,4 +1,5 @@
 -- `go_on` meets its contract: a law of Ways for each way. Assumes nothing.
+use Rattle.view.proofs.Made.{ranged-of}
 use Rattle.lister.proofs.Ways.{roomy-of, started, go-lost, go-stray, go-ended, go-found}
 use borrow.Author.Needs.{needs}
 use Rattle.lister.proofs.go_on.Statement.{statement}
@@ -26,7 +27,7 @@ returns : tie.Need-returns
 returns c = λ n T R q. go-lost _ _ _ _ T q (c .before .before .before .before .before .before .before .before .before .before .before .before .pre .1 .0 .graphed .long) (c .before .before .before .before .before .before .before .before .before .before .before .before .pre .1 .1 .0) (c .before .before .before .before .before .before .before .before .before .before .before .before .pre .1 .1 .1) _ (c .before .before .before .lost .ensures) (let h = c .before .if1 .taken in cc) _ _ (c .unmoved .ensures)
 
 find-next-requires : tie.Need-find-next-requires
-find-next-requires c κs = (c .before .before .before .before .before .before .before .before .before .before .before .before .before .before .before .pre .0, (c .before .before .before .before .before .before .before .before .before .before .before .before .before .before .before .pre .1 .0, (c .before .before .before .before .before .before .before .before .before .before .before .before .before .before .before .pre .1 .1, ((let h = c .before .before .if3 .taken in cc), (let h = c .before .before .before .before .if1 .left in let k = c .before .before .before .before .before .before .lost .ensures in cc)))))
+find-next-requires c κs = (c .before .before .before .before .before .before .before .before .before .before .before .before .before .before .before .pre .0, (ranged-of (c .before .before .before .before .before .before .before .before .before .before .before .before .before .before .before .pre .1 .0 .graphed), (c .before .before .before .before .before .before .before .before .before .before .before .before .before .before .before .pre .1 .1, ((let h = c .before .before .if3 .taken in cc), (let h = c .before .before .before .before .if1 .left in let k = c .before .before .before .before .before .before .lost .ensures in cc)))))
 
 same-length-2 : tie.Need-same-length-2
 same-length-2 c = search needs

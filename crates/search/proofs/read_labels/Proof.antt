@@ -48,7 +48,7 @@ cast-labels-2 : tie.Need-cast-labels-2 Inv-loop μ-loop
 cast-labels-2 c =
     let S = c .before .before .before .before .before .before .before .before .before .before .before .before in
     let R = c .before .before .before .before .before .before .loop .inv in
-    omega (arith, reading-small R (c .before .before .before .before .before .loop-test .taken) (c .before .before .before .before .word2 .ensures .0) (c .before .before .before .read-edge .ensures .1) (bounds (S .args .grammar .now) (S .args .productions) (S .pre .0) (R .tried .nonterminals) (R .tried .few-nonterminals)) .0)
+    omega (arith, reading-small R (c .before .before .before .before .before .loop-test .taken) (c .before .before .before .before .word2 .ensures .0) (c .before .before .before .read-edge .ensures .1) (bounds (S .args .grammar .now) (S .args .productions) (S .pre .0) (R .tried .ranged .nonterminals) (R .tried .ranged .few-nonterminals)) .0)
 
 add-labels : tie.Need-add-labels Inv-loop μ-loop
 add-labels c = omega (arith, reading-room (c .before .before .before .before .before .before .loop .inv) (c .before .before .before .before .before .loop-test .taken) .0)
@@ -63,7 +63,7 @@ cast-labels-3 : tie.Need-cast-labels-3 Inv-loop μ-loop
 cast-labels-3 c =
     let S = c .before .before .before .before .before .before .before .before .before .before .before .before .before in
     let R = c .before .before .before .before .before .before .before .loop .inv in
-    omega (arith, reading-small R (c .before .before .before .before .before .before .loop-test .taken) (c .before .before .before .before .before .word2 .ensures .0) (c .before .before .before .before .read-edge .ensures .1) (bounds (S .args .grammar .now) (S .args .productions) (S .pre .0) (R .tried .nonterminals) (R .tried .few-nonterminals)) .1)
+    omega (arith, reading-small R (c .before .before .before .before .before .before .loop-test .taken) (c .before .before .before .before .before .word2 .ensures .0) (c .before .before .before .before .read-edge .ensures .1) (bounds (S .args .grammar .now) (S .args .productions) (S .pre .0) (R .tried .ranged .nonterminals) (R .tried .ranged .few-nonterminals)) .1)
 
 add-labels-2 : tie.Need-add-labels-2 Inv-loop μ-loop
 add-labels-2 c = omega (arith, reading-room (c .before .before .before .before .before .before .before .loop .inv) (c .before .before .before .before .before .before .loop-test .taken) .0)

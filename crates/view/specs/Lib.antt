@@ -1,0 +1,3 @@
+pub mod View
+pub mod Trial
+pub mod Steps

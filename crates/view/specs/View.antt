@@ -1,0 +1,84 @@
+-- A view of a trace graph: what a listing from one item asks of it (request 06), in three small lists. By edge: the nonterminal that it comes from, and the next older edge into the same node.
+-- By node: the latest edge into it. An edge that is linked is one more than its number, and 0 is none, as in the index of a whole graph (specs/Index of trace_graph). Assumes nothing: these are definitions.
+use Prim.Native.Nat.{ℕ, suc, _+_, _≤_, _<_}
+use mathlib.Core.Path.{_≡_}
+use mathlib.Core.Bool.{true, false}
+use mathlib.Core.List.{List}
+use lib.ListN.{length, getD}
+use lib.Dec.{eqb}
+use Rattle.repr.specs.Sizes.{nonterminalLimit, edgeLimit, graphRoom}
+use Rattle.repr.specs.Meaning.{Item, Production}
+use Rattle.trace_graph.specs.Graph.{Node, atNonterminal, atItem, sameItem, TraceEdge}
+use Rattle.trace_graph.specs.Words.{edgesIn}
+use Rattle.trace_graph.specs.Fits.{edgeFits}
+use Rattle.enumerator.specs.Trials.{Ends, endsOf, Small}
+use Rattle.enumerator.specs.Machine.{below, linkOf}
+
+-- the nodes that a walk can enter: the nonterminals, and then the start item; one word more serves all other items, which no walk enters
+abbrev pub viewNodes : ℕ
+viewNodes = nonterminalLimit + 1
+
+abbrev pub latestRoom : ℕ
+latestRoom = viewNodes + 1
+
+unfoldable pub viewNode : Item → ℕ → Node
+viewNode start s = elim (eqb s nonterminalLimit) [ true ↦ atItem start | false ↦ atNonterminal s ]
+
+-- a node's number among them
+unfoldable pub slotOf : Item → Node → ℕ
+slotOf start (atNonterminal n) = n
+slotOf start (atItem i) = elim (sameItem i start) [ true ↦ nonterminalLimit | false ↦ viewNodes ]
+
+-- where an edge comes from: one more than the nonterminal, or 0 for an item
+unfoldable pub sourceOf : Node → ℕ
+sourceOf (atItem i) = 0
+sourceOf (atNonterminal n) = suc n
+
+-- so many words, none above a limit
+pub record Bounded (size limit : ℕ) (ws : List ℕ) : Type 0 where
+  pub long : length ws ≡ size
+  pub low : (k : ℕ) → getD ws k 0 ≤ limit
+
+-- words that the code may go by, whatever graph they are of
+pub record Tidy (sources older latest : List ℕ) : Type 0 where
+  pub by-source : Bounded edgeLimit nonterminalLimit sources
+  pub by-older : Bounded edgeLimit edgeLimit older
+  pub by-latest : Bounded latestRoom edgeLimit latest
+
+-- the view of the first k edges
+pub record Viewed (G : Ends) (start : Item) (sources older latest : List ℕ) (k : ℕ) : Type 0 where
+  pub tidy : Tidy sources older latest
+  pub sourced : (e : ℕ) → e < k → getD sources e 0 ≡ sourceOf (G .source e)
+  pub linked : (e s : ℕ) → e < k → s < viewNodes → G .target e ≡ viewNode start s → getD older e 0 ≡ linkOf (below G (viewNode start s) e)
+  pub headed : (s : ℕ) → s < viewNodes → getD latest s 0 ≡ linkOf (below G (viewNode start s) k)
+
+-- the view of a graph's edges for a listing from an item
+pub record View (es : List TraceEdge) (start : Item) (sources older latest : List ℕ) : Type 0 where
+  pub few : length es ≤ edgeLimit
+  pub small : Small (endsOf es)
+  pub viewed : Viewed (endsOf es) start sources older latest (length es)
+
+-- of a view, where the edges come from
+pub record Sourced (es : List TraceEdge) (sources : List ℕ) : Type 0 where
+  pub few : length es ≤ edgeLimit
+  pub bounded : Bounded edgeLimit nonterminalLimit sources
+  pub sourced : (e : ℕ) → e < length es → getD sources e 0 ≡ sourceOf (endsOf es .source e)
+
+-- every nonterminal that an edge leads into is below 32
+unfoldable pub SmallTargets : Ends → Type 0
+SmallTargets G = (e n : ℕ) → e < G .count → G .target e ≡ atNonterminal n → n < nonterminalLimit
+
+-- a graph's words that a view can be made of
+pub record Viewable (g : List ℕ) : Type 0 where
+  pub long : graphRoom ≤ length g
+  pub few : getD g 0 0 ≤ edgeLimit
+  pub sources : Small (endsOf (edgesIn g))
+  pub targets : SmallTargets (endsOf (edgesIn g))
+
+-- a graph's words in range, of a table with productions ps: what its check gives, and enough for a view (`viewable` of proofs/Made)
+pub record Ranged (ps : List Production) (g : List ℕ) : Type 0 where
+  pub nonterminals : ℕ
+  pub few-nonterminals : nonterminals ≤ nonterminalLimit
+  pub long : graphRoom ≤ length g
+  pub few-edges : getD g 0 0 ≤ edgeLimit
+  pub fits : (k : ℕ) → k < getD g 0 0 → edgeFits nonterminals ps g k ≡ true
