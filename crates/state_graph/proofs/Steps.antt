@@ -1,27 +1,27 @@
 -- One step back and the walk: what the code's sets of states are of the walk of specs/Walk, and what is remembered of it (specs/Remembered). Assumes nothing.
 use mathlib.Core.Path.{_≡_, refl, sym, ap, _∙_}
-use mathlib.Core.Bool.{Bool, true, false, _&&_, true≢false}
-use mathlib.Core.List.{List, [], _∷_, append-nil}
+use mathlib.Core.Bool.{Bool, true, false, _&&_}
+use mathlib.Core.List.{List, append-nil}
 use Prim.Native.Nat.{ℕ, zero, suc, _+_, _-_, _*_, _/_, _≤_, _<_}
 use native.Mathlib.Omega.{arith}
 use lib.Dec.{eqb, ltb}
-use lib.ListN.{length, getD, drop, replicate, length-replicate}
+use lib.ListN.{length, getD, set, drop, replicate, length-replicate, length-set}
+use lib.Seq.{getD-set-same, getD-set-other}
 use borrow.Author.Tests.{eqb-true, eqb-false}
-use Rattle.repr.specs.Sizes.{nonterminalLimit}
-use Rattle.repr.specs.Lists.{upFrom, below, mem, keep}
+use Rattle.repr.specs.Lists.{upFrom, below, keep}
 use Rattle.repr.specs.Meaning.{Symbol, Table, TableFits}
 use Rattle.repr.specs.Listed.{symbolOfKind, symbolFits, listed, listFits}
 use Rattle.repr.proofs.Listed.{listed-none, listed-step, fits-head, symbol-range}
 use Rattle.repr.proofs.Parts.{length-listed}
-use Rattle.repr.proofs.Lists.{cases, length-below, getD-below, keep-append, keep-none, keep-agree, length-upFrom, getD-upFrom, mem-nil}
+use Rattle.repr.proofs.Lists.{cases, length-below, getD-below, keep-append, keep-none, keep-agree, length-upFrom, getD-upFrom}
 use Rattle.lookahead.proofs.Growing.{getD-none}
 use Rattle.table.specs.Quads.{putQuad}
 use Rattle.table.proofs.Quads.{put-long, put-other, put-0, put-1, put-2, put-3}
 use Rattle.state_graph.specs.Walk.{leads, predecessors, walkBack, traceBack}
 use Rattle.state_graph.specs.States.{hasState, statesIn}
-use Rattle.state_graph.specs.Remembered.{stepRow, stepWords, setAt, Remembered}
-use Rattle.state_graph.proofs.Exact.{edge-leads, leads-outside, walk-nil, walk-cons}
-use Rattle.state_graph.proofs.States.{states-none, states-one, range-two}
+use Rattle.state_graph.specs.Remembered.{stepRow, stepPlaces, symbolPlace, stepWords, setAt, Remembered}
+use Rattle.state_graph.proofs.Exact.{leads-outside, walk-nil, walk-cons}
+use Rattle.state_graph.proofs.States.{states-one, range-two}
 
 pub range-more : (t : ℕ → Bool) (n d : ℕ) → ((k : ℕ) → n ≤ k → t k ≡ false) → keep t (below (n + d)) ≡ keep t (below n)
 unfolding below
@@ -94,34 +94,24 @@ traced T F s i a b l h xs f e =
 
 -- what is remembered
 
--- nothing leads into no state
-none-lead : (T : Table) (x : Symbol) → predecessors T x [] ≡ []
-unfolding predecessors
-none-lead T x =
-    keep-none (leads T x []) (below (length (T .states))) 0 (λ i j.
-    cases (leads T x [] (getD (below (length (T .states))) i 0))
-    (λ e. let r = edge-leads T x [] (getD (below (length (T .states))) i 0) e in absurd (true≢false (sym (r .3) ∙ mem-nil (r .0 .target))))
-    (λ e. e))
-
 pub none-remembered : (T : Table) → Remembered T (replicate stepWords 0)
 none-remembered T = record {
   long = length-replicate {A = ℕ} stepWords 0;
-  exact = λ k x f. rw (getD-none stepWords (stepRow k x * 4), getD-none stepWords (stepRow k x * 4 + 1), getD-none stepWords (stepRow k x * 4 + 2), getD-none stepWords (stepRow k x * 4 + 2 + 1), states-none) (sym (none-lead T (symbolOfKind k x)));
+  exact = λ p k x i f e. let z = getD-none stepWords (symbolPlace p) in absurd (omega (arith, z, e));
 }
 
 module _ (T : Table) (F : TableFits T) (ws : List ℕ) (R : Remembered T ws) (k x : ℕ) (f : symbolFits (length (T .nonterminals)) (T .terminals) k x ≡ true) where
-  -- the four words of the symbol are there
-  pub row-inside : (stepRow k x < 95) × (stepRow k x * 4 + 3 < length ws)
-  row-inside = let r = symbol-range (length (T .nonterminals)) (T .terminals) k x f in let a = F .few-nonterminals in let b = F .few-terminals in let l = R .long in go k r a b l
+  pub row-inside : stepRow k x < stepPlaces
+  row-inside = let r = symbol-range (length (T .nonterminals)) (T .terminals) k x f in let a = F .few-nonterminals in let b = F .few-terminals in go k r a b
     where
-      go : (k : ℕ) → (k < 2) × ((k ≡ 0 → x < length (T .nonterminals)) × ((k ≡ 0 → ⊥) → x < T .terminals)) → length (T .nonterminals) ≤ 32 → T .terminals ≤ 63 → length ws ≡ 380 → (k * 32 + x < 95) × ((k * 32 + x) * 4 + 3 < length ws)
-      go zero r a b l = let i = r .1 .0 refl in (omega arith, omega arith)
-      go (suc zero) r a b l = let i = r .1 .1 (λ z. omega arith) in (omega arith, omega arith)
-      go (suc (suc j)) r a b l = absurd (omega (arith, r .0))
+      go : (k : ℕ) → (k < 2) × ((k ≡ 0 → x < length (T .nonterminals)) × ((k ≡ 0 → ⊥) → x < T .terminals)) → length (T .nonterminals) ≤ 32 → T .terminals ≤ 63 → k * 32 + x < 95
+      go zero r a b = let i = r .1 .0 refl in omega arith
+      go (suc zero) r a b = let i = r .1 .1 (λ z. omega arith) in omega arith
+      go (suc (suc j)) r a b = absurd (omega (arith, r .0))
 
-  pub recalled : (l h a b : ℕ) → getD ws (stepRow k x * 4) 0 ≡ l → getD ws (stepRow k x * 4 + 1) 0 ≡ h → a ≡ getD ws (stepRow k x * 4 + 2) 0 → b ≡ getD ws (stepRow k x * 4 + 2 + 1) 0
+  pub recalled : (p : ℕ) → p < stepPlaces → getD ws (symbolPlace p) 0 ≡ stepRow k x + 1 → (l h a b : ℕ) → getD ws (p * 4) 0 ≡ l → getD ws (p * 4 + 1) 0 ≡ h → a ≡ getD ws (p * 4 + 2) 0 → b ≡ getD ws (p * 4 + 2 + 1) 0
       → statesIn a b ≡ predecessors T (symbolOfKind k x) (statesIn l h)
-  recalled l h a b el eh ea eb = rw (ea, eb, ← el, ← eh) (R .exact k x f)
+  recalled p i es l h a b el eh ea eb = rw (ea, eb, ← el, ← eh) (R .exact p k x i f es)
 
   -- another symbol has another row
   same-row : (j y : ℕ) → symbolFits (length (T .nonterminals)) (T .terminals) j y ≡ true → stepRow j y ≡ stepRow k x → (j ≡ k) × (y ≡ x)
@@ -137,30 +127,51 @@ module _ (T : Table) (F : TableFits T) (ws : List ℕ) (R : Remembered T ws) (k 
       go (suc k) zero r s a e = let i = s .1 .0 refl in absurd (omega arith)
       go (suc k) (suc j) r s a e = let p = r .0 in let q = s .0 in (omega arith, omega arith)
 
-  module _ (l h a b : ℕ) (found : statesIn a b ≡ predecessors T (symbolOfKind k x) (statesIn l h)) where
+  module _ (p : ℕ) (i : p < stepPlaces) (l h a b : ℕ) (found : statesIn a b ≡ predecessors T (symbolOfKind k x) (statesIn l h)) where
+    abbrev quad : List ℕ
+    quad = putQuad ws p l h a b
+
     abbrev put : List ℕ
-    put = putQuad ws (stepRow k x) l h a b
+    put = set quad (symbolPlace p) (stepRow k x + 1)
 
-    here : setAt put (stepRow k x * 4 + 2) ≡ predecessors T (symbolOfKind k x) (setAt put (stepRow k x * 4))
+    room : p * 4 + 3 < length ws
+    room = let n = R .long in omega arith
+
+    quad-long : length quad ≡ stepWords
+    quad-long = put-long ws p l h a b ∙ R .long
+
+    before : (j : ℕ) → j < stepPlaces * 4 → getD put j 0 ≡ getD quad j 0
+    before j g = getD-set-other quad (symbolPlace p) j (stepRow k x + 1) 0 (λ e. omega arith)
+
+    here : setAt put (p * 4 + 2) ≡ predecessors T (symbolOfKind k x) (setAt put (p * 4))
     here =
-        let i = row-inside .1 in
-        let e : stepRow k x * 4 + 2 + 1 ≡ stepRow k x * 4 + 3 = omega arith in
-        rw (e, put-0 ws (stepRow k x) l h a b i, put-1 ws (stepRow k x) l h a b i, put-2 ws (stepRow k x) l h a b i, put-3 ws (stepRow k x) l h a b i) found
+        let e : p * 4 + 2 + 1 ≡ p * 4 + 3 = omega arith in
+        rw (e, before (p * 4) (omega arith), before (p * 4 + 1) (omega arith), before (p * 4 + 2) (omega arith), before (p * 4 + 3) (omega arith), put-0 ws p l h a b room, put-1 ws p l h a b room, put-2 ws p l h a b room, put-3 ws p l h a b room) found
 
-    there : (j y : ℕ) → (stepRow j y ≡ stepRow k x → ⊥) → (d : ℕ) → d < 4 → getD put (stepRow j y * 4 + d) 0 ≡ getD ws (stepRow j y * 4 + d) 0
-    there j y ne d i = put-other ws (stepRow k x) l h a b (stepRow j y * 4 + d) (λ e. ne (omega arith)) (λ e. ne (omega arith)) (λ e. ne (omega arith)) (λ e. ne (omega arith))
+    there : (q : ℕ) → q < stepPlaces → (q ≡ p → ⊥) → (d : ℕ) → d < 4 → getD put (q * 4 + d) 0 ≡ getD ws (q * 4 + d) 0
+    there q g ne d o = before (q * 4 + d) (omega arith) ∙ put-other ws p l h a b (q * 4 + d) (λ e. ne (omega arith)) (λ e. ne (omega arith)) (λ e. ne (omega arith)) (λ e. ne (omega arith))
+
+    symbol-there : (q : ℕ) → q < stepPlaces → (q ≡ p → ⊥) → getD put (symbolPlace q) 0 ≡ getD ws (symbolPlace q) 0
+    symbol-there q g ne = getD-set-other quad (symbolPlace p) (symbolPlace q) (stepRow k x + 1) 0 (λ e. ne (omega arith)) ∙ put-other ws p l h a b (symbolPlace q) (λ e. omega arith) (λ e. omega arith) (λ e. omega arith) (λ e. omega arith)
+
+    symbol-here : getD put (symbolPlace p) 0 ≡ stepRow k x + 1
+    symbol-here = let n = quad-long in getD-set-same quad (symbolPlace p) (stepRow k x + 1) 0 (omega arith)
 
     pub remembered : Remembered T put
-    remembered = record { long = put-long ws (stepRow k x) l h a b ∙ R .long; exact = one }
+    remembered = record { long = length-set quad (symbolPlace p) (stepRow k x + 1) ∙ quad-long; exact = one }
       where
-        one : (j y : ℕ) → symbolFits (length (T .nonterminals)) (T .terminals) j y ≡ true → setAt put (stepRow j y * 4 + 2) ≡ predecessors T (symbolOfKind j y) (setAt put (stepRow j y * 4))
-        one j y g =
-            cases (eqb (stepRow j y) (stepRow k x))
-            (λ q. let e = same-row j y g (eqb-true (stepRow j y) (stepRow k x) q) in rw (e .0, e .1) here)
-            (λ q.
-            let ne = eqb-false (stepRow j y) (stepRow k x) q in
-            let z : stepRow j y * 4 + 0 ≡ stepRow j y * 4 = omega arith in
-            let t : stepRow j y * 4 + 2 + 1 ≡ stepRow j y * 4 + 3 = omega arith in
-            let first : getD put (stepRow j y * 4) 0 ≡ getD ws (stepRow j y * 4) 0 = rw z at (there j y ne 0 (omega arith)) in
-            let last : getD put (stepRow j y * 4 + 2 + 1) 0 ≡ getD ws (stepRow j y * 4 + 2 + 1) 0 = rw t (there j y ne 3 (omega arith)) in
-            rw (first, there j y ne 1 (omega arith), there j y ne 2 (omega arith), last) (R .exact j y g))
+        one : (q j y : ℕ) → q < stepPlaces → symbolFits (length (T .nonterminals)) (T .terminals) j y ≡ true → getD put (symbolPlace q) 0 ≡ stepRow j y + 1 → setAt put (q * 4 + 2) ≡ predecessors T (symbolOfKind j y) (setAt put (q * 4))
+        one q j y g fy s =
+            cases (eqb q p)
+            (λ c.
+            let w : q ≡ p = eqb-true q p c in
+            let v : stepRow j y + 1 ≡ stepRow k x + 1 = sym s ∙ ap (λ (u : ℕ). getD put (symbolPlace u) 0) w ∙ symbol-here in
+            let r = same-row j y fy (omega (arith, v)) in
+            rw (w, r .0, r .1) here)
+            (λ c.
+            let ne = eqb-false q p c in
+            let z : q * 4 + 0 ≡ q * 4 = omega arith in
+            let t : q * 4 + 2 + 1 ≡ q * 4 + 3 = omega arith in
+            let first : getD put (q * 4) 0 ≡ getD ws (q * 4) 0 = rw z at (there q g ne 0 (omega arith)) in
+            let last : getD put (q * 4 + 2 + 1) 0 ≡ getD ws (q * 4 + 2 + 1) 0 = rw t (there q g ne 3 (omega arith)) in
+            rw (first, there q g ne 1 (omega arith), there q g ne 2 (omega arith), last) (R .exact q j y g fy (sym (symbol-there q g ne) ∙ s)))

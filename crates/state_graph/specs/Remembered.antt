@@ -1,5 +1,5 @@
--- The last step back over each symbol, as the code keeps it: four words a symbol, the set that was stepped back from and what was found. Assumes nothing: these are definitions.
-use Prim.Native.Nat.{ℕ, _+_, _*_}
+-- Steps back, as the code keeps them: for each of so many places the set that was stepped back from and what was found, two words each; then for each place the symbol, one more than its row, or 0. Assumes nothing: these are definitions.
+use Prim.Native.Nat.{ℕ, _+_, _*_, _<_}
 use mathlib.Core.Bool.{true}
 use mathlib.Core.Path.{_≡_}
 use mathlib.Core.List.{List}
@@ -14,8 +14,14 @@ use Rattle.state_graph.specs.Walk.{predecessors}
 abbrev pub stepRow : ℕ → ℕ → ℕ
 stepRow kind number = kind * nonterminalLimit + number
 
+abbrev pub stepPlaces : ℕ
+stepPlaces = nonterminalLimit + terminalLimit
+
+abbrev pub symbolPlace : ℕ → ℕ
+symbolPlace p = stepPlaces * 4 + p
+
 abbrev pub stepWords : ℕ
-stepWords = (nonterminalLimit + terminalLimit) * 4
+stepWords = stepPlaces * 5
 
 -- the set in the two words from a place on
 abbrev pub setAt : List ℕ → ℕ → List ℕ
@@ -23,4 +29,5 @@ setAt ws at = statesIn (getD ws at 0) (getD ws (at + 1) 0)
 
 pub record Remembered (T : Table) (ws : List ℕ) : Type 0 where
   pub long : length ws ≡ stepWords
-  pub exact : (k x : ℕ) → symbolFits (length (T .nonterminals)) (T .terminals) k x ≡ true → setAt ws (stepRow k x * 4 + 2) ≡ predecessors T (symbolOfKind k x) (setAt ws (stepRow k x * 4))
+  pub exact : (p k x : ℕ) → p < stepPlaces → symbolFits (length (T .nonterminals)) (T .terminals) k x ≡ true → getD ws (symbolPlace p) 0 ≡ stepRow k x + 1
+      → setAt ws (p * 4 + 2) ≡ predecessors T (symbolOfKind k x) (setAt ws (p * 4))

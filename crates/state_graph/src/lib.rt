@@ -14,7 +14,7 @@ ghost use mathlib.Core.Bool.{Bool, true, false, _&&_, _||_};
 ghost use mathlib.Core.List.{List, _++_};
 ghost use Prim.Native.Nat.{ℕ, _+_, _*_, _≤_, _<_};
 ghost use lib.Dec.{eqb, ltb};
-ghost use lib.ListN.{length, getD, replicate};
+ghost use lib.ListN.{length, getD, set, replicate};
 ghost use Rattle.repr.specs.Sizes.{recordLimit};
 ghost use Rattle.repr.specs.Listed.{symbolOfKind, symbolFits, listed, listFits};
 ghost use Rattle.table.specs.Words.{records};
@@ -24,7 +24,7 @@ ghost use Rattle.table.specs.Refusals.{checkOf};
 ghost use Rattle.state_graph.specs.Walk.{predecessors, walkBack, traceBack};
 ghost use Rattle.state_graph.specs.States.{hasState, statesIn, NextIs};
 ghost use Rattle.state_graph.specs.Hits.{hitWords, endsIn, hitNow, Hits};
-ghost use Rattle.state_graph.specs.Remembered.{Remembered};
+ghost use Rattle.state_graph.specs.Remembered.{stepPlaces, stepWords, symbolPlace, Remembered};
 
 // The number of a state.
 pub struct StateIndex(pub u16);
@@ -46,10 +46,10 @@ pub enum NextState {
 }
 
 impl StateSet {
-    // A bit for each record of a table, and four words for each symbol, while walking back.
+    // A bit for each record of a table, and five words for each of as many steps as there are symbols, while walking back.
     pub const HIT_WORDS: usize = 128;
 
-    pub const STEP_WORDS: usize = 380;
+    pub const STEP_WORDS: usize = 475;
 
     pub fn new() -> StateSet
         ensures { λ r. ⌜ ((k : ℕ) → hasState (r .low) (r .high) k ≡ false) ⌝ }
@@ -222,7 +222,36 @@ fn set_at(words: &[u64], at: usize) -> StateSet
     }
 }
 
-// What a step over a symbol found, until the next step over it.
+// A place for what a step finds, by its symbol and its set: steps from different sets over one symbol have different places as far as may be, and a place says what it holds.
+fn place_of(row: usize, set: StateSet) -> usize
+    requires { ⌜ row < stepPlaces ⌝ }
+    ensures { λ r. ⌜ r < stepPlaces ⌝ }
+{
+    let low = (set.low % 67) as usize;
+    let high = (set.high % 61) as usize;
+    (row + 7 * low + 11 * high) % 95
+}
+
+// Whether a place holds a step over the symbol from the set.
+fn recalls(steps: &[u64], place: usize, row: usize, set: StateSet) -> bool
+    requires { ⌜ (place < stepPlaces) × (row < stepPlaces) × (length (now steps) ≡ stepWords) ⌝ }
+    ensures { λ r. ⌜ (r ≡ true → (getD (now (steps .entry)) (symbolPlace place) 0 ≡ row + 1) × (getD (now (steps .entry)) (place * 4) 0 ≡ set .low) × (getD (now (steps .entry)) (place * 4 + 1) 0 ≡ set .high)) ⌝ }
+{
+    let symbol = steps[380 + place];
+    if symbol != (row + 1) as u64 {
+        return false;
+    }
+    let last = set_at(steps, place * 4);
+    if last.low != set.low {
+        return false;
+    }
+    if last.high != set.high {
+        return false;
+    }
+    true
+}
+
+// What a step found, until another one takes its place.
 fn remember(steps: &mut [u64], row: usize, set: StateSet, found: StateSet)
     requires { ⌜ (row * 4 + 3 < length (now steps)) × (row < 1000) ⌝ }
     ensures { λ _. ⌜ now (steps .exit) ≡ putQuad (now (steps .entry)) row (set .low) (set .high) (found .low) (found .high) ⌝ }
@@ -233,7 +262,15 @@ fn remember(steps: &mut [u64], row: usize, set: StateSet, found: StateSet)
     steps[row * 4 + 3] = found.high;
 }
 
-// The states with an edge by one symbol into the set; where the last step over the symbol was from this set, what it found.
+// Which symbol it was over.
+fn note(steps: &mut [u64], place: usize, row: usize)
+    requires { ⌜ (place < stepPlaces) × (row < stepPlaces) × (length (now steps) ≡ stepWords) ⌝ }
+    ensures { λ _. ⌜ now (steps .exit) ≡ set (now (steps .entry)) (symbolPlace place) (row + 1) ⌝ }
+{
+    steps[380 + place] = (row + 1) as u64;
+}
+
+// The states with an edge by one symbol into the set; where that step is remembered, what it found.
 fn step_back(
     table: &[u16],
     steps: &mut [u64],
@@ -248,15 +285,14 @@ fn step_back(
     ensures { λ r. ⌜ Remembered (meaning (now (table .entry))) (now (steps .exit)) ⌝ }
 {
     let row = kind * NonterminalString::LIMIT + number;
-    let last = set_at(steps, row * 4);
-    if last.low == set.low {
-        if last.high == set.high {
-            return set_at(steps, row * 4 + 2);
-        }
+    let place = place_of(row, set);
+    if recalls(steps, place, row, set) {
+        return set_at(steps, place * 4 + 2);
     }
     let mut hits = [0u64; StateSet::HIT_WORDS];
     let found = step_over(table, &mut hits, kind, number, set);
-    remember(steps, row, set, found);
+    remember(steps, place, set, found);
+    note(steps, place, row);
     found
 }
 
