@@ -2,7 +2,7 @@
 # Tries the built programs yacc, unyacc, words, states, explain, respell, text and compact on the tables of this folder and on inputs made here, and compares what they write.
 # Where an expected output comes from: TABLE.out is what the Rust's explaining program writes for that table (`oracle explain`, oracle/README.md),
 # and so is every expected line below that is not a refusal; the refusals are document 01's rows, applied by hand where they stand.
-# GRAMMAR.out is what that program writes for the states and conflicts of the oracle's own reader of request 01, of a yacc file read by its reader of request 09 first, GRAMMAR.err what `explain.sh` says.
+# GRAMMAR.out is what that program writes for the states and conflicts of the oracle's own reader of request 01, YACC.y.out what it writes for those of `yacc | states`, which the oracle's readers are compared with elsewhere; .err is what `explain.sh` says.
 cd "$(dirname "$0")/.." || exit 1
 work=$(mktemp -d) || exit 1
 trap 'rm -rf "$work"' EXIT
@@ -374,30 +374,21 @@ target/bin/explain <"$work/one" >/dev/full 2>"$work/said"
 says "explain to a full device" 'standard output'
 target/bin/words <tables/table_b.txt >/dev/full 2>"$work/said"
 says "words to a full device" 'standard output'
-for p in respell text; do
-    "target/bin/$p" <"$work/one" >/dev/full 2>"$work/said"
-    says "$p to a full device" 'standard output'
-    "target/bin/$p" <tables >"$work/output" 2>"$work/said"
-    says "$p of a folder" 'standard input'
+# A program says that it cannot write the answer to the input, nor read a folder, of which it writes nothing.
+fails() { # program
+    "target/bin/$1" <"$work/input" >/dev/full 2>"$work/said"
+    says "$1 to a full device" 'standard output'
+    "target/bin/$1" <tables >"$work/output" 2>"$work/said"
+    says "$1 of a folder" 'standard input'
     [ ! -s "$work/output" ]
-    verdict "$p of a folder, nothing written" $?
-done
+    verdict "$1 of a folder, nothing written" $?
+}
+cp "$work/one" "$work/input"
+for p in respell text; do fails "$p"; done
 typed <tables/sum.grammar
-target/bin/states <"$work/input" >/dev/full 2>"$work/said"
-says "states to a full device" 'standard output'
-target/bin/states <tables >"$work/output" 2>"$work/said"
-says "states of a folder" 'standard input'
-[ ! -s "$work/output" ]
-verdict "states of a folder, nothing written" $?
-for p in yacc unyacc; do
-    case $p in yacc) cp tables/sum.y "$work/input" ;; unyacc) typed <tables/sum.grammar ;; esac
-    "target/bin/$p" <"$work/input" >/dev/full 2>"$work/said"
-    says "$p to a full device" 'standard output'
-    "target/bin/$p" <tables >"$work/output" 2>"$work/said"
-    says "$p of a folder" 'standard input'
-    [ ! -s "$work/output" ]
-    verdict "$p of a folder, nothing written" $?
-done
+for p in states unyacc; do fails "$p"; done
+cp tables/sum.y "$work/input"
+fails yacc
 target/bin/explain <tables >"$work/output" 2>"$work/said"
 says "explain of a folder" 'standard input'
 [ ! -s "$work/output" ]
