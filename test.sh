@@ -1,5 +1,6 @@
 #!/usr/bin/env bash
-# The test command: layout, stored edits, `rt ci` (proves every crate from nothing, tries every must-fail edit, runs every program against its stored output), the C entries, the tables.
+# The test command: layout, stored edits, `rt ci` (proves every crate from nothing, tries every must-fail edit, runs every program against its stored output), the arrays that classifying
+# reaches, the C entries, the tables.
 # The last line is that of `rt ci`, 'N passed, 0 failed', held back until what comes after it has passed too; where anything fails it is another.
 set -euo pipefail
 cd "$(dirname "$0")"
@@ -7,7 +8,7 @@ cd "$(dirname "$0")"
 held=$(mktemp)
 finish() {
     local status=$?
-    rm -f "$held"
+    rm -f "$held" "$held.arrays"
     [ "$status" -eq 0 ] || echo "test.sh: FAILED"
 }
 trap finish EXIT
@@ -29,6 +30,9 @@ if ! rt ci | hold_back "$held"; then
     cat "$held"
     exit 1
 fi
+tests/arrays.py --selftest
+tests/arrays.py >"$held.arrays" || { cat "$held.arrays"; exit 1; }
+tail -n 1 "$held.arrays"
 rt staticlib lihvemur
 cc -std=c11 -Wall -Wextra -Werror -Iinclude tests/c/entries.c target/staticlib/liblihvemur.a -o target/c-entries
 target/c-entries

@@ -8,7 +8,7 @@
  * Refusal 16 of `lihvemur_build_states` has the number of LIHVEMUR_END; no call gives both.
  * A result behind another pointer is written only with answer 0, unless this header says otherwise.
  *
- * Stack: a trace, and so a class or a choice, calls on itself, at most 4,096 times nested; there a program needed 1,536 KiB in all. 8 MiB suffice for every call.
+ * Stack: a trace, and so a class or a choice, calls on itself, at most 4,096 times nested; there a program needed 1,856 KiB in all. 8 MiB suffice for every call.
  * Reading a yacc text takes some 660 KB, building states some 80 KB.
  *
  * A set of tokens is a word, token k its bit k; the end of input is the token after the last terminal.
@@ -26,7 +26,8 @@ extern "C" {
 
 enum {
     LIHVEMUR_TABLE_WORDS = 32768,   /* a table at most (refusal 1) */
-    LIHVEMUR_SCRATCH_WORDS = 32000, /* scratch at least (refusal 11), but where states are built */
+    LIHVEMUR_SCRATCH_WORDS = 32000, /* scratch at least (refusal 11) to trace and to list */
+    LIHVEMUR_CLASSIFY_WORDS = 8000, /* scratch at least to classify and to choose (11) */
     LIHVEMUR_BUILD_WORDS = 64000,   /* scratch at least to build states (11) */
     LIHVEMUR_CONFLICT_WORDS = 5,    /* a conflict of those that are built */
     LIHVEMUR_TEXT_BYTES = 65535,    /* a yacc text at most (refusal 20) */

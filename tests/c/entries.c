@@ -422,8 +422,8 @@ static void class_is(uint16_t kind, uint16_t operand, uint16_t token, uint16_t w
     uint64_t values = UNWRITTEN;
     uint32_t action_trials = UNWRITTEN, reduce_trials = UNWRITTEN;
     fresh();
-    EXPECT(lihvemur_classify(B, COUNT(B), 3, 0, kind, operand, token, scratch, LIHVEMUR_SCRATCH_WORDS, action, LIHVEMUR_EXAMPLE_WORDS, reduce, LIHVEMUR_EXAMPLE_WORDS, &class_number, &values, &action_trials, &reduce_trials, &place) == 0);
-    EXPECT(place == 0 && class_number == want && values == own && action_trials == actions && reduce_trials == reduces && zeroed(scratch));
+    EXPECT(lihvemur_classify(B, COUNT(B), 3, 0, kind, operand, token, scratch, LIHVEMUR_CLASSIFY_WORDS, action, LIHVEMUR_EXAMPLE_WORDS, reduce, LIHVEMUR_EXAMPLE_WORDS, &class_number, &values, &action_trials, &reduce_trials, &place) == 0);
+    EXPECT(place == 0 && class_number == want && values == own && action_trials == actions && reduce_trials == reduces && zeroed_to(scratch, LIHVEMUR_CLASSIFY_WORDS));
     if (want == 1 || want == 2)
         EXPECT(begins(action, ACTION, COUNT(ACTION)) && begins(reduce, REDUCE, COUNT(REDUCE)));
     if (want == 0)
@@ -443,10 +443,14 @@ static void classify(void)
     class_is(1, 1, 2, 0, 0, 1, 3);
     class_is(1, 0, 0, 5, (uint64_t)9 << 16 | (uint64_t)9 << 48, 3, 3);
     fresh();
-    EXPECT(lihvemur_classify(B, COUNT(B), 3, 0, 0, 0, 2, scratch, LIHVEMUR_SCRATCH_WORDS, action, LIHVEMUR_EXAMPLE_WORDS, reduce, LIHVEMUR_EXAMPLE_WORDS, &class_number, &values, &action_trials, &reduce_trials, &place) == 10 && place == 0);
-    EXPECT(lihvemur_classify(B, COUNT(B), 3, 0, 0, 0, 0, scratch, LIHVEMUR_SCRATCH_WORDS, action, LIHVEMUR_EXAMPLE_WORDS, reduce, LIHVEMUR_EXAMPLE_WORDS - 1, &class_number, &values, &action_trials, &reduce_trials, &place) == 11 && place == 0);
+    EXPECT(lihvemur_classify(B, COUNT(B), 3, 0, 0, 0, 2, scratch, LIHVEMUR_CLASSIFY_WORDS, action, LIHVEMUR_EXAMPLE_WORDS, reduce, LIHVEMUR_EXAMPLE_WORDS, &class_number, &values, &action_trials, &reduce_trials, &place) == 10 && place == 0);
+    EXPECT(lihvemur_classify(B, COUNT(B), 3, 0, 0, 0, 0, scratch, LIHVEMUR_CLASSIFY_WORDS, action, LIHVEMUR_EXAMPLE_WORDS, reduce, LIHVEMUR_EXAMPLE_WORDS - 1, &class_number, &values, &action_trials, &reduce_trials, &place) == 11 && place == 0);
+    EXPECT(lihvemur_classify(B, COUNT(B), 3, 0, 0, 0, 0, scratch, LIHVEMUR_CLASSIFY_WORDS - 1, action, LIHVEMUR_EXAMPLE_WORDS, reduce, LIHVEMUR_EXAMPLE_WORDS, &class_number, &values, &action_trials, &reduce_trials, &place) == 11 && place == 0);
     EXPECT(class_number == UNWRITTEN && values == UNWRITTEN && action_trials == UNWRITTEN && reduce_trials == UNWRITTEN);
     EXPECT(untouched(scratch) && untouched(action) && untouched(reduce));
+    /* More scratch than is asked for: no word past the first 8,000 changes. */
+    EXPECT(lihvemur_classify(B, COUNT(B), 3, 0, 0, 0, 0, scratch, LIHVEMUR_SCRATCH_WORDS, action, LIHVEMUR_EXAMPLE_WORDS, reduce, LIHVEMUR_EXAMPLE_WORDS, &class_number, &values, &action_trials, &reduce_trials, &place) == 0);
+    EXPECT(zeroed_to(scratch, LIHVEMUR_CLASSIFY_WORDS));
 }
 
 static void choose(void)
@@ -454,12 +458,13 @@ static void choose(void)
     static const uint16_t plus[] = {0, 2, 0, 0, 0, 0};
     size_t count = UNWRITTEN;
     fresh();
-    EXPECT(lihvemur_choose(B, COUNT(B), 3, 0, 0, 0, TOKEN_0 | TOKEN_1, scratch, LIHVEMUR_SCRATCH_WORDS, output, LIHVEMUR_ENTRIES_WORDS, &count, &place) == 0 && place == 0 && count == 1);
-    EXPECT(begins(output, plus, LIHVEMUR_ENTRY_WORDS) && zeroed(scratch));
+    EXPECT(lihvemur_choose(B, COUNT(B), 3, 0, 0, 0, TOKEN_0 | TOKEN_1, scratch, LIHVEMUR_CLASSIFY_WORDS, output, LIHVEMUR_ENTRIES_WORDS, &count, &place) == 0 && place == 0 && count == 1);
+    EXPECT(begins(output, plus, LIHVEMUR_ENTRY_WORDS) && zeroed_to(scratch, LIHVEMUR_CLASSIFY_WORDS));
     fresh();
     count = UNWRITTEN;
-    EXPECT(lihvemur_choose(B, COUNT(B), 3, 0, 0, 0, TOKEN_END, scratch, LIHVEMUR_SCRATCH_WORDS, output, LIHVEMUR_ENTRIES_WORDS, &count, &place) == 10 && place == 0 && count == UNWRITTEN);
-    EXPECT(lihvemur_choose(B, COUNT(B), 3, 0, 0, 0, TOKEN_0, scratch, LIHVEMUR_SCRATCH_WORDS, output, LIHVEMUR_ENTRIES_WORDS - 1, &count, &place) == 11 && place == 0 && count == UNWRITTEN);
+    EXPECT(lihvemur_choose(B, COUNT(B), 3, 0, 0, 0, TOKEN_END, scratch, LIHVEMUR_CLASSIFY_WORDS, output, LIHVEMUR_ENTRIES_WORDS, &count, &place) == 10 && place == 0 && count == UNWRITTEN);
+    EXPECT(lihvemur_choose(B, COUNT(B), 3, 0, 0, 0, TOKEN_0, scratch, LIHVEMUR_CLASSIFY_WORDS, output, LIHVEMUR_ENTRIES_WORDS - 1, &count, &place) == 11 && place == 0 && count == UNWRITTEN);
+    EXPECT(lihvemur_choose(B, COUNT(B), 3, 0, 0, 0, TOKEN_0, scratch, LIHVEMUR_CLASSIFY_WORDS - 1, output, LIHVEMUR_ENTRIES_WORDS, &count, &place) == 11 && place == 0 && count == UNWRITTEN);
     EXPECT(untouched(output) && untouched(scratch));
 }
 

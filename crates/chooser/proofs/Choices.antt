@@ -1,14 +1,15 @@
 -- What is chosen of the classes, and refusals 9 to 11 (error/specs/Choose). Assumes nothing.
 use mathlib.Core.Path.{_≡_, refl, sym, ap, subst, _∙_}
 use mathlib.Core.Bool.{Bool, true, false, _&&_, not}
-use mathlib.Core.List.{List, [], _∷_}
+use mathlib.Core.List.{List, [], _∷_, _++_}
 use Prim.Native.Nat.{ℕ, zero, suc, _+_, _^_, _≤_, _<_}
 use native.Mathlib.Omega.{arith}
-use lib.ListN.{length}
+use lib.ListN.{length, drop}
 use lib.Dec.{eqb, ltb}
 use borrow.Author.Tests.{le-leb, lt-leb, eq-eqb, ne-eqb}
 use Rattle.repr.specs.Sizes.{classifyScratch}
 use Rattle.slices.specs.Lent.{zeroed}
+use Rattle.slices.proofs.Lent.{zeroed-lent}
 use Rattle.repr.specs.Lists.{keep, below, upFrom}
 use Rattle.repr.specs.Meaning.{Table}
 use Rattle.repr.proofs.Lists.{keep-nil, keep-yes, keep-no, cases}
@@ -22,7 +23,7 @@ use Rattle.entries.proofs.Laws.{entries-long}
 use Rattle.chooser.specs.declared.Step.{Step}
 use Rattle.chooser.specs.declared.Step.the-variants.{Counts, Halted}
 use Rattle.chooser.specs.declared.Chosen.{Chosen}
-use Rattle.chooser.specs.Choosing.{choiceIn, chosenOf, Sorted, sorted, stopped, stepped, sortedIn, CountsWithin, isNaive, addedTo, naiveCount}
+use Rattle.chooser.specs.Choosing.{choiceIn, chosenOf, sorted, stopped, sortedIn, CountsWithin, isNaive, addedTo, naiveCount}
 use Rattle.chooser.proofs.Answered.{refused-choice, refused-whole}
 
 -- how many naive ones
@@ -113,44 +114,33 @@ naive-choice action b a better naive (entries es) h e =
     let o : keep isBetter es ≡ [] = sym x ∙ ap (entriesIn better) h ∙ no-entries better in
     ap chosen (naive-entries action a naive ∙ ap (naiveOnes action) (y ∙ all-naive es o) ∙ ap (choiceFrom action es) (sym o))
 
-stepped-left : (s t : Sorted) (v w : List ℕ) → stepped s v ≡ stepped t w → s ≡ t
-stepped-left s t v w e = cc
-
-stepped-right : (s t : Sorted) (v w : List ℕ) → stepped s v ≡ stepped t w → v ≡ w
-stepped-right s t v w e = cc
-
-module _ (T : Table) (c : Conflict) (set : ℕ) (w₀ w w′ better naive : List ℕ) (clear : w ≡ zeroed classifyScratch w₀) (r : Step)
-    (e : stepped (sortedIn r better naive) w′ ≡ stepped (addedTo [] [] (classesOf T c (members set))) w) where
-  left : sortedIn r better naive ≡ addedTo [] [] (classesOf T c (members set))
-  left = stepped-left (sortedIn r better naive) (addedTo [] [] (classesOf T c (members set))) w′ w e
-
-  right : w′ ≡ zeroed classifyScratch w₀
-  right = stepped-right (sortedIn r better naive) (addedTo [] [] (classesOf T c (members set))) w′ w e ∙ clear
-
+module _ (T : Table) (c : Conflict) (set : ℕ) (better naive : List ℕ) (r : Step) (e : sortedIn r better naive ≡ addedTo [] [] (classesOf T c (members set))) where
   abbrev Chooses : Chosen → Type 0
-  Chooses x = outcome (choiceIn x) w′ ≡ outcome (choiceOf (c .action) (classesOf T c (members set))) (zeroed classifyScratch w₀)
+  Chooses x = choiceIn x ≡ choiceOf (c .action) (classesOf T c (members set))
 
   pub chosen-halts : (n : ℕ) → r ≡ Halted n → (x : Chosen) → x ≡ chosenOf (refused n 0) → Chooses x × (x ≡ chosenOf (choiceIn x))
   unfolding sortedIn
-  chosen-halts n er x e =
-      let p = halt-choice (c .action) n (classesOf T c (members set)) (classes-late T c (members set)) (ap (λ (y : Step). sortedIn y better naive) (sym er) ∙ left) in
-      let q = refused-choice n 0 x (p .0) e ∙ p .1 in
-      ((λ j. outcome (q j) (right j)), refused-whole n 0 x (p .0) e)
+  chosen-halts n er x q =
+      let p = halt-choice (c .action) n (classesOf T c (members set)) (classes-late T c (members set)) (ap (λ (y : Step). sortedIn y better naive) (sym er) ∙ e) in
+      (refused-choice n 0 x (p .0) q ∙ p .1, refused-whole n 0 x (p .0) q)
 
   module _ (b a : ℕ) (er : r ≡ Counts b a) where
-    sorted-left : sorted (entriesIn better b) (entriesIn naive a) ≡ addedTo [] [] (classesOf T c (members set))
+    sorted-all : sorted (entriesIn better b) (entriesIn naive a) ≡ addedTo [] [] (classesOf T c (members set))
     unfolding sortedIn
-    sorted-left = ap (λ (y : Step). sortedIn y better naive) (sym er) ∙ left
+    sorted-all = ap (λ (y : Step). sortedIn y better naive) (sym er) ∙ e
 
     pub chosen-better : (b ≡ 0 → ⊥) → (x : Chosen) → choiceIn x ≡ chosen (entriesIn better b) → Chooses x
-    chosen-better h x e =
-        let p = e ∙ better-choice (c .action) b a better naive (classesOf T c (members set)) h sorted-left in
-        λ j. outcome (p j) (right j)
+    chosen-better h x q = q ∙ better-choice (c .action) b a better naive (classesOf T c (members set)) h sorted-all
 
     pub chosen-naive : b ≡ 0 → (n : ℕ) → n ≡ naiveCount (c .action) a → (x : Chosen) → choiceIn x ≡ chosen (entriesIn naive n) → Chooses x
-    chosen-naive h n en x e =
-        let p = e ∙ ap (λ (k : ℕ). chosen (entriesIn naive k)) en ∙ naive-choice (c .action) b a better naive (classesOf T c (members set)) h sorted-left in
-        λ j. outcome (p j) (right j)
+    chosen-naive h n en x q =
+        q ∙ ap (λ (k : ℕ). chosen (entriesIn naive k)) en ∙ naive-choice (c .action) b a better naive (classesOf T c (members set)) h sorted-all
+
+-- the words lent on for the productions are zeroed with the rest
+pub chosen-zeroed : (k l : Choice) (w w′ front : List ℕ) (m : ℕ) → k ≡ l → length front ≡ m → m ≤ classifyScratch → w′ ≡ zeroed classifyScratch (front ++ drop m w) → outcome k w′ ≡ outcome l (zeroed classifyScratch w)
+chosen-zeroed k l w w′ front m e long h z =
+    let v = z ∙ zeroed-lent classifyScratch m front w long h in
+    λ j. outcome (e j) (v j)
 
 -- refusals 9 to 11
 

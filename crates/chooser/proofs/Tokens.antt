@@ -1,41 +1,34 @@
 -- One token of the set, and the tokens from one on (specs/Choosing). Assumes nothing.
 use mathlib.Core.Path.{_≡_, refl, sym, ap, _∙_}
-use mathlib.Core.Bool.{Bool, true, false, _&&_, not}
+use mathlib.Core.Bool.{Bool, true, false, _&&_}
 use mathlib.Core.List.{List, [], _∷_, _++_, append-assoc, append-nil}
-use Prim.Native.Nat.{ℕ, zero, suc, _+_, _-_, _*_, _^_, _≤_, _<_}
+use Prim.Native.Nat.{ℕ, suc, _+_, _-_, _^_, _≤_, _<_}
 use native.Mathlib.Omega.{arith}
 use lib.ListN.{length}
-use lib.Dec.{eqb, ltb, leb}
+use lib.Dec.{eqb, ltb}
 use borrow.Author.Tests.{ltb-true, le-leb}
 use Rattle.repr.specs.Sizes.{classifyScratch, entryLimit, entriesRoom}
 use Rattle.slices.specs.Lent.{zeroed}
 use Rattle.repr.specs.Lists.{keep, below, upFrom}
 use Rattle.repr.specs.Meaning.{Table}
-use Rattle.repr.proofs.Lists.{keep-nil, keep-yes, keep-no, keep-append, cases}
+use Rattle.repr.proofs.Lists.{keep-yes, keep-no, keep-append, cases}
 use Rattle.lookahead.specs.Tokens.{has, members}
 use Rattle.lookahead.proofs.Laws.{has-below}
+use Rattle.trace_graph.proofs.Bools.{and-left, and-right}
 use Rattle.error.specs.declared.Conflict.{Conflict}
 use Rattle.error.specs.declared.Class.{Class}
 use Rattle.error.specs.declared.Classified.{Classified}
 use Rattle.error.specs.declared.Classified.the-variants.{Class as IsClass, Refused}
 use Rattle.error.specs.Numbers.{classNumber, classValues, classed, refused, readingOf}
 use Rattle.error.specs.Sides.{Gathered, sides, halted, gather}
-use Rattle.error.specs.Judge.{Judged, judged}
-use Rattle.error.specs.Outcome.{Outcome, outcome, placeFits, conflictFits, shown, judgedOutcome, judgedWith, gatheredOutcome, gatheredWith}
+use Rattle.error.specs.Judge.{judged}
+use Rattle.error.specs.Outcome.{outcome, placeFits, conflictFits, shown, judgedOutcome, judgedWith, gatheredOutcome, gatheredWith}
 use Rattle.error.specs.Choose.{Entry, Entries, entries, halts, then, atToken, entryOf, isBetter, classesOf, setFits}
 use Rattle.entries.specs.Entries.{entriesIn, withEntry}
 use Rattle.entries.proofs.Laws.{entries-more}
 use Rattle.chooser.specs.declared.Step.{Step}
 use Rattle.chooser.specs.declared.Step.the-variants.{Counts, Halted}
-use Rattle.chooser.specs.Choosing.{Sorted, sorted, stopped, Stepped, stepped, sortedIn, CountsWithin, tokenEntries, isNaive, addedTo}
-
-and-first : (a b : Bool) → a && b ≡ true → a ≡ true
-and-first true b e = refl
-and-first false b e = e
-
-and-second : (a b : Bool) → a && b ≡ true → b ≡ true
-and-second true b e = e
-and-second false b e = let z : _≡_ {A = ℕ} 0 1 = cc in absurd (omega arith)
+use Rattle.chooser.specs.Choosing.{sorted, stopped, sortedIn, CountsWithin, tokenEntries, isNaive, addedTo}
 
 -- the conflict of one token, as the code makes it
 abbrev pub oneAt : Conflict → ℕ → Conflict
@@ -45,8 +38,8 @@ oneAt c k = record { state = c .state; production = c .production; action = c .a
 pub token-fits : (T : Table) (c : Conflict) (set k : ℕ) → setFits T c set ≡ true → has set k ≡ true → conflictFits T (oneAt c k) ≡ true
 unfolding setFits conflictFits placeFits atToken
 token-fits T c set k f h =
-    let p = and-first (placeFits T c) (ltb set (2 ^ suc (T .terminals))) f in
-    let l = ltb-true set (2 ^ suc (T .terminals)) (and-second (placeFits T c) (ltb set (2 ^ suc (T .terminals))) f) in
+    let p = and-left (placeFits T c) (ltb set (2 ^ suc (T .terminals))) f in
+    let l = ltb-true set (2 ^ suc (T .terminals)) (and-right (placeFits T c) (ltb set (2 ^ suc (T .terminals))) f) in
     let b = has-below set (suc (T .terminals)) k l h in
     rw (le-leb k (T .terminals) (omega arith)) (rw p)
 
@@ -57,18 +50,18 @@ entryBy k class = record { token = k; class = classNumber class; values = classV
 -- what one classification says of its token
 module _ (T : Table) (c : Conflict) (k : ℕ) (w w′ a a′ b b′ : List ℕ) (r : Classified) where
   refused-by : (G : Gathered) (x p : ℕ) → r ≡ Refused x p → outcome (readingOf r) w′ a′ b′ ≡ gatheredOutcome T (atToken c k) w a b G
-      → (then T c k G (entries []) ≡ halts x) × (w′ ≡ zeroed classifyScratch w)
+      → then T c k G (entries []) ≡ halts x
   unfolding readingOf gatheredWith judgedWith then
   refused-by (halted n) x p er e =
       let f : outcome (refused x p) w′ a′ b′ ≡ outcome (refused n 0) (zeroed classifyScratch w) a b = ap (λ (y : Classified). outcome (readingOf y) w′ a′ b′) (sym er) ∙ e in
       let z : n ≡ x = cc in
-      (ap halts z, cc)
+      ap halts z
   refused-by (sides xs m ys n) x p er e =
       let f : outcome (refused x p) w′ a′ b′ ≡ judgedOutcome (T .productions) m n w a b (judged T (atToken c k) xs ys) = ap (λ (y : Classified). outcome (readingOf y) w′ a′ b′) (sym er) ∙ e in
       let z : _≡_ {A = ℕ} 0 1 = cc in absurd (omega arith)
 
   classed-by : (G : Gathered) (class : Class) (i j : ℕ) → r ≡ IsClass class i j → outcome (readingOf r) w′ a′ b′ ≡ gatheredOutcome T (atToken c k) w a b G
-      → (then T c k G (entries []) ≡ entries (entryBy k class ∷ [])) × (w′ ≡ zeroed classifyScratch w)
+      → then T c k G (entries []) ≡ entries (entryBy k class ∷ [])
   unfolding readingOf gatheredWith judgedWith then entryOf
   classed-by (halted n) class i j er e =
       let f : outcome (classed (classNumber class) (classValues class) i j) w′ a′ b′ ≡ outcome (refused n 0) (zeroed classifyScratch w) a b = ap (λ (y : Classified). outcome (readingOf y) w′ a′ b′) (sym er) ∙ e in
@@ -78,7 +71,7 @@ module _ (T : Table) (c : Conflict) (k : ℕ) (w w′ a a′ b b′ : List ℕ) 
       let f : outcome (classed (classNumber class) (classValues class) i j) w′ a′ b′ ≡ outcome (classed (classNumber (J .class)) (classValues (J .class)) m n) (zeroed classifyScratch w) (shown (T .productions) (J .action) a) (shown (T .productions) (J .reduce) b) = ap (λ (y : Classified). outcome (readingOf y) w′ a′ b′) (sym er) ∙ e in
       let x : classNumber (J .class) ≡ classNumber class = cc in
       let y : classValues (J .class) ≡ classValues class = cc in
-      ((λ l. entries (record { token = k; class = x l; values = y l } ∷ [])), cc)
+      λ l. entries (record { token = k; class = x l; values = y l } ∷ [])
 
 token-entries-in : (T : Table) (c : Conflict) (set k : ℕ) → has set k ≡ true → tokenEntries T c set k ≡ then T c k (gather T (atToken c k)) (entries [])
 unfolding tokenEntries
@@ -93,39 +86,36 @@ unfolding addedTo keep
 added-none bs as′ = λ j. sorted (append-nil bs j) (append-nil as′ j)
 
 -- the ways through one token; b better ones, a naive ones
-module _ (T : Table) (c : Conflict) (set k : ℕ) (w better naive : List ℕ) (b a : ℕ) (few : b + a ≤ k) where
-  abbrev Goal : Step → List ℕ → List ℕ → List ℕ → Type 0
-  Goal r better′ naive′ w′ = (stepped (sortedIn r better′ naive′) w′ ≡ stepped (addedTo (entriesIn better b) (entriesIn naive a) (tokenEntries T c set k)) w) × CountsWithin (k + 1) r
+module _ (T : Table) (c : Conflict) (set k : ℕ) (better naive : List ℕ) (b a : ℕ) (few : b + a ≤ k) where
+  abbrev Goal : Step → List ℕ → List ℕ → Type 0
+  Goal r better′ naive′ = (sortedIn r better′ naive′ ≡ addedTo (entriesIn better b) (entriesIn naive a) (tokenEntries T c set k)) × CountsWithin (k + 1) r
 
-  pub token-out : has set k ≡ false → Goal (Counts b a) better naive w
+  pub token-out : has set k ≡ false → Goal (Counts b a) better naive
   unfolding sortedIn CountsWithin
-  token-out h =
-      (ap (λ (l : Sorted). stepped l w) (sym (added-none (entriesIn better b) (entriesIn naive a)) ∙ ap (addedTo (entriesIn better b) (entriesIn naive a)) (sym (token-entries-out T c set k h))), omega arith)
+  token-out h = (sym (added-none (entriesIn better b) (entriesIn naive a)) ∙ ap (addedTo (entriesIn better b) (entriesIn naive a)) (sym (token-entries-out T c set k h)), omega arith)
 
-  module _ (h : has set k ≡ true) (clear : w ≡ zeroed classifyScratch w) (w′ x x′ y y′ : List ℕ) (r : Classified) (e : outcome (readingOf r) w′ x′ y′ ≡ gatheredOutcome T (oneAt c k) w x y (gather T (oneAt c k))) where
+  -- whatever scratch words the classification is said of
+  module _ (h : has set k ≡ true) (x x′ y y′ : List ℕ) (r : Classified) (e : (w : List ℕ) → outcome (readingOf r) (zeroed classifyScratch w) x′ y′ ≡ gatheredOutcome T (oneAt c k) w x y (gather T (oneAt c k))) where
     token-in : tokenEntries T c set k ≡ then T c k (gather T (atToken c k)) (entries [])
     token-in = token-entries-in T c set k h
 
-    pub token-refused : (n p : ℕ) → r ≡ Refused n p → Goal (Halted n) better naive w′
+    pub token-refused : (n p : ℕ) → r ≡ Refused n p → Goal (Halted n) better naive
     unfolding sortedIn addedTo CountsWithin atToken
     token-refused n p er =
-        let R = refused-by T c k w w′ x x′ y y′ r (gather T (atToken c k)) n p er e in
-        let z : w′ ≡ w = R .1 ∙ sym clear in
-        (ap (stepped (stopped n)) z ∙ ap (λ (l : Entries). stepped (addedTo (entriesIn better b) (entriesIn naive a) l) w) (sym (token-in ∙ R .0)), tt)
+        let R = refused-by T c k x (zeroed classifyScratch x) x x′ y y′ r (gather T (atToken c k)) n p er (e x) in
+        (ap (addedTo (entriesIn better b) (entriesIn naive a)) (sym (token-in ∙ R)), tt)
 
     module _ (class : Class) (i j : ℕ) (er : r ≡ IsClass class i j) where
       abbrev E : Entry
       E = entryBy k class
 
-      added : stepped (sorted (entriesIn better b ++ keep isBetter (E ∷ [])) (entriesIn naive a ++ keep isNaive (E ∷ []))) w′ ≡ stepped (addedTo (entriesIn better b) (entriesIn naive a) (tokenEntries T c set k)) w
+      added : sorted (entriesIn better b ++ keep isBetter (E ∷ [])) (entriesIn naive a ++ keep isNaive (E ∷ [])) ≡ addedTo (entriesIn better b) (entriesIn naive a) (tokenEntries T c set k)
       unfolding addedTo atToken
       added =
-          let R = classed-by T c k w w′ x x′ y y′ r (gather T (atToken c k)) class i j er e in
-          let z : w′ ≡ w = R .1 ∙ sym clear in
-          ap (stepped (sorted (entriesIn better b ++ keep isBetter (E ∷ [])) (entriesIn naive a ++ keep isNaive (E ∷ [])))) z
-          ∙ ap (λ (l : Entries). stepped (addedTo (entriesIn better b) (entriesIn naive a) l) w) (sym (token-in ∙ R .0))
+          let R = classed-by T c k x (zeroed classifyScratch x) x x′ y y′ r (gather T (atToken c k)) class i j er (e x) in
+          ap (addedTo (entriesIn better b) (entriesIn naive a)) (sym (token-in ∙ R))
 
-      pub token-naive : (t : Bool) → t ≡ eqb (classNumber class) 0 → t ≡ true → (naive′ : List ℕ) → length naive ≡ entriesRoom → k < 64 → naive′ ≡ withEntry naive a k class → Goal (Counts b (a + 1)) better naive′ w′
+      pub token-naive : (t : Bool) → t ≡ eqb (classNumber class) 0 → t ≡ true → (naive′ : List ℕ) → length naive ≡ entriesRoom → k < 64 → naive′ ≡ withEntry naive a k class → Goal (Counts b (a + 1)) better naive′
       unfolding sortedIn CountsWithin isNaive isBetter keep
       token-naive t et tt naive′ long room ew =
           let q : eqb (classNumber class) 0 ≡ true = sym et ∙ tt in
@@ -134,9 +124,9 @@ module _ (T : Table) (c : Conflict) (set k : ℕ) (w better naive : List ℕ) (b
           let o : a + 1 ≡ suc a = omega arith in
           let f : entriesIn naive′ (a + 1) ≡ entriesIn naive a ++ keep isNaive (E ∷ []) = ap (entriesIn naive′) o ∙ entries-more naive naive′ a k class long (omega arith) ew ∙ ap (λ (l : List Entry). entriesIn naive a ++ l) (sym s) in
           let g : entriesIn better b ≡ entriesIn better b ++ keep isBetter (E ∷ []) = sym (append-nil (entriesIn better b)) ∙ ap (λ (l : List Entry). entriesIn better b ++ l) (sym p) in
-          ((λ l. stepped (sorted (g l) (f l)) w′) ∙ added, omega arith)
+          ((λ l. sorted (g l) (f l)) ∙ added, omega arith)
 
-      pub token-better : (t : Bool) → t ≡ eqb (classNumber class) 0 → t ≡ false → (better′ : List ℕ) → length better ≡ entriesRoom → k < 64 → better′ ≡ withEntry better b k class → Goal (Counts (b + 1) a) better′ naive w′
+      pub token-better : (t : Bool) → t ≡ eqb (classNumber class) 0 → t ≡ false → (better′ : List ℕ) → length better ≡ entriesRoom → k < 64 → better′ ≡ withEntry better b k class → Goal (Counts (b + 1) a) better′ naive
       unfolding sortedIn CountsWithin isNaive isBetter keep
       token-better t et tt better′ long room ew =
           let q : eqb (classNumber class) 0 ≡ false = sym et ∙ tt in
@@ -145,7 +135,7 @@ module _ (T : Table) (c : Conflict) (set k : ℕ) (w better naive : List ℕ) (b
           let o : b + 1 ≡ suc b = omega arith in
           let f : entriesIn better′ (b + 1) ≡ entriesIn better b ++ keep isBetter (E ∷ []) = ap (entriesIn better′) o ∙ entries-more better better′ b k class long (omega arith) ew ∙ ap (λ (l : List Entry). entriesIn better b ++ l) (sym p) in
           let g : entriesIn naive a ≡ entriesIn naive a ++ keep isNaive (E ∷ []) = sym (append-nil (entriesIn naive a)) ∙ ap (λ (l : List Entry). entriesIn naive a ++ l) (sym s) in
-          ((λ l. stepped (sorted (f l) (g l)) w′) ∙ added, omega arith)
+          ((λ l. sorted (f l) (g l)) ∙ added, omega arith)
 
 -- what a token adds stands before what the later ones add
 module _ (T : Table) (c : Conflict) (k : ℕ) (bs as′ : List Entry) where
@@ -209,9 +199,8 @@ tokens-first k h =
     ap (upFrom k) z ∙ ap (λ (i : ℕ). k ∷ upFrom i (64 - (k + 1))) o
 
 -- the tokens from k on added to what stands give what the whole set gives
-pub record Turn (T : Table) (c : Conflict) (set : ℕ) (w₀ better₀ naive₀ w better naive : List ℕ) (b a k : ℕ) : Type 0 where
+pub record Turn (T : Table) (c : Conflict) (set : ℕ) (better₀ naive₀ better naive : List ℕ) (b a k : ℕ) : Type 0 where
   pub same : addedTo (entriesIn better b) (entriesIn naive a) (classesOf T c (keep (has set) (upFrom k (64 - k)))) ≡ addedTo [] [] (classesOf T c (members set))
-  pub words : w ≡ w₀
   pub few : b + a ≤ k
   pub within : k ≤ 64
   pub better-long : length better ≡ length better₀
@@ -225,52 +214,39 @@ pub halted-few : (n : ℕ) → CountsWithin entryLimit (Halted n)
 unfolding CountsWithin
 halted-few n = tt
 
-stepped-left : (s t : Sorted) (v w : List ℕ) → stepped s v ≡ stepped t w → s ≡ t
-stepped-left s t v w e = cc
-
-stepped-right : (s t : Sorted) (v w : List ℕ) → stepped s v ≡ stepped t w → v ≡ w
-stepped-right s t v w e = cc
-
-module _ (T : Table) (c : Conflict) (set : ℕ) (w₀ better₀ naive₀ : List ℕ) where
-  pub turn-first : Turn T c set w₀ better₀ naive₀ w₀ better₀ naive₀ 0 0 0
+module _ (T : Table) (c : Conflict) (set : ℕ) (better₀ naive₀ : List ℕ) where
+  pub turn-first : Turn T c set better₀ naive₀ better₀ naive₀ 0 0 0
   unfolding entriesIn below upFrom members
-  turn-first = record { same = refl; words = refl; few = omega arith; within = omega arith; better-long = refl; naive-long = refl }
+  turn-first = record { same = refl; few = omega arith; within = omega arith; better-long = refl; naive-long = refl }
 
-  module _ (w better naive : List ℕ) (b a k : ℕ) (I : Turn T c set w₀ better₀ naive₀ w better naive b a k) where
-    pub turn-end : 64 ≤ k → stepped (sortedIn (Counts b a) better naive) w ≡ stepped (addedTo [] [] (classesOf T c (members set))) w₀
+  module _ (better naive : List ℕ) (b a k : ℕ) (I : Turn T c set better₀ naive₀ better naive b a k) where
+    pub turn-end : 64 ≤ k → sortedIn (Counts b a) better naive ≡ addedTo [] [] (classesOf T c (members set))
     unfolding sortedIn upFrom keep classesOf
     turn-end h =
         let l = I .within in
         let z : 64 - k ≡ 0 = omega arith in
         let e : addedTo (entriesIn better b) (entriesIn naive a) (classesOf T c (keep (has set) (upFrom k 0))) ≡ addedTo [] [] (classesOf T c (members set)) =
         ap (λ (i : ℕ). addedTo (entriesIn better b) (entriesIn naive a) (classesOf T c (keep (has set) (upFrom k i)))) (sym z) ∙ I .same in
-        let s : sorted (entriesIn better b) (entriesIn naive a) ≡ addedTo [] [] (classesOf T c (members set)) = sym (added-none (entriesIn better b) (entriesIn naive a)) ∙ e in
-        λ j. stepped (s j) (I .words j)
+        sym (added-none (entriesIn better b) (entriesIn naive a)) ∙ e
 
-    module _ (h : k < 64) (w′ better′ naive′ : List ℕ) (r : Step)
-        (e : stepped (sortedIn r better′ naive′) w′ ≡ stepped (addedTo (entriesIn better b) (entriesIn naive a) (tokenEntries T c set k)) w) where
-      pub turn-halts : (x : ℕ) → r ≡ Halted x → stepped (sortedIn (Halted x) better′ naive′) w′ ≡ stepped (addedTo [] [] (classesOf T c (members set))) w₀
+    module _ (h : k < 64) (better′ naive′ : List ℕ) (r : Step)
+        (e : sortedIn r better′ naive′ ≡ addedTo (entriesIn better b) (entriesIn naive a) (tokenEntries T c set k)) where
+      pub turn-halts : (x : ℕ) → r ≡ Halted x → sortedIn (Halted x) better′ naive′ ≡ addedTo [] [] (classesOf T c (members set))
       unfolding sortedIn
       turn-halts x er =
-          let s : stopped x ≡ addedTo (entriesIn better b) (entriesIn naive a) (tokenEntries T c set k) =
-          ap (λ (y : Step). sortedIn y better′ naive′) (sym er) ∙ stepped-left (sortedIn r better′ naive′) (addedTo (entriesIn better b) (entriesIn naive a) (tokenEntries T c set k)) w′ w e in
-          let v : w′ ≡ w₀ = stepped-right (sortedIn r better′ naive′) (addedTo (entriesIn better b) (entriesIn naive a) (tokenEntries T c set k)) w′ w e ∙ I .words in
-          let p : stopped x ≡ addedTo [] [] (classesOf T c (members set)) =
+          let s : stopped x ≡ addedTo (entriesIn better b) (entriesIn naive a) (tokenEntries T c set k) = ap (λ (y : Step). sortedIn y better′ naive′) (sym er) ∙ e in
           turn-stopped T c k (entriesIn better b) (entriesIn naive a) set (upFrom (k + 1) (64 - (k + 1))) x s
-          ∙ ap (λ (l : List ℕ). addedTo (entriesIn better b) (entriesIn naive a) (classesOf T c (keep (has set) l))) (sym (tokens-first k h)) ∙ I .same in
-          λ j. stepped (p j) (v j)
+          ∙ ap (λ (l : List ℕ). addedTo (entriesIn better b) (entriesIn naive a) (classesOf T c (keep (has set) l))) (sym (tokens-first k h)) ∙ I .same
 
-      pub turn-again : (b′ a′ : ℕ) → r ≡ Counts b′ a′ → CountsWithin (k + 1) r → length better′ ≡ length better → length naive′ ≡ length naive → Turn T c set w₀ better₀ naive₀ w′ better′ naive′ b′ a′ (k + 1)
+      pub turn-again : (b′ a′ : ℕ) → r ≡ Counts b′ a′ → CountsWithin (k + 1) r → length better′ ≡ length better → length naive′ ≡ length naive → Turn T c set better₀ naive₀ better′ naive′ b′ a′ (k + 1)
       unfolding sortedIn CountsWithin
       turn-again b′ a′ er f lb la =
-          let s : sorted (entriesIn better′ b′) (entriesIn naive′ a′) ≡ addedTo (entriesIn better b) (entriesIn naive a) (tokenEntries T c set k) =
-          ap (λ (y : Step). sortedIn y better′ naive′) (sym er) ∙ stepped-left (sortedIn r better′ naive′) (addedTo (entriesIn better b) (entriesIn naive a) (tokenEntries T c set k)) w′ w e in
+          let s : sorted (entriesIn better′ b′) (entriesIn naive′ a′) ≡ addedTo (entriesIn better b) (entriesIn naive a) (tokenEntries T c set k) = ap (λ (y : Step). sortedIn y better′ naive′) (sym er) ∙ e in
           let g : b′ + a′ ≤ k + 1 = rw er at f in
           record {
             same =
                 sym (turn-sorted T c k (entriesIn better b) (entriesIn naive a) set (upFrom (k + 1) (64 - (k + 1))) (entriesIn better′ b′) (entriesIn naive′ a′) s)
                 ∙ ap (λ (l : List ℕ). addedTo (entriesIn better b) (entriesIn naive a) (classesOf T c (keep (has set) l))) (sym (tokens-first k h)) ∙ I .same;
-            words = stepped-right (sortedIn r better′ naive′) (addedTo (entriesIn better b) (entriesIn naive a) (tokenEntries T c set k)) w′ w e ∙ I .words;
             few = g;
             within = omega arith;
             better-long = lb ∙ I .better-long;

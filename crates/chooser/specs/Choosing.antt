@@ -1,7 +1,7 @@
 -- What choosing answers by value, and one token of the set after another: better classes and naive ones apart. Assumes nothing: these are definitions.
 use Prim.Native.Nat.{ℕ, zero, suc, _+_, _*_, _-_, _≤_}
 use mathlib.Core.Bool.{Bool, true, false, not}
-use mathlib.Core.List.{List, [], _∷_, _++_}
+use mathlib.Core.List.{List, [], _++_}
 use lib.ListN.{length, replicate}
 use Rattle.repr.specs.Sizes.{entryRoom, entriesRoom}
 use Rattle.repr.specs.Lists.{keep, joined}
@@ -35,10 +35,6 @@ chosenOf (refused n r) = record { refusal = n; place = r; count = 0; entries = c
 pub data Sorted : Type 0 where
   sorted : List Entry → List Entry → Sorted
   stopped : ℕ → Sorted
-
--- with the scratch words
-pub data Stepped : Type 0 where
-  stepped : Sorted → List ℕ → Stepped
 
 unfoldable pub sortedIn : Step → List ℕ → List ℕ → Sorted
 sortedIn (Counts b a) better naive = sorted (entriesIn better b) (entriesIn naive a)

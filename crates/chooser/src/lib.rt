@@ -1,21 +1,21 @@
 // Choosing which tokens of a conflict to report (`report_errors` of lr1/error/mod.rs without messages) over an accepted table: part 9 of document 01.
-use classifier::classify_gathered;
+use classifier::classify;
 use classifier::place_fits;
 use entries::copy_entries;
 use entries::is_naive;
 use entries::write_entry;
-use enumerator::machine::clear;
 use error::Class;
 use error::Classified;
 use error::Conflict;
 use example::Example;
-use first::FirstSets;
+use examples::prepare;
 use lookahead::TokenSet;
 use repr::NonterminalString;
 use repr::ProductionIndex;
+use slices::zero;
 use table::Checked;
+use table::Counts;
 use table::read_counts;
-use table::read_productions;
 ghost use mathlib.Core.Path.{_≡_};
 ghost use mathlib.Core.Bool.{true, false, _&&_};
 ghost use mathlib.Core.List.{[]};
@@ -27,10 +27,10 @@ ghost use Rattle.slices.specs.Lent.{zeroed};
 ghost use Rattle.lookahead.specs.Tokens.{has, members};
 ghost use Rattle.table.specs.Decoded.{meaning};
 ghost use Rattle.table.specs.Refusals.{checkOf};
-ghost use Rattle.error.specs.Kept.{Read};
+ghost use Rattle.examples.specs.Reads.{Reads};
 ghost use Rattle.error.specs.Choose.{chosen, refused, outcome, setFits, classesOf, choiceOf, chooseIn};
 ghost use Rattle.entries.specs.Entries.{entriesIn};
-ghost use Rattle.chooser.specs.Choosing.{choiceIn, chosenOf, stepped, sortedIn, CountsWithin, tokenEntries, addedTo, naiveCount};
+ghost use Rattle.chooser.specs.Choosing.{choiceIn, chosenOf, sortedIn, CountsWithin, tokenEntries, addedTo, naiveCount};
 
 // What choosing answers: the refusal, 0 if there is none, and its place; the number of tokens chosen; for each six words, its token, the number of its class, the class's own values, zeros; zeros behind the last.
 pub struct Chosen {
@@ -50,25 +50,23 @@ enum Step {
 fn choose_token(
     table: &[u16],
     grammar: &[u16],
-    productions: usize,
-    n: usize,
-    terminals: u16,
+    counts: Counts,
     map: &[u64; NonterminalString::LIMIT],
+    least: &[u8],
+    ends: &[u64],
     conflict: Conflict,
     tokens: TokenSet,
     token: u16,
-    scratch: &mut [u16],
     better: &mut [u16],
     better_count: usize,
     naive: &mut [u16],
     naive_count: usize,
 ) -> Step
-    requires { ⌜ Read (now table) (now grammar) productions n terminals (now map) ⌝ }
+    requires { ⌜ Reads (now table) (now grammar) counts (now map) (now least) (now ends) ⌝ }
     requires { ⌜ setFits (meaning (now table)) conflict (tokens .0) ≡ true ⌝ }
-    requires { ⌜ (classifyScratch ≤ length (now scratch)) × (now scratch ≡ zeroed classifyScratch (now scratch)) ⌝ }
     requires { ⌜ (token < 64) × («better_count» + «naive_count» ≤ token) ⌝ }
     requires { ⌜ (length (now better) ≡ entriesRoom) × (length (now naive) ≡ entriesRoom) ⌝ }
-    ensures { λ r. ⌜ stepped (sortedIn r (now (better .exit)) (now (naive .exit))) (now (scratch .exit)) ≡ stepped (addedTo (entriesIn (now (better .entry)) «better_count») (entriesIn (now (naive .entry)) «naive_count») (tokenEntries (meaning (now (table .entry))) conflict (tokens .0) token)) (now (scratch .entry)) ⌝ }
+    ensures { λ r. ⌜ sortedIn r (now (better .exit)) (now (naive .exit)) ≡ addedTo (entriesIn (now (better .entry)) «better_count») (entriesIn (now (naive .entry)) «naive_count») (tokenEntries (meaning (now (table .entry))) conflict (tokens .0) token) ⌝ }
     ensures { λ r. ⌜ CountsWithin (token + 1) r ⌝ }
 {
     if tokens.contains(token) {
@@ -85,15 +83,14 @@ fn choose_token(
         };
         let mut action = [0u16; Example::WORDS];
         let mut reduce = [0u16; Example::WORDS];
-        match classify_gathered(
+        match classify(
             table,
             grammar,
-            productions,
-            n,
-            terminals,
+            counts,
             map,
+            least,
+            ends,
             one,
-            scratch,
             &mut action,
             &mut reduce,
         ) {
@@ -117,21 +114,19 @@ fn choose_token(
 fn choose_tokens(
     table: &[u16],
     grammar: &[u16],
-    productions: usize,
-    n: usize,
-    terminals: u16,
+    counts: Counts,
     map: &[u64; NonterminalString::LIMIT],
+    least: &[u8],
+    ends: &[u64],
     conflict: Conflict,
     tokens: TokenSet,
-    scratch: &mut [u16],
     better: &mut [u16],
     naive: &mut [u16],
 ) -> Step
-    requires { ⌜ Read (now table) (now grammar) productions n terminals (now map) ⌝ }
+    requires { ⌜ Reads (now table) (now grammar) counts (now map) (now least) (now ends) ⌝ }
     requires { ⌜ setFits (meaning (now table)) conflict (tokens .0) ≡ true ⌝ }
-    requires { ⌜ (classifyScratch ≤ length (now scratch)) × (now scratch ≡ zeroed classifyScratch (now scratch)) ⌝ }
     requires { ⌜ (length (now better) ≡ entriesRoom) × (length (now naive) ≡ entriesRoom) ⌝ }
-    ensures { λ r. ⌜ stepped (sortedIn r (now (better .exit)) (now (naive .exit))) (now (scratch .exit)) ≡ stepped (addedTo [] [] (classesOf (meaning (now (table .entry))) conflict (members (tokens .0)))) (now (scratch .entry)) ⌝ }
+    ensures { λ r. ⌜ sortedIn r (now (better .exit)) (now (naive .exit)) ≡ addedTo [] [] (classesOf (meaning (now (table .entry))) conflict (members (tokens .0))) ⌝ }
     ensures { λ r. ⌜ CountsWithin entryLimit r ⌝ }
 {
     let mut better_count: usize = 0;
@@ -141,14 +136,13 @@ fn choose_tokens(
         match choose_token(
             table,
             grammar,
-            productions,
-            n,
-            terminals,
+            counts,
             map,
+            least,
+            ends,
             conflict,
             tokens,
             token,
-            scratch,
             better,
             better_count,
             naive,
@@ -211,33 +205,29 @@ fn answer(entries: &[u16], count: usize) -> Chosen
 fn choose_gathered(
     table: &[u16],
     grammar: &[u16],
-    productions: usize,
-    n: usize,
-    terminals: u16,
+    counts: Counts,
     map: &[u64; NonterminalString::LIMIT],
+    least: &[u8],
+    ends: &[u64],
     conflict: Conflict,
     tokens: TokenSet,
-    scratch: &mut [u16],
 ) -> Chosen
-    requires { ⌜ Read (now table) (now grammar) productions n terminals (now map) ⌝ }
+    requires { ⌜ Reads (now table) (now grammar) counts (now map) (now least) (now ends) ⌝ }
     requires { ⌜ setFits (meaning (now table)) conflict (tokens .0) ≡ true ⌝ }
-    requires { ⌜ classifyScratch ≤ length (now scratch) ⌝ }
-    ensures { λ r. ⌜ outcome (choiceIn r) (now (scratch .exit)) ≡ outcome (choiceOf (conflict .action) (classesOf (meaning (now (table .entry))) conflict (members (tokens .0)))) (zeroed classifyScratch (now (scratch .entry))) ⌝ }
+    ensures { λ r. ⌜ choiceIn r ≡ choiceOf (conflict .action) (classesOf (meaning (now (table .entry))) conflict (members (tokens .0))) ⌝ }
     ensures { λ r. ⌜ r ≡ chosenOf (choiceIn r) ⌝ }
 {
     let mut better = [0u16; Class::ALL_WORDS];
     let mut naive = [0u16; Class::ALL_WORDS];
-    clear(scratch);
     match choose_tokens(
         table,
         grammar,
-        productions,
-        n,
-        terminals,
+        counts,
         map,
+        least,
+        ends,
         conflict,
         tokens,
-        scratch,
         &mut better,
         &mut naive,
     ) {
@@ -253,7 +243,7 @@ fn choose_gathered(
     }
 }
 
-// The table's productions and FIRST sets are read once.
+// The table's productions are packed into the front of the scratch words, as classifying does; all are zero at the end.
 fn choose_read(table: &[u16], conflict: Conflict, tokens: TokenSet, scratch: &mut [u16]) -> Chosen
     requires { ⌜ checkOf (now table) ≡ Checked.Accepted ⌝ }
     requires { ⌜ setFits (meaning (now table)) conflict (tokens .0) ≡ true ⌝ }
@@ -261,25 +251,24 @@ fn choose_read(table: &[u16], conflict: Conflict, tokens: TokenSet, scratch: &mu
     ensures { λ r. ⌜ outcome (choiceIn r) (now (scratch .exit)) ≡ outcome (choiceOf (conflict .action) (classesOf (meaning (now (table .entry))) conflict (members (tokens .0)))) (zeroed classifyScratch (now (scratch .entry))) ⌝ }
     ensures { λ r. ⌜ r ≡ chosenOf (choiceIn r) ⌝ }
 {
-    let counts = read_counts(table);
-    let n = counts.nonterminals;
-    let productions = counts.productions;
-    let terminals = counts.terminals as u16;
-    let mut grammar = [0u16; ProductionIndex::ALL_WORDS];
-    read_productions(table, &mut grammar);
-    let sets = FirstSets::new(&grammar, productions, terminals);
-    let map = sets.map;
-    choose_gathered(
+    let past = ProductionIndex::ALL_WORDS;
+    let prepared = prepare(table, &mut scratch[..past]);
+    let counts = prepared.counts;
+    let map = prepared.map;
+    let least = prepared.least;
+    let ends = prepared.ends;
+    let chosen = choose_gathered(
         table,
-        &grammar,
-        productions,
-        n,
-        terminals,
+        &scratch[..past],
+        counts,
         &map,
+        &least,
+        &ends,
         conflict,
         tokens,
-        scratch,
-    )
+    );
+    zero(scratch, Conflict::SCRATCH);
+    chosen
 }
 
 // Refusal 10: a shift with the end token in the set.

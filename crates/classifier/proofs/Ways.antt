@@ -1,38 +1,45 @@
--- The ways through the functions of this crate: refusals 9 to 11, what was gathered, what was judged (error/specs/Outcome). Assumes nothing.
-use mathlib.Core.Path.{_≡_, refl, sym, ap, _∙_}
+-- The ways through the functions of this crate: refusals 9 to 11, what was gathered, what was judged and shown (error/specs/Outcome). Assumes nothing.
+use mathlib.Core.Path.{_≡_, refl, sym, ap, subst, _∙_}
 use mathlib.Core.Bool.{Bool, true, false, _&&_}
-use mathlib.Core.List.{List, [], _++_}
-use Prim.Native.Nat.{ℕ, zero, suc, _+_, _≤_, _<_}
+use mathlib.Core.List.{List, [], _∷_, _++_, map}
+use mathlib.Core.Option.{none}
+use Prim.Native.Nat.{ℕ, zero, suc, _≤_, _<_}
 use native.Mathlib.Omega.{arith}
-use lib.ListN.{length, drop}
+use lib.ListN.{length, take, drop}
+use lib.Seq.{take-at}
 use lib.Dec.{eqb, ltb, leb}
-use borrow.Author.Tests.{lt-ltb, le-ltb, le-leb, lt-leb, eq-eqb, ne-eqb}
-use Rattle.repr.specs.Sizes.{classifyScratch, exampleRoom}
-use Rattle.slices.proofs.Lent.{zeroed-twice}
-use Rattle.slices.specs.Lent.{zeroed}
-use Rattle.repr.specs.Meaning.{Production, Table}
-use Rattle.repr.specs.Packed.{Packed, productionsIn}
-use Rattle.table.specs.Decoded.{meaning}
-use Rattle.table.specs.Refusals.{checkOf}
-use Rattle.table.specs.declared.Checked.the-variants.{Accepted}
+use borrow.Author.Tests.{ltb-true, leb-true, lt-ltb, le-ltb, le-leb, lt-leb, eq-eqb, ne-eqb}
+use Rattle.repr.specs.Sizes.{classifyScratch, exampleRoom, exampleLimit}
+use Rattle.repr.specs.Lists.{below}
+use Rattle.repr.specs.Meaning.{Production, Table, All}
+use Rattle.slices.specs.Lent.{inFront, zeroed}
+use Rattle.slices.proofs.Lent.{zeroed-lent}
 use Rattle.table.specs.Index.{CountsOf}
-use Rattle.first.specs.First.{firstSets}
+use Rattle.table.specs.declared.Counts.{Counts}
+use Rattle.trace_graph.proofs.Bools.{and-left, and-right}
+use Rattle.example.specs.Example.{exampleWords}
 use Rattle.error.specs.declared.Conflict.{Conflict}
 use Rattle.error.specs.declared.Class.{Class}
-use Rattle.error.specs.declared.Classified.{Classified}
+use Rattle.error.specs.declared.Class.the-variants.{Naive}
 use Rattle.error.specs.declared.Classified.the-variants.{Class as IsClass, Refused}
-use Rattle.error.specs.Numbers.{classNumber, classValues, classed, refused, readingOf}
-use Rattle.error.specs.Sides.{Gathered, sides, halted, gather}
-use Rattle.error.specs.Judge.{Judged, judged}
-use Rattle.error.specs.Kept.{Read, kept, Kept}
+use Rattle.error.specs.Numbers.{classNumber, classValues, Reading, classed, readingOf}
+use Rattle.error.specs.Sides.{Side, gathered, stopped, reduceSide, actionSideOf, bothSides, gather}
+use Rattle.error.specs.Sorted.{sortedFrom, sortedBy}
+use Rattle.error.specs.Judge.{Example, symbolCount, judge, judged}
 use Rattle.error.specs.Outcome.{Outcome, outcome, operandFits, placeFits, conflictFits, shiftsEnd, shown, judgedWith, gatheredOutcome, gatheredWith, classifyIn, classifyInWith}
-use Rattle.gather.specs.declared.Gathered.{Gathered as GatheredValue}
-use Rattle.gather.specs.declared.Gathered.the-variants.{Sides, Halted}
-use Rattle.gather.specs.Answers.{gatheredIn, GatherOutcome, both, KeptBoth}
-use Rattle.gather.proofs.Both.{cleared}
-use Rattle.enumerator.specs.Words.{wordsOf}
+use Rattle.outline.specs.Kept.{outlinesRoom, nth}
+use Rattle.pairs.specs.Order.{placesIn}
+use Rattle.pairs.proofs.Order.{order-sorted}
+use Rattle.examples.specs.declared.Side.{Side as SideValue}
+use Rattle.examples.specs.declared.Side.the-variants.{Examples, Stopped}
+use Rattle.examples.specs.Reads.{Reads}
+use Rattle.examples.specs.Gathers.{SideKept, Gathers, Sided}
+use Rattle.judge.specs.declared.Shown.{Shown}
+use Rattle.judge.specs.declared.Shown.the-variants.{Number, Nothing}
+use Rattle.judge.specs.declared.Judged.{Judged as JudgedValue}
+use Rattle.judge.specs.Judging.{InBuffer, Ordered, picked, shownIn, judgedIn, ShownFits, Judges, ShownMade}
 use Rattle.classifier.specs.Ranges.{operandIn}
-use Rattle.judge.specs.Judging.{Judgement, judgedWords, shownOf}
+use Rattle.classifier.specs.Shown.{judgedWords, shownOf}
 
 -- refusal 9
 
@@ -86,68 +93,139 @@ end-shift a k t e = rw (eq-eqb a 0 e)
 pub end-other : (a k t : ℕ) → (a ≡ 0 → ⊥) → false ≡ (eqb a 0 && eqb k t)
 end-other a k t e = rw (ne-eqb a 0 e)
 
-and-first : (a b : Bool) → a && b ≡ true → a ≡ true
-and-first true b e = refl
-and-first false b e = e
+-- a conflict in range
+pub conflict-in : (T : Table) (c : Conflict) → conflictFits T c ≡ true → (c .state .0 < length (T .states)) × ((c .production .0 < length (T .productions)) × (c .token ≤ T .terminals))
+unfolding conflictFits placeFits
+conflict-in T c e =
+    let p = and-left (placeFits T c) (leb (c .token) (T .terminals)) e in
+    let s = ltb (c .state .0) (length (T .states)) in
+    let q = ltb (c .production .0) (length (T .productions)) in
+    let r = and-right s (q && operandFits T (c .action) (c .operand)) p in (
+      ltb-true (c .state .0) (length (T .states)) (and-left s (q && operandFits T (c .action) (c .operand)) p),
+      (
+        ltb-true (c .production .0) (length (T .productions)) (and-left q (operandFits T (c .action) (c .operand)) r),
+        leb-true (c .token) (T .terminals) (and-right (placeFits T c) (leb (c .token) (T .terminals)) e),
+      ),
+    )
 
-pub placed : (T : Table) (c : Conflict) → conflictFits T c ≡ true → placeFits T c ≡ true
-unfolding conflictFits
-placed T c e = and-first (placeFits T c) (leb (c .token) (T .terminals)) e
+-- the examples that are shown
 
--- what was read of the table
-pub read-of : (t g : List ℕ) (n terminals s productions : ℕ) (sets : List ℕ) → checkOf t ≡ Accepted → CountsOf (meaning t) n terminals s productions
-    → Packed g (length (meaning t .productions)) → productionsIn g (length (meaning t .productions)) ≡ meaning t .productions → sets ≡ firstSets terminals (productionsIn g productions)
-    → Read t g productions n terminals sets
-read-of t g n terminals s productions sets a C P e f = record {
-  accepted = a;
-  packed = rw (C .productions) P;
-  same = ap (productionsIn g) (C .productions) ∙ e;
-  many = C .productions;
-  nonterminals = C .nonterminals;
-  tokens = C .terminals;
-  firsts = f ∙ (λ j. firstSets (C .terminals j) ((ap (productionsIn g) (C .productions) ∙ e) j));
-}
+pub shown-fits : (n k : ℕ) (v : Shown) → v ≡ Number k → ShownFits n v → k < n
+unfolding ShownFits
+shown-fits n k v e f = subst (ShownFits n) e f
+
+pub shown-again : (ps : List Production) (xs : List Example) (k : ℕ) (v : Shown) → v ≡ Number k → (b : List ℕ) → ShownMade ps xs v b → InBuffer ps (nth xs k) b
+unfolding ShownMade
+shown-again ps xs k v e b m = subst (λ (s : Shown). ShownMade ps xs s b) e m
+
+module _ (ps : List Production) (xs : List Example) (v : Shown) (b : List ℕ) where
+  pub shown-number : (k : ℕ) → v ≡ Number k → (b′ : List ℕ) → b′ ≡ inFront (exampleWords ps (nth xs k)) b → b′ ≡ shown ps (shownIn xs v) b
+  unfolding shown shownIn
+  shown-number k e b′ w = w ∙ ap (λ (s : Shown). shown ps (shownIn xs s) b) (sym e)
+
+  pub shown-nothing : v ≡ Nothing → b ≡ shown ps (shownIn xs v) b
+  unfolding shown shownIn
+  shown-nothing e = ap (λ (s : Shown). shown ps (shownIn xs s) b) (sym e)
+
+-- either side empty is naive
+
+judge-none : (T : Table) (c : Conflict) (xs : List Example) → judge T c xs [] ≡ record { class = Naive; action = none; reduce = none }
+unfolding judge
+judge-none T c [] = refl
+judge-none T c (x ∷ xs) = refl
+
+module _ (T : Table) (c : Conflict) (action reduce : List ℕ) where
+  pub no-action : (xs ys : List Example) → length xs ≡ 0 → judgedWords Naive action reduce ≡ shownOf (T .productions) action reduce (judged T c xs ys)
+  unfolding judged judge sortedBy sortedFrom shownOf shown
+  no-action [] ys e = refl
+  no-action (x ∷ xs) ys e = absurd (omega arith)
+
+  pub no-reduce : (xs ys : List Example) → length ys ≡ 0 → judgedWords Naive action reduce ≡ shownOf (T .productions) action reduce (judged T c xs ys)
+  unfolding judged sortedBy sortedFrom shownOf shown
+  no-reduce xs [] e = ap (shownOf (T .productions) action reduce) (sym (judge-none T c (sortedBy (symbolCount (T .productions)) xs)))
+  no-reduce xs (y ∷ ys) e = absurd (omega arith)
+
+-- a side's order
+
+module _ (T : Table) (shift : Bool) (made : ℕ → ℕ → Example → Type 0) (xs : List Example) (kept prints : List ℕ) (K : SideKept T shift made xs kept prints) (n : ℕ) (e : length xs ≡ n) where
+  pub side-sorts : (m : ℕ) → m ≡ exampleLimit → (n ≤ exampleLimit) × (n ≤ m) × (outlinesRoom ≤ length kept)
+  side-sorts m z = let f = K .outlined .few in (omega arith, omega arith, K .outlined .room .by-words)
+
+  module _ (order : List ℕ) (s : take n order ≡ sortedBy (placesIn kept) (below n)) where
+    pub side-long : length (take n order) ≡ n
+    side-long = ap (λ (l : List ℕ). length l) s ∙ order-sorted (T .productions) shift xs kept prints (K .outlined) n (sym e) .2
+
+    pub side-ordered : (n ≡ 0 → ⊥) → Ordered xs (take n order)
+    side-ordered h =
+        let O = order-sorted (T .productions) shift xs kept prints (K .outlined) n (sym e) in
+        let l = side-long in
+        record { inside = subst (λ (m : ℕ). All (λ k. k < m) (take n order)) (sym e) (subst (All (λ k. k < n)) (sym s) (O .1)); any = omega arith }
+
+    pub side-picked : picked xs (take n order) ≡ sortedBy (symbolCount (T .productions)) xs
+    unfolding picked
+    side-picked = ap (map (nth xs)) s ∙ order-sorted (T .productions) shift xs kept prints (K .outlined) n (sym e) .0
+
+-- the class and the examples shown with it
+pub kept-judged : (T : Table) (c : Conflict) (xs ys as′ rs : List Example) (v : JudgedValue) (action reduce action′ reduce′ : List ℕ) → Judges xs ys v (judge T c as′ rs)
+    → as′ ≡ sortedBy (symbolCount (T .productions)) xs → rs ≡ sortedBy (symbolCount (T .productions)) ys
+    → action′ ≡ shown (T .productions) (shownIn xs (v .action)) action → reduce′ ≡ shown (T .productions) (shownIn ys (v .reduce)) reduce
+    → judgedWords (v .class) action′ reduce′ ≡ shownOf (T .productions) action reduce (judged T c xs ys)
+unfolding judged judgedIn shownOf
+kept-judged T c xs ys as′ rs v action reduce action′ reduce′ J ea er a r =
+    (λ j. judgedWords (v .class) (a j) (r j)) ∙ ap (shownOf (T .productions) action reduce) (J .same ∙ (λ j. judge T c (ea j) (er j)))
 
 -- what was gathered
 
-both-left : (a b : Gathered) (v w : List ℕ) → both a v ≡ both b w → a ≡ b
-both-left a b v w e = cc
+module _ (T : Table) (shift : Bool) (made : ℕ → ℕ → Example → Type 0) (r : SideValue) (kept prints : List ℕ) (side : Side) (S : Sided T shift made r kept prints side) where
+  pub side-stops : (x : ℕ) → r ≡ Stopped x → side ≡ stopped x
+  unfolding Sided
+  side-stops x e = subst (λ (s : SideValue). Sided T shift made s kept prints side) e S
 
-both-right : (a b : Gathered) (v w : List ℕ) → both a v ≡ both b w → v ≡ w
-both-right a b v w e = cc
+  pub side-gathers : (n m : ℕ) → r ≡ Examples n m → Gathers T shift made n m kept prints side
+  unfolding Sided
+  side-gathers n m e = subst (λ (s : SideValue). Sided T shift made s kept prints side) e S
 
-pub kept-both : (ps : List Production) (r : GatheredValue) (as′ rs : List ℕ) (n m k l : ℕ) → r ≡ Sides n m k l → KeptBoth ps r as′ rs → Kept ps as′ n × Kept ps rs k
-unfolding KeptBoth
-kept-both ps r as′ rs n m k l e h = rw e at h
+module _ (T : Table) (c : Conflict) (w action reduce : List ℕ) where
+  abbrev Action : Side
+  Action = actionSideOf T (c .state .0) (c .action) (c .operand) (c .token)
 
-module _ (T : Table) (c : Conflict) (w₀ action reduce : List ℕ) (r : GatheredValue) (as′ rs w′ : List ℕ) (a : both (gatheredIn (T .productions) r as′ rs) w′ ≡ both (gather T c) (zeroed classifyScratch w₀)) where
-  pub gathered-halts : (x : ℕ) → r ≡ Halted x → outcome (readingOf (Refused x 0)) w′ action reduce ≡ gatheredOutcome T c w₀ action reduce (gather T c)
-  unfolding readingOf gatheredIn gatheredWith
-  gathered-halts x er =
-      let e : halted x ≡ gather T c = ap (λ (y : GatheredValue). gatheredIn (T .productions) y as′ rs) (sym er) ∙ both-left (gatheredIn (T .productions) r as′ rs) (gather T c) w′ (zeroed classifyScratch w₀) a in
-      ap (λ (l : List ℕ). outcome (refused x 0) l action reduce) (both-right (gatheredIn (T .productions) r as′ rs) (gather T c) w′ (zeroed classifyScratch w₀) a)
-      ∙ ap (gatheredOutcome T c w₀ action reduce) e
+  abbrev Reduce : Side
+  Reduce = reduceSide T (c .state .0) (c .production .0) (c .token)
 
-  pub gathered-judged : (n m k l : ℕ) → r ≡ Sides n m k l → (class : Class) (action′ reduce′ : List ℕ)
-      → judgedWords class action′ reduce′ ≡ shownOf (T .productions) action reduce (judged T c (kept (T .productions) as′ n) (kept (T .productions) rs k))
-      → outcome (readingOf (IsClass class m l)) w′ action′ reduce′ ≡ gatheredOutcome T c w₀ action reduce (gather T c)
-  unfolding readingOf gatheredIn gatheredWith judgedWith shownOf
-  gathered-judged n m k l er class action′ reduce′ j =
-      let J = judged T c (kept (T .productions) as′ n) (kept (T .productions) rs k) in
-      let e : sides (kept (T .productions) as′ n) m (kept (T .productions) rs k) l ≡ gather T c = ap (λ (y : GatheredValue). gatheredIn (T .productions) y as′ rs) (sym er) ∙ both-left (gatheredIn (T .productions) r as′ rs) (gather T c) w′ (zeroed classifyScratch w₀) a in
-      let v = both-right (gatheredIn (T .productions) r as′ rs) (gather T c) w′ (zeroed classifyScratch w₀) a in
+  pub action-stops : (x : ℕ) → Action ≡ stopped x → outcome (readingOf (Refused x 0)) (zeroed classifyScratch w) action reduce ≡ gatheredOutcome T c w action reduce (gather T c)
+  unfolding readingOf gatheredWith gather bothSides
+  action-stops x e = ap (λ (s : Side). gatheredOutcome T c w action reduce (bothSides s Reduce)) (sym e)
+
+  pub reduce-stops : (xs : List Example) (m x : ℕ) → Action ≡ gathered xs m → Reduce ≡ stopped x → outcome (readingOf (Refused x 0)) (zeroed classifyScratch w) action reduce ≡ gatheredOutcome T c w action reduce (gather T c)
+  unfolding readingOf gatheredWith gather bothSides
+  reduce-stops xs m x ea er =
+      let a = sym ea in
+      let r = sym er in
+      λ j. gatheredOutcome T c w action reduce (bothSides (a j) (r j))
+
+  pub both-judged : (xs ys : List Example) (m n : ℕ) → Action ≡ gathered xs m → Reduce ≡ gathered ys n → (class : Class) (action′ reduce′ : List ℕ)
+      → judgedWords class action′ reduce′ ≡ shownOf (T .productions) action reduce (judged T c xs ys)
+      → outcome (readingOf (IsClass class m n)) (zeroed classifyScratch w) action′ reduce′ ≡ gatheredOutcome T c w action reduce (gather T c)
+  unfolding readingOf gatheredWith judgedWith gather bothSides shownOf
+  both-judged xs ys m n ea er class action′ reduce′ e =
+      let J = judged T c xs ys in
+      let a = sym ea in
+      let r = sym er in
       let x : class ≡ J .class = cc in
       let y : action′ ≡ shown (T .productions) (J .action) action = cc in
       let z : reduce′ ≡ shown (T .productions) (J .reduce) reduce = cc in
-      (λ i. outcome (classed (classNumber (x i)) (classValues (x i)) m l) (v i) (y i) (z i)) ∙ ap (gatheredOutcome T c w₀ action reduce) e
+      (λ i. outcome (classed (classNumber (x i)) (classValues (x i)) m n) (zeroed classifyScratch w) (y i) (z i)) ∙ (λ j. gatheredOutcome T c w action reduce (bothSides (a j) (r j)))
 
--- over words that were zeroed before
-pub gathered-again : (T : Table) (c : Conflict) (w₀ w action reduce : List ℕ) (G : Gathered) → w ≡ wordsOf [] ++ drop classifyScratch w₀ → gatheredOutcome T c w action reduce G ≡ gatheredOutcome T c w₀ action reduce G
-unfolding gatheredWith judgedWith
-gathered-again T c w₀ w action reduce (halted n) e = ap (λ (l : List ℕ). outcome (refused n 0) l action reduce) (zeroed-twice classifyScratch w₀ w (cleared w₀ w e))
-gathered-again T c w₀ w action reduce (sides as′ m rs n) e =
-    let j = judged T c as′ rs in
-    ap (λ (l : List ℕ). outcome (classed (classNumber (j .class)) (classValues (j .class)) m n) l (shown (T .productions) (j .action) action) (shown (T .productions) (j .reduce) reduce)) (zeroed-twice classifyScratch w₀ w (cleared w₀ w e))
+-- the words lent on for the productions are zeroed with the rest
+pub read-zeroed : (T : Table) (c : Conflict) (o : Reading) (action reduce action′ reduce′ w w′ front : List ℕ) (m : ℕ)
+    → ((s : List ℕ) → outcome o (zeroed classifyScratch s) action′ reduce′ ≡ gatheredOutcome T c s action reduce (gather T c))
+    → length front ≡ m → m ≤ classifyScratch → w′ ≡ zeroed classifyScratch (front ++ drop m w) → outcome o w′ action′ reduce′ ≡ gatheredOutcome T c w action reduce (gather T c)
+read-zeroed T c o action reduce action′ reduce′ w w′ front m e long h z =
+    ap (λ (l : List ℕ). outcome o l action′ reduce′) (z ∙ zeroed-lent classifyScratch m front w long h) ∙ e w
+
+-- what was packed into the words lent is what is read
+pub reads-front : (t front back : List ℕ) (counts : Counts) (sets least ends : List ℕ) (m : ℕ) → length front ≡ m → Reads t front counts sets least ends → Reads t (take m (front ++ back)) counts sets least ends
+reads-front t front back counts sets least ends m long R = subst (λ (g : List ℕ). Reads t g counts sets least ends) (sym (take-at front back m long)) R
 
 -- the whole
 

@@ -1,6 +1,6 @@
 -- An edge from its word. Assumes nothing.
 use mathlib.Core.Path.{_≡_, refl, sym, ap, _∙_}
-use mathlib.Core.Bool.{true, false, true≢false}
+use mathlib.Core.Bool.{true, true≢false}
 use mathlib.Core.List.{List, [], _∷_}
 use Prim.Native.Nat.{ℕ, zero, suc, _+_, _*_, _/_, _%_, _<_}
 use native.Mathlib.Omega.{arith}
@@ -58,7 +58,7 @@ module _ {g : List ℕ} {n : ℕ} {T : Table} {e : TraceEdge} {c : ℕ} (D : Dec
   unfolding edgeOf
   back = ap (edgeOf T) (D .is) ∙ code-edge T (D .fits) e (D .traced)
 
-  label-is : e .label ≡ itemIn c
+  pub label-is : e .label ≡ itemIn c
   label-is = sym (ap (λ (f : TraceEdge). f .label) back) ∙ by-label T (c / 2176) (itemIn c)
 
   label-fits : ItemFits T (itemIn c)

@@ -3,3 +3,4 @@ pub mod Coding
 pub mod Least
 pub mod Decoded
 pub mod Writing
+pub mod Views

@@ -34,6 +34,17 @@ decodes {T = T} {es = es} C k h = record {
   is = C .codes k h;
 }
 
+-- there is an edge k, in range
+module _ {g ws : List ℕ} (E : (n : ℕ) × ((T : Table) × ((es : List TraceEdge) × Carried g n ws T es))) {k : ℕ} (h : k < getD ws 0 0) where
+  more : k < length (E .1 .1 .0)
+  more = let c = E .1 .1 .1 .count in omega arith
+
+  pub carried-few : k < 1024
+  carried-few = let m = more in let f = E .1 .1 .1 .few in omega arith
+
+  pub carried-code : (c : ℕ) → c ≡ getD ws (1 + k) 0 → (n : ℕ) × ((T : Table) × ((e : TraceEdge) × Decodes g n T e c))
+  carried-code c e = (E .0, (E .1 .0, (getD (E .1 .1 .0) k noEdge, rw e (decodes (E .1 .1 .1) k more))))
+
 -- the words behind the count
 behind : (gr : List ℕ) → drop 1 (set gr 0 0) ≡ drop 1 gr
 behind [] = refl
@@ -48,15 +59,8 @@ unfolding graphWords joined
 writing-start g ws gr h = record { long = refl; most = omega arith; words = λ n T es C l. none gr (omega arith) }
 
 module _ (g ws gr₀ gr : List ℕ) (k : ℕ) (W : Writing g ws gr₀ gr k) (room : 8193 ≤ length gr₀) where
-  module _ (E : (n : ℕ) × ((T : Table) × ((es : List TraceEdge) × Carried g n ws T es))) (h : k < getD ws 0 0) where
-    more : k < length (E .1 .1 .0)
-    more = let c = E .1 .1 .1 .count in omega arith
-
-    pub writing-few : (k < 1024) × (8193 ≤ length gr)
-    writing-few = let m = more in let f = E .1 .1 .1 .few in let l = W .long in (omega arith, omega arith)
-
-    pub writing-code : (c : ℕ) → c ≡ getD ws (1 + k) 0 → (n : ℕ) × ((T : Table) × ((e : TraceEdge) × Decodes g n T e c))
-    writing-code c e = (E .0, (E .1 .0, (getD (E .1 .1 .0) k noEdge, rw e (decodes (E .1 .1 .1) k more))))
+  pub writing-few : (E : (n : ℕ) × ((T : Table) × ((es : List TraceEdge) × Carried g n ws T es))) → k < getD ws 0 0 → (k < 1024) × (8193 ≤ length gr)
+  writing-few E h = let l = W .long in (carried-few E h, omega arith)
 
   module _ (few : k < 1024) (h : k < getD ws 0 0) (c : ℕ) (ec : c ≡ getD ws (1 + k) 0) (v : EdgeValue) (made : (n : ℕ) (T : Table) (e : TraceEdge) → Decodes g n T e c → valueWords v ≡ edgeWords e) (gr′ : List ℕ) (put : gr′ ≡ written gr k (valueWords v)) where
     put-long : length (set gr′ 0 (k + 1)) ≡ length gr₀

@@ -1,4 +1,4 @@
-// A trace's edges, one word each (specs/Codes), with a flag for each key: whether an equal edge is there is one bit. From the words a graph's, eight an edge.
+// A trace's edges, one word each (specs/Codes), with a flag for each key: whether an equal edge is there is one bit. From the words a graph's, eight an edge, or a view straight.
 use bits::is_set;
 use bits::put;
 use core::Item;
@@ -26,6 +26,8 @@ ghost use Rattle.trace.specs.Sound.{EdgeSound};
 ghost use Rattle.codes.specs.Codes.{codeLimit, itemCode, codeOf, sameProduction, leastSame, keyBy, keyOf};
 ghost use Rattle.codes.specs.Coded.{codesRoom, keyWords, Coded, Leasts};
 ghost use Rattle.codes.specs.Carried.{Decodes, Carried};
+
+pub mod viewing;
 
 // An edge of a trace in one word.
 pub struct EdgeCode(pub u16);

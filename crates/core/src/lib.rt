@@ -43,6 +43,9 @@ impl Item {
     // Items of all productions.
     pub const LIMIT: usize = ProductionIndex::LIMIT * ProductionIndex::INDEXES;
 
+    // Words of 64 flags, one flag for each of them.
+    pub const FLAG_WORDS: usize = 34;
+
     // How many symbols the production has.
     pub fn length(self, grammar: &[u16], productions: usize) -> usize
         requires { ⌜ Packed (now grammar) productions × (self .production < productions) ⌝ }

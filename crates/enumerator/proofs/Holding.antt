@@ -110,7 +110,7 @@ gathered-end ws long from at all G h =
     (λ q. q ∙ sym (G .some (eqb-false all 0 q)))
 
 -- `enters`
-module _ {g ix : List ℕ} (B : Ground g ix) (v : NodeValue) (fits : nodeValueFits (B .nonterminals) (B .productions) v ≡ true) (e w : ℕ) (ew : w ≡ getD g 0 0) where
+module _ {g : List ℕ} (B : Ground g) (v : NodeValue) (fits : nodeValueFits (B .ranged .nonterminals) (B .productions) v ≡ true) (e w : ℕ) (ew : w ≡ getD g 0 0) where
   pub enters-edge : e < w → (r : Bool) (t : NodeValue) → t ≡ nodeRead g (e * edgeRoom + 4) → r ≡ sameValue t v
       → r ≡ (ltb e (ends g .count) && sameNode (ends g .target e) (nodeIs v))
   unfolding edgeRead
@@ -119,10 +119,10 @@ module _ {g ix : List ℕ} (B : Ground g ix) (v : NodeValue) (fits : nodeValueFi
       let c : e < ends g .count = omega (arith, edges-count g) in
       let a : e * edgeRoom + 4 ≡ edgePlace e + 3 = omega arith in
       let q : t ≡ nodeRead g (edgePlace e + 3) = et ∙ ap (nodeRead g) a in
-      let f : nodeValueFits (B .nonterminals) (B .productions) t ≡ true =
-      ap (nodeValueFits (B .nonterminals) (B .productions)) q ∙ target-fits (B .nonterminals) (B .productions) (edgeRead g e) (edge-value-fits B e l) in
+      let f : nodeValueFits (B .ranged .nonterminals) (B .productions) t ≡ true =
+      ap (nodeValueFits (B .ranged .nonterminals) (B .productions)) q ∙ target-fits (B .ranged .nonterminals) (B .productions) (edgeRead g e) (edge-value-fits B e l) in
       let n : nodeIs t ≡ ends g .target e = ap nodeIs q ∙ node-read g (edgePlace e + 3) ∙ sym (target-at g e l) in
-      er ∙ same-value (B .nonterminals) (B .productions) t v f fits ∙ ap (λ (x : Node). sameNode x (nodeIs v)) n
+      er ∙ same-value (B .ranged .nonterminals) (B .productions) t v f fits ∙ ap (λ (x : Node). sameNode x (nodeIs v)) n
       ∙ sym (ap (λ (b : Bool). b && sameNode (ends g .target e) (nodeIs v)) (lt-ltb e (ends g .count) c))
 
   pub enters-past : w ≤ e → false ≡ (ltb e (ends g .count) && sameNode (ends g .target e) (nodeIs v))
@@ -177,9 +177,9 @@ module _ (ws : List ℕ) (d : ℕ) (long : d < length ws) where
   path-end at h = let l : length (take d (drop 1 ws)) ≤ at = omega (arith, path-long) in drop-of-length-le (take d (drop 1 ws)) l
 
 -- `is_trial`: the edges that are left pass as all do
-pub record Walking (g ix ws : List ℕ) (d production index : ℕ) (node : NodeValue) (at : ℕ) : Type 0 where
-  pub begun : Started g ix production index
-  pub fits : nodeValueFits (begun .ground .nonterminals) (begun .ground .productions) node ≡ true
+pub record Walking (g ws : List ℕ) (d production index : ℕ) (node : NodeValue) (at : ℕ) : Type 0 where
+  pub begun : Started g production index
+  pub fits : nodeValueFits (begun .ground .ranged .nonterminals) (begun .ground .productions) node ≡ true
   pub deep : at < d
   pub edges : Within (getD g 0 0) (stackIn ws at)
   pub same : trialFrom? (ends g) (usedOf (ends g) (stackIn ws at)) (nodeIs node) (drop at (take d (drop 1 ws)))
@@ -193,9 +193,9 @@ within-none : (k : ℕ) → Within k []
 unfolding Within
 within-none k = tt
 
-pub trial-first : {g ix ws : List ℕ} {d production index : ℕ} → Started g ix production index → 0 < d → Walking g ix ws d production index (record { kind = 1; number = production; index = index }) 0
+pub trial-first : {g ws : List ℕ} {d production index : ℕ} → Started g production index → 0 < d → Walking g ws d production index (record { kind = 1; number = production; index = index }) 0
 unfolding stackIn nodeIs Rattle.trace_graph.specs.Words.nodeOf
-trial-first {g} {ix} {ws} {d} {production} {index} A h = record {
+trial-first {g} {ws} {d} {production} {index} A h = record {
   begun = A;
   fits = start-fits A;
   deep = h;
@@ -203,7 +203,7 @@ trial-first {g} {ix} {ws} {d} {production} {index} A h = record {
   same = ap (λ (us : List ℕ). trialFrom? (ends g) us (atItem (record { production = production; index = index })) (take d (drop 1 ws))) (used-end (ends g));
 }
 
-module _ {g ix ws : List ℕ} {d production index : ℕ} {node : NodeValue} {at : ℕ} (W : Walking g ix ws d production index node at) (long : d < length ws)
+module _ {g ws : List ℕ} {d production index : ℕ} {node : NodeValue} {at : ℕ} (W : Walking g ws d production index node at) (long : d < length ws)
     (x : ℕ) (ex : x ≡ getD ws (at + 1) 0) (r : Bool) (er : r ≡ (ltb x (ends g .count) && sameNode (ends g .target x) (nodeIs node))) where
   abbrev whole : Bool
   whole = trialFrom? (ends g) [] (atItem (record { production = production; index = index })) (take d (drop 1 ws))
@@ -256,7 +256,7 @@ module _ {g ix ws : List ℕ} {d production index : ℕ} {node : NodeValue} {at 
           pub trial-cycles : u ≡ true → false ≡ whole
           trial-cycles t = sym (trial-used (ends g) us (nodeIs node) x second beyond passed (s .number) source-is (sym eu ∙ t)) ∙ opened
 
-          pub trial-again : u ≡ false → s ≡ nodeRead g (edgePlace x) → Walking g ix ws d production index s (at + 1)
+          pub trial-again : u ≡ false → s ≡ nodeRead g (edgePlace x) → Walking g ws d production index s (at + 1)
           trial-again t q =
               let k : at + 1 ≡ suc at = omega arith in
               let e : stackIn ws (at + 1) ≡ x ∷ stackIn ws at =
@@ -306,14 +306,14 @@ nonterminal-range : (n : ℕ) (ps : List Production) (m : ℕ) → InRange n ps 
 unfolding InRange
 nonterminal-range n ps m h = h
 
-pub small-ground : {g ix : List ℕ} → Ground g ix → Small (ends g)
+pub small-ground : {g : List ℕ} → Ground g → Small (ends g)
 unfolding edgeRead
 small-ground {g} B e m h q =
     let l : e < getD g 0 0 = omega (arith, edges-count g) in
     let v = nodeRead g (edgePlace e) in
-    let r = value-range (B .nonterminals) (B .productions) v (source-fits (B .nonterminals) (B .productions) (edgeRead g e) (edge-value-fits B e l)) in
+    let r = value-range (B .ranged .nonterminals) (B .productions) v (source-fits (B .ranged .nonterminals) (B .productions) (edgeRead g e) (edge-value-fits B e l)) in
     let s : nodeIs v ≡ atNonterminal m = node-read g (edgePlace e) ∙ sym (source-at g e l) ∙ q in
-    omega (arith, nonterminal-range (B .nonterminals) (B .productions) m (rw s at r), B .graphed .nonterminals)
+    omega (arith, nonterminal-range (B .ranged .nonterminals) (B .productions) m (rw s at r), B .ranged .few-nonterminals)
 
 -- all the words: the path's, and zeros after them
 words-same : (w : ℕ) (ws : List ℕ) → w ≤ reductionLimit → pathRoom ≤ length ws
@@ -346,7 +346,7 @@ last-false true false c h = refl
 last-false false b c h = refl
 
 -- `holds_trial`
-module _ {g ix : List ℕ} {production index : ℕ} (A : Started g ix production index) (ws : List ℕ) (long : scratchWords ≤ length ws) (d : ℕ) (ed : d ≡ getD ws 0 0) where
+module _ {g : List ℕ} {production index : ℕ} (A : Started g production index) (ws : List ℕ) (long : scratchWords ≤ length ws) (d : ℕ) (ed : d ≡ getD ws 0 0) where
   abbrev start : Node
   start = atItem (record { production = production; index = index })
 

@@ -36,9 +36,9 @@ pub edge-low : (g : List ℕ) → Roomy g → (e : ℕ) → e < getD g 0 0 → (
 unfolding Roomy
 edge-low g R e h = (omega (arith, R .1), omega (arith, R .0, R .1))
 
-pub roomy : {g ix : List ℕ} → Ground g ix → Roomy g
+pub roomy : {g : List ℕ} → Ground g → Roomy g
 unfolding Roomy
-roomy B = (B .graphed .long, B .graphed .few)
+roomy B = (B .ranged .long, B .ranged .few-edges)
 
 -- the node that an edge comes from, read
 pub source-value : (g : List ℕ) (e : ℕ) (v : NodeValue) → e < getD g 0 0 → nodeIs v ≡ nodeAt g (edgePlace e) → ends g .source e ≡ nodeIs v
@@ -56,13 +56,13 @@ value-item v ne = go (v .kind) refl
     go zero q = absurd (ne q)
     go (suc k) q = (record { production = v .number; index = v .index }, rw q)
 
-pub edge-value-fits : {g ix : List ℕ} (B : Ground g ix) (e : ℕ) → e < getD g 0 0 → valueFits (B .nonterminals) (B .productions) (edgeRead g e) ≡ true
-edge-value-fits {g} B e h = fits-read (B .nonterminals) (B .productions) g e ∙ B .graphed .fits e h
+pub edge-value-fits : {g : List ℕ} (B : Ground g) (e : ℕ) → e < getD g 0 0 → valueFits (B .ranged .nonterminals) (B .productions) (edgeRead g e) ≡ true
+edge-value-fits {g} B e h = fits-read (B .ranged .nonterminals) (B .productions) g e ∙ B .ranged .fits e h
 
-pub source-value-fits : {g ix : List ℕ} (B : Ground g ix) {e : ℕ} {v : NodeValue} → e < getD g 0 0 → v ≡ nodeRead g (edgePlace e) → nodeValueFits (B .nonterminals) (B .productions) v ≡ true
+pub source-value-fits : {g : List ℕ} (B : Ground g) {e : ℕ} {v : NodeValue} → e < getD g 0 0 → v ≡ nodeRead g (edgePlace e) → nodeValueFits (B .ranged .nonterminals) (B .productions) v ≡ true
 unfolding edgeRead
 source-value-fits {g} B {e} h q =
-    ap (nodeValueFits (B .nonterminals) (B .productions)) q ∙ source-fits (B .nonterminals) (B .productions) (edgeRead g e) (edge-value-fits B e h)
+    ap (nodeValueFits (B .ranged .nonterminals) (B .productions)) q ∙ source-fits (B .ranged .nonterminals) (B .productions) (edgeRead g e) (edge-value-fits B e h)
 
 -- `comes_from`
 module _ (g : List ℕ) (e : ℕ) (v : NodeValue) (h : e < getD g 0 0) (q : nodeIs v ≡ nodeAt g (edgePlace e)) where
@@ -140,8 +140,8 @@ module _ {g ws : List ℕ} {d n k : ℕ} (U : Under g ws d n k) (long : d < leng
     }
 
 -- `is_trial` begins at the start item
-pub start-fits : {g ix : List ℕ} {production index : ℕ} (A : Started g ix production index)
-    → nodeValueFits (A .ground .nonterminals) (A .ground .productions) (record { kind = 1; number = production; index = index }) ≡ true
+pub start-fits : {g : List ℕ} {production index : ℕ} (A : Started g production index)
+    → nodeValueFits (A .ground .ranged .nonterminals) (A .ground .productions) (record { kind = 1; number = production; index = index }) ≡ true
 unfolding nodeValueFits nodeFits
 start-fits A = A .fits
 

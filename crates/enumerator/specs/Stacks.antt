@@ -1,27 +1,31 @@
--- What the code of the machine (specs/Machine) is given and leaves: a graph with its index, and words that hold a stack, a path with its last edge first (specs/Words).
+-- What the code of the machine (specs/Machine) is given and leaves: a graph in range, and words that hold a stack, a path with its last edge first (specs/Words).
 -- Assumes nothing: these are definitions.
 use Prim.Native.Nat.{ℕ, _≤_, _<_}
 use mathlib.Core.Path.{_≡_}
 use mathlib.Core.Bool.{Bool, true}
 use mathlib.Core.List.{List, [], _∷_, _++_, reverse}
 use lib.ListN.{length, getD, take, drop}
-use Rattle.repr.specs.Sizes.{edgeLimit, graphRoom, reductionLimit}
-use Rattle.repr.specs.Meaning.{Production, noProduction}
-use Rattle.trace_graph.specs.Fits.{itemFits}
-use Rattle.trace_graph.specs.Insert.{Graphed}
+use Rattle.repr.specs.Sizes.{nonterminalLimit, edgeLimit, graphRoom, reductionLimit}
+use Rattle.repr.specs.Meaning.{Production}
+use Rattle.trace_graph.specs.Fits.{itemFits, edgeFits}
 use Rattle.enumerator.specs.Words.{wordsOf}
 
--- a graph's words that are in range, with their index, of a table no larger than the limits
-pub record Ground (g ix : List ℕ) : Type 0 where
+-- a graph's words in range, of a table with productions ps: what its check gives
+pub record Ranged (ps : List Production) (g : List ℕ) : Type 0 where
   pub nonterminals : ℕ
+  pub few-nonterminals : nonterminals ≤ nonterminalLimit
+  pub long : graphRoom ≤ length g
+  pub few-edges : getD g 0 0 ≤ edgeLimit
+  pub fits : (k : ℕ) → k < getD g 0 0 → edgeFits nonterminals ps g k ≡ true
+
+-- of some table
+pub record Ground (g : List ℕ) : Type 0 where
   pub productions : List Production
-  pub graphed : Graphed nonterminals productions g ix (getD g 0 0)
-  pub few : length productions ≤ 128
-  pub short : (p : ℕ) → length (getD productions p noProduction .symbols) ≤ 16
+  pub ranged : Ranged productions g
 
 -- and an item of that table
-pub record Started (g ix : List ℕ) (production index : ℕ) : Type 0 where
-  pub ground : Ground g ix
+pub record Started (g : List ℕ) (production index : ℕ) : Type 0 where
+  pub ground : Ground g
   pub fits : itemFits (ground .productions) production index ≡ true
 
 -- room for the edges that a count allows

@@ -95,8 +95,8 @@ fn only_zeros(words: &[u16], from: usize) -> bool
 }
 
 // Whether a number is an edge's, and the edge enters a node.
-fn enters(graph: &[u16], ix: &[u16], edge: usize, node: Node) -> bool
-    requires { ⌜ ((G : Ground (now graph) (now ix)) × (nodeValueFits (G .nonterminals) (G .productions) node ≡ true)) ⌝ }
+fn enters(graph: &[u16], edge: usize, node: Node) -> bool
+    requires { ⌜ ((G : Ground (now graph)) × (nodeValueFits (G .ranged .nonterminals) (G .productions) node ≡ true)) ⌝ }
     ensures { λ r. ⌜ r ≡ (ltb edge (endsOf (edgesIn (now (graph .entry))) .count) && sameNode (endsOf (edgesIn (now (graph .entry))) .target edge) (nodeIs node)) ⌝ }
 {
     let count = word(graph, 0);
@@ -108,15 +108,8 @@ fn enters(graph: &[u16], ix: &[u16], edge: usize, node: Node) -> bool
 }
 
 // Whether the first edges are a trial from the start item: each enters the node that the one before it comes from, a nonterminal that none before comes from.
-fn is_trial(
-    graph: &[u16],
-    ix: &[u16],
-    words: &[u16],
-    depth: usize,
-    production: usize,
-    index: usize,
-) -> bool
-    requires { ⌜ Started (now graph) (now ix) production index ⌝ }
+fn is_trial(graph: &[u16], words: &[u16], depth: usize, production: usize, index: usize) -> bool
+    requires { ⌜ Started (now graph) production index ⌝ }
     requires { ⌜ (0 < depth) × (depth < length (now words)) ⌝ }
     ensures { λ r. ⌜ r ≡ trialFrom? (endsOf (edgesIn (now (graph .entry)))) [] (atItem (record { production = production; index = index })) (take depth (drop 1 (now (words .entry)))) ⌝ }
 {
@@ -128,7 +121,7 @@ fn is_trial(
     let mut at: usize = 0;
     while at + 1 < depth {
         let edge = word(words, at + 1);
-        if enters(graph, ix, edge, node) {
+        if enters(graph, edge, node) {
             let source = read_node(graph, edge * TraceGraph::EDGE_WORDS + 1);
             if source.kind != 0 {
                 return false;
@@ -144,18 +137,12 @@ fn is_trial(
         }
     }
     let edge = word(words, depth);
-    enters(graph, ix, edge, node)
+    enters(graph, edge, node)
 }
 
 // Whether the words are those of a trial that is an example (refusal 9): no trial has more than 33 edges.
-pub fn holds_trial(
-    graph: &[u16],
-    ix: &[u16],
-    words: &[u16],
-    production: usize,
-    index: usize,
-) -> bool
-    requires { ⌜ Started (now graph) (now ix) production index ⌝ }
+pub fn holds_trial(graph: &[u16], words: &[u16], production: usize, index: usize) -> bool
+    requires { ⌜ Started (now graph) production index ⌝ }
     requires { ⌜ scratchWords ≤ length (now words) ⌝ }
     ensures { λ r. ⌜ r ≡ holdsTrial (endsOf (edgesIn (now (graph .entry)))) (atItem (record { production = production; index = index })) (now (words .entry)) ⌝ }
 {
@@ -167,7 +154,7 @@ pub fn holds_trial(
         return false;
     }
     if only_zeros(words, depth + 1) {
-        if is_trial(graph, ix, words, depth, production, index) {
+        if is_trial(graph, words, depth, production, index) {
             return is_example(graph, words);
         }
         return false;

@@ -8,7 +8,7 @@ use native.Mathlib.Omega.{arith}
 use lib.ListN.{length}
 use lib.Dec.{leb}
 use borrow.Author.Tests.{le-leb, lt-leb}
-use Rattle.repr.specs.Sizes.{exampleRoom}
+use Rattle.repr.specs.Sizes.{scratchWords, classifyScratch, exampleRoom}
 use Rattle.repr.specs.Meaning.{Table}
 use Rattle.repr.proofs.Lists.{cases}
 use Rattle.slices.specs.Lent.{zeroed}
@@ -88,3 +88,7 @@ module _ {W W′ : ℕ} {s s′ : List ℕ} where
 pub fewer-words : (t : List ℕ) (c : Conflict) (W W′ : ℕ) (s s′ : List ℕ) → W ≤ length s → W′ ≤ length s′ → SameWords t c W W′ s s′
 unfolding classifyWith chooseWith
 fewer-words t c W W′ s s′ l l′ = record { classes = λ action reduce. class-by l l′ t c action reduce (checkOf t) refl; choices = λ set. choice-by l l′ t c set (checkOf t) refl }
+
+-- request 06: what `classifyOf` and `chooseOf` answer with 8,000 words is what document 01's definitions answer with 32,000
+pub eight-thousand : (t : List ℕ) (c : Conflict) (s s′ : List ℕ) → classifyScratch ≤ length s → scratchWords ≤ length s′ → SameWords t c classifyScratch scratchWords s s′
+eight-thousand t c s s′ = fewer-words t c classifyScratch scratchWords s s′

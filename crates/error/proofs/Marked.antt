@@ -5,7 +5,7 @@ use mathlib.Core.Bool.{Bool, true, false}
 use mathlib.Core.List.{List, [], _∷_, _++_, map}
 use mathlib.Core.Option.{none, some}
 use lib.ListN.{length, replicate}
-use Rattle.repr.specs.Sizes.{graphRoom, scratchWords, exampleRoom}
+use Rattle.repr.specs.Sizes.{graphRoom, scratchWords, classifyScratch, exampleRoom}
 use Rattle.slices.specs.Same.{sameWords}
 use Rattle.slices.specs.Lent.{inFront, zeroed}
 use Rattle.repr.specs.Lists.{upFrom, below, mem, occurrences, keep, some?, every?, first?, joined}
@@ -87,7 +87,7 @@ reduceB B = reduceEdges B 3 (item 0 3)
 
 -- lent lists of the lengths that 11 asks, scratch one word longer
 abbrev scratch : List ℕ
-scratch = replicate 32001 7
+scratch = replicate 8001 7
 
 abbrev buffer : List ℕ
 buffer = replicate exampleRoom 7
@@ -119,9 +119,9 @@ asked B =
     ∷ numbers (observedOf lineA lineR)
     ∷ []
 
--- the first 32,000 words of scratch zero
+-- the first 8,000 words of scratch zero
 abbrev leaves : Reading → List ℕ → List ℕ → Entry
-leaves r a b = classifying (outcome r (replicate scratchWords 0 ++ 7 ∷ []) a b)
+leaves r a b = classifying (outcome r (replicate classifyScratch 0 ++ 7 ∷ []) a b)
 
 -- an example of 19 words at the front of its buffer
 abbrev written : List ℕ → List ℕ

@@ -7,7 +7,6 @@ pub mod Judge
 pub mod Outcome
 pub mod Choose
 pub mod Fewer
-pub mod Kept
 pub mod Observed
 pub mod Order
 pub mod Rust

@@ -1,10 +1,8 @@
 // Conflicts and what is said of them (`ConflictClassification` of lr1/error/mod.rs), in numbers.
-use example::Example;
 use lookahead::TokenSet;
 use repr::NonterminalString;
 use repr::ProductionIndex;
 use state_graph::StateIndex;
-use trace_graph::TraceGraph;
 
 // A conflict as document 01 has it, five words: the action is 0 for a shift, its operand a terminal, or 1 for a reduce, its operand a production.
 pub struct Conflict {
@@ -17,14 +15,10 @@ pub struct Conflict {
 
 impl Conflict {
     // Words of scratch for classifying and choosing.
-    pub const SCRATCH: usize = TraceGraph::SCRATCH;
+    pub const SCRATCH: usize = 8000;
 
-    // Examples of a side, words of one that is kept, words of a side.
+    // Examples of a side.
     pub const EXAMPLES: usize = 192;
-
-    pub const KEPT_WORDS: usize = 1 + Example::REDUCTIONS;
-
-    pub const SIDE_WORDS: usize = Conflict::EXAMPLES * Conflict::KEPT_WORDS;
 }
 
 // A class with its own values; the examples stand in the lent buffers. A nonterminal; a nonterminal and a symbol's kind and number; two spans, the conflict's first.

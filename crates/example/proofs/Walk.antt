@@ -250,7 +250,7 @@ module _ (ps : List Production) (ls : List Label) where
   abbrev pub afterCounts : List ℕ
   afterCounts = wordsOf (prefixes ps ls) ++ afterPrefixes
 
-  symbol-words : joined symbolWords (symbols ps ls) ≡ wordsOf (prefixes ps ls) ++ (joined symbolWords (middle ps ls) ++ wordsOf (suffixes ps ls))
+  pub symbol-words : joined symbolWords (symbols ps ls) ≡ wordsOf (prefixes ps ls) ++ (joined symbolWords (middle ps ls) ++ wordsOf (suffixes ps ls))
   unfolding symbols wordsOf
   symbol-words =
       joined-append symbolWords (map symbol (prefixes ps ls)) (middle ps ls ++ map symbol (suffixes ps ls))

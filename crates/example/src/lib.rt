@@ -47,7 +47,7 @@ impl Example {
 }
 
 // How many labels the words hold.
-fn label_count(labels: &[u16]) -> usize
+pub fn label_count(labels: &[u16]) -> usize
     ensures { λ r. ⌜ (r ≡ length (labelsIn (now (labels .entry)))) × (labelRoom * r ≤ length (now (labels .entry))) ⌝ }
 {
     labels.len() / Example::LABEL_WORDS
@@ -73,7 +73,7 @@ fn item(labels: &[u16], label: usize) -> Item
 }
 
 // The symbols before a label's cursor.
-fn prefix_part<'a>(
+pub fn prefix_part<'a>(
     grammar: &'a [u16],
     productions: usize,
     labels: &[u16],
@@ -88,7 +88,7 @@ fn prefix_part<'a>(
 }
 
 // The symbols after a label's cursor.
-fn suffix_part<'a>(
+pub fn suffix_part<'a>(
     grammar: &'a [u16],
     productions: usize,
     labels: &[u16],
@@ -103,7 +103,7 @@ fn suffix_part<'a>(
 }
 
 // The symbol at the first label's cursor, or none.
-fn cursor_part<'a>(grammar: &'a [u16], productions: usize, labels: &[u16]) -> &'a [u16]
+pub fn cursor_part<'a>(grammar: &'a [u16], productions: usize, labels: &[u16]) -> &'a [u16]
     requires { ⌜ Packed (now grammar) productions ⌝ }
     requires { ⌜ LabelsFit (productionsIn (now grammar) productions) (now labels) ⌝ }
     ensures { λ r. ⌜ Part (now r) (cursorOf (productionsIn (now (grammar .entry)) productions) (labelsIn (now (labels .entry)))) ⌝ }
@@ -117,7 +117,7 @@ fn cursor_part<'a>(grammar: &'a [u16], productions: usize, labels: &[u16]) -> &'
 }
 
 // How many symbols stand before the cursors of all labels; the walk's first entry has the empty sets.
-fn prefix_total(grammar: &[u16], productions: usize, labels: &[u16]) -> usize
+pub fn prefix_total(grammar: &[u16], productions: usize, labels: &[u16]) -> usize
     requires { ⌜ Packed (now grammar) productions ⌝ }
     requires { ⌜ LabelsFit (productionsIn (now grammar) productions) (now labels) ⌝ }
     ensures { λ r. ⌜ r ≡ length (prefixes (productionsIn (now (grammar .entry)) productions) (labelsIn (now (labels .entry)))) ⌝ }

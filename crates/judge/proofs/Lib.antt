@@ -1,1 +1,4 @@
+pub mod Reading
 pub mod Ways
+pub mod Sides
+pub mod Made

@@ -1,16 +1,15 @@
--- Laws of the class from the examples (specs/Judge of error), one for each way through the code. Assumes nothing.
-use Prim.Native.Nat.{ℕ, zero, suc, _+_, _-_, _*_, _/_, _≤_, _<_}
+-- Laws of the class from its parts (specs/Judge of error), one for each way through the code: the operator, the two ambiguities, the question. Assumes nothing.
+use Prim.Native.Nat.{ℕ, zero, suc, _+_, _-_, _*_, _<_}
 use native.Mathlib.Omega.{arith}
 use mathlib.Core.Path.{_≡_, refl, sym, ap, _∙_}
 use mathlib.Core.Bool.{Bool, true, false, _&&_}
-use mathlib.Core.List.{List, [], _∷_, map}
+use mathlib.Core.List.{List, [], _∷_}
 use mathlib.Core.Option.{Option, none, some}
 use lib.ListN.{length, getD, drop, drop-of-length-le}
-use lib.Dec.{eqb, ltb}
-use borrow.Author.Tests.{eq-eqb, ne-eqb, ltb-true}
-use Rattle.repr.specs.Sizes.{nonterminalLimit, terminalLimit, indexLimit, productionPlace, grammarRoom, keptPlace}
-use Rattle.repr.specs.Lists.{upFrom, below}
-use Rattle.repr.specs.Meaning.{Symbol, nonterminal, terminal, sameSymbol, Production, noProduction, Table, ProductionFits, productionAt, All}
+use lib.Dec.{eqb}
+use borrow.Author.Tests.{eq-eqb, ne-eqb}
+use Rattle.repr.specs.Sizes.{nonterminalLimit, terminalLimit, productionPlace}
+use Rattle.repr.specs.Meaning.{Symbol, nonterminal, terminal, sameSymbol, Production, noProduction, Table, productionAt, All}
 use Rattle.repr.specs.Listed.{symbolOfKind, listed, listFits}
 use Rattle.repr.specs.Packed.{Packed, symbolWords, productionIn, productionsIn}
 use Rattle.repr.proofs.Lists.{clash, getD-map-below}
@@ -19,65 +18,44 @@ use Rattle.repr.proofs.Listed.{fits-head, symbol-range}
 use Rattle.repr.proofs.Packed.{words-long}
 use Rattle.repr.proofs.Parts.{listed-at, symbols-long, word-of}
 use Rattle.trace_graph.proofs.Fits.{production-symbols}
+use Rattle.table.specs.declared.Checked.the-variants.{Accepted}
 use Rattle.table.specs.Decoded.{meaning, productionsFrom}
+use Rattle.table.specs.Refusals.{checkOf}
+use Rattle.table.specs.Index.{ProductionHead}
 use Rattle.table.proofs.Accepted.{accepts}
 use Rattle.table.proofs.Indexes.{production-read}
 use Rattle.table.proofs.Written.{productions-end}
-use Rattle.table.specs.Index.{ProductionHead}
-use Rattle.table.proofs.Decoding.{fits}
-use Rattle.example.specs.Example.{Label, symbols}
-use Rattle.example.specs.Written.{around, noLabel}
-use Rattle.example.proofs.Reductions.{reductions-around}
 use Rattle.error.specs.declared.Class.{Class}
-use Rattle.error.specs.declared.Class.the-variants.{Naive, Ambiguity, Precedence, SuggestInline, SuggestQuestion, AmbiguousReduction, InsufficientLookahead}
-use Rattle.error.specs.declared.Conflict.{Conflict}
-use Rattle.error.specs.Kept.{Kept, keptLabel, keptAt, kept}
-use Rattle.error.specs.Sorted.{Pair, firstPair, sortedFrom, sortedBy}
-use Rattle.error.specs.Judge.{Example, Judged, withBoth, symbolCount, reductionAt, sameReading, sameSymbols, isOperator, shiftAmbiguity, reduceAmbiguity, ambiguityOf, optional, optionalOf, questionOf, suggestQuestion, inlines, inlineOr, questionOr, unambiguous, ambiguousOr, judge, judged}
-use Rattle.error.specs.Outcome.{shown, operandFits, placeFits}
-use Rattle.sides.specs.Order.{Has}
-use Rattle.sides.proofs.Labels.{has-room, kept-length, kept-label, code-below, code-label}
-use Rattle.pairs.specs.declared.Pair.{Pair as Found}
-use Rattle.pairs.specs.declared.Pair.the-variants.{At, Nothing}
-use Rattle.pairs.specs.Pairs.{ordered, pairOf, PairHas}
-use Rattle.pairs.specs.Tests.{inlinesBy}
-use Rattle.pairs.proofs.Tests.{inlines-is}
-use Rattle.pairs.proofs.Product.{pair-agree}
+use Rattle.error.specs.declared.Class.the-variants.{Ambiguity, Precedence, SuggestQuestion, AmbiguousReduction}
+use Rattle.error.specs.Sorted.{Pair}
+use Rattle.error.specs.Judge.{Example, Judged, withBoth, reductionAt, sameSymbols, isOperator, shiftAmbiguity, reduceAmbiguity, optional, optionalOf, questionOf, suggestQuestion}
+use Rattle.outline.specs.Kept.{nth}
+use Rattle.shift_items.specs.Codes.{Grammar}
+use Rattle.judge.specs.declared.Shown.the-variants.{Number, Nothing}
+use Rattle.judge.specs.declared.Judged.{Judged as JudgedValue}
 use Rattle.judge.specs.declared.OptionalSymbol.{OptionalSymbol}
 use Rattle.judge.specs.declared.OptionalSymbol.the-variants.{Symbol as OfSymbol, Nothing as NoSymbol}
-use Rattle.judge.specs.Judging.{Reads, pairAt, firstOf, Judgement, judgedWords, shownOf, questionIn, QuestionFits, optionalOne}
+use Rattle.judge.specs.Judging.{pairIn, headsIn, both, shownIn, judgedIn, ShownFits, Judges, questionIn, QuestionFits, optionalOne}
 
--- `first_nonterminal`
+-- a class with the numbers of the examples shown
 
-first-owner : (ps : List Production) (ls : List Label) → 1 ≤ length ls → reductionAt ps ls 0 .nonterminal ≡ getD ls 0 noLabel .nonterminal
-unfolding reductionAt around
-first-owner ps [] h = absurd (omega arith)
-first-owner ps (l ∷ ls) h = rw (reductions-around ps (l ∷ ls))
+pub both-is : (class : Class) (i j : ℕ) → record { class = class; action = Number i; reduce = Number j } ≡ both class i j
+unfolding both
+both-is class i j = refl
 
-module _ (g : List ℕ) (n : ℕ) (P : Packed g n) (ws : List ℕ) (k : ℕ) (H : Has (productionsIn g n) ws k) where
-  module _ (code : ℕ) (ec : code ≡ getD ws (keptPlace k + 1) 0) where
-    at-code : code ≡ getD ws (keptPlace k + 1 + 0) 0
-    at-code = let z : keptPlace k + 1 + 0 ≡ keptPlace k + 1 = omega arith in rw z ec
+pub judges-same : (xs ys : List Example) (v : JudgedValue) (j k : Judged) → Judges xs ys v j → j ≡ k → Judges xs ys v k
+judges-same xs ys v j k J q = rw q at J
 
-    some-code : 0 < getD ws (keptPlace k) 0
-    some-code = omega (arith, has-room g n P ws k H .1 .1 .0)
+pub judges-both : (xs ys : List Example) (i j : ℕ) → i < length xs → j < length ys → (class : Class) (v : JudgedValue) (k : Judged) → v ≡ both class i j → withBoth class (pairIn xs ys i j) ≡ k → Judges xs ys v k
+unfolding both judgedIn shownIn ShownFits withBoth pairIn
+judges-both xs ys i j hi hj class v k e q = rw e (record { same = q; action = hi; reduce = hj })
 
-    pub first-below : productionPlace (code / indexLimit) < grammarRoom
-    first-below = let b = code-below g n P ws k H 0 some-code code at-code in omega (arith, P .few)
-
-    pub first-nonterminal-is : (r : ℕ) → r ≡ getD g (productionPlace (code / indexLimit)) 0 → r ≡ reductionAt (productionsIn g n) (keptAt (productionsIn g n) ws k) 0 .nonterminal
-    first-nonterminal-is r e =
-        let l = kept-length g n P ws k H in
-        let s = some-code in
-        sym (first-owner (productionsIn g n) (keptAt (productionsIn g n) ws k) (omega arith)
-        ∙ ap (λ (x : Label). x .nonterminal) (kept-label g n P ws k H 0 s ∙ ap (keptLabel (productionsIn g n)) (sym at-code) ∙ code-label g n P ws k H 0 s code at-code r e))
-
--- `with_both`
-
-pub both-shown : (ps : List Production) (class : Class) (actions reduces : List ℕ) (i j : ℕ) (a b a′ b′ : List ℕ) → a′ ≡ shown ps (some (keptAt ps actions i)) a → b′ ≡ shown ps (some (keptAt ps reduces j)) b
-    → judgedWords class a′ b′ ≡ shownOf ps a b (withBoth class (pairAt ps actions reduces i j))
-unfolding shownOf withBoth pairAt
-both-shown ps class actions reduces i j a b a′ b′ ea eb = rw (ea, eb)
+-- the first of each order
+pub judges-heads : (xs ys : List Example) (rows columns : List ℕ) → All (λ k. k < length xs) rows → 0 < length rows → All (λ k. k < length ys) columns → 0 < length columns → (class : Class) (v : JudgedValue) (k : Judged)
+    → v ≡ both class (getD rows 0 0) (getD columns 0 0) → withBoth class (headsIn xs ys rows columns) ≡ k → Judges xs ys v k
+unfolding headsIn
+judges-heads xs ys rows columns A ha B hb class v k e q =
+    judges-both xs ys (getD rows 0 0) (getD columns 0 0) (All-at (λ k. k < length xs) rows 0 0 A ha) (All-at (λ k. k < length ys) columns 0 0 B hb) class v k e q
 
 -- `is_operator`
 
@@ -104,7 +82,7 @@ other-three true b c = other-two b c
 other-three false b c = refl
 
 module _ (g : List ℕ) (n : ℕ) (P : Packed g n) (p : ℕ) (h : p < n) where
-  owner-is : getD (productionsIn g n) p noProduction .nonterminal ≡ getD g (productionPlace p) 0
+  pub owner-is : getD (productionsIn g n) p noProduction .nonterminal ≡ getD g (productionPlace p) 0
   unfolding productionsIn productionIn
   owner-is = ap (λ (q : Production). q .nonterminal) (getD-map-below (productionIn g) n p noProduction h)
 
@@ -126,7 +104,7 @@ module _ (g : List ℕ) (n : ℕ) (P : Packed g n) (p : ℕ) (h : p < n) where
         let w = words-long g n p P h in
         listed-at (symbolWords g p) i (omega arith) ∙ rw (word-of g n p (2 * i) P h (omega arith), word-of g n p (2 * i + 1) P h (omega arith))
 
-    pub kind-small : getD g (productionPlace p + 4 + 2 * i) 0 < 2
+    kind-small : getD g (productionPlace p + 4 + 2 * i) 0 < 2
     kind-small =
         let w = words-long g n p P h in
         let f = fits-head nonterminalLimit terminalLimit (symbolWords g p) (2 * i) (omega arith) (fits-drop i (symbolWords g p) (P .fits p h)) .1 .0 in
@@ -196,24 +174,24 @@ module _ (g : List ℕ) (n : ℕ) (P : Packed g n) (p : ℕ) (h : p < n) (o : �
   unfolding shiftAmbiguity
   ambiguity-plain e = rw (← e, shiftAmbiguity)
 
-module _ (g : List ℕ) (n : ℕ) (P : Packed g n) (p : ℕ) (h : p < n) (o : ℕ) (ho : o < n) (actions reduces : List ℕ) (i j : ℕ) (x y : ℕ)
-    (ex : x ≡ reductionAt (productionsIn g n) (keptAt (productionsIn g n) actions i) 0 .nonterminal) (ey : y ≡ reductionAt (productionsIn g n) (keptAt (productionsIn g n) reduces j) 0 .nonterminal) where
+module _ (g : List ℕ) (n : ℕ) (P : Packed g n) (p : ℕ) (h : p < n) (o : ℕ) (ho : o < n) (xs ys : List Example) (i j : ℕ) (hi : i < length xs) (hj : j < length ys) (x y : ℕ)
+    (ex : x ≡ reductionAt (productionsIn g n) (nth xs i) 0 .nonterminal) (ey : y ≡ reductionAt (productionsIn g n) (nth ys j) 0 .nonterminal) where
   abbrev ps : List Production
   ps = productionsIn g n
 
-  pub reduction-spans : x ≡ y → (a b a′ : List ℕ) → a′ ≡ shown ps (some (keptAt ps actions i)) a → (s e s′ e′ : ℕ) → s ≡ getD g (productionPlace p + 2) 0 → e ≡ getD g (productionPlace p + 2 + 1) 0 → s′ ≡ getD g (productionPlace o + 2) 0 → e′ ≡ getD g (productionPlace o + 2 + 1) 0
-      → judgedWords (AmbiguousReduction s e s′ e′) a′ b ≡ shownOf ps a b (reduceAmbiguity ps (getD ps p noProduction) (getD ps o noProduction) (pairAt ps actions reduces i j))
-  unfolding reduceAmbiguity pairAt shownOf shown
-  reduction-spans q a b a′ ea s e s′ e′ es ee es′ ee′ =
+  pub reduction-spans : x ≡ y → (s e s′ e′ : ℕ) → s ≡ getD g (productionPlace p + 2) 0 → e ≡ getD g (productionPlace p + 2 + 1) 0 → s′ ≡ getD g (productionPlace o + 2) 0 → e′ ≡ getD g (productionPlace o + 2 + 1) 0
+      → Judges xs ys (record { class = AmbiguousReduction s e s′ e′; action = Number i; reduce = Nothing }) (reduceAmbiguity ps (getD ps p noProduction) (getD ps o noProduction) (pairIn xs ys i j))
+  unfolding reduceAmbiguity pairIn judgedIn shownIn ShownFits
+  reduction-spans q s e s′ e′ es ee es′ ee′ =
       let k : productionPlace p + 2 + 1 ≡ productionPlace p + 3 = omega arith in
       let k′ : productionPlace o + 2 + 1 ≡ productionPlace o + 3 = omega arith in
-      let m : eqb (reductionAt ps (keptAt ps actions i) 0 .nonterminal) (reductionAt ps (keptAt ps reduces j) 0 .nonterminal) ≡ true = rw (← ex, ← ey) (eq-eqb x y q) in
-      rw (m, reduceAmbiguity, es, ee, es′, ee′, k, k′, start-is g n P p h, end-is g n P p h, start-is g n P o ho, end-is g n P o ho, ea)
+      let m : eqb (reductionAt ps (nth xs i) 0 .nonterminal) (reductionAt ps (nth ys j) 0 .nonterminal) ≡ true = rw (← ex, ← ey) (eq-eqb x y q) in
+      record { same = rw (m, reduceAmbiguity, es, ee, es′, ee′, k, k′, start-is g n P p h, end-is g n P p h, start-is g n P o ho, end-is g n P o ho); action = hi; reduce = tt }
 
-  pub reduction-plain : (x ≡ y → ⊥) → withBoth Ambiguity (pairAt ps actions reduces i j) ≡ reduceAmbiguity ps (getD ps p noProduction) (getD ps o noProduction) (pairAt ps actions reduces i j)
-  unfolding reduceAmbiguity pairAt
+  pub reduction-plain : (x ≡ y → ⊥) → withBoth Ambiguity (pairIn xs ys i j) ≡ reduceAmbiguity ps (getD ps p noProduction) (getD ps o noProduction) (pairIn xs ys i j)
+  unfolding reduceAmbiguity pairIn
   reduction-plain ne =
-      let m : eqb (reductionAt ps (keptAt ps actions i) 0 .nonterminal) (reductionAt ps (keptAt ps reduces j) 0 .nonterminal) ≡ false = rw (← ex, ← ey) (ne-eqb x y ne) in
+      let m : eqb (reductionAt ps (nth xs i) 0 .nonterminal) (reductionAt ps (nth ys j) 0 .nonterminal) ≡ false = rw (← ex, ← ey) (ne-eqb x y ne) in
       rw (m, reduceAmbiguity)
 
 -- `optional`
@@ -259,7 +237,7 @@ module _ (g : List ℕ) (n : ℕ) (P : Packed g n) (p : ℕ) (hp : p < n) (q : �
         let l = rw z at (kind-small g n P q hq 0 (omega arith)) in
         (one-is (getD (productionsIn g n) p noProduction .symbols) _ (symbolOfKind k x) (omega (arith, count-is g n P p hp)) s, omega arith)
 
--- `question`
+-- `try_classify_question`
 
 optional-left : (xs ys : List Symbol) (x : Symbol) → some x ≡ optionalOne xs ys → some x ≡ optional xs ys
 unfolding optionalOne optional
@@ -280,37 +258,15 @@ optional-right (u ∷ []) (y ∷ ys) e = refl
 optional-right (u ∷ v ∷ xs) [] e = refl
 optional-right (u ∷ v ∷ xs) (y ∷ ys) e = refl
 
-question-kind : (w k x : ℕ) → QuestionFits (OfSymbol k x) → SuggestQuestion (record { 0 = w }) k x ≡ suggestQuestion w (symbolOfKind k x)
+pub question-kind : (w k x : ℕ) → QuestionFits (OfSymbol k x) → SuggestQuestion (record { 0 = w }) k x ≡ suggestQuestion w (symbolOfKind k x)
 unfolding suggestQuestion symbolOfKind QuestionFits
 question-kind w zero x h = refl
 question-kind w (suc zero) x h = refl
 question-kind w (suc (suc k)) x h = absurd (omega arith)
 
-judge-cons : (T : Table) (c : Conflict) (ps : List Production) (actions rows reduces columns : List ℕ) → 0 < length rows → 0 < length columns
-    → judge T c (ordered ps actions rows) (ordered ps reduces columns) ≡ ambiguousOr T c (firstPair (sameReading (T .productions)) (ordered ps actions rows) (ordered ps reduces columns)) (unambiguous T (c .production .0) (c .action) (ordered ps actions rows) (ordered ps reduces columns) (firstOf ps actions rows reduces columns))
-unfolding judge ordered firstOf pairAt
-judge-cons T c ps actions [] reduces columns ha hr = absurd (omega arith)
-judge-cons T c ps actions (x ∷ rows) reduces [] ha hr = absurd (omega arith)
-judge-cons T c ps actions (x ∷ rows) reduces (y ∷ columns) ha hr = refl
-
-module _ (t g : List ℕ) (n terminals : ℕ) (sets : List ℕ) (R : Reads t g n terminals sets) where
+module _ (t g : List ℕ) (n : ℕ) (acc : checkOf t ≡ Accepted) (G : Grammar (meaning t) g n) where
   abbrev T : Table
   T = meaning t
-
-  pub reads-packed : Packed g n
-  reads-packed = R .read .packed
-
-  pub reads-tokens : terminals ≤ 63
-  reads-tokens = omega (arith, R .read .tokens, fits t (R .read .accepted) .few-terminals)
-
-  pub reads-production : (p : ℕ) → getD (productionsIn g n) p noProduction ≡ productionAt T p
-  reads-production p = rw (R .read .same)
-
-  pub reads-owner : (p : ℕ) → p < n → (w : ℕ) → w ≡ getD g (productionPlace p) 0 → (w ≡ productionAt T p .nonterminal) × (w < length (T .nonterminals))
-  reads-owner p h w e =
-      let q : w ≡ productionAt T p .nonterminal = e ∙ sym (owner-is g n (R .read .packed) p h) ∙ ap (λ (x : Production). x .nonterminal) (reads-production p) in
-      let f = All-at (ProductionFits T) (T .productions) p noProduction (fits t (R .read .accepted) .productions) (omega (arith, R .read .many)) .owner in
-      (q, omega arith)
 
   module _ (nt head : ℕ) (eh : productionsFrom t head ≡ getD (T .nonterminals) nt []) where
     abbrev Question : Option Symbol
@@ -332,7 +288,7 @@ module _ (t g : List ℕ) (n terminals : ℕ) (sets : List ℕ) (R : Reads t g n
         pub question-many : (after ≡ 0 → ⊥) → ProductionHead t after → (questionIn NoSymbol ≡ Question) × QuestionFits NoSymbol
         unfolding questionIn questionOf optionalOf QuestionFits
         question-many ne H =
-            let er = production-read t (accepts t (R .read .accepted)) after _ _ ne H refl refl .list in
+            let er = production-read t (accepts t acc) after _ _ ne H refl refl .list in
             (rw (← eh, ep, eq, er), tt)
 
         module _ (end : after ≡ 0) where
@@ -341,7 +297,7 @@ module _ (t g : List ℕ) (n terminals : ℕ) (sets : List ℕ) (R : Reads t g n
           two-is = rw (← eh, ep, eq, end, productions-end t)
 
           own : (x : ℕ) → getD (productionsIn g n) x noProduction .symbols ≡ symbolsOf x
-          own x = ap (λ (y : Production). y .symbols) (reads-production x)
+          own x = ap (λ (ps : List Production). getD ps x noProduction .symbols) (G .same)
 
           pub question-left : (r : OptionalSymbol) (k x : ℕ) → r ≡ OfSymbol k x → (questionIn r ≡ optionalOne (getD (productionsIn g n) p noProduction .symbols) (getD (productionsIn g n) q noProduction .symbols)) → QuestionFits r → (questionIn (OfSymbol k x) ≡ Question) × QuestionFits (OfSymbol k x)
           unfolding questionIn
@@ -354,168 +310,3 @@ module _ (t g : List ℕ) (n terminals : ℕ) (sets : List ℕ) (R : Reads t g n
           question-right r r′ er e e′ =
               let f : none ≡ optionalOne (symbolsOf p) (symbolsOf q) = rw (er, own p, own q) at e in
               e′ ∙ rw (own p, own q) (optional-right (symbolsOf p) (symbolsOf q) f) ∙ sym two-is
-
-  -- `inline_or`, `shift_unambiguous`, `judge_sorted`
-
-  module _ (actions rows reduces columns : List ℕ) where
-    abbrev as′ : List Example
-    as′ = ordered (productionsIn g n) actions rows
-
-    abbrev rs : List Example
-    rs = ordered (productionsIn g n) reduces columns
-
-    abbrev firsts : Pair Example
-    firsts = firstOf (productionsIn g n) actions rows reduces columns
-
-    -- the inline test is that of the table
-    pub inline-table : firstPair (inlinesBy terminals sets (productionsIn g n)) as′ rs ≡ firstPair (inlines T) as′ rs
-    inline-table = pair-agree (inlinesBy terminals sets (productionsIn g n)) (inlines T) (λ a r. rw (R .read .tokens, R .read .firsts, R .read .same) (inlines-is T a r)) as′ rs
-
-    module _ (p w : ℕ) (ew : w ≡ productionAt T p .nonterminal) (r : OptionalSymbol) (er : questionIn r ≡ questionOf T w) where
-      pub unambiguous-question : (k x : ℕ) → r ≡ OfSymbol k x → QuestionFits r → withBoth (SuggestQuestion (record { 0 = w }) k x) firsts ≡ unambiguous T p 0 as′ rs firsts
-      unfolding unambiguous questionOr questionIn
-      unambiguous-question k x e f =
-          let q : questionOf T (productionAt T p .nonterminal) ≡ some (symbolOfKind k x) = rw (← ew, ← er, e) in
-          rw (q, ← ew) (ap (λ (z : Class). withBoth z firsts) (question-kind w k x (rw e at f)))
-
-      pub unambiguous-inline : r ≡ NoSymbol → inlineOr (T .productions) firsts (firstPair (inlines T) as′ rs) ≡ unambiguous T p 0 as′ rs firsts
-      unfolding unambiguous questionOr questionIn
-      unambiguous-inline e = let q : questionOf T (productionAt T p .nonterminal) ≡ none = rw (← ew, ← er, e) in rw q
-
-    module _ (c : Conflict) (ha : 0 < length rows) (hr : 0 < length columns) (f : Found) (ef : pairOf (keptAt (productionsIn g n) actions) (keptAt (productionsIn g n) reduces) f ≡ firstPair (sameReading (productionsIn g n)) as′ rs) where
-      judge-is : judge T c as′ rs ≡ ambiguousOr T c (firstPair (sameReading (T .productions)) as′ rs) (unambiguous T (c .production .0) (c .action) as′ rs firsts)
-      judge-is = judge-cons T c (productionsIn g n) actions rows reduces columns ha hr
-
-      pub judge-pair : (i j : ℕ) → f ≡ At i j → ambiguityOf T (c .production .0) (c .action) (c .operand) (pairAt (productionsIn g n) actions reduces i j) ≡ judge T c as′ rs
-      unfolding ambiguousOr pairOf pairAt
-      judge-pair i j e =
-          let q : firstPair (sameReading (T .productions)) as′ rs ≡ some (record { action = keptAt (productionsIn g n) actions i; reduce = keptAt (productionsIn g n) reduces j }) = rw (← R .read .same) (sym ef ∙ rw e) in
-          sym (judge-is ∙ rw q)
-
-      pub judge-none : f ≡ Nothing → unambiguous T (c .production .0) (c .action) as′ rs firsts ≡ judge T c as′ rs
-      unfolding ambiguousOr pairOf
-      judge-none e =
-          let q : firstPair (sameReading (T .productions)) as′ rs ≡ none = rw (← R .read .same) (sym ef ∙ rw e) in
-          sym (judge-is ∙ rw q)
-
--- what a conflict in range gives
-and-left : (a b : Bool) → a && b ≡ true → a ≡ true
-and-left true b e = refl
-and-left false b e = e
-
-and-right : (a b : Bool) → a && b ≡ true → b ≡ true
-and-right true b e = e
-and-right false b e = clash false e refl
-
-pub conflict-production : (T : Table) (c : Conflict) → placeFits T c ≡ true → c .production .0 < length (T .productions)
-unfolding placeFits
-conflict-production T c e = ltb-true (c .production .0) (length (T .productions)) (and-left _ _ (and-right (ltb (c .state .0) (length (T .states))) _ e))
-
-operand-inside : (T : Table) (k o : ℕ) → operandFits T k o ≡ true → (k ≡ 0 → ⊥) → o < length (T .productions)
-unfolding operandFits
-operand-inside T zero o e ne = absurd (ne refl)
-operand-inside T (suc zero) o e ne = ltb-true o (length (T .productions)) e
-operand-inside T (suc (suc k)) o e ne = clash false e refl
-
-pub conflict-operand : (T : Table) (c : Conflict) → placeFits T c ≡ true → (c .action ≡ 0 → ⊥) → c .operand < length (T .productions)
-unfolding placeFits
-conflict-operand T c e ne =
-    operand-inside T (c .action) (c .operand) (and-right (ltb (c .production .0) (length (T .productions))) _ (and-right (ltb (c .state .0) (length (T .states))) _ e)) ne
-
--- the action of a conflict
-pub ambiguity-shift : (T : Table) (p k o : ℕ) (q : Pair Example) → k ≡ 0 → shiftAmbiguity (productionAt T p) o q ≡ ambiguityOf T p k o q
-unfolding ambiguityOf
-ambiguity-shift T p k o q e = rw e
-
-pub ambiguity-reduce : (T : Table) (p k o : ℕ) (q : Pair Example) → (k ≡ 0 → ⊥) → reduceAmbiguity (T .productions) (productionAt T p) (productionAt T o) q ≡ ambiguityOf T p k o q
-unfolding ambiguityOf
-ambiguity-reduce T p zero o q ne = absurd (ne refl)
-ambiguity-reduce T p (suc k) o q ne = refl
-
-pub unambiguous-shift : (T : Table) (p k : ℕ) (as′ rs : List Example) (q : Pair Example) → k ≡ 0 → unambiguous T p 0 as′ rs q ≡ unambiguous T p k as′ rs q
-unambiguous-shift T p k as′ rs q e = rw e
-
-pub unambiguous-reduce : (T : Table) (p k : ℕ) (as′ rs : List Example) (q : Pair Example) → (k ≡ 0 → ⊥) → withBoth InsufficientLookahead q ≡ unambiguous T p k as′ rs q
-unfolding unambiguous
-unambiguous-reduce T p zero as′ rs q ne = absurd (ne refl)
-unambiguous-reduce T p (suc k) as′ rs q ne = refl
-
--- `inline_or`
-module _ (ps : List Production) (firsts : Pair Example) (actions reduces : List ℕ) (f : Found) (o : Option (Pair Example)) (ef : pairOf (keptAt ps actions) (keptAt ps reduces) f ≡ o) where
-  pub inline-pair-is : (i j w : ℕ) → f ≡ At i j → w ≡ reductionAt ps (keptAt ps reduces j) 0 .nonterminal → withBoth (SuggestInline (record { 0 = w })) (pairAt ps actions reduces i j) ≡ inlineOr ps firsts o
-  unfolding inlineOr pairOf pairAt
-  inline-pair-is i j w e ew = rw (← ef, e, ← ew)
-
-  pub inline-none-is : f ≡ Nothing → withBoth InsufficientLookahead firsts ≡ inlineOr ps firsts o
-  unfolding inlineOr pairOf
-  inline-none-is e = rw (← ef, e)
-
-pub pair-has : (ps : List Production) (actions reduces : List ℕ) (f : Found) (i j : ℕ) → PairHas ps actions reduces f → f ≡ At i j → Has ps actions i × Has ps reduces j
-unfolding PairHas
-pair-has ps actions reduces f i j H e = rw e at H
-
--- the first of an order
-pub first-is : (ps : List Production) (actions rows reduces columns : List ℕ) (x y : ℕ) → x ≡ getD rows 0 0 → y ≡ getD columns 0 0 → pairAt ps actions reduces x y ≡ firstOf ps actions rows reduces columns
-unfolding firstOf
-first-is ps actions rows reduces columns x y ex ey = rw (ex, ey)
-
--- a judgement of equal things
-pub shown-same : (ps : List Production) (a b : List ℕ) (j k : Judged) (w : Judgement) → w ≡ shownOf ps a b j → j ≡ k → w ≡ shownOf ps a b k
-shown-same ps a b j k w e q = e ∙ ap (shownOf ps a b) q
-
--- `judge`
-none-kept : (ps : List Production) (ws : List ℕ) → kept ps ws 0 ≡ []
-unfolding kept below upFrom
-none-kept ps ws = refl
-
-sorted-none : (key : Example → ℕ) → sortedBy key [] ≡ []
-unfolding sortedBy sortedFrom
-sorted-none key = refl
-
-judge-left : (T : Table) (c : Conflict) (rs : List Example) → judge T c [] rs ≡ record { class = Naive; action = none; reduce = none }
-unfolding judge
-judge-left T c rs = refl
-
-judge-right : (T : Table) (c : Conflict) (as′ : List Example) → judge T c as′ [] ≡ record { class = Naive; action = none; reduce = none }
-unfolding judge
-judge-right T c [] = refl
-judge-right T c (a ∷ as′) = refl
-
-pub naive-left : (T : Table) (c : Conflict) (actions reduces : List ℕ) (m k : ℕ) (a b : List ℕ) → m ≡ 0 → judgedWords Naive a b ≡ shownOf (T .productions) a b (judged T c (kept (T .productions) actions m) (kept (T .productions) reduces k))
-unfolding judged shownOf shown
-naive-left T c actions reduces m k a b e = rw (e, none-kept (T .productions) actions, sorted-none (symbolCount (T .productions)), judge-left T c (sortedBy (symbolCount (T .productions)) (kept (T .productions) reduces k)))
-
-pub naive-right : (T : Table) (c : Conflict) (actions reduces : List ℕ) (m k : ℕ) (a b : List ℕ) → k ≡ 0 → judgedWords Naive a b ≡ shownOf (T .productions) a b (judged T c (kept (T .productions) actions m) (kept (T .productions) reduces k))
-unfolding judged shownOf shown
-naive-right T c actions reduces m k a b e = rw (e, none-kept (T .productions) reduces, sorted-none (symbolCount (T .productions)), judge-right T c (sortedBy (symbolCount (T .productions)) (kept (T .productions) actions m)))
-
-pub has-all : (ps : List Production) (ws : List ℕ) (n : ℕ) (order : List ℕ) → Kept ps ws n → All (λ k. k < n) order → All (Has ps ws) order
-unfolding All
-has-all ps ws n [] K A = tt
-has-all ps ws n (k ∷ order) K A = (record { count = n; all = K; inside = A .0 }, has-all ps ws n order K (A .1))
-
-pub judged-is : (T : Table) (c : Conflict) (ps : List Production) (actions reduces rows columns : List ℕ) (m k : ℕ) (a b : List ℕ) (w : Judgement) → ps ≡ T .productions
-    → map (keptAt ps actions) rows ≡ sortedBy (symbolCount ps) (kept ps actions m) → map (keptAt ps reduces) columns ≡ sortedBy (symbolCount ps) (kept ps reduces k)
-    → w ≡ shownOf ps a b (judge T c (ordered ps actions rows) (ordered ps reduces columns)) → w ≡ shownOf (T .productions) a b (judged T c (kept (T .productions) actions m) (kept (T .productions) reduces k))
-unfolding judged ordered
-judged-is T c ps actions reduces rows columns m k a b w e er ec ew =
-    ew
-    ∙ ap (λ (xs : List Example). shownOf ps a b (judge T c xs (map (keptAt ps reduces) columns))) er
-    ∙ ap (λ (ys : List Example). shownOf ps a b (judge T c (sortedBy (symbolCount ps) (kept ps actions m)) ys)) ec
-    ∙ ap (λ (l : List Production). shownOf l a b (judge T c (sortedBy (symbolCount l) (kept l actions m)) (sortedBy (symbolCount l) (kept l reduces k)))) e
-
--- what the smaller functions say of the packed productions, said of the table
-module _ (t g : List ℕ) (n terminals : ℕ) (sets : List ℕ) (R : Reads t g n terminals sets) where
-  pub inline-table-or : (actions rows reduces columns : List ℕ) →
-      inlineOr (productionsIn g n) (firstOf (productionsIn g n) actions rows reduces columns) (firstPair (inlinesBy terminals sets (productionsIn g n)) (ordered (productionsIn g n) actions rows) (ordered (productionsIn g n) reduces columns))
-      ≡ inlineOr (meaning t .productions) (firstOf (productionsIn g n) actions rows reduces columns) (firstPair (inlines (meaning t)) (ordered (productionsIn g n) actions rows) (ordered (productionsIn g n) reduces columns))
-  inline-table-or actions rows reduces columns =
-      let q = inline-table t g n terminals sets R actions rows reduces columns in
-      ap (λ (o : Option (Pair Example)). inlineOr (productionsIn g n) (firstOf (productionsIn g n) actions rows reduces columns) o) q
-      ∙ ap (λ (ps : List Production). inlineOr ps (firstOf (productionsIn g n) actions rows reduces columns) (firstPair (inlines (meaning t)) (ordered (productionsIn g n) actions rows) (ordered (productionsIn g n) reduces columns))) (R .read .same)
-
-  pub reduce-reads : (p o : ℕ) (q : Pair Example) → reduceAmbiguity (productionsIn g n) (getD (productionsIn g n) p noProduction) (getD (productionsIn g n) o noProduction) q ≡ reduceAmbiguity (meaning t .productions) (productionAt (meaning t) p) (productionAt (meaning t) o) q
-  reduce-reads p o q = ap (λ (ps : List Production). reduceAmbiguity ps (getD ps p noProduction) (getD ps o noProduction) q) (R .read .same)
-
-  pub shift-reads : (p o : ℕ) (q : Pair Example) → shiftAmbiguity (getD (productionsIn g n) p noProduction) o q ≡ shiftAmbiguity (productionAt (meaning t) p) o q
-  shift-reads p o q = ap (λ (P : Production). shiftAmbiguity P o q) (reads-production t g n terminals sets R p)

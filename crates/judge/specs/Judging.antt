@@ -1,45 +1,107 @@
--- What the contracts of this crate cite: what is read of a table, and what a class comes out with. Assumes nothing: these are definitions.
-use Prim.Native.Nat.{ℕ, _<_}
-use mathlib.Core.List.{List, [], _∷_}
+-- What the contracts of this crate cite: two sides as they are kept, a class with the numbers of the examples shown, the first pair that is read alike. Assumes nothing: these are definitions.
+use Prim.Native.Nat.{ℕ, _≤_, _<_}
+use mathlib.Core.Path.{_≡_}
+use mathlib.Core.Bool.{false}
+use mathlib.Core.List.{List, [], _∷_, map}
 use mathlib.Core.Option.{Option, none, some}
-use lib.ListN.{getD}
-use Rattle.repr.specs.Meaning.{Symbol, Production}
+use lib.ListN.{length, getD}
+use Rattle.repr.specs.Sizes.{exampleRoom}
+use Rattle.repr.specs.Meaning.{Symbol, Production, Table, All}
 use Rattle.repr.specs.Listed.{symbolOfKind}
+use Rattle.slices.specs.Lent.{inFront}
+use Rattle.example.specs.Example.{exampleWords}
 use Rattle.error.specs.declared.Class.{Class}
-use Rattle.error.specs.Sorted.{Pair}
-use Rattle.error.specs.Kept.{Read, keptAt}
-use Rattle.error.specs.Judge.{Example, Judged}
-use Rattle.error.specs.Outcome.{shown}
+use Rattle.error.specs.declared.Conflict.{Conflict}
+use Rattle.error.specs.Sorted.{Pair, firstPair}
+use Rattle.error.specs.Judge.{Example, Judged, sameReading}
+use Rattle.outline.specs.Kept.{nth}
+use Rattle.pairs.specs.declared.Found.{Found}
+use Rattle.pairs.specs.declared.Found.the-variants.{At, Nothing as NotFound}
+use Rattle.examples.specs.Gathers.{SideKept, isShift, actionMade, reduceMade}
+use Rattle.judge.specs.declared.Shown.{Shown}
+use Rattle.judge.specs.declared.Shown.the-variants.{Number, Nothing}
+use Rattle.judge.specs.declared.Judged.{Judged as JudgedValue}
 use Rattle.judge.specs.declared.OptionalSymbol.{OptionalSymbol}
-use Rattle.judge.specs.declared.OptionalSymbol.the-variants.{Symbol as OfSymbol, Nothing}
+use Rattle.judge.specs.declared.OptionalSymbol.the-variants.{Symbol as OfSymbol, Nothing as NoSymbol}
 
--- an accepted table, its productions in words and its FIRST sets, for some number of nonterminals
-pub record Reads (t g : List ℕ) (productions terminals : ℕ) (sets : List ℕ) : Type 0 where
-  pub nonterminals : ℕ
-  pub read : Read t g productions nonterminals terminals sets
+-- an example that a buffer has room for stands at the front of one
+pub record InBuffer (ps : List Production) (x : Example) (b : List ℕ) : Type 0 where
+  pub few : length (exampleWords ps x) ≤ exampleRoom
+  pub before : List ℕ
+  pub words : b ≡ inFront (exampleWords ps x) before
 
--- example i of the action side with example j of the reduce side
-unfoldable pub pairAt : List Production → List ℕ → List ℕ → ℕ → ℕ → Pair Example
-pairAt ps actions reduces i j = record { action = keptAt ps actions i; reduce = keptAt ps reduces j }
+-- both sides of a conflict as they are kept
+pub record Sides (T : Table) (c : Conflict) (xs ys : List Example) (actions prints reduces others : List ℕ) : Type 0 where
+  pub action : SideKept T (isShift c) (actionMade T c) xs actions prints
+  pub reduce : SideKept T false (reduceMade T (c .state .0) (c .production .0) (c .token)) ys reduces others
+
+-- an order of a side's examples, not empty
+pub record Ordered (xs : List Example) (order : List ℕ) : Type 0 where
+  pub inside : All (λ k. k < length xs) order
+  pub any : 0 < length order
+
+-- a side's examples in an order
+unfoldable pub picked : List Example → List ℕ → List Example
+picked xs order = map (nth xs) order
+
+unfoldable pub pairIn : List Example → List Example → ℕ → ℕ → Pair Example
+pairIn xs ys i j = record { action = nth xs i; reduce = nth ys j }
 
 -- the first of each order
-unfoldable pub firstOf : List Production → List ℕ → List ℕ → List ℕ → List ℕ → Pair Example
-firstOf ps actions rows reduces columns = pairAt ps actions reduces (getD rows 0 0) (getD columns 0 0)
+unfoldable pub headsIn : List Example → List Example → List ℕ → List ℕ → Pair Example
+headsIn xs ys rows columns = pairIn xs ys (getD rows 0 0) (getD columns 0 0)
 
--- a class, and the words of the two example buffers
-pub data Judgement : Type 0 where
-  judgedWords : Class → List ℕ → List ℕ → Judgement
+unfoldable pub both : Class → ℕ → ℕ → JudgedValue
+both k i j = record { class = k; action = Number i; reduce = Number j }
 
-unfoldable pub shownOf : List Production → List ℕ → List ℕ → Judged → Judgement
-shownOf ps action reduce j = judgedWords (j .class) (shown ps (j .action) action) (shown ps (j .reduce) reduce)
+unfoldable pub shownIn : List Example → Shown → Option Example
+shownIn xs (Number k) = some (nth xs k)
+shownIn xs Nothing = none
+
+unfoldable pub judgedIn : List Example → List Example → JudgedValue → Judged
+judgedIn xs ys v = record { class = v .class; action = shownIn xs (v .action); reduce = shownIn ys (v .reduce) }
+
+unfoldable pub ShownFits : ℕ → Shown → Type 0
+ShownFits n (Number k) = k < n
+ShownFits n Nothing = Unit {0}
+
+-- it says what the examples are judged, and shows examples of theirs
+pub record Judges (xs ys : List Example) (v : JudgedValue) (j : Judged) : Type 0 where
+  pub same : judgedIn xs ys v ≡ j
+  pub action : ShownFits (length xs) (v .action)
+  pub reduce : ShownFits (length ys) (v .reduce)
+
+-- the pair that was found, by its numbers
+unfoldable pub foundIn : List Example → List Example → Found → Option (Pair Example)
+foundIn xs ys (At i j) = some (pairIn xs ys i j)
+foundIn xs ys NotFound = none
+
+unfoldable pub FoundFits : ℕ → ℕ → Found → Type 0
+FoundFits m n (At i j) = (i < m) × (j < n)
+FoundFits m n NotFound = Unit {0}
+
+-- the first pair that is read alike, by its numbers, or none
+pub record ReadAlike (ps : List Production) (xs ys : List Example) (rows columns : List ℕ) (found : Found) : Type 0 where
+  pub same : foundIn xs ys found ≡ firstPair (sameReading ps) (picked xs rows) (picked ys columns)
+  pub fits : FoundFits (length xs) (length ys) found
+
+-- the examples of the pair that was found stand in two buffers
+unfoldable pub FoundMade : List Production → List Example → List Example → Found → List ℕ → List ℕ → Type 0
+FoundMade ps xs ys (At i j) a b = InBuffer ps (nth xs i) a × InBuffer ps (nth ys j) b
+FoundMade ps xs ys NotFound a b = Unit {0}
+
+-- the example that is shown, if there is one, stands in a buffer
+unfoldable pub ShownMade : List Production → List Example → Shown → List ℕ → Type 0
+ShownMade ps xs (Number k) b = InBuffer ps (nth xs k) b
+ShownMade ps xs Nothing b = Unit {0}
 
 unfoldable pub questionIn : OptionalSymbol → Option Symbol
 questionIn (OfSymbol k n) = some (symbolOfKind k n)
-questionIn Nothing = none
+questionIn NoSymbol = none
 
 unfoldable pub QuestionFits : OptionalSymbol → Type 0
 QuestionFits (OfSymbol k n) = k < 2
-QuestionFits Nothing = Unit {0}
+QuestionFits NoSymbol = Unit {0}
 
 -- the one symbol of the second list where the first is empty
 unfoldable pub optionalOne : List Symbol → List Symbol → Option Symbol

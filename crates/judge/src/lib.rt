@@ -1,65 +1,342 @@
-// The class of a conflict from the examples of its two sides (`classify` and the three `try_classify_` of lr1/error/mod.rs; part 8 of document 01).
+// The class of a conflict from what is kept of its examples (`classify` and the three `try_classify_` of lr1/error/mod.rs; part 8 of document 01, request 06 of document 02). Of either side the code has what is kept of the examples, their prints, and their order: of the action side `actions`, `action_prints`, `rows`, of the reduce side `reduces`, `reduce_prints`, `columns`.
 use error::Class;
 use error::Conflict;
-use pairs::Pair;
-use pairs::ambiguous_pair;
-use pairs::inline_pair;
-use pairs::same_symbol;
+use example::Example as ExampleBuffer;
+use examples::action_again;
+use examples::reduce_again;
+use outline::outline_at;
+use outline::turn_at;
+use pairs::Found;
+use pairs::Test;
+use pairs::first_pair;
 use repr::NonterminalString;
 use repr::ProductionIndex;
 use repr::word;
-use sides::sort_side;
-use sides::write_kept;
+use slices::copy_words;
+use table::Checked;
+use table::Counts;
 use table::first_production;
 use table::production;
 ghost use mathlib.Core.Path.{_≡_};
-ghost use mathlib.Core.Bool.{true};
-ghost use Prim.Native.Nat.{ℕ, _+_, _*_, _≤_, _<_};
-ghost use lib.ListN.{length, getD};
+ghost use mathlib.Core.Bool.{true, false};
+ghost use mathlib.Core.List.{List};
+ghost use Prim.Native.Nat.{_+_, _≤_, _<_};
+ghost use lib.ListN.{length, getD, take, drop};
 ghost use Rattle.repr.specs.Sizes.{exampleRoom};
-ghost use Rattle.repr.specs.Meaning.{All, noProduction};
+ghost use Rattle.repr.specs.Meaning.{Table, Production, noProduction, sameSymbol};
+ghost use Rattle.repr.specs.Listed.{symbolOfKind};
 ghost use Rattle.repr.specs.Packed.{Packed, productionsIn};
+ghost use Rattle.slices.specs.Same.{sameWords};
+ghost use Rattle.slices.specs.Lent.{inFront};
 ghost use Rattle.table.specs.Decoded.{meaning};
-ghost use Rattle.error.specs.Kept.{Kept, keptAt, kept};
+ghost use Rattle.table.specs.Refusals.{checkOf};
+ghost use Rattle.example.specs.Example.{exampleWords};
+ghost use Rattle.error.specs.Judge.{Example, sameReading, isOperator, shiftAmbiguity, reduceAmbiguity, ambiguityOf, questionOf, inlineOr, unambiguous, judge};
 ghost use Rattle.error.specs.Sorted.{firstPair};
-ghost use Rattle.error.specs.Judge.{withBoth, isOperator, shiftAmbiguity, reduceAmbiguity, reductionAt, questionOf, inlineOr, unambiguous, judge, judged};
-ghost use Rattle.error.specs.Outcome.{placeFits};
-ghost use Rattle.sides.specs.Order.{Has};
-ghost use Rattle.pairs.specs.Pairs.{ordered};
-ghost use Rattle.pairs.specs.Tests.{inlinesBy};
-ghost use Rattle.judge.specs.Judging.{Reads, pairAt, judgedWords, shownOf, questionIn, QuestionFits, optionalOne, firstOf};
+ghost use Rattle.error.specs.Judge as judging;
+ghost use Rattle.error.specs.Outcome.{conflictFits};
+ghost use Rattle.shift_items.specs.Codes.{Grammar};
+ghost use Rattle.outline.specs.Kept.{nth};
+ghost use Rattle.examples.specs.Reads.{Reads};
+ghost use Rattle.examples.specs.Gathers.{SideKept, isShift, actionMade, reduceMade};
+ghost use Rattle.judge.specs.Judging.{InBuffer, Sides, Ordered, picked, pairIn, headsIn, both, Judges, ReadAlike, FoundMade, ShownMade, questionIn, QuestionFits, optionalOne};
 
-// The nonterminal of an example's first reduction.
-fn first_nonterminal(grammar: &[u16], productions: usize, words: &[u16], example: usize) -> u16
-    requires { ⌜ Packed (now grammar) productions ⌝ }
-    requires { ⌜ Has (productionsIn (now grammar) productions) (now words) example ⌝ }
-    ensures { λ r. ⌜ r ≡ reductionAt (productionsIn (now (grammar .entry)) productions) (keptAt (productionsIn (now (grammar .entry)) productions) (now (words .entry)) example) 0 .nonterminal ⌝ }
-{
-    let code = word(words, example * Conflict::KEPT_WORDS + 1);
-    let at = code / ProductionIndex::INDEXES * ProductionIndex::WORDS;
-    grammar[at]
+// An example that is shown, by its number, or none.
+pub enum Shown {
+    Number(usize),
+    Nothing,
 }
 
-// A class that shows an example of each side: both are written.
-fn with_both(
-    class: Class,
+// A class and the examples that are shown with it.
+pub struct Judged {
+    pub class: Class,
+    pub action: Shown,
+    pub reduce: Shown,
+}
+
+// What was judged, and whether its examples stand at the front of the buffers lent for the pair that is made again.
+pub struct Verdict {
+    pub judged: Judged,
+    pub made: bool,
+}
+
+// Example k of the action side, written at the front of a buffer.
+pub fn write_action(
+    table: &[u16],
     grammar: &[u16],
-    productions: usize,
+    counts: Counts,
+    map: &[u64; NonterminalString::LIMIT],
+    least: &[u8],
+    ends: &[u64],
+    conflict: Conflict,
     actions: &[u16],
-    i: usize,
+    action_prints: &[u64],
+    k: usize,
+    buffer: &mut [u16],
+)
+    requires { ⌜ Reads (now table) (now grammar) counts (now map) (now least) (now ends) × (conflictFits (meaning (now table)) conflict ≡ true) ⌝ }
+    requires { ⌜ ((xs : List Example) × (SideKept (meaning (now table)) (isShift conflict) (actionMade (meaning (now table)) conflict) xs (now actions) (now «action_prints») × (k < length xs))) ⌝ }
+    requires { ⌜ exampleRoom ≤ length (now buffer) ⌝ }
+    ensures { λ _. ⌜ ((xs : List Example) → SideKept (meaning (now (table .entry))) (isShift conflict) (actionMade (meaning (now (table .entry))) conflict) xs (now (actions .entry)) (now («action_prints» .entry)) → k < length xs → now (buffer .exit) ≡ inFront (exampleWords (meaning (now (table .entry)) .productions) (nth xs k)) (now (buffer .entry))) ⌝ }
+{
+    let outline = outline_at(actions, action_prints, k);
+    let turn = turn_at(actions, k);
+    action_again(
+        table,
+        grammar,
+        counts,
+        map,
+        least,
+        ends,
+        conflict,
+        outline.label,
+        turn,
+        buffer,
+    );
+}
+
+// Example k of the reduce side, written at the front of a buffer.
+pub fn write_reduce(
+    table: &[u16],
+    grammar: &[u16],
+    counts: Counts,
+    map: &[u64; NonterminalString::LIMIT],
+    least: &[u8],
+    ends: &[u64],
+    conflict: Conflict,
     reduces: &[u16],
-    j: usize,
+    reduce_prints: &[u64],
+    k: usize,
+    buffer: &mut [u16],
+)
+    requires { ⌜ Reads (now table) (now grammar) counts (now map) (now least) (now ends) × (conflictFits (meaning (now table)) conflict ≡ true) ⌝ }
+    requires { ⌜ ((ys : List Example) × (SideKept (meaning (now table)) false (reduceMade (meaning (now table)) (conflict .state .0) (conflict .production .0) (conflict .token)) ys (now reduces) (now «reduce_prints») × (k < length ys))) ⌝ }
+    requires { ⌜ exampleRoom ≤ length (now buffer) ⌝ }
+    ensures { λ _. ⌜ ((ys : List Example) → SideKept (meaning (now (table .entry))) false (reduceMade (meaning (now (table .entry))) (conflict .state .0) (conflict .production .0) (conflict .token)) ys (now (reduces .entry)) (now («reduce_prints» .entry)) → k < length ys → now (buffer .exit) ≡ inFront (exampleWords (meaning (now (table .entry)) .productions) (nth ys k)) (now (buffer .entry))) ⌝ }
+{
+    let state = conflict.state;
+    let production = conflict.production.0 as usize;
+    let token = conflict.token;
+    let turn = turn_at(reduces, k);
+    reduce_again(
+        table,
+        grammar,
+        counts,
+        map,
+        least,
+        ends,
+        state,
+        production,
+        token,
+        turn,
+        buffer,
+    );
+}
+
+// How many words the example at the front of a buffer has.
+fn example_words(buffer: &[u16]) -> usize
+    requires { ⌜ ((ps : List Production) × ((x : Example) × InBuffer ps x (now buffer))) ⌝ }
+    ensures { λ r. ⌜ ((ps : List Production) (x : Example) → InBuffer ps x (now (buffer .entry)) → r ≡ length (exampleWords ps x)) ⌝ }
+{
+    let symbols = word(buffer, 0);
+    let reductions = word(buffer, 2);
+    3 + ExampleBuffer::SYMBOL_WORDS * symbols + ExampleBuffer::REDUCTION_WORDS * reductions
+}
+
+// The example at the front of one buffer, written at the front of another.
+pub fn write_made(made: &[u16], buffer: &mut [u16])
+    requires { ⌜ ((ps : List Production) × ((x : Example) × InBuffer ps x (now made))) ⌝ }
+    requires { ⌜ exampleRoom ≤ length (now buffer) ⌝ }
+    ensures { λ _. ⌜ ((ps : List Production) (x : Example) → InBuffer ps x (now (made .entry)) → now (buffer .exit) ≡ inFront (exampleWords ps x) (now (buffer .entry))) ⌝ }
+{
+    let count = example_words(made);
+    copy_words(made, buffer, count);
+}
+
+// Whether `count` words from `from` on are the same in both.
+fn same_words(action: &[u16], reduce: &[u16], from: usize, count: usize) -> bool
+    requires { ⌜ (from + count ≤ length (now action)) × (from + count ≤ length (now reduce)) × (from + count < 65536) ⌝ }
+    ensures { λ r. ⌜ r ≡ sameWords (take count (drop from (now (action .entry)))) (take count (drop from (now (reduce .entry)))) ⌝ }
+{
+    let mut i: usize = 0;
+    while i < count {
+        if word(action, from + i) != word(reduce, from + i) {
+            return false;
+        }
+        i += 1;
+    }
+    true
+}
+
+// Whether two examples have the same symbols and the same cursor.
+fn same_reading(action: &[u16], reduce: &[u16]) -> bool
+    requires { ⌜ ((ps : List Production) × ((x : Example) × ((y : Example) × (InBuffer ps x (now action) × InBuffer ps y (now reduce))))) ⌝ }
+    ensures { λ r. ⌜ ((ps : List Production) (x y : Example) → InBuffer ps x (now (action .entry)) → InBuffer ps y (now (reduce .entry)) → r ≡ sameReading ps x y) ⌝ }
+{
+    let count = word(action, 0);
+    if count != word(reduce, 0) {
+        return false;
+    }
+    if word(action, 1) != word(reduce, 1) {
+        return false;
+    }
+    same_words(action, reduce, 3, 2 * count)
+}
+
+// Whether two symbols are the same, each by kind and number.
+fn same_symbol(kind: usize, number: usize, other: usize, value: usize) -> bool
+    requires { ⌜ (kind < 2) × (other < 2) ⌝ }
+    ensures { λ r. ⌜ r ≡ sameSymbol (symbolOfKind kind number) (symbolOfKind other value) ⌝ }
+{
+    if kind != other {
+        return false;
+    }
+    number == value
+}
+
+// Whether examples x and y, made again in the buffers lent, are read alike.
+fn same_again(
+    table: &[u16],
+    grammar: &[u16],
+    counts: Counts,
+    map: &[u64; NonterminalString::LIMIT],
+    least: &[u8],
+    ends: &[u64],
+    conflict: Conflict,
+    actions: &[u16],
+    action_prints: &[u64],
+    x: usize,
+    reduces: &[u16],
+    reduce_prints: &[u64],
+    y: usize,
     action: &mut [u16],
     reduce: &mut [u16],
-) -> Class
-    requires { ⌜ Packed (now grammar) productions ⌝ }
-    requires { ⌜ Has (productionsIn (now grammar) productions) (now actions) i × Has (productionsIn (now grammar) productions) (now reduces) j ⌝ }
+) -> bool
+    requires { ⌜ Reads (now table) (now grammar) counts (now map) (now least) (now ends) × (conflictFits (meaning (now table)) conflict ≡ true) ⌝ }
+    requires { ⌜ ((xs : List Example) × ((ys : List Example) × (Sides (meaning (now table)) conflict xs ys (now actions) (now «action_prints») (now reduces) (now «reduce_prints») × ((x < length xs) × (y < length ys))))) ⌝ }
     requires { ⌜ (exampleRoom ≤ length (now action)) × (exampleRoom ≤ length (now reduce)) ⌝ }
-    ensures { λ r. ⌜ judgedWords r (now (action .exit)) (now (reduce .exit)) ≡ shownOf (productionsIn (now (grammar .entry)) productions) (now (action .entry)) (now (reduce .entry)) (withBoth class (pairAt (productionsIn (now (grammar .entry)) productions) (now (actions .entry)) (now (reduces .entry)) i j)) ⌝ }
+    ensures { λ r. ⌜ ((xs ys : List Example) → Sides (meaning (now (table .entry))) conflict xs ys (now (actions .entry)) (now («action_prints» .entry)) (now (reduces .entry)) (now («reduce_prints» .entry)) → x < length xs → y < length ys → (r ≡ sameReading (meaning (now (table .entry)) .productions) (nth xs x) (nth ys y)) × (InBuffer (meaning (now (table .entry)) .productions) (nth xs x) (now (action .exit)) × InBuffer (meaning (now (table .entry)) .productions) (nth ys y) (now (reduce .exit)))) ⌝ }
 {
-    write_kept(grammar, productions, actions, i, action);
-    write_kept(grammar, productions, reduces, j, reduce);
-    class
+    write_action(
+        table,
+        grammar,
+        counts,
+        map,
+        least,
+        ends,
+        conflict,
+        actions,
+        action_prints,
+        x,
+        action,
+    );
+    write_reduce(
+        table,
+        grammar,
+        counts,
+        map,
+        least,
+        ends,
+        conflict,
+        reduces,
+        reduce_prints,
+        y,
+        reduce,
+    );
+    same_reading(action, reduce)
+}
+
+// `try_classify_ambiguity`: the first pair that is read alike, by the numbers of its examples. Prints are equal where two are read alike; where they are equal both are made again in the buffers lent and compared, and if they differ the search goes on behind them.
+fn try_classify_ambiguity(
+    table: &[u16],
+    grammar: &[u16],
+    counts: Counts,
+    map: &[u64; NonterminalString::LIMIT],
+    least: &[u8],
+    ends: &[u64],
+    conflict: Conflict,
+    actions: &[u16],
+    action_prints: &[u64],
+    rows: &[u16],
+    reduces: &[u16],
+    reduce_prints: &[u64],
+    columns: &[u16],
+    made_action: &mut [u16],
+    made_reduce: &mut [u16],
+) -> Found
+    requires { ⌜ Reads (now table) (now grammar) counts (now map) (now least) (now ends) × (conflictFits (meaning (now table)) conflict ≡ true) ⌝ }
+    requires { ⌜ ((xs : List Example) × ((ys : List Example) × (Sides (meaning (now table)) conflict xs ys (now actions) (now «action_prints») (now reduces) (now «reduce_prints») × (Ordered xs (now rows) × Ordered ys (now columns))))) ⌝ }
+    requires { ⌜ (exampleRoom ≤ length (now «made_action»)) × (exampleRoom ≤ length (now «made_reduce»)) ⌝ }
+    ensures { λ r. ⌜ ((xs ys : List Example) → Sides (meaning (now (table .entry))) conflict xs ys (now (actions .entry)) (now («action_prints» .entry)) (now (reduces .entry)) (now («reduce_prints» .entry)) → Ordered xs (now (rows .entry)) → Ordered ys (now (columns .entry)) → ReadAlike (meaning (now (table .entry)) .productions) xs ys (now (rows .entry)) (now (columns .entry)) r × FoundMade (meaning (now (table .entry)) .productions) xs ys r (now («made_action» .exit)) (now («made_reduce» .exit))) ⌝ }
+{
+    let mut row: usize = 0;
+    let mut column: usize = 0;
+    loop {
+        match first_pair(
+            map,
+            grammar,
+            counts,
+            Test::Alike,
+            actions,
+            action_prints,
+            rows,
+            reduces,
+            reduce_prints,
+            columns,
+            row,
+            column,
+        ) {
+            Found::At(i, j) => {
+                let x = word(rows, i);
+                let y = word(columns, j);
+                if same_again(
+                    table,
+                    grammar,
+                    counts,
+                    map,
+                    least,
+                    ends,
+                    conflict,
+                    actions,
+                    action_prints,
+                    x,
+                    reduces,
+                    reduce_prints,
+                    y,
+                    made_action,
+                    made_reduce,
+                ) {
+                    return Found::At(x, y);
+                }
+                row = i;
+                column = j + 1;
+            }
+            Found::Nothing => {
+                return Found::Nothing;
+            }
+        }
+    }
+}
+
+// A class that shows an example of each side.
+fn with_both(class: Class, x: usize, y: usize) -> Judged
+    ensures { λ r. ⌜ r ≡ both class x y ⌝ }
+{
+    Judged {
+        class: class,
+        action: Shown::Number(x),
+        reduce: Shown::Number(y),
+    }
+}
+
+// A class that shows the first of each order.
+fn with_first(class: Class, rows: &[u16], columns: &[u16]) -> Judged
+    requires { ⌜ (0 < length (now rows)) × (0 < length (now columns)) ⌝ }
+    ensures { λ r. ⌜ r ≡ both class (getD (now (rows .entry)) 0 0) (getD (now (columns .entry)) 0 0) ⌝ }
+{
+    let x = word(rows, 0);
+    let y = word(columns, 0);
+    with_both(class, x, y)
 }
 
 // Whether a production is T = T S T, S being the terminal.
@@ -93,44 +370,18 @@ fn shift_ambiguity(
     productions: usize,
     production: usize,
     terminal: usize,
-    actions: &[u16],
-    i: usize,
-    reduces: &[u16],
-    j: usize,
-    action: &mut [u16],
-    reduce: &mut [u16],
-) -> Class
+    x: usize,
+    y: usize,
+) -> Judged
     requires { ⌜ Packed (now grammar) productions × (production < productions) ⌝ }
-    requires { ⌜ Has (productionsIn (now grammar) productions) (now actions) i × Has (productionsIn (now grammar) productions) (now reduces) j ⌝ }
-    requires { ⌜ (exampleRoom ≤ length (now action)) × (exampleRoom ≤ length (now reduce)) ⌝ }
-    ensures { λ r. ⌜ judgedWords r (now (action .exit)) (now (reduce .exit)) ≡ shownOf (productionsIn (now (grammar .entry)) productions) (now (action .entry)) (now (reduce .entry)) (shiftAmbiguity (getD (productionsIn (now (grammar .entry)) productions) production noProduction) terminal (pairAt (productionsIn (now (grammar .entry)) productions) (now (actions .entry)) (now (reduces .entry)) i j)) ⌝ }
+    ensures { λ r. ⌜ ((xs ys : List Example) → x < length xs → y < length ys → Judges xs ys r (shiftAmbiguity (getD (productionsIn (now (grammar .entry)) productions) production noProduction) terminal (pairIn xs ys x y))) ⌝ }
 {
     let at = production * ProductionIndex::WORDS;
     let nonterminal = grammar[at];
     if is_operator(grammar, productions, production, terminal) {
-        return with_both(
-            Class::Precedence(NonterminalString(nonterminal)),
-            grammar,
-            productions,
-            actions,
-            i,
-            reduces,
-            j,
-            action,
-            reduce,
-        );
+        return with_both(Class::Precedence(NonterminalString(nonterminal)), x, y);
     }
-    with_both(
-        Class::Ambiguity,
-        grammar,
-        productions,
-        actions,
-        i,
-        reduces,
-        j,
-        action,
-        reduce,
-    )
+    with_both(Class::Ambiguity, x, y)
 }
 
 // Ambiguity of a reduce: where both first reductions are to one nonterminal, the action's example alone and both spans, the conflict's first.
@@ -139,39 +390,61 @@ fn reduce_ambiguity(
     productions: usize,
     production: usize,
     other: usize,
-    actions: &[u16],
-    i: usize,
-    reduces: &[u16],
-    j: usize,
-    action: &mut [u16],
-    reduce: &mut [u16],
-) -> Class
+    x: usize,
+    first: usize,
+    y: usize,
+    second: usize,
+) -> Judged
     requires { ⌜ Packed (now grammar) productions × (production < productions) × (other < productions) ⌝ }
-    requires { ⌜ Has (productionsIn (now grammar) productions) (now actions) i × Has (productionsIn (now grammar) productions) (now reduces) j ⌝ }
-    requires { ⌜ (exampleRoom ≤ length (now action)) × (exampleRoom ≤ length (now reduce)) ⌝ }
-    ensures { λ r. ⌜ judgedWords r (now (action .exit)) (now (reduce .exit)) ≡ shownOf (productionsIn (now (grammar .entry)) productions) (now (action .entry)) (now (reduce .entry)) (reduceAmbiguity (productionsIn (now (grammar .entry)) productions) (getD (productionsIn (now (grammar .entry)) productions) production noProduction) (getD (productionsIn (now (grammar .entry)) productions) other noProduction) (pairAt (productionsIn (now (grammar .entry)) productions) (now (actions .entry)) (now (reduces .entry)) i j)) ⌝ }
+    ensures { λ r. ⌜ ((xs ys : List Example) → x < length xs → y < length ys → first ≡ judging.reductionAt (productionsIn (now (grammar .entry)) productions) (nth xs x) 0 .nonterminal → second ≡ judging.reductionAt (productionsIn (now (grammar .entry)) productions) (nth ys y) 0 .nonterminal → Judges xs ys r (reduceAmbiguity (productionsIn (now (grammar .entry)) productions) (getD (productionsIn (now (grammar .entry)) productions) production noProduction) (getD (productionsIn (now (grammar .entry)) productions) other noProduction) (pairIn xs ys x y))) ⌝ }
 {
-    let own = first_nonterminal(grammar, productions, actions, i);
-    if own == first_nonterminal(grammar, productions, reduces, j) {
-        write_kept(grammar, productions, actions, i, action);
+    if first == second {
         let span = production * ProductionIndex::WORDS + 2;
         let start = grammar[span];
         let end = grammar[span + 1];
         let other_span = other * ProductionIndex::WORDS + 2;
         let other_start = grammar[other_span];
         let other_end = grammar[other_span + 1];
-        return Class::AmbiguousReduction(start, end, other_start, other_end);
+        return Judged {
+            class: Class::AmbiguousReduction(start, end, other_start, other_end),
+            action: Shown::Number(x),
+            reduce: Shown::Nothing,
+        };
     }
-    with_both(
-        Class::Ambiguity,
+    with_both(Class::Ambiguity, x, y)
+}
+
+// A pair that is read alike, by the action.
+fn ambiguity(
+    grammar: &[u16],
+    counts: Counts,
+    conflict: Conflict,
+    actions: &[u16],
+    action_prints: &[u64],
+    x: usize,
+    reduces: &[u16],
+    reduce_prints: &[u64],
+    y: usize,
+) -> Judged
+    requires { ⌜ ((T : Table) × (Grammar T (now grammar) (counts .productions) × ((conflictFits T conflict ≡ true) × ((xs : List Example) × ((ys : List Example) × (Sides T conflict xs ys (now actions) (now «action_prints») (now reduces) (now «reduce_prints») × ((x < length xs) × (y < length ys)))))))) ⌝ }
+    ensures { λ r. ⌜ ((T : Table) → Grammar T (now (grammar .entry)) (counts .productions) → conflictFits T conflict ≡ true → (xs ys : List Example) → Sides T conflict xs ys (now (actions .entry)) (now («action_prints» .entry)) (now (reduces .entry)) (now («reduce_prints» .entry)) → x < length xs → y < length ys → Judges xs ys r (ambiguityOf T (conflict .production .0) (conflict .action) (conflict .operand) (pairIn xs ys x y))) ⌝ }
+{
+    let production = conflict.production.0 as usize;
+    let operand = conflict.operand as usize;
+    if conflict.action == 0 {
+        return shift_ambiguity(grammar, counts.productions, production, operand, x, y);
+    }
+    let action = outline_at(actions, action_prints, x);
+    let reduce = outline_at(reduces, reduce_prints, y);
+    reduce_ambiguity(
         grammar,
-        productions,
-        actions,
-        i,
-        reduces,
-        j,
-        action,
-        reduce,
+        counts.productions,
+        production,
+        operand,
+        x,
+        action.first,
+        y,
+        reduce.first,
     )
 }
 
@@ -197,16 +470,14 @@ fn optional(grammar: &[u16], productions: usize, none: usize, one: usize) -> Opt
 }
 
 // `try_classify_question`: the nonterminal has two productions, one empty and one of one symbol.
-fn question(
+fn try_classify_question(
     table: &[u16],
     grammar: &[u16],
     productions: usize,
-    terminals: u16,
-    map: &[u64; NonterminalString::LIMIT],
     nonterminal: usize,
 ) -> OptionalSymbol
-    requires { ⌜ Reads (now table) (now grammar) productions terminals (now map) ⌝ }
-    requires { ⌜ nonterminal < length (meaning (now table) .nonterminals) ⌝ }
+    requires { ⌜ checkOf (now table) ≡ Checked.Accepted ⌝ }
+    requires { ⌜ Grammar (meaning (now table)) (now grammar) productions × (nonterminal < length (meaning (now table) .nonterminals)) ⌝ }
     ensures { λ r. ⌜ (questionIn r ≡ questionOf (meaning (now (table .entry))) nonterminal) × QuestionFits r ⌝ }
 {
     let head = first_production(table, nonterminal);
@@ -230,64 +501,52 @@ fn question(
     }
 }
 
-// The first pair that inlining would help, else insufficient lookahead with the first of each.
-fn inline_or(
-    map: &[u64; NonterminalString::LIMIT],
-    terminals: u16,
+// `try_classify_inline`: the first pair that inlining would help, else insufficient lookahead with the first of each.
+fn try_classify_inline(
+    table: &[u16],
     grammar: &[u16],
-    productions: usize,
+    counts: Counts,
+    map: &[u64; NonterminalString::LIMIT],
+    least: &[u8],
+    ends: &[u64],
+    conflict: Conflict,
     actions: &[u16],
+    action_prints: &[u64],
     rows: &[u16],
     reduces: &[u16],
+    reduce_prints: &[u64],
     columns: &[u16],
-    action: &mut [u16],
-    reduce: &mut [u16],
-) -> Class
-    requires { ⌜ Packed (now grammar) productions × (terminals ≤ 63) ⌝ }
-    requires { ⌜ All (Has (productionsIn (now grammar) productions) (now actions)) (now rows) × (0 < length (now rows)) ⌝ }
-    requires { ⌜ All (Has (productionsIn (now grammar) productions) (now reduces)) (now columns) × (0 < length (now columns)) ⌝ }
-    requires { ⌜ (exampleRoom ≤ length (now action)) × (exampleRoom ≤ length (now reduce)) ⌝ }
-    ensures { λ r. ⌜ judgedWords r (now (action .exit)) (now (reduce .exit)) ≡ shownOf (productionsIn (now (grammar .entry)) productions) (now (action .entry)) (now (reduce .entry)) (inlineOr (productionsIn (now (grammar .entry)) productions) (firstOf (productionsIn (now (grammar .entry)) productions) (now (actions .entry)) (now (rows .entry)) (now (reduces .entry)) (now (columns .entry))) (firstPair (inlinesBy terminals (now (map .entry)) (productionsIn (now (grammar .entry)) productions)) (ordered (productionsIn (now (grammar .entry)) productions) (now (actions .entry)) (now (rows .entry))) (ordered (productionsIn (now (grammar .entry)) productions) (now (reduces .entry)) (now (columns .entry))))) ⌝ }
+) -> Judged
+    requires { ⌜ Reads (now table) (now grammar) counts (now map) (now least) (now ends) × (conflictFits (meaning (now table)) conflict ≡ true) ⌝ }
+    requires { ⌜ conflict .action ≡ 0 ⌝ }
+    requires { ⌜ ((xs : List Example) × ((ys : List Example) × (Sides (meaning (now table)) conflict xs ys (now actions) (now «action_prints») (now reduces) (now «reduce_prints») × (Ordered xs (now rows) × Ordered ys (now columns))))) ⌝ }
+    ensures { λ r. ⌜ ((xs ys : List Example) → Sides (meaning (now (table .entry))) conflict xs ys (now (actions .entry)) (now («action_prints» .entry)) (now (reduces .entry)) (now («reduce_prints» .entry)) → Ordered xs (now (rows .entry)) → Ordered ys (now (columns .entry)) → Judges xs ys r (inlineOr (meaning (now (table .entry)) .productions) (headsIn xs ys (now (rows .entry)) (now (columns .entry))) (firstPair (judging.inlines (meaning (now (table .entry)))) (picked xs (now (rows .entry))) (picked ys (now (columns .entry)))))) ⌝ }
 {
-    match inline_pair(
+    match first_pair(
         map,
-        terminals,
         grammar,
-        productions,
+        counts,
+        Test::Inline,
         actions,
+        action_prints,
         rows,
         reduces,
+        reduce_prints,
         columns,
+        0,
+        0,
     ) {
-        Pair::At(i, j) => {
-            let nonterminal = first_nonterminal(grammar, productions, reduces, j);
+        Found::At(i, j) => {
+            let x = word(rows, i);
+            let y = word(columns, j);
+            let reduce = outline_at(reduces, reduce_prints, y);
             with_both(
-                Class::SuggestInline(NonterminalString(nonterminal)),
-                grammar,
-                productions,
-                actions,
-                i,
-                reduces,
-                j,
-                action,
-                reduce,
-            )
-        }
-        Pair::Nothing => {
-            let x = word(rows, 0);
-            let y = word(columns, 0);
-            with_both(
-                Class::InsufficientLookahead,
-                grammar,
-                productions,
-                actions,
+                Class::SuggestInline(NonterminalString(reduce.first as u16)),
                 x,
-                reduces,
                 y,
-                action,
-                reduce,
             )
         }
+        Found::Nothing => with_first(Class::InsufficientLookahead, rows, columns),
     }
 }
 
@@ -295,184 +554,166 @@ fn inline_or(
 fn shift_unambiguous(
     table: &[u16],
     grammar: &[u16],
-    productions: usize,
-    terminals: u16,
+    counts: Counts,
     map: &[u64; NonterminalString::LIMIT],
-    production: usize,
+    least: &[u8],
+    ends: &[u64],
+    conflict: Conflict,
     actions: &[u16],
+    action_prints: &[u64],
     rows: &[u16],
     reduces: &[u16],
+    reduce_prints: &[u64],
     columns: &[u16],
-    action: &mut [u16],
-    reduce: &mut [u16],
-) -> Class
-    requires { ⌜ Reads (now table) (now grammar) productions terminals (now map) × (production < productions) ⌝ }
-    requires { ⌜ All (Has (productionsIn (now grammar) productions) (now actions)) (now rows) × (0 < length (now rows)) ⌝ }
-    requires { ⌜ All (Has (productionsIn (now grammar) productions) (now reduces)) (now columns) × (0 < length (now columns)) ⌝ }
-    requires { ⌜ (exampleRoom ≤ length (now action)) × (exampleRoom ≤ length (now reduce)) ⌝ }
-    ensures { λ r. ⌜ judgedWords r (now (action .exit)) (now (reduce .exit)) ≡ shownOf (productionsIn (now (grammar .entry)) productions) (now (action .entry)) (now (reduce .entry)) (unambiguous (meaning (now (table .entry))) production 0 (ordered (productionsIn (now (grammar .entry)) productions) (now (actions .entry)) (now (rows .entry))) (ordered (productionsIn (now (grammar .entry)) productions) (now (reduces .entry)) (now (columns .entry))) (firstOf (productionsIn (now (grammar .entry)) productions) (now (actions .entry)) (now (rows .entry)) (now (reduces .entry)) (now (columns .entry)))) ⌝ }
+) -> Judged
+    requires { ⌜ Reads (now table) (now grammar) counts (now map) (now least) (now ends) × (conflictFits (meaning (now table)) conflict ≡ true) ⌝ }
+    requires { ⌜ conflict .action ≡ 0 ⌝ }
+    requires { ⌜ ((xs : List Example) × ((ys : List Example) × (Sides (meaning (now table)) conflict xs ys (now actions) (now «action_prints») (now reduces) (now «reduce_prints») × (Ordered xs (now rows) × Ordered ys (now columns))))) ⌝ }
+    ensures { λ r. ⌜ ((xs ys : List Example) → Sides (meaning (now (table .entry))) conflict xs ys (now (actions .entry)) (now («action_prints» .entry)) (now (reduces .entry)) (now («reduce_prints» .entry)) → Ordered xs (now (rows .entry)) → Ordered ys (now (columns .entry)) → Judges xs ys r (unambiguous (meaning (now (table .entry))) (conflict .production .0) 0 (picked xs (now (rows .entry))) (picked ys (now (columns .entry))) (headsIn xs ys (now (rows .entry)) (now (columns .entry))))) ⌝ }
 {
+    let production = conflict.production.0 as usize;
     let nonterminal = word(grammar, production * ProductionIndex::WORDS);
-    match question(table, grammar, productions, terminals, map, nonterminal) {
-        OptionalSymbol::Symbol(kind, number) => {
-            let x = word(rows, 0);
-            let y = word(columns, 0);
-            with_both(
-                Class::SuggestQuestion(NonterminalString(nonterminal as u16), kind, number),
-                grammar,
-                productions,
-                actions,
-                x,
-                reduces,
-                y,
-                action,
-                reduce,
-            )
-        }
-        OptionalSymbol::Nothing => inline_or(
-            map,
-            terminals,
+    match try_classify_question(table, grammar, counts.productions, nonterminal) {
+        OptionalSymbol::Symbol(kind, number) => with_first(
+            Class::SuggestQuestion(NonterminalString(nonterminal as u16), kind, number),
+            rows,
+            columns,
+        ),
+        OptionalSymbol::Nothing => try_classify_inline(
+            table,
             grammar,
-            productions,
+            counts,
+            map,
+            least,
+            ends,
+            conflict,
             actions,
+            action_prints,
             rows,
             reduces,
+            reduce_prints,
             columns,
-            action,
-            reduce,
         ),
     }
 }
 
-// The class from two sides in their order, neither of them empty: ambiguity first.
-fn judge_sorted(
+// Where no pair is ambiguous: by the action, question and inline being for a shift alone.
+fn unambiguous(
     table: &[u16],
     grammar: &[u16],
-    productions: usize,
-    terminals: u16,
+    counts: Counts,
     map: &[u64; NonterminalString::LIMIT],
+    least: &[u8],
+    ends: &[u64],
     conflict: Conflict,
     actions: &[u16],
+    action_prints: &[u64],
     rows: &[u16],
     reduces: &[u16],
+    reduce_prints: &[u64],
     columns: &[u16],
-    action: &mut [u16],
-    reduce: &mut [u16],
-) -> Class
-    requires { ⌜ Reads (now table) (now grammar) productions terminals (now map) × (placeFits (meaning (now table)) conflict ≡ true) ⌝ }
-    requires { ⌜ All (Has (productionsIn (now grammar) productions) (now actions)) (now rows) × (0 < length (now rows)) ⌝ }
-    requires { ⌜ All (Has (productionsIn (now grammar) productions) (now reduces)) (now columns) × (0 < length (now columns)) ⌝ }
-    requires { ⌜ (exampleRoom ≤ length (now action)) × (exampleRoom ≤ length (now reduce)) ⌝ }
-    ensures { λ r. ⌜ judgedWords r (now (action .exit)) (now (reduce .exit)) ≡ shownOf (productionsIn (now (grammar .entry)) productions) (now (action .entry)) (now (reduce .entry)) (judge (meaning (now (table .entry))) conflict (ordered (productionsIn (now (grammar .entry)) productions) (now (actions .entry)) (now (rows .entry))) (ordered (productionsIn (now (grammar .entry)) productions) (now (reduces .entry)) (now (columns .entry)))) ⌝ }
+) -> Judged
+    requires { ⌜ Reads (now table) (now grammar) counts (now map) (now least) (now ends) × (conflictFits (meaning (now table)) conflict ≡ true) ⌝ }
+    requires { ⌜ ((xs : List Example) × ((ys : List Example) × (Sides (meaning (now table)) conflict xs ys (now actions) (now «action_prints») (now reduces) (now «reduce_prints») × (Ordered xs (now rows) × Ordered ys (now columns))))) ⌝ }
+    ensures { λ r. ⌜ ((xs ys : List Example) → Sides (meaning (now (table .entry))) conflict xs ys (now (actions .entry)) (now («action_prints» .entry)) (now (reduces .entry)) (now («reduce_prints» .entry)) → Ordered xs (now (rows .entry)) → Ordered ys (now (columns .entry)) → Judges xs ys r (judging.unambiguous (meaning (now (table .entry))) (conflict .production .0) (conflict .action) (picked xs (now (rows .entry))) (picked ys (now (columns .entry))) (headsIn xs ys (now (rows .entry)) (now (columns .entry))))) ⌝ }
 {
-    let production = conflict.production.0 as usize;
-    let operand = conflict.operand as usize;
-    match ambiguous_pair(grammar, productions, actions, rows, reduces, columns) {
-        Pair::At(i, j) => {
-            if conflict.action == 0 {
-                return shift_ambiguity(
-                    grammar,
-                    productions,
-                    production,
-                    operand,
-                    actions,
-                    i,
-                    reduces,
-                    j,
-                    action,
-                    reduce,
-                );
-            }
-            return reduce_ambiguity(
-                grammar,
-                productions,
-                production,
-                operand,
-                actions,
-                i,
-                reduces,
-                j,
-                action,
-                reduce,
-            );
-        }
-        Pair::Nothing => {
-            if conflict.action == 0 {
-                return shift_unambiguous(
-                    table,
-                    grammar,
-                    productions,
-                    terminals,
-                    map,
-                    production,
-                    actions,
-                    rows,
-                    reduces,
-                    columns,
-                    action,
-                    reduce,
-                );
-            }
-            let x = word(rows, 0);
-            let y = word(columns, 0);
-            return with_both(
-                Class::InsufficientLookahead,
-                grammar,
-                productions,
-                actions,
-                x,
-                reduces,
-                y,
-                action,
-                reduce,
-            );
-        }
+    if conflict.action == 0 {
+        return shift_unambiguous(
+            table,
+            grammar,
+            counts,
+            map,
+            least,
+            ends,
+            conflict,
+            actions,
+            action_prints,
+            rows,
+            reduces,
+            reduce_prints,
+            columns,
+        );
     }
+    with_first(Class::InsufficientLookahead, rows, columns)
 }
 
-// `classify` from what was gathered: either side empty is naive, and writes nothing; else both are sorted by symbol count.
+// The class from two sides in their order, neither of them empty: ambiguity first. Of an ambiguous pair the examples are left in the buffers lent.
 pub fn judge(
     table: &[u16],
     grammar: &[u16],
-    productions: usize,
-    terminals: u16,
+    counts: Counts,
     map: &[u64; NonterminalString::LIMIT],
+    least: &[u8],
+    ends: &[u64],
     conflict: Conflict,
     actions: &[u16],
-    action_count: usize,
+    action_prints: &[u64],
+    rows: &[u16],
     reduces: &[u16],
-    reduce_count: usize,
-    action: &mut [u16],
-    reduce: &mut [u16],
-) -> Class
-    requires { ⌜ Reads (now table) (now grammar) productions terminals (now map) × (placeFits (meaning (now table)) conflict ≡ true) ⌝ }
-    requires { ⌜ Kept (meaning (now table) .productions) (now actions) «action_count» ⌝ }
-    requires { ⌜ Kept (meaning (now table) .productions) (now reduces) «reduce_count» ⌝ }
-    requires { ⌜ (exampleRoom ≤ length (now action)) × (exampleRoom ≤ length (now reduce)) ⌝ }
-    ensures { λ r. ⌜ judgedWords r (now (action .exit)) (now (reduce .exit)) ≡ shownOf (meaning (now (table .entry)) .productions) (now (action .entry)) (now (reduce .entry)) (judged (meaning (now (table .entry))) conflict (kept (meaning (now (table .entry)) .productions) (now (actions .entry)) «action_count») (kept (meaning (now (table .entry)) .productions) (now (reduces .entry)) «reduce_count»)) ⌝ }
+    reduce_prints: &[u64],
+    columns: &[u16],
+    made_action: &mut [u16],
+    made_reduce: &mut [u16],
+) -> Verdict
+    requires { ⌜ Reads (now table) (now grammar) counts (now map) (now least) (now ends) × (conflictFits (meaning (now table)) conflict ≡ true) ⌝ }
+    requires { ⌜ ((xs : List Example) × ((ys : List Example) × (Sides (meaning (now table)) conflict xs ys (now actions) (now «action_prints») (now reduces) (now «reduce_prints») × (Ordered xs (now rows) × Ordered ys (now columns))))) ⌝ }
+    requires { ⌜ (exampleRoom ≤ length (now «made_action»)) × (exampleRoom ≤ length (now «made_reduce»)) ⌝ }
+    ensures { λ r. ⌜ ((xs ys : List Example) → Sides (meaning (now (table .entry))) conflict xs ys (now (actions .entry)) (now («action_prints» .entry)) (now (reduces .entry)) (now («reduce_prints» .entry)) → Ordered xs (now (rows .entry)) → Ordered ys (now (columns .entry)) → Judges xs ys (r .judged) (judge (meaning (now (table .entry))) conflict (picked xs (now (rows .entry))) (picked ys (now (columns .entry)))) × (r .made ≡ true → ShownMade (meaning (now (table .entry)) .productions) xs (r .judged .action) (now («made_action» .exit)) × ShownMade (meaning (now (table .entry)) .productions) ys (r .judged .reduce) (now («made_reduce» .exit)))) ⌝ }
 {
-    if action_count == 0 {
-        return Class::Naive;
-    }
-    if reduce_count == 0 {
-        return Class::Naive;
-    }
-    let mut rows = [0u16; Conflict::EXAMPLES];
-    let mut columns = [0u16; Conflict::EXAMPLES];
-    sort_side(grammar, productions, actions, action_count, &mut rows);
-    sort_side(grammar, productions, reduces, reduce_count, &mut columns);
-    judge_sorted(
+    match try_classify_ambiguity(
         table,
         grammar,
-        productions,
-        terminals,
+        counts,
         map,
+        least,
+        ends,
         conflict,
         actions,
-        &rows[..action_count],
+        action_prints,
+        rows,
         reduces,
-        &columns[..reduce_count],
-        action,
-        reduce,
-    )
+        reduce_prints,
+        columns,
+        made_action,
+        made_reduce,
+    ) {
+        Found::At(x, y) => {
+            let judged = ambiguity(
+                grammar,
+                counts,
+                conflict,
+                actions,
+                action_prints,
+                x,
+                reduces,
+                reduce_prints,
+                y,
+            );
+            Verdict {
+                judged: judged,
+                made: true,
+            }
+        }
+        Found::Nothing => {
+            let judged = unambiguous(
+                table,
+                grammar,
+                counts,
+                map,
+                least,
+                ends,
+                conflict,
+                actions,
+                action_prints,
+                rows,
+                reduces,
+                reduce_prints,
+                columns,
+            );
+            Verdict {
+                judged: judged,
+                made: false,
+            }
+        }
+    }
 }

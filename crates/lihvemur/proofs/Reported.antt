@@ -7,7 +7,7 @@ use native.Mathlib.Omega.{arith}
 use lib.ListN.{length, drop}
 use lib.Dec.{leb}
 use borrow.Author.Tests.{le-leb, lt-leb}
-use Rattle.repr.specs.Sizes.{scratchWords, entryRoom, entriesRoom}
+use Rattle.repr.specs.Sizes.{classifyScratch, entryRoom, entriesRoom}
 use Rattle.repr.specs.Lists.{keep, joined}
 use Rattle.repr.specs.Meaning.{Table}
 use Rattle.repr.proofs.Lists.{cases, length-keep}
@@ -142,7 +142,7 @@ module _ (c : Conflict) (tokens : ℕ) where
       (λ q.
       cases (setShiftsEnd T c tokens)
       (λ k. rw (q, k, chooseInWith) tt)
-      (λ k. cases (leb scratchWords (length w)) (λ l. rw (q, k, l, chooseInWith) f) (λ l. rw (q, k, l, chooseInWith) tt)))
+      (λ k. cases (leb classifyScratch (length w)) (λ l. rw (q, k, l, chooseInWith) f) (λ l. rw (q, k, l, chooseInWith) tt)))
       (λ q. rw (q, chooseInWith) tt)
 
   few-by : (t w : List ℕ) (k : Checked) → FewIn (chooseBy t c tokens w k)

@@ -1,5 +1,5 @@
 -- Whether an item is an end of an edge (refusal 15), as the code looks for it. Assumes nothing.
-use Prim.Native.Nat.{ℕ, zero, suc, _+_, _≤_, _<_}
+use Prim.Native.Nat.{ℕ, suc, _+_, _≤_, _<_}
 use native.Mathlib.Omega.{arith}
 use mathlib.Core.Path.{_≡_, refl, sym, ap, _∙_}
 use mathlib.Core.Bool.{Bool, true, false, _&&_}
@@ -12,12 +12,14 @@ use Rattle.repr.specs.Sizes.{edgeLimit, edgePlace, graphRoom}
 use Rattle.repr.specs.Lists.{some?}
 use Rattle.repr.proofs.Tests.{some?-nil, some?-yes, some?-no}
 use Rattle.trace_graph.specs.declared.Node.{Node as NodeValue}
-use Rattle.trace_graph.specs.Graph.{Node, atNonterminal, atItem, sameItem, sameNode, TraceEdge, isNode}
-use Rattle.trace_graph.specs.Words.{nodeOf, nodeAt, edgeAt, edgesIn}
+use Rattle.trace_graph.specs.Graph.{Node, atItem, sameItem, sameNode, TraceEdge, isNode}
+use Rattle.trace_graph.specs.Words.{nodeAt, edgeAt, edgesIn}
 use Rattle.trace_graph.specs.Values.{nodeIs}
 use Rattle.enumerator.specs.Trials.{noEdge}
 use Rattle.enumerator.specs.Stacks.{Roomy}
 use Rattle.enumerator.proofs.Edges.{edges-count, edges-at}
+use Rattle.enumerator.proofs.Stepping.{value-nonterminal}
+use Rattle.view.proofs.Owner.{kind-item}
 
 -- `is_item`
 module _ (v : NodeValue) (x : Node) (q : nodeIs v ≡ x) (p i : ℕ) where
@@ -25,21 +27,13 @@ module _ (v : NodeValue) (x : Node) (q : nodeIs v ≡ x) (p i : ℕ) where
   alike y = sameNode (atItem (record { production = p; index = i })) y
 
   pub item-other : v .kind ≡ 0 → false ≡ alike x
-  unfolding nodeIs nodeOf sameNode
-  item-other z = let e : nodeIs v ≡ atNonterminal (v .number) = rw z in ap alike (sym e ∙ q)
+  unfolding sameNode
+  item-other z = ap alike (sym (value-nonterminal v z) ∙ q)
 
   module _ (nz : v .kind ≡ 0 → ⊥) where
-    value-is : nodeIs v ≡ atItem (record { production = v .number; index = v .index })
-    unfolding nodeIs nodeOf
-    value-is = go (v .kind) refl
-      where
-        go : (k : ℕ) → v .kind ≡ k → nodeOf (v .kind) (v .number) (v .index) ≡ atItem (record { production = v .number; index = v .index })
-        go zero e = absurd (nz e)
-        go (suc k) e = rw e
-
     item-is : alike x ≡ (eqb p (v .number) && eqb i (v .index))
     unfolding sameNode sameItem
-    item-is = ap alike (sym q ∙ value-is)
+    item-is = ap alike (sym q ∙ kind-item v nz)
 
     pub item-number : (p ≡ v .number → ⊥) → false ≡ alike x
     item-number n = sym (item-is ∙ rw (ne-eqb p (v .number) n))

@@ -14,9 +14,7 @@ use Rattle.repr.specs.Meaning.{Item, Production, Table}
 use Rattle.repr.proofs.Lists.{cases, clash}
 use Rattle.first.specs.First.{firstSets}
 use Rattle.trace_graph.specs.Graph.{Node, atItem, TraceEdge}
-use Rattle.trace_graph.specs.Words.{edgesIn}
-use Rattle.example.specs.Example.{Label, exampleWords}
-use Rattle.example.specs.Labels.{labelsIn}
+use Rattle.example.specs.Example.{exampleWords}
 use Rattle.enumerator.specs.Trials.{Path, Ends, endsOf, trials}
 use Rattle.enumerator.specs.Lister.{labelsOf, hands, says, Found, hit, out, over, search}
 use Rattle.enumerator.specs.Words.{wordsOf, pathIn, holdsTrial}
@@ -25,7 +23,7 @@ use Rattle.enumerator.specs.declared.Listing.{Listing}
 use Rattle.enumerator.specs.declared.Advanced.the-variants.{Example, End, Refused}
 use Rattle.enumerator.proofs.Short.{short-trial}
 use Rattle.enumerator.proofs.WordsOf.{words-long, held-trial}
-use Rattle.view.specs.View.{View, Ranged}
+use Rattle.view.specs.View.{View, Labelled}
 use Rattle.view.specs.Trial.{trialRoom, trialWords}
 use Rattle.view.proofs.Trial.{words-trial}
 use Rattle.search.specs.declared.Searched.{Searched}
@@ -108,10 +106,10 @@ pub start-at : (es : List TraceEdge) (l : Listing) (ws : List ℕ) → l .«is_o
     → Start (endsOf es) (atItem (record { production = l .production .0; index = l .index })) (l .count) ws
 start-at es l ws o f = start-by (endsOf es) (atItem (record { production = l .production .0; index = l .index })) (l .count) ws (λ ne. held es l ws o ne f)
 
-pub searching : {ps : List Production} {g sources older latest : List ℕ} {start : Item} {c : ℕ} {ws : List ℕ} (ws′ : List ℕ) → Ranged ps g → View (edgesIn g) start sources older latest
-    → Start (endsOf (edgesIn g)) (atItem start) c ws → ws′ ≡ begun c ws → Searching ps g sources older latest ws′ start
-searching {ws = ws} ws′ R W S e = record {
-  ranged = R;
+pub searching : {ps : List Production} {es : List TraceEdge} {owners codes sources older latest : List ℕ} {start : Item} {c : ℕ} {ws : List ℕ} (ws′ : List ℕ) → Labelled ps es owners codes
+    → View es start sources older latest → Start (endsOf es) (atItem start) c ws → ws′ ≡ begun c ws → Searching ps es owners codes sources older latest ws′ start
+searching {ws = ws} ws′ L W S e = record {
+  labelled = L;
   view = W;
   path = S .path;
   rest = behind ws;
@@ -139,12 +137,12 @@ unfolding inFront
 path-front p ws h = ap (λ (k : ℕ). wordsOf p ++ drop k ws) (sym (words-long p (omega arith)))
 
 -- what is found
-module _ {ps : List Production} {g : List ℕ} {start : Item} {c : ℕ} {ws : List ℕ} (L : Ranged ps g)
-    (S : Start (endsOf (edgesIn g)) (atItem start) c ws) (t : Path → Bool) (r : Searched) (ws′ ws″ : List ℕ) (eb : ws′ ≡ begun c ws)
+module _ {ps : List Production} {es : List TraceEdge} {owners codes : List ℕ} {start : Item} {c : ℕ} {ws : List ℕ} (L : Labelled ps es owners codes)
+    (S : Start (endsOf es) (atItem start) c ws) (t : Path → Bool) (r : Searched) (ws′ ws″ : List ℕ) (eb : ws′ ≡ begun c ws)
     (found : (q rest : List ℕ) → ws′ ≡ trialWords q ++ rest
-    → searched r ws″ ≡ searchedOf rest (search t (trialLimit - c) c (laterThan q (trials (endsOf (edgesIn g)) (atItem start))))) where
+    → searched r ws″ ≡ searchedOf rest (search t (trialLimit - c) c (laterThan q (trials (endsOf es) (atItem start))))) where
   abbrev ts : List Path
-  ts = trials (endsOf (edgesIn g)) (atItem start)
+  ts = trials (endsOf es) (atItem start)
 
   abbrev finds : Found
   finds = search t (trialLimit - c) c (laterThan (S .path) ts)
@@ -156,53 +154,48 @@ module _ {ps : List Production} {g : List ℕ} {start : Item} {c : ℕ} {ws : Li
   hits n er = searched-hit n ws″ (behind ws) finds (ap (λ (x : Searched). searched x ws″) (sym er) ∙ answers)
 
   hit-in : (n : ℕ) (er : r ≡ Hit n) → List·Memᴰ (hits n er .0) ts
-  hit-in n er = search-trial t (endsOf (edgesIn g)) (atItem start) (S .path) (trialLimit - c) c n (hits n er .0) (hits n er .1) .0
+  hit-in n er = search-trial t (endsOf es) (atItem start) (S .path) (trialLimit - c) c n (hits n er .0) (hits n er .1) .0
 
-  pub hit-tried : (n : ℕ) → r ≡ Hit n → Tried ps g ws″
+  pub hit-tried : (n : ℕ) → r ≡ Hit n → Tried ps es owners codes ws″
   hit-tried n er = tried-trial L (atItem start) (hits n er .0) (behind ws) ws″ (hit-in n er) (hits n er .2)
 
-  module _ {k e : ℕ} (T : Table) (R : Read T k e ps) (l : Listing) (buffer : List ℕ) (a : Option ℕ) (same : (q : Path) → hands T (edgesIn g) a q ≡ t q) where
+  module _ {k e : ℕ} (T : Table) (R : Read T k e ps) (l : Listing) (buffer : List ℕ) (a : Option ℕ) (same : (q : Path) → hands T es a q ≡ t q) where
     abbrev whole : Found
-    whole = search (hands T (edgesIn g) a) (trialLimit - c) c (restOf c ws ts)
+    whole = search (hands T es a) (trialLimit - c) c (restOf c ws ts)
 
     whole-is : finds ≡ whole
     whole-is =
         ap (λ (x : List Path). search t (trialLimit - c) c x) (S .later)
-        ∙ search-same t (hands T (edgesIn g) a) (λ q. sym (same q)) (trialLimit - c) c (restOf c ws ts)
+        ∙ search-same t (hands T es a) (λ q. sym (same q)) (trialLimit - c) c (restOf c ws ts)
 
-    says-is : (q : Path) → exampleWords ps (labelsOf ps (edgesIn g) q) ≡ says T (edgesIn g) q
+    says-is : (q : Path) → exampleWords ps (labelsOf ps es q) ≡ says T es q
     unfolding says
-    says-is q = ap (λ (x : List Production). exampleWords x (labelsOf x (edgesIn g) q)) (R .productions)
+    says-is q = ap (λ (x : List Production). exampleWords x (labelsOf x es q)) (R .productions)
 
     pub found-hit : (n : ℕ) → r ≡ Hit n → (x : Listing) (o : Bool) → x ≡ moved l n o → o ≡ true → (b : List ℕ)
-        → ((q rest : List ℕ) → ws″ ≡ trialWords q ++ rest → b ≡ inFront (exampleWords ps (labelsOf ps (edgesIn g) q)) buffer)
-        → outcome Example x ws″ b ≡ foundOutcome T (edgesIn g) l ws buffer whole
+        → (Tried ps es owners codes ws″ → (q rest : List ℕ) → ws″ ≡ trialWords q ++ rest → b ≡ inFront (exampleWords ps (labelsOf ps es q)) buffer)
+        → outcome Example x ws″ b ≡ foundOutcome T es l ws buffer whole
     unfolding foundOutcome
     found-hit n er x o ex eo b w =
         let q = hits n er .0 in
         let f : whole ≡ hit n q = sym whole-is ∙ hits n er .1 in
-        let h = short-trial (endsOf (edgesIn g)) (atItem start) q (hit-in n er) in
+        let h = short-trial (endsOf es) (atItem start) q (hit-in n er) in
         let s : ws″ ≡ inFront (wordsOf q) ws = hits n er .2 ∙ sym (trial-behind q ws h) ∙ path-front q ws h in
-        let d : b ≡ inFront (says T (edgesIn g) q) buffer = w q (behind ws) (hits n er .2) ∙ ap (λ (y : List ℕ). inFront y buffer) (says-is q) in
-        (λ j. outcome Example ((ex ∙ ap (moved l n) eo) j) (s j) (d j)) ∙ ap (foundOutcome T (edgesIn g) l ws buffer) (sym f)
+        let d : b ≡ inFront (says T es q) buffer = w (hit-tried n er) q (behind ws) (hits n er .2) ∙ ap (λ (y : List ℕ). inFront y buffer) (says-is q) in
+        (λ j. outcome Example ((ex ∙ ap (moved l n) eo) j) (s j) (d j)) ∙ ap (foundOutcome T es l ws buffer) (sym f)
 
-    pub found-out : (n : ℕ) → r ≡ Out n → (x : Listing) (u : Bool) → x ≡ moved l n u → u ≡ false → outcome End x ws″ buffer ≡ foundOutcome T (edgesIn g) l ws buffer whole
+    pub found-out : (n : ℕ) → r ≡ Out n → (x : Listing) (u : Bool) → x ≡ moved l n u → u ≡ false → outcome End x ws″ buffer ≡ foundOutcome T es l ws buffer whole
     unfolding foundOutcome
     found-out n er x u ex eu =
         let o = searched-out n ws″ (behind ws) finds (ap (λ (y : Searched). searched y ws″) (sym er) ∙ answers) in
         let f : whole ≡ out n = sym whole-is ∙ o .0 in
         let s : ws″ ≡ zeroed scratchWords ws = o .1 ∙ sym (trial-behind [] ws (omega arith)) ∙ none-zeroed ws in
-        (λ j. outcome End ((ex ∙ ap (moved l n) eu) j) (s j) buffer) ∙ ap (foundOutcome T (edgesIn g) l ws buffer) (sym f)
+        (λ j. outcome End ((ex ∙ ap (moved l n) eu) j) (s j) buffer) ∙ ap (foundOutcome T es l ws buffer) (sym f)
 
-    pub found-over : r ≡ Over → (x : Listing) (n : ℕ) (u : Bool) → x ≡ moved l n u → n ≡ trialLimit → u ≡ false → outcome (Refused 13 0) x ws″ buffer ≡ foundOutcome T (edgesIn g) l ws buffer whole
+    pub found-over : r ≡ Over → (x : Listing) (n : ℕ) (u : Bool) → x ≡ moved l n u → n ≡ trialLimit → u ≡ false → outcome (Refused 13 0) x ws″ buffer ≡ foundOutcome T es l ws buffer whole
     unfolding foundOutcome
     found-over er x n u ex en eu =
         let o = searched-over ws″ (behind ws) finds (ap (λ (y : Searched). searched y ws″) (sym er) ∙ answers) in
         let f : whole ≡ over = sym whole-is ∙ o .0 in
         let s : ws″ ≡ zeroed scratchWords ws = o .1 ∙ sym (trial-behind [] ws (omega arith)) ∙ none-zeroed ws in
-        (λ j. outcome (Refused 13 0) ((ex ∙ (λ k. moved l (en k) (eu k))) j) (s j) buffer) ∙ ap (foundOutcome T (edgesIn g) l ws buffer) (sym f)
-
--- the example that is written is that of the labels read
-pub written-is : (ps : List Production) (ls : List ℕ) (labels : List Label) (b b′ : List ℕ) → labelsIn ls ≡ labels → b′ ≡ inFront (exampleWords ps (labelsIn ls)) b
-    → b′ ≡ inFront (exampleWords ps labels) b
-written-is ps ls labels b b′ e w = w ∙ ap (λ (x : List Label). inFront (exampleWords ps x) b) e
+        (λ j. outcome (Refused 13 0) ((ex ∙ (λ k. moved l (en k) (eu k))) j) (s j) buffer) ∙ ap (foundOutcome T es l ws buffer) (sym f)

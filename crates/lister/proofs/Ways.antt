@@ -3,7 +3,7 @@ use Prim.Native.Nat.{ℕ, _-_, _≤_, _<_}
 use mathlib.Core.Path.{_≡_, sym, ap, _∙_}
 use mathlib.Core.Bool.{Bool, true, false, and-false}
 use mathlib.Core.List.{List}
-use lib.ListN.{length, getD}
+use lib.ListN.{length}
 use lib.Dec.{leb}
 use borrow.Author.Tests.{le-leb, lt-leb}
 use Rattle.repr.specs.Sizes.{graphRoom, scratchWords, trialLimit, exampleRoom}
@@ -12,12 +12,9 @@ use Rattle.repr.specs.Packed.{Packed, productionsIn}
 use Rattle.table.specs.Index.{CountsOf}
 use Rattle.trace_graph.specs.Graph.{atItem, isNode}
 use Rattle.trace_graph.specs.Words.{edgesIn}
-use Rattle.trace_graph.specs.Fits.{itemFits}
-use Rattle.trace_graph.specs.Insert.{Graphed}
-use Rattle.example.proofs.Sizes.{short-of}
 use Rattle.enumerator.specs.Trials.{endsOf, trials}
 use Rattle.enumerator.specs.Lister.{enough, hands, search}
-use Rattle.enumerator.specs.Stacks.{Roomy, Started}
+use Rattle.enumerator.specs.Stacks.{Roomy, Started, Ranged}
 use Rattle.enumerator.specs.Advance.{Outcome, outcome, setOf, startOf, asked, foundOutcome, restOf, lost, advanceIn, openIn}
 use Rattle.enumerator.specs.declared.Lookahead.{Lookahead}
 use Rattle.enumerator.specs.declared.Listing.{Listing}
@@ -25,7 +22,6 @@ use Rattle.enumerator.specs.declared.Advanced.{Advanced}
 use Rattle.enumerator.specs.declared.Advanced.the-variants.{End, Refused}
 use Rattle.enumerator.specs.declared.Opened.the-variants.{Listing as Opens, Refused as NotOpened}
 use Rattle.enumerator.proofs.Outcomes.{advance-short, advance-ended, advance-open}
-use Rattle.enumerator.proofs.Nodes.{and-left}
 use Rattle.lister.specs.Context.{Read, Listable}
 
 -- what is read of an accepted table
@@ -44,32 +40,12 @@ module _ {T : Table} {n e s p : ℕ} (C : CountsOf T n e s p) where
       pub read-of : Read T n e (productionsIn g p)
       read-of = record { nonterminals = C .nonterminals; terminals = C .terminals; productions = ap (productionsIn g) (C .productions) ∙ q }
 
-      -- what a call goes on from
-      pub listable : {m : ℕ} {w ix : List ℕ} {production index : ℕ} → Graphed m (productionsIn g p) w ix (getD w 0 0) → itemFits (productionsIn g p) production index ≡ true
-          → Listable (productionsIn g p) w ix production index
-      listable {m} G f = record {
-        nonterminals = m;
-        graphed = G;
-        fits = f;
-        few = rw (read-of .productions) (C .fits .few-productions);
-        short = rw (read-of .productions) (short-of T (C .fits));
-      }
-
-pub roomy-of : {n : ℕ} {ps : List Production} {g ix : List ℕ} → Graphed n ps g ix (getD g 0 0) → Roomy g
+pub roomy-of : {ps : List Production} {g : List ℕ} → Ranged ps g → Roomy g
 unfolding Roomy
-roomy-of G = (G .long, G .few)
+roomy-of R = (R .long, R .few-edges)
 
-pub started : {ps : List Production} {g ix : List ℕ} {p i : ℕ} → Listable ps g ix p i → Started g ix p i
-started {ps} L = record {
-  ground = record { nonterminals = L .nonterminals; productions = ps; graphed = L .graphed; few = L .few; short = L .short };
-  fits = L .fits;
-}
-
--- an item that is asked for fits
-pub asked-fits : {n e : ℕ} {ps : List Production} (T : Table) (R : Read T n e ps) (p i : ℕ) (a : Lookahead) (g : List ℕ) (b : Bool)
-    → b ≡ asked T (record { production = p; index = i }) (setOf a) g → b ≡ true → itemFits ps p i ≡ true
-unfolding asked
-asked-fits T R p i a g b eb t = ap (λ (l : List Production). itemFits l p i) (R .productions) ∙ and-left (itemFits (T .productions) p i) _ (sym eb ∙ t)
+pub started : {ps : List Production} {g : List ℕ} {p i : ℕ} {owners codes sources older latest : List ℕ} → Listable ps g p i owners codes sources older latest → Started g p i
+started {ps} L = record { ground = record { productions = ps; ranged = L .ranged }; fits = L .fits }
 
 -- opening
 module _ (T : Table) (p i : ℕ) (a : Lookahead) (g : List ℕ) (b : Bool) (eb : b ≡ asked T (record { production = p; index = i }) (setOf a) g) where

@@ -1,17 +1,19 @@
 -- What the parts of a call are given of a table: its productions and numbers as read. Assumes nothing: these are definitions.
-use Prim.Native.Nat.{ℕ, zero, suc, _≤_, _^_}
+use Prim.Native.Nat.{ℕ, zero, suc, _^_}
 use mathlib.Core.Path.{_≡_}
 use mathlib.Core.Bool.{Bool, true}
 use mathlib.Core.List.{List, [], _++_}
 use mathlib.Core.Option.{Option, none, some}
-use lib.ListN.{length, getD, drop, replicate}
+use lib.ListN.{length, drop, replicate}
 use lib.Dec.{ltb}
 use Rattle.repr.specs.Sizes.{scratchWords}
-use Rattle.repr.specs.Meaning.{Production, noProduction, Table}
+use Rattle.repr.specs.Meaning.{Production, Table}
 use Rattle.first.specs.First.{firstSets}
+use Rattle.trace_graph.specs.Words.{edgesIn}
 use Rattle.trace_graph.specs.Fits.{itemFits}
-use Rattle.trace_graph.specs.Insert.{Graphed}
 use Rattle.enumerator.specs.Words.{wordsOf}
+use Rattle.enumerator.specs.Stacks.{Ranged}
+use Rattle.view.specs.View.{View, Labelled}
 
 -- a table whose nonterminals, terminals and productions these are
 pub record Read (T : Table) (n e : ℕ) (ps : List Production) : Type 0 where
@@ -34,10 +36,9 @@ unfoldable pub begun : ℕ → List ℕ → List ℕ
 begun zero ws = wordsOf [] ++ drop scratchWords ws
 begun (suc c) ws = ws
 
--- a graph in range with its index, and an item of a table no larger than the limits
-pub record Listable (ps : List Production) (g ix : List ℕ) (production index : ℕ) : Type 0 where
-  pub nonterminals : ℕ
-  pub graphed : Graphed nonterminals ps g ix (getD g 0 0)
+-- a graph in range, an item of the table, and the view of the graph from the item with the labels of its edges
+pub record Listable (ps : List Production) (g : List ℕ) (production index : ℕ) (owners codes sources older latest : List ℕ) : Type 0 where
+  pub ranged : Ranged ps g
   pub fits : itemFits ps production index ≡ true
-  pub few : length ps ≤ 128
-  pub short : (p : ℕ) → length (getD ps p noProduction .symbols) ≤ 16
+  pub view : View (edgesIn g) (record { production = production; index = index }) sources older latest
+  pub labelled : Labelled ps (edgesIn g) owners codes

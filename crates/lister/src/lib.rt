@@ -6,15 +6,14 @@ use enumerator::Opened;
 use enumerator::machine::clear;
 use enumerator::machine::holds_trial;
 use example::Example;
-use example::write_example;
 use first::FirstSets;
 use lookahead::TokenSet;
 use repr::NonterminalString;
 use repr::ProductionIndex;
 use repr::word;
 use search::Searched;
-use search::read_labels;
 use search::search;
+use search::write_trial;
 use table::Checked;
 use table::read_counts;
 use table::read_productions;
@@ -23,13 +22,13 @@ use trace_graph::check_graph;
 use trace_graph::item_fits;
 use trace_graph::read_node;
 use view::View;
-use view::making::make_view;
+use view::making::check_view;
 ghost use mathlib.Core.Path.{_≡_};
 ghost use mathlib.Core.Bool.{true, false};
 ghost use mathlib.Core.List.{List, _++_};
 ghost use Prim.Native.Nat.{ℕ, _+_, _-_, _≤_, _<_};
 ghost use lib.ListN.{length, getD, replicate};
-ghost use Rattle.repr.specs.Sizes.{graphRoom, scratchWords, trialLimit, exampleRoom};
+ghost use Rattle.repr.specs.Sizes.{edgeLimit, graphRoom, scratchWords, trialLimit, exampleRoom};
 ghost use Rattle.slices.specs.Lent.{inFront};
 ghost use Rattle.repr.specs.Meaning.{Table};
 ghost use Rattle.repr.specs.Packed.{Packed, productionsIn};
@@ -37,14 +36,13 @@ ghost use Rattle.table.specs.Decoded.{meaning};
 ghost use Rattle.table.specs.Refusals.{checkOf};
 ghost use Rattle.trace_graph.specs.Graph.{atItem, sameNode, isNode};
 ghost use Rattle.trace_graph.specs.Words.{nodeAt, edgesIn};
-ghost use Rattle.trace_graph.specs.Insert.{Graphed};
 ghost use Rattle.trace_graph.specs.Index.{indexRoom};
 ghost use Rattle.example.specs.Example.{exampleWords};
 ghost use Rattle.enumerator.specs.Trials.{endsOf, trials};
 ghost use Rattle.enumerator.specs.Lister.{labelsOf, hands, search};
 ghost use Rattle.enumerator.specs.Advance.{outcome, setOf, startOf, asked, moved, foundOutcome, restOf, lost, advanceIn, openIn};
-ghost use Rattle.enumerator.specs.Stacks.{Roomy, Started};
-ghost use Rattle.view.specs.View.{Ranged};
+ghost use Rattle.enumerator.specs.Stacks.{Roomy, Started, Ranged};
+ghost use Rattle.view.specs.View.{latestRoom, View as Viewing, Labelled};
 ghost use Rattle.view.specs.Trial.{trialWords};
 ghost use Rattle.search.specs.Given.{Tried};
 ghost use Rattle.lister.specs.Context.{Read, Listable, aheadBy, setsFor, begun};
@@ -82,7 +80,7 @@ fn asked(
     requires { ⌜ (n ≤ 32) × (terminals ≤ 63) ⌝ }
     requires { ⌜ now ix ≡ replicate indexRoom 0 ⌝ }
     ensures { λ r. ⌜ ((T : Table) → Read T n terminals (productionsIn (now (grammar .entry)) productions) → r ≡ asked T (record { production = production; index = index }) (setOf lookahead) (now (graph .entry))) ⌝ }
-    ensures { λ r. ⌜ (r ≡ true → graphRoom ≤ length (now (graph .entry)) → Graphed n (productionsIn (now (grammar .entry)) productions) (now (graph .entry)) (now (ix .exit)) (getD (now (graph .entry)) 0 0)) ⌝ }
+    ensures { λ r. ⌜ (r ≡ true → graphRoom ≤ length (now (graph .entry)) → Ranged (productionsIn (now (grammar .entry)) productions) (now (graph .entry))) ⌝ }
 {
     if item_fits(grammar, productions, production, index) {
         if lookahead_fits(terminals, lookahead) {
@@ -90,6 +88,54 @@ fn asked(
                 return true;
             }
             return check_graph(grammar, productions, n, graph, ix);
+        }
+    }
+    false
+}
+
+// The same of a step, which makes the graph's view from the item and the labels of its edges as well, in zeroed words.
+fn asked_view(
+    grammar: &[u16],
+    productions: usize,
+    n: usize,
+    terminals: usize,
+    production: usize,
+    index: usize,
+    lookahead: Lookahead,
+    graph: &[u16],
+    owners: &mut [u8],
+    codes: &mut [u16],
+    sources: &mut [u8],
+    older: &mut [u16],
+    latest: &mut [u16],
+) -> bool
+    requires { ⌜ Packed (now grammar) productions ⌝ }
+    requires { ⌜ (n ≤ 32) × (terminals ≤ 63) ⌝ }
+    requires { ⌜ (length (now owners) ≡ edgeLimit) × (length (now codes) ≡ edgeLimit) ⌝ }
+    requires { ⌜ (now sources ≡ replicate edgeLimit 0) × ((now older ≡ replicate edgeLimit 0) × (now latest ≡ replicate latestRoom 0)) ⌝ }
+    ensures { λ r. ⌜ ((T : Table) → Read T n terminals (productionsIn (now (grammar .entry)) productions) → r ≡ asked T (record { production = production; index = index }) (setOf lookahead) (now (graph .entry))) ⌝ }
+    ensures { λ r. ⌜ (r ≡ true → graphRoom ≤ length (now (graph .entry)) → Listable (productionsIn (now (grammar .entry)) productions) (now (graph .entry)) production index (now (owners .exit)) (now (codes .exit)) (now (sources .exit)) (now (older .exit)) (now (latest .exit))) ⌝ }
+{
+    if item_fits(grammar, productions, production, index) {
+        if lookahead_fits(terminals, lookahead) {
+            if graph.len() < TraceGraph::WORDS {
+                return true;
+            }
+            let mut ix = [0u16; TraceGraph::INDEX_WORDS];
+            return check_view(
+                grammar,
+                productions,
+                n,
+                graph,
+                production,
+                index,
+                &mut ix,
+                owners,
+                codes,
+                sources,
+                older,
+                latest,
+            );
         }
     }
     false
@@ -203,8 +249,8 @@ fn begin(words: &mut [u16], count: u32)
 }
 
 // Whether an open listing past count 0 is lent words that hold no example's trial (refusal 9).
-fn lost(l: Listing, graph: &[u16], ix: &[u16], words: &[u16]) -> bool
-    requires { ⌜ Started (now graph) (now ix) (l .production .0) (l .index) ⌝ }
+fn lost(l: Listing, graph: &[u16], words: &[u16]) -> bool
+    requires { ⌜ Started (now graph) (l .production .0) (l .index) ⌝ }
     requires { ⌜ scratchWords ≤ length (now words) ⌝ }
     ensures { λ r. ⌜ r ≡ lost (edgesIn (now (graph .entry))) l (now (words .entry)) ⌝ }
 {
@@ -214,30 +260,12 @@ fn lost(l: Listing, graph: &[u16], ix: &[u16], words: &[u16]) -> bool
         }
         let production = l.production.0 as usize;
         let index = l.index as usize;
-        if holds_trial(graph, ix, words, production, index) {
+        if holds_trial(graph, words, production, index) {
             return false;
         }
         return true;
     }
     false
-}
-
-// The example of the trial that the words hold, at the front of the buffer.
-fn write_trial(
-    grammar: &[u16],
-    productions: usize,
-    graph: &[u16],
-    words: &[u16],
-    buffer: &mut [u16],
-)
-    requires { ⌜ Packed (now grammar) productions ⌝ }
-    requires { ⌜ Tried (productionsIn (now grammar) productions) (now graph) (now words) ⌝ }
-    requires { ⌜ exampleRoom ≤ length (now buffer) ⌝ }
-    ensures { λ _. ⌜ ((p rest : List ℕ) → now (words .entry) ≡ trialWords p ++ rest → now (buffer .exit) ≡ inFront (exampleWords (productionsIn (now (grammar .entry)) productions) (labelsOf (productionsIn (now (grammar .entry)) productions) (edgesIn (now (graph .entry))) p)) (now (buffer .entry))) ⌝ }
-{
-    let mut labels = [0u16; Example::ALL_LABEL_WORDS];
-    let size = read_labels(grammar, productions, graph, words, &mut labels);
-    write_example(grammar, productions, &labels[..size], buffer);
 }
 
 // The listing with another count, open or not.
@@ -272,32 +300,24 @@ fn find_next(
     productions: usize,
     terminals: u16,
     graph: &[u16],
+    owners: &[u8],
+    codes: &[u16],
+    sources: &[u8],
+    older: &[u16],
+    latest: &[u16],
     scratch: &mut [u16],
     buffer: &mut [u16],
 ) -> Stepped
     requires { ⌜ Packed (now grammar) productions × (terminals ≤ 63) ⌝ }
-    requires { ⌜ Ranged (productionsIn (now grammar) productions) (now graph) ⌝ }
+    requires { ⌜ Viewing (edgesIn (now graph)) (record { production = l .production .0; index = l .index }) (now sources) (now older) (now latest) × Labelled (productionsIn (now grammar) productions) (edgesIn (now graph)) (now owners) (now codes) ⌝ }
     requires { ⌜ (scratchWords ≤ length (now scratch)) × (exampleRoom ≤ length (now buffer)) ⌝ }
     requires { ⌜ (l .«is_open» ≡ true) × (lost (edgesIn (now graph)) l (now scratch) ≡ false) ⌝ }
     ensures { λ r. ⌜ ((n : ℕ) (T : Table) → Read T n terminals (productionsIn (now (grammar .entry)) productions) → outcome (r .answer) (r .next) (now (scratch .exit)) (now (buffer .exit)) ≡ foundOutcome T (edgesIn (now (graph .entry))) l (now (scratch .entry)) (now (buffer .entry)) (search (hands T (edgesIn (now (graph .entry))) (setOf (l .lookahead))) (trialLimit - l .count) (l .count) (restOf (l .count) (now (scratch .entry)) (trials (endsOf (edgesIn (now (graph .entry)))) (atItem (startOf l)))))) ⌝ }
 {
-    let production = l.production.0 as usize;
-    let index = l.index as usize;
     let lookahead = l.lookahead;
     let count = l.count;
     let sets = first_sets(grammar, productions, terminals, lookahead);
     let map = sets.map;
-    let mut sources = [0u8; View::EDGES];
-    let mut older = [0u16; View::EDGES];
-    let mut latest = [0u16; View::NODES];
-    make_view(
-        graph,
-        production,
-        index,
-        &mut sources,
-        &mut older,
-        &mut latest,
-    );
     begin(scratch, count);
     match search(
         grammar,
@@ -305,15 +325,16 @@ fn find_next(
         terminals,
         &map,
         lookahead,
-        graph,
-        &sources,
-        &older,
-        &latest,
+        owners,
+        codes,
+        sources,
+        older,
+        latest,
         scratch,
         count,
     ) {
         Searched::Hit(number) => {
-            write_trial(grammar, productions, graph, scratch, buffer);
+            write_trial(grammar, productions, owners, codes, scratch, buffer);
             Stepped {
                 next: moved(l, number, true),
                 answer: Advanced::Example,
@@ -337,25 +358,42 @@ fn go_on(
     productions: usize,
     terminals: u16,
     graph: &[u16],
-    ix: &[u16],
+    owners: &[u8],
+    codes: &[u16],
+    sources: &[u8],
+    older: &[u16],
+    latest: &[u16],
     scratch: &mut [u16],
     buffer: &mut [u16],
 ) -> Stepped
     requires { ⌜ Packed (now grammar) productions × (terminals ≤ 63) ⌝ }
-    requires { ⌜ Listable (productionsIn (now grammar) productions) (now graph) (now ix) (l .production .0) (l .index) ⌝ }
+    requires { ⌜ Listable (productionsIn (now grammar) productions) (now graph) (l .production .0) (l .index) (now owners) (now codes) (now sources) (now older) (now latest) ⌝ }
     requires { ⌜ (scratchWords ≤ length (now scratch)) × (exampleRoom ≤ length (now buffer)) ⌝ }
     ensures { λ r. ⌜ ((n : ℕ) (T : Table) → Read T n terminals (productionsIn (now (grammar .entry)) productions) → asked T (startOf l) (setOf (l .lookahead)) (now (graph .entry)) ≡ true → outcome (r .answer) (r .next) (now (scratch .exit)) (now (buffer .exit)) ≡ advanceIn (now (graph .entry)) l (now (scratch .entry)) (now (buffer .entry)) T) ⌝ }
 {
     let production = l.production.0 as usize;
     let index = l.index as usize;
-    let strayed = lost(l, graph, ix, scratch);
+    let strayed = lost(l, graph, scratch);
     let node = is_node(graph, production, index);
     if strayed {
         return unmoved(l, Advanced::Refused(9, 0));
     }
     if node {
         if l.is_open {
-            return find_next(l, grammar, productions, terminals, graph, scratch, buffer);
+            return find_next(
+                l,
+                grammar,
+                productions,
+                terminals,
+                graph,
+                owners,
+                codes,
+                sources,
+                older,
+                latest,
+                scratch,
+                buffer,
+            );
         }
         return unmoved(l, Advanced::End);
     }
@@ -378,11 +416,15 @@ pub fn step_in(
     let terminals = counts.terminals;
     let mut grammar = [0u16; ProductionIndex::ALL_WORDS];
     read_productions(table, &mut grammar);
-    let mut ix = [0u16; TraceGraph::INDEX_WORDS];
+    let mut owners = [0u8; View::EDGES];
+    let mut codes = [0u16; View::EDGES];
+    let mut sources = [0u8; View::EDGES];
+    let mut older = [0u16; View::EDGES];
+    let mut latest = [0u16; View::NODES];
     let production = l.production.0 as usize;
     let index = l.index as usize;
     let lookahead = l.lookahead;
-    if asked(
+    if asked_view(
         &grammar,
         productions,
         counts.nonterminals,
@@ -391,7 +433,11 @@ pub fn step_in(
         index,
         lookahead,
         graph,
-        &mut ix,
+        &mut owners,
+        &mut codes,
+        &mut sources,
+        &mut older,
+        &mut latest,
     ) {
         if graph.len() < TraceGraph::WORDS {
             return unmoved(l, Advanced::Refused(11, 0));
@@ -408,7 +454,11 @@ pub fn step_in(
             productions,
             terminals as u16,
             graph,
-            &ix,
+            &owners,
+            &codes,
+            &sources,
+            &older,
+            &latest,
             scratch,
             buffer,
         );

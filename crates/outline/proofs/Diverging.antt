@@ -12,7 +12,6 @@ use Rattle.repr.specs.Meaning.{Symbol, sameSymbol, Production, noProduction, Al
 use Rattle.repr.specs.Listed.{symbolOfKind, listed, symbolFits, listFits}
 use Rattle.repr.specs.Packed.{Packed, productionsIn, symbolWords}
 use Rattle.repr.proofs.Listed.{drop-two, listed-none, listed-step, fits-head, symbol-range}
-use Rattle.repr.proofs.Tests.{All-at}
 use Rattle.core.specs.Items.{symbolSets}
 use Rattle.example.specs.Example.{Label, setsOf}
 use Rattle.example.specs.Labels.{labelsIn, LabelsFit}
@@ -21,7 +20,7 @@ use Rattle.example.proofs.Labels.{item-production, item-index}
 use Rattle.example.proofs.Parts.{part-listed, suffix-is}
 use Rattle.first.specs.declared.Answer.{Answer}
 use Rattle.first.specs.First.{first0, disjoint}
-use Rattle.outline.specs.Inline.{symbolsAt, suffixAt, apart, divergeBy, codesInline, CodeFits, HasItem, HasLabel, keptInline}
+use Rattle.outline.specs.Inline.{symbolsAt, suffixAt, apart, divergeBy, codesInline, CodeFits}
 
 -- `same_symbol`
 
@@ -163,18 +162,3 @@ module _ (e : ℕ) (sets : List ℕ) (ps : List Production) (label other : ℕ) 
   pub inline-some : other < itemLimit → (xs ys : List Symbol) → xs ≡ suffixAt ps label → ys ≡ suffixAt ps other → (r : Bool) → r ≡ divergeBy e sets xs ys → r ≡ codesInline e sets ps label other
   unfolding codesInline
   inline-some h xs ys ex ey r er = er ∙ rw (lt-ltb other itemLimit h, ex, ey)
-
--- `inline_pair`: what a number of the order names
-
-module _ (ps : List Production) (labels order : List ℕ) (i x : ℕ) (h : i < length order) (e : x ≡ getD order i 0) where
-  pub item-at : All (HasItem ps labels) order → (l : ℕ) → l ≡ getD labels x 0 → (x < length labels) × CodeFits ps l
-  unfolding HasItem
-  item-at A l el = rw el (rw (← e) at (All-at (HasItem ps labels) order i 0 A h))
-
-  pub label-at : All (HasLabel ps labels) order → (l : ℕ) → l ≡ getD labels x 0 → (x < length labels) × (l < itemLimit → CodeFits ps l)
-  unfolding HasLabel
-  label-at A l el = rw el (rw (← e) at (All-at (HasLabel ps labels) order i 0 A h))
-
-pub inline-says : (e : ℕ) (sets : List ℕ) (ps : List Production) (actions reduces : List ℕ) (x y l o : ℕ) (b q : Bool) → l ≡ getD actions x 0 → o ≡ getD reduces y 0 → b ≡ codesInline e sets ps l o → b ≡ q → keptInline e sets ps actions reduces x y ≡ q
-unfolding keptInline
-inline-says e sets ps actions reduces x y l o b q el eo eb bq = rw (← el, ← eo) (sym eb ∙ bq)

@@ -3,28 +3,26 @@ use Prim.Native.Nat.{ℕ, suc, _+_, _-_, _*_, _≤_, _<_}
 use native.Mathlib.Omega.{arith}
 use mathlib.Core.Path.{_≡_, refl, sym, ap, _∙_}
 use mathlib.Core.Bool.{Bool, true, false}
-use mathlib.Core.List.{List, [], _∷_, _++_}
-use lib.ListN.{length, getD, drop, length-drop, List·getD-eq-default}
-use lib.Dec.{eqb, ltb}
-use borrow.Author.Tests.{eq-eqb, ne-eqb, ltb-true, ltb-false}
-use Rattle.repr.specs.Sizes.{indexLimit, itemLimit, nonterminalLimit, labelRoom, exampleSymbols}
-use Rattle.slices.specs.Lent.{inFront}
+use mathlib.Core.List.{List, [], _∷_}
+use lib.ListN.{length, getD, drop, length-drop}
+use lib.Dec.{eqb}
+use borrow.Author.Tests.{eq-eqb, ne-eqb}
+use Rattle.repr.specs.Sizes.{indexLimit, itemLimit, labelRoom}
 use Rattle.repr.specs.Meaning.{Production}
 use Rattle.repr.specs.Listed.{listed}
 use Rattle.repr.specs.Packed.{Packed, productionsIn, productionIn, symbolWords}
-use Rattle.repr.proofs.Lists.{cases, length-map-below}
+use Rattle.repr.proofs.Lists.{length-map-below}
 use Rattle.repr.proofs.Tests.{All-at}
 use Rattle.core.specs.Items.{symbolSets}
-use Rattle.example.specs.Example.{Label, setsOf, symbols, reductions, exampleWords}
+use Rattle.example.specs.Example.{Label, setsOf, symbols}
 use Rattle.example.specs.Labels.{labelsIn, LabelFits, LabelsFit}
 use Rattle.example.specs.Written.{noLabel, labelAt}
 use Rattle.example.proofs.Labels.{label-count, label-nonterminal, label-production, label-index, labels-step, some-label, few-labels, short-in, production-symbols}
-use Rattle.example.proofs.Sizes.{at-most-528, length-reductions, length-symbols}
-use Rattle.error.specs.Judge.{symbolCount, reductionAt, noReduction}
-use Rattle.outline.specs.declared.Outline.{Outline}
-use Rattle.outline.specs.Outline.{printOf, printIn, itemCode, nextItem, labelOf, outlineOf, OutlineFits}
-use Rattle.outline.proofs.Prints.{print-small, count-in, print-in}
-use Rattle.outline.proofs.Upcoming.{first-reduction, second-reduction, code-small, next-cycle, next-no-more, next-item}
+use Rattle.example.proofs.Sizes.{at-most-528}
+use Rattle.error.specs.Judge.{symbolCount, reductionAt}
+use Rattle.outline.specs.Outline.{printOf, itemCode, nextItem, labelOf, outlineOf, OutlineFits}
+use Rattle.outline.proofs.Prints.{print-small}
+use Rattle.outline.proofs.Upcoming.{first-reduction, code-small, next-cycle, next-no-more, next-item}
 
 -- one label, or two and more
 module _ (ws : List ℕ) where
@@ -36,13 +34,6 @@ module _ (ws : List ℕ) where
 
   pub labels-two : 1 < length (labelsIn ws) → labelsIn ws ≡ labelAt ws 0 ∷ labelAt ws 1 ∷ drop 2 (labelsIn ws)
   labels-two h = labels-step ws 0 (omega arith) ∙ ap (λ (l : List Label). labelAt ws 0 ∷ l) (labels-step ws 1 h)
-
-  pub next-none : length ws < 2 * labelRoom → 0 ≡ labelAt ws 1 .nonterminal
-  unfolding labelAt
-  next-none h = let r = one-label h in rw (List·getD-eq-default (labelsIn ws) noLabel {n = 1} (omega arith))
-
-  pub next-some : 2 * labelRoom ≤ length ws → (x : ℕ) → x ≡ getD ws 3 0 → x ≡ labelAt ws 1 .nonterminal
-  next-some h x e = e ∙ label-nonterminal ws 1 (two-labels h)
 
 module _ (g : List ℕ) (n : ℕ) (P : Packed g n) (ws : List ℕ) (F : LabelsFit (productionsIn g n) ws) where
   abbrev ps : List Production
@@ -125,54 +116,21 @@ module _ (g : List ℕ) (n : ℕ) (P : Packed g n) (ws : List ℕ) (F : LabelsFi
             let q = code-is 1 two p i ep′ ei′ in
             (q .0 ∙ sym (next-is ∙ next-item ps (labelAt ws 0) (labelAt ws 1) (ne-eqb _ _ (λ w. ne (owner ∙ w ∙ sym first-owner))) z), q .1)
 
-  -- `outline_of`: the example in words, at the front of a buffer
-
-  module _ (b ex : List ℕ) (e : ex ≡ inFront (exampleWords ps (labelsIn ws)) b) where
-    front : ex ≡ exampleWords ps (labelsIn ws) ++ drop (length (exampleWords ps (labelsIn ws))) b
-    unfolding inFront
-    front = e
-
-    pub places-are : getD ex 0 0 ≡ length (symbols ps (labelsIn ws))
-    places-are = count-in ps (labelsIn ws) ex (drop (length (exampleWords ps (labelsIn ws))) b) front
-
-    pub places-few : getD ex 0 0 ≤ exampleSymbols
-    places-few = let a = at-most-528 ps (short-in g n P) (labelsIn ws) (few-labels ws F) in let q = places-are in omega arith
-
-    pub print-is : printIn ex ≡ printOf ps (labelsIn ws)
-    print-is =
-        let a = at-most-528 ps (short-in g n P) (labelsIn ws) (few-labels ws F) in
-        let l = length-symbols ps (labelsIn ws) in
-        print-in ps (labelsIn ws) ex (drop (length (exampleWords ps (labelsIn ws))) b) front (omega arith)
-
   -- the outline of what was read
 
   first-is : reductionAt ps (labelsIn ws) 0 .nonterminal ≡ labelAt ws 0 .nonterminal
   first-is = rw (labels-step ws 0 (some-label ws F), first-reduction ps (labelAt ws 0) (drop 1 (labelsIn ws)))
 
-  next-some-reduction : 1 < length (labelsIn ws) → reductionAt ps (labelsIn ws) 1 .nonterminal ≡ labelAt ws 1 .nonterminal
-  next-some-reduction h = rw (labels-two ws h, second-reduction ps (labelAt ws 0) (labelAt ws 1) (drop 2 (labelsIn ws)))
-
-  second-is : (reductionAt ps (labelsIn ws) 1 .nonterminal ≡ labelAt ws 1 .nonterminal) × (labelAt ws 1 .nonterminal < nonterminalLimit)
-  unfolding reductionAt labelAt
-  second-is = cases (ltb 1 (length (labelsIn ws)))
-      (λ q. let h = ltb-true 1 (length (labelsIn ws)) q in (next-some-reduction h, fit 1 h .nonterminal))
-      (λ q.
-      let h = ltb-false 1 (length (labelsIn ws)) q in
-      let r = length-reductions ps (labelsIn ws) in
-      let z = List·getD-eq-default (labelsIn ws) noLabel {n = 1} h in
-      (rw (List·getD-eq-default (reductions ps (labelsIn ws)) noReduction {n = 1} (omega arith), z), rw z (omega arith)))
-
-  pub outline-made : (shift : Bool) (p q f l x : ℕ) → p ≡ length (symbols ps (labelsIn ws)) → q ≡ printOf ps (labelsIn ws) → f ≡ getD ws 0 0 → l ≡ labelOf ps shift (labelsIn ws) → l ≤ itemLimit → x ≡ labelAt ws 1 .nonterminal
-      → (record { places = p; print = q; first = f; label = l; next = x } ≡ outlineOf ps shift (labelsIn ws)) × OutlineFits (record { places = p; print = q; first = f; label = l; next = x })
+  pub outline-made : (shift : Bool) (p q f l : ℕ) → p ≡ length (symbols ps (labelsIn ws)) → q ≡ printOf ps (labelsIn ws) → f ≡ getD ws 0 0 → l ≡ labelOf ps shift (labelsIn ws) → l ≤ itemLimit
+      → (record { places = p; print = q; first = f; label = l } ≡ outlineOf ps shift (labelsIn ws)) × OutlineFits (record { places = p; print = q; first = f; label = l })
   unfolding outlineOf symbolCount
-  outline-made shift p q f l x ep eq ef el ll ex =
+  outline-made shift p q f l ep eq ef el ll =
       let h = some-label ws F in
       let a = label-nonterminal ws 0 h in
       let b = at-most-528 ps (short-in g n P) (labelsIn ws) (few-labels ws F) in
       let c = print-small ps (labelsIn ws) in
       let d = fit 0 h .nonterminal in
-      let s = second-is in
       let first : f ≡ labelAt ws 0 .nonterminal = ef ∙ a in (
-        rw (ep, eq, first, el, ex, first-is, s .0),
-        record { places = omega arith; print = omega arith; first = omega arith; label = ll; next = omega (arith, s .1) },
+        rw (ep, eq, first, el, first-is),
+        record { places = omega arith; print = omega arith; first = omega arith; label = ll },
       )

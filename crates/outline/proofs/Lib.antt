@@ -1,5 +1,5 @@
-pub mod Pairs
 pub mod Prints
 pub mod Upcoming
 pub mod Kept
+pub mod Keeping
 pub mod Diverging

@@ -1,25 +1,21 @@
--- Prints of readings (specs/Outline): below 2 ^ 48, and equal where the readings are; the same over an example's words. Assumes nothing.
-use Prim.Native.Nat.{ℕ, suc, _+_, _-_, _*_, _%_, _<_, _≤_}
+-- Prints of readings (specs/Outline): below 2 ^ 48, and equal where the readings are; the same over words. Assumes nothing.
+use Prim.Native.Nat.{ℕ, _+_, _%_, _<_, _≤_}
 use native.Mathlib.Omega.{arith}
 use mathlib.Core.Path.{_≡_, refl, sym, ap, _∙_}
-use mathlib.Core.Bool.{true, false, _&&_, and-false}
+use mathlib.Core.Bool.{true, false}
 use mathlib.Core.List.{List, [], _∷_, _++_, map, append-assoc}
-use lib.ListN.{length, getD, take, drop}
-use lib.Seq.{take-at}
-use lib.Dec.{eqb}
-use borrow.Author.Tests.{eqb-true, eq-eqb}
+use lib.ListN.{length, getD, drop, length-drop}
+use borrow.Author.Tests.{eqb-true}
 use Rattle.repr.specs.Lists.{joined}
-use Rattle.repr.specs.Meaning.{nonterminal, terminal, Production, All}
-use Rattle.repr.proofs.Lists.{cases, clash}
+use Rattle.repr.specs.Meaning.{Symbol, nonterminal, terminal, Production}
+use Rattle.repr.proofs.Lists.{clash}
 use Rattle.repr.proofs.Listed.{and-left, and-right, drop-two}
 use Rattle.repr.proofs.SameSymbol.{same-equal}
-use Rattle.example.specs.Example.{ExampleSymbol, symbol, epsilon, prefixes, symbols, symbolWords, reductions, reductionWords, exampleWords}
-use Rattle.example.proofs.Sizes.{twos}
-use Rattle.error.specs.Sorted.{firstPair}
+use Rattle.example.specs.Example.{ExampleSymbol, symbol, epsilon, prefixes, suffixes, middle, symbols, symbolWords, reductions, reductionWords, exampleWords}
+use Rattle.example.specs.Written.{wordsOf, Part}
+use Rattle.example.proofs.Walk.{symbol-words}
 use Rattle.error.specs.Judge.{Example, cursorAt, sameExampleSymbol, sameExampleSymbols, sameReading}
-use Rattle.outline.specs.Outline.{printLimit, mix, symbolCode, codeOf, printFrom, printOf, printWords, printIn}
-use Rattle.outline.specs.Inline.{onPair}
-use Rattle.outline.proofs.Pairs.{pair-agree, pair-agree-on, pair-named}
+use Rattle.outline.specs.Outline.{printLimit, mix, symbolCode, codeOf, printFrom, printOf, printWords}
 
 -- the tests of error decide equality
 
@@ -49,22 +45,6 @@ module _ (ps : List Production) where
       let c = eqb-true (cursorAt ps a) (cursorAt ps r) (and-right (sameExampleSymbols (symbols ps a) (symbols ps r)) _ e) in
       rw (s, c)
 
-  -- whatever is kept for a print, if only equal readings have it equal: the first pair read alike is the first of those with equal prints that is
-  pub prints-decide-by : (print : Example → ℕ) → ((a r : Example) → sameReading ps a r ≡ true → print a ≡ print r) → (xs ys : List Example)
-      → firstPair (sameReading ps) xs ys ≡ firstPair (λ a r. eqb (print a) (print r) && sameReading ps a r) xs ys
-  prints-decide-by print h xs ys = pair-agree (sameReading ps) (λ a r. eqb (print a) (print r) && sameReading ps a r) (λ a r. cases (sameReading ps a r) (λ e. rw (e, eq-eqb (print a) (print r) (h a r e))) (λ e. rw e (sym (and-false (eqb (print a) (print r)))))) xs ys
-
-  pub prints-decide : (xs ys : List Example) → firstPair (sameReading ps) xs ys ≡ firstPair (λ a r. eqb (printOf ps a) (printOf ps r) && sameReading ps a r) xs ys
-  prints-decide = prints-decide-by (printOf ps) same-print
-
-  -- by the kept prints: those of the examples that the numbers of the two orders name
-  pub print-pair-is : (as′ rs : ℕ → Example) (prints others rows columns : List ℕ) → All (λ i. getD prints i 0 ≡ printOf ps (as′ i)) rows → All (λ j. getD others j 0 ≡ printOf ps (rs j)) columns
-      → firstPair (sameReading ps) (map as′ rows) (map rs columns) ≡ onPair as′ rs (firstPair (λ i j. eqb (getD prints i 0) (getD others j 0) && sameReading ps (as′ i) (rs j)) rows columns)
-  print-pair-is as′ rs prints others rows columns A B =
-      prints-decide (map as′ rows) (map rs columns)
-      ∙ pair-named as′ rs (λ a r. eqb (printOf ps a) (printOf ps r) && sameReading ps a r) rows columns
-      ∙ ap (onPair as′ rs) (pair-agree-on (λ i. getD prints i 0 ≡ printOf ps (as′ i)) (λ j. getD others j 0 ≡ printOf ps (rs j)) (λ i j. eqb (printOf ps (as′ i)) (printOf ps (rs j)) && sameReading ps (as′ i) (rs j)) (λ i j. eqb (getD prints i 0) (getD others j 0) && sameReading ps (as′ i) (rs j)) (λ i j p q. rw (p, q)) rows columns A B)
-
   from-small : (h : ℕ) (xs : List ExampleSymbol) → h < printLimit → printFrom h xs < printLimit
   unfolding printFrom mix
   from-small h [] l = l
@@ -83,6 +63,8 @@ from-words h (symbol (nonterminal n) ∷ xs) = from-words (mix h (symbolCode 0 n
 from-words h (symbol (terminal n) ∷ xs) = from-words (mix h (symbolCode 1 n)) xs
 from-words h (epsilon ∷ xs) = from-words (mix h (symbolCode 2 0)) xs
 
+-- an example in words
+
 module _ (ps : List Production) (ls : Example) (ws tail : List ℕ) (e : ws ≡ exampleWords ps ls ++ tail) where
   front : ws ≡ length (symbols ps ls) ∷ length (prefixes ps ls) ∷ length ls ∷ (joined symbolWords (symbols ps ls) ++ (joined reductionWords (reductions ps ls) ++ tail))
   unfolding exampleWords
@@ -91,30 +73,55 @@ module _ (ps : List Production) (ls : Example) (ws tail : List ℕ) (e : ws ≡ 
   pub count-in : getD ws 0 0 ≡ length (symbols ps ls)
   count-in = ap (λ (l : List ℕ). getD l 0 0) front
 
-  pub print-in : length (prefixes ps ls) < printLimit → printIn ws ≡ printOf ps ls
-  unfolding printIn printOf cursorAt
-  print-in h =
-      let c : length (prefixes ps ls) % printLimit ≡ length (prefixes ps ls) = omega arith in
-      rw (front, c, take-at (joined symbolWords (symbols ps ls)) (joined reductionWords (reductions ps ls) ++ tail) (2 * length (symbols ps ls)) (twos (symbols ps ls))) (from-words (length (prefixes ps ls)) (symbols ps ls))
+-- symbols in front, and then the rest
 
--- `print`: i places are passed, and what is left decides
+words-on : (h : ℕ) (xs : List ExampleSymbol) (ys : List ℕ) → printWords h (joined symbolWords xs ++ ys) ≡ printWords (printWords h (joined symbolWords xs)) ys
+unfolding printWords joined symbolWords
+words-on h [] ys = refl
+words-on h (symbol (nonterminal n) ∷ xs) ys = words-on (mix h (symbolCode 0 n)) xs ys
+words-on h (symbol (terminal n) ∷ xs) ys = words-on (mix h (symbolCode 1 n)) xs ys
+words-on h (epsilon ∷ xs) ys = words-on (mix h (symbolCode 2 0)) xs ys
 
-pub print-start : (ws : List ℕ) (count h : ℕ) → count ≡ getD ws 0 0 → h ≡ getD ws 1 0 → printWords h (take (2 * (count - 0)) (drop (3 + 2 * 0) ws)) ≡ printIn ws
-unfolding printIn
-print-start ws count h ec eh = let m : 2 * (count - 0) ≡ 2 * getD ws 0 0 = omega arith in rw (m, eh)
+-- a label's part: from its print the rest gives what the whole gives
+pub part-on : (h : ℕ) (part : List ℕ) (xs : List Symbol) → Part part xs → (whole rest : List ℕ) → whole ≡ part ++ rest → (r : ℕ) → r ≡ printWords h part → printWords r rest ≡ printWords h whole
+unfolding wordsOf
+part-on h part xs P whole rest e r q = rw (q, e, P .words) (sym (words-on h (map symbol xs) rest))
 
-module _ (ws : List ℕ) (count i : ℕ) (l : 3 + 2 * count ≤ length ws) (h : ℕ) where
-  abbrev Left : ℕ
-  Left = printWords h (take (2 * (count - i)) (drop (3 + 2 * i) ws))
+module _ (ps : List Production) (ls : Example) where
+  -- `print`: prefixes, cursor place and suffixes
+  pub print-whole : (c a b r : ℕ) → c ≡ length (prefixes ps ls) → c < printLimit → a ≡ printWords c (wordsOf (prefixes ps ls)) → b ≡ printWords a (joined symbolWords (middle ps ls))
+      → r ≡ printWords b (wordsOf (suffixes ps ls)) → r ≡ printOf ps ls
+  unfolding printOf cursorAt wordsOf
+  print-whole c a b r ec l ea eb er =
+      let m : length (prefixes ps ls) % printLimit ≡ c = omega arith in
+      let x = words-on c (map symbol (prefixes ps ls)) (joined symbolWords (middle ps ls) ++ wordsOf (suffixes ps ls)) in
+      let y = words-on a (middle ps ls) (wordsOf (suffixes ps ls)) in
+      er ∙ ap (λ (h : ℕ). printWords h (wordsOf (suffixes ps ls))) eb ∙ sym y
+      ∙ ap (λ (h : ℕ). printWords h (joined symbolWords (middle ps ls) ++ wordsOf (suffixes ps ls))) ea ∙ sym x
+      ∙ ap (printWords c) (sym (symbol-words ps ls)) ∙ from-words c (symbols ps ls) ∙ ap (λ (h : ℕ). printFrom h (symbols ps ls)) (sym m)
 
-  pub print-end : count ≤ i → Left ≡ h
+-- no words, and the empty mark
+
+pub words-none : (h : ℕ) (ws : List ℕ) → ws ≡ [] → h ≡ printWords h ws
+unfolding printWords
+words-none h ws e = rw e
+
+pub words-mark : (h : ℕ) (ws : List ℕ) → ws ≡ 2 ∷ 0 ∷ [] → mix h (symbolCode 2 0) ≡ printWords h ws
+unfolding printWords
+words-mark h ws e = rw e
+
+-- `print_list`: the words before a place are passed, and what is left decides
+
+module _ (ws : List ℕ) (at h : ℕ) where
+  pub list-end : length ws ≤ at + 1 → printWords h (drop at ws) ≡ h
   unfolding printWords
-  print-end le = let z : 2 * (count - i) ≡ 0 = omega arith in rw z
+  list-end le = go (drop at ws) (let d = length-drop at ws in omega arith)
+    where
+      go : (l : List ℕ) → length l ≤ 1 → printWords h l ≡ h
+      go [] e = refl
+      go (k ∷ []) e = refl
+      go (k ∷ n ∷ l) e = absurd (omega arith)
 
-  pub print-more : i < count → (k n : ℕ) → k ≡ getD ws (3 + 2 * i) 0 → n ≡ getD ws (3 + 2 * i + 1) 0
-      → Left ≡ printWords (mix h (symbolCode k n)) (take (2 * (count - (i + 1))) (drop (3 + 2 * (i + 1)) ws))
+  pub list-more : at + 1 < length ws → (k n r : ℕ) → k ≡ getD ws at 0 → n ≡ getD ws (at + 1) 0 → r ≡ mix h (symbolCode k n) → printWords r (drop (at + 2) ws) ≡ printWords h (drop at ws)
   unfolding printWords
-  print-more lt k n ek en =
-      let m : 2 * (count - i) ≡ suc (suc (2 * (count - (i + 1)))) = omega arith in
-      let o : 3 + 2 * i + 2 ≡ 3 + 2 * (i + 1) = omega arith in
-      rw (drop-two ws (3 + 2 * i) (omega arith), m, o, ← ek, ← en)
+  list-more lt k n r ek en er = rw (drop-two ws at lt, er, ek, en)

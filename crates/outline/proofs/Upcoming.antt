@@ -5,7 +5,6 @@ use native.Mathlib.Omega.{arith}
 use mathlib.Core.Path.{_≡_, refl, sym, ap, _∙_}
 use mathlib.Core.Bool.{true, false, _&&_, not, and-false}
 use mathlib.Core.List.{List, [], _∷_, _++_, map, map-append, append-assoc}
-use mathlib.Core.Option.{none}
 use lib.ListN.{length, getD, drop, length-append, length-drop}
 use lib.Seq.{take-at, drop-at}
 use lib.Dec.{eqb}
@@ -15,17 +14,14 @@ use Rattle.repr.specs.Meaning.{Symbol, sameSymbol, Production, noProduction, Ta
 use Rattle.repr.proofs.Lists.{cases, length-mapped}
 use Rattle.core.specs.Items.{first, symbolSets}
 use Rattle.first.specs.First.{firstSets, FIRST}
-use Rattle.example.specs.Example.{Label, setsOf, ExampleSymbol, symbol, prefixes, suffixes, atCursor, middle, symbols, reductions}
+use Rattle.example.specs.Example.{Label, setsOf, ExampleSymbol, symbol, prefixes, suffixes, atCursor, middle, symbols}
 use Rattle.example.specs.Labels.{LabelFits}
 use Rattle.example.specs.Written.{around}
 use Rattle.example.proofs.Sizes.{Short, short-of, suffixes-cons, length-symbols, length-reductions}
 use Rattle.example.proofs.Reductions.{reductions-around}
-use Rattle.error.specs.Sorted.{firstPair}
 use Rattle.error.specs.Judge.{Example, reductionAt, between, shiftUpcoming, reduceUpcoming, cursorAt, diverge, inlines}
-use Rattle.outline.specs.declared.Outline.{Outline}
 use Rattle.outline.specs.Outline.{itemCode, nextItem, labelOf, outlineOf}
-use Rattle.outline.specs.Inline.{symbolsAt, suffixAt, apart, divergeBy, codesInline, inlinesBy, CodeFits, Shifts, keptInline, onPair}
-use Rattle.outline.proofs.Pairs.{pair-agree-on, pair-named}
+use Rattle.outline.specs.Inline.{symbolsAt, suffixAt, apart, divergeBy, codesInline, inlinesBy, CodeFits, Shifts}
 
 -- a part in the middle
 between-is : (a b c : List ExampleSymbol) (i j : ℕ) → i ≡ length a → j ≡ length a + length b → between i j (a ++ (b ++ c)) ≡ b
@@ -245,28 +241,3 @@ module _ (T : Table) (F : TableFits T) where
       cases (eqb (m .nonterminal) (l .nonterminal))
       (λ q. absurd (not-none (next-cycle ps l m q)))
       (λ q. cases (eqb (length (setsOf ps m .suffix)) 0) (λ z. absurd (not-none (next-no-more ps l m z))) (λ z. rw (next-item ps l m q z) (code-fits ps short m (R .1 .0))))
-
-  -- the first pair by the kept labels is the first pair of the outlines, and of the examples
-
-  labels-alike : (a r : Outline) (actions reduces : List ℕ) (i j : ℕ) → getD actions i 0 ≡ a .label → getD reduces j 0 ≡ r .label → inlinesBy T a r ≡ keptInline (T .terminals) (sets T) ps actions reduces i j
-  unfolding inlinesBy keptInline
-  labels-alike a r actions reduces i j p q =
-      let by = codesInline (T .terminals) (sets T) ps in
-      sym (ap (λ (k : ℕ). by k (getD reduces j 0)) p ∙ ap (by (a .label)) q)
-
-  pub outline-pair-is : (as′ rs : ℕ → Outline) (actions reduces rows columns : List ℕ) → All (λ i. getD actions i 0 ≡ as′ i .label) rows → All (λ j. getD reduces j 0 ≡ rs j .label) columns
-      → firstPair (inlinesBy T) (map as′ rows) (map rs columns) ≡ onPair as′ rs (firstPair (keptInline (T .terminals) (sets T) ps actions reduces) rows columns)
-  outline-pair-is as′ rs actions reduces rows columns A B =
-      pair-named as′ rs (inlinesBy T) rows columns
-      ∙ ap (onPair as′ rs) (pair-agree-on (λ i. getD actions i 0 ≡ as′ i .label) (λ j. getD reduces j 0 ≡ rs j .label) (λ i j. inlinesBy T (as′ i) (rs j)) (keptInline (T .terminals) (sets T) ps actions reduces) (λ i j p q. labels-alike (as′ i) (rs j) actions reduces i j p q) rows columns A B)
-
-  pub inline-pair-is : (as′ rs : ℕ → Example) (actions reduces rows columns : List ℕ)
-      → All (λ i. Shifts ps (as′ i) × All (LabelFits ps) (as′ i) × (getD actions i 0 ≡ labelOf ps true (as′ i))) rows
-      → All (λ j. All (LabelFits ps) (rs j) × (getD reduces j 0 ≡ labelOf ps false (rs j))) columns
-      → firstPair (inlines T) (map as′ rows) (map rs columns) ≡ onPair as′ rs (firstPair (keptInline (T .terminals) (sets T) ps actions reduces) rows columns)
-  unfolding outlineOf
-  inline-pair-is as′ rs actions reduces rows columns A B =
-      pair-named as′ rs (inlines T) rows columns
-      ∙ ap (onPair as′ rs) (pair-agree-on (λ i. Shifts ps (as′ i) × All (LabelFits ps) (as′ i) × (getD actions i 0 ≡ labelOf ps true (as′ i))) (λ j. All (LabelFits ps) (rs j) × (getD reduces j 0 ≡ labelOf ps false (rs j)))
-      (λ i j. inlines T (as′ i) (rs j)) (keptInline (T .terminals) (sets T) ps actions reduces)
-      (λ i j p q. inlines-outline (as′ i) (rs j) (p .0) (p .1) (q .0) ∙ labels-alike (outlineOf ps true (as′ i)) (outlineOf ps false (rs j)) actions reduces i j (p .2) (q .1)) rows columns A B)

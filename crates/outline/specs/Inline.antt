@@ -2,18 +2,14 @@
 use Prim.Native.Nat.{ℕ, _/_, _%_, _≤_, _<_}
 use mathlib.Core.Bool.{Bool, true, false, _&&_}
 use mathlib.Core.List.{List, [], _∷_}
-use mathlib.Core.Option.{Option, none, some}
 use lib.ListN.{length, getD}
 use lib.Dec.{ltb}
 use Rattle.repr.specs.Sizes.{indexLimit, itemLimit}
 use Rattle.repr.specs.Meaning.{Symbol, sameSymbol, Production, noProduction, Table}
 use Rattle.core.specs.Items.{symbolSets}
 use Rattle.first.specs.First.{first0, disjoint, firstSets}
-use Rattle.error.specs.Sorted.{Pair}
 use Rattle.error.specs.Judge.{Example}
 use Rattle.outline.specs.declared.Outline.{Outline}
-use Rattle.outline.specs.declared.Found.{Found}
-use Rattle.outline.specs.declared.Found.the-variants.{At, Nothing}
 
 -- the symbols of the item's production, and those after its cursor
 unfoldable pub symbolsAt : List Production → ℕ → List Symbol
@@ -48,23 +44,3 @@ pub record CodeFits (ps : List Production) (code : ℕ) : Type 0 where
 unfoldable pub Shifts : List Production → Example → Type 0
 Shifts ps [] = ⊥
 Shifts ps (l ∷ ls) = l .index < length (getD ps (l .production) noProduction .symbols)
-
--- example k of a side is kept at k: its label, an item or (on the reduce side) none
-unfoldable pub HasItem : List Production → List ℕ → ℕ → Type 0
-HasItem ps labels k = (k < length labels) × CodeFits ps (getD labels k 0)
-
-unfoldable pub HasLabel : List Production → List ℕ → ℕ → Type 0
-HasLabel ps labels k = (k < length labels) × (getD labels k 0 < itemLimit → CodeFits ps (getD labels k 0))
-
--- the test on examples j and k, by the kept labels
-unfoldable pub keptInline : ℕ → List ℕ → List Production → List ℕ → List ℕ → ℕ → ℕ → Bool
-keptInline e sets ps actions reduces j k = codesInline e sets ps (getD actions j 0) (getD reduces k 0)
-
-unfoldable pub foundPair : Found → Option (Pair ℕ)
-foundPair (At i j) = some (record { action = i; reduce = j })
-foundPair Nothing = none
-
--- a pair of other things by the numbers of its two
-unfoldable pub onPair : {A : Type 0} → (ℕ → A) → (ℕ → A) → Option (Pair ℕ) → Option (Pair A)
-onPair f g none = none
-onPair f g (some p) = some (record { action = f (p .action); reduce = g (p .reduce) })

@@ -1,9 +1,9 @@
--- What is kept of an example while a conflict is judged (request 06 of document 02): its number of places, a print of its reading, one label, and the
--- nonterminals of its first two reductions. Assumes nothing: these are definitions.
+-- What is kept of an example while a conflict is judged (request 06 of document 02): its number of places, a print of its reading, the nonterminal of its first
+-- reduction, and one label. Assumes nothing: these are definitions.
 use Prim.Native.Nat.{ℕ, _+_, _*_, _%_, _^_, _≤_, _<_}
 use mathlib.Core.Bool.{Bool, true, false, _||_}
 use mathlib.Core.List.{List, [], _∷_}
-use lib.ListN.{length, getD, take, drop}
+use lib.ListN.{length}
 use lib.Dec.{eqb}
 use Rattle.repr.specs.Sizes.{nonterminalLimit, indexLimit, itemLimit, exampleSymbols}
 use Rattle.repr.specs.Meaning.{nonterminal, terminal, Production}
@@ -38,14 +38,11 @@ printFrom h (x ∷ xs) = printFrom (mix h (codeOf x)) xs
 unfoldable pub printOf : List Production → Example → ℕ
 printOf ps ls = printFrom (cursorAt ps ls % printLimit) (symbols ps ls)
 
--- the same over the symbols in words, and over an example's words
+-- the same over symbols in words
 unfoldable pub printWords : ℕ → List ℕ → ℕ
 printWords h [] = h
 printWords h (k ∷ []) = h
 printWords h (k ∷ n ∷ ws) = printWords (mix h (symbolCode k n)) ws
-
-unfoldable pub printIn : List ℕ → ℕ
-printIn ws = printWords (getD ws 1 0) (take (2 * getD ws 0 0) (drop 3 ws))
 
 -- an item in one number; `itemLimit` is none
 unfoldable pub itemCode : Label → ℕ
@@ -68,7 +65,6 @@ outlineOf ps shift ls = record {
   print = printOf ps ls;
   first = reductionAt ps ls 0 .nonterminal;
   label = labelOf ps shift ls;
-  next = reductionAt ps ls 1 .nonterminal;
 }
 
 -- each number in range of the array that keeps it
@@ -77,4 +73,3 @@ pub record OutlineFits (o : Outline) : Type 0 where
   pub print : o .print < printLimit
   pub first : o .first < nonterminalLimit
   pub label : o .label ≤ itemLimit
-  pub next : o .next < nonterminalLimit

@@ -1,8 +1,14 @@
 // What is kept of an example while a conflict is judged (part 8 of document 01, request 06 of document 02): an outline in place of its labels, and the inline test on the kept labels.
 use core::Item;
 use core::suffix;
+use error::Conflict;
 use example::Example;
-use example::write_example;
+use example::cursor_part;
+use example::label_count;
+use example::prefix_part;
+use example::prefix_total;
+use example::suffix_part;
+use example::symbol_count;
 use first::first0;
 use repr::NonterminalString;
 use repr::ProductionIndex;
@@ -10,27 +16,33 @@ use repr::word;
 ghost use mathlib.Core.Path.{_≡_};
 ghost use mathlib.Core.Bool.{true};
 ghost use Prim.Native.Nat.{_+_, _*_, _/_, _%_, _≤_, _<_};
-ghost use lib.ListN.{length, getD};
-ghost use Rattle.repr.specs.Sizes.{nonterminalLimit, terminalLimit, indexLimit, itemLimit};
-ghost use Rattle.repr.specs.Meaning.{All, sameSymbol};
+ghost use lib.ListN.{length, getD, set};
+ghost use Rattle.repr.specs.Sizes.{nonterminalLimit, terminalLimit, indexLimit, itemLimit, exampleLimit};
+ghost use Rattle.repr.specs.Lists.{joined};
+ghost use Rattle.repr.specs.Meaning.{sameSymbol};
 ghost use Rattle.repr.specs.Listed.{symbolOfKind, listed, symbolFits, listFits};
 ghost use Rattle.repr.specs.Packed.{Packed, productionsIn};
+ghost use Rattle.example.specs.Example.{prefixes, suffixes, middle, symbolWords};
 ghost use Rattle.example.specs.Labels.{labelsIn, LabelsFit};
-ghost use Rattle.example.specs.Written.{labelAt};
-ghost use Rattle.error.specs.Sorted.{firstPair};
-ghost use Rattle.outline.specs.Outline.{printLimit, mix, symbolCode, printIn, labelOf, outlineOf, OutlineFits};
-ghost use Rattle.outline.specs.Inline.{apart, divergeBy, CodeFits, codesInline, HasItem, HasLabel, keptInline, foundPair};
+ghost use Rattle.example.specs.Written.{wordsOf};
+ghost use Rattle.outline.specs.Outline.{printLimit, mix, symbolCode, printOf, printWords, labelOf, outlineOf, OutlineFits};
+ghost use Rattle.outline.specs.Kept.{outlinesRoom, Room, outlineIn, turnIn, keptWith};
+ghost use Rattle.outline.specs.Inline.{apart, divergeBy, CodeFits, codesInline};
 
-// Places, a print of cursor and symbols, the nonterminal of the first reduction, the label that the inline test reads, the nonterminal of the second reduction.
+// Places, a print of cursor and symbols, the nonterminal of the first reduction, the label that the inline test reads.
 pub struct Outline {
     pub places: usize,
     pub print: u64,
     pub first: usize,
     pub label: usize,
-    pub next: usize,
 }
 
 impl Outline {
+    // Words of one that is kept, its turn with it, and of a side's.
+    pub const WORDS: usize = 4;
+
+    pub const ALL_WORDS: usize = Conflict::EXAMPLES * Outline::WORDS;
+
     // A print is below it; it and the base leave room for a symbol in 64 bits.
     pub const PRINTS: u64 = 0x1_0000_0000_0000;
 
@@ -46,21 +58,78 @@ fn mix(print: u64, kind: usize, number: usize) -> u64
     (print * Outline::BASE + code) % Outline::PRINTS
 }
 
-// The print of an example in words.
-fn print(example: &[u16]) -> u64
-    requires { ⌜ (3 ≤ length (now example)) × (3 + 2 * getD (now example) 0 0 ≤ length (now example)) ⌝ }
-    ensures { λ r. ⌜ (r ≡ printIn (now (example .entry))) × (r < printLimit) ⌝ }
+// A print with the symbols of a list more.
+fn print_list(print: u64, symbols: &[u16]) -> u64
+    requires { ⌜ print < printLimit ⌝ }
+    ensures { λ r. ⌜ (r ≡ printWords print (now (symbols .entry))) × (r < printLimit) ⌝ }
 {
-    let places = word(example, 0);
-    let mut print = word(example, 1) as u64;
-    let mut i: usize = 0;
-    while i < places {
-        let kind = word(example, 3 + 2 * i);
-        let number = word(example, 3 + 2 * i + 1);
-        print = mix(print, kind, number);
-        i += 1;
+    let mut mixed = print;
+    let mut at: usize = 0;
+    while at + 1 < symbols.len() {
+        mixed = mix(mixed, word(symbols, at), word(symbols, at + 1));
+        at += 2;
     }
-    print
+    mixed
+}
+
+// With the prefixes more, outermost first.
+fn print_prefixes(print: u64, grammar: &[u16], productions: usize, labels: &[u16]) -> u64
+    requires { ⌜ Packed (now grammar) productions × (print < printLimit) ⌝ }
+    requires { ⌜ LabelsFit (productionsIn (now grammar) productions) (now labels) ⌝ }
+    ensures { λ r. ⌜ (r ≡ printWords print (wordsOf (prefixes (productionsIn (now (grammar .entry)) productions) (labelsIn (now (labels .entry)))))) × (r < printLimit) ⌝ }
+{
+    let mut mixed = print;
+    let mut left = label_count(labels);
+    while left > 0 {
+        left -= 1;
+        mixed = print_list(mixed, prefix_part(grammar, productions, labels, left));
+    }
+    mixed
+}
+
+// With the cursor place more: the cursor's symbol, or the empty mark where the first label has no symbol.
+fn print_middle(print: u64, grammar: &[u16], productions: usize, labels: &[u16]) -> u64
+    requires { ⌜ Packed (now grammar) productions × (print < printLimit) ⌝ }
+    requires { ⌜ LabelsFit (productionsIn (now grammar) productions) (now labels) ⌝ }
+    ensures { λ r. ⌜ (r ≡ printWords print (joined symbolWords (middle (productionsIn (now (grammar .entry)) productions) (labelsIn (now (labels .entry)))))) × (r < printLimit) ⌝ }
+{
+    let part = cursor_part(grammar, productions, labels);
+    if part.len() > 0 {
+        return print_list(print, part);
+    }
+    let lead = prefix_part(grammar, productions, labels, 0);
+    if lead.len() > 0 {
+        return print;
+    }
+    mix(print, 2, 0)
+}
+
+// With the suffixes more, innermost first.
+fn print_suffixes(print: u64, grammar: &[u16], productions: usize, labels: &[u16]) -> u64
+    requires { ⌜ Packed (now grammar) productions × (print < printLimit) ⌝ }
+    requires { ⌜ LabelsFit (productionsIn (now grammar) productions) (now labels) ⌝ }
+    ensures { λ r. ⌜ (r ≡ printWords print (wordsOf (suffixes (productionsIn (now (grammar .entry)) productions) (labelsIn (now (labels .entry)))))) × (r < printLimit) ⌝ }
+{
+    let count = label_count(labels);
+    let mut mixed = print;
+    let mut label: usize = 0;
+    while label < count {
+        mixed = print_list(mixed, suffix_part(grammar, productions, labels, label));
+        label += 1;
+    }
+    mixed
+}
+
+// The print of the example of the labels: of its cursor, then of its symbols.
+fn print(grammar: &[u16], productions: usize, labels: &[u16]) -> u64
+    requires { ⌜ Packed (now grammar) productions ⌝ }
+    requires { ⌜ LabelsFit (productionsIn (now grammar) productions) (now labels) ⌝ }
+    ensures { λ r. ⌜ r ≡ printOf (productionsIn (now (grammar .entry)) productions) (labelsIn (now (labels .entry))) ⌝ }
+{
+    let cursor = prefix_total(grammar, productions, labels) as u64;
+    let before = print_prefixes(cursor, grammar, productions, labels);
+    let passed = print_middle(before, grammar, productions, labels);
+    print_suffixes(passed, grammar, productions, labels)
 }
 
 // The label that the inline test reads: of an example of a shift its first item; of a reduce the second reduction's, where that shifts more and its nonterminal is another.
@@ -88,31 +157,54 @@ fn kept_label(grammar: &[u16], productions: usize, labels: &[u16], shift: bool) 
     next.production * ProductionIndex::INDEXES + next.index
 }
 
-// The nonterminal of the second label; 0 where there is none.
-fn next_nonterminal(labels: &[u16]) -> usize
-    ensures { λ r. ⌜ r ≡ labelAt (now (labels .entry)) 1 .nonterminal ⌝ }
-{
-    if labels.len() < 2 * Example::LABEL_WORDS {
-        return 0;
-    }
-    word(labels, 3)
-}
-
 // What is kept of the example of the labels.
 pub fn outline_of(grammar: &[u16], productions: usize, labels: &[u16], shift: bool) -> Outline
     requires { ⌜ Packed (now grammar) productions ⌝ }
     requires { ⌜ LabelsFit (productionsIn (now grammar) productions) (now labels) ⌝ }
     ensures { λ r. ⌜ (r ≡ outlineOf (productionsIn (now (grammar .entry)) productions) shift (labelsIn (now (labels .entry)))) × OutlineFits r ⌝ }
 {
-    let mut example = [0u16; Example::WORDS];
-    write_example(grammar, productions, labels, &mut example);
     Outline {
-        places: word(&example, 0),
-        print: print(&example),
+        places: symbol_count(grammar, productions, labels),
+        print: print(grammar, productions, labels),
         first: word(labels, 0),
         label: kept_label(grammar, productions, labels, shift),
-        next: next_nonterminal(labels),
     }
+}
+
+// Keeps an outline as example k of a side, and which of its listing's it is.
+pub fn keep(outline: Outline, turn: usize, kept: &mut [u16], prints: &mut [u64], k: usize)
+    requires { ⌜ OutlineFits outline × (turn < exampleLimit) × (k < exampleLimit) × Room (now kept) (now prints) ⌝ }
+    ensures { λ _. ⌜ now (kept .exit) ≡ keptWith (now (kept .entry)) k outline turn ⌝ }
+    ensures { λ _. ⌜ now (prints .exit) ≡ set (now (prints .entry)) k (outline .print) ⌝ }
+{
+    let at = k * Outline::WORDS;
+    kept[at] = outline.places as u16;
+    kept[at + 1] = outline.first as u16;
+    kept[at + 2] = outline.label as u16;
+    kept[at + 3] = turn as u16;
+    prints[k] = outline.print;
+}
+
+// What is kept of example k.
+pub fn outline_at(kept: &[u16], prints: &[u64], k: usize) -> Outline
+    requires { ⌜ (k < exampleLimit) × Room (now kept) (now prints) ⌝ }
+    ensures { λ r. ⌜ r ≡ outlineIn (now (kept .entry)) (now (prints .entry)) k ⌝ }
+{
+    let at = k * Outline::WORDS;
+    Outline {
+        places: word(kept, at),
+        print: prints[k],
+        first: word(kept, at + 1),
+        label: word(kept, at + 2),
+    }
+}
+
+// Which of its listing's example k is.
+pub fn turn_at(kept: &[u16], k: usize) -> usize
+    requires { ⌜ (k < exampleLimit) × (outlinesRoom ≤ length (now kept)) ⌝ }
+    ensures { λ r. ⌜ r ≡ turnIn (now (kept .entry)) k ⌝ }
+{
+    word(kept, k * Outline::WORDS + 3)
 }
 
 // An item from its number.
@@ -200,46 +292,4 @@ pub fn inlines(
     let own = suffix(grammar, productions, item_at(label));
     let next = suffix(grammar, productions, item_at(other));
     diverge(map, terminals, own, next)
-}
-
-// A pair by the numbers of its examples, or none.
-pub enum Found {
-    At(usize, usize),
-    Nothing,
-}
-
-// The first pair that inlining would help, in product order: rows are the action side in its order, columns the reduce side; a label is kept of each example.
-pub fn inline_pair(
-    map: &[u64; NonterminalString::LIMIT],
-    terminals: u16,
-    grammar: &[u16],
-    productions: usize,
-    actions: &[u16],
-    rows: &[u16],
-    reduces: &[u16],
-    columns: &[u16],
-) -> Found
-    requires { ⌜ Packed (now grammar) productions × (terminals ≤ terminalLimit) ⌝ }
-    requires { ⌜ All (HasItem (productionsIn (now grammar) productions) (now actions)) (now rows) ⌝ }
-    requires { ⌜ All (HasLabel (productionsIn (now grammar) productions) (now reduces)) (now columns) ⌝ }
-    ensures { λ r. ⌜ foundPair r ≡ firstPair (keptInline terminals (now (map .entry)) (productionsIn (now (grammar .entry)) productions) (now (actions .entry)) (now (reduces .entry))) (now (rows .entry)) (now (columns .entry)) ⌝ }
-{
-    let mut found = Found::Nothing;
-    let mut i: usize = 0;
-    'pairs: while i < rows.len() {
-        let x = word(rows, i);
-        let label = word(actions, x);
-        let mut j: usize = 0;
-        while j < columns.len() {
-            let y = word(columns, j);
-            let other = word(reduces, y);
-            if inlines(map, terminals, grammar, productions, label, other) {
-                found = Found::At(x, y);
-                break 'pairs;
-            }
-            j += 1;
-        }
-        i += 1;
-    }
-    found
 }

@@ -1,3 +1,2 @@
-pub mod Words
-pub mod Tests
+pub mod Order
 pub mod Pairs

@@ -29,6 +29,10 @@ indexLimit = symbolLimit + 1
 abbrev pub itemLimit : ℕ
 itemLimit = productionLimit * indexLimit
 
+-- words of 64 flags, one flag for each item
+abbrev pub itemFlags : ℕ
+itemFlags = 34
+
 -- a production as the code keeps it (specs/Packed): nonterminal, number of symbols, span, then kind and number of each symbol; where production p begins; all of them
 abbrev pub productionRoom : ℕ
 productionRoom = 4 + 2 * symbolLimit
@@ -52,12 +56,12 @@ edgePlace k = k * edgeRoom + 1
 abbrev pub graphRoom : ℕ
 graphRoom = edgePlace edgeLimit
 
--- scratch for tracing and listing, and for classifying and choosing (refusal 11)
+-- scratch for tracing and listing, and for classifying and choosing (refusal 11; the latter by request 06 of document 02)
 abbrev pub scratchWords : ℕ
 scratchWords = 32000
 
 abbrev pub classifyScratch : ℕ
-classifyScratch = scratchWords
+classifyScratch = 8000
 
 -- trials of one listing (refusal 13)
 abbrev pub trialLimit : ℕ
@@ -86,18 +90,9 @@ labelRoom = 3
 abbrev pub labelsRoom : ℕ
 labelsRoom = labelRoom * reductionLimit
 
--- examples handed out on one side of a classification (refusal 14); one kept: a count, then a word for each label; where the kth begins; a whole side
+-- examples handed out on one side of a classification (refusal 14)
 abbrev pub exampleLimit : ℕ
 exampleLimit = 192
-
-abbrev pub keptRoom : ℕ
-keptRoom = 1 + reductionLimit
-
-abbrev pub keptPlace : ℕ → ℕ
-keptPlace k = k * keptRoom
-
-abbrev pub sideRoom : ℕ
-sideRoom = keptPlace exampleLimit
 
 -- chosen tokens with their classes: as many as there are tokens; one in words; where the kth begins; all of them
 abbrev pub entryLimit : ℕ

@@ -4,24 +4,22 @@ use native.Mathlib.Omega.{arith}
 use mathlib.Core.Path.{_≡_, refl, sym, ap, _∙_, subst}
 use mathlib.Core.Bool.{Bool, true, false}
 use mathlib.Core.List.{List, [], _∷_, _++_, List·Memᴰ, List·Memᴰ·head, List·Memᴰ·tail}
-use lib.ListN.{length, getD, drop, take-append-drop}
+use lib.ListN.{length, drop, take-append-drop}
 use Rattle.repr.specs.Sizes.{scratchWords}
 use Rattle.slices.specs.Same.{sameWords}
 use Rattle.repr.specs.Meaning.{Production}
-use Rattle.trace_graph.specs.Graph.{Node}
-use Rattle.trace_graph.specs.Words.{edgesIn}
+use Rattle.trace_graph.specs.Graph.{Node, TraceEdge}
 use Rattle.enumerator.specs.Trials.{Path, Ends, endsOf, trials}
 use Rattle.enumerator.specs.Lister.{Found, hit, out, over, search}
 use Rattle.enumerator.specs.Words.{wordsOf, pathIn, holdsTrial, after}
 use Rattle.enumerator.specs.Advance.{restOf}
 use Rattle.enumerator.proofs.After.{after-here, after-later}
 use Rattle.enumerator.proofs.Exact.{sound}
-use Rattle.enumerator.proofs.Edges.{edges-count}
 use Rattle.enumerator.proofs.Short.{short-trial}
 use Rattle.enumerator.proofs.Search.{search-hit, search-on}
 use Rattle.enumerator.proofs.WordsOf.{held-words, held-trial}
 use Rattle.enumerator.proofs.Holding.{trial-within}
-use Rattle.view.specs.View.{Ranged}
+use Rattle.view.specs.View.{Labelled}
 use Rattle.view.specs.Trial.{trialWords}
 use Rattle.search.specs.declared.Searched.the-variants.{Hit, Out, Over}
 use Rattle.search.specs.Given.{Begun, Tried}
@@ -124,13 +122,14 @@ search-trial t G start q l c n p e =
     (later-in q p (trials G start) (r .0), r .1)
 
 -- words of a trial, for `read_labels` and `passes`
-pub tried-trial : {ps : List Production} {g : List ℕ} → Ranged ps g → (start : Node) (p rest ws : List ℕ) → List·Memᴰ p (trials (endsOf (edgesIn g)) start) → ws ≡ trialWords p ++ rest → Tried ps g ws
-tried-trial {ps} {g} R start p rest ws m w = record {
-  ranged = R;
+pub tried-trial : {ps : List Production} {es : List TraceEdge} {owners codes : List ℕ} → Labelled ps es owners codes → (start : Node) (p rest ws : List ℕ) → List·Memᴰ p (trials (endsOf es) start)
+    → ws ≡ trialWords p ++ rest → Tried ps es owners codes ws
+tried-trial {es = es} L start p rest ws m w = record {
+  labelled = L;
   path = p;
   rest = rest;
   words = w;
-  some-edge = trial-some (endsOf (edgesIn g)) start p m;
-  few = short-trial (endsOf (edgesIn g)) start p m;
-  edges = rw (sym (edges-count g)) (trial-within (endsOf (edgesIn g)) p [] start (sound (endsOf (edgesIn g)) start p m));
+  some-edge = trial-some (endsOf es) start p m;
+  few = short-trial (endsOf es) start p m;
+  edges = trial-within (endsOf es) p [] start (sound (endsOf es) start p m);
 }

@@ -9,8 +9,7 @@ use lib.ListN.{length, drop, length-reverse}
 use lib.Seq.{drop-at}
 use Rattle.repr.specs.Sizes.{trialLimit, reductionLimit}
 use Rattle.repr.specs.Meaning.{Production, Item}
-use Rattle.trace_graph.specs.Graph.{Node, atItem}
-use Rattle.trace_graph.specs.Words.{edgesIn}
+use Rattle.trace_graph.specs.Graph.{Node, atItem, TraceEdge}
 use Rattle.enumerator.specs.Trials.{Path, Ends, endsOf, trials, Small}
 use Rattle.enumerator.specs.Lister.{hit, out, over, search}
 use Rattle.enumerator.specs.Machine.{next, Run, walk}
@@ -67,9 +66,9 @@ found-over : (rest ws : List ℕ) → ws ≡ trialWords [] ++ rest → searched 
 unfolding searchedOf
 found-over rest ws w = ap (searched Over) w
 
-module _ {ps : List Production} {g sources older latest ws : List ℕ} {start : Item} (S : Searching ps g sources older latest ws start) where
+module _ {ps : List Production} {es : List TraceEdge} {owners codes sources older latest ws : List ℕ} {start : Item} (S : Searching ps es owners codes sources older latest ws start) where
   abbrev G : Ends
-  G = endsOf (edgesIn g)
+  G = endsOf es
 
   entering : Entering G start (reverse (S .path))
   entering = begun-entering G start (S .view .small) (S .path) (S .begun)
@@ -87,21 +86,21 @@ module _ {ps : List Production} {g sources older latest ws : List ℕ} {start : 
       (λ s q. omega (arith, length-reverse s, short-trial G (atItem start) (reverse s) (begun-next G (atItem start) (S .view .small) (S .path) s (S .begun) q))) stack-words
 
 -- where the search stands
-pub record Turn (t : Path → Bool) (ps : List Production) (g sources older latest ws₀ : List ℕ) (start : Item) (count : ℕ) (ws : List ℕ) (made : ℕ) : Type 0 where
-  pub held : Searching ps g sources older latest ws start
+pub record Turn (t : Path → Bool) (ps : List Production) (es : List TraceEdge) (owners codes sources older latest ws₀ : List ℕ) (start : Item) (count : ℕ) (ws : List ℕ) (made : ℕ) : Type 0 where
+  pub held : Searching ps es owners codes sources older latest ws start
   pub size : length ws ≡ length ws₀
   pub same : (p rest : List ℕ) → ws₀ ≡ trialWords p ++ rest
-      → searchedOf (held .rest) (walk (endsOf (edgesIn g)) (atItem start) t (trialLimit - made) made (next (endsOf (edgesIn g)) (atItem start) (reverse (held .path))))
-      ≡ searchedOf rest (search t (trialLimit - count) count (laterThan p (trials (endsOf (edgesIn g)) (atItem start))))
+      → searchedOf (held .rest) (walk (endsOf es) (atItem start) t (trialLimit - made) made (next (endsOf es) (atItem start) (reverse (held .path))))
+      ≡ searchedOf rest (search t (trialLimit - count) count (laterThan p (trials (endsOf es) (atItem start))))
 
-pub turn-first : {t : Path → Bool} {ps : List Production} {g sources older latest ws : List ℕ} {start : Item} {count made : ℕ} → Searching ps g sources older latest ws start
-    → made ≡ count → Turn t ps g sources older latest ws start count ws made
-turn-first {t} {g = g} {start = start} {count = count} S e = record {
+pub turn-first : {t : Path → Bool} {ps : List Production} {es : List TraceEdge} {owners codes sources older latest ws : List ℕ} {start : Item} {count made : ℕ} → Searching ps es owners codes sources older latest ws start
+    → made ≡ count → Turn t ps es owners codes sources older latest ws start count ws made
+turn-first {t} {es = es} {start = start} {count = count} S e = record {
   held = S;
   size = refl;
   same = λ p rest w.
       let A = atItem start in
-      let E = endsOf (edgesIn g) in
+      let E = endsOf es in
       let o = words-once (S .path) p (S .rest) rest (sym (S .words) ∙ w) in
       ap (λ (k : ℕ). searchedOf (S .rest) (walk E A t (trialLimit - k) k (next E A (reverse (S .path))))) e
       ∙ ap (searchedOf (S .rest)) (walk-search E A t (trialLimit - count) count (next E A (reverse (S .path))) (laterThan (S .path) (trials E A)) (begun-runs E A (S .view .small) (S .path) (S .begun)))
@@ -109,16 +108,16 @@ turn-first {t} {g = g} {start = start} {count = count} S e = record {
       ∙ ap (λ (x : Path). searchedOf rest (search t (trialLimit - count) count (laterThan x (trials E A)))) (o .0);
 }
 
-module _ {t : Path → Bool} {ps : List Production} {g sources older latest ws₀ : List ℕ} {start : Item} {count : ℕ} {ws : List ℕ} {made : ℕ} (T : Turn t ps g sources older latest ws₀ start count ws made)
+module _ {t : Path → Bool} {ps : List Production} {es : List TraceEdge} {owners codes sources older latest ws₀ : List ℕ} {start : Item} {count : ℕ} {ws : List ℕ} {made : ℕ} (T : Turn t ps es owners codes sources older latest ws₀ start count ws made)
     {r : Bool} {ws′ : List ℕ} (f : (st rest : List ℕ) → ws ≡ trialWords (reverse st) ++ rest → stepped r ws′ ≡ stepWords (nextBy sources older latest st) rest) where
-  abbrev S : Searching ps g sources older latest ws start
+  abbrev S : Searching ps es owners codes sources older latest ws start
   S = T .held
 
   abbrev A : Node
   A = atItem start
 
   abbrev E : Ends
-  E = endsOf (edgesIn g)
+  E = endsOf es
 
   stepped-on : stepped r ws′ ≡ stepWords (next E A (reverse (S .path))) (S .rest)
   stepped-on = f (reverse (S .path)) (S .rest) (stack-words S) ∙ ap (λ (o : Option (List ℕ)). stepWords o (S .rest)) (next-view (S .view) (reverse (S .path)) (entering S))
@@ -141,8 +140,8 @@ module _ {t : Path → Bool} {ps : List Production} {g sources older latest ws�
     is-trial : List·Memᴰ trial (trials E A)
     is-trial = begun-next E A (S .view .small) (S .path) (went .0) (S .begun) (went .1)
 
-    pub turn-tried : Tried ps g ws′
-    turn-tried = tried-trial (S .ranged) A trial (S .rest) ws′ is-trial (went .2)
+    pub turn-tried : Tried ps es owners codes ws′
+    turn-tried = tried-trial (S .labelled) A trial (S .rest) ws′ is-trial (went .2)
 
     pub turn-long : trialRoom ≤ length ws′
     turn-long = let s = short-trial E A trial is-trial in omega (arith, ap length (went .2), words-all trial (S .rest) (omega arith))
@@ -173,13 +172,13 @@ module _ {t : Path → Bool} {ps : List Production} {g sources older latest ws�
           ∙ T .same p rest w
 
       -- passed over
-      pub turn-again : h ≡ false → length ws′ ≡ length ws → Turn t ps g sources older latest ws₀ start count ws′ k
+      pub turn-again : h ≡ false → length ws′ ≡ length ws → Turn t ps es owners codes sources older latest ws₀ start count ws′ k
       turn-again y l =
           let u : t trial ≡ false = sym (asks trial (S .rest) (went .2)) ∙ y in
           let e : suc made ≡ made + 1 = omega arith in
           record {
             held = record {
-              ranged = S .ranged;
+              labelled = S .labelled;
               view = S .view;
               path = trial;
               rest = S .rest;

@@ -1,13 +1,13 @@
 // The search of a listing from one trial handed out to the next (part 6 of document 01; `FilteredPathEnumerator` of lr1/trace/trace_graph/mod.rs): the labels of a trial, the filter, the count of trials.
+use core::Item;
 use enumerator::Lookahead;
 use example::Example;
 use example::first0;
+use example::write_example;
 use lookahead::TokenSet;
 use repr::NonterminalString;
 use repr::ProductionIndex;
 use repr::word;
-use trace_graph::Node;
-use trace_graph::read_edge;
 use view::machine::clear;
 use view::machine::count_walk;
 use view::machine::is_example;
@@ -18,15 +18,15 @@ ghost use mathlib.Core.List.{List, [], _++_};
 ghost use mathlib.Core.Option.{some};
 ghost use Prim.Native.Nat.{ℕ, _-_, _≤_, _<_};
 ghost use lib.ListN.{length, take, drop};
-ghost use Rattle.repr.specs.Sizes.{trialLimit, labelsRoom};
-ghost use Rattle.repr.specs.Meaning.{Item};
+ghost use Rattle.repr.specs.Sizes.{trialLimit, exampleRoom, labelsRoom};
+ghost use Rattle.slices.specs.Lent.{inFront};
+ghost use Rattle.repr.specs.Meaning.{Production, Item as ItemOf};
 ghost use Rattle.repr.specs.Packed.{Packed, productionsIn};
-ghost use Rattle.trace_graph.specs.Graph.{atItem};
-ghost use Rattle.trace_graph.specs.Words.{edgesIn};
-ghost use Rattle.trace_graph.specs.Values.{nodeIs, nodeValueFits};
+ghost use Rattle.trace_graph.specs.Graph.{TraceEdge, atItem};
+ghost use Rattle.example.specs.Example.{exampleWords};
 ghost use Rattle.example.specs.Labels.{labelsIn, LabelsFit};
 ghost use Rattle.enumerator.specs.Trials.{endsOf, trials};
-ghost use Rattle.enumerator.specs.Lister.{nodeOwner, labelsOf, search};
+ghost use Rattle.enumerator.specs.Lister.{labelsOf, search};
 ghost use Rattle.enumerator.specs.Advance.{setOf};
 ghost use Rattle.view.specs.View.{Sourced};
 ghost use Rattle.view.specs.Trial.{trialRoom, trialWords};
@@ -47,46 +47,44 @@ impl Searched {
     pub const TRIALS: u32 = 100000;
 }
 
-// The nonterminal of a node: an item's is its production's.
-fn node_owner(grammar: &[u16], productions: usize, node: Node) -> usize
-    requires { ⌜ Packed (now grammar) productions ⌝ }
-    requires { ⌜ ((n : ℕ) × (n ≤ 32) × (nodeValueFits n (productionsIn (now grammar) productions) node ≡ true)) ⌝ }
-    ensures { λ r. ⌜ (r ≡ nodeOwner (productionsIn (now (grammar .entry)) productions) (nodeIs node)) × (r < 32) ⌝ }
-{
-    let number = node.number;
-    if node.kind == 0 {
-        return number;
-    }
-    word(grammar, number * ProductionIndex::WORDS)
-}
-
 // Writes the labels of the trial that the words hold, three words each: the nonterminal that the edge comes from, the production and the index of its label; the edge into the start item first. Answers how many words.
-pub fn read_labels(
-    grammar: &[u16],
-    productions: usize,
-    graph: &[u16],
-    words: &[u16],
-    labels: &mut [u16],
-) -> usize
-    requires { ⌜ Packed (now grammar) productions ⌝ }
-    requires { ⌜ Tried (productionsIn (now grammar) productions) (now graph) (now words) ⌝ }
+pub fn read_labels(owners: &[u8], codes: &[u16], words: &[u16], labels: &mut [u16]) -> usize
+    requires { ⌜ ((ps : List Production) × ((es : List TraceEdge) × Tried ps es (now owners) (now codes) (now words))) ⌝ }
     requires { ⌜ labelsRoom ≤ length (now labels) ⌝ }
-    ensures { λ r. ⌜ (r ≤ labelsRoom) × LabelsFit (productionsIn (now (grammar .entry)) productions) (take r (now (labels .exit))) ⌝ }
-    ensures { λ r. ⌜ ((p rest : List ℕ) → now (words .entry) ≡ trialWords p ++ rest → labelsIn (take r (now (labels .exit))) ≡ labelsOf (productionsIn (now (grammar .entry)) productions) (edgesIn (now (graph .entry))) p) ⌝ }
+    ensures { λ r. ⌜ (r ≤ labelsRoom) × ((ps : List Production) (es : List TraceEdge) → Tried ps es (now (owners .entry)) (now (codes .entry)) (now (words .entry)) → LabelsFit ps (take r (now (labels .exit)))) ⌝ }
+    ensures { λ r. ⌜ ((ps : List Production) (es : List TraceEdge) → Tried ps es (now (owners .entry)) (now (codes .entry)) (now (words .entry)) → (p rest : List ℕ) → now (words .entry) ≡ trialWords p ++ rest → labelsIn (take r (now (labels .exit))) ≡ labelsOf ps es p) ⌝ }
 {
     let count = word(words, 0);
     let mut at: usize = 0;
     while at < count {
-        let edge = read_edge(graph, word(words, at + 1));
-        let source = edge.source;
-        let owner = node_owner(grammar, productions, source);
+        let edge = word(words, at + 1);
+        let code = word(codes, edge) % Item::LIMIT;
         let place = Example::LABEL_WORDS * at;
-        labels[place] = owner as u16;
-        labels[place + 1] = edge.production as u16;
-        labels[place + 2] = edge.index as u16;
+        labels[place] = owners[edge] as u16;
+        labels[place + 1] = (code / ProductionIndex::INDEXES) as u16;
+        labels[place + 2] = (code % ProductionIndex::INDEXES) as u16;
         at += 1;
     }
     Example::LABEL_WORDS * count
+}
+
+// The example of the trial that the words hold, at the front of the buffer.
+pub fn write_trial(
+    grammar: &[u16],
+    productions: usize,
+    owners: &[u8],
+    codes: &[u16],
+    words: &[u16],
+    buffer: &mut [u16],
+)
+    requires { ⌜ Packed (now grammar) productions ⌝ }
+    requires { ⌜ ((es : List TraceEdge) × Tried (productionsIn (now grammar) productions) es (now owners) (now codes) (now words)) ⌝ }
+    requires { ⌜ exampleRoom ≤ length (now buffer) ⌝ }
+    ensures { λ _. ⌜ ((es : List TraceEdge) → Tried (productionsIn (now (grammar .entry)) productions) es (now (owners .entry)) (now (codes .entry)) (now (words .entry)) → (p rest : List ℕ) → now (words .entry) ≡ trialWords p ++ rest → now (buffer .exit) ≡ inFront (exampleWords (productionsIn (now (grammar .entry)) productions) (labelsOf (productionsIn (now (grammar .entry)) productions) es p)) (now (buffer .entry))) ⌝ }
+{
+    let mut labels = [0u16; Example::ALL_LABEL_WORDS];
+    let size = read_labels(owners, codes, words, &mut labels);
+    write_example(grammar, productions, &labels[..size], buffer);
 }
 
 // Whether what the trial's example expects next meets a set.
@@ -96,15 +94,16 @@ fn meets(
     terminals: u16,
     map: &[u64; NonterminalString::LIMIT],
     set: TokenSet,
-    graph: &[u16],
+    owners: &[u8],
+    codes: &[u16],
     words: &[u16],
 ) -> bool
     requires { ⌜ Packed (now grammar) productions × (terminals ≤ 63) ⌝ }
-    requires { ⌜ Tried (productionsIn (now grammar) productions) (now graph) (now words) ⌝ }
-    ensures { λ r. ⌜ ((p rest : List ℕ) → now (words .entry) ≡ trialWords p ++ rest → r ≡ passesBy terminals (now (map .entry)) (productionsIn (now (grammar .entry)) productions) (edgesIn (now (graph .entry))) (some (set .0)) p) ⌝ }
+    requires { ⌜ ((es : List TraceEdge) × Tried (productionsIn (now grammar) productions) es (now owners) (now codes) (now words)) ⌝ }
+    ensures { λ r. ⌜ ((es : List TraceEdge) → Tried (productionsIn (now (grammar .entry)) productions) es (now (owners .entry)) (now (codes .entry)) (now (words .entry)) → (p rest : List ℕ) → now (words .entry) ≡ trialWords p ++ rest → r ≡ passesBy terminals (now (map .entry)) (productionsIn (now (grammar .entry)) productions) es (some (set .0)) p) ⌝ }
 {
     let mut labels = [0u16; Example::ALL_LABEL_WORDS];
-    let size = read_labels(grammar, productions, graph, words, &mut labels);
+    let size = read_labels(owners, codes, words, &mut labels);
     let expected = first0(map, terminals, grammar, productions, &labels[..size]);
     let answer = expected.answer;
     answer.meets(terminals, set)
@@ -117,16 +116,26 @@ pub fn passes(
     terminals: u16,
     map: &[u64; NonterminalString::LIMIT],
     lookahead: Lookahead,
-    graph: &[u16],
+    owners: &[u8],
+    codes: &[u16],
     words: &[u16],
 ) -> bool
     requires { ⌜ Packed (now grammar) productions × (terminals ≤ 63) ⌝ }
-    requires { ⌜ Tried (productionsIn (now grammar) productions) (now graph) (now words) ⌝ }
-    ensures { λ r. ⌜ ((p rest : List ℕ) → now (words .entry) ≡ trialWords p ++ rest → r ≡ passesBy terminals (now (map .entry)) (productionsIn (now (grammar .entry)) productions) (edgesIn (now (graph .entry))) (setOf lookahead) p) ⌝ }
+    requires { ⌜ ((es : List TraceEdge) × Tried (productionsIn (now grammar) productions) es (now owners) (now codes) (now words)) ⌝ }
+    ensures { λ r. ⌜ ((es : List TraceEdge) → Tried (productionsIn (now (grammar .entry)) productions) es (now (owners .entry)) (now (codes .entry)) (now (words .entry)) → (p rest : List ℕ) → now (words .entry) ≡ trialWords p ++ rest → r ≡ passesBy terminals (now (map .entry)) (productionsIn (now (grammar .entry)) productions) es (setOf lookahead) p) ⌝ }
 {
     match lookahead {
         Lookahead::Any => true,
-        Lookahead::Set(set) => meets(grammar, productions, terminals, map, set, graph, words),
+        Lookahead::Set(set) => meets(
+            grammar,
+            productions,
+            terminals,
+            map,
+            set,
+            owners,
+            codes,
+            words,
+        ),
     }
 }
 
@@ -137,16 +146,26 @@ fn hands(
     terminals: u16,
     map: &[u64; NonterminalString::LIMIT],
     ahead: Lookahead,
-    graph: &[u16],
+    owners: &[u8],
+    codes: &[u16],
     sources: &[u8],
     words: &[u16],
 ) -> bool
     requires { ⌜ Packed (now grammar) productions × (terminals ≤ 63) ⌝ }
-    requires { ⌜ Tried (productionsIn (now grammar) productions) (now graph) (now words) × Sourced (edgesIn (now graph)) (now sources) ⌝ }
-    ensures { λ r. ⌜ ((p rest : List ℕ) → now (words .entry) ≡ trialWords p ++ rest → r ≡ handsBy terminals (now (map .entry)) (productionsIn (now (grammar .entry)) productions) (edgesIn (now (graph .entry))) (setOf ahead) p) ⌝ }
+    requires { ⌜ ((es : List TraceEdge) × (Tried (productionsIn (now grammar) productions) es (now owners) (now codes) (now words) × Sourced es (now sources))) ⌝ }
+    ensures { λ r. ⌜ ((es : List TraceEdge) → Tried (productionsIn (now (grammar .entry)) productions) es (now (owners .entry)) (now (codes .entry)) (now (words .entry)) → Sourced es (now (sources .entry)) → (p rest : List ℕ) → now (words .entry) ≡ trialWords p ++ rest → r ≡ handsBy terminals (now (map .entry)) (productionsIn (now (grammar .entry)) productions) es (setOf ahead) p) ⌝ }
 {
     if is_example(sources, words) {
-        return passes(grammar, productions, terminals, map, ahead, graph, words);
+        return passes(
+            grammar,
+            productions,
+            terminals,
+            map,
+            ahead,
+            owners,
+            codes,
+            words,
+        );
     }
     false
 }
@@ -167,7 +186,8 @@ pub fn search(
     terminals: u16,
     map: &[u64; NonterminalString::LIMIT],
     lookahead: Lookahead,
-    graph: &[u16],
+    owners: &[u8],
+    codes: &[u16],
     sources: &[u8],
     older: &[u16],
     latest: &[u16],
@@ -175,8 +195,8 @@ pub fn search(
     count: u32,
 ) -> Searched
     requires { ⌜ Packed (now grammar) productions × (terminals ≤ 63) ⌝ }
-    requires { ⌜ ((start : Item) × Searching (productionsIn (now grammar) productions) (now graph) (now sources) (now older) (now latest) (now words) start) ⌝ }
-    ensures { λ r. ⌜ ((start : Item) → Searching (productionsIn (now (grammar .entry)) productions) (now (graph .entry)) (now (sources .entry)) (now (older .entry)) (now (latest .entry)) (now (words .entry)) start → (p rest : List ℕ) → now (words .entry) ≡ trialWords p ++ rest → searched r (now (words .exit)) ≡ searchedOf rest (search (handsBy terminals (now (map .entry)) (productionsIn (now (grammar .entry)) productions) (edgesIn (now (graph .entry))) (setOf lookahead)) (trialLimit - count) count (laterThan p (trials (endsOf (edgesIn (now (graph .entry)))) (atItem start))))) ⌝ }
+    requires { ⌜ ((es : List TraceEdge) × ((start : ItemOf) × Searching (productionsIn (now grammar) productions) es (now owners) (now codes) (now sources) (now older) (now latest) (now words) start)) ⌝ }
+    ensures { λ r. ⌜ ((es : List TraceEdge) (start : ItemOf) → Searching (productionsIn (now (grammar .entry)) productions) es (now (owners .entry)) (now (codes .entry)) (now (sources .entry)) (now (older .entry)) (now (latest .entry)) (now (words .entry)) start → (p rest : List ℕ) → now (words .entry) ≡ trialWords p ++ rest → searched r (now (words .exit)) ≡ searchedOf rest (search (handsBy terminals (now (map .entry)) (productionsIn (now (grammar .entry)) productions) es (setOf lookahead)) (trialLimit - count) count (laterThan p (trials (endsOf es) (atItem start))))) ⌝ }
 {
     let mut counts = [0u8; NonterminalString::LIMIT];
     count_walk(sources, words, &mut counts);
@@ -193,7 +213,8 @@ pub fn search(
                 terminals,
                 map,
                 lookahead,
-                graph,
+                owners,
+                codes,
                 sources,
                 words,
             ) {

@@ -2,30 +2,29 @@
 use mathlib.Core.Path.{_≡_, refl, sym, ap, _∙_}
 use mathlib.Core.Bool.{Bool, true, false}
 use mathlib.Core.List.{List, [], _∷_}
-use Prim.Native.Nat.{ℕ, zero, suc, _+_, _*_, _≤_, _<_}
+use Prim.Native.Nat.{ℕ, zero, suc, _+_, _*_, _/_, _≤_, _<_}
 use native.Mathlib.Omega.{arith}
 use native.Mathlib.Decide.{decLt}
-use lib.ListN.{length, getD, set, take, drop, length-set}
-use lib.Seq.{getD-set-same, getD-set-other}
+use lib.ListN.{length, getD, take, drop, replicate, length-replicate}
 use lib.Dec.{ltb, leb}
 use borrow.Author.Tests.{ltb-true, leb-true, lt-ltb}
-use Rattle.repr.specs.Sizes.{nonterminalLimit, terminalLimit, indexLimit, itemLimit}
-use Rattle.repr.specs.Lists.{mem}
-use Rattle.repr.specs.Meaning.{Symbol, nonterminal, terminal, Item, Production, noProduction, Table, TableFits, ProductionFits, SymbolFits, productionAt, All, ItemFits}
+use Rattle.repr.specs.Sizes.{nonterminalLimit, terminalLimit, indexLimit, itemFlags}
+use Rattle.repr.specs.Meaning.{Symbol, Item, Production, noProduction, Table, TableFits, ProductionFits, SymbolFits, productionAt, All, ItemFits}
 use Rattle.repr.specs.Listed.{symbolOfKind, listed, symbolFits, listFits}
 use Rattle.repr.specs.Packed.{Packed, symbolWords, productionIn, productionsIn}
 use Rattle.repr.proofs.Lists.{length-map-below, getD-map-below}
 use Rattle.repr.proofs.Tests.{All-at}
 use Rattle.repr.proofs.Parts.{symbols-long}
+use Rattle.bits.specs.Bits.{bitAt, bitPut}
+use Rattle.bits.proofs.Laws.{put-length, put-here, put-other, zeros-none}
 use Rattle.core.specs.Items.{symbolSets}
-use Rattle.lookahead.specs.Tokens.{has}
 use Rattle.first.specs.First.{first0, firstSets, FIRST, nullable}
 use Rattle.first.specs.declared.Answer.{Answer}
 use Rattle.state_graph.specs.Walk.{walkBack, traceBack}
 use Rattle.state_graph.proofs.Exact.{and-both}
 use Rattle.trace_graph.specs.Fits.{itemFits}
 use Rattle.trace.specs.Traced.{symbolsOf, prefixOf, suffixOf}
-use Rattle.trace.specs.Ends.{flag, EndsTo, Ends}
+use Rattle.trace.specs.Ends.{EndsTo, Ends}
 use Rattle.trace.specs.Edges.{itemAt}
 
 -- lists of symbols in words that fit, in parts
@@ -134,34 +133,47 @@ short-in g n P T e j f =
     let d = f .index in
     (h, omega arith)
 
-pub ends-none : (T : Table) (ends : List ℕ) → length ends ≡ itemLimit → EndsTo T ends (0 * indexLimit)
-ends-none T ends l = record { long = l; exact = λ i f h. absurd (omega arith) }
+pub ends-none : (T : Table) (ends : List ℕ) → ends ≡ replicate itemFlags 0 → EndsTo T ends (0 * indexLimit)
+ends-none T ends e = record { long = ap length e ∙ length-replicate {A = ℕ} itemFlags 0; exact = λ i f h. absurd (omega arith); clear = λ c h. rw e (zeros-none itemFlags c) }
 
 pub ends-start : (T : Table) (ends : List ℕ) (k : ℕ) → EndsTo T ends k → EndsTo T ends (k + 0)
-ends-start T ends k E = record { long = E .long; exact = λ i f h. E .exact i f (omega arith) }
+ends-start T ends k E = record { long = E .long; exact = λ i f h. E .exact i f (omega arith); clear = λ c h. E .clear c (omega arith) }
 
 module _ (g : List ℕ) (n : ℕ) (P : Packed g n) (T : Table) (e : T .productions ≡ productionsIn g n) (ends : List ℕ) where
-  pub ends-next : (p i x : ℕ) → p < n → i ≤ 16 → EndsTo T ends (p * indexLimit + i) → x ≡ flag (nullable T (suffixOf T (itemAt p i))) → EndsTo T (set ends (p * indexLimit + i) x) (p * indexLimit + (i + 1))
+  -- an item's flag is set, or not, as its suffix has it
+  ends-as : (to : List ℕ) (p i : ℕ) → p < n → i ≤ 16 → EndsTo T ends (p * indexLimit + i) → length to ≡ itemFlags
+      → ((c : ℕ) → (c ≡ p * indexLimit + i → ⊥) → bitAt to c ≡ bitAt ends c) → bitAt to (p * indexLimit + i) ≡ nullable T (suffixOf T (itemAt p i)) → EndsTo T to (p * indexLimit + (i + 1))
   unfolding itemAt
-  ends-next p i x h l E ex = record {
-    long = length-set ends (p * indexLimit + i) x ∙ E .long;
+  ends-as to p i h l E long other here = record {
+    long = long;
     exact = λ j f lt. at j f lt (decLt (j .production * indexLimit + j .index) (p * indexLimit + i));
+    clear = λ c lt. other c (λ z. omega arith) ∙ E .clear c (omega arith);
   }
     where
       at : (j : Item) → ItemFits T j → j .production * indexLimit + j .index < p * indexLimit + (i + 1) → Dec (j .production * indexLimit + j .index < p * indexLimit + i)
-          → getD (set ends (p * indexLimit + i) x) (j .production * indexLimit + j .index) 0 ≡ flag (nullable T (suffixOf T j))
-      at j f lt (yes q) = getD-set-other ends (p * indexLimit + i) (j .production * indexLimit + j .index) x 0 (λ z. omega arith) ∙ E .exact j f q
+          → bitAt to (j .production * indexLimit + j .index) ≡ nullable T (suffixOf T j)
+      at j f lt (yes q) = other (j .production * indexLimit + j .index) (λ z. omega arith) ∙ E .exact j f q
       at j f lt (no q) =
           let s = short-in g n P T e j f in
-          let few = P .few in
-          let long = E .long in
           let same-p : j .production ≡ p = omega arith in
           let same-i : j .index ≡ i = omega arith in
           let same-j : _≡_ {A = Item} j (record { production = p; index = i }) = λ k. record { production = same-p k; index = same-i k } in
-          rw (same-j, getD-set-same ends (p * indexLimit + i) x 0 (omega arith)) ex
+          rw same-j here
 
-  pub ends-last : (p i : ℕ) → p < n → length (productionAt T p .symbols) < i → EndsTo T ends (p * indexLimit + i) → EndsTo T ends ((p + 1) * indexLimit)
-  ends-last p i h l E = record { long = E .long; exact = λ j f lt. E .exact j f (inside j f lt) }
+  pub ends-set : (to : List ℕ) (p i : ℕ) (b : Bool) → p < n → i ≤ 16 → EndsTo T ends (p * indexLimit + i) → b ≡ true → b ≡ nullable T (suffixOf T (itemAt p i))
+      → to ≡ bitPut ends (p * indexLimit + i) → EndsTo T to (p * indexLimit + (i + 1))
+  ends-set to p i b h l E y q et =
+      let few = P .few in
+      let long = E .long in
+      let inside : (p * indexLimit + i) / 64 < length ends = omega arith in
+      rw et (ends-as (bitPut ends (p * indexLimit + i)) p i h l E (put-length ends (p * indexLimit + i) ∙ long) (λ c ne. put-other ends (p * indexLimit + i) c inside ne)
+      (put-here ends (p * indexLimit + i) inside ∙ sym y ∙ q))
+
+  pub ends-unset : (p i : ℕ) (b : Bool) → p < n → i ≤ 16 → EndsTo T ends (p * indexLimit + i) → b ≡ false → b ≡ nullable T (suffixOf T (itemAt p i)) → EndsTo T ends (p * indexLimit + (i + 1))
+  ends-unset p i b h l E y q = ends-as ends p i h l E (E .long) (λ c ne. refl) (E .clear (p * indexLimit + i) (omega arith) ∙ sym y ∙ q)
+
+  pub ends-last : (p i : ℕ) → p < n → length (productionAt T p .symbols) < i → i ≤ 17 → EndsTo T ends (p * indexLimit + i) → EndsTo T ends ((p + 1) * indexLimit)
+  ends-last p i h l m E = record { long = E .long; exact = λ j f lt. E .exact j f (inside j f lt); clear = λ c lt. E .clear c (omega arith) }
     where
       inside : (j : Item) → ItemFits T j → j .production * indexLimit + j .index < (p + 1) * indexLimit → j .production * indexLimit + j .index < p * indexLimit + i
       inside j f lt = go (decLt (j .production) p)
@@ -175,12 +187,3 @@ module _ (g : List ℕ) (n : ℕ) (P : Packed g n) (T : Table) (e : T .productio
 
   pub ends-all : (k : ℕ) → n ≤ k → EndsTo T ends (k * indexLimit) → Ends T ends
   ends-all k h E = record { long = E .long; exact = λ j f. let s = short-in g n P T e j f in E .exact j f (omega arith) }
-
--- a flag from what was asked
-pub ends-flag : (b c : Bool) → b ≡ true → b ≡ c → 1 ≡ flag c
-unfolding flag
-ends-flag b c e q = rw (← q, e) refl
-
-pub ends-flag-not : (b c : Bool) → b ≡ false → b ≡ c → 0 ≡ flag c
-unfolding flag
-ends-flag-not b c e q = rw (← q, e) refl

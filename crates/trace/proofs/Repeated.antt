@@ -18,6 +18,7 @@ use Rattle.trace.specs.Traced.{Trace, pair, enter, addTo, ownerOf, canSh
 use Rattle.trace.specs.Shifting.{distinctFrom, distinct, shifting}
 use Rattle.trace.specs.Shift.{epsilonItem, epsilon}
 use Rattle.trace.specs.Reduce.{reduceStateItem, reduceItem, reduceState}
+use Rattle.trace.specs.Met.{ItemMet}
 use Rattle.trace.proofs.Once.{item-equal, add-there, add-has}
 use Rattle.trace.proofs.Grows.{Grows, Adds, grows-seen, grows-some, turn-nil, turn-cons, turn-grows, epsilon-cannot, epsilon-past, epsilon-beginning, epsilon-zero, epsilon-entered, epsilon-new, epsilonItem-grows, epsilon-grows, reduce-cannot, reduce-nullable, reduce-ends, reduceItem-is, reduce-zero, reduce-entered, reduce-new, reduceItem-grows, reduceStateItem-grows, reduce-grows}
 
@@ -221,12 +222,12 @@ module _ (T : Table) where
           (turn-grows (λ q u. reduceState T f q o u) (λ q. reduce-grows T f q o) xs (reduceState T f x o st))
           (reduce-met f x o st))
 
-  -- the item's own edge is there and its pairs are entered
-  record ItemMet (f s : ℕ) (i : Item) (st : Trace) : Type 0 where
+  -- the item's own edge is there and its pairs are entered, as far as there is fuel
+  record Followed (f s : ℕ) (i : Item) (st : Trace) : Type 0 where
     edge : Known (atNonterminal (ownerOf T i)) (atItem i) i st
     followed : (p : ℕ) → mem p (traceBack T s (prefixOf T i)) ≡ true → Entered f p (ownerOf T i) st
 
-  item-met : (f s : ℕ) (i : Item) (st : Trace) → ItemMet f s i (reduceItem T (λ p m v. reduceState T f p m v) s i st)
+  item-met : (f s : ℕ) (i : Item) (st : Trace) → Followed f s i (reduceItem T (λ p m v. reduceState T f p m v) s i st)
   item-met f s i st =
       let o = ownerOf T i in
       let to = addTo T (atNonterminal (ownerOf T i)) (atItem i) i st in
@@ -238,16 +239,41 @@ module _ (T : Table) where
         followed = all-entered f o (traceBack T s (prefixOf T i)) to;
       })
 
-  item-still : (f s : ℕ) (i : Item) (st : Trace) → ItemMet f s i st → reduceItem T (λ p m v. reduceState T f p m v) s i st ≡ st
+  item-still : (f s : ℕ) (i : Item) (st : Trace) → Followed f s i st → reduceItem T (λ p m v. reduceState T f p m v) s i st ≡ st
   item-still f s i st h =
       let o = ownerOf T i in
       reduceItem-is T (λ p m v. reduceState T f p m v) s i st
       ∙ ap (inTurn (λ p u. reduceState T f p o u) (traceBack T s (prefixOf T i))) (known-still (atNonterminal (ownerOf T i)) (atItem i) i st (h .edge))
       ∙ turn-still (λ p u. reduceState T f p o u) (traceBack T s (prefixOf T i)) st (λ p m. reduce-still f p o st (h .followed p m))
 
+  -- the same without fuel (specs/Met)
+
+  pub met-still : (f s : ℕ) (i : Item) (st : Trace) → ItemMet T s i st → reduceItem T (λ p m v. reduceState T f p m v) s i st ≡ st
+  unfolding Known Entered
+  met-still f s i st h = item-still f s i st (record { edge = h .edge; followed = λ p m ne. h .followed p m })
+
+  pub met-after : (f s : ℕ) (i : Item) (st : Trace) → (f ≡ 0 → (p : ℕ) → mem p (traceBack T s (prefixOf T i)) ≡ true → mem (pair p (ownerOf T i)) (st .seen) ≡ true)
+      → ItemMet T s i (reduceItem T (λ p m v. reduceState T f p m v) s i st)
+  unfolding Known Entered
+  met-after zero s i st z = record {
+    edge = item-met zero s i st .edge;
+    followed = λ p m. grows-seen (reduceItem-grows T (λ p m v. reduceState T zero p m v) (reduce-grows T zero) s i st) (pair p (ownerOf T i)) (z refl p m);
+  }
+  met-after (suc f) s i st z = record {
+    edge = item-met (suc f) s i st .edge;
+    followed = λ p m. item-met (suc f) s i st .followed p m (λ (e : suc f ≡ 0). omega arith);
+  }
+
+  pub met-stays : (s : ℕ) (i : Item) (st to : Trace) → Grows st to → ItemMet T s i st → ItemMet T s i to
+  unfolding Known
+  met-stays s i st to g h = record {
+    edge = known-stays (atNonterminal (ownerOf T i)) (atItem i) i st to g (h .edge);
+    followed = λ p m. grows-seen g (pair p (ownerOf T i)) (h .followed p m);
+  }
+
   record Nullable (f s n : ℕ) (i : Item) (st : Trace) : Type 0 where
     edge : Known (atNonterminal (ownerOf T i)) (atNonterminal n) i st
-    traced : ItemMet f s i st
+    traced : Followed f s i st
 
   record ReduceMet (f s n : ℕ) (i : Item) (st : Trace) : Type 0 where
     ends : canShift T n i ≡ true → nullable T (suffixOf T i) ≡ false → Known (atItem i) (atNonterminal n) i st

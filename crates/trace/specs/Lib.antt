@@ -6,3 +6,4 @@ pub mod Reduce
 pub mod Sound
 pub mod Edges
 pub mod Ends
+pub mod Met

@@ -15,15 +15,15 @@ use Rattle.repr.proofs.Lists.{clash, below-last}
 use Rattle.repr.proofs.Tests.{some?-nil, some?-cons, some?-append, every?-nil, every?-cons, every?-append, every?-below, every?-below-intro}
 use Rattle.trace_graph.specs.declared.TraceEdge.{TraceEdge as EdgeValue}
 use Rattle.trace_graph.specs.Graph.{TraceEdge, sameEdge}
-use Rattle.trace_graph.specs.Words.{nodeAt, edgeAt}
+use Rattle.trace_graph.specs.Words.{edgeAt}
 use Rattle.trace_graph.specs.Fits.{edgeFits, once, graphFits}
-use Rattle.trace_graph.specs.Index.{nodeNumber, bucketOf, bucketLimit, indexRoom}
-use Rattle.trace_graph.specs.Values.{nodeIs, edgeIs, valueFits, SmallEdge, edgeRead, firstEdges}
-use Rattle.trace_graph.specs.Insert.{Graphed, linkedAt, fresh}
+use Rattle.trace_graph.specs.Index.{bucketOf, bucketLimit, indexRoom}
+use Rattle.trace_graph.specs.Values.{edgeIs, valueFits, SmallEdge, edgeRead, firstEdges}
+use Rattle.trace_graph.specs.Insert.{Graphed, chained, fresh}
 use Rattle.trace_graph.proofs.Bools.{both, and-left, and-right, never}
 use Rattle.trace_graph.proofs.Labels.{edge-sym}
-use Rattle.trace_graph.proofs.Words.{edge-read, edge-target, value-target, fits-read, first-none, first-more, edges-first}
-use Rattle.trace_graph.proofs.Fits.{bounds, value-small}
+use Rattle.trace_graph.proofs.Words.{edge-read, fits-read, first-none, first-more, edges-first}
+use Rattle.trace_graph.proofs.Fits.{value-small}
 use Rattle.trace_graph.proofs.Index.{index-none}
 use Rattle.trace_graph.proofs.Inserts.{graphed-count, graphed-linked}
 
@@ -124,25 +124,24 @@ module _ {g : List ℕ} {m n : ℕ} {ws ix : List ℕ} {k : ℕ} {w : EdgeValue}
       pub check-new : r ≡ false → true ≡ (edgeFits n (productionsIn g m) ws k && fresh (productionsIn g m) ws k)
       check-new z = sym (fresh-is ∙ rw z)
 
-      pub check-linked : {number bucket : ℕ} {ix′ : List ℕ} → number ≡ nodeNumber (nodeIs (w .target)) → (bucket ≡ bucketOf (productionsIn g m) (edgeIs w)) × (bucket < bucketLimit) → ix′ ≡ linkedAt ix k number bucket
+      pub check-linked : {bucket : ℕ} {ix′ : List ℕ} → (bucket ≡ bucketOf (productionsIn g m) (edgeIs w)) × (bucket < bucketLimit) → ix′ ≡ chained ix bucketLimit bucket k
           → Graphed n (productionsIn g m) ws ix′ (k + 1)
-      check-linked {number} {bucket} en eb ex =
-          let t : nodeIs (w .target) ≡ nodeAt ws (edgePlace k + 3) = sym (value-target w) ∙ ap (λ (f : TraceEdge). f .target) whole ∙ edge-target ws k in
-          rw ex (graphed-linked n (productionsIn g m) ws ix k (L .graph) (bounds g m (L .packed) n (L .graph .nonterminals)) (L .low) (fits-is ∙ y) number bucket (en ∙ ap nodeNumber t) (eb .0 ∙ ap (bucketOf (productionsIn g m)) whole) (eb .1))
+      check-linked {bucket} eb ex =
+          rw ex (graphed-linked n (productionsIn g m) ws ix k (L .graph) (L .low) (fits-is ∙ y) bucket (eb .0 ∙ ap (bucketOf (productionsIn g m)) whole) (eb .1))
 
 -- the turns of `check_graph`
 pub record Checked (n : ℕ) (ps : List Production) (ws ix : List ℕ) (k : ℕ) : Type 0 where
   pub good : Graphed n ps ws ix k
   pub new : (j : ℕ) → j < k → fresh ps ws j ≡ true
 
-pub checked-first : (g : List ℕ) (m n : ℕ) (ws ix : List ℕ) → Packed g m → n ≤ 32 → graphRoom ≤ length ws → ix ≡ replicate indexRoom 0 → Checked n (productionsIn g m) ws ix 0
-checked-first g m n ws ix P h l e = record {
+pub checked-first : (ps : List Production) (n : ℕ) (ws ix : List ℕ) → n ≤ 32 → graphRoom ≤ length ws → ix ≡ replicate indexRoom 0 → Checked n ps ws ix 0
+checked-first ps n ws ix h l e = record {
   good = record {
     nonterminals = h;
     long = l;
     few = omega arith;
     fits = λ j q. absurd (omega arith);
-    index = index-none n (productionsIn g m) (bounds g m P n h) ws ix e;
+    index = index-none ps ws ix e;
   };
   new = λ j q. absurd (omega arith);
 }

@@ -15,7 +15,7 @@ use Rattle.trace_graph.specs.declared.TraceEdge.{TraceEdge as EdgeValue}
 use Rattle.trace_graph.specs.Graph.{labelOf, sameSets, sameEdge}
 use Rattle.trace_graph.specs.Words.{edgeAt}
 use Rattle.trace_graph.specs.Fits.{itemFits, edgeFits}
-use Rattle.trace_graph.specs.Index.{bucketOf, inBucket, bucketLimit, bucketHeads, bucketLinks}
+use Rattle.trace_graph.specs.Index.{bucketOf, inBucket, bucketLimit}
 use Rattle.trace_graph.specs.Values.{edgeIs, sameValue, valueFits, edgeRead, firstEdges}
 use Rattle.trace_graph.specs.Insert.{Graphed}
 use Rattle.trace_graph.proofs.Bools.{never}
@@ -82,13 +82,13 @@ module _ {g : List ℕ} {m n : ℕ} {ws ix : List ℕ} {k : ℕ} {v : EdgeValue}
       let e = same-bucket (productionsIn g m) (edgeIs v) (edgeAt ws j) (label-fits n (productionsIn g m) v (W .fits)) (label-fits n (productionsIn g m) (edgeRead ws j) here) q in
       eqb-false (bucketOf (productionsIn g m) (edgeAt ws j)) b s (sym (W .bucket ∙ e)))
 
-  pub find-first : {next : ℕ} → next ≡ getD ix (bucketHeads + b) 0 → Turn ws ix bucketLinks (inBucket (productionsIn g m) ws b) (sameEdge (productionsIn g m) (edgeIs v)) k next
+  pub find-first : {next : ℕ} → next ≡ getD ix b 0 → Turn ws ix bucketLimit (inBucket (productionsIn g m) ws b) (sameEdge (productionsIn g m) (edgeIs v)) k next
   find-first {next} ex =
-      turn-first ws ix bucketLinks (inBucket (productionsIn g m) ws b) (sameEdge (productionsIn g m) (edgeIs v)) k other next (rw ex (W .graph .index .bucketed b (W .low)))
+      turn-first ws ix bucketLimit (inBucket (productionsIn g m) ws b) (sameEdge (productionsIn g m) (edgeIs v)) k other next (rw ex (W .graph .index .bucketed b (W .low)))
 
-  module _ {next : ℕ} (T : Turn ws ix bucketLinks (inBucket (productionsIn g m) ws b) (sameEdge (productionsIn g m) (edgeIs v)) k next) where
+  module _ {next : ℕ} (T : Turn ws ix bucketLimit (inBucket (productionsIn g m) ws b) (sameEdge (productionsIn g m) (edgeIs v)) k next) where
     pub find-end : next ≡ 0 → false ≡ some? (sameEdge (productionsIn g m) (edgeIs v)) (firstEdges ws k)
-    find-end e = turn-end ws ix bucketLinks (inBucket (productionsIn g m) ws b) (sameEdge (productionsIn g m) (edgeIs v)) k other next T e
+    find-end e = turn-end ws ix bucketLimit (inBucket (productionsIn g m) ws b) (sameEdge (productionsIn g m) (edgeIs v)) k other next T e
 
     module _ (ne : next ≡ 0 → ⊥) where
       one : next ≡ suc (next - 1)
@@ -104,12 +104,12 @@ module _ {g : List ℕ} {m n : ℕ} {ws ix : List ℕ} {k : ℕ} {v : EdgeValue}
       pub find-low : next - 1 < edgeLimit
       find-low = omega (arith, one, T .below, W .graph .few)
 
-      pub find-less : {j : ℕ} → j ≡ getD ix (bucketLinks + (next - 1)) 0 → j < next
-      find-less q = omega (arith, one, turn-less ws ix bucketLinks (inBucket (productionsIn g m) ws b) (sameEdge (productionsIn g m) (edgeIs v)) k other next (next - 1) T one)
+      pub find-less : {j : ℕ} → j ≡ getD ix (bucketLimit + (next - 1)) 0 → j < next
+      find-less q = omega (arith, one, turn-less ws ix bucketLimit (inBucket (productionsIn g m) ws b) (sameEdge (productionsIn g m) (edgeIs v)) k other next (next - 1) T one)
 
       module _ {r : Bool} (p : r ≡ sameEdge (productionsIn g m) (edgeIs v) (edgeAt ws (next - 1))) where
         pub find-found : r ≡ true → true ≡ some? (sameEdge (productionsIn g m) (edgeIs v)) (firstEdges ws k)
-        find-found h = turn-found ws ix bucketLinks (inBucket (productionsIn g m) ws b) (sameEdge (productionsIn g m) (edgeIs v)) k other next (next - 1) T one (sym p ∙ h)
+        find-found h = turn-found ws ix bucketLimit (inBucket (productionsIn g m) ws b) (sameEdge (productionsIn g m) (edgeIs v)) k other next (next - 1) T one (sym p ∙ h)
 
-        pub find-again : r ≡ false → {j : ℕ} → j ≡ getD ix (bucketLinks + (next - 1)) 0 → Turn ws ix bucketLinks (inBucket (productionsIn g m) ws b) (sameEdge (productionsIn g m) (edgeIs v)) k j
-        find-again h {j} q = turn-again ws ix bucketLinks (inBucket (productionsIn g m) ws b) (sameEdge (productionsIn g m) (edgeIs v)) k other next (next - 1) T one j q (sym p ∙ h)
+        pub find-again : r ≡ false → {j : ℕ} → j ≡ getD ix (bucketLimit + (next - 1)) 0 → Turn ws ix bucketLimit (inBucket (productionsIn g m) ws b) (sameEdge (productionsIn g m) (edgeIs v)) k j
+        find-again h {j} q = turn-again ws ix bucketLimit (inBucket (productionsIn g m) ws b) (sameEdge (productionsIn g m) (edgeIs v)) k other next (next - 1) T one j q (sym p ∙ h)

@@ -8,19 +8,17 @@ use lib.ListN.{length, getD, set, replicate, length-set, length-replicate, getD-
 use lib.Seq.{getD-set-same, getD-set-other}
 use lib.Dec.{eqb, ltb}
 use borrow.Author.Tests.{eqb-true, eqb-false, eq-eqb, ltb-true, ltb-false, lt-ltb, le-ltb}
-use Rattle.repr.specs.Sizes.{edgeLimit, edgePlace}
+use Rattle.repr.specs.Sizes.{edgeLimit}
 use Rattle.repr.specs.Lists.{mem, some?}
-use Rattle.repr.specs.Meaning.{Production, Item}
+use Rattle.repr.specs.Meaning.{Production}
 use Rattle.repr.proofs.Lists.{cases, clash, mem-nil, mem-yes, mem-no}
 use Rattle.repr.proofs.Tests.{some?-append, some?-yes, some?-no, some?-nil}
-use Rattle.trace_graph.specs.Graph.{Node, atNonterminal, atItem, sameNode, TraceEdge}
-use Rattle.trace_graph.specs.Words.{nodeAt, edgeAt}
-use Rattle.trace_graph.specs.Index.{nodeNumber, bucketOf, into, inBucket, newest, Linked, InRange, Indexed, nodeLimit, bucketLimit, bucketHeads, bucketLinks, indexRoom}
+use Rattle.trace_graph.specs.Graph.{TraceEdge}
+use Rattle.trace_graph.specs.Words.{edgeAt}
+use Rattle.trace_graph.specs.Index.{bucketOf, inBucket, newest, Linked, Indexed, bucketLimit, indexRoom}
 use Rattle.trace_graph.specs.Values.{firstEdges}
-use Rattle.trace_graph.specs.Insert.{chained, linkedAt}
-use Rattle.trace_graph.proofs.Labels.{node-equal, node-same}
+use Rattle.trace_graph.specs.Insert.{chained}
 use Rattle.trace_graph.proofs.Words.{first-none, first-more}
-use Rattle.trace_graph.proofs.Fits.{Bounds}
 
 -- the edges that pass a test
 
@@ -47,11 +45,7 @@ newest-kept u u′ (suc k) h =
     (λ s. newest-yes u′ k (t ∙ s) ∙ rw rest (sym (newest-yes u k s)))
     (λ s. newest-no u′ k (t ∙ s) ∙ rest ∙ sym (newest-no u k s))
 
--- an edge that is kept passes the same tests
-pub into-kept : (ws ws′ : List ℕ) (v : Node) (j : ℕ) → nodeAt ws′ (edgePlace j + 3) ≡ nodeAt ws (edgePlace j + 3) → into ws′ v j ≡ into ws v j
-unfolding into
-into-kept ws ws′ v j e = rw e
-
+-- an edge that is kept is in the same bucket
 pub bucket-kept : (ps : List Production) (ws ws′ : List ℕ) (b j : ℕ) → edgeAt ws′ j ≡ edgeAt ws j → inBucket ps ws′ b j ≡ inBucket ps ws b j
 unfolding inBucket
 bucket-kept ps ws ws′ b j e = rw e
@@ -161,12 +155,6 @@ module _ (ix : List ℕ) (links head k : ℕ) where
       getD-set-other (set ix (links + k) (getD ix head 0)) head i (k + 1) 0 a
       ∙ getD-set-other ix (links + k) i (getD ix head 0) 0 b
 
-  -- a chain of other words is kept
-  pub chain-apart : (u : ℕ → Bool) (links′ head′ m : ℕ) → (head′ ≡ head → ⊥) → (head′ ≡ links + k → ⊥) → ((j : ℕ) → j < m → (links′ + j ≡ head → ⊥) × (links′ + j ≡ links + k → ⊥))
-      → Linked ix links′ (getD ix head′ 0) (newest u m) → Linked (chained ix links head k) links′ (getD (chained ix links head k) head′ 0) (newest u m)
-  chain-apart u links′ head′ m a b f l =
-      rw (chained-other head′ a b) (linked-kept ix (chained ix links head k) links′ u (getD ix head′ 0) m (λ j h. let g = f j h in chained-other (links′ + j) (g .0) (g .1)) l)
-
   -- the heads lie below the links, all within the words
   module _ (low : head < links) (room : links + k < length ix) where
     chained-head : getD (chained ix links head k) head 0 ≡ suc k
@@ -191,84 +179,28 @@ module _ (ix : List ℕ) (links head k : ℕ) where
     -- another chain by the same links
     pub chain-beside : (u : ℕ → Bool) (head′ : ℕ) → head′ < links → (head′ ≡ head → ⊥) → u k ≡ false → Linked ix links (getD ix head′ 0) (newest u k)
         → Linked (chained ix links head k) links (getD (chained ix links head k) head′ 0) (newest u (suc k))
-    chain-beside u head′ h ne s l = rw (newest-no u k s) (chain-apart u links head′ k ne (λ q. omega arith) (λ j m. (λ q. omega arith, λ q. omega arith)) l)
+    chain-beside u head′ h ne s l =
+        rw (newest-no u k s, chained-other head′ ne (λ q. omega arith)) (linked-kept ix (chained ix links head k) links u (getD ix head′ 0) k (λ j m. chained-other (links + j) (λ q. omega arith) (λ q. omega arith)) l)
 
--- numbers of nodes in range
+-- no edges
+pub index-none : (ps : List Production) (ws ix : List ℕ) → ix ≡ replicate indexRoom 0 → Indexed ps ws ix 0
+unfolding Linked
+index-none ps ws ix e = record {
+  long = ap length e ∙ length-replicate {A = ℕ} indexRoom 0;
+  bucketed = λ b h. rw (newest-none (inBucket ps ws b)) (ap (λ (l : List ℕ). getD l b 0) e ∙ getD-replicate {A = ℕ} indexRoom b 0 0 (omega arith));
+}
 
-module _ (n : ℕ) (ps : List Production) (B : Bounds n ps) where
-  pub number-small : (v : Node) → InRange n ps v → nodeNumber v < nodeLimit
-  unfolding InRange nodeNumber
-  number-small (atNonterminal m) h = omega (arith, B .nonterminals)
-  number-small (atItem i) h = omega (arith, B .production (i .production) (i .index) h, B .index (i .production) (i .index) h)
-
-  pub number-one : (v w : Node) → InRange n ps v → InRange n ps w → nodeNumber v ≡ nodeNumber w → v ≡ w
-  unfolding InRange nodeNumber
-  number-one (atNonterminal m) (atNonterminal l) h g e = ap {B = Node} atNonterminal e
-  number-one (atNonterminal m) (atItem b) h g e = absurd (omega (arith, B .nonterminals))
-  number-one (atItem a) (atNonterminal l) h g e = absurd (omega (arith, B .nonterminals))
-  number-one (atItem a) (atItem b) h g e =
-      let x = B .index (a .production) (a .index) h in
-      let y = B .index (b .production) (b .index) g in
-      let p : a .production ≡ b .production = omega arith in
-      let q : a .index ≡ b .index = omega arith in
-      ap {B = Node} atItem (make p q)
-    where
-      make : {p q i j : ℕ} → p ≡ q → i ≡ j → _≡_ {A = Item} (record { production = p; index = i }) (record { production = q; index = j })
-      make x y = rw (x, y)
-
-  -- no edges
-  pub index-none : (ws ix : List ℕ) → ix ≡ replicate indexRoom 0 → Indexed n ps ws ix 0
-  unfolding Linked
-  index-none ws ix e = record {
-    long = ap length e ∙ length-replicate {A = ℕ} indexRoom 0;
-    linked = λ v h. rw (newest-none (into ws v)) (empty (nodeNumber v) (omega (arith, number-small v h)));
-    bucketed = λ b h. rw (newest-none (inBucket ps ws b)) (empty (bucketHeads + b) (omega arith));
-  }
-    where
-      empty : (i : ℕ) → i < indexRoom → getD ix i 0 ≡ 0
-      empty i h = ap (λ (l : List ℕ). getD l i 0) e ∙ getD-replicate {A = ℕ} indexRoom i 0 0 h
-
-  -- edge k put in front of its target's chain and of its bucket's
-  module _ (ws ix : List ℕ) (k number bucket : ℕ) (hk : k < edgeLimit) (hr : InRange n ps (nodeAt ws (edgePlace k + 3))) (I : Indexed n ps ws ix k)
-      (en : number ≡ nodeNumber (nodeAt ws (edgePlace k + 3))) (eb : bucket ≡ bucketOf ps (edgeAt ws k)) (hb : bucket < bucketLimit) where
-    mid : List ℕ
-    mid = chained ix nodeLimit number k
-
-    low : number < nodeLimit
-    low = rw en (number-small (nodeAt ws (edgePlace k + 3)) hr)
-
-    mid-long : length mid ≡ indexRoom
-    unfolding mid
-    mid-long = chained-long ix nodeLimit number k ∙ I .long
-
-    nodes : (v : Node) → InRange n ps v → Linked mid nodeLimit (getD mid (nodeNumber v) 0) (newest (into ws v) (suc k))
-    unfolding mid into
-    nodes v h =
-        let room : nodeLimit + k < length ix = omega (arith, I .long) in
-        cases (sameNode (nodeAt ws (edgePlace k + 3)) v)
-        (λ s.
-        let m : nodeNumber v ≡ number = ap nodeNumber (sym (node-equal (nodeAt ws (edgePlace k + 3)) v s)) ∙ sym en in
-        rw m (chain-joined ix nodeLimit number k low room (into ws v) s (rw m at (I .linked v h))))
-        (λ s.
-        let far : nodeNumber v ≡ number → ⊥ = λ q. clash (sameNode (nodeAt ws (edgePlace k + 3)) v) (node-same (nodeAt ws (edgePlace k + 3)) v (number-one (nodeAt ws (edgePlace k + 3)) v hr h (sym en ∙ sym q))) s in
-        chain-beside ix nodeLimit number k low room (into ws v) (nodeNumber v) (number-small v h) far s (I .linked v h))
-
-    buckets : (b : ℕ) → b < bucketLimit → Linked mid bucketLinks (getD mid (bucketHeads + b) 0) (newest (inBucket ps ws b) k)
-    unfolding mid
-    buckets b h =
-        let l = low in
-        chain-apart ix nodeLimit number k (inBucket ps ws b) bucketLinks (bucketHeads + b) k (λ q. omega arith) (λ q. omega arith) (λ j m. (λ q. omega arith, λ q. omega arith)) (I .bucketed b h)
-
-    pub index-linked : Indexed n ps ws (linkedAt ix k number bucket) (suc k)
-    unfolding linkedAt mid inBucket
-    index-linked = record {
-      long = chained-long mid bucketLinks (bucketHeads + bucket) k ∙ mid-long;
-      linked = λ v h. let m = number-small v h in chain-apart mid bucketLinks (bucketHeads + bucket) k (into ws v) nodeLimit (nodeNumber v) (suc k) (λ q. omega arith) (λ q. omega arith) (λ j l. (λ q. omega arith, λ q. omega arith)) (nodes v h);
-      bucketed = λ b h.
-          let room : bucketLinks + k < length mid = omega (arith, mid-long) in
-          cases (eqb (bucketOf ps (edgeAt ws k)) b)
-          (λ s. let m : b ≡ bucket = sym (eqb-true (bucketOf ps (edgeAt ws k)) b s) ∙ sym eb in rw m (chain-joined mid bucketLinks (bucketHeads + bucket) k (omega arith) room (inBucket ps ws bucket) (rw m at s) (rw m at (buckets b h))))
-          (λ s.
-          let ne = eqb-false (bucketOf ps (edgeAt ws k)) b s in
-          chain-beside mid bucketLinks (bucketHeads + bucket) k (omega arith) room (inBucket ps ws b) (bucketHeads + b) (omega arith) (λ q. ne (sym eb ∙ omega arith)) s (buckets b h));
-    }
+-- edge k put in front of its bucket's chain
+pub index-linked : (ps : List Production) (ws ix : List ℕ) (k bucket : ℕ) → k < edgeLimit → Indexed ps ws ix k → bucket ≡ bucketOf ps (edgeAt ws k) → bucket < bucketLimit
+    → Indexed ps ws (chained ix bucketLimit bucket k) (suc k)
+unfolding inBucket
+index-linked ps ws ix k bucket hk I eb hb = record {
+  long = chained-long ix bucketLimit bucket k ∙ I .long;
+  bucketed = λ b h.
+      let room : bucketLimit + k < length ix = omega (arith, I .long) in
+      cases (eqb (bucketOf ps (edgeAt ws k)) b)
+      (λ s. let m : b ≡ bucket = sym (eqb-true (bucketOf ps (edgeAt ws k)) b s) ∙ sym eb in rw m (chain-joined ix bucketLimit bucket k hb room (inBucket ps ws bucket) (rw m at s) (rw m at (I .bucketed b h))))
+      (λ s.
+      let ne = eqb-false (bucketOf ps (edgeAt ws k)) b s in
+      chain-beside ix bucketLimit bucket k hb room (inBucket ps ws b) b h (λ q. ne (sym eb ∙ sym q)) s (I .bucketed b h));
+}

@@ -13,14 +13,14 @@ use Rattle.repr.specs.Meaning.{Production}
 use Rattle.repr.specs.Packed.{Packed, productionsIn}
 use Rattle.trace_graph.specs.declared.TraceEdge.{TraceEdge as EdgeValue}
 use Rattle.trace_graph.specs.Graph.{TraceEdge, sameEdge, add}
-use Rattle.trace_graph.specs.Words.{nodeAt, edgeAt, edgesIn}
+use Rattle.trace_graph.specs.Words.{edgeAt, edgesIn}
 use Rattle.trace_graph.specs.Fits.{edgeFits}
-use Rattle.trace_graph.specs.Index.{nodeNumber, bucketOf, into, inBucket, InRange, bucketLimit}
-use Rattle.trace_graph.specs.Values.{nodeIs, edgeIs, valueFits, SmallEdge, edgeRead, valueWords, written, firstEdges}
-use Rattle.trace_graph.specs.Insert.{Graphed, linkedAt, oneMore, addWords, Added, Overfull}
-use Rattle.trace_graph.proofs.Words.{edge-read, edge-target, value-target, fits-read, edge-kept, fits-kept, target-kept, edgeValue, own-value, more-is, more-long, more-count, more-read, more-edge, more-other, edges-first, edges-more}
-use Rattle.trace_graph.proofs.Fits.{Bounds, bounds, target-fits, value-range, value-small}
-use Rattle.trace_graph.proofs.Index.{newest-kept, into-kept, bucket-kept, index-linked}
+use Rattle.trace_graph.specs.Index.{bucketOf, inBucket, bucketLimit}
+use Rattle.trace_graph.specs.Values.{edgeIs, valueFits, SmallEdge, edgeRead, valueWords, written, firstEdges}
+use Rattle.trace_graph.specs.Insert.{Graphed, chained, oneMore, addWords, Added, Overfull}
+use Rattle.trace_graph.proofs.Words.{fits-read, edge-kept, fits-kept, edgeValue, own-value, more-is, more-long, more-count, more-read, more-edge, more-other, edges-first, edges-more}
+use Rattle.trace_graph.proofs.Fits.{value-small}
+use Rattle.trace_graph.proofs.Index.{newest-kept, bucket-kept, index-linked}
 
 -- a test's two ways in `add` and `addWords`
 module _ (ps : List Production) (e : TraceEdge) where
@@ -50,24 +50,19 @@ module _ (n : ℕ) (ps : List Production) (ws ix : List ℕ) (k : ℕ) (G : Grap
     fits = λ j m. fits-kept ws ws′ j (h j m) n ps ∙ G .fits j m;
     index = record {
       long = G .index .long;
-      linked = λ v r. rw (newest-kept (into ws v) (into ws′ v) k (λ j m. into-kept ws ws′ v j (target-kept ws ws′ j (h j m)))) (G .index .linked v r);
       bucketed = λ b r. rw (newest-kept (inBucket ps ws b) (inBucket ps ws′ b) k (λ j m. bucket-kept ps ws ws′ b j (edge-kept ws ws′ j (h j m)))) (G .index .bucketed b r);
     };
   }
 
   -- edge k linked
-  pub graphed-linked : Bounds n ps → k < edgeLimit → edgeFits n ps ws k ≡ true → (number bucket : ℕ) → number ≡ nodeNumber (nodeAt ws (edgePlace k + 3)) → bucket ≡ bucketOf ps (edgeAt ws k) → bucket < bucketLimit
-      → Graphed n ps ws (linkedAt ix k number bucket) (k + 1)
-  graphed-linked B l h number bucket en eb hb =
-      let t : InRange n ps (nodeAt ws (edgePlace k + 3)) =
-      rw (sym (edge-target ws k) ∙ ap (λ (f : TraceEdge). f .target) (sym (edge-read ws k)) ∙ value-target (edgeRead ws k)) (value-range n ps (edgeRead ws k .target) (target-fits n ps (edgeRead ws k) (fits-read n ps ws k ∙ h))) in
-      record {
-        nonterminals = G .nonterminals;
-        long = G .long;
-        few = omega arith;
-        fits = λ j m. go j m (ℕ-discrete j k);
-        index = rw (add-one k) (index-linked n ps B ws ix k number bucket l t (G .index) en eb hb);
-      }
+  pub graphed-linked : k < edgeLimit → edgeFits n ps ws k ≡ true → (bucket : ℕ) → bucket ≡ bucketOf ps (edgeAt ws k) → bucket < bucketLimit → Graphed n ps ws (chained ix bucketLimit bucket k) (k + 1)
+  graphed-linked l h bucket eb hb = record {
+    nonterminals = G .nonterminals;
+    long = G .long;
+    few = omega arith;
+    fits = λ j m. go j m (ℕ-discrete j k);
+    index = rw (add-one k) (index-linked ps ws ix k bucket l (G .index) eb hb);
+  }
     where
       go : (j : ℕ) → j < k + 1 → Dec (j ≡ k) → edgeFits n ps ws j ≡ true
       go j m (yes q) = rw q h
@@ -116,10 +111,10 @@ module _ {g : List ℕ} {m n : ℕ} {ws ix : List ℕ} {v : EdgeValue} {k : ℕ}
         go (yes q) = q
         go (no q) = absurd (l (omega (arith, A .graph .few)))
 
-    pub insert-more : {ws′ ix′ : List ℕ} {number bucket : ℕ} → ws′ ≡ set (written ws k (valueWords v)) 0 (k + 1) → number ≡ nodeNumber (nodeIs (v .target))
-        → (bucket ≡ bucketOf (productionsIn g m) (edgeIs v)) × (bucket < bucketLimit) → ix′ ≡ linkedAt ix k number bucket
+    pub insert-more : {ws′ ix′ : List ℕ} {bucket : ℕ} → ws′ ≡ set (written ws k (valueWords v)) 0 (k + 1)
+        → (bucket ≡ bucketOf (productionsIn g m) (edgeIs v)) × (bucket < bucketLimit) → ix′ ≡ chained ix bucketLimit bucket k
         → Added n (productionsIn g m) (edgeIs v) ws ws′ ix′
-    insert-more {ws′} {ix′} {number} {bucket} ew en eb ex = record {
+    insert-more {ws′} {ix′} {bucket} ew eb ex = record {
       edges = ap edgesIn words ∙ edges-more ws (edgeIs v) room ∙ sym (add-new (productionsIn g m) (edgeIs v) (edgesIn ws) s);
       words = words ∙ sym (words-new (productionsIn g m) (edgeIs v) ws s);
       good = rw (words, ex, A .count, more-count ws (getD ws 0 0) (edgeIs v) room) after;
@@ -146,14 +141,8 @@ module _ {g : List ℕ} {m n : ℕ} {ws ix : List ℕ} {v : EdgeValue} {k : ℕ}
             ∙ ap (valueFits n (productionsIn g m)) (more-read ws (getD ws 0 0) (edgeIs v) room ∙ own)
             ∙ A .fits
 
-        target : nodeAt (oneMore ws (getD ws 0 0) (edgeIs v)) (edgePlace (getD ws 0 0) + 3) ≡ nodeIs (v .target)
-        target =
-            sym (edge-target (oneMore ws (getD ws 0 0) (edgeIs v)) (getD ws 0 0))
-            ∙ ap (λ (f : TraceEdge). f .target) (more-edge ws (getD ws 0 0) (edgeIs v) room)
-            ∙ value-target v
-
-        after : Graphed n (productionsIn g m) (oneMore ws (getD ws 0 0) (edgeIs v)) (linkedAt ix (getD ws 0 0) number bucket) (getD ws 0 0 + 1)
+        after : Graphed n (productionsIn g m) (oneMore ws (getD ws 0 0) (edgeIs v)) (chained ix bucketLimit bucket (getD ws 0 0)) (getD ws 0 0 + 1)
         after =
             graphed-linked n (productionsIn g m) (oneMore ws (getD ws 0 0) (edgeIs v)) ix (getD ws 0 0)
             (graphed-words n (productionsIn g m) ws ix (getD ws 0 0) (A .graph) (oneMore ws (getD ws 0 0) (edgeIs v)) (more-long ws (getD ws 0 0) (edgeIs v) room) (λ j l. more-other ws (getD ws 0 0) (edgeIs v) room j (λ q. omega arith)))
-            (bounds g m (A .packed) n (A .graph .nonterminals)) low fits number bucket (en ∙ ap nodeNumber (sym target)) (eb .0 ∙ ap (bucketOf (productionsIn g m)) (sym (more-edge ws (getD ws 0 0) (edgeIs v) room))) (eb .1)
+            low fits bucket (eb .0 ∙ ap (bucketOf (productionsIn g m)) (sym (more-edge ws (getD ws 0 0) (edgeIs v) room))) (eb .1)

@@ -33,14 +33,6 @@ pub edge-read : (ws : List ℕ) (k : ℕ) → edgeIs (edgeRead ws k) ≡ edgeAt 
 unfolding edgeIs edgeRead edgeAt nodeIs nodeRead nodeAt
 edge-read ws k = refl
 
-pub edge-target : (ws : List ℕ) (k : ℕ) → edgeAt ws k .target ≡ nodeAt ws (edgePlace k + 3)
-unfolding edgeAt
-edge-target ws k = refl
-
-pub value-target : (v : EdgeValue) → edgeIs v .target ≡ nodeIs (v .target)
-unfolding edgeIs
-value-target v = refl
-
 pub fits-read : (n : ℕ) (ps : List Production) (ws : List ℕ) (k : ℕ) → valueFits n ps (edgeRead ws k) ≡ edgeFits n ps ws k
 unfolding valueFits nodeValueFits edgeRead nodeRead edgeFits
 fits-read n ps ws k =
@@ -116,9 +108,6 @@ module _ (ws ws′ : List ℕ) (k : ℕ) (e : edgeRead ws′ k ≡ edgeRead ws k
 
   pub fits-kept : (n : ℕ) (ps : List Production) → edgeFits n ps ws′ k ≡ edgeFits n ps ws k
   fits-kept n ps = sym (fits-read n ps ws′ k) ∙ ap (valueFits n ps) e ∙ fits-read n ps ws k
-
-  pub target-kept : nodeAt ws′ (edgePlace k + 3) ≡ nodeAt ws (edgePlace k + 3)
-  target-kept = sym (edge-target ws′ k) ∙ ap (λ (f : TraceEdge). f .target) edge-kept ∙ edge-target ws k
 
 -- the value of an edge, whose words are its own
 valueOf : Node → NodeValue

@@ -1,15 +1,15 @@
--- The edges in chains, newest first, as the code keeps them beside a graph. By target, for the listing: a word for each node, which holds 0 or one more than the number of the latest
--- edge into the node; then a word for each edge, which holds the next older edge into the same node in the same way. By bucket, to look for an equal edge: a word for each bucket, and a word for each edge, alike. Assumes nothing: these are definitions.
+-- The edges in chains, newest first, as the code keeps them beside a graph, to look for an equal edge. A word for each bucket, which holds 0 or one more than the number of the latest
+-- edge in the bucket; then a word for each edge, which holds the next older edge in the same bucket in the same way. Assumes nothing: these are definitions.
 use Prim.Native.Nat.{ℕ, zero, suc, _+_, _*_, _%_, _<_}
 use mathlib.Core.Bool.{Bool, true, false}
 use mathlib.Core.Path.{_≡_}
 use mathlib.Core.List.{List, [], _∷_}
 use lib.ListN.{length, getD}
 use lib.Dec.{eqb}
-use Rattle.repr.specs.Sizes.{nonterminalLimit, indexLimit, itemLimit, edgeLimit, edgePlace}
+use Rattle.repr.specs.Sizes.{nonterminalLimit, indexLimit, itemLimit, edgeLimit}
 use Rattle.repr.specs.Meaning.{Symbol, nonterminal, terminal, Production, noProduction, Item}
-use Rattle.trace_graph.specs.Graph.{Node, atNonterminal, atItem, sameNode, TraceEdge}
-use Rattle.trace_graph.specs.Words.{nodeAt, edgeAt}
+use Rattle.trace_graph.specs.Graph.{Node, atNonterminal, atItem, TraceEdge}
+use Rattle.trace_graph.specs.Words.{edgeAt}
 use Rattle.trace_graph.specs.Fits.{itemFits}
 
 -- nodes, which are the nonterminals and then the items
@@ -19,15 +19,9 @@ nodeLimit = nonterminalLimit + itemLimit
 abbrev pub bucketLimit : ℕ
 bucketLimit = edgeLimit
 
--- where the words of the buckets begin, behind them those of the edges within buckets, and how many there are in all
-abbrev pub bucketHeads : ℕ
-bucketHeads = nodeLimit + edgeLimit
-
-abbrev pub bucketLinks : ℕ
-bucketLinks = bucketHeads + bucketLimit
-
+-- the words of the buckets, and behind them those of the edges
 abbrev pub indexRoom : ℕ
-indexRoom = bucketLinks + edgeLimit
+indexRoom = bucketLimit + edgeLimit
 
 unfoldable pub nodeNumber : Node → ℕ
 nodeNumber (atNonterminal n) = n
@@ -47,10 +41,6 @@ unfoldable pub bucketOf : List Production → TraceEdge → ℕ
 bucketOf ps e =
     mixed ((nodeNumber (e .source) * 3001 + (nodeNumber (e .target) * 613 + e .label .index * 89)) % 65536) (getD ps (e .label .production) noProduction .symbols)
     % bucketLimit
-
--- edge j is into v
-unfoldable pub into : List ℕ → Node → ℕ → Bool
-into ws v j = sameNode (nodeAt ws (edgePlace j + 3)) v
 
 -- edge j is in bucket b
 unfoldable pub inBucket : List Production → List ℕ → ℕ → ℕ → Bool
@@ -72,7 +62,6 @@ InRange n ps (atNonterminal m) = m < n
 InRange n ps (atItem i) = itemFits ps (i .production) (i .index) ≡ true
 
 -- the index of the first k edges of ws
-pub record Indexed (n : ℕ) (ps : List Production) (ws ix : List ℕ) (k : ℕ) : Type 0 where
+pub record Indexed (ps : List Production) (ws ix : List ℕ) (k : ℕ) : Type 0 where
   pub long : length ix ≡ indexRoom
-  pub linked : (v : Node) → InRange n ps v → Linked ix nodeLimit (getD ix (nodeNumber v) 0) (newest (into ws v) k)
-  pub bucketed : (b : ℕ) → b < bucketLimit → Linked ix bucketLinks (getD ix (bucketHeads + b) 0) (newest (inBucket ps ws b) k)
+  pub bucketed : (b : ℕ) → b < bucketLimit → Linked ix bucketLimit (getD ix b 0) (newest (inBucket ps ws b) k)

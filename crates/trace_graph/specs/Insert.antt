@@ -11,7 +11,7 @@ use Rattle.repr.specs.Meaning.{Production}
 use Rattle.trace_graph.specs.Graph.{TraceEdge, sameEdge, add}
 use Rattle.trace_graph.specs.Words.{edgeWords, edgeAt, edgesIn}
 use Rattle.trace_graph.specs.Fits.{edgeFits}
-use Rattle.trace_graph.specs.Index.{Indexed, nodeLimit, bucketHeads, bucketLinks}
+use Rattle.trace_graph.specs.Index.{Indexed}
 use Rattle.trace_graph.specs.Values.{written, firstEdges}
 
 -- the first k edges of ws, each in range, and their index
@@ -20,15 +20,11 @@ pub record Graphed (n : ℕ) (ps : List Production) (ws ix : List ℕ) (k : ℕ)
   pub long : graphRoom ≤ length ws
   pub few : k ≤ edgeLimit
   pub fits : (j : ℕ) → j < k → edgeFits n ps ws j ≡ true
-  pub index : Indexed n ps ws ix k
+  pub index : Indexed ps ws ix k
 
 -- edge k put in front of the chain that begins at the word `head` and goes on by the words from `links` on
 unfoldable pub chained : List ℕ → ℕ → ℕ → ℕ → List ℕ
 chained ix links head k = set (set ix (links + k) (getD ix head 0)) head (k + 1)
-
--- edge k put in front of the chain of the node with that number, and of its bucket's
-unfoldable pub linkedAt : List ℕ → ℕ → ℕ → ℕ → List ℕ
-linkedAt ix k number bucket = chained (chained ix nodeLimit number k) bucketLinks (bucketHeads + bucket) k
 
 -- a graph whose count is k, with an edge more
 unfoldable pub oneMore : List ℕ → ℕ → TraceEdge → List ℕ

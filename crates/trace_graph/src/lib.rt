@@ -1,5 +1,5 @@
 // The trace graph (lr1/trace/trace_graph/mod.rs) in words: part 4 of document 01.
-// An index (specs/Index) is kept beside it: of the edges into each node, for the listing, and of the edges in each bucket, so that an equal edge is looked for in one bucket alone.
+// An index (specs/Index) of the edges in each bucket is kept beside it, so that an equal edge is looked for in one bucket alone.
 use core::Item;
 use repr::NonterminalString;
 use repr::ProductionIndex;
@@ -18,10 +18,10 @@ ghost use Rattle.trace_graph.specs.declared.Inserted.the-variants.{Done,
 ghost use Rattle.trace_graph.specs.Graph.{emptyGraph, labelOf, sameSets, sameEdge};
 ghost use Rattle.trace_graph.specs.Words.{nodeAt, edgeAt};
 ghost use Rattle.trace_graph.specs.Fits.{itemFits, edgeFits, graphFits};
-ghost use Rattle.trace_graph.specs.Index.{nodeNumber, mixed, bucketOf, nodeLimit, bucketLimit, bucketLinks, indexRoom};
+ghost use Rattle.trace_graph.specs.Index.{nodeNumber, mixed, bucketOf, nodeLimit, bucketLimit, indexRoom};
 ghost use Rattle.trace_graph.specs.Values.{nodeIs, edgeIs, sameValue, nodeValueFits, valueFits, SmallNode, SmallEdge, nodeRead, edgeRead, valueWords, written, firstEdges};
 ghost use Rattle.trace_graph.specs.Nodes.{graphNode, nodeValue};
-ghost use Rattle.trace_graph.specs.Insert.{Graphed, chained, linkedAt, Added, Overfull, fresh};
+ghost use Rattle.trace_graph.specs.Insert.{Graphed, chained, Added, Overfull, fresh};
 
 pub struct TraceGraph {
     pub edges: usize,
@@ -38,17 +38,10 @@ impl TraceGraph {
     // Words of scratch for tracing and listing.
     pub const SCRATCH: usize = 32000;
 
-    // Nodes that a table can have, buckets, and words of a graph's index.
-    pub const NODES: usize = NonterminalString::LIMIT + Item::LIMIT;
-
+    // Buckets, and words of a graph's index: those of the buckets, then the links within buckets.
     pub const BUCKETS: usize = 1024;
 
-    pub const INDEX_WORDS: usize = TraceGraph::BUCKET_LINKS + TraceGraph::EDGES;
-
-    // Where the words of the buckets begin in the index, and behind them the links within buckets.
-    const BUCKET_HEADS: usize = TraceGraph::NODES + TraceGraph::EDGES;
-
-    const BUCKET_LINKS: usize = TraceGraph::BUCKET_HEADS + TraceGraph::BUCKETS;
+    pub const INDEX_WORDS: usize = TraceGraph::BUCKETS + TraceGraph::EDGES;
 
     // The empty graph.
     pub fn new() -> TraceGraph
@@ -127,7 +120,7 @@ pub enum Inserted {
     Full,
 }
 
-// The number of a node in the index.
+// The number of a node, by which buckets are made.
 pub fn node_number(node: Node) -> usize
     requires { ⌜ SmallNode node ⌝ }
     ensures { λ r. ⌜ (r ≡ nodeNumber (nodeIs node)) × (r < nodeLimit) ⌝ }
@@ -325,38 +318,24 @@ pub fn find(
     requires { ⌜ (bucket ≡ bucketOf (productionsIn (now grammar) productions) (edgeIs edge)) × (bucket < bucketLimit) ⌝ }
     ensures { λ r. ⌜ r ≡ some? (sameEdge (productionsIn (now (grammar .entry)) productions) (edgeIs edge)) (firstEdges (now (graph .entry)) k) ⌝ }
 {
-    let mut next = word(ix, TraceGraph::BUCKET_HEADS + bucket);
+    let mut next = word(ix, bucket);
     while next != 0 {
         if same_edge(grammar, productions, n, graph, next - 1, edge) {
             return true;
         }
-        next = word(ix, TraceGraph::BUCKET_LINKS + (next - 1));
+        next = word(ix, TraceGraph::BUCKETS + (next - 1));
     }
     false
 }
 
-// Puts edge k in front of the chain that begins at the word `head`, whose links begin at `links`.
-fn chain(ix: &mut [u16], links: usize, head: usize, k: usize)
-    requires { ⌜ (length (now ix) ≡ indexRoom) × ((k < edgeLimit) × ((links ≤ bucketLinks) × (head < indexRoom))) ⌝ }
-    ensures { λ _. ⌜ now (ix .exit) ≡ chained (now (ix .entry)) links head k ⌝ }
+// Puts edge k in front of the chain of its bucket.
+pub fn link(ix: &mut [u16], k: usize, bucket: usize)
+    requires { ⌜ (length (now ix) ≡ indexRoom) × ((k < edgeLimit) × (bucket < bucketLimit)) ⌝ }
+    ensures { λ _. ⌜ now (ix .exit) ≡ chained (now (ix .entry)) bucketLimit bucket k ⌝ }
 {
-    let older = ix[head];
-    ix[links + k] = older;
-    ix[head] = (k + 1) as u16;
-}
-
-// Puts edge k in front of the chains of its target, whose number is given, and of its bucket.
-pub fn link(ix: &mut [u16], k: usize, number: usize, bucket: usize)
-    requires { ⌜ (length (now ix) ≡ indexRoom) × ((k < edgeLimit) × ((number < nodeLimit) × (bucket < bucketLimit))) ⌝ }
-    ensures { λ _. ⌜ now (ix .exit) ≡ linkedAt (now (ix .entry)) k number bucket ⌝ }
-{
-    chain(ix, TraceGraph::NODES, number, k);
-    chain(
-        ix,
-        TraceGraph::BUCKET_LINKS,
-        TraceGraph::BUCKET_HEADS + bucket,
-        k,
-    );
+    let older = ix[bucket];
+    ix[TraceGraph::BUCKETS + k] = older;
+    ix[bucket] = (k + 1) as u16;
 }
 
 // `add_edge`: puts the edge into the graph unless an equal one is there.
@@ -384,9 +363,7 @@ pub fn insert(
     }
     write_edge(graph, count, edge);
     graph[0] = (count + 1) as u16;
-    let target = edge.target;
-    let number = node_number(target);
-    link(ix, count, number, bucket);
+    link(ix, count, bucket);
     Inserted::Done
 }
 
@@ -443,7 +420,7 @@ pub fn edge_fits(grammar: &[u16], productions: usize, n: usize, edge: TraceEdge)
 }
 
 // Whether edge k is in range and equals none before it; if so the index is brought up to it.
-fn check_edge(
+pub fn check_edge(
     grammar: &[u16],
     productions: usize,
     n: usize,
@@ -463,9 +440,7 @@ fn check_edge(
         if find(grammar, productions, n, graph, ix, k, edge, bucket) {
             return false;
         }
-        let target = edge.target;
-        let number = node_number(target);
-        link(ix, k, number, bucket);
+        link(ix, k, bucket);
         return true;
     }
     false

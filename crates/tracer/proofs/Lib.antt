@@ -1,4 +1,5 @@
 pub mod Adding
+pub mod StampLaws
 pub mod Turns
 pub mod States
 pub mod Begin
@@ -7,3 +8,4 @@ pub mod Whole
 pub mod Words
 pub mod Ways
 pub mod Traced
+pub mod Opened

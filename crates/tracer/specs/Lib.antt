@@ -1,4 +1,5 @@
 pub mod Outcome
 pub mod Held
+pub mod Stamps
 pub mod Built
 pub mod Traced

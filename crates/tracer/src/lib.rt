@@ -2,6 +2,7 @@
 pub mod edges;
 pub mod reduce;
 pub mod shift;
+pub mod stamps;
 
 use crate::reduce::reduce_codes;
 use crate::shift::shift_codes;
@@ -23,10 +24,11 @@ use trace_graph::item_fits;
 ghost use mathlib.Core.Path.{_≡_};
 ghost use mathlib.Core.Bool.{true, false};
 ghost use mathlib.Core.List.{List};
-ghost use Prim.Native.Nat.{ℕ, _+_, _*_, _≤_, _<_};
-ghost use lib.ListN.{length};
-ghost use Rattle.repr.specs.Sizes.{edgeLimit, graphRoom, scratchWords};
+ghost use Prim.Native.Nat.{ℕ, _≤_, _<_};
+ghost use lib.ListN.{length, replicate};
+ghost use Rattle.repr.specs.Sizes.{edgeLimit, graphRoom, scratchWords, itemFlags};
 ghost use Rattle.repr.specs.Meaning.{ItemFits};
+ghost use Rattle.repr.specs.Packed.{Packed, productionsIn};
 ghost use Rattle.slices.specs.Lent.{inFront};
 ghost use Rattle.table.specs.Decoded.{meaning};
 ghost use Rattle.table.specs.Refusals.{checkOf};
@@ -34,6 +36,7 @@ ghost use Rattle.trace_graph.specs.declared.Inserted.the-variants.{Done, Full};
 ghost use Rattle.trace_graph.specs.Words.{graphWords};
 ghost use Rattle.trace.specs.Shift.{shiftEdges};
 ghost use Rattle.trace.specs.Reduce.{reduceEdges};
+ghost use Rattle.trace.specs.Ends.{Ends};
 ghost use Rattle.codes.specs.Coded.{codesRoom, Coded};
 ghost use Rattle.tracer.specs.Held.{Working};
 ghost use Rattle.tracer.specs.Outcome.{outcome, edgesOutcome, traceIn};
@@ -45,19 +48,20 @@ pub enum Backtrace {
     Refused(u16, u16),
 }
 
-// The one trace or the other, its edges in words of one each.
-fn trace_codes(
+// The one trace or the other, its edges in words of one each; a reduction asks which suffixes are nullable.
+pub fn trace_codes(
     table: &[u16],
     grammar: &[u16],
     productions: usize,
     least: &[u8],
+    ends: &[u64],
     words: &mut [u16],
     state: usize,
     production: usize,
     index: usize,
     shift: bool,
 ) -> Inserted
-    requires { ⌜ Working (now table) (now grammar) productions (now least) × (length (now words) ≡ codesRoom) ⌝ }
+    requires { ⌜ Working (now table) (now grammar) productions (now least) × (shift ≡ false → Ends (meaning (now table)) (now ends)) × (length (now words) ≡ codesRoom) ⌝ }
     requires { ⌜ (state < length (meaning (now table) .states)) × ItemFits (meaning (now table)) (record { production = production; index = index }) ⌝ }
     ensures { λ r. ⌜ (r ≡ Done → (fs : List ℕ) × Coded (meaning (now (table .entry))) (now (words .exit)) fs (edgesBy shift (meaning (now (table .entry))) state (record { production = production; index = index }))) ⌝ }
     ensures { λ r. ⌜ (r ≡ Full → edgeLimit < length (edgesBy shift (meaning (now (table .entry))) state (record { production = production; index = index }))) ⌝ }
@@ -74,23 +78,33 @@ fn trace_codes(
             index,
         );
     }
-    let counts = read_counts(table);
-    let terminals = counts.terminals as u16;
-    let sets = FirstSets::new(grammar, productions, terminals);
-    let map = sets.map;
-    let mut ends = [0u8; Item::LIMIT];
-    suffix_ends(grammar, productions, terminals, &map, &mut ends);
     reduce_codes(
         table,
         grammar,
         productions,
         least,
-        &ends,
+        ends,
         words,
         state,
         production,
         index,
     )
+}
+
+// The flags that a reduction asks for; a shift asks for none.
+fn fill_ends(table: &[u16], grammar: &[u16], productions: usize, ends: &mut [u64], shift: bool)
+    requires { ⌜ (checkOf (now table) ≡ Checked.Accepted) × Packed (now grammar) productions × (productionsIn (now grammar) productions ≡ meaning (now table) .productions) ⌝ }
+    requires { ⌜ now ends ≡ replicate itemFlags 0 ⌝ }
+    ensures { λ _. ⌜ (shift ≡ false → Ends (meaning (now (table .entry))) (now (ends .exit))) ⌝ }
+{
+    if shift {
+        return;
+    }
+    let counts = read_counts(table);
+    let terminals = counts.terminals as u16;
+    let sets = FirstSets::new(grammar, productions, terminals);
+    let map = sets.map;
+    suffix_ends(grammar, productions, terminals, &map, ends);
 }
 
 // The trace, its graph at the front of the words lent; one of too many edges leaves them as they were.
@@ -112,12 +126,15 @@ pub fn build(
 {
     let mut least = [0u8; ProductionIndex::LIMIT];
     fill_least(grammar, productions, &mut least);
+    let mut ends = [0u64; Item::FLAG_WORDS];
+    fill_ends(table, grammar, productions, &mut ends, shift);
     let mut words = [0u16; EdgeCode::WORDS];
     match trace_codes(
         table,
         grammar,
         productions,
         &least,
+        &ends,
         &mut words,
         state,
         production,

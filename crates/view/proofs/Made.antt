@@ -3,31 +3,33 @@ use Prim.Native.Nat.{ℕ, zero, suc, _+_, _≤_, _<_}
 use native.Mathlib.Omega.{arith}
 use mathlib.Core.Path.{_≡_, refl, sym, ap, subst, _∙_}
 use mathlib.Core.Bool.{Bool, true, false}
-use mathlib.Core.List.{List, [], _∷_}
+use mathlib.Core.List.{List}
 use lib.ListN.{length, getD, set, replicate, length-set, length-replicate, getD-replicate}
 use lib.Seq.{getD-set-same, getD-set-other}
-use lib.Dec.{eqb, ltb}
-use borrow.Author.Tests.{eqb-true, eqb-false, eq-eqb, ne-eqb, ltb-true, ltb-false}
-use Rattle.repr.specs.Sizes.{nonterminalLimit, edgeLimit, edgePlace, graphRoom}
+use lib.Dec.{eqb}
+use borrow.Author.Tests.{eqb-true, eqb-false, eq-eqb, ne-eqb}
+use Rattle.repr.specs.Sizes.{nonterminalLimit, edgeLimit, graphRoom}
 use Rattle.repr.specs.Meaning.{Item, Production}
 use Rattle.repr.proofs.Lists.{cases}
 use Rattle.trace_graph.specs.declared.Node.{Node as NodeValue}
 use Rattle.trace_graph.specs.declared.TraceEdge.{TraceEdge as EdgeValue}
 use Rattle.trace_graph.specs.Graph.{Node, atNonterminal, atItem, sameItem, sameNode, TraceEdge}
-use Rattle.trace_graph.specs.Words.{nodeOf, edgeAt, edgesIn}
-use Rattle.trace_graph.specs.Values.{nodeIs, edgeIs, nodeRead, edgeRead, nodeValueFits, valueFits}
+use Rattle.trace_graph.specs.Words.{edgeAt, edgesIn}
+use Rattle.trace_graph.specs.Values.{nodeIs, edgeIs, edgeRead, nodeValueFits, valueFits}
 use Rattle.trace_graph.specs.Fits.{graphFits}
 use Rattle.trace_graph.specs.Insert.{Graphed}
 use Rattle.trace_graph.proofs.Fits.{value-range, source-fits, target-fits}
-use Rattle.trace_graph.proofs.Words.{node-read, fits-read}
-use Rattle.trace_graph.specs.Index.{InRange}
-use Rattle.enumerator.specs.Trials.{Ends, noEdge, endsOf}
+use Rattle.trace_graph.proofs.Words.{edge-read, fits-read}
+use Rattle.enumerator.specs.Trials.{Ends}
 use Rattle.enumerator.specs.Machine.{below, linkOf}
-use Rattle.enumerator.proofs.Nodes.{same-eq, same-refl}
-use Rattle.enumerator.proofs.Edges.{edges-count, edges-at, source-at, target-at, few-edges, edge-fits as all-fit}
+use Rattle.enumerator.specs.Stacks.{Ranged}
+use Rattle.enumerator.proofs.Nodes.{same-refl}
+use Rattle.enumerator.proofs.Edges.{edges-count, edges-at, few-edges, edge-fits}
 use Rattle.enumerator.proofs.Steps.{below-hit, below-miss}
-use Rattle.enumerator.proofs.Stepping.{ends, value-nonterminal, value-item}
-use Rattle.view.specs.View.{viewNodes, latestRoom, viewNode, slotOf, sourceOf, Bounded, Tidy, Viewed, View, SmallTargets, Viewable, Ranged}
+use Rattle.enumerator.proofs.Stepping.{ends, value-nonterminal}
+use Rattle.enumerator.proofs.Holding.{small-ground}
+use Rattle.view.specs.View.{viewNodes, latestRoom, viewNode, slotOf, sourceOf, Bounded, Viewed, View, EdgeRanged}
+use Rattle.view.proofs.Owner.{kind-item, range-nonterminal}
 
 -- the nodes of a view
 
@@ -176,28 +178,20 @@ module _ (v : NodeValue) (production index : ℕ) where
   unfolding slotOf
   slot-nonterminal z = sym (ap (slotOf item) (value-nonterminal v z))
 
-  kind-item : (v .kind ≡ 0 → ⊥) → nodeIs v ≡ atItem (record { production = v .number; index = v .index })
-  unfolding nodeIs nodeOf
-  kind-item ne = go (v .kind) refl
-    where
-      go : (k : ℕ) → v .kind ≡ k → nodeOf (v .kind) (v .number) (v .index) ≡ atItem (record { production = v .number; index = v .index })
-      go zero q = absurd (ne q)
-      go (suc k) q = rw q
-
   pub slot-start : (v .kind ≡ 0 → ⊥) → v .number ≡ production → v .index ≡ index → nonterminalLimit ≡ slotOf item (nodeIs v)
   unfolding sameItem
   slot-start ne p i =
-      sym (ap (slotOf item) (kind-item ne) ∙ slot-item item (record { production = v .number; index = v .index }) true (rw (eq-eqb (v .number) production p, eq-eqb (v .index) index i)))
+      sym (ap (slotOf item) (kind-item v ne) ∙ slot-item item (record { production = v .number; index = v .index }) true (rw (eq-eqb (v .number) production p, eq-eqb (v .index) index i)))
 
   pub slot-other : (v .kind ≡ 0 → ⊥) → (v .number ≡ production → ⊥) → viewNodes ≡ slotOf item (nodeIs v)
   unfolding sameItem
   slot-other ne p =
-      sym (ap (slotOf item) (kind-item ne) ∙ slot-item item (record { production = v .number; index = v .index }) false (rw (ne-eqb (v .number) production p)))
+      sym (ap (slotOf item) (kind-item v ne) ∙ slot-item item (record { production = v .number; index = v .index }) false (rw (ne-eqb (v .number) production p)))
 
   pub slot-place : (v .kind ≡ 0 → ⊥) → v .number ≡ production → (v .index ≡ index → ⊥) → viewNodes ≡ slotOf item (nodeIs v)
   unfolding sameItem
   slot-place ne p i =
-      sym (ap (slotOf item) (kind-item ne) ∙ slot-item item (record { production = v .number; index = v .index }) false (rw (eq-eqb (v .number) production p, ne-eqb (v .index) index i)))
+      sym (ap (slotOf item) (kind-item v ne) ∙ slot-item item (record { production = v .number; index = v .index }) false (rw (eq-eqb (v .number) production p, ne-eqb (v .index) index i)))
 
 pub source-nonterminal : (v : NodeValue) → v .kind ≡ 0 → v .number + 1 ≡ sourceOf (nodeIs v)
 unfolding sourceOf
@@ -205,72 +199,81 @@ source-nonterminal v z = (let o : v .number + 1 ≡ suc (v .number) = omega arit
 
 pub source-item : (v : NodeValue) → (v .kind ≡ 0 → ⊥) → 0 ≡ sourceOf (nodeIs v)
 unfolding sourceOf
-source-item v ne = sym (ap sourceOf (value-item v ne .1))
+source-item v ne = sym (ap sourceOf (kind-item v ne))
 
--- `make_view`
-module _ {g : List ℕ} (A : Viewable g) {k c : ℕ} (ec : c ≡ getD g 0 0) (h : k < c) (v : EdgeValue) (ev : edgeIs v ≡ edgeAt g k) where
-  inside : k < ends g .count
-  inside = omega (arith, edges-count g)
+-- small numbers of a node with a small nonterminal
+source-room : (x : Node) → ((m : ℕ) → x ≡ atNonterminal m → m < nonterminalLimit) → sourceOf x ≤ nonterminalLimit
+unfolding sourceOf
+source-room (atNonterminal m) h = h m refl
+source-room (atItem i) h = omega arith
 
-  pub read-source : nodeIs (v .source) ≡ ends g .source k
-  unfolding edgeIs
-  read-source = ap (λ (e : TraceEdge). e .source) (ev ∙ sym (edges-at g k (omega arith)))
+slot-room : (start : Item) (x : Node) → ((m : ℕ) → x ≡ atNonterminal m → m < nonterminalLimit) → slotOf start x < latestRoom
+unfolding slotOf
+slot-room start (atNonterminal m) h = omega (arith, h m refl)
+slot-room start (atItem i) h =
+    cases (sameItem i start)
+    (λ e. let q : slotOf start (atItem i) ≡ nonterminalLimit = slot-item start i true e in omega arith)
+    (λ e. let q : slotOf start (atItem i) ≡ viewNodes = slot-item start i false e in omega arith)
 
-  pub read-target : nodeIs (v .target) ≡ ends g .target k
-  unfolding edgeIs
-  read-target = ap (λ (e : TraceEdge). e .target) (ev ∙ sym (edges-at g k (omega arith)))
+-- an edge in range
+module _ {ps : List Production} {g : List ℕ} {k : ℕ} (E : EdgeRanged ps g k) where
+  abbrev n : ℕ
+  n = E .nonterminals
 
-  pub source-small : v .source .kind ≡ 0 → v .source .number < nonterminalLimit
-  source-small z = A .sources k (v .source .number) inside (sym read-source ∙ value-nonterminal (v .source) z)
+  node-low : (v : NodeValue) → nodeValueFits n ps v ≡ true → (x : Node) (m : ℕ) → nodeIs v ≡ x → x ≡ atNonterminal m → m < nonterminalLimit
+  node-low v f x m e q = omega (arith, range-nonterminal n ps m (rw (e ∙ q) at (value-range n ps v f)), E .few)
 
-  pub target-small : v .target .kind ≡ 0 → v .target .number < nonterminalLimit
-  unfolding SmallTargets
-  target-small z = A .targets k (v .target .number) inside (sym read-target ∙ value-nonterminal (v .target) z)
+  module _ {v : EdgeValue} (ev : v ≡ edgeRead g k) where
+    value-in : valueFits n ps v ≡ true
+    value-in = ap (valueFits n ps) ev ∙ fits-read n ps g k ∙ E .fits
 
-  pub making-more : {start : Item} {sources older latest sources′ older′ latest′ : List ℕ} {a b : ℕ} → Viewed (ends g) start sources older latest k
-      → a ≡ sourceOf (nodeIs (v .source)) → a ≤ nonterminalLimit → b ≡ slotOf start (nodeIs (v .target)) → b < latestRoom
-      → sources′ ≡ set sources k a → older′ ≡ set older k (getD latest b 0) → latest′ ≡ set latest b (k + 1)
-      → Viewed (ends g) start sources′ older′ latest′ (k + 1)
-  unfolding SmallTargets
-  making-more {start} {sources} {older} {latest} {sources′} {older′} {latest′} {a} {b} W ea la eb lb es eo el =
+    source-is : nodeIs (v .source) ≡ edgeAt g k .source
+    unfolding edgeIs
+    source-is = ap (λ (e : TraceEdge). e .source) (ap edgeIs ev ∙ edge-read g k)
+
+    target-is : nodeIs (v .target) ≡ edgeAt g k .target
+    unfolding edgeIs
+    target-is = ap (λ (e : TraceEdge). e .target) (ap edgeIs ev ∙ edge-read g k)
+
+    source-low : (m : ℕ) → edgeAt g k .source ≡ atNonterminal m → m < nonterminalLimit
+    source-low m = node-low (v .source) (source-fits n ps v value-in) (edgeAt g k .source) m source-is
+
+    target-low : (m : ℕ) → edgeAt g k .target ≡ atNonterminal m → m < nonterminalLimit
+    target-low m = node-low (v .target) (target-fits n ps v value-in) (edgeAt g k .target) m target-is
+
+    pub source-small : v .source .kind ≡ 0 → v .source .number < nonterminalLimit
+    source-small z = source-low (v .source .number) (sym source-is ∙ value-nonterminal (v .source) z)
+
+    pub target-small : v .target .kind ≡ 0 → v .target .number < nonterminalLimit
+    target-small z = target-low (v .target .number) (sym target-is ∙ value-nonterminal (v .target) z)
+
+    -- the numbers that are put into the view
+    pub source-put : {a : ℕ} → a ≡ sourceOf (nodeIs (v .source)) → a ≡ sourceOf (edgeAt g k .source)
+    source-put e = e ∙ ap sourceOf source-is
+
+    pub slot-put : (start : Item) {b : ℕ} → b ≡ slotOf start (nodeIs (v .target)) → b ≡ slotOf start (edgeAt g k .target)
+    slot-put start e = e ∙ ap (slotOf start) target-is
+
+  pub making-more : {start : Item} {sources older latest sources′ older′ latest′ : List ℕ} → k < getD g 0 0 → getD g 0 0 ≤ edgeLimit → Viewed (ends g) start sources older latest k
+      → sources′ ≡ set sources k (sourceOf (edgeAt g k .source)) → older′ ≡ set older k (getD latest (slotOf start (edgeAt g k .target)) 0)
+      → latest′ ≡ set latest (slotOf start (edgeAt g k .target)) (k + 1) → Viewed (ends g) start sources′ older′ latest′ (k + 1)
+  making-more {start} h l W es eo el =
+      let e : ends g .source k ≡ edgeAt g k .source = ap (λ (f : TraceEdge). f .source) (edges-at g k h) in
+      let t : ends g .target k ≡ edgeAt g k .target = ap (λ (f : TraceEdge). f .target) (edges-at g k h) in
       rw (es, eo, el)
-      (viewed-more W (omega (arith, A .few)) (λ n q. A .targets k n inside q) a (ea ∙ ap sourceOf read-source) la b (eb ∙ ap (slotOf start) read-target) lb)
+      (viewed-more W (omega arith) (λ m q. target-low refl m (sym t ∙ q)) (sourceOf (edgeAt g k .source)) (ap sourceOf (sym e)) (source-room (edgeAt g k .source) (source-low refl))
+      (slotOf start (edgeAt g k .target)) (ap (slotOf start) (sym t)) (slot-room start (edgeAt g k .target) (target-low refl)))
 
-pub view-made : {g : List ℕ} → Viewable g → {start : Item} {sources older latest : List ℕ} {k c : ℕ} → c ≡ getD g 0 0 → k ≡ c → Viewed (ends g) start sources older latest k → View (edgesIn g) start sources older latest
-view-made {g} A {start} {sources} {older} {latest} ec ek W = record {
-  few = omega (arith, edges-count g, A .few);
-  small = A .sources;
-  viewed = subst (λ (j : ℕ). Viewed (ends g) start sources older latest j) (ek ∙ ec ∙ sym (edges-count g)) W;
+pub view-made : {ps : List Production} {g : List ℕ} → Ranged ps g → {start : Item} {sources older latest : List ℕ} {k : ℕ} → k ≡ getD g 0 0 → Viewed (ends g) start sources older latest k → View (edgesIn g) start sources older latest
+view-made {ps} {g} R {start} {sources} {older} {latest} ek W = record {
+  few = omega (arith, edges-count g, R .few-edges);
+  small = small-ground (record { productions = ps; ranged = R });
+  viewed = subst (λ (j : ℕ). Viewed (ends g) start sources older latest j) (ek ∙ sym (edges-count g)) W;
 }
-
--- a graph in range
-range-low : (n : ℕ) (ps : List Production) (m : ℕ) → InRange n ps (atNonterminal m) → m < n
-unfolding InRange
-range-low n ps m h = h
-
-module _ {ps : List Production} {g : List ℕ} (R : Ranged ps g) where
-  edge-fits : (e : ℕ) → e < ends g .count → valueFits (R .nonterminals) ps (edgeRead g e) ≡ true
-  edge-fits e h = fits-read (R .nonterminals) ps g e ∙ R .fits e (omega (arith, edges-count g))
-
-  node-low : (v : NodeValue) → nodeValueFits (R .nonterminals) ps v ≡ true → (x : Node) (n : ℕ) → nodeIs v ≡ x → x ≡ atNonterminal n → n < nonterminalLimit
-  node-low v f x n e q = omega (arith, range-low (R .nonterminals) ps n (rw (e ∙ q) at (value-range (R .nonterminals) ps v f)), R .few-nonterminals)
-
-  pub viewable : Viewable g
-  unfolding SmallTargets edgeRead
-  viewable = record {
-    long = R .long;
-    few = R .few-edges;
-    sources = λ e n h q.
-        node-low (nodeRead g (edgePlace e)) (source-fits (R .nonterminals) ps (edgeRead g e) (edge-fits e h)) (ends g .source e) n
-        (node-read g (edgePlace e) ∙ sym (source-at g e (omega (arith, edges-count g)))) q;
-    targets = λ e n h q.
-        node-low (nodeRead g (edgePlace e + 3)) (target-fits (R .nonterminals) ps (edgeRead g e) (edge-fits e h)) (ends g .target e) n
-        (node-read g (edgePlace e + 3) ∙ sym (target-at g e (omega (arith, edges-count g)))) q;
-  }
 
 -- a graph with its index, and one whose check passes, are in range
 pub ranged-of : {n : ℕ} {ps : List Production} {g ix : List ℕ} → Graphed n ps g ix (getD g 0 0) → Ranged ps g
 ranged-of {n} B = record { nonterminals = n; few-nonterminals = B .nonterminals; long = B .long; few-edges = B .few; fits = B .fits }
 
 pub ranged-fits : (n : ℕ) (ps : List Production) (g : List ℕ) → graphFits n ps g ≡ true → n ≤ nonterminalLimit → graphRoom ≤ length g → Ranged ps g
-ranged-fits n ps g f h l = record { nonterminals = n; few-nonterminals = h; long = l; few-edges = few-edges n ps g f; fits = all-fit n ps g f }
+ranged-fits n ps g f h l = record { nonterminals = n; few-nonterminals = h; long = l; few-edges = few-edges n ps g f; fits = edge-fits n ps g f }

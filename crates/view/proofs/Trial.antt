@@ -1,5 +1,5 @@
 -- Words that hold a stack (specs/Trial): an edge more, another last edge, one fewer; the words of one stack are those of no other; with zeros behind them they are those of specs/Words of enumerator. Assumes nothing.
-use Prim.Native.Nat.{ℕ, zero, suc, _+_, _-_, _≤_, _<_}
+use Prim.Native.Nat.{ℕ, suc, _+_, _-_, _≤_, _<_}
 use native.Mathlib.Omega.{arith}
 use mathlib.Core.Path.{_≡_, refl, sym, ap, _∙_}
 use mathlib.Core.List.{List, [], _∷_, _++_, reverse, append-assoc, reverse-cons, reverse-reverse, reverse-append}

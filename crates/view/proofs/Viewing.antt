@@ -1,11 +1,11 @@
 -- Over the view of a graph the steps by its words (specs/Steps) are those of the machine (specs/Machine of enumerator). Assumes nothing.
-use Prim.Native.Nat.{ℕ, zero, suc, _+_, _≤_, _<_}
+use Prim.Native.Nat.{ℕ, suc, _+_, _≤_, _<_}
 use native.Mathlib.Omega.{arith}
 use mathlib.Core.Path.{_≡_, refl, sym, ap, subst, _∙_}
 use mathlib.Core.Bool.{Bool, true, false}
-use mathlib.Core.List.{List, [], _∷_, _++_, reverse, reverse-cons, reverse-reverse, List·Memᴰ}
+use mathlib.Core.List.{List, [], _∷_, _++_, reverse, reverse-cons, List·Memᴰ}
 use mathlib.Core.Option.{Option, none, some}
-use lib.ListN.{length, getD, length-reverse}
+use lib.ListN.{length, getD}
 use lib.Dec.{eqb}
 use borrow.Author.Tests.{ne-eqb}
 use Rattle.repr.specs.Sizes.{nonterminalLimit, edgeLimit, reductionLimit}
@@ -18,7 +18,7 @@ use Rattle.enumerator.specs.Machine.{onWalk, below, back, seek, usedOf, next, l
 use Rattle.enumerator.specs.Stacks.{Within, stepped}
 use Rattle.enumerator.proofs.Exact.{sound}
 use Rattle.enumerator.proofs.Steps as machine
-use Rattle.view.specs.View.{viewNodes, viewNode, sourceOf, Viewed, View, Sourced}
+use Rattle.view.specs.View.{viewNodes, viewNode, sourceOf, View, Sourced}
 use Rattle.view.specs.Trial.{trialWords, Held, Fitting, stepWords}
 use Rattle.view.specs.Steps.{edgeIn, joinedBy, usedBy, backBy, seekBy, nextBy, exampleBy}
 use Rattle.view.proofs.Trial.{stack-once}
@@ -62,10 +62,6 @@ source-example (atNonterminal n) = ne-eqb (suc n) 0 (λ e. omega arith)
 by-option : {A : Type 0} (o : Option A) (P : Type 0) → (o ≡ none → P) → ((x : A) → o ≡ some x → P) → P
 by-option none P f g = f refl
 by-option (some x) P f g = g x refl
-
-used-step : (G : Ends) (e : ℕ) (st : List ℕ) → usedOf G (e ∷ st) ≡ onWalk (G .source e) (usedOf G st)
-unfolding usedOf
-used-step G e st = refl
 
 example-last : (G : Ends) (p : List ℕ) (e : ℕ) → isExample G (p ++ e ∷ []) ≡ fromItem (G .source e)
 example-last G [] e = refl

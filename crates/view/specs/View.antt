@@ -1,17 +1,19 @@
 -- A view of a trace graph: what a listing from one item asks of it (request 06), in three small lists. By edge: the nonterminal that it comes from, and the next older edge into the same node.
 -- By node: the latest edge into it. An edge that is linked is one more than its number, and 0 is none, as in the index of a whole graph (specs/Index of trace_graph). Assumes nothing: these are definitions.
-use Prim.Native.Nat.{ℕ, suc, _+_, _≤_, _<_}
+use Prim.Native.Nat.{ℕ, suc, _+_, _/_, _%_, _≤_, _<_}
 use mathlib.Core.Path.{_≡_}
 use mathlib.Core.Bool.{true, false}
 use mathlib.Core.List.{List}
 use lib.ListN.{length, getD}
 use lib.Dec.{eqb}
-use Rattle.repr.specs.Sizes.{nonterminalLimit, edgeLimit, graphRoom}
+use Rattle.repr.specs.Sizes.{nonterminalLimit, indexLimit, itemLimit, edgeLimit}
 use Rattle.repr.specs.Meaning.{Item, Production}
 use Rattle.trace_graph.specs.Graph.{Node, atNonterminal, atItem, sameItem, TraceEdge}
-use Rattle.trace_graph.specs.Words.{edgesIn}
 use Rattle.trace_graph.specs.Fits.{edgeFits}
+use Rattle.example.specs.Example.{Label}
+use Rattle.example.specs.Labels.{LabelFits}
 use Rattle.enumerator.specs.Trials.{Ends, endsOf, Small}
+use Rattle.enumerator.specs.Lister.{labelAt}
 use Rattle.enumerator.specs.Machine.{below, linkOf}
 
 -- the nodes that a walk can enter: the nonterminals, and then the start item; one word more serves all other items, which no walk enters
@@ -64,21 +66,20 @@ pub record Sourced (es : List TraceEdge) (sources : List ℕ) : Type 0 where
   pub bounded : Bounded edgeLimit nonterminalLimit sources
   pub sourced : (e : ℕ) → e < length es → getD sources e 0 ≡ sourceOf (endsOf es .source e)
 
--- every nonterminal that an edge leads into is below 32
-unfoldable pub SmallTargets : Ends → Type 0
-SmallTargets G = (e n : ℕ) → e < G .count → G .target e ≡ atNonterminal n → n < nonterminalLimit
+-- a label by the nonterminal that its edge comes from, and its item in one word, whatever the edge's kind (specs/Codes of codes)
+unfoldable pub labelIn : ℕ → ℕ → Label
+labelIn n c = record { nonterminal = n; production = c % itemLimit / indexLimit; index = c % itemLimit % indexLimit }
 
--- a graph's words that a view can be made of
-pub record Viewable (g : List ℕ) : Type 0 where
-  pub long : graphRoom ≤ length g
-  pub few : getD g 0 0 ≤ edgeLimit
-  pub sources : Small (endsOf (edgesIn g))
-  pub targets : SmallTargets (endsOf (edgesIn g))
+-- by edge its label, each in range
+pub record Labelled (ps : List Production) (es : List TraceEdge) (owners codes : List ℕ) : Type 0 where
+  pub few : length es ≤ edgeLimit
+  pub by-owner : length owners ≡ edgeLimit
+  pub by-code : length codes ≡ edgeLimit
+  pub label : (e : ℕ) → e < length es → labelIn (getD owners e 0) (getD codes e 0) ≡ labelAt ps es e
+  pub fits : (e : ℕ) → e < length es → LabelFits ps (labelAt ps es e)
 
--- a graph's words in range, of a table with productions ps: what its check gives, and enough for a view (`viewable` of proofs/Made)
-pub record Ranged (ps : List Production) (g : List ℕ) : Type 0 where
+-- edge k of a graph's words is in range, of a table with productions ps
+pub record EdgeRanged (ps : List Production) (g : List ℕ) (k : ℕ) : Type 0 where
   pub nonterminals : ℕ
-  pub few-nonterminals : nonterminals ≤ nonterminalLimit
-  pub long : graphRoom ≤ length g
-  pub few-edges : getD g 0 0 ≤ edgeLimit
-  pub fits : (k : ℕ) → k < getD g 0 0 → edgeFits nonterminals ps g k ≡ true
+  pub few : nonterminals ≤ nonterminalLimit
+  pub fits : edgeFits nonterminals ps g k ≡ true

@@ -30,6 +30,8 @@ pub const YACC_TEXT: usize = 65_544;
 /// The words that a call asks for: 11, and document 01's rules of scratch.
 pub const GRAPH_ASKED: usize = 8_193;
 pub const SCRATCH_ASKED: usize = 32_000;
+/// Classifying and choosing ask for fewer (request 06 of document 02).
+pub const CLASSIFY_ASKED: usize = 8_000;
 pub const EXAMPLE_ASKED: usize = 1_158;
 /// The header's: six words a token, 64 tokens.
 pub const ENTRIES_ASKED: usize = 384;
@@ -139,16 +141,16 @@ fn whole(answer: Answer, before: &[u32]) -> Answer {
 }
 
 /// The words of scratch that a call uses.
-fn zero(scratch: &mut [u16]) {
-    scratch[..SCRATCH_ASKED].fill(0);
+fn zero(scratch: &mut [u16], asked: usize) {
+    scratch[..asked].fill(0);
 }
 
 /// Scratch after a call: zeros where it was worked, to an answer or to one of
 /// 12 to 14.
-fn scratch_after(answer: &Answer) -> Vec<u16> {
+fn scratch_after(answer: &Answer, asked: usize) -> Vec<u16> {
     let mut scratch = vec![BEFORE; SCRATCH];
     if [0, 12, 13, 14].contains(&answer[0]) {
-        zero(&mut scratch);
+        zero(&mut scratch, asked);
     }
     scratch
 }
@@ -487,7 +489,7 @@ impl<'a> Answers<'a> {
         let from = (at(more, 0), (at(more, 1), at(more, 2)));
         let short = number(more, 3) < GRAPH_ASKED || number(more, 4) < SCRATCH_ASKED;
         let answer = or_short(self.side.backtrace(reduce, table, from)?, short);
-        let scratch = scratch_after(&answer);
+        let scratch = scratch_after(&answer, SCRATCH_ASKED);
         let shown = if answer[0] == 0 { &answer[1..] } else { &[] };
         let graph = over(GRAPH, &narrow(shown));
         let mut out = whole(answer[..2].to_vec(), &[7]);
@@ -571,7 +573,7 @@ impl<'a> Answers<'a> {
             (None, None) if l.count >= from => None,
             _ => return None,
         };
-        zero(scratch);
+        zero(scratch, SCRATCH_ASKED);
         let left = MAX_TRIALS.saturating_sub(l.count);
         Some(match (made.filter(|&m| m <= left), next) {
             (None, _) => {
@@ -607,7 +609,7 @@ impl<'a> Answers<'a> {
         };
         let mut scratch = vec![BEFORE; SCRATCH];
         if at(more, 14) != 0 {
-            zero(&mut scratch);
+            zero(&mut scratch, SCRATCH_ASKED);
         }
         let words = rest(more, 15 + n);
         scratch[..words.len()].copy_from_slice(words);
@@ -670,10 +672,10 @@ impl<'a> Answers<'a> {
     fn classify(&mut self, table: &[u16], more: &[u16]) -> Option<Answer> {
         let conflict: [u16; 5] = more[..5].try_into().unwrap();
         let lent = [number(more, 5), number(more, 6), number(more, 7)];
-        let asked = [SCRATCH_ASKED, EXAMPLE_ASKED, EXAMPLE_ASKED];
+        let asked = [CLASSIFY_ASKED, EXAMPLE_ASKED, EXAMPLE_ASKED];
         let short = lent.iter().zip(asked).any(|(&n, asked)| n < asked);
         let answer = or_short(self.side.classify(table, conflict)?, short);
-        let scratch = scratch_after(&answer);
+        let scratch = scratch_after(&answer, CLASSIFY_ASKED);
         let mut buffers = [vec![BEFORE; EXAMPLE], vec![BEFORE; EXAMPLE]];
         let mut shown = vec![];
         let mut out = if answer[0] == 0 {
@@ -695,10 +697,10 @@ impl<'a> Answers<'a> {
     /// Op 11.
     fn choose(&mut self, table: &[u16], more: &[u16]) -> Option<Answer> {
         let conflict: [u16; 4] = more[..4].try_into().unwrap();
-        let short = number(more, 8) < SCRATCH_ASKED || number(more, 9) < ENTRIES_ASKED;
+        let short = number(more, 8) < CLASSIFY_ASKED || number(more, 9) < ENTRIES_ASKED;
         let answer = self.side.choose(table, conflict, set_at(more, 4))?;
         let answer = or_short(answer, short);
-        let scratch = scratch_after(&answer);
+        let scratch = scratch_after(&answer, CLASSIFY_ASKED);
         let mut shown = vec![];
         let mut out = if answer[0] == 0 {
             let mut at = 2;

@@ -9,7 +9,7 @@ use crate::table::*;
 use std::collections::BTreeMap;
 
 /// The words that a classification asks for: scratch, both buffers.
-const ASKED: [u16; 3] = [32_000, 1_158, 1_158];
+const ASKED: [u16; 3] = [8_000, 1_158, 1_158];
 /// The words of entries that choosing asks for.
 const ENTRIES: u16 = 384;
 /// A table above this number of words is not stored if it is generated.
@@ -170,10 +170,11 @@ fn faults(c: &mut Conflicts) {
         for lent in [
             [0, 0, 0],
             [32_008, 1_160, 1_160],
+            [8_001, 1_160, 1_160],
             [32_008, 1_160, 0],
             [32_008, 0, 1_160],
             [0, 1_160, 1_160],
-            [31_999, 1_157, 1_157],
+            [7_999, 1_157, 1_157],
         ] {
             c.classify(&b, full, lent);
             c.choose(&b, full[..4].try_into().unwrap(), 0, lent[0]);

@@ -130,6 +130,7 @@ pub const GRAPH_WORDS: usize = 8_193;
 pub const EXAMPLE_WORDS: usize = 1_158;
 pub const ENTRY_WORDS: usize = 384;
 pub const SCRATCH_WORDS: usize = 32_000;
+pub const CLASSIFY_SCRATCH_WORDS: usize = 8_000;
 pub const BUILD_SCRATCH_WORDS: usize = 64_000;
 
 /// `backtrace_reduce` if `reduce`, else `backtrace_shift`.

@@ -113,13 +113,13 @@ fn tokens(set: u64) -> impl Iterator<Item = u32> {
 impl PortSide {
     /// Scratch after a call: zeroed if it was accepted or refused by 12 to 14,
     /// else as it was. Not zero before the next call.
-    fn scratch_after(&mut self, refusal: u16) {
+    fn scratch_after(&mut self, refusal: u16, asked: usize) {
         if ![0, 12, 13, 14].contains(&refusal) {
             return self.scratch.kept(0, "scratch");
         }
-        let zeroed = &self.scratch.words[..SCRATCH_WORDS];
+        let zeroed = &self.scratch.words[..asked];
         assert!(zeroed.iter().all(|&w| w == 0), "scratch is not zero");
-        self.scratch.kept(SCRATCH_WORDS, "scratch");
+        self.scratch.kept(asked, "scratch");
         self.fill = self.fill.wrapping_add(1);
         self.scratch = Lent::new(SCRATCH_WORDS, self.fill);
     }
@@ -139,7 +139,7 @@ impl PortSide {
         let lent = [&mut action.words[..], &mut reduce.words[..]];
         let scratch = &mut self.scratch.words;
         let refusal = class.classify(table, c, scratch, lent, &mut place);
-        self.scratch_after(refusal);
+        self.scratch_after(refusal, CLASSIFY_SCRATCH_WORDS);
         let shown = match (refusal, class.number) {
             (0, 0) => [false, false],
             (0, 5) => [true, false],
@@ -167,7 +167,7 @@ impl PortSide {
     /// One word less than 11 asks for, of each loan: 1 to 10 as before, else
     /// 11, and nothing is written.
     fn classify_short(&mut self, table: &[u16], c: [u16; 5], before: (u16, u16)) {
-        let full = [SCRATCH_WORDS, EXAMPLE_WORDS, EXAMPLE_WORDS];
+        let full = [CLASSIFY_SCRATCH_WORDS, EXAMPLE_WORDS, EXAMPLE_WORDS];
         for short in 0..3 {
             let [s, a, r] = [0, 1, 2].map(|k| full[k] - (k == short) as usize);
             let (mut class, mut place) = (Class::UNWRITTEN, u16::MAX);
@@ -182,7 +182,7 @@ impl PortSide {
 
     /// The same of choosing.
     fn choose_short(&mut self, table: &[u16], c: [u16; 4], tokens: u64, before: (u16, u16)) {
-        let full = [SCRATCH_WORDS, ENTRY_WORDS];
+        let full = [CLASSIFY_SCRATCH_WORDS, ENTRY_WORDS];
         for short in 0..2 {
             let [s, e] = [0, 1].map(|k| full[k] - (k == short) as usize);
             let (mut count, mut place) = (usize::MAX, u16::MAX);
@@ -455,7 +455,7 @@ impl Side for PortSide {
         let (mut place, mut edges) = (0, 0);
         let (graph, scratch) = (&mut self.graph.words, &mut self.scratch.words);
         let refusal = backtrace(reduce, table, from, graph, scratch, &mut edges, &mut place);
-        self.scratch_after(refusal);
+        self.scratch_after(refusal, SCRATCH_WORDS);
         self.graph_answer(refusal, place, edges)
     }
 
@@ -536,7 +536,7 @@ impl Side for PortSide {
         let refusal = choose(
             table, conflict, tokens, scratch, entries, &mut count, &mut place,
         );
-        self.scratch_after(refusal);
+        self.scratch_after(refusal, CLASSIFY_SCRATCH_WORDS);
         let front = if refusal == 0 { 6 * count } else { 0 };
         self.entries.kept(front, "entries");
         self.choose_short(table, conflict, tokens, (refusal, place));

@@ -4,9 +4,6 @@ use Rattle.chooser.proofs.Answered.{answer-choice, answer-whole}
 use borrow.Author.Needs.{needs}
 use Rattle.chooser.proofs.answer.Statement.{statement}
 use Rattle.chooser.proofs.answer.Tie as tie
-use Rattle.chooser.proofs.answer.Reads as reads
-use Rattle.chooser.proofs.answer.Lts as lts
-use Rattle.entries.proofs.copy_entries.Reads as copy-entries-reads
 
 slice-aggregate-copy-entries : tie.Need-slice-aggregate-copy-entries
 slice-aggregate-copy-entries c = search needs

@@ -1,69 +1,62 @@
 -- `choose_read` meets its contract. Assumes nothing.
 use native.Mathlib.Omega.{arith}
-use mathlib.Core.Path.{_≡_, refl, sym, ap, _∙_}
-use Prim.Native.Nat.{ℕ, _+_, _-_, _≤_, _<_}
-use Rattle.classifier.proofs.Ways.{read-of}
 use borrow.Author.Needs.{needs}
+use mathlib.Core.Path.{sym, _∙_}
+use mathlib.Core.List.{_++_}
+use Prim.Native.Nat.{ℕ}
+use lib.ListN.{drop}
+use lib.Seq.{length-front, length-take-le}
+use Rattle.repr.specs.Sizes.{grammarRoom}
+use Rattle.classifier.proofs.Ways.{reads-front}
+use Rattle.chooser.proofs.Choices.{chosen-zeroed}
 use Rattle.chooser.proofs.choose_read.Statement.{statement}
 use Rattle.chooser.proofs.choose_read.Tie as tie
-use Rattle.chooser.proofs.choose_read.Reads as reads
-use Rattle.chooser.proofs.choose_read.Lts as lts
-use Rattle.chooser.proofs.choose_gathered.Reads as choose-gathered-reads
-use Rattle.first.proofs.FirstSets.new.Reads as new-reads
-use Rattle.table.proofs.read_counts.Reads as read-counts-reads
-use Rattle.table.proofs.read_productions.Reads as read-productions-reads
 
--- src/lib.rt:243:9
-read-counts-requires : tie.Need-read-counts-requires
-read-counts-requires c κs = search needs
+slice-relend-prefix-prepare : tie.Need-slice-relend-prefix-prepare
+slice-relend-prefix-prepare c = omega (arith, c .before .before .pre .1 .1)
 
--- src/lib.rt:246:21
-cast-terminals : tie.Need-cast-terminals
-cast-terminals c = search needs
+slice-aggregate-prepare : tie.Need-slice-aggregate-prepare
+slice-aggregate-prepare c = sym (length-take-le grammarRoom (c .before .before .before .args .scratch .now) (omega (arith, c .before .before .before .pre .1 .1)))
 
--- src/lib.rt:248:29
-slice-aggregate-read-productions : tie.Need-slice-aggregate-read-productions
-slice-aggregate-read-productions c = search needs
+prepare-requires : tie.Need-prepare-requires
+prepare-requires c κs = (c .before .before .before .pre .0, length-take-le grammarRoom (c .before .before .before .args .scratch .now) (omega (arith, c .before .before .before .pre .1 .1)))
 
--- src/lib.rt:248:5
-read-productions-requires : tie.Need-read-productions-requires
-read-productions-requires c κs = search needs
+slice-reshare-prefix-choose-gathered : tie.Need-slice-reshare-prefix-choose-gathered
+slice-reshare-prefix-choose-gathered c = let l = length-front {A = ℕ} (c .before .before .before .before .before .before .before .before .before .before .args .scratch .now) (c .before .before .before .before .before .before .prepare .last .1 .0) grammarRoom (c .before .before .before .before .before .before .prepare .kept .1 .0) in omega (arith, l, c .before .before .before .before .before .before .before .before .before .before .pre .1 .1)
 
--- src/lib.rt:249:31
-slice-aggregate-new : tie.Need-slice-aggregate-new
-slice-aggregate-new c = search needs
-
--- src/lib.rt:249:9
-new-requires : tie.Need-new-requires
-new-requires c κs = (rw (c .before .before .before .before .before .read-counts .ensures .productions) (c .before .before .read-productions .ensures .0), (let t = c .before .before .before .before .before .read-counts .ensures .terminals in let f = c .before .before .before .before .before .read-counts .ensures .fits .few-terminals in omega arith))
-
--- src/lib.rt:253:9
 slice-aggregate-choose-gathered : tie.Need-slice-aggregate-choose-gathered
-slice-aggregate-choose-gathered c = search needs
+slice-aggregate-choose-gathered c = let l = length-front {A = ℕ} (c .before .before .before .before .before .before .before .before .before .before .before .args .scratch .now) (c .before .before .before .before .before .before .before .prepare .last .1 .0) grammarRoom (c .before .before .before .before .before .before .before .prepare .kept .1 .0) in sym (length-take-le grammarRoom (c .before .before .before .before .before .before .before .prepare .last .1 .0 ++ drop grammarRoom (c .before .before .before .before .before .before .before .before .before .before .before .args .scratch .now)) (omega (arith, l, c .before .before .before .before .before .before .before .before .before .before .before .pre .1 .1)))
 
--- src/lib.rt:251:5
+slice-aggregate-choose-gathered-2 : tie.Need-slice-aggregate-choose-gathered-2
+slice-aggregate-choose-gathered-2 c = search needs
+
+slice-aggregate-choose-gathered-3 : tie.Need-slice-aggregate-choose-gathered-3
+slice-aggregate-choose-gathered-3 c = search needs
+
 choose-gathered-requires : tie.Need-choose-gathered-requires
-choose-gathered-requires c κs = (read-of _ _ _ _ _ _ _ (c .before .before .before .before .before .before .before .before .before .before .before .before .before .pre .0) (c .before .before .before .before .before .before .before .before .before .before .read-counts .ensures) (c .before .before .before .before .before .before .before .read-productions .ensures .0) (c .before .before .before .before .before .before .before .read-productions .ensures .1) (c .before .before .before .before .new .ensures), (c .before .before .before .before .before .before .before .before .before .before .before .before .before .pre .1 .0, c .before .before .before .before .before .before .before .before .before .before .before .before .before .pre .1 .1))
+choose-gathered-requires c κs = (reads-front _ _ _ _ _ _ _ grammarRoom (c .before .before .before .before .before .before .before .before .before .before .prepare .kept .1 .0 ∙ length-take-le grammarRoom (c .before .before .before .before .before .before .before .before .before .before .before .before .before .before .args .scratch .now) (omega (arith, c .before .before .before .before .before .before .before .before .before .before .before .before .before .before .pre .1 .1))) (c .before .before .before .before .before .before .before .before .before .before .prepare .ensures), c .before .before .before .before .before .before .before .before .before .before .before .before .before .before .pre .1 .0)
 
--- src/lib.rt:237:1
+zero-requires : tie.Need-zero-requires
+zero-requires c κs = let l = length-front {A = ℕ} (c .before .before .before .before .before .before .before .before .before .before .before .before .before .before .before .before .args .scratch .now) (c .before .before .before .before .before .before .before .before .before .before .before .before .prepare .last .1 .0) grammarRoom (c .before .before .before .before .before .before .before .before .before .before .before .before .prepare .kept .1 .0) in omega (arith, l, c .before .before .before .before .before .before .before .before .before .before .before .before .before .before .before .before .pre .1 .1)
+
 same-length : tie.Need-same-length
-same-length c = search needs
+same-length c = c .before .before .zero .kept .0 ∙ length-front {A = ℕ} (c .before .before .before .before .before .before .before .before .before .before .before .before .before .before .before .before .before .before .before .args .scratch .now) (c .before .before .before .before .before .before .before .before .before .before .before .before .before .before .before .prepare .last .1 .0) grammarRoom (c .before .before .before .before .before .before .before .before .before .before .before .before .before .before .before .prepare .kept .1 .0)
 
--- src/lib.rt:237:1
 returns : tie.Need-returns
-returns c = search needs
+returns c = (chosen-zeroed _ _ (c .before .before .before .before .before .before .before .before .before .before .before .before .before .before .before .before .before .before .before .args .scratch .now) _ (c .before .before .before .before .before .before .before .before .before .before .before .before .before .before .before .prepare .last .1 .0) grammarRoom (c .before .before .before .before .choose-gathered .ensures .0) (c .before .before .before .before .before .before .before .before .before .before .before .before .before .before .before .prepare .kept .1 .0 ∙ length-take-le grammarRoom (c .before .before .before .before .before .before .before .before .before .before .before .before .before .before .before .before .before .before .before .args .scratch .now) (omega (arith, c .before .before .before .before .before .before .before .before .before .before .before .before .before .before .before .before .before .before .before .pre .1 .1))) (omega arith) (c .before .before .zero .ensures), c .before .before .before .before .choose-gathered .ensures .1)
 
 pub choose-read-spec : {M : Type 1} → statement M
 choose-read-spec =
     tie.close
     (tie.spec
-    read-counts-requires
-    cast-terminals
-    slice-aggregate-read-productions
-    read-productions-requires
-    slice-aggregate-new
-    new-requires
+    slice-relend-prefix-prepare
+    slice-aggregate-prepare
+    prepare-requires
+    slice-reshare-prefix-choose-gathered
     slice-aggregate-choose-gathered
+    slice-aggregate-choose-gathered-2
+    slice-aggregate-choose-gathered-3
     choose-gathered-requires
+    zero-requires
     same-length
     returns)

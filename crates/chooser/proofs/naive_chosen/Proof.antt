@@ -4,18 +4,13 @@ use borrow.Author.Needs.{needs}
 use native.Mathlib.Omega.{arith}
 use Rattle.chooser.proofs.naive_chosen.Statement.{statement}
 use Rattle.chooser.proofs.naive_chosen.Tie as tie
-use Rattle.chooser.proofs.naive_chosen.Reads as reads
-use Rattle.chooser.proofs.naive_chosen.Lts as lts
 
--- src/lib.rt:168:9
 returns : tie.Need-returns
 returns c = count-shift _ _ (c .if1 .taken)
 
--- src/lib.rt:171:9
 returns-2 : tie.Need-returns-2
 returns-2 c = count-none _ _ (c .before .if1 .left) (c .if2 .taken)
 
--- src/lib.rt:164:1
 returns-3 : tie.Need-returns-3
 returns-3 c = count-one _ _ (c .before .if1 .left) (c .if2 .left)
 

@@ -4,19 +4,13 @@ use Rattle.chooser.proofs.Choices.{end-shift, end-other}
 use borrow.Author.Needs.{needs}
 use Rattle.chooser.proofs.set_shifts_end.Statement.{statement}
 use Rattle.chooser.proofs.set_shifts_end.Tie as tie
-use Rattle.chooser.proofs.set_shifts_end.Reads as reads
-use Rattle.chooser.proofs.set_shifts_end.Lts as lts
-use Rattle.lookahead.proofs.TokenSet.contains.Reads as contains-reads
 
--- src/lib.rt:280:9
 contains-requires : tie.Need-contains-requires
 contains-requires c κs = search needs
 
--- src/lib.rt:280:9
 returns : tie.Need-returns
 returns c = end-shift _ _ _ _ (c .before .if1 .taken) (c .contains .ensures)
 
--- src/lib.rt:276:1
 returns-2 : tie.Need-returns-2
 returns-2 c = end-other _ _ _ (c .if1 .left)
 

@@ -1,48 +1,45 @@
 -- `classify_read` meets its contract. Assumes nothing.
-use mathlib.Core.Path.{_∙_}
-use Rattle.classifier.proofs.Ways.{read-of, gathered-again}
-use Rattle.gather.proofs.Both.{cleared-clear}
 use native.Mathlib.Omega.{arith}
 use borrow.Author.Needs.{needs}
+use mathlib.Core.Path.{sym, _∙_}
+use mathlib.Core.List.{_++_}
+use Prim.Native.Nat.{ℕ}
+use lib.ListN.{drop}
+use lib.Seq.{length-front, length-take-le}
+use Rattle.repr.specs.Sizes.{grammarRoom}
+use Rattle.classifier.proofs.Ways.{reads-front, read-zeroed}
 use Rattle.classifier.proofs.classify_read.Statement.{statement}
 use Rattle.classifier.proofs.classify_read.Tie as tie
-use Rattle.classifier.proofs.classify_read.Reads as reads
-use Rattle.classifier.proofs.classify_read.Lts as lts
-use Rattle.classifier.proofs.classify_gathered.Reads as classify-gathered-reads
-use Rattle.enumerator.proofs.machine.clear.Reads as clear-reads
-use Rattle.first.proofs.FirstSets.new.Reads as new-reads
-use Rattle.table.proofs.read_counts.Reads as read-counts-reads
-use Rattle.table.proofs.read_productions.Reads as read-productions-reads
 
-read-counts-requires : tie.Need-read-counts-requires
-read-counts-requires c κs = search needs
+slice-relend-prefix-prepare : tie.Need-slice-relend-prefix-prepare
+slice-relend-prefix-prepare c = omega (arith, c .before .before .before .before .pre .1 .1 .0)
 
-cast-terminals : tie.Need-cast-terminals
-cast-terminals c = search needs
+slice-aggregate-prepare : tie.Need-slice-aggregate-prepare
+slice-aggregate-prepare c = sym (length-take-le grammarRoom (c .before .before .before .before .before .args .scratch .now) (omega (arith, c .before .before .before .before .before .pre .1 .1 .0)))
 
-slice-aggregate-read-productions : tie.Need-slice-aggregate-read-productions
-slice-aggregate-read-productions c = search needs
+prepare-requires : tie.Need-prepare-requires
+prepare-requires c κs = (c .before .before .before .before .before .pre .0, length-take-le grammarRoom (c .before .before .before .before .before .args .scratch .now) (omega (arith, c .before .before .before .before .before .pre .1 .1 .0)))
 
-read-productions-requires : tie.Need-read-productions-requires
-read-productions-requires c κs = search needs
+slice-reshare-prefix-classify : tie.Need-slice-reshare-prefix-classify
+slice-reshare-prefix-classify c = let l = length-front {A = ℕ} (c .before .before .before .before .before .before .before .before .before .before .before .before .args .scratch .now) (c .before .before .before .before .before .before .prepare .last .1 .0) grammarRoom (c .before .before .before .before .before .before .prepare .kept .1 .0) in omega (arith, l, c .before .before .before .before .before .before .before .before .before .before .before .before .pre .1 .1 .0)
 
-slice-aggregate-new : tie.Need-slice-aggregate-new
-slice-aggregate-new c = search needs
+slice-aggregate-classify : tie.Need-slice-aggregate-classify
+slice-aggregate-classify c = let l = length-front {A = ℕ} (c .before .before .before .before .before .before .before .before .before .before .before .before .before .args .scratch .now) (c .before .before .before .before .before .before .before .prepare .last .1 .0) grammarRoom (c .before .before .before .before .before .before .before .prepare .kept .1 .0) in sym (length-take-le grammarRoom (c .before .before .before .before .before .before .before .prepare .last .1 .0 ++ drop grammarRoom (c .before .before .before .before .before .before .before .before .before .before .before .before .before .args .scratch .now)) (omega (arith, l, c .before .before .before .before .before .before .before .before .before .before .before .before .before .pre .1 .1 .0)))
 
-new-requires : tie.Need-new-requires
-new-requires c κs = (rw (c .before .before .before .before .before .read-counts .ensures .productions) (c .before .before .read-productions .ensures .0), (let t = c .before .before .before .before .before .read-counts .ensures .terminals in let f = c .before .before .before .before .before .read-counts .ensures .fits .few-terminals in omega arith))
+slice-aggregate-classify-2 : tie.Need-slice-aggregate-classify-2
+slice-aggregate-classify-2 c = search needs
 
-clear-requires : tie.Need-clear-requires
-clear-requires c κs = search needs
+slice-aggregate-classify-3 : tie.Need-slice-aggregate-classify-3
+slice-aggregate-classify-3 c = search needs
 
-slice-aggregate-classify-gathered : tie.Need-slice-aggregate-classify-gathered
-slice-aggregate-classify-gathered c = search needs
+classify-requires : tie.Need-classify-requires
+classify-requires c κs = ((reads-front _ _ _ _ _ _ _ grammarRoom (c .before .before .before .before .before .before .before .before .before .before .before .before .prepare .kept .1 .0 ∙ length-take-le grammarRoom (c .before .before .before .before .before .before .before .before .before .before .before .before .before .before .before .before .before .before .args .scratch .now) (omega (arith, c .before .before .before .before .before .before .before .before .before .before .before .before .before .before .before .before .before .before .pre .1 .1 .0))) (c .before .before .before .before .before .before .before .before .before .before .before .before .prepare .ensures), c .before .before .before .before .before .before .before .before .before .before .before .before .before .before .before .before .before .before .pre .1 .0), c .before .before .before .before .before .before .before .before .before .before .before .before .before .before .before .before .before .before .pre .1 .1 .1)
 
-classify-gathered-requires : tie.Need-classify-gathered-requires
-classify-gathered-requires c κs = (read-of _ _ _ _ _ _ _ (c .before .before .before .before .before .before .before .before .before .before .before .before .before .before .before .before .before .before .before .before .before .pre .0) (c .before .before .before .before .before .before .before .before .before .before .before .before .before .before .before .before .read-counts .ensures) (c .before .before .before .before .before .before .before .before .before .before .before .before .before .read-productions .ensures .0) (c .before .before .before .before .before .before .before .before .before .before .before .before .before .read-productions .ensures .1) (c .before .before .before .before .before .before .before .before .before .before .new .ensures), (c .before .before .before .before .before .before .before .before .before .before .before .before .before .before .before .before .before .before .before .before .before .pre .1 .0, (cleared-clear (c .before .before .before .before .before .before .before .before .before .before .before .before .before .before .before .before .before .before .before .before .before .args .scratch .now) _ (c .before .before .before .before .before .before .before .clear .ensures), c .before .before .before .before .before .before .before .before .before .before .before .before .before .before .before .before .before .before .before .before .before .pre .1 .1 .1)))
+zero-requires : tie.Need-zero-requires
+zero-requires c κs = let l = length-front {A = ℕ} (c .before .before .before .before .before .before .before .before .before .before .before .before .before .before .before .before .before .before .before .before .before .before .before .before .args .scratch .now) (c .before .before .before .before .before .before .before .before .before .before .before .before .before .before .before .before .before .before .prepare .last .1 .0) grammarRoom (c .before .before .before .before .before .before .before .before .before .before .before .before .before .before .before .before .before .before .prepare .kept .1 .0) in omega (arith, l, c .before .before .before .before .before .before .before .before .before .before .before .before .before .before .before .before .before .before .before .before .before .before .before .before .pre .1 .1 .0)
 
 same-length : tie.Need-same-length
-same-length c = search needs
+same-length c = c .before .before .zero .kept .0 ∙ length-front {A = ℕ} (c .before .before .before .before .before .before .before .before .before .before .before .before .before .before .before .before .before .before .before .before .before .before .before .before .before .before .before .args .scratch .now) (c .before .before .before .before .before .before .before .before .before .before .before .before .before .before .before .before .before .before .before .before .before .prepare .last .1 .0) grammarRoom (c .before .before .before .before .before .before .before .before .before .before .before .before .before .before .before .before .before .before .before .before .before .prepare .kept .1 .0)
 
 same-length-2 : tie.Need-same-length-2
 same-length-2 c = search needs
@@ -51,21 +48,21 @@ same-length-3 : tie.Need-same-length-3
 same-length-3 c = search needs
 
 returns : tie.Need-returns
-returns c = c .before .before .before .before .before .before .classify-gathered .ensures ∙ gathered-again _ (c .before .before .before .before .before .before .before .before .before .before .before .before .before .before .before .before .before .before .before .before .before .before .before .before .before .before .before .before .args .conflict) (c .before .before .before .before .before .before .before .before .before .before .before .before .before .before .before .before .before .before .before .before .before .before .before .before .before .before .before .before .args .scratch .now) _ _ _ _ (c .before .before .before .before .before .before .before .before .before .before .before .before .before .before .clear .ensures)
+returns c = read-zeroed _ (c .before .before .before .before .before .before .before .before .before .before .before .before .before .before .before .before .before .before .before .before .before .before .before .before .before .before .before .args .conflict) _ _ _ _ _ (c .before .before .before .before .before .before .before .before .before .before .before .before .before .before .before .before .before .before .before .before .before .before .before .before .before .before .before .args .scratch .now) _ (c .before .before .before .before .before .before .before .before .before .before .before .before .before .before .before .before .before .before .before .before .before .prepare .last .1 .0) grammarRoom (c .before .before .before .before .before .before .before .before .classify .ensures) (c .before .before .before .before .before .before .before .before .before .before .before .before .before .before .before .before .before .before .before .before .before .prepare .kept .1 .0 ∙ length-take-le grammarRoom (c .before .before .before .before .before .before .before .before .before .before .before .before .before .before .before .before .before .before .before .before .before .before .before .before .before .before .before .args .scratch .now) (omega (arith, c .before .before .before .before .before .before .before .before .before .before .before .before .before .before .before .before .before .before .before .before .before .before .before .before .before .before .before .pre .1 .1 .0))) (omega arith) (c .before .before .zero .ensures)
 
 pub classify-read-spec : {M : Type 1} → statement M
 classify-read-spec =
     tie.close
     (tie.spec
-    read-counts-requires
-    cast-terminals
-    slice-aggregate-read-productions
-    read-productions-requires
-    slice-aggregate-new
-    new-requires
-    clear-requires
-    slice-aggregate-classify-gathered
-    classify-gathered-requires
+    slice-relend-prefix-prepare
+    slice-aggregate-prepare
+    prepare-requires
+    slice-reshare-prefix-classify
+    slice-aggregate-classify
+    slice-aggregate-classify-2
+    slice-aggregate-classify-3
+    classify-requires
+    zero-requires
     same-length
     same-length-2
     same-length-3

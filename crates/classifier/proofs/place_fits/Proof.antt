@@ -1,51 +1,34 @@
 -- `place_fits` meets its contract. Assumes nothing.
-use mathlib.Core.Path.{_≡_, refl, sym, ap, _∙_}
-use mathlib.Core.List.{List}
-use Prim.Native.Nat.{ℕ, _+_, _-_, _*_, _≤_, _<_}
-use lib.ListN.{length, getD, length-replicate}
 use Rattle.classifier.proofs.Ways.{place-state, place-production, place-operand}
 use native.Mathlib.Omega.{arith}
 use borrow.Author.Needs.{needs}
 use Rattle.classifier.proofs.place_fits.Statement.{statement}
 use Rattle.classifier.proofs.place_fits.Tie as tie
-use Rattle.classifier.proofs.place_fits.Reads as reads
-use Rattle.classifier.proofs.place_fits.Lts as lts
-use Rattle.classifier.proofs.operand_fits.Reads as operand-fits-reads
-use Rattle.table.proofs.read_counts.Reads as read-counts-reads
 
--- src/lib.rt:54:9
 read-counts-requires : tie.Need-read-counts-requires
 read-counts-requires c κs = search needs
 
--- src/lib.rt:58:17
 cast-state : tie.Need-cast-state
 cast-state c = search needs
 
--- src/lib.rt:59:22
 cast-production : tie.Need-cast-production
 cast-production c = search needs
 
--- src/lib.rt:60:18
 cast-action : tie.Need-cast-action
 cast-action c = search needs
 
--- src/lib.rt:61:19
 cast-operand : tie.Need-cast-operand
 cast-operand c = search needs
 
--- src/lib.rt:63:9
 returns : tie.Need-returns
 returns c = place-state _ _ _ _ _ (c .before .before .before .before .before .read-counts .ensures) _ (omega (arith, c .if1 .taken))
 
--- src/lib.rt:66:9
 returns-2 : tie.Need-returns-2
 returns-2 c = place-production _ _ _ _ _ (c .before .before .before .before .before .before .read-counts .ensures) _ (omega (arith, c .before .if1 .left)) (omega (arith, c .if2 .taken))
 
--- src/lib.rt:68:5
 operand-fits-requires : tie.Need-operand-fits-requires
 operand-fits-requires c κs = search needs
 
--- src/lib.rt:50:1
 returns-3 : tie.Need-returns-3
 returns-3 c = place-operand _ _ _ _ _ (c .before .before .before .before .before .before .before .read-counts .ensures) _ (omega (arith, c .before .before .if1 .left)) (omega (arith, c .before .if2 .left)) _ (c .operand-fits .ensures)
 

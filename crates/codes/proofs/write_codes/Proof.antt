@@ -1,8 +1,8 @@
 -- `write_codes` meets its contract; the invariant is `Writing` of proofs/Writing. Assumes nothing.
 use Prim.Native.Nat.{_-_}
-use Rattle.codes.proofs.Writing.{Writing, writing-start, writing-few, writing-code, writing-more, writing-done}
-use mathlib.Core.Path.{sym, ap, _∙_}
-use lib.ListN.{length, length-set}
+use Rattle.codes.proofs.Writing.{Writing, writing-start, carried-code, writing-few, writing-more, writing-done}
+use mathlib.Core.Path.{_∙_}
+use lib.ListN.{length-set}
 use borrow.Author.Needs.{needs}
 use native.Mathlib.Omega.{arith}
 use Rattle.codes.proofs.write_codes.Statement.{statement}
@@ -41,7 +41,7 @@ word-requires-2 c κs = search needs
 
 -- src/lib.rt:84:13
 edge-of-requires : tie.Need-edge-of-requires Inv-loop μ-loop
-edge-of-requires c κs = let S = c .before .before .before .before .before .before .before in writing-code (S .args .grammar .now) (S .args .words .now) _ _ _ (c .before .before .loop .inv) (omega (arith, S .pre .1, length-set (S .args .graph .now) 0 0)) (S .pre .0) (omega (arith, c .before .loop-test .taken, c .before .before .before .word .ensures .0)) _ (c .word2 .ensures .0)
+edge-of-requires c κs = let S = c .before .before .before .before .before .before .before in carried-code (S .pre .0) (omega (arith, c .before .loop-test .taken, c .before .before .before .word .ensures .0)) _ (c .word2 .ensures .0)
 
 -- src/lib.rt:85:9
 write-edge-requires : tie.Need-write-edge-requires Inv-loop μ-loop

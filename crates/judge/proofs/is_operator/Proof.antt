@@ -1,6 +1,5 @@
 -- `is_operator` meets its contract. Assumes nothing.
 use mathlib.Core.Path.{sym, _∙_}
-use Prim.Native.Nat.{_-_}
 use Rattle.judge.proofs.Ways.{kinds-small, operator-count, operator-first, operator-last, operator-middle}
 use native.Mathlib.Omega.{arith}
 use borrow.Author.Needs.{needs}

@@ -1,6 +1,5 @@
 -- `optional` meets its contract. Assumes nothing.
 use mathlib.Core.Path.{refl}
-use Prim.Native.Nat.{_-_}
 use Rattle.judge.proofs.Ways.{optional-more, optional-one, optional-some}
 use borrow.Author.Needs.{needs}
 use Rattle.judge.proofs.optional.Statement.{statement}

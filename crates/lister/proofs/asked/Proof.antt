@@ -1,6 +1,7 @@
 -- `asked` meets its contract. Assumes nothing.
 use mathlib.Core.Path.{sym}
 use mathlib.Core.Bool.{true≢false}
+use Rattle.view.proofs.Made.{ranged-of}
 use Rattle.lister.proofs.Asking.{asked-item, asked-ahead, asked-short, asked-long}
 use native.Mathlib.Omega.{arith}
 use borrow.Author.Needs.{needs}
@@ -23,7 +24,7 @@ same-length : tie.Need-same-length
 same-length c = search needs
 
 returns-2 : tie.Need-returns-2
-returns-2 c = ((λ T R. asked-long _ _ _ _ T R _ (c .before .before .before .before .before .before .before .before .item-fits .ensures) (c .before .before .before .before .before .before .before .if1 .taken) _ (c .before .before .before .before .before .before .lookahead-fits .ensures) (c .before .before .before .before .before .if2 .taken) (c .before .before .before .before .if3 .left) _ (c .before .before .check-graph .ensures .0)), (λ t h. c .before .before .check-graph .ensures .1 t))
+returns-2 c = ((λ T R. asked-long _ _ _ _ T R _ (c .before .before .before .before .before .before .before .before .item-fits .ensures) (c .before .before .before .before .before .before .before .if1 .taken) _ (c .before .before .before .before .before .before .lookahead-fits .ensures) (c .before .before .before .before .before .if2 .taken) (c .before .before .before .before .if3 .left) _ (c .before .before .check-graph .ensures .0)), (λ t h. ranged-of (c .before .before .check-graph .ensures .1 t)))
 
 returns-3 : tie.Need-returns-3
 returns-3 c = ((λ T R. asked-ahead _ _ _ _ T R _ (c .before .before .before .item-fits .ensures) (c .before .before .if1 .taken) _ (c .before .lookahead-fits .ensures) (c .if2 .left)), (λ t h. absurd (true≢false (sym t))))

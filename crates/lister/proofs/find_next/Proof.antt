@@ -1,59 +1,33 @@
 -- `find_next` meets its contract: a law of Finding for each answer of the search over the view. Assumes nothing.
-use mathlib.Core.Path.{refl}
+use mathlib.Core.Path.{_∙_}
 use Rattle.enumerator.specs.Advance.{startOf}
-use Rattle.view.proofs.Made.{viewable}
 use Rattle.lister.proofs.Finding.{start-at, searching, hands-read, hit-tried, found-hit, found-out, found-over}
 use native.Mathlib.Omega.{arith}
 use borrow.Author.Needs.{needs}
 use Rattle.lister.proofs.find_next.Statement.{statement}
 use Rattle.lister.proofs.find_next.Tie as tie
 
-cast-production : tie.Need-cast-production
-cast-production c = search needs
-
-cast-index : tie.Need-cast-index
-cast-index c = search needs
-
 first-sets-requires : tie.Need-first-sets-requires
 first-sets-requires c κs = search needs
 
-slice-aggregate-make-view : tie.Need-slice-aggregate-make-view
-slice-aggregate-make-view c = search needs
-
-slice-aggregate-make-view-2 : tie.Need-slice-aggregate-make-view-2
-slice-aggregate-make-view-2 c = search needs
-
-slice-aggregate-make-view-3 : tie.Need-slice-aggregate-make-view-3
-slice-aggregate-make-view-3 c = search needs
-
-make-view-requires : tie.Need-make-view-requires
-make-view-requires c κs = (viewable (c .before .before .before .before .before .before .before .before .before .before .before .pre .1 .0), (refl, (refl, refl)))
-
 begin-requires : tie.Need-begin-requires
-begin-requires c κs = c .before .before .before .before .before .before .before .before .before .before .before .before .before .before .before .before .pre .1 .1 .0 .0
-
-slice-aggregate-search : tie.Need-slice-aggregate-search
-slice-aggregate-search c = search needs
-
-slice-aggregate-search-2 : tie.Need-slice-aggregate-search-2
-slice-aggregate-search-2 c = search needs
-
-slice-aggregate-search-3 : tie.Need-slice-aggregate-search-3
-slice-aggregate-search-3 c = search needs
+begin-requires c κs = c .before .before .before .before .before .before .before .before .before .before .before .before .pre .1 .1 .0 .0
 
 search-requires : tie.Need-search-requires
 search-requires c κs =
-    let P = c .before .before .before .before .before .before .before .before .before .before .before .before .before .before .before .before .before .before .before .before .before .before .before .before .pre in
-    (P .0, (_, searching _ (P .1 .0) (c .before .before .before .before .before .before .before .before .before .before .before .before .make-view .ensures) (start-at _ _ _ (P .1 .1 .1 .0) (P .1 .1 .1 .1)) (c .before .before .before .before .before .before .before .begin .ensures)))
+    let P = c .before .before .before .before .before .before .before .before .before .before .before .before .before .before .before .before .before .pre in
+    (P .0, (_, (_, searching _ (c .before .before .before .before .before .before .before .before .before .before .before .before .before .before .before .before .before .pre .1 .0 .1) (c .before .before .before .before .before .before .before .before .before .before .before .before .before .before .before .before .before .pre .1 .0 .0) (start-at _ _ _ (P .1 .1 .1 .0) (P .1 .1 .1 .1)) (c .before .before .before .before .begin .ensures))))
 
 enum-known-number : tie.Need-enum-known-number
 enum-known-number c = search needs
 
 write-trial-requires : tie.Need-write-trial-requires
 write-trial-requires c κs =
-    let P = c .before .before .before .before .before .before .before .before .before .before .before .before .before .before .before .before .before .before .before .before .before .before .before .before .before .before .before .before .before .before .before .before .pre in
+    let P = c .before .before .before .before .before .before .before .before .before .before .before .before .before .before .before .before .before .before .before .before .before .before .before .before .before .pre in
+    let L = c .before .before .before .before .before .before .before .before .before .before .before .before .before .before .before .before .before .before .before .before .before .before .before .before .before .pre .1 .0 .1 in
     let A = start-at _ _ _ (P .1 .1 .1 .0) (P .1 .1 .1 .1) in
-    (P .0 .0, (hit-tried (P .1 .0) A _ _ _ _ (c .before .before .before .before .before .before .before .before .before .before .before .before .before .before .before .begin .ensures) (c .before .before .before .before .before .before .before .search .ensures _ (searching _ (P .1 .0) (c .before .before .before .before .before .before .before .before .before .before .before .before .before .before .before .before .before .before .before .before .make-view .ensures) A (c .before .before .before .before .before .before .before .before .before .before .before .before .before .before .before .begin .ensures))) _ (c .before .before .before .number .given .1), P .1 .1 .0 .1))
+    let B = c .before .before .before .before .before .before .before .before .before .before .before .before .begin .ensures in
+    (P .0 .0, ((_, hit-tried L A _ _ _ _ B (c .before .before .before .before .before .before .before .search .ensures _ _ (searching _ L (c .before .before .before .before .before .before .before .before .before .before .before .before .before .before .before .before .before .before .before .before .before .before .before .before .before .pre .1 .0 .0) A B)) _ (c .before .before .before .number .given .1)), P .1 .1 .0 .1))
 
 moved-requires : tie.Need-moved-requires
 moved-requires c κs = search needs
@@ -71,7 +45,7 @@ moved-requires-3 : tie.Need-moved-requires-3
 moved-requires-3 c κs = search needs
 
 same-length : tie.Need-same-length
-same-length c = search needs
+same-length c = c .before .before .before .before .before .before .before .before .before .before .before .search .kept .1 .1 .1 .1 .1 .1 .1 .1 .1 .1 .0 ∙ c .before .before .before .before .before .before .before .before .before .before .before .before .before .before .before .before .begin .kept .0
 
 same-length-2 : tie.Need-same-length-2
 same-length-2 c = search needs
@@ -79,10 +53,12 @@ same-length-2 c = search needs
 returns : tie.Need-returns
 unfolding startOf
 returns c =
-    let P = c .before .before .before .before .before .before .before .before .before .before .before .before .before .before .before .before .before .before .before .before .before .before .before .before .before .before .before .before .before .before .before .before .before .before .before .before .pre in
+    let P = c .before .before .before .before .before .before .before .before .before .before .before .before .before .before .before .before .before .before .before .before .before .before .before .before .before .before .before .before .before .pre in
+    let L = c .before .before .before .before .before .before .before .before .before .before .before .before .before .before .before .before .before .before .before .before .before .before .before .before .before .before .before .before .before .pre .1 .0 .1 in
     let A = start-at _ _ _ (P .1 .1 .1 .0) (P .1 .1 .1 .1) in
+    let B = c .before .before .before .before .before .before .before .before .before .before .before .before .before .before .before .before .begin .ensures in
     λ n T R.
-    found-hit (P .1 .0) A _ _ _ _ (c .before .before .before .before .before .before .before .before .before .before .before .before .before .before .before .before .before .before .before .begin .ensures) (c .before .before .before .before .before .before .before .before .before .before .before .search .ensures _ (searching _ (P .1 .0) (c .before .before .before .before .before .before .before .before .before .before .before .before .before .before .before .before .before .before .before .before .before .before .before .before .make-view .ensures) A (c .before .before .before .before .before .before .before .before .before .before .before .before .before .before .before .before .before .before .before .begin .ensures))) T R _ _ _ (hands-read T R _ _ _ (c .before .before .before .before .before .before .before .before .before .before .before .before .before .before .before .before .before .before .before .before .before .before .before .before .before .before .before .before .before .first-sets .ensures)) _ (c .before .before .before .before .before .before .before .number .given .1) _ _ (c .moved .ensures) (cc) _ (c .before .before .before .write-trial .ensures)
+    found-hit L A _ _ _ _ B (c .before .before .before .before .before .before .before .before .before .before .before .search .ensures _ _ (searching _ L (c .before .before .before .before .before .before .before .before .before .before .before .before .before .before .before .before .before .before .before .before .before .before .before .before .before .before .before .before .before .pre .1 .0 .0) A B)) T R _ _ _ (hands-read T R _ _ _ (c .before .before .before .before .before .before .before .before .before .before .before .before .before .before .before .before .before .before .before .first-sets .ensures)) _ (c .before .before .before .before .before .before .before .number .given .1) _ _ (c .moved .ensures) (cc) _ (c .before .before .before .write-trial .ensures _)
 
 same-length-3 : tie.Need-same-length-3
 same-length-3 c = search needs
@@ -90,10 +66,12 @@ same-length-3 c = search needs
 returns-2 : tie.Need-returns-2
 unfolding startOf
 returns-2 c =
-    let P = c .before .before .before .before .before .before .before .before .before .before .before .before .before .before .before .before .before .before .before .before .before .before .before .before .before .before .before .before .before .before .before .pre in
+    let P = c .before .before .before .before .before .before .before .before .before .before .before .before .before .before .before .before .before .before .before .before .before .before .before .before .pre in
+    let L = c .before .before .before .before .before .before .before .before .before .before .before .before .before .before .before .before .before .before .before .before .before .before .before .before .pre .1 .0 .1 in
     let A = start-at _ _ _ (P .1 .1 .1 .0) (P .1 .1 .1 .1) in
+    let B = c .before .before .before .before .before .before .before .before .before .before .before .begin .ensures in
     λ n T R.
-    found-out (P .1 .0) A _ _ _ _ (c .before .before .before .before .before .before .before .before .before .before .before .before .before .before .begin .ensures) (c .before .before .before .before .before .before .search .ensures _ (searching _ (P .1 .0) (c .before .before .before .before .before .before .before .before .before .before .before .before .before .before .before .before .before .before .before .make-view .ensures) A (c .before .before .before .before .before .before .before .before .before .before .before .before .before .before .begin .ensures))) T R _ _ _ (hands-read T R _ _ _ (c .before .before .before .before .before .before .before .before .before .before .before .before .before .before .before .before .before .before .before .before .before .before .before .before .first-sets .ensures)) _ (c .before .before .trials .given .1) _ _ (c .moved2 .ensures) cc
+    found-out L A _ _ _ _ B (c .before .before .before .before .before .before .search .ensures _ _ (searching _ L (c .before .before .before .before .before .before .before .before .before .before .before .before .before .before .before .before .before .before .before .before .before .before .before .before .pre .1 .0 .0) A B)) T R _ _ _ (hands-read T R _ _ _ (c .before .before .before .before .before .before .before .before .before .before .before .before .before .before .first-sets .ensures)) _ (c .before .before .trials .given .1) _ _ (c .moved2 .ensures) cc
 
 same-length-4 : tie.Need-same-length-4
 same-length-4 c = search needs
@@ -101,26 +79,19 @@ same-length-4 c = search needs
 returns-3 : tie.Need-returns-3
 unfolding startOf
 returns-3 c =
-    let P = c .before .before .before .before .before .before .before .before .before .before .before .before .before .before .before .before .before .before .before .before .before .before .before .before .before .before .before .before .before .before .pre in
+    let P = c .before .before .before .before .before .before .before .before .before .before .before .before .before .before .before .before .before .before .before .before .before .before .before .pre in
+    let L = c .before .before .before .before .before .before .before .before .before .before .before .before .before .before .before .before .before .before .before .before .before .before .before .pre .1 .0 .1 in
     let A = start-at _ _ _ (P .1 .1 .1 .0) (P .1 .1 .1 .1) in
+    let B = c .before .before .before .before .before .before .before .before .before .before .begin .ensures in
     λ n T R.
-    found-over (P .1 .0) A _ _ _ _ (c .before .before .before .before .before .before .before .before .before .before .before .before .before .begin .ensures) (c .before .before .before .before .before .search .ensures _ (searching _ (P .1 .0) (c .before .before .before .before .before .before .before .before .before .before .before .before .before .before .before .before .before .before .make-view .ensures) A (c .before .before .before .before .before .before .before .before .before .before .before .before .before .begin .ensures))) T R _ _ _ (hands-read T R _ _ _ (c .before .before .before .before .before .before .before .before .before .before .before .before .before .before .before .before .before .before .before .before .before .before .before .first-sets .ensures)) (c .before .enum-told .given .1) _ _ _ (c .moved3 .ensures) (omega arith) cc
+    found-over L A _ _ _ _ B (c .before .before .before .before .before .search .ensures _ _ (searching _ L (c .before .before .before .before .before .before .before .before .before .before .before .before .before .before .before .before .before .before .before .before .before .before .before .pre .1 .0 .0) A B)) T R _ _ _ (hands-read T R _ _ _ (c .before .before .before .before .before .before .before .before .before .before .before .before .before .first-sets .ensures)) (c .before .enum-told .given .1) _ _ _ (c .moved3 .ensures) (omega arith) cc
 
 pub find-next-spec : {M : Type 1} → statement M
 find-next-spec =
     tie.close
     (tie.spec
-    cast-production
-    cast-index
     first-sets-requires
-    slice-aggregate-make-view
-    slice-aggregate-make-view-2
-    slice-aggregate-make-view-3
-    make-view-requires
     begin-requires
-    slice-aggregate-search
-    slice-aggregate-search-2
-    slice-aggregate-search-3
     search-requires
     enum-known-number
     write-trial-requires

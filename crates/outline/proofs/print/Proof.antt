@@ -1,83 +1,40 @@
--- `print` meets its contract. The loop's invariant: the print of the places passed goes on with those left to the print of the whole; the measure is how many are left. Assumes nothing.
-use Prim.Native.Nat.{_+_, _-_, _*_, _≤_, _<_}
-use mathlib.Core.Path.{_≡_, sym, _∙_}
-use lib.ListN.{take, drop}
+-- `print` meets its contract. Assumes nothing.
 use native.Mathlib.Omega.{arith}
-use Rattle.outline.specs.Outline.{printLimit, printWords, printIn}
-use Rattle.outline.proofs.Prints.{print-start, print-end, print-more}
+use Rattle.repr.specs.Packed.{productionsIn}
+use Rattle.example.specs.Labels.{labelsIn}
+use Rattle.example.proofs.Walk.{around-few}
+use Rattle.outline.proofs.Prints.{print-whole}
 use borrow.Author.Needs.{needs}
 use Rattle.outline.proofs.print.Statement.{statement}
 use Rattle.outline.proofs.print.Tie as tie
 
-abbrev Inv-loop : tie.InvT-loop
-Inv-loop example places print₀ i₀ print i = (i ≤ places) × (print < printLimit) × (printWords print (take (2 * (places - i)) (drop (3 + 2 * i) example)) ≡ printIn example)
+prefix-total-requires : tie.Need-prefix-total-requires
+prefix-total-requires c κs = search needs
 
-abbrev μ-loop : tie.MeasureT-loop
-μ-loop example places print₀ i₀ print i = places - i
+print-prefixes-requires : tie.Need-print-prefixes-requires
+print-prefixes-requires c κs =
+    let S = c .before .before .before in
+    let few = around-few (S .args .grammar .now) (S .args .productions) (S .pre .0) (S .args .labels .now) (S .pre .1) in
+    ((S .pre .0, omega (arith, few, c .prefix-total .ensures)), S .pre .1)
 
-word-requires : tie.Need-word-requires Inv-loop μ-loop
-word-requires c κs = search needs
+print-middle-requires : tie.Need-print-middle-requires
+print-middle-requires c κs = ((c .before .before .before .before .pre .0, c .print-prefixes .ensures .1), c .before .before .before .before .pre .1)
 
-word-requires-2 : tie.Need-word-requires-2 Inv-loop μ-loop
-word-requires-2 c κs = search needs
+print-suffixes-requires : tie.Need-print-suffixes-requires
+print-suffixes-requires c κs = ((c .before .before .before .before .before .pre .0, c .print-middle .ensures .1), c .before .before .before .before .before .pre .1)
 
-loop-holds : tie.Need-loop-holds Inv-loop μ-loop
-loop-holds c = (omega arith, omega (arith, c .word2 .ensures .1), print-start _ _ _ (c .before .word .ensures .0) (c .word2 .ensures .0))
-
-mul-word : tie.Need-mul-word Inv-loop μ-loop
-mul-word c = search needs
-
-add-word : tie.Need-add-word Inv-loop μ-loop
-add-word c = search needs
-
-word-requires-3 : tie.Need-word-requires-3 Inv-loop μ-loop
-word-requires-3 c κs = search needs
-
-mul-word-2 : tie.Need-mul-word-2 Inv-loop μ-loop
-mul-word-2 c = search needs
-
-add-word-2 : tie.Need-add-word-2 Inv-loop μ-loop
-add-word-2 c = search needs
-
-add-word-3 : tie.Need-add-word-3 Inv-loop μ-loop
-add-word-3 c = search needs
-
-word-requires-4 : tie.Need-word-requires-4 Inv-loop μ-loop
-word-requires-4 c κs = search needs
-
-mix-requires : tie.Need-mix-requires Inv-loop μ-loop
-mix-requires c κs = (c .before .before .before .loop .inv .1, c .before .word3 .ensures .1, c .word4 .ensures .1)
-
-add-i : tie.Need-add-i Inv-loop μ-loop
-add-i c = search needs
-
-loop-less : tie.Need-loop-less Inv-loop μ-loop
-loop-less c = search needs
-
-loop-again : tie.Need-loop-again Inv-loop μ-loop
-loop-again c = (omega (arith, c .before .before .before .loop-test .taken), c .mix .ensures .1, rw (c .mix .ensures .0) (sym (print-more (c .before .before .before .before .before .before .before .before .args .example .now) _ (c .before .before .before .before .loop .i) (omega (arith, c .before .before .before .before .before .before .before .before .pre .1, c .before .before .before .before .before .before .word .ensures .0)) _ (c .before .before .before .loop-test .taken) _ _ (c .before .before .word3 .ensures .0) (c .before .word4 .ensures .0)) ∙ c .before .before .before .before .loop .inv .2))
-
-returns : tie.Need-returns Inv-loop μ-loop
-returns c = (sym (print-end (c .before .before .before .before .before .args .example .now) _ (c .before .loop .i) (omega (arith, c .before .before .before .before .before .pre .1, c .before .before .before .word .ensures .0)) _ (omega (arith, c .loop-test .left))) ∙ c .before .loop .inv .2, c .before .loop .inv .1)
+returns : tie.Need-returns
+returns c =
+    let S = c .before .before .before .before .before .before in
+    let few = around-few (S .args .grammar .now) (S .args .productions) (S .pre .0) (S .args .labels .now) (S .pre .1) in
+    print-whole (productionsIn (S .args .grammar .now) (S .args .productions)) (labelsIn (S .args .labels .now)) _ _ _ _ (c .before .before .before .prefix-total .ensures) (omega (arith, few, c .before .before .before .prefix-total .ensures)) (c .before .before .print-prefixes .ensures .0) (c .before .print-middle .ensures .0) (c .print-suffixes .ensures .0)
 
 pub print-spec : {M : Type 1} → statement M
 print-spec =
     tie.close
     (tie.spec
-    Inv-loop
-    μ-loop
-    word-requires
-    word-requires-2
-    loop-holds
-    mul-word
-    add-word
-    word-requires-3
-    mul-word-2
-    add-word-2
-    add-word-3
-    word-requires-4
-    mix-requires
-    add-i
-    loop-less
-    loop-again
+    prefix-total-requires
+    print-prefixes-requires
+    print-middle-requires
+    print-suffixes-requires
     returns)

@@ -28,21 +28,18 @@ same-length c = search needs
 returns : tie.Need-returns
 returns c = (check-twice (looked (c .before .before .before .before .before)) (c .before .before .before .before .if1 .taken) (c .before .find .ensures) (c .if2 .taken), λ z. absurd (true≢false (sym z)))
 
-node-number-requires : tie.Need-node-number-requires
-node-number-requires c κs = check-small (looked (c .before .before .before .before .before .before)) (c .before .before .before .before .before .if1 .taken) .0 .target
-
 link-requires : tie.Need-link-requires
-link-requires c κs = let S = c .before .before .before .before .before .before .before .before .before .before .before .before .before in (S .pre .1 .0 .index .long, (S .pre .1 .1, (c .before .node-number .ensures .1, c .before .before .before .before .before .before .bucket-of .ensures .1)))
+link-requires c κs = let S = c .before .before .before .before .before .before .before .before .before .before .before in (S .pre .1 .0 .index .long, (S .pre .1 .1, c .before .before .before .before .bucket-of .ensures .1))
 
 same-length-2 : tie.Need-same-length-2
 same-length-2 c = search needs
 
 returns-2 : tie.Need-returns-2
 returns-2 c =
-    let L = looked (c .before .before .before .before .before .before .before .before .before .before .before) in
-    let y = c .before .before .before .before .before .before .before .before .before .before .if1 .taken in (
-      check-new L y (c .before .before .before .before .before .before .before .find .ensures) (c .before .before .before .before .before .before .if2 .left),
-      λ _. check-linked L y (c .before .before .before .before .before .before .before .find .ensures) (c .before .before .before .before .node-number .ensures .0) (c .before .before .before .before .before .before .before .before .before .bucket-of .ensures) (c .before .before .link .ensures),
+    let L = looked (c .before .before .before .before .before .before .before .before .before) in
+    let y = c .before .before .before .before .before .before .before .before .if1 .taken in (
+      check-new L y (c .before .before .before .before .before .find .ensures) (c .before .before .before .before .if2 .left),
+      λ _. check-linked L y (c .before .before .before .before .before .find .ensures) (c .before .before .before .before .before .before .before .bucket-of .ensures) (c .before .before .link .ensures),
     )
 
 returns-3 : tie.Need-returns-3
@@ -58,7 +55,6 @@ check-edge-spec =
     find-requires
     same-length
     returns
-    node-number-requires
     link-requires
     same-length-2
     returns-2

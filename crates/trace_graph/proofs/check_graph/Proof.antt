@@ -29,7 +29,7 @@ loop-holds : tie.Need-loop-holds Inv-loop μ-loop
 loop-holds c =
     let S = c .before .before .before .before .before in
     let A = S .args in
-    (checked-first (A .grammar .now) (A .productions) (A .n) (A .graph .now) (A .ix .now) (S .pre .0) (S .pre .1 .0 .0) (S .pre .1 .0 .1) (S .pre .1 .1), omega arith)
+    (checked-first (productionsIn (A .grammar .now) (A .productions)) (A .n) (A .graph .now) (A .ix .now) (S .pre .1 .0 .0) (S .pre .1 .0 .1) (S .pre .1 .1), omega arith)
 
 check-edge-requires : tie.Need-check-edge-requires Inv-loop μ-loop
 check-edge-requires c κs = (c .before .before .before .before .before .before .before .before .pre .0, (c .before .before .loop .inv .0 .good, omega (arith, c .before .loop-test .taken, c .before .before .before .if1 .left)))

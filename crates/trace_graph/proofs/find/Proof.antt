@@ -2,7 +2,7 @@
 use native.Mathlib.Omega.{arith}
 use Rattle.repr.specs.Packed.{productionsIn}
 use Rattle.trace_graph.specs.Graph.{sameEdge}
-use Rattle.trace_graph.specs.Index.{inBucket, bucketLinks}
+use Rattle.trace_graph.specs.Index.{inBucket, bucketLimit}
 use Rattle.trace_graph.specs.Values.{edgeIs}
 use Rattle.trace_graph.proofs.Index.{Turn}
 use Rattle.trace_graph.proofs.Finds.{Sought, find-first, find-low, find-fits, find-found, find-less, find-again, find-end}
@@ -10,7 +10,7 @@ use Rattle.trace_graph.proofs.find.Statement.{statement}
 use Rattle.trace_graph.proofs.find.Tie as tie
 
 abbrev Inv-loop : tie.InvT-loop
-Inv-loop grammar productions n graph ix k edge bucket next₀ next = Turn graph ix bucketLinks (inBucket (productionsIn grammar productions) graph bucket) (sameEdge (productionsIn grammar productions) (edgeIs edge)) k next
+Inv-loop grammar productions n graph ix k edge bucket next₀ next = Turn graph ix bucketLimit (inBucket (productionsIn grammar productions) graph bucket) (sameEdge (productionsIn grammar productions) (edgeIs edge)) k next
 
 abbrev μ-loop : tie.MeasureT-loop
 μ-loop grammar productions n graph ix k edge bucket next₀ next = next
@@ -18,9 +18,6 @@ abbrev μ-loop : tie.MeasureT-loop
 -- what the function is given
 sought : (S : tie.Start Inv-loop μ-loop) → Sought (S .args .grammar .now) (S .args .productions) (S .args .n) (S .args .graph .now) (S .args .ix .now) (S .args .k) (S .args .edge) (S .args .bucket)
 sought S = record { packed = S .pre .0; graph = S .pre .1 .0; fits = S .pre .1 .1 .0; bucket = S .pre .1 .1 .1 .0; low = S .pre .1 .1 .1 .1 }
-
-add-word : tie.Need-add-word Inv-loop μ-loop
-add-word c = omega (arith, c .before .before .before .pre .1 .1 .1 .1)
 
 word-requires : tie.Need-word-requires Inv-loop μ-loop
 word-requires c κs = omega (arith, c .before .before .before .pre .1 .0 .index .long, c .before .before .before .pre .1 .1 .1 .1)
@@ -45,8 +42,8 @@ returns c = find-found (sought (c .before .before .before .before .before .befor
 sub-word : tie.Need-sub-word Inv-loop μ-loop
 sub-word c = omega arith
 
-add-word-2 : tie.Need-add-word-2 Inv-loop μ-loop
-add-word-2 c = omega (arith, find-low (sought (c .before .before .before .before .before .before .before .before)) (c .before .before .before .loop .inv) (c .before .before .loop-test .taken))
+add-word : tie.Need-add-word Inv-loop μ-loop
+add-word c = omega (arith, find-low (sought (c .before .before .before .before .before .before .before .before)) (c .before .before .before .loop .inv) (c .before .before .loop-test .taken))
 
 word-requires-2 : tie.Need-word-requires-2 Inv-loop μ-loop
 word-requires-2 c κs = omega (arith, c .before .before .before .before .before .before .before .before .pre .1 .0 .index .long, find-low (sought (c .before .before .before .before .before .before .before .before)) (c .before .before .before .loop .inv) (c .before .before .loop-test .taken))
@@ -66,14 +63,13 @@ find-spec =
     (tie.spec
     Inv-loop
     μ-loop
-    add-word
     word-requires
     loop-holds
     sub-same-edge
     same-edge-requires
     returns
     sub-word
-    add-word-2
+    add-word
     word-requires-2
     loop-less
     loop-again

@@ -60,13 +60,10 @@ cast-graph c = search needs
 slice-write-graph : tie.Need-slice-write-graph
 slice-write-graph c = search needs
 
-node-number-requires : tie.Need-node-number-requires
-node-number-requires c κs = insert-small (adding (c .before .before .before .before .before .before .before)) .target
-
 link-requires : tie.Need-link-requires
 link-requires c κs =
-    let A = adding (c .before .before .before .before .before .before .before .before .before) in
-    (A .graph .index .long, (insert-low A (c .before .before .before .before .before .before .before .before .if1 .left) (c .before .before .before .before .before .before .before .if2 .left), (c .before .node-number .ensures .1, c .before .before .before .before .before .before .before .before .before .before .before .before .bucket-of .ensures .1)))
+    let A = adding (c .before .before .before .before .before .before .before) in
+    (A .graph .index .long, (insert-low A (c .before .before .before .before .before .before .if1 .left) (c .before .before .before .before .before .if2 .left), c .before .before .before .before .before .before .before .before .before .before .bucket-of .ensures .1))
 
 same-length-5 : tie.Need-same-length-5
 same-length-5 c = search needs
@@ -76,7 +73,7 @@ same-length-6 c = search needs
 
 returns-3 : tie.Need-returns-3
 returns-3 c = (
-  λ _. insert-more (adding (c .before .before .before .before .before .before .before .before .before .before .before .before)) (c .before .before .before .before .before .before .before .before .before .before .before .if1 .left) (c .before .before .before .before .before .before .before .before .before .before .if2 .left) (ap (λ (l : List ℕ). set l 0 (c .before .before .before .before .before .before .before .before .before .before .before .before .before .before .before .before .word .result + 1)) (c .before .before .before .before .before .before .before .before .write-edge .ensures)) (c .before .before .before .before .node-number .ensures .0) (c .before .before .before .before .before .before .before .before .before .before .before .before .before .before .before .bucket-of .ensures) (c .before .before .link .ensures),
+  λ _. insert-more (adding (c .before .before .before .before .before .before .before .before .before .before)) (c .before .before .before .before .before .before .before .before .before .if1 .left) (c .before .before .before .before .before .before .before .before .if2 .left) (ap (λ (l : List ℕ). set l 0 (c .before .before .before .before .before .before .before .before .before .before .before .before .before .before .word .result + 1)) (c .before .before .before .before .before .before .write-edge .ensures)) (c .before .before .before .before .before .before .before .before .before .before .before .before .before .bucket-of .ensures) (c .before .before .link .ensures),
   λ z. let q : _≡_ {A = ℕ} 0 1 = cc in absurd (omega arith),
 )
 
@@ -97,7 +94,6 @@ insert-spec =
     add-graph
     cast-graph
     slice-write-graph
-    node-number-requires
     link-requires
     same-length-5
     same-length-6

@@ -1,31 +1,58 @@
--- `link` meets its contract: one chain, then the other. Assumes nothing.
+-- `link` meets its contract, by computation. Assumes nothing.
 use native.Mathlib.Omega.{arith}
 use borrow.Author.Needs.{needs}
-use mathlib.Core.Path.{ap, _∙_}
-use mathlib.Core.List.{List}
-use Prim.Native.Nat.{ℕ, _+_}
-use Rattle.trace_graph.specs.Insert.{chained, linkedAt}
+use mathlib.Core.Path.{refl}
+use lib.ListN.{length-set}
+use Rattle.trace_graph.specs.Insert.{chained}
 use Rattle.trace_graph.proofs.link.Statement.{statement}
 use Rattle.trace_graph.proofs.link.Tie as tie
-use Rattle.trace_graph.specs.Index.{bucketHeads, bucketLinks}
 
-chain-requires : tie.Need-chain-requires
-chain-requires c κs = search needs
+mul-older : tie.Need-mul-older
+mul-older c = search needs
 
-add-chain : tie.Need-add-chain
-add-chain c = search needs
+slice-read-older : tie.Need-slice-read-older
+slice-read-older c = search needs
 
-chain-requires-2 : tie.Need-chain-requires-2
-chain-requires-2 c κs = search needs
+add-ix : tie.Need-add-ix
+add-ix c = search needs
+
+mul-ix : tie.Need-mul-ix
+mul-ix c = search needs
+
+slice-write-ix : tie.Need-slice-write-ix
+slice-write-ix c = search needs
+
+add-ix-2 : tie.Need-add-ix-2
+add-ix-2 c = search needs
+
+cast-ix : tie.Need-cast-ix
+cast-ix c = search needs
+
+mul-ix-2 : tie.Need-mul-ix-2
+mul-ix-2 c = search needs
+
+slice-write-ix-2 : tie.Need-slice-write-ix-2
+slice-write-ix-2 c = simp length-set (omega arith)
 
 same-length : tie.Need-same-length
 same-length c = search needs
 
 returns : tie.Need-returns
-unfolding linkedAt
-returns c =
-    c .before .before .chain2 .ensures
-    ∙ ap (λ (l : List ℕ). chained l bucketLinks (bucketHeads + c .before .before .before .before .before .before .before .before .before .args .bucket) (c .before .before .before .before .before .before .before .before .before .args .k)) (c .before .before .before .before .before .before .chain .ensures)
+unfolding chained
+returns c = refl
 
 pub link-spec : {M : Type 1} → statement M
-link-spec = tie.close (tie.spec chain-requires add-chain chain-requires-2 same-length returns)
+link-spec =
+    tie.close
+    (tie.spec
+    mul-older
+    slice-read-older
+    add-ix
+    mul-ix
+    slice-write-ix
+    add-ix-2
+    cast-ix
+    mul-ix-2
+    slice-write-ix-2
+    same-length
+    returns)

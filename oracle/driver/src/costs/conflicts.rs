@@ -1,9 +1,11 @@
 //! Classifying and choosing.
 
 use super::*;
+use crate::builds;
 use crate::port::Class;
 use crate::question::Question;
 use crate::side::members;
+use crate::states;
 use crate::table::table_b;
 use lalrpop::lr1::error::oracle::Judged;
 
@@ -141,6 +143,34 @@ fn judged_in(name: &str, kind: &str, seed: u64) {
     }
 }
 
+/// Automata of 60 to 128 states with conflicts, which the plain reader of
+/// request 01 builds of random grammars: the first twelve, each by all its
+/// conflicts that are not refused.
+fn judged_automata() {
+    let built = (0u64..).filter_map(|seed| {
+        let (table, start) = builds::fresh_start(seed);
+        let words = table.encode(true, || 0).unwrap();
+        let built = states::build(&words, start, builds::ROOM).ok()?;
+        let fits = built.table.states.len() >= 60 && !built.conflicts.is_empty();
+        fits.then(|| (built.records.concat(), built))
+    });
+    let mut lent = Lent::new();
+    for (words, built) in built.take(12) {
+        let held = held(&words);
+        let made = making(&words, few);
+        let mut means = Means::default();
+        for &conflict in &built.conflicts {
+            let asked = Asked::Classify(conflict);
+            let (port, (refusal, ..)) = asked.port_time(&words, &mut lent, few);
+            if refusal == 0 {
+                means.add(asked.rust_time(&held, few), made, port);
+            }
+        }
+        let states = built.table.states.len();
+        means.row(&format!("classifications of an automaton of {states} states"));
+    }
+}
+
 pub fn costs() {
     beside("conflict");
     let b = table_b();
@@ -155,6 +185,7 @@ pub fn costs() {
     for kind in ["classic", "random", "wide"] {
         judged_of(kind);
     }
+    judged_automata();
     for (name, seed) in [
         ("1,024 edges", 0),
         ("1,025 edges", 7),

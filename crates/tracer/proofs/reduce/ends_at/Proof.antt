@@ -1,27 +1,21 @@
 -- `ends_at` reads the flag of an item. Assumes nothing.
-use Rattle.tracer.proofs.ReduceSteps.{flag-is}
+use mathlib.Core.Path.{_∙_}
 use native.Mathlib.Omega.{arith}
 use borrow.Author.Needs.{needs}
 use Rattle.tracer.proofs.reduce.ends_at.Statement.{statement}
 use Rattle.tracer.proofs.reduce.ends_at.Tie as tie
-use Rattle.tracer.proofs.reduce.ends_at.Reads as reads
-use Rattle.tracer.proofs.reduce.ends_at.Lts as lts
 
--- src/lib.rt:112:10
-mul-result : tie.Need-mul-result
-mul-result c = search needs
+mul-is-set : tie.Need-mul-is-set
+mul-is-set c = search needs
 
--- src/lib.rt:112:10
-add-result : tie.Need-add-result
-add-result c = search needs
+add-is-set : tie.Need-add-is-set
+add-is-set c = search needs
 
--- src/lib.rt:112:5
-shared-slice-read-result : tie.Need-shared-slice-read-result
-shared-slice-read-result c = search needs
+is-set-requires : tie.Need-is-set-requires
+is-set-requires c κs = omega (arith, c .before .pre)
 
--- src/lib.rt:108:1
 returns : tie.Need-returns
-returns c = let S = c .before in λ T E h. flag-is T (S .args .ends .now) (record { production = S .args .production; index = S .args .index }) E h
+returns c = λ T E h. c .is-set .ensures ∙ E .exact (record { production = c .before .before .args .production; index = c .before .before .args .index }) h
 
 pub ends-at-spec : {M : Type 1} → statement M
-ends-at-spec = tie.close (tie.spec mul-result add-result shared-slice-read-result returns)
+ends-at-spec = tie.close (tie.spec mul-is-set add-is-set is-set-requires returns)

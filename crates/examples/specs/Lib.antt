@@ -1,0 +1,4 @@
+pub mod Reads
+pub mod Listing
+pub mod Again
+pub mod Gathers

@@ -1,2 +1,0 @@
-pub mod Order
-pub mod Labels
