@@ -8,7 +8,7 @@ use native.Mathlib.Omega.{arith}
 use lib.ListN.{length}
 use lib.Dec.{leb}
 use borrow.Author.Tests.{le-leb, lt-leb}
-use Rattle.repr.specs.Sizes.{scratchWords, classifyScratch, exampleRoom}
+use Rattle.repr.specs.Sizes.{exampleRoom}
 use Rattle.repr.specs.Meaning.{Table}
 use Rattle.repr.proofs.Lists.{cases}
 use Rattle.slices.specs.Lent.{zeroed}
@@ -23,7 +23,7 @@ use Rattle.error.specs.Numbers.{refused}
 use Rattle.error.specs.Sides.{Gathered, sides, halted, gather}
 use Rattle.error.specs.Outcome.{outcome, conflictFits, shiftsEnd, judgedWith, gatheredWith, classifyInWith, classifyByWith, classifyWith}
 use Rattle.error.specs.Choose.{refused as notChosen, outcome as choosing, Entries, entries, halts, classesOf, choiceOf, setFits, setShiftsEnd, chooseInWith, chooseByWith, chooseWith}
-use Rattle.error.specs.Fewer.{keeps, choiceKeeps, left, SameClass, SameChoice, SameWords}
+use Rattle.error.specs.Fewer.{keeps, choiceKeeps, left, SameClass, SameChoice, SameWords, EightThousand}
 use Rattle.error.proofs.Late.{LateHalt, LateHalts, gather-late, classes-late}
 
 module _ {W W′ : ℕ} {s s′ : List ℕ} where
@@ -90,5 +90,7 @@ unfolding classifyWith chooseWith
 fewer-words t c W W′ s s′ l l′ = record { classes = λ action reduce. class-by l l′ t c action reduce (checkOf t) refl; choices = λ set. choice-by l l′ t c set (checkOf t) refl }
 
 -- request 06: what `classifyOf` and `chooseOf` answer with 8,000 words is what document 01's definitions answer with 32,000
-pub eight-thousand : (t : List ℕ) (c : Conflict) (s s′ : List ℕ) → classifyScratch ≤ length s → scratchWords ≤ length s′ → SameWords t c classifyScratch scratchWords s s′
-eight-thousand t c s s′ = fewer-words t c classifyScratch scratchWords s s′
+pub eight-thousand : (t : List ℕ) (c : Conflict) (s s′ : List ℕ) → 8000 ≤ length s → 32000 ≤ length s′ → EightThousand t c s s′
+eight-thousand t c s s′ l l′ =
+    let same = fewer-words t c 8000 32000 s s′ l l′ in
+    record { classes = same .classes; choices = same .choices }

@@ -8,8 +8,8 @@ use lib.Dec.{leb}
 use Rattle.slices.specs.Lent.{zeroed}
 use Rattle.error.specs.declared.Conflict.{Conflict}
 use Rattle.error.specs.Numbers.{Reading, classed, refused}
-use Rattle.error.specs.Outcome.{Outcome, outcome, classifyWith}
-use Rattle.error.specs.Choose.{Choice, chosen, refused as notChosen, Outcome as ChoiceOutcome, outcome as choosing, chooseWith}
+use Rattle.error.specs.Outcome.{Outcome, outcome, classifyWith, classifyOf}
+use Rattle.error.specs.Choose.{Choice, chosen, refused as notChosen, Outcome as ChoiceOutcome, outcome as choosing, chooseWith, chooseOf}
 
 -- refusals 1 to 11 leave the scratch as it was
 unfoldable pub keeps : Reading → Bool
@@ -43,3 +43,8 @@ pub record SameChoice (W W′ : ℕ) (s s′ : List ℕ) (o o′ : ChoiceOutcome
 pub record SameWords (t : List ℕ) (c : Conflict) (W W′ : ℕ) (s s′ : List ℕ) : Type 0 where
   pub classes : (action reduce : List ℕ) → SameClass W W′ s s′ (classifyWith W t c s action reduce) (classifyWith W′ t c s′ action reduce)
   pub choices : (set : ℕ) → SameChoice W W′ s s′ (chooseWith W t c set s) (chooseWith W′ t c set s′)
+
+-- request 06: what is proved of `classify` and `choose`, over 8,000 words, beside document 01's over 32,000
+pub record EightThousand (t : List ℕ) (c : Conflict) (s s′ : List ℕ) : Type 0 where
+  pub classes : (action reduce : List ℕ) → SameClass 8000 32000 s s′ (classifyOf t c s action reduce) (classifyWith 32000 t c s′ action reduce)
+  pub choices : (set : ℕ) → SameChoice 8000 32000 s s′ (chooseOf t c set s) (chooseWith 32000 t c set s′)
