@@ -5,7 +5,7 @@ use mathlib.Core.Path.{_≡_, refl, sym, ap, _∙_}
 use mathlib.Core.Bool.{Bool, true, false}
 use mathlib.Core.Option.{Option}
 use mathlib.Core.List.{List, [], _++_}
-use lib.ListN.{length, take, drop, replicate, length-drop}
+use lib.ListN.{length, take, drop, length-drop}
 use lib.Seq.{take-all}
 use lib.Dec.{eqb}
 use Rattle.repr.specs.Sizes.{edgeLimit, exampleLimit, indexLimit}
@@ -14,7 +14,6 @@ use Rattle.repr.specs.Packed.{productionsIn}
 use Rattle.slices.specs.Lent.{inFront}
 use Rattle.table.specs.Decoded.{meaning}
 use Rattle.table.specs.declared.Counts.{Counts}
-use Rattle.table.proofs.Decoding.{fits}
 use Rattle.trace_graph.specs.Graph.{TraceEdge}
 use Rattle.trace_graph.specs.Fits.{itemFits}
 use Rattle.trace.specs.Shifting.{itemOf}
@@ -25,7 +24,7 @@ use Rattle.example.specs.Example.{exampleWords}
 use Rattle.enumerator.specs.Lister.{labelsOf}
 use Rattle.enumerator.specs.Advance.{setOf}
 use Rattle.enumerator.specs.declared.Lookahead.the-variants.{Any}
-use Rattle.view.specs.Trial.{trialRoom, trialWords}
+use Rattle.view.specs.Trial.{trialWords}
 use Rattle.search.specs.Given.{Tried}
 use Rattle.error.specs.declared.Conflict.{Conflict}
 use Rattle.error.specs.Sides.{Side, listingSide, reduceSide}

@@ -21,7 +21,7 @@ use Rattle.error.specs.Sides.{Side, gathered, stopped}
 use Rattle.error.specs.Judge.{Example}
 use Rattle.outline.specs.Kept.{nth}
 use Rattle.examples.specs.Listing.{more, nextExample, listedBy}
-use Rattle.examples.specs.Again.{Listed, Holds, Finds}
+use Rattle.examples.specs.Again.{Finds}
 use Rattle.examples.proofs.Walking.{next-room, next-none}
 use Rattle.examples.proofs.Walks.{restSide, rest-first}
 

@@ -1,8 +1,8 @@
 -- A listing trial by trial (specs/Listing) is the listing of error/specs/Sides, and what the answers of a search say of it. Assumes nothing.
 use mathlib.Core.Path.{_≡_, refl, sym, ap, _∙_}
 use mathlib.Core.Bool.{Bool, true, false}
-use mathlib.Core.List.{List, [], _∷_, _++_, map}
-use Prim.Native.Nat.{ℕ, zero, suc, _+_, _-_, _≤_, _<_}
+use mathlib.Core.List.{List, [], _∷_, map}
+use Prim.Native.Nat.{ℕ, zero, suc, _+_, _≤_, _<_}
 use native.Mathlib.Omega.{arith}
 use lib.ListN.{length, take, drop}
 use lib.Dec.{ltb}
@@ -12,11 +12,11 @@ use Rattle.repr.specs.Lists.{keep}
 use Rattle.repr.proofs.Lists.{cases, keep-nil, keep-yes, keep-no}
 use Rattle.example.specs.Example.{Label}
 use Rattle.enumerator.specs.Trials.{Path}
-use Rattle.enumerator.specs.Lister.{Found, hit, out, over, search}
+use Rattle.enumerator.specs.Lister.{hit, out, over, search}
 use Rattle.enumerator.proofs.Search.{search-hit, search-on}
 use Rattle.enumerator.proofs.After.{drop-tail}
 use Rattle.error.specs.Sides.{Side, gathered, stopped}
-use Rattle.examples.specs.Listing.{more, onto, nextExample, walkSide}
+use Rattle.examples.specs.Listing.{more, nextExample, walkSide}
 
 -- an example more, with room and without
 pub next-room : (k : ℕ) (x : List Label) (s : Side) → k < exampleLimit → nextExample k x s ≡ more x s

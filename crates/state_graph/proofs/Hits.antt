@@ -2,24 +2,17 @@
 use mathlib.Core.Path.{_≡_, refl, sym, ap, _∙_}
 use mathlib.Core.Bool.{Bool, true, false, _&&_, _||_, and-false, and-true, or-false}
 use mathlib.Core.List.{List, []}
-use Prim.Native.Nat.{ℕ, zero, suc, _+_, _-_, _*_, _/_, _%_, _^_, _≤_, _<_}
+use Prim.Native.Nat.{ℕ, zero, suc, _+_, _-_, _/_, _^_, _≤_, _<_}
 use native.Mathlib.Omega.{arith}
-use native.Mathlib.Nat.{div-add-mod'}
-use lib.Bits.{bitAnd, bitOr}
 use lib.Dec.{eqb, ltb}
-use lib.ListN.{length, getD, set, drop, replicate, length-set, length-replicate}
-use lib.Seq.{getD-set-same, getD-set-other}
+use lib.ListN.{length, replicate, length-replicate}
 use borrow.Author.Tests.{eqb-true, eqb-false, eq-eqb, ne-eqb, ltb-true, ltb-false, lt-ltb, le-ltb}
-use Rattle.repr.specs.Lists.{mem, some?}
+use Rattle.repr.specs.Lists.{some?}
 use Rattle.repr.specs.Meaning.{Symbol, sameSymbol, Edge, Table, TableFits, stateAt}
-use Rattle.repr.specs.Listed.{symbolOfKind, symbolFits, listed, listFits}
-use Rattle.repr.proofs.Lists.{cases, clash}
-use Rattle.repr.proofs.Listed.{symbol-range, listed-none, listed-step}
-use Rattle.repr.proofs.Parts.{length-listed}
+use Rattle.repr.specs.Listed.{symbolOfKind, symbolFits}
+use Rattle.repr.proofs.Lists.{cases}
+use Rattle.repr.proofs.Listed.{symbol-range}
 use Rattle.repr.proofs.Tests.{some?-nil, some?-cons}
-use Rattle.lookahead.specs.Tokens.{has, single, union}
-use Rattle.lookahead.proofs.Laws.{has-none, has-union, has-single}
-use Rattle.lookahead.proofs.Words.{contained, shifted}
 use Rattle.table.specs.Words.{wordAt, records, loose, looseRecords}
 use Rattle.table.specs.Decoded.{meaning, edgesFrom}
 use Rattle.table.specs.Refusals.{checkOf, asEdge}
@@ -29,8 +22,8 @@ use Rattle.table.proofs.Accepted.{accepts, areas-of}
 use Rattle.table.proofs.Held.{edge-inside}
 use Rattle.table.proofs.Indexes.{edge-read}
 use Rattle.state_graph.specs.States.{hasState, statesIn}
-use Rattle.state_graph.specs.Walk.{leads, predecessors, walkBack}
-use Rattle.state_graph.proofs.Exact.{leads-outside, walk-nil, walk-cons}
+use Rattle.state_graph.specs.Walk.{leads, predecessors}
+use Rattle.state_graph.proofs.Exact.{leads-outside}
 use Rattle.state_graph.proofs.States.{mem-states-word}
 use Rattle.table.proofs.Chains.{chain-end}
 use Rattle.state_graph.proofs.Steps.{stepped}
@@ -39,10 +32,10 @@ use Rattle.bits.proofs.Laws.{put-length, put-here, put-other, zeros-none}
 use Rattle.state_graph.specs.Hits.{hitWords, endsIn, hitNow, meets, Hits}
 
 -- an edge index that is not 0 is a record of the table
-index-inside : (t : List ℕ) (r : ℕ) → (r ≡ 0 → ⊥) → EdgeIndex t r → r < records t
+pub index-inside : (t : List ℕ) (r : ℕ) → (r ≡ 0 → ⊥) → EdgeIndex t r → r < records t
 index-inside t r ne i = edge-inside t r (i .reached ne) .1
 
-edges-none : (t : List ℕ) → edgesFrom t 0 ≡ []
+pub edges-none : (t : List ℕ) → edgesFrom t 0 ≡ []
 unfolding edgesFrom
 edges-none t = rw (chain-end t (looseRecords t) 0)
 
@@ -105,6 +98,20 @@ meets-is n m k x l h j y z hh f g =
     three true b c = refl
     three false b c = refl
 
+-- an edge of a chain and those after it
+module _ (t : List ℕ) (ok : checkOf t ≡ Accepted) (k x l h : ℕ) (f : symbolFits (length (meaning t .nonterminals)) (meaning t .terminals) k x ≡ true) (hh : h < 2 ^ 64) (r : ℕ) (ne : r ≡ 0 → ⊥) (I : EdgeIndex t r) where
+  pub record-read : EdgeRead t r (wordAt t r 0) (wordAt t r 1) (wordAt t r 2) (wordAt t r 3)
+  record-read = edge-read t (accepts t ok) r (wordAt t r 0) (wordAt t r 1) (wordAt t r 2) (wordAt t r 3) ne I refl refl refl refl
+
+  pub edges-say : some? (meets (symbolOfKind k x) (statesIn l h)) (edgesFrom t r) ≡ (endsIn t k x l h r || some? (meets (symbolOfKind k x) (statesIn l h)) (edgesFrom t (wordAt t r 0)))
+  unfolding endsIn
+  edges-say =
+      let R = record-read in
+      let e : Edge = record { symbol = symbolOfKind (wordAt t r 1) (wordAt t r 2); target = wordAt t r 3 } in
+      let own = meets-is (length (meaning t .nonterminals)) (meaning t .terminals) k x l h (wordAt t r 1) (wordAt t r 2) (wordAt t r 3) hh f (R .symbol) in
+      ap (some? (meets (symbolOfKind k x) (statesIn l h))) (R .list) ∙ some?-cons (meets (symbolOfKind k x) (statesIn l h)) e (edgesFrom t (wordAt t r 0))
+      ∙ ap (λ (b : Bool). b || some? (meets (symbolOfKind k x) (statesIn l h)) (edgesFrom t (wordAt t r 0))) (sym own)
+
 -- the pass so far, down to record r: below r nothing is hit, from r on the edges are exact
 pub record Sweeping (t : List ℕ) (k x l h : ℕ) (hs : List ℕ) (r : ℕ) : Type 0 where
   pub long : length hs ≡ hitWords
@@ -124,18 +131,14 @@ module _ (t : List ℕ) (ok : checkOf t ≡ Accepted) (k x l h : ℕ) where
   module _ (f : symbolFits (length (meaning t .nonterminals)) (meaning t .terminals) k x ≡ true) (hh : h < 2 ^ 64) (hs : List ℕ) (r : ℕ) (S : Sweeping t k x l h hs r) (p : 0 < r) where
     -- the record before, if it is an edge: what it and what follows it say
     now-exact : asEdge t (r - 1) ≡ true → hitNow t hs k x l h (r - 1) ≡ some? (meets (symbolOfKind k x) (statesIn l h)) (edgesFrom t (r - 1))
-    unfolding hitNow endsIn
+    unfolding hitNow
     now-exact a =
         let i = edge-inside t (r - 1) a in
         let few = accepts t ok .few-records in
         let w = S .within in
         let ne : r - 1 ≡ 0 → ⊥ = λ z. loose-zero (r - 1) (i .0) z in
-        let R : EdgeRead t (r - 1) (wordAt t (r - 1) 0) (wordAt t (r - 1) 1) (wordAt t (r - 1) 2) (wordAt t (r - 1) 3) =
-        edge-read t (accepts t ok) (r - 1) (wordAt t (r - 1) 0) (wordAt t (r - 1) 1) (wordAt t (r - 1) 2) (wordAt t (r - 1) 3) ne (record { below = omega arith; reached = λ _. a }) refl refl refl refl in
-        let e : Edge = record { symbol = symbolOfKind (wordAt t (r - 1) 1) (wordAt t (r - 1) 2); target = wordAt t (r - 1) 3 } in
-        let own = meets-is (length (meaning t .nonterminals)) (meaning t .terminals) k x l h (wordAt t (r - 1) 1) (wordAt t (r - 1) 2) (wordAt t (r - 1) 3) hh f (R .symbol) in
-        rw (own, R .list, some?-cons (meets (symbolOfKind k x) (statesIn l h)) e (edgesFrom t (wordAt t (r - 1) 0)))
-        (ap (λ (b : Bool). meets (symbolOfKind k x) (statesIn l h) e || b) (rest R))
+        let I : EdgeIndex t (r - 1) = record { below = omega arith; reached = λ _. a } in
+        ap (λ (b : Bool). endsIn t k x l h (r - 1) || b) (rest (record-read t ok k x l h f hh (r - 1) ne I)) ∙ sym (edges-say t ok k x l h f hh (r - 1) ne I)
       where
         loose-zero : (j : ℕ) → loose t ≤ j → j ≡ 0 → ⊥
         loose-zero j i z = let A = areas-of t in omega (arith, A .loose-area)
@@ -213,21 +216,18 @@ module _ (t : List ℕ) (ok : checkOf t ≡ Accepted) (k x l h : ℕ) where
     stays : (v : Bool) → v ≡ false → (p : ℕ) → p < 128 → hasState a b p ≡ (hasState a b p || (eqb p s && v))
     stays v e p lp = rw (e, and-false (eqb p s)) (sym (or-false (hasState a b p)))
 
-    pub finding-none : (head : ℕ) → edgesFrom t head ≡ stateAt (meaning t) s .edges → head ≡ 0 → Finding t k x l h a b (s + 1)
-    finding-none head e z =
-        more a b false
-        (sym (leads-meets (meaning t) (symbolOfKind k x) (statesIn l h) s ∙ rw (← e, z, edges-none t) (some?-nil (meets (symbolOfKind k x) (statesIn l h)))))
-        (stays false refl)
+    module _ (head : ℕ) (e : edgesFrom t head ≡ stateAt (meaning t) s .edges) where
+      head-leads : some? (meets (symbolOfKind k x) (statesIn l h)) (edgesFrom t head) ≡ leads (meaning t) (symbolOfKind k x) (statesIn l h) s
+      head-leads = ap (some? (meets (symbolOfKind k x) (statesIn l h))) e ∙ sym (leads-meets (meaning t) (symbolOfKind k x) (statesIn l h) s)
 
-    module _ (hs : List ℕ) (H : Hits t k x l h hs) (head : ℕ) (e : edgesFrom t head ≡ stateAt (meaning t) s .edges) (ne : head ≡ 0 → ⊥) (I : EdgeIndex t head) where
-      head-hit : bitAt hs head ≡ leads (meaning t) (symbolOfKind k x) (statesIn l h) s
-      head-hit = H .exact head (I .reached ne) ∙ ap (some? (meets (symbolOfKind k x) (statesIn l h))) e ∙ sym (leads-meets (meaning t) (symbolOfKind k x) (statesIn l h) s)
+      pub finding-miss : some? (meets (symbolOfKind k x) (statesIn l h)) (edgesFrom t head) ≡ false → Finding t k x l h a b (s + 1)
+      finding-miss m = more a b false (sym m ∙ head-leads) (stays false refl)
 
-      pub finding-miss : bitAt hs head ≡ false → Finding t k x l h a b (s + 1)
-      finding-miss m = more a b false (sym m ∙ head-hit) (stays false refl)
+      pub finding-none : head ≡ 0 → Finding t k x l h a b (s + 1)
+      finding-none z = finding-miss (rw (z, edges-none t) (some?-nil (meets (symbolOfKind k x) (statesIn l h))))
 
-      pub finding-hit : bitAt hs head ≡ true → (c d : ℕ) → ((p : ℕ) → hasState c d p ≡ (hasState a b p || (ltb p 128 && eqb p s))) → Finding t k x l h c d (s + 1)
-      finding-hit m c d f = more c d true (sym m ∙ head-hit) (λ p lp. f p ∙ rw (lt-ltb p 128 lp) (ap (λ (y : Bool). hasState a b p || y) (sym (and-true (eqb p s)))))
+      pub finding-hit : some? (meets (symbolOfKind k x) (statesIn l h)) (edgesFrom t head) ≡ true → (c d : ℕ) → ((p : ℕ) → hasState c d p ≡ (hasState a b p || (ltb p 128 && eqb p s))) → Finding t k x l h c d (s + 1)
+      finding-hit m c d f = more c d true (sym m ∙ head-leads) (λ p lp. f p ∙ rw (lt-ltb p 128 lp) (ap (λ (y : Bool). hasState a b p || y) (sym (and-true (eqb p s)))))
 
   pub finding-done : TableFits (meaning t) → (a b s : ℕ) → Finding t k x l h a b s → s ≡ length (meaning t .states) → statesIn a b ≡ predecessors (meaning t) (symbolOfKind k x) (statesIn l h)
   finding-done fits a b s F e =

@@ -19,7 +19,7 @@ use Rattle.table.specs.Quads.{putQuad}
 use Rattle.table.proofs.Quads.{put-long, put-other, put-0, put-1, put-2, put-3}
 use Rattle.state_graph.specs.Walk.{leads, predecessors, walkBack, traceBack}
 use Rattle.state_graph.specs.States.{hasState, statesIn}
-use Rattle.state_graph.specs.Remembered.{stepRow, stepPlaces, symbolPlace, stepWords, setAt, Remembered}
+use Rattle.state_graph.specs.Remembered.{stepRow, stepRows, stepPlaces, symbolPlace, stepWords, setAt, Remembered}
 use Rattle.state_graph.proofs.Exact.{leads-outside, walk-nil, walk-cons}
 use Rattle.state_graph.proofs.States.{states-one, range-two}
 
@@ -71,6 +71,9 @@ module _ (T : Table) (ws : List ℕ) (f : listFits (length (T .nonterminals)) (T
     pub walking-at : (2 * (i - 1) + 1 < length ws) × (symbolFits (length (T .nonterminals)) (T .terminals) (getD ws (2 * (i - 1)) 0) (getD ws (2 * (i - 1) + 1) 0) ≡ true)
     walking-at = let o = W .on in fits-at (length (T .nonterminals)) (T .terminals) ws f (i - 1) (omega arith)
 
+    pub walking-symbol : (k x : ℕ) → k ≡ getD ws (2 * (i - 1)) 0 → x ≡ getD ws (2 * (i - 1) + 1) 0 → symbolFits (length (T .nonterminals)) (T .terminals) k x ≡ true
+    walking-symbol k x ek ex = rw (ek, ex) (walking-at .1)
+
     pub walking-more : (k x m j : ℕ) → k ≡ getD ws (2 * (i - 1)) 0 → x ≡ getD ws (2 * (i - 1) + 1) 0 → statesIn m j ≡ predecessors T (symbolOfKind k x) (statesIn l h) → Walking T ws l₀ h₀ m j (i - 1)
     walking-more k x m j ek ex found =
         let o = W .on in
@@ -92,26 +95,15 @@ traced T F s i a b l h xs f e =
     let few = F .few-states in
     e ∙ ap (λ (ss : List ℕ). walkBack T ss xs) (states-one a b s (omega arith) f)
 
--- what is remembered
-
-pub none-remembered : (T : Table) → Remembered T (replicate stepWords 0)
-none-remembered T = record {
-  long = length-replicate {A = ℕ} stepWords 0;
-  exact = λ p k x i f e. let z = getD-none stepWords (symbolPlace p) in absurd (omega (arith, z, e));
-}
-
-module _ (T : Table) (F : TableFits T) (ws : List ℕ) (R : Remembered T ws) (k x : ℕ) (f : symbolFits (length (T .nonterminals)) (T .terminals) k x ≡ true) where
-  pub row-inside : stepRow k x < stepPlaces
+-- rows of symbols
+module _ (T : Table) (F : TableFits T) (k x : ℕ) (f : symbolFits (length (T .nonterminals)) (T .terminals) k x ≡ true) where
+  pub row-inside : stepRow k x < stepRows
   row-inside = let r = symbol-range (length (T .nonterminals)) (T .terminals) k x f in let a = F .few-nonterminals in let b = F .few-terminals in go k r a b
     where
       go : (k : ℕ) → (k < 2) × ((k ≡ 0 → x < length (T .nonterminals)) × ((k ≡ 0 → ⊥) → x < T .terminals)) → length (T .nonterminals) ≤ 32 → T .terminals ≤ 63 → k * 32 + x < 95
       go zero r a b = let i = r .1 .0 refl in omega arith
       go (suc zero) r a b = let i = r .1 .1 (λ z. omega arith) in omega arith
       go (suc (suc j)) r a b = absurd (omega (arith, r .0))
-
-  pub recalled : (p : ℕ) → p < stepPlaces → getD ws (symbolPlace p) 0 ≡ stepRow k x + 1 → (l h a b : ℕ) → getD ws (p * 4) 0 ≡ l → getD ws (p * 4 + 1) 0 ≡ h → a ≡ getD ws (p * 4 + 2) 0 → b ≡ getD ws (p * 4 + 2 + 1) 0
-      → statesIn a b ≡ predecessors T (symbolOfKind k x) (statesIn l h)
-  recalled p i es l h a b el eh ea eb = rw (ea, eb, ← el, ← eh) (R .exact p k x i f es)
 
   -- another symbol has another row
   same-row : (j y : ℕ) → symbolFits (length (T .nonterminals)) (T .terminals) j y ≡ true → stepRow j y ≡ stepRow k x → (j ≡ k) × (y ≡ x)
@@ -126,6 +118,36 @@ module _ (T : Table) (F : TableFits T) (ws : List ℕ) (R : Remembered T ws) (k 
       go zero (suc j) r s a e = let i = r .1 .0 refl in absurd (omega arith)
       go (suc k) zero r s a e = let i = s .1 .0 refl in absurd (omega arith)
       go (suc k) (suc j) r s a e = let p = r .0 in let q = s .0 in (omega arith, omega arith)
+
+-- the last step alone, by its row
+
+pub record LastStep (T : Table) (row l h a b : ℕ) : Type 0 where
+  pub exact : (k x : ℕ) → symbolFits (length (T .nonterminals)) (T .terminals) k x ≡ true → stepRow k x ≡ row → statesIn a b ≡ predecessors T (symbolOfKind k x) (statesIn l h)
+
+module _ (T : Table) (F : TableFits T) where
+  pub no-step : (l h a b : ℕ) → LastStep T stepRows l h a b
+  no-step l h a b = record { exact = λ k x f e. let i = row-inside T F k x f in absurd (omega (arith, i, e)) }
+
+  pub step-made : (k x : ℕ) → symbolFits (length (T .nonterminals)) (T .terminals) k x ≡ true → (l h a b : ℕ) → statesIn a b ≡ predecessors T (symbolOfKind k x) (statesIn l h) → LastStep T (stepRow k x) l h a b
+  step-made k x f l h a b found = record { exact = λ j y g e. let r = same-row T F k x f j y g e in rw (r .0, r .1) found }
+
+-- over again it leads from the set to itself
+pub step-again : (T : Table) (row l h a b : ℕ) → LastStep T row l h a b → (k x : ℕ) → symbolFits (length (T .nonterminals)) (T .terminals) k x ≡ true → stepRow k x ≡ row → a ≡ l → b ≡ h
+    → statesIn a b ≡ predecessors T (symbolOfKind k x) (statesIn a b)
+step-again T row l h a b L k x f e el eh = L .exact k x f e ∙ rw (el, eh)
+
+-- what is remembered
+
+pub none-remembered : (T : Table) → Remembered T (replicate stepWords 0)
+none-remembered T = record {
+  long = length-replicate {A = ℕ} stepWords 0;
+  exact = λ p k x i f e. let z = getD-none stepWords (symbolPlace p) in absurd (omega (arith, z, e));
+}
+
+module _ (T : Table) (F : TableFits T) (ws : List ℕ) (R : Remembered T ws) (k x : ℕ) (f : symbolFits (length (T .nonterminals)) (T .terminals) k x ≡ true) where
+  pub recalled : (p : ℕ) → p < stepPlaces → getD ws (symbolPlace p) 0 ≡ stepRow k x + 1 → (l h a b : ℕ) → getD ws (p * 4) 0 ≡ l → getD ws (p * 4 + 1) 0 ≡ h → a ≡ getD ws (p * 4 + 2) 0 → b ≡ getD ws (p * 4 + 2 + 1) 0
+      → statesIn a b ≡ predecessors T (symbolOfKind k x) (statesIn l h)
+  recalled p i es l h a b el eh ea eb = rw (ea, eb, ← el, ← eh) (R .exact p k x i f es)
 
   module _ (p : ℕ) (i : p < stepPlaces) (l h a b : ℕ) (found : statesIn a b ≡ predecessors T (symbolOfKind k x) (statesIn l h)) where
     abbrev quad : List ℕ
@@ -166,7 +188,7 @@ module _ (T : Table) (F : TableFits T) (ws : List ℕ) (R : Remembered T ws) (k 
             (λ c.
             let w : q ≡ p = eqb-true q p c in
             let v : stepRow j y + 1 ≡ stepRow k x + 1 = sym s ∙ ap (λ (u : ℕ). getD put (symbolPlace u) 0) w ∙ symbol-here in
-            let r = same-row j y fy (omega (arith, v)) in
+            let r = same-row T F k x f j y fy (omega (arith, v)) in
             rw (w, r .0, r .1) here)
             (λ c.
             let ne = eqb-false q p c in

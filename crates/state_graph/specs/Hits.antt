@@ -12,6 +12,8 @@ use Rattle.table.specs.Words.{wordAt, records}
 use Rattle.table.specs.Decoded.{edgesFrom}
 use Rattle.table.specs.Refusals.{asEdge}
 use Rattle.state_graph.specs.States.{hasState, statesIn}
+use Rattle.state_graph.specs.declared.Stepped.{Stepped}
+use Rattle.state_graph.specs.declared.Stepped.the-variants.{Found, Over}
 use Rattle.bits.specs.Bits.{bitAt}
 
 -- words for a bit a record
@@ -35,3 +37,8 @@ meets x ss e = sameSymbol x (e .symbol) && mem (e .target) ss
 pub record Hits (t : List ℕ) (k x low high : ℕ) (hs : List ℕ) : Type 0 where
   pub long : length hs ≡ hitWords
   pub exact : (r : ℕ) → asEdge t r ≡ true → bitAt hs r ≡ some? (meets (symbolOfKind k x) (statesIn low high)) (edgesFrom t r)
+
+-- what a step along the chains answers: the states found, or nothing
+unfoldable pub SteppedTo : List ℕ → Stepped → Type 0
+SteppedTo ss (Found r) = statesIn (r .low) (r .high) ≡ ss
+SteppedTo ss Over = Unit {0}

@@ -14,8 +14,11 @@ use Rattle.state_graph.specs.Walk.{predecessors}
 abbrev pub stepRow : ℕ → ℕ → ℕ
 stepRow kind number = kind * nonterminalLimit + number
 
+abbrev pub stepRows : ℕ
+stepRows = nonterminalLimit + terminalLimit
+
 abbrev pub stepPlaces : ℕ
-stepPlaces = nonterminalLimit + terminalLimit
+stepPlaces = 31
 
 abbrev pub symbolPlace : ℕ → ℕ
 symbolPlace p = stepPlaces * 4 + p

@@ -16,15 +16,17 @@ ghost use Prim.Native.Nat.{ℕ, _+_, _*_, _≤_, _<_};
 ghost use lib.Dec.{eqb, ltb};
 ghost use lib.ListN.{length, getD, set, replicate};
 ghost use Rattle.repr.specs.Sizes.{recordLimit};
+ghost use Rattle.repr.specs.Lists.{some?};
 ghost use Rattle.repr.specs.Listed.{symbolOfKind, symbolFits, listed, listFits};
 ghost use Rattle.table.specs.Words.{records};
 ghost use Rattle.table.specs.Quads.{putQuad};
-ghost use Rattle.table.specs.Decoded.{meaning};
+ghost use Rattle.table.specs.Decoded.{meaning, edgesFrom};
+ghost use Rattle.table.specs.Index.{EdgeIndex};
 ghost use Rattle.table.specs.Refusals.{checkOf};
 ghost use Rattle.state_graph.specs.Walk.{predecessors, walkBack, traceBack};
 ghost use Rattle.state_graph.specs.States.{hasState, statesIn, NextIs};
-ghost use Rattle.state_graph.specs.Hits.{hitWords, endsIn, hitNow, Hits};
-ghost use Rattle.state_graph.specs.Remembered.{stepPlaces, stepWords, symbolPlace, Remembered};
+ghost use Rattle.state_graph.specs.Hits.{hitWords, endsIn, hitNow, meets, Hits, SteppedTo};
+ghost use Rattle.state_graph.specs.Remembered.{stepRows, stepPlaces, stepWords, symbolPlace, Remembered};
 
 // The number of a state.
 pub struct StateIndex(pub u16);
@@ -46,10 +48,10 @@ pub enum NextState {
 }
 
 impl StateSet {
-    // A bit for each record of a table, and five words for each of as many steps as there are symbols, while walking back.
+    // A bit for each record of a table, and five words for each of 31 steps, while walking back.
     pub const HIT_WORDS: usize = 128;
 
-    pub const STEP_WORDS: usize = 475;
+    pub const STEP_WORDS: usize = 155;
 
     pub fn new() -> StateSet
         ensures { λ r. ⌜ ((k : ℕ) → hasState (r .low) (r .high) k ≡ false) ⌝ }
@@ -211,6 +213,88 @@ fn step_over(table: &[u16], hits: &mut [u64], kind: usize, number: usize, set: S
     found
 }
 
+// Whether a chain of edges has one by the symbol into the set, and how many edges may still be read: where none may, nothing is said.
+struct Led {
+    leads: bool,
+    left: usize,
+}
+
+fn leads(table: &[u16], first: usize, kind: usize, number: usize, set: StateSet, most: usize) -> Led
+    requires { ⌜ checkOf (now table) ≡ Checked.Accepted ⌝ }
+    requires { ⌜ symbolFits (length (meaning (now table) .nonterminals)) (meaning (now table) .terminals) kind number ≡ true ⌝ }
+    requires { ⌜ EdgeIndex (now table) first ⌝ }
+    ensures { λ r. ⌜ ((r .left ≡ 0 → ⊥) → r .leads ≡ some? (meets (symbolOfKind kind number) (statesIn (set .low) (set .high))) (edgesFrom (now (table .entry)) first)) ⌝ }
+{
+    let mut at = first;
+    let mut left = most;
+    while at != 0 {
+        if left == 0 {
+            return Led {
+                leads: false,
+                left: 0,
+            };
+        }
+        left -= 1;
+        if ends_in(table, at, kind, number, set) {
+            return Led {
+                leads: true,
+                left: left,
+            };
+        }
+        at = word(table, at, 0);
+    }
+    Led {
+        leads: false,
+        left: left,
+    }
+}
+
+// A step along the chains of all states: the states found, or that more edges would be read than the table has records, as chains may be shared.
+enum Stepped {
+    Found(StateSet),
+    Over,
+}
+
+fn step_along(table: &[u16], kind: usize, number: usize, set: StateSet) -> Stepped
+    requires { ⌜ checkOf (now table) ≡ Checked.Accepted ⌝ }
+    requires { ⌜ symbolFits (length (meaning (now table) .nonterminals)) (meaning (now table) .terminals) kind number ≡ true ⌝ }
+    ensures { λ r. ⌜ SteppedTo (predecessors (meaning (now (table .entry))) (symbolOfKind kind number) (statesIn (set .low) (set .high))) r ⌝ }
+{
+    let counts = read_counts(table);
+    let states = counts.states;
+    let mut left = table.len() / 4;
+    let mut found = StateSet::new();
+    let mut s: usize = 0;
+    while s < states {
+        let head = first_edge(table, s);
+        let led = leads(table, head, kind, number, set, left);
+        left = led.left;
+        if left == 0 {
+            return Stepped::Over;
+        }
+        if led.leads {
+            found = found.insert(s);
+        }
+        s += 1;
+    }
+    Stepped::Found(found)
+}
+
+// The states with an edge by one symbol into the set: along the chains, or where they are shared by a sweep over all records.
+fn step(table: &[u16], kind: usize, number: usize, set: StateSet) -> StateSet
+    requires { ⌜ checkOf (now table) ≡ Checked.Accepted ⌝ }
+    requires { ⌜ symbolFits (length (meaning (now table) .nonterminals)) (meaning (now table) .terminals) kind number ≡ true ⌝ }
+    ensures { λ r. ⌜ statesIn (r .low) (r .high) ≡ predecessors (meaning (now (table .entry))) (symbolOfKind kind number) (statesIn (set .low) (set .high)) ⌝ }
+{
+    match step_along(table, kind, number, set) {
+        Stepped::Found(found) => found,
+        Stepped::Over => {
+            let mut hits = [0u64; StateSet::HIT_WORDS];
+            step_over(table, &mut hits, kind, number, set)
+        }
+    }
+}
+
 // The two words of a set.
 fn set_at(words: &[u64], at: usize) -> StateSet
     requires { ⌜ at + 1 < length (now words) ⌝ }
@@ -224,20 +308,20 @@ fn set_at(words: &[u64], at: usize) -> StateSet
 
 // A place for what a step finds, by its symbol and its set: steps from different sets over one symbol have different places as far as may be, and a place says what it holds.
 fn place_of(row: usize, set: StateSet) -> usize
-    requires { ⌜ row < stepPlaces ⌝ }
+    requires { ⌜ row < stepRows ⌝ }
     ensures { λ r. ⌜ r < stepPlaces ⌝ }
 {
     let low = (set.low % 67) as usize;
     let high = (set.high % 61) as usize;
-    (row + 7 * low + 11 * high) % 95
+    (row + 7 * low + 11 * high) % 31
 }
 
 // Whether a place holds a step over the symbol from the set.
 fn recalls(steps: &[u64], place: usize, row: usize, set: StateSet) -> bool
-    requires { ⌜ (place < stepPlaces) × (row < stepPlaces) × (length (now steps) ≡ stepWords) ⌝ }
+    requires { ⌜ (place < stepPlaces) × (row < stepRows) × (length (now steps) ≡ stepWords) ⌝ }
     ensures { λ r. ⌜ (r ≡ true → (getD (now (steps .entry)) (symbolPlace place) 0 ≡ row + 1) × (getD (now (steps .entry)) (place * 4) 0 ≡ set .low) × (getD (now (steps .entry)) (place * 4 + 1) 0 ≡ set .high)) ⌝ }
 {
-    let symbol = steps[380 + place];
+    let symbol = steps[124 + place];
     if symbol != (row + 1) as u64 {
         return false;
     }
@@ -264,10 +348,10 @@ fn remember(steps: &mut [u64], row: usize, set: StateSet, found: StateSet)
 
 // Which symbol it was over.
 fn note(steps: &mut [u64], place: usize, row: usize)
-    requires { ⌜ (place < stepPlaces) × (row < stepPlaces) × (length (now steps) ≡ stepWords) ⌝ }
+    requires { ⌜ (place < stepPlaces) × (row < stepRows) × (length (now steps) ≡ stepWords) ⌝ }
     ensures { λ _. ⌜ now (steps .exit) ≡ set (now (steps .entry)) (symbolPlace place) (row + 1) ⌝ }
 {
-    steps[380 + place] = (row + 1) as u64;
+    steps[124 + place] = (row + 1) as u64;
 }
 
 // The states with an edge by one symbol into the set; where that step is remembered, what it found.
@@ -289,8 +373,7 @@ fn step_back(
     if recalls(steps, place, row, set) {
         return set_at(steps, place * 4 + 2);
     }
-    let mut hits = [0u64; StateSet::HIT_WORDS];
-    let found = step_over(table, &mut hits, kind, number, set);
+    let found = step(table, kind, number, set);
     remember(steps, place, set, found);
     note(steps, place, row);
     found
@@ -343,11 +426,41 @@ pub fn trace_back_joined(table: &[u16], state: usize, xs: &[u16], ys: &[u16]) ->
     walk_joined(table, &mut steps, StateSet::of(state), xs, ys)
 }
 
-// `trace_back` of one state.
+// Whether a step is the last one over again: it led from a set to itself.
+fn repeats(row: usize, over: usize, found: StateSet, last: StateSet) -> bool
+    ensures { λ r. ⌜ (r ≡ true → (row ≡ over) × (found .low ≡ last .low) × (found .high ≡ last .high)) ⌝ }
+{
+    if row != over {
+        return false;
+    }
+    if found.low != last.low {
+        return false;
+    }
+    found.high == last.high
+}
+
+// `trace_back` of one state. The last step alone is remembered, by a row that no symbol has before the first: a run of one symbol over a set that stays costs one step.
 pub fn trace_back(table: &[u16], state: usize, symbols: &[u16]) -> StateSet
     requires { ⌜ checkOf (now table) ≡ Checked.Accepted ⌝ }
     requires { ⌜ (state < length (meaning (now table) .states)) × (listFits (length (meaning (now table) .nonterminals)) (meaning (now table) .terminals) (now symbols) ≡ true) ⌝ }
     ensures { λ r. ⌜ statesIn (r .low) (r .high) ≡ traceBack (meaning (now (table .entry))) state (listed (now (symbols .entry))) ⌝ }
 {
-    trace_back_joined(table, state, &symbols[..0], symbols)
+    let mut found = StateSet::of(state);
+    let mut last = found;
+    let mut over: usize = 95;
+    let mut i = symbols.len() / 2;
+    while i > 0 {
+        i -= 1;
+        let kind = repr::word(symbols, 2 * i);
+        let number = repr::word(symbols, 2 * i + 1);
+        let row = kind * NonterminalString::LIMIT + number;
+        if repeats(row, over, found, last) {
+            continue;
+        }
+        let next = step(table, kind, number, found);
+        last = found;
+        over = row;
+        found = next;
+    }
+    found
 }

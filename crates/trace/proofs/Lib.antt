@@ -5,6 +5,7 @@ pub mod Fuel
 pub mod Steps
 pub mod Repeated
 pub mod Traced
+pub mod Passed
 pub mod Distinct
 pub mod EndsLaws
 pub mod Marked

@@ -11,10 +11,10 @@ use Rattle.repr.specs.Packed.{productionIn, productionsIn}
 use Rattle.repr.proofs.Lists.{getD-map-below}
 use Rattle.trace_graph.specs.Graph.{atNonterminal, atItem}
 use Rattle.trace_graph.specs.declared.Inserted.the-variants.{Done, Full}
-use Rattle.trace.specs.Traced.{Trace, inTurn, pairs}
+use Rattle.trace.specs.Traced.{Trace, ownerOf, inTurn, pairs}
 use Rattle.trace.specs.Shift.{epsilonItem, epsilon}
 use Rattle.trace.specs.Reduce.{reduceStateItem, reduceItem, reduceState}
-use Rattle.trace.specs.Edges.{epsilonSource}
+use Rattle.trace.specs.Edges.{epsilonSource, epsilonEdge}
 use Rattle.trace.proofs.Grows.{Adds, grows-length, turn-grows, epsilonItem-grows, epsilon-grows, reduceItem-grows, reduceStateItem-grows, reduce-grows}
 
 -- an answer is one of the two
@@ -35,6 +35,15 @@ source-past ps i h = rw (lt-ltb 0 (i .index) h, epsilonSource)
 pub source-beginning : (ps : List Production) (i : Item) → i .index ≤ 0 → epsilonSource ps i ≡ atNonterminal (getD ps (i .production) noProduction .nonterminal)
 unfolding epsilonSource
 source-beginning ps i h = rw (le-ltb 0 (i .index) h, epsilonSource)
+
+module _ (T : Table) where
+  pub edge-past : (i : Item) (n : ℕ) → 0 < i .index → epsilonEdge (T .productions) i n ≡ record { source = atItem i; target = atNonterminal n; label = i }
+  unfolding epsilonEdge
+  edge-past i n h = rw (source-past (T .productions) i h)
+
+  pub edge-beginning : (i : Item) (n : ℕ) → i .index ≤ 0 → epsilonEdge (T .productions) i n ≡ record { source = atNonterminal (ownerOf T i); target = atNonterminal n; label = i }
+  unfolding epsilonEdge ownerOf
+  edge-beginning i n h = rw (source-beginning (T .productions) i h)
 
 -- a shift trace
 

@@ -7,3 +7,4 @@ pub mod Sound
 pub mod Edges
 pub mod Ends
 pub mod Met
+pub mod Passed

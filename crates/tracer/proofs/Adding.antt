@@ -1,7 +1,7 @@
 -- The edges that tracing adds, in one word each. Assumes nothing.
 use mathlib.Core.Path.{_≡_, refl, sym}
 use mathlib.Core.Bool.{Bool, true, false}
-use Prim.Native.Nat.{ℕ, _+_, _*_, _≤_, _<_}
+use Prim.Native.Nat.{ℕ, _+_, _*_, _<_}
 use native.Mathlib.Omega.{arith}
 use lib.Dec.{eqb}
 use lib.ListN.{length}
@@ -13,19 +13,11 @@ use Rattle.trace.specs.Traced.{ownerOf, canShift}
 use Rattle.trace.specs.Sound.{EdgeSound}
 use Rattle.trace.specs.Edges.{epsilonEdge, sourceOf, edgeToNonterminal}
 use Rattle.trace.proofs.Traced.{to-item-sound, from-item-sound, between-sound}
-use Rattle.trace.proofs.Steps.{source-past, source-beginning}
+use Rattle.trace.proofs.Steps.{edge-past, edge-beginning}
 use Rattle.codes.specs.Codes.{kindOf, itemCode, codeOf, keyBy, keyOf}
 use Rattle.codes.proofs.Keys.{key-edge}
 
 module _ (T : Table) where
-  pub edge-past : (i : Item) (n : ℕ) → 0 < i .index → epsilonEdge (T .productions) i n ≡ record { source = atItem i; target = atNonterminal n; label = i }
-  unfolding epsilonEdge
-  edge-past i n h = rw (source-past (T .productions) i h)
-
-  pub edge-beginning : (i : Item) (n : ℕ) → i .index ≤ 0 → epsilonEdge (T .productions) i n ≡ record { source = atNonterminal (ownerOf T i); target = atNonterminal n; label = i }
-  unfolding epsilonEdge ownerOf
-  edge-beginning i n h = rw (source-beginning (T .productions) i h)
-
   module _ (fits : TableFits T) (i : Item) (n : ℕ) (l : n < length (T .nonterminals)) (h : ItemFits T i) (c : canShift T n i ≡ true) where
     pub traced-past : EdgeSound T (record { source = atItem i; target = atNonterminal n; label = i })
     traced-past = from-item-sound T fits n i l h c
@@ -38,8 +30,8 @@ module _ (T : Table) where
   unfolding edgeToNonterminal sourceOf
   epsilon-way i n =
       cases (eqb (i .index) 0)
-      (λ b. let z = eqb-true (i .index) 0 b in rw b (sym (edge-beginning i n (omega arith))))
-      (λ b. let ne = eqb-false (i .index) 0 b in rw b (sym (edge-past i n (omega (arith, ne)))))
+      (λ b. let z = eqb-true (i .index) 0 b in rw b (sym (edge-beginning T i n (omega arith))))
+      (λ b. let ne = eqb-false (i .index) 0 b in rw b (sym (edge-past T i n (omega (arith, ne)))))
 
 -- by kind
 

@@ -15,7 +15,7 @@ use Rattle.core.specs.Items.{symbolSets}
 use Rattle.table.specs.Decoded.{meaning}
 use Rattle.table.proofs.Decoding.{fits}
 use Rattle.state_graph.specs.Walk.{traceBack}
-use Rattle.trace_graph.specs.Graph.{atNonterminal, atItem, emptyGraph}
+use Rattle.trace_graph.specs.Graph.{atNonterminal, atItem, TraceEdge, emptyGraph}
 use Rattle.trace_graph.specs.Fits.{itemFits}
 use Rattle.trace.specs.Traced.{untraced, addTo, ownerOf, prefixOf, inTurn, pairs}
 use Rattle.trace.specs.Shift.{epsilon, shiftTrace, shiftEdges}
@@ -25,7 +25,7 @@ use Rattle.trace.proofs.EndsLaws.{fits-words, prefix-fits, before-is}
 use Rattle.trace.proofs.Fuel.{back-inside}
 use Rattle.bits.proofs.Laws.{zeros-none}
 use Rattle.codes.specs.Coded.{codesRoom, Coded}
-use Rattle.tracer.specs.Held.{Held, Steps, Exceeds, Working}
+use Rattle.tracer.specs.Held.{Held, Working}
 
 pub coded-none : (T : Table) (ws : List ℕ) → length ws ≡ 1025 → getD ws 0 0 ≡ 0 → Coded T ws (replicate 102 0) []
 unfolding some? All
@@ -39,12 +39,13 @@ coded-none T ws l z = record {
   traced = tt;
 }
 
+-- edges in words, and no pair entered
+pub held-start : (T : Table) (ws fs vs : List ℕ) (es : List TraceEdge) → Coded T ws fs es → vs ≡ replicate 64 0 → Held T ws fs vs (record { edges = es; seen = [] })
+held-start T ws fs vs es C e = record { edges = C; seen = λ k h. rw e (zeros-none 64 k ∙ sym (mem-nil k)) }
+
 pub held-none : (T : Table) (ws fs vs : List ℕ) → length ws ≡ 1025 → getD ws 0 0 ≡ 0 → fs ≡ replicate 102 0 → vs ≡ replicate 64 0 → Held T ws fs vs untraced
 unfolding untraced
-held-none T ws fs vs l z ef ev = record {
-  edges = rw ef (coded-none T ws l z);
-  seen = λ k h. rw ev (zeros-none 64 k ∙ sym (mem-nil k));
-}
+held-none T ws fs vs l z ef ev = held-start T ws fs vs [] (rw ef (coded-none T ws l z)) ev
 
 pub emptied : (ws : List ℕ) (k : ℕ) → k ≡ length emptyGraph → length ws ≡ codesRoom → getD (set ws 0 k) 0 0 ≡ 0
 emptied ws k e h = getD-set-same ws 0 k 0 (omega arith) ∙ e
@@ -66,14 +67,9 @@ module _ {t g : List ℕ} {productions : ℕ} {ls : List ℕ} (W : Working t g p
   pub found-in : (ss : List ℕ) → ss ≡ traceBack (meaning t) s (prefixOf (meaning t) (record { production = p; index = i })) → (k : ℕ) → mem k ss ≡ true → k < length (meaning t .states)
   found-in ss e k h = back-inside (meaning t) (fits t (W .accepted)) s inside (prefixOf (meaning t) (record { production = p; index = i })) k (rw e at h)
 
-  module _ (ss : List ℕ) (e : ss ≡ traceBack (meaning t) s (prefixOf (meaning t) (record { production = p; index = i }))) (ws fs vs : List ℕ) (H : Held (meaning t) ws fs vs untraced) where
-    pub shift-coded : (ws′ fs′ vs′ : List ℕ)
-        → Steps (meaning t) (λ st. inTurn (λ q u. epsilon (meaning t) pairs q (ownerOf (meaning t) (record { production = p; index = i })) u) ss (addTo (meaning t) (atNonterminal (ownerOf (meaning t) (record { production = p; index = i }))) (atItem (record { production = p; index = i })) (record { production = p; index = i }) st)) ws fs vs ws′ fs′ vs′
-        → (fs : List ℕ) × Coded (meaning t) ws′ fs (shiftEdges (meaning t) s (record { production = p; index = i }))
-    unfolding shiftEdges shiftTrace
-    shift-coded ws′ fs′ vs′ S = (fs′, rw e at (S untraced H .edges))
-
-    pub shift-exceeds : Exceeds (meaning t) (λ st. inTurn (λ q u. epsilon (meaning t) pairs q (ownerOf (meaning t) (record { production = p; index = i })) u) ss (addTo (meaning t) (atNonterminal (ownerOf (meaning t) (record { production = p; index = i }))) (atItem (record { production = p; index = i })) (record { production = p; index = i }) st)) ws fs vs
-        → 1024 < length (shiftEdges (meaning t) s (record { production = p; index = i }))
-    unfolding shiftEdges shiftTrace
-    shift-exceeds X = rw e at (X untraced H)
+  module _ (ss : List ℕ) (e : ss ≡ traceBack (meaning t) s (prefixOf (meaning t) (record { production = p; index = i }))) (ws : List ℕ) (C : Coded (meaning t) ws (replicate 102 0) []) where
+    pub shift-from : (P : List TraceEdge → Type 0)
+        → ((es : List TraceEdge) → Coded (meaning t) ws (replicate 102 0) es → P (inTurn (λ q u. epsilon (meaning t) pairs q (ownerOf (meaning t) (record { production = p; index = i })) u) ss (addTo (meaning t) (atNonterminal (ownerOf (meaning t) (record { production = p; index = i }))) (atItem (record { production = p; index = i })) (record { production = p; index = i }) (record { edges = es; seen = [] })) .edges))
+        → P (shiftEdges (meaning t) s (record { production = p; index = i }))
+    unfolding shiftEdges shiftTrace untraced
+    shift-from P call = rw e at (call [] C)

@@ -1,6 +1,7 @@
 pub mod Adding
 pub mod StampLaws
 pub mod Turns
+pub mod Passing
 pub mod States
 pub mod Begin
 pub mod ReduceSteps

@@ -1,26 +1,32 @@
--- The states that a walk found, traced in turn. Assumes nothing.
+-- The states that a walk found, traced in turn or passed over. Assumes nothing.
 use mathlib.Core.Path.{_≡_, refl, sym, ap, _∙_}
-use mathlib.Core.Bool.{true}
-use mathlib.Core.List.{List}
+use mathlib.Core.Bool.{true, false}
+use mathlib.Core.List.{List, [], _∷_}
 use Prim.Native.Nat.{ℕ, zero, suc, _≤_, _<_}
 use native.Mathlib.Omega.{arith}
-use lib.ListN.{length}
-use Rattle.repr.specs.Lists.{mem}
-use Rattle.repr.specs.Meaning.{Item, Table}
+use lib.ListN.{length, replicate}
+use Rattle.repr.specs.Lists.{below, mem}
+use Rattle.repr.specs.Meaning.{Item, Table, TableFits, stateAt}
+use Rattle.repr.proofs.Lists.{cases, mem-cons-here, mem-cons-there, mem-index}
+use Rattle.table.specs.Decoded.{meaning, itemsFrom}
 use Rattle.trace_graph.specs.Graph.{atNonterminal, atItem, TraceEdge, add}
 use Rattle.codes.specs.Coded.{Coded}
-use Rattle.repr.proofs.Lists.{cases, mem-cons-here, mem-cons-there}
 use Rattle.state_graph.specs.declared.StateSet.{StateSet}
 use Rattle.state_graph.specs.declared.NextState.the-variants.{State, Done}
-use Rattle.state_graph.specs.States.{statesIn, NextIs}
+use Rattle.state_graph.specs.States.{hasState, statesIn, NextIs}
+use Rattle.state_graph.specs.Walk.{Ascending}
+use Rattle.state_graph.proofs.Exact.{kept-ascending}
 use Rattle.state_graph.proofs.States.{next-states, next-none}
 use Rattle.trace.specs.Traced.{Trace, inTurn, pairs, ownerOf, addTo}
 use Rattle.trace.specs.Shift.{epsilon}
+use Rattle.trace.specs.Passed.{Passed}
 use Rattle.trace.proofs.Grows.{grows-length, turn-nil, turn-cons, turn-grows, epsilon-grows}
 use Rattle.trace.proofs.Steps.{stateStep}
+use Rattle.trace.proofs.Passed.{passed-grows, passed-none, left-out}
 use Rattle.bits.specs.Bits.{bitAt}
 use Rattle.tracer.specs.Held.{Held, Steps, Exceeds, openBits, unset}
-use Rattle.tracer.proofs.Turns.{open-zero, open-set, open-unset}
+use Rattle.tracer.proofs.Begin.{held-start}
+use Rattle.tracer.proofs.Turns.{open-zero, open-set, open-unset, items-none}
 
 -- the number of pairs is fuel enough
 pub open-few : (n : ℕ) (vs : List ℕ) → openBits n vs ≤ n
@@ -34,70 +40,132 @@ open-few (suc k) vs =
 pub enough : (vs : List ℕ) → unset vs ≤ pairs
 enough vs = let h = open-few 4096 vs in omega arith
 
--- the loop's invariant: the states that are left, from what the words hold, give what all give
-pub record Rounds (T : Table) (m l₀ h₀ : ℕ) (ws₀ fs₀ v₀ : List ℕ) (l h : ℕ) (ws fs v : List ℕ) : Type 0 where
-  pub inside : (s : ℕ) → mem s (statesIn l h) ≡ true → s < length (T .states)
+-- a state that comes next is none of those after it
+
+states-ascend : (l h : ℕ) → Ascending (statesIn l h)
+unfolding statesIn below
+states-ascend l h = kept-ascending (hasState l h) 0 128
+
+next-apart : (l h s : ℕ) (r : StateSet) → NextIs l h (State (record { 0 = s }) r) → mem s (statesIn (r .low) (r .high)) ≡ false
+next-apart l h s r e =
+    let up : Ascending (s ∷ statesIn (r .low) (r .high)) = rw (next-states l h (record { 0 = s }) r e) at (states-ascend l h) in
+    cases (mem s (statesIn (r .low) (r .high)))
+    (λ q.
+    let w = mem-index s (statesIn (r .low) (r .high)) 0 q in
+    let i = w .1 in
+    absurd (omega (arith, up 0 (suc (w .0)) (omega arith) (omega arith), w .2)))
+    (λ q. q)
+
+-- the loop's invariant: the states that are left, from a trace that the words hold, give the edges that all give from the edges es; the chain from `known` on is passed
+pub record Round (t : List ℕ) (m l₀ h₀ : ℕ) (es : List TraceEdge) (l h : ℕ) (ws fs v : List ℕ) (known : ℕ) : Type 0 where
+  pub trace : Trace
+  pub held : Held (meaning t) ws fs v trace
+  pub edges : inTurn (stateStep (meaning t) m) (statesIn l h) trace .edges ≡ inTurn (stateStep (meaning t) m) (statesIn l₀ h₀) (record { edges = es; seen = [] }) .edges
+  pub passed : Passed (meaning t) m (trace .edges) (itemsFrom t known)
+
+pub record Rounds (t : List ℕ) (m l₀ h₀ : ℕ) (ws₀ fs₀ : List ℕ) (l h : ℕ) (ws fs v : List ℕ) (known : ℕ) : Type 0 where
+  pub inside : (s : ℕ) → mem s (statesIn l h) ≡ true → s < length (meaning t .states)
   pub w-len : length ws ≡ 1025
   pub f-len : length fs ≡ 102
   pub v-len : length v ≡ 64
-  pub same : (st : Trace) → Held T ws₀ fs₀ v₀ st → (u : Trace) × Held T ws fs v u × (inTurn (stateStep T m) (statesIn l h) u ≡ inTurn (stateStep T m) (statesIn l₀ h₀) st)
+  pub same : (es : List TraceEdge) → Coded (meaning t) ws₀ fs₀ es → Round t m l₀ h₀ es l h ws fs v known
 
-module _ (T : Table) (m : ℕ) where
-  pub rounds-start : (l h : ℕ) (ws fs v : List ℕ) → ((s : ℕ) → mem s (statesIn l h) ≡ true → s < length (T .states)) → length ws ≡ 1025 → length fs ≡ 102 → length v ≡ 64 → Rounds T m l h ws fs v l h ws fs v
-  rounds-start l h ws fs v inside a b c = record { inside = inside; w-len = a; f-len = b; v-len = c; same = λ st k. (st, k, refl) }
+module _ (t : List ℕ) (m : ℕ) where
+  pub rounds-start : (l h : ℕ) (ws fs v : List ℕ) → ((s : ℕ) → mem s (statesIn l h) ≡ true → s < length (meaning t .states)) → length ws ≡ 1025 → length fs ≡ 102 → v ≡ replicate 64 0
+      → Rounds t m l h ws fs l h ws fs v 0
+  rounds-start l h ws fs v inside a b e = record {
+    inside = inside;
+    w-len = a;
+    f-len = b;
+    v-len = ap length e;
+    same = λ es C. record { trace = record { edges = es; seen = [] }; held = held-start (meaning t) ws fs v es C e; edges = refl; passed = rw (items-none t) (passed-none (meaning t) m es) };
+  }
 
-  module _ (l₀ h₀ : ℕ) (ws₀ fs₀ v₀ : List ℕ) (l h : ℕ) (ws fs v : List ℕ) (U : Rounds T m l₀ h₀ ws₀ fs₀ v₀ l h ws fs v) where
-    pub rounds-done : NextIs l h Done → Steps T (inTurn (stateStep T m) (statesIn l₀ h₀)) ws₀ fs₀ v₀ ws fs v
-    rounds-done e st k =
-        let r = U .same st k in
-        rw (← (r .2), next-none l h e, turn-nil (stateStep T m) (r .0)) (r .1)
+  module _ (l₀ h₀ : ℕ) (ws₀ fs₀ : List ℕ) (l h : ℕ) (ws fs v : List ℕ) (known : ℕ) (U : Rounds t m l₀ h₀ ws₀ fs₀ l h ws fs v known) where
+    pub rounds-done : NextIs l h Done → (es : List TraceEdge) → Coded (meaning t) ws₀ fs₀ es → Coded (meaning t) ws fs (inTurn (stateStep (meaning t) m) (statesIn l₀ h₀) (record { edges = es; seen = [] }) .edges)
+    rounds-done e es C =
+        let r = U .same es C in
+        rw (← (r .edges), next-none l h e, turn-nil (stateStep (meaning t) m) (r .trace)) (r .held .edges)
 
     module _ (s : ℕ) (r : StateSet) (e : NextIs l h (State (record { 0 = s }) r)) where
-      pub rounds-inside : s < length (T .states)
+      pub rounds-inside : s < length (meaning t .states)
       rounds-inside = U .inside s (rw (next-states l h (record { 0 = s }) r e) (mem-cons-here s (statesIn (r .low) (r .high))))
 
-      opened : (st : Trace) (k : Held T ws₀ fs₀ v₀ st) → inTurn (stateStep T m) (statesIn (r .low) (r .high)) (epsilon T pairs s m (U .same st k .0)) ≡ inTurn (stateStep T m) (statesIn l₀ h₀) st
-      opened st k =
-          let q = U .same st k in
-          sym (turn-cons (stateStep T m) s (statesIn (r .low) (r .high)) (q .0)) ∙ ap (λ (ss : List ℕ). inTurn (stateStep T m) ss (q .0)) (sym (next-states l h (record { 0 = s }) r e)) ∙ q .2
+      others-inside : (k : ℕ) → mem k (statesIn (r .low) (r .high)) ≡ true → k < length (meaning t .states)
+      others-inside k hk = U .inside k (rw (next-states l h (record { 0 = s }) r e) (mem-cons-there k s (statesIn (r .low) (r .high)) hk))
 
-      pub rounds-more : (ws′ fs′ v′ : List ℕ) → ((f : ℕ) → unset v ≤ f → Steps T (epsilon T f s m) ws fs v ws′ fs′ v′)
-          → length ws′ ≡ length ws → length fs′ ≡ length fs → length v′ ≡ length v → Rounds T m l₀ h₀ ws₀ fs₀ v₀ (r .low) (r .high) ws′ fs′ v′
+      opened : (es : List TraceEdge) (C : Coded (meaning t) ws₀ fs₀ es)
+          → inTurn (stateStep (meaning t) m) (statesIn (r .low) (r .high)) (epsilon (meaning t) pairs s m (U .same es C .trace)) .edges ≡ inTurn (stateStep (meaning t) m) (statesIn l₀ h₀) (record { edges = es; seen = [] }) .edges
+      opened es C =
+          let q = U .same es C in
+          ap (λ (u : Trace). u .edges) (sym (turn-cons (stateStep (meaning t) m) s (statesIn (r .low) (r .high)) (q .trace)) ∙ ap (λ (ss : List ℕ). inTurn (stateStep (meaning t) m) ss (q .trace)) (sym (next-states l h (record { 0 = s }) r e)))
+          ∙ q .edges
+
+      -- traced
+
+      pub rounds-more : (ws′ fs′ v′ : List ℕ) → ((f : ℕ) → unset v ≤ f → Steps (meaning t) (epsilon (meaning t) f s m) ws fs v ws′ fs′ v′)
+          → length ws′ ≡ length ws → length fs′ ≡ length fs → length v′ ≡ length v → Rounds t m l₀ h₀ ws₀ fs₀ (r .low) (r .high) ws′ fs′ v′ known
       rounds-more ws′ fs′ v′ call lw lf lv = record {
-        inside = λ k hk. U .inside k (rw (next-states l h (record { 0 = s }) r e) (mem-cons-there k s (statesIn (r .low) (r .high)) hk));
+        inside = others-inside;
         w-len = lw ∙ U .w-len;
         f-len = lf ∙ U .f-len;
         v-len = lv ∙ U .v-len;
-        same = λ st k. let q = U .same st k in (epsilon T pairs s m (q .0), call pairs (enough v) (q .0) (q .1), opened st k);
+        same = λ es C. let q = U .same es C in record {
+          trace = epsilon (meaning t) pairs s m (q .trace);
+          held = call pairs (enough v) (q .trace) (q .held);
+          edges = opened es C;
+          passed = passed-grows (meaning t) m (q .trace) (epsilon (meaning t) pairs s m (q .trace)) (itemsFrom t known) (epsilon-grows (meaning t) pairs s m (q .trace)) (q .passed);
+        };
       }
 
-      pub rounds-full : ((f : ℕ) → unset v ≤ f → Exceeds T (epsilon T f s m) ws fs v) → Exceeds T (inTurn (stateStep T m) (statesIn l₀ h₀)) ws₀ fs₀ v₀
-      rounds-full call st k =
-          let q = U .same st k in
-          let many = call pairs (enough v) (q .0) (q .1) in
-          let grown = grows-length (turn-grows (stateStep T m) (λ p. epsilon-grows T pairs p m) (statesIn (r .low) (r .high)) (epsilon T pairs s m (q .0))) in
-          rw (← (opened st k)) (omega arith)
+      pub rounds-full : ((f : ℕ) → unset v ≤ f → Exceeds (meaning t) (epsilon (meaning t) f s m) ws fs v)
+          → (es : List TraceEdge) → Coded (meaning t) ws₀ fs₀ es → 1024 < length (inTurn (stateStep (meaning t) m) (statesIn l₀ h₀) (record { edges = es; seen = [] }) .edges)
+      rounds-full call es C =
+          let q = U .same es C in
+          let many = call pairs (enough v) (q .trace) (q .held) in
+          let grown = grows-length (turn-grows (stateStep (meaning t) m) (λ p. epsilon-grows (meaning t) pairs p m) (statesIn (r .low) (r .high)) (epsilon (meaning t) pairs s m (q .trace))) in
+          rw (← (opened es C)) (omega arith)
+
+      -- passed over, head the first record of its chain
+
+      module _ (F : TableFits (meaning t)) (few : m < length (meaning t .nonterminals)) (head : ℕ) (eh : itemsFrom t head ≡ stateAt (meaning t) s .items) where
+        passed-by : (k : ℕ) → itemsFrom t k ≡ stateAt (meaning t) s .items → ((es : List TraceEdge) (C : Coded (meaning t) ws₀ fs₀ es) → Passed (meaning t) m (U .same es C .trace .edges) (itemsFrom t k))
+            → Rounds t m l₀ h₀ ws₀ fs₀ (r .low) (r .high) ws fs v k
+        passed-by k ek p = record {
+          inside = others-inside;
+          w-len = U .w-len;
+          f-len = U .f-len;
+          v-len = U .v-len;
+          same = λ es C. let q = U .same es C in record {
+            trace = q .trace;
+            held = q .held;
+            edges = left-out (meaning t) F s m few (statesIn (r .low) (r .high)) (next-apart l h s r e) (q .trace) (rw ek at (p es C)) ∙ opened es C;
+            passed = p es C;
+          };
+        }
+
+        pub rounds-known : head ≡ known → Rounds t m l₀ h₀ ws₀ fs₀ (r .low) (r .high) ws fs v known
+        rounds-known z = passed-by known (ap (itemsFrom t) (sym z) ∙ eh) (λ es C. U .same es C .passed)
+
+        pub rounds-passed : ((us : List ℕ) (es : List TraceEdge) → Coded (meaning t) us fs es → Passed (meaning t) m es (stateAt (meaning t) s .items)) → Rounds t m l₀ h₀ ws₀ fs₀ (r .low) (r .high) ws fs v head
+        rounds-passed call = passed-by head eh (λ es C. let q = U .same es C in rw eh (call ws (q .trace .edges) (q .held .edges)))
 
 -- the first edge, and then the states
 
-module _ (T : Table) (i : Item) (ss : List ℕ) (ws fs v : List ℕ) where
-  abbrev whole : Trace → Trace
-  whole = λ st. inTurn (λ p u. epsilon T pairs p (ownerOf T i) u) ss (addTo T (atNonterminal (ownerOf T i)) (atItem i) i st)
+module _ (T : Table) (i : Item) (ss : List ℕ) (ws fs : List ℕ) where
+  abbrev whole : List TraceEdge → List TraceEdge
+  whole = λ es. inTurn (λ p u. epsilon T pairs p (ownerOf T i) u) ss (addTo T (atNonterminal (ownerOf T i)) (atItem i) i (record { edges = es; seen = [] })) .edges
 
-  pub first-full : ((es : List TraceEdge) → Coded T ws fs es → 1024 < length (add (T .productions) (record { source = atNonterminal (ownerOf T i); target = atItem i; label = i }) es)) → Exceeds T whole ws fs v
+  pub first-full : ((es : List TraceEdge) → Coded T ws fs es → 1024 < length (add (T .productions) (record { source = atNonterminal (ownerOf T i); target = atItem i; label = i }) es))
+      → (es : List TraceEdge) → Coded T ws fs es → 1024 < length (whole es)
   unfolding addTo
-  first-full a st h =
-      let many = a (st .edges) (h .edges) in
-      let grown = grows-length (turn-grows (stateStep T (ownerOf T i)) (λ p. epsilon-grows T pairs p (ownerOf T i)) ss (addTo T (atNonterminal (ownerOf T i)) (atItem i) i st)) in
+  first-full a es C =
+      let many = a es C in
+      let grown = grows-length (turn-grows (stateStep T (ownerOf T i)) (λ p. epsilon-grows T pairs p (ownerOf T i)) ss (addTo T (atNonterminal (ownerOf T i)) (atItem i) i (record { edges = es; seen = [] }))) in
       omega arith
 
   module _ (ws′ fs′ : List ℕ) (a : (es : List TraceEdge) → Coded T ws fs es → Coded T ws′ fs′ (add (T .productions) (record { source = atNonterminal (ownerOf T i); target = atItem i; label = i }) es)) (o : ℕ) (eo : o ≡ ownerOf T i) where
-    first-held : (st : Trace) → Held T ws fs v st → Held T ws′ fs′ v (addTo T (atNonterminal (ownerOf T i)) (atItem i) i st)
+    pub first-then : (P : List TraceEdge → Type 0) → ((es : List TraceEdge) → Coded T ws′ fs′ es → P (inTurn (λ p u. epsilon T pairs p o u) ss (record { edges = es; seen = [] }) .edges))
+        → (es : List TraceEdge) → Coded T ws fs es → P (whole es)
     unfolding addTo
-    first-held st h = record { edges = a (st .edges) (h .edges); seen = h .seen }
-
-    pub first-done : (ws″ fs″ v″ : List ℕ) → Steps T (inTurn (λ p u. epsilon T pairs p o u) ss) ws′ fs′ v ws″ fs″ v″ → Steps T whole ws fs v ws″ fs″ v″
-    first-done ws″ fs″ v″ call st h = rw eo at (call (addTo T (atNonterminal (ownerOf T i)) (atItem i) i st) (first-held st h))
-
-    pub first-later : Exceeds T (inTurn (λ p u. epsilon T pairs p o u) ss) ws′ fs′ v → Exceeds T whole ws fs v
-    first-later call st h = rw eo at (call (addTo T (atNonterminal (ownerOf T i)) (atItem i) i st) (first-held st h))
+    first-then P call es C = rw eo at (call _ (a es C))

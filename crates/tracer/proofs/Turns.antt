@@ -25,12 +25,11 @@ use Rattle.trace.specs.Traced.{Trace, pair, enter, addTo, ownerOf, symbolsOf, c
 use Rattle.trace.specs.Shift.{epsilon}
 use Rattle.trace.specs.Edges.{epsilonEdge}
 use Rattle.trace.proofs.Grows.{grows-length, turn-nil, turn-cons, epsilon-grows, epsilon-cannot, epsilon-past, epsilon-beginning, epsilon-entered, epsilon-new}
-use Rattle.trace.proofs.Steps.{itemStep, step-exceeds}
+use Rattle.trace.proofs.Steps.{edge-past, edge-beginning, itemStep, step-exceeds}
 use Rattle.bits.specs.Bits.{bitAt, bitPut}
 use Rattle.bits.proofs.Laws.{put-length, put-here, put-other}
 use Rattle.codes.specs.Coded.{Coded}
 use Rattle.tracer.specs.Held.{Held, Steps, Exceeds, openBits, unset, Working}
-use Rattle.tracer.proofs.Adding.{edge-past, edge-beginning}
 
 -- the flags that are not set
 

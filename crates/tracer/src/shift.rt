@@ -4,12 +4,14 @@ use crate::edges::to_nonterminal;
 use bits::is_set;
 use bits::put;
 use codes::EdgeCode;
+use codes::key;
 use core::Item;
 use core::prefix;
 use repr::NonterminalString;
 use repr::ProductionIndex;
 use repr::word;
 use state_graph::NextState;
+use state_graph::StateIndex;
 use state_graph::StateSet;
 use state_graph::trace_back;
 use table::first_item;
@@ -17,22 +19,27 @@ use table::item;
 use trace_graph::Inserted;
 use trace_graph::TraceGraph;
 ghost use mathlib.Core.Path.{_≡_};
-ghost use mathlib.Core.Bool.{Bool, true, false};
-ghost use mathlib.Core.List.{List};
+ghost use mathlib.Core.Bool.{true};
+ghost use mathlib.Core.List.{List, []};
 ghost use Prim.Native.Nat.{ℕ, _+_, _*_, _≤_, _<_};
-ghost use lib.ListN.{length, getD};
-ghost use Rattle.repr.specs.Sizes.{productionLimit, indexLimit, edgeLimit};
-ghost use Rattle.repr.specs.Lists.{mem};
-ghost use Rattle.repr.specs.Meaning.{Table, TableFits, ItemFits};
+ghost use lib.ListN.{length, getD, replicate};
+ghost use Rattle.repr.specs.Sizes.{productionLimit, indexLimit, stateLimit, nonterminalLimit, edgeLimit};
+ghost use Rattle.repr.specs.Lists.{mem, some?};
+ghost use Rattle.repr.specs.Meaning.{Table, TableFits, ItemFits, All, stateAt};
+ghost use Rattle.repr.specs.Listed.{listed};
+ghost use Rattle.repr.specs.Packed.{Packed, symbolWords};
+ghost use Rattle.core.specs.Items.{shiftsNonterminal};
 ghost use Rattle.table.specs.Decoded.{meaning};
 ghost use Rattle.state_graph.specs.States.{statesIn};
 ghost use Rattle.trace_graph.specs.declared.Inserted.the-variants.{Done, Full};
-ghost use Rattle.trace_graph.specs.Graph.{TraceEdge, add, atNonterminal, atItem};
+ghost use Rattle.trace_graph.specs.Graph.{TraceEdge, sameEdge, add, atNonterminal, atItem};
 ghost use Rattle.trace.specs.Traced.{canShift, inTurn, pairs, ownerOf, addTo};
 ghost use Rattle.trace.specs.Shift.{epsilon, shiftEdges};
 ghost use Rattle.trace.specs.Edges.{epsilonEdge};
+ghost use Rattle.trace.specs.Passed.{ItemPassed, Passed};
+ghost use Rattle.bits.specs.Bits.{bitAt};
 ghost use Rattle.codes.specs.Coded.{codesRoom, keyWords, Coded, Leasts};
-ghost use Rattle.tracer.specs.Held.{pairWords, Held, Steps, Exceeds, unset, Working};
+ghost use Rattle.tracer.specs.Held.{pairWords, Steps, Exceeds, unset, Working};
 
 // The edge of an item that can shift a nonterminal: past its beginning from the item, else from its nonterminal.
 fn epsilon_code(
@@ -118,7 +125,143 @@ pub fn trace_epsilon(
     Inserted::Done
 }
 
-// Each state of the set in turn, ascending.
+// The nonterminal at an item's cursor; NonterminalString::LIMIT at the end or before a terminal.
+fn shifted(grammar: &[u16], productions: usize, item: Item) -> usize
+    requires { ⌜ Packed (now grammar) productions × (item .production < productions) ⌝ }
+    ensures { λ r. ⌜ ((n : ℕ) → shiftsNonterminal (listed (symbolWords (now (grammar .entry)) (item .production))) (item .index) n ≡ true → r ≡ n) ⌝ }
+{
+    let production = item.production;
+    let index = item.index;
+    if index < item.length(grammar, productions) {
+        let at = production * ProductionIndex::WORDS + 4 + 2 * index;
+        if word(grammar, at) == 0 {
+            return word(grammar, at + 1);
+        }
+    }
+    NonterminalString::LIMIT
+}
+
+// Whether the edge of an item that can shift a nonterminal is there.
+fn is_known(least: &[u8], flags: &[u64], production: usize, index: usize) -> bool
+    requires { ⌜ (production < productionLimit) × (index < indexLimit) × (length (now least) ≡ productionLimit) × ((p : ℕ) → p < productionLimit → getD (now least) p 0 < productionLimit) ⌝ }
+    requires { ⌜ length (now flags) ≡ keyWords ⌝ }
+    ensures { λ r. ⌜ (r ≡ true → (T : Table) → TableFits T → Leasts (T .productions) (now (least .entry)) → (n : ℕ) → n < length (T .nonterminals) → ItemFits T (record { production = production; index = index }) → canShift T n (record { production = production; index = index }) ≡ true → (ws : List ℕ) (es : List TraceEdge) → Coded T ws (now (flags .entry)) es → some? (sameEdge (T .productions) (epsilonEdge (T .productions) (record { production = production; index = index }) n)) es ≡ true) ⌝ }
+{
+    if index == 0 {
+        return is_set(flags, key(least, 1, production, index));
+    }
+    is_set(flags, key(least, 2, production, index))
+}
+
+// Whether an item leads to nothing new from the nonterminals that were entered from the state `before`: it can shift none of them, or its edge is there, and where it is at its beginning its own nonterminal is one of them.
+fn is_passed(
+    grammar: &[u16],
+    productions: usize,
+    least: &[u8],
+    flags: &[u64],
+    entered: &[u64],
+    before: usize,
+    production: usize,
+    index: usize,
+) -> bool
+    requires { ⌜ ((t : List ℕ) × (Working t (now grammar) productions (now least) × ItemFits (meaning t) (record { production = production; index = index }))) ⌝ }
+    requires { ⌜ (length (now flags) ≡ keyWords) × (length (now entered) ≡ pairWords) × (before < stateLimit) ⌝ }
+    ensures { λ r. ⌜ (r ≡ true → (t : List ℕ) → Working t (now (grammar .entry)) productions (now (least .entry)) → ItemFits (meaning t) (record { production = production; index = index }) → (ws : List ℕ) (es : List TraceEdge) → Coded (meaning t) ws (now (flags .entry)) es → ItemPassed (meaning t) (λ n. bitAt (now (entered .entry)) (before * nonterminalLimit + n)) es (record { production = production; index = index })) ⌝ }
+{
+    let item = Item {
+        production: production,
+        index: index,
+    };
+    let nonterminal = shifted(grammar, productions, item);
+    if nonterminal >= NonterminalString::LIMIT {
+        return true;
+    }
+    if !is_set(entered, before * NonterminalString::LIMIT + nonterminal) {
+        return true;
+    }
+    if !is_known(least, flags, production, index) {
+        return false;
+    }
+    if index > 0 {
+        return true;
+    }
+    let owner = word(grammar, production * ProductionIndex::WORDS);
+    is_set(entered, before * NonterminalString::LIMIT + owner)
+}
+
+// Whether the items of a state lead to nothing new from the nonterminals that were entered from the state `before`.
+fn adds_nothing(
+    table: &[u16],
+    grammar: &[u16],
+    productions: usize,
+    least: &[u8],
+    flags: &[u64],
+    entered: &[u64],
+    before: usize,
+    state: usize,
+) -> bool
+    requires { ⌜ Working (now table) (now grammar) productions (now least) ⌝ }
+    requires { ⌜ (length (now flags) ≡ keyWords) × (length (now entered) ≡ pairWords) × (before < stateLimit) × (state < length (meaning (now table) .states)) ⌝ }
+    ensures { λ r. ⌜ (r ≡ true → (ws : List ℕ) (es : List TraceEdge) → Coded (meaning (now (table .entry))) ws (now (flags .entry)) es → All (ItemPassed (meaning (now (table .entry))) (λ n. bitAt (now (entered .entry)) (before * nonterminalLimit + n)) es) (stateAt (meaning (now (table .entry))) state .items)) ⌝ }
+{
+    let mut at = first_item(table, state);
+    while at != 0 {
+        let read = item(table, at);
+        let production = read.production;
+        let index = read.index;
+        at = read.next;
+        if !is_passed(
+            grammar,
+            productions,
+            least,
+            flags,
+            entered,
+            before,
+            production,
+            index,
+        ) {
+            return false;
+        }
+    }
+    true
+}
+
+// Whether a state can be passed over: the nonterminal was entered from the state `before`, which is StateIndex::LIMIT where none was traced yet, and the items add nothing to what was entered there.
+fn passes_over(
+    table: &[u16],
+    grammar: &[u16],
+    productions: usize,
+    least: &[u8],
+    flags: &[u64],
+    entered: &[u64],
+    before: usize,
+    state: usize,
+    nonterminal: usize,
+) -> bool
+    requires { ⌜ Working (now table) (now grammar) productions (now least) ⌝ }
+    requires { ⌜ (length (now flags) ≡ keyWords) × (length (now entered) ≡ pairWords) ⌝ }
+    requires { ⌜ (state < length (meaning (now table) .states)) × (nonterminal < length (meaning (now table) .nonterminals)) ⌝ }
+    ensures { λ r. ⌜ (r ≡ true → (ws : List ℕ) (es : List TraceEdge) → Coded (meaning (now (table .entry))) ws (now (flags .entry)) es → Passed (meaning (now (table .entry))) nonterminal es (stateAt (meaning (now (table .entry))) state .items)) ⌝ }
+{
+    if before >= StateIndex::LIMIT {
+        return false;
+    }
+    if !is_set(entered, before * NonterminalString::LIMIT + nonterminal) {
+        return false;
+    }
+    adds_nothing(
+        table,
+        grammar,
+        productions,
+        least,
+        flags,
+        entered,
+        before,
+        state,
+    )
+}
+
+// Each state of the set in turn, ascending. A state whose items add nothing is passed over: `before` is the state traced last, `known` the first record of the chain found so last (0: a chain without items).
 pub fn trace_states(
     table: &[u16],
     grammar: &[u16],
@@ -131,16 +274,37 @@ pub fn trace_states(
     nonterminal: usize,
 ) -> Inserted
     requires { ⌜ Working (now table) (now grammar) productions (now least) ⌝ }
-    requires { ⌜ (length (now words) ≡ codesRoom) × (length (now flags) ≡ keyWords) × (length (now entered) ≡ pairWords) ⌝ }
+    requires { ⌜ (length (now words) ≡ codesRoom) × (length (now flags) ≡ keyWords) × (now entered ≡ replicate pairWords 0) ⌝ }
     requires { ⌜ ((s : ℕ) → mem s (statesIn (states .low) (states .high)) ≡ true → s < length (meaning (now table) .states)) × (nonterminal < length (meaning (now table) .nonterminals)) ⌝ }
-    ensures { λ r. ⌜ (r ≡ Done → Steps (meaning (now (table .entry))) (inTurn (λ p u. epsilon (meaning (now (table .entry))) pairs p nonterminal u) (statesIn (states .low) (states .high))) (now (words .entry)) (now (flags .entry)) (now (entered .entry)) (now (words .exit)) (now (flags .exit)) (now (entered .exit))) ⌝ }
-    ensures { λ r. ⌜ (r ≡ Full → Exceeds (meaning (now (table .entry))) (inTurn (λ p u. epsilon (meaning (now (table .entry))) pairs p nonterminal u) (statesIn (states .low) (states .high))) (now (words .entry)) (now (flags .entry)) (now (entered .entry))) ⌝ }
+    ensures { λ r. ⌜ (r ≡ Done → (es : List TraceEdge) → Coded (meaning (now (table .entry))) (now (words .entry)) (now (flags .entry)) es → Coded (meaning (now (table .entry))) (now (words .exit)) (now (flags .exit)) (inTurn (λ p u. epsilon (meaning (now (table .entry))) pairs p nonterminal u) (statesIn (states .low) (states .high)) (record { edges = es; seen = [] }) .edges)) ⌝ }
+    ensures { λ r. ⌜ (r ≡ Full → (es : List TraceEdge) → Coded (meaning (now (table .entry))) (now (words .entry)) (now (flags .entry)) es → edgeLimit < length (inTurn (λ p u. epsilon (meaning (now (table .entry))) pairs p nonterminal u) (statesIn (states .low) (states .high)) (record { edges = es; seen = [] }) .edges)) ⌝ }
 {
     let mut rest = states;
+    let mut before = StateIndex::LIMIT;
+    let mut known: usize = 0;
     loop {
         match rest.next() {
             NextState::State(state, others) => {
+                rest = others;
                 let from = state.0 as usize;
+                let head = first_item(table, from);
+                if head == known {
+                    continue;
+                }
+                if passes_over(
+                    table,
+                    grammar,
+                    productions,
+                    least,
+                    flags,
+                    entered,
+                    before,
+                    from,
+                    nonterminal,
+                ) {
+                    known = head;
+                    continue;
+                }
                 match trace_epsilon(
                     table,
                     grammar,
@@ -157,7 +321,7 @@ pub fn trace_states(
                         return Inserted::Full;
                     }
                 }
-                rest = others;
+                before = from;
             }
             NextState::Done => {
                 return Inserted::Done;
@@ -180,10 +344,10 @@ pub fn shift_over(
     index: usize,
 ) -> Inserted
     requires { ⌜ Working (now table) (now grammar) productions (now least) ⌝ }
-    requires { ⌜ (length (now words) ≡ codesRoom) × (length (now flags) ≡ keyWords) × (length (now entered) ≡ pairWords) ⌝ }
+    requires { ⌜ (length (now words) ≡ codesRoom) × (length (now flags) ≡ keyWords) × (now entered ≡ replicate pairWords 0) ⌝ }
     requires { ⌜ ((s : ℕ) → mem s (statesIn (states .low) (states .high)) ≡ true → s < length (meaning (now table) .states)) × ItemFits (meaning (now table)) (record { production = production; index = index }) ⌝ }
-    ensures { λ r. ⌜ (r ≡ Done → Steps (meaning (now (table .entry))) (λ st. inTurn (λ p u. epsilon (meaning (now (table .entry))) pairs p (ownerOf (meaning (now (table .entry))) (record { production = production; index = index })) u) (statesIn (states .low) (states .high)) (addTo (meaning (now (table .entry))) (atNonterminal (ownerOf (meaning (now (table .entry))) (record { production = production; index = index }))) (atItem (record { production = production; index = index })) (record { production = production; index = index }) st)) (now (words .entry)) (now (flags .entry)) (now (entered .entry)) (now (words .exit)) (now (flags .exit)) (now (entered .exit))) ⌝ }
-    ensures { λ r. ⌜ (r ≡ Full → Exceeds (meaning (now (table .entry))) (λ st. inTurn (λ p u. epsilon (meaning (now (table .entry))) pairs p (ownerOf (meaning (now (table .entry))) (record { production = production; index = index })) u) (statesIn (states .low) (states .high)) (addTo (meaning (now (table .entry))) (atNonterminal (ownerOf (meaning (now (table .entry))) (record { production = production; index = index }))) (atItem (record { production = production; index = index })) (record { production = production; index = index }) st)) (now (words .entry)) (now (flags .entry)) (now (entered .entry))) ⌝ }
+    ensures { λ r. ⌜ (r ≡ Done → (es : List TraceEdge) → Coded (meaning (now (table .entry))) (now (words .entry)) (now (flags .entry)) es → Coded (meaning (now (table .entry))) (now (words .exit)) (now (flags .exit)) (inTurn (λ p u. epsilon (meaning (now (table .entry))) pairs p (ownerOf (meaning (now (table .entry))) (record { production = production; index = index })) u) (statesIn (states .low) (states .high)) (addTo (meaning (now (table .entry))) (atNonterminal (ownerOf (meaning (now (table .entry))) (record { production = production; index = index }))) (atItem (record { production = production; index = index })) (record { production = production; index = index }) (record { edges = es; seen = [] })) .edges)) ⌝ }
+    ensures { λ r. ⌜ (r ≡ Full → (es : List TraceEdge) → Coded (meaning (now (table .entry))) (now (words .entry)) (now (flags .entry)) es → edgeLimit < length (inTurn (λ p u. epsilon (meaning (now (table .entry))) pairs p (ownerOf (meaning (now (table .entry))) (record { production = production; index = index })) u) (statesIn (states .low) (states .high)) (addTo (meaning (now (table .entry))) (atNonterminal (ownerOf (meaning (now (table .entry))) (record { production = production; index = index }))) (atItem (record { production = production; index = index })) (record { production = production; index = index }) (record { edges = es; seen = [] })) .edges)) ⌝ }
 {
     match to_item(least, words, flags, production, index) {
         Inserted::Done => {}

@@ -1,5 +1,5 @@
--- A view of a trace graph: what a listing from one item asks of it (request 06), in three small lists. By edge: the nonterminal that it comes from, and the next older edge into the same node.
--- By node: the latest edge into it. An edge that is linked is one more than its number, and 0 is none, as in the index of a whole graph (specs/Index of trace_graph). Assumes nothing: these are definitions.
+-- A view of a trace graph: what a listing from one item asks of it (request 06), in five small lists. By edge: the nonterminal that it comes from, the next older edge into the same node, and its
+-- label in two (`Labelled`). By node: the latest edge into it. An edge that is linked is one more than its number, and 0 is none, as in the index of a whole graph (specs/Index of trace_graph). Assumes nothing: these are definitions.
 use Prim.Native.Nat.{ℕ, suc, _+_, _/_, _%_, _≤_, _<_}
 use mathlib.Core.Path.{_≡_}
 use mathlib.Core.Bool.{true, false}

@@ -1,4 +1,4 @@
-// A view of a trace graph (request 06): what a listing from one item asks of it, in three small lists; the machine that steps from trial to trial over it, in 34 words of a trial.
+// A view of a trace graph (request 06): what a listing from one item asks of it, in five small lists, two of them for the labels; the machine that steps from trial to trial over it, in 34 words of a trial.
 use example::Example;
 use repr::NonterminalString;
 use trace_graph::TraceGraph;

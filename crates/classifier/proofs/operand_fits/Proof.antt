@@ -1,7 +1,5 @@
 -- `operand_fits` meets its contract. Assumes nothing.
 use Rattle.classifier.proofs.Ways.{operand-shift, operand-reduce, operand-other}
-use borrow.Author.Needs.{needs}
-use native.Mathlib.Omega.{arith}
 use Rattle.classifier.proofs.operand_fits.Statement.{statement}
 use Rattle.classifier.proofs.operand_fits.Tie as tie
 

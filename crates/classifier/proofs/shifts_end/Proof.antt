@@ -1,6 +1,5 @@
 -- `shifts_end` meets its contract. Assumes nothing.
 use Rattle.classifier.proofs.Ways.{end-shift, end-other}
-use native.Mathlib.Omega.{arith}
 use borrow.Author.Needs.{needs}
 use Rattle.classifier.proofs.shifts_end.Statement.{statement}
 use Rattle.classifier.proofs.shifts_end.Tie as tie

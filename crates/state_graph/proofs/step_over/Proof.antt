@@ -82,7 +82,7 @@ loop-again-2 : tie.Need-loop-again-2 Inv-loop μ-loop
 loop-again-2 c =
     let S = c .before .before .before .before .before .before .before .before .before .before .before .before .before .before .before .before in
     let i : c .before .before .before .before .before .before .before .loop .s < length (meaning (S .args .table .now) .states) = omega (arith, c .before .before .before .before .before .before .loop-test .taken, c .before .before .before .before .before .before .before .before .before .read-counts .ensures .states) in
-    (omega (arith, c .before .before .before .before .before .before .loop-test .taken), λ l h H. finding-hit (S .args .table .now) (S .pre .0) _ _ l h _ _ _ (c .before .before .before .before .before .before .before .loop .inv .1 l h H) i _ H _ (c .before .before .before .before .before .first-edge .ensures .0) (c .before .before .before .before .if1 .left) (c .before .before .before .before .before .first-edge .ensures .1) (sym (c .before .before .is-set .ensures) ∙ c .before .if2 .taken) _ _ (c .insert .ensures))
+    (omega (arith, c .before .before .before .before .before .before .loop-test .taken), λ l h H. finding-hit (S .args .table .now) (S .pre .0) _ _ l h _ _ _ (c .before .before .before .before .before .before .before .loop .inv .1 l h H) i _ (c .before .before .before .before .before .first-edge .ensures .0) (sym (H .exact _ (c .before .before .before .before .before .first-edge .ensures .1 .reached (c .before .before .before .before .if1 .left))) ∙ sym (c .before .before .is-set .ensures) ∙ c .before .if2 .taken) _ _ (c .insert .ensures))
 
 -- src/lib.rt:121:9
 add-s-3 : tie.Need-add-s-3 Inv-loop μ-loop
@@ -97,7 +97,7 @@ loop-again-3 : tie.Need-loop-again-3 Inv-loop μ-loop
 loop-again-3 c =
     let S = c .before .before .before .before .before .before .before .before .before .before .before .before .before .before .before in
     let i : c .before .before .before .before .before .before .loop .s < length (meaning (S .args .table .now) .states) = omega (arith, c .before .before .before .before .before .loop-test .taken, c .before .before .before .before .before .before .before .before .read-counts .ensures .states) in
-    (omega (arith, c .before .before .before .before .before .loop-test .taken), λ l h H. finding-miss (S .args .table .now) (S .pre .0) _ _ l h _ _ _ (c .before .before .before .before .before .before .loop .inv .1 l h H) i _ H _ (c .before .before .before .before .first-edge .ensures .0) (c .before .before .before .if1 .left) (c .before .before .before .before .first-edge .ensures .1) (sym (c .before .is-set .ensures) ∙ c .if2 .left))
+    (omega (arith, c .before .before .before .before .before .loop-test .taken), λ l h H. finding-miss (S .args .table .now) (S .pre .0) _ _ l h _ _ _ (c .before .before .before .before .before .before .loop .inv .1 l h H) i _ (c .before .before .before .before .first-edge .ensures .0) (sym (H .exact _ (c .before .before .before .before .first-edge .ensures .1 .reached (c .before .before .before .if1 .left))) ∙ sym (c .before .is-set .ensures) ∙ c .if2 .left))
 
 -- src/lib.rt:93:1
 same-length : tie.Need-same-length Inv-loop μ-loop

@@ -1,11 +1,9 @@
 -- `walk_back` goes from the last symbol to the first. The loop's invariant (`Walking`): what is found is the walk over the symbols from place i on; steps are remembered. The measure is i.
 -- Assumes nothing.
 use mathlib.Core.Path.{refl, sym, _∙_}
-use Prim.Native.Nat.{_+_, _-_, _*_, _<_}
-use lib.ListN.{length}
 use Rattle.table.specs.Decoded.{meaning}
 use Rattle.state_graph.specs.Remembered.{Remembered}
-use Rattle.state_graph.proofs.Steps.{Walking, walking-start, walking-at, walking-more, walking-done}
+use Rattle.state_graph.proofs.Steps.{Walking, walking-start, walking-at, walking-symbol, walking-more, walking-done}
 use borrow.Author.Needs.{needs}
 use native.Mathlib.Omega.{arith}
 use Rattle.state_graph.proofs.walk_back.Statement.{statement}
@@ -53,7 +51,7 @@ word-requires-2 c κs = walking-at (meaning (c .before .before .before .before .
 step-back-requires : tie.Need-step-back-requires Inv-loop μ-loop
 step-back-requires c κs =
     let S = c .before .before .before .before .before .before .before .before in
-    (S .pre .0, (rw (c .before .before .word .ensures .0, c .before .word2 .ensures .0) (walking-at (meaning (S .args .table .now)) (S .args .symbols .now) (S .pre .1 .0) _ _ _ _ (c .before .before .before .before .loop .i) (c .before .before .before .before .loop .inv .0) (c .before .before .before .loop-test .taken) .1), c .before .before .before .before .loop .inv .1))
+    (S .pre .0, (walking-symbol (meaning (S .args .table .now)) (S .args .symbols .now) (S .pre .1 .0) _ _ _ _ (c .before .before .before .before .loop .i) (c .before .before .before .before .loop .inv .0) (c .before .before .before .loop-test .taken) _ _ (c .before .before .word .ensures .0) (c .before .word2 .ensures .0), c .before .before .before .before .loop .inv .1))
 
 -- src/lib.rt:277:5
 loop-less : tie.Need-loop-less Inv-loop μ-loop

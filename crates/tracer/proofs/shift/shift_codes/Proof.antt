@@ -1,10 +1,11 @@
 -- `shift_codes` begins with no edge, and walks back over the prefix. Assumes nothing.
 use mathlib.Core.Path.{refl, _∙_}
-use lib.ListN.{length, set, replicate, length-set}
+use Prim.Native.Nat.{_<_}
+use lib.ListN.{length, set, length-set}
+use Rattle.repr.specs.Sizes.{edgeLimit}
 use Rattle.table.specs.Decoded.{meaning}
-use Rattle.codes.specs.Coded.{keyWords}
-use Rattle.tracer.specs.Held.{pairWords}
-use Rattle.tracer.proofs.Begin.{held-none, emptied, item-words, prefix-listed, found-is, found-in, shift-coded, shift-exceeds}
+use Rattle.codes.specs.Coded.{Coded}
+use Rattle.tracer.proofs.Begin.{coded-none, emptied, item-words, prefix-listed, found-is, found-in, shift-from}
 use native.Mathlib.Omega.{arith}
 use borrow.Author.Needs.{needs}
 use Rattle.tracer.proofs.shift.shift_codes.Statement.{statement}
@@ -48,8 +49,8 @@ returns c =
     let S = c .before .before .before .before .before .before .before .before .before .before .before .before .before .before .before .before in
     let k = c .before .before .before .before .before .before .before .before .before .before .before .new .result .edges in
     let e = found-is (S .pre .0) (S .pre .1 .1 .0) (S .pre .1 .1 .1) _ _ (c .before .before .before .before .before .before .before .before .before .prefix .ensures .1) (c .before .before .before .before .before .before .before .before .trace-back .ensures) in
-    let H = held-none (meaning (S .args .table .now)) (set (S .args .words .now) 0 k) (replicate keyWords 0) (replicate pairWords 0) (length-set (S .args .words .now) 0 k ∙ S .pre .1 .0) (emptied (S .args .words .now) k (c .before .before .before .before .before .before .before .before .before .before .before .new .ensures) (S .pre .1 .0)) refl refl in
-    (λ r. shift-coded (S .pre .0) (S .pre .1 .1 .0) (S .pre .1 .1 .1) _ e _ _ _ H _ _ _ (c .before .before .before .before .shift-over .ensures .0 r), λ r. shift-exceeds (S .pre .0) (S .pre .1 .1 .0) (S .pre .1 .1 .1) _ e _ _ _ H (c .before .before .before .before .shift-over .ensures .1 r))
+    let C = coded-none (meaning (S .args .table .now)) (set (S .args .words .now) 0 k) (length-set (S .args .words .now) 0 k ∙ S .pre .1 .0) (emptied (S .args .words .now) k (c .before .before .before .before .before .before .before .before .before .before .before .new .ensures) (S .pre .1 .0)) in
+    (λ r. (_, shift-from (S .pre .0) (S .pre .1 .1 .0) (S .pre .1 .1 .1) _ e _ C (Coded (meaning (S .args .table .now)) _ _) (c .before .before .before .before .shift-over .ensures .0 r)), λ r. shift-from (S .pre .0) (S .pre .1 .1 .0) (S .pre .1 .1 .1) _ e _ C (λ es. edgeLimit < length es) (c .before .before .before .before .shift-over .ensures .1 r))
 
 pub shift-codes-spec : {M : Type 1} → statement M
 shift-codes-spec = tie.close (tie.spec new-requires cast-words slice-write-words prefix-requires trace-back-requires slice-aggregate-shift-over slice-aggregate-shift-over-2 shift-over-requires same-length returns)
