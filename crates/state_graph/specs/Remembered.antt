@@ -17,6 +17,7 @@ stepRow kind number = kind * nonterminalLimit + number
 abbrev pub stepRows : ℕ
 stepRows = nonterminalLimit + terminalLimit
 
+-- fewer than rows, as all of them are zeroed at each trace
 abbrev pub stepPlaces : ℕ
 stepPlaces = 31
 

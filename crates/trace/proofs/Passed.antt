@@ -10,31 +10,16 @@ use borrow.Author.Tests.{ltb-true, ltb-false, ne-eqb}
 use Rattle.repr.specs.Lists.{mem, some?}
 use Rattle.repr.specs.Meaning.{Item, Table, stateAt, TableFits, All}
 use Rattle.repr.proofs.Lists.{cases, clash, mem-yes, mem-no}
-use Rattle.repr.proofs.Tests.{All-member, All-map}
+use Rattle.repr.proofs.Tests.{All-member}
 use Rattle.trace_graph.specs.Graph.{Node, atNonterminal, atItem, TraceEdge, sameEdge, add}
 use Rattle.trace.specs.Traced.{Trace, pair, enter, addTo, ownerOf, canShift, inTurn, pairs}
 use Rattle.trace.specs.Shift.{epsilonItem, epsilon}
 use Rattle.trace.specs.Passed.{ItemPassed, Passed}
 use Rattle.trace.proofs.Once.{add-there}
-use Rattle.trace.proofs.Grows.{Grows, grows-some, turn-nil, turn-cons, epsilon-cannot, epsilon-past, epsilon-beginning, epsilon-zero, epsilon-entered, epsilon-new}
+use Rattle.trace.proofs.Grows.{turn-nil, turn-cons, epsilon-cannot, epsilon-past, epsilon-beginning, epsilon-zero, epsilon-entered, epsilon-new}
 use Rattle.trace.proofs.Fuel.{listed-mem, owner-lt}
 use Rattle.trace.proofs.Steps.{edge-past, edge-beginning, stateStep}
 use Rattle.trace.proofs.Traced.{turn-keeps}
-
--- what is passed stays so, and a chain without items is
-pub passed-grows : (T : Table) (n : ℕ) (a b : Trace) (is : List Item) → Grows a b → Passed T n (a .edges) is → Passed T n (b .edges) is
-passed-grows T n a b is g p = record {
-  from = p .from;
-  has = p .has;
-  items = All-map (ItemPassed T (p .from) (a .edges)) (ItemPassed T (p .from) (b .edges)) (λ i q. record {
-    edge = λ m l d c. grows-some g (sameEdge (T .productions) _) (q .edge m l d c);
-    owner = q .owner;
-  }) is (p .items);
-}
-
-pub passed-none : (T : Table) (n : ℕ) (es : List TraceEdge) → Passed T n es []
-unfolding All
-passed-none T n es = record { from = λ _. true; has = refl; items = tt }
 
 -- the same edges, and the same pairs of all states but s
 record Alike (s : ℕ) (a b : Trace) : Type 0 where

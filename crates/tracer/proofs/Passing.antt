@@ -1,11 +1,11 @@
 -- The test whether a state's items lead to nothing new (specs/Passed of trace): of one item, and of a chain from the front. Assumes nothing.
-use mathlib.Core.Path.{_≡_, refl, ap, _∙_}
+use mathlib.Core.Path.{_≡_, refl, sym, ap, _∙_}
 use mathlib.Core.Bool.{true, false}
-use mathlib.Core.List.{List}
-use Prim.Native.Nat.{ℕ, _+_, _*_, _≤_, _<_}
+use mathlib.Core.List.{List, [], _∷_}
+use Prim.Native.Nat.{ℕ, zero, suc, _+_, _*_, _≤_, _<_}
 use native.Mathlib.Omega.{arith}
 use lib.Dec.{eqb}
-use lib.ListN.{length, getD}
+use lib.ListN.{length, getD, drop}
 use borrow.Author.Tests.{ltb-false}
 use Rattle.repr.specs.Lists.{some?}
 use Rattle.repr.specs.Meaning.{Item, Table, TableFits, ItemFits, All, stateAt}
@@ -76,23 +76,52 @@ module _ (t g : List ℕ) (productions : ℕ) (ls : List ℕ) (W : Working t g p
         let w = work-owner t g productions ls W p x (packed-few t g productions ls W p x I) in
         record { edge = λ n l _ c. k n l c; owner = λ n l _ c _. rw (← w, ← e) d }
 
+-- items that are all passed
+
+abbrev pub Clear : (t fs v : List ℕ) → ℕ → List Item → Type 0
+Clear t fs v b is = (ws : List ℕ) (es : List TraceEdge) → Coded (meaning t) ws fs es → All (ItemPassed (meaning t) (λ n. bitAt v (b * 32 + n)) es) is
+
+pub clear-none : (t fs v : List ℕ) (b : ℕ) → Clear t fs v b (itemsFrom t 0)
+unfolding All
+clear-none t fs v b ws es C = rw (items-none t) tt
+
+-- further along the chain
+
+drop-one : (k : ℕ) (is : List Item) → drop 1 (drop k is) ≡ drop (suc k) is
+drop-one zero is = refl
+drop-one (suc k) [] = refl
+drop-one (suc k) (i ∷ is) = drop-one k is
+
+all-drop : (P : Item → Type 0) (k : ℕ) (is : List Item) → All P is → All P (drop k is)
+unfolding All
+all-drop P zero is h = h
+all-drop P (suc k) [] h = h
+all-drop P (suc k) (i ∷ is) h = all-drop P k is (h .1)
+
+abbrev pub Further : List ℕ → ℕ → ℕ → Type 0
+Further t first at = ((k : ℕ) × (itemsFrom t at ≡ drop k (itemsFrom t first))) × ItemIndex t at
+
+pub further-more : (t : List ℕ) (first at next p x : ℕ) → Further t first at → ItemRead t at next p x → Further t first next
+further-more t first at next p x U R = ((suc (U .0 .0), ap (drop 1) (sym (R .list)) ∙ ap (drop 1) (U .0 .1) ∙ drop-one (U .0 .0) (itemsFrom t first)), R .on)
+
 -- the items of a state: where those that are left are passed all are
 
 pub record Passing (t : List ℕ) (s : ℕ) (fs v : List ℕ) (b at : ℕ) : Type 0 where
   pub on : ItemIndex t at
-  pub rest : (ws : List ℕ) (es : List TraceEdge) → Coded (meaning t) ws fs es → All (ItemPassed (meaning t) (λ n. bitAt v (b * 32 + n)) es) (itemsFrom t at)
-      → All (ItemPassed (meaning t) (λ n. bitAt v (b * 32 + n)) es) (stateAt (meaning t) s .items)
+  pub rest : Clear t fs v b (itemsFrom t at) → Clear t fs v b (stateAt (meaning t) s .items)
 
 module _ (t : List ℕ) (s : ℕ) (fs v : List ℕ) (b : ℕ) where
+  pub clear-further : (first at : ℕ) → itemsFrom t first ≡ stateAt (meaning t) s .items → Clear t fs v b (stateAt (meaning t) s .items) → Further t first at → Clear t fs v b (itemsFrom t at)
+  clear-further first at e a U ws es C = rw (U .0 .1, e) (all-drop (ItemPassed (meaning t) (λ n. bitAt v (b * 32 + n)) es) (U .0 .0) (stateAt (meaning t) s .items) (a ws es C))
+
   pub passing-start : (at : ℕ) → itemsFrom t at ≡ stateAt (meaning t) s .items → ItemIndex t at → Passing t s fs v b at
-  passing-start at e i = record { on = i; rest = λ ws es C a. rw e at a }
+  passing-start at e i = record { on = i; rest = λ a. rw e at a }
 
   module _ (at : ℕ) (U : Passing t s fs v b at) where
     pub passing-more : (next p x : ℕ) → ItemRead t at next p x
         → ((ws : List ℕ) (es : List TraceEdge) → Coded (meaning t) ws fs es → ItemPassed (meaning t) (λ n. bitAt v (b * 32 + n)) es (record { production = p; index = x })) → Passing t s fs v b next
     unfolding All
-    passing-more next p x R q = record { on = R .on; rest = λ ws es C a. U .rest ws es C (rw (R .list) (q ws es C, a)) }
+    passing-more next p x R q = record { on = R .on; rest = λ a. U .rest (λ ws es C. rw (R .list) (q ws es C, a ws es C)) }
 
-    pub passing-done : at ≡ 0 → (ws : List ℕ) (es : List TraceEdge) → Coded (meaning t) ws fs es → All (ItemPassed (meaning t) (λ n. bitAt v (b * 32 + n)) es) (stateAt (meaning t) s .items)
-    unfolding All
-    passing-done z ws es C = U .rest ws es C (rw (z, items-none t) tt)
+    pub passing-done : (k : ℕ) → at ≡ k → Clear t fs v b (itemsFrom t k) → Clear t fs v b (stateAt (meaning t) s .items)
+    passing-done k z a = U .rest (rw z a)

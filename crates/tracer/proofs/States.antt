@@ -2,7 +2,7 @@
 use mathlib.Core.Path.{_≡_, refl, sym, ap, _∙_}
 use mathlib.Core.Bool.{true, false}
 use mathlib.Core.List.{List, [], _∷_}
-use Prim.Native.Nat.{ℕ, zero, suc, _≤_, _<_}
+use Prim.Native.Nat.{ℕ, zero, suc, _+_, _*_, _≤_, _<_}
 use native.Mathlib.Omega.{arith}
 use lib.ListN.{length, replicate}
 use Rattle.repr.specs.Lists.{below, mem}
@@ -19,14 +19,14 @@ use Rattle.state_graph.proofs.Exact.{kept-ascending}
 use Rattle.state_graph.proofs.States.{next-states, next-none}
 use Rattle.trace.specs.Traced.{Trace, inTurn, pairs, ownerOf, addTo}
 use Rattle.trace.specs.Shift.{epsilon}
-use Rattle.trace.specs.Passed.{Passed}
 use Rattle.trace.proofs.Grows.{grows-length, turn-nil, turn-cons, turn-grows, epsilon-grows}
 use Rattle.trace.proofs.Steps.{stateStep}
-use Rattle.trace.proofs.Passed.{passed-grows, passed-none, left-out}
+use Rattle.trace.proofs.Passed.{left-out}
 use Rattle.bits.specs.Bits.{bitAt}
 use Rattle.tracer.specs.Held.{Held, Steps, Exceeds, openBits, unset}
 use Rattle.tracer.proofs.Begin.{held-start}
-use Rattle.tracer.proofs.Turns.{open-zero, open-set, open-unset, items-none}
+use Rattle.tracer.proofs.Turns.{open-zero, open-set, open-unset}
+use Rattle.tracer.proofs.Passing.{Clear, clear-none, Further, clear-further}
 
 -- the number of pairs is fuel enough
 pub open-few : (n : ℕ) (vs : List ℕ) → openBits n vs ≤ n
@@ -56,32 +56,34 @@ next-apart l h s r e =
     absurd (omega (arith, up 0 (suc (w .0)) (omega arith) (omega arith), w .2)))
     (λ q. q)
 
--- the loop's invariant: the states that are left, from a trace that the words hold, give the edges that all give from the edges es; the chain from `known` on is passed
-pub record Round (t : List ℕ) (m l₀ h₀ : ℕ) (es : List TraceEdge) (l h : ℕ) (ws fs v : List ℕ) (known : ℕ) : Type 0 where
+-- the loop's invariant: the states that are left, from a trace that the words hold, give the edges that all give from the edges es
+pub record Round (t : List ℕ) (m l₀ h₀ : ℕ) (es : List TraceEdge) (l h : ℕ) (ws fs v : List ℕ) : Type 0 where
   pub trace : Trace
   pub held : Held (meaning t) ws fs v trace
   pub edges : inTurn (stateStep (meaning t) m) (statesIn l h) trace .edges ≡ inTurn (stateStep (meaning t) m) (statesIn l₀ h₀) (record { edges = es; seen = [] }) .edges
-  pub passed : Passed (meaning t) m (trace .edges) (itemsFrom t known)
 
-pub record Rounds (t : List ℕ) (m l₀ h₀ : ℕ) (ws₀ fs₀ : List ℕ) (l h : ℕ) (ws fs v : List ℕ) (known : ℕ) : Type 0 where
+-- b: the state traced last; the items from `known` on are passed
+pub record Rounds (t : List ℕ) (m l₀ h₀ : ℕ) (ws₀ fs₀ : List ℕ) (l h : ℕ) (ws fs v : List ℕ) (b known : ℕ) : Type 0 where
   pub inside : (s : ℕ) → mem s (statesIn l h) ≡ true → s < length (meaning t .states)
   pub w-len : length ws ≡ 1025
   pub f-len : length fs ≡ 102
   pub v-len : length v ≡ 64
-  pub same : (es : List TraceEdge) → Coded (meaning t) ws₀ fs₀ es → Round t m l₀ h₀ es l h ws fs v known
+  pub same : (es : List TraceEdge) → Coded (meaning t) ws₀ fs₀ es → Round t m l₀ h₀ es l h ws fs v
+  pub clear : Clear t fs v b (itemsFrom t known)
 
 module _ (t : List ℕ) (m : ℕ) where
   pub rounds-start : (l h : ℕ) (ws fs v : List ℕ) → ((s : ℕ) → mem s (statesIn l h) ≡ true → s < length (meaning t .states)) → length ws ≡ 1025 → length fs ≡ 102 → v ≡ replicate 64 0
-      → Rounds t m l h ws fs l h ws fs v 0
-  rounds-start l h ws fs v inside a b e = record {
+      → (b : ℕ) → Rounds t m l h ws fs l h ws fs v b 0
+  rounds-start l h ws fs v inside a f e b = record {
     inside = inside;
     w-len = a;
-    f-len = b;
+    f-len = f;
     v-len = ap length e;
-    same = λ es C. record { trace = record { edges = es; seen = [] }; held = held-start (meaning t) ws fs v es C e; edges = refl; passed = rw (items-none t) (passed-none (meaning t) m es) };
+    same = λ es C. record { trace = record { edges = es; seen = [] }; held = held-start (meaning t) ws fs v es C e; edges = refl };
+    clear = clear-none t fs v b;
   }
 
-  module _ (l₀ h₀ : ℕ) (ws₀ fs₀ : List ℕ) (l h : ℕ) (ws fs v : List ℕ) (known : ℕ) (U : Rounds t m l₀ h₀ ws₀ fs₀ l h ws fs v known) where
+  module _ (l₀ h₀ : ℕ) (ws₀ fs₀ : List ℕ) (l h : ℕ) (ws fs v : List ℕ) (b known : ℕ) (U : Rounds t m l₀ h₀ ws₀ fs₀ l h ws fs v b known) where
     pub rounds-done : NextIs l h Done → (es : List TraceEdge) → Coded (meaning t) ws₀ fs₀ es → Coded (meaning t) ws fs (inTurn (stateStep (meaning t) m) (statesIn l₀ h₀) (record { edges = es; seen = [] }) .edges)
     rounds-done e es C =
         let r = U .same es C in
@@ -104,7 +106,7 @@ module _ (t : List ℕ) (m : ℕ) where
       -- traced
 
       pub rounds-more : (ws′ fs′ v′ : List ℕ) → ((f : ℕ) → unset v ≤ f → Steps (meaning t) (epsilon (meaning t) f s m) ws fs v ws′ fs′ v′)
-          → length ws′ ≡ length ws → length fs′ ≡ length fs → length v′ ≡ length v → Rounds t m l₀ h₀ ws₀ fs₀ (r .low) (r .high) ws′ fs′ v′ known
+          → length ws′ ≡ length ws → length fs′ ≡ length fs → length v′ ≡ length v → Rounds t m l₀ h₀ ws₀ fs₀ (r .low) (r .high) ws′ fs′ v′ s 0
       rounds-more ws′ fs′ v′ call lw lf lv = record {
         inside = others-inside;
         w-len = lw ∙ U .w-len;
@@ -114,8 +116,8 @@ module _ (t : List ℕ) (m : ℕ) where
           trace = epsilon (meaning t) pairs s m (q .trace);
           held = call pairs (enough v) (q .trace) (q .held);
           edges = opened es C;
-          passed = passed-grows (meaning t) m (q .trace) (epsilon (meaning t) pairs s m (q .trace)) (itemsFrom t known) (epsilon-grows (meaning t) pairs s m (q .trace)) (q .passed);
         };
+        clear = clear-none t fs′ v′ s;
       }
 
       pub rounds-full : ((f : ℕ) → unset v ≤ f → Exceeds (meaning t) (epsilon (meaning t) f s m) ws fs v)
@@ -128,27 +130,21 @@ module _ (t : List ℕ) (m : ℕ) where
 
       -- passed over, head the first record of its chain
 
-      module _ (F : TableFits (meaning t)) (few : m < length (meaning t .nonterminals)) (head : ℕ) (eh : itemsFrom t head ≡ stateAt (meaning t) s .items) where
-        passed-by : (k : ℕ) → itemsFrom t k ≡ stateAt (meaning t) s .items → ((es : List TraceEdge) (C : Coded (meaning t) ws₀ fs₀ es) → Passed (meaning t) m (U .same es C .trace .edges) (itemsFrom t k))
-            → Rounds t m l₀ h₀ ws₀ fs₀ (r .low) (r .high) ws fs v k
-        passed-by k ek p = record {
-          inside = others-inside;
-          w-len = U .w-len;
-          f-len = U .f-len;
-          v-len = U .v-len;
-          same = λ es C. let q = U .same es C in record {
-            trace = q .trace;
-            held = q .held;
-            edges = left-out (meaning t) F s m few (statesIn (r .low) (r .high)) (next-apart l h s r e) (q .trace) (rw ek at (p es C)) ∙ opened es C;
-            passed = p es C;
-          };
-        }
-
-        pub rounds-known : head ≡ known → Rounds t m l₀ h₀ ws₀ fs₀ (r .low) (r .high) ws fs v known
-        rounds-known z = passed-by known (ap (itemsFrom t) (sym z) ∙ eh) (λ es C. U .same es C .passed)
-
-        pub rounds-passed : ((us : List ℕ) (es : List TraceEdge) → Coded (meaning t) us fs es → Passed (meaning t) m es (stateAt (meaning t) s .items)) → Rounds t m l₀ h₀ ws₀ fs₀ (r .low) (r .high) ws fs v head
-        rounds-passed call = passed-by head eh (λ es C. let q = U .same es C in rw eh (call ws (q .trace .edges) (q .held .edges)))
+      pub rounds-passed : TableFits (meaning t) → m < length (meaning t .nonterminals) → bitAt v (b * 32 + m) ≡ true → Clear t fs v b (stateAt (meaning t) s .items)
+          → (head : ℕ) → itemsFrom t head ≡ stateAt (meaning t) s .items → (k : ℕ) → Further t head k → Rounds t m l₀ h₀ ws₀ fs₀ (r .low) (r .high) ws fs v b k
+      rounds-passed F few has call head eh k w = record {
+        inside = others-inside;
+        w-len = U .w-len;
+        f-len = U .f-len;
+        v-len = U .v-len;
+        same = λ es C. let q = U .same es C in record {
+          trace = q .trace;
+          held = q .held;
+          edges = left-out (meaning t) F s m few (statesIn (r .low) (r .high)) (next-apart l h s r e) (q .trace) (record { from = λ n. bitAt v (b * 32 + n); has = has; items = call ws (q .trace .edges) (q .held .edges) })
+              ∙ opened es C;
+        };
+        clear = clear-further t s fs v b head k eh call w;
+      }
 
 -- the first edge, and then the states
 

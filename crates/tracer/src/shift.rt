@@ -22,21 +22,24 @@ ghost use mathlib.Core.Path.{_≡_};
 ghost use mathlib.Core.Bool.{true};
 ghost use mathlib.Core.List.{List, []};
 ghost use Prim.Native.Nat.{ℕ, _+_, _*_, _≤_, _<_};
-ghost use lib.ListN.{length, getD, replicate};
+ghost use lib.ListN.{length, getD, drop, replicate};
 ghost use Rattle.repr.specs.Sizes.{productionLimit, indexLimit, stateLimit, nonterminalLimit, edgeLimit};
 ghost use Rattle.repr.specs.Lists.{mem, some?};
 ghost use Rattle.repr.specs.Meaning.{Table, TableFits, ItemFits, All, stateAt};
 ghost use Rattle.repr.specs.Listed.{listed};
 ghost use Rattle.repr.specs.Packed.{Packed, symbolWords};
 ghost use Rattle.core.specs.Items.{shiftsNonterminal};
-ghost use Rattle.table.specs.Decoded.{meaning};
+ghost use Rattle.table.specs.Decoded.{meaning, itemsFrom};
+ghost use Rattle.table.specs.Index.{ItemIndex};
+ghost use Rattle.table.specs.Refusals.{checkOf};
+ghost use Rattle.table.specs.declared.Checked.the-variants.{Accepted};
 ghost use Rattle.state_graph.specs.States.{statesIn};
 ghost use Rattle.trace_graph.specs.declared.Inserted.the-variants.{Done, Full};
 ghost use Rattle.trace_graph.specs.Graph.{TraceEdge, sameEdge, add, atNonterminal, atItem};
 ghost use Rattle.trace.specs.Traced.{canShift, inTurn, pairs, ownerOf, addTo};
 ghost use Rattle.trace.specs.Shift.{epsilon, shiftEdges};
 ghost use Rattle.trace.specs.Edges.{epsilonEdge};
-ghost use Rattle.trace.specs.Passed.{ItemPassed, Passed};
+ghost use Rattle.trace.specs.Passed.{ItemPassed};
 ghost use Rattle.bits.specs.Bits.{bitAt};
 ghost use Rattle.codes.specs.Coded.{codesRoom, keyWords, Coded, Leasts};
 ghost use Rattle.tracer.specs.Held.{pairWords, Steps, Exceeds, unset, Working};
@@ -189,7 +192,24 @@ fn is_passed(
     is_set(entered, before * NonterminalString::LIMIT + owner)
 }
 
-// Whether the items of a state lead to nothing new from the nonterminals that were entered from the state `before`.
+// The record 64 further along a chain of items, its first record where the chain ends before. From there on chains of other states may go the same way: 128 states cannot have more records of their own each.
+fn ahead(table: &[u16], first: usize) -> usize
+    requires { ⌜ (checkOf (now table) ≡ Accepted) × ItemIndex (now table) first ⌝ }
+    ensures { λ r. ⌜ ((k : ℕ) × (itemsFrom (now (table .entry)) r ≡ drop k (itemsFrom (now (table .entry)) first))) × ItemIndex (now (table .entry)) r ⌝ }
+{
+    let mut at = first;
+    let mut left: usize = 64;
+    while left > 0 {
+        if at == 0 {
+            return first;
+        }
+        at = item(table, at).next;
+        left -= 1;
+    }
+    at
+}
+
+// Whether the items of a state lead to nothing new from the nonterminals that were entered from the state `before`, where those from the record `known` on do not (0: a chain without items).
 fn adds_nothing(
     table: &[u16],
     grammar: &[u16],
@@ -198,14 +218,19 @@ fn adds_nothing(
     flags: &[u64],
     entered: &[u64],
     before: usize,
+    known: usize,
     state: usize,
 ) -> bool
     requires { ⌜ Working (now table) (now grammar) productions (now least) ⌝ }
     requires { ⌜ (length (now flags) ≡ keyWords) × (length (now entered) ≡ pairWords) × (before < stateLimit) × (state < length (meaning (now table) .states)) ⌝ }
+    requires { ⌜ ((ws : List ℕ) (es : List TraceEdge) → Coded (meaning (now table)) ws (now flags) es → All (ItemPassed (meaning (now table)) (λ n. bitAt (now entered) (before * nonterminalLimit + n)) es) (itemsFrom (now table) known)) ⌝ }
     ensures { λ r. ⌜ (r ≡ true → (ws : List ℕ) (es : List TraceEdge) → Coded (meaning (now (table .entry))) ws (now (flags .entry)) es → All (ItemPassed (meaning (now (table .entry))) (λ n. bitAt (now (entered .entry)) (before * nonterminalLimit + n)) es) (stateAt (meaning (now (table .entry))) state .items)) ⌝ }
 {
     let mut at = first_item(table, state);
     while at != 0 {
+        if at == known {
+            return true;
+        }
         let read = item(table, at);
         let production = read.production;
         let index = read.index;
@@ -235,13 +260,16 @@ fn passes_over(
     flags: &[u64],
     entered: &[u64],
     before: usize,
+    known: usize,
     state: usize,
     nonterminal: usize,
 ) -> bool
     requires { ⌜ Working (now table) (now grammar) productions (now least) ⌝ }
     requires { ⌜ (length (now flags) ≡ keyWords) × (length (now entered) ≡ pairWords) ⌝ }
     requires { ⌜ (state < length (meaning (now table) .states)) × (nonterminal < length (meaning (now table) .nonterminals)) ⌝ }
-    ensures { λ r. ⌜ (r ≡ true → (ws : List ℕ) (es : List TraceEdge) → Coded (meaning (now (table .entry))) ws (now (flags .entry)) es → Passed (meaning (now (table .entry))) nonterminal es (stateAt (meaning (now (table .entry))) state .items)) ⌝ }
+    requires { ⌜ ((ws : List ℕ) (es : List TraceEdge) → Coded (meaning (now table)) ws (now flags) es → All (ItemPassed (meaning (now table)) (λ n. bitAt (now entered) (before * nonterminalLimit + n)) es) (itemsFrom (now table) known)) ⌝ }
+    ensures { λ r. ⌜ (r ≡ true → bitAt (now (entered .entry)) (before * nonterminalLimit + nonterminal) ≡ true) ⌝ }
+    ensures { λ r. ⌜ (r ≡ true → (ws : List ℕ) (es : List TraceEdge) → Coded (meaning (now (table .entry))) ws (now (flags .entry)) es → All (ItemPassed (meaning (now (table .entry))) (λ n. bitAt (now (entered .entry)) (before * nonterminalLimit + n)) es) (stateAt (meaning (now (table .entry))) state .items)) ⌝ }
 {
     if before >= StateIndex::LIMIT {
         return false;
@@ -257,11 +285,12 @@ fn passes_over(
         flags,
         entered,
         before,
+        known,
         state,
     )
 }
 
-// Each state of the set in turn, ascending. A state whose items add nothing is passed over: `before` is the state traced last, `known` the first record of the chain found so last (0: a chain without items).
+// Each state of the set in turn, ascending. A state whose items add nothing is passed over: `before` is the state traced last, `known` the record from which on the items of the state passed over last may be those of others too (0: none).
 pub fn trace_states(
     table: &[u16],
     grammar: &[u16],
@@ -287,10 +316,6 @@ pub fn trace_states(
             NextState::State(state, others) => {
                 rest = others;
                 let from = state.0 as usize;
-                let head = first_item(table, from);
-                if head == known {
-                    continue;
-                }
                 if passes_over(
                     table,
                     grammar,
@@ -299,10 +324,11 @@ pub fn trace_states(
                     flags,
                     entered,
                     before,
+                    known,
                     from,
                     nonterminal,
                 ) {
-                    known = head;
+                    known = ahead(table, first_item(table, from));
                     continue;
                 }
                 match trace_epsilon(
@@ -322,6 +348,7 @@ pub fn trace_states(
                     }
                 }
                 before = from;
+                known = 0;
             }
             NextState::Done => {
                 return Inserted::Done;

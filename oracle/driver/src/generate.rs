@@ -1189,8 +1189,10 @@ fn heavy(seed: u64) -> Option<Case> {
 
 /// The most trials of one classification that were found: 2,000 shift items of
 /// one token, each with a listing of 81,919 to 98,302 trials and no example.
-/// The seed is the number of states, all alike (128 at most); the edges of all
-/// lead to the first. Not among `KINDS`.
+/// The seed is the number of states, all alike (128 at most); of seed 129 each
+/// has an item of its own before 7,700 that all share, of seed 130 one of two
+/// chains of 3,900, by turns. The edges of all lead to the first. Not among
+/// `KINDS`.
 ///
 /// All of 2,048 shift items would leave no place for a nonterminal in any
 /// production, and so one trial to each. Here 15 nonterminals stand in a ring:
@@ -1215,7 +1217,13 @@ fn most(seed: u64) -> Option<Case> {
         let ahead = (0..).zip(&production.symbols).filter(|(_, s)| s.0 == 1);
         items.extend(ahead.map(|(i, _)| (p, i)));
     }
-    for _ in 0..seed.clamp(1, 128) {
+    let again = |count: usize| items.iter().cycle().take(count).copied();
+    for s in 0..seed.clamp(1, 128) as usize {
+        let items: Vec<_> = match seed {
+            129 => [items[s]].into_iter().chain(again(7_700)).collect(),
+            130 => again(3_900 + s % 2).collect(),
+            _ => items.clone(),
+        };
         let state = leading_to(&table, &items, 0);
         table.states.push(state);
     }

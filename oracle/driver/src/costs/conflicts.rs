@@ -204,5 +204,11 @@ pub fn costs() {
 /// As many trials, and a trace through 128 states for each shift item.
 pub fn longest() {
     beside("conflict");
-    judged_in("2,000 shift items, 128 states alike", "most", 128);
+    for (name, seed) in [
+        ("128 states alike", 128),
+        ("128 states that share 7,700 items behind the first", 129),
+        ("128 states with one of two chains of 3,900 items by turns", 130),
+    ] {
+        judged_in(&format!("2,000 shift items, {name}"), "most", seed);
+    }
 }

@@ -5,7 +5,7 @@ use Rattle.table.proofs.Decoding.{fits}
 use Rattle.state_graph.specs.States.{statesIn}
 use Rattle.state_graph.proofs.States.{next-less}
 use Rattle.trace.proofs.Steps.{done-full, full-done}
-use Rattle.tracer.proofs.States.{Rounds, rounds-start, rounds-done, rounds-inside, rounds-more, rounds-full, rounds-known, rounds-passed}
+use Rattle.tracer.proofs.States.{Rounds, rounds-start, rounds-done, rounds-inside, rounds-more, rounds-full, rounds-passed}
 use borrow.Author.Needs.{needs}
 use Rattle.tracer.proofs.shift.trace_states.Statement.{statement}
 use Rattle.tracer.proofs.shift.trace_states.Tie as tie
@@ -13,111 +13,108 @@ use Rattle.tracer.proofs.shift.trace_states.Reads as reads
 use Rattle.tracer.proofs.shift.trace_states.Lts as lts
 use Rattle.state_graph.proofs.StateSet.next.Reads as next-reads
 use Rattle.table.proofs.first_item.Reads as first-item-reads
+use Rattle.tracer.proofs.shift.ahead.Reads as ahead-reads
 use Rattle.tracer.proofs.shift.passes_over.Reads as passes-over-reads
 use Rattle.tracer.proofs.shift.trace_epsilon.Reads as trace-epsilon-reads
 
 abbrev Inv-loop : tie.InvT-loop
 Inv-loop table grammar productions least words₀ flags₀ entered₀ nonterminal rest₀ before₀ known₀ words flags entered rest before known =
-    Rounds table nonterminal (rest₀ .low) (rest₀ .high) words₀ flags₀ (rest .low) (rest .high) words flags entered known
+    Rounds table nonterminal (rest₀ .low) (rest₀ .high) words₀ flags₀ (rest .low) (rest .high) words flags entered before known
 
 abbrev μ-loop : tie.MeasureT-loop
 μ-loop table grammar productions least words₀ flags₀ entered₀ nonterminal rest₀ before₀ known₀ words flags entered rest before known =
     length (statesIn (rest .low) (rest .high))
 
--- src/shift.rt:285:5
+-- src/shift.rt:314:5
 loop-holds : tie.Need-loop-holds Inv-loop μ-loop
-loop-holds c = rounds-start _ _ _ _ _ _ _ (c .before .before .before .before .before .before .pre .1 .1 .0) (c .before .before .before .before .before .before .pre .1 .0 .0) (c .before .before .before .before .before .before .pre .1 .0 .1) (c .before .before .before .before .before .before .pre .1 .0 .2)
+loop-holds c = rounds-start _ _ _ _ _ _ _ (c .before .before .before .before .before .before .pre .1 .1 .0) (c .before .before .before .before .before .before .pre .1 .0 .0) (c .before .before .before .before .before .before .pre .1 .0 .1) (c .before .before .before .before .before .before .pre .1 .0 .2) _
 
--- src/shift.rt:286:15
+-- src/shift.rt:315:15
 next-requires : tie.Need-next-requires Inv-loop μ-loop
 next-requires c κs = search needs
 
--- src/shift.rt:287:30
+-- src/shift.rt:316:30
 enum-known-state : tie.Need-enum-known-state Inv-loop μ-loop
 enum-known-state c = search needs
 
--- src/shift.rt:289:28
+-- src/shift.rt:318:28
 cast-from : tie.Need-cast-from Inv-loop μ-loop
 cast-from c = search needs
 
--- src/shift.rt:290:21
-first-item-requires : tie.Need-first-item-requires Inv-loop μ-loop
-first-item-requires c κs = (c .before .before .before .before .before .before .before .before .before .before .before .before .pre .0 .accepted, rounds-inside _ _ _ _ _ _ _ _ _ _ _ _ (c .before .before .before .before .before .loop .inv) (c .before .before .state .given .0 .0 .0) (c .before .before .state .given .0 .1 .0) (rw (c .before .before .state .given .1) at (c .before .before .before .before .next .ensures)))
-
--- src/shift.rt:285:5
-loop-less : tie.Need-loop-less Inv-loop μ-loop
-loop-less c = next-less (c .before .before .before .before .before .before .before .loop .rest .low) (c .before .before .before .before .before .before .before .loop .rest .high) (c .before .before .before .before .state .given .0 .0) (c .before .before .before .before .state .given .0 .1 .0) (rw (c .before .before .before .before .state .given .1) at (c .before .before .before .before .before .before .next .ensures))
-
--- src/shift.rt:285:5
-loop-again : tie.Need-loop-again Inv-loop μ-loop
-loop-again c = rounds-known _ _ _ _ _ _ _ _ _ _ _ _ (c .before .before .before .before .before .before .before .loop .inv) (c .before .before .before .before .state .given .0 .0 .0) (c .before .before .before .before .state .given .0 .1 .0) (rw (c .before .before .before .before .state .given .1) at (c .before .before .before .before .before .before .next .ensures)) (fits _ (c .before .before .before .before .before .before .before .before .before .before .before .before .before .before .pre .0 .accepted)) (c .before .before .before .before .before .before .before .before .before .before .before .before .before .before .pre .1 .1 .1) _ (c .before .first-item .ensures .0) (c .if1 .taken)
-
--- src/shift.rt:294:20
+-- src/shift.rt:319:20
 passes-over-requires : tie.Need-passes-over-requires Inv-loop μ-loop
-passes-over-requires c κs = (c .before .before .before .before .before .before .before .before .before .before .before .before .before .before .before .before .pre .0, ((c .before .before .before .before .before .before .before .before .before .loop .inv .f-len, c .before .before .before .before .before .before .before .before .before .loop .inv .v-len), (rounds-inside _ _ _ _ _ _ _ _ _ _ _ _ (c .before .before .before .before .before .before .before .before .before .loop .inv) (c .before .before .before .before .before .before .state .given .0 .0 .0) (c .before .before .before .before .before .before .state .given .0 .1 .0) (rw (c .before .before .before .before .before .before .state .given .1) at (c .before .before .before .before .before .before .before .before .next .ensures)), c .before .before .before .before .before .before .before .before .before .before .before .before .before .before .before .before .pre .1 .1 .1)))
+passes-over-requires c κs = (c .before .before .before .before .before .before .before .before .before .before .before .before .before .before .pre .0, ((c .before .before .before .before .before .before .before .loop .inv .f-len, c .before .before .before .before .before .before .before .loop .inv .v-len), ((rounds-inside _ _ _ _ _ _ _ _ _ _ _ _ _ (c .before .before .before .before .before .before .before .loop .inv) (c .before .before .before .before .state .given .0 .0 .0) (c .before .before .before .before .state .given .0 .1 .0) (rw (c .before .before .before .before .state .given .1) at (c .before .before .before .before .before .before .next .ensures)), c .before .before .before .before .before .before .before .before .before .before .before .before .before .before .pre .1 .1 .1), c .before .before .before .before .before .before .before .loop .inv .clear)))
 
--- src/shift.rt:285:5
-loop-less-2 : tie.Need-loop-less-2 Inv-loop μ-loop
-loop-less-2 c = next-less (c .before .before .before .before .before .before .before .before .before .before .before .loop .rest .low) (c .before .before .before .before .before .before .before .before .before .before .before .loop .rest .high) (c .before .before .before .before .before .before .before .before .state .given .0 .0) (c .before .before .before .before .before .before .before .before .state .given .0 .1 .0) (rw (c .before .before .before .before .before .before .before .before .state .given .1) at (c .before .before .before .before .before .before .before .before .before .before .next .ensures))
+-- src/shift.rt:331:42
+first-item-requires : tie.Need-first-item-requires Inv-loop μ-loop
+first-item-requires c κs = (c .before .before .before .before .before .before .before .before .before .before .before .before .before .before .before .before .pre .0 .accepted, rounds-inside _ _ _ _ _ _ _ _ _ _ _ _ _ (c .before .before .before .before .before .before .before .before .before .loop .inv) (c .before .before .before .before .before .before .state .given .0 .0 .0) (c .before .before .before .before .before .before .state .given .0 .1 .0) (rw (c .before .before .before .before .before .before .state .given .1) at (c .before .before .before .before .before .before .before .before .next .ensures)))
 
--- src/shift.rt:285:5
-loop-again-2 : tie.Need-loop-again-2 Inv-loop μ-loop
-loop-again-2 c = rounds-passed _ _ _ _ _ _ _ _ _ _ _ _ (c .before .before .before .before .before .before .before .before .before .before .before .loop .inv) (c .before .before .before .before .before .before .before .before .state .given .0 .0 .0) (c .before .before .before .before .before .before .before .before .state .given .0 .1 .0) (rw (c .before .before .before .before .before .before .before .before .state .given .1) at (c .before .before .before .before .before .before .before .before .before .before .next .ensures)) (fits _ (c .before .before .before .before .before .before .before .before .before .before .before .before .before .before .before .before .before .before .pre .0 .accepted)) (c .before .before .before .before .before .before .before .before .before .before .before .before .before .before .before .before .before .before .pre .1 .1 .1) _ (c .before .before .before .before .before .first-item .ensures .0) (c .before .passes-over .ensures (c .if2 .taken))
+-- src/shift.rt:331:21
+ahead-requires : tie.Need-ahead-requires Inv-loop μ-loop
+ahead-requires c κs = (c .before .before .before .before .before .before .before .before .before .before .before .before .before .before .before .before .before .pre .0 .accepted, c .first-item .ensures .1)
 
--- src/shift.rt:308:23
+-- src/shift.rt:314:5
+loop-less : tie.Need-loop-less Inv-loop μ-loop
+loop-less c = next-less (c .before .before .before .before .before .before .before .before .before .before .before .loop .rest .low) (c .before .before .before .before .before .before .before .before .before .before .before .loop .rest .high) (c .before .before .before .before .before .before .before .before .state .given .0 .0) (c .before .before .before .before .before .before .before .before .state .given .0 .1 .0) (rw (c .before .before .before .before .before .before .before .before .state .given .1) at (c .before .before .before .before .before .before .before .before .before .before .next .ensures))
+
+-- src/shift.rt:314:5
+loop-again : tie.Need-loop-again Inv-loop μ-loop
+loop-again c = rounds-passed _ _ _ _ _ _ _ _ _ _ _ _ _ (c .before .before .before .before .before .before .before .before .before .before .before .loop .inv) (c .before .before .before .before .before .before .before .before .state .given .0 .0 .0) (c .before .before .before .before .before .before .before .before .state .given .0 .1 .0) (rw (c .before .before .before .before .before .before .before .before .state .given .1) at (c .before .before .before .before .before .before .before .before .before .before .next .ensures)) (fits _ (c .before .before .before .before .before .before .before .before .before .before .before .before .before .before .before .before .before .before .pre .0 .accepted)) (c .before .before .before .before .before .before .before .before .before .before .before .before .before .before .before .before .before .before .pre .1 .1 .1) (c .before .before .before .passes-over .ensures .0 (c .before .before .if1 .taken)) (c .before .before .before .passes-over .ensures .1 (c .before .before .if1 .taken)) _ (c .before .first-item .ensures .0) _ (c .ahead .ensures)
+
+-- src/shift.rt:334:23
 trace-epsilon-requires : tie.Need-trace-epsilon-requires Inv-loop μ-loop
-trace-epsilon-requires c κs = (c .before .before .before .before .before .before .before .before .before .before .before .before .before .before .before .before .before .before .before .before .before .pre .0, ((c .before .before .before .before .before .before .before .before .before .before .before .before .before .before .loop .inv .w-len, c .before .before .before .before .before .before .before .before .before .before .before .before .before .before .loop .inv .f-len, c .before .before .before .before .before .before .before .before .before .before .before .before .before .before .loop .inv .v-len), (rounds-inside _ _ _ _ _ _ _ _ _ _ _ _ (c .before .before .before .before .before .before .before .before .before .before .before .before .before .before .loop .inv) (c .before .before .before .before .before .before .before .before .before .before .before .state .given .0 .0 .0) (c .before .before .before .before .before .before .before .before .before .before .before .state .given .0 .1 .0) (rw (c .before .before .before .before .before .before .before .before .before .before .before .state .given .1) at (c .before .before .before .before .before .before .before .before .before .before .before .before .before .next .ensures)), c .before .before .before .before .before .before .before .before .before .before .before .before .before .before .before .before .before .before .before .before .before .pre .1 .1 .1)))
+trace-epsilon-requires c κs = (c .before .before .before .before .before .before .before .before .before .before .before .before .before .before .before .before .before .before .before .pre .0, ((c .before .before .before .before .before .before .before .before .before .before .before .before .loop .inv .w-len, c .before .before .before .before .before .before .before .before .before .before .before .before .loop .inv .f-len, c .before .before .before .before .before .before .before .before .before .before .before .before .loop .inv .v-len), (rounds-inside _ _ _ _ _ _ _ _ _ _ _ _ _ (c .before .before .before .before .before .before .before .before .before .before .before .before .loop .inv) (c .before .before .before .before .before .before .before .before .before .state .given .0 .0 .0) (c .before .before .before .before .before .before .before .before .before .state .given .0 .1 .0) (rw (c .before .before .before .before .before .before .before .before .before .state .given .1) at (c .before .before .before .before .before .before .before .before .before .before .before .next .ensures)), c .before .before .before .before .before .before .before .before .before .before .before .before .before .before .before .before .before .before .before .pre .1 .1 .1)))
 
 enum-told : tie.Need-enum-told Inv-loop μ-loop
 enum-told c = search needs
 
--- src/shift.rt:321:25
+-- src/shift.rt:347:25
 enum-told-2 : tie.Need-enum-told-2 Inv-loop μ-loop
 enum-told-2 c = search needs
 
--- src/shift.rt:321:25
+-- src/shift.rt:347:25
 same-length : tie.Need-same-length Inv-loop μ-loop
-same-length c = c .before .before .before .before .before .before .before .before .trace-epsilon .kept .1 .1 .1 .1 .0 ∙ c .before .before .before .before .before .before .before .before .before .before .before .before .before .before .before .before .before .before .before .before .before .before .before .loop .inv .w-len ∙ sym (c .before .before .before .before .before .before .before .before .before .before .before .before .before .before .before .before .before .before .before .before .before .before .before .before .before .before .before .before .before .before .pre .1 .0 .0)
+same-length c = c .before .before .before .before .before .before .before .before .trace-epsilon .kept .1 .1 .1 .1 .0 ∙ c .before .before .before .before .before .before .before .before .before .before .before .before .before .before .before .before .before .before .before .before .before .loop .inv .w-len ∙ sym (c .before .before .before .before .before .before .before .before .before .before .before .before .before .before .before .before .before .before .before .before .before .before .before .before .before .before .before .before .pre .1 .0 .0)
 
--- src/shift.rt:321:25
+-- src/shift.rt:347:25
 same-length-2 : tie.Need-same-length-2 Inv-loop μ-loop
-same-length-2 c = c .before .before .before .before .before .before .before .before .trace-epsilon .kept .1 .1 .1 .1 .1 .0 ∙ c .before .before .before .before .before .before .before .before .before .before .before .before .before .before .before .before .before .before .before .before .before .before .before .loop .inv .f-len ∙ sym (c .before .before .before .before .before .before .before .before .before .before .before .before .before .before .before .before .before .before .before .before .before .before .before .before .before .before .before .before .before .before .pre .1 .0 .1)
+same-length-2 c = c .before .before .before .before .before .before .before .before .trace-epsilon .kept .1 .1 .1 .1 .1 .0 ∙ c .before .before .before .before .before .before .before .before .before .before .before .before .before .before .before .before .before .before .before .before .before .loop .inv .f-len ∙ sym (c .before .before .before .before .before .before .before .before .before .before .before .before .before .before .before .before .before .before .before .before .before .before .before .before .before .before .before .before .pre .1 .0 .1)
 
--- src/shift.rt:321:25
+-- src/shift.rt:347:25
 same-length-3 : tie.Need-same-length-3 Inv-loop μ-loop
-same-length-3 c = c .before .before .before .before .before .before .before .before .trace-epsilon .kept .1 .1 .1 .1 .1 .1 .0 ∙ c .before .before .before .before .before .before .before .before .before .before .before .before .before .before .before .before .before .before .before .before .before .before .before .loop .inv .v-len ∙ sym (ap length (c .before .before .before .before .before .before .before .before .before .before .before .before .before .before .before .before .before .before .before .before .before .before .before .before .before .before .before .before .before .before .pre .1 .0 .2))
+same-length-3 c = c .before .before .before .before .before .before .before .before .trace-epsilon .kept .1 .1 .1 .1 .1 .1 .0 ∙ c .before .before .before .before .before .before .before .before .before .before .before .before .before .before .before .before .before .before .before .before .before .loop .inv .v-len ∙ sym (ap length (c .before .before .before .before .before .before .before .before .before .before .before .before .before .before .before .before .before .before .before .before .before .before .before .before .before .before .before .before .pre .1 .0 .2))
 
--- src/shift.rt:321:25
+-- src/shift.rt:347:25
 returns : tie.Need-returns Inv-loop μ-loop
-returns c = (λ e. full-done e, λ _. rounds-full _ _ _ _ _ _ _ _ _ _ _ _ (c .before .before .before .before .before .before .before .before .before .before .before .before .before .before .before .before .before .before .before .before .before .before .before .loop .inv) (c .before .before .before .before .before .before .before .before .before .before .before .before .before .before .before .before .before .before .before .before .state .given .0 .0 .0) (c .before .before .before .before .before .before .before .before .before .before .before .before .before .before .before .before .before .before .before .before .state .given .0 .1 .0) (rw (c .before .before .before .before .before .before .before .before .before .before .before .before .before .before .before .before .before .before .before .before .state .given .1) at (c .before .before .before .before .before .before .before .before .before .before .before .before .before .before .before .before .before .before .before .before .before .before .next .ensures)) (c .before .before .before .before .before .before .before .before .trace-epsilon .ensures .1 .0 (c .enum-told2 .given .1)))
+returns c = (λ e. full-done e, λ _. rounds-full _ _ _ _ _ _ _ _ _ _ _ _ _ (c .before .before .before .before .before .before .before .before .before .before .before .before .before .before .before .before .before .before .before .before .before .loop .inv) (c .before .before .before .before .before .before .before .before .before .before .before .before .before .before .before .before .before .before .state .given .0 .0 .0) (c .before .before .before .before .before .before .before .before .before .before .before .before .before .before .before .before .before .before .state .given .0 .1 .0) (rw (c .before .before .before .before .before .before .before .before .before .before .before .before .before .before .before .before .before .before .state .given .1) at (c .before .before .before .before .before .before .before .before .before .before .before .before .before .before .before .before .before .before .before .before .next .ensures)) (c .before .before .before .before .before .before .before .before .trace-epsilon .ensures .1 .0 (c .enum-told2 .given .1)))
 
--- src/shift.rt:285:5
-loop-less-3 : tie.Need-loop-less-3 Inv-loop μ-loop
-loop-less-3 c = next-less (c .before .before .before .before .before .before .before .before .before .before .before .before .before .before .before .before .before .before .before .before .before .before .before .loop .rest .low) (c .before .before .before .before .before .before .before .before .before .before .before .before .before .before .before .before .before .before .before .before .before .before .before .loop .rest .high) (c .before .before .before .before .before .before .before .before .before .before .before .before .before .before .before .before .before .before .before .before .state .given .0 .0) (c .before .before .before .before .before .before .before .before .before .before .before .before .before .before .before .before .before .before .before .before .state .given .0 .1 .0) (rw (c .before .before .before .before .before .before .before .before .before .before .before .before .before .before .before .before .before .before .before .before .state .given .1) at (c .before .before .before .before .before .before .before .before .before .before .before .before .before .before .before .before .before .before .before .before .before .before .next .ensures))
+-- src/shift.rt:314:5
+loop-less-2 : tie.Need-loop-less-2 Inv-loop μ-loop
+loop-less-2 c = next-less (c .before .before .before .before .before .before .before .before .before .before .before .before .before .before .before .before .before .before .before .before .before .loop .rest .low) (c .before .before .before .before .before .before .before .before .before .before .before .before .before .before .before .before .before .before .before .before .before .loop .rest .high) (c .before .before .before .before .before .before .before .before .before .before .before .before .before .before .before .before .before .before .state .given .0 .0) (c .before .before .before .before .before .before .before .before .before .before .before .before .before .before .before .before .before .before .state .given .0 .1 .0) (rw (c .before .before .before .before .before .before .before .before .before .before .before .before .before .before .before .before .before .before .state .given .1) at (c .before .before .before .before .before .before .before .before .before .before .before .before .before .before .before .before .before .before .before .before .next .ensures))
 
--- src/shift.rt:285:5
-loop-again-3 : tie.Need-loop-again-3 Inv-loop μ-loop
-loop-again-3 c = rounds-more _ _ _ _ _ _ _ _ _ _ _ _ (c .before .before .before .before .before .before .before .before .before .before .before .before .before .before .before .before .before .before .before .before .before .before .before .loop .inv) (c .before .before .before .before .before .before .before .before .before .before .before .before .before .before .before .before .before .before .before .before .state .given .0 .0 .0) (c .before .before .before .before .before .before .before .before .before .before .before .before .before .before .before .before .before .before .before .before .state .given .0 .1 .0) (rw (c .before .before .before .before .before .before .before .before .before .before .before .before .before .before .before .before .before .before .before .before .state .given .1) at (c .before .before .before .before .before .before .before .before .before .before .before .before .before .before .before .before .before .before .before .before .before .before .next .ensures)) _ _ _ (c .before .before .before .before .before .before .before .before .trace-epsilon .ensures .0 (c .enum-told .given .1)) (c .before .before .before .before .before .before .before .before .trace-epsilon .kept .1 .1 .1 .1 .0) (c .before .before .before .before .before .before .before .before .trace-epsilon .kept .1 .1 .1 .1 .1 .0) (c .before .before .before .before .before .before .before .before .trace-epsilon .kept .1 .1 .1 .1 .1 .1 .0)
+-- src/shift.rt:314:5
+loop-again-2 : tie.Need-loop-again-2 Inv-loop μ-loop
+loop-again-2 c = rounds-more _ _ _ _ _ _ _ _ _ _ _ _ _ (c .before .before .before .before .before .before .before .before .before .before .before .before .before .before .before .before .before .before .before .before .before .loop .inv) (c .before .before .before .before .before .before .before .before .before .before .before .before .before .before .before .before .before .before .state .given .0 .0 .0) (c .before .before .before .before .before .before .before .before .before .before .before .before .before .before .before .before .before .before .state .given .0 .1 .0) (rw (c .before .before .before .before .before .before .before .before .before .before .before .before .before .before .before .before .before .before .state .given .1) at (c .before .before .before .before .before .before .before .before .before .before .before .before .before .before .before .before .before .before .before .before .next .ensures)) _ _ _ (c .before .before .before .before .before .before .before .before .trace-epsilon .ensures .0 (c .enum-told .given .1)) (c .before .before .before .before .before .before .before .before .trace-epsilon .kept .1 .1 .1 .1 .0) (c .before .before .before .before .before .before .before .before .trace-epsilon .kept .1 .1 .1 .1 .1 .0) (c .before .before .before .before .before .before .before .before .trace-epsilon .kept .1 .1 .1 .1 .1 .1 .0)
 
--- src/shift.rt:327:17
+-- src/shift.rt:354:17
 enum-told-3 : tie.Need-enum-told-3 Inv-loop μ-loop
 enum-told-3 c = search needs
 
--- src/shift.rt:327:17
+-- src/shift.rt:354:17
 same-length-4 : tie.Need-same-length-4 Inv-loop μ-loop
 same-length-4 c = c .before .before .before .loop .inv .w-len ∙ sym (c .before .before .before .before .before .before .before .before .before .before .pre .1 .0 .0)
 
--- src/shift.rt:327:17
+-- src/shift.rt:354:17
 same-length-5 : tie.Need-same-length-5 Inv-loop μ-loop
 same-length-5 c = c .before .before .before .loop .inv .f-len ∙ sym (c .before .before .before .before .before .before .before .before .before .before .pre .1 .0 .1)
 
--- src/shift.rt:327:17
+-- src/shift.rt:354:17
 same-length-6 : tie.Need-same-length-6 Inv-loop μ-loop
 same-length-6 c = c .before .before .before .loop .inv .v-len ∙ sym (ap length (c .before .before .before .before .before .before .before .before .before .before .pre .1 .0 .2))
 
--- src/shift.rt:327:17
+-- src/shift.rt:354:17
 returns-2 : tie.Need-returns-2 Inv-loop μ-loop
-returns-2 c = (λ _. rounds-done _ _ _ _ _ _ _ _ _ _ _ _ (c .before .before .before .loop .inv) (rw (c .enum-told3 .given .1) at (c .before .before .next .ensures)), λ e. done-full e)
+returns-2 c = (λ _. rounds-done _ _ _ _ _ _ _ _ _ _ _ _ _ (c .before .before .before .loop .inv) (rw (c .enum-told3 .given .1) at (c .before .before .next .ensures)), λ e. done-full e)
 
 pub trace-states-spec : {M : Type 1} → statement M
 trace-states-spec =
@@ -129,12 +126,11 @@ trace-states-spec =
     next-requires
     enum-known-state
     cast-from
+    passes-over-requires
     first-item-requires
+    ahead-requires
     loop-less
     loop-again
-    passes-over-requires
-    loop-less-2
-    loop-again-2
     trace-epsilon-requires
     enum-told
     enum-told-2
@@ -142,8 +138,8 @@ trace-states-spec =
     same-length-2
     same-length-3
     returns
-    loop-less-3
-    loop-again-3
+    loop-less-2
+    loop-again-2
     enum-told-3
     same-length-4
     same-length-5
