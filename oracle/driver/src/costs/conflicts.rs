@@ -208,6 +208,7 @@ pub fn longest() {
         ("128 states alike", 128),
         ("128 states that share 7,700 items behind the first", 129),
         ("128 states with one of two chains of 3,900 items by turns", 130),
+        ("128 states that lead elsewhere by turns", 131),
     ] {
         judged_in(&format!("2,000 shift items, {name}"), "most", seed);
     }
