@@ -1187,7 +1187,7 @@ fn heavy(seed: u64) -> Option<Case> {
     })
 }
 
-/// 1,900 shift items of one token and 128 states, in which two rows of 15
+/// 2,000 shift items of one token and 128 states, in which two rows of 15
 /// nonterminals can be shifted by turns, each row behind the nonterminal of the
 /// other productions and before the one that it shifts: no state leads where
 /// the state before it led.
