@@ -1187,10 +1187,10 @@ fn heavy(seed: u64) -> Option<Case> {
     })
 }
 
-/// 2,000 shift items of one token and 128 states, in which two rows of 15
-/// nonterminals can be shifted by turns, each row behind the nonterminal of the
-/// other productions and before the one that it shifts: no state leads where
-/// the state before it led.
+/// 2,000 shift items of one token, and two rows of 15 nonterminals: the first
+/// of a row begins with the nonterminal of all other productions, each further
+/// one with the one before. 128 states have the items of one row or the other
+/// by turns, so that none leads where the state before it led.
 fn by_turns() -> Option<Case> {
     let mut table = empty_table(1, 31);
     let mut rows = [vec![], vec![]];
