@@ -22,10 +22,12 @@ use Rattle.first.proofs.Join.{first1-join}
 use Rattle.build.specs.States.{places, from, givesOf}
 use Rattle.build.proofs.Rounds.{gives-none, gives-some}
 use Rattle.build.proofs.Closure.{behind-fit}
-use Rattle.closing.specs.Grammar.{Grammar, symbolCode, cursorCode, codeIn}
+use Rattle.closing.specs.Grammar.{Grammar}
 use Rattle.closing.specs.Fed.{feed, fedByItems, fedByFirsts, fed}
 use Rattle.core.specs.Items.{symbolSets}
-use Rattle.closing.proofs.Grammar.{production-at, code-shows}
+use Rattle.core.specs.Cursor.{symbolCode, cursorCode, codeIn}
+use Rattle.core.proofs.Cursor.{code-shows}
+use Rattle.closing.proofs.Grammar.{production-at}
 
 -- one item
 

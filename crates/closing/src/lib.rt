@@ -17,26 +17,8 @@ ghost use Rattle.repr.specs.Meaning.{Table};
 ghost use Rattle.repr.specs.Packed.{Packed, productionIn};
 ghost use Rattle.build.specs.States.{closure};
 ghost use Rattle.build.specs.Aheads.{aheads};
-ghost use Rattle.closing.specs.Grammar.{Grammar, Held, codeIn};
+ghost use Rattle.closing.specs.Grammar.{Grammar, Held};
 ghost use Rattle.closing.specs.Fed.{Flat, feed, fedByItems, fedByFirsts, spreadIn};
-
-// The symbol at an item's cursor as one number: a nonterminal's own, 32 more than a terminal's, 95 at the end.
-pub fn cursor(grammar: &[u16], productions: usize, item: Item) -> usize
-    requires { ⌜ Packed (now grammar) productions × (item .production < productions) ⌝ }
-    ensures { λ r. ⌜ r ≡ codeIn (now (grammar .entry)) (item .production) (item .index) ⌝ }
-{
-    let production = item.production;
-    let index = item.index;
-    if index < item.length(grammar, productions) {
-        let at = production * ProductionIndex::WORDS + 4 + 2 * index;
-        let number = word(grammar, at + 1);
-        if word(grammar, at) == 0 {
-            return number;
-        }
-        return 32 + number;
-    }
-    95
-}
 
 // What an item gives to the nonterminal at its cursor: FIRST of what stands behind it, followed by the item's tokens. An item without a token gives nothing.
 fn feed(
@@ -55,7 +37,7 @@ fn feed(
     if tokens == 0 {
         return;
     }
-    let nonterminal = cursor(grammar, productions, item);
+    let nonterminal = item.cursor(grammar, productions);
     if nonterminal < 32 {
         let more = first1(first, terminals, suffix(grammar, productions, item), set);
         aheads[nonterminal] = TokenSet(aheads[nonterminal]).union_with(more).set.0;

@@ -23,7 +23,8 @@ use Rattle.build.specs.States.{places, tokens, from, moved, nothing?, shifts}
 use Rattle.build.proofs.Rounds.{Sized}
 use Rattle.build.proofs.Closure.{Describes, item, item-code, tokens-at, tokens-index, tokens-item, has-inside, some-token, behind-fit}
 use Rattle.build.proofs.Goto.{moved-sized, moved-exact, nothing-empty, nothing-some}
-use Rattle.closing.specs.Grammar.{Grammar, symbolCode, cursorCode, codeIn}
+use Rattle.core.specs.Cursor.{symbolCode, cursorCode, codeIn}
+use Rattle.closing.specs.Grammar.{Grammar}
 use Rattle.closing.specs.Fed.{Flat}
 use Rattle.closing.proofs.Grammar.{production-at}
 use Rattle.closing.proofs.Rest.{front-sized}

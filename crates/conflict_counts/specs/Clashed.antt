@@ -8,7 +8,7 @@ use lib.Dec.{eqb, ltb}
 use Rattle.repr.specs.Sizes.{indexLimit, terminalLimit}
 use Rattle.repr.specs.Lists.{upFrom, below, joined, some?}
 use Rattle.lookahead.specs.Tokens.{has, meet, members}
-use Rattle.closing.specs.Grammar.{codeIn}
+use Rattle.core.specs.Cursor.{codeIn}
 use Rattle.build.specs.Canonical.{Clash}
 use Rattle.clashing.specs.Clashes.{shiftClash, reduceClash}
 

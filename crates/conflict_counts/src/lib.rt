@@ -1,6 +1,5 @@
 // The conflicts of a state that stands flat: the tokens that each production's complete item reduces with (specs/Reductions), the terminals that are shifted,
 // how many conflicts there are (specs/Clashed).
-use closing::cursor;
 use core::Item;
 use lookahead::TokenSet;
 use repr::ProductionIndex;
@@ -76,7 +75,7 @@ fn shift_one(
         production: place / ProductionIndex::INDEXES,
         index: place % ProductionIndex::INDEXES,
     };
-    let symbol = cursor(grammar, productions, item);
+    let symbol = item.cursor(grammar, productions);
     if symbol < 32 {
         return set;
     }

@@ -80,22 +80,22 @@ pub shifts-past : (xs : List Symbol) (i k : ℕ) → length xs ≤ i → false �
 unfolding shiftsNonterminal symbolSets first isNonterminal
 shifts-past xs i k h = rw (drop-of-length-le xs {i = i} h)
 
-module _ (g : List ℕ) (n p i : ℕ) (P : Packed g n) (h : p < n) (l : i < length (listed (symbolWords g p))) (k : ℕ) where
-  here : drop i (listed (symbolWords g p)) ≡ symbolOfKind (getD g (productionPlace p + 4 + 2 * i) 0) (getD g (productionPlace p + 4 + 2 * i + 1) 0) ∷ drop (suc i) (listed (symbolWords g p))
-  here =
+module _ (g : List ℕ) (n p i : ℕ) (P : Packed g n) (h : p < n) (l : i < length (listed (symbolWords g p))) where
+  pub symbol-here : drop i (listed (symbolWords g p)) ≡ symbolOfKind (getD g (productionPlace p + 4 + 2 * i) 0) (getD g (productionPlace p + 4 + 2 * i + 1) 0) ∷ drop (suc i) (listed (symbolWords g p))
+  symbol-here =
       let s = symbols-long g n p P h in
       let w = words-long g n p P h in
       let e : productionPlace p + 4 + 2 * i + 1 ≡ productionPlace p + 4 + (2 * i + 1) = omega arith in
       listed-at (symbolWords g p) i (omega arith)
       ∙ rw (word-of g n p (2 * i) P h (omega arith), word-of g n p (2 * i + 1) P h (omega arith), e)
 
-  pub shifts-nonterminal : (x : ℕ) → getD g (productionPlace p + 4 + 2 * i) 0 ≡ 0 → x ≡ getD g (productionPlace p + 4 + 2 * i + 1) 0 → eqb x k ≡ shiftsNonterminal (listed (symbolWords g p)) i k
+  pub shifts-nonterminal : (k x : ℕ) → getD g (productionPlace p + 4 + 2 * i) 0 ≡ 0 → x ≡ getD g (productionPlace p + 4 + 2 * i + 1) 0 → eqb x k ≡ shiftsNonterminal (listed (symbolWords g p)) i k
   unfolding shiftsNonterminal symbolSets first isNonterminal symbolOfKind
-  shifts-nonterminal x z e = rw (here, z, e)
+  shifts-nonterminal k x z e = rw (symbol-here, z, e)
 
-  pub shifts-terminal : (getD g (productionPlace p + 4 + 2 * i) 0 ≡ 0 → ⊥) → false ≡ shiftsNonterminal (listed (symbolWords g p)) i k
+  pub shifts-terminal : (k : ℕ) → (getD g (productionPlace p + 4 + 2 * i) 0 ≡ 0 → ⊥) → false ≡ shiftsNonterminal (listed (symbolWords g p)) i k
   unfolding shiftsNonterminal symbolSets first isNonterminal symbolOfKind
-  shifts-terminal ne = rw here (go (getD g (productionPlace p + 4 + 2 * i) 0) ne)
+  shifts-terminal k ne = rw symbol-here (go (getD g (productionPlace p + 4 + 2 * i) 0) ne)
     where
       go : (c : ℕ) → (c ≡ 0 → ⊥) → false ≡ isNonterminal k (some (symbolOfKind c (getD g (productionPlace p + 4 + 2 * i + 1) 0)))
       go zero a = absurd (a refl)

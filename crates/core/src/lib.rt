@@ -1,4 +1,5 @@
 // Items and their symbol sets (lr1/core/mod.rs). An item is a production and an index; its symbols are parts of the packed words (specs/Packed of repr).
+use repr::NonterminalString;
 use repr::ProductionIndex;
 use repr::symbols;
 use repr::word;
@@ -10,6 +11,7 @@ ghost use lib.ListN.{length, getD, take, drop};
 ghost use lib.Dec.{ltb, eqb};
 ghost use Rattle.repr.specs.Listed.{listed};
 ghost use Rattle.repr.specs.Packed.{Packed, symbolWords};
+ghost use Rattle.core.specs.Cursor.{codeIn};
 ghost use Rattle.core.specs.Items.{noSets, symbolSets, counts, countsOf, shiftsNonterminal, setsIn};
 
 // The number of symbols before the cursor, at it and after it.
@@ -92,6 +94,24 @@ impl Item {
         }
     }
 
+    // The symbol at the cursor as one number: a nonterminal's own, 32 more than a terminal's, 95 at the end.
+    pub fn cursor(self, grammar: &[u16], productions: usize) -> usize
+        requires { ⌜ Packed (now grammar) productions × (self .production < productions) ⌝ }
+        ensures { λ r. ⌜ r ≡ codeIn (now (grammar .entry)) (self .production) (self .index) ⌝ }
+    {
+        let production = self.production;
+        let index = self.index;
+        if index < self.length(grammar, productions) {
+            let at = production * ProductionIndex::WORDS + 4 + 2 * index;
+            let number = word(grammar, at + 1);
+            if word(grammar, at) == 0 {
+                return number;
+            }
+            return 32 + number;
+        }
+        95
+    }
+
     pub fn can_shift_nonterminal(
         self,
         grammar: &[u16],
@@ -101,15 +121,10 @@ impl Item {
         requires { ⌜ Packed (now grammar) productions × (self .production < productions) ⌝ }
         ensures { λ r. ⌜ r ≡ shiftsNonterminal (listed (symbolWords (now (grammar .entry)) (self .production))) (self .index) nonterminal ⌝ }
     {
-        let production = self.production;
-        let index = self.index;
-        if index < self.length(grammar, productions) {
-            let at = production * ProductionIndex::WORDS + 4 + 2 * index;
-            if word(grammar, at) == 0 {
-                return word(grammar, at + 1) == nonterminal;
-            }
+        if nonterminal >= NonterminalString::LIMIT {
+            return false;
         }
-        false
+        self.cursor(grammar, productions) == nonterminal
     }
 }
 

@@ -19,7 +19,8 @@ use Rattle.build.proofs.Rounds.{Sized}
 use Rattle.build.proofs.Collection.{length-snoc, place-le}
 use Rattle.build.proofs.Refusals.{stops-128, stops-other}
 use Rattle.build.proofs.Goto.{length-moved, moved-sized}
-use Rattle.closing.specs.Grammar.{Grammar, symbolCode}
+use Rattle.core.specs.Cursor.{symbolCode}
+use Rattle.closing.specs.Grammar.{Grammar}
 use Rattle.stored.specs.Stored.{Entry, entryAt, entries, held, packed, movedOver}
 use Rattle.stored.proofs.Packed.{held-none, held-some, packed-moved}
 use Rattle.kept_states.specs.Kept.{putAll, stateIn, statesIn, Begun, kernelPlace}

@@ -15,7 +15,8 @@ use Rattle.repr.proofs.Lists.{cases, clash, upFrom-last, keep-nil, keep-yes, ke
 use Rattle.build.specs.States.{places, from, begins, movedTo, moved}
 use Rattle.build.proofs.Closure.{behind-fit}
 use Rattle.build.proofs.Goto.{drop-long, length-moved, moved-at, movedTo-zero, symbols-short}
-use Rattle.closing.specs.Grammar.{Grammar, symbolCode, cursorCode, codeIn}
+use Rattle.core.specs.Cursor.{symbolCode, cursorCode, codeIn}
+use Rattle.closing.specs.Grammar.{Grammar}
 use Rattle.closing.proofs.Grammar.{production-at}
 use Rattle.stored.specs.Stored.{Entry, held, packed, movedOver}
 

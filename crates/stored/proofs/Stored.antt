@@ -12,7 +12,7 @@ use borrow.Author.Tests.{eqb-true, eqb-false, eq-eqb, ne-eqb}
 use Rattle.repr.specs.Sizes.{indexLimit}
 use Rattle.repr.specs.Lists.{upFrom}
 use Rattle.repr.proofs.Lists.{cases, upFrom-last}
-use Rattle.closing.specs.Grammar.{codeIn}
+use Rattle.core.specs.Cursor.{codeIn}
 use Rattle.stored.specs.Stored.{Entry, setAt, entryAt, entries, putEntry, movedOver, sameEntry, sameKernel, Appended, MetAfter}
 
 -- one item

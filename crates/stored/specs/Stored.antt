@@ -8,7 +8,7 @@ use lib.ListN.{length, getD, set}
 use lib.Dec.{eqb}
 use Rattle.repr.specs.Sizes.{indexLimit}
 use Rattle.repr.specs.Lists.{upFrom, below, keep}
-use Rattle.closing.specs.Grammar.{codeIn}
+use Rattle.core.specs.Cursor.{codeIn}
 
 pub record Entry : Type 0 where
   pub place : ℕ

@@ -1,5 +1,4 @@
 // Items with their tokens in words (specs/Stored): reading and writing one, moving those with the cursor at a symbol over it, comparing kernels.
-use closing::cursor;
 use core::Item;
 use repr::ProductionIndex;
 use repr::word;
@@ -75,7 +74,7 @@ fn move_one(
         production: place / ProductionIndex::INDEXES,
         index: place % ProductionIndex::INDEXES,
     };
-    if cursor(grammar, productions, item) == symbol {
+    if item.cursor(grammar, productions) == symbol {
         let next = StoredItem {
             place: place + 1,
             set: read.set,

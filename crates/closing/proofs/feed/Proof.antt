@@ -1,6 +1,7 @@
 -- `closing::feed` meets its contract. Assumes nothing.
 use lib.ListN.{length-set}
-use Rattle.closing.proofs.Grammar.{code-inside, suffix-fits}
+use Rattle.core.proofs.Cursor.{code-inside}
+use Rattle.closing.proofs.Grammar.{suffix-fits}
 use Rattle.closing.proofs.Fed.{feed-none, feed-step, feed-past}
 use native.Mathlib.Omega.{arith}
 use borrow.Author.Needs.{needs}

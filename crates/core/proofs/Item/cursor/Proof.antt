@@ -1,10 +1,12 @@
--- `closing::cursor` meets its contract. Assumes nothing.
-use mathlib.Core.Path.{_≡_}
-use Rattle.closing.proofs.Grammar.{code-nonterminal, code-terminal, code-none}
-use native.Mathlib.Omega.{arith}
+-- `core::Item::cursor` meets its contract. Assumes nothing.
+use Rattle.core.proofs.Cursor.{code-nonterminal, code-terminal, code-none}
 use borrow.Author.Needs.{needs}
-use Rattle.closing.proofs.cursor.Statement.{statement}
-use Rattle.closing.proofs.cursor.Tie as tie
+use Rattle.core.proofs.Item.cursor.Statement.{statement}
+use Rattle.core.proofs.Item.cursor.Tie as tie
+use Rattle.core.proofs.Item.cursor.Reads as reads
+use Rattle.core.proofs.Item.cursor.Lts as lts
+use Rattle.core.proofs.Item.length.Reads as length-reads
+use Rattle.repr.proofs.word.Reads as word-reads
 
 length-requires : tie.Need-length-requires
 length-requires c κs = search needs
