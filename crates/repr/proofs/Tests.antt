@@ -6,7 +6,7 @@ use mathlib.Core.List.{List, [], _∷_, _++_, List·Memᴰ, List·Memᴰ·head, 
 use mathlib.Core.Option.{Option, none, some}
 use Prim.Native.Nat.{ℕ, zero, suc, _<_}
 use native.Mathlib.Omega.{arith}
-use lib.ListN.{length, getD}
+use lib.ListN.{length, getD, drop}
 use borrow.Author.Tests.{ltb-true, lt-ltb}
 use Rattle.repr.specs.Lists.{below, mem, some?, every?, first?, joined}
 use Rattle.repr.specs.Meaning.{All}
@@ -155,6 +155,12 @@ module _ {ℓ} {A : Type ℓ} where
   unfolding All
   All-append P [] ys a b = b
   All-append P (x ∷ xs) ys a b = (a .0, All-append P xs ys (a .1) b)
+
+  pub All-drop : (P : A → Type 0) (k : ℕ) (xs : List A) → All P xs → All P (drop k xs)
+  unfolding All
+  All-drop P zero xs h = h
+  All-drop P (suc k) [] h = tt
+  All-drop P (suc k) (x ∷ xs) h = All-drop P k xs (h .1)
 
 -- numbers, by membership
 

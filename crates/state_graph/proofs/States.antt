@@ -9,7 +9,7 @@ use lib.Dec.{eqb, ltb}
 use lib.ListN.{length, getD, length-append}
 use borrow.Author.Tests.{eqb-true, eqb-false, eq-eqb, ne-eqb, ltb-true, ltb-false, lt-ltb, le-ltb}
 use Rattle.repr.specs.Lists.{upFrom, below, mem, keep}
-use Rattle.repr.proofs.Lists.{cases, clash, length-below, length-upFrom, getD-below, getD-upFrom, mem-keep, mem-below, keep-nil, keep-yes, keep-no, keep-append, keep-agree, keep-none, length-keep, length-mapped}
+use Rattle.repr.proofs.Lists.{cases, clash, length-below, length-upFrom, getD-upFrom, mem-keep, mem-below, keep-nil, keep-yes, keep-no, keep-append, keep-agree, keep-none, length-keep, length-mapped}
 use Rattle.lookahead.specs.Tokens.{has, single, union, without, members}
 use Rattle.lookahead.specs.Iterated.{firstOfThese, nextOf}
 use Rattle.lookahead.specs.declared.NextToken.the-variants.{Token, Done}
@@ -17,12 +17,10 @@ use Rattle.lookahead.specs.declared.TokenSetIter.{TokenSetIter}
 use Rattle.lookahead.proofs.Laws.{has-none, has-below, has-union, has-single}
 use Rattle.lookahead.proofs.Members.{members-none, members-step}
 use Rattle.lookahead.proofs.Words.{shifted, contained}
-use Rattle.state_graph.specs.Walk.{Ascending}
 use Rattle.state_graph.specs.States.{hasState, statesIn, NextIs}
 use Rattle.state_graph.specs.declared.StateIndex.{StateIndex}
 use Rattle.state_graph.specs.declared.StateSet.{StateSet}
 use Rattle.state_graph.specs.declared.NextState.the-variants as next
-use Rattle.state_graph.proofs.Exact.{kept-ascending}
 
 -- which word holds a state
 

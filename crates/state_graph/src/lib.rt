@@ -48,10 +48,18 @@ pub enum NextState {
 }
 
 impl StateSet {
-    // A bit for each record of a table, and five words for each of 31 steps, while walking back.
+    // A bit for each record of a table, while walking back.
     pub const HIT_WORDS: usize = 128;
 
-    pub const STEP_WORDS: usize = 155;
+    // Symbols: 32 nonterminals, 63 terminals behind them.
+    pub const ROWS: usize = 95;
+
+    // Steps that are remembered: four words each, and behind them a word each that says over which symbol.
+    pub const STEPS: usize = 31;
+
+    pub const STEP_SYMBOLS: usize = 4 * StateSet::STEPS;
+
+    pub const STEP_WORDS: usize = 5 * StateSet::STEPS;
 
     pub fn new() -> StateSet
         ensures { λ r. ⌜ ((k : ℕ) → hasState (r .low) (r .high) k ≡ false) ⌝ }
@@ -313,7 +321,7 @@ fn place_of(row: usize, set: StateSet) -> usize
 {
     let low = (set.low % 67) as usize;
     let high = (set.high % 61) as usize;
-    (row + 7 * low + 11 * high) % 31
+    (row + 7 * low + 11 * high) % StateSet::STEPS
 }
 
 // Whether a place holds a step over the symbol from the set.
@@ -321,7 +329,7 @@ fn recalls(steps: &[u64], place: usize, row: usize, set: StateSet) -> bool
     requires { ⌜ (place < stepPlaces) × (row < stepRows) × (length (now steps) ≡ stepWords) ⌝ }
     ensures { λ r. ⌜ (r ≡ true → (getD (now (steps .entry)) (symbolPlace place) 0 ≡ row + 1) × (getD (now (steps .entry)) (place * 4) 0 ≡ set .low) × (getD (now (steps .entry)) (place * 4 + 1) 0 ≡ set .high)) ⌝ }
 {
-    let symbol = steps[124 + place];
+    let symbol = steps[StateSet::STEP_SYMBOLS + place];
     if symbol != (row + 1) as u64 {
         return false;
     }
@@ -351,7 +359,7 @@ fn note(steps: &mut [u64], place: usize, row: usize)
     requires { ⌜ (place < stepPlaces) × (row < stepRows) × (length (now steps) ≡ stepWords) ⌝ }
     ensures { λ _. ⌜ now (steps .exit) ≡ set (now (steps .entry)) (symbolPlace place) (row + 1) ⌝ }
 {
-    steps[124 + place] = (row + 1) as u64;
+    steps[StateSet::STEP_SYMBOLS + place] = (row + 1) as u64;
 }
 
 // The states with an edge by one symbol into the set; where that step is remembered, what it found.
@@ -447,7 +455,7 @@ pub fn trace_back(table: &[u16], state: usize, symbols: &[u16]) -> StateSet
 {
     let mut found = StateSet::of(state);
     let mut last = found;
-    let mut over: usize = 95;
+    let mut over = StateSet::ROWS;
     let mut i = symbols.len() / 2;
     while i > 0 {
         i -= 1;
