@@ -61,6 +61,16 @@ module _ (step : Item → Trace → Trace) (Met : Item → Trace → Type 0) (M 
           (λ q. rw (item-equal j i q) (M .met i st))
           (λ q. M .stays j st (step i st) (M .adds i st) (h j (sym (some?-no (sameItem j) i ms q) ∙ e)))
 
+  -- an item of a turn is met after it
+  turn-met : (is : List Item) (i : Item) → some? (sameItem i) is ≡ true → (st : Trace) → Met i (inTurn step is st)
+  turn-met [] i h st = clash (some? (sameItem i) []) h (some?-nil (sameItem i))
+  turn-met (k ∷ is) i h st =
+      let rest = turn-met is i in
+      rw (turn-cons step k is st)
+      (cases (sameItem i k)
+      (λ q. rw (item-equal i k q) (M .stays k (step k st) (inTurn step is (step k st)) (turn-grows step (M .adds) is (step k st)) (M .met k st)))
+      (λ q. rest (sym (some?-no (sameItem i) k is q) ∙ h) (step k st)))
+
   turn-keep : (t : Item → Bool) → ((i : Item) (st : Trace) → t i ≡ false → step i st ≡ st) → (is : List Item) (st : Trace) → inTurn step (keep t is) st ≡ inTurn step is st
   turn-keep t h [] st = rw (keep-nil t)
   turn-keep t h (i ∷ is) st =
@@ -178,6 +188,13 @@ module _ (T : Table) where
       → inTurn (epsilonItem T n (λ m u. epsilon T f s m u)) (shifting T s n) st ≡ inTurn (epsilonItem T n (λ m u. epsilon T f s m u)) (stateAt T s .items) st
   epsilon-distinct f s n st =
       turn-shifting (epsilonItem T n (λ m u. epsilon T f s m u)) (ShiftMet f s n) (epsilon-meets f s n) T s n (epsilon-cannot T n (λ m u. epsilon T f s m u)) st
+
+  -- an item of the turn changes nothing after it
+  pub epsilon-again : (f s n : ℕ) (is : List Item) (i : Item) → some? (sameItem i) is ≡ true → (st : Trace)
+      → epsilonItem T n (λ m u. epsilon T f s m u) i (inTurn (epsilonItem T n (λ m u. epsilon T f s m u)) is st) ≡ inTurn (epsilonItem T n (λ m u. epsilon T f s m u)) is st
+  epsilon-again f s n is i h st =
+      let step = epsilonItem T n (λ m u. epsilon T f s m u) in
+      epsilon-meets f s n .still i (inTurn step is st) (turn-met step (ShiftMet f s n) (epsilon-meets f s n) is i h st)
 
   pub epsilon-shifting : (f s n : ℕ) (st : Trace) → mem (pair s n) (st .seen) ≡ false
       → epsilon T (suc f) s n st ≡ inTurn (epsilonItem T n (λ m u. epsilon T f s m u)) (shifting T s n) (enter s n st)

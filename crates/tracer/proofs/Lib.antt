@@ -1,6 +1,10 @@
 pub mod Adding
 pub mod StampLaws
 pub mod Turns
+pub mod Along
+pub mod Collecting
+pub mod Linking
+pub mod Places
 pub mod Passing
 pub mod States
 pub mod Begin

@@ -12,6 +12,7 @@ use Rattle.repr.specs.Meaning.{Item, Table, TableFits, ItemFits, All, stateAt}
 use Rattle.repr.specs.Listed.{listed}
 use Rattle.repr.specs.Packed.{symbolWords}
 use Rattle.repr.proofs.Lists.{clash}
+use Rattle.repr.proofs.Tests.{All-drop}
 use Rattle.core.specs.Items.{shiftsNonterminal}
 use Rattle.table.specs.Decoded.{meaning, itemsFrom}
 use Rattle.table.specs.Index.{ItemIndex, ItemRead}
@@ -92,12 +93,6 @@ drop-one zero is = refl
 drop-one (suc k) [] = refl
 drop-one (suc k) (i ∷ is) = drop-one k is
 
-all-drop : (P : Item → Type 0) (k : ℕ) (is : List Item) → All P is → All P (drop k is)
-unfolding All
-all-drop P zero is h = h
-all-drop P (suc k) [] h = h
-all-drop P (suc k) (i ∷ is) h = all-drop P k is (h .1)
-
 abbrev pub Further : List ℕ → ℕ → ℕ → Type 0
 Further t first at = ((k : ℕ) × (itemsFrom t at ≡ drop k (itemsFrom t first))) × ItemIndex t at
 
@@ -112,7 +107,7 @@ pub record Passing (t : List ℕ) (s : ℕ) (fs v : List ℕ) (b at : ℕ) : Typ
 
 module _ (t : List ℕ) (s : ℕ) (fs v : List ℕ) (b : ℕ) where
   pub clear-further : (first at : ℕ) → itemsFrom t first ≡ stateAt (meaning t) s .items → Clear t fs v b (stateAt (meaning t) s .items) → Further t first at → Clear t fs v b (itemsFrom t at)
-  clear-further first at e a U ws es C = rw (U .0 .1, e) (all-drop (ItemPassed (meaning t) (λ n. bitAt v (b * 32 + n)) es) (U .0 .0) (stateAt (meaning t) s .items) (a ws es C))
+  clear-further first at e a U ws es C = rw (U .0 .1, e) (All-drop (ItemPassed (meaning t) (λ n. bitAt v (b * 32 + n)) es) (U .0 .0) (stateAt (meaning t) s .items) (a ws es C))
 
   pub passing-start : (at : ℕ) → itemsFrom t at ≡ stateAt (meaning t) s .items → ItemIndex t at → Passing t s fs v b at
   passing-start at e i = record { on = i; rest = λ a. rw e at a }

@@ -15,7 +15,6 @@ use Rattle.repr.proofs.Lists.{cases, mem-yes, mem-no, getD-map-below, length-ma
 use Rattle.core.specs.Items.{shiftsNonterminal}
 use Rattle.table.specs.Words.{looseRecords}
 use Rattle.table.specs.Decoded.{meaning, itemsFrom}
-use Rattle.table.specs.Index.{ItemIndex, ItemRead}
 use Rattle.table.proofs.Chains.{chain-end}
 use Rattle.table.specs.Refusals.{checkOf}
 use Rattle.table.specs.declared.Checked.the-variants.{Accepted}
@@ -106,48 +105,56 @@ module _ (T : Table) (s m : ℕ) (ws fs vs : List ℕ) (small : pair s m < 4096)
 
 -- the turn over the items
 
-pub record Turning (t : List ℕ) (s m : ℕ) (ws₀ fs₀ v₀ ws fs v : List ℕ) (at : ℕ) : Type 0 where
-  pub on : ItemIndex t at
+pub record Turning (t : List ℕ) (s m : ℕ) (ws₀ fs₀ v₀ ws fs v : List ℕ) (is : List Item) : Type 0 where
   pub w-len : length ws ≡ 1025
   pub f-len : length fs ≡ 102
   pub v-len : length v ≡ 64
   pub fewer : unset v ≤ unset v₀
   pub same : (f : ℕ) → unset v₀ ≤ f → (st : Trace) → Held (meaning t) ws₀ fs₀ v₀ st
-      → (u : Trace) × Held (meaning t) ws fs v u × (inTurn (itemStep (meaning t) s m f) (itemsFrom t at) u ≡ inTurn (itemStep (meaning t) s m f) (stateAt (meaning t) s .items) st)
+      → (u : Trace) × Held (meaning t) ws fs v u × (inTurn (itemStep (meaning t) s m f) is u ≡ inTurn (itemStep (meaning t) s m f) (stateAt (meaning t) s .items) st)
 
 pub items-none : (t : List ℕ) → itemsFrom t 0 ≡ []
 unfolding itemsFrom
 items-none t = rw (chain-end t (looseRecords t) 0)
 
 module _ (t : List ℕ) (s m : ℕ) (ws₀ fs₀ v₀ : List ℕ) where
-  pub turning-start : (at : ℕ) → itemsFrom t at ≡ stateAt (meaning t) s .items → ItemIndex t at → length ws₀ ≡ 1025 → length fs₀ ≡ 102 → length v₀ ≡ 64 → Turning t s m ws₀ fs₀ v₀ ws₀ fs₀ v₀ at
-  turning-start at e i a b c = record {
-    on = i;
+  pub turning-start : (is : List Item) → ((f : ℕ) (st : Trace) → inTurn (itemStep (meaning t) s m f) (stateAt (meaning t) s .items) st ≡ inTurn (itemStep (meaning t) s m f) is st)
+      → length ws₀ ≡ 1025 → length fs₀ ≡ 102 → length v₀ ≡ 64 → Turning t s m ws₀ fs₀ v₀ ws₀ fs₀ v₀ is
+  turning-start is e a b c = record {
     w-len = a;
     f-len = b;
     v-len = c;
     fewer = omega arith;
-    same = λ f hf st h. (st, h, ap (λ (l : List Item). inTurn (itemStep (meaning t) s m f) l st) e);
+    same = λ f hf st h. (st, h, sym (e f st));
   }
 
-  module _ (ws fs v : List ℕ) (at : ℕ) (U : Turning t s m ws₀ fs₀ v₀ ws fs v at) where
-    pub turning-done : at ≡ 0 → (f : ℕ) → unset v₀ ≤ f → (st : Trace) → Held (meaning t) ws₀ fs₀ v₀ st → Held (meaning t) ws fs v (inTurn (itemStep (meaning t) s m f) (stateAt (meaning t) s .items) st)
+  module _ (ws fs v : List ℕ) (is : List Item) (U : Turning t s m ws₀ fs₀ v₀ ws fs v is) where
+    pub turning-done : is ≡ [] → (f : ℕ) → unset v₀ ≤ f → (st : Trace) → Held (meaning t) ws₀ fs₀ v₀ st → Held (meaning t) ws fs v (inTurn (itemStep (meaning t) s m f) (stateAt (meaning t) s .items) st)
     turning-done z f hf st h =
         let r = U .same f hf st h in
         let e : r .0 ≡ inTurn (itemStep (meaning t) s m f) (stateAt (meaning t) s .items) st =
-        sym (turn-nil (itemStep (meaning t) s m f) (r .0)) ∙ ap (λ (l : List Item). inTurn (itemStep (meaning t) s m f) l (r .0)) (sym (ap (itemsFrom t) z ∙ items-none t)) ∙ r .2 in
+        sym (turn-nil (itemStep (meaning t) s m f) (r .0)) ∙ ap (λ (l : List Item). inTurn (itemStep (meaning t) s m f) l (r .0)) (sym z) ∙ r .2 in
         rw e at (r .1)
 
-    module _ (next p x : ℕ) (R : ItemRead t at next p x) where
-      opened : (f : ℕ) (u : Trace) (W : Trace) → inTurn (itemStep (meaning t) s m f) (itemsFrom t at) u ≡ W
-          → inTurn (itemStep (meaning t) s m f) (itemsFrom t next) (itemStep (meaning t) s m f (record { production = p; index = x }) u) ≡ W
-      opened f u W e =
-          sym (turn-cons (itemStep (meaning t) s m f) (record { production = p; index = x }) (itemsFrom t next) u)
-          ∙ ap (λ (l : List Item). inTurn (itemStep (meaning t) s m f) l u) (sym (R .list)) ∙ e
+    -- other items that make the same turn
+    pub turning-move : (js : List Item) → ((f : ℕ) (st : Trace) → inTurn (itemStep (meaning t) s m f) is st ≡ inTurn (itemStep (meaning t) s m f) js st) → Turning t s m ws₀ fs₀ v₀ ws fs v js
+    turning-move js e = record {
+      w-len = U .w-len;
+      f-len = U .f-len;
+      v-len = U .v-len;
+      fewer = U .fewer;
+      same = λ f hf st h. let r = U .same f hf st h in (r .0, r .1, sym (e f (r .0)) ∙ r .2);
+    }
 
-      pub turning-skip : canShift (meaning t) m (record { production = p; index = x }) ≡ false → Turning t s m ws₀ fs₀ v₀ ws fs v next
+    module _ (rest : List Item) (p x : ℕ) (R : is ≡ record { production = p; index = x } ∷ rest) where
+      opened : (f : ℕ) (u : Trace) (W : Trace) → inTurn (itemStep (meaning t) s m f) is u ≡ W
+          → inTurn (itemStep (meaning t) s m f) rest (itemStep (meaning t) s m f (record { production = p; index = x }) u) ≡ W
+      opened f u W e =
+          sym (turn-cons (itemStep (meaning t) s m f) (record { production = p; index = x }) rest u)
+          ∙ ap (λ (l : List Item). inTurn (itemStep (meaning t) s m f) l u) (sym R) ∙ e
+
+      pub turning-skip : canShift (meaning t) m (record { production = p; index = x }) ≡ false → Turning t s m ws₀ fs₀ v₀ ws fs v rest
       turning-skip c = record {
-        on = R .on;
         w-len = U .w-len;
         f-len = U .f-len;
         v-len = U .v-len;
@@ -171,9 +178,8 @@ module _ (t : List ℕ) (s m : ℕ) (ws₀ fs₀ v₀ : List ℕ) where
         added-beginning low ws′ fs′ a u h = record { edges = rw (edge-beginning (meaning t) (record { production = p; index = x }) m low) at (a (u .edges) (h .edges)); seen = h .seen }
 
         pub turning-past : 0 < x → (ws′ fs′ : List ℕ) → ((es : List TraceEdge) → Coded (meaning t) ws fs es → Coded (meaning t) ws′ fs′ (add (meaning t .productions) (epsilonEdge (meaning t .productions) (record { production = p; index = x }) m) es))
-            → length ws′ ≡ length ws → length fs′ ≡ length fs → Turning t s m ws₀ fs₀ v₀ ws′ fs′ v next
+            → length ws′ ≡ length ws → length fs′ ≡ length fs → Turning t s m ws₀ fs₀ v₀ ws′ fs′ v rest
         turning-past pos ws′ fs′ a lw lf = record {
-          on = R .on;
           w-len = lw ∙ U .w-len;
           f-len = lf ∙ U .f-len;
           v-len = U .v-len;
@@ -187,9 +193,8 @@ module _ (t : List ℕ) (s m : ℕ) (ws₀ fs₀ v₀ : List ℕ) where
         pub turning-followed : x ≤ 0 → (o : ℕ) → o ≡ ownerOf (meaning t) (record { production = p; index = x }) → (ws′ fs′ : List ℕ)
             → ((es : List TraceEdge) → Coded (meaning t) ws fs es → Coded (meaning t) ws′ fs′ (add (meaning t .productions) (epsilonEdge (meaning t .productions) (record { production = p; index = x }) m) es))
             → (ws″ fs″ v″ : List ℕ) → ((f : ℕ) → unset v ≤ f → Steps (meaning t) (epsilon (meaning t) f s o) ws′ fs′ v ws″ fs″ v″) → unset v″ ≤ unset v
-            → length ws″ ≡ length ws → length fs″ ≡ length fs → length v″ ≡ length v → Turning t s m ws₀ fs₀ v₀ ws″ fs″ v″ next
+            → length ws″ ≡ length ws → length fs″ ≡ length fs → length v″ ≡ length v → Turning t s m ws₀ fs₀ v₀ ws″ fs″ v″ rest
         turning-followed low o eo ws′ fs′ a ws″ fs″ v″ call z lw lf lv = record {
-          on = R .on;
           w-len = lw ∙ U .w-len;
           f-len = lf ∙ U .f-len;
           v-len = lv ∙ U .v-len;
@@ -210,7 +215,7 @@ module _ (t : List ℕ) (s m : ℕ) (ws₀ fs₀ v₀ : List ℕ) where
             → 1024 < length (inTurn (itemStep (meaning t) s m f) (stateAt (meaning t) s .items) st .edges)
         stopped f hf st h many =
             let r = U .same f hf st h in
-            rw (← (opened f (r .0) _ (r .2))) (step-exceeds (meaning t) s m f (record { production = p; index = x }) (itemsFrom t next) (r .0) many)
+            rw (← (opened f (r .0) _ (r .2))) (step-exceeds (meaning t) s m f (record { production = p; index = x }) rest (r .0) many)
 
         over-past : 0 < x → ((es : List TraceEdge) → Coded (meaning t) ws fs es → 1024 < length (add (meaning t .productions) (epsilonEdge (meaning t .productions) (record { production = p; index = x }) m) es))
             → (u : Trace) → Held (meaning t) ws fs v u → 1024 < length (addTo (meaning t) (atItem (record { production = p; index = x })) (atNonterminal m) (record { production = p; index = x }) u .edges)

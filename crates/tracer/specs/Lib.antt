@@ -3,3 +3,4 @@ pub mod Held
 pub mod Stamps
 pub mod Built
 pub mod Traced
+pub mod Tails

@@ -3,6 +3,7 @@ pub mod edges;
 pub mod reduce;
 pub mod shift;
 pub mod stamps;
+pub mod tails;
 
 use crate::reduce::reduce_codes;
 use crate::shift::shift_codes;

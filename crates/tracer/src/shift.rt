@@ -1,6 +1,11 @@
 // `backtrace_shift` (lr1/trace/shift), part 5 of document 01, over edges of one word: straight over the chain of a state's items.
 use crate::edges::to_item;
 use crate::edges::to_nonterminal;
+use crate::tails::TailList;
+use crate::tails::after;
+use crate::tails::ahead;
+use crate::tails::begin;
+use crate::tails::list_tail;
 use bits::is_set;
 use bits::put;
 use codes::EdgeCode;
@@ -22,17 +27,11 @@ ghost use mathlib.Core.Path.{_≡_};
 ghost use mathlib.Core.Bool.{true};
 ghost use mathlib.Core.List.{List, []};
 ghost use Prim.Native.Nat.{ℕ, _+_, _*_, _≤_, _<_};
-ghost use lib.ListN.{length, getD, drop, replicate};
+ghost use lib.ListN.{length, getD, replicate};
 ghost use Rattle.repr.specs.Sizes.{productionLimit, indexLimit, stateLimit, nonterminalLimit, edgeLimit};
 ghost use Rattle.repr.specs.Lists.{mem, some?};
 ghost use Rattle.repr.specs.Meaning.{Table, TableFits, ItemFits, All, stateAt};
-ghost use Rattle.repr.specs.Listed.{listed};
-ghost use Rattle.repr.specs.Packed.{Packed, symbolWords};
-ghost use Rattle.core.specs.Items.{shiftsNonterminal};
 ghost use Rattle.table.specs.Decoded.{meaning, itemsFrom};
-ghost use Rattle.table.specs.Index.{ItemIndex};
-ghost use Rattle.table.specs.Refusals.{checkOf};
-ghost use Rattle.table.specs.declared.Checked.the-variants.{Accepted};
 ghost use Rattle.state_graph.specs.States.{statesIn};
 ghost use Rattle.trace_graph.specs.declared.Inserted.the-variants.{Done, Full};
 ghost use Rattle.trace_graph.specs.Graph.{TraceEdge, sameEdge, add, atNonterminal, atItem};
@@ -43,6 +42,7 @@ ghost use Rattle.trace.specs.Passed.{ItemPassed};
 ghost use Rattle.bits.specs.Bits.{bitAt};
 ghost use Rattle.codes.specs.Coded.{codesRoom, keyWords, Coded, Leasts};
 ghost use Rattle.tracer.specs.Held.{pairWords, Steps, Exceeds, unset, Working};
+ghost use Rattle.tracer.specs.Tails.{tailWords, Usable};
 
 // The edge of an item that can shift a nonterminal: past its beginning from the item, else from its nonterminal.
 fn epsilon_code(
@@ -71,10 +71,13 @@ pub fn trace_epsilon(
     entered: &mut [u64],
     state: usize,
     nonterminal: usize,
+    records: &[u16],
+    links: &[u16],
 ) -> Inserted
     requires { ⌜ Working (now table) (now grammar) productions (now least) ⌝ }
     requires { ⌜ (length (now words) ≡ codesRoom) × (length (now flags) ≡ keyWords) × (length (now entered) ≡ pairWords) ⌝ }
     requires { ⌜ (state < length (meaning (now table) .states)) × (nonterminal < length (meaning (now table) .nonterminals)) ⌝ }
+    requires { ⌜ Usable (now table) (now records) (now links) ⌝ }
     ensures { λ r. ⌜ (r ≡ Done → (f : ℕ) → unset (now (entered .entry)) ≤ f → Steps (meaning (now (table .entry))) (epsilon (meaning (now (table .entry))) f state nonterminal) (now (words .entry)) (now (flags .entry)) (now (entered .entry)) (now (words .exit)) (now (flags .exit)) (now (entered .exit))) ⌝ }
     ensures { λ r. ⌜ (r ≡ Full → (f : ℕ) → unset (now (entered .entry)) ≤ f → Exceeds (meaning (now (table .entry))) (epsilon (meaning (now (table .entry))) f state nonterminal) (now (words .entry)) (now (flags .entry)) (now (entered .entry))) ⌝ }
     ensures { λ r. ⌜ unset (now (entered .exit)) ≤ unset (now (entered .entry)) ⌝ }
@@ -84,12 +87,12 @@ pub fn trace_epsilon(
         return Inserted::Done;
     }
     put(entered, pair);
-    let mut at = first_item(table, state);
-    while at != 0 {
-        let read = item(table, at);
+    let mut place = begin(records, links, nonterminal, first_item(table, state));
+    while place.at != 0 {
+        let read = item(table, place.at);
         let production = read.production;
         let index = read.index;
-        at = read.next;
+        place = after(records, links, nonterminal, place.slot, read.next);
         let this = Item {
             production: production,
             index: index,
@@ -118,6 +121,8 @@ pub fn trace_epsilon(
             entered,
             state,
             owner,
+            records,
+            links,
         ) {
             Inserted::Done => {}
             Inserted::Full => {
@@ -126,22 +131,6 @@ pub fn trace_epsilon(
         }
     }
     Inserted::Done
-}
-
-// The nonterminal at an item's cursor; NonterminalString::LIMIT at the end or before a terminal.
-fn shifted(grammar: &[u16], productions: usize, item: Item) -> usize
-    requires { ⌜ Packed (now grammar) productions × (item .production < productions) ⌝ }
-    ensures { λ r. ⌜ ((n : ℕ) → shiftsNonterminal (listed (symbolWords (now (grammar .entry)) (item .production))) (item .index) n ≡ true → r ≡ n) ⌝ }
-{
-    let production = item.production;
-    let index = item.index;
-    if index < item.length(grammar, productions) {
-        let at = production * ProductionIndex::WORDS + 4 + 2 * index;
-        if word(grammar, at) == 0 {
-            return word(grammar, at + 1);
-        }
-    }
-    NonterminalString::LIMIT
 }
 
 // Whether the edge of an item that can shift a nonterminal is there.
@@ -175,7 +164,7 @@ fn is_passed(
         production: production,
         index: index,
     };
-    let nonterminal = shifted(grammar, productions, item);
+    let nonterminal = item.cursor(grammar, productions);
     if nonterminal >= NonterminalString::LIMIT {
         return true;
     }
@@ -190,23 +179,6 @@ fn is_passed(
     }
     let owner = word(grammar, production * ProductionIndex::WORDS);
     is_set(entered, before * NonterminalString::LIMIT + owner)
-}
-
-// The record 64 further along a chain of items, its first record where the chain ends before. From there on chains of other states may go the same way: 128 states cannot have more records of their own each.
-fn ahead(table: &[u16], first: usize) -> usize
-    requires { ⌜ (checkOf (now table) ≡ Accepted) × ItemIndex (now table) first ⌝ }
-    ensures { λ r. ⌜ ((k : ℕ) × (itemsFrom (now (table .entry)) r ≡ drop k (itemsFrom (now (table .entry)) first))) × ItemIndex (now (table .entry)) r ⌝ }
-{
-    let mut at = first;
-    let mut left: usize = 64;
-    while left > 0 {
-        if at == 0 {
-            return first;
-        }
-        at = item(table, at).next;
-        left -= 1;
-    }
-    at
 }
 
 // Whether the items of a state lead to nothing new from the nonterminals that were entered from the state `before`, where those from the record `known` on do not (0: a chain without items).
@@ -290,8 +262,8 @@ fn passes_over(
     )
 }
 
-// Each state of the set in turn, ascending. A state whose items add nothing is passed over: `before` is the state traced last, `known` the record from which on the items of the state passed over last may be those of others too (0: none).
-pub fn trace_states(
+// Each state of the set in turn, ascending. A state whose items add nothing is passed over: `before` is the state traced last, `known` the record from which on the items of the state passed over last may be those of others too (0: none): 64 on from its first, since 128 states cannot have more records of their own each.
+fn trace_each(
     table: &[u16],
     grammar: &[u16],
     productions: usize,
@@ -301,10 +273,13 @@ pub fn trace_states(
     entered: &mut [u64],
     states: StateSet,
     nonterminal: usize,
+    records: &mut [u16],
+    links: &mut [u16],
 ) -> Inserted
     requires { ⌜ Working (now table) (now grammar) productions (now least) ⌝ }
     requires { ⌜ (length (now words) ≡ codesRoom) × (length (now flags) ≡ keyWords) × (now entered ≡ replicate pairWords 0) ⌝ }
     requires { ⌜ ((s : ℕ) → mem s (statesIn (states .low) (states .high)) ≡ true → s < length (meaning (now table) .states)) × (nonterminal < length (meaning (now table) .nonterminals)) ⌝ }
+    requires { ⌜ (length (now links) ≡ length (now records)) × (length (now records) ≤ tailWords) × Usable (now table) (now records) (now links) ⌝ }
     ensures { λ r. ⌜ (r ≡ Done → (es : List TraceEdge) → Coded (meaning (now (table .entry))) (now (words .entry)) (now (flags .entry)) es → Coded (meaning (now (table .entry))) (now (words .exit)) (now (flags .exit)) (inTurn (λ p u. epsilon (meaning (now (table .entry))) pairs p nonterminal u) (statesIn (states .low) (states .high)) (record { edges = es; seen = [] }) .edges)) ⌝ }
     ensures { λ r. ⌜ (r ≡ Full → (es : List TraceEdge) → Coded (meaning (now (table .entry))) (now (words .entry)) (now (flags .entry)) es → edgeLimit < length (inTurn (λ p u. epsilon (meaning (now (table .entry))) pairs p nonterminal u) (statesIn (states .low) (states .high)) (record { edges = es; seen = [] }) .edges)) ⌝ }
 {
@@ -328,9 +303,17 @@ pub fn trace_states(
                     from,
                     nonterminal,
                 ) {
-                    known = ahead(table, first_item(table, from));
+                    known = ahead(table, first_item(table, from), TailList::AHEAD);
                     continue;
                 }
+                list_tail(
+                    table,
+                    grammar,
+                    productions,
+                    first_item(table, from),
+                    records,
+                    links,
+                );
                 match trace_epsilon(
                     table,
                     grammar,
@@ -341,6 +324,8 @@ pub fn trace_states(
                     entered,
                     from,
                     nonterminal,
+                    records,
+                    links,
                 ) {
                     Inserted::Done => {}
                     Inserted::Full => {
@@ -355,6 +340,58 @@ pub fn trace_states(
             }
         }
     }
+}
+
+// The states of the set in turn. Only a table that is not short has tails that are worth a list.
+pub fn trace_states(
+    table: &[u16],
+    grammar: &[u16],
+    productions: usize,
+    least: &[u8],
+    words: &mut [u16],
+    flags: &mut [u64],
+    entered: &mut [u64],
+    states: StateSet,
+    nonterminal: usize,
+) -> Inserted
+    requires { ⌜ Working (now table) (now grammar) productions (now least) ⌝ }
+    requires { ⌜ (length (now words) ≡ codesRoom) × (length (now flags) ≡ keyWords) × (now entered ≡ replicate pairWords 0) ⌝ }
+    requires { ⌜ ((s : ℕ) → mem s (statesIn (states .low) (states .high)) ≡ true → s < length (meaning (now table) .states)) × (nonterminal < length (meaning (now table) .nonterminals)) ⌝ }
+    ensures { λ r. ⌜ (r ≡ Done → (es : List TraceEdge) → Coded (meaning (now (table .entry))) (now (words .entry)) (now (flags .entry)) es → Coded (meaning (now (table .entry))) (now (words .exit)) (now (flags .exit)) (inTurn (λ p u. epsilon (meaning (now (table .entry))) pairs p nonterminal u) (statesIn (states .low) (states .high)) (record { edges = es; seen = [] }) .edges)) ⌝ }
+    ensures { λ r. ⌜ (r ≡ Full → (es : List TraceEdge) → Coded (meaning (now (table .entry))) (now (words .entry)) (now (flags .entry)) es → edgeLimit < length (inTurn (λ p u. epsilon (meaning (now (table .entry))) pairs p nonterminal u) (statesIn (states .low) (states .high)) (record { edges = es; seen = [] }) .edges)) ⌝ }
+{
+    if table.len() < TailList::SHORT {
+        let mut records = [0u16; 2];
+        let mut links = [0u16; 2];
+        return trace_each(
+            table,
+            grammar,
+            productions,
+            least,
+            words,
+            flags,
+            entered,
+            states,
+            nonterminal,
+            &mut records,
+            &mut links,
+        );
+    }
+    let mut records = [0u16; TailList::WORDS];
+    let mut links = [0u16; TailList::WORDS];
+    trace_each(
+        table,
+        grammar,
+        productions,
+        least,
+        words,
+        flags,
+        entered,
+        states,
+        nonterminal,
+        &mut records,
+        &mut links,
+    )
 }
 
 // `trace_shift`: the edge from the item's nonterminal to the item, and then from each state that the walk over its prefix found.

@@ -1187,12 +1187,14 @@ fn heavy(seed: u64) -> Option<Case> {
     })
 }
 
-/// 2,000 shift items of one token, and two rows of 15 nonterminals: the first
-/// of a row begins with the nonterminal of all other productions, each further
-/// one with the one before. 128 states have the items of one row or the other
-/// by turns, so that none leads where the state before it led.
-fn by_turns() -> Option<Case> {
-    let mut table = empty_table(1, 31);
+/// Two rows of 15 nonterminals: the first of a row begins with the nonterminal
+/// of all other productions, each further one with the one before. 128 states
+/// have the items of one row or the other by turns, so that none leads where the
+/// state before it led. Behind a row come the items before a nonterminal that no
+/// trace enters, `idle` in each of the other productions, and those before the
+/// token; again and again up to the length that the row has, where it has one.
+fn by_turns(idle: usize, lengths: [Option<usize>; 2]) -> Option<Case> {
+    let mut table = empty_table(1, 32);
     let mut rows = [vec![], vec![]];
     for (row, first) in rows.iter_mut().zip([1, 16]) {
         for nt in first..first + 15 {
@@ -1201,20 +1203,28 @@ fn by_turns() -> Option<Case> {
             row.insert(0, (add_production(&mut table, nt, symbols), 0));
         }
     }
+    let others = [vec![(1, 0); 16 - idle], vec![(0, 31); idle]].concat();
     while table.productions.len() < 128 {
-        add_production(&mut table, 0, vec![(1, 0); 16]);
+        add_production(&mut table, 0, others.clone());
     }
-    let mut tokens = vec![];
-    for (p, production) in (0..).zip(&table.productions) {
-        let ahead = (0..).zip(&production.symbols).filter(|(_, s)| s.0 == 1);
-        tokens.extend(ahead.map(|(i, _)| (p, i)));
-    }
+    let before = |symbol| {
+        let mut items = vec![];
+        for (p, production) in (0..).zip(&table.productions) {
+            let ahead = (0..).zip(&production.symbols).filter(|(_, s)| **s == symbol);
+            items.extend(ahead.map(|(i, _)| (p, i)));
+        }
+        items
+    };
+    let behind = [before((0, 31)), before((1, 0))].concat();
     for s in 0..128 {
-        let state = leading_to(&table, &[&rows[s % 2][..], &tokens].concat(), 0);
+        let length = lengths[s % 2].unwrap_or(behind.len());
+        let behind = behind.iter().cycle().take(length).copied();
+        let items: Vec<_> = rows[s % 2].iter().copied().chain(behind).collect();
+        let state = leading_to(&table, &items, 0);
         table.states.push(state);
     }
     Some(Case {
-        name: "2,000 listings, 128 states by turns".into(),
+        name: "128 states by turns".into(),
         table: table.encode(true, || 0)?,
         questions: vec![Question::Classify([0, 0, 0, 0, 0])],
     })
@@ -1224,8 +1234,8 @@ fn by_turns() -> Option<Case> {
 /// one token, each with a listing of 81,919 to 98,302 trials and no example.
 /// The seed is the number of states, all alike (128 at most); of seed 129 each
 /// has an item of its own before 7,700 that all share, of seed 130 one of two
-/// chains of 3,900, by turns; seed 131 is `by_turns`. The edges of all lead to
-/// the first. Not among `KINDS`.
+/// chains of 3,900, by turns; seeds from 131 on are `by_turns`. The edges of all
+/// lead to the first. Not among `KINDS`.
 ///
 /// All of 2,048 shift items would leave no place for a nonterminal in any
 /// production, and so one trial to each. Here 15 nonterminals stand in a ring:
@@ -1233,8 +1243,12 @@ fn by_turns() -> Option<Case> {
 /// that the walks double at each step. The other productions have nothing but
 /// the token.
 fn most(seed: u64) -> Option<Case> {
-    if seed == 131 {
-        return by_turns();
+    match seed {
+        131 => return by_turns(0, [None; 2]),
+        132 => return by_turns(1, [Some(7_600); 2]),
+        133 => return by_turns(1, [Some(3_800), Some(3_801)]),
+        134 => return by_turns(10, [Some(3_800), Some(3_801)]),
+        _ => {}
     }
     let mut table = empty_table(1, 15);
     let mut items = vec![];

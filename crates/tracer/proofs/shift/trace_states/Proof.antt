@@ -1,146 +1,84 @@
--- `trace_states` goes through the states of a set. The loop invariant is `Rounds` of proofs/States; the states that are left get fewer. Assumes nothing.
-use mathlib.Core.Path.{sym, ap, _∙_}
-use lib.ListN.{length}
-use Rattle.table.proofs.Decoding.{fits}
-use Rattle.state_graph.specs.States.{statesIn}
-use Rattle.state_graph.proofs.States.{next-less}
-use Rattle.trace.proofs.Steps.{done-full, full-done}
-use Rattle.tracer.proofs.States.{Rounds, rounds-start, rounds-done, rounds-inside, rounds-more, rounds-full, rounds-passed}
+-- `trace_states`: the loop over the states, with lists that hold nothing yet. Assumes nothing.
+use mathlib.Core.Path.{refl}
+use native.Mathlib.Omega.{arith}
+use Rattle.tracer.proofs.Linking.{usable-blank}
 use borrow.Author.Needs.{needs}
 use Rattle.tracer.proofs.shift.trace_states.Statement.{statement}
 use Rattle.tracer.proofs.shift.trace_states.Tie as tie
 use Rattle.tracer.proofs.shift.trace_states.Reads as reads
 use Rattle.tracer.proofs.shift.trace_states.Lts as lts
-use Rattle.state_graph.proofs.StateSet.next.Reads as next-reads
-use Rattle.table.proofs.first_item.Reads as first-item-reads
-use Rattle.tracer.proofs.shift.ahead.Reads as ahead-reads
-use Rattle.tracer.proofs.shift.passes_over.Reads as passes-over-reads
-use Rattle.tracer.proofs.shift.trace_epsilon.Reads as trace-epsilon-reads
+use Rattle.tracer.proofs.shift.trace_each.Reads as trace-each-reads
 
-abbrev Inv-loop : tie.InvT-loop
-Inv-loop table grammar productions least words₀ flags₀ entered₀ nonterminal rest₀ before₀ known₀ words flags entered rest before known =
-    Rounds table nonterminal (rest₀ .low) (rest₀ .high) words₀ flags₀ (rest .low) (rest .high) words flags entered before known
+-- src/shift.rt:377:13
+slice-aggregate-trace-each : tie.Need-slice-aggregate-trace-each
+slice-aggregate-trace-each c = search needs
 
-abbrev μ-loop : tie.MeasureT-loop
-μ-loop table grammar productions least words₀ flags₀ entered₀ nonterminal rest₀ before₀ known₀ words flags entered rest before known =
-    length (statesIn (rest .low) (rest .high))
+-- src/shift.rt:378:13
+slice-aggregate-trace-each-2 : tie.Need-slice-aggregate-trace-each-2
+slice-aggregate-trace-each-2 c = search needs
 
--- src/shift.rt:314:5
-loop-holds : tie.Need-loop-holds Inv-loop μ-loop
-loop-holds c = rounds-start _ _ _ _ _ _ _ (c .before .before .before .before .before .before .pre .1 .1 .0) (c .before .before .before .before .before .before .pre .1 .0 .0) (c .before .before .before .before .before .before .pre .1 .0 .1) (c .before .before .before .before .before .before .pre .1 .0 .2) _
+-- src/shift.rt:367:9
+trace-each-requires : tie.Need-trace-each-requires
+trace-each-requires c κs = (c .before .before .before .before .before .before .before .before .before .before .before .before .pre .0, (c .before .before .before .before .before .before .before .before .before .before .before .before .pre .1 .0, (c .before .before .before .before .before .before .before .before .before .before .before .before .pre .1 .1, (refl, omega arith, usable-blank _ _ _))))
 
--- src/shift.rt:315:15
-next-requires : tie.Need-next-requires Inv-loop μ-loop
-next-requires c κs = search needs
+-- src/shift.rt:367:9
+same-length : tie.Need-same-length
+same-length c = search needs
 
--- src/shift.rt:316:30
-enum-known-state : tie.Need-enum-known-state Inv-loop μ-loop
-enum-known-state c = search needs
+-- src/shift.rt:367:9
+same-length-2 : tie.Need-same-length-2
+same-length-2 c = search needs
 
--- src/shift.rt:318:28
-cast-from : tie.Need-cast-from Inv-loop μ-loop
-cast-from c = search needs
+-- src/shift.rt:367:9
+same-length-3 : tie.Need-same-length-3
+same-length-3 c = search needs
 
--- src/shift.rt:319:20
-passes-over-requires : tie.Need-passes-over-requires Inv-loop μ-loop
-passes-over-requires c κs = (c .before .before .before .before .before .before .before .before .before .before .before .before .before .before .pre .0, ((c .before .before .before .before .before .before .before .loop .inv .f-len, c .before .before .before .before .before .before .before .loop .inv .v-len), ((rounds-inside _ _ _ _ _ _ _ _ _ _ _ _ _ (c .before .before .before .before .before .before .before .loop .inv) (c .before .before .before .before .state .given .0 .0 .0) (c .before .before .before .before .state .given .0 .1 .0) (rw (c .before .before .before .before .state .given .1) at (c .before .before .before .before .before .before .next .ensures)), c .before .before .before .before .before .before .before .before .before .before .before .before .before .before .pre .1 .1 .1), c .before .before .before .before .before .before .before .loop .inv .clear)))
+-- src/shift.rt:367:9
+returns : tie.Need-returns
+returns c = search needs
 
--- src/shift.rt:331:42
-first-item-requires : tie.Need-first-item-requires Inv-loop μ-loop
-first-item-requires c κs = (c .before .before .before .before .before .before .before .before .before .before .before .before .before .before .before .before .pre .0 .accepted, rounds-inside _ _ _ _ _ _ _ _ _ _ _ _ _ (c .before .before .before .before .before .before .before .before .before .loop .inv) (c .before .before .before .before .before .before .state .given .0 .0 .0) (c .before .before .before .before .before .before .state .given .0 .1 .0) (rw (c .before .before .before .before .before .before .state .given .1) at (c .before .before .before .before .before .before .before .before .next .ensures)))
+-- src/shift.rt:393:9
+slice-aggregate-trace-each-3 : tie.Need-slice-aggregate-trace-each-3
+slice-aggregate-trace-each-3 c = search needs
 
--- src/shift.rt:331:21
-ahead-requires : tie.Need-ahead-requires Inv-loop μ-loop
-ahead-requires c κs = (c .before .before .before .before .before .before .before .before .before .before .before .before .before .before .before .before .before .pre .0 .accepted, c .first-item .ensures .1)
+-- src/shift.rt:394:9
+slice-aggregate-trace-each-4 : tie.Need-slice-aggregate-trace-each-4
+slice-aggregate-trace-each-4 c = search needs
 
--- src/shift.rt:314:5
-loop-less : tie.Need-loop-less Inv-loop μ-loop
-loop-less c = next-less (c .before .before .before .before .before .before .before .before .before .before .before .loop .rest .low) (c .before .before .before .before .before .before .before .before .before .before .before .loop .rest .high) (c .before .before .before .before .before .before .before .before .state .given .0 .0) (c .before .before .before .before .before .before .before .before .state .given .0 .1 .0) (rw (c .before .before .before .before .before .before .before .before .state .given .1) at (c .before .before .before .before .before .before .before .before .before .before .next .ensures))
+-- src/shift.rt:383:5
+trace-each-requires-2 : tie.Need-trace-each-requires-2
+trace-each-requires-2 c κs = (c .before .before .before .before .before .before .before .before .before .before .before .before .pre .0, (c .before .before .before .before .before .before .before .before .before .before .before .before .pre .1 .0, (c .before .before .before .before .before .before .before .before .before .before .before .before .pre .1 .1, (refl, omega arith, usable-blank _ _ _))))
 
--- src/shift.rt:314:5
-loop-again : tie.Need-loop-again Inv-loop μ-loop
-loop-again c = rounds-passed _ _ _ _ _ _ _ _ _ _ _ _ _ (c .before .before .before .before .before .before .before .before .before .before .before .loop .inv) (c .before .before .before .before .before .before .before .before .state .given .0 .0 .0) (c .before .before .before .before .before .before .before .before .state .given .0 .1 .0) (rw (c .before .before .before .before .before .before .before .before .state .given .1) at (c .before .before .before .before .before .before .before .before .before .before .next .ensures)) (fits _ (c .before .before .before .before .before .before .before .before .before .before .before .before .before .before .before .before .before .before .pre .0 .accepted)) (c .before .before .before .before .before .before .before .before .before .before .before .before .before .before .before .before .before .before .pre .1 .1 .1) (c .before .before .before .passes-over .ensures .0 (c .before .before .if1 .taken)) (c .before .before .before .passes-over .ensures .1 (c .before .before .if1 .taken)) _ (c .before .first-item .ensures .0) _ (c .ahead .ensures)
+-- src/shift.rt:347:1
+same-length-4 : tie.Need-same-length-4
+same-length-4 c = search needs
 
--- src/shift.rt:334:23
-trace-epsilon-requires : tie.Need-trace-epsilon-requires Inv-loop μ-loop
-trace-epsilon-requires c κs = (c .before .before .before .before .before .before .before .before .before .before .before .before .before .before .before .before .before .before .before .pre .0, ((c .before .before .before .before .before .before .before .before .before .before .before .before .loop .inv .w-len, c .before .before .before .before .before .before .before .before .before .before .before .before .loop .inv .f-len, c .before .before .before .before .before .before .before .before .before .before .before .before .loop .inv .v-len), (rounds-inside _ _ _ _ _ _ _ _ _ _ _ _ _ (c .before .before .before .before .before .before .before .before .before .before .before .before .loop .inv) (c .before .before .before .before .before .before .before .before .before .state .given .0 .0 .0) (c .before .before .before .before .before .before .before .before .before .state .given .0 .1 .0) (rw (c .before .before .before .before .before .before .before .before .before .state .given .1) at (c .before .before .before .before .before .before .before .before .before .before .before .next .ensures)), c .before .before .before .before .before .before .before .before .before .before .before .before .before .before .before .before .before .before .before .pre .1 .1 .1)))
+-- src/shift.rt:347:1
+same-length-5 : tie.Need-same-length-5
+same-length-5 c = search needs
 
-enum-told : tie.Need-enum-told Inv-loop μ-loop
-enum-told c = search needs
+-- src/shift.rt:347:1
+same-length-6 : tie.Need-same-length-6
+same-length-6 c = search needs
 
--- src/shift.rt:347:25
-enum-told-2 : tie.Need-enum-told-2 Inv-loop μ-loop
-enum-told-2 c = search needs
-
--- src/shift.rt:347:25
-same-length : tie.Need-same-length Inv-loop μ-loop
-same-length c = c .before .before .before .before .before .before .before .before .trace-epsilon .kept .1 .1 .1 .1 .0 ∙ c .before .before .before .before .before .before .before .before .before .before .before .before .before .before .before .before .before .before .before .before .before .loop .inv .w-len ∙ sym (c .before .before .before .before .before .before .before .before .before .before .before .before .before .before .before .before .before .before .before .before .before .before .before .before .before .before .before .before .pre .1 .0 .0)
-
--- src/shift.rt:347:25
-same-length-2 : tie.Need-same-length-2 Inv-loop μ-loop
-same-length-2 c = c .before .before .before .before .before .before .before .before .trace-epsilon .kept .1 .1 .1 .1 .1 .0 ∙ c .before .before .before .before .before .before .before .before .before .before .before .before .before .before .before .before .before .before .before .before .before .loop .inv .f-len ∙ sym (c .before .before .before .before .before .before .before .before .before .before .before .before .before .before .before .before .before .before .before .before .before .before .before .before .before .before .before .before .pre .1 .0 .1)
-
--- src/shift.rt:347:25
-same-length-3 : tie.Need-same-length-3 Inv-loop μ-loop
-same-length-3 c = c .before .before .before .before .before .before .before .before .trace-epsilon .kept .1 .1 .1 .1 .1 .1 .0 ∙ c .before .before .before .before .before .before .before .before .before .before .before .before .before .before .before .before .before .before .before .before .before .loop .inv .v-len ∙ sym (ap length (c .before .before .before .before .before .before .before .before .before .before .before .before .before .before .before .before .before .before .before .before .before .before .before .before .before .before .before .before .pre .1 .0 .2))
-
--- src/shift.rt:347:25
-returns : tie.Need-returns Inv-loop μ-loop
-returns c = (λ e. full-done e, λ _. rounds-full _ _ _ _ _ _ _ _ _ _ _ _ _ (c .before .before .before .before .before .before .before .before .before .before .before .before .before .before .before .before .before .before .before .before .before .loop .inv) (c .before .before .before .before .before .before .before .before .before .before .before .before .before .before .before .before .before .before .state .given .0 .0 .0) (c .before .before .before .before .before .before .before .before .before .before .before .before .before .before .before .before .before .before .state .given .0 .1 .0) (rw (c .before .before .before .before .before .before .before .before .before .before .before .before .before .before .before .before .before .before .state .given .1) at (c .before .before .before .before .before .before .before .before .before .before .before .before .before .before .before .before .before .before .before .before .next .ensures)) (c .before .before .before .before .before .before .before .before .trace-epsilon .ensures .1 .0 (c .enum-told2 .given .1)))
-
--- src/shift.rt:314:5
-loop-less-2 : tie.Need-loop-less-2 Inv-loop μ-loop
-loop-less-2 c = next-less (c .before .before .before .before .before .before .before .before .before .before .before .before .before .before .before .before .before .before .before .before .before .loop .rest .low) (c .before .before .before .before .before .before .before .before .before .before .before .before .before .before .before .before .before .before .before .before .before .loop .rest .high) (c .before .before .before .before .before .before .before .before .before .before .before .before .before .before .before .before .before .before .state .given .0 .0) (c .before .before .before .before .before .before .before .before .before .before .before .before .before .before .before .before .before .before .state .given .0 .1 .0) (rw (c .before .before .before .before .before .before .before .before .before .before .before .before .before .before .before .before .before .before .state .given .1) at (c .before .before .before .before .before .before .before .before .before .before .before .before .before .before .before .before .before .before .before .before .next .ensures))
-
--- src/shift.rt:314:5
-loop-again-2 : tie.Need-loop-again-2 Inv-loop μ-loop
-loop-again-2 c = rounds-more _ _ _ _ _ _ _ _ _ _ _ _ _ (c .before .before .before .before .before .before .before .before .before .before .before .before .before .before .before .before .before .before .before .before .before .loop .inv) (c .before .before .before .before .before .before .before .before .before .before .before .before .before .before .before .before .before .before .state .given .0 .0 .0) (c .before .before .before .before .before .before .before .before .before .before .before .before .before .before .before .before .before .before .state .given .0 .1 .0) (rw (c .before .before .before .before .before .before .before .before .before .before .before .before .before .before .before .before .before .before .state .given .1) at (c .before .before .before .before .before .before .before .before .before .before .before .before .before .before .before .before .before .before .before .before .next .ensures)) _ _ _ (c .before .before .before .before .before .before .before .before .trace-epsilon .ensures .0 (c .enum-told .given .1)) (c .before .before .before .before .before .before .before .before .trace-epsilon .kept .1 .1 .1 .1 .0) (c .before .before .before .before .before .before .before .before .trace-epsilon .kept .1 .1 .1 .1 .1 .0) (c .before .before .before .before .before .before .before .before .trace-epsilon .kept .1 .1 .1 .1 .1 .1 .0)
-
--- src/shift.rt:354:17
-enum-told-3 : tie.Need-enum-told-3 Inv-loop μ-loop
-enum-told-3 c = search needs
-
--- src/shift.rt:354:17
-same-length-4 : tie.Need-same-length-4 Inv-loop μ-loop
-same-length-4 c = c .before .before .before .loop .inv .w-len ∙ sym (c .before .before .before .before .before .before .before .before .before .before .pre .1 .0 .0)
-
--- src/shift.rt:354:17
-same-length-5 : tie.Need-same-length-5 Inv-loop μ-loop
-same-length-5 c = c .before .before .before .loop .inv .f-len ∙ sym (c .before .before .before .before .before .before .before .before .before .before .pre .1 .0 .1)
-
--- src/shift.rt:354:17
-same-length-6 : tie.Need-same-length-6 Inv-loop μ-loop
-same-length-6 c = c .before .before .before .loop .inv .v-len ∙ sym (ap length (c .before .before .before .before .before .before .before .before .before .before .pre .1 .0 .2))
-
--- src/shift.rt:354:17
-returns-2 : tie.Need-returns-2 Inv-loop μ-loop
-returns-2 c = (λ _. rounds-done _ _ _ _ _ _ _ _ _ _ _ _ _ (c .before .before .before .loop .inv) (rw (c .enum-told3 .given .1) at (c .before .before .next .ensures)), λ e. done-full e)
+-- src/shift.rt:347:1
+returns-2 : tie.Need-returns-2
+returns-2 c = search needs
 
 pub trace-states-spec : {M : Type 1} → statement M
 trace-states-spec =
     tie.close
     (tie.spec
-    Inv-loop
-    μ-loop
-    loop-holds
-    next-requires
-    enum-known-state
-    cast-from
-    passes-over-requires
-    first-item-requires
-    ahead-requires
-    loop-less
-    loop-again
-    trace-epsilon-requires
-    enum-told
-    enum-told-2
+    slice-aggregate-trace-each
+    slice-aggregate-trace-each-2
+    trace-each-requires
     same-length
     same-length-2
     same-length-3
     returns
-    loop-less-2
-    loop-again-2
-    enum-told-3
+    slice-aggregate-trace-each-3
+    slice-aggregate-trace-each-4
+    trace-each-requires-2
     same-length-4
     same-length-5
     same-length-6

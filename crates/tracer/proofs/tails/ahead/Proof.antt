@@ -2,17 +2,17 @@
 use mathlib.Core.Path.{refl}
 use Rattle.tracer.proofs.Passing.{Further, further-more}
 use native.Mathlib.Omega.{arith}
-use Rattle.tracer.proofs.shift.ahead.Statement.{statement}
-use Rattle.tracer.proofs.shift.ahead.Tie as tie
-use Rattle.tracer.proofs.shift.ahead.Reads as reads
-use Rattle.tracer.proofs.shift.ahead.Lts as lts
+use Rattle.tracer.proofs.tails.ahead.Statement.{statement}
+use Rattle.tracer.proofs.tails.ahead.Tie as tie
+use Rattle.tracer.proofs.tails.ahead.Reads as reads
+use Rattle.tracer.proofs.tails.ahead.Lts as lts
 use Rattle.table.proofs.item.Reads as item-reads
 
 abbrev Inv-loop : tie.InvT-loop
-Inv-loop table first at₀ left₀ at left = Further table first at
+Inv-loop table first most at₀ left₀ at left = Further table first at
 
 abbrev μ-loop : tie.MeasureT-loop
-μ-loop table first at₀ left₀ at left = left
+μ-loop table first most at₀ left₀ at left = left
 
 -- src/shift.rt:202:5
 loop-holds : tie.Need-loop-holds Inv-loop μ-loop
