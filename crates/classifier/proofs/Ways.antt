@@ -149,7 +149,7 @@ module _ (T : Table) (c : Conflict) (action reduce : List ℕ) where
 
 module _ (T : Table) (shift : Bool) (made : ℕ → ℕ → Example → Type 0) (xs : List Example) (kept prints : List ℕ) (K : SideKept T shift made xs kept prints) (n : ℕ) (e : length xs ≡ n) where
   pub side-sorts : (m : ℕ) → m ≡ exampleLimit → (n ≤ exampleLimit) × (n ≤ m) × (outlinesRoom ≤ length kept)
-  side-sorts m z = let f = K .outlined .few in (omega arith, omega arith, K .outlined .room .by-words)
+  side-sorts m z = let f = K .outlined .few in (omega arith, omega arith, omega (arith, K .outlined .room .by-words))
 
   module _ (order : List ℕ) (s : take n order ≡ sortedBy (placesIn kept) (below n)) where
     pub side-long : length (take n order) ≡ n

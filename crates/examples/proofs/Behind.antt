@@ -13,8 +13,7 @@ use Rattle.repr.specs.Meaning.{Production}
 use Rattle.repr.proofs.Lists.{cases}
 use Rattle.error.specs.Judge.{Example}
 use Rattle.outline.specs.Outline.{outlineOf}
-use Rattle.outline.specs.Kept.{nth, outlineIn, turnIn, Room}
-use Rattle.outline.proofs.Keeping.{keep-here, keep-turn, keep-there, keep-turn-there}
+use Rattle.outline.specs.Kept.{nth, outlineIn, labelledLimit, KeptLabels, Room}
 use Rattle.examples.specs.Gathers.{PutBehind, Behind}
 
 -- the room stays, as lengths do
@@ -27,8 +26,10 @@ behind-none ps shift count kept prints h = record {
   few = omega arith;
   same = λ k q. refl;
   same-turn = λ k q. refl;
+  same-labels = λ k q l x K. K;
   new = λ j q. let z : j < 0 = q in absurd (omega arith);
   new-turn = λ j q. let z : j < 0 = q in absurd (omega arith);
+  new-labels = λ j q. let z : j < 0 = q in absurd (omega arith);
 }
 
 -- an example of several and one behind them
@@ -43,18 +44,15 @@ nth-last ys x = getD-at ys x [] [] (length ys) refl
 
 -- x put as number `turn` behind n examples, `turn` of them this listing's
 module _ (ps : List Production) (shift : Bool) (count n turn : ℕ) (ys : List Example) (kept₀ prints₀ kept prints : List ℕ) (B : Behind ps shift count n ys kept₀ prints₀ kept prints) (t : length ys ≡ turn)
-    (R : Room kept prints) (h : n < exampleLimit) (x : Example) (kept′ prints′ : List ℕ) (P : PutBehind (outlineOf ps shift x) turn n kept prints kept′ prints′) where
-  there : (j : ℕ) → (j ≡ n → ⊥) → outlineIn kept′ prints′ j ≡ outlineIn kept prints j
-  there j q = (λ i. outlineIn (P .by-words i) (P .by-print i) j) ∙ keep-there kept n (outlineOf ps shift x) turn j q prints
-
-  there-turn : (j : ℕ) → (j ≡ n → ⊥) → turnIn kept′ j ≡ turnIn kept j
-  there-turn j q = ap (λ (l : List ℕ). turnIn l j) (P .by-words) ∙ keep-turn-there kept n (outlineOf ps shift x) turn j q
-
-  here : outlineIn kept′ prints′ n ≡ outlineOf ps shift x
-  here = (λ i. outlineIn (P .by-words i) (P .by-print i) n) ∙ keep-here kept n (outlineOf ps shift x) turn prints R h
-
-  here-turn : turnIn kept′ n ≡ turn
-  here-turn = ap (λ (l : List ℕ). turnIn l n) (P .by-words) ∙ keep-turn kept n (outlineOf ps shift x) turn prints R h
+    (h : n < exampleLimit) (x : Example) (kept′ prints′ : List ℕ) (P : PutBehind ps shift x turn n kept prints kept′ prints′) where
+  -- of the listing's examples: those before, and x
+  each-more : (Q : ℕ → Example → Type 0) → ((j : ℕ) → j < length ys → Q (count + j) (nth ys j)) → Q n x → (j : ℕ) → j < length (ys ++ x ∷ []) → Q (count + j) (nth (ys ++ x ∷ []) j)
+  each-more Q f e j q =
+      let m = B .many in
+      let l : length (ys ++ x ∷ []) ≡ length ys + 1 = length-append ys (x ∷ []) in
+      cases (ltb j (length ys))
+      (λ b. let v = ltb-true j (length ys) b in rw (nth-before ys x j v) (f j v))
+      (λ b. let v = ltb-false j (length ys) b in let z : j ≡ length ys = omega arith in let y : count + j ≡ n = omega arith in rw (y, z, nth-last ys x) e)
 
   pub behind-more : Behind ps shift count (suc n) (ys ++ x ∷ []) kept₀ prints₀ kept′ prints′
   behind-more =
@@ -63,14 +61,17 @@ module _ (ps : List Production) (shift : Bool) (count n turn : ℕ) (ys : List E
       record {
         many = omega arith;
         few = omega arith;
-        same = λ k q. there k (λ z. omega arith) ∙ B .same k q;
-        same-turn = λ k q. there-turn k (λ z. omega arith) ∙ B .same-turn k q;
-        new = λ j q.
-            cases (ltb j (length ys))
-            (λ b. let v = ltb-true j (length ys) b in there (count + j) (λ z. omega arith) ∙ B .new j v ∙ ap (outlineOf ps shift) (sym (nth-before ys x j v)))
-            (λ b. let v = ltb-false j (length ys) b in let z : j ≡ length ys = omega arith in let y : count + j ≡ n = omega arith in rw y (here ∙ ap (outlineOf ps shift) (sym (ap (nth (ys ++ x ∷ [])) z ∙ nth-last ys x))));
+        same = λ k q. P .other-outlines k (λ z. omega arith) (omega arith) ∙ B .same k q;
+        same-turn = λ k q. P .other-numbers k (λ z. omega arith) (omega arith) ∙ B .same-turn k q;
+        same-labels = λ k q r y K. P .other-labels k (λ z. omega arith) r y (B .same-labels k q r y K);
+        new =
+            each-more (λ k y. outlineIn kept′ prints′ k ≡ outlineOf ps shift y)
+            (λ j q. P .other-outlines (count + j) (λ z. omega arith) (omega arith) ∙ B .new j q) (P .outline);
         new-turn = λ j q.
             cases (ltb j (length ys))
-            (λ b. let v = ltb-true j (length ys) b in there-turn (count + j) (λ z. omega arith) ∙ B .new-turn j v)
-            (λ b. let v = ltb-false j (length ys) b in let z : turn ≡ j = omega arith in let y : count + j ≡ n = omega arith in rw y (here-turn ∙ z));
+            (λ b. let v = ltb-true j (length ys) b in P .other-numbers (count + j) (λ z. omega arith) (omega arith) ∙ B .new-turn j v)
+            (λ b. let v = ltb-false j (length ys) b in let z : turn ≡ j = omega arith in let y : count + j ≡ n = omega arith in rw y (P .number ∙ z));
+        new-labels =
+            each-more (λ k y. k < labelledLimit → KeptLabels ps kept′ k y)
+            (λ j q r. P .other-labels (count + j) (λ z. omega arith) r (nth ys j) (B .new-labels j q r)) (P .labels);
       }

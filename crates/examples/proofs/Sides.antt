@@ -20,7 +20,7 @@ use Rattle.error.specs.Judge.{Example}
 use Rattle.error.specs.Sides.{gathered, listingSide, reduceItem, reduceSide}
 use Rattle.outline.specs.Outline.{outlineOf}
 use Rattle.outline.specs.Inline.{Shifts}
-use Rattle.outline.specs.Kept.{nth, outlineIn, turnIn, Room}
+use Rattle.outline.specs.Kept.{nth, outlineIn, turnIn, labelledLimit, KeptLabels, Room}
 use Rattle.examples.specs.declared.Side.{Side as SideValue}
 use Rattle.examples.specs.declared.Side.the-variants.{Examples, Stopped}
 use Rattle.examples.specs.Gathers.{Behind, ListedOn, shiftMade, reduceMade, ExampleFits, SideKept, Sided}
@@ -31,6 +31,7 @@ pub none-kept : (T : Table) (shift : Bool) (made : ℕ → ℕ → Example → T
 none-kept T shift made kept prints R = record {
   outlined = record { few = omega arith; room = R; each = λ k h. let z : k < 0 = h in absurd (omega arith) };
   again = λ k h. let z : k < 0 = h in absurd (omega arith);
+  labels = λ k h. let z : k < 0 = h in absurd (omega arith);
   fits = λ k h. let z : k < 0 = h in absurd (omega arith);
   shifts = λ e k h. let z : k < 0 = h in absurd (omega arith);
 }
@@ -88,6 +89,9 @@ module _ (T : Table) (F : TableFits T) (s c : ℕ) (f : itemFits (T .productions
         each-of (λ k x. shiftMade T s (outlineIn kept′ prints′ k .label) (turnIn kept′ k) x) xs ys total many
         (λ k h. rw (B .same k (omega arith), B .same-turn k (omega arith)) (K .again k h))
         (λ j h. rw (B .new j h, B .new-turn j h, label-is j h) (made-here j h));
+    labels =
+        each-of (λ k x. k < labelledLimit → KeptLabels (T .productions) kept′ k x) xs ys total many
+        (λ k h l. B .same-labels k (omega arith) l (nth xs k) (K .labels k h l)) (B .new-labels);
     fits = each-of (λ k x. ExampleFits (T .productions) x) xs ys total many (K .fits) (λ j h. listed-fits T F true s (itemOf c) f none total m ys L j h);
     shifts = λ e. each-of (λ k x. Shifts (T .productions) x) xs ys total many (K .shifts e) (λ j h. listed-shifts T F true s (itemOf c) f none total m ys L j h i);
   }
@@ -115,6 +119,7 @@ module _ (T : Table) (F : TableFits T) (s p token : ℕ) (f : itemFits (T .produ
         each = λ k h. from-zero (λ q. outlineIn kept′ prints′ q ≡ outlineOf (T .productions) false (nth ys k)) k (B .new k h);
       };
       again = λ k h. again-here k h (outlineIn kept′ prints′ k .label) (turnIn kept′ k) (from-zero (λ q. turnIn kept′ q ≡ k) k (B .new-turn k h));
+      labels = λ k h. from-zero (λ q. q < labelledLimit → KeptLabels (T .productions) kept′ q (nth ys k)) k (B .new-labels k h);
       fits = λ k h. listed-fits T F false s (reduceItem T p) f (some (single token)) 0 m ys listing k h;
       shifts = λ e. absurd (true≢false (sym e));
     }

@@ -5,11 +5,12 @@ use mathlib.Core.Path.{_≡_, refl, sym, ap, _∙_}
 use mathlib.Core.Bool.{Bool}
 use mathlib.Core.Option.{Option}
 use mathlib.Core.List.{List, [], _∷_, _++_, append-nil, append-assoc}
-use lib.ListN.{length, drop, replicate, length-append}
+use lib.ListN.{length, set, drop, replicate, length-append}
 use Rattle.repr.specs.Sizes.{trialLimit, exampleLimit}
 use Rattle.repr.specs.Meaning.{Production, Item}
 use Rattle.trace_graph.specs.Graph.{TraceEdge, atItem}
 use Rattle.example.specs.Example.{Label}
+use Rattle.example.specs.Labels.{labelsIn, LabelsFit}
 use Rattle.enumerator.specs.Trials.{endsOf, trials}
 use Rattle.enumerator.specs.Lister.{search, labelsOf}
 use Rattle.view.specs.Trial.{trialRoom, trialWords}
@@ -22,7 +23,9 @@ use Rattle.error.specs.Sides.{Side, gathered, stopped}
 use Rattle.error.specs.Judge.{Example}
 use Rattle.outline.specs.declared.Outline.{Outline}
 use Rattle.outline.specs.Outline.{outlineOf}
-use Rattle.outline.specs.Kept.{Room}
+use Rattle.outline.specs.Kept.{outlineIn, turnIn, keptWith, labelledLimit, keptRoom, KeptLabels, LabelsPut, Room}
+use Rattle.outline.proofs.Keeping.{keep-length, keep-here, keep-turn, keep-there, keep-turn-there}
+use Rattle.outline.proofs.Labelled.{put-outline, put-turn, put-labels, put-others, outlined-labels}
 use Rattle.examples.specs.declared.Side.the-variants.{Examples, Stopped}
 use Rattle.examples.specs.Listing.{more, onto, nextExample, listedBy}
 use Rattle.examples.specs.Gathers.{PutBehind, Behind, ListedOn, TrialsIn}
@@ -30,10 +33,46 @@ use Rattle.examples.proofs.Walking.{next-room, next-none, walk-out}
 use Rattle.examples.proofs.Walks.{restSide, rest-first, Walk, walk-first, no-edge}
 use Rattle.examples.proofs.Behind.{behind-none, behind-more}
 
--- `keep_trial`: the outline of the labels read, kept
-pub trial-kept : (ps : List Production) (shift : Bool) (xs ys : Example) (o : Outline) (turn k : ℕ) (kept prints kept′ prints′ : List ℕ) → o ≡ outlineOf ps shift xs → xs ≡ ys
-    → PutBehind o turn k kept prints kept′ prints′ → PutBehind (outlineOf ps shift ys) turn k kept prints kept′ prints′
-trial-kept ps shift xs ys o turn k kept prints kept′ prints′ e f P = rw (← f, ← e) P
+-- `keep_trial`: the outline of the labels read, kept; and the labels of the side's first examples
+module _ (ps : List Production) (shift : Bool) (ws : List ℕ) (x : Example) (F : LabelsFit ps ws) (e : labelsIn ws ≡ x) (o : Outline) (eo : o ≡ outlineOf ps shift (labelsIn ws)) (turn k : ℕ)
+    (h : k < exampleLimit) (kept prints : List ℕ) (R : Room kept prints) (mid prints′ : List ℕ) (em : mid ≡ keptWith kept k o turn) (ep : prints′ ≡ set prints k (o .print)) where
+  -- the outline alone
+  outline-here : outlineIn mid prints′ k ≡ outlineOf ps shift x
+  outline-here = rw (em, ep, keep-here kept k o turn prints R h, eo, e)
+
+  number-here : turnIn mid k ≡ turn
+  number-here = rw (em, keep-turn kept k o turn prints R h)
+
+  outlines-there : (j : ℕ) → (j ≡ k → ⊥) → outlineIn mid prints′ j ≡ outlineIn kept prints j
+  outlines-there j ne = rw (em, ep, keep-there kept k o turn j ne prints)
+
+  numbers-there : (j : ℕ) → (j ≡ k → ⊥) → turnIn mid j ≡ turnIn kept j
+  numbers-there j ne = rw (em, keep-turn-there kept k o turn j ne)
+
+  labels-there : (j : ℕ) → j < labelledLimit → (y : Example) → KeptLabels ps kept j y → KeptLabels ps mid j y
+  labels-there j l y K = rw em (outlined-labels kept k o turn h ps (R .by-words) j l y K)
+
+  pub trial-unlabelled : labelledLimit ≤ k → PutBehind ps shift x turn k kept prints mid prints′
+  trial-unlabelled l = record {
+    outline = outline-here;
+    number = number-here;
+    labels = λ q. absurd (omega arith);
+    other-outlines = λ j ne q. outlines-there j ne;
+    other-numbers = λ j ne q. numbers-there j ne;
+    other-labels = λ j ne q y K. labels-there j q y K;
+  }
+
+  pub trial-labelled : k < labelledLimit → (kept′ : List ℕ) → LabelsPut ws k mid kept′ → PutBehind ps shift x turn k kept prints kept′ prints′
+  trial-labelled l kept′ P =
+      let r : keptRoom ≤ length mid = rw (em, keep-length kept k o turn) (R .by-words) in
+      record {
+        outline = put-outline ws k mid kept′ P prints′ k h ∙ outline-here;
+        number = put-turn ws k mid kept′ P k h ∙ number-here;
+        labels = λ q. put-labels ws k mid kept′ P ps l r x F e;
+        other-outlines = λ j ne q. put-outline ws k mid kept′ P prints′ j q ∙ outlines-there j ne;
+        other-numbers = λ j ne q. put-turn ws k mid kept′ P j q ∙ numbers-there j ne;
+        other-labels = λ j ne q y K. put-others ws k mid kept′ P ps l r j ne q (F .few) y (labels-there j q y K);
+      }
 
 -- examples put behind others
 
@@ -93,16 +132,16 @@ module _ (e : ℕ) (sets : List ℕ) (ps : List Production) (ahead : Option ℕ)
     unfolding ListedOn
     turn-full x s h f = sym (U .same) ∙ ap (onto (U .examples)) (h ∙ next-none (count + turn) x s f) ∙ onto-stopped (U .examples) 14
 
-    pub turn-more : (x : Example) (n : ℕ) → left c (count + turn) ≡ nextExample (count + turn) x (left n (suc (count + turn))) → count + turn < exampleLimit → Room kept prints → (kept′ prints′ : List ℕ)
-        → PutBehind (outlineOf ps shift x) turn (count + turn) kept prints kept′ prints′ → Turn shift count kept₀ prints₀ kept′ prints′ (turn + 1) n
-    turn-more x n h f R kept′ prints′ P =
+    pub turn-more : (x : Example) (n : ℕ) → left c (count + turn) ≡ nextExample (count + turn) x (left n (suc (count + turn))) → count + turn < exampleLimit → (kept′ prints′ : List ℕ)
+        → PutBehind ps shift x turn (count + turn) kept prints kept′ prints′ → Turn shift count kept₀ prints₀ kept′ prints′ (turn + 1) n
+    turn-more x n h f kept′ prints′ P =
         let z : suc (count + turn) ≡ count + (turn + 1) = omega arith in
         let l : length (U .examples ++ x ∷ []) ≡ length (U .examples) + 1 = length-append (U .examples) (x ∷ []) in
         let m = U .many in
         record {
           examples = U .examples ++ x ∷ [];
           many = omega arith;
-          behind = rw (← z) (behind-more ps shift count (count + turn) turn (U .examples) kept₀ prints₀ kept prints (U .behind) (U .many) R f x kept′ prints′ P);
+          behind = rw (← z) (behind-more ps shift count (count + turn) turn (U .examples) kept₀ prints₀ kept prints (U .behind) (U .many) f x kept′ prints′ P);
           same =
               ap (λ (q : ℕ). onto (U .examples ++ x ∷ []) (left n q)) (sym z) ∙ onto-more (U .examples) x (left n (suc (count + turn)))
               ∙ ap (onto (U .examples)) (sym (h ∙ next-room (count + turn) x (left n (suc (count + turn))) f)) ∙ U .same;

@@ -4,7 +4,7 @@ use mathlib.Core.Path.{_≡_}
 use mathlib.Core.Bool.{Bool, true}
 use mathlib.Core.List.{List}
 use mathlib.Core.Option.{none}
-use lib.ListN.{length, set}
+use lib.ListN.{length}
 use lib.Dec.{eqb}
 use Rattle.repr.specs.Sizes.{reductionLimit, exampleLimit}
 use Rattle.repr.specs.Meaning.{Production, Table, All}
@@ -14,18 +14,21 @@ use Rattle.example.specs.Labels.{LabelFits}
 use Rattle.error.specs.declared.Conflict.{Conflict}
 use Rattle.error.specs.Judge.{Example}
 use Rattle.error.specs.Sides.{Side, gathered, stopped, listingSide, reduceSide}
-use Rattle.outline.specs.declared.Outline.{Outline}
 use Rattle.outline.specs.Outline.{outlineOf}
-use Rattle.outline.specs.Kept.{nth, outlineIn, turnIn, keptWith, Outlined}
+use Rattle.outline.specs.Kept.{nth, outlineIn, turnIn, labelledLimit, KeptLabels, Outlined}
 use Rattle.outline.specs.Inline.{Shifts}
 use Rattle.examples.specs.declared.Side.{Side as SideValue}
 use Rattle.examples.specs.declared.Side.the-variants.{Examples, Stopped}
 use Rattle.examples.specs.Again.{Listed}
 
--- an outline put as example k, number `turn` of its listing
-pub record PutBehind (o : Outline) (turn k : ℕ) (kept prints kept′ prints′ : List ℕ) : Type 0 where
-  pub by-words : kept′ ≡ keptWith kept k o turn
-  pub by-print : prints′ ≡ set prints k (o .print)
+-- example x put as number k of its side, number `turn` of its listing: its outline, and its labels where they are kept; nothing changes of the others
+pub record PutBehind (ps : List Production) (shift : Bool) (x : Example) (turn k : ℕ) (kept prints kept′ prints′ : List ℕ) : Type 0 where
+  pub outline : outlineIn kept′ prints′ k ≡ outlineOf ps shift x
+  pub number : turnIn kept′ k ≡ turn
+  pub labels : k < labelledLimit → KeptLabels ps kept′ k x
+  pub other-outlines : (j : ℕ) → (j ≡ k → ⊥) → j < exampleLimit → outlineIn kept′ prints′ j ≡ outlineIn kept prints j
+  pub other-numbers : (j : ℕ) → (j ≡ k → ⊥) → j < exampleLimit → turnIn kept′ j ≡ turnIn kept j
+  pub other-labels : (j : ℕ) → (j ≡ k → ⊥) → j < labelledLimit → (y : Example) → KeptLabels ps kept j y → KeptLabels ps kept′ j y
 
 -- a listing's examples ys kept behind the first `count`: n in all, each with its number in the listing
 pub record Behind (ps : List Production) (shift : Bool) (count n : ℕ) (ys : List Example) (kept prints kept′ prints′ : List ℕ) : Type 0 where
@@ -33,8 +36,10 @@ pub record Behind (ps : List Production) (shift : Bool) (count n : ℕ) (ys : Li
   pub few : n ≤ exampleLimit
   pub same : (k : ℕ) → k < count → outlineIn kept′ prints′ k ≡ outlineIn kept prints k
   pub same-turn : (k : ℕ) → k < count → turnIn kept′ k ≡ turnIn kept k
+  pub same-labels : (k : ℕ) → k < count → k < labelledLimit → (x : Example) → KeptLabels ps kept k x → KeptLabels ps kept′ k x
   pub new : (j : ℕ) → j < length ys → outlineIn kept′ prints′ (count + j) ≡ outlineOf ps shift (nth ys j)
   pub new-turn : (j : ℕ) → j < length ys → turnIn kept′ (count + j) ≡ j
+  pub new-labels : (j : ℕ) → j < length ys → count + j < labelledLimit → KeptLabels ps kept′ (count + j) (nth ys j)
 
 -- n examples are kept after the listing, m trials were made
 pub record ListedBehind (ps : List Production) (shift : Bool) (count n m : ℕ) (kept prints kept′ prints′ : List ℕ) (listing : Side) : Type 0 where
@@ -80,10 +85,11 @@ pub record ExampleFits (ps : List Production) (x : Example) : Type 0 where
   pub few : length x ≤ reductionLimit
   pub each : All (LabelFits ps) x
 
--- what is kept of a side's examples xs: of each its outline, and how it is made again; of a shift's each shifts
+-- what is kept of a side's examples xs: of each its outline, and how it is made again; of the first their labels; of a shift's each shifts
 pub record SideKept (T : Table) (shift : Bool) (made : ℕ → ℕ → Example → Type 0) (xs : List Example) (kept prints : List ℕ) : Type 0 where
   pub outlined : Outlined (T .productions) shift xs kept prints
   pub again : (k : ℕ) → k < length xs → made (outlineIn kept prints k .label) (turnIn kept k) (nth xs k)
+  pub labels : (k : ℕ) → k < length xs → k < labelledLimit → KeptLabels (T .productions) kept k (nth xs k)
   pub fits : (k : ℕ) → k < length xs → ExampleFits (T .productions) (nth xs k)
   pub shifts : shift ≡ true → (k : ℕ) → k < length xs → Shifts (T .productions) (nth xs k)
 

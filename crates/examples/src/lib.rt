@@ -8,7 +8,9 @@ use error::Conflict;
 use example::Example;
 use first::FirstSets;
 use lookahead::TokenSet;
+use outline::Outline;
 use outline::keep;
+use outline::keep_labels;
 use outline::outline_of;
 use repr::NonterminalString;
 use repr::ProductionIndex;
@@ -53,7 +55,6 @@ ghost use Rattle.search.specs.Given.{Tried};
 ghost use Rattle.error.specs.Judge.{Example as ExampleOf};
 ghost use Rattle.error.specs.Sides.{listingSide, shiftSide, reduceSide, actionSideOf};
 ghost use Rattle.error.specs.Outcome.{conflictFits};
-ghost use Rattle.outline.specs.Outline.{outlineOf};
 ghost use Rattle.outline.specs.Kept.{Room};
 ghost use Rattle.outline.specs.Inline.{CodeFits};
 ghost use Rattle.examples.specs.Reads.{Reads};
@@ -107,7 +108,7 @@ pub struct Traced {
     pub shift: bool,
 }
 
-// The outline of the trial that the words hold, kept as example `count` of its side, number `turn` of its listing.
+// The outline of the trial that the words hold, kept as example `count` of its side, number `turn` of its listing; and the labels of the side's first.
 fn keep_trial(
     grammar: &[u16],
     productions: usize,
@@ -123,12 +124,15 @@ fn keep_trial(
     requires { ⌜ Packed (now grammar) productions ⌝ }
     requires { ⌜ ((es : List TraceEdge) × Tried (productionsIn (now grammar) productions) es (now owners) (now codes) (now words)) ⌝ }
     requires { ⌜ Room (now kept) (now prints) × (count < exampleLimit) × (turn < exampleLimit) ⌝ }
-    ensures { λ _. ⌜ ((es : List TraceEdge) → Tried (productionsIn (now (grammar .entry)) productions) es (now (owners .entry)) (now (codes .entry)) (now (words .entry)) → (p rest : List ℕ) → now (words .entry) ≡ trialWords p ++ rest → PutBehind (outlineOf (productionsIn (now (grammar .entry)) productions) shift (labelsOf (productionsIn (now (grammar .entry)) productions) es p)) turn count (now (kept .entry)) (now (prints .entry)) (now (kept .exit)) (now (prints .exit))) ⌝ }
+    ensures { λ _. ⌜ ((es : List TraceEdge) → Tried (productionsIn (now (grammar .entry)) productions) es (now (owners .entry)) (now (codes .entry)) (now (words .entry)) → (p rest : List ℕ) → now (words .entry) ≡ trialWords p ++ rest → PutBehind (productionsIn (now (grammar .entry)) productions) shift (labelsOf (productionsIn (now (grammar .entry)) productions) es p) turn count (now (kept .entry)) (now (prints .entry)) (now (kept .exit)) (now (prints .exit))) ⌝ }
 {
     let mut labels = [0u16; Example::ALL_LABEL_WORDS];
     let size = read_labels(owners, codes, words, &mut labels);
     let outline = outline_of(grammar, productions, &labels[..size], shift);
     keep(outline, turn, kept, prints, count);
+    if count < Outline::LABELLED {
+        keep_labels(&labels[..size], kept, count);
+    }
 }
 
 // Every example of a listing, its outline put behind the `count` of its side; the search goes from one to the next. Example 193 of the side is refusal 14, trial 100,001 refusal 13. The view says from which item.

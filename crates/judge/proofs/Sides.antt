@@ -31,7 +31,7 @@ use Rattle.error.specs.Judge.{Example, Judged, withBoth, reductionAt, sameReadi
 use Rattle.error.specs.Outcome.{operandFits, placeFits, conflictFits}
 use Rattle.outline.specs.declared.Outline.{Outline}
 use Rattle.outline.specs.Outline.{labelOf, outlineOf}
-use Rattle.outline.specs.Kept.{outlinesRoom, nth, outlineIn, turnIn, Room, Outlined}
+use Rattle.outline.specs.Kept.{outlinesRoom, nth, outlineIn, turnIn, Room, Outlined, labelledLimit, KeptLabels}
 use Rattle.outline.specs.Inline.{CodeFits, Shifts}
 use Rattle.outline.proofs.Upcoming.{first-reduction, kept-item}
 use Rattle.shift_items.specs.Codes.{Grammar}
@@ -65,7 +65,11 @@ module _ (T : Table) (shift : Bool) (made : ℕ → ℕ → Example → Type 0) 
   kept-place = (omega (arith, K .outlined .few), K .outlined .room)
 
   pub kept-turn : (k < exampleLimit) × (outlinesRoom ≤ length kept)
-  kept-turn = (omega (arith, K .outlined .few), K .outlined .room .by-words)
+  kept-turn = (omega (arith, K .outlined .few), omega (arith, K .outlined .room .by-words))
+
+  -- one of the first, whose labels are kept
+  pub kept-labels : (ps : List Production) → ps ≡ T .productions → k < labelledLimit → KeptLabels ps kept k (nth xs k)
+  kept-labels ps e l = rw e (K .labels k h l)
 
   module _ (o : Outline) (e : o ≡ outlineIn kept prints k) where
     pub kept-code : TableFits T → shift ≡ true → CodeFits (T .productions) (o .label)

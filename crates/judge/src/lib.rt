@@ -4,8 +4,10 @@ use error::Conflict;
 use example::Example as ExampleBuffer;
 use examples::action_again;
 use examples::reduce_again;
+use outline::Outline;
 use outline::outline_at;
 use outline::turn_at;
+use outline::write_kept;
 use pairs::Found;
 use pairs::Test;
 use pairs::first_pair;
@@ -60,7 +62,7 @@ pub struct Verdict {
     pub made: bool,
 }
 
-// Example k of the action side, written at the front of a buffer.
+// Example k of the action side, written at the front of a buffer: from its labels where they are kept, else made again.
 pub fn write_action(
     table: &[u16],
     grammar: &[u16],
@@ -79,6 +81,10 @@ pub fn write_action(
     requires { ⌜ exampleRoom ≤ length (now buffer) ⌝ }
     ensures { λ _. ⌜ ((xs : List Example) → SideKept (meaning (now (table .entry))) (isShift conflict) (actionMade (meaning (now (table .entry))) conflict) xs (now (actions .entry)) (now («action_prints» .entry)) → k < length xs → now (buffer .exit) ≡ inFront (exampleWords (meaning (now (table .entry)) .productions) (nth xs k)) (now (buffer .entry))) ⌝ }
 {
+    if k < Outline::LABELLED {
+        write_kept(grammar, counts.productions, actions, k, buffer);
+        return;
+    }
     let outline = outline_at(actions, action_prints, k);
     let turn = turn_at(actions, k);
     action_again(
@@ -95,7 +101,7 @@ pub fn write_action(
     );
 }
 
-// Example k of the reduce side, written at the front of a buffer.
+// Example k of the reduce side, likewise.
 pub fn write_reduce(
     table: &[u16],
     grammar: &[u16],
@@ -114,6 +120,10 @@ pub fn write_reduce(
     requires { ⌜ exampleRoom ≤ length (now buffer) ⌝ }
     ensures { λ _. ⌜ ((ys : List Example) → SideKept (meaning (now (table .entry))) false (reduceMade (meaning (now (table .entry))) (conflict .state .0) (conflict .production .0) (conflict .token)) ys (now (reduces .entry)) (now («reduce_prints» .entry)) → k < length ys → now (buffer .exit) ≡ inFront (exampleWords (meaning (now (table .entry)) .productions) (nth ys k)) (now (buffer .entry))) ⌝ }
 {
+    if k < Outline::LABELLED {
+        write_kept(grammar, counts.productions, reduces, k, buffer);
+        return;
+    }
     let state = conflict.state;
     let production = conflict.production.0 as usize;
     let token = conflict.token;

@@ -14,7 +14,7 @@ use Rattle.trace_graph.proofs.Stores.{stored-before, stored-after, stored-at}
 use Rattle.outline.specs.declared.Outline.{Outline}
 use Rattle.outline.specs.Kept.{outlinePlace, outlineIn, turnIn, keptWith, Room}
 
-outline-of-words : {p q f l p′ q′ f′ l′ : ℕ} → p ≡ p′ → q ≡ q′ → f ≡ f′ → l ≡ l′ → _≡_ {A = Outline} (record { places = p; print = q; first = f; label = l }) (record { places = p′; print = q′; first = f′; label = l′ })
+pub outline-of-words : {p q f l p′ q′ f′ l′ : ℕ} → p ≡ p′ → q ≡ q′ → f ≡ f′ → l ≡ l′ → _≡_ {A = Outline} (record { places = p; print = q; first = f; label = l }) (record { places = p′; print = q′; first = f′; label = l′ })
 outline-of-words a b c d = rw (a, b, c, d)
 
 -- `outline_at`

@@ -3,3 +3,4 @@ pub mod Upcoming
 pub mod Kept
 pub mod Keeping
 pub mod Diverging
+pub mod Labelled

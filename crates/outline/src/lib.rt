@@ -9,6 +9,7 @@ use example::prefix_part;
 use example::prefix_total;
 use example::suffix_part;
 use example::symbol_count;
+use example::write_example;
 use first::first0;
 use repr::NonterminalString;
 use repr::ProductionIndex;
@@ -17,16 +18,18 @@ ghost use mathlib.Core.Path.{_≡_};
 ghost use mathlib.Core.Bool.{true};
 ghost use Prim.Native.Nat.{_+_, _*_, _/_, _%_, _≤_, _<_};
 ghost use lib.ListN.{length, getD, set};
-ghost use Rattle.repr.specs.Sizes.{nonterminalLimit, terminalLimit, indexLimit, itemLimit, exampleLimit};
+ghost use Rattle.repr.specs.Sizes.{nonterminalLimit, terminalLimit, indexLimit, itemLimit, labelsRoom, exampleLimit, exampleRoom};
 ghost use Rattle.repr.specs.Lists.{joined};
 ghost use Rattle.repr.specs.Meaning.{sameSymbol};
 ghost use Rattle.repr.specs.Listed.{symbolOfKind, listed, symbolFits, listFits};
 ghost use Rattle.repr.specs.Packed.{Packed, productionsIn};
-ghost use Rattle.example.specs.Example.{prefixes, suffixes, middle, symbolWords};
+ghost use Rattle.slices.specs.Lent.{inFront};
+ghost use Rattle.example.specs.Example.{prefixes, suffixes, middle, symbolWords, exampleWords};
 ghost use Rattle.example.specs.Labels.{labelsIn, LabelsFit};
 ghost use Rattle.example.specs.Written.{wordsOf};
+ghost use Rattle.error.specs.Judge.{Example as ExampleOf};
 ghost use Rattle.outline.specs.Outline.{printLimit, mix, symbolCode, printOf, printWords, labelOf, outlineOf, OutlineFits};
-ghost use Rattle.outline.specs.Kept.{outlinesRoom, Room, outlineIn, turnIn, keptWith};
+ghost use Rattle.outline.specs.Kept.{outlinesRoom, labelledLimit, keptRoom, KeptLabels, LabelsPut, Room, outlineIn, turnIn, keptWith};
 ghost use Rattle.outline.specs.Inline.{apart, divergeBy, CodeFits, codesInline};
 
 // Places, a print of cursor and symbols, the nonterminal of the first reduction, the label that the inline test reads.
@@ -38,10 +41,18 @@ pub struct Outline {
 }
 
 impl Outline {
-    // Words of one that is kept, its turn with it, and of a side's.
+    // Words of one that is kept, its turn with it, and of all outlines of a side.
     pub const WORDS: usize = 4;
 
-    pub const ALL_WORDS: usize = Conflict::EXAMPLES * Outline::WORDS;
+    pub const OUTLINES: usize = Conflict::EXAMPLES * Outline::WORDS;
+
+    // Of so many examples of a side the labels are kept too, behind the outlines: a length and the labels of one.
+    pub const LABELLED: usize = 4;
+
+    pub const LABELLED_WORDS: usize = 1 + Example::ALL_LABEL_WORDS;
+
+    // Words of a side's.
+    pub const ALL_WORDS: usize = Outline::OUTLINES + Outline::LABELLED * Outline::LABELLED_WORDS;
 
     // A print is below it; it and the base leave room for a symbol in 64 bits.
     pub const PRINTS: u64 = 0x1_0000_0000_0000;
@@ -183,6 +194,32 @@ pub fn keep(outline: Outline, turn: usize, kept: &mut [u16], prints: &mut [u64],
     kept[at + 2] = outline.label as u16;
     kept[at + 3] = turn as u16;
     prints[k] = outline.print;
+}
+
+// Keeps the labels of example k of a side.
+pub fn keep_labels(labels: &[u16], kept: &mut [u16], k: usize)
+    requires { ⌜ (length (now labels) ≤ labelsRoom) × (k < labelledLimit) × (keptRoom ≤ length (now kept)) ⌝ }
+    ensures { λ _. ⌜ LabelsPut (now (labels .entry)) k (now (kept .entry)) (now (kept .exit)) ⌝ }
+{
+    let at = Outline::OUTLINES + k * Outline::LABELLED_WORDS;
+    let mut i: usize = 0;
+    while i < labels.len() {
+        kept[at + 1 + i] = labels[i];
+        i += 1;
+    }
+    kept[at] = labels.len() as u16;
+}
+
+// Example k of a side, whose labels are kept, at the front of the buffer.
+pub fn write_kept(grammar: &[u16], productions: usize, kept: &[u16], k: usize, buffer: &mut [u16])
+    requires { ⌜ Packed (now grammar) productions × (k < labelledLimit) × (keptRoom ≤ length (now kept)) ⌝ }
+    requires { ⌜ ((x : ExampleOf) × KeptLabels (productionsIn (now grammar) productions) (now kept) k x) × (exampleRoom ≤ length (now buffer)) ⌝ }
+    ensures { λ _. ⌜ ((x : ExampleOf) → KeptLabels (productionsIn (now (grammar .entry)) productions) (now (kept .entry)) k x → now (buffer .exit) ≡ inFront (exampleWords (productionsIn (now (grammar .entry)) productions) x) (now (buffer .entry))) ⌝ }
+{
+    let at = Outline::OUTLINES + k * Outline::LABELLED_WORDS;
+    let from = at + 1;
+    let to = from + word(kept, at);
+    write_example(grammar, productions, &kept[from..to], buffer);
 }
 
 // What is kept of example k.

@@ -4,7 +4,7 @@ use borrow.Author.Needs.{needs}
 use Prim.Native.Nat.{ℕ}
 use lib.ListN.{length-replicate}
 use Rattle.repr.specs.Sizes.{exampleLimit}
-use Rattle.outline.specs.Kept.{outlinesRoom}
+use Rattle.outline.specs.Kept.{keptRoom}
 use Rattle.classifier.proofs.Ways.{conflict-in, side-stops, side-gathers, action-stops, reduce-stops, both-judged}
 use Rattle.classifier.proofs.classify.Statement.{statement}
 use Rattle.classifier.proofs.classify.Tie as tie
@@ -16,7 +16,7 @@ slice-aggregate-action-examples-2 : tie.Need-slice-aggregate-action-examples-2
 slice-aggregate-action-examples-2 c = search needs
 
 action-examples-requires : tie.Need-action-examples-requires
-action-examples-requires c κs = (c .before .before .before .before .before .before .before .before .pre .0 .0, (c .before .before .before .before .before .before .before .before .pre .0 .1, record { by-words = rw (length-replicate {A = ℕ} outlinesRoom 0) (omega arith); by-print = rw (length-replicate {A = ℕ} exampleLimit 0) (omega arith) }))
+action-examples-requires c κs = (c .before .before .before .before .before .before .before .before .pre .0 .0, (c .before .before .before .before .before .before .before .before .pre .0 .1, record { by-words = rw (length-replicate {A = ℕ} keptRoom 0) (omega arith); by-print = rw (length-replicate {A = ℕ} exampleLimit 0) (omega arith) }))
 
 enum-known-refusal : tie.Need-enum-known-refusal
 enum-known-refusal c = search needs
@@ -34,7 +34,7 @@ slice-aggregate-reduce-examples-2 : tie.Need-slice-aggregate-reduce-examples-2
 slice-aggregate-reduce-examples-2 c = search needs
 
 reduce-examples-requires : tie.Need-reduce-examples-requires
-reduce-examples-requires c κs = (c .before .before .before .before .before .before .before .before .before .before .before .before .before .before .before .before .before .before .pre .0 .0, (conflict-in _ (c .before .before .before .before .before .before .before .before .before .before .before .before .before .before .before .before .before .before .args .conflict) (c .before .before .before .before .before .before .before .before .before .before .before .before .before .before .before .before .before .before .pre .0 .1), record { by-words = rw (length-replicate {A = ℕ} outlinesRoom 0) (omega arith); by-print = rw (length-replicate {A = ℕ} exampleLimit 0) (omega arith) }))
+reduce-examples-requires c κs = (c .before .before .before .before .before .before .before .before .before .before .before .before .before .before .before .before .before .before .pre .0 .0, (conflict-in _ (c .before .before .before .before .before .before .before .before .before .before .before .before .before .before .before .before .before .before .args .conflict) (c .before .before .before .before .before .before .before .before .before .before .before .before .before .before .before .before .before .before .pre .0 .1), record { by-words = rw (length-replicate {A = ℕ} keptRoom 0) (omega arith); by-print = rw (length-replicate {A = ℕ} exampleLimit 0) (omega arith) }))
 
 enum-known-refusal-2 : tie.Need-enum-known-refusal-2
 enum-known-refusal-2 c = search needs

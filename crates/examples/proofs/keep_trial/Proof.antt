@@ -4,7 +4,7 @@ use Prim.Native.Nat.{ℕ}
 use lib.ListN.{length-replicate}
 use lib.Seq.{length-take-le}
 use Rattle.repr.specs.Sizes.{labelsRoom}
-use Rattle.examples.proofs.Turns.{trial-kept}
+use Rattle.examples.proofs.Turns.{trial-labelled, trial-unlabelled}
 use borrow.Author.Needs.{needs}
 use native.Mathlib.Omega.{arith}
 use Rattle.examples.proofs.keep_trial.Statement.{statement}
@@ -28,6 +28,15 @@ outline-of-requires c κs = (c .before .before .before .before .before .before .
 keep-requires : tie.Need-keep-requires
 keep-requires c κs = search needs
 
+array-share-prefix-labels-2 : tie.Need-array-share-prefix-labels-2
+array-share-prefix-labels-2 c = search needs
+
+slice-aggregate-keep-labels : tie.Need-slice-aggregate-keep-labels
+slice-aggregate-keep-labels c = let l = c .before .before .before .before .before .before .before .before .before .before .before .before .read-labels .kept .1 .1 .1 .0 ∙ length-replicate {A = ℕ} labelsRoom 0 in sym (length-take-le _ (c .before .before .before .before .before .before .before .before .before .before .before .before .read-labels .last .1 .1 .1 .0) (omega (arith, c .before .before .before .before .before .before .before .before .before .before .before .before .read-labels .ensures .0 .0)))
+
+keep-labels-requires : tie.Need-keep-labels-requires
+keep-labels-requires c κs = let S = c .before .before .before .before .before .before .before .before .before .before .before .before .before .before .before .before .before .before .before .before .before in (c .before .before .before .before .before .before .before .before .before .before .before .before .before .read-labels .ensures .0 .1 _ _ (S .pre .1 .0 .1) .few, omega arith, omega (arith, c .before .before .before .before .before .before .before .keep .kept .1 .1 .0, S .pre .1 .1 .0 .by-words))
+
 same-length : tie.Need-same-length
 same-length c = search needs
 
@@ -35,7 +44,16 @@ same-length-2 : tie.Need-same-length-2
 same-length-2 c = search needs
 
 returns : tie.Need-returns
-returns c = λ es T p rest w. trial-kept _ _ _ _ _ _ _ _ _ _ _ (c .before .before .before .before .before .before .before .outline-of .ensures .0) (c .before .before .before .before .before .before .before .before .before .before .read-labels .ensures .1 _ _ T p rest w) (record { by-words = c .before .before .before .before .keep .ensures .0; by-print = c .before .before .before .before .keep .ensures .1 })
+returns c = λ es T p rest w. let S = c .before .before .before .before .before .before .before .before .before .before .before .before .before .before .before .before .before .before .before .before .before .before .before .before in trial-labelled _ _ _ _ (c .before .before .before .before .before .before .before .before .before .before .before .before .before .before .before .before .read-labels .ensures .0 .1 _ _ T) (c .before .before .before .before .before .before .before .before .before .before .before .before .before .before .before .before .read-labels .ensures .1 _ _ T p rest w) _ (c .before .before .before .before .before .before .before .before .before .before .before .before .before .outline-of .ensures .0) _ _ (S .pre .1 .1 .1) _ _ (S .pre .1 .1 .0) _ _ (c .before .before .before .before .before .before .before .before .before .before .keep .ensures .0) (c .before .before .before .before .before .before .before .before .before .before .keep .ensures .1) (omega arith) _ (c .before .before .keep-labels .ensures)
+
+same-length-3 : tie.Need-same-length-3
+same-length-3 c = search needs
+
+same-length-4 : tie.Need-same-length-4
+same-length-4 c = search needs
+
+returns-2 : tie.Need-returns-2
+returns-2 c = λ es T p rest w. let S = c .before .before .before .before .before .before .before .before .before .before .before .before .before .before .before .before .before .before .before in trial-unlabelled _ _ _ _ (c .before .before .before .before .before .before .before .before .before .before .before .read-labels .ensures .0 .1 _ _ T) (c .before .before .before .before .before .before .before .before .before .before .before .read-labels .ensures .1 _ _ T p rest w) _ (c .before .before .before .before .before .before .before .before .outline-of .ensures .0) _ _ (S .pre .1 .1 .1) _ _ (S .pre .1 .1 .0) _ _ (c .before .before .before .before .before .keep .ensures .0) (c .before .before .before .before .before .keep .ensures .1) (omega arith)
 
 pub keep-trial-spec : {M : Type 1} → statement M
 keep-trial-spec =
@@ -47,6 +65,12 @@ keep-trial-spec =
     slice-aggregate-outline-of
     outline-of-requires
     keep-requires
+    array-share-prefix-labels-2
+    slice-aggregate-keep-labels
+    keep-labels-requires
     same-length
     same-length-2
-    returns)
+    returns
+    same-length-3
+    same-length-4
+    returns-2)

@@ -94,7 +94,7 @@ loop-again c =
           let A = c .before .before .before .before .before .before .before .before .before .before .before .before .before .search .ensures es start (walk-searching _ _ _ _ _ _ _ _ _ _ _ L _ _ (U .0)) in
           let H = hits _ _ _ _ _ _ _ _ _ _ _ L _ _ (U .0) _ _ A _ (c .before .before .before .before .before .before .before .before .before .before .number .given .1) in
           let D = hit-tried _ _ _ _ _ _ _ _ _ _ _ L _ _ (U .0) _ _ A _ (c .before .before .before .before .before .before .before .before .before .before .number .given .1) in
-          (walk-on _ _ _ _ _ _ _ _ _ _ _ L _ _ (U .0) _ _ A _ (c .before .before .before .before .before .before .before .before .before .before .number .given .1), turn-more _ _ _ _ _ _ _ _ _ _ _ _ _ _ (U .1) _ _ (H .next _) (omega (arith, c .before .before .before .before .before .before .before .before .if1 .left)) (room-kept _ _ _ _ (I .0) (I .1) (P .1 .1 .0)) _ _ (c .before .before .before .before .keep-trial .ensures es D (H .found) _ (H .words))),
+          (walk-on _ _ _ _ _ _ _ _ _ _ _ L _ _ (U .0) _ _ A _ (c .before .before .before .before .before .before .before .before .before .before .number .given .1), turn-more _ _ _ _ _ _ _ _ _ _ _ _ _ _ (U .1) _ _ (H .next _) (omega (arith, c .before .before .before .before .before .before .before .before .if1 .left)) _ _ (c .before .before .before .before .keep-trial .ensures es D (H .found) _ (H .words))),
     )
 
 enum-known-number-2 : tie.Need-enum-known-number-2 Inv-loop μ-loop
