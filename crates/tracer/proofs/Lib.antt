@@ -4,6 +4,7 @@ pub mod Turns
 pub mod Along
 pub mod Collecting
 pub mod Linking
+pub mod Exchanging
 pub mod Places
 pub mod Passing
 pub mod States

@@ -11,7 +11,7 @@ use Rattle.table.specs.Index.{ItemIndex}
 use Rattle.trace.specs.Traced.{Trace, canShift, inTurn}
 use Rattle.trace.specs.Shift.{epsilonItem, epsilon}
 
--- words of each of the two lists, and the first slot: those before it are nonterminals
+-- words of each list, and the first slot: those before it are nonterminals
 abbrev pub tailWords : ℕ
 tailWords = 2000
 
@@ -56,6 +56,15 @@ pub record Usable (t rs ls : List ℕ) : Type 0 where
   pub ends : getD rs 0 0 ≡ 0
   pub collected : (getD rs 1 0 ≡ 0 → ⊥) → Collected t rs (getD rs 1 0) count
   pub linked : (getD rs 1 0 ≡ 0 → ⊥) → Linked t rs ls count firstSlot
+
+-- the lists of two tails: all of one length, each pair usable
+pub record TwoTails (t rs ls us ms : List ℕ) : Type 0 where
+  pub few : length rs ≤ tailWords
+  pub links : length ls ≡ length rs
+  pub others : length us ≡ length rs
+  pub other-links : length ms ≡ length rs
+  pub usable : Usable t rs ls
+  pub other-usable : Usable t us ms
 
 -- the place of a record of the chain
 pub record Begins (rs ls : List ℕ) (n at slot record′ : ℕ) : Type 0 where

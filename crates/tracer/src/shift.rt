@@ -42,7 +42,7 @@ ghost use Rattle.trace.specs.Passed.{ItemPassed};
 ghost use Rattle.bits.specs.Bits.{bitAt};
 ghost use Rattle.codes.specs.Coded.{codesRoom, keyWords, Coded, Leasts};
 ghost use Rattle.tracer.specs.Held.{pairWords, Steps, Exceeds, unset, Working};
-ghost use Rattle.tracer.specs.Tails.{tailWords, Usable};
+ghost use Rattle.tracer.specs.Tails.{Usable, TwoTails};
 
 // The edge of an item that can shift a nonterminal: past its beginning from the item, else from its nonterminal.
 fn epsilon_code(
@@ -262,7 +262,7 @@ fn passes_over(
     )
 }
 
-// Each state of the set in turn, ascending. A state whose items add nothing is passed over: `before` is the state traced last, `known` the record from which on the items of the state passed over last may be those of others too (0: none): 64 on from its first, since 128 states cannot have more records of their own each.
+// Each state of the set in turn, ascending. A state whose items add nothing is passed over: `before` is the state traced last, `known` the record from which on the items of the state passed over last may be those of others too (0: none): 64 on from its first, since 128 states cannot have more records of their own each. The lists of two tails are kept from state to state.
 fn trace_each(
     table: &[u16],
     grammar: &[u16],
@@ -275,11 +275,13 @@ fn trace_each(
     nonterminal: usize,
     records: &mut [u16],
     links: &mut [u16],
+    others: &mut [u16],
+    other_links: &mut [u16],
 ) -> Inserted
     requires { ⌜ Working (now table) (now grammar) productions (now least) ⌝ }
     requires { ⌜ (length (now words) ≡ codesRoom) × (length (now flags) ≡ keyWords) × (now entered ≡ replicate pairWords 0) ⌝ }
     requires { ⌜ ((s : ℕ) → mem s (statesIn (states .low) (states .high)) ≡ true → s < length (meaning (now table) .states)) × (nonterminal < length (meaning (now table) .nonterminals)) ⌝ }
-    requires { ⌜ (length (now links) ≡ length (now records)) × (length (now records) ≤ tailWords) × Usable (now table) (now records) (now links) ⌝ }
+    requires { ⌜ TwoTails (now table) (now records) (now links) (now others) (now «other_links») ⌝ }
     ensures { λ r. ⌜ (r ≡ Done → (es : List TraceEdge) → Coded (meaning (now (table .entry))) (now (words .entry)) (now (flags .entry)) es → Coded (meaning (now (table .entry))) (now (words .exit)) (now (flags .exit)) (inTurn (λ p u. epsilon (meaning (now (table .entry))) pairs p nonterminal u) (statesIn (states .low) (states .high)) (record { edges = es; seen = [] }) .edges)) ⌝ }
     ensures { λ r. ⌜ (r ≡ Full → (es : List TraceEdge) → Coded (meaning (now (table .entry))) (now (words .entry)) (now (flags .entry)) es → edgeLimit < length (inTurn (λ p u. epsilon (meaning (now (table .entry))) pairs p nonterminal u) (statesIn (states .low) (states .high)) (record { edges = es; seen = [] }) .edges)) ⌝ }
 {
@@ -288,8 +290,8 @@ fn trace_each(
     let mut known: usize = 0;
     loop {
         match rest.next() {
-            NextState::State(state, others) => {
-                rest = others;
+            NextState::State(state, left) => {
+                rest = left;
                 let from = state.0 as usize;
                 if passes_over(
                     table,
@@ -313,6 +315,8 @@ fn trace_each(
                     first_item(table, from),
                     records,
                     links,
+                    others,
+                    other_links,
                 );
                 match trace_epsilon(
                     table,
@@ -363,6 +367,8 @@ pub fn trace_states(
     if table.len() < TailList::SHORT {
         let mut records = [0u16; 2];
         let mut links = [0u16; 2];
+        let mut others = [0u16; 2];
+        let mut other_links = [0u16; 2];
         return trace_each(
             table,
             grammar,
@@ -375,10 +381,14 @@ pub fn trace_states(
             nonterminal,
             &mut records,
             &mut links,
+            &mut others,
+            &mut other_links,
         );
     }
     let mut records = [0u16; TailList::WORDS];
     let mut links = [0u16; TailList::WORDS];
+    let mut others = [0u16; TailList::WORDS];
+    let mut other_links = [0u16; TailList::WORDS];
     trace_each(
         table,
         grammar,
@@ -391,6 +401,8 @@ pub fn trace_states(
         nonterminal,
         &mut records,
         &mut links,
+        &mut others,
+        &mut other_links,
     )
 }
 

@@ -1,6 +1,7 @@
 // The items of a chain's tail that have a nonterminal at the cursor, each once and by nonterminal: read in the tail's place, which is long where it is listed and may be that of many states.
 // `records`: word 1 is the record that the tail begins with (0: none is listed), and from slot TailList::FIRST on the listed records stand in their order; word 0 is 0, the record of no slot.
 // `links`: of each nonterminal the first slot, of each slot the next with the same nonterminal; 0 where there is none.
+// `others`, `other_links`: the same of the tail that was used before, so that two long chains by turns are each listed once.
 use bits::is_set;
 use bits::put;
 use core::Item;
@@ -18,7 +19,7 @@ ghost use Rattle.table.specs.Index.{ItemIndex};
 ghost use Rattle.table.specs.Refusals.{checkOf};
 ghost use Rattle.table.specs.declared.Checked.the-variants.{Accepted};
 ghost use Rattle.tracer.specs.Held.{Working};
-ghost use Rattle.tracer.specs.Tails.{tailWords, firstSlot, Collected, Linked, Usable, Begins, Follows};
+ghost use Rattle.tracer.specs.Tails.{tailWords, firstSlot, Collected, Linked, Usable, TwoTails, Begins, Follows};
 
 // A slot and its record, or slot 0 and a record of the chain; record 0 is the end.
 pub struct Place {
@@ -29,7 +30,7 @@ pub struct Place {
 pub struct TailList(pub u16);
 
 impl TailList {
-    // Words of each of the two lists.
+    // Words of each list.
     pub const WORDS: usize = 2000;
 
     // The slot of the first record: those before it are nonterminals.
@@ -184,7 +185,45 @@ fn meets(table: &[u16], first: usize, tail: usize) -> bool
     at == tail
 }
 
-// Sees to it that the tail of a long chain is listed, where there is room for lists.
+// Lists the tail of a chain over the one that is listed, unless that is it. False: the chain has no tail, and the lists are as they were.
+fn relist(
+    table: &[u16],
+    grammar: &[u16],
+    productions: usize,
+    first: usize,
+    records: &mut [u16],
+    links: &mut [u16],
+) -> bool
+    requires { ⌜ ((ls : List ℕ) × Working (now table) (now grammar) productions ls) × ItemIndex (now table) first ⌝ }
+    requires { ⌜ (length (now records) ≡ tailWords) × (length (now links) ≡ tailWords) × Usable (now table) (now records) (now links) ⌝ }
+    ensures { λ _. ⌜ Usable (now (table .entry)) (now (records .exit)) (now (links .exit)) ⌝ }
+{
+    if meets(table, first, word(records, 1)) {
+        return true;
+    }
+    let tail = ahead(table, first, TailList::AHEAD);
+    if tail == first {
+        return false;
+    }
+    fill(table, grammar, productions, tail, records, links);
+    true
+}
+
+// The words of two slices change places.
+fn exchange(a: &mut [u16], b: &mut [u16])
+    requires { ⌜ length (now b) ≡ length (now a) ⌝ }
+    ensures { λ _. ⌜ (now (a .exit) ≡ now (b .entry)) × (now (b .exit) ≡ now (a .entry)) ⌝ }
+{
+    let mut i: usize = 0;
+    while i < a.len() {
+        let from = a[i];
+        a[i] = b[i];
+        b[i] = from;
+        i += 1;
+    }
+}
+
+// Sees to it that the tail of a long chain is listed in `records` and `links`, where there is room for lists. The tail that was listed there goes to `others` and `other_links`; a tail that neither has is listed over the older one.
 pub fn list_tail(
     table: &[u16],
     grammar: &[u16],
@@ -192,10 +231,12 @@ pub fn list_tail(
     first: usize,
     records: &mut [u16],
     links: &mut [u16],
+    others: &mut [u16],
+    other_links: &mut [u16],
 )
     requires { ⌜ ((ls : List ℕ) × Working (now table) (now grammar) productions ls) × ItemIndex (now table) first ⌝ }
-    requires { ⌜ (length (now links) ≡ length (now records)) × (length (now records) ≤ tailWords) × Usable (now table) (now records) (now links) ⌝ }
-    ensures { λ _. ⌜ Usable (now (table .entry)) (now (records .exit)) (now (links .exit)) ⌝ }
+    requires { ⌜ TwoTails (now table) (now records) (now links) (now others) (now «other_links») ⌝ }
+    ensures { λ _. ⌜ TwoTails (now (table .entry)) (now (records .exit)) (now (links .exit)) (now (others .exit)) (now («other_links» .exit)) ⌝ }
 {
     if records.len() < TailList::WORDS {
         return;
@@ -203,11 +244,11 @@ pub fn list_tail(
     if meets(table, first, word(records, 1)) {
         return;
     }
-    let tail = ahead(table, first, TailList::AHEAD);
-    if tail == first {
+    if !relist(table, grammar, productions, first, others, other_links) {
         return;
     }
-    fill(table, grammar, productions, tail, records, links);
+    exchange(records, others);
+    exchange(links, other_links);
 }
 
 // The place of a record of the chain: where the tail begins the first slot of the nonterminal.
