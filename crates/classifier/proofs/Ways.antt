@@ -37,7 +37,7 @@ use Rattle.examples.specs.Gathers.{SideKept, Gathers, Sided}
 use Rattle.judge.specs.declared.Shown.{Shown}
 use Rattle.judge.specs.declared.Shown.the-variants.{Number, Nothing}
 use Rattle.judge.specs.declared.Judged.{Judged as JudgedValue}
-use Rattle.judge.specs.Judging.{InBuffer, Ordered, picked, shownIn, judgedIn, ShownFits, Judges, ShownMade}
+use Rattle.judge.specs.Judging.{Ordered, picked, shownIn, judgedIn, ShownFits, Judges}
 use Rattle.classifier.specs.Ranges.{operandIn}
 use Rattle.classifier.specs.Shown.{judgedWords, shownOf}
 
@@ -113,10 +113,6 @@ conflict-in T c e =
 pub shown-fits : (n k : ℕ) (v : Shown) → v ≡ Number k → ShownFits n v → k < n
 unfolding ShownFits
 shown-fits n k v e f = subst (ShownFits n) e f
-
-pub shown-again : (ps : List Production) (xs : List Example) (k : ℕ) (v : Shown) → v ≡ Number k → (b : List ℕ) → ShownMade ps xs v b → InBuffer ps (nth xs k) b
-unfolding ShownMade
-shown-again ps xs k v e b m = subst (λ (s : Shown). ShownMade ps xs s b) e m
 
 module _ (ps : List Production) (xs : List Example) (v : Shown) (b : List ℕ) where
   pub shown-number : (k : ℕ) → v ≡ Number k → (b′ : List ℕ) → b′ ≡ inFront (exampleWords ps (nth xs k)) b → b′ ≡ shown ps (shownIn xs v) b

@@ -10,7 +10,6 @@ use examples::reduce_examples;
 use judge::Shown;
 use judge::judge;
 use judge::write_action;
-use judge::write_made;
 use judge::write_reduce;
 use outline::Outline;
 use pairs::sort_side;
@@ -36,7 +35,7 @@ ghost use Rattle.error.specs.Judge.{Example, judged};
 ghost use Rattle.error.specs.Outcome.{outcome, placeFits, conflictFits, gatheredOutcome, classifyIn, shown as shownWords};
 ghost use Rattle.examples.specs.Reads.{Reads};
 ghost use Rattle.examples.specs.Gathers.{SideKept, isShift, actionMade, reduceMade};
-ghost use Rattle.judge.specs.Judging.{Sides, ShownFits, ShownMade, shownIn};
+ghost use Rattle.judge.specs.Judging.{Sides, ShownFits, shownIn};
 ghost use Rattle.classifier.specs.Ranges.{operandIn};
 ghost use Rattle.classifier.specs.Shown.{judgedWords, shownOf};
 
@@ -86,7 +85,7 @@ fn shifts_end(conflict: Conflict, terminals: usize) -> bool
     false
 }
 
-// The action's example that is shown, if there is one, at the front of its buffer: copied where it was made already, else made.
+// The action's example that is shown, if there is one, at the front of its buffer.
 fn show_action(
     table: &[u16],
     grammar: &[u16],
@@ -98,34 +97,28 @@ fn show_action(
     actions: &[u16],
     prints: &[u64],
     shown: Shown,
-    made: bool,
-    again: &[u16],
     buffer: &mut [u16],
 )
     requires { ⌜ Reads (now table) (now grammar) counts (now map) (now least) (now ends) × (conflictFits (meaning (now table)) conflict ≡ true) ⌝ }
-    requires { ⌜ ((xs : List Example) × (SideKept (meaning (now table)) (isShift conflict) (actionMade (meaning (now table)) conflict) xs (now actions) (now prints) × (ShownFits (length xs) «shown» × (made ≡ true → ShownMade (meaning (now table) .productions) xs «shown» (now again))))) ⌝ }
+    requires { ⌜ ((xs : List Example) × (SideKept (meaning (now table)) (isShift conflict) (actionMade (meaning (now table)) conflict) xs (now actions) (now prints) × ShownFits (length xs) «shown»)) ⌝ }
     requires { ⌜ exampleRoom ≤ length (now buffer) ⌝ }
-    ensures { λ _. ⌜ ((xs : List Example) → SideKept (meaning (now (table .entry))) (isShift conflict) (actionMade (meaning (now (table .entry))) conflict) xs (now (actions .entry)) (now (prints .entry)) → ShownFits (length xs) «shown» → (made ≡ true → ShownMade (meaning (now (table .entry)) .productions) xs «shown» (now (again .entry))) → now (buffer .exit) ≡ shownWords (meaning (now (table .entry)) .productions) (shownIn xs «shown») (now (buffer .entry))) ⌝ }
+    ensures { λ _. ⌜ ((xs : List Example) → SideKept (meaning (now (table .entry))) (isShift conflict) (actionMade (meaning (now (table .entry))) conflict) xs (now (actions .entry)) (now (prints .entry)) → ShownFits (length xs) «shown» → now (buffer .exit) ≡ shownWords (meaning (now (table .entry)) .productions) (shownIn xs «shown») (now (buffer .entry))) ⌝ }
 {
     match shown {
         Shown::Number(k) => {
-            if made {
-                write_made(again, buffer);
-            } else {
-                write_action(
-                    table,
-                    grammar,
-                    counts,
-                    map,
-                    least,
-                    ends,
-                    conflict,
-                    actions,
-                    prints,
-                    k,
-                    buffer,
-                );
-            }
+            write_action(
+                table,
+                grammar,
+                counts,
+                map,
+                least,
+                ends,
+                conflict,
+                actions,
+                prints,
+                k,
+                buffer,
+            );
         }
         Shown::Nothing => {}
     }
@@ -143,40 +136,34 @@ fn show_reduce(
     reduces: &[u16],
     prints: &[u64],
     shown: Shown,
-    made: bool,
-    again: &[u16],
     buffer: &mut [u16],
 )
     requires { ⌜ Reads (now table) (now grammar) counts (now map) (now least) (now ends) × (conflictFits (meaning (now table)) conflict ≡ true) ⌝ }
-    requires { ⌜ ((ys : List Example) × (SideKept (meaning (now table)) false (reduceMade (meaning (now table)) (conflict .state .0) (conflict .production .0) (conflict .token)) ys (now reduces) (now prints) × (ShownFits (length ys) «shown» × (made ≡ true → ShownMade (meaning (now table) .productions) ys «shown» (now again))))) ⌝ }
+    requires { ⌜ ((ys : List Example) × (SideKept (meaning (now table)) false (reduceMade (meaning (now table)) (conflict .state .0) (conflict .production .0) (conflict .token)) ys (now reduces) (now prints) × ShownFits (length ys) «shown»)) ⌝ }
     requires { ⌜ exampleRoom ≤ length (now buffer) ⌝ }
-    ensures { λ _. ⌜ ((ys : List Example) → SideKept (meaning (now (table .entry))) false (reduceMade (meaning (now (table .entry))) (conflict .state .0) (conflict .production .0) (conflict .token)) ys (now (reduces .entry)) (now (prints .entry)) → ShownFits (length ys) «shown» → (made ≡ true → ShownMade (meaning (now (table .entry)) .productions) ys «shown» (now (again .entry))) → now (buffer .exit) ≡ shownWords (meaning (now (table .entry)) .productions) (shownIn ys «shown») (now (buffer .entry))) ⌝ }
+    ensures { λ _. ⌜ ((ys : List Example) → SideKept (meaning (now (table .entry))) false (reduceMade (meaning (now (table .entry))) (conflict .state .0) (conflict .production .0) (conflict .token)) ys (now (reduces .entry)) (now (prints .entry)) → ShownFits (length ys) «shown» → now (buffer .exit) ≡ shownWords (meaning (now (table .entry)) .productions) (shownIn ys «shown») (now (buffer .entry))) ⌝ }
 {
     match shown {
         Shown::Number(k) => {
-            if made {
-                write_made(again, buffer);
-            } else {
-                write_reduce(
-                    table,
-                    grammar,
-                    counts,
-                    map,
-                    least,
-                    ends,
-                    conflict,
-                    reduces,
-                    prints,
-                    k,
-                    buffer,
-                );
-            }
+            write_reduce(
+                table,
+                grammar,
+                counts,
+                map,
+                least,
+                ends,
+                conflict,
+                reduces,
+                prints,
+                k,
+                buffer,
+            );
         }
         Shown::Nothing => {}
     }
 }
 
-// The class from both sides: either empty is naive, and writes nothing; else both are put in order and judged, and the examples shown are those of the pair that was made again, or are made again.
+// The class from both sides: either empty is naive, and writes nothing; else both are put in order and judged, and the examples shown are made again.
 fn classify_kept(
     table: &[u16],
     grammar: &[u16],
@@ -209,9 +196,7 @@ fn classify_kept(
     let mut columns = [0u16; Conflict::EXAMPLES];
     sort_side(actions, action_count, &mut rows);
     sort_side(reduces, reduce_count, &mut columns);
-    let mut made_action = [0u16; ExampleBuffer::WORDS];
-    let mut made_reduce = [0u16; ExampleBuffer::WORDS];
-    let verdict = judge(
+    let judged = judge(
         table,
         grammar,
         counts,
@@ -225,11 +210,7 @@ fn classify_kept(
         reduces,
         reduce_prints,
         &columns[..reduce_count],
-        &mut made_action,
-        &mut made_reduce,
     );
-    let made = verdict.made;
-    let judged = verdict.judged;
     let shown = judged.action;
     show_action(
         table,
@@ -242,8 +223,6 @@ fn classify_kept(
         actions,
         action_prints,
         shown,
-        made,
-        &made_action,
         action,
     );
     let other = judged.reduce;
@@ -258,8 +237,6 @@ fn classify_kept(
         reduces,
         reduce_prints,
         other,
-        made,
-        &made_reduce,
         reduce,
     );
     judged.class

@@ -1,4 +1,3 @@
 pub mod Reading
 pub mod Ways
 pub mod Sides
-pub mod Made

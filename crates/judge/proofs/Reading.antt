@@ -126,29 +126,6 @@ module _ (ps : List Production) (x : Example) (b : List ℕ) (B : InBuffer ps x 
       let f = B .few in
       (omega arith, omega arith)
 
-  reductions-are : getD b 2 0 ≡ length x
-  unfolding exampleWords
-  reductions-are = ap (λ (l : List ℕ). getD l 2 0) in-front
-
-  -- `example_words`
-  pub words-are : (c d : ℕ) → c ≡ getD b 0 0 → d ≡ getD b 2 0 → 3 + 2 * c + 3 * d ≡ length (exampleWords ps x)
-  words-are c d ec ed =
-      let w = length-words ps x in
-      let u = count-is in
-      let v = reductions-are in
-      omega arith
-
-  -- `write_made`
-  pub made-room : (length (exampleWords ps x) ≤ length b) × (length (exampleWords ps x) ≤ exampleRoom)
-  made-room =
-      let l : length b ≡ length (exampleWords ps x) + length rest = ap length in-front ∙ length-append (exampleWords ps x) rest in
-      (omega arith, B .few)
-
-  pub made-copied : (n : ℕ) → n ≡ length (exampleWords ps x) → (old new : List ℕ) → new ≡ take n b ++ drop n old → new ≡ inFront (exampleWords ps x) old
-  unfolding inFront
-  made-copied n e old new q =
-      q ∙ rw e (ap (λ (l : List ℕ). l ++ drop (length (exampleWords ps x)) old) (ap (take (length (exampleWords ps x))) in-front ∙ take-at (exampleWords ps x) rest (length (exampleWords ps x)) refl))
-
 -- `same_reading`
 
 module _ (ps : List Production) (x y : Example) (a r : List ℕ) (A : InBuffer ps x a) (R : InBuffer ps y r) where

@@ -85,16 +85,6 @@ pub record ReadAlike (ps : List Production) (xs ys : List Example) (rows columns
   pub same : foundIn xs ys found ≡ firstPair (sameReading ps) (picked xs rows) (picked ys columns)
   pub fits : FoundFits (length xs) (length ys) found
 
--- the examples of the pair that was found stand in two buffers
-unfoldable pub FoundMade : List Production → List Example → List Example → Found → List ℕ → List ℕ → Type 0
-FoundMade ps xs ys (At i j) a b = InBuffer ps (nth xs i) a × InBuffer ps (nth ys j) b
-FoundMade ps xs ys NotFound a b = Unit {0}
-
--- the example that is shown, if there is one, stands in a buffer
-unfoldable pub ShownMade : List Production → List Example → Shown → List ℕ → Type 0
-ShownMade ps xs (Number k) b = InBuffer ps (nth xs k) b
-ShownMade ps xs Nothing b = Unit {0}
-
 unfoldable pub questionIn : OptionalSymbol → Option Symbol
 questionIn (OfSymbol k n) = some (symbolOfKind k n)
 questionIn NoSymbol = none

@@ -14,7 +14,6 @@ use pairs::first_pair;
 use repr::NonterminalString;
 use repr::ProductionIndex;
 use repr::word;
-use slices::copy_words;
 use table::Checked;
 use table::Counts;
 use table::first_production;
@@ -41,7 +40,7 @@ ghost use Rattle.shift_items.specs.Codes.{Grammar};
 ghost use Rattle.outline.specs.Kept.{nth};
 ghost use Rattle.examples.specs.Reads.{Reads};
 ghost use Rattle.examples.specs.Gathers.{SideKept, isShift, actionMade, reduceMade};
-ghost use Rattle.judge.specs.Judging.{InBuffer, Sides, Ordered, picked, pairIn, headsIn, both, Judges, ReadAlike, FoundMade, ShownMade, questionIn, QuestionFits, optionalOne};
+ghost use Rattle.judge.specs.Judging.{InBuffer, Sides, Ordered, picked, pairIn, headsIn, both, Judges, ReadAlike, questionIn, QuestionFits, optionalOne};
 
 // An example that is shown, by its number, or none.
 pub enum Shown {
@@ -54,12 +53,6 @@ pub struct Judged {
     pub class: Class,
     pub action: Shown,
     pub reduce: Shown,
-}
-
-// What was judged, and whether its examples stand at the front of the buffers lent for the pair that is made again.
-pub struct Verdict {
-    pub judged: Judged,
-    pub made: bool,
 }
 
 // Example k of the action side, written at the front of a buffer: from its labels where they are kept, else made again.
@@ -143,26 +136,6 @@ pub fn write_reduce(
     );
 }
 
-// How many words the example at the front of a buffer has.
-fn example_words(buffer: &[u16]) -> usize
-    requires { ⌜ ((ps : List Production) × ((x : Example) × InBuffer ps x (now buffer))) ⌝ }
-    ensures { λ r. ⌜ ((ps : List Production) (x : Example) → InBuffer ps x (now (buffer .entry)) → r ≡ length (exampleWords ps x)) ⌝ }
-{
-    let symbols = word(buffer, 0);
-    let reductions = word(buffer, 2);
-    3 + ExampleBuffer::SYMBOL_WORDS * symbols + ExampleBuffer::REDUCTION_WORDS * reductions
-}
-
-// The example at the front of one buffer, written at the front of another.
-pub fn write_made(made: &[u16], buffer: &mut [u16])
-    requires { ⌜ ((ps : List Production) × ((x : Example) × InBuffer ps x (now made))) ⌝ }
-    requires { ⌜ exampleRoom ≤ length (now buffer) ⌝ }
-    ensures { λ _. ⌜ ((ps : List Production) (x : Example) → InBuffer ps x (now (made .entry)) → now (buffer .exit) ≡ inFront (exampleWords ps x) (now (buffer .entry))) ⌝ }
-{
-    let count = example_words(made);
-    copy_words(made, buffer, count);
-}
-
 // Whether `count` words from `from` on are the same in both.
 fn same_words(action: &[u16], reduce: &[u16], from: usize, count: usize) -> bool
     requires { ⌜ (from + count ≤ length (now action)) × (from + count ≤ length (now reduce)) × (from + count < 65536) ⌝ }
@@ -204,7 +177,7 @@ fn same_symbol(kind: usize, number: usize, other: usize, value: usize) -> bool
     number == value
 }
 
-// Whether examples x and y, made again in the buffers lent, are read alike.
+// Whether examples x and y, made again, are read alike.
 fn same_again(
     table: &[u16],
     grammar: &[u16],
@@ -219,14 +192,13 @@ fn same_again(
     reduces: &[u16],
     reduce_prints: &[u64],
     y: usize,
-    action: &mut [u16],
-    reduce: &mut [u16],
 ) -> bool
     requires { ⌜ Reads (now table) (now grammar) counts (now map) (now least) (now ends) × (conflictFits (meaning (now table)) conflict ≡ true) ⌝ }
     requires { ⌜ ((xs : List Example) × ((ys : List Example) × (Sides (meaning (now table)) conflict xs ys (now actions) (now «action_prints») (now reduces) (now «reduce_prints») × ((x < length xs) × (y < length ys))))) ⌝ }
-    requires { ⌜ (exampleRoom ≤ length (now action)) × (exampleRoom ≤ length (now reduce)) ⌝ }
-    ensures { λ r. ⌜ ((xs ys : List Example) → Sides (meaning (now (table .entry))) conflict xs ys (now (actions .entry)) (now («action_prints» .entry)) (now (reduces .entry)) (now («reduce_prints» .entry)) → x < length xs → y < length ys → (r ≡ sameReading (meaning (now (table .entry)) .productions) (nth xs x) (nth ys y)) × (InBuffer (meaning (now (table .entry)) .productions) (nth xs x) (now (action .exit)) × InBuffer (meaning (now (table .entry)) .productions) (nth ys y) (now (reduce .exit)))) ⌝ }
+    ensures { λ r. ⌜ ((xs ys : List Example) → Sides (meaning (now (table .entry))) conflict xs ys (now (actions .entry)) (now («action_prints» .entry)) (now (reduces .entry)) (now («reduce_prints» .entry)) → x < length xs → y < length ys → r ≡ sameReading (meaning (now (table .entry)) .productions) (nth xs x) (nth ys y)) ⌝ }
 {
+    let mut action = [0u16; ExampleBuffer::WORDS];
+    let mut reduce = [0u16; ExampleBuffer::WORDS];
     write_action(
         table,
         grammar,
@@ -238,7 +210,7 @@ fn same_again(
         actions,
         action_prints,
         x,
-        action,
+        &mut action,
     );
     write_reduce(
         table,
@@ -251,12 +223,12 @@ fn same_again(
         reduces,
         reduce_prints,
         y,
-        reduce,
+        &mut reduce,
     );
-    same_reading(action, reduce)
+    same_reading(&action, &reduce)
 }
 
-// `try_classify_ambiguity`: the first pair that is read alike, by the numbers of its examples. Prints are equal where two are read alike; where they are equal both are made again in the buffers lent and compared, and if they differ the search goes on behind them.
+// `try_classify_ambiguity`: the first pair that is read alike, by the numbers of its examples. Prints are equal where two are read alike; where they are equal both are made again and compared, and if they differ the search goes on behind them.
 fn try_classify_ambiguity(
     table: &[u16],
     grammar: &[u16],
@@ -271,13 +243,10 @@ fn try_classify_ambiguity(
     reduces: &[u16],
     reduce_prints: &[u64],
     columns: &[u16],
-    made_action: &mut [u16],
-    made_reduce: &mut [u16],
 ) -> Found
     requires { ⌜ Reads (now table) (now grammar) counts (now map) (now least) (now ends) × (conflictFits (meaning (now table)) conflict ≡ true) ⌝ }
     requires { ⌜ ((xs : List Example) × ((ys : List Example) × (Sides (meaning (now table)) conflict xs ys (now actions) (now «action_prints») (now reduces) (now «reduce_prints») × (Ordered xs (now rows) × Ordered ys (now columns))))) ⌝ }
-    requires { ⌜ (exampleRoom ≤ length (now «made_action»)) × (exampleRoom ≤ length (now «made_reduce»)) ⌝ }
-    ensures { λ r. ⌜ ((xs ys : List Example) → Sides (meaning (now (table .entry))) conflict xs ys (now (actions .entry)) (now («action_prints» .entry)) (now (reduces .entry)) (now («reduce_prints» .entry)) → Ordered xs (now (rows .entry)) → Ordered ys (now (columns .entry)) → ReadAlike (meaning (now (table .entry)) .productions) xs ys (now (rows .entry)) (now (columns .entry)) r × FoundMade (meaning (now (table .entry)) .productions) xs ys r (now («made_action» .exit)) (now («made_reduce» .exit))) ⌝ }
+    ensures { λ r. ⌜ ((xs ys : List Example) → Sides (meaning (now (table .entry))) conflict xs ys (now (actions .entry)) (now («action_prints» .entry)) (now (reduces .entry)) (now («reduce_prints» .entry)) → Ordered xs (now (rows .entry)) → Ordered ys (now (columns .entry)) → ReadAlike (meaning (now (table .entry)) .productions) xs ys (now (rows .entry)) (now (columns .entry)) r) ⌝ }
 {
     let mut row: usize = 0;
     let mut column: usize = 0;
@@ -313,8 +282,6 @@ fn try_classify_ambiguity(
                     reduces,
                     reduce_prints,
                     y,
-                    made_action,
-                    made_reduce,
                 ) {
                     return Found::At(x, y);
                 }
@@ -647,7 +614,7 @@ fn unambiguous(
     with_first(Class::InsufficientLookahead, rows, columns)
 }
 
-// The class from two sides in their order, neither of them empty: ambiguity first. Of an ambiguous pair the examples are left in the buffers lent.
+// The class from two sides in their order, neither of them empty: ambiguity first.
 pub fn judge(
     table: &[u16],
     grammar: &[u16],
@@ -662,13 +629,10 @@ pub fn judge(
     reduces: &[u16],
     reduce_prints: &[u64],
     columns: &[u16],
-    made_action: &mut [u16],
-    made_reduce: &mut [u16],
-) -> Verdict
+) -> Judged
     requires { ⌜ Reads (now table) (now grammar) counts (now map) (now least) (now ends) × (conflictFits (meaning (now table)) conflict ≡ true) ⌝ }
     requires { ⌜ ((xs : List Example) × ((ys : List Example) × (Sides (meaning (now table)) conflict xs ys (now actions) (now «action_prints») (now reduces) (now «reduce_prints») × (Ordered xs (now rows) × Ordered ys (now columns))))) ⌝ }
-    requires { ⌜ (exampleRoom ≤ length (now «made_action»)) × (exampleRoom ≤ length (now «made_reduce»)) ⌝ }
-    ensures { λ r. ⌜ ((xs ys : List Example) → Sides (meaning (now (table .entry))) conflict xs ys (now (actions .entry)) (now («action_prints» .entry)) (now (reduces .entry)) (now («reduce_prints» .entry)) → Ordered xs (now (rows .entry)) → Ordered ys (now (columns .entry)) → Judges xs ys (r .judged) (judge (meaning (now (table .entry))) conflict (picked xs (now (rows .entry))) (picked ys (now (columns .entry)))) × (r .made ≡ true → ShownMade (meaning (now (table .entry)) .productions) xs (r .judged .action) (now («made_action» .exit)) × ShownMade (meaning (now (table .entry)) .productions) ys (r .judged .reduce) (now («made_reduce» .exit)))) ⌝ }
+    ensures { λ r. ⌜ ((xs ys : List Example) → Sides (meaning (now (table .entry))) conflict xs ys (now (actions .entry)) (now («action_prints» .entry)) (now (reduces .entry)) (now («reduce_prints» .entry)) → Ordered xs (now (rows .entry)) → Ordered ys (now (columns .entry)) → Judges xs ys r (judge (meaning (now (table .entry))) conflict (picked xs (now (rows .entry))) (picked ys (now (columns .entry))))) ⌝ }
 {
     match try_classify_ambiguity(
         table,
@@ -684,46 +648,32 @@ pub fn judge(
         reduces,
         reduce_prints,
         columns,
-        made_action,
-        made_reduce,
     ) {
-        Found::At(x, y) => {
-            let judged = ambiguity(
-                grammar,
-                counts,
-                conflict,
-                actions,
-                action_prints,
-                x,
-                reduces,
-                reduce_prints,
-                y,
-            );
-            Verdict {
-                judged: judged,
-                made: true,
-            }
-        }
-        Found::Nothing => {
-            let judged = unambiguous(
-                table,
-                grammar,
-                counts,
-                map,
-                least,
-                ends,
-                conflict,
-                actions,
-                action_prints,
-                rows,
-                reduces,
-                reduce_prints,
-                columns,
-            );
-            Verdict {
-                judged: judged,
-                made: false,
-            }
-        }
+        Found::At(x, y) => ambiguity(
+            grammar,
+            counts,
+            conflict,
+            actions,
+            action_prints,
+            x,
+            reduces,
+            reduce_prints,
+            y,
+        ),
+        Found::Nothing => unambiguous(
+            table,
+            grammar,
+            counts,
+            map,
+            least,
+            ends,
+            conflict,
+            actions,
+            action_prints,
+            rows,
+            reduces,
+            reduce_prints,
+            columns,
+        ),
     }
 }

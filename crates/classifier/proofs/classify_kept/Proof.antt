@@ -39,26 +39,14 @@ array-share-prefix-columns c = let P = c .before .before .before .before .before
 slice-aggregate-judge-2 : tie.Need-slice-aggregate-judge-2
 slice-aggregate-judge-2 c = let P = c .before .before .before .before .before .before .before .before .before .before .before .before .before .before .before .before .before .before .before .before .pre .1 .0 in let K = P .1 .1 .0 in let f = P .1 .1 .1 .1 in sym (side-long _ _ _ _ _ _ (K .reduce) _ f _ (c .before .before .before .sort-side2 .ensures))
 
-slice-aggregate-judge-3 : tie.Need-slice-aggregate-judge-3
-slice-aggregate-judge-3 c = search needs
-
-slice-aggregate-judge-4 : tie.Need-slice-aggregate-judge-4
-slice-aggregate-judge-4 c = search needs
-
 judge-requires : tie.Need-judge-requires
-judge-requires c κs = let S = c .before .before .before .before .before .before .before .before .before .before .before .before .before .before .before .before .before .before .before .before .before .before in let P = S .pre .1 .0 in let K = P .1 .1 .0 in let e = P .1 .1 .1 .0 in let f = P .1 .1 .1 .1 in (S .pre .0, ((P .0, (P .1 .0, (K, (side-ordered _ _ _ _ _ _ (K .action) _ e _ (c .before .before .before .before .before .before .before .before .sort-side .ensures) (c .before .before .before .before .before .before .before .before .before .before .before .if1 .left), side-ordered _ _ _ _ _ _ (K .reduce) _ f _ (c .before .before .before .before .before .sort-side2 .ensures) (c .before .before .before .before .before .before .before .before .before .before .if2 .left))))), (omega arith, omega arith)))
-
-slice-aggregate-show-action : tie.Need-slice-aggregate-show-action
-slice-aggregate-show-action c = search needs
+judge-requires c κs = let S = c .before .before .before .before .before .before .before .before .before .before .before .before .before .before .before .before .before .before .before .before in let P = S .pre .1 .0 in let K = P .1 .1 .0 in let e = P .1 .1 .1 .0 in let f = P .1 .1 .1 .1 in (S .pre .0, (P .0, (P .1 .0, (K, ((side-ordered _ _ _ _ _ _ (K .action) _ e _ (c .before .before .before .before .before .before .sort-side .ensures) (c .before .before .before .before .before .before .before .before .before .if1 .left)), (side-ordered _ _ _ _ _ _ (K .reduce) _ f _ (c .before .before .before .sort-side2 .ensures) (c .before .before .before .before .before .before .before .before .if2 .left)))))))
 
 show-action-requires : tie.Need-show-action-requires
-show-action-requires c κs = let S = c .before .before .before .before .before .before .before .before .before .before .before .before .before .before .before .before .before .before .before .before .before .before .before .before .before .before .before .before in let P = S .pre .1 .0 in let K = P .1 .1 .0 in let e = P .1 .1 .1 .0 in let f = P .1 .1 .1 .1 in let J = c .before .before .before .before .before .judge .ensures (P .0) (P .1 .0) K (side-ordered _ _ _ _ _ _ (K .action) _ e _ (c .before .before .before .before .before .before .before .before .before .before .before .before .before .before .sort-side .ensures) (c .before .before .before .before .before .before .before .before .before .before .before .before .before .before .before .before .before .if1 .left)) (side-ordered _ _ _ _ _ _ (K .reduce) _ f _ (c .before .before .before .before .before .before .before .before .before .before .before .sort-side2 .ensures) (c .before .before .before .before .before .before .before .before .before .before .before .before .before .before .before .before .if2 .left)) in (S .pre .0, ((P .0, (K .action, (J .0 .action, λ m. J .1 m .0))), S .pre .1 .1 .0))
-
-slice-aggregate-show-reduce : tie.Need-slice-aggregate-show-reduce
-slice-aggregate-show-reduce c = search needs
+show-action-requires c κs = let S = c .before .before .before .before .before .before .before .before .before .before .before .before .before .before .before .before .before .before .before .before .before .before in let P = S .pre .1 .0 in let K = P .1 .1 .0 in let e = P .1 .1 .1 .0 in let f = P .1 .1 .1 .1 in let J = c .before .judge .ensures (P .0) (P .1 .0) K (side-ordered _ _ _ _ _ _ (K .action) _ e _ (c .before .before .before .before .before .before .before .before .sort-side .ensures) (c .before .before .before .before .before .before .before .before .before .before .before .if1 .left)) (side-ordered _ _ _ _ _ _ (K .reduce) _ f _ (c .before .before .before .before .before .sort-side2 .ensures) (c .before .before .before .before .before .before .before .before .before .before .if2 .left)) in (S .pre .0, ((P .0, (K .action, J .action)), S .pre .1 .1 .0))
 
 show-reduce-requires : tie.Need-show-reduce-requires
-show-reduce-requires c κs = let S = c .before .before .before .before .before .before .before .before .before .before .before .before .before .before .before .before .before .before .before .before .before .before .before .before .before .before .before .before .before .before .before .before .before in let P = S .pre .1 .0 in let K = P .1 .1 .0 in let e = P .1 .1 .1 .0 in let f = P .1 .1 .1 .1 in let J = c .before .before .before .before .before .before .before .before .before .before .judge .ensures (P .0) (P .1 .0) K (side-ordered _ _ _ _ _ _ (K .action) _ e _ (c .before .before .before .before .before .before .before .before .before .before .before .before .before .before .before .before .before .before .before .sort-side .ensures) (c .before .before .before .before .before .before .before .before .before .before .before .before .before .before .before .before .before .before .before .before .before .before .if1 .left)) (side-ordered _ _ _ _ _ _ (K .reduce) _ f _ (c .before .before .before .before .before .before .before .before .before .before .before .before .before .before .before .before .sort-side2 .ensures) (c .before .before .before .before .before .before .before .before .before .before .before .before .before .before .before .before .before .before .before .before .before .if2 .left)) in (S .pre .0, ((P .1 .0, (K .reduce, (J .0 .reduce, λ m. J .1 m .1))), S .pre .1 .1 .1))
+show-reduce-requires c κs = let S = c .before .before .before .before .before .before .before .before .before .before .before .before .before .before .before .before .before .before .before .before .before .before .before .before .before .before in let P = S .pre .1 .0 in let K = P .1 .1 .0 in let e = P .1 .1 .1 .0 in let f = P .1 .1 .1 .1 in let J = c .before .before .before .before .before .judge .ensures (P .0) (P .1 .0) K (side-ordered _ _ _ _ _ _ (K .action) _ e _ (c .before .before .before .before .before .before .before .before .before .before .before .before .sort-side .ensures) (c .before .before .before .before .before .before .before .before .before .before .before .before .before .before .before .if1 .left)) (side-ordered _ _ _ _ _ _ (K .reduce) _ f _ (c .before .before .before .before .before .before .before .before .before .sort-side2 .ensures) (c .before .before .before .before .before .before .before .before .before .before .before .before .before .before .if2 .left)) in (S .pre .0, ((P .1 .0, (K .reduce, J .reduce)), S .pre .1 .1 .1))
 
 same-length : tie.Need-same-length
 same-length c = search needs
@@ -67,7 +55,7 @@ same-length-2 : tie.Need-same-length-2
 same-length-2 c = search needs
 
 returns-3 : tie.Need-returns-3
-returns-3 c = λ xs ys K e f. let J = c .before .before .before .before .before .before .before .before .before .before .before .before .before .judge .ensures xs ys K (side-ordered _ _ _ _ _ _ (K .action) _ e _ (c .before .before .before .before .before .before .before .before .before .before .before .before .before .before .before .before .before .before .before .before .before .before .sort-side .ensures) (c .before .before .before .before .before .before .before .before .before .before .before .before .before .before .before .before .before .before .before .before .before .before .before .before .before .if1 .left)) (side-ordered _ _ _ _ _ _ (K .reduce) _ f _ (c .before .before .before .before .before .before .before .before .before .before .before .before .before .before .before .before .before .before .before .sort-side2 .ensures) (c .before .before .before .before .before .before .before .before .before .before .before .before .before .before .before .before .before .before .before .before .before .before .before .before .if2 .left)) in kept-judged _ (c .before .before .before .before .before .before .before .before .before .before .before .before .before .before .before .before .before .before .before .before .before .before .before .before .before .before .before .before .before .before .before .before .before .before .before .before .args .conflict) xs ys _ _ _ _ _ _ _ (J .0) (side-picked _ _ _ _ _ _ (K .action) _ e _ (c .before .before .before .before .before .before .before .before .before .before .before .before .before .before .before .before .before .before .before .before .before .before .sort-side .ensures)) (side-picked _ _ _ _ _ _ (K .reduce) _ f _ (c .before .before .before .before .before .before .before .before .before .before .before .before .before .before .before .before .before .before .before .sort-side2 .ensures)) (c .before .before .before .before .before .before .before .show-action .ensures xs (K .action) (J .0 .action) (λ m. J .1 m .0)) (c .before .before .show-reduce .ensures ys (K .reduce) (J .0 .reduce) (λ m. J .1 m .1))
+returns-3 c = λ xs ys K e f. let J = c .before .before .before .before .before .before .before .before .judge .ensures xs ys K (side-ordered _ _ _ _ _ _ (K .action) _ e _ (c .before .before .before .before .before .before .before .before .before .before .before .before .before .before .before .sort-side .ensures) (c .before .before .before .before .before .before .before .before .before .before .before .before .before .before .before .before .before .before .if1 .left)) (side-ordered _ _ _ _ _ _ (K .reduce) _ f _ (c .before .before .before .before .before .before .before .before .before .before .before .before .sort-side2 .ensures) (c .before .before .before .before .before .before .before .before .before .before .before .before .before .before .before .before .before .if2 .left)) in kept-judged _ (c .before .before .before .before .before .before .before .before .before .before .before .before .before .before .before .before .before .before .before .before .before .before .before .before .before .before .before .before .before .args .conflict) xs ys _ _ _ _ _ _ _ J (side-picked _ _ _ _ _ _ (K .action) _ e _ (c .before .before .before .before .before .before .before .before .before .before .before .before .before .before .before .sort-side .ensures)) (side-picked _ _ _ _ _ _ (K .reduce) _ f _ (c .before .before .before .before .before .before .before .before .before .before .before .before .sort-side2 .ensures)) (c .before .before .before .before .before .before .show-action .ensures xs (K .action) (J .action)) (c .before .before .show-reduce .ensures ys (K .reduce) (J .reduce))
 
 pub classify-kept-spec : {M : Type 1} → statement M
 classify-kept-spec =
@@ -83,12 +71,8 @@ classify-kept-spec =
     slice-aggregate-judge
     array-share-prefix-columns
     slice-aggregate-judge-2
-    slice-aggregate-judge-3
-    slice-aggregate-judge-4
     judge-requires
-    slice-aggregate-show-action
     show-action-requires
-    slice-aggregate-show-reduce
     show-reduce-requires
     same-length
     same-length-2

@@ -1,46 +1,30 @@
 -- `judge` meets its contract. Assumes nothing.
-use mathlib.Core.Path.{refl}
-use mathlib.Core.Bool.{false}
-use Rattle.repr.proofs.Lists.{clash}
 use Rattle.judge.proofs.Ways.{judges-same}
 use Rattle.judge.proofs.Sides.{reads-grammar, pair-inside, judge-pair, judge-none}
-use Rattle.judge.proofs.Made.{found-made, pair-made}
 use borrow.Author.Needs.{needs}
 use Rattle.judge.proofs.judge.Statement.{statement}
 use Rattle.judge.proofs.judge.Tie as tie
 
 try-classify-ambiguity-requires : tie.Need-try-classify-ambiguity-requires
-try-classify-ambiguity-requires c κs = c .before .before .before .before .before .before .before .before .before .before .before .before .before .before .pre
+try-classify-ambiguity-requires c κs = search needs
 
 enum-known-x : tie.Need-enum-known-x
 enum-known-x c = search needs
 
 ambiguity-requires : tie.Need-ambiguity-requires
-ambiguity-requires c κs = let S = c .before .before .before .before .before .before .before .before .before .before .before .before .before .before .before .before .before .before .before .before .before .before in let P = S .pre .1 .0 in (_, (reads-grammar _ _ _ _ _ _ (S .pre .0 .0), (S .pre .0 .1, (P .0, (P .1 .0, (P .1 .1 .0, pair-inside _ (S .args .conflict) (P .0) (P .1 .0) _ _ _ _ (P .1 .1 .0) (S .args .rows .now) (S .args .columns .now) (P .1 .1 .1 .0) (P .1 .1 .1 .1) _ (c .before .before .before .before .before .before .before .try-classify-ambiguity .ensures (P .0) (P .1 .0) (P .1 .1 .0) (P .1 .1 .1 .0) (P .1 .1 .1 .1) .0) _ _ (c .before .x .given .1)))))))
+ambiguity-requires c κs = let S = c .before .before .before .before .before .before .before .before .before .before .before .before .before .before in let P = S .pre .1 in (_, (reads-grammar _ _ _ _ _ _ (S .pre .0 .0), (S .pre .0 .1, (P .0, (P .1 .0, (P .1 .1 .0, pair-inside _ (S .args .conflict) (P .0) (P .1 .0) _ _ _ _ (P .1 .1 .0) (S .args .rows .now) (S .args .columns .now) (P .1 .1 .1 .0) (P .1 .1 .1 .1) _ (c .before .before .before .try-classify-ambiguity .ensures (P .0) (P .1 .0) (P .1 .1 .0) (P .1 .1 .1 .0) (P .1 .1 .1 .1)) _ _ (c .before .x .given .1)))))))
 
 enum-told : tie.Need-enum-told
 enum-told c = search needs
 
 unambiguous-requires : tie.Need-unambiguous-requires
-unambiguous-requires c κs = let S = c .before .before .before .before .before .before .before .before .before .before .before .before .before .before .before .before .before .before .before .before .before in (S .pre .0, S .pre .1 .0)
-
-same-length : tie.Need-same-length
-same-length c = search needs
-
-same-length-2 : tie.Need-same-length-2
-same-length-2 c = search needs
+unambiguous-requires c κs = search needs
 
 returns : tie.Need-returns
-returns c = λ xs ys K A B. let S = c .before .before .before .before .before .before .before .before .before .before .before .before .before .before .before .before .before .before .before .before .before .before .before in let E = c .before .before .before .before .before .before .before .before .try-classify-ambiguity .ensures xs ys K A B in let I = pair-inside _ (S .args .conflict) xs ys _ _ _ _ K (S .args .rows .now) (S .args .columns .now) A B _ (E .0) _ _ (c .before .before .x .given .1) in let J = c .ambiguity .ensures _ (reads-grammar _ _ _ _ _ _ (S .pre .0 .0)) (S .pre .0 .1) xs ys K (I .0) (I .1) in (judges-same xs ys _ _ _ J (judge-pair _ (S .args .conflict) xs ys _ _ _ _ K (S .args .rows .now) (S .args .columns .now) A B _ (E .0) _ _ (c .before .before .x .given .1)), λ e. pair-made _ _ _ _ xs ys _ _ _ J _ _ _ (found-made _ xs ys _ _ _ _ _ (c .before .before .x .given .1) (E .1)))
-
-same-length-3 : tie.Need-same-length-3
-same-length-3 c = search needs
-
-same-length-4 : tie.Need-same-length-4
-same-length-4 c = search needs
+returns c = λ xs ys K A B. let S = c .before .before .before .before .before .before .before .before .before .before .before .before .before .before .before in let E = c .before .before .before .before .try-classify-ambiguity .ensures xs ys K A B in let I = pair-inside _ (S .args .conflict) xs ys _ _ _ _ K (S .args .rows .now) (S .args .columns .now) A B _ E _ _ (c .before .before .x .given .1) in judges-same xs ys _ _ _ (c .ambiguity .ensures _ (reads-grammar _ _ _ _ _ _ (S .pre .0 .0)) (S .pre .0 .1) xs ys K (I .0) (I .1)) (judge-pair _ (S .args .conflict) xs ys _ _ _ _ K (S .args .rows .now) (S .args .columns .now) A B _ E _ _ (c .before .before .x .given .1))
 
 returns-2 : tie.Need-returns-2
-returns-2 c = λ xs ys K A B. let S = c .before .before .before .before .before .before .before .before .before .before .before .before .before .before .before .before .before .before .before .before .before .before in (judges-same xs ys _ _ _ (c .unambiguous .ensures xs ys K A B) (judge-none _ (S .args .conflict) xs ys _ _ _ _ K (S .args .rows .now) (S .args .columns .now) A B _ (c .before .before .before .before .before .before .before .try-classify-ambiguity .ensures xs ys K A B .0) (c .before .enum-told .given .1)), λ e. clash false e refl)
+returns-2 c = λ xs ys K A B. let S = c .before .before .before .before .before .before .before .before .before .before .before .before .before .before in judges-same xs ys _ _ _ (c .unambiguous .ensures xs ys K A B) (judge-none _ (S .args .conflict) xs ys _ _ _ _ K (S .args .rows .now) (S .args .columns .now) A B _ (c .before .before .before .try-classify-ambiguity .ensures xs ys K A B) (c .before .enum-told .given .1))
 
 pub judge-spec : {M : Type 1} → statement M
 judge-spec =
@@ -51,9 +35,5 @@ judge-spec =
     ambiguity-requires
     enum-told
     unambiguous-requires
-    same-length
-    same-length-2
     returns
-    same-length-3
-    same-length-4
     returns-2)
