@@ -27,6 +27,7 @@ use Rattle.codes.specs.Codes.{codeOf, keyOf}
 use Rattle.codes.specs.Coded.{Coded}
 use Rattle.codes.proofs.Coding.{there}
 use Rattle.tracer.specs.Held.{Working}
+use Rattle.tracer.specs.Clear.{Clear}
 use Rattle.tracer.proofs.Adding.{epsilon-way, way-traced}
 use Rattle.tracer.proofs.Turns.{items-none, work-many, work-owner, work-shift}
 
@@ -78,9 +79,6 @@ module _ (t g : List ℕ) (productions : ℕ) (ls : List ℕ) (W : Working t g p
         record { edge = λ n l _ c. k n l c; owner = λ n l _ c _. rw (← w, ← e) d }
 
 -- items that are all passed
-
-abbrev pub Clear : (t fs v : List ℕ) → ℕ → List Item → Type 0
-Clear t fs v b is = (ws : List ℕ) (es : List TraceEdge) → Coded (meaning t) ws fs es → All (ItemPassed (meaning t) (λ n. bitAt v (b * 32 + n)) es) is
 
 pub clear-none : (t fs v : List ℕ) (b : ℕ) → Clear t fs v b (itemsFrom t 0)
 unfolding All

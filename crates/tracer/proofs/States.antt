@@ -4,7 +4,9 @@ use mathlib.Core.Bool.{true, false}
 use mathlib.Core.List.{List, [], _∷_}
 use Prim.Native.Nat.{ℕ, zero, suc, _+_, _*_, _≤_, _<_}
 use native.Mathlib.Omega.{arith}
+use lib.Dec.{eqb}
 use lib.ListN.{length, replicate}
+use borrow.Author.Tests.{eqb-true, eqb-false}
 use Rattle.repr.specs.Lists.{below, mem}
 use Rattle.repr.specs.Meaning.{Item, Table, TableFits, stateAt}
 use Rattle.repr.proofs.Lists.{cases, mem-cons-here, mem-cons-there, mem-index}
@@ -24,9 +26,11 @@ use Rattle.trace.proofs.Steps.{stateStep}
 use Rattle.trace.proofs.Passed.{left-out}
 use Rattle.bits.specs.Bits.{bitAt}
 use Rattle.tracer.specs.Held.{Held, Steps, Exceeds, openBits, unset}
+use Rattle.tracer.specs.Clear.{Clear}
+use Rattle.tracer.specs.declared.shift.Known.{Known}
 use Rattle.tracer.proofs.Begin.{held-start}
 use Rattle.tracer.proofs.Turns.{open-zero, open-set, open-unset}
-use Rattle.tracer.proofs.Passing.{Clear, clear-none, Further, clear-further}
+use Rattle.tracer.proofs.Passing.{clear-none, Further, clear-further}
 
 -- the number of pairs is fuel enough
 pub open-few : (n : ℕ) (vs : List ℕ) → openBits n vs ≤ n
@@ -62,28 +66,30 @@ pub record Round (t : List ℕ) (m l₀ h₀ : ℕ) (es : List TraceEdge) (l h :
   pub held : Held (meaning t) ws fs v trace
   pub edges : inTurn (stateStep (meaning t) m) (statesIn l h) trace .edges ≡ inTurn (stateStep (meaning t) m) (statesIn l₀ h₀) (record { edges = es; seen = [] }) .edges
 
--- b: the state traced last; the items from `known` on are passed
-pub record Rounds (t : List ℕ) (m l₀ h₀ : ℕ) (ws₀ fs₀ : List ℕ) (l h : ℕ) (ws fs v : List ℕ) (b known : ℕ) : Type 0 where
+-- b: the state traced last; the items from both records of `known` on are passed
+pub record Rounds (t : List ℕ) (m l₀ h₀ : ℕ) (ws₀ fs₀ : List ℕ) (l h : ℕ) (ws fs v : List ℕ) (b : ℕ) (known : Known) : Type 0 where
   pub inside : (s : ℕ) → mem s (statesIn l h) ≡ true → s < length (meaning t .states)
   pub w-len : length ws ≡ 1025
   pub f-len : length fs ≡ 102
   pub v-len : length v ≡ 64
   pub same : (es : List TraceEdge) → Coded (meaning t) ws₀ fs₀ es → Round t m l₀ h₀ es l h ws fs v
-  pub clear : Clear t fs v b (itemsFrom t known)
+  pub last : Clear t fs v b (itemsFrom t (known .last))
+  pub earlier : Clear t fs v b (itemsFrom t (known .earlier))
 
 module _ (t : List ℕ) (m : ℕ) where
   pub rounds-start : (l h : ℕ) (ws fs v : List ℕ) → ((s : ℕ) → mem s (statesIn l h) ≡ true → s < length (meaning t .states)) → length ws ≡ 1025 → length fs ≡ 102 → v ≡ replicate 64 0
-      → (b : ℕ) → Rounds t m l h ws fs l h ws fs v b 0
+      → (b : ℕ) → Rounds t m l h ws fs l h ws fs v b (record { last = 0; earlier = 0 })
   rounds-start l h ws fs v inside a f e b = record {
     inside = inside;
     w-len = a;
     f-len = f;
     v-len = ap length e;
     same = λ es C. record { trace = record { edges = es; seen = [] }; held = held-start (meaning t) ws fs v es C e; edges = refl };
-    clear = clear-none t fs v b;
+    last = clear-none t fs v b;
+    earlier = clear-none t fs v b;
   }
 
-  module _ (l₀ h₀ : ℕ) (ws₀ fs₀ : List ℕ) (l h : ℕ) (ws fs v : List ℕ) (b known : ℕ) (U : Rounds t m l₀ h₀ ws₀ fs₀ l h ws fs v b known) where
+  module _ (l₀ h₀ : ℕ) (ws₀ fs₀ : List ℕ) (l h : ℕ) (ws fs v : List ℕ) (b : ℕ) (known : Known) (U : Rounds t m l₀ h₀ ws₀ fs₀ l h ws fs v b known) where
     pub rounds-done : NextIs l h Done → (es : List TraceEdge) → Coded (meaning t) ws₀ fs₀ es → Coded (meaning t) ws fs (inTurn (stateStep (meaning t) m) (statesIn l₀ h₀) (record { edges = es; seen = [] }) .edges)
     rounds-done e es C =
         let r = U .same es C in
@@ -106,7 +112,7 @@ module _ (t : List ℕ) (m : ℕ) where
       -- traced
 
       pub rounds-more : (ws′ fs′ v′ : List ℕ) → ((f : ℕ) → unset v ≤ f → Steps (meaning t) (epsilon (meaning t) f s m) ws fs v ws′ fs′ v′)
-          → length ws′ ≡ length ws → length fs′ ≡ length fs → length v′ ≡ length v → Rounds t m l₀ h₀ ws₀ fs₀ (r .low) (r .high) ws′ fs′ v′ s 0
+          → length ws′ ≡ length ws → length fs′ ≡ length fs → length v′ ≡ length v → Rounds t m l₀ h₀ ws₀ fs₀ (r .low) (r .high) ws′ fs′ v′ s (record { last = 0; earlier = 0 })
       rounds-more ws′ fs′ v′ call lw lf lv = record {
         inside = others-inside;
         w-len = lw ∙ U .w-len;
@@ -117,7 +123,8 @@ module _ (t : List ℕ) (m : ℕ) where
           held = call pairs (enough v) (q .trace) (q .held);
           edges = opened es C;
         };
-        clear = clear-none t fs′ v′ s;
+        last = clear-none t fs′ v′ s;
+        earlier = clear-none t fs′ v′ s;
       }
 
       pub rounds-full : ((f : ℕ) → unset v ≤ f → Exceeds (meaning t) (epsilon (meaning t) f s m) ws fs v)
@@ -131,8 +138,9 @@ module _ (t : List ℕ) (m : ℕ) where
       -- passed over, head the first record of its chain
 
       pub rounds-passed : TableFits (meaning t) → m < length (meaning t .nonterminals) → bitAt v (b * 32 + m) ≡ true → Clear t fs v b (stateAt (meaning t) s .items)
-          → (head : ℕ) → itemsFrom t head ≡ stateAt (meaning t) s .items → (k : ℕ) → Further t head k → Rounds t m l₀ h₀ ws₀ fs₀ (r .low) (r .high) ws fs v b k
-      rounds-passed F few has call head eh k w = record {
+          → (head : ℕ) → itemsFrom t head ≡ stateAt (meaning t) s .items → (k : ℕ) → Further t head k
+          → (both : Known) → (both .last ≡ k) × ((both .earlier ≡ known .last → ⊥) → both .earlier ≡ known .earlier) → Rounds t m l₀ h₀ ws₀ fs₀ (r .low) (r .high) ws fs v b both
+      rounds-passed F few has call head eh k w both are = record {
         inside = others-inside;
         w-len = U .w-len;
         f-len = U .f-len;
@@ -143,7 +151,11 @@ module _ (t : List ℕ) (m : ℕ) where
           edges = left-out (meaning t) F s m few (statesIn (r .low) (r .high)) (next-apart l h s r e) (q .trace) (record { from = λ n. bitAt v (b * 32 + n); has = has; items = call ws (q .trace .edges) (q .held .edges) })
               ∙ opened es C;
         };
-        clear = clear-further t s fs v b head k eh call w;
+        last = rw (are .0) (clear-further t s fs v b head k eh call w);
+        earlier =
+            cases (eqb (both .earlier) (known .last))
+            (λ z. rw (eqb-true (both .earlier) (known .last) z) (U .last))
+            (λ z. rw (are .1 (eqb-false (both .earlier) (known .last) z)) (U .earlier));
       }
 
 -- the first edge, and then the states

@@ -4,3 +4,4 @@ pub mod Stamps
 pub mod Built
 pub mod Traced
 pub mod Tails
+pub mod Clear

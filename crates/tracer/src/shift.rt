@@ -30,7 +30,7 @@ ghost use Prim.Native.Nat.{ℕ, _+_, _*_, _≤_, _<_};
 ghost use lib.ListN.{length, getD, replicate};
 ghost use Rattle.repr.specs.Sizes.{productionLimit, indexLimit, stateLimit, nonterminalLimit, edgeLimit};
 ghost use Rattle.repr.specs.Lists.{mem, some?};
-ghost use Rattle.repr.specs.Meaning.{Table, TableFits, ItemFits, All, stateAt};
+ghost use Rattle.repr.specs.Meaning.{Table, TableFits, ItemFits, stateAt};
 ghost use Rattle.table.specs.Decoded.{meaning, itemsFrom};
 ghost use Rattle.state_graph.specs.States.{statesIn};
 ghost use Rattle.trace_graph.specs.declared.Inserted.the-variants.{Done, Full};
@@ -43,6 +43,7 @@ ghost use Rattle.bits.specs.Bits.{bitAt};
 ghost use Rattle.codes.specs.Coded.{codesRoom, keyWords, Coded, Leasts};
 ghost use Rattle.tracer.specs.Held.{pairWords, Steps, Exceeds, unset, Working};
 ghost use Rattle.tracer.specs.Tails.{Usable, TwoTails};
+ghost use Rattle.tracer.specs.Clear.{Clear};
 
 // The edge of an item that can shift a nonterminal: past its beginning from the item, else from its nonterminal.
 fn epsilon_code(
@@ -181,7 +182,28 @@ fn is_passed(
     is_set(entered, before * NonterminalString::LIMIT + owner)
 }
 
-// Whether the items of a state lead to nothing new from the nonterminals that were entered from the state `before`, where those from the record `known` on do not (0: a chain without items).
+// Records from which on the items of a state that was passed over may be those of others too (0: none): of the last such state, and of one before it with another.
+pub struct Known {
+    pub last: usize,
+    pub earlier: usize,
+}
+
+impl Known {
+    // The record of one state more.
+    fn with(self, tail: usize) -> Known
+        ensures { λ r. ⌜ (r .last ≡ tail) × ((r .earlier ≡ self .last → ⊥) → r .earlier ≡ self .earlier) ⌝ }
+    {
+        if tail == self.last {
+            return self;
+        }
+        Known {
+            last: tail,
+            earlier: self.last,
+        }
+    }
+}
+
+// Whether the items of a state lead to nothing new from the nonterminals that were entered from the state `before`, where those from a known record on do not.
 fn adds_nothing(
     table: &[u16],
     grammar: &[u16],
@@ -190,17 +212,22 @@ fn adds_nothing(
     flags: &[u64],
     entered: &[u64],
     before: usize,
-    known: usize,
+    known: Known,
     state: usize,
 ) -> bool
     requires { ⌜ Working (now table) (now grammar) productions (now least) ⌝ }
     requires { ⌜ (length (now flags) ≡ keyWords) × (length (now entered) ≡ pairWords) × (before < stateLimit) × (state < length (meaning (now table) .states)) ⌝ }
-    requires { ⌜ ((ws : List ℕ) (es : List TraceEdge) → Coded (meaning (now table)) ws (now flags) es → All (ItemPassed (meaning (now table)) (λ n. bitAt (now entered) (before * nonterminalLimit + n)) es) (itemsFrom (now table) known)) ⌝ }
-    ensures { λ r. ⌜ (r ≡ true → (ws : List ℕ) (es : List TraceEdge) → Coded (meaning (now (table .entry))) ws (now (flags .entry)) es → All (ItemPassed (meaning (now (table .entry))) (λ n. bitAt (now (entered .entry)) (before * nonterminalLimit + n)) es) (stateAt (meaning (now (table .entry))) state .items)) ⌝ }
+    requires { ⌜ Clear (now table) (now flags) (now entered) before (itemsFrom (now table) (known .last)) × Clear (now table) (now flags) (now entered) before (itemsFrom (now table) (known .earlier)) ⌝ }
+    ensures { λ r. ⌜ (r ≡ true → Clear (now (table .entry)) (now (flags .entry)) (now (entered .entry)) before (stateAt (meaning (now (table .entry))) state .items)) ⌝ }
 {
+    let last = known.last;
+    let earlier = known.earlier;
     let mut at = first_item(table, state);
     while at != 0 {
-        if at == known {
+        if at == last {
+            return true;
+        }
+        if at == earlier {
             return true;
         }
         let read = item(table, at);
@@ -232,16 +259,16 @@ fn passes_over(
     flags: &[u64],
     entered: &[u64],
     before: usize,
-    known: usize,
+    known: Known,
     state: usize,
     nonterminal: usize,
 ) -> bool
     requires { ⌜ Working (now table) (now grammar) productions (now least) ⌝ }
     requires { ⌜ (length (now flags) ≡ keyWords) × (length (now entered) ≡ pairWords) ⌝ }
     requires { ⌜ (state < length (meaning (now table) .states)) × (nonterminal < length (meaning (now table) .nonterminals)) ⌝ }
-    requires { ⌜ ((ws : List ℕ) (es : List TraceEdge) → Coded (meaning (now table)) ws (now flags) es → All (ItemPassed (meaning (now table)) (λ n. bitAt (now entered) (before * nonterminalLimit + n)) es) (itemsFrom (now table) known)) ⌝ }
+    requires { ⌜ Clear (now table) (now flags) (now entered) before (itemsFrom (now table) (known .last)) × Clear (now table) (now flags) (now entered) before (itemsFrom (now table) (known .earlier)) ⌝ }
     ensures { λ r. ⌜ (r ≡ true → bitAt (now (entered .entry)) (before * nonterminalLimit + nonterminal) ≡ true) ⌝ }
-    ensures { λ r. ⌜ (r ≡ true → (ws : List ℕ) (es : List TraceEdge) → Coded (meaning (now (table .entry))) ws (now (flags .entry)) es → All (ItemPassed (meaning (now (table .entry))) (λ n. bitAt (now (entered .entry)) (before * nonterminalLimit + n)) es) (stateAt (meaning (now (table .entry))) state .items)) ⌝ }
+    ensures { λ r. ⌜ (r ≡ true → Clear (now (table .entry)) (now (flags .entry)) (now (entered .entry)) before (stateAt (meaning (now (table .entry))) state .items)) ⌝ }
 {
     if before >= StateIndex::LIMIT {
         return false;
@@ -262,7 +289,7 @@ fn passes_over(
     )
 }
 
-// Each state of the set in turn, ascending. A state whose items add nothing is passed over: `before` is the state traced last, `known` the record from which on the items of the state passed over last may be those of others too (0: none): 64 on from its first, since 128 states cannot have more records of their own each. The lists of two tails are kept from state to state.
+// Each state of the set in turn, ascending. A state whose items add nothing is passed over: `before` is the state traced last, `known` has records of states passed over since, 64 on from their first, since 128 states cannot have more records of their own each. The lists of two tails are kept from state to state.
 fn trace_each(
     table: &[u16],
     grammar: &[u16],
@@ -287,7 +314,10 @@ fn trace_each(
 {
     let mut rest = states;
     let mut before = StateIndex::LIMIT;
-    let mut known: usize = 0;
+    let mut known = Known {
+        last: 0,
+        earlier: 0,
+    };
     loop {
         match rest.next() {
             NextState::State(state, left) => {
@@ -305,7 +335,7 @@ fn trace_each(
                     from,
                     nonterminal,
                 ) {
-                    known = ahead(table, first_item(table, from), TailList::AHEAD);
+                    known = known.with(ahead(table, first_item(table, from), TailList::AHEAD));
                     continue;
                 }
                 list_tail(
@@ -337,7 +367,10 @@ fn trace_each(
                     }
                 }
                 before = from;
-                known = 0;
+                known = Known {
+                    last: 0,
+                    earlier: 0,
+                };
             }
             NextState::Done => {
                 return Inserted::Done;

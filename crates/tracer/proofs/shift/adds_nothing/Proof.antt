@@ -15,46 +15,40 @@ use Rattle.table.proofs.item.Reads as item-reads
 use Rattle.tracer.proofs.shift.is_passed.Reads as is-passed-reads
 
 abbrev Inv-loop : tie.InvT-loop
-Inv-loop table grammar productions least flags entered before known state at₀ at = Passing table state flags entered before at
+Inv-loop table grammar productions least flags entered before state last earlier at₀ at = Passing table state flags entered before at
 
 abbrev μ-loop : tie.MeasureT-loop
-μ-loop table grammar productions least flags entered before known state at₀ at = length (itemsFrom table at)
+μ-loop table grammar productions least flags entered before state last earlier at₀ at = length (itemsFrom table at)
 
--- src/shift.rt:229:9
 first-item-requires : tie.Need-first-item-requires Inv-loop μ-loop
-first-item-requires c κs = (c .before .before .before .before .before .pre .0 .accepted, c .before .before .before .before .before .pre .1 .0 .3)
+first-item-requires c κs = let S = c .before .before .before .before .before in (S .pre .0 .accepted, S .pre .1 .0 .3)
 
--- src/shift.rt:230:5
 loop-holds : tie.Need-loop-holds Inv-loop μ-loop
 loop-holds c = passing-start _ _ _ _ _ _ (c .first-item .ensures .0) (c .first-item .ensures .1)
 
--- src/shift.rt:232:13
 returns : tie.Need-returns Inv-loop μ-loop
-returns c = λ _. passing-done _ _ _ _ _ _ (c .before .before .loop .inv) _ (c .if1 .taken) (c .before .before .before .before .before .before .before .before .before .pre .1 .1)
+returns c = λ _. passing-done _ _ _ _ _ _ (c .before .before .loop .inv) _ (c .if1 .taken) (c .before .before .before .before .before .before .before .before .before .pre .1 .1 .0)
 
--- src/shift.rt:234:13
-item-requires : tie.Need-item-requires Inv-loop μ-loop
-item-requires c κs = (c .before .before .before .before .before .before .before .before .before .pre .0 .accepted, (c .before .loop-test .taken, c .before .before .loop .inv .on))
-
--- src/shift.rt:238:13
-is-passed-requires : tie.Need-is-passed-requires Inv-loop μ-loop
-is-passed-requires c κs = ((_, (c .before .before .before .before .before .before .before .before .before .before .pre .0, c .item .ensures .fits)), (c .before .before .before .before .before .before .before .before .before .before .pre .1 .0 .0, c .before .before .before .before .before .before .before .before .before .before .pre .1 .0 .1, c .before .before .before .before .before .before .before .before .before .before .pre .1 .0 .2))
-
--- src/shift.rt:248:13
 returns-2 : tie.Need-returns-2 Inv-loop μ-loop
-returns-2 c = λ e. absurd (true≢false (sym e))
+returns-2 c = λ _. passing-done _ _ _ _ _ _ (c .before .before .before .loop .inv) _ (c .if2 .taken) (c .before .before .before .before .before .before .before .before .before .before .pre .1 .1 .1)
 
--- src/shift.rt:230:5
+item-requires : tie.Need-item-requires Inv-loop μ-loop
+item-requires c κs = (c .before .before .before .before .before .before .before .before .before .before .pre .0 .accepted, (c .before .before .loop-test .taken, c .before .before .before .loop .inv .on))
+
+is-passed-requires : tie.Need-is-passed-requires Inv-loop μ-loop
+is-passed-requires c κs = let S = c .before .before .before .before .before .before .before .before .before .before .before in ((_, (S .pre .0, c .item .ensures .fits)), (S .pre .1 .0 .0, S .pre .1 .0 .1, S .pre .1 .0 .2))
+
+returns-3 : tie.Need-returns-3 Inv-loop μ-loop
+returns-3 c = λ e. absurd (true≢false (sym e))
+
 loop-less : tie.Need-loop-less Inv-loop μ-loop
 loop-less c = omega (arith, ap length (c .before .before .item .ensures .list))
 
--- src/shift.rt:230:5
 loop-again : tie.Need-loop-again Inv-loop μ-loop
-loop-again c = passing-more _ _ _ _ _ _ (c .before .before .before .before .before .loop .inv) _ _ _ (c .before .before .item .ensures) (c .before .is-passed .ensures (not-false _ (c .if2 .left)) _ (c .before .before .before .before .before .before .before .before .before .before .before .before .pre .0) (c .before .before .item .ensures .fits))
+loop-again c = passing-more _ _ _ _ _ _ (c .before .before .before .before .before .before .loop .inv) _ _ _ (c .before .before .item .ensures) (c .before .is-passed .ensures (not-false _ (c .if3 .left)) _ (c .before .before .before .before .before .before .before .before .before .before .before .before .before .pre .0) (c .before .before .item .ensures .fits))
 
--- src/shift.rt:213:1
-returns-3 : tie.Need-returns-3 Inv-loop μ-loop
-returns-3 c = λ _. passing-done _ _ _ _ _ _ (c .before .loop .inv) 0 (omega (arith, c .loop-test .left)) (clear-none _ _ _ _)
+returns-4 : tie.Need-returns-4 Inv-loop μ-loop
+returns-4 c = λ _. passing-done _ _ _ _ _ _ (c .before .loop .inv) 0 (omega (arith, c .loop-test .left)) (clear-none _ _ _ _)
 
 pub adds-nothing-spec : {M : Type 1} → statement M
 adds-nothing-spec =
@@ -65,9 +59,10 @@ adds-nothing-spec =
     first-item-requires
     loop-holds
     returns
+    returns-2
     item-requires
     is-passed-requires
-    returns-2
+    returns-3
     loop-less
     loop-again
-    returns-3)
+    returns-4)

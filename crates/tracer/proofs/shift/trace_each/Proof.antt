@@ -40,7 +40,7 @@ cast-from : tie.Need-cast-from Inv-loop μ-loop
 cast-from c = search needs
 
 passes-over-requires : tie.Need-passes-over-requires Inv-loop μ-loop
-passes-over-requires c κs = (c .before .before .before .before .before .before .before .before .before .before .before .before .before .before .before .before .before .before .pre .0, ((c .before .before .before .before .before .before .before .loop .inv .0 .f-len, c .before .before .before .before .before .before .before .loop .inv .0 .v-len), ((rounds-inside _ _ _ _ _ _ _ _ _ _ _ _ _ (c .before .before .before .before .before .before .before .loop .inv .0) (c .before .before .before .before .state .given .0 .0 .0) (c .before .before .before .before .state .given .0 .1 .0) (rw (c .before .before .before .before .state .given .1) at (c .before .before .before .before .before .before .next .ensures)), c .before .before .before .before .before .before .before .before .before .before .before .before .before .before .before .before .before .before .pre .1 .1 .0 .1), c .before .before .before .before .before .before .before .loop .inv .0 .clear)))
+passes-over-requires c κs = (c .before .before .before .before .before .before .before .before .before .before .before .before .before .before .before .before .before .before .pre .0, ((c .before .before .before .before .before .before .before .loop .inv .0 .f-len, c .before .before .before .before .before .before .before .loop .inv .0 .v-len), ((rounds-inside _ _ _ _ _ _ _ _ _ _ _ _ _ (c .before .before .before .before .before .before .before .loop .inv .0) (c .before .before .before .before .state .given .0 .0 .0) (c .before .before .before .before .state .given .0 .1 .0) (rw (c .before .before .before .before .state .given .1) at (c .before .before .before .before .before .before .next .ensures)), c .before .before .before .before .before .before .before .before .before .before .before .before .before .before .before .before .before .before .pre .1 .1 .0 .1), (c .before .before .before .before .before .before .before .loop .inv .0 .last, c .before .before .before .before .before .before .before .loop .inv .0 .earlier))))
 
 first-item-requires : tie.Need-first-item-requires Inv-loop μ-loop
 first-item-requires c κs = (c .before .before .before .before .before .before .before .before .before .before .before .before .before .before .before .before .before .before .before .before .pre .0 .accepted, rounds-inside _ _ _ _ _ _ _ _ _ _ _ _ _ (c .before .before .before .before .before .before .before .before .before .loop .inv .0) (c .before .before .before .before .before .before .state .given .0 .0 .0) (c .before .before .before .before .before .before .state .given .0 .1 .0) (rw (c .before .before .before .before .before .before .state .given .1) at (c .before .before .before .before .before .before .before .before .next .ensures)))
@@ -48,11 +48,14 @@ first-item-requires c κs = (c .before .before .before .before .before .before .
 ahead-requires : tie.Need-ahead-requires Inv-loop μ-loop
 ahead-requires c κs = (c .before .before .before .before .before .before .before .before .before .before .before .before .before .before .before .before .before .before .before .before .before .pre .0 .accepted, c .first-item .ensures .1)
 
+with-requires : tie.Need-with-requires Inv-loop μ-loop
+with-requires c κs = search needs
+
 loop-less : tie.Need-loop-less Inv-loop μ-loop
-loop-less c = next-less (c .before .before .before .before .before .before .before .before .before .before .before .loop .rest .low) (c .before .before .before .before .before .before .before .before .before .before .before .loop .rest .high) (c .before .before .before .before .before .before .before .before .state .given .0 .0) (c .before .before .before .before .before .before .before .before .state .given .0 .1 .0) (rw (c .before .before .before .before .before .before .before .before .state .given .1) at (c .before .before .before .before .before .before .before .before .before .before .next .ensures))
+loop-less c = next-less (c .before .before .before .before .before .before .before .before .before .before .before .before .loop .rest .low) (c .before .before .before .before .before .before .before .before .before .before .before .before .loop .rest .high) (c .before .before .before .before .before .before .before .before .before .state .given .0 .0) (c .before .before .before .before .before .before .before .before .before .state .given .0 .1 .0) (rw (c .before .before .before .before .before .before .before .before .before .state .given .1) at (c .before .before .before .before .before .before .before .before .before .before .before .next .ensures))
 
 loop-again : tie.Need-loop-again Inv-loop μ-loop
-loop-again c = (rounds-passed _ _ _ _ _ _ _ _ _ _ _ _ _ (c .before .before .before .before .before .before .before .before .before .before .before .loop .inv .0) (c .before .before .before .before .before .before .before .before .state .given .0 .0 .0) (c .before .before .before .before .before .before .before .before .state .given .0 .1 .0) (rw (c .before .before .before .before .before .before .before .before .state .given .1) at (c .before .before .before .before .before .before .before .before .before .before .next .ensures)) (fits _ (c .before .before .before .before .before .before .before .before .before .before .before .before .before .before .before .before .before .before .before .before .before .before .pre .0 .accepted)) (c .before .before .before .before .before .before .before .before .before .before .before .before .before .before .before .before .before .before .before .before .before .before .pre .1 .1 .0 .1) (c .before .before .before .passes-over .ensures .0 (c .before .before .if1 .taken)) (c .before .before .before .passes-over .ensures .1 (c .before .before .if1 .taken)) _ (c .before .first-item .ensures .0) _ (c .ahead .ensures), c .before .before .before .before .before .before .before .before .before .before .before .loop .inv .1, c .before .before .before .before .before .before .before .before .before .before .before .loop .inv .2)
+loop-again c = (rounds-passed _ _ _ _ _ _ _ _ _ _ _ _ _ (c .before .before .before .before .before .before .before .before .before .before .before .before .loop .inv .0) (c .before .before .before .before .before .before .before .before .before .state .given .0 .0 .0) (c .before .before .before .before .before .before .before .before .before .state .given .0 .1 .0) (rw (c .before .before .before .before .before .before .before .before .before .state .given .1) at (c .before .before .before .before .before .before .before .before .before .before .before .next .ensures)) (fits _ (c .before .before .before .before .before .before .before .before .before .before .before .before .before .before .before .before .before .before .before .before .before .before .before .pre .0 .accepted)) (c .before .before .before .before .before .before .before .before .before .before .before .before .before .before .before .before .before .before .before .before .before .before .before .pre .1 .1 .0 .1) (c .before .before .before .before .passes-over .ensures .0 (c .before .before .before .if1 .taken)) (c .before .before .before .before .passes-over .ensures .1 (c .before .before .before .if1 .taken)) _ (c .before .before .first-item .ensures .0) _ (c .before .ahead .ensures) _ (c .with .ensures), c .before .before .before .before .before .before .before .before .before .before .before .before .loop .inv .1, c .before .before .before .before .before .before .before .before .before .before .before .before .loop .inv .2)
 
 first-item-requires-2 : tie.Need-first-item-requires-2 Inv-loop μ-loop
 first-item-requires-2 c κs = (c .before .before .before .before .before .before .before .before .before .before .before .before .before .before .before .before .before .before .before .before .pre .0 .accepted, rounds-inside _ _ _ _ _ _ _ _ _ _ _ _ _ (c .before .before .before .before .before .before .before .before .before .loop .inv .0) (c .before .before .before .before .before .before .state .given .0 .0 .0) (c .before .before .before .before .before .before .state .given .0 .1 .0) (rw (c .before .before .before .before .before .before .state .given .1) at (c .before .before .before .before .before .before .before .before .next .ensures)))
@@ -139,6 +142,7 @@ trace-each-spec =
     passes-over-requires
     first-item-requires
     ahead-requires
+    with-requires
     loop-less
     loop-again
     first-item-requires-2
