@@ -8,7 +8,7 @@
  * Refusal 16 of `lihvemur_build_states` has the number of LIHVEMUR_END; no call gives both.
  * A result behind another pointer is written only with answer 0, unless this header says otherwise.
  *
- * Stack: a trace, and so a class or a choice, calls on itself, at most 4,096 times nested; there a program needed 1,856 KiB in all. 8 MiB suffice for every call.
+ * Stack: a trace, and so a class or a choice, calls on itself, at most 4,096 times nested; there a program needed 1,912 KiB in all. 8 MiB suffice for every call.
  * Reading a yacc text takes some 660 KB, building states some 80 KB.
  *
  * A set of tokens is a word, token k its bit k; the end of input is the token after the last terminal.

@@ -1192,8 +1192,9 @@ fn heavy(seed: u64) -> Option<Case> {
 /// have the items of one row or the other by turns, so that none leads where the
 /// state before it led. Behind a row come the items before a nonterminal that no
 /// trace enters, `idle` in each of the other productions, and those before the
-/// token; again and again up to the length that the row has, where it has one.
-fn by_turns(idle: usize, lengths: [Option<usize>; 2]) -> Option<Case> {
+/// token; again and again up to one of the lengths by turns, where there are
+/// any.
+fn by_turns(idle: usize, lengths: &[usize]) -> Option<Case> {
     let mut table = empty_table(1, 32);
     let mut rows = [vec![], vec![]];
     for (row, first) in rows.iter_mut().zip([1, 16]) {
@@ -1217,7 +1218,10 @@ fn by_turns(idle: usize, lengths: [Option<usize>; 2]) -> Option<Case> {
     };
     let behind = [before((0, 31)), before((1, 0))].concat();
     for s in 0..128 {
-        let length = lengths[s % 2].unwrap_or(behind.len());
+        let length = match lengths {
+            [] => behind.len(),
+            _ => lengths[s % lengths.len()],
+        };
         let behind = behind.iter().cycle().take(length).copied();
         let items: Vec<_> = rows[s % 2].iter().copied().chain(behind).collect();
         let state = leading_to(&table, &items, 0);
@@ -1244,10 +1248,11 @@ fn by_turns(idle: usize, lengths: [Option<usize>; 2]) -> Option<Case> {
 /// the token.
 fn most(seed: u64) -> Option<Case> {
     match seed {
-        131 => return by_turns(0, [None; 2]),
-        132 => return by_turns(1, [Some(7_600); 2]),
-        133 => return by_turns(1, [Some(3_800), Some(3_801)]),
-        134 => return by_turns(10, [Some(3_800), Some(3_801)]),
+        131 => return by_turns(0, &[]),
+        132 => return by_turns(1, &[7_600]),
+        133 => return by_turns(1, &[3_800, 3_801]),
+        134 => return by_turns(10, &[3_800, 3_801]),
+        135 => return by_turns(1, &[2_500, 2_501, 2_502]),
         _ => {}
     }
     let mut table = empty_table(1, 15);

@@ -212,6 +212,7 @@ pub fn longest() {
         ("1,900 shift items, the same and share 7,600 items, 98 of them before a nonterminal", 132),
         ("1,900 shift items, the same with one of two chains of 3,800 by turns", 133),
         ("1,000 shift items, the same, 980 items before a nonterminal", 134),
+        ("1,900 shift items, the same with one of three chains of 2,500 by turns", 135),
     ] {
         judged_in(name, "most", seed);
     }
