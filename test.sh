@@ -24,8 +24,9 @@ hold_back() {
     printf '%s\n' "$last" >"$1"
 }
 
-# rt waits for a whole batch of jobs before it begins the next: more jobs than processors leave fewer of them idle.
-export RT_JOBS=${RT_JOBS:-$((3 * $(nproc)))}
+# rt waits for a whole batch of jobs before it begins the next: more jobs than processors leave fewer of them idle. A job takes up to 1 GB, so 8 at most.
+jobs=$((3 * $(nproc)))
+export RT_JOBS=${RT_JOBS:-$((jobs < 8 ? jobs : 8))}
 
 rt fmt --check
 tests/edits-stand.sh

@@ -1,4 +1,4 @@
-// What is kept of an example while a conflict is judged (part 8 of document 01, request 06 of document 02): an outline in place of its labels, and the inline test on the kept labels.
+// What is kept of an example while a conflict is judged (part 8 of document 01, request 06 of document 02): an outline, of a side's first examples the labels too, and the inline test on two kept labels.
 use core::Item;
 use core::suffix;
 use error::Conflict;
