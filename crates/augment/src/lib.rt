@@ -15,7 +15,7 @@ use repr::{NonterminalString, ProductionIndex, symbols};
 use table::{Checked, Counts, put, read_counts, read_productions};
 
 // Records written and the start production; or the refusal and its place.
-#[derive(Drop)]
+#[derive(Clone, Copy)]
 pub enum Started {
     Production(u16, ProductionIndex),
     Refused(u16, u16),

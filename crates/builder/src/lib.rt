@@ -24,7 +24,7 @@ use state_records::{write_edges, write_items, write_states};
 use table::{Checked, Counts, first_edge, first_item, read_counts, read_productions};
 
 // Records of the table and conflicts written; or the refusal and its place.
-#[derive(Drop)]
+#[derive(Clone, Copy)]
 pub enum Built {
     States(u16, u32),
     Refused(u16, u16),

@@ -21,7 +21,7 @@ use slices::zero;
 use table::{Checked, Counts, read_counts};
 
 // What choosing answers: the refusal, 0 if there is none, and its place; the number of tokens chosen; for each six words, its token, the number of its class, the class's own values, zeros; zeros behind the last.
-#[derive(Drop)]
+#[derive(Clone, Copy)]
 pub struct Chosen {
     pub refusal: u16,
     pub place: u16,
@@ -30,7 +30,7 @@ pub struct Chosen {
 }
 
 // What a token comes to: the numbers of better and of naive classes so far; else the refusal, 12 to 14.
-#[derive(Drop)]
+#[derive(Clone, Copy)]
 enum Step {
     Counts(usize, usize),
     Halted(u16),

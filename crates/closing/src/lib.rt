@@ -112,7 +112,7 @@ fn same_sets(left: &[u64; 32], right: &[u64; 32]) -> bool
 }
 
 // The lookaheads of each nonterminal's index-0 items.
-#[derive(Drop)]
+#[derive(Clone, Copy)]
 pub struct Aheads {
     pub map: [u64; 32],
 }

@@ -20,7 +20,7 @@ use trace_graph::{Inserted, Node, TraceEdge, TraceGraph, same_label, write_edge}
 pub mod viewing;
 
 // An edge of a trace in one word.
-#[derive(Drop)]
+#[derive(Clone, Copy)]
 pub struct EdgeCode(pub u16);
 
 impl EdgeCode {

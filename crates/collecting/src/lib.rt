@@ -9,7 +9,7 @@ use finding::Sizes;
 use taking::{Taken, take_state};
 
 // How many states there are, or the refusal.
-#[derive(Drop)]
+#[derive(Clone, Copy)]
 pub enum States {
     Stops(u16),
     All(usize),

@@ -14,7 +14,7 @@ use table_check::areas::{Areas, survey};
 use table_check::check;
 
 // What closing the gaps answers: the number of records that are left, or refusal and place.
-#[derive(Drop)]
+#[derive(Clone, Copy)]
 pub enum Compacted {
     Records(u16),
     Refused(u16, u16),

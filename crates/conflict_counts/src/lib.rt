@@ -35,7 +35,7 @@ fn reduction(
     state[at]
 }
 
-#[derive(Drop)]
+#[derive(Clone, Copy)]
 pub struct Reduced {
     pub map: [u64; ProductionIndex::LIMIT],
 }

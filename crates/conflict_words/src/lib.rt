@@ -18,7 +18,7 @@ use lr1_core::Item;
 use repr::ProductionIndex;
 
 // A conflict without its token: action 0 shifts it, 1 reduces by production `other`.
-#[derive(Drop)]
+#[derive(Clone, Copy)]
 pub struct Pair {
     pub state: u16,
     pub production: u16,

@@ -14,7 +14,7 @@ use trace_graph::TraceGraph;
 use tracer::Backtrace;
 
 // The words of a record.
-#[derive(Drop)]
+#[derive(Clone, Copy)]
 struct Row(u16, u16, u16, u16);
 
 fn put(table: &mut [u16], number: u16, row: Row)

@@ -24,7 +24,7 @@ pub fn class_number(class: Class) -> u16
 }
 
 // A class in five words: document 01's number, its own values, zeros.
-#[derive(Drop)]
+#[derive(Clone, Copy)]
 struct Numbered {
     number: u16,
     first: u16,

@@ -5,14 +5,14 @@ use repr::ProductionIndex;
 pub mod machine;
 
 // Any lookahead that the listing filters by.
-#[derive(Drop)]
+#[derive(Clone, Copy)]
 pub enum Lookahead {
     Any,
     Set(TokenSet),
 }
 
 // A listing: its start item, any lookahead, its count and whether it is open. What it has come to stands in the lent words.
-#[derive(Drop)]
+#[derive(Clone, Copy)]
 pub struct Listing {
     pub production: ProductionIndex,
     pub index: u16,
@@ -22,7 +22,7 @@ pub struct Listing {
 }
 
 // What a call of `advance` answers: an example is in its buffer and its number is the listing's count; the end; a refusal and its place.
-#[derive(Drop)]
+#[derive(Clone, Copy)]
 pub enum Advanced {
     Example,
     End,
@@ -30,7 +30,7 @@ pub enum Advanced {
 }
 
 // What opening answers.
-#[derive(Drop)]
+#[derive(Clone, Copy)]
 pub enum Opened {
     Listing(Listing),
     Refused(u16, u16),

@@ -4,7 +4,7 @@ use repr::{NonterminalString, ProductionIndex};
 use state_graph::StateIndex;
 
 // A conflict as document 01 has it, five words: the action is 0 for a shift, its operand a terminal, or 1 for a reduce, its operand a production.
-#[derive(Drop)]
+#[derive(Clone, Copy)]
 pub struct Conflict {
     pub state: StateIndex,
     pub production: ProductionIndex,
@@ -22,7 +22,7 @@ impl Conflict {
 }
 
 // A class with its own values; the examples stand in the lent buffers. A nonterminal; a nonterminal and a symbol's kind and number; two spans, the conflict's first.
-#[derive(Drop)]
+#[derive(Clone, Copy)]
 pub enum Class {
     Naive,
     Ambiguity,
@@ -41,7 +41,7 @@ impl Class {
 }
 
 // What classifying answers: the class with the trials of the action side and of the reduce side; else the refusal and its place.
-#[derive(Drop)]
+#[derive(Clone, Copy)]
 pub enum Classified {
     Class(Class, u32, u32),
     Refused(u16, u16),

@@ -15,7 +15,7 @@ use lr1_core::{Item, SymbolSets, prefix, suffix};
 use repr::{NonterminalString, ProductionIndex, word};
 
 // An example in words: its limits.
-#[derive(Drop)]
+#[derive(Clone, Copy)]
 pub struct Example {
     pub labels: usize,
 }
@@ -318,7 +318,7 @@ pub fn write_example(grammar: &[u16], productions: usize, labels: &[u16], buffer
 }
 
 // FIRST of what the example expects next, and how many labels were asked for it.
-#[derive(Drop)]
+#[derive(Clone, Copy)]
 pub struct Expected {
     pub answer: Answer,
     pub asked: usize,

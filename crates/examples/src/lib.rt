@@ -47,7 +47,7 @@ use tracer::trace_codes;
 use view::View;
 
 // What tracing and listing read beside the table and its productions, made once for a table: FIRST sets, the least equal productions, which items have a nullable suffix.
-#[derive(Drop)]
+#[derive(Clone, Copy)]
 pub struct Prepared {
     pub counts: Counts,
     pub map: [u64; NonterminalString::LIMIT],
@@ -80,14 +80,14 @@ pub fn prepare(table: &[u16], grammar: &mut [u16]) -> Prepared
 }
 
 // One side: how many examples are kept of it and how many trials were made; else the refusal, 12 to 14.
-#[derive(Drop)]
+#[derive(Clone, Copy)]
 pub enum Side {
     Examples(usize, u32),
     Stopped(u16),
 }
 
 // An item that is traced from a state, as a shift's or as a reduce's.
-#[derive(Drop)]
+#[derive(Clone, Copy)]
 pub struct Traced {
     pub state: StateIndex,
     pub production: usize,

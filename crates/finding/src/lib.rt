@@ -16,7 +16,7 @@ use repr::ProductionIndex;
 use stored::move_over;
 
 // What is known of the table while its states are found: records without states, items and edges, and how many there may be.
-#[derive(Drop)]
+#[derive(Clone, Copy)]
 pub struct Sizes {
     pub nonterminals: usize,
     pub terminals: u16,
@@ -26,7 +26,7 @@ pub struct Sizes {
 }
 
 // One step over a symbol: no item has its cursor there; the edge's target and how many states there are then; or the refusal.
-#[derive(Drop)]
+#[derive(Clone, Copy)]
 pub enum Goto {
     Nowhere,
     To(usize, usize),

@@ -10,7 +10,7 @@ use lookahead::TokenSet;
 use repr::{NonterminalString, ProductionIndex, symbols, word};
 
 // FIRST of a list: the terminals that begin what it derives, never the end of input; and whether it derives the empty list.
-#[derive(Drop)]
+#[derive(Clone, Copy)]
 pub struct Answer {
     pub tokens: TokenSet,
     pub nullable: bool,
@@ -64,7 +64,7 @@ impl Answer {
 }
 
 // The sets, one for each nonterminal. The end of input is in a set as its mark of "nullable": these sets are no answer.
-#[derive(Drop)]
+#[derive(Clone, Copy)]
 pub struct FirstSets {
     pub map: [u64; NonterminalString::LIMIT],
 }

@@ -28,14 +28,14 @@ use repr::{NonterminalString, ProductionIndex, word};
 use table::{Checked, Counts, first_production, production};
 
 // An example that is shown, by its number, or none.
-#[derive(Drop)]
+#[derive(Clone, Copy)]
 pub enum Shown {
     Number(usize),
     Nothing,
 }
 
 // A class and the examples that are shown with it.
-#[derive(Drop)]
+#[derive(Clone, Copy)]
 pub struct Judged {
     pub class: Class,
     pub action: Shown,
@@ -403,7 +403,7 @@ fn ambiguity(
 }
 
 // The symbol of which a nonterminal is the optional one, or none.
-#[derive(Drop)]
+#[derive(Clone, Copy)]
 pub enum OptionalSymbol {
     Symbol(u16, u16),
     Nothing,

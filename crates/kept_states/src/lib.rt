@@ -8,7 +8,7 @@ use lr1_core::Item;
 use stored::{StoredItem, read_item, same_kernel, write_item};
 
 // A state's sets, item [production, index] at 17 * production + index.
-#[derive(Drop)]
+#[derive(Clone, Copy)]
 pub struct State {
     pub map: [u64; Item::LIMIT],
 }

@@ -32,7 +32,7 @@ use view::View;
 use view::making::check_view;
 
 // A listing moved on, and what the call answers.
-#[derive(Drop)]
+#[derive(Clone, Copy)]
 pub struct Stepped {
     pub next: Listing,
     pub answer: Advanced,

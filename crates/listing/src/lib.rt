@@ -83,7 +83,7 @@ fn hop(l: Listing, table: &[u16], graph: &[u16], scratch: &mut [u16], buffer: &m
 }
 
 // What a list of calls answers: how many were made.
-#[derive(Drop)]
+#[derive(Clone, Copy)]
 pub enum Listed {
     Calls(usize),
     Refused(u16, u16),

@@ -4,11 +4,11 @@ ghost use Rattle.std.specs.Prelude.{◌≡◌, Bool, true, false, ◌&&◌, ◌|
 ghost use Rattle.lookahead.specs.Tokens.{has, single, union, meet, without, with, members, up_to};
 ghost use Rattle.lookahead.specs.Iterated.{next_of};
 
-#[derive(Drop)]
+#[derive(Clone, Copy)]
 pub struct TokenSet(pub u64);
 
 // A set, and whether it changed.
-#[derive(Drop)]
+#[derive(Clone, Copy)]
 pub struct Changed {
     pub set: TokenSet,
     pub changed: bool,
@@ -158,10 +158,10 @@ impl TokenSet {
 }
 
 // What is left of a set that is gone through in order.
-#[derive(Drop)]
+#[derive(Clone, Copy)]
 pub struct TokenSetIter(pub u64);
 
-#[derive(Drop)]
+#[derive(Clone, Copy)]
 pub enum NextToken {
     Token(u16, TokenSetIter),
     Done,

@@ -83,7 +83,7 @@ pub fn write_yacc(table: &[u16], text: &mut [u8]) -> Writing
 }
 
 // FIRST of a list; else the refusal and its place.
-#[derive(Drop)]
+#[derive(Clone, Copy)]
 pub enum First {
     Answered(Answer),
     Refused(u16, u16),
@@ -133,7 +133,7 @@ fn first0_in(table: &[u16], xs: &[u16], ys: &[u16]) -> First
 }
 
 // A set of tokens; else the refusal and its place.
-#[derive(Drop)]
+#[derive(Clone, Copy)]
 pub enum Followed {
     Tokens(TokenSet),
     Refused(u16, u16),
@@ -167,7 +167,7 @@ fn first1_in(table: &[u16], lookahead: TokenSet, symbols: &[u16]) -> Followed
 }
 
 // States, ascending when gone through in order; else the refusal and its place.
-#[derive(Drop)]
+#[derive(Clone, Copy)]
 pub enum Walked {
     States(StateSet),
     Refused(u16, u16),
@@ -205,7 +205,7 @@ fn trace_back_in(table: &[u16], state: StateIndex, xs: &[u16], ys: &[u16]) -> Wa
 }
 
 // What `add_edge` answers: the number of edges that the graph then has; else the refusal and its place.
-#[derive(Drop)]
+#[derive(Clone, Copy)]
 pub enum AddEdge {
     Edges(u16),
     Refused(u16, u16),

@@ -8,7 +8,7 @@ ghost use Rattle.lr1_core.specs.Items.{no_sets, symbol_sets, counts, counts_of, 
 use repr::{NonterminalString, ProductionIndex, symbols, word};
 
 // The number of symbols before the cursor, at it and after it.
-#[derive(Drop)]
+#[derive(Clone, Copy)]
 pub struct SymbolSets {
     pub prefix: usize,
     pub cursor: usize,
@@ -30,7 +30,7 @@ impl SymbolSets {
 }
 
 // An item: the cursor stands before symbol `index`.
-#[derive(Drop)]
+#[derive(Clone, Copy)]
 pub struct Item {
     pub production: usize,
     pub index: usize,

@@ -11,7 +11,7 @@ use finding::Sizes;
 use kept_states::unpack;
 
 // Refused, or how many records and conflicts.
-#[derive(Drop)]
+#[derive(Clone, Copy)]
 pub enum Measured {
     Stops,
     Fits(usize, usize),

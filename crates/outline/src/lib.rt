@@ -24,7 +24,7 @@ use lr1_core::{Item, suffix};
 use repr::{NonterminalString, ProductionIndex, word};
 
 // Places, a print of cursor and symbols, the nonterminal of the first reduction, the label that the inline test reads.
-#[derive(Drop)]
+#[derive(Clone, Copy)]
 pub struct Outline {
     pub places: usize,
     pub print: u64,

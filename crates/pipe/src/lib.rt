@@ -9,7 +9,7 @@ use repr::word;
 use streams::{read, write};
 
 // What the front of a stream gives: a table of so many records; or it ends before its table does, or has a number of records that no table has; or a read failed.
-#[derive(Drop)]
+#[derive(Clone, Copy)]
 pub enum Given {
     Table(usize),
     Cut,

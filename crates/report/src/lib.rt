@@ -64,7 +64,7 @@ fn whole_example(buffer: &[u16]) -> bool
 }
 
 // In which buffer the observed symbols lie, and how many words they have there from word 3 on.
-#[derive(Drop)]
+#[derive(Clone, Copy)]
 pub enum Part {
     Action(usize),
     Reduce(usize),

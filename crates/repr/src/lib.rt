@@ -5,7 +5,7 @@ ghost use Rattle.repr.specs.Listed.{symbol_is_fit, list_is_fit};
 ghost use Rattle.repr.specs.Packed.{Packed, symbol_words};
 
 // The number of a nonterminal.
-#[derive(Drop)]
+#[derive(Clone, Copy)]
 pub struct NonterminalString(pub u16);
 
 impl NonterminalString {
@@ -13,7 +13,7 @@ impl NonterminalString {
 }
 
 // The number of a production.
-#[derive(Drop)]
+#[derive(Clone, Copy)]
 pub struct ProductionIndex(pub u16);
 
 impl ProductionIndex {

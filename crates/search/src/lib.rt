@@ -26,7 +26,7 @@ use repr::{NonterminalString, ProductionIndex, word};
 use view::machine::{clear, count_walk, is_example, next};
 
 // What a search finds: an example with its number, the end with the number of all trials, or a trial past the 100,000th (refusal 13).
-#[derive(Drop)]
+#[derive(Clone, Copy)]
 pub enum Searched {
     Hit(u32),
     Out(u32),

@@ -10,7 +10,7 @@ ghost use Rattle.spelling.specs.Outcome.{written_of, respell_of};
 use table::{Checked, first_edge, first_item, put, read_counts, word};
 
 // What writing a table afresh answers: the number of records written, or refusal and place.
-#[derive(Drop)]
+#[derive(Clone, Copy)]
 pub enum Respelled {
     Records(u16),
     Refused(u16, u16),
@@ -182,7 +182,7 @@ fn write_productions(table: &[u16], out: &mut [u16], symbols: usize)
 }
 
 // Where the regions of loose records begin, and how many records there are in all, counted up to 8,193.
-#[derive(Drop)]
+#[derive(Clone, Copy)]
 struct Sizes {
     symbols: usize,
     items: usize,

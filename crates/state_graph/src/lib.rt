@@ -19,7 +19,7 @@ use repr::NonterminalString;
 use table::{Checked, first_edge, read_counts, word};
 
 // The number of a state.
-#[derive(Drop)]
+#[derive(Clone, Copy)]
 pub struct StateIndex(pub u16);
 
 impl StateIndex {
@@ -27,14 +27,14 @@ impl StateIndex {
 }
 
 // A set of states: 0 to 63 in `low`, 64 to 127 in `high`. Every operation is total: a state above 127 is not contained and not inserted.
-#[derive(Drop)]
+#[derive(Clone, Copy)]
 pub struct StateSet {
     pub low: u64,
     pub high: u64,
 }
 
 // The least state of a set, and the others.
-#[derive(Drop)]
+#[derive(Clone, Copy)]
 pub enum NextState {
     State(StateIndex, StateSet),
     Done,
@@ -215,7 +215,7 @@ fn step_over(table: &[u16], hits: &mut [u64], kind: usize, number: usize, set: S
 }
 
 // Whether a chain of edges has one by the symbol into the set, and how many edges may still be read: where none may, nothing is said.
-#[derive(Drop)]
+#[derive(Clone, Copy)]
 struct Led {
     leads: bool,
     left: usize,
@@ -252,7 +252,7 @@ fn leads(table: &[u16], first: usize, kind: usize, number: usize, set: StateSet,
 }
 
 // A step along the chains of all states: the states found, or that more edges would be read than the table has records, as chains may be shared.
-#[derive(Drop)]
+#[derive(Clone, Copy)]
 enum Stepped {
     Found(StateSet),
     Over,

@@ -11,7 +11,7 @@ use repr::ProductionIndex;
 use streams::read;
 
 // What follows the table: the start production, or a read failed.
-#[derive(Drop)]
+#[derive(Clone, Copy)]
 pub enum Start {
     Production(u16),
     Failed,

@@ -8,7 +8,7 @@ use lr1_core::Item;
 use repr::{ProductionIndex, word};
 
 // An item by its place, 17 * production + index, with its tokens.
-#[derive(Drop)]
+#[derive(Clone, Copy)]
 pub struct StoredItem {
     pub place: usize,
     pub set: u64,

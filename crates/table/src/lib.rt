@@ -13,7 +13,7 @@ ghost use Rattle.table.specs.Written.{symbols_from, SymbolIndex, SymbolRead, Own
 use repr::ProductionIndex;
 
 // What the check of a table answers: refusal and place, by document 01's table of refusals.
-#[derive(Drop)]
+#[derive(Clone, Copy)]
 pub enum Checked {
     Accepted,
     Refused(u16, u16),
@@ -40,7 +40,7 @@ pub fn put(table: &mut [u16], r: usize, a: usize, b: usize, c: usize, d: usize)
 }
 
 // The counts of record 0.
-#[derive(Drop)]
+#[derive(Clone, Copy)]
 pub struct Counts {
     pub nonterminals: usize,
     pub terminals: usize,
@@ -71,7 +71,7 @@ pub fn first_item(table: &[u16], state: usize) -> usize
 }
 
 // An item, and the index of the next.
-#[derive(Drop)]
+#[derive(Clone, Copy)]
 pub struct ItemRecord {
     pub next: usize,
     pub production: usize,
@@ -101,7 +101,7 @@ pub fn first_edge(table: &[u16], state: usize) -> usize
 }
 
 // An edge, and the index of the next.
-#[derive(Drop)]
+#[derive(Clone, Copy)]
 pub struct EdgeRecord {
     pub next: usize,
     pub kind: usize,
@@ -132,7 +132,7 @@ pub fn first_production(table: &[u16], nonterminal: usize) -> usize
 }
 
 // A production's number, and the index of its nonterminal's next.
-#[derive(Drop)]
+#[derive(Clone, Copy)]
 pub struct ProductionRecord {
     pub next: usize,
     pub production: usize,
@@ -163,7 +163,7 @@ fn first_symbol(table: &[u16], production: usize) -> usize
 }
 
 // A symbol, and the index of the next.
-#[derive(Drop)]
+#[derive(Clone, Copy)]
 struct SymbolRecord {
     next: usize,
     kind: usize,

@@ -9,7 +9,7 @@ use repr::{NonterminalString, ProductionIndex};
 use table::word;
 
 // The counts of record 0, the number of records, and where the areas begin.
-#[derive(Drop)]
+#[derive(Clone, Copy)]
 pub struct Areas {
     pub records: usize,
     pub nonterminals: usize,

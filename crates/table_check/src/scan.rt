@@ -13,7 +13,7 @@ use bits::is_set;
 use table::{Checked, word};
 
 // The lowest row so far, 0 for none, and its place.
-#[derive(Drop)]
+#[derive(Clone, Copy)]
 pub struct Lowest {
     pub row: u16,
     pub place: usize,

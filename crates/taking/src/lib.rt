@@ -9,7 +9,7 @@ ghost use Rattle.taking.specs.Taking.{code_of, Tried, TakenAs};
 use finding::{Goto, Sizes, goto_over};
 
 // How many states and edges there are when a symbol was tried or a state taken; or the refusal.
-#[derive(Drop)]
+#[derive(Clone, Copy)]
 pub enum Taken {
     Stops(u16),
     Goes(usize, usize),

@@ -18,7 +18,7 @@ ghost use Rattle.trace_graph.specs.Insert.{Graphed, chained, Added, Overfull, fr
 use lr1_core::Item;
 use repr::{NonterminalString, ProductionIndex, symbols, word};
 
-#[derive(Drop)]
+#[derive(Clone, Copy)]
 pub struct TraceGraph {
     pub edges: usize,
 }
@@ -48,7 +48,7 @@ impl TraceGraph {
 }
 
 // `TraceGraphNode`, and three words that are no node.
-#[derive(Drop)]
+#[derive(Clone, Copy)]
 pub enum TraceGraphNode {
     Nonterminal(NonterminalString),
     Item(ProductionIndex, u16),
@@ -97,7 +97,7 @@ impl TraceGraphNode {
 }
 
 // A node in words while the code works: of kind 0 the nonterminal `number`, of kind 1 the item at `index` of production `number`.
-#[derive(Drop)]
+#[derive(Clone, Copy)]
 pub struct Node {
     pub kind: usize,
     pub number: usize,
@@ -105,7 +105,7 @@ pub struct Node {
 }
 
 // An edge; its label is the symbol sets of the item at `index` of `production`.
-#[derive(Drop)]
+#[derive(Clone, Copy)]
 pub struct TraceEdge {
     pub source: Node,
     pub target: Node,
@@ -114,7 +114,7 @@ pub struct TraceEdge {
 }
 
 // Whether the edge is in the graph; Full is refusal 12.
-#[derive(Drop)]
+#[derive(Clone, Copy)]
 pub enum Inserted {
     Done,
     Full,

@@ -34,7 +34,7 @@ use trace::reduce::suffix_ends;
 use trace_graph::{Inserted, TraceGraph, item_fits};
 
 // What a trace answers: its number of edges, which are in the graph; else the refusal and its place.
-#[derive(Drop)]
+#[derive(Clone, Copy)]
 pub enum Backtrace {
     Edges(u16),
     Refused(u16, u16),

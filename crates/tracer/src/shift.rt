@@ -165,7 +165,7 @@ fn is_passed(
 }
 
 // Records from which on the items of a state that was passed over may be those of others too (0: none): of the last such state, and of one before it with another.
-#[derive(Drop)]
+#[derive(Clone, Copy)]
 pub struct Known {
     pub last: usize,
     pub earlier: usize,

@@ -6,7 +6,7 @@ ghost use Rattle.tracer.specs.Stamps.{stamp_words, stamp_read_at};
 use repr::{ProductionIndex, word};
 
 // Two stamps.
-#[derive(Drop)]
+#[derive(Clone, Copy)]
 pub struct Stamps(pub u16);
 
 impl Stamps {

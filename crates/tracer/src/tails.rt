@@ -17,13 +17,13 @@ use repr::{NonterminalString, ProductionIndex, word};
 use table::item;
 
 // A slot and its record, or slot 0 and a record of the chain; record 0 is the end.
-#[derive(Drop)]
+#[derive(Clone, Copy)]
 pub struct Place {
     pub slot: usize,
     pub at: usize,
 }
 
-#[derive(Drop)]
+#[derive(Clone, Copy)]
 pub struct TailList(pub u16);
 
 impl TailList {

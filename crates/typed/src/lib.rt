@@ -13,7 +13,7 @@ use repr::{ProductionIndex, symbols, word};
 use table_check::areas::Areas;
 
 // The sorts of chains that reach a loose record.
-#[derive(Drop)]
+#[derive(Clone, Copy)]
 pub struct Roles {
     pub symbol: bool,
     pub item: bool,

@@ -9,7 +9,7 @@ pub mod machine;
 pub mod making;
 
 // A view's sizes: edges, and nodes (the nonterminals, the start item, one word for all other items).
-#[derive(Drop)]
+#[derive(Clone, Copy)]
 pub struct View {
     pub edges: usize,
 }

@@ -8,7 +8,7 @@ use libc::STDERR_FILENO;
 use streams::{read, write};
 
 // Between two bytes: the place of the next one, the number that it may go on, and whether it stands in a number or in a comment.
-#[derive(Drop)]
+#[derive(Clone, Copy)]
 pub struct Reader {
     pub line: u64,
     pub column: u64,
@@ -18,7 +18,7 @@ pub struct Reader {
 }
 
 // A byte read: the reader after it, with the word that ends at it or none; or it cannot be read.
-#[derive(Drop)]
+#[derive(Clone, Copy)]
 pub enum Fed {
     Goes(Reader),
     Ends(u16, Reader),
@@ -26,7 +26,7 @@ pub enum Fed {
 }
 
 // Bytes read into words: the place after the last word, and the reader after them, or before the byte that cannot be read.
-#[derive(Drop)]
+#[derive(Clone, Copy)]
 pub struct Turn {
     pub readable: bool,
     pub place: usize,
@@ -34,7 +34,7 @@ pub struct Turn {
 }
 
 // A piece of the input read, and whether there may be more.
-#[derive(Drop)]
+#[derive(Clone, Copy)]
 pub struct Piece {
     pub more: bool,
     pub reader: Reader,

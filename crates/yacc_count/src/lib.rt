@@ -9,7 +9,7 @@ use yacc_said::{Saying, said};
 use yacc_tokens::moved;
 
 // Alternatives, their symbols, and the alternatives in front of the first that has too many.
-#[derive(Drop)]
+#[derive(Clone, Copy)]
 pub struct Counts {
     pub alternatives: usize,
     pub symbols: usize,
@@ -17,7 +17,7 @@ pub struct Counts {
 }
 
 // The same of the alternatives that are closed, and the symbols of the open one.
-#[derive(Drop)]
+#[derive(Clone, Copy)]
 struct Tally {
     alternatives: usize,
     symbols: usize,

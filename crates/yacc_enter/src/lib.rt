@@ -14,7 +14,7 @@ use yacc_said::{Saying, said};
 use yacc_tokens::moved;
 
 // How many names are entered, and how many nonterminals and terminals there are.
-#[derive(Drop)]
+#[derive(Clone, Copy)]
 pub struct Ids {
     pub names: usize,
     pub nonterminals: usize,

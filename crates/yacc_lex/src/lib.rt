@@ -5,7 +5,7 @@ ghost use Rattle.yacc_text.specs.Lex.{run_of};
 ghost use Rattle.yacc_lex.specs.Steps.{begins, behind_comment, found_at, Steps, Told};
 
 // The words of docs/YACC.md.
-#[derive(Drop)]
+#[derive(Clone, Copy)]
 pub enum Word {
     Name,
     Literal,
@@ -18,14 +18,14 @@ pub enum Word {
 }
 
 // The place behind a comment, or none.
-#[derive(Drop)]
+#[derive(Clone, Copy)]
 enum Found {
     At(usize),
     Nothing,
 }
 
 // What stands at a place: a white byte or a comment and the place behind it, a word and the place behind it, the end, or what no text has there.
-#[derive(Drop)]
+#[derive(Clone, Copy)]
 enum Piece {
     Gap(usize),
     Word(Word, usize),
@@ -34,7 +34,7 @@ enum Piece {
 }
 
 // The next token: its place, the place behind it.
-#[derive(Drop)]
+#[derive(Clone, Copy)]
 pub enum Next {
     Token(Word, usize, usize),
     End,

@@ -7,7 +7,7 @@ use repr::{NonterminalString, ProductionIndex};
 use yacc_count::Counts;
 
 // A refusal and its place, or number 0.
-#[derive(Drop)]
+#[derive(Clone, Copy)]
 pub struct Limit {
     pub number: u16,
     pub place: u16,

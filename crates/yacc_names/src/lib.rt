@@ -101,7 +101,7 @@ pub fn enter(
 }
 
 // The number of a name, and how many there are then.
-#[derive(Drop)]
+#[derive(Clone, Copy)]
 pub struct Placed {
     pub number: usize,
     pub names: usize,

@@ -26,7 +26,7 @@ use yacc_symbols::{Numbered, left_place, symbol};
 use yacc_tokens::moved;
 
 // The production that is open: its number, its nonterminal's, its symbols so far and their span.
-#[derive(Drop)]
+#[derive(Clone, Copy)]
 struct Body {
     production: usize,
     owner: usize,

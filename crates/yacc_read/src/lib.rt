@@ -2,7 +2,7 @@
 use repr::NonterminalString;
 
 // Records written, places written, the start nonterminal; or the refusal and its place.
-#[derive(Drop)]
+#[derive(Clone, Copy)]
 pub enum Reading {
     Read(u16, u16, NonterminalString),
     Refused(u16, u16),

@@ -6,7 +6,7 @@ ghost use Rattle.yacc_said.specs.Said.{id_said, end_said, said_in};
 use yacc_lex::Word;
 
 // An id of a TOKEN list, the START id, a left side, an id of a body, the end of a body.
-#[derive(Drop)]
+#[derive(Clone, Copy)]
 pub enum Saying {
     Lists,
     Opens,

@@ -19,14 +19,14 @@ const LETTERS: [u8; 8] = [111, 107, 101, 110, 116, 97, 114, 116];
 const BEHIND: [u8; 8] = [4, 5, 6, 11, 8, 9, 10, 11];
 
 // A mode and a part of specs/Automaton, in numbers.
-#[derive(Drop)]
+#[derive(Clone, Copy)]
 pub struct Stage {
     pub mode: usize,
     pub part: usize,
 }
 
 // A line and a column, both from 1.
-#[derive(Drop)]
+#[derive(Clone, Copy)]
 pub struct Place {
     pub line: usize,
     pub column: usize,

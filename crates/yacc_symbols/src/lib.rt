@@ -15,7 +15,7 @@ use yacc_lex::Word;
 use yacc_names::find;
 
 // A symbol: kind (0 nonterminal, 1 terminal) and number.
-#[derive(Drop)]
+#[derive(Clone, Copy)]
 pub struct Numbered {
     pub kind: usize,
     pub number: usize,

@@ -3,7 +3,7 @@ ghost use Rattle.std.specs.Prelude.{◌≡◌, length, leb};
 ghost use Rattle.yacc_text.specs.Grammar.{text_limit};
 
 // A place in a text.
-#[derive(Drop)]
+#[derive(Clone, Copy)]
 pub struct Place(pub u16);
 
 impl Place {

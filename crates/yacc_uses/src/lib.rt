@@ -5,7 +5,7 @@ ghost use Rattle.yacc_uses.specs.Uses.{judged};
 use yacc_said::Saying;
 
 // Was there one in an alternative that is closed; is there one in the open one.
-#[derive(Drop)]
+#[derive(Clone, Copy)]
 pub struct Verdict {
     pub bad: bool,
     pub body: bool,

@@ -1,7 +1,7 @@
 // Writing a table's grammar as a yacc text (request 09): what is answered and left in the lent bytes (specs/Outcome).
 
 // Bytes written; or the refusal and its place.
-#[derive(Drop)]
+#[derive(Clone, Copy)]
 pub enum Writing {
     Bytes(u16),
     Refused(u16, u16),
