@@ -1,1 +1,4 @@
 // The conflicts of a state, by token sets (specs/Clashes).
+
+#![tactic(auto)]
+

@@ -1,5 +1,8 @@
 // Closing a set of items (`transitive_closure` of lr1/build). A state's sets stand flat, item [production, index] at 17 * production + index
 // (specs/States of build); beside them one set for each nonterminal, the lookaheads of its index-0 items.
+
+#![tactic(auto)]
+
 ghost use Rattle.std.specs.Prelude.{◌≡◌, ℕ, ◌+◌, ◌*◌, ◌<◌, ◌≤◌, List, ◌++◌, length, take, drop};
 ghost use Rattle.repr.specs.Sizes.{index_limit, item_limit};
 ghost use Rattle.slices.specs.Same.{same_words};

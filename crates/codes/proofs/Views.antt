@@ -45,8 +45,8 @@ value_edge : (v : EdgeValue) (e : TraceEdge) → value_words v ≡ edge_words e 
 value_edge v e q = ap edge_is (value_same v (edge_value e) (q ∙ value_words_lem e)) ∙ value_is e
 
 -- the nonterminal of a node, as tracing and as listing says it
-owner_both : (T : Table) (v : Node) → owner_of_node T.productions v ≡ sound.nodeOwner T v
-unfolding owner_of_node sound.nodeOwner owner_of
+owner_both : (T : Table) (v : Node) → owner_of_node T.productions v ≡ sound.owner_of_node T v
+unfolding owner_of_node sound.owner_of_node owner_of
 owner_both T (at_nonterminal n) = refl
 owner_both T (at_item i) = refl
 

@@ -1,4 +1,7 @@
 // All states, taken by number (specs/Rows).
+
+#![tactic(auto)]
+
 ghost use Rattle.std.specs.Prelude.{◌≡◌, List, [], ℕ, ◌+◌, ◌*◌, ◌≤◌, ◌<◌, length, get_or};
 ghost use Rattle.repr.specs.Sizes.{item_limit};
 ghost use Rattle.finding.specs.Steps.{collect_to};

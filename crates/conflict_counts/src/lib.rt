@@ -1,5 +1,8 @@
 // The conflicts of a state that stands flat: the tokens that each production's complete item reduces with (specs/Reductions), the terminals that are shifted,
 // how many conflicts there are (specs/Clashed).
+
+#![tactic(auto)]
+
 ghost use Rattle.std.specs.Prelude.{◌≡◌, ℕ, ◌+◌, ◌-◌, ◌*◌, ◌<◌, ◌≤◌, ◌&&◌, ◌||◌, List, length, take, nat_lt, slice_index};
 ghost use Rattle.repr.specs.Sizes.{index_limit, production_limit};
 ghost use Rattle.repr.specs.Meaning.{Table};

@@ -1,4 +1,7 @@
 // The conflicts of a state in words, five each (`clash_words` of specs/Built of build), one behind the other from a place of the list on.
+
+#![tactic(auto)]
+
 ghost use Rattle.std.specs.Prelude.{◌≡◌, ℕ, ◌+◌, ◌-◌, ◌*◌, ◌<◌, ◌≤◌, List, length, take};
 ghost use Rattle.repr.specs.Sizes.{index_limit, production_limit, state_limit};
 ghost use Rattle.repr.specs.Lists.{up_from, below, joined};

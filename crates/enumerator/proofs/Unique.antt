@@ -15,6 +15,7 @@ before_asym (later h) (later k) = omega arith
 before_asym (later h) (alike r b) = omega arith
 before_asym (alike r b) (later k) = omega arith
 before_asym (alike r b) (alike s d) = before_asym b d
+before_asym (shorter {f = f} {q = q}) x4 = elim x4 [ ]
 
 -- and total on distinct paths
 pub before_total : (p q : Path) → (p ≡ q → ⊥) → Before p q ⊎ Before q p

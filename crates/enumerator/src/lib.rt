@@ -1,4 +1,7 @@
 // Listing the examples of a trace graph (`PathEnumerator` and `FilteredPathEnumerator` of lr1/trace/trace_graph/mod.rs).
+
+#![tactic(auto)]
+
 use lookahead::TokenSet;
 use repr::ProductionIndex;
 

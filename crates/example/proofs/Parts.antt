@@ -96,36 +96,36 @@ module _ (g : List ℕ) (n : ℕ) (P : Packed g n) (ws : List ℕ) (F : LabelsFi
   inside : p < n
   inside = item-production g n ws F j h p i ep ei
 
-  sets : symbol_sets (listed (packed.symbolWords g p)) i ≡ sets_of (productions_in g n) (label_at ws j)
+  sets : symbol_sets (listed (packed.symbol_words g p)) i ≡ sets_of (productions_in g n) (label_at ws j)
   sets = item-sets g n ws F j h p i ep ei
 
-  pub sets-counted : (x : Counts) → x ≡ counts_of (symbol_sets (listed (packed.symbolWords g p)) i) → x ≡ counts_of (sets_of (productions_in g n) (label_at ws j))
+  pub sets-counted : (x : Counts) → x ≡ counts_of (symbol_sets (listed (packed.symbol_words g p)) i) → x ≡ counts_of (sets_of (productions_in g n) (label_at ws j))
   sets-counted x e = e ∙ ap counts_of sets
 
-  pub prefix_is : (r : List ℕ) → r ≡ take (2 * i) (packed.symbolWords g p) → listed r ≡ (symbol_sets (listed (packed.symbolWords g p)) i).prefix
+  pub prefix_is : (r : List ℕ) → r ≡ take (2 * i) (packed.symbol_words g p) → listed r ≡ (symbol_sets (listed (packed.symbol_words g p)) i).prefix
       → Part r (sets_of (productions_in g n) (label_at ws j)).prefix
-  prefix_is r e l = part_of r (sets_of (productions_in g n) (label_at ws j)).prefix (l ∙ ap (λ (s : Sets). s.prefix) sets) (rw e (fits-take 32 63 i (packed.symbolWords g p) (P.fits p inside)))
+  prefix_is r e l = part_of r (sets_of (productions_in g n) (label_at ws j)).prefix (l ∙ ap (λ (s : Sets). s.prefix) sets) (rw e (fits-take 32 63 i (packed.symbol_words g p) (P.fits p inside)))
 
-  pub suffix_is : (r : List ℕ) → r ≡ drop (2 * i + 2) (packed.symbolWords g p) → listed r ≡ (symbol_sets (listed (packed.symbolWords g p)) i).suffix
+  pub suffix_is : (r : List ℕ) → r ≡ drop (2 * i + 2) (packed.symbol_words g p) → listed r ≡ (symbol_sets (listed (packed.symbol_words g p)) i).suffix
       → Part r (sets_of (productions_in g n) (label_at ws j)).suffix
   suffix_is r e l =
       let q : 2 * i + 2 ≡ 2 * suc i = omega arith in
-      part_of r (sets_of (productions_in g n) (label_at ws j)).suffix (l ∙ ap (λ (s : Sets). s.suffix) sets) (rw (e, q) (fits-drop 32 63 (suc i) (packed.symbolWords g p) (P.fits p inside)))
+      part_of r (sets_of (productions_in g n) (label_at ws j)).suffix (l ∙ ap (λ (s : Sets). s.suffix) sets) (rw (e, q) (fits-drop 32 63 (suc i) (packed.symbol_words g p) (P.fits p inside)))
 
 -- the first label's cursor
 module _ (g : List ℕ) (n : ℕ) (P : Packed g n) (ws : List ℕ) (F : LabelsFit (productions_in g n) ws) (h : 0 < length (labels_in ws)) (p i : ℕ) (ep : p ≡ (label_at ws 0).production) (ei : i ≡ (label_at ws 0).index) where
-  at_cursor_lem : cursor_of (productions_in g n) (labels_in ws) ≡ take 1 (drop i (listed (packed.symbolWords g p)))
+  at_cursor_lem : cursor_of (productions_in g n) (labels_in ws) ≡ take 1 (drop i (listed (packed.symbol_words g p)))
   unfolding symbol_sets
   at_cursor_lem =
       first_cursor (productions_in g n) ws h
       ∙ ap (λ (s : Sets). list_of s.cursor) (sym (item-sets g n ws F 0 h p i ep ei))
-      ∙ cursor_list (drop i (listed (packed.symbolWords g p)))
+      ∙ cursor_list (drop i (listed (packed.symbol_words g p)))
 
-  pub cursor_none : length (listed (packed.symbolWords g p)) ≤ i → Part [] (cursor_of (productions_in g n) (labels_in ws))
+  pub cursor_none : length (listed (packed.symbol_words g p)) ≤ i → Part [] (cursor_of (productions_in g n) (labels_in ws))
   unfolding listed list_is_fit
-  cursor_none l = part_of [] (cursor_of (productions_in g n) (labels_in ws)) (sym (at_cursor_lem ∙ rw (drop_of_length-le (listed (packed.symbolWords g p)) {i = i} l))) refl
+  cursor_none l = part_of [] (cursor_of (productions_in g n) (labels_in ws)) (sym (at_cursor_lem ∙ rw (drop_of_length-le (listed (packed.symbol_words g p)) {i = i} l))) refl
 
-  module _ (l : i < length (listed (packed.symbolWords g p))) where
+  module _ (l : i < length (listed (packed.symbol_words g p))) where
     inside' : p < n
     inside' = item-production g n ws F 0 h p i ep ei
 
@@ -147,11 +147,11 @@ module _ (g : List ℕ) (n : ℕ) (P : Packed g n) (ws : List ℕ) (F : LabelsFi
         let two : past - from ≡ 2 = omega arith in
         let one : production_place p + 4 + (2 * i + 1) ≡ from + 1 = omega arith in
         let same : production_place p + 4 + 2 * i ≡ from = omega arith in
-        let f = (fits_head nonterminal_limit terminal_limit (packed.symbolWords g p) (2 * i) (omega arith) (fits-drop 32 63 i (packed.symbolWords g p) (P.fits p inside'))).1.0 in
+        let f = (fits_head nonterminal_limit terminal_limit (packed.symbol_words g p) (2 * i) (omega arith) (fits-drop 32 63 i (packed.symbol_words g p) (P.fits p inside'))).1.0 in
         let x = word_of g n p (2 * i) P inside' (omega arith) in
         let y = word_of g n p (2 * i + 1) P inside' (omega arith) in
         let k : symbol_is_fit nonterminal_limit terminal_limit (get_or g from 0) (get_or g (from + 1) 0) ≡ true = rw (x, y, one, same) at f in
         let v : take (past - from) (drop from g) ≡ get_or g from 0 ∷ get_or g (from + 1) 0 ∷ [] = rw (two, drop_two g from (omega arith)) in
         let t : cursor_of (productions_in g n) (labels_in ws) ≡ symbol_of_kind (get_or g from 0) (get_or g (from + 1) 0) ∷ [] =
-        at_cursor_lem ∙ rw (listed_at (packed.symbolWords g p) i (omega arith), x, y, one, same) in
+        at_cursor_lem ∙ rw (listed_at (packed.symbol_words g p) i (omega arith), x, y, one, same) in
         rw v (part_of (get_or g from 0 ∷ get_or g (from + 1) 0 ∷ []) (cursor_of (productions_in g n) (labels_in ws)) (sym t) (rw k))

@@ -1,4 +1,7 @@
 // Examples (lr1/example, and `example` and `first0` of lr1/trace/trace_graph/mod.rs), on a list of labels.
+
+#![tactic(auto)]
+
 ghost use Rattle.std.specs.Prelude.{◌≡◌, ◌+◌, ◌*◌, ◌<◌, ◌≤◌, [], ◌∷◌, length, slice_index_or};
 ghost use Rattle.repr.specs.Sizes.{terminal_limit, example_symbols, reduction_room, example_room, label_room};
 ghost use Rattle.slices.specs.Lent.{in_front};

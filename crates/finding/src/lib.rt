@@ -1,4 +1,7 @@
 // Finding the states (`build_states` of lr1/build as far as states and edges): specs/Steps says what is found, specs/Search what stands in the words.
+
+#![tactic(auto)]
+
 ghost use Rattle.std.specs.Prelude.{◌≡◌, ℕ, suc, ◌+◌, ◌-◌, ◌*◌, ◌^◌, ◌<◌, ◌≤◌, Bool, true, false, List, [], length, take, slice_index, slice_index_or};
 ghost use Rattle.repr.specs.Sizes.{index_limit, item_limit, record_limit, state_limit};
 ghost use Rattle.repr.specs.Meaning.{Table};

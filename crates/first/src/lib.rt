@@ -1,4 +1,7 @@
 // FIRST sets (lr1/first/mod.rs). The productions stand in words (specs/Packed of repr), a list of symbols is kind and number each (specs/Listed).
+
+#![tactic(auto)]
+
 ghost use Rattle.std.specs.Prelude.{◌≡◌, true, not, ◌++◌, ◌≤◌, ◌<◌, length};
 ghost use Rattle.repr.specs.Sizes.{nonterminal_limit, terminal_limit};
 ghost use Rattle.slices.specs.Same.{same_words};

@@ -1,4 +1,7 @@
 // The records of a grammar, written from its packed productions (request 01, facts 15 and 16): record 0, nonterminals, productions, symbols.
+
+#![tactic(auto)]
+
 ghost use Rattle.std.specs.Prelude.{◌≡◌, true, map, ◌+◌, ◌≤◌, length};
 ghost use Rattle.repr.specs.Sizes.{record_limit, nonterminal_limit, terminal_limit};
 ghost use Rattle.repr.specs.Listed.{listed, list_is_fit};

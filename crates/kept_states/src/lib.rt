@@ -1,4 +1,7 @@
 // The states found, in words (specs/Kept): a state flat again, its items counted and stored behind the others, a kernel looked for.
+
+#![tactic(auto)]
+
 ghost use Rattle.std.specs.Prelude.{◌≡◌, ℕ, ◌+◌, ◌-◌, ◌*◌, ◌^◌, ◌<◌, ◌≤◌, List, length, take};
 ghost use Rattle.repr.specs.Sizes.{item_limit, record_limit};
 ghost use Rattle.stored.specs.Stored.{entry_at, entries, put_entry, packed};

@@ -1,4 +1,7 @@
 // Little-endian 16-bit words from bytes, and bytes from words.
+
+#![tactic(auto)]
+
 ghost use Rattle.std.specs.Prelude.{◌≡◌, ◌++◌, ◌*◌, ◌/◌, ◌%◌, ◌≤◌, ◌<◌, length, drop};
 ghost use Rattle.little.specs.Little.{words_of, encoded};
 

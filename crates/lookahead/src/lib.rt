@@ -1,5 +1,8 @@
 // Token sets (lr1/lookahead.rs): one word, bit k for token k. The terminals are 0 to T - 1, and T is the end of input; what the Rust takes from
 // thread-local storage, the number of terminals, is an argument. `fits` asks for at most 63 terminals; every other operation is total: a token above 63 is not contained and not inserted.
+
+#![tactic(auto)]
+
 ghost use Rattle.std.specs.Prelude.{◌≡◌, Bool, true, false, ◌&&◌, ◌||◌, not, List, [], ◌∷◌, ℕ, suc, ◌^◌, ◌≤◌, ◌<◌, length, eqb, ltb};
 ghost use Rattle.lookahead.specs.Tokens.{has, single, union, meet, without, with, members, up_to};
 ghost use Rattle.lookahead.specs.Iterated.{next_of};

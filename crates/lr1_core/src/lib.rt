@@ -1,4 +1,7 @@
 // Items and their symbol sets (lr1/core/mod.rs). An item is a production and an index; its symbols are parts of the packed words (specs/Packed of repr).
+
+#![tactic(auto)]
+
 ghost use Rattle.std.specs.Prelude.{◌≡◌, ℕ, ◌+◌, ◌*◌, ◌<◌, ◌≤◌, Bool, true, false, List, length, take, drop, ◌==◌, nat_lt};
 ghost use Rattle.repr.specs.Listed.{listed};
 ghost use Rattle.repr.specs.Packed.{Packed, symbol_words};

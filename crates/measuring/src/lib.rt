@@ -1,4 +1,7 @@
 // All states measured at the end of the search: the records of the table and the conflicts, or refusal 17 (specs/Complete).
+
+#![tactic(auto)]
+
 ghost use Rattle.std.specs.Prelude.{◌≡◌, List, [], ℕ, ◌+◌, ◌*◌, ◌≤◌, ◌<◌, length, get_or};
 ghost use Rattle.repr.specs.Meaning.{Edge};
 ghost use Rattle.build.specs.States.{clashes};

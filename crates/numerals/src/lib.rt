@@ -1,1 +1,4 @@
 // Decimal numerals as bytes (specs/Numeral).
+
+#![tactic(auto)]
+

@@ -1,4 +1,7 @@
 // Kinds of number, kept apart as in the Rust, and the productions of a table in a fixed number of words (specs/Packed).
+
+#![tactic(auto)]
+
 ghost use Rattle.std.specs.Prelude.{◌≡◌, Bool, true, false, List, map, ◌++◌, ℕ, ◌+◌, ◌*◌, ◌≤◌, ◌<◌, length, get_or};
 ghost use Rattle.std.proofs.Math.Seq.{slice};
 ghost use Rattle.repr.specs.Listed.{symbol_is_fit, list_is_fit};

@@ -1,4 +1,7 @@
 // The search for states from the first to the last (`found_to` of specs/Steps of finding).
+
+#![tactic(auto)]
+
 ghost use Rattle.std.specs.Prelude.{◌≡◌, List, ℕ, suc, ◌+◌, ◌*◌, ◌≤◌, ◌<◌, length, get_or};
 ghost use Rattle.repr.specs.Sizes.{item_limit, record_limit, state_limit};
 ghost use Rattle.finding.specs.Steps.{found_to};

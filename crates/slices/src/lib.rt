@@ -1,4 +1,7 @@
 // What the layers do to lists of words, whatever the words mean.
+
+#![tactic(auto)]
+
 ghost use Rattle.std.specs.Prelude.{◌≡◌, ◌++◌, ◌≤◌, ◌<◌, suc, length, take, drop};
 ghost use Rattle.slices.specs.Insert.{inserted_at};
 ghost use Rattle.slices.specs.Lent.{zeroed};

@@ -125,7 +125,7 @@ module _ (T : Table) (start room N f l P : ℕ) (c : Counted T room N f l) (ws w
   unfolding records sum
   stops_is =
       let a = length-packed (start_state T start) in
-      rw (is, c.limit_is) (stops-other T room (start_state T start ∷ []) 0 (λ q. omega arith) ∙ ap (ltb (min room record_limit)) (omega (arith, c.fixed-is)))
+      rw (is, c.limit_is) (stops-other T room (start_state T start ∷ []) 0 (λ q. omega arith) ∙ ap (ltb (min room record_limit)) (omega (arith, c.fixed_is)))
 
   pub start_stored : Started T start room ws' bs' r
   start_stored = record {

@@ -1,4 +1,7 @@
 // State 0: the closure of the start production's first item with the end (specs/Start).
+
+#![tactic(auto)]
+
 ghost use Rattle.std.specs.Prelude.{◌≡◌, List, ℕ, suc, ◌+◌, ◌*◌, ◌≤◌, ◌<◌, length, get_or};
 ghost use Rattle.repr.specs.Sizes.{record_limit, state_limit};
 ghost use Rattle.repr.specs.Meaning.{Table};

@@ -35,6 +35,7 @@ module _ {ℓ} {A : Type ℓ} where
   some?_member_intro t x (y ∷ ys) (Memᴰ.tail m) e =
       let r = some?_member_intro t x ys m e in
       cases (t y) (some?-yes t y ys) (λ f. some?_no t y ys f ∙ r)
+  some?_member_intro t x [] x3 e = elim x3 [ ]
 
   pub some?_member_elim : (t : A → Bool) (xs : List A) → some? t xs ≡ true → (x : A) × Memᴰ x xs × (t x ≡ true)
   some?_member_elim t [] e = clash (some? t []) e (some?-nil t)

@@ -1,4 +1,7 @@
 // The walk back over edges (lr1/state_graph.rs), by sets of states.
+
+#![tactic(auto)]
+
 ghost use Rattle.std.specs.Prelude.{◌≡◌, Bool, true, false, ◌&&◌, ◌||◌, List, ◌++◌, ℕ, ◌+◌, ◌*◌, ◌≤◌, ◌<◌, eqb, ltb, length, get_or, set, replicate};
 ghost use Rattle.repr.specs.Sizes.{record_limit};
 ghost use Rattle.repr.specs.Lists.{some?};

@@ -1,4 +1,7 @@
 // Items with their tokens in words (specs/Stored): reading and writing one, moving those with the cursor at a symbol over it, comparing kernels.
+
+#![tactic(auto)]
+
 ghost use Rattle.std.specs.Prelude.{◌≡◌, ℕ, ◌+◌, ◌-◌, ◌*◌, ◌^◌, ◌<◌, ◌≤◌, List, length, slice_index};
 ghost use Rattle.repr.specs.Sizes.{index_limit, record_limit};
 ghost use Rattle.repr.specs.Packed.{Packed};

@@ -1,4 +1,7 @@
 // The table a caller lends: its words' meaning (specs/Decoded), read from a table that is accepted. What accepts it is the crate table_check.
+
+#![tactic(auto)]
+
 ghost use Rattle.std.specs.Prelude.{◌≡◌, List, [], ◌∷◌, ℕ, ◌+◌, ◌*◌, ◌≤◌, ◌<◌, length, get_or};
 ghost use Rattle.repr.specs.Sizes.{record_limit, grammar_room};
 ghost use Rattle.repr.specs.Meaning.{Table, state_at, production_at};

@@ -1,4 +1,7 @@
 // The check of a lent table: refusals 1 to 8 of document 01, with number and place.
+
+#![tactic(auto)]
+
 pub mod areas;
 mod counts;
 mod fault;

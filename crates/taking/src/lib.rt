@@ -1,4 +1,7 @@
 // Taking a state: its edges over all symbols, nonterminals first and ascending (specs/Taking).
+
+#![tactic(auto)]
+
 ghost use Rattle.std.specs.Prelude.{◌≡◌, List, [], ℕ, ◌+◌, ◌*◌, ◌≤◌, ◌<◌, length, get_or};
 ghost use Rattle.repr.specs.Sizes.{item_limit};
 ghost use Rattle.build.specs.States.{tried};

@@ -1,5 +1,8 @@
 // The trace graph (lr1/trace/trace_graph/mod.rs) in words: part 4 of document 01.
 // An index (specs/Index) of the edges in each bucket is kept beside it, so that an equal edge is looked for in one bucket alone.
+
+#![tactic(auto)]
+
 ghost use Rattle.std.specs.Prelude.{◌≡◌, ◌+◌, ◌<◌, ◌≤◌, true, ◌&&◌, length, replicate, slice_index};
 ghost use Rattle.repr.specs.Sizes.{nonterminal_limit, terminal_limit, edge_limit, graph_room};
 ghost use Rattle.slices.specs.Same.{same_words};

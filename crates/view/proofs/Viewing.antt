@@ -126,9 +126,9 @@ module _ {es : List TraceEdge} {start : Item} {sources older latest : List ℕ} 
           let w = W.viewed.sourced e T.0.inside ∙ ap source_of q ∙ source-nonterminal n in
           let l = W.small e n T.0.inside q in
           cases (mem n (used_of G st))
-          (λ m. next_on sources older latest e n st w (ap (mem n) used ∙ m) ∙ back_view (e ∷ st) E ∙ sym (machine.next-on G (at_item start) e st n q m))
+          (λ m. next_on sources older latest e n st w (ap (mem n) used ∙ m) ∙ back_view (e ∷ st) E ∙ sym (machine.next_on G (at_item start) e st n q m))
           (λ m. next_in sources older latest e n st w (ap (mem n) used ∙ m) ∙ seek_view n (omega arith) (e ∷ st) E
-          ∙ ap (λ (v : Node). seek G v G.count (e ∷ st)) (nonterminal_node start n l) ∙ sym (machine.next-in G (at_item start) e st n q m))
+          ∙ ap (λ (v : Node). seek G v G.count (e ∷ st)) (nonterminal_node start n l) ∙ sym (machine.next_in G (at_item start) e st n q m))
 
   pub view_sourced : Sourced es sources
   view_sourced = record { few = W.few; bounded = W.viewed.tidy.by_source; sourced = W.viewed.sourced }

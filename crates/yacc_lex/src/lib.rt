@@ -1,4 +1,7 @@
 // The tokens of a yacc text, one after the other: a step by value (specs/Steps).
+
+#![tactic(auto)]
+
 ghost use Rattle.std.specs.Prelude.{◌≡◌, ◌+◌, ◌≤◌, ◌<◌, ◌&&◌, length, get_or, drop, leb};
 ghost use Rattle.yacc_text.specs.Grammar.{quote, percent, slash, is_white_byte, is_letter_byte, is_digit_byte, kind_of, goes_on_byte, closes, literal_byte, stops};
 ghost use Rattle.yacc_text.specs.Lex.{run_of};

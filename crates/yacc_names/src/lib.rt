@@ -1,4 +1,7 @@
 // The names of a yacc text in the order of their entering, each by the places of its first byte and behind its last; an index in buckets beside them, so that a name is looked for in one bucket alone (specs/Names).
+
+#![tactic(auto)]
+
 ghost use Rattle.std.specs.Prelude.{◌≡◌, ◌+◌, ◌≤◌, ◌<◌, length, get_or, set};
 ghost use Rattle.std.proofs.Math.Seq.{slice};
 ghost use Rattle.slices.specs.Same.{same_words};

@@ -1,4 +1,7 @@
 // What a word of a yacc text says where it stands, by value (specs/Said; crate yacc_read, specs/Events).
+
+#![tactic(auto)]
+
 ghost use Rattle.std.specs.Prelude.{◌≡◌, ◌<◌};
 ghost use Rattle.yacc_tokens.specs.Accepted.{mode_of};
 ghost use Rattle.yacc_said.specs.Said.{id_said, end_said, said_in};

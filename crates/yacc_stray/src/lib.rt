@@ -1,4 +1,7 @@
 // Where a yacc text leaves the grammar (specs/Stray), byte after byte (specs/Automaton).
+
+#![tactic(auto)]
+
 ghost use Rattle.std.specs.Prelude.{false, ◌≡◌, ◌+◌, ◌≤◌, ◌<◌, [], ◌∷◌, length};
 ghost use Rattle.repr.specs.Lists.{occurrences};
 ghost use Rattle.yacc_text.specs.Grammar.{is_white_byte, is_letter_byte, is_digit_byte, kind_of};

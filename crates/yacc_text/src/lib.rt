@@ -1,4 +1,7 @@
 // The yacc texts that are read (docs/YACC.md): the grammar without a parser (specs/Grammar), a parser and that it is exact (specs/Parse, proofs/Exact).
+
+#![tactic(auto)]
+
 ghost use Rattle.std.specs.Prelude.{◌≡◌, length, leb};
 ghost use Rattle.yacc_text.specs.Grammar.{text_limit};
 

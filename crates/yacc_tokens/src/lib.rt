@@ -1,4 +1,7 @@
 // The tokens of a yacc text from the first to the last: refusal 20 (specs/Accepted).
+
+#![tactic(auto)]
+
 ghost use Rattle.std.specs.Prelude.{◌≡◌, ◌<◌};
 ghost use Rattle.yacc_tokens.specs.Accepted.{number_of_word, moves_to, is_grammar_text};
 

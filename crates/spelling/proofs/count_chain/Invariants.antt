@@ -1,0 +1,13 @@
+use mathlib.Core.Path.{◌≡◌}
+use lib.ListN.{length}
+use Rattle.table.specs.Refusals.{check_of}
+use Rattle.table.specs.declared.Checked.TheVariants.{Accepted}
+use Rattle.spelling.specs.Grown.{records_from}
+use Rattle.spelling.proofs.Counting.{Counting}
+use Rattle.spelling.proofs.count_chain.Given as goal
+
+abbrev pub invariant-loop-from : goal.invariant-loop-from
+invariant-loop-from l = Counting l.table (length (records_from l.table l.head)) l.most l.from l.count × (check_of l.table ≡ Accepted)
+
+abbrev pub decreases-loop-from : goal.decreases-loop-from
+decreases-loop-from l = length (records_from l.table l.from)

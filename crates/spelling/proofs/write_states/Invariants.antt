@@ -1,0 +1,14 @@
+use mathlib.Core.Path.{◌≡◌}
+use Prim.Native.Nat.{◌-◌}
+use lib.ListN.{length}
+use Rattle.table.specs.Decoded.{meaning}
+use Rattle.table.specs.Refusals.{check_of}
+use Rattle.table.specs.declared.Checked.TheVariants.{Accepted}
+use Rattle.spelling.proofs.Areas.{States}
+use Rattle.spelling.proofs.write_states.Given as goal
+
+abbrev pub invariant-loop-s : goal.invariant-loop-s
+invariant-loop-s l = States l.table l.initial.out l.out l.s l.i l.d × ((l.states ≡ length (meaning l.table).states) × ((l.nonterminals ≡ length (meaning l.table).nonterminals) × (check_of l.table ≡ Accepted)))
+
+abbrev pub decreases-loop-s : goal.decreases-loop-s
+decreases-loop-s l = l.states - l.s

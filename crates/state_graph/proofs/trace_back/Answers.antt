@@ -1,0 +1,56 @@
+use mathlib.Core.Path.{refl}
+use Rattle.table.specs.Decoded.{meaning}
+use Rattle.table.proofs.Decoding.{fits}
+use Rattle.state_graph.proofs.Steps.{walking_start, walking_at, walking_symbol, walking_more, walking_done, no_step, step-made, step_again, row_inside, traced}
+use native.Mathlib.Omega.{arith}
+use Rattle.state_graph.proofs.trace_back.Goals as goal
+
+pub loop-i-init : goal.loop-i-init
+loop-i-init c = (walking_start (meaning c.args.table.now) c.args.symbols.now c.requires.state_in_bounds.1 _ _ _ refl, no_step (meaning c.args.table.now) (fits c.args.table.now c.requires.table_value) _ _ _ _)
+
+pub overflow_mul-i : goal.overflow_mul-i
+overflow_mul-i c = omega (arith, c.well_formed, (walking_at (meaning c.args.table.now) c.args.symbols.now c.requires.state_in_bounds.1 _ _ _ _ c.loop-i.i c.loop-i.invariant.0 c.loop-i-test.true).0)
+
+pub word-kind-requires : goal.word-kind-requires
+word-kind-requires c = omega (arith, (walking_at (meaning c.args.table.now) c.args.symbols.now c.requires.state_in_bounds.1 _ _ _ _ c.loop-i.i c.loop-i.invariant.0 c.loop-i-test.true).0)
+
+pub overflow_mul-i-in-loop-i : goal.overflow_mul-i-in-loop-i
+overflow_mul-i-in-loop-i c = omega (arith, c.well_formed, (walking_at (meaning c.args.table.now) c.args.symbols.now c.requires.state_in_bounds.1 _ _ _ _ c.loop-i.i c.loop-i.invariant.0 c.loop-i-test.true).0)
+
+pub overflow_add-i : goal.overflow_add-i
+overflow_add-i c = omega (arith, c.well_formed, (walking_at (meaning c.args.table.now) c.args.symbols.now c.requires.state_in_bounds.1 _ _ _ _ c.loop-i.i c.loop-i.invariant.0 c.loop-i-test.true).0)
+
+pub word-number-requires : goal.word-number-requires
+word-number-requires c = (walking_at (meaning c.args.table.now) c.args.symbols.now c.requires.state_in_bounds.1 _ _ _ _ c.loop-i.i c.loop-i.invariant.0 c.loop-i-test.true).0
+
+pub overflow_mul-row : goal.overflow_mul-row
+overflow_mul-row c = omega (arith, row_inside (meaning c.args.table.now) (fits c.args.table.now c.requires.table_value) c.word-kind.result c.word-number.result (walking_symbol (meaning c.args.table.now) c.args.symbols.now c.requires.state_in_bounds.1 _ _ _ _ c.loop-i.i c.loop-i.invariant.0 c.loop-i-test.true _ _ c.word-kind.ensures.0 c.word-number.ensures.0))
+
+pub overflow_add-row : goal.overflow_add-row
+overflow_add-row c = omega (arith, row_inside (meaning c.args.table.now) (fits c.args.table.now c.requires.table_value) c.word-kind.result c.word-number.result (walking_symbol (meaning c.args.table.now) c.args.symbols.now c.requires.state_in_bounds.1 _ _ _ _ c.loop-i.i c.loop-i.invariant.0 c.loop-i-test.true _ _ c.word-kind.ensures.0 c.word-number.ensures.0))
+
+pub loop-i-smaller-then-repeats : goal.loop-i-smaller-then-repeats
+loop-i-smaller-then-repeats c = omega (arith, c.loop-i-test.true)
+
+pub loop-i-preserved-then-repeats : goal.loop-i-preserved-then-repeats
+loop-i-preserved-then-repeats c = let same = c.repeats.ensures c.if-repeats.true in
+    let symbol = walking_symbol (meaning c.args.table.now) c.args.symbols.now c.requires.state_in_bounds.1 _ _ _ _ c.loop-i.i c.loop-i.invariant.0 c.loop-i-test.true _ _ c.word-kind.ensures.0 c.word-number.ensures.0 in (
+      walking_more (meaning c.args.table.now) c.args.symbols.now c.requires.state_in_bounds.1 _ _ _ _ c.loop-i.i c.loop-i.invariant.0 c.loop-i-test.true _ _ _ _ c.word-kind.ensures.0 c.word-number.ensures.0
+          (step_again (meaning c.args.table.now) _ _ _ _ _ c.loop-i.invariant.1 _ _ symbol same.0 same.1 same.2),
+      c.loop-i.invariant.1,
+    )
+
+pub step-next-requires : goal.step-next-requires
+step-next-requires c = record { table_value = c.requires.table_value; number_value = walking_symbol (meaning c.args.table.now) c.args.symbols.now c.requires.state_in_bounds.1 _ _ _ _ c.loop-i.i c.loop-i.invariant.0 c.loop-i-test.true _ _ c.word-kind.ensures.0 c.word-number.ensures.0 }
+
+pub loop-i-smaller : goal.loop-i-smaller
+loop-i-smaller c = omega (arith, c.loop-i-test.true)
+
+pub loop-i-preserved : goal.loop-i-preserved
+loop-i-preserved c = let symbol = walking_symbol (meaning c.args.table.now) c.args.symbols.now c.requires.state_in_bounds.1 _ _ _ _ c.loop-i.i c.loop-i.invariant.0 c.loop-i-test.true _ _ c.word-kind.ensures.0 c.word-number.ensures.0 in (
+      walking_more (meaning c.args.table.now) c.args.symbols.now c.requires.state_in_bounds.1 _ _ _ _ c.loop-i.i c.loop-i.invariant.0 c.loop-i-test.true _ _ _ _ c.word-kind.ensures.0 c.word-number.ensures.0 c.step-next.ensures,
+      step-made (meaning c.args.table.now) (fits c.args.table.now c.requires.table_value) _ _ symbol _ _ _ _ c.step-next.ensures,
+    )
+
+pub returns : goal.returns
+returns c = traced (meaning c.args.table.now) (fits c.args.table.now c.requires.table_value) c.args.state c.requires.state_in_bounds.0 _ _ _ _ _ c.of-found.ensures (walking_done (meaning c.args.table.now) c.args.symbols.now c.requires.state_in_bounds.1 _ _ _ _ c.loop-i.i c.loop-i.invariant.0 (omega (arith, c.loop-i-test.false)))

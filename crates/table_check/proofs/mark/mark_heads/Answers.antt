@@ -1,0 +1,36 @@
+use native.Mathlib.Omega.{arith}
+use Prim.Native.Nat.{◌-◌}
+use mathlib.Core.Path.{◌≡◌, refl, ◌∙◌}
+use mathlib.Core.Logic.{⊎_elim}
+use Rattle.table.proofs.Reached.{loose-named}
+use Rattle.table_check.proofs.Sizes.{room, word_in}
+use Rattle.table_check.proofs.Passed.{tested, none_yet, head-yes, head_no}
+use Rattle.table_check.proofs.mark.mark_heads.Goals as goal
+use Rattle.table_check.proofs.mark.mark_heads.Goals.{then-names, else-names}
+
+pub loop-i-init : goal.loop-i-init
+loop-i-init c = (omega arith, (refl, none_yet _ c.requires.n_bound.1.1))
+
+pub word-x-requires : goal.word-x-requires
+word-x-requires c = let R = room _ c.requires.sized in
+    word_in R _ _ (omega (arith, c.requires, R.inside)) (omega (arith, c.requires))
+
+pub put-requires : goal.put-requires
+put-requires c = let N = loose-named _ _ _ (tested _ _ _ _ _ c.requires.from_value.0 c.requires.from_value.1 c.names.ensures c.if-names.true) in
+    omega (arith, N.early, c.loop-i.invariant.1.1.long)
+
+pub loop-i-preserved : goal.loop-i-preserved
+loop-i-preserved c = let inv = c.loop-i.invariant in
+    let P = inv.1.1 in
+    let x = c.word-x.result in
+    elim c.if-names.branch [
+      then-names w ↦ (omega arith, (rw w.marks-is (w.put.auto.words ∙ inv.1.0), rw (w.marks-is, w.put.ensures) (head-yes P x c.loop-i-test.true (omega arith) c.word-x.ensures.0 (tested _ _ _ _ _ c.requires.from_value.0 c.requires.from_value.1 c.names.ensures w.if-names.true))))
+      | else-names w ↦ (omega arith, (rw w.marks-is inv.1.0, rw w.marks-is (head_no P x c.word-x.ensures.0 (tested _ _ _ _ _ c.requires.from_value.0 c.requires.from_value.1 c.names.ensures w.if-names.false))))
+    ]
+
+pub shape_of-marks : goal.shape_of-marks
+shape_of-marks c = c.loop-i.invariant.1.0
+
+pub returns : goal.returns
+returns c = let e : c.loop-i.i ≡ c.args.n = omega arith in
+    rw e at c.loop-i.invariant.1.1

@@ -1,0 +1,31 @@
+use Rattle.std.proofs.Common.{◌≡◌, ℕ, ◌+◌, List, get_or, set, ap, arith}
+use Rattle.repr.specs.Packed.{productions_in}
+use Rattle.trace_graph.proofs.Fits.{value_small}
+use Rattle.trace_graph.proofs.Inserts.{Adding, graphed_count, insert_small, insert_there, insert-full, insert_low, insert-more}
+use Rattle.trace_graph.proofs.insert.Goals as goal
+use Rattle.trace_graph.proofs.insert.Goals.{After-find}
+
+adding : (c : After-find) → Adding c.args.grammar.now c.args.productions c.args.n c.args.graph.now c.args.ix.now c.args.edge c.word-count.result c.find.result
+adding c = record { packed = c.requires.packed; graph = c.requires.graphed; fits = c.requires.edge_value; count = c.word-count.ensures.0; found = c.find.ensures }
+
+pub bucket_of-bucket-requires : goal.bucket_of-bucket-requires
+bucket_of-bucket-requires c = let A = c.args in record { packed = c.requires.packed; small_edge = value_small A.grammar.now A.productions c.requires.packed A.n c.requires.graphed.nonterminals A.edge c.requires.edge_value }
+
+pub find-requires : goal.find-requires
+find-requires c = let A = c.args in record { packed = c.requires.packed; graphed = graphed_count A.n (productions_in A.grammar.now A.productions) A.graph.now A.ix.now c.word-count.result (get_or A.graph.now 0 0) c.word-count.ensures.0 c.requires.graphed; edge_value = c.requires.edge_value; bucket_value = c.bucket_of-bucket.ensures }
+
+pub returns-then-find : goal.returns-then-find
+returns-then-find c = record { added = λ _. insert_there (adding (goal.at.returns-then-find c).After-find) c.if-find.true; overfull = λ z. let q : ◌≡◌ {A = ℕ} 0 1 = cc in absurd (omega arith) }
+
+pub returns-then-count-eq-EDGES : goal.returns-then-count-eq-EDGES
+returns-then-count-eq-EDGES c = record { added = λ z. let q : ◌≡◌ {A = ℕ} 0 1 = cc in absurd (omega arith); overfull = λ _. insert-full (adding (goal.at.returns-then-count-eq-EDGES c).After-find) c.if-find.false c.if-count-eq-EDGES.true }
+
+pub write_edge-requires : goal.write_edge-requires
+write_edge-requires c = let A = adding (goal.at.write_edge-requires c).After-find in record { k_lt_edge_limit = (insert_low A c.if-find.false c.if-count-eq-EDGES.false, A.graph.long); small_edge = insert_small A }
+
+pub link-requires : goal.link-requires
+link-requires c = let A = adding (goal.at.link-requires c).After-find in
+    (A.graph.index.long, (insert_low A c.if-find.false c.if-count-eq-EDGES.false, c.bucket_of-bucket.ensures.1))
+
+pub returns : goal.returns
+returns c = record { added = λ _. insert-more (adding (goal.at.returns c).After-find) c.if-find.false c.if-count-eq-EDGES.false (ap (λ (l : List ℕ). set l 0 (c.word-count.result + 1)) c.write_edge.ensures) c.bucket_of-bucket.ensures c.link.ensures; overfull = λ z. let q : ◌≡◌ {A = ℕ} 0 1 = cc in absurd (omega arith) }

@@ -1,0 +1,8 @@
+use Rattle.yacc_lex.proofs.Runs.{stops_end, stops-byte}
+use Rattle.yacc_lex.proofs.stops_at.Goals as goal
+
+pub returns-then-text-at : goal.returns-then-text-at
+returns-then-text-at c = stops_end _ _ c.if-text-at.true
+
+pub returns : goal.returns
+returns c = stops-byte _ _ _ c.if-text-at.false c.goes_on.ensures
