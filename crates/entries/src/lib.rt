@@ -1,4 +1,7 @@
 // Classes in words: a token with its class, as choosing (part 9 of document 01) answers it by value.
+
+#![tactic(auto)]
+
 ghost use Rattle.std.specs.Prelude.{◌≡◌, [], ◌∷◌, ◌++◌, ◌*◌, ◌≤◌, ◌<◌, length, get_or, take, drop, eqb};
 ghost use Rattle.std.proofs.lemmas.List.Edits.{sets};
 ghost use Rattle.repr.specs.Sizes.{entry_room, entry_place, entries_room};

@@ -1,5 +1,5 @@
 -- Laws of the labels that are kept of a side's first examples (specs/Kept): what was put at k is read there; outlines and the labels of the others stay. Assumes nothing.
-use Rattle.std.proofs.Common.{◌≡◌, ℕ, suc, ◌+◌, ◌-◌, ◌<◌, ◌≤◌, eqb, ltb, List, [], ◌∷◌, length, get_or, take, drop, set, sym, refl, ap, ◌∙◌, arith, length-drop, length-set, length-take-le, get_or-drop, get_or-set_other, get_or-take, get_or-set_same, ext_get_or, ltb-false, ltb-true, eqb-true}
+use Rattle.std.proofs.Common.{◌≡◌, ℕ, suc, ◌+◌, ◌-◌, ◌<◌, ◌≤◌, eqb, ltb, List, [], ◌∷◌, length, get_or, take, drop, set, sym, refl, ◌∙◌, arith, length-drop, length-set, length-take-le, get_or-drop, get_or-set_other, get_or-take, get_or-set_same, ext_get_or, ltb-false, ltb-true, eqb-true}
 use borrow.Author.Tests.{eqb-false}
 use Rattle.repr.specs.Sizes.{labels_room, example_limit}
 use Rattle.repr.specs.Meaning.{Production}

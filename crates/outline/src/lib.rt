@@ -1,4 +1,7 @@
 // What is kept of an example while a conflict is judged (part 8 of document 01, request 06 of document 02): an outline, of a side's first examples the labels too, and the inline test on two kept labels.
+
+#![tactic(auto)]
+
 ghost use Rattle.std.specs.Prelude.{◌≡◌, ◌+◌, ◌*◌, ◌/◌, ◌%◌, ◌<◌, ◌≤◌, true, length, slice_index, slice_set};
 ghost use Rattle.repr.specs.Sizes.{nonterminal_limit, terminal_limit, index_limit, item_limit, labels_room, example_limit, example_room};
 ghost use Rattle.repr.specs.Lists.{joined};

@@ -1,0 +1,13 @@
+use Rattle.std.proofs.Common.{◌≡◌, ◌<◌, ◌≤◌, length, take}
+use Rattle.repr.specs.Packed.{productions_in}
+use Rattle.example.specs.Example.{prefixes}
+use Rattle.example.specs.Labels.{labels_in}
+use Rattle.example.specs.Written.{words_of}
+use Rattle.outline.specs.Outline.{print_limit, print_words}
+use Rattle.outline.proofs.print_prefixes.Given as goal
+
+abbrev pub invariant-loop-left : goal.invariant-loop-left
+invariant-loop-left l = (l.left ≤ length (labels_in l.labels)) × (l.mixed < print_limit) × (print_words l.mixed (words_of (prefixes (productions_in l.grammar l.productions) (take l.left (labels_in l.labels)))) ≡ print_words l.print (words_of (prefixes (productions_in l.grammar l.productions) (labels_in l.labels))))
+
+abbrev pub decreases-loop-left : goal.decreases-loop-left
+decreases-loop-left l = l.left

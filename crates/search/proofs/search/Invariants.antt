@@ -1,0 +1,20 @@
+use Rattle.std.specs.Prelude.{◌≡◌, ◌-◌, List, length}
+use Rattle.repr.specs.Sizes.{trial_limit}
+use Rattle.repr.specs.Meaning.{Item}
+use Rattle.repr.specs.Packed.{productions_in}
+use Rattle.trace_graph.specs.Graph.{TraceEdge}
+use Rattle.enumerator.specs.Advance.{set_of}
+use Rattle.view.specs.Steps.{CountedWalk}
+use Rattle.search.specs.Filter.{hands_by}
+use Rattle.search.specs.Given.{Searching}
+use Rattle.search.proofs.Turning.{Turn}
+use Rattle.search.proofs.search.Given as goal
+
+abbrev pub invariant-loop-lookahead : goal.invariant-loop-lookahead
+invariant-loop-lookahead l = ((es : List TraceEdge) (start : Item) → Searching (productions_in l.grammar l.productions) es l.owners l.codes l.sources l.older l.latest l.initial.words start
+    → Turn (hands_by l.terminals l.map (productions_in l.grammar l.productions) es (set_of l.lookahead)) (productions_in l.grammar l.productions) es l.owners l.codes l.sources l.older l.latest l.initial.words start l.count l.words l.made)
+    × (length l.counts ≡ 32)
+    × CountedWalk l.sources l.words l.counts
+
+abbrev pub decreases-loop-lookahead : goal.decreases-loop-lookahead
+decreases-loop-lookahead l = trial_limit - l.made
