@@ -12,7 +12,8 @@ case $file in
     *) programs="words explain" ;;
 esac
 for p in $programs; do
-    [ -x "target/bin/$p" ] || rt check $programs >&2
+    # (what it answers to no input is of no use)
+    [ -x "crates/$p/out/$p" ] || (cd "crates/$p" && rt run </dev/null >/dev/null) || [ -x "crates/$p/out/$p" ]
 done
 work=$(mktemp -d)
 trap 'rm -rf "$work"' EXIT
@@ -23,12 +24,12 @@ refused() { # what it wrote
     cat "$said" >&2
     exit 1
 }
-target/bin/"${programs%% *}" <"$file" >"$work/words" 2>"$said"
+"crates/${programs%% *}/out/${programs%% *}" <"$file" >"$work/words" 2>"$said"
 table=$work/words
 if [[ $programs == *states* ]]; then
     [[ $file != *.y ]] || refused "$work/words"
     table=$work/table
-    target/bin/states <"$work/words" >"$table" 2>>"$said"
+    crates/states/out/states <"$work/words" >"$table" 2>>"$said"
     refused "$table"
     # a record count of two bytes, records of eight, and nothing behind them
     records=$(od -An -tu2 -N2 "$table")
@@ -37,6 +38,6 @@ if [[ $programs == *states* ]]; then
         exit 0
     fi
 fi
-target/bin/explain <"$table" 2>>"$said"
+crates/explain/out/explain <"$table" 2>>"$said"
 cat "$said" >&2
 [ ! -s "$said" ]

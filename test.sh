@@ -1,14 +1,13 @@
 #!/usr/bin/env bash
-# The test command: layout, stored edits, `rt ci` (proves every crate from nothing, tries every must-fail edit, runs every program against its stored output), the arrays that classifying
-# reaches, the C entries, the tables.
+# The test command: stored edits, `rt ci` (layout, each crate proved from nothing, each must-fail edit, each program against its stored output), the arrays that classifying reaches, the C entries, the tables.
 # The last line is that of `rt ci`, 'N passed, 0 failed', held back until what comes after it has passed too; where anything fails it is another.
 set -euo pipefail
 cd "$(dirname "$0")"
 
-held=$(mktemp)
+work=$(mktemp -d)
 finish() {
     local status=$?
-    rm -f "$held" "$held.arrays"
+    rm -rf "$work"
     [ "$status" -eq 0 ] || echo "test.sh: FAILED"
 }
 trap finish EXIT
@@ -24,21 +23,26 @@ hold_back() {
     printf '%s\n' "$last" >"$1"
 }
 
-# rt waits for a whole batch of jobs before it begins the next: more jobs than processors leave fewer of them idle. A job takes up to 1 GB, so 8 at most.
-jobs=$((3 * $(nproc)))
-export RT_JOBS=${RT_JOBS:-$((jobs < 8 ? jobs : 8))}
-
-rt fmt --check
 tests/edits-stand.sh
-if ! rt ci | hold_back "$held"; then
-    cat "$held"
+status=0
+rt ci | tee "$work/said" | hold_back "$work/last" || status=$?
+if [ "$status" -ne 0 ]; then
+    cat "$work/last"
+    exit "$status"
+fi
+# `rt ci` passes over an edit that it cannot apply, compile or read; each must have been refused.
+edits=$(find crates -path '*/must-fail/*.edit' | wc -l)
+refused=$(sed -n 's/^rt: ok;.*must-fail edits: \([0-9]*\) refused.*/\1/p' "$work/said")
+bad=$(sed -n 's/^rt: ok;.*, \([0-9]*\) bad[;, ].*/\1/p' "$work/said")
+if [ "${bad:-0}" -ne 0 ] || [ "${refused:-0}" -ne "$edits" ]; then
+    echo "test.sh: of $edits must-fail edits ${refused:-0} were refused, ${bad:-0} are bad"
     exit 1
 fi
 tests/arrays.py --selftest
-tests/arrays.py >"$held.arrays" || { cat "$held.arrays"; exit 1; }
-tail -n 1 "$held.arrays"
-rt staticlib lihvemur
-cc -std=c11 -Wall -Wextra -Werror -Iinclude tests/c/entries.c target/staticlib/liblihvemur.a -o target/c-entries
-target/c-entries
+tests/arrays.py >"$work/arrays" || { cat "$work/arrays"; exit 1; }
+tail -n 1 "$work/arrays"
+./library.sh --after-ci "$work" >"$work/library" 2>&1 || { cat "$work/library"; exit 1; }
+cc -std=c11 -Wall -Wextra -Werror -Iinclude tests/c/entries.c "$work/liblihvemur.a" -o "$work/c-entries"
+"$work/c-entries"
 tables/check.sh
-cat "$held"
+cat "$work/last"

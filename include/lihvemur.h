@@ -1,4 +1,4 @@
-/* Lihvemur: the exported entries of the static library (rt staticlib lihvemur: target/staticlib/liblihvemur.a). tests/c/entries.c calls each.
+/* Lihvemur: the exported entries of the static library (./library.sh: target/c/liblihvemur.a). tests/c/entries.c calls each.
  *
  * A list of words passes as a pointer and its number of words; a list of no words needs a pointer that is not null all the same.
  * Buffers lent to one call must not overlap: what a call may write (a list that is not const, a result) shares no byte with anything else that it is lent. No function keeps a pointer.

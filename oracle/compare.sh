@@ -8,9 +8,11 @@ seed=${1:-1}
 count=${2:-200}
 log=$(mktemp)
 trap 'rm -f "$log"' EXIT
-rt staticlib lihvemur
-rt check explain states replay
-PORT_LIB=target/staticlib sh oracle/build.sh
+./library.sh target/c
+for p in explain states replay; do
+    [ -x "crates/$p/out/$p" ] || (cd "crates/$p" && rt run </dev/null >/dev/null) || [ -x "crates/$p/out/$p" ]
+done
+PORT_LIB=target/c sh oracle/build.sh
 run() {
     "$@" >"$log" || { cat "$log"; exit 1; }
     cat "$log"
@@ -19,7 +21,7 @@ run() {
 passed=0
 run target/oracle/oracle marked
 run target/oracle/oracle compare all "$seed" "$count"
-run python3 oracle/explain.py target/oracle/oracle target/bin/explain "$seed" "$count" target/bin/states
+run python3 oracle/explain.py target/oracle/oracle crates/explain/out/explain "$seed" "$count" crates/states/out/states
 run sh oracle/bison.sh 0 1000 port
 run sh oracle/yacc.sh 0 1000
 sh oracle/sample.sh --check

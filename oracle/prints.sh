@@ -9,8 +9,7 @@ top=$(cd "$(dirname "$0")/.." && pwd)
 seeds=${1:-60}
 copy=$(mktemp -d)
 trap 'rm -rf "$copy"' EXIT
-cp -r "$top/crates" "$top/crates.txt" "$top/oracle" "$copy"
-[ ! -d "$top/target" ] || cp -r "$top/target" "$copy"
+cp -r "$top/crates" "$top/crates.txt" "$top/library.sh" "$top/oracle" "$copy"
 cd "$copy"
 
 # The last match is replaced; one that is missing ends the run.
@@ -20,18 +19,18 @@ put() { # FILE OLD NEW
 }
 
 weak() { # WHAT BASE, whose BASE was before
-    put crates/outline/specs/Outline.antt "printBase = $3" "printBase = $2"
+    put crates/outline/specs/Outline.antt "print_base = $3" "print_base = $2"
     put crates/outline/src/lib.rt "BASE: u64 = $3;" "BASE: u64 = $2;"
     echo "prints.sh: $1"
-    rt staticlib lihvemur | tail -n 1
-    PORT_LIB=$copy/target/staticlib sh oracle/build.sh | tail -n 1
+    ./library.sh target/c | tail -n 1
+    PORT_LIB=$copy/target/c sh oracle/build.sh | tail -n 1
     for words in marked "compare all 1 $seeds" "compare limit 1 14"; do
         # shellcheck disable=SC2086
         target/oracle/oracle $words | tail -n 1
     done
 }
 
-put crates/outline/specs/Outline.antt "symbolCode kind number = 64 * kind + number + 1" "symbolCode kind number = 0 * kind + 0 + 1"
+put crates/outline/specs/Outline.antt "symbol_code kind number = 64 * kind + number + 1" "symbol_code kind number = 0 * kind + 0 + 1"
 put crates/outline/src/lib.rt "(64 * kind + number + 1)" "(0 * kind + 0 + 1)"
 weak "all equal" 0 25173
 weak "equal where cursor and number of places add up alike" 1 0

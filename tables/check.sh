@@ -19,14 +19,14 @@ verdict() { # name, status
 
 # Words of standard input are explained as the file `expected` says, and nothing is said on standard error.
 explains() { # name
-    target/bin/explain <"$work/input" >"$work/output" 2>"$work/said"
+    crates/explain/out/explain <"$work/input" >"$work/output" 2>"$work/said"
     cmp -s "$work/output" "$work/expected" && [ ! -s "$work/said" ]
     verdict "$1" $?
 }
 
 # Text typed as a table, as words.
 typed() {
-    target/bin/words >"$work/input" 2>"$work/unread" && [ ! -s "$work/unread" ]
+    crates/words/out/words >"$work/input" 2>"$work/unread" && [ ! -s "$work/unread" ]
 }
 
 # Table B of document 01, its 96 words; a word may be put at a place.
@@ -43,7 +43,7 @@ done
 
 # Input through a program to output, nothing being said.
 through() { # program
-    "target/bin/$1" <"$work/input" >"$work/output" 2>"$work/said" && [ ! -s "$work/said" ]
+    "crates/$1/out/$1" <"$work/input" >"$work/output" 2>"$work/said" && [ ! -s "$work/said" ]
 }
 # Written afresh, a table is explained as before, and written again it stays; as text it is read back word for word, its conflicts too.
 for t in tables/*.txt; do
@@ -51,7 +51,7 @@ for t in tables/*.txt; do
     cp "$work/input" "$work/given"
     through text
     verdict "$t as text" $?
-    target/bin/words <"$work/output" | cmp -s - "$work/given"
+    crates/words/out/words <"$work/output" | cmp -s - "$work/given"
     verdict "$t as text, read back" $?
     through respell
     verdict "$t written afresh" $?
@@ -67,7 +67,7 @@ done
     echo '14 0 0 0  0 1 0 0  0 0 1 0  17 0 2 0  18 0 0 0  0 1 0 0  20 0 3 0  0 0 1 0  0 0 0 1  0 1 0 2  0 0 0 3  0 1 0 2  3 0 0 0 0'
 } | typed
 through respell
-target/bin/text <"$work/output" >"$work/expected"
+crates/text/out/text <"$work/output" >"$work/expected"
 typed <tables/table_b.txt
 through text
 cmp -s "$work/output" "$work/expected"
@@ -75,7 +75,7 @@ verdict "two layouts of table B, one text" $?
 
 # Refused: a line on standard error and nothing on standard output.
 refuses() { # program, refusal and place
-    "target/bin/$1" <"$work/input" >"$work/output" 2>"$work/said"
+    "crates/$1/out/$1" <"$work/input" >"$work/output" 2>"$work/said"
     echo "refused $2" | cmp -s - "$work/said" && [ ! -s "$work/output" ]
     verdict "$1 refused $2" $?
 }
@@ -134,7 +134,7 @@ empties() { # how many
         print 0
     }'
 }
-awk 'BEGIN { for (p = 64; p < 110; p++) for (q = p + 1; q < 110; q++) for (t = 0; t < 63; t++) print 0, p, 1, q, t }' | target/bin/words >"$work/expected"
+awk 'BEGIN { for (p = 64; p < 110; p++) for (q = p + 1; q < 110; q++) for (t = 0; t < 63; t++) print 0, p, 1, q, t }' | crates/words/out/words >"$work/expected"
 empties 46 | typed
 through states && tail -c "$(wc -c <"$work/expected")" "$work/output" | cmp -s - "$work/expected"
 verdict "65,205 conflicts" $?
@@ -181,7 +181,7 @@ rules 33 '' >"$work/input"
 refuses yacc '2 0'
 # Where a text leaves the grammar: line and column of the byte.
 strays() { # refusal, line, column, what is wrong
-    target/bin/yacc <"$work/input" >"$work/output" 2>"$work/said"
+    crates/yacc/out/yacc <"$work/input" >"$work/output" 2>"$work/said"
     printf 'refused %s 0\nline %s column %s: %s\n' "$1" "$2" "$3" "$4" | cmp -s - "$work/said" && [ ! -s "$work/output" ]
     verdict "yacc refused $1 at line $2 column $3" $?
 }
@@ -370,15 +370,15 @@ says() { # name, part of what is said
     grep -q "$2" "$work/said"
     verdict "$1" $?
 }
-target/bin/explain <"$work/one" >/dev/full 2>"$work/said"
+crates/explain/out/explain <"$work/one" >/dev/full 2>"$work/said"
 says "explain to a full device" 'standard output'
-target/bin/words <tables/table_b.txt >/dev/full 2>"$work/said"
+crates/words/out/words <tables/table_b.txt >/dev/full 2>"$work/said"
 says "words to a full device" 'standard output'
 # A program says that it cannot write the answer to the input, nor read a folder, of which it writes nothing.
 fails() { # program
-    "target/bin/$1" <"$work/input" >/dev/full 2>"$work/said"
+    "crates/$1/out/$1" <"$work/input" >/dev/full 2>"$work/said"
     says "$1 to a full device" 'standard output'
-    "target/bin/$1" <tables >"$work/output" 2>"$work/said"
+    "crates/$1/out/$1" <tables >"$work/output" 2>"$work/said"
     says "$1 of a folder" 'standard input'
     [ ! -s "$work/output" ]
     verdict "$1 of a folder, nothing written" $?
@@ -389,11 +389,11 @@ typed <tables/sum.grammar
 for p in states unyacc; do fails "$p"; done
 cp tables/sum.y "$work/input"
 fails yacc
-target/bin/explain <tables >"$work/output" 2>"$work/said"
+crates/explain/out/explain <tables >"$work/output" 2>"$work/said"
 says "explain of a folder" 'standard input'
 [ ! -s "$work/output" ]
 verdict "explain of a folder, nothing written" $?
-target/bin/words <tables >"$work/input" 2>"$work/said"
+crates/words/out/words <tables >"$work/input" 2>"$work/said"
 says "words of a folder" 'standard input'
 echo '0 refused 1 0' >"$work/expected"
 explains "words of a folder, explained"

@@ -1,4 +1,7 @@
 // A trace's edges, one word each (specs/Codes), with a flag for each key: whether an equal edge is there is one bit. From the words a graph's, eight an edge, or a view straight.
+
+#![tactic(auto)]
+
 ghost use Rattle.std.specs.Prelude.{◌≡◌, ℕ, ◌+◌, ◌*◌, ◌<◌, ◌≤◌, Bool, true, false, List, ◌++◌, length, drop, replicate, slice_index};
 ghost use Rattle.repr.specs.Sizes.{production_limit, index_limit, item_limit, edge_limit, edge_place, graph_room};
 ghost use Rattle.repr.specs.Meaning as meaning-of;

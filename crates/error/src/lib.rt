@@ -1,4 +1,7 @@
 // Conflicts and what is said of them (`ConflictClassification` of lr1/error/mod.rs), in numbers.
+
+#![tactic(auto)]
+
 use lookahead::TokenSet;
 use repr::{NonterminalString, ProductionIndex};
 use state_graph::StateIndex;

@@ -7,7 +7,7 @@ use native.Mathlib.Numerals.{one-add}
 use native.Mathlib.Omega.{arith}
 use lib.Dec.{eqb, ltb, eqb-zero-suc, eqb-suc-zero, eqb-suc-suc, leb-suc-suc}
 use lib.Pow.{shr-shr, pow_pos, pow_mono, pow-lt}
-use lib.Bits.{bit_and, bit_or, or_shr, and_shr, or_step, and_step, or_lt, and_le_l, and_le_r}
+use lib.Bits.{bit_and, bit_or, or_shr, and_shr, or_step, and_step, or_lt, and_le_l}
 use borrow.Author.Tests.{eqb-true, eq-eqb, ne_eqb, ltb-true, ltb-false, lt-ltb, le-ltb}
 use Rattle.repr.proofs.Lists.{cases, clash}
 use Rattle.lookahead.specs.Tokens.{has, single, union, meet, without, with, up_to}

@@ -12,11 +12,11 @@ use lib.Dec.{eqb, ltb}
 use lib.ListN.{length, get_or}
 use borrow.Author.Tests.{eqb-true, eqb-false, ne_eqb, ltb-true, ltb-false, lt-ltb}
 use Rattle.repr.specs.Lists.{up_from, below, mem, keep}
-use Rattle.repr.proofs.Lists.{cases, clash, length-up_from, get_d_up_from, mem_at, mem_index, mem-keep, mem-up_from, mem_below, mem-cons_here, keep-nil, keep-yes, keep_no, keep-none, keep_agree, length-keep, length-below}
+use Rattle.repr.proofs.Lists.{cases, length-up_from, get_d_up_from, mem_at, mem_index, mem-keep, mem-up_from, mem_below, mem-cons_here, keep-nil, keep-yes, keep_no, keep-none, keep_agree, length-keep, length-below}
 use Rattle.lookahead.specs.Tokens.{has, without, members}
 use Rattle.lookahead.specs.Iterated.{first_of_these, next_of}
 use Rattle.lookahead.specs.declared.NextToken.TheVariants.{Token, Done}
-use Rattle.lookahead.proofs.Laws.{has-none, has-below, has_lowest, has_half, has-without}
+use Rattle.lookahead.proofs.Laws.{has-none, has_lowest, has_half, has-without}
 
 -- which they are
 

@@ -1,14 +1,14 @@
 -- Laws of the sets of tokens of specs/Tokens: when two sets are the same, what a union adds, and one set within another. Assumes nothing.
 use mathlib.Core.Path.{◌≡◌, refl, sym, ap, ◌∙◌}
-use mathlib.Core.Bool.{true, false, not, or-true, or_assoc}
+use mathlib.Core.Bool.{false, or-true, or_assoc}
 use Prim.Native.Nat.{ℕ, suc, ◌/◌, ◌%◌, ◌≤◌, ◌<◌}
 use native.Mathlib.Omega.{arith}
 use lib.Dec.{eqb}
-use lib.Arith.{bin_ind, lt_of_le-ne}
-use lib.Bits.{and_le_r, or_add_and, or_self, or_comm, or_zero_l, or_zero_r, and_comm}
-use borrow.Author.Tests.{not-true, not-false, eqb-true, eqb-false}
+use lib.Arith.{bin_ind}
+use lib.Bits.{and_le_r, or_add_and, or_comm, or_zero_l, or_zero_r}
+use borrow.Author.Tests.{eqb-true, eqb-false}
 use Rattle.repr.proofs.Lists.{cases, clash}
-use Rattle.lookahead.specs.Tokens.{has, union, meet, Within}
+use Rattle.lookahead.specs.Tokens.{has, union, Within}
 use Rattle.lookahead.proofs.Laws.{has-none, has_lowest, has_half, has-union}
 
 digit_same : (x y : ℕ) → x < 2 → y < 2 → eqb x 1 ≡ eqb y 1 → x ≡ y

@@ -1,17 +1,17 @@
 -- Laws of an item's symbol sets (specs/Items), over a production's words. Assumes nothing.
-use Rattle.std.specs.Prelude.{◌≡◌, ℕ, zero, suc, ◌+◌, ◌-◌, ◌*◌, ◌<◌, ◌≤◌, Bool, true, false, eqb, List, [], ◌∷◌, ◌++◌, length, get_or, take, drop}
-use mathlib.Core.Path.{refl, sym, ap, ◌∙◌}
-use mathlib.Core.Option.{Option, none, some}
+use Rattle.std.specs.Prelude.{◌≡◌, ℕ, zero, suc, ◌+◌, ◌-◌, ◌*◌, ◌<◌, ◌≤◌, false, eqb, List, [], ◌∷◌, ◌++◌, length, get_or, take, drop}
+use mathlib.Core.Path.{refl, sym, ◌∙◌}
+use mathlib.Core.Option.{some}
 use native.Mathlib.Omega.{arith}
 use lib.ListN.{drop_of_length-le}
 use lib.Seq.{take_all, drop-drop, length-take-le}
 use Rattle.repr.specs.Sizes.{production_place}
-use Rattle.repr.specs.Meaning.{Symbol, nonterminal, terminal}
+use Rattle.repr.specs.Meaning.{Symbol}
 use Rattle.repr.specs.Listed.{symbol_of_kind, listed}
 use Rattle.repr.specs.Packed.{symbol_words, Packed}
 use Rattle.repr.proofs.Packed.{words_long}
 use Rattle.repr.proofs.Parts.{listed-take, listed-drop, listed_at, symbols_long, word_of}
-use Rattle.lr1_core.specs.Items.{Sets, no_sets, first, symbol_sets, counts, held, counts_of, is_nonterminal, shifts_nonterminal, sets_in}
+use Rattle.lr1_core.specs.Items.{no_sets, first, symbol_sets, counts, held, counts_of, is_nonterminal, shifts_nonterminal, sets_in}
 
 pub sets-none : (ws : List ℕ) → sets_in ws 0 0 0 ≡ no_sets
 unfolding sets_in first listed

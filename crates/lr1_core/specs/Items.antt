@@ -1,5 +1,5 @@
 -- What an item's place makes of its production's symbols, part 1 of document 01 (lr1/core). Assumes nothing: these are definitions.
-use Rattle.std.specs.Prelude.{ℕ, zero, suc, ◌+◌, ◌*◌, Bool, true, false, List, [], ◌∷◌, length, take, drop, ◌==◌}
+use Rattle.std.specs.Prelude.{ℕ, suc, ◌+◌, ◌*◌, Bool, false, List, [], ◌∷◌, length, take, drop, ◌==◌}
 use Rattle.std.proofs.Math.Option.{Option, none, some}
 use Rattle.repr.specs.Meaning.{Symbol, nonterminal, terminal}
 use Rattle.repr.specs.Listed.{listed}

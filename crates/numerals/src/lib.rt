@@ -1,4 +1,3 @@
 // Decimal numerals as bytes (specs/Numeral).
 
 #![tactic(auto)]
-

@@ -1,14 +1,11 @@
 -- Laws of the productions in words (specs/Packed). Assumes nothing.
-use mathlib.Core.Path.{◌≡◌, refl, sym, ap, ◌∙◌}
-use mathlib.Core.Bool.{true}
-use mathlib.Core.List.{List, [], ◌∷◌, map}
-use Prim.Native.Nat.{ℕ, zero, suc, ◌+◌, ◌-◌, ◌*◌, ◌≤◌, ◌<◌}
+use mathlib.Core.Path.{◌≡◌}
+use mathlib.Core.List.{List}
+use Prim.Native.Nat.{ℕ, ◌+◌, ◌-◌, ◌*◌, ◌<◌}
 use native.Mathlib.Omega.{arith}
 use lib.ListN.{length, get_or, take, drop, length-take, length-drop}
 use Rattle.repr.specs.Sizes.{production_place}
-use Rattle.repr.specs.Lists.{below}
-use Rattle.repr.specs.Meaning.{Production}
-use Rattle.repr.specs.Packed.{symbol_words, production_in, productions_in, Packed}
+use Rattle.repr.specs.Packed.{symbol_words, Packed}
 
 -- the part of the words that the code hands on
 pub words_part : (g : List ℕ) (p k from past : ℕ) → k ≡ get_or g (production_place p + 1) 0 → from ≡ production_place p + 4 → past ≡ from + 2 * k → take (past - from) (drop from g) ≡ symbol_words g p

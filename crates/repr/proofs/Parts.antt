@@ -1,17 +1,17 @@
 -- Laws of parts of a list of symbols in words (specs/Listed), and of a production's words (specs/Packed). Assumes nothing.
 use mathlib.Core.Path.{◌≡◌, refl, sym, ap, ◌∙◌}
-use mathlib.Core.Bool.{Bool, true, false}
-use mathlib.Core.List.{List, [], ◌∷◌, ◌++◌}
-use Prim.Native.Nat.{ℕ, zero, suc, ◌+◌, ◌-◌, ◌*◌, ◌≤◌, ◌<◌}
+use mathlib.Core.Bool.{true}
+use mathlib.Core.List.{List, [], ◌∷◌}
+use Prim.Native.Nat.{ℕ, zero, suc, ◌+◌, ◌*◌, ◌<◌}
 use native.Mathlib.Omega.{arith}
-use lib.ListN.{length, get_or, take, drop, drop_of_length-le}
-use lib.Seq.{take_all, take-take, drop-drop, drop-nil, take-nil, get_or-take, get_or-drop}
+use lib.ListN.{length, get_or, take, drop}
+use lib.Seq.{drop-nil, take-nil, get_or-take, get_or-drop}
 use Rattle.repr.specs.Sizes.{production_place}
 use Rattle.repr.specs.Meaning.{Symbol}
-use Rattle.repr.specs.Listed.{symbol_of_kind, listed, symbol_is_fit, list_is_fit}
+use Rattle.repr.specs.Listed.{symbol_of_kind, listed, list_is_fit}
 use Rattle.repr.specs.Packed.{symbol_words, Packed}
 use Rattle.repr.proofs.Packed.{words_long}
-use Rattle.repr.proofs.Listed.{listed-step, listed-none, fits_head}
+use Rattle.repr.proofs.Listed.{listed-step, fits_head}
 
 two_more : (j : ℕ) → 2 * suc j ≡ suc (suc (2 * j))
 two_more j = omega arith

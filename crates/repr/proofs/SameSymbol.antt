@@ -1,9 +1,6 @@
 -- `is_same_symbol` of specs/Meaning decides whether two symbols are equal. Assumes nothing.
 use mathlib.Core.Path.{◌≡◌, refl, sym, ap, ◌∙◌}
-use mathlib.Core.Bool.{Bool, true, false, true≢false}
-use mathlib.Core.Logic.{◌↔◌}
-use Prim.Native.Nat.{ℕ}
-use lib.Dec.{eqb}
+use mathlib.Core.Bool.{true, false, true≢false}
 use borrow.Author.Tests.{eqb-true, eq-eqb}
 use Rattle.repr.specs.Meaning.{Symbol, nonterminal, terminal, is_same_symbol}
 use Rattle.repr.proofs.Lists.{clash}

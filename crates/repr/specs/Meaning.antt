@@ -1,6 +1,6 @@
 -- What a table means: grammar/repr.rs's `Grammar` and `Production`, and the states with their items and edges, as plain lists.
 -- Everything above the table speaks of this and not of words. Assumes nothing: these are definitions.
-use Rattle.std.specs.Prelude.{ℕ, ◌+◌, ◌≤◌, ◌<◌, Bool, true, false, ◌≡◌, List, [], ◌∷◌, length, get_or, take, drop, eqb}
+use Rattle.std.specs.Prelude.{ℕ, ◌≤◌, ◌<◌, Bool, false, List, [], ◌∷◌, length, get_or, eqb}
 use Rattle.repr.specs.Sizes.{nonterminal_limit, terminal_limit, state_limit, production_limit, symbol_limit}
 
 -- `Symbol` of grammar/repr.rs

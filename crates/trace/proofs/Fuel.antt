@@ -23,6 +23,7 @@ use Rattle.trace.proofs.Grows.{Adds, grows_unentered, add_grows, enter-unentered
 pub listed-mem : (k : ℕ) (xs : List ℕ) → Memᴰ k xs → mem k xs ≡ true
 listed-mem k (x ∷ xs) (Memᴰ.head q) = ap (λ (j : ℕ). mem j (x ∷ xs)) q ∙ mem-cons_here x xs
 listed-mem k (x ∷ xs) (Memᴰ.tail m) = mem-cons_there k x xs (listed-mem k xs m)
+listed-mem k [] x' = elim x' [ ]
 
 -- two turns whose steps agree where fewer than k pairs are left
 pub turn_agree {ℓ} : {A : Type ℓ} (k : ℕ) (f g : A → Trace → Trace) → ((x : A) → Adds (f x)) → (xs : List A)

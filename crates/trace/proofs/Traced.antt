@@ -28,6 +28,7 @@ all-member {ℓ} : {A : Type ℓ} (P : A → Type 0) (x : A) (xs : List A) → M
 unfolding All
 all-member P x (y ∷ ys) (Memᴰ.head q) h = rw q h.0
 all-member P x (y ∷ ys) (Memᴰ.tail m) h = all-member P x ys m h.1
+all-member {A = A} P x [] x3 h = elim x3 [ ]
 
 -- a fact that each step keeps is kept by the turn
 pub turn-keeps {ℓ} : {A : Type ℓ} (P : Trace → Type 0) (f : A → Trace → Trace) (xs : List A)

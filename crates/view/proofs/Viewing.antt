@@ -121,7 +121,7 @@ module _ {es : List TraceEdge} {start : Item} {sources older latest : List ℕ} 
       go : (v : Node) → G.source e ≡ v → next_by sources older latest (e ∷ st) ≡ next G (at_item start) (e ∷ st)
       go (at_item i) q =
           next_item_lem sources older latest e st (W.viewed.sourced e T.0.inside ∙ ap source_of q ∙ source-item i) ∙ back_view (e ∷ st) E
-          ∙ sym (machine.next-item G (at_item start) e st i q)
+          ∙ sym (machine.next_item_lem G (at_item start) e st i q)
       go (at_nonterminal n) q =
           let w = W.viewed.sourced e T.0.inside ∙ ap source_of q ∙ source-nonterminal n in
           let l = W.small e n T.0.inside q in

@@ -1,4 +1,7 @@
 // A view of a trace graph (request 06): what a listing from one item asks of it, in five small lists, two of them for the labels; the machine that steps from trial to trial over it, in 34 words of a trial.
+
+#![tactic(auto)]
+
 ghost use Rattle.std.specs.Prelude.{◌≡◌, ◌<◌, length, get_or};
 
 use example::Example;

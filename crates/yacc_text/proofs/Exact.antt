@@ -1,12 +1,11 @@
 -- `parse` is exact: it finds the layout of every text of the grammar, and none else; so a text has one layout. Assumes nothing.
 use Prim.Native.Nat.{ℕ, ◌≤◌, ◌<◌}
 use native.Mathlib.Omega.{arith}
-use mathlib.Core.Bool.{Bool, true, false}
 use mathlib.Core.Path.{◌≡◌, refl, sym, ap, ◌∙◌}
-use mathlib.Core.List.{List, [], ◌∷◌}
+use mathlib.Core.List.{List}
 use mathlib.Core.Option.{Option, none, some}
 use lib.ListN.{length, get_or}
-use Rattle.yacc_text.specs.Grammar.{Piece, Token, File, one_start, tokens_of, spell_all, tokens_in, fits, Layout, spell, Sound, text_limit, byte_limit, IsText}
+use Rattle.yacc_text.specs.Grammar.{Piece, Token, File, spell_all, tokens_in, fits, Layout, spell, Sound, text_limit, byte_limit, IsText}
 use Rattle.yacc_text.specs.Lex.{lex}
 use Rattle.yacc_text.specs.Parse.{run, file_of, laid, parsed, parse}
 use Rattle.yacc_text.proofs.Lexing.{lex-complete, lex_sound}

@@ -3,8 +3,8 @@ use mathlib.Core.Bool.{Bool, true, false}
 use Prim.Native.Nat.{ℕ}
 use mathlib.Core.Path.{◌≡◌, refl}
 use mathlib.Core.List.{List, [], ◌∷◌, map}
-use mathlib.Core.Option.{Option, none, some}
-use Rattle.yacc_text.specs.Grammar.{Kind, blank, letter, digit, quote, percent, slash, colons, bars, semis, other, is_white_byte, is_letter_byte, is_digit_byte, kind_of, goes_on_byte, named, quoted, ident, token, start, mark, colon, bar, semi, white, comment, piece, rule, starts, tokens, no_start, one_start, tokens_in, slash_next, closes, literal_byte, stops, Layout}
+use mathlib.Core.Option.{none, some}
+use Rattle.yacc_text.specs.Grammar.{blank, letter, digit, quote, percent, slash, colons, bars, semis, other, is_white_byte, is_letter_byte, is_digit_byte, kind_of, goes_on_byte, named, quoted, ident, token, mark, colon, bar, semi, comment, piece, rule, tokens, no_start, one_start, tokens_in, slash_next, closes, literal_byte, stops}
 use Rattle.yacc_text.specs.Lex.{rest, run_of, past_run, strip, literal_if, next_literal, word_if, start_or, token_or, mark_or, longer, in_comment, comment_or, next_of, next, before, after, lex_steps, lex}
 use Rattle.yacc_text.specs.Parse.{left_side, marked, declared, begun, step, run, whole, file_of, laid, parsed, parse}
 

@@ -1,5 +1,5 @@
 use mathlib.Core.Path.{◌≡◌, refl}
-use Prim.Native.Nat.{◌-◌, ◌/◌}
+use Prim.Native.Nat.{◌/◌}
 use lib.ListN.{length, length-set}
 use Rattle.little.proofs.Laws.{turn_end, turn_again}
 use native.Mathlib.Omega.{arith}

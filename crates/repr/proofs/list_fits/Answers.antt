@@ -1,5 +1,4 @@
 use mathlib.Core.Path.{refl, sym, ◌∙◌}
-use Prim.Native.Nat.{◌-◌}
 use Rattle.repr.proofs.Listed.{fits-none, fits_half, fits-bad, fits_good}
 use native.Mathlib.Omega.{arith}
 use Rattle.repr.proofs.list_fits.Goals as goal

@@ -1,5 +1,4 @@
 use mathlib.Core.Path.{◌∙◌}
-use Prim.Native.Nat.{◌-◌}
 use lib.ListN.{length-set}
 use Rattle.slices.proofs.Insert.{shift_end, shift_more_lem, inserted_is}
 use native.Mathlib.Omega.{arith}

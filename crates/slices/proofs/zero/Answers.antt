@@ -1,6 +1,6 @@
 use mathlib.Core.Path.{refl, ap, ◌∙◌}
 use mathlib.Core.List.{List}
-use Prim.Native.Nat.{ℕ, ◌-◌}
+use Prim.Native.Nat.{ℕ}
 use lib.ListN.{set, length-set}
 use borrow.Author.Fill.{fill_more}
 use Rattle.slices.proofs.Lent.{zeroed_is}

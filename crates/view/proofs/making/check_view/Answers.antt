@@ -1,0 +1,97 @@
+use Prim.Native.Nat.{ℕ, ◌-◌}
+use native.Mathlib.Omega.{arith}
+use mathlib.Core.Path.{sym, ap, ◌∙◌}
+use mathlib.Core.Bool.{true≢false}
+use lib.ListN.{length, length-replicate}
+use Rattle.repr.specs.Packed.{productions_in}
+use Rattle.trace_graph.specs.Index.{index_room}
+use Rattle.trace_graph.proofs.Checks.{checked_first, checked_more, checked_all, graph_many, graph_bad}
+use Rattle.view.specs.View.{EdgeRanged}
+use Rattle.view.proofs.Made.{viewed_first, kept_long, making_more, view_made, ranged_of}
+use Rattle.view.proofs.Labelling.{labelling_first, labelling_more, labelling_made}
+use Rattle.view.proofs.making.check_view.Goals as goal
+
+pub word-count-requires : goal.word-count-requires
+word-count-requires c = omega (arith, c.requires.n_bound.1)
+
+pub returns-then-count-gt-EDGES : goal.returns-then-count-gt-EDGES
+returns-then-count-gt-EDGES c = let A = c.args in record { value = graph_many A.n (productions_in A.grammar.now A.productions) A.graph.now (omega (arith, c.if-count-gt-EDGES.true, c.word-count.ensures.0)); viewing = λ z. absurd (true≢false (sym z)) }
+
+pub loop-k-init : goal.loop-k-init
+loop-k-init c = let A = c.args in
+    (checked_first (productions_in A.grammar.now A.productions) A.n A.graph.now A.ix.now c.requires.n_bound.0 c.requires.n_bound.1 c.requires.ix_value, (omega arith, (labelling_first c.requires.owners_len.0 c.requires.owners_len.1, viewed_first c.requires.sources_value.0 c.requires.sources_value.1.0 c.requires.sources_value.1.1)))
+
+pub check_edge-requires : goal.check_edge-requires
+check_edge-requires c = record { packed = c.requires.packed; graphed = c.loop-k.invariant.0.good; k_lt_edge_limit = omega (arith, c.loop-k-test.true, c.if-count-gt-EDGES.false) }
+
+pub view_edge-requires : goal.view_edge-requires
+view_edge-requires c = let G = c.check_edge.ensures.graphed_2 c.if-check_edge.true in
+    let I = c.loop-k.invariant.1.1 in
+    let W = I.1.tidy in
+    let E : EdgeRanged (productions_in c.args.grammar.now c.args.productions) c.args.graph.now c.loop-k.k = record { nonterminals = c.args.n; few = c.requires.n_bound.0; fits = G.fits c.loop-k.k (omega arith) } in record { packed = c.requires.packed; k_lt_edge_limit = (omega (arith, G.few), G.long); edge_ranged = E; owners_len = (I.0.by_owner, I.0.by_code); sources_len = (W.by_source.long, (W.by_older.long, W.by_latest.long)) }
+
+pub overflow_add-k : goal.overflow_add-k
+overflow_add-k c = omega (arith, c.loop-k-test.true, c.word-count.ensures.1)
+
+pub loop-k-smaller : goal.loop-k-smaller
+loop-k-smaller c = omega (arith, c.loop-k-test.true)
+
+pub loop-k-preserved : goal.loop-k-preserved
+loop-k-preserved c = let A = c.args in
+    let k = c.loop-k.k in
+    let I = c.loop-k.invariant in
+    let G = c.check_edge.ensures.graphed_2 c.if-check_edge.true in
+    let E : EdgeRanged (productions_in A.grammar.now A.productions) A.graph.now k = record { nonterminals = A.n; few = c.requires.n_bound.0; fits = G.fits k (omega arith) } in (
+      checked_more A.n (productions_in A.grammar.now A.productions) A.graph.now c.loop-k.ix c.check_edge.new.ix k I.0 G c.check_edge.result c.check_edge.ensures.value c.if-check_edge.true,
+      (
+        omega (arith, c.loop-k-test.true),
+        (
+          labelling_more c.requires.packed E (omega (arith, c.loop-k-test.true, c.word-count.ensures.0)) (omega (arith, c.if-count-gt-EDGES.false, c.word-count.ensures.0)) I.1.1.0 c.view_edge.ensures.owners_after c.view_edge.ensures.codes_after,
+          making_more E (omega (arith, c.loop-k-test.true, c.word-count.ensures.0)) (omega (arith, c.if-count-gt-EDGES.false, c.word-count.ensures.0)) I.1.1.1 c.view_edge.ensures.sources_after c.view_edge.ensures.older_after c.view_edge.ensures.latest_after,
+        ),
+      ),
+    )
+
+pub shape_of-ix-else-check_edge : goal.shape_of-ix-else-check_edge
+shape_of-ix-else-check_edge c = c.check_edge.auto.ix ∙ c.loop-k.invariant.0.good.index.long ∙ sym (ap length c.requires.ix_value ∙ length-replicate {A = ℕ} index_room 0)
+
+pub shape_of-owners-else-check_edge : goal.shape_of-owners-else-check_edge
+shape_of-owners-else-check_edge c = c.loop-k.invariant.1.1.0.by_owner ∙ sym c.requires.owners_len.0
+
+pub shape_of-codes-else-check_edge : goal.shape_of-codes-else-check_edge
+shape_of-codes-else-check_edge c = c.loop-k.invariant.1.1.0.by_code ∙ sym c.requires.owners_len.1
+
+pub shape_of-sources-else-check_edge : goal.shape_of-sources-else-check_edge
+shape_of-sources-else-check_edge c = kept_long c.loop-k.invariant.1.1.1.tidy.by_source c.requires.sources_value.0
+
+pub shape_of-older-else-check_edge : goal.shape_of-older-else-check_edge
+shape_of-older-else-check_edge c = kept_long c.loop-k.invariant.1.1.1.tidy.by_older c.requires.sources_value.1.0
+
+pub shape_of-latest-else-check_edge : goal.shape_of-latest-else-check_edge
+shape_of-latest-else-check_edge c = kept_long c.loop-k.invariant.1.1.1.tidy.by_latest c.requires.sources_value.1.1
+
+pub returns-else-check_edge : goal.returns-else-check_edge
+returns-else-check_edge c = let A = c.args in record { value = graph_bad A.n (productions_in A.grammar.now A.productions) A.graph.now c.loop-k.k (omega (arith, c.loop-k-test.true, c.word-count.ensures.0)) c.check_edge.result c.check_edge.ensures.value c.if-check_edge.false; viewing = λ z. absurd (true≢false (sym z)) }
+
+pub shape_of-ix : goal.shape_of-ix
+shape_of-ix c = c.loop-k.invariant.0.good.index.long ∙ sym (ap length c.requires.ix_value ∙ length-replicate {A = ℕ} index_room 0)
+
+pub shape_of-owners : goal.shape_of-owners
+shape_of-owners c = c.loop-k.invariant.1.1.0.by_owner ∙ sym c.requires.owners_len.0
+
+pub shape_of-codes : goal.shape_of-codes
+shape_of-codes c = c.loop-k.invariant.1.1.0.by_code ∙ sym c.requires.owners_len.1
+
+pub shape_of-sources : goal.shape_of-sources
+shape_of-sources c = kept_long c.loop-k.invariant.1.1.1.tidy.by_source c.requires.sources_value.0
+
+pub shape_of-older : goal.shape_of-older
+shape_of-older c = kept_long c.loop-k.invariant.1.1.1.tidy.by_older c.requires.sources_value.1.0
+
+pub shape_of-latest : goal.shape_of-latest
+shape_of-latest c = kept_long c.loop-k.invariant.1.1.1.tidy.by_latest c.requires.sources_value.1.1
+
+pub returns : goal.returns
+returns c = let A = c.args in
+    let I = c.loop-k.invariant in
+    let w = checked_all A.n (productions_in A.grammar.now A.productions) A.graph.now c.loop-k.ix c.loop-k.k I.0 (omega (arith, I.1.0, c.loop-k-test.false, c.word-count.ensures.0)) in record { value = w.0; viewing = λ _. (view_made (ranged_of w.1) (omega (arith, I.1.0, c.loop-k-test.false, c.word-count.ensures.0)) I.1.1.1, labelling_made (ranged_of w.1) (omega (arith, I.1.0, c.loop-k-test.false, c.word-count.ensures.0)) I.1.1.0) }
