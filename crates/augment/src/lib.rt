@@ -1,4 +1,7 @@
 // A start production for a grammar (request 09): of a nonterminal that stands in no right side and has no other production (specs/Started).
+
+#![tactic(auto)]
+
 ghost use Rattle.std.specs.Prelude.{◌≡◌, true, [], ◌∷◌, ◌++◌, ◌+◌, ◌<◌};
 ghost use Rattle.repr.specs.Sizes.{nonterminal_limit, terminal_limit, production_limit};
 ghost use Rattle.repr.specs.Lists.{some?};

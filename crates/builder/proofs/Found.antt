@@ -194,7 +194,7 @@ module _ {T : Table} {room : ℕ} {g : List ℕ} {N t P f l : ℕ} {ws bs E es :
         items = items_in;
         edges = edges_in_lem;
         items_at = items_from_lem;
-        edges_at_lem = edges_from_lem;
+        edges_at = edges_from_lem;
       }
 
       pub full-answer : (out conflicts : List ℕ) {out' conflicts' : List ℕ} → out' ≡ in_front (spell table_found) out → conflicts' ≡ in_front (conflict_words T Rs) conflicts → (S : List ℕ)

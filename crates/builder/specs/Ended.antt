@@ -54,4 +54,4 @@ pub record Laid (U : Table) (g : List ℕ) (nonterminals terminals productions f
   pub items : ItemsIn U ws bs
   pub edges : EdgesIn U E es
   pub items_at : fixed + n ≡ items_place U
-  pub edges_at_lem : fixed + n + get_or bs n 0 ≡ edges_at U
+  pub edges_at : fixed + n + get_or bs n 0 ≡ edges_at U

@@ -1,4 +1,7 @@
 // Building the states of a grammar (request 01): all is found and measured before anything is written.
+
+#![tactic(auto)]
+
 ghost use Rattle.std.specs.Prelude.{◌≡◌, true, List, ℕ, ◌*◌, ◌/◌, ◌≤◌, length};
 ghost use Rattle.slices.specs.Lent.{in_front, zeroed};
 ghost use Rattle.repr.specs.Sizes.{record_limit};

@@ -242,7 +242,7 @@ module _ (t u : List ℕ) (A : Accepts t) (M : MovedTo t u) where
       let z = nonterminal_spare t A w.0 w.1 in
       rw w.2
       (or-none _ _ (unused u (1 + w.0) 1 (M.stays_one (1 + w.0) (omega (arith, w.1)) ∙ z.0))
-      (or-none _ _ (unused u (1 + w.0) 2 (M.Stays-two (1 + w.0) (omega (arith, w.1)) ∙ z.1)) (unused u (1 + w.0) 3 (M.stays_three (1 + w.0) (omega (arith, w.1)) ∙ z.2))))))
+      (or-none _ _ (unused u (1 + w.0) 2 (M.stays_two (1 + w.0) (omega (arith, w.1)) ∙ z.1)) (unused u (1 + w.0) 3 (M.stays_three (1 + w.0) (omega (arith, w.1)) ∙ z.2))))))
       (or-none _ _
       (and_when (is_state u r) _
       (λ e.
@@ -251,7 +251,7 @@ module _ (t u : List ℕ) (A : Accepts t) (M : MovedTo t u) where
       let b : state_area t + w.0 < loose t = omega (arith, w.1) in
       let z = state_spare t A (state_area t + w.0) b (state_place t w.0 w.1) in
       rw w.2
-      (or-none _ _ (unused u (state_area t + w.0) 2 (M.Stays-two (state_area t + w.0) b ∙ z.0)) (unused u (state_area t + w.0) 3 (M.stays_three (state_area t + w.0) b ∙ z.1)))))
+      (or-none _ _ (unused u (state_area t + w.0) 2 (M.stays_two (state_area t + w.0) b ∙ z.0)) (unused u (state_area t + w.0) 3 (M.stays_three (state_area t + w.0) b ∙ z.1)))))
       (and_when (as_symbol u r || as_item u r) _
       (or-which (as_symbol u r) (as_item u r)
       (λ e.

@@ -33,7 +33,7 @@ module _ (t u : List ℕ) (A : Accepts t) (M : MovedTo t u) where
   same_terminals = let l = areas_of t in M.stays_one 0 (omega arith)
 
   pub same_states : states u ≡ states t
-  same_states = let l = areas_of t in M.Stays-two 0 (omega arith)
+  same_states = let l = areas_of t in M.stays_two 0 (omega arith)
 
   pub same_productions : productions u ≡ productions t
   same_productions = let l = areas_of t in M.stays_three 0 (omega arith)

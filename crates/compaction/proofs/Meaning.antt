@@ -110,7 +110,7 @@ module _ (t u : List ℕ) (A : Accepts t) (M : MovedTo t u) where
   unfolding production_of
   production_same p h =
       let l = areas_of t in
-      rw (owner_same p, symbols_same p h, same_production-area t u A M, M.Stays-two (production_area t + p) (omega arith), M.stays_three (production_area t + p) (omega arith))
+      rw (owner_same p, symbols_same p h, same_production-area t u A M, M.stays_two (production_area t + p) (omega arith), M.stays_three (production_area t + p) (omega arith))
 
   pub moved-meaning : meaning u ≡ meaning t
   unfolding meaning

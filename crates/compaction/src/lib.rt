@@ -1,4 +1,7 @@
 // Takes back the records of a table that no chain reaches, in place (specs/Compaction, specs/Outcome).
+
+#![tactic(auto)]
+
 ghost use Rattle.std.specs.Prelude.{true, List, ◌≡◌, ℕ, ◌+◌, ◌*◌, ◌≤◌, ◌<◌, length, get_or, replicate};
 ghost use Rattle.repr.specs.Sizes.{record_limit};
 ghost use Rattle.table.specs.Words.{word_at, records, loose};

@@ -1,4 +1,7 @@
 // The list of conflicts: those of all states, five words each (`conflict_words` of specs/Built of build).
+
+#![tactic(auto)]
+
 ghost use Rattle.std.specs.Prelude.{◌≡◌, ◌+◌, ◌≤◌, ◌<◌, length};
 ghost use Rattle.slices.specs.Lent.{in_front};
 ghost use Rattle.example.specs.Written.{put_at};

@@ -1,4 +1,7 @@
 // How many alternatives a yacc text has, how many symbols in all, and the first with too many (specs/Counted).
+
+#![tactic(auto)]
+
 ghost use Rattle.std.specs.Prelude.{◌≡◌, ◌+◌, ◌≤◌, ◌<◌, length};
 ghost use Rattle.yacc_text.specs.Grammar.{text_limit};
 ghost use Rattle.yacc_count.specs.Counted.{closed, tallied, counts_in, Roomy};

@@ -1,4 +1,7 @@
 // The ids of a yacc text entered and numbered in one pass over its tokens (specs/Ids).
+
+#![tactic(auto)]
+
 ghost use Rattle.std.specs.Prelude.{true, ◌≡◌, List, [], ◌∷◌, ℕ, ◌+◌, ◌≤◌, ◌<◌, length, get_or};
 ghost use Rattle.repr.specs.Lists.{joined};
 ghost use Rattle.yacc_text.specs.Grammar.{byte_limit, quoted};

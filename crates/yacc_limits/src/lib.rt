@@ -1,4 +1,7 @@
 // Refusals 2, 5 and 17 of a yacc text by its counts (specs/Limited; crate yacc_count, proofs/Limits).
+
+#![tactic(auto)]
+
 ghost use Rattle.std.specs.Prelude.{◌≡◌};
 ghost use Rattle.yacc_read.specs.Outcome.{counted_of};
 ghost use Rattle.yacc_limits.specs.Limited.{Meant, limited_of};

@@ -1,4 +1,7 @@
 // Refusal 21 of a yacc text whose ids are entered: an id of a body that is nowhere, a left side that is a token, a START id that is no left side (specs/Looked; crate yacc_read, specs/Outcome).
+
+#![tactic(auto)]
+
 ghost use Rattle.std.specs.Prelude.{true, false, ◌≡◌, List, ℕ, ◌+◌, ◌≤◌, ◌<◌, length};
 ghost use Rattle.std.proofs.Math.Option.{some};
 ghost use Rattle.yacc_text.specs.Grammar.{byte_limit, Layout};

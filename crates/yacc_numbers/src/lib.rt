@@ -1,4 +1,7 @@
 // Ids numbered by first occurrence: a word for each id, 0 or one more than its number (specs/Numbers).
+
+#![tactic(auto)]
+
 ghost use Rattle.std.specs.Prelude.{◌≡◌, ◌<◌, length};
 ghost use Rattle.yacc_numbers.specs.Numbers.{numbered, numbered_to};
 

@@ -1,4 +1,7 @@
 // The places of a yacc text whose ids are entered, and its start nonterminal (specs/Placed; crates yacc_enter, specs/Ids, and yacc_read, specs/Meaning).
+
+#![tactic(auto)]
+
 ghost use Rattle.std.specs.Prelude.{true, ◌≡◌, List, ℕ, ◌+◌, ◌≤◌, ◌<◌, length, set};
 ghost use Rattle.std.proofs.Math.Option.{some};
 ghost use Rattle.slices.specs.Lent.{in_front};

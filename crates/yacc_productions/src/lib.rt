@@ -1,4 +1,7 @@
 // The productions of a yacc text whose ids are entered, packed (specs/Readable, specs/Turn; crates yacc_read, specs/Meaning, and repr, specs/Packed).
+
+#![tactic(auto)]
+
 ghost use Rattle.std.specs.Prelude.{true, ◌≡◌, List, ℕ, ◌+◌, ◌≤◌, ◌<◌, length};
 ghost use Rattle.std.proofs.Math.Option.{some};
 ghost use Rattle.repr.specs.Sizes.{grammar_room};

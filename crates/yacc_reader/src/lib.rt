@@ -1,4 +1,7 @@
 // Reading a yacc text into a table with one empty state, whole (request 09): what is answered and left in the lent words is `read_of` (crate yacc_read, specs/Outcome).
+
+#![tactic(auto)]
+
 ghost use Rattle.std.specs.Prelude.{true, false, ◌≡◌, ◌≤◌, length};
 ghost use Rattle.std.proofs.Math.Option.{some};
 ghost use Rattle.yacc_text.specs.Grammar.{Layout, text_limit};

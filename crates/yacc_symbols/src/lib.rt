@@ -1,4 +1,7 @@
 // The symbols of the ids of a yacc text that are entered (specs/Symbols; crates yacc_enter, specs/Ids, and yacc_read, specs/Meaning).
+
+#![tactic(auto)]
+
 ghost use Rattle.std.specs.Prelude.{true, ◌≡◌, List, ℕ, ◌+◌, ◌≤◌, ◌<◌, length};
 ghost use Rattle.yacc_text.specs.Grammar.{byte_limit};
 ghost use Rattle.yacc_read.specs.Source.{Known, Source};

@@ -1,4 +1,7 @@
 // Whether some id of an alternative is one that it must not be, step by step (specs/Uses).
+
+#![tactic(auto)]
+
 ghost use Rattle.std.specs.Prelude.{◌≡◌};
 ghost use Rattle.yacc_uses.specs.Uses.{judged};
 

@@ -1,5 +1,7 @@
 // Writing a table's grammar as a yacc text (request 09): what is answered and left in the lent bytes (specs/Outcome).
 
+#![tactic(auto)]
+
 // Bytes written; or the refusal and its place.
 #[derive(Clone, Copy)]
 pub enum Writing {

@@ -1,4 +1,7 @@
 // Writing a table's grammar as a yacc text (request 09), in code. Bytes are put as far as there is room (specs/Wrote), so that the functions that write also count.
+
+#![tactic(auto)]
+
 ghost use Rattle.std.specs.Prelude.{◌≡◌, true, ◌∷◌, [], ◌+◌, ◌*◌, ◌≤◌, ◌<◌, length};
 ghost use Rattle.numerals.specs.Numeral.{numeral};
 ghost use Rattle.repr.specs.Sizes.{nonterminal_limit, terminal_limit, symbol_limit};

@@ -1,0 +1,25 @@
+use Prim.Native.Nat.{◌-◌}
+use Rattle.augment.proofs.Uses.{passing_found, passing_step, passing_end, passing_fits}
+use native.Mathlib.Omega.{arith}
+use Rattle.augment.proofs.stands_in.Goals as goal
+
+pub symbols-requires : goal.symbols-requires
+symbols-requires c = record { packed = c.requires; production_lt_productions = c.loop-p-test.true }
+
+pub is_among-requires : goal.is_among-requires
+is_among-requires c = passing_fits _ _ _ _ c.requires c.loop-p-test.true c.symbols.ensures
+
+pub returns-then-is_among : goal.returns-then-is_among
+returns-then-is_among c = passing_found _ _ _ _ c.requires c.loop-p.invariant c.loop-p-test.true _ _ c.symbols.ensures c.is_among.ensures c.if-is_among.true
+
+pub overflow_add-p : goal.overflow_add-p
+overflow_add-p c = omega (arith, c.loop-p-test.true, c.requires.few)
+
+pub loop-p-smaller : goal.loop-p-smaller
+loop-p-smaller c = omega (arith, c.loop-p-test.true)
+
+pub loop-p-preserved : goal.loop-p-preserved
+loop-p-preserved c = passing_step _ _ _ _ c.requires c.loop-p.invariant c.loop-p-test.true _ _ c.symbols.ensures c.is_among.ensures c.if-is_among.false
+
+pub returns : goal.returns
+returns c = passing_end _ _ _ _ c.requires c.loop-p.invariant c.loop-p-test.false
