@@ -1,4 +1,7 @@
 // Opening and stepping a listing by value, over an accepted table: part 6 of document 01 (`lr0_examples`, `lr1_examples` and the iteration of lr1/trace/trace_graph/mod.rs).
+
+#![tactic(auto)]
+
 ghost use Rattle.std.specs.Prelude.{◌≡◌, true, false, List, ◌++◌, ℕ, ◌+◌, ◌-◌, ◌≤◌, ◌<◌, length, get_or, replicate};
 ghost use Rattle.repr.specs.Sizes.{edge_limit, graph_room, scratch_words, trial_limit, example_room};
 ghost use Rattle.slices.specs.Lent.{in_front};

@@ -1,5 +1,5 @@
 -- The ways through a trace: refusals 9, 11 and 12, and the graph handed over. Assumes nothing.
-use Rattle.std.proofs.Common.{◌≡◌, ℕ, ◌+◌, ◌<◌, ◌≤◌, Bool, true, false, not, ◌&&◌, ltb, leb, List, ◌++◌, length, get_or, drop, sym, refl, ap, ◌∙◌, le-ltb, lt-ltb, le-leb}
+use Rattle.std.proofs.Common.{◌≡◌, ℕ, ◌<◌, ◌≤◌, Bool, true, false, not, ◌&&◌, ltb, leb, List, ◌++◌, length, get_or, drop, sym, refl, ap, ◌∙◌, le-ltb, lt-ltb, le-leb}
 use borrow.Author.Tests.{lt-leb}
 use Rattle.repr.specs.Sizes.{production_limit, edge_limit, edge_place, graph_room, scratch_words}
 use Rattle.slices.specs.Lent.{in_front, zeroed}

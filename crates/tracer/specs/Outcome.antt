@@ -1,5 +1,5 @@
 -- What `backtrace_shift` and `backtrace_reduce` answer and leave: answer, graph words, scratch words. Assumes nothing: these are definitions.
-use Rattle.std.specs.Prelude.{ℕ, Bool, true, false, ◌&&◌, List, length, nat_le, nat_lt}
+use Rattle.std.specs.Prelude.{ℕ, true, false, ◌&&◌, List, length, nat_le, nat_lt}
 use Rattle.repr.specs.Sizes.{edge_limit, graph_room, scratch_words}
 use Rattle.slices.specs.Lent.{in_front, zeroed}
 use Rattle.repr.specs.Meaning.{Item, Table}

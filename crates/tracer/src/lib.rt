@@ -1,4 +1,7 @@
 // Whole traces (`Tracer` of lr1/trace/mod.rs) over an accepted table: edges of one word, and at the end a graph's words.
+
+#![tactic(auto)]
+
 pub mod edges;
 pub mod reduce;
 pub mod shift;

@@ -1,0 +1,11 @@
+use Rattle.lister.proofs.Ends.{item-other, item_index, item-number}
+use Rattle.lister.proofs.is_item.Goals as goal
+
+pub returns-then-node-eq0 : goal.returns-then-node-eq0
+returns-then-node-eq0 c = item-other c.read_node-node.result _ c.read_node-node.ensures.0 _ _ c.if-node-eq0.true
+
+pub returns-then-production-node : goal.returns-then-production-node
+returns-then-production-node c = item_index c.read_node-node.result _ c.read_node-node.ensures.0 _ _ c.if-node-eq0.false c.if-production-node.true
+
+pub returns : goal.returns
+returns c = item-number c.read_node-node.result _ c.read_node-node.ensures.0 _ _ c.if-node-eq0.false c.if-production-node.false

@@ -1,0 +1,12 @@
+use Rattle.std.proofs.Common.{arith}
+use Rattle.tracer.proofs.Exchanging.{listed-over, turned}
+use Rattle.tracer.proofs.tails.list_tail.Goals as goal
+
+pub relist-requires : goal.relist-requires
+relist-requires c = record { by_index = c.requires.by_index; records_len = (omega arith, omega arith, c.requires.two_tails.other_usable) }
+
+pub returns-then-not-relist : goal.returns-then-not-relist
+returns-then-not-relist c = listed-over _ _ _ _ _ _ _ c.requires.two_tails c.relist.auto.records c.relist.auto.links c.relist.ensures
+
+pub returns : goal.returns
+returns c = turned _ _ _ _ _ (listed-over _ _ _ _ _ _ _ c.requires.two_tails c.relist.auto.records c.relist.auto.links c.relist.ensures) _ _ _ _ c.exchange.ensures.0 c.exchange-2.ensures.0 c.exchange.ensures.1 c.exchange-2.ensures.1
