@@ -35,8 +35,7 @@ fn class_values(class: Class) -> u64
 }
 
 // Class number, own values and trials are written only with answer 0.
-#[unsafe(no_mangle)]
-pub extern "C" fn lihvemur_classify(
+pub fn lihvemur_classify(
     table: &[u16],
     state: u16,
     production: u16,
@@ -78,8 +77,7 @@ pub extern "C" fn lihvemur_classify(
 }
 
 // Six words an entry at the front of `entries`, no other word changed. It is lent at least 384 words: else the refusal that no scratch gets, 1 to 11.
-#[unsafe(no_mangle)]
-pub extern "C" fn lihvemur_choose(
+pub fn lihvemur_choose(
     table: &[u16],
     state: u16,
     production: u16,
@@ -120,8 +118,7 @@ pub extern "C" fn lihvemur_choose(
 }
 
 // In which buffer the observed symbols lie, 0 the action's, 1 the reduce's, and behind `words` how many words they have there from word 3 on.
-#[unsafe(no_mangle)]
-pub extern "C" fn lihvemur_observed(action: &[u16], reduce: &[u16], words: &mut usize) -> u16
+pub fn lihvemur_observed(action: &[u16], reduce: &[u16], words: &mut usize) -> u16
     ensures { part_numbers result words.new ≡ observed_numbers (part_observed action.now reduce.now) }
 {
     match observed_part(action, reduce) {

@@ -22,8 +22,7 @@ fn lookahead_of(filtered: bool, set: u64) -> Lookahead
     Lookahead::Any
 }
 
-#[unsafe(no_mangle)]
-pub extern "C" fn lihvemur_lr0_examples(
+pub fn lihvemur_lr0_examples(
     table: &[u16],
     production: u16,
     index: u16,
@@ -44,8 +43,7 @@ pub extern "C" fn lihvemur_lr0_examples(
     }
 }
 
-#[unsafe(no_mangle)]
-pub extern "C" fn lihvemur_lr1_examples(
+pub fn lihvemur_lr1_examples(
     table: &[u16],
     production: u16,
     index: u16,
@@ -69,8 +67,7 @@ pub extern "C" fn lihvemur_lr1_examples(
 }
 
 // The next example: 0 with an example, 16 at the end, else the refusal. Count and openness are those of the listing after the call, whatever it answers.
-#[unsafe(no_mangle)]
-pub extern "C" fn lihvemur_advance(
+pub fn lihvemur_advance(
     table: &[u16],
     production: u16,
     index: u16,
@@ -114,8 +111,7 @@ pub extern "C" fn lihvemur_advance(
 }
 
 // A list of calls of `advance` on one listing; the number of calls made stands behind `made`.
-#[unsafe(no_mangle)]
-pub extern "C" fn lihvemur_examples(
+pub fn lihvemur_examples(
     table: &[u16],
     production: u16,
     index: u16,

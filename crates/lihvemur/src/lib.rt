@@ -1,4 +1,4 @@
-// The static library: the public surface for C and Rust. A slice passes as a pointer and a length; each function answers 0, or the refusal, whose place it
+// The public surface in numbers, for Rust, and through `lihvemur_c` for C. Each function answers 0, or the refusal, whose place it
 // writes behind `place`; a number behind another reference is written only with answer 0 (count and openness of a listing always). Lent graph and scratch words are left as the entry leaves them.
 pub mod conflicts;
 pub mod examples;
@@ -29,8 +29,7 @@ use tracer::Backtrace;
 use yacc_read::Reading;
 use yacc_write::Writing;
 
-#[unsafe(no_mangle)]
-pub extern "C" fn lihvemur_check(table: &[u16], place: &mut u16) -> u16
+pub fn lihvemur_check(table: &[u16], place: &mut u16) -> u16
     ensures { numbers result place.new ≡ check_numbers (check_of table.now) }
 {
     match lr1::check(table) {
@@ -45,13 +44,7 @@ pub extern "C" fn lihvemur_check(table: &[u16], place: &mut u16) -> u16
     }
 }
 
-#[unsafe(no_mangle)]
-pub extern "C" fn lihvemur_respell(
-    table: &[u16],
-    out: &mut [u16],
-    records: &mut u16,
-    place: &mut u16,
-) -> u16
+pub fn lihvemur_respell(table: &[u16], out: &mut [u16], records: &mut u16, place: &mut u16) -> u16
     ensures { spell_numbers result place.new records.new out.new ≡ respell_numbers records.old (respell_of table.now out.old) }
 {
     match lr1::respell(table, out) {
@@ -67,8 +60,7 @@ pub extern "C" fn lihvemur_respell(
     }
 }
 
-#[unsafe(no_mangle)]
-pub extern "C" fn lihvemur_compact(table: &mut [u16], records: &mut u16, place: &mut u16) -> u16
+pub fn lihvemur_compact(table: &mut [u16], records: &mut u16, place: &mut u16) -> u16
     ensures { spell_numbers result place.new records.new table.new ≡ compact_numbers records.old (compact_of table.old) }
 {
     match lr1::compact(table) {
@@ -85,8 +77,7 @@ pub extern "C" fn lihvemur_compact(table: &mut [u16], records: &mut u16, place: 
 }
 
 // The number of conflicts may pass 65,535, so it has 32 bits.
-#[unsafe(no_mangle)]
-pub extern "C" fn lihvemur_build_states(
+pub fn lihvemur_build_states(
     table: &[u16],
     start: u16,
     scratch: &mut [u16],
@@ -112,8 +103,7 @@ pub extern "C" fn lihvemur_build_states(
     }
 }
 
-#[unsafe(no_mangle)]
-pub extern "C" fn lihvemur_read_yacc(
+pub fn lihvemur_read_yacc(
     text: &[u8],
     table: &mut [u16],
     places: &mut [u16],
@@ -139,13 +129,7 @@ pub extern "C" fn lihvemur_read_yacc(
     }
 }
 
-#[unsafe(no_mangle)]
-pub extern "C" fn lihvemur_write_yacc(
-    table: &[u16],
-    text: &mut [u8],
-    bytes: &mut u16,
-    place: &mut u16,
-) -> u16
+pub fn lihvemur_write_yacc(table: &[u16], text: &mut [u8], bytes: &mut u16, place: &mut u16) -> u16
     ensures { write_numbers result place.new bytes.new text.new ≡ writing_numbers bytes.old (write_of table.now text.old) }
 {
     match lr1::write_yacc(table, text) {
@@ -161,8 +145,7 @@ pub extern "C" fn lihvemur_write_yacc(
     }
 }
 
-#[unsafe(no_mangle)]
-pub extern "C" fn lihvemur_first0(
+pub fn lihvemur_first0(
     table: &[u16],
     symbols: &[u16],
     set: &mut u64,
@@ -174,8 +157,7 @@ pub extern "C" fn lihvemur_first0(
     lihvemur_first0_joined(table, &symbols[..0], symbols, set, nullable, place)
 }
 
-#[unsafe(no_mangle)]
-pub extern "C" fn lihvemur_first0_joined(
+pub fn lihvemur_first0_joined(
     table: &[u16],
     xs: &[u16],
     ys: &[u16],
@@ -199,8 +181,7 @@ pub extern "C" fn lihvemur_first0_joined(
     }
 }
 
-#[unsafe(no_mangle)]
-pub extern "C" fn lihvemur_first1(
+pub fn lihvemur_first1(
     table: &[u16],
     lookahead: u64,
     symbols: &[u16],
@@ -222,8 +203,7 @@ pub extern "C" fn lihvemur_first1(
     }
 }
 
-#[unsafe(no_mangle)]
-pub extern "C" fn lihvemur_trace_back(
+pub fn lihvemur_trace_back(
     table: &[u16],
     state: u16,
     symbols: &[u16],
@@ -236,8 +216,7 @@ pub extern "C" fn lihvemur_trace_back(
     lihvemur_trace_back_joined(table, state, &symbols[..0], symbols, low, high, place)
 }
 
-#[unsafe(no_mangle)]
-pub extern "C" fn lihvemur_trace_back_joined(
+pub fn lihvemur_trace_back_joined(
     table: &[u16],
     state: u16,
     xs: &[u16],
@@ -263,8 +242,7 @@ pub extern "C" fn lihvemur_trace_back_joined(
 }
 
 // A node is kind (0 nonterminal, 1 item), its nonterminal or production, and 0 or the item's index; the label is the item at `index` of `production`.
-#[unsafe(no_mangle)]
-pub extern "C" fn lihvemur_add_edge(
+pub fn lihvemur_add_edge(
     table: &[u16],
     source_kind: u16,
     source: u16,
@@ -295,8 +273,7 @@ pub extern "C" fn lihvemur_add_edge(
     }
 }
 
-#[unsafe(no_mangle)]
-pub extern "C" fn lihvemur_backtrace_shift(
+pub fn lihvemur_backtrace_shift(
     table: &[u16],
     state: u16,
     production: u16,
@@ -322,8 +299,7 @@ pub extern "C" fn lihvemur_backtrace_shift(
     }
 }
 
-#[unsafe(no_mangle)]
-pub extern "C" fn lihvemur_backtrace_reduce(
+pub fn lihvemur_backtrace_reduce(
     table: &[u16],
     state: u16,
     production: u16,
