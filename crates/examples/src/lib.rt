@@ -1,4 +1,7 @@
 // What a conflict's two sides gather (`shift_examples`, `reduce_examples` of lr1/error/mod.rs), part 8 of document 01, with request 06 of document 02: of every example of each listing an outline, of the first the labels too (crate outline), in one pass; and one example of a side made again.
+
+#![tactic(auto)]
+
 ghost use Rattle.std.specs.Prelude.{◌≡◌, ℕ, ◌<◌, ◌≤◌, true, false, List, [], ◌++◌, length, drop, replicate, slice_index_or};
 ghost use Rattle.repr.specs.Sizes.{grammar_room, edge_limit, trial_limit, example_limit, example_room};
 ghost use Rattle.slices.specs.Lent.{in_front};

@@ -1,4 +1,7 @@
 // Opening a listing, and moving it on in place (part 6 of document 01). Every entry is total, refuses by document 01's table of refusals, and is equated with a definition.
+
+#![tactic(auto)]
+
 ghost use Rattle.std.specs.Prelude.{◌≡◌, [], ◌∷◌, min, ◌≤◌, ◌<◌, ◌%◌, ◌/◌, length, get_or, drop};
 ghost use Rattle.enumerator.specs.Advance.{outcome, open_of, advance_of};
 ghost use Rattle.enumerator.specs.declared.Lookahead.TheVariants.{Any, Set};

@@ -1,0 +1,17 @@
+use Rattle.std.specs.Prelude.{◌≡◌, List, length}
+use Rattle.repr.specs.Meaning.{Item}
+use Rattle.repr.specs.Packed.{productions_in}
+use Rattle.trace_graph.specs.Graph.{TraceEdge}
+use Rattle.enumerator.specs.Advance.{set_of}
+use Rattle.examples.specs.Listing.{Listable}
+use Rattle.examples.proofs.Walks.{Walk}
+use Rattle.examples.proofs.Seeking.{Seeks}
+use Rattle.examples.proofs.find_example.Given as goal
+
+abbrev pub invariant-loop-number : goal.invariant-loop-number
+invariant-loop-number l = (length l.words ≡ length l.initial.words)
+    × ((es : List TraceEdge) (start : Item) → Listable (productions_in l.grammar l.productions) es l.owners l.codes l.sources l.older l.latest start
+    → Walk l.terminals l.map (productions_in l.grammar l.productions) (set_of l.lookahead) es start l.words l.made × Seeks l.terminals l.map (productions_in l.grammar l.productions) (set_of l.lookahead) es start l.wanted l.left l.made)
+
+abbrev pub decreases-loop-number : goal.decreases-loop-number
+decreases-loop-number l = l.left

@@ -1,0 +1,11 @@
+use Rattle.std.specs.Prelude.{length}
+use Rattle.table.specs.Decoded.{meaning}
+use Rattle.shift_items.specs.Left.{items_left}
+use Rattle.examples.proofs.Shifts.{Turn}
+use Rattle.examples.proofs.shift_examples.Given as goal
+
+abbrev pub invariant-loop-place : goal.invariant-loop-place
+invariant-loop-place l = Turn (meaning l.table) l.state.0 l.token l.order l.productions l.initial.kept l.initial.prints l.kept l.prints l.total l.trials l.from
+
+abbrev pub decreases-loop-place : goal.decreases-loop-place
+decreases-loop-place l = length (items_left (meaning l.table) l.state.0 l.token l.order l.productions l.from)

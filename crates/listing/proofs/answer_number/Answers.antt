@@ -1,0 +1,14 @@
+use Rattle.listing.specs.CallList.{number_of_answer}
+use Rattle.listing.proofs.answer_number.Goals as goal
+
+pub returns-in-Example : goal.returns-in-Example
+unfolding number_of_answer
+returns-in-Example c = rw c.in-Example.is
+
+pub returns-in-End : goal.returns-in-End
+unfolding number_of_answer
+returns-in-End c = rw c.in-End.is
+
+pub returns-in-Refused : goal.returns-in-Refused
+unfolding number_of_answer
+returns-in-Refused c = rw c.in-Refused.is
