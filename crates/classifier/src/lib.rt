@@ -1,4 +1,7 @@
 // Classifying a conflict (`classify` of lr1/error/mod.rs) over an accepted table: part 8 of document 01, from 8,000 words (request 06 of document 02).
+
+#![tactic(auto)]
+
 ghost use Rattle.std.specs.Prelude.{◌≡◌, true, false, ◌&&◌, List, ℕ, ◌≤◌, ◌<◌, length, eqb};
 ghost use Rattle.repr.specs.Sizes.{classify_scratch, example_room};
 ghost use Rattle.slices.specs.Lent.{zeroed};

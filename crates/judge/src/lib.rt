@@ -1,4 +1,7 @@
 // The class of a conflict from what is kept of its examples (`classify` and the three `try_classify_` of lr1/error/mod.rs; part 8 of document 01, request 06 of document 02). Of either side the code has what is kept of the examples, their prints, and their order: of the action side `actions`, `action_prints`, `rows`, of the reduce side `reduces`, `reduce_prints`, `columns`.
+
+#![tactic(auto)]
+
 ghost use Rattle.std.specs.Prelude.{◌≡◌, true, false, List, ◌+◌, ◌≤◌, ◌<◌, length, get_or, take, drop};
 ghost use Rattle.repr.specs.Sizes.{example_room};
 ghost use Rattle.repr.specs.Meaning.{Table, Production, no_production, is_same_symbol};
@@ -350,7 +353,7 @@ fn reduce_ambiguity(
     second: usize,
 ) -> Judged
     requires { Packed grammar.now productions × (production < productions) × (other < productions) }
-    ensures { (xs ys : List Example) → x < length xs → y < length ys → first ≡ (judging.reductionAt (productions_in grammar.now productions) (nth xs x) 0).nonterminal → second ≡ (judging.reductionAt (productions_in grammar.now productions) (nth ys y) 0).nonterminal → Judges xs ys result (ambiguity_of_reduce (productions_in grammar.now productions) (get_or (productions_in grammar.now productions) production no_production) (get_or (productions_in grammar.now productions) other no_production) (pair_in xs ys x y)) }
+    ensures { (xs ys : List Example) → x < length xs → y < length ys → first ≡ (judging.reduction_at (productions_in grammar.now productions) (nth xs x) 0).nonterminal → second ≡ (judging.reduction_at (productions_in grammar.now productions) (nth ys y) 0).nonterminal → Judges xs ys result (ambiguity_of_reduce (productions_in grammar.now productions) (get_or (productions_in grammar.now productions) production no_production) (get_or (productions_in grammar.now productions) other no_production) (pair_in xs ys x y)) }
 {
     if first == second {
         let span = production * ProductionIndex::WORDS + 2;

@@ -14,7 +14,7 @@ use Rattle.repr.specs.Packed.{productions_in}
 use Rattle.table.specs.Decoded.{meaning}
 use Rattle.table.specs.declared.Checked.{Checked}
 use Rattle.table.specs.declared.Checked.TheVariants.{Accepted, Refused}
-use Rattle.first.specs.First.{FIRST, first0, first1, followed, sets_of_first}
+use Rattle.first.specs.First.{FIRST, first0, first1, sets_of_first}
 use Rattle.first.specs.declared.Answer.{Answer}
 use Rattle.state_graph.specs.Walk.{traced_back}
 use Rattle.lr1.specs.Entries.{overTable, symbols_fit, tokens_fit, first0_answer, first1_answer, states, refused, trace_back_answer}

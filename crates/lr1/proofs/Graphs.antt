@@ -4,7 +4,7 @@ use mathlib.Core.Bool.{Bool, true, false}
 use mathlib.Core.List.{List, [], ◌∷◌, ◌++◌}
 use Prim.Native.Nat.{ℕ, ◌+◌, ◌≤◌, ◌<◌}
 use native.Mathlib.Omega.{arith}
-use lib.ListN.{length, get_or, take, drop, take-append-drop, length-append, length-drop}
+use lib.ListN.{length, get_or, drop, take-append-drop, length-append, length-drop}
 use lib.Seq.{drop-drop}
 use lib.Dec.{leb}
 use borrow.Author.Tests.{le-leb, lt-leb}
@@ -25,12 +25,10 @@ use Rattle.trace_graph.specs.Values.{edge_is, value_fits}
 use Rattle.trace_graph.specs.Insert.{Graphed, with_one_more, add_words, Added, Overfull}
 use Rattle.trace_graph.proofs.Inserts.{add_there, add_new, words_there, words_new}
 use Rattle.trace_graph.proofs.Front.{edges_long, overfull_long, more-front}
-use Rattle.tracer.specs.declared.Backtrace.{Backtrace}
 use Rattle.tracer.specs.declared.Backtrace.TheVariants.{Refused as NoTrace}
 use Rattle.tracer.specs.Outcome.{Outcome, outcome, traced_in, trace_by}
 use Rattle.tracer.proofs.Words.{built, words_long}
 use Rattle.lr1.specs.Edges.{EdgeOutcome, edge_outcome, added_outcome, added_edge_in, add_edge_of}
-use Rattle.lr1.specs.declared.AddEdge.{AddEdge}
 use Rattle.lr1.specs.declared.AddEdge.TheVariants.{Edges, Refused}
 
 -- ---- the traces

@@ -2,7 +2,7 @@
 use mathlib.Core.Path.{◌≡◌, refl, sym, ap, ◌∙◌}
 use mathlib.Core.Bool.{Bool, true, false, ◌&&◌}
 use mathlib.Core.List.{List, [], ◌∷◌, ◌++◌}
-use Prim.Native.Nat.{ℕ, ◌*◌, ◌%◌, ◌<◌}
+use Prim.Native.Nat.{ℕ, ◌%◌, ◌<◌}
 use native.Mathlib.Omega.{arith}
 use lib.Dec.{ltb}
 use lib.ListN.{length}
@@ -10,7 +10,7 @@ use borrow.Author.Tests.{ltb-true, lt-ltb}
 use Rattle.repr.specs.Lists.{mem, joined}
 use Rattle.repr.specs.Meaning.{Symbol, Table}
 use Rattle.repr.specs.Listed.{listed}
-use Rattle.repr.proofs.Lists.{cases, mem-cons_here, mem-cons_there, joined_nil, joined_cons}
+use Rattle.repr.proofs.Lists.{mem-cons_here, mem-cons_there, joined_nil, joined_cons}
 use Rattle.repr.proofs.Listed.{and_left, and_right}
 use Rattle.repr.proofs.Parts.{length-listed}
 use Rattle.repr.proofs.Joined.{listed-append, fits-append}
@@ -24,9 +24,8 @@ use Rattle.first.proofs.Answers.{FIRST-nil, FIRST-append, join_answers_assoc, jo
 use Rattle.state_graph.specs.Walk.{traced_back, merged}
 use Rattle.state_graph.proofs.Exact.{mem_one, walk_inside}
 use Rattle.state_graph.proofs.Merged.{trace_append}
-use Rattle.lr1.specs.Entries.{overTable, symbols_fit, first0_answer, first0_of, Walk, states, refused, trace_back_answer, trace_back_of}
+use Rattle.lr1.specs.Entries.{overTable, symbols_fit, first0_answer, first0_of, states, refused, trace_back_answer, trace_back_of}
 use Rattle.lr1.specs.Joining.{Joining, EntriesJoin}
-use Rattle.lr1.specs.declared.First.{First}
 use Rattle.lr1.specs.declared.First.TheVariants.{Answered, Refused as NoAnswer}
 
 pub joining : (T : Table) → Joining T

@@ -1,8 +1,8 @@
 -- FIRST of a lent list by the public entries' own definitions is the textbook's, for every accepted table (part 2 of document 01). Assumes nothing.
-use mathlib.Core.Path.{◌≡◌, refl, sym, ap, ◌∙◌}
+use mathlib.Core.Path.{◌≡◌, sym, ap, ◌∙◌}
 use mathlib.Core.Bool.{Bool, true, false, ◌&&◌, not, and-true, and-false}
 use mathlib.Core.List.{List, [], ◌∷◌, Memᴰ}
-use mathlib.Core.Logic.{◌⊎◌, inl, inr, ◌↔◌}
+use mathlib.Core.Logic.{◌⊎◌, inl, inr}
 use Prim.Native.Nat.{ℕ, suc, ◌≤◌, ◌<◌}
 use native.Mathlib.Decide.{dec_lt}
 use native.Mathlib.Omega.{arith}
@@ -10,10 +10,10 @@ use lib.ListN.{length, get_or}
 use lib.Dec.{eqb}
 use borrow.Author.Tests.{lt-ltb, ne_eqb, eqb-false}
 use Rattle.repr.specs.Lists.{mem}
-use Rattle.repr.specs.Meaning.{Symbol, nonterminal, terminal, Production, no_production, Table, TableFits, SymbolFits, All}
+use Rattle.repr.specs.Meaning.{Symbol, terminal, Production, no_production, Table, TableFits, SymbolFits, All}
 use Rattle.repr.specs.Listed.{symbol_of_kind, listed, symbol_is_fit, list_is_fit}
 use Rattle.repr.proofs.Lists.{cases, clash, mem-nil}
-use Rattle.lookahead.specs.Tokens.{has, single, without}
+use Rattle.lookahead.specs.Tokens.{has, without}
 use Rattle.lookahead.proofs.Laws.{has-none, has-without, without_no}
 use Rattle.table.specs.Decoded.{meaning}
 use Rattle.table.specs.Refusals.{check_of}
@@ -115,6 +115,7 @@ module _ (t ws : List ℕ) (A : check_of t ≡ Accepted) (f : symbols_fit (meani
 member_at : (x : Production) (xs : List Production) → Memᴰ x xs → (i : ℕ) × (i < length xs) × (get_or xs i no_production ≡ x)
 member_at x (y ∷ ys) (Memᴰ.head q) = (0, omega arith, sym q)
 member_at x (y ∷ ys) (Memᴰ.tail m) = let r = member_at x ys m in (suc r.0, omega (arith, r.1), r.2)
+member_at x [] x'' = elim x'' [ ]
 
 none_owned : (t : List ℕ) → check_of t ≡ Accepted → (n : ℕ) → n < length (meaning t).nonterminals → get_or (meaning t).nonterminals n [] ≡ []
     → (p : Production) → Memᴰ p (meaning t).productions → p.nonterminal ≡ n → ⊥

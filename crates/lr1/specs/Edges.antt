@@ -1,5 +1,5 @@
 -- What `add_edge` answers and leaves (part 4 of document 01): answer and graph words. Assumes nothing: these are definitions.
-use Rattle.std.specs.Prelude.{ℕ, Bool, true, false, List, length, leb}
+use Rattle.std.specs.Prelude.{ℕ, true, false, List, length, leb}
 use Rattle.repr.specs.Sizes.{edge_limit, graph_room}
 use Rattle.slices.specs.Lent.{in_front}
 use Rattle.repr.specs.Meaning.{Table}

@@ -1,5 +1,8 @@
 // The public surface. Every entry is total, refuses by document 01's table of refusals, and is equated with a definition of specs/Entries, specs/Edges or the specs/Outcome of tracer, of spelling, of compaction, of builder, of yacc_read and of yacc_write.
 // Parameters: table, then numbers, then lent lists.
+
+#![tactic(auto)]
+
 ghost use Rattle.std.specs.Prelude.{◌≡◌, ◌++◌};
 ghost use Rattle.first.specs.First.{sets_of_first};
 ghost use Rattle.table.specs.Decoded.{meaning};

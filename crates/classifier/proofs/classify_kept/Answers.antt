@@ -1,0 +1,43 @@
+use mathlib.Core.Path.{sym, ◌∙◌}
+use Prim.Native.Nat.{ℕ}
+use lib.ListN.{length-replicate}
+use Rattle.repr.specs.Sizes.{example_limit}
+use Rattle.classifier.proofs.Ways.{no_action, no_reduce, side_sorts, side_long, side_ordered, side_picked, kept-judged}
+use native.Mathlib.Omega.{arith}
+use Rattle.classifier.proofs.classify_kept.Goals as goal
+
+pub returns-then-action_count-eq0 : goal.returns-then-action_count-eq0
+returns-then-action_count-eq0 c = λ xs ys K e f. no_action _ c.args.conflict _ _ xs ys (e ∙ c.if-action_count-eq0.true)
+
+pub returns-then-reduce_count-eq0 : goal.returns-then-reduce_count-eq0
+returns-then-reduce_count-eq0 c = λ xs ys K e f. no_reduce _ c.args.conflict _ _ xs ys (f ∙ c.if-reduce_count-eq0.true)
+
+pub sort_side-requires : goal.sort_side-requires
+sort_side-requires c = let P = c.requires.sides in let K = P.1.1.0 in let e = P.1.1.1.0 in side_sorts _ _ _ _ _ _ K.action _ e _ (length-replicate {A = ℕ} example_limit 0)
+
+pub sort_side-requires-2 : goal.sort_side-requires-2
+sort_side-requires-2 c = let P = c.requires.sides in let K = P.1.1.0 in let f = P.1.1.1.1 in side_sorts _ _ _ _ _ _ K.reduce _ f _ (length-replicate {A = ℕ} example_limit 0)
+
+pub slice_bounds-rows-end : goal.slice_bounds-rows-end
+slice_bounds-rows-end c = let P = c.requires.sides in let K = P.1.1.0 in let e = P.1.1.1.0 in let l = K.action.outlined.few in omega arith
+
+pub slice_bounds-judge-end : goal.slice_bounds-judge-end
+slice_bounds-judge-end c = let P = c.requires.sides in let K = P.1.1.0 in let e = P.1.1.1.0 in sym (side_long _ _ _ _ _ _ K.action _ e _ c.sort_side.ensures)
+
+pub slice_bounds-columns-end : goal.slice_bounds-columns-end
+slice_bounds-columns-end c = let P = c.requires.sides in let K = P.1.1.0 in let f = P.1.1.1.1 in let l = K.reduce.outlined.few in omega arith
+
+pub slice_bounds-judge-end-2 : goal.slice_bounds-judge-end-2
+slice_bounds-judge-end-2 c = let P = c.requires.sides in let K = P.1.1.0 in let f = P.1.1.1.1 in sym (side_long _ _ _ _ _ _ K.reduce _ f _ c.sort_side-2.ensures)
+
+pub judge-judged-requires : goal.judge-judged-requires
+judge-judged-requires c = let P = c.requires.sides in let K = P.1.1.0 in let e = P.1.1.1.0 in let f = P.1.1.1.1 in record { reads = c.requires.reads; sides = (P.0, (P.1.0, (K, ((side_ordered _ _ _ _ _ _ K.action _ e _ c.sort_side.ensures c.if-action_count-eq0.false), (side_ordered _ _ _ _ _ _ K.reduce _ f _ c.sort_side-2.ensures c.if-reduce_count-eq0.false))))) }
+
+pub show_action-requires : goal.show_action-requires
+show_action-requires c = let P = c.requires.sides in let K = P.1.1.0 in let e = P.1.1.1.0 in let f = P.1.1.1.1 in let J = c.judge-judged.ensures P.0 P.1.0 K (side_ordered _ _ _ _ _ _ K.action _ e _ c.sort_side.ensures c.if-action_count-eq0.false) (side_ordered _ _ _ _ _ _ K.reduce _ f _ c.sort_side-2.ensures c.if-reduce_count-eq0.false) in record { reads = c.requires.reads; side_kept = (P.0, (K.action, J.action)); example_room_in_bounds = c.requires.example_room_in_bounds.0 }
+
+pub show_reduce-requires : goal.show_reduce-requires
+show_reduce-requires c = let P = c.requires.sides in let K = P.1.1.0 in let e = P.1.1.1.0 in let f = P.1.1.1.1 in let J = c.judge-judged.ensures P.0 P.1.0 K (side_ordered _ _ _ _ _ _ K.action _ e _ c.sort_side.ensures c.if-action_count-eq0.false) (side_ordered _ _ _ _ _ _ K.reduce _ f _ c.sort_side-2.ensures c.if-reduce_count-eq0.false) in record { reads = c.requires.reads; side_kept = (P.1.0, (K.reduce, J.reduce)); example_room_in_bounds = c.requires.example_room_in_bounds.1 }
+
+pub returns : goal.returns
+returns c = λ xs ys K e f. let J = c.judge-judged.ensures xs ys K (side_ordered _ _ _ _ _ _ K.action _ e _ c.sort_side.ensures c.if-action_count-eq0.false) (side_ordered _ _ _ _ _ _ K.reduce _ f _ c.sort_side-2.ensures c.if-reduce_count-eq0.false) in kept-judged _ c.args.conflict xs ys _ _ _ _ _ _ _ J (side_picked _ _ _ _ _ _ K.action _ e _ c.sort_side.ensures) (side_picked _ _ _ _ _ _ K.reduce _ f _ c.sort_side-2.ensures) (c.show_action.ensures xs K.action J.action) (c.show_reduce.ensures ys K.reduce J.reduce)

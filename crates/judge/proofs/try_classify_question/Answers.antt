@@ -1,0 +1,17 @@
+use Rattle.judge.proofs.Ways.{question_left, question_many, question_none, question_one, question_right}
+use Rattle.judge.proofs.try_classify_question.Goals as goal
+
+pub returns-then-head-eq0 : goal.returns-then-head-eq0
+returns-then-head-eq0 c = question_none c.args.table.now c.args.grammar.now c.args.productions c.requires.table_value c.requires.grammar.0 c.args.nonterminal _ c.first_production-head.ensures.0 c.if-head-eq0.true
+
+pub returns-then-next-eq0 : goal.returns-then-next-eq0
+returns-then-next-eq0 c = question_one c.args.table.now c.args.grammar.now c.args.productions c.requires.table_value c.requires.grammar.0 c.args.nonterminal _ c.first_production-head.ensures.0 _ _ c.production-first.ensures.list c.if-next-eq0.true
+
+pub returns-then-second-ne0 : goal.returns-then-second-ne0
+returns-then-second-ne0 c = question_many c.args.table.now c.args.grammar.now c.args.productions c.requires.table_value c.requires.grammar.0 c.args.nonterminal _ c.first_production-head.ensures.0 _ _ c.production-first.ensures.list _ _ c.production-second.ensures.list c.if-second-ne0.true c.production-second.ensures.on
+
+pub returns-in-Symbol : goal.returns-in-Symbol
+returns-in-Symbol c = question_left c.args.table.now c.args.grammar.now c.args.productions c.requires.table_value c.requires.grammar.0 c.args.nonterminal _ c.first_production-head.ensures.0 _ _ c.production-first.ensures.list _ _ c.production-second.ensures.list c.if-second-ne0.false _ _ _ c.in-Symbol.is c.optional.ensures.0 c.optional.ensures.1
+
+pub returns-in-Nothing : goal.returns-in-Nothing
+returns-in-Nothing c = (question_right c.args.table.now c.args.grammar.now c.args.productions c.requires.table_value c.requires.grammar.0 c.args.nonterminal _ c.first_production-head.ensures.0 _ _ c.production-first.ensures.list _ _ c.production-second.ensures.list c.if-second-ne0.false _ _ c.in-Nothing.is c.optional.ensures.0 c.optional-in-Nothing.ensures.0, c.optional-in-Nothing.ensures.1)

@@ -1,0 +1,15 @@
+use mathlib.Core.Path.{sym, ◌∙◌}
+use Rattle.tracer.specs.Outcome.{reduce_of}
+use Rattle.lr1.proofs.Graphs.{trace_refused, trace_accepted}
+use Rattle.lr1.proofs.backtrace_reduce.Goals as goal
+
+pub reduce_in-requires : goal.reduce_in-requires
+reduce_in-requires c = sym c.check.ensures ∙ c.in-Accepted.is
+
+pub returns-in-Refused : goal.returns-in-Refused
+unfolding reduce_of
+returns-in-Refused c = trace_refused _ _ _ _ _ _ _ _ _ (sym c.check.ensures ∙ c.in-Refused.is)
+
+pub returns-in-Accepted : goal.returns-in-Accepted
+unfolding reduce_of
+returns-in-Accepted c = trace_accepted _ _ _ _ _ _ _ _ (sym c.check.ensures ∙ c.in-Accepted.is) c.reduce_in.ensures
