@@ -1,10 +1,10 @@
 -- Text put into bytes piece by piece (`Put` of specs/Lines). Assumes nothing.
-use Prim.Native.Nat.{ℕ, suc, ◌+◌, ◌*◌, ◌≤◌, ◌<◌}
+use Prim.Native.Nat.{ℕ, suc, ◌+◌, ◌≤◌, ◌<◌}
 use native.Mathlib.Nat.{add-zero}
 use native.Mathlib.Omega.{arith}
 use mathlib.Core.Path.{◌≡◌, refl, sym, ap, ◌∙◌, subst}
 use mathlib.Core.List.{List, [], ◌∷◌, ◌++◌, append_assoc, append-nil}
-use lib.ListN.{length, get_or, take, drop, set, length-set, length-append, length-take}
+use lib.ListN.{length, get_or, take, set, length-set, length-append, length-take}
 use lib.Seq.{take-suc, take-suc-set, take-length}
 use Rattle.lines.specs.Lines.{Put}
 

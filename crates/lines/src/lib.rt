@@ -1,7 +1,9 @@
 // The lines that the explaining program prints (document 01, its program run), from a conflict's outcome to bytes.
-ghost use Rattle.std.specs.Prelude.{◌≡◌, ◌++◌, ◌∷◌, [], ◌+◌, ◌*◌, ◌≤◌, ◌<◌, length, take, drop};
+#![tactic(auto)]
+
+ghost use Rattle.std.specs.Prelude.{◌≡◌, ◌++◌, ◌∷◌, [], ◌+◌, ◌*◌, ◌^◌, ◌≤◌, ◌<◌, length, take, drop};
 ghost use Rattle.repr.specs.Sizes.{reduction_limit, example_symbols, reduction_room};
-ghost use Rattle.numerals.specs.Numeral.{numeral};
+ghost use Rattle.numerals.specs.Numeral.{numeral, numeral_by};
 ghost use Rattle.error.specs.Numbers.{number_of_class, values_of_class, reading_of};
 ghost use Rattle.lines.specs.Lines.{Put, Whole, Shown, ReadingShown, symbol_text, reduction_text, symbol_texts, reduction_texts, counted, total_of_symbols, printed_length, example_line, own_text, refused_text, line_of_refusal, class_line, example_lines, lines_of};
 
@@ -33,14 +35,25 @@ pub fn put_text(out: &mut [u8], at: usize, text: &[u8]) -> usize
     at + n
 }
 
+// A number of at most so many digits.
+fn put_digits(out: &mut [u8], at: usize, n: u64, most: usize) -> usize
+    requires few { (0 < most) × (n < 10 ^ most) }
+    requires in_bounds { at + most ≤ length out.old }
+    ensures { Put out.old at (numeral_by most n) out.new result × (result ≤ at + most) }
+{
+    if n < 10 {
+        return put(out, at, b'0' + n as u8);
+    }
+    let next = put_digits(out, at, n / 10, most - 1);
+    put(out, next, b'0' + (n % 10) as u8)
+}
+
 // A number.
 fn put_number(out: &mut [u8], at: usize, n: u64) -> usize
     requires { at + 20 ≤ length out.old }
     ensures { Put out.old at (numeral n) out.new result × (result ≤ at + 20) }
 {
-    let mut text = [0u8; 20];
-    let k = io::decimal(n, &mut text);
-    put_text(out, at, &text[..k])
+    put_digits(out, at, n, 20)
 }
 
 // A byte, then a number: at most 21 bytes.

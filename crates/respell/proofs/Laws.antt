@@ -3,7 +3,7 @@ use mathlib.Core.Path.{◌≡◌, sym, ap, ◌∙◌}
 use mathlib.Core.List.{List}
 use Prim.Native.Nat.{ℕ, ◌≤◌}
 use Rattle.repr.specs.Sizes.{record_limit}
-use Rattle.spelling.specs.Outcome.{Outcome, respell_of}
+use Rattle.spelling.specs.Outcome.{respell_of}
 use Rattle.spelling.specs.declared.Respelled.{Respelled}
 use Rattle.spelling.specs.declared.Respelled.TheVariants.{Records}
 use Rattle.spelling.proofs.Wrote.{wrote}

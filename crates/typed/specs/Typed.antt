@@ -1,10 +1,9 @@
 -- A table typed as text, a line a record: its four words, then a comment that says what it is. Assumes nothing: these are definitions.
-use Rattle.std.specs.Prelude.{ℕ, ◌+◌, ◌-◌, ◌*◌, ◌≤◌, ◌<◌, Bool, true, false, ◌||◌, List, [], ◌∷◌, ◌++◌, length, get_or, take, drop, eqb, ltb}
+use Rattle.std.specs.Prelude.{ℕ, ◌+◌, ◌-◌, ◌*◌, ◌≤◌, ◌<◌, Bool, true, false, ◌||◌, List, [], ◌∷◌, ◌++◌, get_or, take, drop, eqb, ltb}
 use Rattle.repr.specs.Sizes.{production_place}
 use Rattle.repr.specs.Lists.{joined}
 use Rattle.repr.specs.Packed.{symbol_words}
 use Rattle.table.specs.Words.{word_at, state_area, production_area, loose}
-use Rattle.numerals.specs.Numeral.{numeral}
 use Rattle.lines.specs.Lines.{spaced, symbol_text, symbol_texts}
 use Rattle.typed.specs.declared.Roles.{Roles}
 

@@ -1,4 +1,7 @@
 // A table typed as text, a line a record (specs/Typed): its four words, then a comment that says what it is. The program `words` reads the numbers back.
+
+#![tactic(auto)]
+
 ghost use Rattle.std.specs.Prelude.{true, ◌≡◌, ◌+◌, ◌*◌, ◌≤◌, ◌<◌, length, take};
 ghost use Rattle.repr.specs.Lists.{joined};
 ghost use Rattle.repr.specs.Sizes.{record_limit};

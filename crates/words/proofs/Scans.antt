@@ -1,15 +1,15 @@
 -- The words of a text written as bytes: `scan_into`, which goes as the code does, tells what `scan` says. Assumes nothing.
-use Prim.Native.Nat.{ℕ, zero, suc, ◌+◌, ◌*◌, ◌/◌, ◌%◌, ◌≤◌, ◌<◌}
+use Prim.Native.Nat.{ℕ, suc, ◌+◌, ◌*◌, ◌/◌, ◌%◌, ◌≤◌, ◌<◌}
 use native.Mathlib.Nat.{add-zero}
 use native.Mathlib.Omega.{arith}
 use mathlib.Core.Path.{◌≡◌, refl, sym, ap, ◌∙◌, subst}
-use mathlib.Core.Bool.{Bool, true, false}
+use mathlib.Core.Bool.{true, false}
 use mathlib.Core.List.{List, [], ◌∷◌, ◌++◌, append_assoc, append-nil}
-use lib.ListN.{length, get_or, take, drop, set, length-set, drop_of_length-le, length-append}
+use lib.ListN.{length, get_or, take, drop, set, length-set, drop_of_length-le}
 use lib.Seq.{drop-cons, take-suc-set}
 use Rattle.words.specs.Text.{Reader, Step, goes, fails, step, Scan, reads, stops, with_words, scan}
 use Rattle.little.specs.Little.{encoded}
-use Rattle.words.specs.Bytes.{reader_of, fed_of, Near, in_bytes, Written, wrote, stopped, written_of, tell, put_words, step_into, scan_into}
+use Rattle.words.specs.Bytes.{reader_of, fed_of, Near, in_bytes, wrote, stopped, written_of, tell, put_words, step_into, scan_into}
 use Rattle.words.specs.declared.Reader.{Reader as Held}
 use Rattle.words.specs.declared.Turn.{Turn}
 use Rattle.words.specs.declared.Fed.{Fed}

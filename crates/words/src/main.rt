@@ -1,10 +1,12 @@
 // A table typed as text becomes words: reads numbers in decimal, white space between them and comments from `#` to the end of a line, and writes them as little-endian 16-bit words.
 // At a byte that cannot be read it says where that is on standard error, and writes one lone byte after the words before it, so that whatever reads them sees that they are cut; so it does where a read fails. A write that fails is said too, and ends the run.
+#![tactic(auto)]
+
 ghost use Rattle.std.specs.Prelude.{◌≡◌, ◌+◌, ◌*◌, ◌≤◌, ◌<◌, length};
 ghost use Rattle.words.specs.Text.{is_space_byte, digit, ended, line_begun, line_continued, step, goes, scan};
 ghost use Rattle.words.specs.Bytes.{Below, Near, reader_of, fed_of, written_of, step_into, tell, in_bytes};
 
-use libc::STDERR_FILENO;
+use std::io;
 use streams::{read, write};
 
 // Between two bytes: the place of the next one, the number that it may go on, and whether it stands in a number or in a comment.
@@ -205,58 +207,59 @@ fn words_of(start: Reader, bytes: &[u8], out: &mut [u8]) -> Turn
 }
 
 // Where a byte cannot be read.
-fn say_unreadable(line: u64, column: u64) {
-    io::write_all(STDERR_FILENO, b"line ");
-    io::print_decimal(STDERR_FILENO, line);
-    io::write_all(STDERR_FILENO, b" column ");
-    io::print_decimal(STDERR_FILENO, column);
-    io::write_all(STDERR_FILENO, b": cannot read this\n");
-    write(b"\0");
+fn say_unreadable<R: Print + Eprint>(rt: &R, line: u64, column: u64) {
+    let _ = eprintln!(rt; "line {line} column {column}: cannot read this");
+    write(rt, b"\0");
 }
 
 // The number at the very end.
-fn write_last(reader: Reader) {
+fn write_last<R: Print + Eprint>(rt: &R, reader: Reader) {
     let digits = reader.digits;
     if digits {
         let number = reader.number;
         let mut out = [0u8; 2];
         out[0] = (number % 256) as u8;
         out[1] = (number / 256) as u8;
-        write(&out[..2]);
+        write(rt, &out[..2]);
     }
 }
 
 // What follows a piece: its words written, then the next piece or the end.
-fn write_piece(turn: Turn, whole: bool, out: &[u8]) -> bool
+fn write_piece<R: Print + Eprint>(rt: &R, turn: Turn, whole: bool, out: &[u8]) -> bool
     requires { turn.place ≤ length out.now }
 {
     let n = turn.place;
     let next = turn.reader;
     let readable = turn.readable;
-    let went = write(&out[..n]);
+    let went = write(rt, &out[..n]);
     if went {} else {
         return false;
     }
     if readable {} else {
-        say_unreadable(next.line, next.column);
+        say_unreadable(rt, next.line, next.column);
         return false;
     }
     if whole {
         return true;
     }
-    write_last(next);
+    write_last(rt, next);
     false
 }
 
 // A piece of 65,536 bytes, or the rest.
-fn read_piece(reader: Reader, bytes: &mut [u8], out: &mut [u8]) -> Piece
+fn read_piece<R: io::Input + Print + Eprint>(
+    rt: &R,
+    reader: Reader,
+    bytes: &mut [u8],
+    out: &mut [u8],
+) -> Piece
     requires below { Below (reader_of reader) 9223372036854775808 }
     requires bytes_len { (length bytes.old ≡ 65536) × (131072 ≤ length out.old) }
     ensures { Near (reader_of reader) (reader_of result.reader) 65536 }
 {
-    let input = read(bytes);
+    let input = read(rt, bytes);
     if input.failed {
-        write(b"\0");
+        write(rt, b"\0");
         return Piece {
             more: false,
             reader: reader,
@@ -265,7 +268,7 @@ fn read_piece(reader: Reader, bytes: &mut [u8], out: &mut [u8]) -> Piece
     let got = input.got;
     let turn = words_of(reader, &bytes[..got], out);
     let next = turn.reader;
-    let more = write_piece(turn, got == 65536, out);
+    let more = write_piece(rt, turn, got == 65536, out);
     Piece {
         more: more,
         reader: next,
@@ -273,7 +276,7 @@ fn read_piece(reader: Reader, bytes: &mut [u8], out: &mut [u8]) -> Piece
 }
 
 // A loop has to end, so this one counts its pieces down from a number that no run uses up.
-fn main() {
+fn main(rt: HostRuntime) {
     let mut bytes = [0u8; 65536];
     let mut out = [0u8; 131072];
     let mut reader = Reader {
@@ -285,7 +288,7 @@ fn main() {
     };
     let mut pieces: u64 = 1099511627776;
     while pieces > 0 {
-        let piece = read_piece(reader, &mut bytes, &mut out);
+        let piece = read_piece(&rt, reader, &mut bytes, &mut out);
         let more = piece.more;
         if more {
             reader = piece.reader;

@@ -1,6 +1,5 @@
 -- What is read and what is written of it stands in the words that were lent; what is read can be given a start production. Assumes nothing.
-use mathlib.Core.Path.{◌≡◌, refl, sym, ap, ◌∙◌, subst}
-use mathlib.Core.Bool.{Bool, true, false}
+use mathlib.Core.Path.{◌≡◌, sym, ap, ◌∙◌, subst}
 use mathlib.Core.List.{List}
 use Prim.Native.Nat.{ℕ, ◌*◌, ◌/◌, ◌≤◌}
 use native.Mathlib.Omega.{arith}
@@ -18,7 +17,7 @@ use Rattle.spelling.specs.Spelled.{records_of}
 use Rattle.augment.specs.Started.{Outcome as Started, Startable, is_start_needed, full, started_in, started_of}
 use Rattle.augment.specs.declared.Started.{Started as Start}
 use Rattle.augment.specs.declared.Started.TheVariants.{Production, Refused}
-use Rattle.yacc_read.specs.Outcome.{Outcome, read_of}
+use Rattle.yacc_read.specs.Outcome.{read_of}
 use Rattle.yacc_read.specs.declared.Reading.{Reading}
 use Rattle.yacc_read.specs.declared.Reading.TheVariants.{Read}
 use Rattle.yacc_read.proofs.Read.{front_accepted}

@@ -1,6 +1,8 @@
 // Reads a yacc text (Req 09, docs/YACC.md) and writes its grammar as `states` reads it: record count, table words, the start production as one word more. Where the start nonterminal has more than one
 // production or stands in a right side, a nonterminal and a production that leads to it are added behind all others (crate augment).
 // A refusal is said in one line on standard error, and nothing is written; of 20 and 21 a second line says where. A read or a write that fails is said there too and ends the run.
+#![tactic(auto)]
+
 ghost use Rattle.std.specs.Prelude.{◌≡◌, ◌*◌, ◌≤◌, length};
 ghost use Rattle.repr.specs.Sizes.{record_limit};
 ghost use Rattle.table.specs.Decoded.{meaning};
@@ -8,7 +10,6 @@ ghost use Rattle.table.specs.Refusals.{check_of};
 ghost use Rattle.augment.specs.Started.{Startable};
 
 use augment::{Started, with_start};
-use libc::STDERR_FILENO;
 use pipe::{say_refused, write_records, write_words};
 use repr::{NonterminalString, ProductionIndex};
 use streams::read;
@@ -18,76 +19,86 @@ use yacc_reader::{misnamed_at, read_yacc};
 use yacc_stray::{place_of, stray};
 
 // Line and column of a byte of the text, and what is wrong there, on standard error.
-fn say_place(text: &[u8], at: usize, wrong: &[u8])
+fn say_place<R: Eprint>(rt: &R, text: &[u8], at: usize, wrong: &str)
     requires { (at ≤ length text.now) × (length text.now ≤ 65536) }
 {
     let place = place_of(text, at);
-    io::write_all(STDERR_FILENO, b"line ");
-    io::print_decimal(STDERR_FILENO, place.line as u64);
-    io::write_all(STDERR_FILENO, b" column ");
-    io::print_decimal(STDERR_FILENO, place.column as u64);
-    io::write_all(STDERR_FILENO, wrong);
+    let line = place.line;
+    let column = place.column;
+    let _ = eprintln!(rt; "line {line} column {column}: {wrong}");
 }
 
 // Where 20 is: no text has a byte 65,535.
-fn say_stray(text: &[u8])
+fn say_stray<R: Eprint>(rt: &R, text: &[u8])
     requires { length text.now ≤ 65536 }
 {
     let at = stray(text);
     if at >= 65535 {
         if text.len() > 65535 {
-            say_place(text, 65535, b": the text is too long\n");
+            say_place(rt, text, 65535, "the text is too long");
             return;
         }
     }
     if at == text.len() {
-        say_place(text, at, b": the text ends too early\n");
+        say_place(rt, text, at, "the text ends too early");
         return;
     }
-    say_place(text, at, b": cannot read this\n");
+    say_place(rt, text, at, "cannot read this");
 }
 
 // Where 21 is.
-fn say_misnamed(text: &[u8])
+fn say_misnamed<R: Eprint>(rt: &R, text: &[u8])
     requires { length text.now ≤ 65536 }
 {
     let at = misnamed_at(text);
-    say_place(text, at, b": cannot use this name\n");
+    say_place(rt, text, at, "cannot use this name");
 }
 
 // A refusal of the text, and where it is.
-fn refuse(text: &[u8], refusal: u16, place: u16)
+fn refuse<R: Eprint>(rt: &R, text: &[u8], refusal: u16, place: u16)
     requires { length text.now ≤ 65536 }
 {
-    say_refused(refusal, place);
+    say_refused(rt, refusal, place);
     if refusal == 20 {
-        say_stray(text);
+        say_stray(rt, text);
     }
     if refusal == 21 {
-        say_misnamed(text);
+        say_misnamed(rt, text);
     }
 }
 
 // A table of so many records and its start production.
-fn write_grammar(records: usize, table: &[u16], start: u16, bytes: &mut [u8])
+fn write_grammar<R: Print + Eprint>(
+    rt: &R,
+    records: usize,
+    table: &[u16],
+    start: u16,
+    bytes: &mut [u8],
+)
     requires { (records ≤ record_limit) × ((65536 ≤ length bytes.old) × (records * 4 ≤ length table.now)) }
 {
-    if write_records(records, table, bytes) {
+    if write_records(rt, records, table, bytes) {
         let last = [start; 1];
-        write_words(&last, bytes);
+        write_words(rt, &last, bytes);
     }
 }
 
 // The grammar that was read, from its start nonterminal.
-fn start_grammar(table: &[u16], start: NonterminalString, bytes: &mut [u8])
+fn start_grammar<R: Print + Eprint>(
+    rt: &R,
+    table: &[u16],
+    start: NonterminalString,
+    bytes: &mut [u8],
+)
     requires table_value { check_of table.now ≡ Checked.Accepted }
     requires startable { Startable (meaning table.now) start.0 }
     requires in_bounds { 65536 ≤ length bytes.old }
 {
     let mut out = [0u16; 8848];
     match with_start(table, start, &mut out) {
-        Started::Refused(refusal, place) => say_refused(refusal, place),
+        Started::Refused(refusal, place) => say_refused(rt, refusal, place),
         Started::Production(records, production) => write_grammar(
+            rt,
             records as usize,
             &out,
             production.0,
@@ -97,28 +108,28 @@ fn start_grammar(table: &[u16], start: NonterminalString, bytes: &mut [u8])
 }
 
 // A text that was read whole.
-fn read_text(text: &[u8], bytes: &mut [u8])
+fn read_text<R: Print + Eprint>(rt: &R, text: &[u8], bytes: &mut [u8])
     requires { (length text.now ≤ 65536) × (65536 ≤ length bytes.old) }
 {
     let mut table = [0u16; 8840];
     let mut places = [0u16; 95];
     match read_yacc(text, &mut table, &mut places) {
-        Reading::Refused(refusal, place) => refuse(text, refusal, place),
+        Reading::Refused(refusal, place) => refuse(rt, text, refusal, place),
         Reading::Read(records, _places, start) => {
             let words = records as usize * 4;
-            start_grammar(&table[..words], start, bytes);
+            start_grammar(rt, &table[..words], start, bytes);
         }
     }
 }
 
 // One byte more than a text may have shows that it is too long.
-fn main() {
+fn main(rt: HostRuntime) {
     let mut text = [0u8; 65536];
     let mut bytes = [0u8; 65536];
-    let input = read(&mut text);
+    let input = read(&rt, &mut text);
     if input.failed {
         return;
     }
     let got = input.got;
-    read_text(&text[..got], &mut bytes);
+    read_text(&rt, &text[..got], &mut bytes);
 }
