@@ -1,4 +1,7 @@
 // Choosing which tokens of a conflict to report (`report_errors` of lr1/error/mod.rs without messages) over an accepted table: part 9 of document 01.
+
+#![tactic(auto)]
+
 ghost use Rattle.std.specs.Prelude.{◌≡◌, true, false, ◌&&◌, [], ◌+◌, ◌≤◌, ◌<◌, length, eqb};
 ghost use Rattle.repr.specs.Sizes.{classify_scratch, entry_limit, entries_room};
 ghost use Rattle.slices.specs.Lent.{zeroed};

@@ -1,0 +1,37 @@
+use native.Mathlib.Omega.{arith}
+use mathlib.Core.Path.{sym, ◌∙◌}
+use mathlib.Core.List.{◌++◌}
+use Prim.Native.Nat.{ℕ}
+use lib.ListN.{drop}
+use lib.Seq.{length_front, length-take-le}
+use Rattle.repr.specs.Sizes.{grammar_room}
+use Rattle.classifier.proofs.Ways.{reads-front}
+use Rattle.chooser.proofs.Choices.{chosen-zeroed}
+use Rattle.chooser.proofs.choose_read.Goals as goal
+
+pub slice_bounds-prepare-end : goal.slice_bounds-prepare-end
+slice_bounds-prepare-end c = omega (arith, c.requires.classify_scratch_in_bounds)
+
+pub slice_bounds-prepare-end-2 : goal.slice_bounds-prepare-end-2
+slice_bounds-prepare-end-2 c = sym (length-take-le grammar_room c.args.scratch.now (omega (arith, c.requires.classify_scratch_in_bounds)))
+
+pub prepare-prepared-requires : goal.prepare-prepared-requires
+prepare-prepared-requires c = record { table_value = c.requires.table_value; grammar_len = length-take-le grammar_room c.args.scratch.now (omega (arith, c.requires.classify_scratch_in_bounds)) }
+
+pub slice_bounds-choose_gathered-end : goal.slice_bounds-choose_gathered-end
+slice_bounds-choose_gathered-end c = let l = length_front {A = ℕ} c.args.scratch.now c.prepare-prepared.new.grammar grammar_room c.prepare-prepared.auto.grammar in omega (arith, l, c.requires.classify_scratch_in_bounds)
+
+pub slice_bounds-choose_gathered-end-2 : goal.slice_bounds-choose_gathered-end-2
+slice_bounds-choose_gathered-end-2 c = let l = length_front {A = ℕ} c.args.scratch.now c.prepare-prepared.new.grammar grammar_room c.prepare-prepared.auto.grammar in sym (length-take-le grammar_room (c.prepare-prepared.new.grammar ++ drop grammar_room c.args.scratch.now) (omega (arith, l, c.requires.classify_scratch_in_bounds)))
+
+pub choose_gathered-chosen-requires : goal.choose_gathered-chosen-requires
+choose_gathered-chosen-requires c = record { reads = reads-front _ _ _ _ _ _ _ grammar_room (c.prepare-prepared.auto.grammar ∙ length-take-le grammar_room c.args.scratch.now (omega (arith, c.requires.classify_scratch_in_bounds))) c.prepare-prepared.ensures; tokens_value = c.requires.tokens_value }
+
+pub zero-requires : goal.zero-requires
+zero-requires c = let l = length_front {A = ℕ} c.args.scratch.now c.prepare-prepared.new.grammar grammar_room c.prepare-prepared.auto.grammar in omega (arith, l, c.requires.classify_scratch_in_bounds)
+
+pub shape_of-scratch : goal.shape_of-scratch
+shape_of-scratch c = c.zero.auto.words ∙ length_front {A = ℕ} c.args.scratch.now c.prepare-prepared.new.grammar grammar_room c.prepare-prepared.auto.grammar
+
+pub returns : goal.returns
+returns c = record { scratch_after = chosen-zeroed _ _ c.args.scratch.now _ c.prepare-prepared.new.grammar grammar_room c.choose_gathered-chosen.ensures.result_value (c.prepare-prepared.auto.grammar ∙ length-take-le grammar_room c.args.scratch.now (omega (arith, c.requires.classify_scratch_in_bounds))) (omega arith) c.zero.ensures; value = c.choose_gathered-chosen.ensures.value }
