@@ -1,5 +1,5 @@
 -- The ways through the exported functions of a listing, one law each. Assumes nothing.
-use Rattle.std.proofs.Common.{◌≡◌, ℕ, Bool, true, false, List, sym, refl, ap, ◌∙◌}
+use Rattle.std.proofs.Common.{◌≡◌, ℕ, Bool, true, false, List, sym, ap, ◌∙◌}
 use Rattle.repr.specs.Meaning.{Item}
 use Rattle.repr.specs.declared.ProductionIndex.{ProductionIndex}
 use Rattle.enumerator.specs.Advance.{outcome, advance_of}

@@ -1,7 +1,7 @@
 -- Table C traced, its graphs added to and listed: whole outcomes of the definitions that the public contracts cite, each a statement. The expected answers are the Rust's (oracle/README.md). Assumes nothing.
 use Rattle.std.proofs.Common.{◌≡◌, ℕ, List, [], ◌∷◌, ◌++◌, replicate, refl}
 use Rattle.repr.specs.Lists.{up_from, below, mem, occurrences, keep, some?, every?, first?, joined}
-use Rattle.repr.specs.Sizes.{scratch_words, graph_room, example_room}
+use Rattle.repr.specs.Sizes.{scratch_words}
 use Rattle.repr.specs.Meaning.{is_same_symbol, Item}
 use Rattle.repr.specs.Listed.{symbol_of_kind, symbol_is_fit}
 use Rattle.slices.specs.Same.{same_words}
@@ -25,7 +25,7 @@ use Rattle.tracer.specs.declared.Backtrace.TheVariants.{Edges as Traced}
 use Rattle.tracer.specs.Outcome.{Outcome, outcome, edges_outcome, traced_in, trace_by, shift_of, reduce_of}
 use Rattle.lr1.specs.declared.AddEdge.TheVariants.{Edges as Added}
 use Rattle.lr1.specs.Entries.{overTable}
-use Rattle.lr1.specs.Edges.{EdgeOutcome, edge_outcome, added_outcome, added_edge_in, add_edge_of}
+use Rattle.lr1.specs.Edges.{edge_outcome, added_outcome, added_edge_in, add_edge_of}
 use Rattle.example.specs.Example.{sets_of, prefixes, suffixes, at_cursor, middle, symbols, spans, reductions, symbol_words, reduction_words, example_words, cursor_of, ahead, meets}
 use Rattle.enumerator.specs.Trials.{trials}
 use Rattle.enumerator.specs.Words.{words_of, path_in, has_trial, after}

@@ -1,5 +1,5 @@
 -- The ways through the exported functions, one law each. Assumes nothing.
-use Rattle.std.proofs.Common.{◌≡◌, ℕ, Bool, List, sym, refl, ap, ◌∙◌}
+use Rattle.std.proofs.Common.{◌≡◌, ℕ, Bool, List, sym, ap, ◌∙◌}
 use Rattle.table.specs.declared.Checked.{Checked}
 use Rattle.table.specs.declared.Checked.TheVariants.{Accepted, Refused}
 use Rattle.spelling.specs.Outcome.{Outcome as Spelling}
@@ -28,7 +28,7 @@ use Rattle.lr1.specs.declared.Followed.TheVariants.{Tokens, Refused as NoTokens}
 use Rattle.first.specs.declared.Answer.{Answer}
 use Rattle.lr1.specs.declared.Walked.{Walked}
 use Rattle.lr1.specs.declared.Walked.TheVariants.{States, Refused as NoStates}
-use Rattle.lr1.specs.Entries.{Walk, states, refused, walk_of}
+use Rattle.lr1.specs.Entries.{Walk, walk_of}
 use Rattle.lr1.specs.Edges.{EdgeOutcome, edge_outcome}
 use Rattle.lr1.specs.declared.AddEdge.{AddEdge}
 use Rattle.lr1.specs.declared.AddEdge.TheVariants.{Edges as GraphEdges, Refused as NoEdge}

@@ -1,5 +1,5 @@
 -- The ways through the exported functions of classifying, one law each. Assumes nothing.
-use Rattle.std.proofs.Common.{◌≡◌, ℕ, zero, suc, ◌+◌, ◌*◌, ◌<◌, ◌≤◌, true, false, leb, List, [], ◌∷◌, ◌++◌, length, drop, sym, refl, ap, ◌∙◌, subst, arith, le-leb}
+use Rattle.std.proofs.Common.{◌≡◌, ℕ, zero, suc, ◌+◌, ◌*◌, ◌<◌, ◌≤◌, leb, List, [], ◌∷◌, ◌++◌, length, drop, sym, refl, ap, ◌∙◌, subst, arith, le-leb}
 use borrow.Author.Tests.{lt-leb}
 use Rattle.repr.specs.Sizes.{classify_scratch, entry_room, entries_room}
 use Rattle.repr.specs.Lists.{keep, joined}
@@ -14,7 +14,7 @@ use Rattle.table.specs.declared.Checked.TheVariants.{Accepted, Refused as NotAcc
 use Rattle.repr.specs.declared.NonterminalString.{NonterminalString}
 use Rattle.error.specs.declared.Conflict.{Conflict}
 use Rattle.error.specs.declared.Class.{Class}
-use Rattle.error.specs.declared.Class.TheVariants.{Naive, Ambiguity, Precedence, SuggestInline, SuggestQuestion, AmbiguousReduction, InsufficientLookahead}
+use Rattle.error.specs.declared.Class.TheVariants.{Precedence, SuggestInline, SuggestQuestion, AmbiguousReduction}
 use Rattle.error.specs.declared.Classified.{Classified}
 use Rattle.error.specs.declared.Classified.TheVariants.{Class as IsClass, Refused}
 use Rattle.error.specs.Numbers.{number_of_class, values_of_class, reading_of}

@@ -1,6 +1,6 @@
 -- What the exported functions answer in numbers: 0, or the refusal, whose place stands behind `place`. A number behind another reference changes only with answer 0; lent words are those that the entry leaves.
 -- Assumes nothing: these are definitions.
-use Rattle.std.specs.Prelude.{ℕ, zero, suc, Bool, List}
+use Rattle.std.specs.Prelude.{ℕ, Bool, List}
 use Rattle.table.specs.declared.Checked.{Checked}
 use Rattle.table.specs.declared.Checked.TheVariants.{Accepted, Refused}
 use Rattle.spelling.specs.Outcome.{Outcome as Spelling}
@@ -13,13 +13,10 @@ use Rattle.yacc_read.specs.Outcome.{Outcome as ReadOutcome}
 use Rattle.yacc_read.specs.declared.Reading.TheVariants.{Read, Refused as NotRead}
 use Rattle.yacc_write.specs.Outcome.{Outcome as WriteOutcome}
 use Rattle.yacc_write.specs.declared.Writing.TheVariants.{Bytes, Refused as NotWritten}
-use Rattle.state_graph.specs.States.{states_in}
 use Rattle.lr1.specs.declared.First.{First}
 use Rattle.lr1.specs.declared.First.TheVariants.{Answered, Refused as NoAnswer}
 use Rattle.lr1.specs.declared.Followed.{Followed}
 use Rattle.lr1.specs.declared.Followed.TheVariants.{Tokens, Refused as NoTokens}
-use Rattle.lr1.specs.declared.Walked.{Walked}
-use Rattle.lr1.specs.declared.Walked.TheVariants.{States, Refused as NoStates}
 use Rattle.lr1.specs.Entries.{Walk, states, refused}
 use Rattle.lr1.specs.Edges.{EdgeOutcome, edge_outcome}
 use Rattle.lr1.specs.declared.AddEdge.TheVariants.{Edges as GraphEdges, Refused as NoEdge}

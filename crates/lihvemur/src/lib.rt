@@ -1,5 +1,8 @@
 // The public surface in numbers, for Rust, and through `lihvemur_c` for C. Each function answers 0, or the refusal, whose place it
 // writes behind `place`; a number behind another reference is written only with answer 0 (count and openness of a listing always). Lent graph and scratch words are left as the entry leaves them.
+
+#![tactic(auto)]
+
 pub mod conflicts;
 pub mod examples;
 

@@ -1,9 +1,8 @@
 -- The ways through `classify` and `choose`, one law each. Assumes nothing.
-use mathlib.Core.Path.{◌≡◌, refl, sym, ap, ◌∙◌}
-use mathlib.Core.Bool.{Bool, true, false}
+use mathlib.Core.Path.{◌≡◌, refl, ap, ◌∙◌}
 use mathlib.Core.List.{List, [], ◌∷◌}
 use mathlib.Core.Option.{Option, none, some}
-use Prim.Native.Nat.{ℕ, zero, suc, ◌+◌, ◌≤◌, ◌<◌}
+use Prim.Native.Nat.{ℕ, suc, ◌<◌}
 use native.Mathlib.Omega.{arith}
 use lib.ListN.{replicate}
 use Rattle.repr.specs.Sizes.{entries_room}
@@ -15,7 +14,6 @@ use Rattle.table.specs.Refusals.{row1, row2, offends, first_row, check_of}
 use Rattle.table.specs.declared.Checked.{Checked}
 use Rattle.table.specs.declared.Checked.TheVariants.{Accepted, Refused}
 use Rattle.error.specs.declared.Conflict.{Conflict}
-use Rattle.error.specs.declared.Classified.{Classified}
 use Rattle.error.specs.declared.Classified.TheVariants.{Refused as NotClassified}
 use Rattle.error.specs.Numbers.{reading_of}
 use Rattle.error.specs.Outcome.{Outcome, outcome, classified_in, classify_by_with, classify_of, classify_with}

@@ -1,4 +1,7 @@
 // Classifying, choosing and the observed symbols for callers (parts 8 to 10 of document 01). Every entry is total, refuses by document 01's table of refusals, and is equated with a definition of error/specs.
+
+#![tactic(auto)]
+
 ghost use Rattle.std.specs.Prelude.{◌≡◌};
 ghost use Rattle.error.specs.Numbers.{reading_of};
 ghost use Rattle.error.specs.Outcome.{outcome as classification, classify_of};
