@@ -4,7 +4,7 @@
 #![tactic(auto)]
 
 pub mod conflicts;
-pub mod examples;
+pub mod listings;
 
 ghost use Rattle.std.specs.Prelude.{◌≡◌, ◌++◌};
 ghost use Rattle.table.specs.Refusals.{check_of};

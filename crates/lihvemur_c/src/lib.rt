@@ -238,7 +238,7 @@ pub extern "C" fn lihvemur_lr0_examples(
 ) -> u16
     ensures { numbers result place.new ≡ open_numbers (open_of table.now (record { production = production; index = index }) Any graph.now) }
 {
-    lihvemur::examples::lihvemur_lr0_examples(table, production, index, graph, place)
+    lihvemur::listings::lihvemur_lr0_examples(table, production, index, graph, place)
 }
 
 #[unsafe(no_mangle)]
@@ -252,7 +252,7 @@ pub extern "C" fn lihvemur_lr1_examples(
 ) -> u16
     ensures { numbers result place.new ≡ open_numbers (open_of table.now (record { production = production; index = index }) (Set (record { 0 = lookahead })) graph.now) }
 {
-    lihvemur::examples::lihvemur_lr1_examples(table, production, index, lookahead, graph, place)
+    lihvemur::listings::lihvemur_lr1_examples(table, production, index, lookahead, graph, place)
 }
 
 #[unsafe(no_mangle)]
@@ -271,7 +271,7 @@ pub extern "C" fn lihvemur_advance(
 ) -> u16
     ensures { advance_numbers result place.new count.new is_open.new scratch.new buffer.new ≡ advanced_numbers (advance_of (record { production = record { 0 = production }; index = index; lookahead = ahead_of filtered lookahead; count = count.old; is_open = is_open.old }) table.now graph.now scratch.old buffer.old) }
 {
-    lihvemur::examples::lihvemur_advance(
+    lihvemur::listings::lihvemur_advance(
         table, production, index, filtered, lookahead, graph, scratch, buffer, count, is_open,
         place,
     )
@@ -293,7 +293,7 @@ pub extern "C" fn lihvemur_examples(
 ) -> u16
     ensures { list_numbers result place.new made.new scratch.new output.new ≡ listed_numbers made.old (list_of table.now (record { production = production; index = index }) (ahead_of filtered lookahead) calls.now graph.now scratch.old output.old) }
 {
-    lihvemur::examples::lihvemur_examples(
+    lihvemur::listings::lihvemur_examples(
         table, production, index, filtered, lookahead, calls, graph, scratch, output, made, place,
     )
 }

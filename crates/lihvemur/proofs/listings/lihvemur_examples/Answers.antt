@@ -1,5 +1,5 @@
 use Rattle.lihvemur.proofs.Listed.{list_made, list_refused}
-use Rattle.lihvemur.proofs.examples.lihvemur_examples.Goals as goal
+use Rattle.lihvemur.proofs.listings.lihvemur_examples.Goals as goal
 
 pub returns-in-Calls : goal.returns-in-Calls
 returns-in-Calls c = list_made _ _ _ _ _ _ _ _ _ c.lookahead_of-ahead.ensures _ _ _ c.examples.ensures _ c.in-Calls.is

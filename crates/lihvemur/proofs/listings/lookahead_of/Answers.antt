@@ -1,5 +1,5 @@
 use Rattle.lihvemur.proofs.Listed.{ahead-set, ahead-any}
-use Rattle.lihvemur.proofs.examples.lookahead_of.Goals as goal
+use Rattle.lihvemur.proofs.listings.lookahead_of.Goals as goal
 
 pub returns-then-filtered : goal.returns-then-filtered
 returns-then-filtered c = ahead-set _ _ c.if-filtered.true

@@ -1,5 +1,5 @@
 use Rattle.lihvemur.proofs.Listed.{advance_example, advance_end, advance_refused}
-use Rattle.lihvemur.proofs.examples.lihvemur_advance.Goals as goal
+use Rattle.lihvemur.proofs.listings.lihvemur_advance.Goals as goal
 
 pub returns-in-Example : goal.returns-in-Example
 returns-in-Example c = advance_example _ _ _ _ _ _ _ _ _ _ c.lookahead_of.ensures _ _ _ _ c.step-s.ensures c.in-Example.is

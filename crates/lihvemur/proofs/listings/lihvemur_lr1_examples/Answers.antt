@@ -1,5 +1,5 @@
 use Rattle.lihvemur.proofs.Listed.{opened, open_refused}
-use Rattle.lihvemur.proofs.examples.lihvemur_lr1_examples.Goals as goal
+use Rattle.lihvemur.proofs.listings.lihvemur_lr1_examples.Goals as goal
 
 pub returns-in-Listing : goal.returns-in-Listing
 returns-in-Listing c = opened _ _ c.lr1_examples.ensures _ c.in-Listing.is
