@@ -1,10 +1,10 @@
 -- One set for each nonterminal is enough: `closure_by_aheads`. Assumes nothing.
 use mathlib.Core.Path.{◌≡◌, refl, sym, ap, ◌∙◌, subst}
-use mathlib.Core.Bool.{Bool, true, false}
+use mathlib.Core.Bool.{true}
 use mathlib.Core.List.Memᴰ
-use mathlib.Core.List.{List, [], ◌∷◌, ◌++◌, map, Memᴰ}
+use mathlib.Core.List.{List, [], ◌∷◌, ◌++◌, Memᴰ}
 use mathlib.Core.Logic.{◌⊎◌, inl, inr, ⊎_elim}
-use Prim.Native.Nat.{ℕ, zero, suc, ◌+◌, ◌-◌, ◌*◌, ◌/◌, ◌%◌, ◌^◌, ◌≤◌, ◌<◌}
+use Prim.Native.Nat.{ℕ, suc, ◌+◌, ◌-◌, ◌*◌, ◌/◌, ◌%◌, ◌^◌, ◌≤◌, ◌<◌}
 use native.Mathlib.Omega.{arith}
 use lib.Dec.{eqb, ltb}
 use lib.ListN.{length, get_or, replicate, length-append, length-replicate, get_or-append, get_or-eq_default}
@@ -24,7 +24,7 @@ use Rattle.build.specs.States.{places, tokens, from, Move, gives_of, gives, grow
 use Rattle.build.specs.Aheads.{ahead_of, ahead_moves, aheads, spread_at, spread}
 use Rattle.build.proofs.Members.{below-mem, mem_less, joined_mem, joined_from}
 use Rattle.build.proofs.Rounds.{Sized, MoveFits, grown-cases, grown-other, grown_sized, round_sized, settle-keeps, settle_sized, rest-closed}
-use Rattle.build.proofs.Closure.{Describes, item, item_code_lem, tokens_at, tokens_index, tokens-item, has-inside, behind_fit, rust_lt, All-by-member, first_in, first_out}
+use Rattle.build.proofs.Closure.{item, item_code_lem, tokens_at, tokens_index, tokens-item, has-inside, behind_fit, rust_lt, All-by-member, first_in, first_out}
 use Rattle.build.proofs.Shortcuts.{closure_unique}
 
 -- the moves

@@ -1,20 +1,20 @@
 -- Every number of the table that is written is in range (`built-fits`), and so is every number of a conflict (`clash_fits`); while no state is refused, the
 -- items are few enough for the room that is lent (`few_items`). Assumes nothing.
-use mathlib.Core.Path.{◌≡◌, refl, sym, ap, ◌∙◌, subst}
-use mathlib.Core.Bool.{Bool, true, false, not}
+use mathlib.Core.Path.{◌≡◌, sym, ◌∙◌}
+use mathlib.Core.Bool.{false, not}
 use mathlib.Core.List.{List, [], ◌∷◌, ◌++◌, map, Memᴰ}
-use mathlib.Core.Logic.{◌⊎◌, inl, inr, ⊎_elim}
-use Prim.Native.Nat.{ℕ, zero, suc, ◌+◌, ◌*◌, ◌≤◌, ◌<◌, min}
+use mathlib.Core.Logic.{⊎_elim}
+use Prim.Native.Nat.{ℕ, zero, suc, ◌≤◌, ◌<◌, min}
 use native.Mathlib.Omega.{arith}
 use lib.Dec.{eqb, ltb}
-use lib.ListN.{length, get_or, drop, take, length-take}
-use borrow.Author.Tests.{ltb-false, ne_eqb, eqb-true}
+use lib.ListN.{length, get_or, take, length-take}
+use borrow.Author.Tests.{ltb-false}
 use Rattle.repr.specs.Sizes.{record_limit}
-use Rattle.repr.specs.Lists.{below, keep, joined}
-use Rattle.repr.specs.Meaning.{Symbol, nonterminal, terminal, Production, Item, Edge, State, Table, production_at, SymbolFits, All, ItemFits, EdgeFits, StateFits, ProductionFits, TableFits}
-use Rattle.repr.proofs.Lists.{cases, clash, length-map-below, get_d_map-below, joined_nil, joined_cons}
-use Rattle.build.specs.Canonical.{Set, rest, InFirst, Closed, given, added, Moved, Goto, Start, Reached, Viable, Reduces, Shifts, Clash, Conflict, InOrder}
-use Rattle.build.specs.States.{Collected, built, build, tried, moved, nothing?, written, clashes}
+use Rattle.repr.specs.Lists.{below, keep}
+use Rattle.repr.specs.Meaning.{Symbol, nonterminal, terminal, Production, Item, Edge, Table, production_at, SymbolFits, All, ItemFits, EdgeFits, StateFits, ProductionFits, TableFits}
+use Rattle.repr.proofs.Lists.{cases, clash, length-map-below, joined_cons}
+use Rattle.build.specs.Canonical.{Set, Closed, given, added, Moved, Goto, Start, Reached, Viable, Clash, InOrder}
+use Rattle.build.specs.States.{built, build, tried, moved, nothing?, written, clashes}
 use Rattle.build.specs.Built.{built_state, built_table}
 use Rattle.build.specs.Outcome.{sum, records, stops_at}
 use Rattle.repr.proofs.Tests.{All_member}

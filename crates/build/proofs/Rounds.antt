@@ -5,7 +5,7 @@ use mathlib.Core.Bool.{true, false}
 use mathlib.Core.List.{List, [], ◌∷◌, ◌++◌, Memᴰ}
 use Prim.Native.Nat.{ℕ, zero, suc, ◌+◌, ◌-◌, ◌*◌, ◌^◌, ◌≤◌, ◌<◌}
 use native.Mathlib.Omega.{arith}
-use lib.Dec.{eqb, ltb}
+use lib.Dec.{eqb}
 use lib.ListN.{length, get_or, length-set}
 use lib.Seq.{get_or-set_same, get_or-set_other}
 use borrow.Author.Tests.{eqb-true, eqb-false, eq-eqb, ne_eqb}
@@ -15,7 +15,7 @@ use Rattle.slices.proofs.Same.{same_words_eq}
 use Rattle.slices.specs.Same.{same_words}
 use Rattle.repr.specs.Meaning.{All}
 use Rattle.repr.proofs.Lists.{cases}
-use Rattle.lookahead.specs.Tokens.{has, union, Within}
+use Rattle.lookahead.specs.Tokens.{union, Within}
 use Rattle.lookahead.proofs.Laws.{union_lt}
 use Rattle.lookahead.proofs.Sets.{within_refl, within-union-left, within_same_union}
 use Rattle.first.specs.First.{join}

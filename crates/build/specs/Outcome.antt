@@ -1,6 +1,6 @@
 -- Refusals 16 and 17 of request 01, in the order of time, or the states and edges. Words, refusals 1 to 8, 11 and 18 are not here. Assumes nothing: these are definitions.
 use Rattle.std.specs.Prelude.{ℕ, suc, ◌+◌, ◌*◌, min, Bool, true, false, List, [], ◌∷◌, length, take, eqb, ltb}
-use Rattle.std.proofs.Math.Option.{Option, none, some}
+use Rattle.std.proofs.Math.Option.{none, some}
 use Rattle.repr.specs.Sizes.{record_limit}
 use Rattle.repr.specs.Lists.{below, first?}
 use Rattle.repr.specs.Meaning.{Production, Edge, Table}

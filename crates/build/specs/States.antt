@@ -4,7 +4,7 @@ use Rattle.std.specs.Prelude.{ℕ, zero, suc, ◌+◌, ◌*◌, ◌/◌, ◌%◌
 use Rattle.std.proofs.Math.Option.{Option, none, some}
 use Rattle.repr.specs.Sizes.{index_limit}
 use Rattle.slices.specs.Same.{same_words}
-use Rattle.repr.specs.Lists.{below, keep, every?, joined, some?}
+use Rattle.repr.specs.Lists.{below, keep, every?, joined}
 use Rattle.repr.specs.Meaning.{Symbol, nonterminal, terminal, is_same_symbol, Item, Edge, Table, production_at}
 use Rattle.lookahead.specs.Tokens.{has, single, union, meet, members}
 use Rattle.first.specs.First.{join}

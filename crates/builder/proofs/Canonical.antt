@@ -1,19 +1,15 @@
 -- `build_canonical`: whatever is answered with a table, the table has the book's states and the list all their conflicts. Assumes nothing.
-use mathlib.Core.Path.{◌≡◌, refl, sym, ap, ◌∙◌, subst}
-use mathlib.Core.Bool.{Bool, true, false, ◌&&◌}
-use mathlib.Core.List.{List, [], ◌++◌, map, Memᴰ}
-use mathlib.Core.Logic.{◌↔◌}
-use mathlib.Core.Option.{some}
-use Prim.Native.Nat.{ℕ, ◌+◌, ◌*◌, ◌/◌, ◌≤◌, ◌<◌}
+use mathlib.Core.Path.{◌≡◌, refl, sym, ap, ◌∙◌}
+use mathlib.Core.Bool.{true, false}
+use mathlib.Core.List.{List, [], ◌++◌}
+use Prim.Native.Nat.{ℕ, ◌*◌, ◌/◌, ◌<◌}
 use native.Mathlib.Omega.{arith}
 use lib.Dec.{ltb}
 use lib.ListN.{length, get_or, take, drop}
 use lib.Seq.{take_at}
 use borrow.Author.Tests.{ltb-true, ltb-false}
 use Rattle.slices.specs.Lent.{in_front}
-use Rattle.repr.specs.Sizes.{classify_scratch, example_room}
-use Rattle.repr.specs.Lists.{below}
-use Rattle.repr.specs.Meaning.{Symbol, Item, Edge, State, Table, TableFits, no_state, state_at}
+use Rattle.repr.specs.Meaning.{Edge, State, Table, no_state, state_at}
 use Rattle.repr.proofs.Lists.{cases, get_d_map-below, length-map-below}
 use Rattle.table.specs.Decoded.{meaning}
 use Rattle.table.specs.Refusals.{check_of}
@@ -25,7 +21,7 @@ use Rattle.spelling.specs.Spelled.{edge_lists, records_of, spell}
 use Rattle.spelling.proofs.Places.{spell-length}
 use Rattle.build.specs.States.{built, build, written, clashes}
 use Rattle.build.specs.Built.{built_state, built_table, conflict_words}
-use Rattle.build.specs.Outcome.{sum, Outcome, refused, full, outcome}
+use Rattle.build.specs.Outcome.{Outcome, refused, full, outcome}
 use Rattle.build.proofs.Collection.{build_right}
 use Rattle.build.proofs.Canonical.{canonical, reached, states_differ}
 use Rattle.build.proofs.Order.{found_in_order}
@@ -34,10 +30,9 @@ use Rattle.build.proofs.Ascending.{written_ascend, conflicts_ascend}
 use Rattle.build.proofs.Refusals.{outcome-full}
 use Rattle.conflict_list.proofs.Laws.{list_long}
 use Rattle.builder.specs.Outcome.{Left, build_scratch, start_is_fit, conflict_count, built_of, built_in, build_of}
-use Rattle.builder.specs.Canonical.{set_of, Equals, IsCanonical}
-use Rattle.builder.specs.declared.Built.{Built}
+use Rattle.builder.specs.Canonical.{set_of, IsCanonical}
 use Rattle.builder.specs.declared.Built.TheVariants.{States, Refused}
-use Rattle.builder.proofs.Written.{items_are, edges_are, build_accepted, build-meaning, build_spelling}
+use Rattle.builder.proofs.Written.{edges_are, build_accepted, build-meaning, build_spelling}
 use Rattle.builder.proofs.Fit.{conflicts_fit}
 use Rattle.builder.proofs.Ways.{in_short, in_unfit, build-refused, build_checked}
 

@@ -1,18 +1,17 @@
 -- The conflicts by token sets are those of specs/States of build. Assumes nothing.
 use mathlib.Core.Path.{◌≡◌, refl, sym, ap, ◌∙◌}
 use mathlib.Core.Bool.{Bool, true, false, ◌&&◌}
-use mathlib.Core.List.{List, [], ◌∷◌, ◌++◌, map}
+use mathlib.Core.List.{List, [], ◌∷◌}
 use Prim.Native.Nat.{ℕ, zero, suc, ◌+◌, ◌-◌, ◌≤◌, ◌<◌}
 use native.Mathlib.Omega.{arith}
 use lib.Dec.{ltb}
 use lib.ListN.{length}
 use borrow.Author.Tests.{ltb-true, ltb-false, lt-ltb, le-ltb}
-use Rattle.repr.specs.Lists.{up_from, below, keep, joined}
+use Rattle.repr.specs.Lists.{up_from, below, keep}
 use Rattle.repr.specs.Meaning.{Table}
 use Rattle.repr.proofs.Lists.{cases, keep-yes, keep_no}
 use Rattle.lookahead.specs.Tokens.{has, meet, members}
 use Rattle.lookahead.proofs.Laws.{has_meet}
-use Rattle.build.specs.Canonical.{Clash}
 use Rattle.build.specs.States.{reduces, shifts, clashes_of}
 use Rattle.clashing.specs.Clashes.{shift_clash, reduce_clash, Shifted, clashes_with}
 

@@ -1,4 +1,3 @@
 // The conflicts of a state, by token sets (specs/Clashes).
 
 #![tactic(auto)]
-

@@ -1,5 +1,5 @@
 -- One law for each way through the code that feeds the nonterminals' sets (src/lib). Assumes nothing.
-use Rattle.std.proofs.Common.{◌≡◌, ℕ, zero, suc, ◌+◌, ◌*◌, ◌/◌, ◌%◌, ◌<◌, ◌≤◌, Bool, true, false, eqb, List, [], ◌∷◌, ◌++◌, length, get_or, drop, set, sym, refl, ap, ◌∙◌, add-one, arith, length-set}
+use Rattle.std.proofs.Common.{◌≡◌, ℕ, suc, ◌+◌, ◌*◌, ◌/◌, ◌%◌, ◌<◌, ◌≤◌, List, [], ◌∷◌, ◌++◌, length, get_or, drop, set, refl, ap, ◌∙◌, add-one, arith, length-set}
 use lib.Seq.{set-get_or}
 use Rattle.repr.specs.Sizes.{index_limit, production_room}
 use Rattle.repr.specs.Lists.{up_from, below}
@@ -9,14 +9,14 @@ use Rattle.repr.specs.Meaning.{Symbol, nonterminal, terminal, Production, Table,
 use Rattle.repr.proofs.Lists.{below_last}
 use Rattle.lookahead.specs.Tokens.{union}
 use Rattle.lookahead.proofs.Sets.{union-zero_right}
-use Rattle.first.specs.First.{join, first1}
+use Rattle.first.specs.First.{first1}
 use Rattle.first.specs.Rust.{rust_first0}
 use Rattle.first.proofs.Join.{first1-join}
-use Rattle.build.specs.States.{places, from, gives_of}
+use Rattle.build.specs.States.{from}
 use Rattle.build.proofs.Rounds.{gives_none, gives-some}
 use Rattle.build.proofs.Closure.{behind_fit}
 use Rattle.closing.specs.Grammar.{Grammar}
-use Rattle.closing.specs.Fed.{feed, fed_by_items, fed_by_firsts, fed}
+use Rattle.closing.specs.Fed.{feed, fed_by_items, fed_by_firsts}
 use Rattle.lr1_core.specs.Items.{symbol_sets}
 use Rattle.lr1_core.specs.Cursor.{symbol_code, cursor_code, code_in}
 use Rattle.lr1_core.proofs.Cursor.{code-shows}

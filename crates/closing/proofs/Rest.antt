@@ -1,6 +1,6 @@
 -- Rounds until one changes nothing: the 32 sets beside what is given are the list that specs/Aheads of build settles, and code that goes on until two lists
 -- are the same comes to its end. Assumes nothing.
-use Rattle.std.proofs.Common.{◌≡◌, ℕ, zero, suc, ◌+◌, ◌-◌, ◌*◌, ◌/◌, ◌%◌, ◌^◌, ◌<◌, ◌≤◌, Bool, true, false, not, ◌&&◌, eqb, ltb, List, [], ◌∷◌, ◌++◌, length, get_or, take, drop, set, replicate, sym, refl, ap, ◌∙◌, subst, add-one, arith, length-append, length-drop, length-set, length-take, get_or-drop, drop-cons, get_or-set_other, get_or-take, get_or-set_same, get_or-append-add, ext_get_or, ltb-false, ltb-true, eq-eqb, ne_eqb, eqb-true}
+use Rattle.std.proofs.Common.{◌≡◌, ℕ, zero, suc, ◌+◌, ◌-◌, ◌*◌, ◌/◌, ◌%◌, ◌^◌, ◌<◌, ◌≤◌, Bool, true, false, not, eqb, ltb, List, [], ◌∷◌, ◌++◌, length, get_or, take, drop, set, replicate, sym, refl, ap, ◌∙◌, subst, add-one, arith, length-append, length-drop, length-set, length-take, get_or-drop, drop-cons, get_or-set_other, get_or-take, get_or-set_same, get_or-append-add, ext_get_or, ltb-false, ltb-true, eq-eqb, ne_eqb, eqb-true}
 use mathlib.Core.List.{Memᴰ}
 use lib.ListN.{get_or-append, get_or-eq_default}
 use lib.Seq.{drop-length}
@@ -14,12 +14,12 @@ use Rattle.repr.specs.Meaning.{Symbol, nonterminal, terminal, Production, Table,
 use Rattle.repr.proofs.Lists.{cases, clash, below_last, joined_nil, joined_cons}
 use Rattle.lookahead.specs.Tokens.{union}
 use Rattle.first.specs.Rust.{rust_first0}
-use Rattle.build.specs.States.{places, from, Move, gives_of, gives, grown, round, settle, closure}
+use Rattle.build.specs.States.{places, from, Move, gives_of, grown, round, settle, closure}
 use Rattle.build.specs.Aheads.{ahead_of, ahead_moves, aheads, spread}
 use Rattle.build.proofs.Members.{mem_less}
 use Rattle.build.proofs.Rounds.{Sized, round-append, round_sized, round_less, settle-stop, loop_more}
 use Rattle.build.proofs.Aheads.{spread-first, spread-later, length-spread, aheads_fit, begin_sized, closure_by_aheads}
-use Rattle.repr.specs.Packed.{Packed, production_in}
+use Rattle.repr.specs.Packed.{production_in}
 use Rattle.closing.specs.Grammar.{Grammar}
 use Rattle.closing.specs.Fed.{Flat, feed, fed_by_items, fed_by_firsts, fed, spread_in}
 use Rattle.closing.proofs.Grammar.{production_at_lem}

@@ -1,28 +1,26 @@
 -- Laws of taking state after state, one for each way through the code. Assumes nothing.
 use mathlib.Core.Path.{◌≡◌, refl, sym, ap, ◌∙◌, subst}
-use mathlib.Core.Bool.{Bool, true, false}
+use mathlib.Core.Bool.{true}
 use mathlib.Core.List.{List, [], ◌∷◌, ◌++◌, map}
-use Prim.Native.Nat.{ℕ, zero, suc, ◌+◌, ◌-◌, ◌*◌, ◌≤◌, ◌<◌}
+use Prim.Native.Nat.{ℕ, suc, ◌+◌, ◌-◌, ◌*◌, ◌≤◌, ◌<◌}
 use native.Mathlib.Numerals.{add-one}
 use native.Mathlib.Omega.{arith}
-use lib.Dec.{eqb, ltb}
+use lib.Dec.{eqb}
 use lib.ListN.{length, get_or, set}
 use lib.Seq.{get_or-set_same, get_or-set_other}
-use borrow.Author.Tests.{eqb-true, eqb-false, ltb-true, ltb-false}
+use borrow.Author.Tests.{eqb-true, eqb-false, ltb-true}
 use Rattle.repr.specs.Lists.{up_from, below, mem}
 use Rattle.repr.specs.Meaning.{Edge, Table}
 use Rattle.repr.proofs.Lists.{cases, below_last, length-map-below, mem-cons_here, mem-cons_there, mem_below}
 use Rattle.build.specs.States.{tried}
 use Rattle.kept_states.specs.Made.{Holds}
-use Rattle.finding.specs.Steps.{Told, stopped, told, take_to, Found, halts, found, collect_to}
-use Rattle.finding.specs.Search.{Search}
+use Rattle.finding.specs.Steps.{stopped, take_to, found, collect_to}
 use Rattle.finding.proofs.Steps.{to_end, to_halt, to_more}
 use Rattle.taking.specs.Taking.{edges_in, TookAll, TakenAs}
 use Rattle.taking.specs.declared.Taken.{Taken}
 use Rattle.taking.specs.declared.Taken.TheVariants.{Stops as NotTaken, Goes}
 use Rattle.taking.proofs.Laws.{edges_same, map_last}
-use Rattle.collecting.specs.Rows.{row_in, rows_in, FoundAll, FoundAs}
-use Rattle.collecting.specs.declared.States.{States}
+use Rattle.collecting.specs.Rows.{row_in, rows_in, FoundAs}
 use Rattle.collecting.specs.declared.States.TheVariants.{Stops, All}
 
 -- rows

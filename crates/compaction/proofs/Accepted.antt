@@ -1,13 +1,13 @@
 -- Where the reached records are moved, the table is accepted again. Assumes nothing.
 use mathlib.Core.Path.{◌≡◌, refl, sym, ap, ◌∙◌}
 use mathlib.Core.Bool.{Bool, true, false, ◌&&◌, ◌||◌, not}
-use mathlib.Core.List.{List, map}
-use Prim.Native.Nat.{ℕ, zero, suc, ◌+◌, ◌-◌, ◌%◌, ◌≤◌, ◌<◌}
+use mathlib.Core.List.{List}
+use Prim.Native.Nat.{ℕ, ◌+◌, ◌-◌, ◌%◌, ◌≤◌, ◌<◌}
 use native.Mathlib.Omega.{arith}
 use lib.ListN.{length}
 use lib.Dec.{eqb, ltb, leb}
-use borrow.Author.Tests.{eqb-true, eqb-false, eq-eqb, ne_eqb, ltb-true, le-ltb, leb-true, lt-leb, not-false}
-use Rattle.repr.specs.Lists.{below, mem, occurrences, joined}
+use borrow.Author.Tests.{eqb-true, eqb-false, ne_eqb, ltb-true, le-ltb, leb-true, lt-leb, not-false}
+use Rattle.repr.specs.Lists.{below, mem, joined}
 use Rattle.repr.specs.Listed.{symbol_is_fit}
 use Rattle.repr.proofs.Lists.{cases, length_mapped, mem_below}
 use Rattle.repr.proofs.Tests.{some?-below, some?-below_witness}
@@ -16,14 +16,14 @@ use Rattle.table.specs.Decoded.{production_chain, symbol_chain, item_chain, edge
 use Rattle.table.specs.Refusals.{row1, row2, row3, row4, row5, row6, row7, row8, used, is_nonterminal, is_state, is_production, as_symbol, as_item, as_edge, offends, check_of}
 use Rattle.table.specs.declared.Checked.TheVariants.{Accepted}
 use Rattle.table.proofs.Chains.{and-true, or-false, or_left, or_right, named, good_of}
-use Rattle.table.proofs.ListLaws.{mem-map_in, mem-map-out}
+use Rattle.table.proofs.ListLaws.{mem-map-out}
 use Rattle.table.proofs.Accepted.{Accepts, areas_of, nonterminal-place, state_place, production_place_lem, nonterminal-head, production-next, production-once, production_short, symbol_range, edge_range, item_range, target_range}
 use Rattle.table.proofs.Exact.{accepted_exact}
 use Rattle.compaction.specs.Compaction.{reached, moved, count_of}
 use Rattle.compaction.proofs.Renumbered.{index_renumbered}
 use Rattle.compaction.proofs.Moves.{or-which, MovedTo, as_symbol_lem, as_item_lem, as_edge_lem, reached-place, reached-next, reached-closed, moved_rises}
 use Rattle.compaction.proofs.Chains.{same_nonterminals, same_terminals, same_states, same_productions, same_state_area, same_production-area, same_loose, same_production-records, renumbers, symbol_chain_lem, item_chain_lem, edge_chain_lem, symbol_index, item_index, edge_index, nonterminal-word, production-word, production_chain_lem}
-use Rattle.compaction.proofs.Meaning.{joined_members, in_symbols, in_items, in_edges}
+use Rattle.compaction.proofs.Meaning.{joined_members}
 
 -- tests put together
 

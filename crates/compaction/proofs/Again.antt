@@ -1,21 +1,21 @@
 -- Taking back unused records a second time moves nothing and counts the same, on the whole slice and on its front. Assumes nothing.
-use mathlib.Core.Path.{◌≡◌, refl, sym, ap, ◌∙◌}
-use mathlib.Core.Bool.{Bool, true, false}
-use mathlib.Core.List.{List, [], ◌∷◌, map}
-use Prim.Native.Nat.{ℕ, zero, suc, ◌+◌, ◌-◌, ◌*◌, ◌≤◌, ◌<◌}
+use mathlib.Core.Path.{◌≡◌, sym, ap, ◌∙◌}
+use mathlib.Core.Bool.{true, false}
+use mathlib.Core.List.{List, map}
+use Prim.Native.Nat.{ℕ, ◌-◌, ◌*◌, ◌≤◌, ◌<◌}
 use native.Mathlib.Omega.{arith}
-use lib.ListN.{length, take}
+use lib.ListN.{take}
 use Rattle.repr.specs.Lists.{below, mem}
-use Rattle.repr.proofs.Lists.{cases, clash}
-use Rattle.repr.proofs.Tests.{some?-below, some?-below_witness}
-use Rattle.table.specs.Words.{word_at, records, states, productions, state_area, production_area, loose}
-use Rattle.table.specs.Decoded.{symbol_chain, item_chain, edge_chain, meaning}
+use Rattle.repr.proofs.Lists.{cases}
+use Rattle.repr.proofs.Tests.{some?-below_witness}
+use Rattle.table.specs.Words.{records, states, productions, loose}
+use Rattle.table.specs.Decoded.{symbol_chain, item_chain, edge_chain}
 use Rattle.table.specs.Refusals.{as_symbol, as_item, as_edge, check_of}
 use Rattle.table.specs.declared.Checked.TheVariants.{Accepted}
 use Rattle.table.proofs.ListLaws.{mem-map_in}
-use Rattle.table.proofs.Accepted.{Accepts, accepts, areas_of}
+use Rattle.table.proofs.Accepted.{Accepts, accepts}
 use Rattle.table.specs.Quads.{words, quad_at}
-use Rattle.compaction.specs.Compaction.{reached, rank_of, rank, moved, count_of, compact_quad, compacted_to, compacted}
+use Rattle.compaction.specs.Compaction.{reached, rank, moved, count_of, compact_quad, compacted_to, compacted}
 use Rattle.compaction.proofs.Ranks.{rank-onto}
 use Rattle.compaction.proofs.Moves.{MovedTo, by_kind, as_symbol_lem, as_item_lem, as_edge_lem, moved_is, moved_early}
 use Rattle.compaction.proofs.Chains.{same_states, same_productions, same_loose, symbol_chain_lem, item_chain_lem, edge_chain_lem}

@@ -1,7 +1,7 @@
 -- The theorems over what the call answers and leaves (specs/Outcome). Assumes nothing.
 use mathlib.Core.Path.{◌≡◌, refl, sym, ap, ◌∙◌}
 use mathlib.Core.List.{List}
-use Prim.Native.Nat.{ℕ, ◌+◌, ◌*◌, ◌≤◌}
+use Prim.Native.Nat.{ℕ, ◌*◌}
 use native.Mathlib.Omega.{arith}
 use lib.ListN.{length, take}
 use Rattle.table.specs.Words.{records}
@@ -10,9 +10,8 @@ use Rattle.table.specs.Refusals.{check_of}
 use Rattle.table.specs.declared.Checked.{Checked}
 use Rattle.table.specs.declared.Checked.TheVariants.{Accepted, Refused}
 use Rattle.table.proofs.Accepted.{accepts}
-use Rattle.compaction.specs.Compaction.{count_of, compacted_to, compacted}
+use Rattle.compaction.specs.Compaction.{count_of, compacted}
 use Rattle.compaction.specs.Outcome.{Outcome, compact_of}
-use Rattle.compaction.specs.declared.Compacted.{Compacted}
 use Rattle.compaction.specs.declared.Compacted.TheVariants.{Records, Refused as No}
 use Rattle.compaction.proofs.Placed.{to_length}
 use Rattle.compaction.proofs.Theorems.{compacted_accepted, compacted-meaning, compacted-front_accepted, compacted-front-meaning}

@@ -1,21 +1,20 @@
 -- Where the reached records are moved, the areas are the same, the chains of productions too, and the others are renumbered. Assumes nothing.
-use mathlib.Core.Path.{◌≡◌, refl, sym, ap, ◌∙◌}
-use mathlib.Core.Bool.{Bool, true, false, ◌&&◌}
-use mathlib.Core.List.{List, [], ◌∷◌, map}
-use Prim.Native.Nat.{ℕ, zero, suc, ◌+◌, ◌≤◌, ◌<◌}
+use mathlib.Core.Path.{◌≡◌}
+use mathlib.Core.Bool.{true, false, ◌&&◌}
+use mathlib.Core.List.{List, map}
+use Prim.Native.Nat.{ℕ, ◌+◌, ◌≤◌, ◌<◌}
 use native.Mathlib.Omega.{arith}
-use lib.Dec.{eqb, ltb, leb}
-use lib.ListN.{length}
+use lib.Dec.{ltb, leb}
 use borrow.Author.Tests.{leb-true, ltb-true}
 use Rattle.repr.proofs.Lists.{cases}
-use Rattle.table.specs.Words.{word_at, records, nonterminals, terminals, states, productions, state_area, production_area, loose, Area, loose_records, production_records, names, against, chain}
+use Rattle.table.specs.Words.{word_at, nonterminals, terminals, states, productions, state_area, production_area, loose, loose_records, production_records, against, chain}
 use Rattle.table.specs.Decoded.{production_chain, symbol_chain, item_chain, edge_chain}
 use Rattle.table.specs.Refusals.{is_state}
-use Rattle.table.proofs.Chains.{and-true, loose-whole}
+use Rattle.table.proofs.Chains.{and-true}
 use Rattle.table.proofs.Accepted.{Accepts, areas_of, state_place, symbol-head, item-head, edge_head}
 use Rattle.compaction.specs.Compaction.{reached, moved, count_of}
 use Rattle.compaction.proofs.Renumbered.{Renumbers, head_renumbered, index_renumbered, chain_agree}
-use Rattle.compaction.proofs.Moves.{MovedTo, reached-some, moved-zero, moved_inside, moved_early, moved_rises, reached-next, reached-closed, symbol_headed, item_headed, edge_headed}
+use Rattle.compaction.proofs.Moves.{MovedTo, moved-zero, moved_inside, moved_early, moved_rises, reached-next, reached-closed, symbol_headed, item_headed, edge_headed}
 
 pub no_state_lem : (t : List ℕ) (r : ℕ) → (state_area t ≤ r → r < production_area t → ⊥) → is_state t r ≡ false
 unfolding is_state

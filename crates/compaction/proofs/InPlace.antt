@@ -1,24 +1,22 @@
 -- Moving in place: records are taken in ascending order and put at their new number, which is never larger than the old one, so nothing still to be read is lost;
 -- then the heads follow and the end is freed. One law for each way through a turn of the loops; `compacted_by` joins the passes. Assumes nothing.
 use mathlib.Core.Path.{◌≡◌, refl, sym, ap, ◌∙◌}
-use mathlib.Core.Bool.{Bool, true, false, ◌&&◌}
+use mathlib.Core.Bool.{true, false}
 use mathlib.Core.List.{List}
-use Prim.Native.Nat.{ℕ, zero, suc, ◌+◌, ◌*◌, ◌≤◌, ◌<◌}
+use Prim.Native.Nat.{ℕ, ◌+◌, ◌*◌, ◌≤◌, ◌<◌}
 use native.Mathlib.Omega.{arith}
-use native.Mathlib.Numerals.{add-one}
 use lib.ListN.{length, get_or, set, length-set, get_or-eq_default}
 use lib.Seq.{get_or-set_same, get_or-set_other}
-use lib.Dec.{eqb, ltb, leb}
-use borrow.Author.Tests.{eqb-true, eqb-false, ltb-true, ltb-false, leb-true, leb-false, le-leb, lt-leb, lt-ltb, le-ltb}
+use lib.Dec.{eqb, ltb}
+use borrow.Author.Tests.{eqb-true, eqb-false, ltb-true, ltb-false, le-leb, lt-leb, lt-ltb, le-ltb}
 use Rattle.repr.specs.Sizes.{record_limit}
-use Rattle.repr.specs.Lists.{below}
 use Rattle.repr.proofs.Lists.{cases}
 use Rattle.table.specs.Words.{word_at, records, state_area, production_area, loose}
 use Rattle.table.specs.Refusals.{is_state}
-use Rattle.table.specs.Quads.{Quad, no_quad, words, quad_at, put_quad}
+use Rattle.table.specs.Quads.{Quad, quad_at, put_quad}
 use Rattle.table.proofs.Quads.{made_quad, quads_known, put_long, put_here, put_others}
 use Rattle.table.proofs.Accepted.{Accepts, areas_of}
-use Rattle.compaction.specs.Compaction.{reached, rank_of, rank, moved, count_of, area_quad, loose_quad, compact_quad, compacted_to, compacted}
+use Rattle.compaction.specs.Compaction.{reached, rank, moved, count_of, area_quad, loose_quad, compact_quad, compacted_to, compacted}
 use Rattle.compaction.specs.Passes.{Headed, Numbers, Closing, Followed, Freed}
 use Rattle.compaction.proofs.Ranks.{rank-none}
 use Rattle.compaction.proofs.Moves.{reached-place, reached-closed, moved_is}

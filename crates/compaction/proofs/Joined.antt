@@ -1,22 +1,22 @@
 -- The passes of `compact` one after the other, over the areas that were read: what each asks, and what all leave. Assumes nothing.
-use mathlib.Core.Path.{◌≡◌, refl, sym, ap, ◌∙◌}
+use mathlib.Core.Path.{◌≡◌, sym, ap, ◌∙◌}
 use mathlib.Core.List.{List}
-use Prim.Native.Nat.{ℕ, ◌+◌, ◌*◌, ◌≤◌, ◌<◌}
+use Prim.Native.Nat.{ℕ, ◌*◌, ◌≤◌, ◌<◌}
 use native.Mathlib.Omega.{arith}
-use lib.ListN.{length, get_or, replicate, length-replicate}
+use lib.ListN.{length, replicate, length-replicate}
 use lib.Dec.{eqb}
 use borrow.Author.Tests.{eqb-true, eqb-false}
 use Rattle.repr.specs.Sizes.{record_limit}
 use Rattle.repr.proofs.Lists.{cases}
 use Rattle.table.specs.Words.{word_at, records, state_area, production_area, loose}
 use Rattle.table.specs.Refusals.{check_of}
-use Rattle.table.specs.Quads.{Quad, quad_at}
-use Rattle.table.specs.declared.Checked.TheVariants.{Accepted, Refused}
+use Rattle.table.specs.Quads.{Quad}
+use Rattle.table.specs.declared.Checked.TheVariants.{Accepted}
 use Rattle.table.proofs.Accepted.{Accepts, accepts, areas_of, rows_first}
 use Rattle.table_check.specs.Marks.{Sized}
 use Rattle.table_check.specs.Known.{AreasOf}
 use Rattle.table_check.specs.declared.areas.Areas.{Areas}
-use Rattle.compaction.specs.Compaction.{reached, count_of, compacted}
+use Rattle.compaction.specs.Compaction.{count_of, compacted}
 use Rattle.compaction.specs.Outcome.{Outcome, compact_of}
 use Rattle.compaction.specs.Passes.{Headed, HeadsMarked, Numbering, Numbers, Closing, Followed, Freed}
 use Rattle.compaction.specs.declared.Compacted.TheVariants.{Records}

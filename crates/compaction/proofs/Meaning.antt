@@ -1,18 +1,14 @@
 -- Where the reached records are moved, the meaning is the same. Assumes nothing.
 use mathlib.Core.Path.{◌≡◌, refl, sym, ap, ◌∙◌}
-use mathlib.Core.Bool.{Bool, true, false}
+use mathlib.Core.Bool.{Bool, true}
 use mathlib.Core.List.{List, [], ◌∷◌, ◌++◌, map}
-use mathlib.Core.Option.{Option}
-use Prim.Native.Nat.{ℕ, zero, suc, ◌+◌, ◌-◌, ◌≤◌, ◌<◌}
+use Prim.Native.Nat.{ℕ, ◌+◌, ◌<◌}
 use native.Mathlib.Omega.{arith}
-use lib.Dec.{eqb, ltb}
-use lib.ListN.{length}
 use borrow.Author.Tests.{ltb-true}
 use Rattle.repr.specs.Lists.{below, mem, first?, joined}
-use Rattle.repr.specs.Meaning.{Symbol, Production, Item, Edge, State, Table}
 use Rattle.repr.proofs.Lists.{cases, mem-cons_here, mem-cons_there, mem_below, joined_cons}
 use Rattle.repr.proofs.Tests.{some?-below, first?-yes, first?_no}
-use Rattle.table.specs.Words.{word_at, records, nonterminals, terminals, states, productions, state_area, production_area, loose}
+use Rattle.table.specs.Words.{nonterminals, states, productions, production_area}
 use Rattle.table.specs.Decoded.{production_chain, symbol_chain, item_chain, edge_chain, symbol_at, item_at, edge_at, or_zero, owner_of, production_of, state_of, productions_of, meaning}
 use Rattle.table.specs.Refusals.{as_symbol, as_item, as_edge}
 use Rattle.table.proofs.Accepted.{Accepts, areas_of}

@@ -1,20 +1,18 @@
 -- The reached records of an accepted table and their new numbers; what it is for a table u to be t with its reached records moved. Assumes nothing.
-use mathlib.Core.Path.{◌≡◌, refl, sym, ap, ◌∙◌}
+use mathlib.Core.Path.{◌≡◌, refl}
 use mathlib.Core.Bool.{Bool, true, false, ◌||◌}
-use mathlib.Core.List.{List, [], ◌∷◌, map}
-use Prim.Native.Nat.{ℕ, zero, suc, ◌+◌, ◌*◌, ◌≤◌, ◌<◌}
+use mathlib.Core.List.{List}
+use Prim.Native.Nat.{ℕ, ◌+◌, ◌*◌, ◌≤◌, ◌<◌}
 use native.Mathlib.Omega.{arith}
-use lib.Dec.{eqb}
 use lib.ListN.{length}
-use borrow.Author.Tests.{eqb-true, eqb-false, ne_eqb}
-use Rattle.repr.proofs.Lists.{cases, clash}
-use Rattle.table.specs.Words.{word_at, records, states, productions, state_area, production_area, loose, loose_records, names, against}
+use borrow.Author.Tests.{ne_eqb}
+use Rattle.table.specs.Words.{word_at, records, states, productions, state_area, production_area, loose, loose_records, against}
 use Rattle.table.specs.Refusals.{is_state, as_symbol, as_item, as_edge}
-use Rattle.table.specs.Reached.{Reached, head, next}
-use Rattle.table.proofs.Chains.{or_left, or_right, good_of, loose-whole}
+use Rattle.table.specs.Reached.{head, next}
+use Rattle.table.proofs.Chains.{or_left, or_right, good_of}
 use Rattle.table.proofs.Reached.{reached-loose, reached-symbol, reached-item, reached_edge}
 use Rattle.table.proofs.Accepted.{Accepts, areas_of, symbol-head, item-head, edge_head, symbol-next, item-next, edge_next}
-use Rattle.compaction.specs.Compaction.{reached, rank_of, rank, moved, count_of}
+use Rattle.compaction.specs.Compaction.{reached, rank, moved, count_of}
 use Rattle.compaction.proofs.Ranks.{rank_rises}
 
 pub or-which {ℓ} : {P : Type ℓ} (a b : Bool) → (a ≡ true → P) → (b ≡ true → P) → a || b ≡ true → P

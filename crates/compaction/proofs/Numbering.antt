@@ -1,7 +1,7 @@
 -- Marks and new numbers for all three kinds in one list: once the heads are marked, one ascending pass that marks the next of each marked record decides `reached`
 -- and numbers it. One law for each way through a turn of the loops. Assumes nothing.
 use mathlib.Core.Path.{◌≡◌, refl, sym, ap, ◌∙◌}
-use mathlib.Core.Bool.{Bool, true, false}
+use mathlib.Core.Bool.{true, false}
 use mathlib.Core.List.{List}
 use Prim.Native.Nat.{ℕ, zero, suc, ◌+◌, ◌-◌, ◌≤◌, ◌<◌}
 use native.Mathlib.Omega.{arith}
@@ -12,7 +12,7 @@ use lib.Dec.{eqb, ltb}
 use borrow.Author.Tests.{eqb-true, eqb-false, ltb-true, ltb-false}
 use Rattle.repr.specs.Sizes.{record_limit}
 use Rattle.repr.proofs.Lists.{cases, clash}
-use Rattle.table.specs.Words.{word_at, records, states, productions, state_area, production_area, loose, names, loose_records}
+use Rattle.table.specs.Words.{word_at, records, states, productions, state_area, production_area, loose, loose_records}
 use Rattle.table.specs.Reached.{Reached, head, next}
 use Rattle.table.proofs.Chains.{good_of}
 use Rattle.table.proofs.Reached.{reached-symbol, reached-item, reached_edge, loose-named}

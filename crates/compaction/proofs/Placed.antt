@@ -1,18 +1,17 @@
 -- The words of `compacted_to`: a front that has all reached records is t with its reached records moved. Assumes nothing.
-use mathlib.Core.Path.{◌≡◌, refl, sym, ap, ◌∙◌}
-use mathlib.Core.Bool.{Bool, true, false}
-use mathlib.Core.List.{List, [], ◌∷◌, map}
+use mathlib.Core.Path.{◌≡◌, refl, ap, ◌∙◌}
+use mathlib.Core.Bool.{true, false}
+use mathlib.Core.List.{List, ◌∷◌, map}
 use Prim.Native.Nat.{ℕ, zero, suc, ◌+◌, ◌-◌, ◌*◌, ◌≤◌, ◌<◌}
 use native.Mathlib.Omega.{arith}
 use lib.ListN.{length, get_or, take}
-use lib.Dec.{ltb, leb}
 use borrow.Author.Tests.{lt-ltb, le-ltb, le-leb, lt-leb}
 use Rattle.repr.specs.Lists.{up_from, below, keep}
-use Rattle.repr.proofs.Lists.{cases, length-map-below, get_d_map-below}
+use Rattle.repr.proofs.Lists.{length-map-below, get_d_map-below}
 use Rattle.table.specs.Words.{word_at, records, state_area, loose}
 use Rattle.table.specs.Refusals.{is_state}
 use Rattle.table.specs.Quads.{Quad, no_quad, words}
-use Rattle.compaction.specs.Compaction.{reached, rank_of, rank, moved, kept, count_of, area_quad, loose_quad, compact_quad, compacted_to, compacted}
+use Rattle.compaction.specs.Compaction.{reached, rank, moved, kept, count_of, area_quad, loose_quad, compact_quad, compacted_to}
 use Rattle.table.proofs.Quads.{length-words, records-words, word_next, word_one, word_two, word_three, take_words}
 use Rattle.compaction.proofs.Ranks.{kept_at}
 use Rattle.compaction.proofs.Moves.{MovedTo, reached-place, moved_is, moved_inside, moved_early}

@@ -9,7 +9,7 @@ use lib.ListN.{length, get_or, length-append, get_or-append}
 use lib.Seq.{get_or-append-add}
 use borrow.Author.Tests.{eqb-true, eqb-false}
 use Rattle.repr.specs.Lists.{up_from, below, keep}
-use Rattle.repr.proofs.Lists.{cases, clash, below_last}
+use Rattle.repr.proofs.Lists.{cases, below_last}
 use Rattle.compaction.specs.Compaction.{rank_of}
 
 module _ (f : ℕ → Bool) where

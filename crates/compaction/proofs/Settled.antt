@@ -1,12 +1,11 @@
 -- A table with no gaps stays as it is: its reached records are those from the end of the areas up to k, and all behind k is 0. Assumes nothing.
-use mathlib.Core.Path.{◌≡◌, refl, sym, ap, ◌∙◌}
-use mathlib.Core.Bool.{Bool, true, false, ◌&&◌}
-use mathlib.Core.List.{List, [], ◌∷◌, map}
-use Prim.Native.Nat.{ℕ, zero, suc, ◌+◌, ◌-◌, ◌*◌, ◌≤◌, ◌<◌}
+use mathlib.Core.Path.{◌≡◌, sym, ap, ◌∙◌}
+use mathlib.Core.Bool.{true, false}
+use mathlib.Core.List.{List}
+use Prim.Native.Nat.{ℕ, ◌+◌, ◌-◌, ◌≤◌, ◌<◌}
 use native.Mathlib.Omega.{arith}
-use lib.Dec.{eqb, ltb, leb}
-use borrow.Author.Tests.{eqb-true, eqb-false, ltb-true, ltb-false, leb-true, leb-false}
-use Rattle.repr.specs.Lists.{below}
+use lib.Dec.{eqb, ltb}
+use borrow.Author.Tests.{eqb-true, eqb-false, ltb-true, ltb-false, leb-true}
 use Rattle.repr.proofs.Lists.{cases, clash}
 use Rattle.table.specs.Words.{word_at, records, states, productions, state_area, production_area, loose}
 use Rattle.table.specs.Refusals.{is_state}
@@ -14,7 +13,7 @@ use Rattle.table.proofs.Chains.{and-true}
 use Rattle.table.proofs.Accepted.{Accepts, areas_of}
 use Rattle.table.specs.Quads.{no_quad, quad_at}
 use Rattle.table.proofs.Quads.{made_quad}
-use Rattle.compaction.specs.Compaction.{reached, rank_of, rank, moved, count_of, area_quad, loose_quad, compact_quad}
+use Rattle.compaction.specs.Compaction.{reached, rank, moved, count_of, area_quad, compact_quad}
 use Rattle.compaction.proofs.Ranks.{rank_block, rank_flat}
 use Rattle.compaction.proofs.Moves.{reached-place, reached-closed, symbol_headed, item_headed, edge_headed, moved-zero, moved_is}
 use Rattle.compaction.proofs.Placed.{quad_area, quad_loose, quad_freed, area_stays, area_items, area_one, area_heads, area_two, area_three, loose-words}

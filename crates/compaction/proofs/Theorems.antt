@@ -1,18 +1,15 @@
 -- What taking back unused records keeps (Req 08): the whole slice, and its front of the records that are left, are accepted and mean the same. Assumes nothing.
-use mathlib.Core.Path.{◌≡◌, refl, sym, ap, ◌∙◌}
-use mathlib.Core.Bool.{Bool, true, false}
+use mathlib.Core.Path.{◌≡◌, ap, ◌∙◌}
 use mathlib.Core.List.{List}
-use Prim.Native.Nat.{ℕ, zero, suc, ◌+◌, ◌*◌, ◌≤◌, ◌<◌}
+use Prim.Native.Nat.{ℕ, ◌*◌, ◌≤◌}
 use native.Mathlib.Omega.{arith}
-use lib.Dec.{ltb}
-use borrow.Author.Tests.{ltb-true, ltb-false}
-use Rattle.repr.proofs.Lists.{cases, clash}
-use Rattle.table.specs.Words.{records, state_area, loose}
+use Rattle.repr.proofs.Lists.{cases}
+use Rattle.table.specs.Words.{records, loose}
 use Rattle.table.specs.Decoded.{meaning}
 use Rattle.table.specs.Refusals.{check_of}
 use Rattle.table.specs.declared.Checked.TheVariants.{Accepted}
-use Rattle.table.proofs.Accepted.{Accepts, accepts, areas_of}
-use Rattle.compaction.specs.Compaction.{reached, rank_of, rank, count_of, compacted_to, compacted}
+use Rattle.table.proofs.Accepted.{accepts, areas_of}
+use Rattle.compaction.specs.Compaction.{reached, rank, count_of, compacted_to, compacted}
 use Rattle.compaction.proofs.Ranks.{rank_bound}
 use Rattle.compaction.proofs.Moves.{MovedTo, reached-place}
 use Rattle.compaction.proofs.Meaning.{moved-meaning}

@@ -5,7 +5,7 @@ use mathlib.Core.List.{List, [], ◌∷◌, ◌++◌, map, map-append, append_as
 use Prim.Native.Nat.{ℕ, zero, suc, ◌+◌, ◌*◌, ◌≤◌, ◌<◌}
 use native.Mathlib.Omega.{arith}
 use lib.ListN.{length, get_or, take, drop, set, length-append}
-use lib.Seq.{sets, length-sets, sets-eq, length-take-le, get_or-take, take_at, drop_at, get_or-drop, drop-drop, ext_get_or}
+use lib.Seq.{sets, sets-eq, length-take-le, get_or-take, take_at, drop_at, get_or-drop, drop-drop, ext_get_or}
 use lib.Dec.{eqb}
 use Rattle.repr.specs.Sizes.{entry_room, entry_place, entries_room}
 use Rattle.repr.specs.Lists.{up_from, below, joined}

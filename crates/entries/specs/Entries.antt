@@ -1,12 +1,11 @@
 -- A token with its class in six words: token, class number, up to four own values, zeros.
 -- Assumes nothing: these are definitions.
-use Rattle.std.specs.Prelude.{ℕ, zero, suc, ◌+◌, ◌≤◌, ◌≡◌, List, [], ◌∷◌, map, length, get_or, take, drop}
+use Rattle.std.specs.Prelude.{ℕ, zero, suc, ◌+◌, List, [], ◌∷◌, map, get_or, take, drop}
 use Rattle.repr.specs.Sizes.{entry_place}
 use Rattle.repr.specs.Lists.{below}
 use Rattle.std.proofs.lemmas.List.Edits.{sets}
 use Rattle.error.specs.declared.Class.{Class}
 use Rattle.error.specs.declared.Class.TheVariants.{Naive, Ambiguity, Precedence, SuggestInline, SuggestQuestion, AmbiguousReduction, InsufficientLookahead}
-use Rattle.error.specs.Numbers.{number_of_class, values_of_class}
 use Rattle.error.specs.Choose.{Entry}
 use Rattle.entries.specs.declared.Numbered.{Numbered}
 

@@ -1,5 +1,5 @@
 -- What the machine steps to is a trial again, so that its words are such as the next step asks. Assumes nothing.
-use Rattle.std.proofs.Common.{◌≡◌, ℕ, Bool, true, false, List, [], ◌∷◌, map, reverse, sym, refl, ap, ◌∙◌, subst}
+use Rattle.std.proofs.Common.{◌≡◌, ℕ, Bool, true, false, List, [], ◌∷◌, map, reverse, refl, ap, ◌∙◌, subst}
 use mathlib.Core.List.{reverse-reverse, Memᴰ}
 use mathlib.Core.Option.{Option, some}
 use Rattle.slices.specs.Same.{same_words}

@@ -1,7 +1,7 @@
 -- Words that hold a trial, as the code tests it (src/machine.rt): zeros after the path, and the path edge by edge. Assumes nothing.
-use Rattle.std.proofs.Common.{◌≡◌, ℕ, zero, suc, ◌+◌, ◌-◌, ◌*◌, ◌<◌, ◌≤◌, Bool, true, false, not, ◌&&◌, eqb, ltb, List, [], ◌∷◌, ◌++◌, reverse, length, get_or, take, drop, replicate, sym, refl, ap, ◌∙◌, arith, length-drop, take-append-drop, drop_of_length-le, length-take, length-take-le, get_or-drop, drop-cons, get_or-take, take-take, ltb-true, le-ltb, lt-ltb, eq-eqb, ne_eqb, eqb-true}
+use Rattle.std.proofs.Common.{◌≡◌, ℕ, suc, ◌+◌, ◌-◌, ◌*◌, ◌<◌, ◌≤◌, Bool, true, false, not, ◌&&◌, eqb, ltb, List, [], ◌∷◌, ◌++◌, reverse, length, get_or, take, drop, replicate, sym, refl, ap, ◌∙◌, arith, length-drop, take-append-drop, drop_of_length-le, length-take, length-take-le, get_or-drop, drop-cons, get_or-take, take-take, ltb-true, le-ltb, lt-ltb, eq-eqb, ne_eqb, eqb-true}
 use mathlib.Core.Bool.{and-true}
-use mathlib.Core.List.{reverse-cons, reverse-reverse, Memᴰ}
+use mathlib.Core.List.{reverse-cons, reverse-reverse}
 use lib.ListN.{length-reverse}
 use lib.Bits.{bit_or, or_add_and, and_le_l, and_le_r}
 use borrow.Author.Tests.{eqb-false}
@@ -18,14 +18,14 @@ use Rattle.trace_graph.specs.Index.{InRange}
 use Rattle.trace_graph.specs.Values.{node_is, node_read, edge_read, same_value, node_value_fits}
 use Rattle.trace_graph.proofs.Fits.{value_range, same_value_lem, source_fits, target_fits}
 use Rattle.trace_graph.proofs.Words.{node_read_lem}
-use Rattle.enumerator.specs.Trials.{Path, Ends, TrialFrom, trials, is_example_in, Small}
+use Rattle.enumerator.specs.Trials.{Path, Ends, TrialFrom, is_example_in, Small}
 use Rattle.enumerator.specs.Words.{words_of, path_in, has_trial, path_room}
 use Rattle.enumerator.specs.Machine.{used_of, goes_on_byte, trial_from?}
 use Rattle.enumerator.specs.Stacks.{Ground, Started, Within, Stacked, stack_in}
 use Rattle.enumerator.proofs.Nodes.{and_left}
 use Rattle.enumerator.proofs.Edges.{edges_count, source_at, target_at}
 use Rattle.enumerator.proofs.Steps.{used_end, used_in}
-use Rattle.enumerator.proofs.Exact.{sound, complete}
+use Rattle.enumerator.proofs.Exact.{complete}
 use Rattle.enumerator.proofs.Short.{short_trial}
 use Rattle.enumerator.proofs.Tested.{passes_trial, holds_test}
 use Rattle.enumerator.proofs.StackWords.{stack_more}

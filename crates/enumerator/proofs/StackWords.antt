@@ -1,5 +1,5 @@
 -- Words that hold a stack (specs/Stacks): its top; the words of one stack are those of no other. Assumes nothing.
-use Rattle.std.proofs.Common.{◌≡◌, ℕ, zero, suc, ◌+◌, ◌-◌, ◌<◌, ◌≤◌, List, [], ◌∷◌, ◌++◌, reverse, length, get_or, take, drop, replicate, sym, refl, ap, ◌∙◌, append_assoc, arith, length-append, take-suc}
+use Rattle.std.proofs.Common.{◌≡◌, ℕ, suc, ◌-◌, ◌<◌, ◌≤◌, List, [], ◌∷◌, ◌++◌, reverse, length, get_or, take, drop, replicate, sym, refl, ap, ◌∙◌, append_assoc, arith, length-append, take-suc}
 use mathlib.Core.List.{reverse-cons, reverse-reverse, reverse-append}
 use lib.ListN.{length-reverse}
 use lib.Seq.{get_or_at, drop-append_seam}

@@ -1,5 +1,5 @@
 -- What opening and `advance` answer and leave, part 6 of document 01. Assumes nothing: these are definitions.
-use Rattle.std.specs.Prelude.{ℕ, zero, suc, ◌-◌, ◌^◌, Bool, true, false, not, ◌&&◌, List, [], ◌∷◌, length, ◌==◌, nat_le, nat_lt}
+use Rattle.std.specs.Prelude.{ℕ, zero, suc, ◌-◌, ◌^◌, Bool, true, false, not, ◌&&◌, List, length, ◌==◌, nat_le, nat_lt}
 use Rattle.std.proofs.Math.Option.{Option, none, some}
 use Rattle.repr.specs.Sizes.{graph_room, scratch_words, trial_limit}
 use Rattle.slices.specs.Lent.{in_front, zeroed}
@@ -8,12 +8,11 @@ use Rattle.table.specs.Decoded.{meaning}
 use Rattle.table.specs.Refusals.{check_of}
 use Rattle.table.specs.declared.Checked.{Checked}
 use Rattle.table.specs.declared.Checked.TheVariants.{Accepted, Refused as NotAccepted}
-use Rattle.lookahead.specs.declared.TokenSet.{TokenSet}
-use Rattle.trace_graph.specs.Graph.{Node, at_item, TraceEdge, is_node_of}
+use Rattle.trace_graph.specs.Graph.{at_item, TraceEdge, is_node_of}
 use Rattle.trace_graph.specs.Words.{edges_in}
 use Rattle.trace_graph.specs.Fits.{item_is_fit, graph_fits}
 use Rattle.enumerator.specs.Trials.{Path, ends_of, trials}
-use Rattle.enumerator.specs.Lister.{Call, enough, hands, says, Found, hit, out, over, search}
+use Rattle.enumerator.specs.Lister.{enough, hands, says, Found, hit, out, over, search}
 use Rattle.enumerator.specs.Words.{words_of, path_in, has_trial, after}
 use Rattle.enumerator.specs.declared.Lookahead.{Lookahead}
 use Rattle.enumerator.specs.declared.Lookahead.TheVariants.{Any, Set}

@@ -1,7 +1,7 @@
 -- A list of calls over one table, graph, listing and scratch: each call is lent the graph and the scratch whole or only a beginning of them, and a buffer of its own. Assumes nothing: these are definitions.
-use Rattle.std.specs.Prelude.{ℕ, min, List, [], ◌∷◌, ◌++◌, map, length, take, drop}
+use Rattle.std.specs.Prelude.{ℕ, min, List, [], ◌∷◌, ◌++◌, length, take, drop}
 use Rattle.slices.specs.Lent.{in_front}
-use Rattle.enumerator.specs.Lister.{Call, Answer, example, end, refused, Out}
+use Rattle.enumerator.specs.Lister.{Call, example, end, refused, Out}
 use Rattle.enumerator.specs.Advance.{Outcome, outcome, advance_of}
 use Rattle.enumerator.specs.declared.Listing.{Listing}
 use Rattle.enumerator.specs.declared.Advanced.{Advanced}

@@ -1,10 +1,9 @@
 -- The trials of a listing, part 6 of document 01 (`PathEnumerator`): the paths, their order, their enumeration. An edge is named by its number, its place in the order added.
 -- Assumes nothing: these are definitions.
-use Rattle.std.specs.Prelude.{◌≡◌, ℕ, zero, suc, ◌+◌, ◌<◌, ◌≤◌, Bool, true, false, ◌↔◌, List, [], ◌∷◌, ◌++◌, map, length, ◌≢◌, slice_index_or}
+use Rattle.std.specs.Prelude.{◌≡◌, ℕ, zero, suc, ◌+◌, ◌<◌, Bool, true, false, ◌↔◌, List, [], ◌∷◌, ◌++◌, map, length, ◌≢◌, slice_index_or}
 use mathlib.Core.List.{Memᴰ}
 use Rattle.repr.specs.Sizes.{nonterminal_limit}
 use Rattle.repr.specs.Lists.{mem}
-use Rattle.repr.specs.Meaning.{Item}
 use Rattle.trace_graph.specs.Graph.{Node, at_nonterminal, at_item, is_same_node, TraceEdge}
 
 -- what a listing asks of a graph: how many edges, and each edge's ends by its number

@@ -1,5 +1,5 @@
 -- The words of a trial: all 32,000 words of the scratch after an example (document 01: they follow from the trial that gave it). Assumes nothing: these are definitions.
-use Rattle.std.specs.Prelude.{ℕ, ◌+◌, ◌-◌, Bool, true, false, ◌&&◌, List, [], ◌∷◌, ◌++◌, length, take, drop, replicate, slice_index}
+use Rattle.std.specs.Prelude.{ℕ, ◌-◌, Bool, true, false, ◌&&◌, List, [], ◌∷◌, ◌++◌, length, take, drop, replicate, slice_index}
 use Rattle.repr.specs.Sizes.{scratch_words}
 use Rattle.slices.specs.Same.{same_words}
 use Rattle.repr.specs.Lists.{some?}

@@ -1,8 +1,8 @@
 -- Choosing which tokens of a conflict to report (`report_errors` without messages), part 9 of document 01. Assumes nothing: these are definitions.
-use Rattle.std.specs.Prelude.{ℕ, zero, suc, ◌*◌, ◌^◌, Bool, true, false, not, ◌&&◌, List, [], ◌∷◌, map, length, take, ◌==◌, nat_le, nat_lt}
+use Rattle.std.specs.Prelude.{ℕ, zero, suc, ◌^◌, Bool, true, false, not, ◌&&◌, List, [], ◌∷◌, length, take, ◌==◌, nat_le, nat_lt}
 use Rattle.repr.specs.Sizes.{classify_scratch}
 use Rattle.slices.specs.Lent.{zeroed}
-use Rattle.repr.specs.Lists.{keep, below}
+use Rattle.repr.specs.Lists.{keep}
 use Rattle.repr.specs.Meaning.{Table}
 use Rattle.table.specs.Decoded.{meaning}
 use Rattle.table.specs.Refusals.{check_of}

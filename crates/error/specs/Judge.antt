@@ -1,7 +1,7 @@
 -- The class of a conflict from what was gathered (`classify` and the three `try_classify_`), part 8 of document 01. Assumes nothing: these are definitions.
-use Rattle.std.specs.Prelude.{ℕ, zero, suc, ◌-◌, Bool, true, false, not, ◌&&◌, List, [], ◌∷◌, map, length, ◌==◌, nat_lt, slice_index_or, slice_range}
+use Rattle.std.specs.Prelude.{ℕ, zero, suc, Bool, true, false, not, ◌&&◌, List, [], ◌∷◌, map, length, ◌==◌, nat_lt, slice_index_or, slice_range}
 use Rattle.std.proofs.Math.Option.{Option, none, some}
-use Rattle.repr.specs.Meaning.{Symbol, nonterminal, terminal, is_same_symbol, Production, no_production, Table, production_at}
+use Rattle.repr.specs.Meaning.{Symbol, nonterminal, terminal, is_same_symbol, Production, Table, production_at}
 use Rattle.first.specs.First.{disjoint, FIRST}
 use Rattle.example.specs.Example.{Label, ExampleSymbol, symbol, epsilon, symbols, prefixes, Reduction, reductions}
 use Rattle.error.specs.declared.Conflict.{Conflict}

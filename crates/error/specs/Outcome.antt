@@ -1,5 +1,5 @@
 -- What `classify` answers and leaves: answer, scratch words, words of the two example buffers. Assumes nothing: these are definitions.
-use Rattle.std.specs.Prelude.{ℕ, zero, suc, Bool, true, false, ◌&&◌, List, [], ◌∷◌, length, ◌==◌, nat_le, nat_lt}
+use Rattle.std.specs.Prelude.{ℕ, zero, suc, Bool, true, false, ◌&&◌, List, length, ◌==◌, nat_le, nat_lt}
 use Rattle.std.proofs.Math.Option.{Option, none, some}
 use Rattle.repr.specs.Sizes.{classify_scratch, example_room}
 use Rattle.slices.specs.Lent.{in_front, zeroed}

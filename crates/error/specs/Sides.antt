@@ -1,16 +1,16 @@
 -- What a conflict's two sides gather (`shift_examples`, `reduce_examples`), part 8 of document 01: all examples of the plain lister over the traced edges, kept by the filter.
 -- Assumes nothing: these are definitions.
-use Rattle.std.specs.Prelude.{ℕ, zero, suc, ◌+◌, Bool, true, false, List, [], ◌∷◌, ◌++◌, map, length, take, nat_lt, slice_index_or}
+use Rattle.std.specs.Prelude.{ℕ, zero, suc, ◌+◌, true, false, List, [], ◌∷◌, ◌++◌, map, length, take, nat_lt, slice_index_or}
 use Rattle.std.proofs.Math.Option.{Option, none, some}
 use Rattle.repr.specs.Sizes.{edge_limit, trial_limit, example_limit}
 use Rattle.repr.specs.Lists.{keep}
-use Rattle.repr.specs.Meaning.{Production, no_production, Item, Table}
+use Rattle.repr.specs.Meaning.{no_production, Item, Table}
 use Rattle.lookahead.specs.Tokens.{single}
 use Rattle.trace_graph.specs.Graph.{TraceEdge, at_item}
 use Rattle.trace.specs.Shift.{shift_edges}
 use Rattle.trace.specs.Reduce.{reduce_edges}
 use Rattle.example.specs.Example.{Label}
-use Rattle.enumerator.specs.Trials.{Path, ends_of, trials}
+use Rattle.enumerator.specs.Trials.{ends_of, trials}
 use Rattle.enumerator.specs.Lister.{hands, labels_of}
 use Rattle.error.specs.declared.Conflict.{Conflict}
 use Rattle.error.specs.Items.{shift_items}

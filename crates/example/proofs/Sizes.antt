@@ -1,13 +1,12 @@
 -- How long an example is (part 7 of document 01): at most 528 symbols and 33 reductions of 33 labels, so at most 1,158 words. Assumes nothing.
-use Rattle.std.proofs.Common.{◌≡◌, ℕ, zero, suc, ◌+◌, ◌-◌, ◌*◌, ◌<◌, ◌≤◌, min, ltb, List, [], ◌∷◌, ◌++◌, map, reverse, length, get_or, take, drop, sym, refl, ap, ◌∙◌, arith, length-append, length-drop, length-take, ltb-false, ltb-true}
-use mathlib.Core.Option.{Option, none, some}
+use Rattle.std.proofs.Common.{◌≡◌, ℕ, suc, ◌+◌, ◌-◌, ◌*◌, ◌≤◌, ltb, List, [], ◌∷◌, ◌++◌, map, reverse, length, get_or, take, drop, refl, ap, ◌∙◌, arith, length-append, length-drop, length-take, ltb-false, ltb-true}
 use lib.ListN.{length-reverse, get_or-eq_default}
 use Rattle.repr.specs.Sizes.{reduction_limit, example_symbols, reduction_room, example_room}
 use Rattle.repr.specs.Lists.{joined}
 use Rattle.repr.specs.Meaning.{Symbol, nonterminal, terminal, Production, no_production, Table, TableFits, ProductionFits}
 use Rattle.repr.proofs.Lists.{cases, length_mapped, joined_nil, joined_cons}
 use Rattle.repr.proofs.Tests.{All_at}
-use Rattle.lr1_core.specs.Items.{Sets, first, symbol_sets}
+use Rattle.lr1_core.specs.Items.{first, symbol_sets}
 use Rattle.example.specs.Example.{Label, sets_of, ExampleSymbol, symbol, epsilon, prefixes, suffixes, at_cursor, middle, symbols, Reduction, spans, reductions, symbol_words, reduction_words, example_words}
 
 -- every production has at most 16 symbols, as an accepted table's

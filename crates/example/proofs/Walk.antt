@@ -7,7 +7,7 @@ use Rattle.repr.specs.Meaning.{Symbol, Production}
 use Rattle.repr.specs.Packed.{productions_in, Packed}
 use Rattle.repr.proofs.Lists.{joined_nil, joined_append}
 use Rattle.lr1_core.specs.Items.{no_sets, counts, held, counts_of}
-use Rattle.example.specs.Example.{Label, sets_of, symbol, epsilon, prefixes, suffixes, at_cursor, middle, symbols, reductions, symbol_words, example_words, cursor_of}
+use Rattle.example.specs.Example.{Label, sets_of, symbol, epsilon, prefixes, suffixes, at_cursor, middle, symbols, symbol_words, example_words, cursor_of}
 use Rattle.example.specs.Labels.{labels_in, LabelsFit}
 use Rattle.example.specs.Written.{label_at, words_of, Part, around_words}
 use Rattle.example.proofs.Sizes.{Short, prefixes-cons, suffixes-cons, around, length_symbols, at_most_528, at_most_1158}

@@ -1,5 +1,5 @@
 -- Labels in words, as the code hands them on: nonterminal, production, index each, innermost first. Assumes nothing: these are definitions.
-use Rattle.std.specs.Prelude.{◌≡◌, ℕ, ◌+◌, ◌<◌, ◌≤◌, List, [], ◌∷◌, ◌++◌, length, slice_index_or}
+use Rattle.std.specs.Prelude.{◌≡◌, ℕ, ◌+◌, ◌<◌, ◌≤◌, List, [], ◌∷◌, length, slice_index_or}
 use Rattle.repr.specs.Sizes.{labels_room}
 use Rattle.repr.specs.Meaning.{Production, no_production, All}
 use Rattle.example.specs.Example.{Label}

@@ -1,22 +1,20 @@
 -- One state more, in words: what `store` and `goto_over` come to. Assumes nothing.
-use Rattle.std.proofs.Common.{◌≡◌, ℕ, zero, suc, ◌+◌, ◌-◌, ◌*◌, ◌%◌, ◌^◌, ◌<◌, ◌≤◌, min, Bool, true, false, eqb, ltb, List, [], ◌∷◌, ◌++◌, map, length, get_or, take, set, sym, refl, ap, ◌∙◌, arith, ltb-false, ltb-true, le-ltb, lt-ltb, ne_eqb, eqb-true}
+use Rattle.std.proofs.Common.{◌≡◌, ℕ, zero, suc, ◌+◌, ◌-◌, ◌*◌, ◌<◌, ◌≤◌, min, Bool, true, false, eqb, ltb, List, [], ◌∷◌, ◌++◌, length, get_or, take, set, sym, refl, ap, ◌∙◌, arith, ltb-false, ltb-true, le-ltb, lt-ltb, ne_eqb, eqb-true}
 use lib.ListN.{get_or-append}
 use lib.Seq.{take-length}
 use borrow.Author.Tests.{eqb-false}
 use Rattle.repr.specs.Sizes.{index_limit, item_limit, record_limit, state_limit}
-use Rattle.repr.specs.Lists.{up_from, below, keep, every?}
-use Rattle.repr.specs.Meaning.{Symbol, nonterminal, terminal, SymbolFits, Production, Table, TableFits}
-use Rattle.repr.proofs.Lists.{cases, clash, length-up_from, length_mapped}
+use Rattle.repr.specs.Lists.{up_from, below, keep}
+use Rattle.repr.specs.Meaning.{Symbol, SymbolFits, Production, Table}
+use Rattle.repr.proofs.Lists.{cases, length-up_from, length_mapped}
 use Rattle.repr.proofs.Tests.{every?_elim, every?_fails}
 use Rattle.build.specs.States.{places, closure, moved, nothing?, goto, place, written}
 use Rattle.build.specs.Outcome.{sum, records, stops_at, number_of}
-use Rattle.build.proofs.Rounds.{Sized}
 use Rattle.build.proofs.Collection.{length_snoc, place_le}
 use Rattle.build.proofs.Refusals.{stops_128, stops-other}
 use Rattle.build.proofs.Goto.{length_moved, moved_sized}
 use Rattle.lr1_core.specs.Cursor.{symbol_code}
-use Rattle.closing.specs.Grammar.{Grammar}
-use Rattle.stored.specs.Stored.{Entry, entry_at, entries, held, packed, moved_over}
+use Rattle.stored.specs.Stored.{entry_at, entries, held, packed, moved_over}
 use Rattle.stored.proofs.Packed.{held_none, held-some, packed-moved}
 use Rattle.kept_states.specs.Kept.{put_all, state_in, states_in, Begun, kernel_place}
 use Rattle.kept_states.specs.Made.{Made, next, Holds}

@@ -1,8 +1,8 @@
 -- Laws of what one step leaves, one for each way through the code. Assumes nothing.
-use Rattle.std.proofs.Common.{◌≡◌, ℕ, zero, suc, ◌+◌, ◌-◌, ◌*◌, ◌^◌, ◌<◌, ◌≤◌, Bool, true, false, eqb, ltb, List, [], ◌∷◌, ◌++◌, map, length, get_or, take, drop, set, replicate, sym, refl, ap, ◌∙◌, arith, length-append, take_at, get_or-append-add, ltb-false, ltb-true, eqb-true}
-use lib.ListN.{length-replicate, get_or-append, get_or-eq_default}
+use Rattle.std.proofs.Common.{◌≡◌, ℕ, zero, suc, ◌+◌, ◌-◌, ◌*◌, ◌^◌, ◌<◌, ◌≤◌, true, false, eqb, ltb, List, ◌∷◌, ◌++◌, map, length, get_or, take, drop, set, replicate, sym, refl, ap, ◌∙◌, arith, length-append, take_at, get_or-append-add, ltb-false, ltb-true, eqb-true}
+use lib.ListN.{length-replicate, get_or-append}
 use borrow.Author.Tests.{eqb-false}
-use Rattle.repr.specs.Sizes.{index_limit, item_limit, record_limit}
+use Rattle.repr.specs.Sizes.{index_limit, item_limit}
 use Rattle.repr.specs.Lists.{up_from, below, keep}
 use Rattle.repr.specs.Meaning.{Table}
 use Rattle.repr.proofs.Lists.{cases, clash, get_d_map, get_d_up_from, length-up_from, length_mapped}
@@ -10,7 +10,7 @@ use Rattle.lookahead.proofs.Growing.{get_d_none}
 use Rattle.build.specs.States.{places, closure}
 use Rattle.build.proofs.Rounds.{Sized}
 use Rattle.build.proofs.Closure.{closure_sized}
-use Rattle.closing.specs.Grammar.{Grammar, Held}
+use Rattle.closing.specs.Grammar.{Grammar}
 use Rattle.closing.specs.Fed.{Flat}
 use Rattle.stored.specs.Stored.{Entry, no_entry, entry_at, entries, held, packed}
 use Rattle.stored.proofs.Packed.{held_none, held-some}

@@ -1,5 +1,5 @@
 -- Stopping where a state is refused answers what `outcome` answers (`outcome_steps`). Assumes nothing.
-use Rattle.std.proofs.Common.{◌≡◌, ℕ, zero, suc, ◌+◌, ◌<◌, ◌≤◌, Bool, true, false, eqb, ltb, List, [], ◌∷◌, ◌++◌, length, get_or, sym, refl, ap, ◌∙◌, subst, arith, length-append, ltb-false, ltb-true, le-ltb, lt-ltb, eqb-true}
+use Rattle.std.proofs.Common.{◌≡◌, ℕ, zero, suc, ◌+◌, ◌<◌, ◌≤◌, true, false, eqb, ltb, List, [], ◌∷◌, ◌++◌, length, get_or, sym, refl, ap, ◌∙◌, subst, arith, length-append, ltb-false, ltb-true, le-ltb, lt-ltb, eqb-true}
 use mathlib.Core.Option.{Option, none, some}
 use lib.ListN.{get_or-append}
 use borrow.Author.Tests.{eqb-false}
@@ -7,11 +7,11 @@ use Rattle.repr.specs.Lists.{below, first?}
 use Rattle.repr.specs.Meaning.{Symbol, Edge, Table}
 use Rattle.repr.proofs.Lists.{cases, clash}
 use Rattle.repr.proofs.Tests.{first?-below, first?-below_intro}
-use Rattle.build.specs.States.{moved, nothing?, goto, place, add, tried, Taken, take, Collected, built, halted, collect, build, start_state}
-use Rattle.build.specs.Outcome.{stops_at, number_of, states_of, Outcome, refused, finish, answer, outcome}
-use Rattle.build.proofs.Collection.{Extends, extends_refl, extends_trans, take_extends, take-nil, take_none, take-some, collect-done, collect-halts, collect-more, add_old, add_new, length_snoc}
+use Rattle.build.specs.States.{moved, nothing?, goto, place, tried, Taken, take, Collected, built, collect, build, start_state}
+use Rattle.build.specs.Outcome.{stops_at, number_of, states_of, refused, finish, answer, outcome}
+use Rattle.build.proofs.Collection.{Extends, take_extends, take-nil, take_none, take-some, collect-done, collect-halts, collect-more, add_old, add_new, length_snoc}
 use Rattle.build.proofs.Refusals.{stops_128, stops-more, collect_extends, answer-some, answer-none}
-use Rattle.finding.specs.Steps.{Reach, nowhere, stops, reach, add_to, goto_to, Told, stopped, told, behind, take_to, Found, halts, found, collect_to, found_to, finish_to}
+use Rattle.finding.specs.Steps.{nowhere, stops, reach, add_to, goto_to, Told, stopped, told, behind, take_to, Found, halts, found, collect_to, found_to, finish_to}
 
 -- no state so far is refused
 abbrev Passes : Table → ℕ → List (List ℕ) → Type 0

@@ -1,19 +1,19 @@
 -- The algebra of answers (specs/First): joining two is associative and FIRST of nothing neutral, for all answers; so FIRST of two joined lists is the two answers
 -- joined, for every table. Assumes nothing.
 use mathlib.Core.Path.{◌≡◌, refl, sym, ap, ◌∙◌}
-use mathlib.Core.Bool.{Bool, true, false, ◌&&◌, ◌||◌, not, and-true, and-false}
-use mathlib.Core.List.{List, [], ◌∷◌, ◌++◌}
+use mathlib.Core.Bool.{true, false, ◌||◌, and-true, and-false}
+use mathlib.Core.List.{List, [], ◌++◌}
 use Prim.Native.Nat.{ℕ}
 use lib.Dec.{eqb}
 use borrow.Author.Tests.{eq-eqb}
 use Rattle.repr.specs.Meaning.{Symbol, Table}
 use Rattle.repr.proofs.Lists.{cases}
 use Rattle.lookahead.specs.Tokens.{has, single, union, without}
-use Rattle.lookahead.proofs.Laws.{has-none, has-union, has-single, has-without, without_no}
+use Rattle.lookahead.proofs.Laws.{has-union, has-single, has-without}
 use Rattle.lookahead.proofs.Sets.{same_set, empty-set, union_assoc, union-zero-left, union-zero_right}
 use Rattle.first.specs.declared.Answer.{Answer}
 use Rattle.first.specs.First.{join, marked_at_end, unmarked, first0, followed, join_answers, empty_answer, FIRST, sets_of_first}
-use Rattle.first.proofs.Join.{join_null, join_own, has-join_end, followed-join, end_marked-nil, end_marked-append}
+use Rattle.first.proofs.Join.{join_null, join_own, has-join_end, end_marked-nil, end_marked-append}
 
 pub followed_null : (a : Answer) (s : ℕ) → a.nullable ≡ true → followed a s ≡ union a.tokens.0 s
 unfolding followed

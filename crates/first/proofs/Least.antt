@@ -3,22 +3,22 @@
 use mathlib.Core.Path.{◌≡◌, refl, sym, ap, ◌∙◌, subst}
 use mathlib.Core.Bool.{true, false, ◌&&◌}
 use mathlib.Core.List.{List, [], ◌∷◌, ◌++◌, Memᴰ}
-use Prim.Native.Nat.{ℕ, zero, suc, ◌+◌, ◌-◌, ◌*◌, ◌^◌, ◌≤◌, ◌<◌}
+use Prim.Native.Nat.{ℕ, zero, suc, ◌-◌, ◌^◌, ◌≤◌, ◌<◌}
 use native.Mathlib.Omega.{arith}
 use lib.Dec.{eqb, ltb}
-use lib.ListN.{length, get_or, replicate, length-set, length-replicate, get_or-eq_default, get_or-replicate}
+use lib.ListN.{length, get_or, replicate, length-set}
 use lib.Seq.{get_or-set_same, get_or-set_other, set_out, ext_get_or}
-use borrow.Author.Tests.{eqb-true, eqb-false, eq-eqb, ltb-true, ltb-false}
+use borrow.Author.Tests.{eqb-true, eqb-false, ltb-true, ltb-false}
 use Rattle.repr.specs.Sizes.{nonterminal_limit, terminal_limit}
 use Rattle.repr.proofs.Tests.{All-map, All_member}
 use Rattle.lookahead.proofs.Growing.{Inside, inside_refl, inside_trans, inside_antisym, inside-none, same_between, total, total_inside, Sized, none_sized, total_lt}
-use Rattle.slices.proofs.Same.{same_words_eq, same_words_refl, eq_same_words}
+use Rattle.slices.proofs.Same.{same_words_eq, eq_same_words}
 use Rattle.slices.specs.Same.{same_words}
 use Rattle.repr.specs.Meaning.{Symbol, nonterminal, terminal, Production, Table, SymbolFits, All, ProductionFits, TableFits}
-use Rattle.repr.proofs.Lists.{cases, clash}
+use Rattle.repr.proofs.Lists.{cases}
 use Rattle.lookahead.specs.Tokens.{union, Within}
 use Rattle.lookahead.proofs.Laws.{union_lt}
-use Rattle.lookahead.proofs.Sets.{union-within, within_refl, within_trans, within_none, within-union-left, within_antisym, within_same_union, within_le, union-within-union}
+use Rattle.lookahead.proofs.Sets.{union-within, within_refl, within_trans, within-union-left, within_same_union, union-within-union}
 use Rattle.first.specs.First.{marked_at_end, grown, round, settle, rounds, sets_of_first}
 use Rattle.first.proofs.Join.{end_marked-within, end_marked_lt, TerminalBelow}
 

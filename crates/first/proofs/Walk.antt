@@ -1,6 +1,6 @@
 -- One law for each way through the code of `end_marked`, `first0`, `first1` and of `Answer` (src/lib), over specs/First: FIRST of a list, symbol by symbol. Assumes nothing.
 use mathlib.Core.Path.{◌≡◌, refl, sym, ap, ◌∙◌}
-use mathlib.Core.Bool.{Bool, true, false, ◌&&◌, ◌||◌, not}
+use mathlib.Core.Bool.{Bool, true, false, not}
 use borrow.Author.Tests.{not-true, not-false}
 use lib.Dec.{eqb}
 use mathlib.Core.List.{List}

@@ -1,20 +1,20 @@
 -- Words that hold states (specs/Made): one state more stored behind them (`holds_more`), how many items they have (`holds_counted`), and a kernel looked for among
 -- them (`holds_place`). Assumes nothing.
-use Rattle.std.specs.Prelude.{◌≡◌, ℕ, zero, suc, ◌+◌, ◌-◌, ◌*◌, ◌<◌, ◌≤◌, Bool, true, false, eqb, ltb, List, [], ◌∷◌, ◌++◌, map, length, get_or, take, set}
-use mathlib.Core.Path.{refl, sym, ap, ◌∙◌, subst}
+use Rattle.std.specs.Prelude.{◌≡◌, ℕ, zero, suc, ◌+◌, ◌-◌, ◌<◌, ◌≤◌, eqb, List, [], ◌∷◌, ◌++◌, map, length, get_or, take, set}
+use mathlib.Core.Path.{refl, sym, ap, ◌∙◌}
 use native.Mathlib.Numerals.{add-one}
 use native.Mathlib.Omega.{arith}
 use lib.ListN.{length-set, get_or-append, get_or-map}
 use lib.Seq.{get_or-set_same, get_or-set_other, get_or-append_seam, take-suc, take-length, ext_get_or}
-use borrow.Author.Tests.{eqb-true, eqb-false, ltb-true, ltb-false}
-use Rattle.repr.specs.Sizes.{record_limit, state_limit, index_limit}
-use Rattle.repr.specs.Lists.{below, keep}
-use Rattle.repr.specs.Meaning.{Item, Table, TableFits}
+use borrow.Author.Tests.{eqb-true, eqb-false}
+use Rattle.repr.specs.Sizes.{record_limit, state_limit}
+use Rattle.repr.specs.Lists.{below}
+use Rattle.repr.specs.Meaning.{Table, TableFits}
 use Rattle.repr.proofs.Lists.{cases, length-map-below, get_d_map-below, length_mapped}
 use Rattle.build.specs.States.{closure, place, written}
 use Rattle.build.specs.Outcome.{sum}
 use Rattle.build.proofs.Collection.{length_snoc}
-use Rattle.stored.specs.Stored.{Entry, entries, packed}
+use Rattle.stored.specs.Stored.{entries, packed}
 use Rattle.kept_states.specs.Kept.{put_all, state_in, states_in, Begun, kernel_place}
 use Rattle.kept_states.specs.Made.{Made, Holds}
 use Rattle.kept_states.proofs.Kept.{length-put_all}

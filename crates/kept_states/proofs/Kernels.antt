@@ -1,5 +1,5 @@
 -- Kernels: two of one state's size are the same items past index 0 exactly if the sets there are; so a goto is compared before it is closed (`place_kernel`). Assumes nothing.
-use Rattle.std.specs.Prelude.{◌≡◌, ℕ, zero, suc, ◌+◌, ◌*◌, ◌%◌, ◌<◌, ◌≤◌, Bool, true, false, ◌&&◌, eqb, List, [], ◌∷◌, map, length, get_or}
+use Rattle.std.specs.Prelude.{◌≡◌, ℕ, zero, suc, ◌+◌, ◌%◌, ◌<◌, ◌≤◌, Bool, true, false, ◌&&◌, eqb, List, [], ◌∷◌, map, length, get_or}
 use mathlib.Core.Path.{refl, sym, ap, ◌∙◌}
 use native.Mathlib.Omega.{arith}
 use lib.Seq.{ext_get_or}
@@ -14,7 +14,7 @@ use Rattle.repr.proofs.Tests.{every?_fails}
 use Rattle.build.specs.States.{places, closure, moved, goto, start_state, nothing?, place}
 use Rattle.build.proofs.Rounds.{Sized}
 use Rattle.build.proofs.Closure.{closure_sized}
-use Rattle.build.proofs.Goto.{moved_sized, start_sized, goto_sized, length_moved, kernel, kernel_other}
+use Rattle.build.proofs.Goto.{moved_sized, start_sized, goto_sized, kernel, kernel_other}
 use Rattle.build.proofs.Collection.{Each, place_here, place_there}
 use Rattle.build.proofs.Shortcuts.{closure-keeps, moved-first}
 use Rattle.stored.specs.Stored.{Entry, held, packed, is_same_kernel, same_entry}

@@ -1,5 +1,5 @@
 -- The states found, in words: their items one state behind the other (specs/Stored of stored), and where each begins. Assumes nothing: these are definitions.
-use Rattle.std.specs.Prelude.{◌≡◌, ℕ, suc, ◌+◌, ◌-◌, ◌*◌, ◌<◌, ◌≤◌, true, false, List, [], ◌∷◌, map, length, set, replicate, slice_index, slice_set}
+use Rattle.std.specs.Prelude.{◌≡◌, ℕ, suc, ◌+◌, ◌-◌, ◌*◌, ◌<◌, ◌≤◌, true, false, List, [], ◌∷◌, map, length, replicate, slice_index, slice_set}
 use Rattle.repr.specs.Sizes.{record_limit, state_limit, item_limit}
 use Rattle.repr.specs.Lists.{below}
 use Rattle.stored.specs.Stored.{Entry, entries, put_entry, is_same_kernel}

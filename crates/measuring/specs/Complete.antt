@@ -1,5 +1,5 @@
 -- All states found, as words hold them: what counting and writing them gets, and what is decided at the end. Assumes nothing: these are definitions.
-use Rattle.std.specs.Prelude.{ℕ, ◌+◌, ◌*◌, ◌≤◌, ◌<◌, ◌≡◌, List, length}
+use Rattle.std.specs.Prelude.{ℕ, ◌+◌, ◌≤◌, ◌<◌, ◌≡◌, List, length}
 use Rattle.repr.specs.Meaning.{Edge, Table}
 use Rattle.closing.specs.Grammar.{Grammar}
 use Rattle.build.specs.States.{built, clashes}
@@ -7,7 +7,7 @@ use Rattle.build.specs.Outcome.{sum, records, refused, full, finish}
 use Rattle.kept_states.specs.Made.{Holds}
 use Rattle.finding.specs.Steps.{Found}
 use Rattle.starting.specs.Start.{Counted}
-use Rattle.collecting.specs.Rows.{rows_in, FoundAll}
+use Rattle.collecting.specs.Rows.{FoundAll}
 use Rattle.measuring.specs.declared.Measured.{Measured}
 use Rattle.measuring.specs.declared.Measured.TheVariants.{Stops, Fits}
 

@@ -1,13 +1,11 @@
 -- Laws of the whole search. Assumes nothing.
-use mathlib.Core.Path.{◌≡◌, refl, sym, ap, ◌∙◌}
+use mathlib.Core.Path.{◌≡◌, refl}
 use mathlib.Core.Bool.{Bool, true, false}
 use mathlib.Core.List.{List, [], ◌∷◌}
-use Prim.Native.Nat.{ℕ, ◌<◌}
-use native.Mathlib.Omega.{arith}
-use lib.ListN.{length}
+use Prim.Native.Nat.{ℕ}
 use Rattle.build.specs.States.{start_state}
 use Rattle.build.specs.Outcome.{number_of}
-use Rattle.finding.specs.Steps.{halts, collect_to, found_to}
+use Rattle.finding.specs.Steps.{collect_to, found_to}
 use Rattle.finding.specs.Search.{Search}
 use Rattle.finding.proofs.Steps.{first-full, first_fits}
 use Rattle.starting.specs.Start.{Started}

@@ -1,5 +1,5 @@
 -- What a whole search gets: the grammar of some table in words, and its numbers. Assumes nothing: these are definitions.
-use Rattle.std.specs.Prelude.{ℕ, ◌≤◌, ◌<◌, List, length}
+use Rattle.std.specs.Prelude.{ℕ, ◌≤◌, ◌<◌, List}
 use Rattle.repr.specs.Meaning.{Table}
 use Rattle.closing.specs.Grammar.{Grammar}
 use Rattle.starting.specs.Start.{Counted}

@@ -2,14 +2,14 @@
 -- Assumes nothing.
 use mathlib.Core.Path.{◌≡◌, refl, ap, ◌∙◌}
 use mathlib.Core.List.{List, [], ◌∷◌, ◌++◌, map}
-use Prim.Native.Nat.{ℕ, zero, suc, ◌+◌, ◌-◌, ◌*◌, ◌≤◌, ◌<◌}
+use Prim.Native.Nat.{ℕ, zero, suc, ◌+◌, ◌≤◌, ◌<◌}
 use native.Mathlib.Omega.{arith}
 use lib.ListN.{length, get_or, drop, length-append, get_or-append}
 use lib.Seq.{get_or-append-add}
 use Rattle.repr.specs.Lists.{up_from}
 use Rattle.table.specs.Words.{word_at, records, Area, chain}
 use Rattle.table.proofs.Chains.{names_good, chain_end, chain-step}
-use Rattle.table.specs.Quads.{Quad, no_quad, words}
+use Rattle.table.specs.Quads.{Quad, no_quad}
 use Rattle.spelling.specs.Spelled.{head_of, chainFrom, chainsFrom, place_of, size_of}
 use Rattle.spelling.specs.Grown.{Stands}
 

@@ -1,12 +1,10 @@
 -- A chain of an accepted table read record by record, whatever it holds: an index, the record there, the chain after it. Assumes nothing.
-use mathlib.Core.Path.{◌≡◌, refl, sym, ap, ◌∙◌}
+use mathlib.Core.Path.{◌≡◌, refl}
 use mathlib.Core.Bool.{Bool, true, false, ◌||◌}
-use mathlib.Core.List.{List, [], ◌∷◌, map}
+use mathlib.Core.List.{List, [], ◌∷◌}
 use Prim.Native.Nat.{ℕ, suc, ◌+◌, ◌-◌, ◌≤◌, ◌<◌}
 use native.Mathlib.Omega.{arith}
-use lib.ListN.{length}
 use Rattle.repr.specs.Lists.{up_from}
-use Rattle.repr.proofs.Lists.{cases, clash}
 use Rattle.table.specs.Words.{word_at, records, loose, loose_records, against}
 use Rattle.table.specs.Refusals.{as_symbol, as_item, as_edge, check_of}
 use Rattle.table.specs.Index.{ItemIndex, EdgeIndex}

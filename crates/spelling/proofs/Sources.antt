@@ -1,17 +1,17 @@
 -- The three regions of a spelling are chains of the table's own records, each with another next index: so one function writes them all. Assumes nothing.
 use mathlib.Core.Path.{◌≡◌, refl, sym, ap, ◌∙◌}
 use mathlib.Core.Bool.{Bool, true, false, ◌&&◌, ◌||◌}
-use mathlib.Core.List.{List, [], ◌∷◌, ◌++◌, map}
+use mathlib.Core.List.{List, [], ◌∷◌, map}
 use Prim.Native.Nat.{ℕ, zero, suc, ◌+◌, ◌-◌, ◌≤◌, ◌<◌}
 use native.Mathlib.Omega.{arith}
 use lib.ListN.{length, get_or}
 use lib.Seq.{ext_get_or}
 use borrow.Author.Tests.{eqb-true, not-false}
 use Rattle.repr.specs.Lists.{up_from, mem}
-use Rattle.repr.specs.Meaning.{Symbol, Item, Edge, State, Production, Table, state_at, production_at}
+use Rattle.repr.specs.Meaning.{State, Production}
 use Rattle.repr.specs.Listed.{symbol_of_kind, symbol_is_fit}
 use Rattle.repr.proofs.Lists.{clash, length_mapped, length-up_from, get_d_up_from, get_d_map, mem-cons_here, mem-cons_there}
-use Rattle.table.specs.Words.{word_at, records, nonterminals, terminals, states, productions, state_area, production_area, loose, loose_records, chain}
+use Rattle.table.specs.Words.{word_at, records, states, productions, state_area, production_area, loose, loose_records}
 use Rattle.table.specs.Decoded.{symbol_chain, item_chain, edge_chain, symbol_at, item_at, edge_at, state_of, meaning}
 use Rattle.table.specs.Refusals.{is_nonterminal, is_state, as_symbol, as_item, as_edge, used, row8, check_of}
 use Rattle.table.specs.declared.Checked.TheVariants.{Accepted}

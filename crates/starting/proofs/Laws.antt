@@ -1,31 +1,29 @@
 -- Laws of state 0. Assumes nothing.
 use mathlib.Core.Path.{◌≡◌, refl, sym, ap, ◌∙◌}
-use mathlib.Core.Bool.{Bool, true, false}
-use mathlib.Core.List.{List, [], ◌∷◌, ◌++◌}
-use Prim.Native.Nat.{ℕ, zero, suc, ◌+◌, ◌-◌, ◌*◌, ◌^◌, ◌≤◌, ◌<◌, min}
+use mathlib.Core.Bool.{Bool}
+use mathlib.Core.List.{List, [], ◌∷◌}
+use Prim.Native.Nat.{ℕ, zero, suc, ◌+◌, ◌*◌, ◌^◌, ◌≤◌, ◌<◌, min}
 use native.Mathlib.Omega.{arith}
 use lib.Dec.{eqb, ltb}
 use lib.ListN.{length, get_or, set, take, replicate, length-set, length-replicate}
 use lib.Seq.{get_or-set_same, get_or-set_other}
 use borrow.Author.Tests.{eqb-true, eqb-false, lt-ltb, le-ltb}
-use Rattle.repr.specs.Sizes.{index_limit, item_limit, record_limit, state_limit}
+use Rattle.repr.specs.Sizes.{index_limit, record_limit, state_limit}
 use Rattle.repr.specs.Lists.{up_from, below, keep}
-use Rattle.repr.specs.Meaning.{Table, TableFits}
+use Rattle.repr.specs.Meaning.{Table}
 use Rattle.repr.proofs.Lists.{cases}
-use Rattle.lookahead.specs.Tokens.{single, union, with}
+use Rattle.lookahead.specs.Tokens.{single, with}
 use Rattle.lookahead.proofs.Growing.{get_d_none}
 use Rattle.lookahead.proofs.Laws.{with_yes, single_lt}
 use Rattle.lookahead.proofs.Sets.{union-zero-left}
-use Rattle.build.specs.States.{places, closure, start_state, written}
+use Rattle.build.specs.States.{places, closure, start_state}
 use Rattle.build.specs.Outcome.{sum, records, stops_at}
-use Rattle.build.proofs.Goto.{kernel, kernel_other}
 use Rattle.build.proofs.Refusals.{stops-other}
-use Rattle.closing.specs.Grammar.{Grammar, Held}
+use Rattle.closing.specs.Grammar.{Grammar}
 use Rattle.stored.specs.Stored.{Entry, entries, put_entry, held, packed}
 use Rattle.stored.proofs.Stored.{entries-put, length-put}
 use Rattle.stored.proofs.Packed.{held_none, held-some}
-use Rattle.kept_states.specs.Kept.{put_all, Begun}
-use Rattle.kept_states.specs.Made.{Made, first, Holds}
+use Rattle.kept_states.specs.Made.{first, Holds}
 use Rattle.kept_states.proofs.Holds.{holds_more, length-packed}
 use Rattle.finding.specs.Search.{KernelIn, Stored}
 use Rattle.starting.specs.Start.{Counted, Started}

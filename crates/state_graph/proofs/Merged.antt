@@ -1,17 +1,16 @@
 -- Numbers merged (specs/Walk), and the walk from each state of a set, all merged. Assumes nothing.
-use mathlib.Core.Path.{◌≡◌, refl, sym, ap, ◌∙◌}
-use mathlib.Core.Bool.{Bool, true, false, ◌&&◌, ◌||◌, and-false}
+use mathlib.Core.Path.{◌≡◌, sym, ap, ◌∙◌}
+use mathlib.Core.Bool.{Bool, true, false, ◌||◌, and-false}
 use mathlib.Core.List.{List, [], ◌∷◌, ◌++◌}
-use mathlib.Core.Logic.{◌↔◌}
-use Prim.Native.Nat.{ℕ, zero, suc, ◌+◌, ◌≤◌, ◌<◌}
+use Prim.Native.Nat.{ℕ, suc, ◌+◌, ◌≤◌, ◌<◌}
 use native.Mathlib.Nat.{add_comm}
 use native.Mathlib.Omega.{arith}
 use lib.Dec.{eqb, ltb}
 use lib.ListN.{length, get_or}
 use borrow.Author.Tests.{eqb-true, ne_eqb, lt-ltb, ltb-false}
-use Rattle.repr.specs.Lists.{up_from, below, mem, keep, joined}
+use Rattle.repr.specs.Lists.{below, mem, keep, joined}
 use Rattle.repr.specs.Meaning.{Symbol, Table}
-use Rattle.repr.proofs.Lists.{cases, clash, mem-nil, mem-cons, mem_no, mem-append, mem-keep, mem_below, keep_agree, joined_nil, joined_cons}
+use Rattle.repr.proofs.Lists.{cases, clash, mem-nil, mem_no, mem-append, mem-keep, mem_below, keep_agree, joined_nil, joined_cons}
 use Rattle.state_graph.specs.Walk.{Ascending, leads, predecessors, walked_back, traced_back, above, merged}
 use Rattle.state_graph.proofs.Exact.{kept-ascending, leads-outside, walk-nil, walk-cons, walk_exact, walk-append, walk-union}
 use Rattle.state_graph.proofs.States.{one_of_range}

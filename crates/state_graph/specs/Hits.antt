@@ -1,5 +1,5 @@
 -- The records from which a chain of edges comes to an edge by one symbol into a set of states, as the code keeps them: a bit a record. Assumes nothing: these are definitions.
-use Rattle.std.specs.Prelude.{ℕ, Bool, true, false, ◌&&◌, ◌||◌, ◌≡◌, List, length, eqb, ltb}
+use Rattle.std.specs.Prelude.{ℕ, Bool, true, ◌&&◌, ◌||◌, ◌≡◌, List, length, eqb, ltb}
 use Rattle.repr.specs.Lists.{mem, some?}
 use Rattle.repr.specs.Meaning.{Symbol, is_same_symbol, Edge}
 use Rattle.repr.specs.Listed.{symbol_of_kind}

@@ -1,5 +1,5 @@
 -- The state walk, part 3 of document 01 (lr1/state_graph.rs). Assumes nothing: these are definitions.
-use Rattle.std.specs.Prelude.{ℕ, suc, ◌+◌, ◌<◌, Bool, true, false, ◌&&◌, ◌≡◌, length, get_or}
+use Rattle.std.specs.Prelude.{ℕ, suc, ◌+◌, ◌<◌, Bool, ◌&&◌, length, get_or}
 use mathlib.Core.List.{List, [], ◌∷◌, Memᴰ}
 use Rattle.repr.specs.Lists.{below, mem, keep, some?}
 use Rattle.repr.specs.Meaning.{Symbol, is_same_symbol, Edge, Table, state_at}

@@ -1,9 +1,9 @@
 -- A goto's kernel in words: the items of a state moved over a symbol are the places of `moved` that have a token (`packed-moved`). Assumes nothing.
-use Rattle.std.proofs.Common.{◌≡◌, ℕ, zero, suc, ◌+◌, ◌-◌, ◌*◌, ◌/◌, ◌%◌, ◌<◌, ◌≤◌, Bool, true, false, not, eqb, ltb, List, [], ◌∷◌, ◌++◌, map, length, get_or, drop, sym, refl, ap, ◌∙◌, arith, ltb-false, ltb-true, eq-eqb, ne_eqb, eqb-true}
+use Rattle.std.proofs.Common.{◌≡◌, ℕ, zero, suc, ◌+◌, ◌*◌, ◌/◌, ◌%◌, ◌<◌, ◌≤◌, true, false, not, eqb, ltb, List, [], ◌∷◌, ◌++◌, length, get_or, drop, sym, refl, ap, ◌∙◌, arith, ltb-false, ltb-true, eq-eqb, ne_eqb, eqb-true}
 use lib.ListN.{get_or-eq_default}
 use borrow.Author.Tests.{eqb-false}
 use Rattle.repr.specs.Sizes.{index_limit}
-use Rattle.repr.specs.Lists.{up_from, below, keep}
+use Rattle.repr.specs.Lists.{up_from, below}
 use Rattle.repr.specs.Meaning.{Symbol, nonterminal, terminal, is_same_symbol, Production, Table, production_at, SymbolFits, All, TableFits}
 use Rattle.repr.specs.Packed.{production_in}
 use Rattle.repr.proofs.Lists.{cases, clash, up_from-last, keep-nil, keep-yes, keep_no}

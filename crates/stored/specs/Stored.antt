@@ -1,6 +1,6 @@
 -- Items with their tokens in words, five each: the place (17 * production + index), then the set in four words, the lowest first. A state's items stand one
 -- behind the other, by place. Assumes nothing: these are definitions.
-use Rattle.std.specs.Prelude.{◌≡◌, ℕ, zero, suc, ◌+◌, ◌-◌, ◌*◌, ◌/◌, ◌%◌, ◌<◌, ◌≤◌, Bool, true, false, not, ◌&&◌, List, [], ◌∷◌, ◌++◌, map, length, set, ◌==◌, slice_index, slice_set}
+use Rattle.std.specs.Prelude.{◌≡◌, ℕ, ◌+◌, ◌-◌, ◌*◌, ◌/◌, ◌%◌, ◌<◌, ◌≤◌, Bool, true, false, not, ◌&&◌, List, [], ◌∷◌, ◌++◌, map, length, ◌==◌, slice_index, slice_set}
 use Rattle.repr.specs.Sizes.{index_limit}
 use Rattle.repr.specs.Lists.{up_from, below, keep}
 use Rattle.lr1_core.specs.Cursor.{code_in}

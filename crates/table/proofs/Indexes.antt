@@ -10,7 +10,7 @@ use borrow.Author.Tests.{eqb-true, eqb-false, le-leb, lt-ltb}
 use Rattle.repr.specs.Sizes.{record_limit}
 use Rattle.repr.specs.Meaning.{State, state_at}
 use Rattle.repr.proofs.Lists.{cases}
-use Rattle.table.specs.Words.{word_at, records, nonterminals, terminals, states, productions, state_area, production_area, loose, loose_records, production_records, against, names, chain}
+use Rattle.table.specs.Words.{word_at, records, nonterminals, states, productions, state_area, production_area, loose, loose_records, production_records, against, names, chain}
 use Rattle.table.specs.Decoded.{production_chain, item_chain, edge_chain, item_at, edge_at, state_of, productions_of, meaning, items_from, edges_from, productions_from}
 use Rattle.table.specs.Refusals.{is_production, check_of}
 use Rattle.table.specs.Index.{CountsOf, ItemIndex, EdgeIndex, ProductionHead, ItemRead, EdgeRead, ProductionRead}

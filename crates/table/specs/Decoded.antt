@@ -1,5 +1,5 @@
 -- One decoding of the words into their meaning. Assumes nothing: these are definitions.
-use Rattle.std.specs.Prelude.{ℕ, zero, suc, ◌+◌, ◌-◌, Bool, true, false, List, [], ◌∷◌, map}
+use Rattle.std.specs.Prelude.{ℕ, ◌+◌, ◌-◌, List, map}
 use Rattle.std.proofs.Math.Option.{Option, none, some}
 use Rattle.repr.specs.Lists.{below, mem, first?}
 use Rattle.repr.specs.Meaning.{Symbol, Production, Item, Edge, State, Table}

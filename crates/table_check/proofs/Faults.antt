@@ -13,7 +13,7 @@ use Rattle.repr.specs.Sizes.{index_limit}
 use Rattle.repr.specs.Lists.{below, first?, occurrences, joined}
 use Rattle.repr.proofs.Lists.{cases}
 use Rattle.repr.proofs.Tests.{first?-yes, first?_no, first?-below-none}
-use Rattle.table.specs.Words.{word_at, records, productions, state_area, production_area, loose, loose_records, production_records, against, chain}
+use Rattle.table.specs.Words.{word_at, records, productions, state_area, production_area, loose, loose_records, production_records, against}
 use Rattle.table.specs.Decoded.{or_zero, production_chain, symbol_chain}
 use Rattle.table.specs.Refusals.{is_nonterminal, is_state, is_production, as_symbol, as_item, as_edge, row3, row4, row5, row6, row7, row8, used, offends, first_row}
 use Rattle.table.proofs.Exact.{row_some, row_none}

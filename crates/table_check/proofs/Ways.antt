@@ -10,7 +10,7 @@ use borrow.Author.Tests.{eq-eqb, ne_eqb, lt-ltb, le-ltb, le-leb, lt-leb}
 use Rattle.repr.specs.Lists.{below, occurrences, joined}
 use Rattle.repr.specs.Listed.{symbol_is_fit}
 use Rattle.repr.proofs.Lists.{cases}
-use Rattle.table.specs.Words.{word_at, records, productions, production_area, loose, loose_records, production_records, against}
+use Rattle.table.specs.Words.{word_at, productions, production_area, loose_records, production_records, against}
 use Rattle.table.specs.Decoded.{production_chain, symbol_chain}
 use Rattle.table.specs.Refusals.{used}
 use Rattle.table_check.specs.Marks.{Held, Lengths}

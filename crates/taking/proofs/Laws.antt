@@ -1,6 +1,5 @@
 -- Laws of taking a state, one for each way through the code. Assumes nothing.
 use mathlib.Core.Path.{◌≡◌, refl, sym, ap, ◌∙◌, subst}
-use mathlib.Core.Bool.{Bool, true, false}
 use mathlib.Core.List.{List, [], ◌∷◌, ◌++◌, map, append-nil, append_assoc}
 use Prim.Native.Nat.{ℕ, zero, suc, ◌+◌, ◌-◌, ◌*◌, ◌/◌, ◌%◌, ◌≤◌, ◌<◌}
 use native.Mathlib.Numerals.{add-one}
@@ -15,12 +14,12 @@ use Rattle.repr.specs.Meaning.{Symbol, nonterminal, terminal, Edge, Table, Table
 use Rattle.repr.proofs.Lists.{cases, up_from-last, length-map-below, get_d_map-below}
 use Rattle.build.specs.States.{tried}
 use Rattle.kept_states.specs.Made.{Holds}
-use Rattle.finding.specs.Steps.{Reach, nowhere, stops, reach, goto_to, Told, stopped, told, behind, take_to}
+use Rattle.finding.specs.Steps.{Reach, stops, goto_to, Told, stopped, told, behind, take_to}
 use Rattle.finding.specs.Search.{Search, Keeps, Reached, symbol_of_code, CodeFits}
 use Rattle.finding.specs.declared.Goto.{Goto}
 use Rattle.finding.specs.declared.Goto.TheVariants.{Nowhere, To, Stops as NotTo}
 use Rattle.finding.proofs.Steps.{to_nowhere, to_stops, to_reach}
-use Rattle.taking.specs.Taking.{edge_of, edges_in, code_of, TookOne, passed, reached, Tried, TookAll, TakenAs}
+use Rattle.taking.specs.Taking.{edge_of, edges_in, code_of, TookOne, passed, reached, Tried, TakenAs}
 use Rattle.taking.specs.declared.Taken.{Taken}
 use Rattle.taking.specs.declared.Taken.TheVariants.{Stops, Goes}
 

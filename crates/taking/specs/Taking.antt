@@ -1,9 +1,9 @@
 -- The edges found, in words: one each, symbol * 128 + target, those of a state one behind the other as tried; and what taking a state leaves.
 -- Assumes nothing: these are definitions.
-use Rattle.std.specs.Prelude.{ℕ, ◌+◌, ◌-◌, ◌*◌, ◌/◌, ◌%◌, ◌≤◌, ◌<◌, true, false, ◌≡◌, List, [], map, length, get_or, set, ltb}
+use Rattle.std.specs.Prelude.{ℕ, ◌+◌, ◌-◌, ◌*◌, ◌/◌, ◌%◌, ◌≤◌, ◌<◌, true, false, ◌≡◌, List, map, length, get_or, set, ltb}
 use Rattle.repr.specs.Sizes.{state_limit}
 use Rattle.repr.specs.Lists.{up_from}
-use Rattle.repr.specs.Meaning.{Symbol, Edge, Table}
+use Rattle.repr.specs.Meaning.{Edge, Table}
 use Rattle.kept_states.specs.Made.{Holds}
 use Rattle.finding.specs.Steps.{Reach, nowhere, stops, reach, Told, stopped, told}
 use Rattle.finding.specs.Search.{Keeps, symbol_of_code}

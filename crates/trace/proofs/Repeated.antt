@@ -1,14 +1,14 @@
 -- A repeated item of a state adds nothing (acceptance R7): the turn of a trace over a state's items is the turn over those that can shift the nonterminal, each once (`shifting` of
 -- specs/Shifting). An item that cannot shift it changes nothing; an item met before changes nothing, since its edges are there and the pairs that it leads to are entered. Assumes nothing.
-use Rattle.std.proofs.Common.{◌≡◌, ℕ, zero, suc, ◌<◌, Bool, true, false, eqb, ltb, List, [], ◌∷◌, sym, refl, ap, ◌∙◌, arith, eqb-true}
+use Rattle.std.proofs.Common.{◌≡◌, ℕ, zero, suc, Bool, true, false, eqb, ltb, List, [], ◌∷◌, sym, refl, ap, ◌∙◌, arith, eqb-true}
 use Rattle.repr.specs.Lists.{mem, some?, keep}
-use Rattle.repr.specs.Meaning.{Item, Table, state_at, TableFits}
+use Rattle.repr.specs.Meaning.{Item, Table, state_at}
 use Rattle.repr.proofs.Lists.{cases, clash, mem-nil, mem_no, mem-cons_here, mem-cons_there, keep-nil, keep-yes, keep_no}
 use Rattle.repr.proofs.Tests.{some?-nil, some?_no}
 use Rattle.first.specs.First.{nullable}
 use Rattle.state_graph.specs.Walk.{traced_back}
 use Rattle.trace_graph.specs.Graph.{Node, at_nonterminal, at_item, same_item, is_same_edge}
-use Rattle.trace.specs.Traced.{Trace, pair, enter, add_to, owner_of, can_shift, prefix_of, suffix_of, in_turn, pairs}
+use Rattle.trace.specs.Traced.{Trace, pair, enter, add_to, owner_of, can_shift, prefix_of, suffix_of, in_turn}
 use Rattle.trace.specs.Shifting.{distinct_from, distinct, shifting}
 use Rattle.trace.specs.Shift.{epsilon_item, epsilon}
 use Rattle.trace.specs.Reduce.{reduce_state_item, item_of_reduce, state_of_reduce}

@@ -1,5 +1,5 @@
 -- What holds of every accepted trace (acceptance R6, `Sound` of specs/Sound), of both traces of any item in range from any state. Assumes nothing.
-use Rattle.std.proofs.Common.{◌≡◌, ℕ, zero, suc, ◌<◌, Bool, true, false, ltb, leb, ◌⊎◌, List, [], ◌∷◌, ◌++◌, length, sym, refl, ap, ◌∙◌, inl, inr, arith, ltb-false, ltb-true, lt-ltb, le-leb, leb-true}
+use Rattle.std.proofs.Common.{◌≡◌, ℕ, zero, suc, ◌<◌, Bool, true, false, ltb, leb, List, [], ◌∷◌, ◌++◌, length, sym, refl, ap, ◌∙◌, inl, inr, arith, ltb-false, ltb-true, lt-ltb, le-leb, leb-true}
 use mathlib.Core.List.Memᴰ
 use mathlib.Core.List.{Memᴰ}
 use native.Mathlib.Decide.{dec_lt}
@@ -20,7 +20,7 @@ use Rattle.trace.specs.Shift.{epsilon_item, epsilon, shift_trace, shift_edges}
 use Rattle.trace.specs.Reduce.{reduce_state_item, item_of_reduce, state_of_reduce, reduce_trace, reduce_edges}
 use Rattle.trace.specs.Sound.{apart_ends, owner_of_node, EdgeSound, ShiftStep, ReduceStep, Known, Rooted, bare, one_more, Sound}
 use Rattle.trace.proofs.Once.{node_same, edge_equal, add_there, add_new, add-all, add_once, once-nil}
-use Rattle.trace.proofs.Grows.{Adds, Grows, grows_some, turn_nil, turn_cons, turn_grows, add_grows, enter_grows, epsilon_cannot, epsilon_past, epsilon_beginning, epsilon-zero, epsilon-entered, epsilon_new, epsilon_item_grows, epsilon_grows, reduce_cannot, reduce_nullable, reduce_ends, reduce_item_is, reduce_zero, reduce_entered, reduce_new, reduce_item_grows, reduce_state_item_grows, reduce_grows}
+use Rattle.trace.proofs.Grows.{Adds, Grows, grows_some, turn_nil, turn_cons, turn_grows, epsilon_cannot, epsilon_past, epsilon_beginning, epsilon-zero, epsilon-entered, epsilon_new, epsilon_item_grows, epsilon_grows, reduce_cannot, reduce_nullable, reduce_ends, reduce_item_is, reduce_zero, reduce_entered, reduce_new, reduce_item_grows, reduce_state_item_grows, reduce_grows}
 use Rattle.trace.proofs.Fuel.{owner_lt}
 
 -- a fact of a whole list holds of its members

@@ -1,5 +1,5 @@
 -- `backtrace_shift` (lr1/trace/shift). Assumes nothing: these are definitions.
-use Rattle.std.specs.Prelude.{ℕ, zero, suc, Bool, true, false, List, [], ◌∷◌, nat_lt}
+use Rattle.std.specs.Prelude.{ℕ, zero, suc, true, false, List, nat_lt}
 use Rattle.repr.specs.Lists.{mem}
 use Rattle.repr.specs.Meaning.{Item, Table, state_at}
 use Rattle.state_graph.specs.Walk.{traced_back}

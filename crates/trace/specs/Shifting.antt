@@ -1,12 +1,11 @@
 -- The items of a state that can shift a nonterminal, each once, in the order of the chain: tracing over them gives what tracing over the chain gives (`epsilon-shifting` and
 -- `reduce-shifting` of proofs/Repeated). Assumes nothing: these are definitions.
-use Rattle.std.specs.Prelude.{◌≡◌, ℕ, zero, suc, ◌+◌, ◌*◌, ◌/◌, ◌%◌, ◌<◌, ◌≤◌, Bool, true, false, List, [], ◌∷◌, map, length, get_or, take, drop}
-use Rattle.std.proofs.Math.Seq.{slice}
-use Rattle.repr.specs.Sizes.{index_limit, item_limit}
+use Rattle.std.specs.Prelude.{ℕ, ◌/◌, ◌%◌, true, false, List, [], ◌∷◌}
+use Rattle.repr.specs.Sizes.{index_limit}
 use Rattle.repr.specs.Lists.{some?, keep}
 use Rattle.repr.specs.Meaning.{Item, Table, state_at}
 use Rattle.trace_graph.specs.Graph.{same_item}
-use Rattle.trace.specs.Traced.{can_shift, pair}
+use Rattle.trace.specs.Traced.{can_shift}
 
 -- without those that are among ms or stand earlier
 unfoldable pub distinct_from : List Item → List Item → List Item

@@ -1,9 +1,9 @@
 -- What tracing carries along, part 5 of document 01 (lr1/trace): the edges in the order added, and the pairs of a state and a nonterminal that are entered.
 -- Assumes nothing: these are definitions.
-use Rattle.std.specs.Prelude.{ℕ, zero, suc, ◌+◌, ◌*◌, Bool, true, false, List, [], ◌∷◌, take, drop}
+use Rattle.std.specs.Prelude.{ℕ, ◌+◌, ◌*◌, Bool, List, [], ◌∷◌}
 use Rattle.repr.specs.Meaning.{Symbol, Item, Table, production_at}
 use Rattle.lr1_core.specs.Items.{shifts_nonterminal, symbol_sets}
-use Rattle.trace_graph.specs.Graph.{Node, at_nonterminal, at_item, TraceEdge, empty_graph, add}
+use Rattle.trace_graph.specs.Graph.{Node, TraceEdge, empty_graph, add}
 
 pub record Trace : Type 0 where
   pub edges : List TraceEdge

@@ -1,7 +1,7 @@
 -- The ways through `check_edge` and `check_graph`: a graph's edges are different from each other where each is different from those before it. Assumes nothing.
 use Rattle.std.proofs.Common.{◌≡◌, ℕ, zero, suc, ◌+◌, ◌<◌, ◌≤◌, Bool, true, false, not, ◌&&◌, ◌||◌, leb, List, [], ◌∷◌, ◌++◌, length, get_or, replicate, sym, refl, ap, ◌∙◌, arith, le-leb, leb-true}
 use mathlib.Core.Bool.{or-false}
-use Rattle.repr.specs.Sizes.{edge_limit, edge_place, graph_room}
+use Rattle.repr.specs.Sizes.{edge_limit, graph_room}
 use Rattle.repr.specs.Lists.{below, some?, every?}
 use Rattle.repr.specs.Meaning.{Production}
 use Rattle.repr.specs.Packed.{Packed, productions_in}

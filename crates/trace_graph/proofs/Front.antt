@@ -1,5 +1,5 @@
 -- What an added edge does to a graph's words: counts, the words past the edges, and the words in front where they are those of a list of edges. Assumes nothing.
-use Rattle.std.proofs.Common.{◌≡◌, ℕ, suc, ◌+◌, ◌*◌, ◌≤◌, List, [], ◌∷◌, ◌++◌, length, get_or, take, drop, sym, ap, ◌∙◌, arith, length-append, get_or-set_other, drop-drop, take_at, drop_at}
+use Rattle.std.proofs.Common.{◌≡◌, ℕ, suc, ◌+◌, ◌*◌, ◌≤◌, List, [], ◌∷◌, ◌++◌, length, get_or, take, drop, sym, ap, ◌∙◌, arith, length-append, drop-drop, take_at, drop_at}
 use lib.Seq.{sets, sets-eq}
 use Rattle.repr.specs.Sizes.{edge_room, edge_place}
 use Rattle.repr.specs.Lists.{joined}
@@ -9,7 +9,6 @@ use Rattle.trace_graph.specs.Graph.{TraceEdge, add}
 use Rattle.trace_graph.specs.Words.{edge_words, graph_words, edges_in}
 use Rattle.trace_graph.specs.Values.{written}
 use Rattle.trace_graph.specs.Insert.{with_one_more, Overfull}
-use Rattle.trace_graph.proofs.Stores.{stored_after}
 use Rattle.trace_graph.proofs.Words.{words_count, edge_value, value_words_lem, edges_first, first_long}
 use Rattle.trace_graph.proofs.Inserts.{add_new}
 

@@ -1,12 +1,12 @@
 -- Laws of the index (specs/Index): the edges that pass a test, the links along them, and an edge put in front. Assumes nothing.
-use Rattle.std.proofs.Common.{◌≡◌, ℕ, zero, suc, ◌+◌, ◌<◌, ◌≤◌, Bool, true, false, ◌&&◌, ◌||◌, eqb, ltb, List, [], ◌∷◌, length, get_or, set, replicate, sym, refl, ap, ◌∙◌, arith, length-set, get_or-set_other, get_or-set_same, ltb-false, ltb-true, le-ltb, lt-ltb, eq-eqb, eqb-true}
+use Rattle.std.proofs.Common.{◌≡◌, ℕ, zero, suc, ◌+◌, ◌<◌, ◌≤◌, Bool, true, false, ◌||◌, eqb, List, [], ◌∷◌, length, get_or, set, replicate, sym, refl, ap, ◌∙◌, arith, length-set, get_or-set_other, get_or-set_same, eqb-true}
 use mathlib.Core.Bool.{or-false, or-true}
 use lib.ListN.{length-replicate, get_or-replicate}
 use borrow.Author.Tests.{eqb-false}
 use Rattle.repr.specs.Sizes.{edge_limit}
-use Rattle.repr.specs.Lists.{mem, some?}
+use Rattle.repr.specs.Lists.{some?}
 use Rattle.repr.specs.Meaning.{Production}
-use Rattle.repr.proofs.Lists.{cases, clash, mem-nil, mem-yes, mem_no}
+use Rattle.repr.proofs.Lists.{cases}
 use Rattle.repr.proofs.Tests.{some?-append, some?-yes, some?_no, some?-nil}
 use Rattle.trace_graph.specs.Graph.{TraceEdge}
 use Rattle.trace_graph.specs.Words.{edge_at}

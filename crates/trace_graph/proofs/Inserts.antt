@@ -1,5 +1,5 @@
 -- The ways through `insert`: a graph with its index, and an edge more. Assumes nothing.
-use Rattle.std.proofs.Common.{◌≡◌, ℕ, ◌+◌, ◌*◌, ◌<◌, ◌≤◌, Bool, true, false, List, [], ◌∷◌, ◌++◌, length, get_or, set, sym, refl, ap, ◌∙◌, add-one, arith}
+use Rattle.std.proofs.Common.{◌≡◌, ℕ, ◌+◌, ◌<◌, ◌≤◌, Bool, true, false, List, [], ◌∷◌, ◌++◌, length, get_or, set, sym, refl, ap, ◌∙◌, add-one, arith}
 use native.Mathlib.Decide.{ℕ_discrete}
 use Rattle.repr.specs.Sizes.{edge_limit, edge_place}
 use Rattle.repr.specs.Lists.{some?}

@@ -1,12 +1,12 @@
 -- `same_words` of specs/Same, from a place on, and the symbols that words say. Assumes nothing.
-use Rattle.std.proofs.Common.{◌≡◌, ℕ, zero, suc, ◌+◌, ◌<◌, ◌≤◌, true, false, ◌&&◌, eqb, List, [], ◌∷◌, length, get_or, drop, sym, refl, ap, ◌∙◌, true≢false, add-one, arith, drop_of_length-le, drop-cons, eq-eqb, ne_eqb, eqb-true}
+use Rattle.std.proofs.Common.{◌≡◌, ℕ, zero, suc, ◌+◌, ◌<◌, ◌≤◌, true, false, ◌&&◌, eqb, List, [], ◌∷◌, length, get_or, drop, sym, refl, ap, ◌∙◌, true≢false, add-one, arith, drop_of_length-le, drop-cons, eq-eqb, ne_eqb}
 use Rattle.repr.specs.Sizes.{nonterminal_limit, terminal_limit}
 use Rattle.slices.proofs.Same.{same_words_eq, same_words_refl}
 use Rattle.slices.specs.Same.{same_words}
 use Rattle.repr.specs.Listed.{symbol_of_kind, listed, symbol_is_fit, list_is_fit}
 use Rattle.repr.proofs.Listed.{symbol_range}
 use Rattle.trace_graph.specs.Graph.{same_symbols}
-use Rattle.trace_graph.proofs.Bools.{both, and_left, and_right, agree, never}
+use Rattle.trace_graph.proofs.Bools.{and_left, and_right, agree, never}
 use Rattle.trace_graph.proofs.Labels.{symbols_equal, symbols_refl}
 
 -- the ways through the loop that compares

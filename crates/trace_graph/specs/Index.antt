@@ -2,7 +2,7 @@
 -- edge in the bucket; then a word for each edge, which holds the next older edge in the same bucket in the same way. Assumes nothing: these are definitions.
 use Rattle.std.specs.Prelude.{◌≡◌, ℕ, zero, suc, ◌+◌, ◌*◌, ◌%◌, ◌<◌, Bool, true, false, List, [], ◌∷◌, length, ◌==◌, slice_index, slice_index_or}
 use Rattle.repr.specs.Sizes.{nonterminal_limit, index_limit, item_limit, edge_limit}
-use Rattle.repr.specs.Meaning.{Symbol, nonterminal, terminal, Production, no_production, Item}
+use Rattle.repr.specs.Meaning.{Symbol, nonterminal, terminal, Production, no_production}
 use Rattle.trace_graph.specs.Graph.{Node, at_nonterminal, at_item, TraceEdge}
 use Rattle.trace_graph.specs.Words.{edge_at}
 use Rattle.trace_graph.specs.Fits.{item_is_fit}

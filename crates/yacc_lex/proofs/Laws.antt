@@ -1,8 +1,8 @@
 -- One piece at a place of a text, and the tokens from there on. Assumes nothing.
-use Prim.Native.Nat.{ℕ, zero, suc, ◌+◌, ◌-◌, ◌≤◌, ◌<◌}
+use Prim.Native.Nat.{ℕ, ◌+◌, ◌-◌, ◌≤◌, ◌<◌}
 use native.Mathlib.Omega.{arith}
 use mathlib.Core.Bool.{Bool, true, false, ◌&&◌}
-use mathlib.Core.Path.{◌≡◌, refl, sym, ap, ◌∙◌, subst}
+use mathlib.Core.Path.{◌≡◌, refl, sym, ap, ◌∙◌}
 use mathlib.Core.List.{List, [], ◌∷◌, ◌++◌, append-nil}
 use mathlib.Core.Option.{Option, none, some}
 use lib.Dec.{eqb}
@@ -11,14 +11,14 @@ use lib.Seq.{drop-drop}
 use borrow.Author.Tests.{eq-eqb, ne_eqb}
 use Rattle.yacc_text.specs.Grammar.{Kind, blank, letter, digit, quote, percent, slash, colons, bars, semis, other, kind_of, named, quoted, Token, ident, token, start, mark, colon, bar, semi, Piece, white, comment, piece, spell_id, spell_token, spell_piece, literal_byte, stops}
 use Rattle.yacc_text.specs.Lex.{Next, goes, ends, outside, run_of, past_run, strip, literal_if, next_literal, word_if, start_or, token_or, mark_or, in_comment, comment_or, next_of, next, before, after, lex}
-use Rattle.yacc_text.specs.Places.{Placed, width_of, placed, placed_in, placed_from}
+use Rattle.yacc_text.specs.Places.{width_of, placed, placed_in, placed_from}
 use Rattle.yacc_text.proofs.Lexing.{lex-step}
 use Rattle.yacc_lex.specs.Steps.{begins, behind_comment, token_at, front, Leads, Skips, Steps}
 use Rattle.yacc_lex.specs.declared.Word.{Word}
 use Rattle.yacc_lex.specs.declared.Piece.{Piece as Piece'}
 use Rattle.yacc_lex.specs.declared.Piece.TheVariants.{Gap, Word as AWord, End, Outside}
 use Rattle.yacc_lex.specs.declared.Word.TheVariants.{Name, Literal, Token as TheToken, Start, Mark, Colon, Bar, Semi}
-use Rattle.yacc_lex.proofs.Runs.{drop-next, run_taken, begins-strip, begins-none, begins_long, Ends, comment-ends, comment_endless}
+use Rattle.yacc_lex.proofs.Runs.{drop-next, run_taken, begins-strip, begins-none, begins_long, comment-ends, comment_endless}
 
 -- from a step of `next` to the tokens with their places
 lexed : (t : List ℕ) (at : ℕ) (x : Next) → next (drop at t) ≡ x → placed_from t at ≡ placed_in at (after x lex)

@@ -1,9 +1,9 @@
 -- Runs of bytes from a place of a text on: names, words, comments. Assumes nothing.
-use Prim.Native.Nat.{ℕ, zero, suc, ◌+◌, ◌-◌, ◌≤◌, ◌<◌}
+use Prim.Native.Nat.{ℕ, suc, ◌+◌, ◌-◌, ◌≤◌, ◌<◌}
 use native.Mathlib.Numerals.{add-one}
 use native.Mathlib.Omega.{arith}
 use mathlib.Core.Bool.{Bool, true, false, ◌&&◌, not}
-use mathlib.Core.Path.{◌≡◌, refl, sym, ap, ◌∙◌, subst}
+use mathlib.Core.Path.{◌≡◌, refl, sym, ap, ◌∙◌}
 use mathlib.Core.List.{List, [], ◌∷◌}
 use mathlib.Core.Option.{Option, none, some}
 use lib.Dec.{eqb}
@@ -12,7 +12,7 @@ use lib.Seq.{drop-cons}
 use borrow.Author.Tests.{eq-eqb, ne_eqb}
 use Rattle.yacc_text.specs.Grammar.{kind_of, goes_on_byte, comment, slash_next, closes, stops}
 use Rattle.yacc_text.specs.Lex.{Next, goes, outside, rest, run_of, past_run, strip, longer, in_comment}
-use Rattle.yacc_text.proofs.Lexing.{run_more, past_more}
+use Rattle.yacc_text.proofs.Lexing.{run_more}
 use Rattle.yacc_lex.specs.Steps.{begins, behind_comment}
 
 -- the byte at a place, and what stands behind it

@@ -15,7 +15,7 @@ use Rattle.yacc_text.specs.Forward.{begins, sides, move}
 use Rattle.yacc_read.specs.Events.{event_of, events}
 use Rattle.yacc_read.specs.Source.{same_id, is_known, number_in, enter, entered, left_side, literal_use, token_use, start_use, span_start, span_end, alternative, alternatives_from, source_of}
 use Rattle.yacc_read.specs.Meaning.{symbol_of, production_of, productions_of, owned, table_of, places_of, start_of}
-use Rattle.yacc_read.specs.Outcome.{Outcome, unchanged, nowhere, undefined_use, named_both_ways, undefined_start, misnamed, too_many, too_long, room, answer_of, fitted_of, counted_of, named_of, source_in, parsed_of, read_of}
+use Rattle.yacc_read.specs.Outcome.{unchanged, nowhere, undefined_use, named_both_ways, undefined_start, misnamed, too_many, too_long, room, answer_of, fitted_of, counted_of, named_of, source_in, parsed_of, read_of}
 use Rattle.yacc_read.specs.declared.Reading.TheVariants.{Read, Refused}
 
 pub record Call : Type 0 where

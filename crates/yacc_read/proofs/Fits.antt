@@ -1,17 +1,17 @@
 -- What the refusals leave of a text is a table whose numbers are in range: its spelling is accepted and means it again. Assumes nothing.
-use Prim.Native.Nat.{ℕ, zero, suc, ◌+◌, ◌*◌, ◌≤◌, ◌<◌}
+use Prim.Native.Nat.{ℕ, suc, ◌+◌, ◌*◌, ◌≤◌}
 use native.Mathlib.Omega.{arith}
 use mathlib.Core.Bool.{Bool, true, false, ◌&&◌, ◌||◌, not}
 use mathlib.Core.Path.{◌≡◌, refl, sym, ap, ◌∙◌, subst}
-use mathlib.Core.List.{List, [], ◌∷◌, ◌++◌, map}
-use mathlib.Core.Option.{Option, none, some}
+use mathlib.Core.List.{List, [], ◌∷◌, map}
+use mathlib.Core.Option.{none, some}
 use lib.Dec.{ltb}
-use lib.ListN.{length, get_or}
+use lib.ListN.{length}
 use borrow.Author.Tests.{ltb-false, not-false}
 use Rattle.repr.specs.Sizes.{record_limit, symbol_limit}
-use Rattle.repr.specs.Lists.{below, some?, keep}
-use Rattle.repr.specs.Meaning.{Symbol, nonterminal, terminal, SymbolFits, All, Production, ProductionFits, StateFits, Table, TableFits, no_production, no_state}
-use Rattle.repr.proofs.Lists.{cases, clash, length_mapped, length-map-below, get_d_map-below}
+use Rattle.repr.specs.Lists.{some?}
+use Rattle.repr.specs.Meaning.{nonterminal, terminal, SymbolFits, All, Production, ProductionFits, StateFits, TableFits}
+use Rattle.repr.proofs.Lists.{cases, length_mapped, length-map-below, get_d_map-below}
 use Rattle.repr.proofs.Tests.{some?-cons, All_at}
 use Rattle.table.specs.Decoded.{meaning}
 use Rattle.table.specs.Refusals.{check_of}
@@ -19,8 +19,8 @@ use Rattle.table.specs.declared.Checked.TheVariants.{Accepted}
 use Rattle.spelling.specs.Spelled.{size_of, states_at, productions_at, symbols_at, items_place, edges_at, records_of, owns, spell, Ordered}
 use Rattle.spelling.proofs.Accepted.{spell_accepted}
 use Rattle.spelling.proofs.Meaning.{spell-meaning}
-use Rattle.yacc_text.specs.Grammar.{Id, named}
-use Rattle.yacc_read.specs.Source.{Known, is_known, number_in, Alternative, Source, no_id}
+use Rattle.yacc_text.specs.Grammar.{Id}
+use Rattle.yacc_read.specs.Source.{is_known, number_in, Alternative, Source, no_id}
 use Rattle.yacc_read.specs.Meaning.{symbol_of, production_of, productions_of, owned, table_of}
 use Rattle.yacc_read.specs.Outcome.{nowhere, undefined_use, misnamed, too_many, too_long}
 use Rattle.yacc_read.proofs.Known.{number-below}

@@ -1,11 +1,10 @@
 -- Numbering looks at ids alone, not at their places. Assumes nothing.
-use Prim.Native.Nat.{ℕ, zero, suc}
+use Prim.Native.Nat.{ℕ, suc}
 use mathlib.Core.Bool.{Bool, true, false}
 use mathlib.Core.Path.{◌≡◌, refl, sym, ap, ◌∙◌}
 use mathlib.Core.List.{List, [], ◌∷◌, ◌++◌, map}
 use Rattle.repr.specs.Lists.{some?, joined}
 use Rattle.repr.proofs.Lists.{cases}
-use Rattle.repr.proofs.Tests.{some?-yes, some?_no, some?-nil}
 use Rattle.yacc_text.specs.Grammar.{Id}
 use Rattle.yacc_read.specs.Source.{same_id, Known, is_known, number_in, enter, entered}
 

@@ -1,5 +1,5 @@
 -- Ids that are known, and their numbers. Assumes nothing.
-use Prim.Native.Nat.{ℕ, zero, suc, ◌<◌}
+use Prim.Native.Nat.{ℕ, suc, ◌<◌}
 use native.Mathlib.Omega.{arith}
 use mathlib.Core.Bool.{Bool, true, false, ◌&&◌, ◌||◌, or-false, true≢false}
 use mathlib.Core.Path.{◌≡◌, refl, sym, ap, ◌∙◌}
@@ -9,7 +9,6 @@ use lib.ListN.{length}
 use borrow.Author.Tests.{eqb-true, eq-eqb}
 use Rattle.slices.specs.Same.{same_words}
 use Rattle.slices.proofs.Same.{same_words_eq, same_words_refl}
-use Rattle.repr.specs.Lists.{some?}
 use Rattle.repr.specs.Meaning.{All}
 use Rattle.repr.proofs.Lists.{cases}
 use Rattle.repr.proofs.Tests.{some?-nil, some?-yes, some?_no, some?-append}

@@ -1,16 +1,15 @@
 -- Of the call itself: what a text that is read leaves is accepted, means the file's productions and one empty state, and is its own spelling. Assumes nothing.
-use Prim.Native.Nat.{ℕ, ◌+◌, ◌*◌, ◌≤◌}
+use Prim.Native.Nat.{ℕ, ◌*◌, ◌≤◌}
 use native.Mathlib.Omega.{arith}
-use mathlib.Core.Bool.{Bool, true, false}
-use mathlib.Core.Path.{◌≡◌, refl, sym, ap, ◌∙◌, subst}
-use mathlib.Core.List.{List, [], ◌∷◌, ◌++◌, map}
+use mathlib.Core.Bool.{true, false}
+use mathlib.Core.Path.{◌≡◌, refl, sym, ap, ◌∙◌}
+use mathlib.Core.List.{List, ◌++◌, map}
 use mathlib.Core.Option.{Option, none, some}
 use lib.Dec.{leb}
 use lib.ListN.{length, take, drop}
 use lib.Seq.{take-append_seam}
 use borrow.Author.Tests.{leb-true}
 use Rattle.slices.specs.Lent.{in_front}
-use Rattle.repr.specs.Meaning.{Table}
 use Rattle.repr.specs.declared.NonterminalString.{NonterminalString}
 use Rattle.repr.proofs.Lists.{cases}
 use Rattle.table.specs.Decoded.{meaning}
@@ -18,7 +17,7 @@ use Rattle.table.specs.Refusals.{check_of}
 use Rattle.table.specs.declared.Checked.TheVariants.{Accepted}
 use Rattle.spelling.specs.Spelled.{records_of, spell}
 use Rattle.spelling.proofs.Places.{spell-length}
-use Rattle.yacc_text.specs.Grammar.{Layout, Sound, text_limit}
+use Rattle.yacc_text.specs.Grammar.{Layout, text_limit}
 use Rattle.yacc_text.specs.Parse.{parse}
 use Rattle.yacc_text.proofs.Exact.{parse_sound}
 use Rattle.yacc_read.specs.Source.{Source}

@@ -8,7 +8,7 @@ use lib.ListN.{length, get_or}
 use Rattle.repr.specs.Lists.{joined}
 use Rattle.repr.specs.Meaning.{All}
 use Rattle.repr.proofs.Lists.{length_mapped}
-use Rattle.yacc_text.specs.Grammar.{Id, named, quoted, Token, ident, token, start, mark, colon, bar, semi, Rule, rule, Def, starts, tokens, File, ids_to, alts_to, rule_to, rules_to, def_to, defs_to, tokens_of, no_start, one_start, Layout, Sound}
+use Rattle.yacc_text.specs.Grammar.{Id, named, Token, ident, token, start, mark, colon, bar, semi, Rule, rule, Def, starts, tokens, File, ids_to, alts_to, rule_to, rules_to, def_to, defs_to, tokens_of, no_start, one_start, Layout, Sound}
 use Rattle.yacc_text.specs.Places.{Placed, placed}
 use Rattle.yacc_text.specs.Forward.{Mode, top, wanted, listed, starting, ruled, sided, bodied, done, dead, begins, sides, move}
 use Rattle.yacc_tokens.proofs.Laws.{tokens-placed}

@@ -1,5 +1,5 @@
 -- The alternatives of an abstract file, in text order. Assumes nothing: these are definitions.
-use Rattle.std.specs.Prelude.{List, [], ◌∷◌, ◌++◌, map}
+use Rattle.std.specs.Prelude.{List, ◌∷◌, ◌++◌, map}
 use Rattle.repr.specs.Lists.{joined}
 use Rattle.yacc_text.specs.Grammar.{Id, named, Rule, rule, File}
 use Rattle.yacc_read.specs.Source.{Alternative}

@@ -1,5 +1,5 @@
 -- The table that a text means (docs/YACC.md, Meaning): the file's productions and one empty state, its start and places. Assumes nothing: these are definitions.
-use Rattle.std.specs.Prelude.{ℕ, Bool, true, false, List, [], ◌∷◌, ◌++◌, map, length, get_or, eqb}
+use Rattle.std.specs.Prelude.{ℕ, true, false, List, [], ◌∷◌, ◌++◌, map, length, get_or, eqb}
 use Rattle.repr.specs.Lists.{below, keep}
 use Rattle.repr.specs.Meaning.{Symbol, nonterminal, terminal, Production, Table, no_production, no_state}
 use Rattle.yacc_text.specs.Grammar.{Id}

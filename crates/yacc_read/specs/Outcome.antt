@@ -5,14 +5,13 @@ use Rattle.std.proofs.Math.Option.{Option, none, some}
 use Rattle.slices.specs.Lent.{in_front}
 use Rattle.repr.specs.Sizes.{nonterminal_limit, terminal_limit, production_limit, symbol_limit}
 use Rattle.repr.specs.Lists.{some?}
-use Rattle.repr.specs.Meaning.{Table}
 use Rattle.spelling.specs.Spelled.{productions_at, records_of, spell}
 use Rattle.yacc_text.specs.Grammar.{Id, Piece, Layout, text_limit}
 use Rattle.yacc_text.specs.Places.{placed}
 use Rattle.yacc_text.specs.Forward.{top}
 use Rattle.yacc_text.specs.Parse.{parse}
 use Rattle.yacc_read.specs.Events.{events}
-use Rattle.yacc_read.specs.Source.{Known, is_known, Alternative, Source, source_of}
+use Rattle.yacc_read.specs.Source.{is_known, Alternative, Source, source_of}
 use Rattle.yacc_read.specs.Meaning.{table_of, places_of, start_of}
 use Rattle.yacc_read.specs.declared.Reading.{Reading}
 use Rattle.yacc_read.specs.declared.Reading.TheVariants.{Read, Refused}

@@ -1,6 +1,6 @@
 -- What a text says before anything is numbered: its nonterminals and terminals in the order of their numbers, its alternatives with their spans.
 -- Assumes nothing: these are definitions.
-use Rattle.std.specs.Prelude.{ℕ, zero, suc, Bool, true, false, ◌&&◌, List, [], ◌∷◌, ◌++◌, map, eqb}
+use Rattle.std.specs.Prelude.{ℕ, suc, Bool, true, false, ◌&&◌, List, [], ◌∷◌, ◌++◌, map, eqb}
 use Rattle.slices.specs.Same.{same_words}
 use Rattle.repr.specs.Lists.{some?, joined}
 use Rattle.yacc_text.specs.Grammar.{Id, named, quoted}

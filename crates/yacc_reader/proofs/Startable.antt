@@ -1,27 +1,24 @@
 -- What is read stands in the words that were lent, has one empty state, and its start is one of its nonterminals: a start production can be added (crate augment). Assumes nothing.
-use Prim.Native.Nat.{ℕ, ◌+◌, ◌*◌, ◌/◌, ◌≤◌, ◌<◌}
+use Prim.Native.Nat.{ℕ, ◌*◌, ◌/◌, ◌≤◌, ◌<◌}
 use native.Mathlib.Omega.{arith}
 use mathlib.Core.Bool.{Bool, true, false, ◌||◌, not}
-use mathlib.Core.Path.{◌≡◌, refl, sym, ap, ◌∙◌, subst}
+use mathlib.Core.Path.{◌≡◌, refl, sym, ◌∙◌, subst}
 use mathlib.Core.List.{List, [], ◌∷◌}
-use lib.Dec.{leb}
 use lib.ListN.{length, take}
 use borrow.Author.Tests.{leb-true}
 use Rattle.repr.specs.Lists.{some?}
-use Rattle.repr.specs.Meaning.{All, Table, no_state}
+use Rattle.repr.specs.Meaning.{All, Table}
 use Rattle.repr.specs.declared.NonterminalString.{NonterminalString}
-use Rattle.repr.proofs.Lists.{cases}
 use Rattle.repr.proofs.Tests.{some?-cons}
 use Rattle.table.specs.Decoded.{meaning}
 use Rattle.table.proofs.Chains.{and-true}
 use Rattle.spelling.specs.Spelled.{records_of}
 use Rattle.augment.specs.Started.{Startable}
 use Rattle.yacc_text.specs.Grammar.{Id}
-use Rattle.yacc_read.specs.Source.{Known, is_known, number_in, Alternative, Source}
+use Rattle.yacc_read.specs.Source.{Known, is_known, Alternative, Source}
 use Rattle.yacc_read.specs.Meaning.{table_of, start_of}
-use Rattle.yacc_read.specs.Outcome.{Outcome, undefined_use, named_both_ways, undefined_start, misnamed, room, answer_of, source_in, read_of}
-use Rattle.yacc_read.specs.declared.Reading.{Reading}
-use Rattle.yacc_read.specs.declared.Reading.TheVariants.{Read, Refused}
+use Rattle.yacc_read.specs.Outcome.{undefined_use, named_both_ways, undefined_start, misnamed, room, answer_of, source_in, read_of}
+use Rattle.yacc_read.specs.declared.Reading.TheVariants.{Read}
 use Rattle.yacc_read.proofs.Known.{number-below}
 use Rattle.yacc_read.proofs.Fits.{Good, count_nonterminals}
 use Rattle.yacc_read.proofs.Read.{was_read, front-meaning}

@@ -1,16 +1,16 @@
 -- The table of moves is `move`; the loop's turns; a text of the grammar is one that the loop accepts. Assumes nothing.
-use Prim.Native.Nat.{ℕ, zero, suc, ◌+◌, ◌*◌, ◌≤◌, ◌<◌}
+use Prim.Native.Nat.{ℕ, ◌+◌, ◌*◌, ◌<◌}
 use native.Mathlib.Omega.{arith}
 use mathlib.Core.Bool.{Bool, true, false}
 use mathlib.Core.Path.{◌≡◌, refl, sym, ap, ◌∙◌}
 use mathlib.Core.List.{List, [], ◌∷◌, map}
 use mathlib.Core.Option.{Option, none, some}
 use lib.Dec.{eqb, ltb}
-use lib.ListN.{length, get_or}
+use lib.ListN.{get_or}
 use borrow.Author.Tests.{ltb-true}
 use Rattle.repr.specs.Lists.{up_from, below}
 use Rattle.repr.proofs.Lists.{get_d_map-below}
-use Rattle.yacc_text.specs.Grammar.{Id, named, quoted, Token, ident, token, start, mark, colon, bar, semi, Piece, white, comment, piece, tokens_in, File, Layout}
+use Rattle.yacc_text.specs.Grammar.{Token, Piece, white, comment, piece, tokens_in, File, Layout}
 use Rattle.yacc_text.specs.Lex.{lex}
 use Rattle.yacc_text.specs.Parse.{run, file_of, laid, parsed, parse}
 use Rattle.yacc_text.specs.Forward.{Mode, top, dead, begins, sides, move, last, accepts}

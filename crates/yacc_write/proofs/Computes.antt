@@ -11,7 +11,7 @@ use Rattle.table.specs.Refusals.{row1, row2, is_nonterminal, is_state, is_produc
 use Rattle.numerals.specs.Numeral.{numeral_by, numeral}
 use Rattle.yacc_text.specs.Grammar.{spell_id, spell_token, spell_piece, spell_all}
 use Rattle.yacc_write.specs.Text.{ascending, name_of, token_line, production_line, lines, spaced, line, pieces_of, text_of}
-use Rattle.yacc_write.specs.Outcome.{Outcome, written_of, write_of}
+use Rattle.yacc_write.specs.Outcome.{written_of, write_of}
 use Rattle.yacc_write.specs.declared.Writing.TheVariants.{Bytes, Refused}
 
 pub record Call : Type 0 where

@@ -1,23 +1,19 @@
 -- The text that is written is the spelling of a sound layout, so it is read, and as the file that was written; it fits in 9,468 bytes. Assumes nothing.
-use Prim.Native.Nat.{ℕ, zero, suc, ◌+◌, ◌*◌, ◌≤◌, ◌<◌}
+use Prim.Native.Nat.{ℕ, ◌+◌, ◌*◌, ◌≤◌}
 use native.Mathlib.Omega.{arith}
-use mathlib.Core.Bool.{Bool, true, false, ◌&&◌, not}
-use mathlib.Core.Path.{◌≡◌, refl, sym, ap, ◌∙◌, subst}
-use mathlib.Core.List.{List, [], ◌∷◌, ◌++◌, map, append_assoc, append-nil}
-use mathlib.Core.Option.{Option, none, some}
+use mathlib.Core.Bool.{true}
+use mathlib.Core.Path.{◌≡◌, refl, sym, ap, ◌∙◌}
+use mathlib.Core.List.{List, [], ◌∷◌, ◌++◌, map, append_assoc}
 use lib.Dec.{leb}
 use lib.ListN.{length, length-append}
 use borrow.Author.Tests.{leb-true}
 use Rattle.repr.specs.Lists.{up_from, below, every?, joined}
-use Rattle.repr.specs.Meaning.{Symbol, nonterminal, terminal, Production, Table, SymbolFits, All, ProductionFits, TableFits}
+use Rattle.repr.specs.Meaning.{Symbol, nonterminal, Production, Table, SymbolFits, All, ProductionFits, TableFits}
 use Rattle.repr.proofs.Tests.{every?_below}
 use Rattle.numerals.specs.Numeral.{numeral_by, numeral}
-use Rattle.yacc_text.specs.Grammar.{is_white_byte, is_letter_byte, is_digit_byte, kind_of, blank?, goes_on_byte, Id, named, quoted, Token, ident, token, start, mark, colon, bar, semi, Piece, white, comment, piece, Rule, rule, Def, tokens, File, ids_to, alts_to, rule_to, rules_to, def_to, defs_to, tokens_of, one_start, spell_id, spell_token, spell_piece, spell_all, tokens_in, ok_id, ok_token, ok_piece, stops, apart_id, apart_token, apart, fits, Layout, spell, Sound}
-use Rattle.yacc_text.specs.Parse.{parse}
-use Rattle.yacc_text.proofs.Exact.{parse-complete}
+use Rattle.yacc_text.specs.Grammar.{Id, named, quoted, Token, ident, token, start, mark, colon, bar, semi, Piece, white, comment, piece, spell_id, spell_token, spell_piece, spell_all}
 use Rattle.yacc_write.specs.Text.{text_most, name_of, name_token, token_line, production_line, lines, spaced, line, pieces_of, text_of}
-use Rattle.yacc_write.specs.Files.{rule_of, defs_of, file_of, layout_of}
-use Rattle.yacc_write.proofs.Names.{number_of, number_small, name_ok, name_wide}
+use Rattle.yacc_write.proofs.Names.{number_small, name_wide}
 
 -- bytes of pieces in front of others
 id_size : (x : Id) (k : List ℕ) → length (spell_id x k) ≡ length (spell_id x []) + length k

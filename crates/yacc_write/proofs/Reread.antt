@@ -1,16 +1,15 @@
 -- What is written is read again: no refusal but 17 is left. Assumes nothing.
-use Prim.Native.Nat.{ℕ, zero, suc, ◌+◌, ◌≤◌, ◌<◌}
+use Prim.Native.Nat.{ℕ, suc, ◌+◌, ◌≤◌, ◌<◌}
 use native.Mathlib.Omega.{arith}
-use mathlib.Core.Bool.{Bool, true, false, ◌&&◌, ◌||◌, not}
+use mathlib.Core.Bool.{Bool, true, false, ◌&&◌, not}
 use mathlib.Core.Path.{◌≡◌, refl, sym, ap, ◌∙◌, subst}
 use mathlib.Core.List.{List, [], ◌∷◌, map}
 use mathlib.Core.Option.{Option, none, some}
-use lib.Dec.{ltb, leb}
 use lib.ListN.{length}
 use borrow.Author.Tests.{le-ltb, lt-ltb, le-leb}
 use Rattle.slices.specs.Lent.{in_front}
 use Rattle.repr.specs.Sizes.{symbol_limit}
-use Rattle.repr.specs.Lists.{up_from, below, some?}
+use Rattle.repr.specs.Lists.{below, some?}
 use Rattle.repr.specs.Meaning.{Symbol, nonterminal, terminal, Production, Table, SymbolFits, All, ProductionFits, TableFits}
 use Rattle.repr.proofs.Lists.{length_mapped}
 use Rattle.repr.proofs.Tests.{some?_no, some?-nil}

@@ -1,14 +1,13 @@
 -- What is written is the spelling of a sound layout: it is read again, as the file that was written. Assumes nothing.
 use Prim.Native.Nat.{ℕ, zero, suc, ◌+◌, ◌≤◌, ◌<◌}
 use native.Mathlib.Omega.{arith}
-use mathlib.Core.Bool.{Bool, true, false, ◌&&◌, not}
-use mathlib.Core.Path.{◌≡◌, refl, sym, ap, ◌∙◌, subst}
+use mathlib.Core.Bool.{Bool, true, ◌&&◌}
+use mathlib.Core.Path.{◌≡◌, refl, sym, ap, ◌∙◌}
 use mathlib.Core.List.{List, [], ◌∷◌, ◌++◌, map, append-nil}
 use mathlib.Core.Option.{some}
-use lib.ListN.{length}
 use Rattle.repr.specs.Lists.{up_from, below, joined}
 use Rattle.repr.specs.Meaning.{Symbol, nonterminal, terminal, Production, Table, SymbolFits, All, ProductionFits, TableFits}
-use Rattle.yacc_text.specs.Grammar.{is_white_byte, is_letter_byte, is_digit_byte, kind_of, blank?, goes_on_byte, named, quoted, Token, ident, token, start, mark, colon, bar, semi, Piece, white, comment, piece, Def, tokens, ids_to, alts_to, rule_to, rules_to, def_to, defs_to, tokens_of, no_start, one_start, spell_piece, spell_all, tokens_in, ok_token, ok_piece, stops, apart_id, apart_token, apart, fits, Layout, spell, Sound}
+use Rattle.yacc_text.specs.Grammar.{is_white_byte, is_letter_byte, is_digit_byte, kind_of, blank?, goes_on_byte, named, quoted, Token, ident, token, start, mark, colon, bar, semi, Piece, ids_to, alts_to, rule_to, rules_to, def_to, defs_to, tokens_of, one_start, spell_piece, spell_all, tokens_in, ok_token, ok_piece, stops, apart_id, apart_token, apart, fits, spell, Sound}
 use Rattle.yacc_text.specs.Parse.{parse}
 use Rattle.yacc_text.proofs.Exact.{parse-complete}
 use Rattle.yacc_write.specs.Text.{name_of, name_token, token_line, production_line, lines, spaced, line, pieces_of, text_of}

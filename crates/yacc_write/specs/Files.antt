@@ -3,7 +3,7 @@ use Rattle.std.specs.Prelude.{ℕ, zero, suc, List, [], ◌∷◌, map}
 use Rattle.repr.specs.Lists.{up_from}
 use Rattle.repr.specs.Meaning.{terminal, Production, Table}
 use Rattle.numerals.specs.Numeral.{numeral}
-use Rattle.yacc_text.specs.Grammar.{Id, Rule, rule, Def, tokens, File, Layout}
+use Rattle.yacc_text.specs.Grammar.{Rule, rule, Def, tokens, File, Layout}
 use Rattle.yacc_write.specs.Text.{name_of, pieces_of}
 
 unfoldable pub rule_of : Production → Rule

@@ -1,5 +1,5 @@
 -- What writing a yacc text answers and leaves in the lent bytes (Req 09), for every table and every buffer: 1 to 8, then 23, then 17. Assumes nothing: these are definitions.
-use Rattle.std.specs.Prelude.{ℕ, Bool, true, false, List, length, leb}
+use Rattle.std.specs.Prelude.{ℕ, true, false, List, length, leb}
 use Rattle.slices.specs.Lent.{in_front}
 use Rattle.repr.specs.Meaning.{Table}
 use Rattle.table.specs.Decoded.{meaning}

@@ -1,4 +1,3 @@
-use Prim.Native.Nat.{◌-◌}
 use Rattle.augment.proofs.Uses.{looking_start, looking_whole, looking_found, looking_step, looking_end}
 use native.Mathlib.Omega.{arith}
 use Rattle.augment.proofs.is_among.Goals as goal

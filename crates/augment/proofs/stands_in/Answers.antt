@@ -1,4 +1,3 @@
-use Prim.Native.Nat.{◌-◌}
 use Rattle.augment.proofs.Uses.{passing_found, passing_step, passing_end, passing_fits}
 use native.Mathlib.Omega.{arith}
 use Rattle.augment.proofs.stands_in.Goals as goal

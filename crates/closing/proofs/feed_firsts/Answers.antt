@@ -1,4 +1,4 @@
-use Rattle.std.proofs.Common.{◌-◌, arith}
+use Rattle.std.proofs.Common.{arith}
 use Rattle.closing.proofs.Fed.{firsts_none, firsts_more, firsts_end}
 use Rattle.closing.proofs.feed_firsts.Goals as goal
 

@@ -1,4 +1,4 @@
-use Rattle.std.proofs.Common.{◌-◌, arith}
+use Rattle.std.proofs.Common.{arith}
 use Rattle.closing.proofs.Fed.{items_none, items_more, items_end}
 use Rattle.closing.proofs.feed_items.Goals as goal
 

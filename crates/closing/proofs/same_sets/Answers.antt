@@ -1,4 +1,4 @@
-use Rattle.std.proofs.Common.{◌≡◌, ◌-◌, sym, refl, ◌∙◌, arith}
+use Rattle.std.proofs.Common.{◌≡◌, sym, refl, ◌∙◌, arith}
 use Rattle.closing.proofs.Rest.{same_differs, same_on, same_end}
 use Rattle.closing.proofs.same_sets.Goals as goal
 

@@ -1,4 +1,4 @@
-use Rattle.std.proofs.Common.{◌-◌, arith}
+use Rattle.std.proofs.Common.{arith}
 use Rattle.closing.proofs.Rest.{spread_none, spread-more, spread_end}
 use Rattle.closing.proofs.spread.Goals as goal
 

@@ -1,4 +1,4 @@
-use Rattle.std.proofs.Common.{ℕ, ◌-◌, length, sym, ap, ◌∙◌, arith}
+use Rattle.std.proofs.Common.{ℕ, length, sym, ap, ◌∙◌, arith}
 use lib.ListN.{length-replicate}
 use Rattle.repr.specs.Packed.{productions_in}
 use Rattle.codes.proofs.Least.{many, filling_start, filling_more, filling_done}

@@ -13,8 +13,11 @@ returns-then-count-ge-EDGES c = record { coded = λ q. full-done q; edge_limit_i
 
 -- src/lib.rt:36:1
 pub returns : goal.returns
-returns c = record { coded = λ _ T fits es e C t ec ek.
-          let b = sym c.is_set.ensures ∙ c.if-is_set.false in
-          let w = c.word-count.ensures.0 in
-          let made = coded_new T fits _ _ es e C t c.args.code c.args.key ec ek c.requires.3 b (omega (arith, w, c.if-count-ge-EDGES.false)) in
-          rw (c.put.ensures, w) made; edge_limit_in_bounds = λ q. done_full q }
+returns c = record {
+  coded = λ _ T fits es e C t ec ek.
+      let b = sym c.is_set.ensures ∙ c.if-is_set.false in
+      let w = c.word-count.ensures.0 in
+      let made = coded_new T fits _ _ es e C t c.args.code c.args.key ec ek c.requires.3 b (omega (arith, w, c.if-count-ge-EDGES.false)) in
+      rw (c.put.ensures, w) made;
+  edge_limit_in_bounds = λ q. done_full q;
+}

@@ -1,4 +1,4 @@
-use Rattle.std.proofs.Common.{◌≡◌, ◌-◌, false, sym, ◌∙◌, arith}
+use Rattle.std.proofs.Common.{◌≡◌, false, sym, ◌∙◌, arith}
 use Rattle.repr.specs.Packed.{productions_in}
 use Rattle.codes.specs.Codes.{is_same_production}
 use Rattle.codes.proofs.Least.{many, least-found, least_itself, below_next}

@@ -1,4 +1,4 @@
-use Rattle.std.proofs.Common.{◌-◌, ◌∙◌, arith, length-set}
+use Rattle.std.proofs.Common.{◌∙◌, arith, length-set}
 use Rattle.codes.proofs.Writing.{writing_start, carried_code, writing_few, writing_more, writing_done}
 use Rattle.codes.proofs.write_codes.Goals as goal
 

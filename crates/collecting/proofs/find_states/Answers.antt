@@ -1,5 +1,4 @@
 use mathlib.Core.Path.{refl, ◌∙◌}
-use Prim.Native.Nat.{◌-◌}
 use lib.ListN.{length-set}
 use Rattle.collecting.proofs.Laws.{round-start, round-stops, round-more, round_end}
 use Rattle.taking.proofs.Laws.{search_on}

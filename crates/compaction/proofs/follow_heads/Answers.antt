@@ -1,5 +1,5 @@
 use mathlib.Core.Path.{◌≡◌, refl, ap}
-use Prim.Native.Nat.{ℕ, ◌-◌}
+use Prim.Native.Nat.{ℕ}
 use lib.ListN.{get_or, length-set}
 use Rattle.compaction.proofs.InPlace.{followed-none, followed-put}
 use native.Mathlib.Omega.{arith}

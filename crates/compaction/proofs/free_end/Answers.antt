@@ -1,5 +1,4 @@
 use mathlib.Core.Path.{refl}
-use Prim.Native.Nat.{◌-◌}
 use lib.ListN.{length-set}
 use Rattle.compaction.proofs.InPlace.{freed_none, freed_put, freed_end}
 use native.Mathlib.Omega.{arith}

@@ -1,5 +1,4 @@
 use mathlib.Core.Path.{◌≡◌, refl, sym, ◌∙◌}
-use Prim.Native.Nat.{◌-◌}
 use lib.ListN.{length-set}
 use Rattle.table.proofs.Accepted.{accepts}
 use Rattle.compaction.proofs.Numbering.{heads_none, heads_zero, heads_put, head_at, reached-below}

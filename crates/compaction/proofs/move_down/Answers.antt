@@ -1,5 +1,4 @@
 use mathlib.Core.Path.{◌≡◌, refl, ◌∙◌}
-use Prim.Native.Nat.{◌-◌}
 use Rattle.table.proofs.Accepted.{accepts}
 use Rattle.table.proofs.Quads.{put_long}
 use Rattle.compaction.proofs.Numbering.{numbers-yes, numbers_no}

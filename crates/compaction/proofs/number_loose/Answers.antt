@@ -1,5 +1,4 @@
 use mathlib.Core.Path.{◌≡◌, refl, ◌∙◌}
-use Prim.Native.Nat.{◌-◌}
 use Rattle.table.proofs.Accepted.{accepts}
 use Rattle.compaction.proofs.Moves.{moved_is}
 use Rattle.compaction.proofs.Numbering.{write_low, count_start, count_no, count_yes, numbered_no, numbered-yes, numbering_skip, numbering_put, numbering_end}

@@ -1,7 +1,7 @@
 use Rattle.conflict_counts.proofs.Counts.{pair-counted, pair-last}
 use Rattle.lookahead.proofs.Members.{members_few}
 use Rattle.lookahead.specs.Tokens.{members}
-use Rattle.std.proofs.Common.{◌-◌, length, ap, ◌∙◌, arith}
+use Rattle.std.proofs.Common.{length, ap, ◌∙◌, arith}
 use Rattle.conflict_counts.proofs.count_pairs.Goals as goal
 
 pub loop-other-init : goal.loop-other-init

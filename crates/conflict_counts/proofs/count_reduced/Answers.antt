@@ -2,7 +2,7 @@ use Rattle.conflict_counts.proofs.Counts.{joined_start, one_counted, all-counted
 use Rattle.conflict_counts.specs.Clashed.{clashes_in}
 use Rattle.lookahead.proofs.Members.{members_few}
 use Rattle.lookahead.specs.Tokens.{members}
-use Rattle.std.proofs.Common.{◌-◌, length, ap, ◌∙◌, arith}
+use Rattle.std.proofs.Common.{length, ap, ◌∙◌, arith}
 use Rattle.conflict_counts.proofs.count_reduced.Goals as goal
 
 pub loop-production-init : goal.loop-production-init

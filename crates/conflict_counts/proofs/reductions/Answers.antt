@@ -1,4 +1,4 @@
-use Rattle.std.proofs.Common.{◌-◌, refl, arith, length-set}
+use Rattle.std.proofs.Common.{refl, arith, length-set}
 use Rattle.conflict_counts.proofs.Laws.{reduced_more, reduced_end}
 use Rattle.conflict_counts.proofs.reductions.Goals as goal
 

@@ -1,4 +1,4 @@
-use Rattle.std.proofs.Common.{◌-◌, refl, arith}
+use Rattle.std.proofs.Common.{refl, arith}
 use Rattle.conflict_counts.proofs.Shifts.{shifted_start, shifted-more, shifted_is}
 use Rattle.conflict_counts.proofs.shift_set.Goals as goal
 

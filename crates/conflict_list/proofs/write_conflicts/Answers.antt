@@ -1,5 +1,4 @@
 use Rattle.conflict_list.proofs.Laws.{list_start, list_room, list_more, list_end}
-use Prim.Native.Nat.{◌-◌}
 use mathlib.Core.Path.{refl}
 use native.Mathlib.Omega.{arith}
 use Rattle.conflict_list.proofs.write_conflicts.Goals as goal

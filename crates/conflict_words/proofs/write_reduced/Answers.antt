@@ -4,7 +4,6 @@ use Rattle.conflict_counts.specs.Clashed.{clashes_in}
 use Rattle.example.proofs.Put.{turn_start, turn_next, turn_end}
 use Rattle.build.specs.Built.{clash_words}
 use Rattle.repr.specs.Lists.{joined}
-use Rattle.std.specs.Prelude.{◌-◌}
 use mathlib.Core.Path.{ap}
 use native.Mathlib.Omega.{arith}
 use Rattle.conflict_words.proofs.write_reduced.Goals as goal

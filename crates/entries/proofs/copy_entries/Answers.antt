@@ -1,6 +1,6 @@
 use mathlib.Core.Path.{◌≡◌, refl, ap, ◌∙◌}
 use mathlib.Core.List.{◌++◌}
-use Prim.Native.Nat.{ℕ, ◌*◌, ◌-◌}
+use Prim.Native.Nat.{ℕ, ◌*◌}
 use lib.ListN.{drop}
 use Rattle.repr.specs.Sizes.{entry_room}
 use Rattle.repr.specs.Lists.{joined}

@@ -1,4 +1,3 @@
-use Prim.Native.Nat.{◌-◌}
 use Rattle.entries.proofs.Laws.{naive_yes, naive_not, not_ambiguity, not_precedence, not_inline, not_question, not_reduction, not_insufficient}
 use Rattle.entries.proofs.is_naive.Goals as goal
 

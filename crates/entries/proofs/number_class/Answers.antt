@@ -1,4 +1,3 @@
-use Prim.Native.Nat.{◌-◌}
 use Rattle.entries.proofs.Laws.{naive_words, ambiguity_words, precedence_words, inline_words, question_words, reduction_words_lem, insufficient_words}
 use Rattle.entries.proofs.number_class.Goals as goal
 

@@ -1,4 +1,4 @@
-use Rattle.std.proofs.Common.{◌≡◌, ℕ, ◌+◌, ◌-◌, List, length, get_or, set, refl, ap, ◌∙◌, arith, length-set}
+use Rattle.std.proofs.Common.{◌≡◌, ℕ, ◌+◌, List, length, get_or, set, refl, ap, ◌∙◌, arith, length-set}
 use lib.Seq.{paste, paste-zero}
 use Rattle.example.proofs.Put.{copied_more, copied_all}
 use Rattle.example.proofs.copy.Goals as goal
@@ -8,10 +8,10 @@ loop-i-init c = (paste-zero c.args.buffer.now c.args.at c.args.from.now, (refl, 
 
 pub loop-i-preserved : goal.loop-i-preserved
 loop-i-preserved c = let i = c.loop-i.i in (
-      ap (λ (b : List ℕ). set b (c.args.at + i) (get_or c.args.from.now i 0)) c.loop-i.invariant.0
-          ∙ copied_more c.args.buffer.now c.args.at c.args.from.now i (omega (arith, c.loop-i-test.true, c.requires)) c.loop-i-test.true,
-      (simp length-set c.loop-i.invariant.1.0, omega (arith, c.loop-i-test.true)),
-    )
+  ap (λ (b : List ℕ). set b (c.args.at + i) (get_or c.args.from.now i 0)) c.loop-i.invariant.0
+      ∙ copied_more c.args.buffer.now c.args.at c.args.from.now i (omega (arith, c.loop-i-test.true, c.requires)) c.loop-i-test.true,
+  (simp length-set c.loop-i.invariant.1.0, omega (arith, c.loop-i-test.true)),
+)
 
 pub returns : goal.returns
 returns c = let e : c.loop-i.i ≡ length c.args.from.now = omega (arith, c.loop-i-test.false, c.loop-i.invariant) in

@@ -1,4 +1,4 @@
-use Rattle.std.proofs.Common.{◌-◌, ◌<◌, ◌≤◌, length, sym, refl, ◌∙◌, arith}
+use Rattle.std.proofs.Common.{◌<◌, ◌≤◌, length, sym, refl, ◌∙◌, arith}
 use borrow.Author.Tests.{not-true, not-false}
 use Rattle.repr.specs.Packed.{productions_in}
 use Rattle.first.proofs.Answers.{join-stop}

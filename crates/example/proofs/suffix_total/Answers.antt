@@ -1,4 +1,4 @@
-use Rattle.std.proofs.Common.{◌-◌, ◌<◌, length, arith}
+use Rattle.std.proofs.Common.{◌<◌, length, arith}
 use Rattle.repr.specs.Packed.{productions_in}
 use Rattle.example.specs.Labels.{labels_in}
 use Rattle.example.proofs.Walk.{none-counted, around_few, suffix-none, suffix-step}

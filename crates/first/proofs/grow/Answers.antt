@@ -1,4 +1,3 @@
-use Prim.Native.Nat.{◌-◌}
 use Rattle.first.proofs.Rounds.{round-start, round_long, round-more, round_end}
 use native.Mathlib.Omega.{arith}
 use Rattle.first.proofs.grow.Goals as goal

@@ -1,4 +1,3 @@
-use Prim.Native.Nat.{◌-◌}
 use Rattle.grammar_records.proofs.Packed.{counted_start, counted_step, counted_end}
 use native.Mathlib.Omega.{arith}
 use Rattle.grammar_records.proofs.count_symbols.Goals as goal

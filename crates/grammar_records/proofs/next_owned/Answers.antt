@@ -1,5 +1,4 @@
 use mathlib.Core.Path.{◌∙◌}
-use Prim.Native.Nat.{◌-◌}
 use Rattle.grammar_records.proofs.Owned.{packed-found, packed_on, packed_end}
 use native.Mathlib.Omega.{arith}
 use Rattle.grammar_records.proofs.next_owned.Goals as goal

@@ -1,4 +1,3 @@
-use Prim.Native.Nat.{◌-◌}
 use Rattle.spelling.proofs.Writing.{follower_small}
 use Rattle.grammar_records.proofs.Symbols.{chain-start, written_start, chain-whole, chain-step, written-room, written_step, chain_end}
 use native.Mathlib.Omega.{arith}

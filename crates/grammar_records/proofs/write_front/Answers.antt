@@ -1,4 +1,3 @@
-use Prim.Native.Nat.{◌-◌}
 use Rattle.spelling.proofs.Places.{begins}
 use Rattle.grammar_records.proofs.Areas.{areas_at, index_small, front-start, front-room, front-step, front_end}
 use native.Mathlib.Omega.{arith}

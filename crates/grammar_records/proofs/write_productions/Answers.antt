@@ -1,4 +1,3 @@
-use Prim.Native.Nat.{◌-◌}
 use Rattle.spelling.proofs.Areas.{head_small}
 use Rattle.grammar_records.proofs.Packed.{row_of, many_of, packed-inside}
 use Rattle.grammar_records.proofs.Areas.{areas_at, index_small, rows_start, rows_room, rows_head, rows_step, rows_end}

@@ -1,4 +1,3 @@
-use Prim.Native.Nat.{◌-◌}
 use Rattle.grammar_records.proofs.Symbols.{walk_start, walk-fits, walk_stands, walk_step, walk_end}
 use native.Mathlib.Omega.{arith}
 use Rattle.grammar_records.proofs.write_symbols.Goals as goal

@@ -1,4 +1,3 @@
-use Rattle.std.specs.Prelude.{◌-◌}
 use mathlib.Core.Path.{refl}
 use Rattle.kept_states.proofs.Kept.{count_first, count_more, count_high, count_end}
 use native.Mathlib.Omega.{arith}

@@ -1,4 +1,3 @@
-use Rattle.std.specs.Prelude.{◌-◌}
 use mathlib.Core.Path.{refl}
 use Rattle.kept_states.proofs.Kept.{find-start, find_here, find-more, find_end, same_state}
 use native.Mathlib.Omega.{arith}

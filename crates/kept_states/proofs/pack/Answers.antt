@@ -1,4 +1,3 @@
-use Rattle.std.specs.Prelude.{◌-◌}
 use mathlib.Core.Path.{refl, ◌∙◌}
 use Rattle.kept_states.proofs.Kept.{count_start, count_more, count_end, one_long, one_counts, one_room, pack-start, pack-more, pack_end}
 use native.Mathlib.Omega.{arith}

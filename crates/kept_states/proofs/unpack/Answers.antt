@@ -1,4 +1,3 @@
-use Rattle.std.specs.Prelude.{◌-◌}
 use mathlib.Core.Path.{refl, ap}
 use lib.ListN.{length-set}
 use Rattle.kept_states.proofs.Kept.{unpack-start, unpack-more, unpack_end}

@@ -1,5 +1,4 @@
 use Rattle.measuring.proofs.Laws.{sum-start, sum_more, sum_end}
-use Prim.Native.Nat.{◌-◌}
 use native.Mathlib.Omega.{arith}
 use Rattle.measuring.proofs.count_conflicts.Goals as goal
 

@@ -1,4 +1,3 @@
-use Prim.Native.Nat.{◌-◌}
 use native.Mathlib.Omega.{arith}
 use Rattle.spelling.proofs.Reading.{heads_asked}
 use Rattle.spelling.proofs.Counting.{totalling_start, totalling_head, totalling_step, totalling_end}

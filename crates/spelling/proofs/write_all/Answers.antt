@@ -10,16 +10,25 @@ put-requires c = let C = c.read_counts-counts.ensures in
     let F = C.fits in record { r_lt_record_limit = (omega arith, room-first _ _ c.requires.symbols_value.1.1.1); a_bound = (omega (arith, C.nonterminals, F.few_nonterminals), (omega (arith, C.terminals, F.few_terminals), (omega (arith, C.states, F.few_states), omega (arith, C.productions, F.few_productions_lem)))) }
 
 pub write_chains-items-requires : goal.write_chains-items-requires
-write_chains-items-requires c = record { table_value = c.requires.table_value; heads = source_asks _ _ _ _ _ _ _ _ (symbols-source _ c.requires.table_value _ _ _ _ c.read_counts-counts.ensures _ c.requires.symbols_value.0) c.requires.symbols_value.0
-          (room_same _ _ _ (c.write_productions.ensures.long ∙ c.write_states.ensures.long ∙ c.write_nonterminals.ensures.long ∙ put_same _ _ _ _ _ _ _ c.put.ensures) c.requires.symbols_value.1.1.1) }
+write_chains-items-requires c = record {
+  table_value = c.requires.table_value;
+  heads = source_asks _ _ _ _ _ _ _ _ (symbols-source _ c.requires.table_value _ _ _ _ c.read_counts-counts.ensures _ c.requires.symbols_value.0) c.requires.symbols_value.0
+      (room_same _ _ _ (c.write_productions.ensures.long ∙ c.write_states.ensures.long ∙ c.write_nonterminals.ensures.long ∙ put_same _ _ _ _ _ _ _ c.put.ensures) c.requires.symbols_value.1.1.1);
+}
 
 pub write_chains-edges-requires : goal.write_chains-edges-requires
-write_chains-edges-requires c = record { table_value = c.requires.table_value; heads = source_asks _ _ _ _ _ _ _ _ (items_source _ c.requires.table_value _ _ _ _ c.read_counts-counts.ensures) c.requires.symbols_value.1.0
-          (room_same _ _ _ (c.write_chains-items.ensures.1.long ∙ c.write_productions.ensures.long ∙ c.write_states.ensures.long ∙ c.write_nonterminals.ensures.long ∙ put_same _ _ _ _ _ _ _ c.put.ensures) c.requires.symbols_value.1.1.1) }
+write_chains-edges-requires c = record {
+  table_value = c.requires.table_value;
+  heads = source_asks _ _ _ _ _ _ _ _ (items_source _ c.requires.table_value _ _ _ _ c.read_counts-counts.ensures) c.requires.symbols_value.1.0
+      (room_same _ _ _ (c.write_chains-items.ensures.1.long ∙ c.write_productions.ensures.long ∙ c.write_states.ensures.long ∙ c.write_nonterminals.ensures.long ∙ put_same _ _ _ _ _ _ _ c.put.ensures) c.requires.symbols_value.1.1.1);
+}
 
 pub write_chains-records-requires : goal.write_chains-records-requires
-write_chains-records-requires c = record { table_value = c.requires.table_value; heads = source_asks _ _ _ _ _ _ _ _ (edges_source _ c.requires.table_value _ _ _ _ c.read_counts-counts.ensures) c.requires.symbols_value.1.1.0
-          (room_same _ _ _ (c.write_chains-edges.ensures.1.long ∙ c.write_chains-items.ensures.1.long ∙ c.write_productions.ensures.long ∙ c.write_states.ensures.long ∙ c.write_nonterminals.ensures.long ∙ put_same _ _ _ _ _ _ _ c.put.ensures) c.requires.symbols_value.1.1.1) }
+write_chains-records-requires c = record {
+  table_value = c.requires.table_value;
+  heads = source_asks _ _ _ _ _ _ _ _ (edges_source _ c.requires.table_value _ _ _ _ c.read_counts-counts.ensures) c.requires.symbols_value.1.1.0
+      (room_same _ _ _ (c.write_chains-edges.ensures.1.long ∙ c.write_chains-items.ensures.1.long ∙ c.write_productions.ensures.long ∙ c.write_states.ensures.long ∙ c.write_nonterminals.ensures.long ∙ put_same _ _ _ _ _ _ _ c.put.ensures) c.requires.symbols_value.1.1.1);
+}
 
 pub shape_of-out : goal.shape_of-out
 shape_of-out c = c.write_chains-records.ensures.1.long ∙ c.write_chains-edges.ensures.1.long ∙ c.write_chains-items.ensures.1.long ∙ c.write_productions.ensures.long ∙ c.write_states.ensures.long ∙ c.write_nonterminals.ensures.long ∙ put_same _ _ _ _ _ _ _ c.put.ensures

@@ -1,4 +1,3 @@
-use Prim.Native.Nat.{◌-◌}
 use native.Mathlib.Omega.{arith}
 use Rattle.spelling.proofs.Reading.{heads_asked}
 use Rattle.spelling.proofs.Writing.{walk_start, walk_asks, walk_step, walk_end}

@@ -1,4 +1,3 @@
-use Prim.Native.Nat.{◌-◌}
 use native.Mathlib.Omega.{arith}
 use Rattle.table.proofs.Indexes.{nonterminal-asked}
 use Rattle.spelling.proofs.Areas.{nonterminals-start, nonterminals-room, nonterminals-step, nonterminals_end}

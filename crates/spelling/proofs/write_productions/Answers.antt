@@ -1,4 +1,3 @@
-use Prim.Native.Nat.{◌-◌}
 use native.Mathlib.Omega.{arith}
 use Rattle.spelling.proofs.Reading.{symbol_index}
 use Rattle.spelling.proofs.Areas.{inside_is, head_small, productions-start, productions-asked, productions-room, productions-head, productions-first, productions-symbols, productions-step, productions_end}

@@ -1,4 +1,3 @@
-use Prim.Native.Nat.{◌-◌}
 use native.Mathlib.Omega.{arith}
 use Rattle.spelling.proofs.Reading.{item_index, edge_index}
 use Rattle.spelling.proofs.Areas.{inside_is, head_small, states-start, states-room, states_heads, states_items, states_edges, states-step, states_end}

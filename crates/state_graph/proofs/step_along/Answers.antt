@@ -1,7 +1,6 @@
 use Prim.{tt}
-use mathlib.Core.Logic.{⊎_elim}
 use mathlib.Core.Path.{sym, ◌∙◌}
-use Prim.Native.Nat.{◌-◌, ◌<◌}
+use Prim.Native.Nat.{◌<◌}
 use lib.ListN.{length}
 use Rattle.table.specs.Decoded.{meaning}
 use Rattle.table.proofs.Decoding.{fits}
@@ -28,7 +27,7 @@ pub loop-s-preserved : goal.loop-s-preserved
 loop-s-preserved c = let i : c.loop-s.s < length (meaning c.args.table.now).states = omega (arith, c.loop-s-test.true, c.read_counts-counts.ensures.states) in
     let says = c.leads-led.ensures c.if-left-eq0.false in
     elim c.if-led.branch [
-      then-led w ↦ (omega (arith, c.loop-s-test.true), rw w.found-is (finding_hit c.args.table.now c.requires.table_value _ _ _ _ _ _ _ c.loop-s.invariant.1 i _ c.first_edge-head.ensures.0 (sym says ∙ w.if-led.true) _ _ w.insert-found.ensures))
+      | then-led w ↦ (omega (arith, c.loop-s-test.true), rw w.found-is (finding_hit c.args.table.now c.requires.table_value _ _ _ _ _ _ _ c.loop-s.invariant.1 i _ c.first_edge-head.ensures.0 (sym says ∙ w.if-led.true) _ _ w.insert-found.ensures))
       | else-led w ↦ (omega (arith, c.loop-s-test.true), rw w.found-is (finding_miss c.args.table.now c.requires.table_value _ _ _ _ _ _ _ c.loop-s.invariant.1 i _ c.first_edge-head.ensures.0 (sym says ∙ w.if-led.false)))
     ]
 

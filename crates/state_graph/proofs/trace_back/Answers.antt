@@ -48,9 +48,9 @@ loop-i-smaller c = omega (arith, c.loop-i-test.true)
 
 pub loop-i-preserved : goal.loop-i-preserved
 loop-i-preserved c = let symbol = walking_symbol (meaning c.args.table.now) c.args.symbols.now c.requires.state_in_bounds.1 _ _ _ _ c.loop-i.i c.loop-i.invariant.0 c.loop-i-test.true _ _ c.word-kind.ensures.0 c.word-number.ensures.0 in (
-      walking_more (meaning c.args.table.now) c.args.symbols.now c.requires.state_in_bounds.1 _ _ _ _ c.loop-i.i c.loop-i.invariant.0 c.loop-i-test.true _ _ _ _ c.word-kind.ensures.0 c.word-number.ensures.0 c.step-next.ensures,
-      step-made (meaning c.args.table.now) (fits c.args.table.now c.requires.table_value) _ _ symbol _ _ _ _ c.step-next.ensures,
-    )
+  walking_more (meaning c.args.table.now) c.args.symbols.now c.requires.state_in_bounds.1 _ _ _ _ c.loop-i.i c.loop-i.invariant.0 c.loop-i-test.true _ _ _ _ c.word-kind.ensures.0 c.word-number.ensures.0 c.step-next.ensures,
+  step-made (meaning c.args.table.now) (fits c.args.table.now c.requires.table_value) _ _ symbol _ _ _ _ c.step-next.ensures,
+)
 
 pub returns : goal.returns
 returns c = traced (meaning c.args.table.now) (fits c.args.table.now c.requires.table_value) c.args.state c.requires.state_in_bounds.0 _ _ _ _ _ c.of-found.ensures (walking_done (meaning c.args.table.now) c.args.symbols.now c.requires.state_in_bounds.1 _ _ _ _ c.loop-i.i c.loop-i.invariant.0 (omega (arith, c.loop-i-test.false)))

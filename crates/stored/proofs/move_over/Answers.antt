@@ -1,4 +1,4 @@
-use Rattle.std.proofs.Common.{◌-◌, refl, ap, ◌∙◌, arith}
+use Rattle.std.proofs.Common.{refl, ap, ◌∙◌, arith}
 use Rattle.stored.specs.Stored.{Entry}
 use Rattle.stored.proofs.Stored.{over-start, over-more, over_end}
 use Rattle.stored.proofs.move_over.Goals as goal

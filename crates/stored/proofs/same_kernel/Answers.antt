@@ -1,4 +1,4 @@
-use Rattle.std.proofs.Common.{◌-◌, arith}
+use Rattle.std.proofs.Common.{arith}
 use Rattle.stored.proofs.Stored.{kernel_start, kernel_on, kernel_off, kernel_end}
 use Rattle.stored.proofs.same_kernel.Goals as goal
 

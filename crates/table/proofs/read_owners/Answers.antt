@@ -1,5 +1,4 @@
 use mathlib.Core.Path.{sym, ◌∙◌}
-use Prim.Native.Nat.{◌-◌}
 use Rattle.table.proofs.Written.{owners_start, owners_step, owners_end}
 use native.Mathlib.Omega.{arith}
 use Rattle.table.proofs.read_owners.Goals as goal

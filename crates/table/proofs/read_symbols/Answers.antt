@@ -1,5 +1,4 @@
 use mathlib.Core.Path.{sym, ◌∙◌}
-use Prim.Native.Nat.{◌-◌}
 use Rattle.table.proofs.Written.{reading_start, reading_step, reading_end}
 use native.Mathlib.Omega.{arith}
 use Rattle.table.proofs.read_symbols.Goals as goal

@@ -15,5 +15,8 @@ pub mark_heads-requires-3 : goal.mark_heads-requires-3
 mark_heads-requires-3 c = let A = c.survey-a.ensures in record { sized = c.requires.sized; from_value = (A.loose_at, A.records); n_bound = (omega arith, (omega arith, c.requires.blank.1.1)) }
 
 pub scan-requires : goal.scan-requires
-scan-requires c = let A = c.survey-a.ensures in record { known = gathered _ _ A _ _ c.hold.ensures c.count.ensures (c.hold.auto.held ∙ length-replicate {A = ℕ} 128 0)
-          (c.count.auto.lengths ∙ length-replicate {A = ℕ} 128 0); reaching = reaching _ _ A _ _ _ c.mark_heads.ensures c.mark_heads-2.ensures c.mark_heads-3.ensures }
+scan-requires c = let A = c.survey-a.ensures in record {
+  known = gathered _ _ A _ _ c.hold.ensures c.count.ensures (c.hold.auto.held ∙ length-replicate {A = ℕ} 128 0)
+      (c.count.auto.lengths ∙ length-replicate {A = ℕ} 128 0);
+  reaching = reaching _ _ A _ _ _ c.mark_heads.ensures c.mark_heads-2.ensures c.mark_heads-3.ensures;
+}

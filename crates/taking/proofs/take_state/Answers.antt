@@ -1,5 +1,4 @@
 use mathlib.Core.Path.{refl, ◌∙◌}
-use Prim.Native.Nat.{◌-◌}
 use Rattle.taking.proofs.Laws.{search_on, code_fits, code_small, turn_start, turn_stops, turn_more, turn_end}
 use borrow.Author.Rules.{rules}
 use native.Mathlib.Omega.{arith}

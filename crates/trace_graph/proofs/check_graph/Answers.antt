@@ -1,4 +1,4 @@
-use Rattle.std.proofs.Common.{ℕ, ◌-◌, length, sym, ap, ◌∙◌, true≢false, arith}
+use Rattle.std.proofs.Common.{ℕ, length, sym, ap, ◌∙◌, true≢false, arith}
 use lib.ListN.{length-replicate}
 use Rattle.repr.specs.Packed.{productions_in}
 use Rattle.trace_graph.proofs.Checks.{checked_first, checked_more, checked_all, graph_many, graph_bad}
@@ -23,9 +23,9 @@ loop-k-smaller c = omega (arith, c.loop-k-test.true)
 
 pub loop-k-preserved : goal.loop-k-preserved
 loop-k-preserved c = let A = c.args in (
-      checked_more A.n (productions_in A.grammar.now A.productions) A.graph.now c.loop-k.ix c.check_edge.new.ix c.loop-k.k c.loop-k.invariant.0 (c.check_edge.ensures.graphed_2 c.if-check_edge.true) c.check_edge.result c.check_edge.ensures.value c.if-check_edge.true,
-      omega (arith, c.loop-k-test.true),
-    )
+  checked_more A.n (productions_in A.grammar.now A.productions) A.graph.now c.loop-k.ix c.check_edge.new.ix c.loop-k.k c.loop-k.invariant.0 (c.check_edge.ensures.graphed_2 c.if-check_edge.true) c.check_edge.result c.check_edge.ensures.value c.if-check_edge.true,
+  omega (arith, c.loop-k-test.true),
+)
 
 pub shape_of-ix-else-check_edge : goal.shape_of-ix-else-check_edge
 shape_of-ix-else-check_edge c = let A = c.args in

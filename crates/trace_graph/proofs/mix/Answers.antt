@@ -1,4 +1,4 @@
-use Rattle.std.proofs.Common.{◌-◌, refl, arith}
+use Rattle.std.proofs.Common.{refl, arith}
 use Rattle.trace_graph.proofs.Buckets.{mix_end, mix-room, mix-more}
 use Rattle.trace_graph.proofs.mix.Goals as goal
 

@@ -1,4 +1,4 @@
-use Rattle.std.proofs.Common.{◌-◌, sym, refl, ◌∙◌, arith}
+use Rattle.std.proofs.Common.{sym, refl, ◌∙◌, arith}
 use Rattle.trace_graph.proofs.Same.{words-lengths, words_differ, words_more, words_end}
 use Rattle.trace_graph.proofs.same_words.Goals as goal
 

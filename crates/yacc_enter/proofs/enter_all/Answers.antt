@@ -1,5 +1,4 @@
-use Prim.Native.Nat.{◌-◌}
-use mathlib.Core.Bool.{true, true≢false}
+use mathlib.Core.Bool.{true≢false}
 use mathlib.Core.Path.{refl, sym, ◌∙◌}
 use Rattle.yacc_tokens.proofs.Laws.{token-told, turn, turn_outside, judged-whole}
 use Rattle.yacc_enter.proofs.Laws.{turn_first, turn_within, turn_open, turn_lefts, turn_tokens, no_quote, turn_next, turn_last}

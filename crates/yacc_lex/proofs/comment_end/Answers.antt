@@ -1,5 +1,4 @@
 use Rattle.yacc_lex.proofs.Runs.{closes-room, comment-over, comment-closed, comment-zero, comment-more}
-use Prim.Native.Nat.{◌-◌}
 use mathlib.Core.Path.{refl}
 use Rattle.yacc_lex.specs.Steps.{found_at}
 use borrow.Author.Rules.{rules}

@@ -1,5 +1,5 @@
 use Rattle.yacc_lex.proofs.Runs.{word-all, word_short, word-other, word_more}
-use Prim.Native.Nat.{ℕ, ◌-◌}
+use Prim.Native.Nat.{ℕ}
 use native.Mathlib.Nat.{add-zero}
 use mathlib.Core.Path.{ap}
 use lib.ListN.{drop}

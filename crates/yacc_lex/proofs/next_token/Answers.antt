@@ -1,5 +1,4 @@
 use Rattle.yacc_lex.proofs.Laws.{gap_told, word-told, end_told, out-told}
-use Prim.Native.Nat.{◌-◌}
 use mathlib.Core.Path.{refl, ◌∙◌}
 use Rattle.yacc_lex.specs.Steps.{Told}
 use native.Mathlib.Omega.{arith}

@@ -1,5 +1,4 @@
 use Rattle.yacc_lex.proofs.Runs.{run-goes, run-stops, run_ends}
-use Prim.Native.Nat.{◌-◌}
 use mathlib.Core.Path.{refl}
 use borrow.Author.Rules.{rules}
 use Rattle.yacc_lex.proofs.run_end.Goals as goal

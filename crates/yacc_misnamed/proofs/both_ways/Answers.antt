@@ -1,4 +1,3 @@
-use Prim.Native.Nat.{◌-◌}
 use Rattle.yacc_misnamed.proofs.Laws.{twice_here, twice-more, twice_end}
 use native.Mathlib.Omega.{arith}
 use Rattle.yacc_misnamed.proofs.both_ways.Goals as goal

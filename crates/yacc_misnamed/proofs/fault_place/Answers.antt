@@ -1,7 +1,6 @@
 use native.Mathlib.Omega.{arith}
 use Rattle.yacc_read.specs.Outcome.{source_in}
 use Rattle.yacc_tokens.proofs.Laws.{token-told}
-use Prim.Native.Nat.{◌-◌}
 use Rattle.yacc_misnamed.proofs.Laws.{kept_of}
 use Rattle.yacc_misnamed.proofs.Fault.{rests_first, rests_turn, rests_here, rests_ends, rests_outside, not_absent}
 use Rattle.yacc_misnamed.proofs.fault_place.Goals as goal

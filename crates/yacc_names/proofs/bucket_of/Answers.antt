@@ -1,5 +1,4 @@
 use Rattle.yacc_names.proofs.Laws.{mix-more, mix_end, bucket_is}
-use Prim.Native.Nat.{◌-◌}
 use mathlib.Core.Path.{refl}
 use borrow.Author.Rules.{rules}
 use native.Mathlib.Omega.{arith}

@@ -1,5 +1,4 @@
 use Rattle.yacc_names.proofs.Laws.{same_short, same_other, same_more, same_end}
-use Prim.Native.Nat.{◌-◌}
 use Rattle.yacc_names.proofs.same_bytes.Goals as goal
 
 -- src/lib.rt:37:13

@@ -1,4 +1,3 @@
-use Prim.Native.Nat.{◌-◌}
 use mathlib.Core.Path.{refl, ◌∙◌}
 use Rattle.yacc_tokens.proofs.Laws.{token-told}
 use Rattle.yacc_misnamed.proofs.Laws.{kept_of, use_word, lists-word, defines-word}

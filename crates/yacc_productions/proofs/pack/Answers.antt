@@ -1,4 +1,3 @@
-use Prim.Native.Nat.{◌-◌}
 use mathlib.Core.Path.{refl, ◌∙◌}
 use Rattle.yacc_tokens.proofs.Laws.{token-told}
 use Rattle.yacc_read.specs.Outcome.{source_in}

@@ -4,7 +4,7 @@ use Rattle.repr.proofs.Lists.{occurrences-nil}
 use Rattle.repr.specs.Lists.{occurrences}
 use lib.ListN.{length, take}
 use mathlib.Core.Path.{◌≡◌, refl, sym, ap, ◌∙◌}
-use Prim.Native.Nat.{ℕ, ◌+◌, ◌-◌, ◌<◌}
+use Prim.Native.Nat.{ℕ, ◌+◌, ◌<◌}
 use Rattle.yacc_stray.proofs.Places.{line-more, column_more, line_small, column_small}
 use Rattle.yacc_stray.proofs.place_of.Goals as goal
 

@@ -1,6 +1,5 @@
 use native.Mathlib.Omega.{arith}
 use mathlib.Core.Path.{refl}
-use Prim.Native.Nat.{◌-◌}
 use Rattle.yacc_tokens.specs.Accepted.{mode_of}
 use Rattle.yacc_stray.specs.Numbers.{part_of}
 use Rattle.yacc_stray.specs.Automaton.{fed}

@@ -1,4 +1,3 @@
-use Prim.Native.Nat.{◌-◌}
 use Rattle.yacc_tokens.proofs.Laws.{token-told, turn, turn_ends, turn_outside, judged-whole}
 use native.Mathlib.Omega.{arith}
 use Rattle.yacc_tokens.proofs.is_grammar.Goals as goal

@@ -1,5 +1,4 @@
 use mathlib.Core.Path.{sym, ◌∙◌}
-use Prim.Native.Nat.{◌-◌}
 use Rattle.table.specs.Decoded.{meaning}
 use Rattle.yacc_writer.proofs.Turns.{ascends_first, ascends_empty, ascends_below, ascends_more, ascends_end, no_production_lem}
 use native.Mathlib.Omega.{arith}

@@ -1,4 +1,3 @@
-use Prim.Native.Nat.{◌-◌}
 use Rattle.yacc_writer.proofs.Turns.{left_long, numbered-first, numbered_more, productions_end}
 use native.Mathlib.Omega.{arith}
 use Rattle.yacc_writer.proofs.put_productions.Goals as goal

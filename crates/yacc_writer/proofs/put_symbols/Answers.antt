@@ -1,4 +1,3 @@
-use Prim.Native.Nat.{◌-◌}
 use Rattle.yacc_writer.proofs.Turns.{left_long, symbols-first, symbols-whole, symbols_small, symbols-more, symbols_end}
 use native.Mathlib.Omega.{arith}
 use Rattle.yacc_writer.proofs.put_symbols.Goals as goal

@@ -1,4 +1,3 @@
-use Prim.Native.Nat.{◌-◌}
 use Rattle.yacc_writer.proofs.Laws.{terminal-put}
 use Rattle.yacc_writer.proofs.Turns.{left_long, numbered-first, numbered_more, terminals_end}
 use native.Mathlib.Omega.{arith}

@@ -1,4 +1,4 @@
-use Rattle.std.proofs.Common.{◌-◌, sym, ◌∙◌, arith}
+use Rattle.std.proofs.Common.{sym, ◌∙◌, arith}
 use Rattle.view.proofs.Made.{kept_long}
 use Rattle.codes.proofs.Writing.{carried_few, carried_code}
 use Rattle.codes.proofs.Views.{making_first, making_source, making_target, making_place, making_low, making_more, making_done}

@@ -1,5 +1,5 @@
 use borrow.Author.Fill.{fill_none, fill_more}
-use Rattle.std.proofs.Common.{ℕ, ◌-◌, List, set, refl, ap, ◌∙◌, arith, length-set}
+use Rattle.std.proofs.Common.{ℕ, List, set, refl, ap, ◌∙◌, arith, length-set}
 use Rattle.enumerator.proofs.StackWords.{cleared}
 use Rattle.enumerator.proofs.machine.clear.Goals as goal
 

@@ -1,4 +1,4 @@
-use Rattle.std.proofs.Common.{ℕ, ◌-◌, get_or, ap, ◌∙◌, arith}
+use Rattle.std.proofs.Common.{ℕ, get_or, ap, ◌∙◌, arith}
 use Rattle.enumerator.proofs.Stepping.{edge_low, roomy}
 use Rattle.enumerator.proofs.Holding.{trial_first, trial_edge, trial_ends, trial_cycles, trial_again, trial_stops, trial_last}
 use Rattle.enumerator.proofs.machine.is_trial.Goals as goal

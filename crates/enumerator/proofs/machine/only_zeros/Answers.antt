@@ -1,4 +1,3 @@
-use Rattle.std.proofs.Common.{◌-◌}
 use Rattle.enumerator.proofs.Holding.{gathered-start, gathered-more, gathered_end}
 use Rattle.enumerator.proofs.machine.only_zeros.Goals as goal
 

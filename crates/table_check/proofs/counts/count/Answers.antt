@@ -1,6 +1,5 @@
 use Rattle.table_check.proofs.Steps.{lengths-more, lengths-all}
 use lib.ListN.{length-set}
-use Prim.Native.Nat.{◌-◌}
 use mathlib.Core.Path.{refl}
 use native.Mathlib.Omega.{arith}
 use Rattle.table_check.proofs.counts.count.Goals as goal

@@ -1,6 +1,5 @@
 use Rattle.table_check.proofs.Steps.{count_start, count_more, count_full, count_end}
 use Rattle.table.proofs.Chains.{named}
-use Prim.Native.Nat.{◌-◌}
 use mathlib.Core.Path.{refl, sym, ◌∙◌}
 use native.Mathlib.Omega.{arith}
 use Rattle.table_check.proofs.counts.symbol_count.Goals as goal

@@ -1,6 +1,6 @@
 use Rattle.table_check.proofs.Bumped.{left-start, left-more, left-held}
 use lib.ListN.{length, length-replicate}
-use Prim.Native.Nat.{ℕ, ◌-◌}
+use Prim.Native.Nat.{ℕ}
 use mathlib.Core.Path.{refl, ap, ◌∙◌}
 use native.Mathlib.Omega.{arith}
 use Rattle.table_check.proofs.held.hold.Goals as goal

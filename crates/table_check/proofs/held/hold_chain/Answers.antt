@@ -1,7 +1,6 @@
 use Rattle.table_check.proofs.Steps.{hold_start, hold_more, hold_end}
 use Rattle.table.proofs.Chains.{named}
 use lib.ListN.{length-set}
-use Prim.Native.Nat.{◌-◌}
 use mathlib.Core.Path.{refl, sym, ◌∙◌}
 use native.Mathlib.Omega.{arith}
 use Rattle.table_check.proofs.held.hold_chain.Goals as goal

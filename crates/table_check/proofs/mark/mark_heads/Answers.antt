@@ -1,7 +1,5 @@
 use native.Mathlib.Omega.{arith}
-use Prim.Native.Nat.{◌-◌}
 use mathlib.Core.Path.{◌≡◌, refl, ◌∙◌}
-use mathlib.Core.Logic.{⊎_elim}
 use Rattle.table.proofs.Reached.{loose-named}
 use Rattle.table_check.proofs.Sizes.{room, word_in}
 use Rattle.table_check.proofs.Passed.{tested, none_yet, head-yes, head_no}
@@ -24,7 +22,7 @@ loop-i-preserved c = let inv = c.loop-i.invariant in
     let P = inv.1.1 in
     let x = c.word-x.result in
     elim c.if-names.branch [
-      then-names w ↦ (omega arith, (rw w.marks-is (w.put.auto.words ∙ inv.1.0), rw (w.marks-is, w.put.ensures) (head-yes P x c.loop-i-test.true (omega arith) c.word-x.ensures.0 (tested _ _ _ _ _ c.requires.from_value.0 c.requires.from_value.1 c.names.ensures w.if-names.true))))
+      | then-names w ↦ (omega arith, (rw w.marks-is (w.put.auto.words ∙ inv.1.0), rw (w.marks-is, w.put.ensures) (head-yes P x c.loop-i-test.true (omega arith) c.word-x.ensures.0 (tested _ _ _ _ _ c.requires.from_value.0 c.requires.from_value.1 c.names.ensures w.if-names.true))))
       | else-names w ↦ (omega arith, (rw w.marks-is inv.1.0, rw w.marks-is (head_no P x c.word-x.ensures.0 (tested _ _ _ _ _ c.requires.from_value.0 c.requires.from_value.1 c.names.ensures w.if-names.false))))
     ]
 

@@ -30,16 +30,22 @@ pub returns-then-names : goal.returns-then-names
 returns-then-names c = let A = c.requires.areas_of in
     let R = c.requires.loose_at_bound.1.1 in
     let w = c.word-x.ensures.0 in
-    let g = tested c.args.table.now _ _ _ _ A.loose_at A.records c.names.ensures c.if-names.true in record { value = c.loose_fault.ensures
-          ∙ fault-marked _ _ _ _ _ R (omega (arith, c.requires.loose_at_bound.0, A.loose_at)) _ _ _ c.mark_next-symbol.ensures.value c.mark_next-item.ensures.value c.mark_next-edge.ensures.value; reaching = record {
+    let g = tested c.args.table.now _ _ _ _ A.loose_at A.records c.names.ensures c.if-names.true in record {
+      value = c.loose_fault.ensures
+          ∙ fault-marked _ _ _ _ _ R (omega (arith, c.requires.loose_at_bound.0, A.loose_at)) _ _ _ c.mark_next-symbol.ensures.value c.mark_next-item.ensures.value c.mark_next-edge.ensures.value;
+      reaching = record {
         symbols = c.mark_next-symbol.ensures.by_index _ _ _ _ w g R.symbols;
         items = c.mark_next-item.ensures.by_index _ _ _ _ w g R.items;
         edges = c.mark_next-edge.ensures.by_index _ _ _ _ w g R.edges;
-      } }
+      };
+    }
 
 pub returns : goal.returns
 returns c = let A = c.requires.areas_of in
     let R = c.requires.loose_at_bound.1.1 in
     let w = c.word-x.ensures.0 in
-    let g = tested c.args.table.now _ _ _ _ A.loose_at A.records c.names.ensures c.if-names.false in record { value = c.loose_fault-2.ensures
-          ∙ fault-marked _ _ _ _ _ R (omega (arith, c.requires.loose_at_bound.0, A.loose_at)) _ _ _ c.is_set-symbol.ensures c.is_set-item.ensures c.is_set-edge.ensures; reaching = record { symbols = next_no R.symbols _ w g; items = next_no R.items _ w g; edges = next_no R.edges _ w g } }
+    let g = tested c.args.table.now _ _ _ _ A.loose_at A.records c.names.ensures c.if-names.false in record {
+      value = c.loose_fault-2.ensures
+          ∙ fault-marked _ _ _ _ _ R (omega (arith, c.requires.loose_at_bound.0, A.loose_at)) _ _ _ c.is_set-symbol.ensures c.is_set-item.ensures c.is_set-edge.ensures;
+      reaching = record { symbols = next_no R.symbols _ w g; items = next_no R.items _ w g; edges = next_no R.edges _ w g };
+    }

@@ -1,6 +1,5 @@
 use Rattle.table_check.proofs.FirstRow.{best_start}
 use Rattle.table.specs.Words.{loose}
-use Prim.Native.Nat.{◌-◌}
 use mathlib.Core.Path.{◌≡◌}
 use native.Mathlib.Omega.{arith}
 use Rattle.table_check.proofs.scan.scan_areas.Goals as goal

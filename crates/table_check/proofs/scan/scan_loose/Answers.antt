@@ -1,5 +1,4 @@
 use Rattle.table.specs.Words.{records}
-use Prim.Native.Nat.{◌-◌}
 use mathlib.Core.Path.{◌≡◌, refl, ◌∙◌}
 use native.Mathlib.Omega.{arith}
 use Rattle.table_check.proofs.scan.scan_loose.Goals as goal
@@ -15,14 +14,13 @@ pub loop-r-smaller : goal.loop-r-smaller
 loop-r-smaller c = omega (arith, c.loop-r-test.true)
 
 pub loop-r-preserved : goal.loop-r-preserved
-loop-r-preserved c = let inv = c.loop-r.invariant in
-    (
-      (omega (arith, inv.0.0), omega (arith, c.loop-r-test.true)),
-      (
-        (c.pass-m.auto.symbols ∙ inv.1.0.0, (c.pass-m.auto.items ∙ inv.1.0.1.0, c.pass-m.auto.edges ∙ inv.1.0.1.1)),
-        (c.pass-m.ensures.reaching, c.lower-best.ensures _ c.pass-m.ensures.value inv.1.1.1),
-      ),
-    )
+loop-r-preserved c = let inv = c.loop-r.invariant in (
+  (omega (arith, inv.0.0), omega (arith, c.loop-r-test.true)),
+  (
+    (c.pass-m.auto.symbols ∙ inv.1.0.0, (c.pass-m.auto.items ∙ inv.1.0.1.0, c.pass-m.auto.edges ∙ inv.1.0.1.1)),
+    (c.pass-m.ensures.reaching, c.lower-best.ensures _ c.pass-m.ensures.value inv.1.1.1),
+  ),
+)
 
 pub shape_of-symbols : goal.shape_of-symbols
 shape_of-symbols c = c.loop-r.invariant.1.0.0

@@ -1,4 +1,4 @@
-use Rattle.std.proofs.Common.{◌-◌, length, sym, ap, ◌∙◌, ⊎_elim, arith}
+use Rattle.std.proofs.Common.{length, sym, ap, ◌∙◌, arith}
 use Rattle.bits.proofs.Laws.{put-length}
 use Rattle.trace.proofs.EndsLaws.{symbols_short, ends-start, ends_set, ends-unset, ends_last}
 use Rattle.trace.proofs.reduce.production_ends.Goals as goal
@@ -32,7 +32,7 @@ pub loop-index-preserved : goal.loop-index-preserved
 loop-index-preserved c = let w = c.length-past.ensures.1 in
     let I = c.loop-index.invariant in
     elim c.if-item_ends.branch [
-      then-item_ends q ↦ (
+      | then-item_ends q ↦ (
         ap length (q.ends-is ∙ q.put.ensures) ∙ put-length _ _ ∙ I.0,
         omega arith,
         λ T ep et E. ends_set _ _ c.requires.packed.0 T ep _ _ _ _ _ c.requires.production_lt_productions.0 (omega arith) (I.2 T ep et E) q.if-item_ends.true (c.item_ends.ensures T ep et) (q.ends-is ∙ q.put.ensures),

@@ -1,4 +1,4 @@
-use Rattle.std.proofs.Common.{ℕ, ◌-◌, length, sym, ap, ◌∙◌, arith}
+use Rattle.std.proofs.Common.{ℕ, length, sym, ap, ◌∙◌, arith}
 use lib.ListN.{length-replicate}
 use Rattle.repr.specs.Sizes.{item_flags}
 use Rattle.trace.proofs.EndsLaws.{ends-none, ends-all}

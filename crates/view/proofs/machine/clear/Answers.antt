@@ -1,6 +1,6 @@
 use borrow.Author.Fill.{fill_none, fill_more}
 use lib.ListN.{set, length-set}
-use Prim.Native.Nat.{ℕ, ◌-◌}
+use Prim.Native.Nat.{ℕ}
 use mathlib.Core.List.{List}
 use mathlib.Core.Path.{refl, ap, ◌∙◌}
 use Rattle.view.proofs.Trial.{cleared}

@@ -1,4 +1,3 @@
-use Prim.Native.Nat.{◌-◌}
 use mathlib.Core.Path.{refl, ◌∙◌}
 use Rattle.view.proofs.Trial.{stack_long, stack_depth}
 use Rattle.view.proofs.Counting.{joined_first, joined_end, joined_given, joined_edge, joined_again}

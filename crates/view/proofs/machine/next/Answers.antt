@@ -30,9 +30,12 @@ pub bounds-counts-nonterminal : goal.bounds-counts-nonterminal
 bounds-counts-nonterminal c = omega (arith, source_few c.requires.tidy.by_source c.word-edge.result c.byte-source.ensures, (top-counted c.args.sources.now c.requires.held.0 c.word-depth.ensures.0 c.if-depth-eq0.false c.word-edge.ensures.0 c.requires.counted_walk).size)
 
 pub returns-then-counts-nonterminal-ne0 : goal.returns-then-counts-nonterminal-ne0
-returns-then-counts-nonterminal-ne0 c = let A = c.args in record { by_index = next-used A.sources.now A.older.now A.latest.now c.requires.held.0 c.word-depth.ensures.0 c.if-depth-eq0.false c.word-edge.ensures.0 c.byte-source.ensures c.if-source-eq0.false
-          (counted_in (source_few c.requires.tidy.by_source c.word-edge.result c.byte-source.ensures) refl (top-counted A.sources.now c.requires.held.0 c.word-depth.ensures.0 c.if-depth-eq0.false c.word-edge.ensures.0 c.requires.counted_walk) c.if-counts-nonterminal-ne0.true)
-          c.back-then-counts-nonterminal-ne0.ensures.by_index; counted_walk_2 = c.back-then-counts-nonterminal-ne0.ensures.counted_walk_2 }
+returns-then-counts-nonterminal-ne0 c = let A = c.args in record {
+  by_index = next-used A.sources.now A.older.now A.latest.now c.requires.held.0 c.word-depth.ensures.0 c.if-depth-eq0.false c.word-edge.ensures.0 c.byte-source.ensures c.if-source-eq0.false
+      (counted_in (source_few c.requires.tidy.by_source c.word-edge.result c.byte-source.ensures) refl (top-counted A.sources.now c.requires.held.0 c.word-depth.ensures.0 c.if-depth-eq0.false c.word-edge.ensures.0 c.requires.counted_walk) c.if-counts-nonterminal-ne0.true)
+      c.back-then-counts-nonterminal-ne0.ensures.by_index;
+  counted_walk_2 = c.back-then-counts-nonterminal-ne0.ensures.counted_walk_2;
+}
 
 pub join-requires : goal.join-requires
 join-requires c = record { bounded = c.requires.tidy.by_source; edge_lt_edge_limit = upper_below c.requires.held.0 c.word-depth.ensures.0 c.if-depth-eq0.false c.word-edge.ensures.0; by_index = join-given c.args.sources.now c.requires.held.0 c.word-depth.ensures.0 c.if-depth-eq0.false c.word-edge.ensures.0 c.requires.counted_walk }
@@ -41,14 +44,22 @@ pub word-link-requires : goal.word-link-requires
 word-link-requires c = omega (arith, source_few c.requires.tidy.by_source c.word-edge.result c.byte-source.ensures, c.requires.tidy.by_latest.long)
 
 pub seek-requires-2 : goal.seek-requires-2
-seek-requires-2 c = let A = c.args in record { bounded = (c.requires.tidy.by_source, c.requires.tidy.by_older); link_le_edge_limit = (link_low c.requires.tidy.by_latest (c.byte-source.result - 1) c.word-link.ensures.0).0; held = (
-            c.requires.held.0,
-            new_room A.sources.now A.older.now A.latest.now c.requires.held.0 c.word-depth.ensures.0 c.if-depth-eq0.false c.word-edge.ensures.0 c.byte-source.ensures c.if-source-eq0.false
-                (counted-out (source_few c.requires.tidy.by_source c.word-edge.result c.byte-source.ensures) refl (top-counted A.sources.now c.requires.held.0 c.word-depth.ensures.0 c.if-depth-eq0.false c.word-edge.ensures.0 c.requires.counted_walk) c.if-counts-nonterminal-ne0.false)
-                c.word-link.ensures.0 c.requires.held.1,
-          ); counted_edges = join-top A.sources.now c.requires.held.0 c.word-depth.ensures.0 c.if-depth-eq0.false c.word-edge.ensures.0 c.requires.counted_walk c.join.ensures }
+seek-requires-2 c = let A = c.args in record {
+  bounded = (c.requires.tidy.by_source, c.requires.tidy.by_older);
+  link_le_edge_limit = (link_low c.requires.tidy.by_latest (c.byte-source.result - 1) c.word-link.ensures.0).0;
+  held = (
+    c.requires.held.0,
+    new_room A.sources.now A.older.now A.latest.now c.requires.held.0 c.word-depth.ensures.0 c.if-depth-eq0.false c.word-edge.ensures.0 c.byte-source.ensures c.if-source-eq0.false
+        (counted-out (source_few c.requires.tidy.by_source c.word-edge.result c.byte-source.ensures) refl (top-counted A.sources.now c.requires.held.0 c.word-depth.ensures.0 c.if-depth-eq0.false c.word-edge.ensures.0 c.requires.counted_walk) c.if-counts-nonterminal-ne0.false)
+        c.word-link.ensures.0 c.requires.held.1,
+  );
+  counted_edges = join-top A.sources.now c.requires.held.0 c.word-depth.ensures.0 c.if-depth-eq0.false c.word-edge.ensures.0 c.requires.counted_walk c.join.ensures;
+}
 
 pub returns : goal.returns
-returns c = let A = c.args in record { by_index = next_new A.sources.now A.older.now A.latest.now c.requires.held.0 c.word-depth.ensures.0 c.if-depth-eq0.false c.word-edge.ensures.0 c.byte-source.ensures c.if-source-eq0.false
-          (counted-out (source_few c.requires.tidy.by_source c.word-edge.result c.byte-source.ensures) refl (top-counted A.sources.now c.requires.held.0 c.word-depth.ensures.0 c.if-depth-eq0.false c.word-edge.ensures.0 c.requires.counted_walk) c.if-counts-nonterminal-ne0.false)
-          c.word-link.ensures.0 c.seek-2.ensures.by_index; counted_walk_2 = c.seek-2.ensures.counted_walk }
+returns c = let A = c.args in record {
+  by_index = next_new A.sources.now A.older.now A.latest.now c.requires.held.0 c.word-depth.ensures.0 c.if-depth-eq0.false c.word-edge.ensures.0 c.byte-source.ensures c.if-source-eq0.false
+      (counted-out (source_few c.requires.tidy.by_source c.word-edge.result c.byte-source.ensures) refl (top-counted A.sources.now c.requires.held.0 c.word-depth.ensures.0 c.if-depth-eq0.false c.word-edge.ensures.0 c.requires.counted_walk) c.if-counts-nonterminal-ne0.false)
+      c.word-link.ensures.0 c.seek-2.ensures.by_index;
+  counted_walk_2 = c.seek-2.ensures.counted_walk;
+}

@@ -12,8 +12,10 @@ returns-then-node-index c = (slot-start c.args.node c.args.production c.args.ind
 pub returns : goal.returns
 returns c = let N = c.args.node in
     let p = c.args.production in
-    let i = c.args.index in
-    (elim c.if-node-production.branch [
-      then-node-production+else-node-index w ↦ slot-place N p i c.if-node-eq0.false w.if-node-production.true w.if-node-index.false
-      | else-node-production w ↦ slot-other N p i c.if-node-eq0.false w.if-node-production.false
-    ], omega arith)
+    let i = c.args.index in (
+      elim c.if-node-production.branch [
+        | then-node-production+else-node-index w ↦ slot-place N p i c.if-node-eq0.false w.if-node-production.true w.if-node-index.false
+        | else-node-production w ↦ slot-other N p i c.if-node-eq0.false w.if-node-production.false
+      ],
+      omega arith,
+    )
