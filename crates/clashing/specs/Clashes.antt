@@ -1,5 +1,5 @@
 -- The conflicts of a state as code counts and writes them: of each production the tokens of its complete item that are shifted too, then for each higher production
--- those of both. `clashes-with` of proofs/Clashes: these are `clashes_of` of specs/States of build. Assumes nothing: these are definitions.
+-- those of both. `clashes_with_lem` of proofs/Clashes: these are `clashes_of` of specs/States of build. Assumes nothing: these are definitions.
 use Rattle.std.specs.Prelude.{ℕ, suc, ◌-◌, ◌&&◌, ◌≡◌, List, ◌++◌, map, length, ltb}
 use Rattle.repr.specs.Lists.{up_from, joined}
 use Rattle.repr.specs.Meaning.{Table}

@@ -24,7 +24,7 @@ use Rattle.error.specs.declared.Class.TheVariants.{Naive}
 use Rattle.error.specs.declared.Classified.TheVariants.{Class as IsClass, Refused}
 use Rattle.error.specs.Numbers.{number_of_class, values_of_class, Reading, classed, reading_of}
 use Rattle.error.specs.Sides.{Side, gathered, stopped, reduce_side, action_side_of, both_sides, gather}
-use Rattle.error.specs.Sorted.{sorted_from, sortedBy}
+use Rattle.error.specs.Sorted.{sorted_from, sorted_by}
 use Rattle.error.specs.Judge.{Example, symbol_count, judge, judged}
 use Rattle.error.specs.Outcome.{Outcome, outcome, operand_fits, place_is_fit, conflict_fits, shifts_end, shown, judged_with, gathered_outcome, gathered_with, classified_in, classify_in_with}
 use Rattle.outline.specs.Kept.{outlines_room, nth}
@@ -132,13 +132,13 @@ judge-none T c (x ∷ xs) = refl
 
 module _ (T : Table) (c : Conflict) (action reduce : List ℕ) where
   pub no_action : (xs ys : List Example) → length xs ≡ 0 → judged_words Naive action reduce ≡ shown_of T.productions action reduce (judged T c xs ys)
-  unfolding judged judge sortedBy sorted_from shown_of shown
+  unfolding judged judge sorted_by sorted_from shown_of shown
   no_action [] ys e = refl
   no_action (x ∷ xs) ys e = absurd (omega arith)
 
   pub no_reduce : (xs ys : List Example) → length ys ≡ 0 → judged_words Naive action reduce ≡ shown_of T.productions action reduce (judged T c xs ys)
-  unfolding judged sortedBy sorted_from shown_of shown
-  no_reduce xs [] e = ap (shown_of T.productions action reduce) (sym (judge-none T c (sortedBy (symbol_count T.productions) xs)))
+  unfolding judged sorted_by sorted_from shown_of shown
+  no_reduce xs [] e = ap (shown_of T.productions action reduce) (sym (judge-none T c (sorted_by (symbol_count T.productions) xs)))
   no_reduce xs (y ∷ ys) e = absurd (omega arith)
 
 -- a side's order
@@ -147,7 +147,7 @@ module _ (T : Table) (shift : Bool) (made : ℕ → ℕ → Example → Type 0) 
   pub side_sorts : (m : ℕ) → m ≡ example_limit → (n ≤ example_limit) × (n ≤ m) × (outlines_room ≤ length kept)
   side_sorts m z = let f = K.outlined.few in (omega arith, omega arith, omega (arith, K.outlined.room.by_words))
 
-  module _ (order : List ℕ) (s : take n order ≡ sortedBy (places_in kept) (below n)) where
+  module _ (order : List ℕ) (s : take n order ≡ sorted_by (places_in kept) (below n)) where
     pub side_long : length (take n order) ≡ n
     side_long = ap (λ (l : List ℕ). length l) s ∙ (order_sorted T.productions shift xs kept prints K.outlined n (sym e)).2
 
@@ -157,13 +157,13 @@ module _ (T : Table) (shift : Bool) (made : ℕ → ℕ → Example → Type 0) 
         let l = side_long in
         record { inside = subst (λ (m : ℕ). All (λ k. k < m) (take n order)) (sym e) (subst (All (λ k. k < n)) (sym s) O.1); any = omega arith }
 
-    pub side_picked : picked xs (take n order) ≡ sortedBy (symbol_count T.productions) xs
+    pub side_picked : picked xs (take n order) ≡ sorted_by (symbol_count T.productions) xs
     unfolding picked
     side_picked = ap (map (nth xs)) s ∙ (order_sorted T.productions shift xs kept prints K.outlined n (sym e)).0
 
 -- the class and the examples shown with it
 pub kept-judged : (T : Table) (c : Conflict) (xs ys as' rs : List Example) (v : JudgedValue) (action reduce action' reduce' : List ℕ) → Judges xs ys v (judge T c as' rs)
-    → as' ≡ sortedBy (symbol_count T.productions) xs → rs ≡ sortedBy (symbol_count T.productions) ys
+    → as' ≡ sorted_by (symbol_count T.productions) xs → rs ≡ sorted_by (symbol_count T.productions) ys
     → action' ≡ shown T.productions (shown_in xs v.action) action → reduce' ≡ shown T.productions (shown_in ys v.reduce) reduce
     → judged_words v.class action' reduce' ≡ shown_of T.productions action reduce (judged T c xs ys)
 unfolding judged judged_in shown_of

@@ -10,7 +10,7 @@ ghost use Rattle.table.specs.Refusals.{check_of};
 ghost use Rattle.error.specs.Numbers.{reading_of};
 ghost use Rattle.error.specs.Sides.{gather};
 ghost use Rattle.error.specs.Judge.{Example, judged};
-ghost use Rattle.error.specs.Outcome.{outcome, place_is_fit, conflict_fits, gathered_outcome, classified_in, shown as shownWords};
+ghost use Rattle.error.specs.Outcome.{outcome, place_is_fit, conflict_fits, gathered_outcome, classified_in, shown as shown_words};
 ghost use Rattle.examples.specs.Reads.{Reads};
 ghost use Rattle.examples.specs.Gathers.{SideKept, is_shift, action_made, reduce_made};
 ghost use Rattle.judge.specs.Judging.{Sides, ShownFits, shown_in};
@@ -90,7 +90,7 @@ fn show_action(
     requires reads { Reads table.now grammar.now counts map.now least.now ends.now × (conflict_fits (meaning table.now) conflict ≡ true) }
     requires side_kept { (xs : List Example) × (SideKept (meaning table.now) (is_shift conflict) (action_made (meaning table.now) conflict) xs actions.now prints.now × ShownFits (length xs) «shown») }
     requires example_room_in_bounds { example_room ≤ length buffer.old }
-    ensures { (xs : List Example) → SideKept (meaning table.now) (is_shift conflict) (action_made (meaning table.now) conflict) xs actions.now prints.now → ShownFits (length xs) «shown» → buffer.new ≡ shownWords (meaning table.now).productions (shown_in xs «shown») buffer.old }
+    ensures { (xs : List Example) → SideKept (meaning table.now) (is_shift conflict) (action_made (meaning table.now) conflict) xs actions.now prints.now → ShownFits (length xs) «shown» → buffer.new ≡ shown_words (meaning table.now).productions (shown_in xs «shown») buffer.old }
 {
     match shown {
         Shown::Number(k) => {
@@ -119,7 +119,7 @@ fn show_reduce(
     requires reads { Reads table.now grammar.now counts map.now least.now ends.now × (conflict_fits (meaning table.now) conflict ≡ true) }
     requires side_kept { (ys : List Example) × (SideKept (meaning table.now) false (reduce_made (meaning table.now) conflict.state.0 conflict.production.0 conflict.token) ys reduces.now prints.now × ShownFits (length ys) «shown») }
     requires example_room_in_bounds { example_room ≤ length buffer.old }
-    ensures { (ys : List Example) → SideKept (meaning table.now) false (reduce_made (meaning table.now) conflict.state.0 conflict.production.0 conflict.token) ys reduces.now prints.now → ShownFits (length ys) «shown» → buffer.new ≡ shownWords (meaning table.now).productions (shown_in ys «shown») buffer.old }
+    ensures { (ys : List Example) → SideKept (meaning table.now) false (reduce_made (meaning table.now) conflict.state.0 conflict.production.0 conflict.token) ys reduces.now prints.now → ShownFits (length ys) «shown» → buffer.new ≡ shown_words (meaning table.now).productions (shown_in ys «shown») buffer.old }
 {
     match shown {
         Shown::Number(k) => {

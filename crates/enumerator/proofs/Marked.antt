@@ -19,7 +19,7 @@ use Rattle.table.specs.Refusals.{row1, row2, is_nonterminal, is_state, is_produc
 use Rattle.table.specs.TableB.{table_b}
 use Rattle.table.specs.declared.Checked.TheVariants.{Accepted}
 use Rattle.trace_graph.specs.Graph.{Node, at_nonterminal, at_item, same_item, is_same_node, TraceEdge, label_of, same_symbols, same_cursor, same_sets, is_same_edge, is_node_of}
-use Rattle.trace_graph.specs.Words.{node_words, edge_words, graph_words, node_of, node_at, edge_at as lentEdge, edges_in}
+use Rattle.trace_graph.specs.Words.{node_words, edge_words, graph_words, node_of, node_at, edge_at as lent_edge, edges_in}
 use Rattle.trace_graph.specs.Fits.{item_is_fit, node_fits, edge_is_fit, once, graph_fits}
 use Rattle.example.specs.Example.{sets_of, prefixes, suffixes, at_cursor, middle, symbols, spans, reductions, symbol_words, reduction_words, example_words, cursor_of, ahead, meets}
 use Rattle.enumerator.specs.Trials.{Path, trials}
@@ -104,11 +104,11 @@ unfolding up_from below mem occurrences first? some? joined word_at records stat
 marked_check = refl
 
 pub marked_asks : asked (meaning table_b) (item 0 1) none shift_words ∷ asked (meaning table_b) (item 0 3) (some 1) reduce_words ∷ [] ≡ true ∷ true ∷ []
-unfolding up_from below mem some? every? first? joined symbol_of_kind is_same_symbol first symbol_sets word_at records state_area production_area loose production_records loose_records names against chain_by chain production_chain symbol_chain item_chain edge_chain symbol_at item_at edge_at or_zero owner_of production_of state_of productions_of meaning same_item is_same_node label_of same_symbols same_cursor same_sets is_same_edge node_words edge_words graph_words node_of node_at lentEdge edges_in item_is_fit node_fits edge_is_fit once graph_fits ahead_fits lent_graph_fits asked
+unfolding up_from below mem some? every? first? joined symbol_of_kind is_same_symbol first symbol_sets word_at records state_area production_area loose production_records loose_records names against chain_by chain production_chain symbol_chain item_chain edge_chain symbol_at item_at edge_at or_zero owner_of production_of state_of productions_of meaning same_item is_same_node label_of same_symbols same_cursor same_sets is_same_edge node_words edge_words graph_words node_of node_at lent_edge edges_in item_is_fit node_fits edge_is_fit once graph_fits ahead_fits lent_graph_fits asked
 marked_asks = refl
 
 pub marked_edges : edges_in shift_words ∷ edges_in reduce_words ∷ [] ≡ shift_b ∷ reduce_b ∷ []
-unfolding up_from below joined node_words edge_words graph_words node_of node_at lentEdge edges_in
+unfolding up_from below joined node_words edge_words graph_words node_of node_at lent_edge edges_in
 marked_edges = refl
 
 marked_nodes : is_node_of (at_item (item 0 1)) shift_b ∷ is_node_of (at_item (item 0 3)) reduce_b ∷ [] ≡ true ∷ true ∷ []

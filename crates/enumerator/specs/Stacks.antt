@@ -33,7 +33,7 @@ unfoldable pub Within : ℕ → List ℕ → Type 0
 Within k [] = Unit {0}
 Within k (e ∷ st) = (e < k) × Within k st
 
--- words of a stack of edges below k, no longer than a trial (`short-trial`)
+-- words of a stack of edges below k, no longer than a trial (`short_trial`)
 pub record Stacked (k : ℕ) (ws : List ℕ) : Type 0 where
   pub stack : List ℕ
   pub rest : List ℕ

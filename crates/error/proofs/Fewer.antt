@@ -16,7 +16,7 @@ use Rattle.error.specs.declared.Conflict.{Conflict}
 use Rattle.error.specs.Numbers.{refused}
 use Rattle.error.specs.Sides.{Gathered, sides, halted, gather}
 use Rattle.error.specs.Outcome.{outcome, conflict_fits, shifts_end, judged_with, gathered_with, classify_in_with, classify_by_with, classify_with}
-use Rattle.error.specs.Choose.{refused as notChosen, outcome as choosing, Entries, entries, halts, classes_of, choice_of, set_fits, set_shifts_end, choose_in_with, choose_by_with, choose_with}
+use Rattle.error.specs.Choose.{refused as not_chosen, outcome as choosing, Entries, entries, halts, classes_of, choice_of, set_fits, set_shifts_end, choose_in_with, choose_by_with, choose_with}
 use Rattle.error.specs.Fewer.{keeps, choice_keeps, left, SameClass, SameChoice, SameWords, EightThousand}
 use Rattle.error.proofs.Late.{LateHalt, LateHalts, gather_late, classes_late}
 
@@ -26,9 +26,9 @@ module _ {W W' : ℕ} {s s' : List ℕ} where
   unfolding keeps left
   class_kept n r action reduce h = record { reading = refused n r; action = action; reduce = reduce; first = rw (le-leb n 11 h); second = rw (le-leb n 11 h) }
 
-  choice_kept : (n r : ℕ) → n ≤ 11 → SameChoice W W' s s' (choosing (notChosen n r) s) (choosing (notChosen n r) s')
+  choice_kept : (n r : ℕ) → n ≤ 11 → SameChoice W W' s s' (choosing (not_chosen n r) s) (choosing (not_chosen n r) s')
   unfolding choice_keeps left
-  choice_kept n r h = record { choice = notChosen n r; first = rw (le-leb n 11 h); second = rw (le-leb n 11 h) }
+  choice_kept n r h = record { choice = not_chosen n r; first = rw (le-leb n 11 h); second = rw (le-leb n 11 h) }
 
   -- 12 to 14, a class, a choice
   gathered_same : (T : Table) (c : Conflict) (action reduce : List ℕ) (G : Gathered) → LateHalt G → SameClass W W' s s' (gathered_with W T c s action reduce G) (gathered_with W' T c s' action reduce G)
@@ -42,7 +42,7 @@ module _ {W W' : ℕ} {s s' : List ℕ} where
   unfolding choice_keeps left choice_of
   chosen_same a (halts n) h =
       let l = lt-leb n 11 (omega arith) in
-      record { choice = notChosen n 0; first = rw l; second = rw l }
+      record { choice = not_chosen n 0; first = rw l; second = rw l }
   chosen_same a (entries es) h = record { choice = _; first = refl; second = refl }
 
   module _ (long : W ≤ length s) (long' : W' ≤ length s') where

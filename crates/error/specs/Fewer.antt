@@ -5,7 +5,7 @@ use Rattle.slices.specs.Lent.{zeroed}
 use Rattle.error.specs.declared.Conflict.{Conflict}
 use Rattle.error.specs.Numbers.{Reading, classed, refused}
 use Rattle.error.specs.Outcome.{Outcome, outcome, classify_with, classify_of}
-use Rattle.error.specs.Choose.{Choice, chosen, refused as notChosen, Outcome as ChoiceOutcome, outcome as choosing, choose_with, choose_of}
+use Rattle.error.specs.Choose.{Choice, chosen, refused as not_chosen, Outcome as ChoiceOutcome, outcome as choosing, choose_with, choose_of}
 
 -- refusals 1 to 11 leave the scratch as it was
 unfoldable pub keeps : Reading → Bool
@@ -14,7 +14,7 @@ keeps (refused n r) = nat_le n 11
 
 unfoldable pub choice_keeps : Choice → Bool
 choice_keeps (chosen es) = false
-choice_keeps (notChosen n r) = nat_le n 11
+choice_keeps (not_chosen n r) = nat_le n 11
 
 -- else its first W words are zero, and those from W on as they were
 unfoldable pub left : ℕ → List ℕ → Bool → List ℕ

@@ -7,7 +7,7 @@ use Rattle.example.specs.Example.{Label, ExampleSymbol, symbol, epsilon, symbols
 use Rattle.error.specs.declared.Conflict.{Conflict}
 use Rattle.error.specs.declared.Class.{Class}
 use Rattle.error.specs.declared.Class.TheVariants.{Naive, Ambiguity, Precedence, SuggestInline, SuggestQuestion, AmbiguousReduction, InsufficientLookahead}
-use Rattle.error.specs.Sorted.{sortedBy, Pair, firstPair}
+use Rattle.error.specs.Sorted.{sorted_by, Pair, first_fit}
 
 -- an example is its labels, innermost first
 abbrev pub Example : Type 0
@@ -140,7 +140,7 @@ question_or n firsts (some x) other = with_both (suggest_question n x) firsts
 unfoldable pub unambiguous : Table → ℕ → ℕ → List Example → List Example → Pair Example → Judged
 unambiguous T production zero as' rs firsts =
     let n = (production_at T production).nonterminal in
-    question_or n firsts (question_of T n) (inline_or T.productions firsts (firstPair (inlines T) as' rs))
+    question_or n firsts (question_of T n) (inline_or T.productions firsts (first_fit (inlines T) as' rs))
 unambiguous T production (suc k) as' rs firsts = with_both InsufficientLookahead firsts
 
 unfoldable pub ambiguous_or : Table → Conflict → Option (Pair Example) → Judged → Judged
@@ -152,9 +152,9 @@ unfoldable pub judge : Table → Conflict → List Example → List Example → 
 judge T c [] rs = record { class = Naive; action = none; reduce = none }
 judge T c (a ∷ as') [] = record { class = Naive; action = none; reduce = none }
 judge T c (a ∷ as') (r ∷ rs) =
-    ambiguous_or T c (firstPair (is_same_reading T.productions) (a ∷ as') (r ∷ rs))
+    ambiguous_or T c (first_fit (is_same_reading T.productions) (a ∷ as') (r ∷ rs))
     (unambiguous T c.production.0 c.action (a ∷ as') (r ∷ rs) (record { action = a; reduce = r }))
 
 -- sides sorted by symbol count
 unfoldable pub judged : Table → Conflict → List Example → List Example → Judged
-judged T c as' rs = judge T c (sortedBy (symbol_count T.productions) as') (sortedBy (symbol_count T.productions) rs)
+judged T c as' rs = judge T c (sorted_by (symbol_count T.productions) as') (sorted_by (symbol_count T.productions) rs)

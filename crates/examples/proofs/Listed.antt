@@ -13,7 +13,7 @@ use Rattle.trace_graph.specs.Graph.{Node, at_nonterminal, at_item, TraceEdge}
 use Rattle.trace_graph.specs.Fits.{item_is_fit}
 use Rattle.trace_graph.proofs.Fits.{item-parts}
 use Rattle.trace.specs.Traced.{owner_of}
-use Rattle.trace.specs.Sound.{owner_of_node as ownerAt, EdgeSound, Sound}
+use Rattle.trace.specs.Sound.{owner_of_node as owner_at, EdgeSound, Sound}
 use Rattle.trace.proofs.Traced.{fits-item, shift_sound, reduce_sound}
 use Rattle.tracer.specs.Built.{edges_by}
 use Rattle.example.specs.Labels.{LabelFits}
@@ -51,8 +51,8 @@ all_mapped P f [] a = tt
 all_mapped P f (x ∷ xs) a = (a.0, all_mapped P f xs a.1)
 
 -- the two definitions of a node's nonterminal
-owner_same : (T : Table) (v : Node) → owner_of_node T.productions v ≡ ownerAt T v
-unfolding owner_of_node ownerAt owner_of
+owner_same : (T : Table) (v : Node) → owner_of_node T.productions v ≡ owner_at T v
+unfolding owner_of_node owner_at owner_of
 owner_same T (at_nonterminal n) = refl
 owner_same T (at_item i) = refl
 

@@ -34,7 +34,7 @@ use Rattle.error.specs.Numbers.{number_of_class, Reading}
 use Rattle.error.specs.Items.{shift_items}
 use Rattle.error.specs.Order.{Permutation, empty, alike, swap, through}
 use Rattle.error.specs.Sides.{Side, gathered, stopped, listing_side, with_more, examples_in, shift_side_from, shift_side, item_of_reduce, reduce_side, action_side_of, Gathered, sides, halted, both_sides, gather}
-use Rattle.error.specs.Sorted.{sortedBy, Pair, product, firstPair}
+use Rattle.error.specs.Sorted.{sorted_by, Pair, product, first_fit}
 use Rattle.error.specs.Judge.{Example, Judged, with_both, symbol_count, reduction_at, is_same_reading, is_operator_of, ambiguity_of_shift, ambiguity_of_reduce, ambiguity_of, question_of, suggest_question, inlines, inline_or, question_or, unambiguous, ambiguous_or, judge, judged}
 use Rattle.error.specs.Outcome.{Outcome, outcome, shown, judged_outcome, judged_with, gathered_outcome, gathered_with, conflict_fits, shifts_end, classified_in, classify_in_with, classify_by, classify_by_with, classify_of, classify_with}
 use Rattle.error.proofs.Sorted.{sorted_permutation}
@@ -157,8 +157,8 @@ product_few [] rs h k = tt
 product_few (a ∷ as') rs h k =
     all_append PairFew (map (λ r. record { action = a; reduce = r }) rs) (product as' rs) (row_few a rs h.0 k) (product_few as' rs h.1 k)
 
-pair_few : (t : Example → Example → Bool) (as' rs : List Example) → All Few as' → All Few rs → Held PairFew (firstPair t as' rs)
-unfolding firstPair
+pair_few : (t : Example → Example → Bool) (as' rs : List Example) → All Few as' → All Few rs → Held PairFew (first_fit t as' rs)
+unfolding first_fit
 pair_few t as' rs h k = first-held PairFew (λ p. t p.action p.reduce) (product as' rs) (product_few as' rs h k)
 
 unfoldable SomeFew : Option Example → Type 0
@@ -205,8 +205,8 @@ unambiguous_few : (T : Table) (production action : ℕ) (as' rs : List Example) 
 unfolding unambiguous
 unambiguous_few T production zero as' rs firsts a r h =
     let n = (production_at T production).nonterminal in
-    let inline = inline_or T.productions firsts (firstPair (inlines T) as' rs) in
-    question_few n firsts (question_of T n) inline h (inline_few T.productions firsts (firstPair (inlines T) as' rs) h (pair_few (inlines T) as' rs a r))
+    let inline = inline_or T.productions firsts (first_fit (inlines T) as' rs) in
+    question_few n firsts (question_of T n) inline h (inline_few T.productions firsts (first_fit (inlines T) as' rs) h (pair_few (inlines T) as' rs a r))
 unambiguous_few T production (suc k) as' rs firsts a r h = with_few InsufficientLookahead firsts h
 
 ambiguous_few : (T : Table) (c : Conflict) (o : Option (Pair Example)) (other : Judged) → Held PairFew o → JudgedFew other → JudgedFew (ambiguous_or T c o other)
@@ -219,7 +219,7 @@ unfolding judge All
 judge_few T c [] rs a r = naive_few
 judge_few T c (x ∷ as') [] a r = naive_few
 judge_few T c (x ∷ as') (y ∷ rs) a r =
-    ambiguous_few T c (firstPair (is_same_reading T.productions) (x ∷ as') (y ∷ rs)) (unambiguous T c.production.0 c.action (x ∷ as') (y ∷ rs) (record { action = x; reduce = y }))
+    ambiguous_few T c (first_fit (is_same_reading T.productions) (x ∷ as') (y ∷ rs)) (unambiguous T c.production.0 c.action (x ∷ as') (y ∷ rs) (record { action = x; reduce = y }))
     (pair_few (is_same_reading T.productions) (x ∷ as') (y ∷ rs) a r)
     (unambiguous_few T c.production.0 c.action (x ∷ as') (y ∷ rs) (record { action = x; reduce = y }) a r (a.0, r.0))
 
@@ -227,7 +227,7 @@ judged_few : (T : Table) (c : Conflict) (as' rs : List Example) → All Few as' 
 unfolding judged
 judged_few T c as' rs a r =
     let key = symbol_count T.productions in
-    judge_few T c (sortedBy key as') (sortedBy key rs) (all_permuted Few (sorted_permutation key as') a) (all_permuted Few (sorted_permutation key rs) r)
+    judge_few T c (sorted_by key as') (sorted_by key rs) (all_permuted Few (sorted_permutation key as') a) (all_permuted Few (sorted_permutation key rs) r)
 
 -- the buffers
 

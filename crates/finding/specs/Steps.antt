@@ -1,4 +1,4 @@
--- `outcome` of specs/Outcome of build as code goes: a state that 16 or 17 refuses ends the search where it is found. `outcome-steps` of proofs/Steps says that
+-- `outcome` of specs/Outcome of build as code goes: a state that 16 or 17 refuses ends the search where it is found. `outcome_steps` of proofs/Steps says that
 -- nothing else changes. Assumes nothing: these are definitions.
 use Rattle.std.specs.Prelude.{ℕ, zero, suc, true, false, List, [], ◌∷◌, ◌++◌, length, nat_lt, slice_index_or}
 use Rattle.repr.specs.Meaning.{Symbol, Edge, Table}

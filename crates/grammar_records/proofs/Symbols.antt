@@ -14,7 +14,7 @@ use Rattle.repr.specs.Packed.{symbol_words}
 use Rattle.repr.proofs.Lists.{cases, length_mapped}
 use Rattle.repr.proofs.Listed.{fits_head, listed-none, listed-step, symbol_range}
 use Rattle.table.specs.Quads.{Quad, no_quad, put_quad}
-use Rattle.spelling.specs.Spelled.{head_of, chainFrom, place_of, symbol_lists, symbol_quad, kind_of, number_of, quads, symbols_at, items_place, records_of}
+use Rattle.spelling.specs.Spelled.{head_of, chain_from, place_of, symbol_lists, symbol_quad, kind_of, number_of, quads, symbols_at, items_place, records_of}
 use Rattle.spelling.specs.Grown.{Grown, Room, Stands}
 use Rattle.spelling.proofs.Laid.{stands_front, stands_back, length_chain_from}
 use Rattle.spelling.proofs.Places.{begins, regions, symbol_list, symbols_stand, spell_next, spell_one, spell_two, spell_three}
@@ -42,14 +42,14 @@ pub record Chain (ws : List ℕ) (begin at i : ℕ) : Type 0 where
 
 pub record Written (U : Table) (ws g₀ g : List ℕ) (begin at i : ℕ) : Type 0 where
   pub grown : Grown U g₀ g begin at
-  pub stands : Stands (quads U) at (chainFrom symbol_quad at (listed (drop i ws)))
+  pub stands : Stands (quads U) at (chain_from symbol_quad at (listed (drop i ws)))
   pub room : Room U g
 
 module _ (ws : List ℕ) (begin : ℕ) where
   pub chain-start : list_is_fit nonterminal_limit terminal_limit ws ≡ true → Chain ws begin begin 0
   chain-start f = record { fits = f; left = refl }
 
-  pub written_start : (U : Table) (g : List ℕ) → Stands (quads U) begin (chainFrom symbol_quad begin (listed ws)) → Room U g → Written U ws g g begin begin 0
+  pub written_start : (U : Table) (g : List ℕ) → Stands (quads U) begin (chain_from symbol_quad begin (listed ws)) → Room U g → Written U ws g g begin begin 0
   written_start U g S R = record { grown = grown-none U g begin; stands = S; room = R }
 
   module _ (at i : ℕ) (h : i < length ws) (C : Chain ws begin at i) where
@@ -82,12 +82,12 @@ module _ (ws : List ℕ) (begin : ℕ) where
           (omega (arith, W.room.few), omega (arith, W.room.long))
 
       here : (get_or (quads U) at no_quad ≡ symbol_quad (head_of (suc at) (listed (drop (i + 2) ws))) (symbol_of_kind (get_or ws i 0) (get_or ws (i + 1) 0)))
-          × Stands (quads U) (at + 1) (chainFrom symbol_quad (at + 1) (listed (drop (i + 2) ws)))
-      unfolding chainFrom
+          × Stands (quads U) (at + 1) (chain_from symbol_quad (at + 1) (listed (drop (i + 2) ws)))
+      unfolding chain_from
       here =
           let S = rw more at W.stands in
           let q : Quad = symbol_quad (head_of (suc at) (listed (drop (i + 2) ws))) (symbol_of_kind (get_or ws i 0) (get_or ws (i + 1) 0)) in
-          let rest = chainFrom symbol_quad (suc at) (listed (drop (i + 2) ws)) in
+          let rest = chain_from symbol_quad (suc at) (listed (drop (i + 2) ws)) in
           let z : at + 0 ≡ at = omega arith in
           let y : suc at ≡ at + 1 = omega arith in
           (rw z at ((stands_front (quads U) at (q ∷ []) rest S).at 0 (omega arith)), rw y at (stands_back (quads U) at (q ∷ []) rest S))
@@ -122,7 +122,7 @@ module _ (U : Table) (grammar : List ℕ) (n : ℕ) (P : PackedAs U grammar n) w
     pub walk-fits : list_is_fit nonterminal_limit terminal_limit ws ≡ true
     walk-fits = rw ew (P.packed.fits p h)
 
-    pub walk_stands : Stands (quads U) at (chainFrom symbol_quad at (listed ws))
+    pub walk_stands : Stands (quads U) at (chain_from symbol_quad at (listed ws))
     walk_stands = rw (W.place, ew, ← (row_of U grammar n p P h).symbols) (symbols_stand U p inside)
 
     pub walk_step : (g' : List ℕ) (next : ℕ) → next ≡ at + length (listed ws) → Grown U g g' at next → Walk U g₀ g' next (p + 1)

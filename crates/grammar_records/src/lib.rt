@@ -7,7 +7,7 @@ ghost use Rattle.repr.specs.Sizes.{record_limit, nonterminal_limit, terminal_lim
 ghost use Rattle.repr.specs.Listed.{listed, list_is_fit};
 ghost use Rattle.repr.specs.Meaning.{Table, Production};
 ghost use Rattle.repr.specs.Packed.{Packed, productions_in};
-ghost use Rattle.spelling.specs.Spelled.{chainFrom, symbol_quad, quads, size_of, states_at, productions_at, symbols_at, items_place, next_owned_from};
+ghost use Rattle.spelling.specs.Spelled.{chain_from, symbol_quad, quads, size_of, states_at, productions_at, symbols_at, items_place, next_owned_from};
 ghost use Rattle.spelling.specs.Grown.{Grown, Room, Stands};
 ghost use Rattle.grammar_records.specs.Target.{Target, PackedAs, owned_from};
 
@@ -103,8 +103,8 @@ pub fn write_productions(grammar: &[u16], counts: Counts, out: &mut [u16])
 // The symbols of one production, from a record on; the record behind them.
 fn write_chain(symbols: &[u16], begin: usize, out: &mut [u16]) -> usize
     requires symbols_value { list_is_fit nonterminal_limit terminal_limit symbols.now ≡ true }
-    requires stands { (U : Table) × (Stands (quads U) begin (chainFrom symbol_quad begin (listed symbols.now)) × Room U out.old) }
-    ensures { (result ≡ begin + length (listed symbols.now)) × ((U : Table) → Stands (quads U) begin (chainFrom symbol_quad begin (listed symbols.now)) → Room U out.old → Grown U out.old out.new begin result) }
+    requires stands { (U : Table) × (Stands (quads U) begin (chain_from symbol_quad begin (listed symbols.now)) × Room U out.old) }
+    ensures { (result ≡ begin + length (listed symbols.now)) × ((U : Table) → Stands (quads U) begin (chain_from symbol_quad begin (listed symbols.now)) → Room U out.old → Grown U out.old out.new begin result) }
 {
     let mut at = begin;
     let mut i: usize = 0;

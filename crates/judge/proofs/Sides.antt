@@ -26,7 +26,7 @@ use Rattle.example.proofs.Sizes.{at_most_1158, short_of_lem}
 use Rattle.error.specs.declared.Class.{Class}
 use Rattle.error.specs.declared.Class.TheVariants.{SuggestInline, SuggestQuestion, InsufficientLookahead}
 use Rattle.error.specs.declared.Conflict.{Conflict}
-use Rattle.error.specs.Sorted.{Pair, firstPair}
+use Rattle.error.specs.Sorted.{Pair, first_fit}
 use Rattle.error.specs.Judge.{Example, Judged, with_both, reduction_at, is_same_reading, ambiguity_of_shift, ambiguity_of_reduce, ambiguity_of, question_of, inlines, inline_or, question_or, unambiguous, ambiguous_or, judge}
 use Rattle.error.specs.Outcome.{operand_fits, place_is_fit, conflict_fits}
 use Rattle.outline.specs.declared.Outline.{Outline}
@@ -164,7 +164,7 @@ unambiguous_reduce T p zero as' rs q ne = absurd (ne refl)
 unambiguous_reduce T p (suc k) as' rs q ne = refl
 
 judge-cons : (T : Table) (c : Conflict) (xs ys : List Example) (rows columns : List ℕ) → 0 < length rows → 0 < length columns
-    → judge T c (picked xs rows) (picked ys columns) ≡ ambiguous_or T c (firstPair (is_same_reading T.productions) (picked xs rows) (picked ys columns)) (unambiguous T c.production.0 c.action (picked xs rows) (picked ys columns) (heads_in xs ys rows columns))
+    → judge T c (picked xs rows) (picked ys columns) ≡ ambiguous_or T c (first_fit (is_same_reading T.productions) (picked xs rows) (picked ys columns)) (unambiguous T c.production.0 c.action (picked xs rows) (picked ys columns) (heads_in xs ys rows columns))
 unfolding judge picked heads_in pair_in
 judge-cons T c xs ys [] columns ha hb = absurd (omega arith)
 judge-cons T c xs ys (x ∷ rows) [] ha hb = absurd (omega arith)
@@ -193,7 +193,7 @@ module _ (T : Table) (c : Conflict) (xs ys : List Example) (actions prints reduc
   pub alike_asks : (qs : List Production) → (Room actions prints × Room reduces others) × (All (RowFits qs actions prints Alike) rows × All (ColumnFits qs reduces others Alike) columns)
   alike_asks qs = ((S.action.outlined.room, S.reduce.outlined.room), (rows_alike qs actions prints (length xs) S.action.outlined.few rows A.inside, columns_alike qs reduces others (length ys) S.reduce.outlined.few columns B.inside))
 
-  named : firstPair (is_same_reading ps) (picked xs rows) (picked ys columns) ≡ on_pair (nth xs) (nth ys) (firstPair alike rows columns)
+  named : first_fit (is_same_reading ps) (picked xs rows) (picked ys columns) ≡ on_pair (nth xs) (nth ys) (first_fit alike rows columns)
   unfolding picked
   named = pair-named (nth xs) (nth ys) (is_same_reading ps) rows columns
 
@@ -204,11 +204,11 @@ module _ (T : Table) (c : Conflict) (xs ys : List Example) (actions prints reduc
     strict : (x y : ℕ) → x < length xs → y < length ys → alike x y ≡ true → by_print x y ≡ true
     strict x y hx hy q = rw eq (print_agree ps (is_shift c) xs actions prints S.action.outlined ys reduces others S.reduce.outlined e sets x y hx hy q)
 
-    module _ (i j : ℕ) (I : first_from alike rows columns i j ≡ firstPair alike rows columns) (found : Found) (F : FirstFrom by_print rows columns i j found) where
+    module _ (i j : ℕ) (I : first_from alike rows columns i j ≡ first_fit alike rows columns) (found : Found) (F : FirstFrom by_print rows columns i j found) where
       pub alike-none : found ≡ NotFound → ReadAlike ps xs ys rows columns NotFound
       unfolding on_pair found_in FoundFits
       alike-none q =
-          let n : firstPair alike rows columns ≡ none = sym I ∙ found_none (λ k. k < length xs) (λ k. k < length ys) by_print alike strict rows columns A.inside B.inside i j found F q in
+          let n : first_fit alike rows columns ≡ none = sym I ∙ found_none (λ k. k < length xs) (λ k. k < length ys) by_print alike strict rows columns A.inside B.inside i j found F q in
           record { same = sym (named ∙ rw n); fits = tt }
 
       module _ (k l : ℕ) (q : found ≡ At k l) (x y : ℕ) (ex : x ≡ get_or rows k 0) (ey : y ≡ get_or columns l 0) where
@@ -221,13 +221,13 @@ module _ (T : Table) (c : Conflict) (xs ys : List Example) (actions prints reduc
         pub alike-yes : true ≡ alike x y → ReadAlike ps xs ys rows columns (At x y)
         unfolding on_pair found_in FoundFits pair_in
         alike-yes h =
-            let n : firstPair alike rows columns ≡ some (record { action = x; reduce = y }) = sym I ∙ found-yes (λ k. k < length xs) (λ k. k < length ys) by_print alike strict rows columns A.inside B.inside i j k l there x y ex ey (sym h) in
+            let n : first_fit alike rows columns ≡ some (record { action = x; reduce = y }) = sym I ∙ found-yes (λ k. k < length xs) (λ k. k < length ys) by_print alike strict rows columns A.inside B.inside i j k l there x y ex ey (sym h) in
             record { same = sym (named ∙ rw n); fits = alike-inside }
 
-        pub alike_no : false ≡ alike x y → first_from alike rows columns k (l + 1) ≡ firstPair alike rows columns
+        pub alike_no : false ≡ alike x y → first_from alike rows columns k (l + 1) ≡ first_fit alike rows columns
         alike_no h = sym (found_no (λ k. k < length xs) (λ k. k < length ys) by_print alike strict rows columns A.inside B.inside i j k l there x y ex ey (sym h)) ∙ I
 
-  pub alike-start : first_from alike rows columns 0 0 ≡ firstPair alike rows columns
+  pub alike-start : first_from alike rows columns 0 0 ≡ first_fit alike rows columns
   alike-start = from_first alike rows columns
 
   -- `try_classify_inline`
@@ -252,14 +252,14 @@ module _ (T : Table) (c : Conflict) (xs ys : List Example) (actions prints reduc
       abbrev by_label : ℕ → ℕ → Bool
       by_label = pair_by (test_by e sets qs Inline) actions prints reduces others
 
-      inline_is : firstPair (inlines T) (picked xs rows) (picked ys columns) ≡ on_pair (nth xs) (nth ys) (firstPair by_label rows columns)
+      inline_is : first_fit (inlines T) (picked xs rows) (picked ys columns) ≡ on_pair (nth xs) (nth ys) (first_fit by_label rows columns)
       unfolding picked
       inline_is =
           pair-named (nth xs) (nth ys) (inlines T) rows columns
           ∙ ap (on_pair (nth xs) (nth ys)) (pair_agree_on (λ k. k < length xs) (λ k. k < length ys) (λ x y. inlines T (nth xs x) (nth ys y)) by_label (λ x y hx hy. sym (rw (ee, es, eq) (inline_agree T F xs ys actions prints reduces others outlined S.reduce.outlined shifting labelled others_labelled x y hx hy))) rows columns A.inside B.inside)
 
       abbrev Inlined : Judged
-      Inlined = inline_or ps (heads_in xs ys rows columns) (firstPair (inlines T) (picked xs rows) (picked ys columns))
+      Inlined = inline_or ps (heads_in xs ys rows columns) (first_fit (inlines T) (picked xs rows) (picked ys columns))
 
       module _ (found : Found) (found_is : FirstFrom by_label rows columns 0 0 found) where
         pub inline_none : found ≡ NotFound → (v : JudgedValue) → v ≡ both InsufficientLookahead (get_or rows 0 0) (get_or columns 0 0) → Judges xs ys v Inlined
@@ -282,7 +282,7 @@ module _ (T : Table) (c : Conflict) (xs ys : List Example) (actions prints reduc
           pub inline_found : (o : Outline) → o ≡ outline_in reduces others y → (v : JudgedValue) → v ≡ both (SuggestInline (record { 0 = o.first })) x y → Judges xs ys v Inlined
           unfolding inline_or on_pair pair_in
           inline_found o eo v ev =
-              let f : firstPair by_label rows columns ≡ some (record { action = x; reduce = y }) = rw (ex, ey) (sym (first_some by_label rows columns k l stopped)) in
+              let f : first_fit by_label rows columns ≡ some (record { action = x; reduce = y }) = rw (ex, ey) (sym (first_some by_label rows columns k l stopped)) in
               judges_both xs ys x y inline_inside.0 inline_inside.1 (SuggestInline (record { 0 = o.first })) v Inlined ev (rw (inline_is, f, (inline_first o eo).0))
 
   -- `shift_unambiguous`
@@ -300,7 +300,7 @@ module _ (T : Table) (c : Conflict) (xs ys : List Example) (actions prints reduc
         let q : question_of T (production_at T p).nonterminal ≡ some (symbol_of_kind k x) = rw (← ew, ← er, e) in
         rw (q, ← ew) (ap (λ (z : Class). with_both z heads) (question_kind w k x (rw e at f)))
 
-    pub question_none : r ≡ NoSymbol → inline_or ps heads (firstPair (inlines T) (picked xs rows) (picked ys columns)) ≡ Unambiguous p 0
+    pub question_none : r ≡ NoSymbol → inline_or ps heads (first_fit (inlines T) (picked xs rows) (picked ys columns)) ≡ Unambiguous p 0
     unfolding unambiguous question_or question_in
     question_none e =
         let q : question_of T (production_at T p).nonterminal ≡ none = rw (← ew, ← er, e) in
@@ -308,20 +308,20 @@ module _ (T : Table) (c : Conflict) (xs ys : List Example) (actions prints reduc
 
   -- `judge`
 
-  judge_is : judge T c (picked xs rows) (picked ys columns) ≡ ambiguous_or T c (firstPair (is_same_reading ps) (picked xs rows) (picked ys columns)) (Unambiguous c.production.0 c.action)
+  judge_is : judge T c (picked xs rows) (picked ys columns) ≡ ambiguous_or T c (first_fit (is_same_reading ps) (picked xs rows) (picked ys columns)) (Unambiguous c.production.0 c.action)
   judge_is = judge-cons T c xs ys rows columns A.any B.any
 
   module _ (found : Found) (R : ReadAlike ps xs ys rows columns found) where
     pub judge-pair : (i j : ℕ) → found ≡ At i j → ambiguity_of T c.production.0 c.action c.operand (pair_in xs ys i j) ≡ judge T c (picked xs rows) (picked ys columns)
     unfolding ambiguous_or found_in
     judge-pair i j e =
-        let q : firstPair (is_same_reading ps) (picked xs rows) (picked ys columns) ≡ some (pair_in xs ys i j) = sym R.same ∙ rw e in
+        let q : first_fit (is_same_reading ps) (picked xs rows) (picked ys columns) ≡ some (pair_in xs ys i j) = sym R.same ∙ rw e in
         sym (judge_is ∙ rw q)
 
     pub judge-none : found ≡ NotFound → Unambiguous c.production.0 c.action ≡ judge T c (picked xs rows) (picked ys columns)
     unfolding ambiguous_or found_in
     judge-none e =
-        let q : firstPair (is_same_reading ps) (picked xs rows) (picked ys columns) ≡ none = sym R.same ∙ rw e in
+        let q : first_fit (is_same_reading ps) (picked xs rows) (picked ys columns) ≡ none = sym R.same ∙ rw e in
         sym (judge_is ∙ rw q)
 
     pub pair_inside : (i j : ℕ) → found ≡ At i j → (i < length xs) × (j < length ys)

@@ -8,7 +8,7 @@ use Rattle.slices.specs.Lent.{in_front}
 use Rattle.example.specs.Example.{example_words}
 use Rattle.error.specs.declared.Class.{Class}
 use Rattle.error.specs.declared.Conflict.{Conflict}
-use Rattle.error.specs.Sorted.{Pair, firstPair}
+use Rattle.error.specs.Sorted.{Pair, first_fit}
 use Rattle.error.specs.Judge.{Example, Judged, is_same_reading}
 use Rattle.outline.specs.Kept.{nth}
 use Rattle.pairs.specs.declared.Found.{Found}
@@ -78,7 +78,7 @@ FoundFits m n NotFound = Unit {0}
 
 -- the first pair that is read alike, by its numbers, or none
 pub record ReadAlike (ps : List Production) (xs ys : List Example) (rows columns : List ℕ) (found : Found) : Type 0 where
-  pub same : found_in xs ys found ≡ firstPair (is_same_reading ps) (picked xs rows) (picked ys columns)
+  pub same : found_in xs ys found ≡ first_fit (is_same_reading ps) (picked xs rows) (picked ys columns)
   pub fits : FoundFits (length xs) (length ys) found
 
 unfoldable pub question_in : OptionalSymbol → Option Symbol

@@ -13,7 +13,7 @@ ghost use Rattle.table.specs.Decoded.{meaning};
 ghost use Rattle.table.specs.Refusals.{check_of};
 ghost use Rattle.example.specs.Example.{example_words};
 ghost use Rattle.error.specs.Judge.{Example, is_same_reading, is_operator_of, ambiguity_of_shift, ambiguity_of_reduce, ambiguity_of, question_of, inline_or, unambiguous, judge};
-ghost use Rattle.error.specs.Sorted.{firstPair};
+ghost use Rattle.error.specs.Sorted.{first_fit};
 ghost use Rattle.error.specs.Judge as judging;
 ghost use Rattle.error.specs.Outcome.{conflict_fits};
 ghost use Rattle.shift_items.specs.Codes.{Grammar};
@@ -478,7 +478,7 @@ fn try_classify_inline(
     requires reads { Reads table.now grammar.now counts map.now least.now ends.now × (conflict_fits (meaning table.now) conflict ≡ true) }
     requires action_value { conflict.action ≡ 0 }
     requires sides { (xs : List Example) × ((ys : List Example) × (Sides (meaning table.now) conflict xs ys actions.now action_prints.now reduces.now reduce_prints.now × (Ordered xs rows.now × Ordered ys columns.now))) }
-    ensures { (xs ys : List Example) → Sides (meaning table.now) conflict xs ys actions.now action_prints.now reduces.now reduce_prints.now → Ordered xs rows.now → Ordered ys columns.now → Judges xs ys result (inline_or (meaning table.now).productions (heads_in xs ys rows.now columns.now) (firstPair (judging.inlines (meaning table.now)) (picked xs rows.now) (picked ys columns.now))) }
+    ensures { (xs ys : List Example) → Sides (meaning table.now) conflict xs ys actions.now action_prints.now reduces.now reduce_prints.now → Ordered xs rows.now → Ordered ys columns.now → Judges xs ys result (inline_or (meaning table.now).productions (heads_in xs ys rows.now columns.now) (first_fit (judging.inlines (meaning table.now)) (picked xs rows.now) (picked ys columns.now))) }
 {
     match first_pair(
         map,

@@ -15,7 +15,7 @@ use Rattle.compaction.specs.declared.Compacted.TheVariants.{Records}
 use Rattle.compaction.proofs.Called.{left, left_accepted, left-meaning, front_accepted, front-meaning}
 use Rattle.builder.specs.Outcome.{build_of}
 use Rattle.yacc_write.specs.Outcome.{write_of}
-use Rattle.lr1.specs.Entries.{overTable, first0_of, first1_of, trace_back_of}
+use Rattle.lr1.specs.Entries.{over_table, first0_of, first1_of, trace_back_of}
 use Rattle.lr1.specs.Edges.{add_edge_of}
 use Rattle.tracer.specs.Outcome.{trace_by, shift_of, reduce_of}
 use Rattle.enumerator.specs.Advance.{open_by, open_of, advance_by, advance_of}
@@ -43,19 +43,19 @@ module _ (t u : List ℕ) (a : check_of t ≡ Accepted) (b : check_of u ≡ Acce
   write_same text = rw (a, b, m, write_of)
 
   first0_same : (symbols : List ℕ) → first0_of t symbols ≡ first0_of u symbols
-  unfolding first0_of overTable
+  unfolding first0_of over_table
   first0_same symbols = rw (a, b, m)
 
   first1_same : (symbols : List ℕ) (ahead : ℕ) → first1_of t symbols ahead ≡ first1_of u symbols ahead
-  unfolding first1_of overTable
+  unfolding first1_of over_table
   first1_same symbols ahead = rw (a, b, m)
 
   trace_back_same : (state : ℕ) (symbols : List ℕ) → trace_back_of t state symbols ≡ trace_back_of u state symbols
-  unfolding trace_back_of overTable
+  unfolding trace_back_of over_table
   trace_back_same state symbols = rw (a, b, m)
 
   add_edge_same : (e : TraceEdge) (graph : List ℕ) → add_edge_of t e graph ≡ add_edge_of u e graph
-  unfolding add_edge_of overTable
+  unfolding add_edge_of over_table
   add_edge_same e graph = rw (a, b, m)
 
   shift_same : (state : ℕ) (i : Item) (graph scratch : List ℕ) → shift_of t state i graph scratch ≡ shift_of u state i graph scratch

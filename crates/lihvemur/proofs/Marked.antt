@@ -9,13 +9,13 @@ use Rattle.slices.specs.Lent.{in_front, zeroed}
 use Rattle.lookahead.specs.Tokens.{has, single, union, meet, without, members}
 use Rattle.lr1_core.specs.Items.{first, symbol_sets, is_nonterminal, shifts_nonterminal}
 use Rattle.table.specs.Words.{word_at, records, state_area, production_area, loose, production_records, loose_records, names, against, chain_by, chain}
-use Rattle.table.specs.Decoded.{production_chain, symbol_chain, item_chain, edge_chain, symbol_at, item_at, edge_at, or_zero, owner_of as ownerIn, production_of, state_of, productions_of, meaning}
-use Rattle.table.specs.Refusals.{row1, row2, is_nonterminal as nonterminalRecord, is_state, is_production, as_symbol, as_item, as_edge, row3, row4, row5, row6, row7, used, row8, offends, first_row, check_of}
+use Rattle.table.specs.Decoded.{production_chain, symbol_chain, item_chain, edge_chain, symbol_at, item_at, edge_at, or_zero, owner_of as owner_in, production_of, state_of, productions_of, meaning}
+use Rattle.table.specs.Refusals.{row1, row2, is_nonterminal as nonterminal_record, is_state, is_production, as_symbol, as_item, as_edge, row3, row4, row5, row6, row7, used, row8, offends, first_row, check_of}
 use Rattle.first.specs.First.{join, first_of, marked_at_end, unmarked, first0, meets_ahead, disjoint, grown, round, settle, sets_of_first, FIRST, nullable}
 use Rattle.state_graph.specs.Walk.{leads, predecessors, walked_back, traced_back}
 use Rattle.trace_graph.specs.declared.TraceEdge.{TraceEdge as EdgeValue}
 use Rattle.trace_graph.specs.Graph.{same_item, is_same_node, label_of, same_symbols as alike, same_cursor, same_sets, is_same_edge, add, is_node_of}
-use Rattle.trace_graph.specs.Words.{node_words, edge_words, graph_words, node_of, node_at, edge_at as lentEdge, edges_in}
+use Rattle.trace_graph.specs.Words.{node_words, edge_words, graph_words, node_of, node_at, edge_at as lent_edge, edges_in}
 use Rattle.trace_graph.specs.Fits.{item_is_fit, node_fits, edge_is_fit, once, graph_fits}
 use Rattle.trace_graph.specs.Values.{node_is, edge_is, node_value_fits, value_fits}
 use Rattle.trace.specs.Traced.{untraced, pair, enter, add_to, owner_of, symbols_of, can_shift, prefix_of, suffix_of, in_turn}
@@ -24,7 +24,7 @@ use Rattle.trace.specs.Reduce.{reduce_state_item, item_of_reduce, state_of_reduc
 use Rattle.tracer.specs.declared.Backtrace.TheVariants.{Edges as Traced}
 use Rattle.tracer.specs.Outcome.{Outcome, outcome, edges_outcome, traced_in, trace_by, shift_of, reduce_of}
 use Rattle.lr1.specs.declared.AddEdge.TheVariants.{Edges as Added}
-use Rattle.lr1.specs.Entries.{overTable}
+use Rattle.lr1.specs.Entries.{over_table}
 use Rattle.lr1.specs.Edges.{edge_outcome, added_outcome, added_edge_in, add_edge_of}
 use Rattle.example.specs.Example.{sets_of, prefixes, suffixes, at_cursor, middle, symbols, spans, reductions, symbol_words, reduction_words, example_words, cursor_of, ahead, meets}
 use Rattle.enumerator.specs.Trials.{trials}
@@ -108,13 +108,13 @@ pub marked_traces :
     ∷ reduce_of table_c 2 (item 3 0) graph scratch
     ∷ []
     ≡ leaves 3 (short shift_c) ∷ leaves 4 (long reduce_c) ∷ leaves 4 (long reduce_behind) ∷ []
-unfolding up_from below mem occurrences keep some? every? first? joined is_same_symbol symbol_of_kind symbol_is_fit has single union meet without members first symbol_sets is_nonterminal shifts_nonterminal word_at records state_area production_area loose production_records loose_records names against chain_by chain production_chain symbol_chain item_chain edge_chain symbol_at item_at edge_at or_zero ownerIn production_of state_of productions_of meaning row1 row2 nonterminalRecord is_state is_production as_symbol as_item as_edge row3 row4 row5 row6 row7 used row8 offends first_row check_of join first_of marked_at_end unmarked first0 meets_ahead disjoint grown round settle sets_of_first FIRST nullable leads predecessors walked_back traced_back same_item is_same_node label_of alike same_cursor same_sets is_same_edge add is_node_of node_words edge_words graph_words node_of node_at lentEdge edges_in item_is_fit node_fits edge_is_fit once graph_fits node_is edge_is node_value_fits value_fits untraced pair enter add_to owner_of symbols_of can_shift prefix_of suffix_of in_turn epsilon_item epsilon shift_trace shift_edges reduce_state_item item_of_reduce state_of_reduce reduce_trace reduce_edges in_front zeroed edges_outcome traced_in trace_by shift_of reduce_of same_words
+unfolding up_from below mem occurrences keep some? every? first? joined is_same_symbol symbol_of_kind symbol_is_fit has single union meet without members first symbol_sets is_nonterminal shifts_nonterminal word_at records state_area production_area loose production_records loose_records names against chain_by chain production_chain symbol_chain item_chain edge_chain symbol_at item_at edge_at or_zero owner_in production_of state_of productions_of meaning row1 row2 nonterminal_record is_state is_production as_symbol as_item as_edge row3 row4 row5 row6 row7 used row8 offends first_row check_of join first_of marked_at_end unmarked first0 meets_ahead disjoint grown round settle sets_of_first FIRST nullable leads predecessors walked_back traced_back same_item is_same_node label_of alike same_cursor same_sets is_same_edge add is_node_of node_words edge_words graph_words node_of node_at lent_edge edges_in item_is_fit node_fits edge_is_fit once graph_fits node_is edge_is node_value_fits value_fits untraced pair enter add_to owner_of symbols_of can_shift prefix_of suffix_of in_turn epsilon_item epsilon shift_trace shift_edges reduce_state_item item_of_reduce state_of_reduce reduce_trace reduce_edges in_front zeroed edges_outcome traced_in trace_by shift_of reduce_of same_words
 marked_traces = refl
 
 pub marked_edges :
     add_edge_of table_c (by_item 1) (short shift_c) ∷ add_edge_of table_c (by_item 0) (short shift_c) ∷ []
     ≡ edge_outcome (Added 4) (long shift_more) ∷ edge_outcome (Added 3) (short shift_c) ∷ []
-unfolding up_from below mem occurrences keep some? every? first? joined is_same_symbol symbol_of_kind symbol_is_fit has single union meet without members first symbol_sets is_nonterminal shifts_nonterminal word_at records state_area production_area loose production_records loose_records names against chain_by chain production_chain symbol_chain item_chain edge_chain symbol_at item_at edge_at or_zero ownerIn production_of state_of productions_of meaning row1 row2 nonterminalRecord is_state is_production as_symbol as_item as_edge row3 row4 row5 row6 row7 used row8 offends first_row check_of join first_of marked_at_end unmarked first0 meets_ahead disjoint grown round settle sets_of_first FIRST nullable leads predecessors walked_back traced_back same_item is_same_node label_of alike same_cursor same_sets is_same_edge add is_node_of node_words edge_words graph_words node_of node_at lentEdge edges_in item_is_fit node_fits edge_is_fit once graph_fits node_is edge_is node_value_fits value_fits in_front overTable added_outcome added_edge_in add_edge_of same_words zeroed
+unfolding up_from below mem occurrences keep some? every? first? joined is_same_symbol symbol_of_kind symbol_is_fit has single union meet without members first symbol_sets is_nonterminal shifts_nonterminal word_at records state_area production_area loose production_records loose_records names against chain_by chain production_chain symbol_chain item_chain edge_chain symbol_at item_at edge_at or_zero owner_in production_of state_of productions_of meaning row1 row2 nonterminal_record is_state is_production as_symbol as_item as_edge row3 row4 row5 row6 row7 used row8 offends first_row check_of join first_of marked_at_end unmarked first0 meets_ahead disjoint grown round settle sets_of_first FIRST nullable leads predecessors walked_back traced_back same_item is_same_node label_of alike same_cursor same_sets is_same_edge add is_node_of node_words edge_words graph_words node_of node_at lent_edge edges_in item_is_fit node_fits edge_is_fit once graph_fits node_is edge_is node_value_fits value_fits in_front over_table added_outcome added_edge_in add_edge_of same_words zeroed
 marked_edges = refl
 
 abbrev lists : ℕ → Lookahead → List ℕ → Ran
@@ -128,18 +128,18 @@ abbrev example : List ℕ → Ran
 example ws = told 0 ws (replicate 1138 7)
 
 pub marked_shift_listing : lists 2 Any (short shift_c) ≡ example line_a
-unfolding up_from below mem occurrences keep some? every? first? joined is_same_symbol symbol_of_kind symbol_is_fit has single union meet without members first symbol_sets is_nonterminal shifts_nonterminal word_at records state_area production_area loose production_records loose_records names against chain_by chain production_chain symbol_chain item_chain edge_chain symbol_at item_at edge_at or_zero ownerIn production_of state_of productions_of meaning row1 row2 nonterminalRecord is_state is_production as_symbol as_item as_edge row3 row4 row5 row6 row7 used row8 offends first_row check_of join first_of marked_at_end unmarked first0 meets_ahead disjoint grown round settle sets_of_first FIRST nullable leads predecessors walked_back traced_back same_item is_same_node label_of alike same_cursor same_sets is_same_edge add is_node_of node_words edge_words graph_words node_of node_at lentEdge edges_in item_is_fit node_fits edge_is_fit once graph_fits node_is edge_is node_value_fits value_fits owner_of symbols_of sets_of prefixes suffixes at_cursor middle symbols spans reductions symbol_words reduction_words example_words cursor_of ahead meets trials words_of path_in same_words has_trial after enough owner_of_node label_at labels_of passes hands says search found_out found_then plain_find plain_out plain_then plain_run plain_lister set_of start_of ahead_fits lent_graph_fits asked_in moved found_outcome rest_of lost advance_in advance_by advance_of open_in open_by open_of left_by listing_by scratch_by called scratch_after lengths left_of left_all lents_in output_words number_of_answer record_of records_of refusal_by refusal_of_calls list_by list_of in_front zeroed
+unfolding up_from below mem occurrences keep some? every? first? joined is_same_symbol symbol_of_kind symbol_is_fit has single union meet without members first symbol_sets is_nonterminal shifts_nonterminal word_at records state_area production_area loose production_records loose_records names against chain_by chain production_chain symbol_chain item_chain edge_chain symbol_at item_at edge_at or_zero owner_in production_of state_of productions_of meaning row1 row2 nonterminal_record is_state is_production as_symbol as_item as_edge row3 row4 row5 row6 row7 used row8 offends first_row check_of join first_of marked_at_end unmarked first0 meets_ahead disjoint grown round settle sets_of_first FIRST nullable leads predecessors walked_back traced_back same_item is_same_node label_of alike same_cursor same_sets is_same_edge add is_node_of node_words edge_words graph_words node_of node_at lent_edge edges_in item_is_fit node_fits edge_is_fit once graph_fits node_is edge_is node_value_fits value_fits owner_of symbols_of sets_of prefixes suffixes at_cursor middle symbols spans reductions symbol_words reduction_words example_words cursor_of ahead meets trials words_of path_in same_words has_trial after enough owner_of_node label_at labels_of passes hands says search found_out found_then plain_find plain_out plain_then plain_run plain_lister set_of start_of ahead_fits lent_graph_fits asked_in moved found_outcome rest_of lost advance_in advance_by advance_of open_in open_by open_of left_by listing_by scratch_by called scratch_after lengths left_of left_all lents_in output_words number_of_answer record_of records_of refusal_by refusal_of_calls list_by list_of in_front zeroed
 marked_shift_listing = refl
 
 pub marked_reduce_listing : lists 3 (Set (record { 0 = 1 })) (long reduce_c) ≡ example line_r
-unfolding up_from below mem occurrences keep some? every? first? joined is_same_symbol symbol_of_kind symbol_is_fit has single union meet without members first symbol_sets is_nonterminal shifts_nonterminal word_at records state_area production_area loose production_records loose_records names against chain_by chain production_chain symbol_chain item_chain edge_chain symbol_at item_at edge_at or_zero ownerIn production_of state_of productions_of meaning row1 row2 nonterminalRecord is_state is_production as_symbol as_item as_edge row3 row4 row5 row6 row7 used row8 offends first_row check_of join first_of marked_at_end unmarked first0 meets_ahead disjoint grown round settle sets_of_first FIRST nullable leads predecessors walked_back traced_back same_item is_same_node label_of alike same_cursor same_sets is_same_edge add is_node_of node_words edge_words graph_words node_of node_at lentEdge edges_in item_is_fit node_fits edge_is_fit once graph_fits node_is edge_is node_value_fits value_fits owner_of symbols_of sets_of prefixes suffixes at_cursor middle symbols spans reductions symbol_words reduction_words example_words cursor_of ahead meets trials words_of path_in same_words has_trial after enough owner_of_node label_at labels_of passes hands says search found_out found_then plain_find plain_out plain_then plain_run plain_lister set_of start_of ahead_fits lent_graph_fits asked_in moved found_outcome rest_of lost advance_in advance_by advance_of open_in open_by open_of left_by listing_by scratch_by called scratch_after lengths left_of left_all lents_in output_words number_of_answer record_of records_of refusal_by refusal_of_calls list_by list_of in_front zeroed
+unfolding up_from below mem occurrences keep some? every? first? joined is_same_symbol symbol_of_kind symbol_is_fit has single union meet without members first symbol_sets is_nonterminal shifts_nonterminal word_at records state_area production_area loose production_records loose_records names against chain_by chain production_chain symbol_chain item_chain edge_chain symbol_at item_at edge_at or_zero owner_in production_of state_of productions_of meaning row1 row2 nonterminal_record is_state is_production as_symbol as_item as_edge row3 row4 row5 row6 row7 used row8 offends first_row check_of join first_of marked_at_end unmarked first0 meets_ahead disjoint grown round settle sets_of_first FIRST nullable leads predecessors walked_back traced_back same_item is_same_node label_of alike same_cursor same_sets is_same_edge add is_node_of node_words edge_words graph_words node_of node_at lent_edge edges_in item_is_fit node_fits edge_is_fit once graph_fits node_is edge_is node_value_fits value_fits owner_of symbols_of sets_of prefixes suffixes at_cursor middle symbols spans reductions symbol_words reduction_words example_words cursor_of ahead meets trials words_of path_in same_words has_trial after enough owner_of_node label_at labels_of passes hands says search found_out found_then plain_find plain_out plain_then plain_run plain_lister set_of start_of ahead_fits lent_graph_fits asked_in moved found_outcome rest_of lost advance_in advance_by advance_of open_in open_by open_of left_by listing_by scratch_by called scratch_after lengths left_of left_all lents_in output_words number_of_answer record_of records_of refusal_by refusal_of_calls list_by list_of in_front zeroed
 marked_reduce_listing = refl
 
 pub marked-behind-listing : lists 3 (Set (record { 0 = 2 })) (long reduce_behind) ≡ example line_behind
-unfolding up_from below mem occurrences keep some? every? first? joined is_same_symbol symbol_of_kind symbol_is_fit has single union meet without members first symbol_sets is_nonterminal shifts_nonterminal word_at records state_area production_area loose production_records loose_records names against chain_by chain production_chain symbol_chain item_chain edge_chain symbol_at item_at edge_at or_zero ownerIn production_of state_of productions_of meaning row1 row2 nonterminalRecord is_state is_production as_symbol as_item as_edge row3 row4 row5 row6 row7 used row8 offends first_row check_of join first_of marked_at_end unmarked first0 meets_ahead disjoint grown round settle sets_of_first FIRST nullable leads predecessors walked_back traced_back same_item is_same_node label_of alike same_cursor same_sets is_same_edge add is_node_of node_words edge_words graph_words node_of node_at lentEdge edges_in item_is_fit node_fits edge_is_fit once graph_fits node_is edge_is node_value_fits value_fits owner_of symbols_of sets_of prefixes suffixes at_cursor middle symbols spans reductions symbol_words reduction_words example_words cursor_of ahead meets trials words_of path_in same_words has_trial after enough owner_of_node label_at labels_of passes hands says search found_out found_then plain_find plain_out plain_then plain_run plain_lister set_of start_of ahead_fits lent_graph_fits asked_in moved found_outcome rest_of lost advance_in advance_by advance_of open_in open_by open_of left_by listing_by scratch_by called scratch_after lengths left_of left_all lents_in output_words number_of_answer record_of records_of refusal_by refusal_of_calls list_by list_of in_front zeroed
+unfolding up_from below mem occurrences keep some? every? first? joined is_same_symbol symbol_of_kind symbol_is_fit has single union meet without members first symbol_sets is_nonterminal shifts_nonterminal word_at records state_area production_area loose production_records loose_records names against chain_by chain production_chain symbol_chain item_chain edge_chain symbol_at item_at edge_at or_zero owner_in production_of state_of productions_of meaning row1 row2 nonterminal_record is_state is_production as_symbol as_item as_edge row3 row4 row5 row6 row7 used row8 offends first_row check_of join first_of marked_at_end unmarked first0 meets_ahead disjoint grown round settle sets_of_first FIRST nullable leads predecessors walked_back traced_back same_item is_same_node label_of alike same_cursor same_sets is_same_edge add is_node_of node_words edge_words graph_words node_of node_at lent_edge edges_in item_is_fit node_fits edge_is_fit once graph_fits node_is edge_is node_value_fits value_fits owner_of symbols_of sets_of prefixes suffixes at_cursor middle symbols spans reductions symbol_words reduction_words example_words cursor_of ahead meets trials words_of path_in same_words has_trial after enough owner_of_node label_at labels_of passes hands says search found_out found_then plain_find plain_out plain_then plain_run plain_lister set_of start_of ahead_fits lent_graph_fits asked_in moved found_outcome rest_of lost advance_in advance_by advance_of open_in open_by open_of left_by listing_by scratch_by called scratch_after lengths left_of left_all lents_in output_words number_of_answer record_of records_of refusal_by refusal_of_calls list_by list_of in_front zeroed
 marked-behind-listing = refl
 
 -- no example begins with a: the end at once
 pub marked_no_listing : lists 3 (Set (record { 0 = 1 })) (long reduce_behind) ≡ told 16 [] (replicate 1158 7)
-unfolding up_from below mem occurrences keep some? every? first? joined is_same_symbol symbol_of_kind symbol_is_fit has single union meet without members first symbol_sets is_nonterminal shifts_nonterminal word_at records state_area production_area loose production_records loose_records names against chain_by chain production_chain symbol_chain item_chain edge_chain symbol_at item_at edge_at or_zero ownerIn production_of state_of productions_of meaning row1 row2 nonterminalRecord is_state is_production as_symbol as_item as_edge row3 row4 row5 row6 row7 used row8 offends first_row check_of join first_of marked_at_end unmarked first0 meets_ahead disjoint grown round settle sets_of_first FIRST nullable leads predecessors walked_back traced_back same_item is_same_node label_of alike same_cursor same_sets is_same_edge add is_node_of node_words edge_words graph_words node_of node_at lentEdge edges_in item_is_fit node_fits edge_is_fit once graph_fits node_is edge_is node_value_fits value_fits owner_of symbols_of sets_of prefixes suffixes at_cursor middle symbols spans reductions symbol_words reduction_words example_words cursor_of ahead meets trials words_of path_in same_words has_trial after enough owner_of_node label_at labels_of passes hands says search found_out found_then plain_find plain_out plain_then plain_run plain_lister set_of start_of ahead_fits lent_graph_fits asked_in moved found_outcome rest_of lost advance_in advance_by advance_of open_in open_by open_of left_by listing_by scratch_by called scratch_after lengths left_of left_all lents_in output_words number_of_answer record_of records_of refusal_by refusal_of_calls list_by list_of in_front zeroed
+unfolding up_from below mem occurrences keep some? every? first? joined is_same_symbol symbol_of_kind symbol_is_fit has single union meet without members first symbol_sets is_nonterminal shifts_nonterminal word_at records state_area production_area loose production_records loose_records names against chain_by chain production_chain symbol_chain item_chain edge_chain symbol_at item_at edge_at or_zero owner_in production_of state_of productions_of meaning row1 row2 nonterminal_record is_state is_production as_symbol as_item as_edge row3 row4 row5 row6 row7 used row8 offends first_row check_of join first_of marked_at_end unmarked first0 meets_ahead disjoint grown round settle sets_of_first FIRST nullable leads predecessors walked_back traced_back same_item is_same_node label_of alike same_cursor same_sets is_same_edge add is_node_of node_words edge_words graph_words node_of node_at lent_edge edges_in item_is_fit node_fits edge_is_fit once graph_fits node_is edge_is node_value_fits value_fits owner_of symbols_of sets_of prefixes suffixes at_cursor middle symbols spans reductions symbol_words reduction_words example_words cursor_of ahead meets trials words_of path_in same_words has_trial after enough owner_of_node label_at labels_of passes hands says search found_out found_then plain_find plain_out plain_then plain_run plain_lister set_of start_of ahead_fits lent_graph_fits asked_in moved found_outcome rest_of lost advance_in advance_by advance_of open_in open_by open_of left_by listing_by scratch_by called scratch_after lengths left_of left_all lents_in output_words number_of_answer record_of records_of refusal_by refusal_of_calls list_by list_of in_front zeroed
 marked_no_listing = refl

@@ -5,7 +5,7 @@ use Rattle.repr.specs.Lists.{joined}
 use Rattle.error.specs.declared.Conflict.{Conflict}
 use Rattle.error.specs.Numbers.{classed, refused}
 use Rattle.error.specs.Outcome.{Outcome, outcome}
-use Rattle.error.specs.Choose.{chosen, refused as notChosen, Outcome as ChoiceOutcome, outcome as choosing, choose_of}
+use Rattle.error.specs.Choose.{chosen, refused as not_chosen, Outcome as ChoiceOutcome, outcome as choosing, choose_of}
 use Rattle.report.specs.declared.Part.{Part}
 use Rattle.report.specs.declared.Part.TheVariants.{Action, Reduce}
 use Rattle.entries.specs.Entries.{entry_words}
@@ -31,12 +31,12 @@ pub data ChoiceNumbers : Type 0 where
 -- the entries' words at the front, the other words as they were; all as they were where the call is refused
 unfoldable pub chosen_numbers : ℕ → List ℕ → ChoiceOutcome → ChoiceNumbers
 chosen_numbers count entries (choosing (chosen es) scratch) = choice_numbers 0 0 (length es) (joined entry_words es ++ drop (entry_room * length es) entries) scratch
-chosen_numbers count entries (choosing (notChosen n r) scratch) = choice_numbers n r count entries scratch
+chosen_numbers count entries (choosing (not_chosen n r) scratch) = choice_numbers n r count entries scratch
 
 -- too few words for the entries: refused as with no scratch, 1 to 10 or else 11, and nothing changed
 unfoldable pub short_numbers : ℕ → List ℕ → List ℕ → ChoiceOutcome → ChoiceNumbers
 short_numbers count entries scratch (choosing (chosen es) s) = choice_numbers 11 0 count entries scratch
-short_numbers count entries scratch (choosing (notChosen n r) s) = choice_numbers n r count entries scratch
+short_numbers count entries scratch (choosing (not_chosen n r) s) = choice_numbers n r count entries scratch
 
 unfoldable pub choose_numbers : ℕ → List ℕ → List ℕ → Conflict → ℕ → List ℕ → ChoiceNumbers
 choose_numbers count entries t c tokens scratch = elim (nat_le entries_room (length entries)) [

@@ -17,17 +17,17 @@ use Rattle.table.specs.declared.Checked.TheVariants.{Accepted, Refused}
 use Rattle.first.specs.First.{FIRST, first0, first1, sets_of_first}
 use Rattle.first.specs.declared.Answer.{Answer}
 use Rattle.state_graph.specs.Walk.{traced_back}
-use Rattle.lr1.specs.Entries.{overTable, symbols_fit, tokens_fit, first0_answer, first1_answer, states, refused, trace_back_answer}
+use Rattle.lr1.specs.Entries.{over_table, symbols_fit, tokens_fit, first0_answer, first1_answer, states, refused, trace_back_answer}
 use Rattle.lr1.specs.declared.First.TheVariants.{Answered, Refused as NoAnswer}
 use Rattle.lr1.specs.declared.Followed.TheVariants.{Tokens, Refused as NoTokens}
 
 module _ {A : Type 0} (refuse : ℕ → ℕ → A) (answer : Table → A) (t : List ℕ) where
-  pub over-refused : (n r : ℕ) (c : Checked) → c ≡ Refused n r → refuse n r ≡ overTable refuse answer t c
-  unfolding overTable
+  pub over-refused : (n r : ℕ) (c : Checked) → c ≡ Refused n r → refuse n r ≡ over_table refuse answer t c
+  unfolding over_table
   over-refused n r c e = rw e
 
-  pub over_accepted : (c : Checked) → c ≡ Accepted → (a : A) → a ≡ answer (meaning t) → a ≡ overTable refuse answer t c
-  unfolding overTable
+  pub over_accepted : (c : Checked) → c ≡ Accepted → (a : A) → a ≡ answer (meaning t) → a ≡ over_table refuse answer t c
+  unfolding over_table
   over_accepted c e a h = rw e h
 
 -- ---- first0 and first1

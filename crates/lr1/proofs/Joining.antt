@@ -24,7 +24,7 @@ use Rattle.first.proofs.Answers.{FIRST-nil, FIRST-append, join_answers_assoc, jo
 use Rattle.state_graph.specs.Walk.{traced_back, merged}
 use Rattle.state_graph.proofs.Exact.{mem_one, walk_inside}
 use Rattle.state_graph.proofs.Merged.{trace_append}
-use Rattle.lr1.specs.Entries.{overTable, symbols_fit, first0_answer, first0_of, states, refused, trace_back_answer, trace_back_of}
+use Rattle.lr1.specs.Entries.{over_table, symbols_fit, first0_answer, first0_of, states, refused, trace_back_answer, trace_back_of}
 use Rattle.lr1.specs.Joining.{Joining, EntriesJoin}
 use Rattle.lr1.specs.declared.First.TheVariants.{Answered, Refused as NoAnswer}
 
@@ -44,12 +44,12 @@ no-clash z = absurd (omega arith)
 
 module _ (t ws : List ℕ) where
   first0-over : check_of t ≡ Accepted → first0_of t ws ≡ first0_answer ws (meaning t)
-  unfolding first0_of overTable
-  first0-over A = rw (A, overTable)
+  unfolding first0_of over_table
+  first0-over A = rw (A, over_table)
 
   first0-refused : (n r : ℕ) → check_of t ≡ Refused n r → first0_of t ws ≡ NoAnswer n r
-  unfolding first0_of overTable
-  first0-refused n r A = rw (A, overTable)
+  unfolding first0_of over_table
+  first0-refused n r A = rw (A, over_table)
 
   first0-yes : symbols_fit (meaning t) ws ≡ true → first0_answer ws (meaning t) ≡ Answered (FIRST (meaning t) (listed ws))
   unfolding first0_answer
@@ -79,12 +79,12 @@ module _ (t ws : List ℕ) where
     test = ltb s (length (meaning t).states) && symbols_fit (meaning t) ws
 
     walk-over : check_of t ≡ Accepted → trace_back_of t s ws ≡ trace_back_answer s ws (meaning t)
-    unfolding trace_back_of overTable
-    walk-over A = rw (A, overTable)
+    unfolding trace_back_of over_table
+    walk-over A = rw (A, over_table)
 
     walk_refused : (n r : ℕ) → check_of t ≡ Refused n r → trace_back_of t s ws ≡ refused n r
-    unfolding trace_back_of overTable
-    walk_refused n r A = rw (A, overTable)
+    unfolding trace_back_of over_table
+    walk_refused n r A = rw (A, over_table)
 
     walk-yes : test ≡ true → trace_back_answer s ws (meaning t) ≡ states (traced_back (meaning t) s (listed ws))
     unfolding trace_back_answer

@@ -27,7 +27,7 @@ use Rattle.first.specs.Rust.{rust_first0}
 use Rattle.first.specs.Derives.{Derives}
 use Rattle.first.proofs.Join.{join-left, join_right, join_cases, join-single_right, followed-join}
 use Rattle.first.proofs.Textbook.{first-terminal, first_end, first-only, first-none}
-use Rattle.lr1.specs.Entries.{overTable, symbols_fit, tokens_fit, first0_answer, first0_of, first1_answer, first1_of}
+use Rattle.lr1.specs.Entries.{over_table, symbols_fit, tokens_fit, first0_answer, first0_of, first1_answer, first1_of}
 use Rattle.lr1.specs.Textbook.{IsFirst, IsFirst1}
 use Rattle.lr1.specs.declared.First.TheVariants.{Answered}
 use Rattle.lr1.specs.declared.Followed.TheVariants.{Tokens}
@@ -70,14 +70,14 @@ module _ (t ws : List ℕ) (A : check_of t ≡ Accepted) (f : symbols_fit (meani
 
   -- `first0` answers it
   pub first0_textbook : (a : Answer) × (first0_of t ws ≡ Answered a) × IsFirst (meaning t) (listed ws) a
-  unfolding first0_of overTable first0_answer
-  first0_textbook = (FIRST (meaning t) (listed ws), rw (A, f, overTable, first0_answer), first_is (meaning t) (fits t A) (listed ws) inside)
+  unfolding first0_of over_table first0_answer
+  first0_textbook = (FIRST (meaning t) (listed ws), rw (A, f, over_table, first0_answer), first_is (meaning t) (fits t A) (listed ws) inside)
 
   -- `first1`: what begins what the list derives, and where it vanishes the lookahead
   pub first1_textbook : (ahead : ℕ) → tokens_fit (meaning t) ahead ≡ true
       → (s : ℕ) × (first1_of t ws ahead ≡ Tokens (record { 0 = s })) × IsFirst1 (meaning t) (listed ws) ahead s
-  unfolding first1_of overTable first1_answer FIRST first0 rust_first0
-  first1_textbook ahead g = (join e s ahead, rw (A, f, g, overTable, first1_answer, followed-join e s ahead), record { begins = λ k. (there k, back k) })
+  unfolding first1_of over_table first1_answer FIRST first0 rust_first0
+  first1_textbook ahead g = (join e s ahead, rw (A, f, g, over_table, first1_answer, followed-join e s ahead), record { begins = λ k. (there k, back k) })
     where
       e : ℕ
       e = (meaning t).terminals
@@ -127,8 +127,8 @@ none_owned t A n h e p m q =
 
 pub first0-none : (t : List ℕ) → check_of t ≡ Accepted → (n : ℕ) → n < length (meaning t).nonterminals → get_or (meaning t).nonterminals n [] ≡ []
     → first0_of t (0 ∷ n ∷ []) ≡ Answered (record { tokens = record { 0 = 0 }; nullable = false })
-unfolding first0_of overTable first0_answer symbols_fit list_is_fit symbol_is_fit listed symbol_of_kind FIRST first0 marked_at_end first_of unmarked
+unfolding first0_of over_table first0_answer symbols_fit list_is_fit symbol_is_fit listed symbol_of_kind FIRST first0 marked_at_end first_of unmarked
 first0-none t A n h e =
     let z : get_or (sets_of_first (meaning t).terminals (meaning t).productions) n 0 ≡ 0 =
     first-none (meaning t).terminals n (meaning t).productions (none_owned t A n h e) in
-    rw (A, lt-ltb n (length (meaning t).nonterminals) h, overTable, first0_answer, z, join-single_right (meaning t).terminals 0, without_no 0 (meaning t).terminals (has-none (meaning t).terminals), has-none (meaning t).terminals)
+    rw (A, lt-ltb n (length (meaning t).nonterminals) h, over_table, first0_answer, z, join-single_right (meaning t).terminals 0, without_no 0 (meaning t).terminals (has-none (meaning t).terminals), has-none (meaning t).terminals)

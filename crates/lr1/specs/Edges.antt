@@ -9,7 +9,7 @@ use Rattle.trace_graph.specs.Graph.{TraceEdge, add}
 use Rattle.trace_graph.specs.Words.{graph_words, edges_in}
 use Rattle.trace_graph.specs.Fits.{graph_fits}
 use Rattle.trace_graph.specs.Values.{edge_is, value_fits}
-use Rattle.lr1.specs.Entries.{overTable}
+use Rattle.lr1.specs.Entries.{over_table}
 use Rattle.lr1.specs.declared.AddEdge.{AddEdge}
 use Rattle.lr1.specs.declared.AddEdge.TheVariants.{Edges, Refused}
 
@@ -37,4 +37,4 @@ added_edge_in v graph T = elim (value_fits (length T.nonterminals) T.productions
 ]
 
 unfoldable pub add_edge_of : List ℕ → EdgeValue → List ℕ → EdgeOutcome
-add_edge_of t v graph = overTable (λ n r. edge_outcome (Refused n r) graph) (added_edge_in v graph) t (check_of t)
+add_edge_of t v graph = over_table (λ n r. edge_outcome (Refused n r) graph) (added_edge_in v graph) t (check_of t)

@@ -18,9 +18,9 @@ use Rattle.lr1.specs.declared.Walked.{Walked}
 use Rattle.lr1.specs.declared.Walked.TheVariants.{States, Refused as NoStates}
 
 -- an answer over the table's meaning, unless the check refuses
-unfoldable pub overTable {ℓ} : {A : Type ℓ} → (ℕ → ℕ → A) → (Table → A) → List ℕ → Checked → A
-overTable refuse answer t (Refused n r) = refuse n r
-overTable refuse answer t Accepted = answer (meaning t)
+unfoldable pub over_table {ℓ} : {A : Type ℓ} → (ℕ → ℕ → A) → (Table → A) → List ℕ → Checked → A
+over_table refuse answer t (Refused n r) = refuse n r
+over_table refuse answer t Accepted = answer (meaning t)
 
 -- the symbols of a lent list are whole and in range; else refusal 9
 unfoldable pub symbols_fit : Table → List ℕ → Bool
@@ -34,7 +34,7 @@ unfoldable pub first0_answer : List ℕ → Table → First
 first0_answer ws T = elim (symbols_fit T ws) [ true ↦ Answered (FIRST T (listed ws)) | false ↦ NoAnswer 9 0 ]
 
 unfoldable pub first0_of : List ℕ → List ℕ → First
-first0_of t ws = overTable NoAnswer (first0_answer ws) t (check_of t)
+first0_of t ws = over_table NoAnswer (first0_answer ws) t (check_of t)
 
 -- a list that a token of the lookahead follows
 unfoldable pub first1_answer : List ℕ → ℕ → Table → Followed
@@ -44,7 +44,7 @@ first1_answer ws ahead T = elim (symbols_fit T ws && tokens_fit T ahead) [
 ]
 
 unfoldable pub first1_of : List ℕ → List ℕ → ℕ → Followed
-first1_of t ws ahead = overTable NoTokens (first1_answer ws ahead) t (check_of t)
+first1_of t ws ahead = over_table NoTokens (first1_answer ws ahead) t (check_of t)
 
 -- what a walk answers: the states, ascending, or a refusal and its place
 pub data Walk : Type 0 where
@@ -59,4 +59,4 @@ unfoldable pub trace_back_answer : ℕ → List ℕ → Table → Walk
 trace_back_answer s ws T = elim (ltb s (length T.states) && symbols_fit T ws) [ true ↦ states (traced_back T s (listed ws)) | false ↦ refused 9 0 ]
 
 unfoldable pub trace_back_of : List ℕ → ℕ → List ℕ → Walk
-trace_back_of t s ws = overTable refused (trace_back_answer s ws) t (check_of t)
+trace_back_of t s ws = over_table refused (trace_back_answer s ws) t (check_of t)

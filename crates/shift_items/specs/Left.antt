@@ -1,4 +1,4 @@
--- A state's shift items one by one: by places, 16 indexes for each production in their order, those that are left from a place on. `left-all` of proofs/Left: from 0 on they are
+-- A state's shift items one by one: by places, 16 indexes for each production in their order, those that are left from a place on. `left_all_lem` of proofs/Left: from 0 on they are
 -- `shift_items` of error. Assumes nothing: these are definitions.
 use Rattle.std.specs.Prelude.{◌≡◌, ℕ, suc, ◌*◌, ◌/◌, ◌%◌, ◌<◌, Bool, ◌&&◌, List, [], ◌∷◌, map, length, drop, slice_index}
 use Rattle.repr.specs.Sizes.{production_limit, symbol_limit, item_limit, item_flags}

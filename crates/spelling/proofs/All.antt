@@ -14,7 +14,7 @@ use Rattle.table.specs.Index.{CountsOf}
 use Rattle.table.specs.declared.Checked.TheVariants.{Accepted}
 use Rattle.table.specs.Quads.{put_quad}
 use Rattle.table.proofs.Quads.{put_long}
-use Rattle.spelling.specs.Spelled.{chainsFrom, quads, size_of, symbol_lists, item_lists, edge_lists, states_at, productions_at, symbols_at, items_place, edges_at, records_of}
+use Rattle.spelling.specs.Spelled.{chains_from, quads, size_of, symbol_lists, item_lists, edge_lists, states_at, productions_at, symbols_at, items_place, edges_at, records_of}
 use Rattle.spelling.specs.Grown.{Grown, Room, Stands, same_quad, chains_of, Heads, SizesOf}
 use Rattle.spelling.specs.Outcome.{room_for, written_of}
 use Rattle.spelling.specs.declared.Respelled.TheVariants.{Records, Refused}
@@ -38,7 +38,7 @@ all_grown T g g₁ g₂ g₃ g₄ g₅ g₆ g₇ b c d G₁ G₂ G₃ G₄ P Q R
 
 -- a region, as `write_chains` asks for it and leaves it
 module _ (t g : List ℕ) (first past k o n begin : ℕ) (S : Source t first past k o n) (eb : begin ≡ o) where
-  pub source_asks : Room (meaning t) g → Heads t first past k × (Stands (quads (meaning t)) begin (chainsFrom (same_quad t) begin (chains_of t first past k)) × Room (meaning t) g)
+  pub source_asks : Room (meaning t) g → Heads t first past k × (Stands (quads (meaning t)) begin (chains_from (same_quad t) begin (chains_of t first past k)) × Room (meaning t) g)
   source_asks R = (S.heads, (rw eb S.stands, R))
 
   pub source-done : (g' : List ℕ) (r : ℕ) → (r ≡ begin + size_of (chains_of t first past k)) × Grown (meaning t) g g' begin r → (r ≡ o + n) × Grown (meaning t) g g' o r

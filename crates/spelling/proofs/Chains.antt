@@ -15,14 +15,14 @@ use Rattle.table.specs.Words.{word_at, records, state_area, production_area, loo
 use Rattle.table.specs.Decoded.{production_chain, symbol_chain, item_chain, edge_chain}
 use Rattle.table.proofs.Chains.{names_good, chain_end, chain-step, loose-whole}
 use Rattle.table.specs.Quads.{Quad, no_quad}
-use Rattle.spelling.specs.Spelled.{head_of, chainFrom, place_of, symbol_quad, item_quad, edge_quad, symbol_lists, item_lists, edge_lists, states_at, productions_at, symbols_at, items_place, edges_at, owns, record_or, next_owned_from, nonterminal_quad, state_quad, production_quad, quads, spell}
+use Rattle.spelling.specs.Spelled.{head_of, chain_from, place_of, symbol_quad, item_quad, edge_quad, symbol_lists, item_lists, edge_lists, states_at, productions_at, symbols_at, items_place, edges_at, owns, record_or, next_owned_from, nonterminal_quad, state_quad, production_quad, quads, spell}
 use Rattle.spelling.specs.Grown.{Stands}
 use Rattle.spelling.proofs.Laid.{length_chain_from, get_d_chain_from, chain-laid}
 use Rattle.spelling.proofs.Places.{begins, Within, nonterminal_at, state_at_lem, production_at_lem, symbols_stand, items_stand, edges_stand, symbols-within, items_within, edges_within, spell_next, spell_one, spell-state_area, spell-production_area, spell-loose, spell-records}
 
 -- one chain of loose records
 
-module _ {ℓ} {A : Type ℓ} (f : ℕ → A → Quad) (T : Table) (o : ℕ) (xs : List A) (S : Stands (quads T) o (chainFrom f o xs)) where
+module _ {ℓ} {A : Type ℓ} (f : ℕ → A → Quad) (T : Table) (o : ℕ) (xs : List A) (S : Stands (quads T) o (chain_from f o xs)) where
   pub laid_at : (i : ℕ) (d : A) → i < length xs → get_or (quads T) (o + i) no_quad ≡ f (head_of (o + suc i) (drop (suc i) xs)) (get_or xs i d)
   laid_at i d h = S.at i (omega (arith, length_chain_from f o xs)) ∙ get_d_chain_from f o xs i d h
 

@@ -10,7 +10,7 @@ use Rattle.repr.specs.Lists.{up_from}
 use Rattle.table.specs.Words.{word_at, records, Area, chain}
 use Rattle.table.proofs.Chains.{names_good, chain_end, chain-step}
 use Rattle.table.specs.Quads.{Quad, no_quad}
-use Rattle.spelling.specs.Spelled.{head_of, chainFrom, chainsFrom, place_of, size_of}
+use Rattle.spelling.specs.Spelled.{head_of, chain_from, chains_from, place_of, size_of}
 use Rattle.spelling.specs.Grown.{Stands}
 
 -- records that stand in others (specs/Grown)
@@ -34,34 +34,34 @@ module _ (qs : List Quad) (o : ℕ) (xs ys : List Quad) (S : Stands qs o (xs ++ 
 -- one chain
 
 module _ {ℓ} {A : Type ℓ} (f : ℕ → A → Quad) where
-  pub length_chain_from : (o : ℕ) (xs : List A) → length (chainFrom f o xs) ≡ length xs
-  unfolding chainFrom
+  pub length_chain_from : (o : ℕ) (xs : List A) → length (chain_from f o xs) ≡ length xs
+  unfolding chain_from
   length_chain_from o [] = refl
   length_chain_from o (x ∷ xs) = ap suc (length_chain_from (suc o) xs)
 
-  pub get_d_chain_from : (o : ℕ) (xs : List A) (i : ℕ) (d : A) → i < length xs → get_or (chainFrom f o xs) i no_quad ≡ f (head_of (o + suc i) (drop (suc i) xs)) (get_or xs i d)
-  unfolding chainFrom
+  pub get_d_chain_from : (o : ℕ) (xs : List A) (i : ℕ) (d : A) → i < length xs → get_or (chain_from f o xs) i no_quad ≡ f (head_of (o + suc i) (drop (suc i) xs)) (get_or xs i d)
+  unfolding chain_from
   get_d_chain_from o [] i d h = absurd (omega arith)
   get_d_chain_from o (x ∷ xs) zero d h = ap (λ (k : ℕ). f (head_of k xs) x) (omega arith)
   get_d_chain_from o (x ∷ xs) (suc i) d h =
       get_d_chain_from (suc o) xs i d (omega arith) ∙ ap (λ (k : ℕ). f (head_of k (drop (suc i) xs)) (get_or xs i d)) (omega arith)
 
-  pub length_chains_from : (o : ℕ) (xss : List (List A)) → length (chainsFrom f o xss) ≡ size_of xss
-  unfolding chainsFrom size_of
+  pub length_chains_from : (o : ℕ) (xss : List (List A)) → length (chains_from f o xss) ≡ size_of xss
+  unfolding chains_from size_of
   length_chains_from o [] = refl
   length_chains_from o (xs ∷ xss) =
-      length-append (chainFrom f o xs) (chainsFrom f (o + length xs) xss)
+      length-append (chain_from f o xs) (chains_from f (o + length xs) xss)
       ∙ let a = length_chain_from o xs in let b = length_chains_from (o + length xs) xss in omega arith
 
   -- chain number i stands at its place
-  pub stands_chain : (qs : List Quad) (o : ℕ) (xss : List (List A)) (i : ℕ) → i < length xss → Stands qs o (chainsFrom f o xss)
-      → Stands qs (place_of o xss i) (chainFrom f (place_of o xss i) (get_or xss i []))
-  unfolding chainsFrom place_of
+  pub stands_chain : (qs : List Quad) (o : ℕ) (xss : List (List A)) (i : ℕ) → i < length xss → Stands qs o (chains_from f o xss)
+      → Stands qs (place_of o xss i) (chain_from f (place_of o xss i) (get_or xss i []))
+  unfolding chains_from place_of
   stands_chain qs o [] i h S = absurd (omega arith)
-  stands_chain qs o (xs ∷ xss) zero h S = stands_front qs o (chainFrom f o xs) (chainsFrom f (o + length xs) xss) S
+  stands_chain qs o (xs ∷ xss) zero h S = stands_front qs o (chain_from f o xs) (chains_from f (o + length xs) xss) S
   stands_chain qs o (xs ∷ xss) (suc i) h S =
       stands_chain qs (o + length xs) xss i (omega arith)
-      (rw (length_chain_from o xs) at (stands_back qs o (chainFrom f o xs) (chainsFrom f (o + length xs) xss) S))
+      (rw (length_chain_from o xs) at (stands_back qs o (chain_from f o xs) (chains_from f (o + length xs) xss) S))
 
 -- a chain lies within all of them
 pub place-within {ℓ} : {A : Type ℓ} (o : ℕ) (xss : List (List A)) (i : ℕ) → i < length xss
@@ -88,10 +88,10 @@ chain-laid t a w r o (x ∷ xs) h l m s =
     ap (λ (k : ℕ). word_at t k 0) (omega arith) ∙ s (suc i) (omega arith) ∙ ap (λ (k : ℕ). head_of k (drop (suc i) xs)) (omega arith)))
 
 -- and a decoding that gives back each element gives back the list
-pub map-upFrom {ℓ} : {A : Type ℓ} (g : ℕ → A) (o : ℕ) (xs : List A) (d : A) → ((i : ℕ) → i < length xs → g (o + i) ≡ get_or xs i d) → map g (up_from o (length xs)) ≡ xs
+pub map-up_from {ℓ} : {A : Type ℓ} (g : ℕ → A) (o : ℕ) (xs : List A) (d : A) → ((i : ℕ) → i < length xs → g (o + i) ≡ get_or xs i d) → map g (up_from o (length xs)) ≡ xs
 unfolding up_from
-map-upFrom g o [] d h = refl
-map-upFrom {A = A} g o (x ∷ xs) d h =
+map-up_from g o [] d h = refl
+map-up_from {A = A} g o (x ∷ xs) d h =
     let e : o ≡ o + 0 = omega arith in
     ap (λ (y : A). y ∷ map g (up_from (suc o) (length xs))) (ap g e ∙ h 0 (omega arith))
-    ∙ ap (λ (l : List A). x ∷ l) (map-upFrom g (suc o) xs d (λ i b. ap g (omega arith) ∙ h (suc i) (omega arith)))
+    ∙ ap (λ (l : List A). x ∷ l) (map-up_from g (suc o) xs d (λ i b. ap g (omega arith) ∙ h (suc i) (omega arith)))

@@ -9,7 +9,7 @@ use Rattle.repr.proofs.Lists.{get_d_map, length_mapped, length-map-below, get_d_
 use Rattle.table.specs.Words.{word_at, records, nonterminals, terminals, states, productions, state_area, production_area, loose}
 use Rattle.table.specs.Quads.{Quad, no_quad}
 use Rattle.table.proofs.Quads.{length-words, records-words, word_next, word_one, word_two, word_three}
-use Rattle.spelling.specs.Spelled.{chainFrom, place_of, size_of, symbol_quad, item_quad, edge_quad, symbol_lists, item_lists, edge_lists, states_at, productions_at, symbols_at, items_place, edges_at, records_of, nonterminal_quad, state_quad, production_quad, count_quad, nonterminal_quads, state_quads, production_quads, symbol_quads, item_quads, edge_quads, quads, spell}
+use Rattle.spelling.specs.Spelled.{chain_from, place_of, size_of, symbol_quad, item_quad, edge_quad, symbol_lists, item_lists, edge_lists, states_at, productions_at, symbols_at, items_place, edges_at, records_of, nonterminal_quad, state_quad, production_quad, count_quad, nonterminal_quads, state_quads, production_quads, symbol_quads, item_quads, edge_quads, quads, spell}
 use Rattle.spelling.specs.Grown.{Stands}
 use Rattle.spelling.proofs.Laid.{stands_all, stands_front, stands_back, length_chains_from, stands_chain, place-within}
 
@@ -124,19 +124,19 @@ module _ (T : Table) where
   edge_list s h = get_d_map (λ (q : State). q.edges) T.states s no_state [] h
 
   pub symbols_stand : (p : ℕ) → p < length T.productions
-      → Stands (quads T) (place_of (symbols_at T) (symbol_lists T) p) (chainFrom symbol_quad (place_of (symbols_at T) (symbol_lists T) p) (production_at T p).symbols)
+      → Stands (quads T) (place_of (symbols_at T) (symbol_lists T) p) (chain_from symbol_quad (place_of (symbols_at T) (symbol_lists T) p) (production_at T p).symbols)
   unfolding symbol_quads
   symbols_stand p h =
       rw (symbol_list p h) at (stands_chain symbol_quad (quads T) (symbols_at T) (symbol_lists T) p (omega (arith, length_mapped (λ (q : Production). q.symbols) T.productions)) (regions T).symbols)
 
   pub items_stand : (s : ℕ) → s < length T.states
-      → Stands (quads T) (place_of (items_place T) (item_lists T) s) (chainFrom item_quad (place_of (items_place T) (item_lists T) s) (state_at T s).items)
+      → Stands (quads T) (place_of (items_place T) (item_lists T) s) (chain_from item_quad (place_of (items_place T) (item_lists T) s) (state_at T s).items)
   unfolding item_quads
   items_stand s h =
       rw (item_list s h) at (stands_chain item_quad (quads T) (items_place T) (item_lists T) s (omega (arith, length_mapped (λ (q : State). q.items) T.states)) (regions T).items)
 
   pub edges_stand : (s : ℕ) → s < length T.states
-      → Stands (quads T) (place_of (edges_at T) (edge_lists T) s) (chainFrom edge_quad (place_of (edges_at T) (edge_lists T) s) (state_at T s).edges)
+      → Stands (quads T) (place_of (edges_at T) (edge_lists T) s) (chain_from edge_quad (place_of (edges_at T) (edge_lists T) s) (state_at T s).edges)
   unfolding edge_quads
   edges_stand s h =
       rw (edge_list s h) at (stands_chain edge_quad (quads T) (edges_at T) (edge_lists T) s (omega (arith, length_mapped (λ (q : State). q.edges) T.states)) (regions T).edges)

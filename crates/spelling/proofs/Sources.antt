@@ -20,7 +20,7 @@ use Rattle.table.proofs.Accepted.{accepts, areas_of, item-head, edge_head, symbo
 use Rattle.table.proofs.Held.{symbol-inside, item-inside, edge_inside, symbol_of_lem, item_of, edge_of, symbol-first_as, item-first_as, edge_first_as, loose_small}
 use Rattle.table.proofs.Decoding.{many_states, many_productions, state_at_lem, symbols_of_lem}
 use Rattle.table.specs.Quads.{Quad}
-use Rattle.spelling.specs.Spelled.{kind_of, number_of, head_of, chainFrom, chainsFrom, size_of, symbol_quad, item_quad, edge_quad, symbol_lists, item_lists, edge_lists, states_at, productions_at, symbols_at, items_place, edges_at, symbol_quads, item_quads, edge_quads, quads}
+use Rattle.spelling.specs.Spelled.{kind_of, number_of, head_of, chain_from, chains_from, size_of, symbol_quad, item_quad, edge_quad, symbol_lists, item_lists, edge_lists, states_at, productions_at, symbols_at, items_place, edges_at, symbol_quads, item_quads, edge_quads, quads}
 use Rattle.spelling.specs.Grown.{Stands, records_from, same_quad, LooseIndex, chains_of, Heads}
 use Rattle.spelling.proofs.Places.{regions, symbol_list, item_list, edge_list}
 use Rattle.spelling.proofs.Copied.{same_states, same_productions, same_loose}
@@ -37,15 +37,15 @@ module _ {A : Type 0} (t : List ℕ) (f : ℕ → A → Quad) (g : ℕ → A) wh
   head_mapped o [] = refl
   head_mapped o (r ∷ rs) = refl
 
-  chain-kept : (o : ℕ) (rs : List ℕ) → Kept rs → chainFrom f o (map g rs) ≡ chainFrom (same_quad t) o rs
-  unfolding chainFrom
+  chain-kept : (o : ℕ) (rs : List ℕ) → Kept rs → chain_from f o (map g rs) ≡ chain_from (same_quad t) o rs
+  unfolding chain_from
   chain-kept o [] h = refl
   chain-kept o (r ∷ rs) h =
       rw (head_mapped (suc o) rs, h r (mem-cons_here r rs) (head_of (suc o) rs), chain-kept (suc o) rs (λ y m. h y (mem-cons_there y r rs m)))
 
   module _ (c : ℕ → List ℕ) where
-    chains_kept : (first n o : ℕ) → ((i : ℕ) → first ≤ i → i < first + n → Kept (c i)) → chainsFrom f o (map (map g) (map c (up_from first n))) ≡ chainsFrom (same_quad t) o (map c (up_from first n))
-    unfolding chainsFrom up_from
+    chains_kept : (first n o : ℕ) → ((i : ℕ) → first ≤ i → i < first + n → Kept (c i)) → chains_from f o (map (map g) (map c (up_from first n))) ≡ chains_from (same_quad t) o (map c (up_from first n))
+    unfolding chains_from up_from
     chains_kept first zero o h = refl
     chains_kept first (suc n) o h =
         rw (chain-kept o (c first) (h first (omega arith) (omega arith)), length_mapped g (c first), chains_kept (suc first) n (o + length (c first)) (λ i a b. h i (omega arith) (omega arith)))
@@ -75,10 +75,10 @@ module _ {A : Type 0} (t : List ℕ) (f : ℕ → A → Quad) (g : ℕ → A) (f
       let d : length xss ≡ past - first = omega arith in
       lists_are t f g (λ r. records_from t (word_at t r k)) first (past - first) xss d (λ i b. is i (omega arith))
 
-  region_same : (o : ℕ) → chainsFrom f o xss ≡ chainsFrom (same_quad t) o (chains_of t first past k)
+  region_same : (o : ℕ) → chains_from f o xss ≡ chains_from (same_quad t) o (chains_of t first past k)
   unfolding chains_of
   region_same o =
-      ap (chainsFrom f o) region_lists
+      ap (chains_from f o) region_lists
       ∙ chains_kept t f g (λ r. records_from t (word_at t r k)) first (past - first) o
       (λ i a b.
       let z : first + (i - first) ≡ i = omega arith in
@@ -103,7 +103,7 @@ number-back (suc k) x = refl
 -- what the code asks and what it leaves, of each region
 pub record Source (t : List ℕ) (first past k o n : ℕ) : Type 0 where
   pub heads : Heads t first past k
-  pub stands : Stands (quads (meaning t)) o (chainsFrom (same_quad t) o (chains_of t first past k))
+  pub stands : Stands (quads (meaning t)) o (chains_from (same_quad t) o (chains_of t first past k))
   pub size : n ≡ size_of (chains_of t first past k)
 
 quad_is : (n a b c x y z : ℕ) → a ≡ x → b ≡ y → c ≡ z → ◌≡◌ {A = Quad} (record { next = n; one = a; two = b; three = c }) (record { next = n; one = x; two = y; three = z })

@@ -14,7 +14,7 @@ use Rattle.table.specs.Decoded.{meaning}
 use Rattle.table.specs.Refusals.{check_of}
 use Rattle.table.specs.declared.Checked.TheVariants.{Accepted}
 use Rattle.table.specs.Quads.{Quad, no_quad, put_quad}
-use Rattle.spelling.specs.Spelled.{head_of, chainFrom, chainsFrom, size_of, records_of, quads}
+use Rattle.spelling.specs.Spelled.{head_of, chain_from, chains_from, size_of, records_of, quads}
 use Rattle.spelling.specs.Grown.{Grown, Room, Stands, records_from, same_quad, LooseIndex, chains_of, Heads}
 use Rattle.spelling.proofs.Laid.{stands_front, stands_back, length_chain_from}
 use Rattle.spelling.proofs.Places.{regions, spell_next, spell_one, spell_two, spell_three}
@@ -27,7 +27,7 @@ pub record Writing (t g₀ g : List ℕ) (begin past from at : ℕ) : Type 0 whe
   pub grown : Grown (meaning t) g₀ g begin at
   pub on : LooseIndex t from
   pub left : at + length (records_from t from) ≡ past
-  pub stands : Stands (quads (meaning t)) at (chainFrom (same_quad t) at (records_from t from))
+  pub stands : Stands (quads (meaning t)) at (chain_from (same_quad t) at (records_from t from))
 
 stands_tail : (qs : List Quad) (o : ℕ) (x : Quad) (xs : List Quad) → Stands qs o (x ∷ xs) → (get_or qs o no_quad ≡ x) × Stands qs (suc o) xs
 stands_tail qs o x xs S =
@@ -47,7 +47,7 @@ follower_small next at r h n =
     (λ q. let z = n.1 (eqb-false next 0 q) in omega arith)
 
 module _ (t : List ℕ) (e : check_of t ≡ Accepted) where
-  pub writing_start : (g : List ℕ) (begin head : ℕ) → LooseIndex t head × (Stands (quads (meaning t)) begin (chainFrom (same_quad t) begin (records_from t head)) × Room (meaning t) g)
+  pub writing_start : (g : List ℕ) (begin head : ℕ) → LooseIndex t head × (Stands (quads (meaning t)) begin (chain_from (same_quad t) begin (records_from t head)) × Room (meaning t) g)
       → Writing t g g begin (begin + length (records_from t head)) head begin
   writing_start g begin head p = record { room = p.1.1; grown = grown-none (meaning t) g begin; on = p.0; left = refl; stands = p.1.0 }
 
@@ -76,8 +76,8 @@ module _ (t : List ℕ) (e : check_of t ≡ Accepted) where
           ∙ sym (head-some (suc at) next (records_from t next) (records_from t (word_at t next 0))
           (records-more t e next z (index_next t e from ne W.on next en) (word_at t next 0) refl)))
 
-      here : (get_or (quads (meaning t)) at no_quad ≡ same_quad t (head_of (suc at) (records_from t next)) from) × Stands (quads (meaning t)) (suc at) (chainFrom (same_quad t) (suc at) (records_from t next))
-      unfolding chainFrom
+      here : (get_or (quads (meaning t)) at no_quad ≡ same_quad t (head_of (suc at) (records_from t next)) from) × Stands (quads (meaning t)) (suc at) (chain_from (same_quad t) (suc at) (records_from t next))
+      unfolding chain_from
       here = stands_tail (quads (meaning t)) at _ _ (rw (records-more t e from ne W.on next en) at W.stands)
 
       pub writing_step : (g' : List ℕ) → g' ≡ put_quad g at r one two three → Writing t g₀ g' begin past next (at + 1)
@@ -107,25 +107,25 @@ pub record Walk (t g₀ g : List ℕ) (begin end past k holder at : ℕ) : Type 
   pub room : Room (meaning t) g
   pub grown : Grown (meaning t) g₀ g begin at
   pub left : at + size_of (chains_of t holder past k) ≡ end
-  pub stands : Stands (quads (meaning t)) at (chainsFrom (same_quad t) at (chains_of t holder past k))
+  pub stands : Stands (quads (meaning t)) at (chains_from (same_quad t) at (chains_of t holder past k))
 
 module _ (t : List ℕ) where
-  pub walk_start : (g : List ℕ) (first past k begin : ℕ) → Heads t first past k × (Stands (quads (meaning t)) begin (chainsFrom (same_quad t) begin (chains_of t first past k)) × Room (meaning t) g)
+  pub walk_start : (g : List ℕ) (first past k begin : ℕ) → Heads t first past k × (Stands (quads (meaning t)) begin (chains_from (same_quad t) begin (chains_of t first past k)) × Room (meaning t) g)
       → Walk t g g begin (begin + size_of (chains_of t first past k)) past k first begin
   walk_start g first past k begin p = record { heads = p.0; room = p.1.1; grown = grown-none (meaning t) g begin; left = refl; stands = p.1.0 }
 
   module _ (g₀ g : List ℕ) (begin end past k holder at head : ℕ) (h : holder < past) (eh : head ≡ word_at t holder k) (W : Walk t g₀ g begin end past k holder at) where
-    split : Stands (quads (meaning t)) at (chainFrom (same_quad t) at (records_from t head))
-        × Stands (quads (meaning t)) (at + length (records_from t head)) (chainsFrom (same_quad t) (at + length (records_from t head)) (chains_of t (holder + 1) past k))
-    unfolding chainsFrom
+    split : Stands (quads (meaning t)) at (chain_from (same_quad t) at (records_from t head))
+        × Stands (quads (meaning t)) (at + length (records_from t head)) (chains_from (same_quad t) (at + length (records_from t head)) (chains_of t (holder + 1) past k))
+    unfolding chains_from
     split =
         let more : chains_of t holder past k ≡ records_from t head ∷ chains_of t (holder + 1) past k = rw eh (chains_more t holder past k h) in
         let S = rw more at W.stands in
-        let xs = chainFrom (same_quad t) at (records_from t head) in
-        let ys = chainsFrom (same_quad t) (at + length (records_from t head)) (chains_of t (holder + 1) past k) in
+        let xs = chain_from (same_quad t) at (records_from t head) in
+        let ys = chains_from (same_quad t) (at + length (records_from t head)) (chains_of t (holder + 1) past k) in
         (stands_front (quads (meaning t)) at xs ys S, rw (length_chain_from (same_quad t) at (records_from t head)) at (stands_back (quads (meaning t)) at xs ys S))
 
-    pub walk_asks : LooseIndex t head × (Stands (quads (meaning t)) at (chainFrom (same_quad t) at (records_from t head)) × Room (meaning t) g)
+    pub walk_asks : LooseIndex t head × (Stands (quads (meaning t)) at (chain_from (same_quad t) at (records_from t head)) × Room (meaning t) g)
     walk_asks = (rw eh (W.heads.heads holder (omega arith) h), (split.0, W.room))
 
     pub walk_step : (g' : List ℕ) (next : ℕ) → (next ≡ at + length (records_from t head)) × Grown (meaning t) g g' at next → Walk t g₀ g' begin end past k (holder + 1) next

@@ -14,14 +14,14 @@ head_of o [] = 0
 head_of o (x ∷ xs) = o
 
 -- one chain, laid from record o on; `f next x` is the record of x
-unfoldable pub chainFrom {ℓ} : {A : Type ℓ} → (ℕ → A → Quad) → ℕ → List A → List Quad
-chainFrom f o [] = []
-chainFrom f o (x ∷ xs) = f (head_of (suc o) xs) x ∷ chainFrom f (suc o) xs
+unfoldable pub chain_from {ℓ} : {A : Type ℓ} → (ℕ → A → Quad) → ℕ → List A → List Quad
+chain_from f o [] = []
+chain_from f o (x ∷ xs) = f (head_of (suc o) xs) x ∷ chain_from f (suc o) xs
 
 -- chains one behind the other, the first at record o
-unfoldable pub chainsFrom {ℓ} : {A : Type ℓ} → (ℕ → A → Quad) → ℕ → List (List A) → List Quad
-chainsFrom f o [] = []
-chainsFrom f o (xs ∷ xss) = chainFrom f o xs ++ chainsFrom f (o + length xs) xss
+unfoldable pub chains_from {ℓ} : {A : Type ℓ} → (ℕ → A → Quad) → ℕ → List (List A) → List Quad
+chains_from f o [] = []
+chains_from f o (xs ∷ xss) = chain_from f o xs ++ chains_from f (o + length xs) xss
 
 -- where chain number i of them begins, and how many records all have
 unfoldable pub place_of {ℓ} : {A : Type ℓ} → ℕ → List (List A) → ℕ → ℕ
@@ -126,13 +126,13 @@ unfoldable pub production_quads : Table → List Quad
 production_quads T = map (production_quad T) (below (length T.productions))
 
 unfoldable pub symbol_quads : Table → List Quad
-symbol_quads T = chainsFrom symbol_quad (symbols_at T) (symbol_lists T)
+symbol_quads T = chains_from symbol_quad (symbols_at T) (symbol_lists T)
 
 unfoldable pub item_quads : Table → List Quad
-item_quads T = chainsFrom item_quad (items_place T) (item_lists T)
+item_quads T = chains_from item_quad (items_place T) (item_lists T)
 
 unfoldable pub edge_quads : Table → List Quad
-edge_quads T = chainsFrom edge_quad (edges_at T) (edge_lists T)
+edge_quads T = chains_from edge_quad (edges_at T) (edge_lists T)
 
 unfoldable pub quads : Table → List Quad
 quads T = (count_quad T ∷ []) ++ (nonterminal_quads T ++ (state_quads T ++ (production_quads T ++ (symbol_quads T ++ (item_quads T ++ edge_quads T)))))

@@ -6,7 +6,7 @@ ghost use Rattle.std.specs.Prelude.{◌≡◌, List, [], ◌∷◌, ℕ, suc, �
 ghost use Rattle.repr.specs.Sizes.{record_limit};
 ghost use Rattle.table.specs.Decoded.{meaning};
 ghost use Rattle.table.specs.Refusals.{check_of};
-ghost use Rattle.spelling.specs.Spelled.{chainFrom, chainsFrom, size_of, states_at, productions_at, symbols_at, items_place, edges_at, records_of, quads};
+ghost use Rattle.spelling.specs.Spelled.{chain_from, chains_from, size_of, states_at, productions_at, symbols_at, items_place, edges_at, records_of, quads};
 ghost use Rattle.spelling.specs.Grown.{Grown, Room, Stands, records_from, same_quad, LooseIndex, chains_of, Heads, SizesOf};
 ghost use Rattle.spelling.specs.Outcome.{written_of, respell_of};
 
@@ -37,7 +37,7 @@ pub fn next_of(next: usize, at: usize) -> usize
 // Writes the records of a chain from record `begin` on, one behind the other, and returns the record behind them.
 fn write_chain(table: &[u16], out: &mut [u16], head: usize, begin: usize) -> usize
     requires table_value { check_of table.now ≡ Checked.Accepted }
-    requires loose_index { LooseIndex table.now head × (Stands (quads (meaning table.now)) begin (chainFrom (same_quad table.now) begin (records_from table.now head)) × Room (meaning table.now) out.old) }
+    requires loose_index { LooseIndex table.now head × (Stands (quads (meaning table.now)) begin (chain_from (same_quad table.now) begin (records_from table.now head)) × Room (meaning table.now) out.old) }
     ensures { (result ≡ begin + length (records_from table.now head)) × Grown (meaning table.now) out.old out.new begin result }
 {
     let mut from = head;
@@ -65,7 +65,7 @@ fn write_chains(
     begin: usize,
 ) -> usize
     requires table_value { check_of table.now ≡ Checked.Accepted }
-    requires heads { Heads table.now first past k × (Stands (quads (meaning table.now)) begin (chainsFrom (same_quad table.now) begin (chains_of table.now first past k)) × Room (meaning table.now) out.old) }
+    requires heads { Heads table.now first past k × (Stands (quads (meaning table.now)) begin (chains_from (same_quad table.now) begin (chains_of table.now first past k)) × Room (meaning table.now) out.old) }
     ensures { (result ≡ begin + size_of (chains_of table.now first past k)) × Grown (meaning table.now) out.old out.new begin result }
 {
     let mut at = begin;

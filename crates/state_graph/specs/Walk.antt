@@ -22,7 +22,7 @@ unfoldable pub walked_back : Table → List ℕ → List Symbol → List ℕ
 walked_back T ss [] = ss
 walked_back T ss (x ∷ xs) = predecessors T x (walked_back T ss xs)
 
--- `trace_back`: the states from which a path spells the symbols and ends at state s, ascending, once each (`trace-exact` and `trace-ascending` of proofs/Exact)
+-- `trace_back`: the states from which a path spells the symbols and ends at state s, ascending, once each (`trace_exact` and `trace_ascending` of proofs/Exact)
 unfoldable pub traced_back : Table → ℕ → List Symbol → List ℕ
 traced_back T s xs = walked_back T (s ∷ []) xs
 

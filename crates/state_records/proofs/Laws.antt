@@ -10,7 +10,7 @@ use Rattle.repr.specs.Lists.{up_from}
 use Rattle.repr.specs.Meaning.{nonterminal, terminal, Item, Edge, State, Table, no_state, state_at}
 use Rattle.repr.proofs.Lists.{length-up_from, get_d_up_from, get_d_map, length_mapped}
 use Rattle.table.specs.Quads.{Quad, no_quad, put_quad}
-use Rattle.spelling.specs.Spelled.{head_of, chainFrom, place_of, size_of, kind_of, number_of, item_quad, edge_quad, item_lists, edge_lists, states_at, productions_at, items_place, edges_at, records_of, state_quad, quads}
+use Rattle.spelling.specs.Spelled.{head_of, chain_from, place_of, size_of, kind_of, number_of, item_quad, edge_quad, item_lists, edge_lists, states_at, productions_at, items_place, edges_at, records_of, state_quad, quads}
 use Rattle.spelling.specs.Grown.{Grown, Room, Stands}
 use Rattle.spelling.proofs.Laid.{length_chain_from, get_d_chain_from}
 use Rattle.spelling.proofs.Places.{begins, regions, state_at_lem, items_stand, edges_stand, items_within, edges_within, spell_next, spell_one, spell_two, spell_three}
@@ -44,24 +44,24 @@ place-all o (xs ∷ xss) = place-all (o + length xs) xss ∙ omega arith
 -- one chain: its elements have the numbers from `from` up to `past`, m is one of them
 
 module _ {ℓ} {A : Type ℓ} (f : ℕ → A → Quad) (xs : List A) (at from past m : ℕ) (long : length xs ≡ past - from) (low : from ≤ m) (less : m < past) (g₀ : List ℕ) where
-  inside : (U : Table) → Stands (quads U) (at + from) (chainFrom f (at + from) xs) → at + m < records_of U
+  inside : (U : Table) → Stands (quads U) (at + from) (chain_from f (at + from) xs) → at + m < records_of U
   inside U S = let l = length_chain_from f (at + from) xs in let q = (regions U).long in omega (arith, S.within)
 
-  pub chain-below : (p : (U : Table) × (Stands (quads U) (at + from) (chainFrom f (at + from) xs) × Room U g₀)) → at + m < record_limit
+  pub chain-below : (p : (U : Table) × (Stands (quads U) (at + from) (chain_from f (at + from) xs) × Room U g₀)) → at + m < record_limit
   chain-below (U, (S, R)) = omega (arith, inside U S, R.few)
 
-  pub chain-room : (p : (U : Table) × (Stands (quads U) (at + from) (chainFrom f (at + from) xs) × Room U g₀)) (g : List ℕ) → length g ≡ length g₀
+  pub chain-room : (p : (U : Table) × (Stands (quads U) (at + from) (chain_from f (at + from) xs) × Room U g₀)) (g : List ℕ) → length g ≡ length g₀
       → (at + m < record_limit) × ((at + m) * 4 + 3 < length g)
   chain-room (U, (S, R)) g e = (chain-below (U, (S, R)), omega (arith, inside U S, R.long))
 
-  module _ (U : Table) (S : Stands (quads U) (at + from) (chainFrom f (at + from) xs)) (r : ℕ) (n : (past - m - 1 ≡ 0 → r ≡ 0) × ((past - m - 1 ≡ 0 → ⊥) → r ≡ at + m + 1)) where
+  module _ (U : Table) (S : Stands (quads U) (at + from) (chain_from f (at + from) xs)) (r : ℕ) (n : (past - m - 1 ≡ 0 → r ≡ 0) × ((past - m - 1 ≡ 0 → ⊥) → r ≡ at + m + 1)) where
     chain_at : (d : A) → get_or (quads U) (at + m) no_quad ≡ f r (get_or xs (m - from) d)
     chain_at d =
         let z : at + m ≡ at + from + (m - from) = omega arith in
         let y : at + m + 1 ≡ at + from + suc (m - from) = omega arith in
         let b : m - from < length xs = omega arith in
         let l = length_chain_from f (at + from) xs in
-        let i : m - from < length (chainFrom f (at + from) xs) = omega arith in
+        let i : m - from < length (chain_from f (at + from) xs) = omega arith in
         let e : r ≡ head_of (at + from + suc (m - from)) (drop (suc (m - from)) xs) =
         head-is (at + m + 1) (drop (suc (m - from)) xs) (past - m - 1) r (omega (arith, length-drop (suc (m - from)) xs)) n ∙ ap (λ (o : ℕ). head_of o (drop (suc (m - from)) xs)) y in
         rw z (S.at (m - from) i ∙ get_d_chain_from f (at + from) xs (m - from) d b ∙ ap (λ (o : ℕ). f o (get_or xs (m - from) d)) (sym e))
@@ -151,13 +151,13 @@ module _ {ℓ} {A : Type ℓ} (U : Table) (g : State → List A) (bs : List ℕ)
 
 -- the list xs of state k stands where the words say, and so it is written
 module _ {ℓ} {A : Type ℓ} (U : Table) (f : ℕ → A → Quad) (g : State → List A) (o : ℕ)
-    (stand : (k : ℕ) → k < length U.states → Stands (quads U) (place_of o (map g U.states) k) (chainFrom f (place_of o (map g U.states) k) (g (state_at U k))))
+    (stand : (k : ℕ) → k < length U.states → Stands (quads U) (place_of o (map g U.states) k) (chain_from f (place_of o (map g U.states) k) (g (state_at U k))))
     (bs : List ℕ) (B : Begins (map g U.states) bs) (k at : ℕ) (h : k < length U.states) (e : at ≡ o) (xs : List A) (x : xs ≡ g (state_at U k)) where
-  rows_here : Stands (quads U) (at + get_or bs k 0) (chainFrom f (at + get_or bs k 0) xs)
+  rows_here : Stands (quads U) (at + get_or bs k 0) (chain_from f (at + get_or bs k 0) xs)
   rows_here = rw (x, e, ← rows_place U g bs B o k h) (stand k h)
 
   rows_more : (w₀ w w' : List ℕ) → length w ≡ length w₀ → Room U w₀
-      → ((T : Table) → Stands (quads T) (at + get_or bs k 0) (chainFrom f (at + get_or bs k 0) xs) → Room T w → Grown T w w' (at + get_or bs k 0) (at + get_or bs (k + 1) 0))
+      → ((T : Table) → Stands (quads T) (at + get_or bs k 0) (chain_from f (at + get_or bs k 0) xs) → Room T w → Grown T w w' (at + get_or bs k 0) (at + get_or bs (k + 1) 0))
       → Grown U w w' (o + get_or bs k 0) (o + get_or bs (k + 1) 0)
   rows_more w₀ w w' l R wrote = rw e at (wrote U rows_here (room_same U w₀ w l R))
 
@@ -169,11 +169,11 @@ module _ (U : Table) (ws bs : List ℕ) (I : ItemsIn U ws bs) (k items : ℕ) (h
   unfolding state_in
   items_are = I.is k h
 
-  pub items_here : Stands (quads U) (items + get_or bs k 0) (chainFrom item_quad (items + get_or bs k 0) items_of)
+  pub items_here : Stands (quads U) (items + get_or bs k 0) (chain_from item_quad (items + get_or bs k 0) items_of)
   items_here = rows_here U item_quad (λ (s : State). s.items) (items_place U) (items_stand U) bs I.begins k items h e items_of items_are
 
   pub items_more : (w₀ w w' : List ℕ) → length w ≡ length w₀ → Room U w₀
-      → ((T : Table) → Stands (quads T) (items + get_or bs k 0) (chainFrom item_quad (items + get_or bs k 0) items_of) → Room T w → Grown T w w' (items + get_or bs k 0) (items + get_or bs (k + 1) 0))
+      → ((T : Table) → Stands (quads T) (items + get_or bs k 0) (chain_from item_quad (items + get_or bs k 0) items_of) → Room T w → Grown T w w' (items + get_or bs k 0) (items + get_or bs (k + 1) 0))
       → Grown U w w' (items_place U + get_or bs k 0) (items_place U + get_or bs (k + 1) 0)
   items_more = rows_more U item_quad (λ (s : State). s.items) (items_place U) (items_stand U) bs I.begins k items h e items_of items_are
 
@@ -185,11 +185,11 @@ module _ (U : Table) (E es : List ℕ) (I : EdgesIn U E es) (k at : ℕ) (h : k 
   unfolding row_in
   edges_are = I.is k h
 
-  pub edges_here : Stands (quads U) (at + get_or es k 0) (chainFrom edge_quad (at + get_or es k 0) edges_of_lem)
+  pub edges_here : Stands (quads U) (at + get_or es k 0) (chain_from edge_quad (at + get_or es k 0) edges_of_lem)
   edges_here = rows_here U edge_quad (λ (s : State). s.edges) (edges_at U) (edges_stand U) es I.begins k at h e edges_of_lem edges_are
 
   pub edges_more : (w₀ w w' : List ℕ) → length w ≡ length w₀ → Room U w₀
-      → ((T : Table) → Stands (quads T) (at + get_or es k 0) (chainFrom edge_quad (at + get_or es k 0) edges_of_lem) → Room T w → Grown T w w' (at + get_or es k 0) (at + get_or es (k + 1) 0))
+      → ((T : Table) → Stands (quads T) (at + get_or es k 0) (chain_from edge_quad (at + get_or es k 0) edges_of_lem) → Room T w → Grown T w w' (at + get_or es k 0) (at + get_or es (k + 1) 0))
       → Grown U w w' (edges_at U + get_or es k 0) (edges_at U + get_or es (k + 1) 0)
   edges_more = rows_more U edge_quad (λ (s : State). s.edges) (edges_at U) (edges_stand U) es I.begins k at h e edges_of_lem edges_are
 

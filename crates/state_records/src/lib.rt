@@ -5,7 +5,7 @@
 ghost use Rattle.std.specs.Prelude.{◌≡◌, map, ◌+◌, ◌-◌, ◌*◌, ◌≤◌, ◌<◌, length};
 ghost use Rattle.repr.specs.Sizes.{record_limit};
 ghost use Rattle.repr.specs.Meaning.{Table};
-ghost use Rattle.spelling.specs.Spelled.{chainFrom, item_quad, edge_quad, item_lists, edge_lists, states_at, productions_at, items_place, edges_at, records_of, quads};
+ghost use Rattle.spelling.specs.Spelled.{chain_from, item_quad, edge_quad, item_lists, edge_lists, states_at, productions_at, items_place, edges_at, records_of, quads};
 ghost use Rattle.spelling.specs.Grown.{Grown, Room, Stands};
 ghost use Rattle.stored.specs.Stored.{entries};
 ghost use Rattle.taking.specs.Taking.{edges_in};
@@ -42,8 +42,8 @@ pub fn write_states(
 // The items of one state.
 fn write_state_items(words: &[u16], from: usize, past: usize, items: usize, out: &mut [u16])
     requires from_le_past { (from ≤ past) × (record_limit * 5 ≤ length words.now) }
-    requires stands { (U : Table) × (Stands (quads U) (items + from) (chainFrom item_quad (items + from) (map item_of (entries words.now from (past - from)))) × Room U out.old) }
-    ensures { (U : Table) → Stands (quads U) (items + from) (chainFrom item_quad (items + from) (map item_of (entries words.now from (past - from)))) → Room U out.old → Grown U out.old out.new (items + from) (items + past) }
+    requires stands { (U : Table) × (Stands (quads U) (items + from) (chain_from item_quad (items + from) (map item_of (entries words.now from (past - from)))) × Room U out.old) }
+    ensures { (U : Table) → Stands (quads U) (items + from) (chain_from item_quad (items + from) (map item_of (entries words.now from (past - from)))) → Room U out.old → Grown U out.old out.new (items + from) (items + past) }
 {
     let mut m = from;
     while m < past {
@@ -89,8 +89,8 @@ fn wide(word: u16) -> usize
 // The edges of one state.
 fn write_state_edges(edges: &[u16; 12160], from: usize, past: usize, at: usize, out: &mut [u16])
     requires from_le_past { from ≤ past }
-    requires stands { (U : Table) × (Stands (quads U) (at + from) (chainFrom edge_quad (at + from) (edges_in edges.now from (past - from))) × Room U out.old) }
-    ensures { (U : Table) → Stands (quads U) (at + from) (chainFrom edge_quad (at + from) (edges_in edges.now from (past - from))) → Room U out.old → Grown U out.old out.new (at + from) (at + past) }
+    requires stands { (U : Table) × (Stands (quads U) (at + from) (chain_from edge_quad (at + from) (edges_in edges.now from (past - from))) × Room U out.old) }
+    ensures { (U : Table) → Stands (quads U) (at + from) (chain_from edge_quad (at + from) (edges_in edges.now from (past - from))) → Room U out.old → Grown U out.old out.new (at + from) (at + past) }
 {
     let mut m = from;
     while m < past {

@@ -1,4 +1,4 @@
--- "Reached as" as a relation by chains: what `as_symbol`, `as_item` and `as_edge` of specs/Refusals decide (`reached-is` of proofs/Reached).
+-- "Reached as" as a relation by chains: what `as_symbol`, `as_item` and `as_edge` of specs/Refusals decide (`reached_is` of proofs/Reached).
 -- Assumes nothing: these are definitions.
 use Rattle.std.specs.Prelude.{ℕ, ◌+◌, ◌<◌, Bool, true, ◌≡◌, List}
 use Rattle.repr.specs.Lists.{below, mem, some?}

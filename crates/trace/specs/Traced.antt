@@ -43,6 +43,6 @@ unfoldable pub in_turn {ℓ} : {A : Type ℓ} → (A → Trace → Trace) → Li
 in_turn f [] st = st
 in_turn f (x ∷ xs) st = in_turn f xs (f x st)
 
--- the pairs of a state and a nonterminal, and one more: fuel for what enters each pair once (`epsilon-pairs` and `reduce-pairs` of proofs/Fuel)
+-- the pairs of a state and a nonterminal, and one more: fuel for what enters each pair once (`epsilon-pairs` and `reduce_pairs` of proofs/Fuel)
 abbrev pub pairs : ℕ
 pairs = 4097

@@ -1,4 +1,4 @@
--- The machine's steps (specs/Machine of enumerator) by the words of a view, as the code makes them. `next-view` of proofs/Viewing: over the view of a graph they are the machine's.
+-- The machine's steps (specs/Machine of enumerator) by the words of a view, as the code makes them. `next_view` of proofs/Viewing: over the view of a graph they are the machine's.
 -- Assumes nothing: these are definitions.
 use Rattle.std.specs.Prelude.{ℕ, zero, suc, ◌≡◌, Bool, true, false, List, [], ◌∷◌, ◌++◌, reverse, get_or, eqb}
 use Rattle.std.proofs.Math.Option.{Option, none, some}

@@ -1,4 +1,4 @@
--- The 34 words of a trial: the number of its edges, the edges from the start item on, zeros (no trial has more than 33, `short-trial` of enumerator). `words-trial` of proofs/Trial: with zeros behind them
+-- The 34 words of a trial: the number of its edges, the edges from the start item on, zeros (no trial has more than 33, `short_trial` of enumerator). `words_trial` of proofs/Trial: with zeros behind them
 -- they are the 32,000 words that a public listing leaves (specs/Words of enumerator). Assumes nothing: these are definitions.
 use Rattle.std.specs.Prelude.{ℕ, ◌+◌, ◌-◌, ◌≤◌, ◌≡◌, true, false, List, [], ◌∷◌, ◌++◌, reverse, length, replicate}
 use Rattle.std.proofs.Math.Option.{Option, none, some}

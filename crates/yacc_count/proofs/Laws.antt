@@ -21,7 +21,7 @@ use Rattle.yacc_tokens.specs.Accepted.{mode_of, number_of_word, moves_to}
 use Rattle.yacc_read.specs.Events.{Event, lists, opens, defines, uses, shuts}
 use Rattle.yacc_read.specs.Source.{no_id, Use, Alternative, alternative, alternatives_from}
 use Rattle.yacc_read.specs.Outcome.{too_long}
-use Rattle.yacc_said.specs.Said.{said_in, id_at, events_of, ofSaid}
+use Rattle.yacc_said.specs.Said.{said_in, id_at, events_of, of_said}
 use Rattle.yacc_said.specs.declared.Saying.{Saying}
 use Rattle.yacc_said.specs.declared.Saying.TheVariants.{Lists, Opens, Defines, Uses, Shuts, Nothing}
 use Rattle.yacc_said.proofs.Laws.{said_same, said_turn}
@@ -143,12 +143,12 @@ added-whole xs =
     added_short xs 0 0
     ∙ same_counts (0 + length xs) (length xs) (0 + sizes xs) (sizes xs) (short_from 0 xs) (short_of xs) z (omega arith) (ap (λ (k : ℕ). elim (too_long 0 xs) [ none ↦ k | some p ↦ p ]) z)
 
-pub tally_whole : (t : List ℕ) → ofSaid no_counts (tally_all no_tally) (mode_of 0) (placed_from t 0) ≡ counts_in t
+pub tally_whole : (t : List ℕ) → of_said no_counts (tally_all no_tally) (mode_of 0) (placed_from t 0) ≡ counts_in t
 unfolding mode_of counts_in
 tally_whole t = said_same no_counts (tally_all no_tally) (λ es. counts_of (alternatives_from no_id [] es)) (λ es. tally_added es 0 0 0 0 no_id [] refl ∙ added-whole (alternatives_from no_id [] es)) (top false) (placed_from t 0)
 
 -- the loop's turns
-pub tally_turn : (t : List ℕ) (at m : ℕ) → m < 12 → (y : Tally) (r : Counts) → ofSaid no_counts (tally_all y) (mode_of m) (placed_from t at) ≡ r → (v : Tally) (s : Saying) (w : Word) (from past n : ℕ) → Leads t at w from past → s ≡ said_in (mode_of m) w → v ≡ tallied y s → n ≡ moves_to m (number_of_word w) → ofSaid no_counts (tally_all v) (mode_of n) (placed_from t past) ≡ r
+pub tally_turn : (t : List ℕ) (at m : ℕ) → m < 12 → (y : Tally) (r : Counts) → of_said no_counts (tally_all y) (mode_of m) (placed_from t at) ≡ r → (v : Tally) (s : Saying) (w : Word) (from past n : ℕ) → Leads t at w from past → s ≡ said_in (mode_of m) w → v ≡ tallied y s → n ≡ moves_to m (number_of_word w) → of_said no_counts (tally_all v) (mode_of n) (placed_from t past) ≡ r
 tally_turn t at m h y r inv v s w from past n L e q f =
     said_turn no_counts t at m h (tally_all y) r inv (tally_all v) w from past n L f
     (λ es. ap (λ (k : Tally). tally_all k es) q ∙ tally_said s y (id_at t w from past) from past es ∙ ap (λ (k : Saying). tally_all y (events_of k (id_at t w from past) from past ++ es)) e)

@@ -8,7 +8,7 @@ use Rattle.yacc_text.specs.Places.{placed_from}
 use Rattle.yacc_text.specs.Forward.{top}
 use Rattle.yacc_read.specs.Source.{no_id, Alternative, alternatives_from}
 use Rattle.yacc_read.specs.Outcome.{too_long}
-use Rattle.yacc_said.specs.Said.{ofSaid}
+use Rattle.yacc_said.specs.Said.{of_said}
 use Rattle.yacc_said.specs.declared.Saying.{Saying}
 use Rattle.yacc_said.specs.declared.Saying.TheVariants.{Lists, Opens, Defines, Uses, Shuts, Nothing}
 use Rattle.yacc_count.specs.declared.Counts.{Counts}
@@ -26,7 +26,7 @@ no_counts = record { alternatives = 0; symbols = 0; short = 0 }
 
 -- of a text; zeros where something is no token
 unfoldable pub counts_in : List ℕ → Counts
-counts_in t = ofSaid no_counts (λ es. counts_of (alternatives_from no_id [] es)) (top false) (placed_from t 0)
+counts_in t = of_said no_counts (λ es. counts_of (alternatives_from no_id [] es)) (top false) (placed_from t 0)
 
 -- as the loop makes them
 

@@ -30,7 +30,7 @@ use Rattle.yacc_read.specs.Events.{Event, events}
 use Rattle.yacc_read.specs.Source.{same_id, Known, is_known, enter, entered, left_side, token_use, literal_use, source_of}
 use Rattle.yacc_read.specs.Outcome.{source_in}
 use Rattle.yacc_read.proofs.Known.{same_id_lem, same_id_eq, known_none, enter_is}
-use Rattle.yacc_said.specs.Said.{id_said, end_said, said_in, id_at, events_of, ofSaid}
+use Rattle.yacc_said.specs.Said.{id_said, end_said, said_in, id_at, events_of, of_said}
 use Rattle.yacc_said.specs.declared.Saying.{Saying}
 use Rattle.yacc_said.specs.declared.Saying.TheVariants.{Lists, Opens, Defines, Uses, Shuts, Nothing}
 use Rattle.yacc_said.proofs.Laws.{said_turn, said-ends, said-whole}
@@ -423,7 +423,7 @@ abbrev pub no_both : Both
 no_both = record { nonterminals = []; terminals = [] }
 
 unfoldable pub both_in : List ℕ → Both
-both_in t = ofSaid no_both (behind [] []) (mode_of 0) (placed_from t 0)
+both_in t = of_said no_both (behind [] []) (mode_of 0) (placed_from t 0)
 
 pub behind-said : (s : Saying) (ns ts : List Known) (x : Id) (from past : ℕ) (es : List Event) → behind (entered ns (joined left_side (events_of s x from past))) (entered ts (joined token_use (events_of s x from past))) es ≡ behind ns ts (events_of s x from past ++ es)
 unfolding behind joined left_side token_use literal_use events_of entered
@@ -442,7 +442,7 @@ pub record Turn (t starts pasts ix lefts tokens : List ℕ) (ids : Ids) (mode at
   pub names : ids.names ≤ at
   pub nonterminals : ids.nonterminals ≤ at
   pub terminals : ids.terminals ≤ at
-  pub same : ofSaid no_both (behind ns ts) (mode_of mode) (placed_from t at) ≡ both_in t
+  pub same : of_said no_both (behind ns ts) (mode_of mode) (placed_from t at) ≡ both_in t
 
 module _ (t starts pasts ix lefts tokens : List ℕ) (F : Fresh t starts pasts ix lefts tokens) where
   no_names : Entered t starts pasts ix 0

@@ -24,7 +24,7 @@ use Rattle.yacc_read.specs.Events.{Event, events}
 use Rattle.yacc_read.specs.Source.{same_id, Known, is_known, number_in, start_use, Source, source_of}
 use Rattle.yacc_read.specs.Outcome.{nowhere, undefined_use, named_both_ways, undefined_start, misnamed, source_in}
 use Rattle.yacc_read.proofs.Known.{same_id_lem, same_id_eq, known_cons, known_none}
-use Rattle.yacc_said.specs.Said.{end_said, said_in, id_at, events_of, ofSaid}
+use Rattle.yacc_said.specs.Said.{end_said, said_in, id_at, events_of, of_said}
 use Rattle.yacc_said.specs.declared.Saying.{Saying}
 use Rattle.yacc_said.specs.declared.Saying.TheVariants.{Lists, Opens, Defines, Uses, Shuts, Nothing}
 use Rattle.yacc_said.proofs.Laws.{said_turn, said-whole}
@@ -284,7 +284,7 @@ unfolding of_id
 define_word m w s e q = id_word m w (sym (ap of_id e) ∙ ap of_id q)
 
 -- `uses_nowhere`
-pub uses-first : (t : List ℕ) (l : Layout) → parse t ≡ some l → ofSaid false (verdict_of (nowhere (source_in l.pieces)) (record { bad = false; body = false })) (mode_of 0) (placed_from t 0) ≡ undefined_use (source_in l.pieces)
+pub uses-first : (t : List ℕ) (l : Layout) → parse t ≡ some l → of_said false (verdict_of (nowhere (source_in l.pieces)) (record { bad = false; body = false })) (mode_of 0) (placed_from t 0) ≡ undefined_use (source_in l.pieces)
 unfolding mode_of source_in
 uses-first t l e = said-whole false (verdict_of (nowhere (source_in l.pieces)) (record { bad = false; body = false })) t l e ∙ verdict_undefined (events (top false) (placed 0 l.pieces))
 
@@ -297,7 +297,7 @@ judged_same Uses v w u f = ap (judged v Uses) (f refl)
 judged_same Shuts v w u f = refl
 judged_same Nothing v w u f = refl
 
-pub uses_turn : (t : List ℕ) (at m : ℕ) → m < 12 → (S : Source) (v y : Verdict) (r : Bool) → ofSaid false (verdict_of (nowhere S) v) (mode_of m) (placed_from t at) ≡ r → (s : Saying) (b : Bool) (w : Word) (from past n : ℕ) → Leads t at w from past → s ≡ said_in (mode_of m) w → y ≡ judged v s b → (s ≡ Uses → b ≡ nowhere S (id_at t w from past)) → n ≡ moves_to m (number_of_word w) → ofSaid false (verdict_of (nowhere S) y) (mode_of n) (placed_from t past) ≡ r
+pub uses_turn : (t : List ℕ) (at m : ℕ) → m < 12 → (S : Source) (v y : Verdict) (r : Bool) → of_said false (verdict_of (nowhere S) v) (mode_of m) (placed_from t at) ≡ r → (s : Saying) (b : Bool) (w : Word) (from past n : ℕ) → Leads t at w from past → s ≡ said_in (mode_of m) w → y ≡ judged v s b → (s ≡ Uses → b ≡ nowhere S (id_at t w from past)) → n ≡ moves_to m (number_of_word w) → of_said false (verdict_of (nowhere S) y) (mode_of n) (placed_from t past) ≡ r
 uses_turn t at m h S v y r inv s b w from past n L e q f g =
     said_turn false t at m h (verdict_of (nowhere S) v) r inv (verdict_of (nowhere S) y) w from past n L g
     (λ es. ap (λ (k : Verdict). verdict_of (nowhere S) k es) (q ∙ judged_same s v b (nowhere S (id_at t w from past)) f) ∙ verdict_said s (nowhere S) v (id_at t w from past) from past es ∙ ap (λ (k : Saying). verdict_of (nowhere S) v (events_of k (id_at t w from past) from past ++ es)) e)
@@ -311,7 +311,7 @@ unfolding nowhere_of nowhere
 nowhere_is S x = refl
 
 -- `start_nowhere`
-pub lost-first : (t : List ℕ) (l : Layout) → parse t ≡ some l → ofSaid true (lost_of (source_in l.pieces).nonterminals) (mode_of 0) (placed_from t 0) ≡ undefined_start (source_in l.pieces)
+pub lost-first : (t : List ℕ) (l : Layout) → parse t ≡ some l → of_said true (lost_of (source_in l.pieces).nonterminals) (mode_of 0) (placed_from t 0) ≡ undefined_start (source_in l.pieces)
 unfolding mode_of source_in source_of lost_of undefined_start
 lost-first t l e = said-whole true (lost_of (source_in l.pieces).nonterminals) t l e
 
@@ -324,16 +324,16 @@ lost-more ns Uses x from past es = sym (ap (λ (b : Bool). b || some? (λ (z : I
 lost-more ns Shuts x from past es = sym (ap (λ (b : Bool). b || some? (λ (z : Id). not (is_known ns z)) (joined start_use es)) (some?-nil (λ (z : Id). not (is_known ns z))))
 lost-more ns Nothing x from past es = sym (ap (λ (b : Bool). b || some? (λ (z : Id). not (is_known ns z)) (joined start_use es)) (some?-nil (λ (z : Id). not (is_known ns z))))
 
-said-true : (m : Mode) (o : Option (List Placed)) → ofSaid true (λ es. true) m o ≡ true
-unfolding ofSaid
+said-true : (m : Mode) (o : Option (List Placed)) → of_said true (λ es. true) m o ≡ true
+unfolding of_said
 said-true m none = refl
 said-true m (some ps) = refl
 
-module _ (t : List ℕ) (at m : ℕ) (h : m < 12) (ns : List Known) (r : Bool) (inv : ofSaid true (lost_of ns) (mode_of m) (placed_from t at) ≡ r) (s : Saying) (w : Word) (from past n : ℕ) (L : Leads t at w from past) (e : s ≡ said_in (mode_of m) w) (b : Bool) (q : b ≡ lost_of ns (events_of s (id_at t w from past) from past)) where
+module _ (t : List ℕ) (at m : ℕ) (h : m < 12) (ns : List Known) (r : Bool) (inv : of_said true (lost_of ns) (mode_of m) (placed_from t at) ≡ r) (s : Saying) (w : Word) (from past n : ℕ) (L : Leads t at w from past) (e : s ≡ said_in (mode_of m) w) (b : Bool) (q : b ≡ lost_of ns (events_of s (id_at t w from past) from past)) where
   lost-both : (es : List Event) → lost_of ns (events_of (said_in (mode_of m) w) (id_at t w from past) from past ++ es) ≡ (b || lost_of ns es)
   lost-both es = ap (λ (k : Saying). lost_of ns (events_of k (id_at t w from past) from past ++ es)) (sym e) ∙ lost-more ns s (id_at t w from past) from past es ∙ ap (λ (c : Bool). c || lost_of ns es) (sym q)
 
-  pub lost_turn : b ≡ false → n ≡ moves_to m (number_of_word w) → ofSaid true (lost_of ns) (mode_of n) (placed_from t past) ≡ r
+  pub lost_turn : b ≡ false → n ≡ moves_to m (number_of_word w) → of_said true (lost_of ns) (mode_of n) (placed_from t past) ≡ r
   lost_turn f g = said_turn true t at m h (lost_of ns) r inv (lost_of ns) w from past n L g (λ es. sym (lost-both es ∙ ap (λ (c : Bool). c || lost_of ns es) f))
 
   pub lost_here : b ≡ true → true ≡ r

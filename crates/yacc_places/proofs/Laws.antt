@@ -28,7 +28,7 @@ use Rattle.yacc_read.specs.Source.{Known, is_known, number_in, enter, entered, s
 use Rattle.yacc_read.specs.Meaning.{places_of, start_of}
 use Rattle.yacc_read.specs.Outcome.{source_in}
 use Rattle.yacc_read.proofs.Known.{same_id_lem, enter_old, enter_new, enter_is, known_entered, known_cons, number-below, number_there}
-use Rattle.yacc_said.specs.Said.{said_in, id_at, events_of, ofSaid}
+use Rattle.yacc_said.specs.Said.{said_in, id_at, events_of, of_said}
 use Rattle.yacc_said.specs.declared.Saying.{Saying}
 use Rattle.yacc_said.specs.declared.Saying.TheVariants.{Lists, Opens, Defines, Uses, Shuts, Nothing}
 use Rattle.yacc_said.proofs.Laws.{said_turn, said-ends, said-outside, said-whole}
@@ -228,7 +228,7 @@ both_of S = record { nonterminals = S.nonterminals; terminals = S.terminals }
 pub record Placing (t : List ℕ) (S : Source) (base : ℕ) (p₀ p : List ℕ) (n m mode at : ℕ) : Type 0 where
   pub ns : List Known
   pub ts : List Known
-  pub same : (z : Both) → ofSaid z (behind ns ts) (mode_of mode) (placed_from t at) ≡ both_of S
+  pub same : (z : Both) → of_said z (behind ns ts) (mode_of mode) (placed_from t at) ≡ both_of S
   pub lefts : Front p 0 n ns
   pub tokens : Front p base m ts
   pub rest : (i : ℕ) → length S.nonterminals + length S.terminals ≤ i → get_or p i 0 ≡ get_or p₀ i 0
@@ -250,8 +250,8 @@ not-all r h =
     let z : ◌≡◌ {A = ℕ} 0 1 = ap (λ (k : Both). length k.nonterminals) (h (record { nonterminals = []; terminals = [] }) ∙ sym (h (record { nonterminals = no_known ∷ []; terminals = [] }))) in
     omega (arith, z)
 
-all-tokens : (f : List Event → Both) (r : Both) (m : Mode) (o : Option (List Placed)) → ((z : Both) → ofSaid z f m o ≡ r) → (es : List Event) × (f es ≡ r)
-unfolding ofSaid
+all-tokens : (f : List Event → Both) (r : Both) (m : Mode) (o : Option (List Placed)) → ((z : Both) → of_said z f m o ≡ r) → (es : List Event) × (f es ≡ r)
+unfolding of_said
 all-tokens f r m none h = absurd (not-all r h)
 all-tokens f r m (some ps) h = (events m ps, h r)
 
@@ -263,7 +263,7 @@ module _ (t : List ℕ) (S : Source) (base : ℕ) (p₀ p : List ℕ) (n m mode 
   abbrev us : List Known
   us = joined token_use (events_of s (id_at t w from past) from past)
 
-  next_same : (z : Both) → ofSaid z (behind (entered P.ns os) (entered P.ts us)) (mode_of k) (placed_from t past) ≡ both_of S
+  next_same : (z : Both) → of_said z (behind (entered P.ns os) (entered P.ts us)) (mode_of k) (placed_from t past) ≡ both_of S
   next_same z =
       said_turn z t at mode h (behind P.ns P.ts) (both_of S) (P.same z) (behind (entered P.ns os) (entered P.ts us)) w from past k L g
       (λ es. behind-said s P.ns P.ts (id_at t w from past) from past es ∙ ap (λ (j : Saying). behind P.ns P.ts (events_of j (id_at t w from past) from past ++ es)) e)
@@ -346,7 +346,7 @@ enters_none f ks x from past s v e q = said_enters f ks [] x from past 0 s v e q
 unfoldable pub start_in : List Known → List Event → ℕ
 start_in ns es = start_of ns (joined start_use es)
 
-pub start_first : (t : List ℕ) (l : Layout) → parse t ≡ some l → (z : ℕ) → ofSaid z (start_in (source_in l.pieces).nonterminals) (mode_of 0) (placed_from t 0) ≡ start_of (source_in l.pieces).nonterminals (source_in l.pieces).starts
+pub start_first : (t : List ℕ) (l : Layout) → parse t ≡ some l → (z : ℕ) → of_said z (start_in (source_in l.pieces).nonterminals) (mode_of 0) (placed_from t 0) ≡ start_of (source_in l.pieces).nonterminals (source_in l.pieces).starts
 unfolding mode_of source_in source_of start_in
 start_first t l e z = said-whole z (start_in (source_in l.pieces).nonterminals) t l e
 
@@ -372,13 +372,13 @@ start-passes Uses y ns x from past es = refl
 start-passes Shuts y ns x from past es = refl
 start-passes Nothing y ns x from past es = refl
 
-said_one : (c : ℕ) (m : Mode) (o : Option (List Placed)) → ofSaid c (λ es. c) m o ≡ c
-unfolding ofSaid
+said_one : (c : ℕ) (m : Mode) (o : Option (List Placed)) → of_said c (λ es. c) m o ≡ c
+unfolding of_said
 said_one c m none = refl
 said_one c m (some ps) = refl
 
-module _ (t : List ℕ) (at m : ℕ) (h : m < 12) (ns : List Known) (r : ℕ) (inv : (z : ℕ) → ofSaid z (start_in ns) (mode_of m) (placed_from t at) ≡ r) (s : Saying) (w : Word) (from past : ℕ) (L : Leads t at w from past) (e : s ≡ said_in (mode_of m) w) where
-  pub start_turn : is_opens s ≡ false → (n : ℕ) → n ≡ moves_to m (number_of_word w) → (z : ℕ) → ofSaid z (start_in ns) (mode_of n) (placed_from t past) ≡ r
+module _ (t : List ℕ) (at m : ℕ) (h : m < 12) (ns : List Known) (r : ℕ) (inv : (z : ℕ) → of_said z (start_in ns) (mode_of m) (placed_from t at) ≡ r) (s : Saying) (w : Word) (from past : ℕ) (L : Leads t at w from past) (e : s ≡ said_in (mode_of m) w) where
+  pub start_turn : is_opens s ≡ false → (n : ℕ) → n ≡ moves_to m (number_of_word w) → (z : ℕ) → of_said z (start_in ns) (mode_of n) (placed_from t past) ≡ r
   start_turn f n g z = said_turn z t at m h (start_in ns) r (inv z) (start_in ns) w from past n L g (λ es. start-passes s f ns (id_at t w from past) from past es ∙ ap (λ (j : Saying). start_in ns (events_of j (id_at t w from past) from past ++ es)) e)
 
   pub start_here : is_opens s ≡ true → number_in ns (id_at t w from past) ≡ r

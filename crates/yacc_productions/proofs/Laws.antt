@@ -39,7 +39,7 @@ use Rattle.yacc_read.specs.Outcome.{nowhere, undefined_use, named_both_ways, und
 use Rattle.yacc_read.proofs.Known.{number-below}
 use Rattle.yacc_read.proofs.Said.{lefts_known, some-alternative}
 use Rattle.yacc_read.proofs.Fits.{Good, count_nonterminals, table_fits}
-use Rattle.yacc_said.specs.Said.{id_said, end_said, said_in, id_at, events_of, ofSaid}
+use Rattle.yacc_said.specs.Said.{id_said, end_said, said_in, id_at, events_of, of_said}
 use Rattle.yacc_said.specs.declared.Saying.{Saying}
 use Rattle.yacc_said.specs.declared.Saying.TheVariants.{Lists, Opens, Defines, Uses, Shuts, Nothing}
 use Rattle.yacc_said.proofs.Laws.{said_turn, said-ends, said-outside, said-whole}
@@ -229,8 +229,8 @@ module _ (S : Source) (W : Whole S) where
     few_here = let i = production-inside in let f = in_range.few_productions_lem in omega (arith, i, f)
 
 -- what is said behind some alternatives gives more of them
-behind : (ks : List Alternative) (f : List Event → List Alternative) (all : List Alternative) (m : Mode) (o : Option (List Placed)) → ofSaid none (λ es. some (ks ++ f es)) m o ≡ some all → (more : List Alternative) × (ks ++ more ≡ all)
-unfolding ofSaid
+behind : (ks : List Alternative) (f : List Event → List Alternative) (all : List Alternative) (m : Mode) (o : Option (List Placed)) → of_said none (λ es. some (ks ++ f es)) m o ≡ some all → (more : List Alternative) × (ks ++ more ≡ all)
+unfolding of_said
 behind ks f all m none e = let z : ◌≡◌ {A = ℕ} 0 1 = cc in absurd (omega (arith, z))
 behind ks f all m (some ps) e = (f (events m ps), cc)
 
@@ -270,7 +270,7 @@ made a c ss s u e v p q r =
     ∙ ap (λ (k : ℕ). record { nonterminal = c; symbols = ss; start = u; end = k }) r
 
 -- the turns
-pub turn_first : (S : Source) (t g : List ℕ) → ofSaid none (λ es. some (alternatives_from no_id [] es)) (mode_of 0) (placed_from t 0) ≡ some S.alternatives → Turn S t g (record { production = 0; owner = 0; symbols = 0; start = 0; end = 0 }) 0 0
+pub turn_first : (S : Source) (t g : List ℕ) → of_said none (λ es. some (alternatives_from no_id [] es)) (mode_of 0) (placed_from t 0) ≡ some S.alternatives → Turn S t g (record { production = 0; owner = 0; symbols = 0; start = 0; end = 0 }) 0 0
 unfolding in_rule
 turn_first S t g e = record {
   closed = [];
@@ -284,7 +284,7 @@ turn_first S t g e = record {
 }
 
 module _ (S : Source) (t g : List ℕ) (b : Body) (m at : ℕ) (h : m < 12) (T : Turn S t g b m at) (s : Saying) (w : Word) (from past n : ℕ) (L : Leads t at w from past) (e : s ≡ said_in (mode_of m) w) (q : n ≡ moves_to m (number_of_word w)) where
-  goes_on : (ks : List Alternative) (l : Id) (us : List Use) → ((es : List Event) → ks ++ alternatives_from l us es ≡ T.closed ++ alternatives_from T.left T.us (events_of s (id_at t w from past) from past ++ es)) → ofSaid none (λ es. some (ks ++ alternatives_from l us es)) (mode_of n) (placed_from t past) ≡ some S.alternatives
+  goes_on : (ks : List Alternative) (l : Id) (us : List Use) → ((es : List Event) → ks ++ alternatives_from l us es ≡ T.closed ++ alternatives_from T.left T.us (events_of s (id_at t w from past) from past ++ es)) → of_said none (λ es. some (ks ++ alternatives_from l us es)) (mode_of n) (placed_from t past) ≡ some S.alternatives
   goes_on ks l us f =
       said_turn none t at m h (λ es. some (T.closed ++ alternatives_from T.left T.us es)) (some S.alternatives) T.rest (λ es. some (ks ++ alternatives_from l us es)) w from past n L q
       (λ es. ap some (f es ∙ ap (λ (k : Saying). T.closed ++ alternatives_from T.left T.us (events_of k (id_at t w from past) from past ++ es)) e))
@@ -362,7 +362,7 @@ module _ (S : Source) (t g : List ℕ) (b : Body) (m at : ℕ) (h : m < 12) (T :
   turn_shuts d W long g' r C =
       let a : Alternative = alternative T.left T.us from in
       let ks : List Alternative = T.closed ++ a ∷ [] in
-      let on : ofSaid none (λ es. some (ks ++ alternatives_from T.left [] es)) (mode_of n) (placed_from t past) ≡ some S.alternatives =
+      let on : of_said none (λ es. some (ks ++ alternatives_from T.left [] es)) (mode_of n) (placed_from t past) ≡ some S.alternatives =
       goes_on ks T.left []
       (λ es. append_assoc T.closed (a ∷ []) (alternatives_from T.left [] es) ∙ ap (λ (l : List Alternative). T.closed ++ l) (shuts-said s T.left T.us (id_at t w from past) from past es d)) in
       let B = behind ks (alternatives_from T.left []) S.alternatives (mode_of n) (placed_from t past) on in
@@ -442,7 +442,7 @@ module _ (S : Source) (t g : List ℕ) (b : Body) (m at : ℕ) (h : m < 12) (T :
 pub whole_of : (t : List ℕ) (l : Layout) → parse t ≡ some l → Readable (source_in l.pieces) → Whole (source_in l.pieces)
 whole_of t l e R = let S = (parse_sound t l e).0 in record { readable = R; lefts = lefts_known l S; some_one = some-alternative l S }
 
-pub said_all : (t : List ℕ) (l : Layout) → parse t ≡ some l → ofSaid none (λ es. some (alternatives_from no_id [] es)) (mode_of 0) (placed_from t 0) ≡ some (source_in l.pieces).alternatives
+pub said_all : (t : List ℕ) (l : Layout) → parse t ≡ some l → of_said none (λ es. some (alternatives_from no_id [] es)) (mode_of 0) (placed_from t 0) ≡ some (source_in l.pieces).alternatives
 unfolding mode_of source_in source_of
 said_all t l e = said-whole none (λ es. some (alternatives_from no_id [] es)) t l e
 

@@ -14,7 +14,7 @@ use Rattle.yacc_tokens.specs.Accepted.{mode_of}
 use Rattle.yacc_read.specs.Source.{is_known, number_in, Use, span_start, span_end, Alternative, alternatives_from, Source}
 use Rattle.yacc_read.specs.Meaning.{symbol_of, table_of}
 use Rattle.yacc_read.specs.Outcome.{nowhere}
-use Rattle.yacc_said.specs.Said.{ofSaid}
+use Rattle.yacc_said.specs.Said.{of_said}
 use Rattle.yacc_productions.specs.declared.Body.{Body}
 
 -- behind a left side, and in a body (modes `sided` and `bodied`)
@@ -87,7 +87,7 @@ pub record Turn (S : Source) (t g : List ℕ) (b : Body) (mode at : ℕ) : Type 
   pub closed : List Alternative
   pub left : Id
   pub us : List Use
-  pub rest : ofSaid none (λ es. some (closed ++ alternatives_from left us es)) (mode_of mode) (placed_from t at) ≡ some S.alternatives
+  pub rest : of_said none (λ es. some (closed ++ alternatives_from left us es)) (mode_of mode) (placed_from t at) ≡ some S.alternatives
   pub many : b.production ≡ length closed
   pub stored : (q : ℕ) → q < b.production → Stored (table_of S) g q
   pub owner : in_rule mode ≡ true → is_known S.nonterminals left ≡ true → b.owner ≡ number_in S.nonterminals left

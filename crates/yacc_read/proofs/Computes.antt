@@ -6,10 +6,10 @@ use Rattle.slices.specs.Same.{same_words}
 use Rattle.slices.specs.Lent.{in_front}
 use Rattle.repr.specs.Lists.{up_from, below, first?, keep, some?, joined}
 use Rattle.table.specs.Quads.{words}
-use Rattle.spelling.specs.Spelled.{head_of, chainFrom, chainsFrom, place_of, size_of, kind_of as kindOfSymbol, number_of, states_at, productions_at, symbols_at, items_place, edges_at, records_of, owns, record_or, next_owned_from, nonterminal_quad, state_quad, production_quad, count_quad, nonterminal_quads, state_quads, production_quads, symbol_quads, item_quads, edge_quads, quads, spell}
+use Rattle.spelling.specs.Spelled.{head_of, chain_from, chains_from, place_of, size_of, kind_of as kind_of_symbol, number_of, states_at, productions_at, symbols_at, items_place, edges_at, records_of, owns, record_or, next_owned_from, nonterminal_quad, state_quad, production_quad, count_quad, nonterminal_quads, state_quads, production_quads, symbol_quads, item_quads, edge_quads, quads, spell}
 use Rattle.yacc_text.specs.Grammar.{is_white_byte, is_letter_byte, is_digit_byte, kind_of, goes_on_byte, no_start, one_start, spell_id, spell_token, spell_piece, tokens_in, slash_next, closes, literal_byte, stops}
 use Rattle.yacc_text.specs.Lex.{rest, run_of, past_run, strip, literal_if, next_literal, word_if, start_or, token_or, mark_or, longer, in_comment, comment_or, next_of, next, before, after, lex_steps, lex}
-use Rattle.yacc_text.specs.Parse.{left_side as leftSideOf, marked, declared, begun, step, run, whole, file_of, laid, parsed, parse}
+use Rattle.yacc_text.specs.Parse.{left_side as left_side_of, marked, declared, begun, step, run, whole, file_of, laid, parsed, parse}
 use Rattle.yacc_text.specs.Places.{width_of, placed}
 use Rattle.yacc_text.specs.Forward.{begins, sides, move}
 use Rattle.yacc_read.specs.Events.{event_of, events}
@@ -35,7 +35,7 @@ pub texts_read : map (λ (c : Call). read_of c.text c.table c.places) (
     record { answer = Read 13 4 (record { 0 = 1 }); table = (2 ∷ 2 ∷ 1 ∷ 4 ∷ 4 ∷ 0 ∷ 0 ∷ 0 ∷ 6 ∷ 0 ∷ 0 ∷ 0 ∷ 0 ∷ 0 ∷ 0 ∷ 0 ∷ 5 ∷ 8 ∷ 27 ∷ 32 ∷ 7 ∷ 0 ∷ 35 ∷ 35 ∷ 0 ∷ 10 ∷ 41 ∷ 42 ∷ 0 ∷ 11 ∷ 49 ∷ 68 ∷ 9 ∷ 0 ∷ 1 ∷ 0 ∷ 0 ∷ 1 ∷ 1 ∷ 0 ∷ 0 ∷ 1 ∷ 0 ∷ 0 ∷ 12 ∷ 1 ∷ 1 ∷ 0 ∷ 0 ∷ 1 ∷ 1 ∷ 0 ∷ 7 ∷ 7 ∷ 7 ∷ 7 ∷ 7 ∷ 7 ∷ 7 ∷ 7 ∷ 7 ∷ 7 ∷ 7 ∷ 7 ∷ 7 ∷ 7 ∷ 7 ∷ 7 ∷ 7 ∷ 7 ∷ 7 ∷ 7 ∷ 7 ∷ 7 ∷ 7 ∷ 7 ∷ 7 ∷ 7 ∷ 7 ∷ 7 ∷ []); places = (23 ∷ 37 ∷ 16 ∷ 29 ∷ 9 ∷ []) } ∷
     record { answer = Read 4 1 (record { 0 = 0 }); table = (1 ∷ 0 ∷ 1 ∷ 1 ∷ 3 ∷ 0 ∷ 0 ∷ 0 ∷ 0 ∷ 0 ∷ 0 ∷ 0 ∷ 0 ∷ 0 ∷ 4 ∷ 4 ∷ []); places = (2 ∷ []) } ∷
     [])
-unfolding same_words in_front up_from below first? keep some? joined words head_of chainFrom chainsFrom place_of size_of kindOfSymbol number_of states_at productions_at symbols_at items_place edges_at records_of owns record_or next_owned_from nonterminal_quad state_quad production_quad count_quad nonterminal_quads state_quads production_quads symbol_quads item_quads edge_quads quads spell is_white_byte is_letter_byte is_digit_byte kind_of goes_on_byte no_start one_start spell_id spell_token spell_piece tokens_in slash_next closes literal_byte stops rest run_of past_run strip literal_if next_literal word_if start_or token_or mark_or longer in_comment comment_or next_of next before after lex_steps lex leftSideOf marked declared begun step run whole file_of laid parsed parse begins sides move width_of placed event_of events same_id is_known number_in enter entered left_side literal_use token_use start_use span_start span_end alternative alternatives_from source_of symbol_of production_of productions_of owned table_of places_of start_of unchanged nowhere undefined_use named_both_ways undefined_start misnamed too_many too_long room answer_of fitted_of counted_of named_of source_in parsed_of read_of
+unfolding same_words in_front up_from below first? keep some? joined words head_of chain_from chains_from place_of size_of kind_of_symbol number_of states_at productions_at symbols_at items_place edges_at records_of owns record_or next_owned_from nonterminal_quad state_quad production_quad count_quad nonterminal_quads state_quads production_quads symbol_quads item_quads edge_quads quads spell is_white_byte is_letter_byte is_digit_byte kind_of goes_on_byte no_start one_start spell_id spell_token spell_piece tokens_in slash_next closes literal_byte stops rest run_of past_run strip literal_if next_literal word_if start_or token_or mark_or longer in_comment comment_or next_of next before after lex_steps lex left_side_of marked declared begun step run whole file_of laid parsed parse begins sides move width_of placed event_of events same_id is_known number_in enter entered left_side literal_use token_use start_use span_start span_end alternative alternatives_from source_of symbol_of production_of productions_of owned table_of places_of start_of unchanged nowhere undefined_use named_both_ways undefined_start misnamed too_many too_long room answer_of fitted_of counted_of named_of source_in parsed_of read_of
 texts_read = refl
 
 -- 20, outside the grammar: `%%x:`
@@ -71,5 +71,5 @@ pub texts_refused : map (λ (c : Call). read_of c.text c.table c.places) (
     record { answer = Refused 17 0; table = (7 ∷ 7 ∷ 7 ∷ 7 ∷ 7 ∷ 7 ∷ 7 ∷ 7 ∷ 7 ∷ 7 ∷ 7 ∷ 7 ∷ 7 ∷ 7 ∷ 7 ∷ 7 ∷ 7 ∷ 7 ∷ 7 ∷ []); places = (9 ∷ 9 ∷ []) } ∷
     record { answer = Refused 17 0; table = (7 ∷ 7 ∷ 7 ∷ 7 ∷ 7 ∷ 7 ∷ 7 ∷ 7 ∷ 7 ∷ 7 ∷ 7 ∷ 7 ∷ 7 ∷ 7 ∷ 7 ∷ 7 ∷ 7 ∷ 7 ∷ 7 ∷ 7 ∷ []); places = (9 ∷ []) } ∷
     [])
-unfolding same_words in_front up_from below first? keep some? joined words head_of chainFrom chainsFrom place_of size_of kindOfSymbol number_of states_at productions_at symbols_at items_place edges_at records_of owns record_or next_owned_from nonterminal_quad state_quad production_quad count_quad nonterminal_quads state_quads production_quads symbol_quads item_quads edge_quads quads spell is_white_byte is_letter_byte is_digit_byte kind_of goes_on_byte no_start one_start spell_id spell_token spell_piece tokens_in slash_next closes literal_byte stops rest run_of past_run strip literal_if next_literal word_if start_or token_or mark_or longer in_comment comment_or next_of next before after lex_steps lex leftSideOf marked declared begun step run whole file_of laid parsed parse begins sides move width_of placed event_of events same_id is_known number_in enter entered left_side literal_use token_use start_use span_start span_end alternative alternatives_from source_of symbol_of production_of productions_of owned table_of places_of start_of unchanged nowhere undefined_use named_both_ways undefined_start misnamed too_many too_long room answer_of fitted_of counted_of named_of source_in parsed_of read_of
+unfolding same_words in_front up_from below first? keep some? joined words head_of chain_from chains_from place_of size_of kind_of_symbol number_of states_at productions_at symbols_at items_place edges_at records_of owns record_or next_owned_from nonterminal_quad state_quad production_quad count_quad nonterminal_quads state_quads production_quads symbol_quads item_quads edge_quads quads spell is_white_byte is_letter_byte is_digit_byte kind_of goes_on_byte no_start one_start spell_id spell_token spell_piece tokens_in slash_next closes literal_byte stops rest run_of past_run strip literal_if next_literal word_if start_or token_or mark_or longer in_comment comment_or next_of next before after lex_steps lex left_side_of marked declared begun step run whole file_of laid parsed parse begins sides move width_of placed event_of events same_id is_known number_in enter entered left_side literal_use token_use start_use span_start span_end alternative alternatives_from source_of symbol_of production_of productions_of owned table_of places_of start_of unchanged nowhere undefined_use named_both_ways undefined_start misnamed too_many too_long room answer_of fitted_of counted_of named_of source_in parsed_of read_of
 texts_refused = refl

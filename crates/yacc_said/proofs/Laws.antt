@@ -21,7 +21,7 @@ use Rattle.yacc_lex.specs.declared.Word.TheVariants.{Name, Literal, Token as The
 use Rattle.yacc_tokens.specs.Accepted.{mode_of, number_of_word, moves_to}
 use Rattle.yacc_tokens.proofs.Laws.{at-number, moves_is}
 use Rattle.yacc_read.specs.Events.{Event, event_of, events}
-use Rattle.yacc_said.specs.Said.{id_said, end_said, said_in, id_at, events_of, ofSaid}
+use Rattle.yacc_said.specs.Said.{id_said, end_said, said_in, id_at, events_of, of_said}
 use Rattle.yacc_said.specs.declared.Saying.{Saying}
 use Rattle.yacc_said.specs.declared.Saying.TheVariants.{Lists, Opens, Defines, Uses, Shuts, Nothing}
 
@@ -136,33 +136,33 @@ said_event m h w t from past = at-number (λ k. event_of (mode_of k) (token_at t
 
 -- the turns of a loop over the tokens
 module _ {ℓ} {A : Type ℓ} (z : A) where
-  pub said_same : (f g : List Event → A) → ((es : List Event) → f es ≡ g es) → (m : Mode) (o : Option (List Placed)) → ofSaid z f m o ≡ ofSaid z g m o
-  unfolding ofSaid
+  pub said_same : (f g : List Event → A) → ((es : List Event) → f es ≡ g es) → (m : Mode) (o : Option (List Placed)) → of_said z f m o ≡ of_said z g m o
+  unfolding of_said
   said_same f g q m none = refl
   said_same f g q m (some ps) = q (events m ps)
 
-  said-front : (f : List Event → A) (m : Mode) (k : Token) (from past : ℕ) (o : Option (List Placed)) → ofSaid z f m (front k from past o) ≡ ofSaid z (λ es. f (event_of m k from past ++ es)) (move m k) o
-  unfolding ofSaid front events
+  said-front : (f : List Event → A) (m : Mode) (k : Token) (from past : ℕ) (o : Option (List Placed)) → of_said z f m (front k from past o) ≡ of_said z (λ es. f (event_of m k from past ++ es)) (move m k) o
+  unfolding of_said front events
   said-front f m k from past none = refl
   said-front f m k from past (some ps) = refl
 
-  module _ (t : List ℕ) (at m : ℕ) (h : m < 12) (f : List Event → A) (r : A) (inv : ofSaid z f (mode_of m) (placed_from t at) ≡ r) where
+  module _ (t : List ℕ) (at m : ℕ) (h : m < 12) (f : List Event → A) (r : A) (inv : of_said z f (mode_of m) (placed_from t at) ≡ r) where
     -- g goes on where f was, behind what the word said
-    pub said_turn : (g : List Event → A) (w : Word) (from past n : ℕ) → Leads t at w from past → n ≡ moves_to m (number_of_word w) → ((es : List Event) → g es ≡ f (events_of (said_in (mode_of m) w) (id_at t w from past) from past ++ es)) → ofSaid z g (mode_of n) (placed_from t past) ≡ r
+    pub said_turn : (g : List Event → A) (w : Word) (from past n : ℕ) → Leads t at w from past → n ≡ moves_to m (number_of_word w) → ((es : List Event) → g es ≡ f (events_of (said_in (mode_of m) w) (id_at t w from past) from past ++ es)) → of_said z g (mode_of n) (placed_from t past) ≡ r
     said_turn g w from past n L e q =
-        ap (λ (k : ℕ). ofSaid z g (mode_of k) (placed_from t past)) e
-        ∙ ap (λ (k : Mode). ofSaid z g k (placed_from t past)) (moves_is m h w t from past)
+        ap (λ (k : ℕ). of_said z g (mode_of k) (placed_from t past)) e
+        ∙ ap (λ (k : Mode). of_said z g k (placed_from t past)) (moves_is m h w t from past)
         ∙ said_same g (λ es. f (event_of (mode_of m) (token_at t w from past) from past ++ es)) (λ es. q es ∙ sym (ap (λ (l : List Event). f (l ++ es)) (said_event m h w t from past))) (move (mode_of m) (token_at t w from past)) (placed_from t past)
-        ∙ sym (ap (ofSaid z f (mode_of m)) L.is ∙ said-front f (mode_of m) (token_at t w from past) from past (placed_from t past))
+        ∙ sym (ap (of_said z f (mode_of m)) L.is ∙ said-front f (mode_of m) (token_at t w from past) from past (placed_from t past))
         ∙ inv
 
     pub said-ends : (x : Next) → x ≡ Ends → Told t at x → f [] ≡ r
-    unfolding Told ofSaid events
-    said-ends x e T = let p : placed_from t at ≡ some [] = rw e at T in sym (ap (ofSaid z f (mode_of m)) p) ∙ inv
+    unfolding Told of_said events
+    said-ends x e T = let p : placed_from t at ≡ some [] = rw e at T in sym (ap (of_said z f (mode_of m)) p) ∙ inv
 
     pub said-outside : (x : Next) → x ≡ NoToken → Told t at x → z ≡ r
-    unfolding Told ofSaid
-    said-outside x e T = let p : placed_from t at ≡ none = rw e at T in sym (ap (ofSaid z f (mode_of m)) p) ∙ inv
+    unfolding Told of_said
+    said-outside x e T = let p : placed_from t at ≡ none = rw e at T in sym (ap (of_said z f (mode_of m)) p) ∙ inv
 
 -- what a text of the grammar says
 laid_pieces : (ps : List Piece) (o : Option File) (l : Layout) → laid ps o ≡ some l → ps ≡ l.pieces
@@ -175,6 +175,6 @@ unfolding parsed
 parsed_pieces none l e = ap (λ (o : Option Layout). elim o [ none ↦ none | some k ↦ some l.pieces ]) e
 parsed_pieces (some ps) l e = ap some (laid_pieces ps (file_of (run (tokens_in ps))) l e)
 
-pub said-whole {ℓ} : {A : Type ℓ} (z : A) (f : List Event → A) (t : List ℕ) (l : Layout) → parse t ≡ some l → ofSaid z f (top false) (placed_from t 0) ≡ f (events (top false) (placed 0 l.pieces))
-unfolding ofSaid placed_from placed_in parse
-said-whole z f t l e = ap (λ (o : Option (List Piece)). ofSaid z f (top false) (placed_in 0 o)) (parsed_pieces (lex t) l e)
+pub said-whole {ℓ} : {A : Type ℓ} (z : A) (f : List Event → A) (t : List ℕ) (l : Layout) → parse t ≡ some l → of_said z f (top false) (placed_from t 0) ≡ f (events (top false) (placed 0 l.pieces))
+unfolding of_said placed_from placed_in parse
+said-whole z f t l e = ap (λ (o : Option (List Piece)). of_said z f (top false) (placed_in 0 o)) (parsed_pieces (lex t) l e)

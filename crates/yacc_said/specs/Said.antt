@@ -48,6 +48,6 @@ events_of Shuts x from past = shuts from ∷ []
 events_of Nothing x from past = []
 
 -- f of what the tokens say from a mode on; z where something is no token
-unfoldable pub ofSaid {ℓ} : {A : Type ℓ} → A → (List Event → A) → Mode → Option (List Placed) → A
-ofSaid z f m none = z
-ofSaid z f m (some ps) = f (events m ps)
+unfoldable pub of_said {ℓ} : {A : Type ℓ} → A → (List Event → A) → Mode → Option (List Placed) → A
+of_said z f m none = z
+of_said z f m (some ps) = f (events m ps)

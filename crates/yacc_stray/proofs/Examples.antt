@@ -50,7 +50,7 @@ pub taken_stray : (t : List ℕ) → IsStray t (taken initial t)
 unfolding fed is_dead
 taken_stray t = let q : 0 + taken initial t ≡ taken initial t = omega arith in subst (λ (k : ℕ). IsStray t k) q (taken_from t [] refl)
 
--- ``, `%%x:;`, `%%x:`, `x:;`, `%%x:;%%`, `%%x:;;`, `%tokenA%%x:;`, `%token%%x:;`, `%start x%start x%%x:;`, `%start x %% x:;`, `%%'a':;`, `%%x y:;`, `/*/%%x:;`, `/*<0>*/%%x:;`, `<13>%%x:;`, `%%x:a,b;`, `%%x:'ab';`, `%%x:'';`, `%%9x:;`, `%left A%%x:;`, `%% x:{};`, `%token a/*`, `%% x : 'a<255>`, `%%x:'\n';`
+-- ``, `%%x:;`, `%%x:`, `x:;`, `%%x:;%%`, `%%x:;;`, `%token_a%%x:;`, `%token%%x:;`, `%start x%start x%%x:;`, `%start x %% x:;`, `%%'a':;`, `%%x y:;`, `/*/%%x:;`, `/*<0>*/%%x:;`, `<13>%%x:;`, `%%x:a,b;`, `%%x:'ab';`, `%%x:'';`, `%%9x:;`, `%left A%%x:;`, `%% x:{};`, `%token a/*`, `%% x : 'a<255>`, `%%x:'\n';`
 pub strays : map (taken initial) (
     ([]) ∷
     (37 ∷ 37 ∷ 120 ∷ 58 ∷ 59 ∷ []) ∷

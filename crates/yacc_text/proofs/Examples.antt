@@ -43,7 +43,7 @@ pub texts_read : map readable (
 unfolding is_white_byte is_letter_byte is_digit_byte kind_of goes_on_byte no_start one_start tokens_in slash_next closes literal_byte stops rest run_of past_run strip literal_if next_literal word_if start_or token_or mark_or longer in_comment comment_or next_of next before after lex_steps lex left_side marked declared begun step run whole file_of laid parsed parse
 texts_read = refl
 
--- ``, `%%x:`, `%%`, `x:;`, `%%x:;%%`, `%%x:;;`, `%%x:|`, `%tokenA%%x:;`, `%token%%x:;`, `%start x%start x%%x:;`, `%startx%%x:;`, `%start%%x:;`, `%%'a':;`, `%%x y:;`, `/*/%%x:;`, `/*<0>*/%%x:;`, `<13>%%x:;`, `<11>%%x:;`, `%%x:a,b;`, `%%x:'ab';`, `%%x:'';`, `%%x:''';`, `%%x:'\';`, `%%x:'<10>';`, `%%x:'<0>';`, `%%9x:;`, `%left A%%x:;`, `%% x:{};`
+-- ``, `%%x:`, `%%`, `x:;`, `%%x:;%%`, `%%x:;;`, `%%x:|`, `%token_a%%x:;`, `%token%%x:;`, `%start x%start x%%x:;`, `%startx%%x:;`, `%start%%x:;`, `%%'a':;`, `%%x y:;`, `/*/%%x:;`, `/*<0>*/%%x:;`, `<13>%%x:;`, `<11>%%x:;`, `%%x:a,b;`, `%%x:'ab';`, `%%x:'';`, `%%x:''';`, `%%x:'\';`, `%%x:'<10>';`, `%%x:'<0>';`, `%%9x:;`, `%left A%%x:;`, `%% x:{};`
 pub texts_refused : map readable (
     ([]) ∷
     (37 ∷ 37 ∷ 120 ∷ 58 ∷ []) ∷

@@ -10,6 +10,6 @@ pub enum Writing {
 }
 
 impl Writing {
-    // No text that is written has more bytes (`text-size`, proofs/Layouts).
+    // No text that is written has more bytes (`text_size`, proofs/Layouts).
     pub const MOST: usize = 9468;
 }

@@ -8,12 +8,12 @@ use Rattle.yacc_text.specs.Places.{placed_from}
 use Rattle.yacc_text.specs.Parse.{parse}
 use Rattle.yacc_tokens.specs.Accepted.{mode_of}
 use Rattle.yacc_read.specs.Outcome.{nowhere, undefined_use, source_in}
-use Rattle.yacc_said.specs.Said.{ofSaid}
+use Rattle.yacc_said.specs.Said.{of_said}
 use Rattle.yacc_uses.specs.Uses.{verdict_of}
 use Rattle.yacc_misnamed.proofs.uses_nowhere.Given as goal
 
 abbrev pub invariant-loop-kind : goal.invariant-loop-kind
-invariant-loop-kind live = (live.at ≤ length live.text) × (live.mode < 12) × ((l : Layout) → parse live.text ≡ some l → ofSaid false (verdict_of (nowhere (source_in l.pieces)) live.verdict) (mode_of live.mode) (placed_from live.text live.at) ≡ undefined_use (source_in l.pieces))
+invariant-loop-kind live = (live.at ≤ length live.text) × (live.mode < 12) × ((l : Layout) → parse live.text ≡ some l → of_said false (verdict_of (nowhere (source_in l.pieces)) live.verdict) (mode_of live.mode) (placed_from live.text live.at) ≡ undefined_use (source_in l.pieces))
 
 abbrev pub decreases-loop-kind : goal.decreases-loop-kind
 decreases-loop-kind l = length l.text - l.at

@@ -8,12 +8,12 @@ use Rattle.yacc_text.specs.Parse.{parse}
 use Rattle.yacc_tokens.specs.Accepted.{mode_of}
 use Rattle.yacc_read.specs.Meaning.{start_of}
 use Rattle.yacc_read.specs.Outcome.{source_in}
-use Rattle.yacc_said.specs.Said.{ofSaid}
+use Rattle.yacc_said.specs.Said.{of_said}
 use Rattle.yacc_places.proofs.Laws.{start_in}
 use Rattle.yacc_places.proofs.start_of.Given as goal
 
 abbrev pub invariant-loop-kind : goal.invariant-loop-kind
-invariant-loop-kind live = (live.at ≤ length live.text) × (live.mode < 12) × ((l : Layout) → parse live.text ≡ some l → (z : ℕ) → ofSaid z (start_in (source_in l.pieces).nonterminals) (mode_of live.mode) (placed_from live.text live.at) ≡ start_of (source_in l.pieces).nonterminals (source_in l.pieces).starts)
+invariant-loop-kind live = (live.at ≤ length live.text) × (live.mode < 12) × ((l : Layout) → parse live.text ≡ some l → (z : ℕ) → of_said z (start_in (source_in l.pieces).nonterminals) (mode_of live.mode) (placed_from live.text live.at) ≡ start_of (source_in l.pieces).nonterminals (source_in l.pieces).starts)
 
 abbrev pub decreases-loop-kind : goal.decreases-loop-kind
 decreases-loop-kind l = length l.text - l.at
