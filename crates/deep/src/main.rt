@@ -4,9 +4,10 @@
 // Productions: 0, of nonterminal 0, is t0 N31; k from 1 to 31, of nonterminal k, is the nonterminal before; 32, of nonterminal 0, is t1 t0; 33 to 35, of nonterminal 0,
 // are N31 16 times. Every state has the item of 0 behind t0, those of 1 to 31 at the beginning, and those of 33 to 35 up to index 14, which are more than the small
 // arrays of a trace hold. t0 leads from each state to the next, t1 from all to the last.
+#![tactic(auto)]
+
 ghost use Rattle.std.specs.Prelude.{◌≡◌, ◌+◌, ◌*◌, ◌≤◌, ◌<◌, length};
 
-use libc::STDOUT_FILENO;
 use lr1::{backtrace_reduce, backtrace_shift};
 use repr::ProductionIndex;
 use state_graph::StateIndex;
@@ -103,7 +104,7 @@ fn put_states(table: &mut [u16])
     put(table, 452, Row(0, 1, 1, 127));
 }
 
-fn say(answer: Backtrace) {
+fn say<R: Print>(rt: &R, answer: Backtrace) {
     let mut first: u64 = 0;
     let mut second: u64 = 0;
     match answer {
@@ -115,13 +116,10 @@ fn say(answer: Backtrace) {
             second = place as u64;
         }
     }
-    io::print_decimal(STDOUT_FILENO, first);
-    io::write_all(STDOUT_FILENO, b" ");
-    io::print_decimal(STDOUT_FILENO, second);
-    io::write_all(STDOUT_FILENO, b"\n");
+    let _ = println!(rt; "{first} {second}");
 }
 
-fn main() {
+fn main(rt: HostRuntime) {
     let mut table = [0u16; 1812];
     let mut graph = [0u16; TraceGraph::WORDS];
     let mut scratch = [0u16; TraceGraph::SCRATCH];
@@ -129,20 +127,26 @@ fn main() {
     put_symbols(&mut table);
     put_items(&mut table);
     put_states(&mut table);
-    say(backtrace_shift(
-        &table,
-        StateIndex(127),
-        ProductionIndex(32),
-        1,
-        &mut graph,
-        &mut scratch,
-    ));
-    say(backtrace_reduce(
-        &table,
-        StateIndex(127),
-        ProductionIndex(0),
-        0,
-        &mut graph,
-        &mut scratch,
-    ));
+    say(
+        &rt,
+        backtrace_shift(
+            &table,
+            StateIndex(127),
+            ProductionIndex(32),
+            1,
+            &mut graph,
+            &mut scratch,
+        ),
+    );
+    say(
+        &rt,
+        backtrace_reduce(
+            &table,
+            StateIndex(127),
+            ProductionIndex(0),
+            0,
+            &mut graph,
+            &mut scratch,
+        ),
+    );
 }

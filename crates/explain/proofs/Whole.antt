@@ -1,11 +1,11 @@
 -- Every example that `classify` shows is whole (`Shown` of specs/Printed): it has at most 33 labels, of at most 16 symbols each. Assumes nothing.
-use Prim.Native.Nat.{ℕ, zero, suc, ◌+◌, ◌*◌, ◌≤◌}
+use Prim.Native.Nat.{ℕ, zero, suc, ◌+◌, ◌≤◌}
 use native.Mathlib.Omega.{arith}
 use mathlib.Core.Path.{◌≡◌, refl}
-use mathlib.Core.Bool.{Bool, true, false, ◌&&◌}
+use mathlib.Core.Bool.{Bool, ◌&&◌}
 use mathlib.Core.List.{List, [], ◌∷◌, ◌++◌, map}
 use mathlib.Core.Option.{Option, none, some}
-use lib.ListN.{length, get_or, drop, take, length-append}
+use lib.ListN.{length, drop, take, length-append}
 use lib.Dec.{eqb, ltb, leb}
 use Rattle.repr.specs.Sizes.{edge_limit, classify_scratch, trial_limit, reduction_limit, example_room, example_limit}
 use Rattle.slices.specs.Lent.{in_front}

@@ -1,7 +1,7 @@
 -- Decimal numerals as bytes. Assumes nothing: these are definitions.
 use Rattle.std.specs.Prelude.{ℕ, zero, suc, ◌+◌, ◌/◌, ◌%◌, true, false, List, [], ◌∷◌, ◌++◌, ltb}
 
--- decimal, without leading zeros; f bounds the digits, and 20 are enough for 64 bits (`numeral_digits` of crates/lines, proofs/Numerals)
+-- decimal, without leading zeros; f bounds the digits, and 20 are enough for 64 bits (`put_number` of crates/lines)
 unfoldable pub numeral_by : ℕ → ℕ → List ℕ
 numeral_by zero n = []
 numeral_by (suc f) n = elim (ltb n 10) [ true ↦ (48 + n) ∷ [] | false ↦ numeral_by f (n / 10) ++ ((48 + n % 10) ∷ []) ]

@@ -3,7 +3,8 @@ use crate::say::{say_answer, say_digest, say_next, say_words};
 use crate::words::{at, front, least, number};
 
 // Prints the numbers.
-fn build_lent(
+fn build_lent<R: Print>(
+    rt: &R,
     table: &[u16],
     more: &[u16],
     scratch: &mut [u16],
@@ -26,19 +27,19 @@ fn build_lent(
         &mut count,
         &mut place,
     );
-    say_answer(answer, place);
-    say_next(records as u64);
-    say_next(count as u64);
+    say_answer(rt, answer, place);
+    say_next(rt, records as u64);
+    say_next(rt, count as u64);
 }
 
-pub fn ask_build(table: &[u16], more: &[u16]) {
+pub fn ask_build<R: Print>(rt: &R, table: &[u16], more: &[u16]) {
     let mut scratch = [7u16; 64008];
     let mut out = [7u16; 32776];
     let mut conflicts = [7u16; 10008];
-    build_lent(table, more, &mut scratch, &mut out, &mut conflicts);
-    say_digest(&scratch);
-    say_digest(&out);
-    say_digest(&conflicts);
-    say_words(front(&out, 24));
-    say_words(front(&conflicts, 20));
+    build_lent(rt, table, more, &mut scratch, &mut out, &mut conflicts);
+    say_digest(rt, &scratch);
+    say_digest(rt, &out);
+    say_digest(rt, &conflicts);
+    say_words(rt, front(&out, 24));
+    say_words(rt, front(&conflicts, 20));
 }

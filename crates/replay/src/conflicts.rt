@@ -33,7 +33,8 @@ fn classify(
 }
 
 // Prints the numbers and answers the class, 7 where the call was refused.
-fn classify_lent(
+fn classify_lent<R: Print>(
+    rt: &R,
     table: &[u16],
     more: &[u16],
     scratch: &mut [u16],
@@ -60,42 +61,42 @@ fn classify_lent(
         &mut reduce_trials,
         &mut place,
     );
-    say_answer(answer, place);
-    say_next(class as u64);
-    say_halves(values);
-    say_next(action_trials as u64);
-    say_next(reduce_trials as u64);
+    say_answer(rt, answer, place);
+    say_next(rt, class as u64);
+    say_halves(rt, values);
+    say_next(rt, action_trials as u64);
+    say_next(rt, reduce_trials as u64);
     class
 }
 
 // An example's words, by its own counts.
-fn say_example(buffer: &[u16]) {
+fn say_example<R: Print>(rt: &R, buffer: &[u16]) {
     let symbols = number(buffer, 0);
     let reductions = number(buffer, 2);
-    say_words(front(buffer, 3 + 2 * symbols + 3 * reductions));
+    say_words(rt, front(buffer, 3 + 2 * symbols + 3 * reductions));
 }
 
 // The examples that a class has: none if it is naive or the call was refused, the action's of an ambiguous reduction, else both.
-fn say_examples(class: u16, action: &[u16], reduce: &[u16]) {
+fn say_examples<R: Print>(rt: &R, class: u16, action: &[u16], reduce: &[u16]) {
     if class != 0 {
         if class != 7 {
-            say_example(action);
+            say_example(rt, action);
             if class != 5 {
-                say_example(reduce);
+                say_example(rt, reduce);
             }
         }
     }
 }
 
-pub fn ask_classify(table: &[u16], more: &[u16]) {
+pub fn ask_classify<R: Print>(rt: &R, table: &[u16], more: &[u16]) {
     let mut scratch = [7u16; 32008];
     let mut action = [7u16; 1160];
     let mut reduce = [7u16; 1160];
-    let class = classify_lent(table, more, &mut scratch, &mut action, &mut reduce);
-    say_digest(&scratch);
-    say_digest(&action);
-    say_digest(&reduce);
-    say_examples(class, &action, &reduce);
+    let class = classify_lent(rt, table, more, &mut scratch, &mut action, &mut reduce);
+    say_digest(rt, &scratch);
+    say_digest(rt, &action);
+    say_digest(rt, &reduce);
+    say_examples(rt, class, &action, &reduce);
 }
 
 fn choose(
@@ -121,7 +122,13 @@ fn choose(
 }
 
 // How many words of entries there are.
-fn choose_lent(table: &[u16], more: &[u16], scratch: &mut [u16], entries: &mut [u16]) -> usize {
+fn choose_lent<R: Print>(
+    rt: &R,
+    table: &[u16],
+    more: &[u16],
+    scratch: &mut [u16],
+    entries: &mut [u16],
+) -> usize {
     let mut place: u16 = 7;
     let mut count: usize = 77;
     let s = least(number(more, 8), scratch.len());
@@ -134,27 +141,27 @@ fn choose_lent(table: &[u16], more: &[u16], scratch: &mut [u16], entries: &mut [
         &mut count,
         &mut place,
     );
-    say_answer(answer, place);
-    say_next(count as u64);
+    say_answer(rt, answer, place);
+    say_next(rt, count as u64);
     if answer == 0 { least(count, 64) * 6 } else { 0 }
 }
 
-pub fn ask_choose(table: &[u16], more: &[u16]) {
+pub fn ask_choose<R: Print>(rt: &R, table: &[u16], more: &[u16]) {
     let mut scratch = [7u16; 32008];
     let mut entries = [7u16; 390];
-    let n = choose_lent(table, more, &mut scratch, &mut entries);
-    say_digest(&scratch);
-    say_digest(&entries);
-    say_words(front(&entries, n));
+    let n = choose_lent(rt, table, more, &mut scratch, &mut entries);
+    say_digest(rt, &scratch);
+    say_digest(rt, &entries);
+    say_words(rt, front(&entries, n));
 }
 
-pub fn ask_observed(more: &[u16]) {
+pub fn ask_observed<R: Print>(rt: &R, more: &[u16]) {
     let n = number(more, 0);
     let action = front(rest(more, 1), n);
     let reduce = rest(more, 1 + n);
     let mut words: usize = 7;
     let which = lihvemur::conflicts::lihvemur_observed(action, reduce, &mut words);
-    io::print_decimal(libc::STDOUT_FILENO, which as u64);
-    say_next(words as u64);
-    say_words(report::observed(action, reduce));
+    let _ = print!(rt; "{which}");
+    say_next(rt, words as u64);
+    say_words(rt, report::observed(action, reduce));
 }

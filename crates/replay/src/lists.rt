@@ -16,12 +16,13 @@ fn advance(
     let i = at(more, 1);
     let filtered = at(more, 2) != 0;
     let set = set_at(more, 3);
-    lihvemur::examples::lihvemur_advance(
+    lihvemur::listings::lihvemur_advance(
         table, p, i, filtered, set, graph, scratch, buffer, count, is_open, place,
     )
 }
 
-fn advance_lent(
+fn advance_lent<R: Print>(
+    rt: &R,
     table: &[u16],
     more: &[u16],
     graph: &[u16],
@@ -43,9 +44,9 @@ fn advance_lent(
         &mut is_open,
         &mut place,
     );
-    say_answer(answer, place);
-    say_next(count as u64);
-    say_bool(is_open);
+    say_answer(rt, answer, place);
+    say_next(rt, count as u64);
+    say_bool(rt, is_open);
 }
 
 // The words that the request puts into graph and scratch.
@@ -56,15 +57,15 @@ fn put_lent(more: &[u16], graph: &mut [u16], scratch: &mut [u16]) {
     put(rest(more, 15 + n), scratch);
 }
 
-pub fn ask_advance(table: &[u16], more: &[u16]) {
+pub fn ask_advance<R: Print>(rt: &R, table: &[u16], more: &[u16]) {
     let mut graph = [7u16; 8200];
     let mut scratch = [7u16; 32008];
     let mut buffer = [0u16; 2000];
     put_lent(more, &mut graph, &mut scratch);
-    advance_lent(table, more, &graph, &mut scratch, &mut buffer);
-    say_digest(&scratch);
-    say_digest(&buffer);
-    say_words(front(&buffer, 16));
+    advance_lent(rt, table, more, &graph, &mut scratch, &mut buffer);
+    say_digest(rt, &scratch);
+    say_digest(rt, &buffer);
+    say_words(rt, front(&buffer, 16));
 }
 
 // Numbers of a list of calls from words.
@@ -91,12 +92,13 @@ fn examples(
     let i = at(more, 1);
     let filtered = at(more, 2) != 0;
     let set = set_at(more, 3);
-    lihvemur::examples::lihvemur_examples(
+    lihvemur::listings::lihvemur_examples(
         table, p, i, filtered, set, calls, graph, scratch, output, made, place,
     )
 }
 
-fn examples_lent(
+fn examples_lent<R: Print>(
+    rt: &R,
     table: &[u16],
     more: &[u16],
     calls: &[u32],
@@ -118,44 +120,52 @@ fn examples_lent(
         &mut made,
         &mut place,
     );
-    say_answer(answer, place);
-    say_next(made as u64);
+    say_answer(rt, answer, place);
+    say_next(rt, made as u64);
 }
 
 // The numbers of the calls are the first n words.
-fn examples_by(table: &[u16], more: &[u16], n: usize, graph: &[u16]) {
+fn examples_by<R: Print>(rt: &R, table: &[u16], more: &[u16], n: usize, graph: &[u16]) {
     let mut calls = [0u32; 96];
     let mut scratch = [7u16; 32008];
     let mut output = [0u16; 32008];
     let m = least(n, 96);
     put_numbers(front(rest(more, 11), n), &mut calls);
-    examples_lent(table, more, &calls[..m], graph, &mut scratch, &mut output);
-    say_digest(&scratch);
-    say_digest(&output);
-    say_words(front(&output, 24));
+    examples_lent(
+        rt,
+        table,
+        more,
+        &calls[..m],
+        graph,
+        &mut scratch,
+        &mut output,
+    );
+    say_digest(rt, &scratch);
+    say_digest(rt, &output);
+    say_words(rt, front(&output, 24));
 }
 
-pub fn ask_examples(table: &[u16], more: &[u16]) {
+pub fn ask_examples<R: Print>(rt: &R, table: &[u16], more: &[u16]) {
     let mut graph = [7u16; 8200];
     let n = number(more, 10);
     put(rest(more, 11 + n), &mut graph);
-    examples_by(table, more, n, &graph);
+    examples_by(rt, table, more, n, &graph);
 }
 
 fn open(table: &[u16], more: &[u16], graph: &[u16], place: &mut u16) -> u16 {
     let p = at(more, 0);
     let i = at(more, 1);
     if at(more, 2) == 0 {
-        return lihvemur::examples::lihvemur_lr0_examples(table, p, i, graph, place);
+        return lihvemur::listings::lihvemur_lr0_examples(table, p, i, graph, place);
     }
     let set = set_at(more, 3);
-    lihvemur::examples::lihvemur_lr1_examples(table, p, i, set, graph, place)
+    lihvemur::listings::lihvemur_lr1_examples(table, p, i, set, graph, place)
 }
 
-pub fn ask_open(table: &[u16], more: &[u16]) {
+pub fn ask_open<R: Print>(rt: &R, table: &[u16], more: &[u16]) {
     let mut place: u16 = 7;
     let mut graph = [7u16; 8200];
     put(rest(more, 8), &mut graph);
     let answer = open(table, more, front(&graph, number(more, 7)), &mut place);
-    say_answer(answer, place);
+    say_answer(rt, answer, place);
 }

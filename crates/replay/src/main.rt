@@ -25,6 +25,8 @@
 // 21: numbers of records and of places, the start, digests of table and places, the first 24 words of the table and 12 of the places. 22: number of bytes, their digest, the first 24, a byte as a word.
 // Lent words are sevens before (buffers and outputs of listings zeros), but for what the request puts there. An unknown op gets `?`; a request that is cut short or too long for the buffers ends the run.
 // The table's buffer holds one record more than document 01 accepts, so that refusal 1 for 32,772 words can be asked.
+#![tactic(auto)]
+
 pub mod builds;
 pub mod conflicts;
 pub mod lists;
@@ -40,23 +42,23 @@ ghost use Rattle.std.specs.Prelude.{◌*◌, ◌<◌, ◌≤◌, length};
 
 use builds::ask_build;
 use conflicts::{ask_choose, ask_classify, ask_observed};
-use libc::STDOUT_FILENO;
 use lists::{ask_advance, ask_examples, ask_open};
 use little::decode;
 use repr::word;
 use rewrites::ask_rewrite;
 use sets::{ask_item, ask_sets};
+use std::io;
+use std::io::Read;
 use traces::ask_trace;
 use walks::{ask_joined, ask_walk};
 use yaccs::{ask_read_yacc, ask_write_yacc};
 
 // Reads n words to the front of a list, by way of bytes; false if the input is shorter.
-fn read_by(n: usize, bytes: &mut [u8], out: &mut [u16]) -> bool
+fn read_by<R: io::Input>(rt: &R, n: usize, bytes: &mut [u8], out: &mut [u16]) -> bool
     requires { (n * 2 ≤ length bytes.old) × (n ≤ length out.old) × (n < 1000000) }
 {
     let m = n * 2;
-    let got = io::read_full(0, &mut bytes[..m]);
-    if got == m {
+    if rt.reader().read_exact(&mut bytes[..m]).is_ok() {
         decode(&bytes[..m], out);
         true
     } else {
@@ -64,110 +66,110 @@ fn read_by(n: usize, bytes: &mut [u8], out: &mut [u16]) -> bool
     }
 }
 
-fn read_words(n: usize, out: &mut [u16]) -> bool
+fn read_words<R: io::Input>(rt: &R, n: usize, out: &mut [u16]) -> bool
     requires { (n ≤ 32772) × (n ≤ length out.old) }
 {
     let mut bytes = [0u8; 65544];
-    read_by(n, &mut bytes, out)
+    read_by(rt, n, &mut bytes, out)
 }
 
-fn ask_list(op: u16, table: &[u16], more: &[u16]) {
+fn ask_list<R: Print>(rt: &R, op: u16, table: &[u16], more: &[u16]) {
     if op == 8 {
-        ask_advance(table, more);
+        ask_advance(rt, table, more);
     } else {
-        ask_examples(table, more);
+        ask_examples(rt, table, more);
     }
 }
 
-fn ask_conflict(op: u16, table: &[u16], more: &[u16]) {
+fn ask_conflict<R: Print>(rt: &R, op: u16, table: &[u16], more: &[u16]) {
     if op == 10 {
-        ask_classify(table, more);
+        ask_classify(rt, table, more);
     } else if op == 11 {
-        ask_choose(table, more);
+        ask_choose(rt, table, more);
     } else {
-        ask_observed(more);
+        ask_observed(rt, more);
     }
 }
 
-fn ask_other(op: u16, table: &[u16], more: &[u16]) {
+fn ask_other<R: Print>(rt: &R, op: u16, table: &[u16], more: &[u16]) {
     if op == 13 {
-        ask_open(table, more);
+        ask_open(rt, table, more);
     } else if op == 14 {
-        ask_sets(more);
+        ask_sets(rt, more);
     } else if op == 15 {
-        ask_item(table, more);
+        ask_item(rt, table, more);
     } else if op == 16 {
-        ask_joined(op, table, more);
+        ask_joined(rt, op, table, more);
     } else if op == 17 {
-        ask_joined(op, table, more);
+        ask_joined(rt, op, table, more);
     } else if op == 18 {
-        ask_rewrite(op, table, more);
+        ask_rewrite(rt, op, table, more);
     } else if op == 19 {
-        ask_rewrite(op, table, more);
+        ask_rewrite(rt, op, table, more);
     } else if op == 20 {
-        ask_build(table, more);
+        ask_build(rt, table, more);
     } else if op == 21 {
-        ask_read_yacc(table, more);
+        ask_read_yacc(rt, table, more);
     } else if op == 22 {
-        ask_write_yacc(table, more);
+        ask_write_yacc(rt, table, more);
     } else {
-        io::write_all(STDOUT_FILENO, b"?");
+        let _ = print!(rt; "?");
     }
 }
 
-fn ask(op: u16, table: &[u16], more: &[u16]) {
+fn ask<R: Print>(rt: &R, op: u16, table: &[u16], more: &[u16]) {
     if op < 5 {
-        ask_walk(op, table, more);
+        ask_walk(rt, op, table, more);
     } else if op < 8 {
-        ask_trace(op, table, more);
+        ask_trace(rt, op, table, more);
     } else if op < 10 {
-        ask_list(op, table, more);
+        ask_list(rt, op, table, more);
     } else if op < 13 {
-        ask_conflict(op, table, more);
+        ask_conflict(rt, op, table, more);
     } else {
-        ask_other(op, table, more);
+        ask_other(rt, op, table, more);
     }
-    io::write_all(STDOUT_FILENO, b"\n");
+    let _ = println!(rt; "");
 }
 
 // The further words, and the answer.
-fn replay_rest(op: u16, table: &[u16]) -> bool {
+fn replay_rest<R: io::Input + Print>(rt: &R, op: u16, table: &[u16]) -> bool {
     let mut more = [0u16; 8448];
-    if !read_words(1, &mut more) {
+    if !read_words(rt, 1, &mut more) {
         return false;
     }
     let n = word(&more, 0);
     if n > 8448 {
         return false;
     }
-    if !read_words(n, &mut more) {
+    if !read_words(rt, n, &mut more) {
         return false;
     }
-    ask(op, table, &more[..n]);
+    ask(rt, op, table, &more[..n]);
     true
 }
 
 // One request; false at the end of the input. Document 01 says nothing of this form; it is the sample's own.
-fn replay() -> bool {
+fn replay<R: io::Input + Print>(rt: &R) -> bool {
     let mut head = [0u16; 3];
     let mut table = [0u16; 32772];
-    if !read_words(3, &mut head) {
+    if !read_words(rt, 3, &mut head) {
         return false;
     }
     let n = word(&head, 1) + word(&head, 2) * 65536;
     if n > 32772 {
         return false;
     }
-    if !read_words(n, &mut table) {
+    if !read_words(rt, n, &mut table) {
         return false;
     }
-    replay_rest(head[0], &table[..n])
+    replay_rest(rt, head[0], &table[..n])
 }
 
-fn main() {
+fn main(rt: HostRuntime) {
     let mut left: usize = 1000000;
     while left > 0 {
-        if replay() {
+        if replay(&rt) {
             left -= 1;
         } else {
             left = 0;

@@ -2,35 +2,35 @@
 use crate::say::{say_answer, say_digest, say_next, say_words};
 use crate::words::{front, least, number, put};
 
-fn ask_respell(table: &[u16], more: &[u16], out: &mut [u16]) {
+fn ask_respell<R: Print>(rt: &R, table: &[u16], more: &[u16], out: &mut [u16]) {
     let mut place: u16 = 7;
     let mut records: u16 = 7;
     let n = least(number(more, 0), out.len());
     let answer = lihvemur::lihvemur_respell(table, &mut out[..n], &mut records, &mut place);
-    say_answer(answer, place);
-    say_next(records as u64);
-    say_digest(out);
-    say_words(front(out, 24));
+    say_answer(rt, answer, place);
+    say_next(rt, records as u64);
+    say_digest(rt, out);
+    say_words(rt, front(out, 24));
 }
 
 // The table is a part of a longer list.
-fn ask_compact(table: &[u16], lent: &mut [u16]) {
+fn ask_compact<R: Print>(rt: &R, table: &[u16], lent: &mut [u16]) {
     let mut place: u16 = 7;
     let mut records: u16 = 7;
     put(table, lent);
     let n = least(table.len(), lent.len());
     let answer = lihvemur::lihvemur_compact(&mut lent[..n], &mut records, &mut place);
-    say_answer(answer, place);
-    say_next(records as u64);
-    say_digest(lent);
-    say_words(front(lent, 24));
+    say_answer(rt, answer, place);
+    say_next(rt, records as u64);
+    say_digest(rt, lent);
+    say_words(rt, front(lent, 24));
 }
 
-pub fn ask_rewrite(op: u16, table: &[u16], more: &[u16]) {
+pub fn ask_rewrite<R: Print>(rt: &R, op: u16, table: &[u16], more: &[u16]) {
     let mut out = [7u16; 32776];
     if op == 18 {
-        ask_respell(table, more, &mut out);
+        ask_respell(rt, table, more, &mut out);
     } else {
-        ask_compact(table, &mut out);
+        ask_compact(rt, table, &mut out);
     }
 }

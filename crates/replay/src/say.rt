@@ -1,49 +1,47 @@
 // Numbers of an answer, a line each request.
 ghost use Rattle.std.specs.Prelude.{◌<◌, ◌≤◌};
 
-use libc::STDOUT_FILENO;
 use repr::word;
 
-pub fn say_next(n: u64) {
-    io::write_all(STDOUT_FILENO, b" ");
-    io::print_decimal(STDOUT_FILENO, n);
+pub fn say_next<R: Print>(rt: &R, n: u64) {
+    let _ = print!(rt; " {n}");
 }
 
-pub fn say_bool(yes: bool) {
-    say_next(if yes { 1 } else { 0 });
+pub fn say_bool<R: Print>(rt: &R, yes: bool) {
+    say_next(rt, if yes { 1 } else { 0 });
 }
 
 // How every answer begins.
-pub fn say_answer(answer: u16, place: u16) {
-    io::print_decimal(STDOUT_FILENO, answer as u64);
-    say_next(place as u64);
+pub fn say_answer<R: Print>(rt: &R, answer: u16, place: u16) {
+    let _ = print!(rt; "{answer}");
+    say_next(rt, place as u64);
 }
 
 // A word of 64 bits in halves, the low one first.
-pub fn say_halves(word: u64) {
-    say_next(word % 4294967296);
-    say_next(word / 4294967296);
+pub fn say_halves<R: Print>(rt: &R, word: u64) {
+    say_next(rt, word % 4294967296);
+    say_next(rt, word / 4294967296);
 }
 
 // The places of a word's ones, counted from a number.
-pub fn say_ones(bits: u64, from: u64)
+pub fn say_ones<R: Print>(rt: &R, bits: u64, from: u64)
     requires { from ≤ 64 }
 {
     let mut rest = bits;
     let mut i: u64 = 0;
     while i < 64 {
         if rest % 2 == 1 {
-            say_next(from + i);
+            say_next(rt, from + i);
         }
         rest /= 2;
         i += 1;
     }
 }
 
-pub fn say_words(words: &[u16]) {
+pub fn say_words<R: Print>(rt: &R, words: &[u16]) {
     let mut i: usize = 0;
     while i < words.len() {
-        say_next(word(words, i) as u64);
+        say_next(rt, word(words, i) as u64);
         i += 1;
     }
 }
@@ -66,6 +64,6 @@ fn digest(words: &[u16]) -> u64 {
     d
 }
 
-pub fn say_digest(words: &[u16]) {
-    say_next(digest(words));
+pub fn say_digest<R: Print>(rt: &R, words: &[u16]) {
+    say_next(rt, digest(words));
 }

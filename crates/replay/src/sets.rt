@@ -11,48 +11,48 @@ use lr1_core::{Item, prefix, suffix};
 use repr::{ProductionIndex, symbols};
 use table::{Checked, read_counts, read_productions};
 
-fn say_set(set: TokenSet) {
-    say_halves(set.0);
+fn say_set<R: Print>(rt: &R, set: TokenSet) {
+    say_halves(rt, set.0);
 }
 
-fn say_changed(c: Changed) {
+fn say_changed<R: Print>(rt: &R, c: Changed) {
     let set = c.set;
-    say_set(set);
-    say_bool(c.changed);
+    say_set(rt, set);
+    say_bool(rt, c.changed);
 }
 
 // What is asked of one set and a token.
-fn say_one(a: TokenSet, terminals: u16, token: u16) {
-    say_next(a.len() as u64);
-    say_bool(a.contains(token));
-    say_bool(a.contains_eof(terminals));
-    say_changed(a.insert(token));
-    say_changed(a.insert_eof(terminals));
-    say_changed(a.take_eof(terminals));
+fn say_one<R: Print>(rt: &R, a: TokenSet, terminals: u16, token: u16) {
+    say_next(rt, a.len() as u64);
+    say_bool(rt, a.contains(token));
+    say_bool(rt, a.contains_eof(terminals));
+    say_changed(rt, a.insert(token));
+    say_changed(rt, a.insert_eof(terminals));
+    say_changed(rt, a.take_eof(terminals));
 }
 
-fn say_two(a: TokenSet, b: TokenSet) {
-    say_changed(a.union_with(b));
-    say_set(a.intersection(b));
-    say_bool(a.is_disjoint(b));
-    say_bool(a.is_intersecting(b));
+fn say_two<R: Print>(rt: &R, a: TokenSet, b: TokenSet) {
+    say_changed(rt, a.union_with(b));
+    say_set(rt, a.intersection(b));
+    say_bool(rt, a.is_disjoint(b));
+    say_bool(rt, a.is_intersecting(b));
 }
 
-fn say_made(terminals: u16, token: u16) {
-    say_set(TokenSet::new());
-    say_set(TokenSet::from(token));
-    say_set(TokenSet::all(terminals));
-    say_set(TokenSet::eof(terminals));
+fn say_made<R: Print>(rt: &R, terminals: u16, token: u16) {
+    say_set(rt, TokenSet::new());
+    say_set(rt, TokenSet::from(token));
+    say_set(rt, TokenSet::all(terminals));
+    say_set(rt, TokenSet::eof(terminals));
 }
 
 // The members, as the iterator hands them out.
-fn say_members(a: TokenSet) {
+fn say_members<R: Print>(rt: &R, a: TokenSet) {
     let mut iter = a.iter();
     let mut left: u16 = TokenSet::LIMIT;
     while left > 0 {
         match iter.next() {
             NextToken::Token(token, next) => {
-                say_next(token as u64);
+                say_next(rt, token as u64);
                 iter = next;
                 left -= 1;
             }
@@ -63,16 +63,16 @@ fn say_members(a: TokenSet) {
     }
 }
 
-pub fn ask_sets(more: &[u16]) {
+pub fn ask_sets<R: Print>(rt: &R, more: &[u16]) {
     let terminals = at(more, 0);
     let token = at(more, 1);
     let a = TokenSet(set_at(more, 2));
     let b = TokenSet(set_at(more, 6));
-    say_answer(0, 0);
-    say_one(a, terminals, token);
-    say_two(a, b);
-    say_made(terminals, token);
-    say_members(a);
+    say_answer(rt, 0, 0);
+    say_one(rt, a, terminals, token);
+    say_two(rt, a, b);
+    say_made(rt, terminals, token);
+    say_members(rt, a);
 }
 
 // The nonterminal that an item can shift and one more, or 0.
@@ -89,24 +89,24 @@ fn shifted(item: Item, grammar: &[u16], productions: usize) -> u64
     0
 }
 
-fn say_item(item: Item, grammar: &[u16], productions: usize)
+fn say_item<R: Print>(rt: &R, item: Item, grammar: &[u16], productions: usize)
     requires packed { Packed grammar.now productions × (item.production < productions) }
     requires index_in_bounds { item.index ≤ length (listed (symbol_words grammar.now item.production)) }
 {
     let sets = item.symbol_sets(grammar, productions);
-    say_answer(0, 0);
-    say_next(sets.prefix as u64);
-    say_next(sets.cursor as u64);
-    say_next(sets.suffix as u64);
-    say_bool(item.can_shift(grammar, productions));
-    say_bool(item.can_reduce(grammar, productions));
-    say_next(shifted(item, grammar, productions));
-    say_words(prefix(grammar, productions, item));
-    say_words(symbols(grammar, item.production, productions));
-    say_words(suffix(grammar, productions, item));
+    say_answer(rt, 0, 0);
+    say_next(rt, sets.prefix as u64);
+    say_next(rt, sets.cursor as u64);
+    say_next(rt, sets.suffix as u64);
+    say_bool(rt, item.can_shift(grammar, productions));
+    say_bool(rt, item.can_reduce(grammar, productions));
+    say_next(rt, shifted(item, grammar, productions));
+    say_words(rt, prefix(grammar, productions, item));
+    say_words(rt, symbols(grammar, item.production, productions));
+    say_words(rt, suffix(grammar, productions, item));
 }
 
-fn ask_item_in(table: &[u16], production: usize, index: usize)
+fn ask_item_in<R: Print>(rt: &R, table: &[u16], production: usize, index: usize)
     requires { check_of table.now ≡ Checked.Accepted }
 {
     let counts = read_counts(table);
@@ -119,16 +119,16 @@ fn ask_item_in(table: &[u16], production: usize, index: usize)
             index: index,
         };
         if index <= item.length(&grammar, productions) {
-            say_item(item, &grammar, productions);
+            say_item(rt, item, &grammar, productions);
             return;
         }
     }
-    say_answer(9, 0);
+    say_answer(rt, 9, 0);
 }
 
-pub fn ask_item(table: &[u16], more: &[u16]) {
+pub fn ask_item<R: Print>(rt: &R, table: &[u16], more: &[u16]) {
     match table_check::check(table) {
-        Checked::Refused(refusal, place) => say_answer(refusal, place),
-        Checked::Accepted => ask_item_in(table, number(more, 0), number(more, 1)),
+        Checked::Refused(refusal, place) => say_answer(rt, refusal, place),
+        Checked::Accepted => ask_item_in(rt, table, number(more, 0), number(more, 1)),
     }
 }

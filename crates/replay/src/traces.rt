@@ -3,16 +3,16 @@ use crate::say::{say_answer, say_digest, say_next, say_words};
 use crate::words::{at, front, least, number, put, rest};
 
 // The words of an accepted graph.
-fn say_graph(answer: u16, edges: u16, graph: &[u16]) {
+fn say_graph<R: Print>(rt: &R, answer: u16, edges: u16, graph: &[u16]) {
     if answer == 0 {
-        say_words(front(graph, edges as usize * 8 + 1));
+        say_words(rt, front(graph, edges as usize * 8 + 1));
     }
 }
 
-fn say_traced(answer: u16, place: u16, edges: u16, graph: &[u16]) {
-    say_answer(answer, place);
-    say_next(edges as u64);
-    say_digest(graph);
+fn say_traced<R: Print>(rt: &R, answer: u16, place: u16, edges: u16, graph: &[u16]) {
+    say_answer(rt, answer, place);
+    say_next(rt, edges as u64);
+    say_digest(rt, graph);
 }
 
 fn backtrace(
@@ -34,7 +34,14 @@ fn backtrace(
     }
 }
 
-fn ask_backtrace(op: u16, table: &[u16], more: &[u16], graph: &mut [u16], scratch: &mut [u16]) {
+fn ask_backtrace<R: Print>(
+    rt: &R,
+    op: u16,
+    table: &[u16],
+    more: &[u16],
+    graph: &mut [u16],
+    scratch: &mut [u16],
+) {
     let mut place: u16 = 7;
     let mut edges: u16 = 7;
     let g = least(number(more, 3), graph.len());
@@ -48,9 +55,9 @@ fn ask_backtrace(op: u16, table: &[u16], more: &[u16], graph: &mut [u16], scratc
         &mut edges,
         &mut place,
     );
-    say_traced(answer, place, edges, graph);
-    say_digest(scratch);
-    say_graph(answer, edges, graph);
+    say_traced(rt, answer, place, edges, graph);
+    say_digest(rt, scratch);
+    say_graph(rt, answer, edges, graph);
 }
 
 fn add_edge(
@@ -76,22 +83,22 @@ fn add_edge(
     )
 }
 
-fn ask_add_edge(table: &[u16], more: &[u16], graph: &mut [u16]) {
+fn ask_add_edge<R: Print>(rt: &R, table: &[u16], more: &[u16], graph: &mut [u16]) {
     let mut place: u16 = 7;
     let mut edges: u16 = 7;
     let g = least(number(more, 8), graph.len());
     put(rest(more, 9), graph);
     let answer = add_edge(table, more, &mut graph[..g], &mut edges, &mut place);
-    say_traced(answer, place, edges, graph);
-    say_graph(answer, edges, graph);
+    say_traced(rt, answer, place, edges, graph);
+    say_graph(rt, answer, edges, graph);
 }
 
-pub fn ask_trace(op: u16, table: &[u16], more: &[u16]) {
+pub fn ask_trace<R: Print>(rt: &R, op: u16, table: &[u16], more: &[u16]) {
     let mut graph = [7u16; 8200];
     let mut scratch = [7u16; 32008];
     if op == 7 {
-        ask_add_edge(table, more, &mut graph);
+        ask_add_edge(rt, table, more, &mut graph);
     } else {
-        ask_backtrace(op, table, more, &mut graph, &mut scratch);
+        ask_backtrace(rt, op, table, more, &mut graph, &mut scratch);
     }
 }

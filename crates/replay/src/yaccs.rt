@@ -33,7 +33,7 @@ fn put_text(words: &[u16], from: usize, times: usize, text: &mut [u8]) {
 }
 
 // Prints the numbers.
-fn read_lent(text: &[u8], more: &[u16], table: &mut [u16], places: &mut [u16]) {
+fn read_lent<R: Print>(rt: &R, text: &[u8], more: &[u16], table: &mut [u16], places: &mut [u16]) {
     let mut place: u16 = 7;
     let mut records: u16 = 7;
     let mut count: u16 = 7;
@@ -49,35 +49,35 @@ fn read_lent(text: &[u8], more: &[u16], table: &mut [u16], places: &mut [u16]) {
         &mut start,
         &mut place,
     );
-    say_answer(answer, place);
-    say_next(records as u64);
-    say_next(count as u64);
-    say_next(start as u64);
+    say_answer(rt, answer, place);
+    say_next(rt, records as u64);
+    say_next(rt, count as u64);
+    say_next(rt, start as u64);
 }
 
-fn ask_read(text: &[u8], more: &[u16]) {
+fn ask_read<R: Print>(rt: &R, text: &[u8], more: &[u16]) {
     let mut table = [7u16; 8848];
     let mut places = [7u16; 104];
-    read_lent(text, more, &mut table, &mut places);
-    say_digest(&table);
-    say_digest(&places);
-    say_words(front(&table, 24));
-    say_words(front(&places, 12));
+    read_lent(rt, text, more, &mut table, &mut places);
+    say_digest(rt, &table);
+    say_digest(rt, &places);
+    say_words(rt, front(&table, 24));
+    say_words(rt, front(&places, 12));
 }
 
 // The text stands at the front of a buffer.
-fn read_by(words: &[u16], more: &[u16], text: &mut [u8]) {
+fn read_by<R: Print>(rt: &R, words: &[u16], more: &[u16], text: &mut [u8]) {
     let from = number(more, 3);
     let times = number(more, 4);
     let n = least(number(more, 2) + times, text.len());
     put_text(words, from, times, &mut text[..n]);
-    ask_read(&text[..n], more);
+    ask_read(rt, &text[..n], more);
 }
 
 // The words stand in place of a table.
-pub fn ask_read_yacc(words: &[u16], more: &[u16]) {
+pub fn ask_read_yacc<R: Print>(rt: &R, words: &[u16], more: &[u16]) {
     let mut text = [0u8; 65544];
-    read_by(words, more, &mut text);
+    read_by(rt, words, more, &mut text);
 }
 
 fn wide(x: u8) -> u16 {
@@ -95,20 +95,20 @@ fn widen(bytes: &[u8], words: &mut [u16]) {
 }
 
 // Prints the numbers.
-fn write_lent(table: &[u16], more: &[u16], text: &mut [u8]) {
+fn write_lent<R: Print>(rt: &R, table: &[u16], more: &[u16], text: &mut [u8]) {
     let mut place: u16 = 7;
     let mut bytes: u16 = 7;
     let n = least(number(more, 0), text.len());
     let answer = lihvemur::lihvemur_write_yacc(table, &mut text[..n], &mut bytes, &mut place);
-    say_answer(answer, place);
-    say_next(bytes as u64);
+    say_answer(rt, answer, place);
+    say_next(rt, bytes as u64);
 }
 
-pub fn ask_write_yacc(table: &[u16], more: &[u16]) {
+pub fn ask_write_yacc<R: Print>(rt: &R, table: &[u16], more: &[u16]) {
     let mut text = [7u8; 9480];
     let mut words = [0u16; 9480];
-    write_lent(table, more, &mut text);
+    write_lent(rt, table, more, &mut text);
     widen(&text, &mut words);
-    say_digest(&words);
-    say_words(front(&words, 24));
+    say_digest(rt, &words);
+    say_words(rt, front(&words, 24));
 }
