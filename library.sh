@@ -26,7 +26,11 @@ fi
 kit=$(dirname "$(dirname "$(readlink -f "$(command -v rt)")")")
 words=()
 for crate in $below; do
-    words+=(--extern "$crate=$top/crates/$crate/out/rlib/$crate.rlib" -L "dependency=$top/crates/$crate/out/rlib")
+    words+=(--extern "$crate=$top/crates/$crate/out/rlib/$crate.rlib")
+done
+# those below them, which it does not name
+for rlib in "$top"/crates/*/out/rlib; do
+    words+=(-L "dependency=$rlib")
 done
 "$kit/bin/rattle" build --crate-name lihvemur_c src/lib.rt --extern std="$kit/rlibs/std.rlib" -L dependency="$kit/rlibs" "${words[@]}" \
     --antt-project "$kit/rattle/logic/antt-project.json" --logic-built "$kit/logic_built" --links lihvemur_c= --crate-type staticlib --toolchain "$kit/toolchain" -o "$to"
