@@ -3,3 +3,4 @@ pub mod Lists
 pub mod Meaning
 pub mod Listed
 pub mod Packed
+pub mod Answer

@@ -2,10 +2,16 @@
 
 #![tactic(auto)]
 
+mod productions;
+mod refusals;
+
 ghost use Rattle.std.specs.Prelude.{◌≡◌, Bool, true, false, List, map, ◌++◌, ℕ, ◌+◌, ◌*◌, ◌≤◌, ◌<◌, length, get_or};
 ghost use Rattle.std.proofs.Math.Seq.{slice};
 ghost use Rattle.repr.specs.Listed.{symbol_is_fit, list_is_fit};
 ghost use Rattle.repr.specs.Packed.{Packed, symbol_words};
+
+pub use productions::Grammar;
+pub use refusals::Refusal;
 
 // The number of a nonterminal.
 #[derive(Clone, Copy)]

@@ -11,11 +11,7 @@ pub fn copy_words(from: &[u16], to: &mut [u16], n: usize)
     requires { (n ≤ length from.now) × (n ≤ length to.old) }
     ensures { to.new ≡ take n from.now ++ drop n to.old }
 {
-    let mut i: usize = 0;
-    while i < n {
-        to[i] = from[i];
-        i += 1;
-    }
+    to[..n].copy_from_slice(&from[..n]);
 }
 
 // x goes in at a place among the first n words; what stands from there on moves up by one, over what stood at n.
@@ -23,14 +19,8 @@ pub fn insert_at(list: &mut [u16], at: usize, n: usize, x: u16)
     requires { (at ≤ n) × (n < length list.old) }
     ensures { list.new ≡ inserted_at at x (take n list.old) ++ drop (suc n) list.old }
 {
-    let mut carry = x;
-    let mut k = at;
-    while k <= n {
-        let y = list[k];
-        list[k] = carry;
-        carry = y;
-        k += 1;
-    }
+    list.copy_within(at..n, at + 1);
+    list[at] = x;
 }
 
 // The first n words zero.
@@ -38,9 +28,5 @@ pub fn zero(words: &mut [u16], n: usize)
     requires { n ≤ length words.old }
     ensures { words.new ≡ zeroed n words.old }
 {
-    let mut i: usize = 0;
-    while i < n {
-        words[i] = 0;
-        i += 1;
-    }
+    words[..n].fill(0);
 }

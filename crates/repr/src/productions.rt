@@ -1,0 +1,46 @@
+// The productions of a table in a fixed number of words (specs/Packed), as the code works on them.
+
+ghost use Rattle.std.specs.Prelude.{◌≡◌, ◌+◌, ◌≤◌, ◌<◌, length, get_or};
+ghost use Rattle.repr.specs.Sizes.{production_place};
+ghost use Rattle.repr.specs.Listed.{listed};
+ghost use Rattle.repr.specs.Packed.{Packed, symbol_words};
+
+use crate::{ProductionIndex, word};
+
+// The productions, packed: numbers are in range, and no production is too long.
+#[derive(Clone, Copy)]
+pub struct Grammar<'a> {
+    pub words: &'a [u16],
+    pub productions: usize,
+    pub ghost packed: { Packed words.now productions },
+}
+
+impl<'a> Grammar<'a> {
+    // A production's nonterminal.
+    pub fn owner(self, production: usize) -> usize
+        requires { production < self.productions }
+        ensures { result ≡ get_or self.entry.words.now (production_place production) 0 }
+    {
+        word(self.words, production * ProductionIndex::WORDS)
+    }
+
+    // How many symbols a production has.
+    pub fn length(self, production: usize) -> usize
+        requires { production < self.productions }
+        ensures is { result ≡ length (listed (symbol_words self.entry.words.now production)) }
+        ensures short { result ≤ 16 }
+    {
+        word(self.words, production * ProductionIndex::WORDS + 1)
+    }
+
+    // A production's symbols, as a part of the packed words.
+    pub fn symbols(self, production: usize) -> &'a [u16]
+        requires { production < self.productions }
+        ensures { result.now ≡ symbol_words self.entry.words.now production }
+    {
+        let from = production * ProductionIndex::WORDS + 4;
+        let past = from + 2 * word(self.words, production * ProductionIndex::WORDS + 1);
+        let words = self.words;
+        &words[from..past]
+    }
+}
