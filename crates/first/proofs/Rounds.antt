@@ -59,9 +59,6 @@ module _ (e : ℕ) (g map₀ : List ℕ) where
       rw (round_snoc e map₀ ps (production_in g p)) at (round_same_snoc e map₀ ps (production_in g p)) in
       (at ∙ sym next, rw (ec, em, at, q, both) (sym (not-both (same_words (round e map₀ ps) map₀) (same_words (grown e (round e map₀ ps) (production_in g p)) (round e map₀ ps)))))
 
-  pub round_end : (map : List ℕ) (p n : ℕ) → p ≤ n → n ≤ p → map ≡ round e map₀ (productions_in g p) → map ≡ round e map₀ (productions_in g n)
-  round_end map p n h l q = let k : p ≡ n = omega arith in rw (← k) q
-
 -- rounds: what is left is what the sum of the sets can still grow by, and one round more while the last changed something
 
 unfoldable pub left : Bool → List ℕ → ℕ

@@ -1,16 +1,13 @@
 -- One law for each way through the code of `end_marked`, `first0`, `first1` and of `Answer` (src/lib), over specs/First: FIRST of a list, symbol by symbol. Assumes nothing.
-use mathlib.Core.Path.{◌≡◌, refl, sym, ap, ◌∙◌}
+use mathlib.Core.Path.{◌≡◌, sym, ap, ◌∙◌}
 use mathlib.Core.Bool.{Bool, true, false, not}
 use borrow.Author.Tests.{not-true, not-false}
 use lib.Dec.{eqb}
-use mathlib.Core.List.{List}
-use Prim.Native.Nat.{ℕ, zero, suc, ◌+◌, ◌≤◌, ◌<◌}
+use mathlib.Core.List.{List, [], ◌∷◌}
+use Prim.Native.Nat.{ℕ, ◌≤◌, ◌<◌}
 use native.Mathlib.Omega.{arith}
-use lib.ListN.{length, get_or, drop}
-use Rattle.repr.specs.Sizes.{nonterminal_limit, terminal_limit}
-use Rattle.repr.specs.Meaning.{Symbol}
-use Rattle.repr.specs.Listed.{symbol_of_kind, listed, symbol_is_fit, list_is_fit}
-use Rattle.repr.proofs.Listed.{listed-none, listed-step, fits_head}
+use Rattle.repr.specs.Sizes.{terminal_limit}
+use Rattle.repr.specs.Meaning.{Symbol, terminal}
 use Rattle.lookahead.specs.Tokens.{has, single, union, meet, without, with}
 use Rattle.lookahead.proofs.Laws.{with_yes, without_no}
 use Rattle.lookahead.proofs.Sets.{union-zero-left, union_assoc}
@@ -20,44 +17,33 @@ use Rattle.first.proofs.Join.{join_null, join_own, end_marked-nil, end_marked-co
 
 -- one symbol
 
-pub symbol-nonterminal : (sets : List ℕ) (k n : ℕ) → k ≡ 0 → get_or sets n 0 ≡ first_of sets (symbol_of_kind k n)
-unfolding first_of symbol_of_kind
-symbol-nonterminal sets k n e = rw e
+pub symbol-terminal : (sets : List ℕ) (t r : ℕ) → t < terminal_limit → r ≡ with 0 t → r ≡ first_of sets (terminal t)
+unfolding first_of
+symbol-terminal sets t r h e = e ∙ with_yes 0 t (omega arith) ∙ union-zero-left (single t)
 
-pub symbol-terminal : (sets : List ℕ) (k n r : ℕ) → (k ≡ 0 → ⊥) → n < 63 → r ≡ with 0 n → r ≡ first_of sets (symbol_of_kind k n)
-unfolding first_of symbol_of_kind
-symbol-terminal sets zero n r ne h e = absurd (ne refl)
-symbol-terminal sets (suc k) n r ne h e = e ∙ with_yes 0 n (omega arith) ∙ union-zero-left (single n)
+-- what is left of a list, after the symbols before it gave acc
 
--- the symbol at a place of a list in range is in range
-pub walk-fits : (ws : List ℕ) (at k n : ℕ) → at < length ws → list_is_fit nonterminal_limit terminal_limit (drop at ws) ≡ true → k ≡ get_or ws at 0 → n ≡ get_or ws (at + 1) 0 → symbol_is_fit nonterminal_limit terminal_limit k n ≡ true
-walk-fits ws at k n h f ek en = rw (ek, en) (fits_head nonterminal_limit terminal_limit ws at h f).1.0
+module _ (e : ℕ) (sets : List ℕ) (xs : List Symbol) where
+  pub walk_start : (acc : ℕ) → acc ≡ 0 → union acc (marked_at_end e sets xs) ≡ marked_at_end e sets xs
+  walk_start acc z = rw z (union-zero-left (marked_at_end e sets xs))
 
--- a list from a place on, after the symbols before it gave acc
+  pub walk_end : (acc r : ℕ) → xs ≡ [] → e ≤ terminal_limit → r ≡ with acc e → r ≡ union acc (marked_at_end e sets xs)
+  walk_end acc r n l q = q ∙ with_yes acc e (omega arith) ∙ sym (rw (n, end_marked-nil e sets))
 
-module _ (e : ℕ) (sets ws : List ℕ) where
-  pub walk_start : (acc : ℕ) → acc ≡ 0 → union acc (marked_at_end e sets (listed (drop 0 ws))) ≡ marked_at_end e sets (listed ws)
-  walk_start acc z = rw z (union-zero-left (marked_at_end e sets (listed ws)))
-
-  pub walk_end : (at acc r : ℕ) → length ws ≤ at → e ≤ terminal_limit → r ≡ with acc e → r ≡ union acc (marked_at_end e sets (listed (drop at ws)))
-  walk_end at acc r h l q = q ∙ with_yes acc e (omega arith) ∙ sym (rw (listed-none ws at h, end_marked-nil e sets))
-
-  module _ (at k n f t acc r : ℕ) (c : Bool) (h : at + 1 < length ws) (ek : k ≡ get_or ws at 0) (en : n ≡ get_or ws (at + 1) 0)
-      (ef : f ≡ first_of sets (symbol_of_kind k n)) (et : t ≡ without f e) (ec : c ≡ has f e) (er : r ≡ union acc t) where
-    here : marked_at_end e sets (listed (drop at ws)) ≡ join e f (marked_at_end e sets (listed (drop (at + 2) ws)))
-    here = rw (listed-step ws at h, end_marked-cons e sets (symbol_of_kind (get_or ws at 0) (get_or ws (at + 1) 0)) (listed (drop (at + 2) ws)), ef, ek, en)
+  module _ (x : Symbol) (rest : List Symbol) (f t acc r : ℕ) (c : Bool) (is : xs ≡ x ∷ rest) (ef : f ≡ first_of sets x) (et : t ≡ without f e) (ec : c ≡ has f e) (er : r ≡ union acc t) where
+    here : marked_at_end e sets xs ≡ join e f (marked_at_end e sets rest)
+    here = rw (is, end_marked-cons e sets x rest, ef)
 
     -- a nullable symbol: the rest counts too
-    pub walk_more : c ≡ true → union r (marked_at_end e sets (listed (drop (at + 2) ws))) ≡ union acc (marked_at_end e sets (listed (drop at ws)))
+    pub walk_more : c ≡ true → union r (marked_at_end e sets rest) ≡ union acc (marked_at_end e sets xs)
     walk_more y =
-        let rest = marked_at_end e sets (listed (drop (at + 2) ws)) in
-        rw (er, et) (union_assoc acc (without f e) rest) ∙ sym (ap (union acc) (here ∙ join_null e f rest (sym ec ∙ y)))
+        rw (er, et) (union_assoc acc (without f e) (marked_at_end e sets rest))
+        ∙ sym (ap (union acc) (here ∙ join_null e f (marked_at_end e sets rest) (sym ec ∙ y)))
 
-    pub walk-stop : c ≡ false → r ≡ union acc (marked_at_end e sets (listed (drop at ws)))
+    pub walk-stop : c ≡ false → r ≡ union acc (marked_at_end e sets xs)
     walk-stop y =
-        let rest = marked_at_end e sets (listed (drop (at + 2) ws)) in
         let no : has f e ≡ false = sym ec ∙ y in
-        er ∙ ap (union acc) (et ∙ without_no f e no ∙ sym (here ∙ join_own e f rest no))
+        er ∙ ap (union acc) (et ∙ without_no f e no ∙ sym (here ∙ join_own e f (marked_at_end e sets rest) no))
 
 -- a lookahead that follows the list
 

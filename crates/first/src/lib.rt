@@ -5,15 +5,16 @@
 ghost use Rattle.std.specs.Prelude.{◌≡◌, true, not, ◌++◌, ◌≤◌, ◌<◌, length};
 ghost use Rattle.repr.specs.Sizes.{nonterminal_limit, terminal_limit};
 ghost use Rattle.slices.specs.Same.{same_words};
-ghost use Rattle.repr.specs.Listed.{symbol_of_kind, symbol_is_fit, listed, list_is_fit};
+ghost use Rattle.repr.specs.Listed.{listed, list_is_fit};
+ghost use Rattle.repr.specs.Symbols.{meant, IsInRange};
 ghost use Rattle.repr.specs.Packed.{Packed, production_in, productions_in};
 ghost use Rattle.first.specs.First.{first_of, marked_at_end, first0, first1, join_answers, meets_ahead, disjoint, grown, round, sets_of_first};
 
 use lookahead::TokenSet;
-use repr::{NonterminalString, ProductionIndex, symbols, word};
+use repr::{NonterminalString, ProductionIndex, Symbol, SymbolIter, symbols, word};
 
 // FIRST of a list: the terminals that begin what it derives, never the end of input; and whether it derives the empty list.
-#[derive(Clone, Copy)]
+#[derive(Clone, Copy, PartialEq, Eq)]
 pub struct Answer {
     pub tokens: TokenSet,
     pub nullable: bool,
@@ -27,9 +28,8 @@ impl Answer {
         if self.nullable {
             let tokens = self.tokens;
             let more = next.tokens;
-            let united = tokens.union_with(more).set;
             return Answer {
-                tokens: united,
+                tokens: tokens.union(more),
                 nullable: next.nullable,
             };
         }
@@ -83,19 +83,18 @@ impl FirstSets {
         while changed {
             changed = grow(grammar, productions, terminals, &mut map);
         }
-        FirstSets { map: map }
+        FirstSets { map }
     }
 }
 
 // Of one symbol: the terminal itself, or the nonterminal's set. `end_marked` asks either for the end of input; a terminal of a table never has it.
-fn symbol_first(map: &[u64; NonterminalString::LIMIT], kind: usize, number: usize) -> TokenSet
-    requires { symbol_is_fit nonterminal_limit terminal_limit kind number ≡ true }
-    ensures { result.0 ≡ first_of map.now (symbol_of_kind kind number) }
+fn symbol_first(map: &[u64; NonterminalString::LIMIT], symbol: Symbol) -> TokenSet
+    requires { IsInRange symbol }
+    ensures { result.0 ≡ first_of map.now (meant symbol) }
 {
-    if kind == 0 {
-        TokenSet(map[number])
-    } else {
-        TokenSet::from(number as u16)
+    match symbol {
+        Symbol::Nonterminal(nonterminal) => TokenSet(map[nonterminal.0 as usize]),
+        Symbol::Terminal(terminal) => TokenSet::from(terminal),
     }
 }
 
@@ -105,21 +104,16 @@ fn end_marked(map: &[u64; NonterminalString::LIMIT], terminals: u16, symbols: &[
     ensures { result.0 ≡ marked_at_end terminals map.now (listed symbols.now) }
 {
     let mut result = TokenSet::new();
-    let mut at: usize = 0;
-    while at < symbols.len() {
-        let kind = word(symbols, at);
-        let number = word(symbols, at + 1);
-        let taken = symbol_first(map, kind, number).take_eof(terminals);
-        let nullable = taken.changed;
-        let set = taken.set;
-        result = result.union_with(set).set;
+    for symbol in (SymbolIter { words: symbols }) {
+        let mut set = symbol_first(map, symbol);
+        let nullable = set.take_eof(terminals);
+        result = result.union(set);
         if !nullable {
             return result;
         }
-        at += 2;
     }
     // The list is empty, or of nonterminals each of which may derive the empty string.
-    result.insert_eof(terminals).set
+    result.with(terminals)
 }
 
 // FIRST of a list of symbols.
@@ -127,12 +121,9 @@ pub fn first0(map: &[u64; NonterminalString::LIMIT], terminals: u16, symbols: &[
     requires { (terminals ≤ terminal_limit) × (list_is_fit nonterminal_limit terminal_limit symbols.now ≡ true) }
     ensures { result ≡ first0 terminals map.now (listed symbols.now) }
 {
-    let taken = end_marked(map, terminals, symbols).take_eof(terminals);
-    let tokens = taken.set;
-    Answer {
-        tokens: tokens,
-        nullable: taken.changed,
-    }
+    let mut tokens = end_marked(map, terminals, symbols);
+    let nullable = tokens.take_eof(terminals);
+    Answer { tokens, nullable }
 }
 
 // FIRST of a list with an answer, and of the symbols behind it: they are asked only where the answer is nullable.
@@ -185,7 +176,7 @@ pub fn first1(
     let answer = first0(map, terminals, symbols);
     let tokens = answer.tokens;
     if answer.nullable {
-        tokens.union_with(lookahead).set
+        tokens.union(lookahead)
     } else {
         tokens
     }
@@ -204,9 +195,10 @@ fn grow_one(
 {
     let nonterminal = word(grammar, production * ProductionIndex::WORDS);
     let lookahead = end_marked(map, terminals, symbols(grammar, production, productions));
-    let united = TokenSet(map[nonterminal]).union_with(lookahead);
-    map[nonterminal] = united.set.0;
-    united.changed
+    let mut united = TokenSet(map[nonterminal]);
+    let changed = united.union_with(lookahead);
+    map[nonterminal] = united.0;
+    changed
 }
 
 // One round over all productions, in the order of their numbers; whether some set changed.
@@ -220,11 +212,8 @@ fn grow(
     ensures { (map.new ≡ round terminals map.old (productions_in grammar.now productions)) × (result ≡ not (same_words map.new map.old)) }
 {
     let mut changed = false;
-    let mut production: usize = 0;
-    while production < productions {
-        let more = grow_one(grammar, production, productions, terminals, map);
-        changed |= more;
-        production += 1;
+    for production in 0..productions {
+        changed |= grow_one(grammar, production, productions, terminals, map);
     }
     changed
 }

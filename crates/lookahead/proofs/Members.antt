@@ -1,4 +1,4 @@
--- Laws of a set's tokens in order, `members` of specs/Tokens: which they are, that they ascend, how many, and the least and the others (specs/Iterated).
+-- Laws of a set's tokens in order, `members` of specs/Tokens: which they are, that they ascend, how many, and the least and the others.
 -- Assumes nothing.
 use mathlib.Core.Path.{◌≡◌, sym, ap, ◌∙◌}
 use mathlib.Core.Bool.{Bool, true, false, ◌&&◌, not, and-true, and-false, true≢false}
@@ -14,8 +14,6 @@ use borrow.Author.Tests.{eqb-true, eqb-false, ne_eqb, ltb-true, ltb-false, lt-lt
 use Rattle.repr.specs.Lists.{up_from, below, mem, keep}
 use Rattle.repr.proofs.Lists.{cases, length-up_from, get_d_up_from, mem_at, mem_index, mem-keep, mem-up_from, mem_below, mem-cons_here, keep-nil, keep-yes, keep_no, keep-none, keep_agree, length-keep, length-below}
 use Rattle.lookahead.specs.Tokens.{has, without, members}
-use Rattle.lookahead.specs.Iterated.{first_of_these, next_of}
-use Rattle.lookahead.specs.declared.NextToken.TheVariants.{Token, Done}
 use Rattle.lookahead.proofs.Laws.{has-none, has_lowest, has_half, has-without}
 
 -- which they are
@@ -165,16 +163,6 @@ members_step s k ks e =
         later zero h q f = omega arith
         later (suc i) h q f = omega (arith, members_ascend s 0 (suc i) (omega arith) h)
 
-pub next_of-done : next_of 0 ≡ Done
-unfolding next_of first_of_these
-next_of-done = rw (members-none, first_of_these)
-
-pub next_of-token : (s k : ℕ) (ks : List ℕ) → members s ≡ k ∷ ks → next_of s ≡ Token k (record { 0 = without s k })
-unfolding next_of first_of_these
-next_of-token s k ks e = rw (e, first_of_these)
-
 -- of a word that is not empty
-pub next_of-least : (s : ℕ) → 0 < s → s < 2 ^ 64 → next_of s ≡ Token (count_trailing_zeros 64 s) (record { 0 = without s (count_trailing_zeros 64 s) })
-next_of-least s p h =
-    let r = trailing_least 64 s p h in
-    next_of-token s (count_trailing_zeros 64 s) (members (without s (count_trailing_zeros 64 s))) (members-next s (count_trailing_zeros 64 s) r.0 r.1 r.2)
+pub members_first : (s : ℕ) → 0 < s → s < 2 ^ 64 → members s ≡ count_trailing_zeros 64 s ∷ members (without s (count_trailing_zeros 64 s))
+members_first s p h = let r = trailing_least 64 s p h in members-next s (count_trailing_zeros 64 s) r.0 r.1 r.2

@@ -1,6 +1,7 @@
 -- What the code computes on a word is the set that specs/Tokens says: one law for each way through a function of src/lib. Assumes nothing.
 use mathlib.Core.Path.{◌≡◌, refl, sym, ap, ◌∙◌}
-use mathlib.Core.Bool.{true, false, ◌&&◌, ◌||◌, not}
+use mathlib.Core.List.{◌∷◌}
+use mathlib.Core.Bool.{true, false, ◌&&◌, not}
 use Prim.Native.Nat.{ℕ, suc, ◌+◌, ◌-◌, ◌*◌, ◌/◌, ◌%◌, ◌^◌, ◌≤◌, ◌<◌}
 use native.Mathlib.Nat.{one-mul}
 use native.Mathlib.Numerals.{add-one}
@@ -9,14 +10,12 @@ use lib.Bits.{bit_and, bit_or, and_step, and_zero_r}
 use lib.Count.{count_trailing_zeros}
 use lib.Dec.{eqb, ltb}
 use lib.Pow.{shl_exact, pow_pos}
-use borrow.Author.Tests.{eqb-true, eq-eqb, ne_eqb, lt-ltb, le-ltb}
+use borrow.Author.Tests.{eqb-true, eq-eqb, ne_eqb, ltb-true, ltb-false, lt-ltb}
 use Rattle.repr.proofs.Lists.{cases, clash}
-use Rattle.lookahead.specs.Tokens.{has, single, union, meet, without, with, up_to}
-use Rattle.lookahead.specs.Iterated.{next_of}
-use Rattle.lookahead.specs.declared.NextToken.TheVariants.{Token, Done}
-use Rattle.lookahead.proofs.Laws.{has-none, has_le, has-below, has-union, has_meet, has-single, has-without, has_with, has-up_to, with_yes, with_no, without-yes, without_no, up_to_few}
+use Rattle.lookahead.specs.Tokens.{has, single, union, meet, without, with, members, up_to}
+use Rattle.lookahead.proofs.Laws.{has-none, has_le, has-below, has_meet, has-single, has_with, has-up_to, with_yes, with_no, without-yes, up_to_few}
 use Rattle.lookahead.proofs.Sets.{empty-set, union-within_same}
-use Rattle.lookahead.proofs.Members.{trailing_least, next_of-least, next_of-done}
+use Rattle.lookahead.proofs.Members.{trailing_least, members_first}
 
 -- `1 << k`
 pub shifted : (k : ℕ) → k < 64 → 1 * 2 ^ k % 18446744073709551616 ≡ 2 ^ k
@@ -55,26 +54,17 @@ with_changed s t h =
     (λ e. rw e (ne_eqb (with s t) s (λ q.
     clash (has s t) (sym (ap (λ (r : ℕ). has r t) q) ∙ has_with s t t ∙ rw (e, lt-ltb t 64 h, eq-eqb t t refl)) e)))
 
-pub inserted : (s t r : ℕ) → t < 64 → r ≡ 1 * 2 ^ t % 18446744073709551616 → (bit_or s r ≡ with s t) × (not (eqb (bit_or s r) s) ≡ (ltb t 64 && not (has s t))) × ((k : ℕ) → has (bit_or s r) k ≡ (has s k || (ltb k 64 && eqb k t)))
+pub with_shifted : (s t : ℕ) → t < 64 → bit_or s (1 * 2 ^ t % 18446744073709551616) ≡ with s t
 unfolding union single
-inserted s t r h e =
-    let q : bit_or s r ≡ with s t = ap (bit_or s) (e ∙ shifted t h) ∙ sym (with_yes s t h) in
-    (q, rw (q, lt-ltb t 64 h, with_changed s t h), λ k. ap (λ (x : ℕ). has x k) q ∙ has_with s t k)
+with_shifted s t h = ap (bit_or s) (shifted t h) ∙ sym (with_yes s t h)
 
-pub not_inserted : (s t : ℕ) → 64 ≤ t → (s ≡ with s t) × (false ≡ (ltb t 64 && not (has s t))) × ((k : ℕ) → has s k ≡ (has s k || (ltb k 64 && eqb k t)))
-not_inserted s t h = (sym (with_no s t h), rw (le-ltb t 64 h), λ k. ap (λ (x : ℕ). has x k) (sym (with_no s t h)) ∙ has_with s t k)
+pub with-is_same : (s t : ℕ) → not (eqb (with s t) s) ≡ (ltb t 64 && not (has s t))
+with-is_same s t =
+    cases (ltb t 64)
+    (λ e. rw (e, with_changed s t (ltb-true t 64 e)))
+    (λ e. rw (e, with_no s t (ltb-false t 64 e), eq-eqb s s refl))
 
--- the set of one token
-pub only : (s t r : ℕ) → s ≡ 0 → r ≡ with s t → (r ≡ with 0 t) × ((k : ℕ) → has r k ≡ (ltb k 64 && eqb k t))
-only s t r z e =
-    let q : r ≡ with 0 t = e ∙ ap (λ (x : ℕ). with x t) z in
-    (q, λ k. ap (λ (x : ℕ). has x k) q ∙ has_with 0 t k ∙ rw (has-none k))
-
--- union_with, intersection
-
-pub united : (a b : ℕ) → (bit_or a b ≡ union a b) × (not (eqb (bit_or a b) a) ≡ not (eqb (union a b) a)) × ((k : ℕ) → has (bit_or a b) k ≡ (has a k || has b k))
-unfolding union
-united a b = (refl, refl, λ k. has-union a b k)
+-- intersection
 
 pub met : (a b : ℕ) → (bit_and a b ≡ meet a b) × ((k : ℕ) → has (bit_and a b) k ≡ (has a k && has b k))
 unfolding meet
@@ -97,16 +87,7 @@ module _ (s t : ℕ) (h : s < 2 ^ 64) (e : has s t ≡ true) where
   pub off : s - 1 * 2 ^ t % 18446744073709551616 ≡ without s t
   off = rw (shifted t (has-below s 64 t h e)) (sym (without-yes s t e))
 
-  pub taken : (s - 1 * 2 ^ t % 18446744073709551616 ≡ without s t) × (true ≡ has s t) × ((k : ℕ) → has (s - 1 * 2 ^ t % 18446744073709551616) k ≡ (has s k && not (eqb k t)))
-  taken = (off, sym e, λ k. ap (λ (x : ℕ). has x k) off ∙ has-without s t k)
-
-pub not_taken : (s t : ℕ) → has s t ≡ false → (s ≡ without s t) × (false ≡ has s t) × ((k : ℕ) → has s k ≡ (has s k && not (eqb k t)))
-not_taken s t e = (sym (without_no s t e), sym e, λ k. ap (λ (x : ℕ). has x k) (sym (without_no s t e)) ∙ has-without s t k)
-
 -- next
-
-pub next-done : (s : ℕ) → s ≡ 0 → Done ≡ next_of s
-next-done s e = sym (ap next_of e ∙ next_of-done)
 
 module _ (s : ℕ) (ne : s ≡ 0 → ⊥) (h : s < 2 ^ 64) where
   least : (count_trailing_zeros 64 s < 64) × (has s (count_trailing_zeros 64 s) ≡ true) × ((j : ℕ) → j < count_trailing_zeros 64 s → has s j ≡ false)
@@ -118,8 +99,8 @@ module _ (s : ℕ) (ne : s ≡ 0 → ⊥) (h : s < 2 ^ 64) where
   pub next_le : 1 * 2 ^ count_trailing_zeros 64 s % 18446744073709551616 ≤ s
   next_le = shifted_le s (count_trailing_zeros 64 s) h least.1
 
-  pub next_token : Token (count_trailing_zeros 64 s) (record { 0 = s - 1 * 2 ^ count_trailing_zeros 64 s % 18446744073709551616 }) ≡ next_of s
-  next_token = rw (off s (count_trailing_zeros 64 s) h least.1) (sym (next_of-least s (omega arith) h))
+  pub next_token : members s ≡ count_trailing_zeros 64 s ∷ members (s - 1 * 2 ^ count_trailing_zeros 64 s % 18446744073709551616)
+  next_token = rw (off s (count_trailing_zeros 64 s) h least.1) (members_first s (omega arith) h)
 
 -- a set of tokens up to t alone
 pub tokens_few : (t s : ℕ) → t < 63 → ltb s (1 * 2 ^ (t + 1) % 18446744073709551616) ≡ ltb s (2 ^ suc t)

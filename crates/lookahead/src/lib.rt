@@ -5,17 +5,10 @@
 
 ghost use Rattle.std.specs.Prelude.{◌≡◌, Bool, true, false, ◌&&◌, ◌||◌, not, List, [], ◌∷◌, ℕ, suc, ◌^◌, ◌≤◌, ◌<◌, length, eqb, ltb};
 ghost use Rattle.lookahead.specs.Tokens.{has, single, union, meet, without, with, members, up_to};
-ghost use Rattle.lookahead.specs.Iterated.{next_of};
+ghost use Rattle.std.specs.Iterator.{YieldsFirst, item_count};
 
-#[derive(Clone, Copy)]
+#[derive(Clone, Copy, PartialEq, Eq)]
 pub struct TokenSet(pub u64);
-
-// A set, and whether it changed.
-#[derive(Clone, Copy)]
-pub struct Changed {
-    pub set: TokenSet,
-    pub changed: bool,
-}
 
 impl TokenSet {
     // The tokens that a set can hold.
@@ -48,7 +41,7 @@ impl TokenSet {
     pub fn from(token: u16) -> TokenSet
         ensures { (result.0 ≡ with 0 token) × ((k : ℕ) → has result.0 k ≡ ltb k 64 && eqb k token) }
     {
-        TokenSet::new().insert(token).set
+        TokenSet::new().with(token)
     }
 
     pub fn len(self) -> usize
@@ -57,37 +50,53 @@ impl TokenSet {
         u64::count_ones(self.0) as usize
     }
 
-    pub fn insert(self, token: u16) -> Changed
-        ensures { (result.set.0 ≡ with self.0 token) × (result.changed ≡ ltb token 64 && not (has self.0 token)) × ((k : ℕ) → has result.set.0 k ≡ has self.0 k || (ltb k 64 && eqb k token)) }
+    // The set with a token.
+    pub fn with(self, token: u16) -> TokenSet
+        ensures is { result.0 ≡ with self.0 token }
+        ensures members { (k : ℕ) → has result.0 k ≡ has self.0 k || (ltb k 64 && eqb k token) }
     {
         if token < TokenSet::LIMIT {
-            let word = self.0 | 1 << token;
-            Changed {
-                set: TokenSet(word),
-                changed: word != self.0,
-            }
+            TokenSet(self.0 | 1 << token)
         } else {
-            Changed {
-                set: self,
-                changed: false,
-            }
+            self
         }
     }
 
-    pub fn insert_eof(self, terminals: u16) -> Changed
-        ensures { (result.set.0 ≡ with self.0 terminals) × (result.changed ≡ ltb terminals 64 && not (has self.0 terminals)) × ((k : ℕ) → has result.set.0 k ≡ has self.0 k || (ltb k 64 && eqb k terminals)) }
+    // Says whether the set changed.
+    pub fn insert(&mut self, token: u16) -> bool
+        ensures is { self.new.0 ≡ with self.old.0 token }
+        ensures changed { result ≡ ltb token 64 && not (has self.old.0 token) }
+        ensures members { (k : ℕ) → has self.new.0 k ≡ has self.old.0 k || (ltb k 64 && eqb k token) }
+    {
+        let there = self.contains(token);
+        *self = self.with(token);
+        token < TokenSet::LIMIT && !there
+    }
+
+    pub fn insert_eof(&mut self, terminals: u16) -> bool
+        ensures is { self.new.0 ≡ with self.old.0 terminals }
+        ensures changed { result ≡ ltb terminals 64 && not (has self.old.0 terminals) }
+        ensures members { (k : ℕ) → has self.new.0 k ≡ has self.old.0 k || (ltb k 64 && eqb k terminals) }
     {
         self.insert(terminals)
     }
 
-    pub fn union_with(self, set: TokenSet) -> Changed
-        ensures { (result.set.0 ≡ union self.0 set.0) × (result.changed ≡ not (eqb (union self.0 set.0) self.0)) × ((k : ℕ) → has result.set.0 k ≡ has self.0 k || has set.0 k) }
+    pub fn union(self, set: TokenSet) -> TokenSet
+        ensures is { result.0 ≡ union self.0 set.0 }
+        ensures members { (k : ℕ) → has result.0 k ≡ has self.0 k || has set.0 k }
     {
-        let word = self.0 | set.0;
-        Changed {
-            set: TokenSet(word),
-            changed: word != self.0,
-        }
+        TokenSet(self.0 | set.0)
+    }
+
+    // Says whether the set changed.
+    pub fn union_with(&mut self, set: TokenSet) -> bool
+        ensures is { self.new.0 ≡ union self.old.0 set.0 }
+        ensures changed { result ≡ not (eqb (union self.old.0 set.0) self.old.0) }
+        ensures members { (k : ℕ) → has self.new.0 k ≡ has self.old.0 k || has set.0 k }
+    {
+        let before = *self;
+        *self = before.union(set);
+        *self != before
     }
 
     pub fn intersection(self, set: TokenSet) -> TokenSet
@@ -125,20 +134,16 @@ impl TokenSet {
     }
 
     // If this set contains the end of input, removes it and says so.
-    pub fn take_eof(self, terminals: u16) -> Changed
-        ensures { (result.set.0 ≡ without self.0 terminals) × (result.changed ≡ has self.0 terminals) × ((k : ℕ) → has result.set.0 k ≡ has self.0 k && not (eqb k terminals)) }
+    pub fn take_eof(&mut self, terminals: u16) -> bool
+        ensures is { self.new.0 ≡ without self.old.0 terminals }
+        ensures changed { result ≡ has self.old.0 terminals }
+        ensures members { (k : ℕ) → has self.new.0 k ≡ has self.old.0 k && not (eqb k terminals) }
     {
-        if self.contains(terminals) {
-            Changed {
-                set: TokenSet(self.0 - (1 << terminals)),
-                changed: true,
-            }
-        } else {
-            Changed {
-                set: self,
-                changed: false,
-            }
+        let there = self.contains(terminals);
+        if there {
+            *self = TokenSet(self.0 - (1 << terminals));
         }
+        there
     }
 
     pub fn is_disjoint(self, other: TokenSet) -> bool
@@ -164,21 +169,20 @@ impl TokenSet {
 #[derive(Clone, Copy)]
 pub struct TokenSetIter(pub u64);
 
-#[derive(Clone, Copy)]
-pub enum NextToken {
-    Token(u16, TokenSetIter),
-    Done,
-}
+impl Iterator for TokenSetIter {
+    type Item = u16;
 
-impl TokenSetIter {
-    pub fn next(self) -> NextToken
-        ensures { result ≡ next_of self.0 }
-    {
+    ghost next_gives = { YieldsFirst (λ s. members s.0) };
+
+    ghost remaining = { item_count (λ s. members s.0) };
+
+    fn next(&mut self) -> Option<u16> {
         let word = self.0;
         if word == 0 {
-            return NextToken::Done;
+            return None;
         }
         let token = u64::trailing_zeros(word);
-        NextToken::Token(token as u16, TokenSetIter(word - (1 << token)))
+        self.0 = word - (1 << token);
+        Some(token as u16)
     }
 }

@@ -6,3 +6,4 @@ pub mod Parts
 pub mod SameSymbol
 pub mod Fronts
 pub mod Joined
+pub mod FrontSymbol

@@ -4,3 +4,4 @@ pub mod Meaning
 pub mod Listed
 pub mod Packed
 pub mod Answer
+pub mod Symbols

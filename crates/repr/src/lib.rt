@@ -7,6 +7,7 @@ mod refusals;
 
 ghost use Rattle.std.specs.Prelude.{◌≡◌, Bool, true, false, List, map, ◌++◌, ℕ, ◌+◌, ◌*◌, ◌≤◌, ◌<◌, length, get_or};
 ghost use Rattle.std.proofs.Math.Seq.{slice};
+ghost use Rattle.repr.specs.Sizes.{nonterminal_limit, terminal_limit};
 ghost use Rattle.repr.specs.Listed.{symbol_is_fit, list_is_fit};
 ghost use Rattle.repr.specs.Packed.{Packed, symbol_words};
 
@@ -14,7 +15,7 @@ pub use productions::Grammar;
 pub use refusals::Refusal;
 
 // The number of a nonterminal.
-#[derive(Clone, Copy)]
+#[derive(Clone, Copy, PartialEq, Eq)]
 pub struct NonterminalString(pub u16);
 
 impl NonterminalString {
@@ -22,7 +23,7 @@ impl NonterminalString {
 }
 
 // The number of a production.
-#[derive(Clone, Copy)]
+#[derive(Clone, Copy, PartialEq, Eq)]
 pub struct ProductionIndex(pub u16);
 
 impl ProductionIndex {
@@ -35,6 +36,46 @@ impl ProductionIndex {
     pub const WORDS: usize = 4 + 2 * ProductionIndex::SYMBOLS;
 
     pub const ALL_WORDS: usize = ProductionIndex::LIMIT * ProductionIndex::WORDS;
+}
+
+// A symbol of the grammar, in the Rust's order.
+#[derive(Clone, Copy, PartialEq, Eq)]
+pub enum Symbol {
+    Nonterminal(NonterminalString),
+    Terminal(u16),
+}
+
+// The symbols of a list in words, kind and number each, one after the other.
+#[derive(Clone, Copy)]
+pub struct SymbolIter<'a> {
+    pub words: &'a [u16],
+    pub ghost fits: { list_is_fit nonterminal_limit terminal_limit words.now ≡ true },
+}
+
+impl<'a> Iterator for SymbolIter<'a> {
+    ghost use Rattle.std.specs.Iterator.{YieldsFirstBy, item_count};
+    ghost use Rattle.repr.specs.Listed.{listed};
+    ghost use Rattle.repr.specs.Symbols.{meant};
+
+    type Item = Symbol;
+
+    ghost next_gives = { YieldsFirstBy meant (λ s. listed s.words.now) };
+
+    ghost remaining = { item_count (λ s. listed s.words.now) };
+
+    fn next(&mut self) -> Option<Symbol> {
+        let words = self.words;
+        if words.len() < 2 {
+            return None;
+        }
+        self.words = &words[2..];
+        let number = words[1];
+        if words[0] == 0 {
+            Some(Symbol::Nonterminal(NonterminalString(number)))
+        } else {
+            Some(Symbol::Terminal(number))
+        }
+    }
 }
 
 // A word of a list, as a number.

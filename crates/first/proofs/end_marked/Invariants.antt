@@ -1,15 +1,8 @@
-use mathlib.Core.Path.{◌≡◌}
-use mathlib.Core.Bool.{true}
-use Prim.Native.Nat.{◌-◌}
-use lib.ListN.{length, drop}
-use Rattle.repr.specs.Sizes.{nonterminal_limit, terminal_limit}
-use Rattle.repr.specs.Listed.{listed, list_is_fit}
+use Rattle.std.proofs.Common.{◌≡◌}
+use Rattle.repr.specs.Listed.{listed}
 use Rattle.lookahead.specs.Tokens.{union}
 use Rattle.first.specs.First.{marked_at_end}
 use Rattle.first.proofs.end_marked.Given as goal
 
-abbrev pub invariant-loop-at : goal.invariant-loop-at
-invariant-loop-at l = (list_is_fit nonterminal_limit terminal_limit (drop l.at l.symbols) ≡ true) × (union l.result.0 (marked_at_end l.terminals l.map (listed (drop l.at l.symbols))) ≡ marked_at_end l.terminals l.map (listed l.symbols))
-
-abbrev pub decreases-loop-at : goal.decreases-loop-at
-decreases-loop-at l = length l.symbols - l.at
+abbrev pub invariant-loop-symbol : goal.invariant-loop-symbol
+invariant-loop-symbol l = union l.result.0 (marked_at_end l.terminals l.map (listed l.symbol-iterator.words.now)) ≡ marked_at_end l.terminals l.map (listed l.symbols)

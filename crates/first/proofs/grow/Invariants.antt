@@ -1,13 +1,9 @@
 use mathlib.Core.Path.{◌≡◌}
 use mathlib.Core.Bool.{not}
-use Prim.Native.Nat.{◌≤◌, ◌-◌}
 use Rattle.slices.specs.Same.{same_words}
 use Rattle.repr.specs.Packed.{productions_in}
 use Rattle.first.specs.First.{round}
 use Rattle.first.proofs.grow.Given as goal
 
 abbrev pub invariant-loop-production : goal.invariant-loop-production
-invariant-loop-production l = (l.production ≤ l.productions) × (l.map ≡ round l.terminals l.initial.map (productions_in l.grammar l.production)) × (l.changed ≡ not (same_words l.map l.initial.map))
-
-abbrev pub decreases-loop-production : goal.decreases-loop-production
-decreases-loop-production l = l.productions - l.production
+invariant-loop-production l = (l.map ≡ round l.terminals l.initial.map (productions_in l.grammar l.production)) × (l.changed ≡ not (same_words l.map l.initial.map))

@@ -15,4 +15,4 @@ pub bounds-map-nonterminal-2 : goal.bounds-map-nonterminal-2
 bounds-map-nonterminal-2 c = omega (arith, c.requires.0.owner _ c.requires.1, c.word-nonterminal.ensures.0)
 
 pub returns : goal.returns
-returns c = one_grown _ _ _ _ _ _ _ _ _ (omega (arith, c.requires.0.owner _ c.requires.1, c.word-nonterminal.ensures.0, c.requires.3)) c.word-nonterminal.ensures.0 c.symbols.ensures c.end_marked-lookahead.ensures c.union_with-united.ensures.0 c.union_with-united.ensures.1
+returns c = one_grown _ _ _ _ _ _ _ _ _ (omega (arith, c.requires.0.owner _ c.requires.1, c.word-nonterminal.ensures.0, c.requires.3)) c.word-nonterminal.ensures.0 c.symbols.ensures c.end_marked-lookahead.ensures c.union_with-changed.ensures.is c.union_with-changed.ensures.changed

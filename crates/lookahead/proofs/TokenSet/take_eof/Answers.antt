@@ -1,17 +1,27 @@
-use native.Mathlib.Omega.{arith}
-use mathlib.Core.Path.{sym, ◌∙◌}
-use Rattle.lookahead.proofs.Words.{shifted_le, taken, not_taken}
-use Rattle.lookahead.proofs.Laws.{has-below}
+use Rattle.std.proofs.Common.{sym, ap, ◌∙◌, ℕ, arith}
+use Rattle.lookahead.specs.Tokens.{has}
+use Rattle.lookahead.proofs.Laws.{has-below, has-without, without_no}
+use Rattle.lookahead.proofs.Words.{shifted_le, off}
 use Rattle.lookahead.proofs.TokenSet.take_eof.Goals as goal
 
-pub overflow_shl-result : goal.overflow_shl-result
-overflow_shl-result c = has-below c.args.self.0 64 c.args.terminals (omega (arith, c.well_formed)) (sym c.contains.ensures ∙ c.if-contains.true)
+pub overflow_shl-self : goal.overflow_shl-self
+overflow_shl-self c = has-below c.args.self.now.0 64 c.args.terminals (omega (arith, c.well_formed)) (sym c.if-there.ensures)
 
-pub overflow_sub-result : goal.overflow_sub-result
-overflow_sub-result c = shifted_le c.args.self.0 c.args.terminals (omega (arith, c.well_formed)) (sym c.contains.ensures ∙ c.if-contains.true)
+pub overflow_sub-self : goal.overflow_sub-self
+overflow_sub-self c = shifted_le c.args.self.now.0 c.args.terminals (omega (arith, c.well_formed)) (sym c.if-there.ensures)
 
-pub returns-then-contains : goal.returns-then-contains
-returns-then-contains c = taken c.args.self.0 c.args.terminals (omega (arith, c.well_formed)) (sym c.contains.ensures ∙ c.if-contains.true)
+pub returns-then-there-clause-is : goal.returns-then-there-clause-is
+returns-then-there-clause-is c = off c.args.self.now.0 c.args.terminals (omega (arith, c.well_formed)) (sym c.if-there.ensures)
 
-pub returns-else-contains : goal.returns-else-contains
-returns-else-contains c = not_taken c.args.self.0 c.args.terminals (sym c.contains.ensures ∙ c.if-contains.false)
+pub returns-then-there-clause-members : goal.returns-then-there-clause-members
+returns-then-there-clause-members c k =
+    ap (λ (s : ℕ). has s k) (off c.args.self.now.0 c.args.terminals (omega (arith, c.well_formed)) (sym c.if-there.ensures))
+    ∙ has-without c.args.self.now.0 c.args.terminals k
+
+pub returns-else-there-clause-is : goal.returns-else-there-clause-is
+returns-else-there-clause-is c = sym (without_no c.args.self.now.0 c.args.terminals (sym c.if-there.ensures))
+
+pub returns-else-there-clause-members : goal.returns-else-there-clause-members
+returns-else-there-clause-members c k =
+    ap (λ (s : ℕ). has s k) (sym (without_no c.args.self.now.0 c.args.terminals (sym c.if-there.ensures)))
+    ∙ has-without c.args.self.now.0 c.args.terminals k
