@@ -2,6 +2,8 @@
 
 #![tactic(auto)]
 
+mod accepted_table;
+
 ghost use Rattle.std.specs.Prelude.{◌≡◌, List, [], ◌∷◌, ℕ, ◌+◌, ◌*◌, ◌≤◌, ◌<◌, length, get_or};
 ghost use Rattle.repr.specs.Sizes.{record_limit, grammar_room};
 ghost use Rattle.repr.specs.Meaning.{Table, state_at, production_at};
@@ -14,6 +16,8 @@ ghost use Rattle.table.specs.Index.{CountsOf, ItemIndex, EdgeIndex, ProductionHe
 ghost use Rattle.table.specs.Written.{symbols_from, SymbolIndex, SymbolRead, OwnerStored, OwnersIn, SymbolsStored, ProductionStored};
 
 use repr::ProductionIndex;
+
+pub use accepted_table::AcceptedTable;
 
 // What the check of a table answers: refusal and place, by document 01's table of refusals.
 #[derive(Clone, Copy)]
@@ -208,10 +212,8 @@ fn read_owners(table: &[u16], grammar: &mut [u16])
 {
     let counts = read_counts(table);
     let nonterminals = counts.nonterminals;
-    let mut n: usize = 0;
-    while n < nonterminals {
+    for n in 0..nonterminals {
         read_owner(table, grammar, n);
-        n += 1;
     }
 }
 
@@ -260,10 +262,8 @@ fn read_symbols(table: &[u16], grammar: &mut [u16])
 {
     let counts = read_counts(table);
     let productions = counts.productions;
-    let mut p: usize = 0;
-    while p < productions {
+    for p in 0..productions {
         read_symbols_of(table, grammar, p);
-        p += 1;
     }
 }
 

@@ -1,5 +1,4 @@
 use mathlib.Core.Path.{◌≡◌}
-use Prim.Native.Nat.{◌-◌}
 use lib.ListN.{length}
 use Rattle.table.specs.Decoded.{meaning}
 use Rattle.table.proofs.Written.{Reading}
@@ -7,6 +6,3 @@ use Rattle.table.proofs.read_symbols.Given as goal
 
 abbrev pub invariant-loop-p : goal.invariant-loop-p
 invariant-loop-p l = Reading (meaning l.table) l.grammar l.p × (l.productions ≡ length (meaning l.table).productions)
-
-abbrev pub decreases-loop-p : goal.decreases-loop-p
-decreases-loop-p l = l.productions - l.p
