@@ -40,9 +40,7 @@ pub fn count(table: &[u16], a: Areas, lengths: &mut [u8])
     ensures { Lengths table.now lengths.new }
 {
     let productions = a.productions;
-    let mut p: usize = 0;
-    while p < productions {
+    for p in 0..productions {
         lengths[p] = symbol_count(table, a, p) as u8;
-        p += 1;
     }
 }

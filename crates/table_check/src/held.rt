@@ -44,9 +44,7 @@ pub fn hold(table: &[u16], a: Areas, held: &mut [u8])
     ensures { Held table.now held.new }
 {
     let count = a.nonterminals;
-    let mut n: usize = 0;
-    while n < count {
+    for n in 0..count {
         hold_chain(table, a, n, held);
-        n += 1;
     }
 }

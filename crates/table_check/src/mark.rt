@@ -25,14 +25,12 @@ pub fn mark_heads(
     requires n_bound { (first + n ≤ loose table.now) × ((k < 2) × Blank table.now marks.old) }
     ensures { Passed table.now first n k n (loose table.now) marks.new }
 {
-    let mut i: usize = 0;
-    while i < n {
+    for i in 0..n {
         let r = first + i;
         let x = word(table, r, k);
         if areas::names(from, past, r, x) {
             put(marks, x);
         }
-        i += 1;
     }
 }
 

@@ -49,11 +49,9 @@ fn scan_areas(table: &[u16], a: Areas, held: &[u8], lengths: &[u8]) -> Lowest
 {
     let past = a.loose_at;
     let mut best = Lowest { row: 0, place: 0 };
-    let mut r: usize = 0;
-    while r < past {
+    for r in 0..past {
         let m = fault::area_fault(table, a, held, lengths, r);
         best = lower(best, m, r);
-        r += 1;
     }
     best
 }
@@ -104,13 +102,12 @@ fn scan_loose(
     requires best { Best (fault_at table.now) (loose table.now) first.row first.place }
     ensures { Best (fault_at table.now) (records table.now) result.row result.place }
 {
+    let from = a.loose_at;
     let past = a.records;
     let mut best = first;
-    let mut r = a.loose_at;
-    while r < past {
+    for r in from..past {
         let m = pass(table, a, symbols, items, edges, lengths, r);
         best = lower(best, m, r);
-        r += 1;
     }
     best
 }

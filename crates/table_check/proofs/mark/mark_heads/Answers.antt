@@ -1,5 +1,4 @@
-use native.Mathlib.Omega.{arith}
-use mathlib.Core.Path.{◌≡◌, refl, ◌∙◌}
+use Rattle.std.proofs.Common.{arith}
 use Rattle.table.proofs.Reached.{loose-named}
 use Rattle.table_check.proofs.Sizes.{room, word_in}
 use Rattle.table_check.proofs.Passed.{tested, none_yet, head-yes, head_no}
@@ -7,7 +6,7 @@ use Rattle.table_check.proofs.mark.mark_heads.Goals as goal
 use Rattle.table_check.proofs.mark.mark_heads.Goals.{then-names, else-names}
 
 pub loop-i-init : goal.loop-i-init
-loop-i-init c = (omega arith, (refl, none_yet _ c.requires.n_bound.1.1))
+loop-i-init c = none_yet _ c.requires.n_bound.1.1
 
 pub word-x-requires : goal.word-x-requires
 word-x-requires c = let R = room _ c.requires.sized in
@@ -15,20 +14,12 @@ word-x-requires c = let R = room _ c.requires.sized in
 
 pub put-requires : goal.put-requires
 put-requires c = let N = loose-named _ _ _ (tested _ _ _ _ _ c.requires.from_value.0 c.requires.from_value.1 c.names.ensures c.if-names.true) in
-    omega (arith, N.early, c.loop-i.invariant.1.1.long)
+    omega (arith, N.early, c.loop-i.invariant.long)
 
 pub loop-i-preserved : goal.loop-i-preserved
-loop-i-preserved c = let inv = c.loop-i.invariant in
-    let P = inv.1.1 in
+loop-i-preserved c = let P = c.loop-i.invariant in
     let x = c.word-x.result in
     elim c.if-names.branch [
-      | then-names w ↦ (omega arith, (rw w.marks-is (w.put.auto.words ∙ inv.1.0), rw (w.marks-is, w.put.ensures) (head-yes P x c.loop-i-test.true (omega arith) c.word-x.ensures.0 (tested _ _ _ _ _ c.requires.from_value.0 c.requires.from_value.1 c.names.ensures w.if-names.true))))
-      | else-names w ↦ (omega arith, (rw w.marks-is inv.1.0, rw w.marks-is (head_no P x c.word-x.ensures.0 (tested _ _ _ _ _ c.requires.from_value.0 c.requires.from_value.1 c.names.ensures w.if-names.false))))
+      | then-names w ↦ rw (w.marks-is, w.put.ensures) (head-yes P x c.loop-i-test.true (omega arith) c.word-x.ensures.0 (tested _ _ _ _ _ c.requires.from_value.0 c.requires.from_value.1 c.names.ensures w.if-names.true))
+      | else-names w ↦ rw w.marks-is (head_no P x c.word-x.ensures.0 (tested _ _ _ _ _ c.requires.from_value.0 c.requires.from_value.1 c.names.ensures w.if-names.false))
     ]
-
-pub shape_of-marks : goal.shape_of-marks
-shape_of-marks c = c.loop-i.invariant.1.0
-
-pub returns : goal.returns
-returns c = let e : c.loop-i.i ≡ c.args.n = omega arith in
-    rw e at c.loop-i.invariant.1.1
