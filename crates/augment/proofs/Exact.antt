@@ -15,9 +15,9 @@ use Rattle.repr.specs.Meaning.{Table, TableFits, production_at}
 use Rattle.repr.specs.declared.ProductionIndex.{ProductionIndex}
 use Rattle.repr.proofs.Lists.{cases, mem-cons_here, mem_below, mem-keep}
 use Rattle.repr.proofs.Listed.{and_left, and_right}
+use Rattle.table.specs.Checked.{Accepted}
 use Rattle.table.specs.Decoded.{meaning}
 use Rattle.table.specs.Refusals.{check_of}
-use Rattle.table.specs.declared.Checked.TheVariants.{Accepted}
 use Rattle.table.proofs.Decoding.{fits}
 use Rattle.spelling.specs.Spelled.{owns, records_of, spell, Ordered}
 use Rattle.spelling.proofs.Accepted.{spell_accepted}

@@ -6,10 +6,10 @@ use Rattle.slices.specs.Lent.{in_front}
 use Rattle.repr.specs.Sizes.{nonterminal_limit, production_limit}
 use Rattle.repr.specs.Lists.{below, keep, some?}
 use Rattle.repr.specs.Meaning.{nonterminal, is_same_symbol, Production, Table, no_state, production_at}
+use Rattle.table.specs.Checked.{Accepted}
 use Rattle.table.specs.Decoded.{meaning}
 use Rattle.table.specs.Refusals.{check_of}
 use Rattle.table.specs.Index.{CountsOf}
-use Rattle.table.specs.declared.Checked.TheVariants.{Accepted}
 use Rattle.spelling.specs.Spelled.{owns, records_of, spell}
 use Rattle.grammar_records.specs.Target.{PackedAs}
 use Rattle.augment.specs.declared.Started.{Started}

@@ -9,13 +9,14 @@ ghost use Rattle.repr.specs.Meaning.{nonterminal, is_same_symbol, Table};
 ghost use Rattle.repr.specs.Listed.{symbol_of_kind, listed, list_is_fit};
 ghost use Rattle.repr.specs.Packed.{Packed, productions_in};
 ghost use Rattle.table.specs.Decoded.{meaning};
+ghost use Rattle.table.specs.Checked.{Accepted};
 ghost use Rattle.table.specs.Refusals.{check_of};
 ghost use Rattle.grammar_records.specs.Target.{PackedAs};
 ghost use Rattle.augment.specs.Started.{uses, is_start_needed, started_in, started_of, Startable, GrammarOf};
 
 use grammar_records::{count_symbols, next_owned, write_front, write_productions, write_symbols};
 use repr::{NonterminalString, ProductionIndex, symbols};
-use table::{Checked, Counts, put, read_counts, read_productions};
+use table::{Counts, put, read_counts, read_productions};
 
 // Records written and the start production; or the refusal and its place.
 #[derive(Clone, Copy)]
@@ -119,7 +120,7 @@ pub fn write_started(grammar: &[u16], counts: Counts, production: usize, out: &m
 
 // The grammar with a start production, at the front of `out`: its own, or one that is added. Refusals 2, then 17; they change nothing.
 pub fn with_start(table: &[u16], start: NonterminalString, out: &mut [u16]) -> Started
-    requires table_value { check_of table.now ≡ Checked.Accepted }
+    requires table_value { check_of table.now ≡ Accepted }
     requires startable { Startable (meaning table.now) start.0 }
     ensures { record { answer = result; out = out.new } ≡ started_of (meaning table.now) start.0 out.old }
 {

@@ -11,10 +11,9 @@ use borrow.Author.Tests.{ltb-true, ltb-false}
 use Rattle.slices.specs.Lent.{in_front}
 use Rattle.repr.specs.Meaning.{Edge, State, Table, no_state, state_at}
 use Rattle.repr.proofs.Lists.{cases, get_d_map-below, length-map-below}
+use Rattle.table.specs.Checked.{Checked, Accepted, Refused as NotAccepted}
 use Rattle.table.specs.Decoded.{meaning}
 use Rattle.table.specs.Refusals.{check_of}
-use Rattle.table.specs.declared.Checked.{Checked}
-use Rattle.table.specs.declared.Checked.TheVariants.{Accepted, Refused as NotAccepted}
 use Rattle.table.proofs.Chains.{and-true}
 use Rattle.table.proofs.Decoding.{fits}
 use Rattle.spelling.specs.Spelled.{edge_lists, records_of, spell}

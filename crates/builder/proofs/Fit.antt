@@ -11,9 +11,9 @@ use Rattle.repr.specs.Lists.{below}
 use Rattle.repr.specs.Meaning.{Edge, Table, TableFits}
 use Rattle.repr.specs.Sizes.{classify_scratch, example_room}
 use Rattle.repr.proofs.Lists.{cases, length-map-below}
+use Rattle.table.specs.Checked.{Accepted}
 use Rattle.table.specs.Decoded.{meaning}
 use Rattle.table.specs.Refusals.{check_of}
-use Rattle.table.specs.declared.Checked.TheVariants.{Accepted}
 use Rattle.table.proofs.Decoding.{fits}
 use Rattle.spelling.specs.Spelled.{spell}
 use Rattle.error.specs.declared.Conflict.{Conflict}

@@ -11,11 +11,11 @@ use Rattle.repr.specs.Meaning.{Item, Edge, Table, state_at}
 use Rattle.repr.proofs.Lists.{cases}
 use Rattle.slices.specs.Lent.{zeroed}
 use Rattle.slices.proofs.Lent.{zeroed_lent}
+use Rattle.table.specs.Checked.{Accepted, Refused as NotAccepted}
 use Rattle.table.specs.Words.{loose_records}
 use Rattle.table.specs.Decoded.{item_at, edge_at, meaning, items_from, edges_from}
 use Rattle.table.specs.Refusals.{check_of}
 use Rattle.table.specs.Index.{ItemIndex, EdgeIndex}
-use Rattle.table.specs.declared.Checked.TheVariants.{Accepted, Refused as NotAccepted}
 use Rattle.table.proofs.Accepted.{accepts}
 use Rattle.table.proofs.Chains.{chain_end}
 use Rattle.table.proofs.Indexes.{item-read, edge_read_lem}

@@ -9,9 +9,9 @@ use Rattle.repr.specs.Sizes.{record_limit}
 use Rattle.repr.specs.Lists.{below}
 use Rattle.repr.specs.Meaning.{Production, Edge, State, Table, no_state, TableFits}
 use Rattle.repr.proofs.Lists.{length_mapped, length-map-below, get_d_map, get_d_map-below}
+use Rattle.table.specs.Checked.{Accepted}
 use Rattle.table.specs.Decoded.{meaning}
 use Rattle.table.specs.Refusals.{check_of}
-use Rattle.table.specs.declared.Checked.TheVariants.{Accepted}
 use Rattle.table.proofs.Decoding.{fits}
 use Rattle.spelling.specs.Spelled.{size_of, symbol_lists, item_lists, edge_lists, states_at, productions_at, symbols_at, items_place, edges_at, records_of, spell, Ordered}
 use Rattle.spelling.proofs.Accepted.{spell_accepted}

@@ -6,9 +6,9 @@ use Rattle.repr.specs.Sizes.{classify_scratch, example_room}
 use Rattle.repr.specs.Lists.{below, joined}
 use Rattle.repr.specs.Meaning.{Symbol, Item, Edge, Table, state_at}
 use Rattle.lookahead.specs.Tokens.{has}
+use Rattle.table.specs.Checked.{Accepted}
 use Rattle.table.specs.Decoded.{meaning}
 use Rattle.table.specs.Refusals.{check_of}
-use Rattle.table.specs.declared.Checked.TheVariants.{Accepted}
 use Rattle.spelling.specs.Spelled.{edge_lists, spell}
 use Rattle.error.specs.declared.Conflict.{Conflict as Asked}
 use Rattle.error.specs.Sides.{gather}

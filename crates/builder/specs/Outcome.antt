@@ -2,9 +2,9 @@
 use Rattle.std.specs.Prelude.{ℕ, ◌/◌, Bool, true, false, ◌&&◌, List, length, eqb, ltb}
 use Rattle.repr.specs.Meaning.{Table, state_at}
 use Rattle.slices.specs.Lent.{in_front, zeroed}
+use Rattle.table.specs.Checked.{Accepted, Refused as NotAccepted}
 use Rattle.table.specs.Decoded.{meaning}
 use Rattle.table.specs.Refusals.{check_of}
-use Rattle.table.specs.declared.Checked.TheVariants.{Accepted, Refused as NotAccepted}
 use Rattle.spelling.specs.Spelled.{records_of, spell}
 use Rattle.build.specs.States.{clashes}
 use Rattle.build.specs.Built.{built_table, conflict_words}

@@ -8,6 +8,7 @@ ghost use Rattle.repr.specs.Sizes.{record_limit};
 ghost use Rattle.repr.specs.Meaning.{Table};
 ghost use Rattle.repr.specs.Packed.{Packed, productions_in};
 ghost use Rattle.table.specs.Decoded.{meaning};
+ghost use Rattle.table.specs.Checked.{Accepted};
 ghost use Rattle.table.specs.Refusals.{check_of};
 ghost use Rattle.spelling.specs.Spelled.{spell};
 ghost use Rattle.build.specs.Outcome.{outcome};
@@ -40,7 +41,7 @@ impl Built {
 
 // Whether the table is a grammar alone: one state, without items and edges.
 fn is_grammar_alone(table: &[u16]) -> bool
-    requires { check_of table.now ≡ Checked.Accepted }
+    requires { check_of table.now ≡ Accepted }
     ensures { result ≡ grammar_alone (meaning table.now) }
 {
     let counts = read_counts(table);
@@ -55,7 +56,7 @@ fn is_grammar_alone(table: &[u16]) -> bool
 
 // Refusal 18.
 fn start_fits(table: &[u16], start: usize) -> bool
-    requires { check_of table.now ≡ Checked.Accepted }
+    requires { check_of table.now ≡ Accepted }
     ensures { result ≡ start_is_fit (meaning table.now) start }
 {
     let counts = read_counts(table);
@@ -129,7 +130,7 @@ fn write_found(
 
 // How many records there are beside states, items and edges, and how many there may be.
 fn sizes_of(table: &[u16], grammar: &[u16], room: usize) -> Sizes
-    requires table_value { check_of table.now ≡ Checked.Accepted }
+    requires table_value { check_of table.now ≡ Accepted }
     requires packed { Packed grammar.now (length (meaning table.now).productions) × (productions_in grammar.now (length (meaning table.now).productions) ≡ (meaning table.now).productions) }
     ensures { SizesOf (meaning table.now) room result.nonterminals result.terminals result.productions result.fixed result.limit }
 {
@@ -155,7 +156,7 @@ fn build_found(
     out: &mut [u16],
     conflicts: &mut [u16],
 ) -> Built
-    requires table_value { check_of table.now ≡ Checked.Accepted }
+    requires table_value { check_of table.now ≡ Accepted }
     requires start_value { (start_is_fit (meaning table.now) start ≡ true) × (record_limit * 5 ≤ length words.old) }
     ensures { (S : List ℕ) → record { answer = result; scratch = zeroed build_scratch S; out = out.new; conflicts = conflicts.new } ≡ built_of (meaning table.now) S out.old conflicts.old (outcome (meaning table.now) start (length out.old / 4) (length conflicts.old)) }
 {
@@ -194,7 +195,7 @@ fn build_in(
     out: &mut [u16],
     conflicts: &mut [u16],
 ) -> Built
-    requires { check_of table.now ≡ Checked.Accepted }
+    requires { check_of table.now ≡ Accepted }
     ensures { record { answer = result; scratch = scratch.new; out = out.new; conflicts = conflicts.new } ≡ built_in (meaning table.now) start scratch.old out.old conflicts.old }
 {
     if scratch.len() < Built::SCRATCH {

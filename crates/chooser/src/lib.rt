@@ -7,6 +7,7 @@ ghost use Rattle.repr.specs.Sizes.{classify_scratch, entry_limit, entries_room};
 ghost use Rattle.slices.specs.Lent.{zeroed};
 ghost use Rattle.lookahead.specs.Tokens.{has, members};
 ghost use Rattle.table.specs.Decoded.{meaning};
+ghost use Rattle.table.specs.Checked.{Accepted};
 ghost use Rattle.table.specs.Refusals.{check_of};
 ghost use Rattle.examples.specs.Reads.{Reads};
 ghost use Rattle.error.specs.Choose.{chosen, refused, outcome, set_fits, classes_of, choice_of, chosen_in};
@@ -21,7 +22,7 @@ use examples::prepare;
 use lookahead::TokenSet;
 use repr::{NonterminalString, ProductionIndex};
 use slices::zero;
-use table::{Checked, Counts, read_counts};
+use table::{Counts, read_counts};
 
 // What choosing answers: the refusal, 0 if there is none, and its place; the number of tokens chosen; for each six words, its token, the number of its class, the class's own values, zeros; zeros behind the last.
 #[derive(Clone, Copy)]
@@ -238,7 +239,7 @@ fn choose_gathered(
 
 // The table's productions are packed into the front of the scratch words, as classifying does; all are zero at the end.
 fn choose_read(table: &[u16], conflict: Conflict, tokens: TokenSet, scratch: &mut [u16]) -> Chosen
-    requires table_value { check_of table.now ≡ Checked.Accepted }
+    requires table_value { check_of table.now ≡ Accepted }
     requires tokens_value { set_fits (meaning table.now) conflict tokens.0 ≡ true }
     requires classify_scratch_in_bounds { classify_scratch ≤ length scratch.old }
     ensures scratch_after { outcome (choice_in result) scratch.new ≡ outcome (choice_of conflict.action (classes_of (meaning table.now) conflict (members tokens.0))) (zeroed classify_scratch scratch.old) }
@@ -276,7 +277,7 @@ fn set_shifts_end(conflict: Conflict, tokens: TokenSet, terminals: u16) -> bool
 
 // `choose` over an accepted table: refusals 9 to 11 change nothing.
 pub fn choose_in(table: &[u16], conflict: Conflict, tokens: TokenSet, scratch: &mut [u16]) -> Chosen
-    requires { check_of table.now ≡ Checked.Accepted }
+    requires { check_of table.now ≡ Accepted }
     ensures scratch_after { outcome (choice_in result) scratch.new ≡ chosen_in conflict tokens.0 scratch.old (meaning table.now) }
     ensures value { result ≡ chosen_of (choice_in result) }
 {

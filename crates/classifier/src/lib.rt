@@ -6,6 +6,7 @@ ghost use Rattle.std.specs.Prelude.{◌≡◌, true, false, ◌&&◌, List, ℕ,
 ghost use Rattle.repr.specs.Sizes.{classify_scratch, example_room};
 ghost use Rattle.slices.specs.Lent.{zeroed};
 ghost use Rattle.table.specs.Decoded.{meaning};
+ghost use Rattle.table.specs.Checked.{Accepted};
 ghost use Rattle.table.specs.Refusals.{check_of};
 ghost use Rattle.error.specs.Numbers.{reading_of};
 ghost use Rattle.error.specs.Sides.{gather};
@@ -25,7 +26,7 @@ use outline::Outline;
 use pairs::sort_side;
 use repr::{NonterminalString, ProductionIndex};
 use slices::zero;
-use table::{Checked, Counts, read_counts};
+use table::{Counts, read_counts};
 
 // The action's terminal or production in range: part of refusal 9.
 fn operand_fits(terminals: usize, productions: usize, action: usize, operand: usize) -> bool
@@ -42,7 +43,7 @@ fn operand_fits(terminals: usize, productions: usize, action: usize, operand: us
 
 // Refusal 9 for all of a conflict but its token.
 pub fn place_fits(table: &[u16], conflict: Conflict) -> bool
-    requires { check_of table.now ≡ Checked.Accepted }
+    requires { check_of table.now ≡ Accepted }
     ensures { result ≡ place_is_fit (meaning table.now) conflict }
 {
     let counts = read_counts(table);
@@ -293,7 +294,7 @@ fn classify_read(
     action: &mut [u16],
     reduce: &mut [u16],
 ) -> Classified
-    requires table_value { check_of table.now ≡ Checked.Accepted }
+    requires table_value { check_of table.now ≡ Accepted }
     requires conflict_value { conflict_fits (meaning table.now) conflict ≡ true }
     requires classify_scratch_in_bounds { (classify_scratch ≤ length scratch.old) × ((example_room ≤ length action.old) × (example_room ≤ length reduce.old)) }
     ensures { outcome (reading_of result) scratch.new action.new reduce.new ≡ gathered_outcome (meaning table.now) conflict scratch.old action.old reduce.old (gather (meaning table.now) conflict) }
@@ -327,7 +328,7 @@ pub fn classify_in(
     action: &mut [u16],
     reduce: &mut [u16],
 ) -> Classified
-    requires { check_of table.now ≡ Checked.Accepted }
+    requires { check_of table.now ≡ Accepted }
     ensures { outcome (reading_of result) scratch.new action.new reduce.new ≡ classified_in conflict scratch.old action.old reduce.old (meaning table.now) }
 {
     let counts = read_counts(table);

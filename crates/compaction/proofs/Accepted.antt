@@ -11,10 +11,10 @@ use Rattle.repr.specs.Lists.{below, mem, joined}
 use Rattle.repr.specs.Listed.{symbol_is_fit}
 use Rattle.repr.proofs.Lists.{cases, length_mapped, mem_below}
 use Rattle.repr.proofs.Tests.{some?-below, some?-below_witness}
+use Rattle.table.specs.Checked.{Accepted}
 use Rattle.table.specs.Words.{word_at, records, nonterminals, terminals, states, productions, state_area, production_area, loose, loose_records, production_records, against}
 use Rattle.table.specs.Decoded.{production_chain, symbol_chain, item_chain, edge_chain}
 use Rattle.table.specs.Refusals.{row1, row2, row3, row4, row5, row6, row7, row8, used, is_nonterminal, is_state, is_production, as_symbol, as_item, as_edge, offends, check_of}
-use Rattle.table.specs.declared.Checked.TheVariants.{Accepted}
 use Rattle.table.proofs.Chains.{and-true, or-false, or_left, or_right, named, good_of}
 use Rattle.table.proofs.ListLaws.{mem-map-out}
 use Rattle.table.proofs.Accepted.{Accepts, areas_of, nonterminal-place, state_place, production_place_lem, nonterminal-head, production-next, production-once, production_short, symbol_range, edge_range, item_range, target_range}

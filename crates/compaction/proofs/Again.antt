@@ -8,10 +8,10 @@ use lib.ListN.{take}
 use Rattle.repr.specs.Lists.{below, mem}
 use Rattle.repr.proofs.Lists.{cases}
 use Rattle.repr.proofs.Tests.{some?-below_witness}
+use Rattle.table.specs.Checked.{Accepted}
 use Rattle.table.specs.Words.{records, states, productions, loose}
 use Rattle.table.specs.Decoded.{symbol_chain, item_chain, edge_chain}
 use Rattle.table.specs.Refusals.{as_symbol, as_item, as_edge, check_of}
-use Rattle.table.specs.declared.Checked.TheVariants.{Accepted}
 use Rattle.table.proofs.ListLaws.{mem-map_in}
 use Rattle.table.proofs.Accepted.{Accepts, accepts}
 use Rattle.table.specs.Quads.{words, quad_at}

@@ -4,11 +4,10 @@ use mathlib.Core.List.{List}
 use Prim.Native.Nat.{ℕ, ◌*◌}
 use native.Mathlib.Omega.{arith}
 use lib.ListN.{length, take}
+use Rattle.table.specs.Checked.{Checked, Accepted, Refused}
 use Rattle.table.specs.Words.{records}
 use Rattle.table.specs.Decoded.{meaning}
 use Rattle.table.specs.Refusals.{check_of}
-use Rattle.table.specs.declared.Checked.{Checked}
-use Rattle.table.specs.declared.Checked.TheVariants.{Accepted, Refused}
 use Rattle.table.proofs.Accepted.{accepts}
 use Rattle.compaction.specs.Compaction.{count_of, compacted}
 use Rattle.compaction.specs.Outcome.{Outcome, compact_of}

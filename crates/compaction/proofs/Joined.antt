@@ -8,10 +8,10 @@ use lib.Dec.{eqb}
 use borrow.Author.Tests.{eqb-true, eqb-false}
 use Rattle.repr.specs.Sizes.{record_limit}
 use Rattle.repr.proofs.Lists.{cases}
+use Rattle.table.specs.Checked.{Accepted}
 use Rattle.table.specs.Words.{word_at, records, state_area, production_area, loose}
 use Rattle.table.specs.Refusals.{check_of}
 use Rattle.table.specs.Quads.{Quad}
-use Rattle.table.specs.declared.Checked.TheVariants.{Accepted}
 use Rattle.table.proofs.Accepted.{Accepts, accepts, areas_of, rows_first}
 use Rattle.table_check.specs.Marks.{Sized}
 use Rattle.table_check.specs.Known.{AreasOf}

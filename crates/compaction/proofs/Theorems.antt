@@ -4,10 +4,10 @@ use mathlib.Core.List.{List}
 use Prim.Native.Nat.{ℕ, ◌*◌, ◌≤◌}
 use native.Mathlib.Omega.{arith}
 use Rattle.repr.proofs.Lists.{cases}
+use Rattle.table.specs.Checked.{Accepted}
 use Rattle.table.specs.Words.{records, loose}
 use Rattle.table.specs.Decoded.{meaning}
 use Rattle.table.specs.Refusals.{check_of}
-use Rattle.table.specs.declared.Checked.TheVariants.{Accepted}
 use Rattle.table.proofs.Accepted.{accepts, areas_of}
 use Rattle.compaction.specs.Compaction.{reached, rank, count_of, compacted_to, compacted}
 use Rattle.compaction.proofs.Ranks.{rank_bound}

@@ -1,7 +1,7 @@
 -- What `compact` answers and leaves in the lent words (Req 08), for every slice. Assumes nothing: these are definitions.
 use Rattle.std.specs.Prelude.{ℕ, List}
+use Rattle.table.specs.Checked.{Accepted, Refused}
 use Rattle.table.specs.Refusals.{check_of}
-use Rattle.table.specs.declared.Checked.TheVariants.{Accepted, Refused}
 use Rattle.compaction.specs.Compaction.{count_of, compacted}
 use Rattle.compaction.specs.declared.Compacted.{Compacted}
 use Rattle.compaction.specs.declared.Compacted.TheVariants.{Records, Refused as No}

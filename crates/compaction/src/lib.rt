@@ -5,6 +5,7 @@
 ghost use Rattle.std.specs.Prelude.{true, List, ◌≡◌, ℕ, ◌+◌, ◌*◌, ◌≤◌, ◌<◌, length, get_or, replicate};
 ghost use Rattle.repr.specs.Sizes.{record_limit};
 ghost use Rattle.table.specs.Words.{word_at, records, loose};
+ghost use Rattle.table.specs.Checked.{Accepted};
 ghost use Rattle.table.specs.Refusals.{check_of};
 ghost use Rattle.table.specs.Quads.{put_quad};
 ghost use Rattle.table_check.specs.Known.{AreasOf};
@@ -25,7 +26,7 @@ pub enum Compacted {
 
 // Marks the heads in word k of the records from `first` up to and without `past`.
 fn mark_heads(table: &[u16], first: usize, past: usize, k: usize, numbers: &mut [u16])
-    requires table_value { check_of table.now ≡ Checked.Accepted }
+    requires table_value { check_of table.now ≡ Accepted }
     requires first_le_past { (first ≤ past) × ((past ≤ loose table.now) × ((k < 4) × Headed table.now first past k)) }
     requires numbers_len { length numbers.old ≡ record_limit }
     ensures { HeadsMarked table.now first past k numbers.old numbers.new }
@@ -42,7 +43,7 @@ fn mark_heads(table: &[u16], first: usize, past: usize, k: usize, numbers: &mut 
 
 // Reached record r gets its new number, and its next is marked.
 fn number_one(table: &[u16], r: usize, number: usize, numbers: &mut [u16])
-    requires table_value { check_of table.now ≡ Checked.Accepted }
+    requires table_value { check_of table.now ≡ Accepted }
     requires r_value { (reached table.now r ≡ true) × (number ≤ record_limit) }
     requires numbers_len { length numbers.old ≡ record_limit }
     ensures { Numbered table.now numbers.old numbers.new r number }
@@ -57,7 +58,7 @@ fn number_one(table: &[u16], r: usize, number: usize, numbers: &mut [u16])
 // One ascending pass over the loose records, whose heads are marked: a next index is larger than its record's number, so each is marked by the time it is met.
 // The number of records that are left.
 fn number_loose(table: &[u16], a: Areas, numbers: &mut [u16]) -> usize
-    requires table_value { (check_of table.now ≡ Checked.Accepted) × AreasOf table.now a }
+    requires table_value { (check_of table.now ≡ Accepted) × AreasOf table.now a }
     requires numbers_len { (length numbers.old ≡ record_limit) × Numbering table.now numbers.old (loose table.now) }
     ensures { (result ≡ count_of table.now) × Numbers table.now numbers.new }
 {
@@ -76,7 +77,7 @@ fn number_loose(table: &[u16], a: Areas, numbers: &mut [u16]) -> usize
 
 // The new number of each reached record. The number of records that are left.
 fn number_reached(table: &[u16], a: Areas, numbers: &mut [u16]) -> usize
-    requires table_value { (check_of table.now ≡ Checked.Accepted) × AreasOf table.now a }
+    requires table_value { (check_of table.now ≡ Accepted) × AreasOf table.now a }
     requires numbers_value { numbers.old ≡ replicate record_limit 0 }
     ensures { (result ≡ count_of table.now) × Numbers table.now numbers.new }
 {
@@ -102,7 +103,7 @@ fn move_record(table: &mut [u16], r: usize, number: usize, numbers: &[u16])
 
 // Moves the reached records to their new numbers. A new number is no larger than the old one, so in ascending order nothing is overwritten that is still to be read.
 fn move_down(table: &mut [u16], a: Areas, numbers: &[u16])
-    requires table_value { (check_of table.old ≡ Checked.Accepted) × AreasOf table.old a }
+    requires table_value { (check_of table.old ≡ Accepted) × AreasOf table.old a }
     requires numbers { Numbers table.old numbers.now }
     ensures { Closing table.old table.new (records table.old) }
 {
@@ -145,7 +146,7 @@ fn free_end(table: &mut [u16], count: usize)
 
 // Over an accepted table: the number of records that are left.
 fn close_gaps(table: &mut [u16]) -> usize
-    requires { check_of table.old ≡ Checked.Accepted }
+    requires { check_of table.old ≡ Accepted }
     ensures { (result ≡ count_of table.old) × (table.new ≡ compacted table.old) }
 {
     let a = survey(table);

@@ -13,11 +13,11 @@ use Rattle.repr.specs.Meaning.{Item, is_same_symbol}
 use Rattle.lookahead.specs.Tokens.{has, single, union, meet, without}
 use Rattle.lr1_core.specs.Items.{first, symbol_sets}
 use Rattle.first.specs.First.{join, first_of, marked_at_end, unmarked, first0, meets_ahead, grown, round, settle, sets_of_first}
+use Rattle.table.specs.Checked.{Accepted}
 use Rattle.table.specs.Words.{word_at, records, state_area, production_area, loose, production_records, loose_records, names, against, chain_by, chain}
 use Rattle.table.specs.Decoded.{production_chain, symbol_chain, item_chain, edge_chain, symbol_at, item_at, edge_at, or_zero, owner_of, production_of, state_of, productions_of, meaning}
 use Rattle.table.specs.Refusals.{row1, row2, is_nonterminal, is_state, is_production, as_symbol, as_item, as_edge, row3, row4, row5, row6, row7, used, row8, offends, first_row, check_of}
 use Rattle.table.specs.TableB.{table_b}
-use Rattle.table.specs.declared.Checked.TheVariants.{Accepted}
 use Rattle.trace_graph.specs.Graph.{Node, at_nonterminal, at_item, same_item, is_same_node, TraceEdge, label_of, same_symbols, same_cursor, same_sets, is_same_edge, is_node_of}
 use Rattle.trace_graph.specs.Words.{node_words, edge_words, graph_words, node_of, node_at, edge_at as lent_edge, edges_in}
 use Rattle.trace_graph.specs.Fits.{item_is_fit, node_fits, edge_is_fit, once, graph_fits}

@@ -4,10 +4,9 @@ use mathlib.Core.Option.{Option}
 use Rattle.repr.specs.Sizes.{graph_room}
 use Rattle.repr.specs.Meaning.{Item, Table, TableFits}
 use Rattle.repr.proofs.Lists.{cases}
+use Rattle.table.specs.Checked.{Checked, Accepted, Refused as NotAccepted}
 use Rattle.table.specs.Decoded.{meaning}
 use Rattle.table.specs.Refusals.{check_of}
-use Rattle.table.specs.declared.Checked.{Checked}
-use Rattle.table.specs.declared.Checked.TheVariants.{Accepted, Refused as NotAccepted}
 use Rattle.table.proofs.Decoding.{fits}
 use Rattle.trace_graph.specs.Graph.{at_item, is_node_of}
 use Rattle.trace_graph.specs.Words.{edges_in}

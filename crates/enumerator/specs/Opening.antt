@@ -2,9 +2,9 @@
 use Rattle.std.specs.Prelude.{◌≡◌, ℕ, ◌≤◌, Bool, true, List, length}
 use Rattle.repr.specs.Sizes.{graph_room}
 use Rattle.repr.specs.Meaning.{Item}
+use Rattle.table.specs.Checked.{Accepted}
 use Rattle.table.specs.Decoded.{meaning}
 use Rattle.table.specs.Refusals.{check_of}
-use Rattle.table.specs.declared.Checked.TheVariants.{Accepted}
 use Rattle.trace_graph.specs.Graph.{at_item, is_node_of}
 use Rattle.trace_graph.specs.Words.{edges_in}
 use Rattle.enumerator.specs.Advance.{set_of, asked}

@@ -9,12 +9,11 @@ use Rattle.repr.specs.Meaning.{Symbol, nonterminal, terminal, is_same_symbol, It
 use Rattle.repr.specs.Listed.{symbol_of_kind, symbol_is_fit}
 use Rattle.lookahead.specs.Tokens.{has, single, union, meet, without, members}
 use Rattle.lr1_core.specs.Items.{first, symbol_sets, is_nonterminal, shifts_nonterminal}
+use Rattle.table.specs.Checked.{Checked, Accepted, Refused as NotAccepted}
 use Rattle.table.specs.Words.{word_at, records, state_area, production_area, loose, production_records, loose_records, names, against, chain_by, chain}
 use Rattle.table.specs.Decoded.{production_chain, symbol_chain, item_chain, edge_chain, symbol_at, item_at, edge_at, or_zero, owner_of as owner_in, production_of, state_of, productions_of, meaning}
 use Rattle.table.specs.Refusals.{row1, row2, is_nonterminal as nonterminal_record, is_state, is_production, as_symbol, as_item, as_edge, row3, row4, row5, row6, row7, used, row8, offends, first_row, check_of}
 use Rattle.table.specs.TableB.{table_b}
-use Rattle.table.specs.declared.Checked.{Checked}
-use Rattle.table.specs.declared.Checked.TheVariants.{Accepted, Refused as NotAccepted}
 use Rattle.first.specs.declared.Answer.{Answer}
 use Rattle.first.specs.First.{join, first_of, marked_at_end, unmarked, first0, meets_ahead, disjoint, grown, round, settle, sets_of_first, FIRST, nullable}
 use Rattle.state_graph.specs.Walk.{leads, predecessors, walked_back, traced_back}

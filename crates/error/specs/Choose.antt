@@ -4,10 +4,9 @@ use Rattle.repr.specs.Sizes.{classify_scratch}
 use Rattle.slices.specs.Lent.{zeroed}
 use Rattle.repr.specs.Lists.{keep}
 use Rattle.repr.specs.Meaning.{Table}
+use Rattle.table.specs.Checked.{Checked, Accepted, Refused as NotAccepted}
 use Rattle.table.specs.Decoded.{meaning}
 use Rattle.table.specs.Refusals.{check_of}
-use Rattle.table.specs.declared.Checked.{Checked}
-use Rattle.table.specs.declared.Checked.TheVariants.{Accepted, Refused as NotAccepted}
 use Rattle.lookahead.specs.Tokens.{has, members}
 use Rattle.error.specs.declared.Conflict.{Conflict}
 use Rattle.error.specs.Numbers.{number_of_class, values_of_class}

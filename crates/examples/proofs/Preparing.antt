@@ -4,8 +4,8 @@ use mathlib.Core.Path.{sym, ◌∙◌, subst}
 use Rattle.repr.specs.Sizes.{production_limit}
 use Rattle.repr.specs.Meaning.{Production, Table}
 use Rattle.repr.specs.Packed.{Packed, productions_in}
+use Rattle.table.specs.Checked.{Accepted}
 use Rattle.table.specs.declared.Counts.{Counts}
-use Rattle.table.specs.declared.Checked.TheVariants.{Accepted}
 use Rattle.table.specs.Decoded.{meaning}
 use Rattle.table.specs.Index.{CountsOf}
 use Rattle.table.specs.Refusals.{check_of}

@@ -2,8 +2,8 @@
 use Rattle.std.specs.Prelude.{◌≡◌, ℕ, ◌<◌, List, length, slice_index}
 use Rattle.repr.specs.Sizes.{production_limit}
 use Rattle.repr.specs.Packed.{Packed, productions_in}
+use Rattle.table.specs.Checked.{Accepted}
 use Rattle.table.specs.declared.Counts.{Counts}
-use Rattle.table.specs.declared.Checked.TheVariants.{Accepted}
 use Rattle.table.specs.Decoded.{meaning}
 use Rattle.table.specs.Refusals.{check_of}
 use Rattle.first.specs.First.{sets_of_first}

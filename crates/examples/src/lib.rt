@@ -8,6 +8,7 @@ ghost use Rattle.slices.specs.Lent.{in_front};
 ghost use Rattle.repr.specs.Meaning.{no_production, Item as ItemOf};
 ghost use Rattle.repr.specs.Packed.{Packed, productions_in};
 ghost use Rattle.table.specs.Decoded.{meaning};
+ghost use Rattle.table.specs.Checked.{Accepted};
 ghost use Rattle.table.specs.Refusals.{check_of};
 ghost use Rattle.trace_graph.specs.Graph.{TraceEdge};
 ghost use Rattle.trace_graph.specs.Fits.{item_is_fit};
@@ -43,7 +44,7 @@ use repr::{NonterminalString, ProductionIndex};
 use search::{Searched, read_labels, search, write_trial};
 use shift_items::{NextItem, conflicting_shift_items, next_shift_item};
 use state_graph::StateIndex;
-use table::{Checked, Counts, read_counts, read_productions};
+use table::{Counts, read_counts, read_productions};
 use trace::reduce::suffix_ends;
 use trace_graph::Inserted;
 use tracer::trace_codes;
@@ -60,7 +61,7 @@ pub struct Prepared {
 
 // Packs the productions into the words lent, and makes the rest.
 pub fn prepare(table: &[u16], grammar: &mut [u16]) -> Prepared
-    requires table_value { check_of table.now ≡ Checked.Accepted }
+    requires table_value { check_of table.now ≡ Accepted }
     requires grammar_len { length grammar.old ≡ grammar_room }
     ensures { Reads table.now grammar.new result.counts result.map result.least result.ends }
 {

@@ -13,10 +13,9 @@ use Rattle.repr.specs.Lists.{keep, joined, first?}
 use Rattle.repr.specs.Meaning.{All, Symbol, Item, Production, Table, production_at}
 use Rattle.repr.proofs.Lists.{cases, length_mapped, keep-nil, keep-yes, keep_no}
 use Rattle.repr.proofs.Tests.{first?-nil, first?-yes, first?_no}
+use Rattle.table.specs.Checked.{Checked, Accepted, Refused as NotAccepted}
 use Rattle.table.specs.Decoded.{meaning}
 use Rattle.table.specs.Refusals.{check_of}
-use Rattle.table.specs.declared.Checked.{Checked}
-use Rattle.table.specs.declared.Checked.TheVariants.{Accepted, Refused as NotAccepted}
 use Rattle.table.proofs.Decoding.{fits}
 use Rattle.lookahead.specs.Tokens.{single}
 use Rattle.trace_graph.specs.Graph.{TraceEdge, at_item}

@@ -18,7 +18,7 @@ use Rattle.repr.proofs.Listed.{fits_head, symbol_range}
 use Rattle.repr.proofs.Packed.{words_long}
 use Rattle.repr.proofs.Parts.{listed_at, symbols_long, word_of}
 use Rattle.trace_graph.proofs.Fits.{production-symbols}
-use Rattle.table.specs.declared.Checked.TheVariants.{Accepted}
+use Rattle.table.specs.Checked.{Accepted}
 use Rattle.table.specs.Decoded.{meaning, productions_from}
 use Rattle.table.specs.Refusals.{check_of}
 use Rattle.table.specs.Index.{ProductionHead}

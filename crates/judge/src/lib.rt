@@ -10,6 +10,7 @@ ghost use Rattle.repr.specs.Packed.{Packed, productions_in};
 ghost use Rattle.slices.specs.Same.{same_words};
 ghost use Rattle.slices.specs.Lent.{in_front};
 ghost use Rattle.table.specs.Decoded.{meaning};
+ghost use Rattle.table.specs.Checked.{Accepted};
 ghost use Rattle.table.specs.Refusals.{check_of};
 ghost use Rattle.example.specs.Example.{example_words};
 ghost use Rattle.error.specs.Judge.{Example, is_same_reading, is_operator_of, ambiguity_of_shift, ambiguity_of_reduce, ambiguity_of, question_of, inline_or, unambiguous, judge};
@@ -28,7 +29,7 @@ use examples::{action_again, reduce_again};
 use outline::{Outline, outline_at, turn_at, write_kept};
 use pairs::{Found, Test, first_pair};
 use repr::{NonterminalString, ProductionIndex, word};
-use table::{Checked, Counts, first_production, production};
+use table::{Counts, first_production, production};
 
 // An example that is shown, by its number, or none.
 #[derive(Clone, Copy)]
@@ -434,7 +435,7 @@ fn try_classify_question(
     productions: usize,
     nonterminal: usize,
 ) -> OptionalSymbol
-    requires table_value { check_of table.now ≡ Checked.Accepted }
+    requires table_value { check_of table.now ≡ Accepted }
     requires grammar { Grammar (meaning table.now) grammar.now productions × (nonterminal < length (meaning table.now).nonterminals) }
     ensures { (question_in result ≡ question_of (meaning table.now) nonterminal) × QuestionFits result }
 {

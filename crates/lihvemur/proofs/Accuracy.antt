@@ -1,9 +1,9 @@
 -- The accuracy rule: accepted tables with the same counts, productions, spans, items in order and edges in order get the same answers, whatever their words. Assumes nothing.
 use Rattle.std.proofs.Common.{◌≡◌, ℕ, zero, suc, ◌*◌, List, [], ◌∷◌, ◌++◌, length, take, sym, refl, ap, ◌∙◌}
 use Rattle.repr.specs.Meaning.{Item, Table}
+use Rattle.table.specs.Checked.{Accepted}
 use Rattle.table.specs.Decoded.{meaning}
 use Rattle.table.specs.Refusals.{check_of}
-use Rattle.table.specs.declared.Checked.TheVariants.{Accepted}
 use Rattle.trace_graph.specs.declared.TraceEdge.{TraceEdge}
 use Rattle.spelling.specs.Spelled.{SameTable}
 use Rattle.spelling.specs.Outcome.{written_of, respell_of}

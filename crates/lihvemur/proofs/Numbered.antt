@@ -1,7 +1,5 @@
 -- The ways through the exported functions, one law each. Assumes nothing.
 use Rattle.std.proofs.Common.{◌≡◌, ℕ, Bool, List, sym, ap, ◌∙◌}
-use Rattle.table.specs.declared.Checked.{Checked}
-use Rattle.table.specs.declared.Checked.TheVariants.{Accepted, Refused}
 use Rattle.spelling.specs.Outcome.{Outcome as Spelling}
 use Rattle.spelling.specs.declared.Respelled.{Respelled}
 use Rattle.spelling.specs.declared.Respelled.TheVariants.{Records, Refused as NotSpelled}
@@ -36,6 +34,7 @@ use Rattle.tracer.specs.Outcome.{Outcome, outcome}
 use Rattle.tracer.specs.declared.Backtrace.{Backtrace}
 use Rattle.tracer.specs.declared.Backtrace.TheVariants.{Edges as TraceEdges, Refused as NoTrace}
 use Rattle.lihvemur.specs.Exported.{numbers, check_numbers, spell_numbers, respell_numbers, compact_numbers, build_numbers, built_numbers, read_numbers, reading_numbers, write_numbers, writing_numbers, set_numbers, followed_numbers, answer_numbers, first_numbers, state_numbers, walk_numbers, add_numbers, edge_numbers, trace_numbers, backtrace_numbers}
+use Rattle.table.specs.Checked.{Checked, Accepted, Refused}
 
 -- c: what the entry answers, d: what its contract says it is
 module _ (c d : Checked) (e : c ≡ d) where

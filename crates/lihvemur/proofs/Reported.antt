@@ -7,10 +7,9 @@ use Rattle.repr.specs.Meaning.{Table}
 use Rattle.repr.proofs.Lists.{cases, length-keep}
 use Rattle.lookahead.specs.Tokens.{members}
 use Rattle.lookahead.proofs.Members.{members_few}
+use Rattle.table.specs.Checked.{Checked, Accepted, Refused as NotAccepted}
 use Rattle.table.specs.Decoded.{meaning}
 use Rattle.table.specs.Refusals.{check_of}
-use Rattle.table.specs.declared.Checked.{Checked}
-use Rattle.table.specs.declared.Checked.TheVariants.{Accepted, Refused as NotAccepted}
 use Rattle.repr.specs.declared.NonterminalString.{NonterminalString}
 use Rattle.error.specs.declared.Conflict.{Conflict}
 use Rattle.error.specs.declared.Class.{Class}

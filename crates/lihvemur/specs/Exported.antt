@@ -1,8 +1,6 @@
 -- What the exported functions answer in numbers: 0, or the refusal, whose place stands behind `place`. A number behind another reference changes only with answer 0; lent words are those that the entry leaves.
 -- Assumes nothing: these are definitions.
 use Rattle.std.specs.Prelude.{ℕ, Bool, List}
-use Rattle.table.specs.declared.Checked.{Checked}
-use Rattle.table.specs.declared.Checked.TheVariants.{Accepted, Refused}
 use Rattle.spelling.specs.Outcome.{Outcome as Spelling}
 use Rattle.spelling.specs.declared.Respelled.TheVariants.{Records, Refused as NotSpelled}
 use Rattle.compaction.specs.Outcome.{Outcome as Compaction}
@@ -22,6 +20,7 @@ use Rattle.lr1.specs.Edges.{EdgeOutcome, edge_outcome}
 use Rattle.lr1.specs.declared.AddEdge.TheVariants.{Edges as GraphEdges, Refused as NoEdge}
 use Rattle.tracer.specs.Outcome.{Outcome, outcome}
 use Rattle.tracer.specs.declared.Backtrace.TheVariants.{Edges as TraceEdges, Refused as NoTrace}
+use Rattle.table.specs.Checked.{Checked, Accepted, Refused}
 
 -- refusal and place
 pub data Numbers : Type 0 where

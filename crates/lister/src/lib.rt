@@ -8,6 +8,7 @@ ghost use Rattle.slices.specs.Lent.{in_front};
 ghost use Rattle.repr.specs.Meaning.{Table};
 ghost use Rattle.repr.specs.Packed.{Packed, productions_in};
 ghost use Rattle.table.specs.Decoded.{meaning};
+ghost use Rattle.table.specs.Checked.{Accepted};
 ghost use Rattle.table.specs.Refusals.{check_of};
 ghost use Rattle.trace_graph.specs.Graph.{at_item, is_same_node, is_node_of};
 ghost use Rattle.trace_graph.specs.Words.{node_at, edges_in};
@@ -29,7 +30,7 @@ use first::FirstSets;
 use lookahead::TokenSet;
 use repr::{NonterminalString, ProductionIndex, word};
 use search::{Searched, search, write_trial};
-use table::{Checked, read_counts, read_productions};
+use table::{read_counts, read_productions};
 use trace_graph::{TraceGraph, check_graph, item_fits, read_node};
 use view::View;
 use view::making::check_view;
@@ -172,7 +173,7 @@ pub fn open_in(
     lookahead: Lookahead,
     graph: &[u16],
 ) -> Opened
-    requires { check_of table.now ≡ Checked.Accepted }
+    requires { check_of table.now ≡ Accepted }
     ensures { result ≡ open_in (record { production = production.0; index = index }) lookahead graph.now (meaning table.now) }
 {
     let p = production.0 as usize;
@@ -396,7 +397,7 @@ pub fn step_in(
     scratch: &mut [u16],
     buffer: &mut [u16],
 ) -> Stepped
-    requires { check_of table.now ≡ Checked.Accepted }
+    requires { check_of table.now ≡ Accepted }
     ensures { outcome result.answer result.next scratch.new buffer.new ≡ advance_in graph.now l scratch.old buffer.old (meaning table.now) }
 {
     let counts = read_counts(table);

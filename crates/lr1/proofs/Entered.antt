@@ -11,9 +11,8 @@ use Rattle.repr.specs.Meaning.{Table, Production}
 use Rattle.repr.specs.Listed.{listed, list_is_fit}
 use Rattle.repr.proofs.Listed.{symbol_wider}
 use Rattle.repr.specs.Packed.{productions_in}
+use Rattle.table.specs.Checked.{Checked, Accepted, Refused}
 use Rattle.table.specs.Decoded.{meaning}
-use Rattle.table.specs.declared.Checked.{Checked}
-use Rattle.table.specs.declared.Checked.TheVariants.{Accepted, Refused}
 use Rattle.first.specs.First.{FIRST, first0, first1, sets_of_first}
 use Rattle.first.specs.declared.Answer.{Answer}
 use Rattle.state_graph.specs.Walk.{traced_back}

@@ -13,9 +13,8 @@ use Rattle.slices.specs.Lent.{in_front}
 use Rattle.repr.specs.Lists.{some?}
 use Rattle.repr.specs.Meaning.{Table, Production, Item}
 use Rattle.repr.specs.Packed.{productions_in}
+use Rattle.table.specs.Checked.{Checked, Accepted, Refused as NotAccepted}
 use Rattle.table.specs.Decoded.{meaning}
-use Rattle.table.specs.declared.Checked.{Checked}
-use Rattle.table.specs.declared.Checked.TheVariants.{Accepted, Refused as NotAccepted}
 use Rattle.trace_graph.specs.declared.Node.{Node as NodeValue}
 use Rattle.trace_graph.specs.declared.TraceEdge.{TraceEdge as EdgeValue}
 use Rattle.trace_graph.specs.Graph.{TraceEdge, is_same_edge, add}

@@ -14,10 +14,9 @@ use Rattle.repr.proofs.Lists.{mem-cons_here, mem-cons_there, joined_nil, joined_
 use Rattle.repr.proofs.Listed.{and_left, and_right}
 use Rattle.repr.proofs.Parts.{length-listed}
 use Rattle.repr.proofs.Joined.{listed-append, fits-append}
+use Rattle.table.specs.Checked.{Checked, Accepted, Refused}
 use Rattle.table.specs.Decoded.{meaning}
 use Rattle.table.specs.Refusals.{check_of}
-use Rattle.table.specs.declared.Checked.{Checked}
-use Rattle.table.specs.declared.Checked.TheVariants.{Accepted, Refused}
 use Rattle.first.specs.declared.Answer.{Answer}
 use Rattle.first.specs.First.{FIRST, join_answers}
 use Rattle.first.proofs.Answers.{FIRST-nil, FIRST-append, join_answers_assoc, join-empty-left, join-empty_right}

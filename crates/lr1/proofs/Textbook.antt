@@ -15,9 +15,9 @@ use Rattle.repr.specs.Listed.{symbol_of_kind, listed, symbol_is_fit, list_is_fit
 use Rattle.repr.proofs.Lists.{cases, clash, mem-nil}
 use Rattle.lookahead.specs.Tokens.{has, without}
 use Rattle.lookahead.proofs.Laws.{has-none, has-without, without_no}
+use Rattle.table.specs.Checked.{Accepted}
 use Rattle.table.specs.Decoded.{meaning}
 use Rattle.table.specs.Refusals.{check_of}
-use Rattle.table.specs.declared.Checked.TheVariants.{Accepted}
 use Rattle.table.proofs.Chains.{and-true as both_true}
 use Rattle.table.proofs.Accepted.{accepts}
 use Rattle.table.proofs.Decoding.{symbol_fits, fits, owned}

@@ -3,10 +3,9 @@
 use Rattle.std.specs.Prelude.{ℕ, suc, ◌^◌, Bool, true, false, ◌&&◌, List, length, ltb}
 use Rattle.repr.specs.Meaning.{Table}
 use Rattle.repr.specs.Listed.{listed, list_is_fit}
+use Rattle.table.specs.Checked.{Checked, Accepted, Refused}
 use Rattle.table.specs.Decoded.{meaning}
 use Rattle.table.specs.Refusals.{check_of}
-use Rattle.table.specs.declared.Checked.{Checked}
-use Rattle.table.specs.declared.Checked.TheVariants.{Accepted, Refused}
 use Rattle.first.specs.First.{FIRST, followed}
 use Rattle.state_graph.specs.Walk.{traced_back}
 use Rattle.state_graph.specs.States.{states_in}

@@ -6,6 +6,7 @@
 ghost use Rattle.std.specs.Prelude.{◌≡◌, ◌++◌};
 ghost use Rattle.first.specs.First.{sets_of_first};
 ghost use Rattle.table.specs.Decoded.{meaning};
+ghost use Rattle.table.specs.Checked.{Accepted};
 ghost use Rattle.table.specs.Refusals.{check_of};
 ghost use Rattle.spelling.specs.Outcome.{respell_of};
 ghost use Rattle.compaction.specs.Outcome.{compact_of};
@@ -111,7 +112,7 @@ pub fn first0_joined(table: &[u16], xs: &[u16], ys: &[u16]) -> First
 
 // FIRST of every nonterminal.
 fn first_sets(table: &[u16]) -> FirstSets
-    requires { check_of table.now ≡ Checked.Accepted }
+    requires { check_of table.now ≡ Accepted }
     ensures { result.map ≡ sets_of_first (meaning table.now).terminals (meaning table.now).productions }
 {
     let counts = read_counts(table);
@@ -121,7 +122,7 @@ fn first_sets(table: &[u16]) -> FirstSets
 }
 
 fn first0_in(table: &[u16], xs: &[u16], ys: &[u16]) -> First
-    requires { check_of table.now ≡ Checked.Accepted }
+    requires { check_of table.now ≡ Accepted }
     ensures { result ≡ first0_answer (xs.now ++ ys.now) (meaning table.now) }
 {
     let counts = read_counts(table);
@@ -153,7 +154,7 @@ pub fn first1(table: &[u16], lookahead: TokenSet, symbols: &[u16]) -> Followed
 }
 
 fn first1_in(table: &[u16], lookahead: TokenSet, symbols: &[u16]) -> Followed
-    requires { check_of table.now ≡ Checked.Accepted }
+    requires { check_of table.now ≡ Accepted }
     ensures { result ≡ first1_answer symbols.now lookahead.0 (meaning table.now) }
 {
     let counts = read_counts(table);
@@ -194,7 +195,7 @@ pub fn trace_back_joined(table: &[u16], state: StateIndex, xs: &[u16], ys: &[u16
 }
 
 fn trace_back_in(table: &[u16], state: StateIndex, xs: &[u16], ys: &[u16]) -> Walked
-    requires { check_of table.now ≡ Checked.Accepted }
+    requires { check_of table.now ≡ Accepted }
     ensures { walk_of result ≡ trace_back_answer state.0 (xs.now ++ ys.now) (meaning table.now) }
 {
     let counts = read_counts(table);
@@ -244,7 +245,7 @@ pub fn add_edge(
 
 // The lowest refusal first: 9 for the edge itself comes before 11; only a graph that is long enough is looked into. No refusal changes a word.
 fn add_edge_in(table: &[u16], edge: TraceEdge, graph: &mut [u16]) -> AddEdge
-    requires { check_of table.now ≡ Checked.Accepted }
+    requires { check_of table.now ≡ Accepted }
     ensures { edge_outcome result graph.new ≡ added_edge_in edge graph.old (meaning table.now) }
 {
     let counts = read_counts(table);

@@ -1,5 +1,6 @@
 // Ops 14 and 15: token sets, an item's symbols.
 ghost use Rattle.std.specs.Prelude.{◌≡◌, ◌<◌, ◌≤◌, length};
+ghost use Rattle.table.specs.Checked.{Accepted};
 ghost use Rattle.table.specs.Refusals.{check_of};
 ghost use Rattle.repr.specs.Packed.{Packed, symbol_words};
 ghost use Rattle.repr.specs.Listed.{listed};
@@ -107,7 +108,7 @@ fn say_item<R: Print>(rt: &R, item: Item, grammar: &[u16], productions: usize)
 }
 
 fn ask_item_in<R: Print>(rt: &R, table: &[u16], production: usize, index: usize)
-    requires { check_of table.now ≡ Checked.Accepted }
+    requires { check_of table.now ≡ Accepted }
 {
     let counts = read_counts(table);
     let productions = counts.productions;

@@ -8,11 +8,10 @@ use lib.ListN.{replicate}
 use Rattle.repr.specs.Sizes.{entries_room}
 use Rattle.repr.specs.Lists.{below, first?}
 use Rattle.repr.proofs.Lists.{cases}
+use Rattle.table.specs.Checked.{Checked, Accepted, Refused}
 use Rattle.table.specs.Words.{records}
 use Rattle.table.specs.Decoded.{meaning}
 use Rattle.table.specs.Refusals.{row1, row2, offends, first_row, check_of}
-use Rattle.table.specs.declared.Checked.{Checked}
-use Rattle.table.specs.declared.Checked.TheVariants.{Accepted, Refused}
 use Rattle.error.specs.declared.Conflict.{Conflict}
 use Rattle.error.specs.declared.Classified.TheVariants.{Refused as NotClassified}
 use Rattle.error.specs.Numbers.{reading_of}

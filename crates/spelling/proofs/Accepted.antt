@@ -13,10 +13,10 @@ use Rattle.repr.specs.Meaning.{Symbol, nonterminal, terminal, Table, no_producti
 use Rattle.repr.specs.Listed.{symbol_is_fit}
 use Rattle.repr.proofs.Lists.{cases, length-up_from, occurrences-append, occurrences-none, occurrences-nil, joined_nil, joined_cons}
 use Rattle.repr.proofs.Tests.{All_at}
+use Rattle.table.specs.Checked.{Accepted}
 use Rattle.table.specs.Words.{word_at, records, nonterminals, terminals, states, productions, state_area, production_area, loose, loose_records, production_records, against}
 use Rattle.table.specs.Decoded.{production_chain, symbol_chain}
 use Rattle.table.specs.Refusals.{row1, row2, row3, row4, row5, row6, row7, row8, used, is_nonterminal, is_state, is_production, as_symbol, as_item, as_edge, offends, check_of}
-use Rattle.table.specs.declared.Checked.TheVariants.{Accepted}
 use Rattle.table.proofs.Chains.{and-true, chain-once}
 use Rattle.table.proofs.Exact.{accepted_exact}
 use Rattle.table.specs.Quads.{no_quad}

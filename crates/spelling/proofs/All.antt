@@ -8,10 +8,10 @@ use lib.ListN.{length}
 use Rattle.repr.specs.Sizes.{record_limit}
 use Rattle.repr.specs.Meaning.{Table}
 use Rattle.repr.proofs.Lists.{cases}
+use Rattle.table.specs.Checked.{Accepted}
 use Rattle.table.specs.Decoded.{meaning}
 use Rattle.table.specs.Refusals.{check_of}
 use Rattle.table.specs.Index.{CountsOf}
-use Rattle.table.specs.declared.Checked.TheVariants.{Accepted}
 use Rattle.table.specs.Quads.{put_quad}
 use Rattle.table.proofs.Quads.{put_long}
 use Rattle.spelling.specs.Spelled.{chains_from, quads, size_of, symbol_lists, item_lists, edge_lists, states_at, productions_at, symbols_at, items_place, edges_at, records_of}

@@ -9,12 +9,12 @@ use borrow.Author.Tests.{eqb-true, eqb-false}
 use Rattle.repr.specs.Sizes.{record_limit}
 use Rattle.repr.specs.Meaning.{Table, Production, State, state_at, production_at}
 use Rattle.repr.proofs.Lists.{cases, length_mapped}
+use Rattle.table.specs.Checked.{Accepted}
 use Rattle.table.specs.Words.{word_at, nonterminals, productions, production_area}
 use Rattle.table.specs.Decoded.{symbol_at, item_at, edge_at, meaning, production_of, items_from, edges_from}
 use Rattle.table.specs.Refusals.{check_of}
 use Rattle.table.specs.Index.{CountsOf}
 use Rattle.table.specs.Written.{symbols_from, SymbolIndex}
-use Rattle.table.specs.declared.Checked.TheVariants.{Accepted}
 use Rattle.table.proofs.Accepted.{accepts, areas_of}
 use Rattle.table.proofs.Decoding.{many_nonterminals, many_states, many_productions, production_at_lem}
 use Rattle.table.proofs.Indexes.{inside, Asked}

@@ -4,9 +4,9 @@ use mathlib.Core.List.{List}
 use Prim.Native.Nat.{ℕ, ◌+◌, ◌-◌, ◌≤◌, ◌<◌, min}
 use native.Mathlib.Omega.{arith}
 use lib.ListN.{length}
+use Rattle.table.specs.Checked.{Accepted}
 use Rattle.table.specs.Words.{word_at}
 use Rattle.table.specs.Refusals.{check_of}
-use Rattle.table.specs.declared.Checked.TheVariants.{Accepted}
 use Rattle.spelling.specs.Spelled.{size_of}
 use Rattle.spelling.specs.Grown.{records_from, LooseIndex, chains_of, Heads}
 use Rattle.spelling.proofs.Reading.{records_end, records-more, index_next, chains_end, chains_more, heads_more}

@@ -5,11 +5,11 @@ use mathlib.Core.List.{List, [], ◌∷◌}
 use Prim.Native.Nat.{ℕ, suc, ◌+◌, ◌-◌, ◌≤◌, ◌<◌}
 use native.Mathlib.Omega.{arith}
 use Rattle.repr.specs.Lists.{up_from}
+use Rattle.table.specs.Checked.{Accepted}
 use Rattle.table.specs.Words.{word_at, records, loose, loose_records, against}
 use Rattle.table.specs.Refusals.{as_symbol, as_item, as_edge, check_of}
 use Rattle.table.specs.Index.{ItemIndex, EdgeIndex}
 use Rattle.table.specs.Written.{SymbolIndex}
-use Rattle.table.specs.declared.Checked.TheVariants.{Accepted}
 use Rattle.table.proofs.Chains.{or_left, or_right, chain_end}
 use Rattle.table.proofs.Accepted.{accepts}
 use Rattle.table.proofs.Held.{symbol-inside, item-inside, edge_inside, symbol_on, item_on, edge_on, symbol-next_as, item-next_as, edge_next_as, loose_small}

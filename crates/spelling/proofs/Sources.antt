@@ -11,10 +11,10 @@ use Rattle.repr.specs.Lists.{up_from, mem}
 use Rattle.repr.specs.Meaning.{State, Production}
 use Rattle.repr.specs.Listed.{symbol_of_kind, symbol_is_fit}
 use Rattle.repr.proofs.Lists.{clash, length_mapped, length-up_from, get_d_up_from, get_d_map, mem-cons_here, mem-cons_there}
+use Rattle.table.specs.Checked.{Accepted}
 use Rattle.table.specs.Words.{word_at, records, states, productions, state_area, production_area, loose, loose_records}
 use Rattle.table.specs.Decoded.{symbol_chain, item_chain, edge_chain, symbol_at, item_at, edge_at, state_of, meaning}
 use Rattle.table.specs.Refusals.{is_nonterminal, is_state, as_symbol, as_item, as_edge, used, row8, check_of}
-use Rattle.table.specs.declared.Checked.TheVariants.{Accepted}
 use Rattle.table.proofs.Chains.{or-false, or_left, or_right, chain-from, loose-whole}
 use Rattle.table.proofs.Accepted.{accepts, areas_of, item-head, edge_head, symbol-head, symbol_range, edge_range}
 use Rattle.table.proofs.Held.{symbol-inside, item-inside, edge_inside, symbol_of_lem, item_of, edge_of, symbol-first_as, item-first_as, edge_first_as, loose_small}

@@ -9,10 +9,10 @@ use borrow.Author.Tests.{eqb-true, eqb-false}
 use Rattle.repr.specs.Sizes.{record_limit}
 use Rattle.repr.specs.Meaning.{Table}
 use Rattle.repr.proofs.Lists.{cases}
+use Rattle.table.specs.Checked.{Accepted}
 use Rattle.table.specs.Words.{word_at}
 use Rattle.table.specs.Decoded.{meaning}
 use Rattle.table.specs.Refusals.{check_of}
-use Rattle.table.specs.declared.Checked.TheVariants.{Accepted}
 use Rattle.table.specs.Quads.{Quad, no_quad, put_quad}
 use Rattle.spelling.specs.Spelled.{head_of, chain_from, chains_from, size_of, records_of, quads}
 use Rattle.spelling.specs.Grown.{Grown, Room, Stands, records_from, same_quad, LooseIndex, chains_of, Heads}

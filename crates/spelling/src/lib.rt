@@ -5,6 +5,7 @@
 ghost use Rattle.std.specs.Prelude.{◌≡◌, List, [], ◌∷◌, ℕ, suc, ◌+◌, ◌*◌, ◌≤◌, ◌<◌, min, length, get_or};
 ghost use Rattle.repr.specs.Sizes.{record_limit};
 ghost use Rattle.table.specs.Decoded.{meaning};
+ghost use Rattle.table.specs.Checked.{Accepted};
 ghost use Rattle.table.specs.Refusals.{check_of};
 ghost use Rattle.spelling.specs.Spelled.{chain_from, chains_from, size_of, states_at, productions_at, symbols_at, items_place, edges_at, records_of, quads};
 ghost use Rattle.spelling.specs.Grown.{Grown, Room, Stands, records_from, same_quad, LooseIndex, chains_of, Heads, SizesOf};
@@ -36,7 +37,7 @@ pub fn next_of(next: usize, at: usize) -> usize
 
 // Writes the records of a chain from record `begin` on, one behind the other, and returns the record behind them.
 fn write_chain(table: &[u16], out: &mut [u16], head: usize, begin: usize) -> usize
-    requires table_value { check_of table.now ≡ Checked.Accepted }
+    requires table_value { check_of table.now ≡ Accepted }
     requires loose_index { LooseIndex table.now head × (Stands (quads (meaning table.now)) begin (chain_from (same_quad table.now) begin (records_from table.now head)) × Room (meaning table.now) out.old) }
     ensures { (result ≡ begin + length (records_from table.now head)) × Grown (meaning table.now) out.old out.new begin result }
 {
@@ -64,7 +65,7 @@ fn write_chains(
     k: usize,
     begin: usize,
 ) -> usize
-    requires table_value { check_of table.now ≡ Checked.Accepted }
+    requires table_value { check_of table.now ≡ Accepted }
     requires heads { Heads table.now first past k × (Stands (quads (meaning table.now)) begin (chains_from (same_quad table.now) begin (chains_of table.now first past k)) × Room (meaning table.now) out.old) }
     ensures { (result ≡ begin + size_of (chains_of table.now first past k)) × Grown (meaning table.now) out.old out.new begin result }
 {
@@ -80,7 +81,7 @@ fn write_chains(
 
 // How many records a chain has, counted up to `most`.
 fn count_chain(table: &[u16], head: usize, most: usize) -> usize
-    requires table_value { check_of table.now ≡ Checked.Accepted }
+    requires table_value { check_of table.now ≡ Accepted }
     requires loose_index { LooseIndex table.now head × (most ≤ suc record_limit) }
     ensures { result ≡ min (length (records_from table.now head)) most }
 {
@@ -98,7 +99,7 @@ fn count_chain(table: &[u16], head: usize, most: usize) -> usize
 
 // How many records the chains of `write_chains` have, counted up to `most`: shared chains can be reached two million times over.
 fn count_chains(table: &[u16], first: usize, past: usize, k: usize, most: usize) -> usize
-    requires table_value { check_of table.now ≡ Checked.Accepted }
+    requires table_value { check_of table.now ≡ Accepted }
     requires heads { Heads table.now first past k × (most ≤ suc record_limit) }
     ensures { result ≡ min (size_of (chains_of table.now first past k)) most }
 {
@@ -121,7 +122,7 @@ pub fn head_of(count: usize, at: usize) -> usize
 
 // Writes the nonterminals: their heads are the table's.
 fn write_nonterminals(table: &[u16], out: &mut [u16])
-    requires table_value { check_of table.now ≡ Checked.Accepted }
+    requires table_value { check_of table.now ≡ Accepted }
     requires room { Room (meaning table.now) out.old }
     ensures { Grown (meaning table.now) out.old out.new 1 (states_at (meaning table.now)) }
 {
@@ -137,7 +138,7 @@ fn write_nonterminals(table: &[u16], out: &mut [u16])
 
 // Writes the states; their items begin at record `items`, their edges at record `edges`.
 fn write_states(table: &[u16], out: &mut [u16], items: usize, edges: usize)
-    requires table_value { check_of table.now ≡ Checked.Accepted }
+    requires table_value { check_of table.now ≡ Accepted }
     requires value { (items ≡ items_place (meaning table.now)) × ((edges ≡ edges_at (meaning table.now)) × Room (meaning table.now) out.old) }
     ensures { Grown (meaning table.now) out.old out.new (states_at (meaning table.now)) (productions_at (meaning table.now)) }
 {
@@ -161,7 +162,7 @@ fn write_states(table: &[u16], out: &mut [u16], items: usize, edges: usize)
 
 // Writes the productions: their next indexes and spans are the table's. Their symbols begin at record `symbols`.
 fn write_productions(table: &[u16], out: &mut [u16], symbols: usize)
-    requires table_value { check_of table.now ≡ Checked.Accepted }
+    requires table_value { check_of table.now ≡ Accepted }
     requires symbols_value { (symbols ≡ symbols_at (meaning table.now)) × Room (meaning table.now) out.old }
     ensures { Grown (meaning table.now) out.old out.new (productions_at (meaning table.now)) (symbols_at (meaning table.now)) }
 {
@@ -194,7 +195,7 @@ struct Sizes {
 }
 
 fn measure(table: &[u16]) -> Sizes
-    requires { check_of table.now ≡ Checked.Accepted }
+    requires { check_of table.now ≡ Accepted }
     ensures { SizesOf (meaning table.now) result.symbols result.items result.edges result.records }
 {
     let counts = read_counts(table);
@@ -215,7 +216,7 @@ fn measure(table: &[u16]) -> Sizes
 
 // Writes all records.
 fn write_all(table: &[u16], out: &mut [u16], symbols: usize, items: usize, edges: usize)
-    requires table_value { check_of table.now ≡ Checked.Accepted }
+    requires table_value { check_of table.now ≡ Accepted }
     requires symbols_value { (symbols ≡ symbols_at (meaning table.now)) × ((items ≡ items_place (meaning table.now)) × ((edges ≡ edges_at (meaning table.now)) × Room (meaning table.now) out.old)) }
     ensures { Grown (meaning table.now) out.old out.new 0 (records_of (meaning table.now)) }
 {
@@ -240,7 +241,7 @@ fn write_all(table: &[u16], out: &mut [u16], symbols: usize, items: usize, edges
 
 // Writes an accepted table afresh, if there is room.
 fn respell_in(table: &[u16], out: &mut [u16]) -> Respelled
-    requires { check_of table.now ≡ Checked.Accepted }
+    requires { check_of table.now ≡ Accepted }
     ensures { record { answer = result; out = out.new } ≡ written_of (meaning table.now) out.old }
 {
     let s = measure(table);

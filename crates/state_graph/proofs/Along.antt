@@ -9,11 +9,11 @@ use Rattle.repr.specs.Sizes.{record_limit}
 use Rattle.repr.specs.Lists.{some?}
 use Rattle.repr.specs.Listed.{symbol_of_kind, symbol_is_fit}
 use Rattle.repr.proofs.Tests.{some?-nil}
+use Rattle.table.specs.Checked.{Accepted}
 use Rattle.table.specs.Words.{word_at}
 use Rattle.table.specs.Decoded.{meaning, edges_from}
 use Rattle.table.specs.Refusals.{check_of}
 use Rattle.table.specs.Index.{EdgeIndex}
-use Rattle.table.specs.declared.Checked.TheVariants.{Accepted}
 use Rattle.table.proofs.Accepted.{accepts}
 use Rattle.state_graph.specs.States.{states_in}
 use Rattle.state_graph.specs.Hits.{has_end_in, meets, SteppedTo}

@@ -13,11 +13,11 @@ use Rattle.repr.specs.Listed.{symbol_of_kind, symbol_is_fit}
 use Rattle.repr.proofs.Lists.{cases}
 use Rattle.repr.proofs.Listed.{symbol_range}
 use Rattle.repr.proofs.Tests.{some?-nil, some?-cons}
+use Rattle.table.specs.Checked.{Accepted}
 use Rattle.table.specs.Words.{word_at, records, loose, loose_records}
 use Rattle.table.specs.Decoded.{meaning, edges_from}
 use Rattle.table.specs.Refusals.{check_of, as_edge}
 use Rattle.table.specs.Index.{EdgeIndex, EdgeRead}
-use Rattle.table.specs.declared.Checked.TheVariants.{Accepted}
 use Rattle.table.proofs.Accepted.{accepts, areas_of}
 use Rattle.table.proofs.Held.{edge_inside}
 use Rattle.table.proofs.Indexes.{edge_read_lem}

@@ -10,6 +10,7 @@ ghost use Rattle.table.specs.Words.{records};
 ghost use Rattle.table.specs.Quads.{put_quad};
 ghost use Rattle.table.specs.Decoded.{meaning, edges_from};
 ghost use Rattle.table.specs.Index.{EdgeIndex};
+ghost use Rattle.table.specs.Checked.{Accepted};
 ghost use Rattle.table.specs.Refusals.{check_of};
 ghost use Rattle.state_graph.specs.Walk.{predecessors, walked_back, traced_back};
 ghost use Rattle.state_graph.specs.States.{has_state, states_in, NextIs};
@@ -19,7 +20,7 @@ ghost use Rattle.state_graph.specs.Remembered.{step_rows, step_places, step_word
 use bits::{is_set, put};
 use lookahead::{NextToken, TokenSet, TokenSetIter};
 use repr::NonterminalString;
-use table::{Checked, first_edge, read_counts, word};
+use table::{first_edge, read_counts, word};
 
 // The number of a state.
 #[derive(Clone, Copy)]
@@ -175,7 +176,7 @@ fn hit_now(table: &[u16], hits: &[u64], r: usize, kind: usize, number: usize, se
 
 // The records from the last down: a next index is larger than its record's number, so what follows a record is known when it is read.
 fn sweep(table: &[u16], hits: &mut [u64], kind: usize, number: usize, set: StateSet)
-    requires table_value { check_of table.now ≡ Checked.Accepted }
+    requires table_value { check_of table.now ≡ Accepted }
     requires number_value { symbol_is_fit (length (meaning table.now).nonterminals) (meaning table.now).terminals kind number ≡ true }
     requires hits_value { hits.old ≡ replicate hit_words 0 }
     ensures { Hits table.now kind number set.low set.high hits.new }
@@ -191,7 +192,7 @@ fn sweep(table: &[u16], hits: &mut [u64], kind: usize, number: usize, set: State
 
 // With the hits in words that are lent.
 fn step_over(table: &[u16], hits: &mut [u64], kind: usize, number: usize, set: StateSet) -> StateSet
-    requires table_value { check_of table.now ≡ Checked.Accepted }
+    requires table_value { check_of table.now ≡ Accepted }
     requires number_value { symbol_is_fit (length (meaning table.now).nonterminals) (meaning table.now).terminals kind number ≡ true }
     requires hits_value { hits.old ≡ replicate hit_words 0 }
     ensures { states_in result.low result.high ≡ predecessors (meaning table.now) (symbol_of_kind kind number) (states_in set.low set.high) }
@@ -225,7 +226,7 @@ struct Led {
 }
 
 fn leads(table: &[u16], first: usize, kind: usize, number: usize, set: StateSet, most: usize) -> Led
-    requires table_value { check_of table.now ≡ Checked.Accepted }
+    requires table_value { check_of table.now ≡ Accepted }
     requires number_value { symbol_is_fit (length (meaning table.now).nonterminals) (meaning table.now).terminals kind number ≡ true }
     requires edge_index { EdgeIndex table.now first }
     ensures { (result.left ≡ 0 → ⊥) → result.leads ≡ some? (meets (symbol_of_kind kind number) (states_in set.low set.high)) (edges_from table.now first) }
@@ -262,7 +263,7 @@ enum Stepped {
 }
 
 fn step_along(table: &[u16], kind: usize, number: usize, set: StateSet) -> Stepped
-    requires table_value { check_of table.now ≡ Checked.Accepted }
+    requires table_value { check_of table.now ≡ Accepted }
     requires number_value { symbol_is_fit (length (meaning table.now).nonterminals) (meaning table.now).terminals kind number ≡ true }
     ensures { SteppedTo (predecessors (meaning table.now) (symbol_of_kind kind number) (states_in set.low set.high)) result }
 {
@@ -288,7 +289,7 @@ fn step_along(table: &[u16], kind: usize, number: usize, set: StateSet) -> Stepp
 
 // The states with an edge by one symbol into the set: along the chains, or where they are shared by a sweep over all records.
 fn step(table: &[u16], kind: usize, number: usize, set: StateSet) -> StateSet
-    requires table_value { check_of table.now ≡ Checked.Accepted }
+    requires table_value { check_of table.now ≡ Accepted }
     requires number_value { symbol_is_fit (length (meaning table.now).nonterminals) (meaning table.now).terminals kind number ≡ true }
     ensures { states_in result.low result.high ≡ predecessors (meaning table.now) (symbol_of_kind kind number) (states_in set.low set.high) }
 {
@@ -368,7 +369,7 @@ fn step_back(
     number: usize,
     set: StateSet,
 ) -> StateSet
-    requires table_value { check_of table.now ≡ Checked.Accepted }
+    requires table_value { check_of table.now ≡ Accepted }
     requires number_value { symbol_is_fit (length (meaning table.now).nonterminals) (meaning table.now).terminals kind number ≡ true }
     requires remembered { Remembered (meaning table.now) steps.old }
     ensures high_value { states_in result.low result.high ≡ predecessors (meaning table.now) (symbol_of_kind kind number) (states_in set.low set.high) }
@@ -387,7 +388,7 @@ fn step_back(
 
 // The states from which a path spells the symbols and ends in the set.
 pub fn walk_back(table: &[u16], steps: &mut [u64], set: StateSet, symbols: &[u16]) -> StateSet
-    requires table_value { check_of table.now ≡ Checked.Accepted }
+    requires table_value { check_of table.now ≡ Accepted }
     requires symbols_value { list_is_fit (length (meaning table.now).nonterminals) (meaning table.now).terminals symbols.now ≡ true }
     requires remembered { Remembered (meaning table.now) steps.old }
     ensures high_value { states_in result.low result.high ≡ walked_back (meaning table.now) (states_in set.low set.high) (listed symbols.now) }
@@ -406,7 +407,7 @@ pub fn walk_back(table: &[u16], steps: &mut [u64], set: StateSet, symbols: &[u16
 
 // Back over two lists joined: over the second and, from the states found, over the first. Where the first is odd, a symbol begins with its last word and ends with the other's first.
 fn walk_joined(table: &[u16], steps: &mut [u64], set: StateSet, xs: &[u16], ys: &[u16]) -> StateSet
-    requires table_value { check_of table.now ≡ Checked.Accepted }
+    requires table_value { check_of table.now ≡ Accepted }
     requires ys_value { list_is_fit (length (meaning table.now).nonterminals) (meaning table.now).terminals (xs.now ++ ys.now) ≡ true }
     requires remembered { Remembered (meaning table.now) steps.old }
     ensures { states_in result.low result.high ≡ walked_back (meaning table.now) (states_in set.low set.high) (listed (xs.now ++ ys.now)) }
@@ -424,7 +425,7 @@ fn walk_joined(table: &[u16], steps: &mut [u64], set: StateSet, xs: &[u16], ys: 
 
 // `trace_back` of one state, over two lists joined.
 pub fn trace_back_joined(table: &[u16], state: usize, xs: &[u16], ys: &[u16]) -> StateSet
-    requires table_value { check_of table.now ≡ Checked.Accepted }
+    requires table_value { check_of table.now ≡ Accepted }
     requires state_in_bounds { (state < length (meaning table.now).states) × (list_is_fit (length (meaning table.now).nonterminals) (meaning table.now).terminals (xs.now ++ ys.now) ≡ true) }
     ensures { states_in result.low result.high ≡ traced_back (meaning table.now) state (listed (xs.now ++ ys.now)) }
 {
@@ -447,7 +448,7 @@ fn repeats(row: usize, over: usize, found: StateSet, last: StateSet) -> bool
 
 // `trace_back` of one state. The last step alone is remembered, by a row that no symbol has before the first: a run of one symbol over a set that stays costs one step.
 pub fn trace_back(table: &[u16], state: usize, symbols: &[u16]) -> StateSet
-    requires table_value { check_of table.now ≡ Checked.Accepted }
+    requires table_value { check_of table.now ≡ Accepted }
     requires state_in_bounds { (state < length (meaning table.now).states) × (list_is_fit (length (meaning table.now).nonterminals) (meaning table.now).terminals symbols.now ≡ true) }
     ensures { states_in result.low result.high ≡ traced_back (meaning table.now) state (listed symbols.now) }
 {

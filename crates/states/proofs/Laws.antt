@@ -10,10 +10,9 @@ use borrow.Author.Tests.{ltb-true}
 use Rattle.repr.specs.Sizes.{record_limit}
 use Rattle.repr.specs.Meaning.{Table}
 use Rattle.repr.proofs.Lists.{cases}
+use Rattle.table.specs.Checked.{Checked, Accepted, Refused as NotAccepted}
 use Rattle.table.specs.Decoded.{meaning}
 use Rattle.table.specs.Refusals.{check_of}
-use Rattle.table.specs.declared.Checked.{Checked}
-use Rattle.table.specs.declared.Checked.TheVariants.{Accepted, Refused as NotAccepted}
 use Rattle.table.proofs.Chains.{and-true}
 use Rattle.build.specs.Outcome.{Outcome, refused, full, outcome}
 use Rattle.build.proofs.Refusals.{outcome-full}

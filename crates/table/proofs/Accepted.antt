@@ -13,10 +13,10 @@ use Rattle.repr.specs.Lists.{below, occurrences, joined, first?}
 use Rattle.repr.specs.Listed.{symbol_is_fit}
 use Rattle.repr.proofs.Lists.{cases}
 use Rattle.repr.proofs.Tests.{first?-below-none}
+use Rattle.table.specs.Checked.{Accepted}
 use Rattle.table.specs.Words.{word_at, records, nonterminals, terminals, states, productions, state_area, production_area, loose, loose_records, production_records, against}
 use Rattle.table.specs.Decoded.{production_chain, symbol_chain}
 use Rattle.table.specs.Refusals.{row1, row2, row3, row4, row5, row6, row7, row8, is_nonterminal, is_state, is_production, as_symbol, as_item, as_edge, offends, first_row, check_of}
-use Rattle.table.specs.declared.Checked.TheVariants.{Accepted}
 use Rattle.table.proofs.Chains.{and-true, and_both, or-false, or_left, or_right}
 
 -- no record of the table offends

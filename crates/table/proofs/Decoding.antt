@@ -13,10 +13,10 @@ use Rattle.repr.specs.Meaning.{Production, Table, no_production, no_state, produ
 use Rattle.repr.specs.Listed.{symbol_of_kind, symbol_is_fit}
 use Rattle.repr.proofs.Lists.{cases, clash, length_mapped, length-map-below, get_d_map-below, mem_below, occurrences-none}
 use Rattle.repr.proofs.Tests.{first?-below, first?-below-none, some?-below_witness, mem-joined}
+use Rattle.table.specs.Checked.{Accepted}
 use Rattle.table.specs.Words.{word_at, nonterminals, terminals, states, productions, production_area, loose, production_records}
 use Rattle.table.specs.Decoded.{production_chain, symbol_chain, item_chain, edge_chain, symbol_at, item_at, edge_at, or_zero, owner_of, production_of, state_of, productions_of, meaning}
 use Rattle.table.specs.Refusals.{as_symbol, as_item, as_edge, check_of}
-use Rattle.table.specs.declared.Checked.TheVariants.{Accepted}
 use Rattle.table.proofs.ListLaws.{mem-map_in, mem-map-out, all_map, joined_only}
 use Rattle.table.proofs.Chains.{chain_member}
 use Rattle.table.proofs.Accepted.{Accepts, accepts, areas_of, production-once, production_short, symbol_range, edge_range, item_range, target_range}

@@ -11,9 +11,9 @@ use native.Mathlib.Decide.{ℕ_discrete}
 use Rattle.repr.specs.Lists.{up_from, below, first?}
 use Rattle.repr.proofs.Lists.{cases, length-below, get_d_below}
 use Rattle.repr.proofs.Tests.{first?-none_intro, first?-below, first?-below_intro, first?-below-none}
+use Rattle.table.specs.Checked.{Accepted, Refused}
 use Rattle.table.specs.Words.{records}
 use Rattle.table.specs.Refusals.{row1, row2, offends, first_row, check_of}
-use Rattle.table.specs.declared.Checked.TheVariants.{Accepted, Refused}
 
 -- two different answers
 apart : {n r : ℕ} → Accepted ≡ Refused n r → ⊥

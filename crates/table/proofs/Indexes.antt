@@ -10,11 +10,11 @@ use borrow.Author.Tests.{eqb-true, eqb-false, le-leb, lt-ltb}
 use Rattle.repr.specs.Sizes.{record_limit}
 use Rattle.repr.specs.Meaning.{State, state_at}
 use Rattle.repr.proofs.Lists.{cases}
+use Rattle.table.specs.Checked.{Accepted}
 use Rattle.table.specs.Words.{word_at, records, nonterminals, states, productions, state_area, production_area, loose, loose_records, production_records, against, names, chain}
 use Rattle.table.specs.Decoded.{production_chain, item_chain, edge_chain, item_at, edge_at, state_of, productions_of, meaning, items_from, edges_from, productions_from}
 use Rattle.table.specs.Refusals.{is_production, check_of}
 use Rattle.table.specs.Index.{CountsOf, ItemIndex, EdgeIndex, ProductionHead, ItemRead, EdgeRead, ProductionRead}
-use Rattle.table.specs.declared.Checked.TheVariants.{Accepted}
 use Rattle.table.proofs.Chains.{and_both, named, names_good, good_of, chain-step, chain-from, loose-whole, production-whole}
 use Rattle.table.proofs.Accepted.{Accepts, accepts, areas_of, nonterminal-head, item-head, edge_head, production-next, production_in_lem}
 use Rattle.table.proofs.Held.{item-inside, edge_inside, item-first_as, edge_first_as, item_on, edge_on, item-next_as, edge_next_as, loose_small, loose-later}

@@ -18,12 +18,12 @@ use Rattle.repr.proofs.Listed.{symbol_range, symbol_wider}
 use Rattle.repr.proofs.Joined.{listed-append, fits-append, fits_one}
 use Rattle.repr.proofs.Lists.{cases, clash, mem-nil, mem_no, mem-cons_here, mem-cons_there, length-map-below, get_d_map-below}
 use Rattle.repr.proofs.Tests.{All_at}
+use Rattle.table.specs.Checked.{Accepted}
 use Rattle.table.specs.Words.{word_at, productions, production_area, loose_records, chain, production_records}
 use Rattle.table.specs.Decoded.{symbol_chain, symbol_at, production_of, meaning, productions_from}
 use Rattle.table.specs.Refusals.{check_of}
 use Rattle.table.specs.Index.{ProductionHead, ProductionRead}
 use Rattle.table.specs.Written.{symbols_from, SymbolIndex, SymbolRead, OwnerStored, OwnersIn, SymbolsStored, ProductionStored}
-use Rattle.table.specs.declared.Checked.TheVariants.{Accepted}
 use Rattle.table.proofs.Chains.{chain-from, chain_end, loose-whole}
 use Rattle.table.proofs.Accepted.{accepts, areas_of, symbol-head}
 use Rattle.table.proofs.Held.{symbol-inside, symbol-first_as, symbol_on, symbol-next_as, loose_small}

@@ -1,3 +1,4 @@
+pub mod Checked
 pub mod Words
 pub mod Decoded
 pub mod Refusals

@@ -3,10 +3,9 @@ use Rattle.std.specs.Prelude.{ℕ, ◌-◌, ◌%◌, Bool, true, false, ◌&&◌
 use Rattle.std.proofs.Math.Option.{none, some}
 use Rattle.repr.specs.Listed.{symbol_is_fit}
 use Rattle.repr.specs.Lists.{below, mem, occurrences, first?, some?, joined}
+use Rattle.table.specs.Checked.{Checked, Accepted, Refused}
 use Rattle.table.specs.Words.{word_at, records, nonterminals, terminals, states, productions, state_area, production_area, loose, loose_records, production_records, against}
 use Rattle.table.specs.Decoded.{production_chain, symbol_chain, item_chain, edge_chain}
-use Rattle.table.specs.declared.Checked.{Checked}
-use Rattle.table.specs.declared.Checked.TheVariants.{Accepted, Refused}
 
 -- 1: words 0, not a multiple of 4, or above 32,768
 unfoldable pub row1 : List ℕ → Bool

@@ -2,10 +2,10 @@
 
 ghost use Rattle.std.specs.Prelude.{◌≡◌, [], ◌<◌, length, get_or};
 ghost use Rattle.repr.specs.Meaning.{state_at};
+ghost use Rattle.table.specs.Checked.{Accepted};
 ghost use Rattle.table.specs.Decoded.{meaning, items_from, edges_from, productions_from};
 ghost use Rattle.table.specs.Refusals.{check_of};
 ghost use Rattle.table.specs.Index.{CountsOf, ItemIndex, EdgeIndex, ProductionHead, ItemRead, EdgeRead, ProductionRead};
-ghost use Rattle.table.specs.declared.Checked.TheVariants.{Accepted};
 
 use crate::{Counts, EdgeRecord, ItemRecord, ProductionRecord};
 

@@ -11,6 +11,7 @@ ghost use Rattle.repr.specs.Packed.{Packed, productions_in};
 ghost use Rattle.table.specs.Words.{word_at};
 ghost use Rattle.table.specs.Quads.{put_quad};
 ghost use Rattle.table.specs.Decoded.{meaning, items_from, edges_from, productions_from};
+ghost use Rattle.table.specs.Checked.{Accepted};
 ghost use Rattle.table.specs.Refusals.{check_of};
 ghost use Rattle.table.specs.Index.{CountsOf, ItemIndex, EdgeIndex, ProductionHead, ItemRead, EdgeRead, ProductionRead};
 ghost use Rattle.table.specs.Written.{symbols_from, SymbolIndex, SymbolRead, OwnerStored, OwnersIn, SymbolsStored, ProductionStored};
@@ -18,13 +19,6 @@ ghost use Rattle.table.specs.Written.{symbols_from, SymbolIndex, SymbolRead, Own
 use repr::ProductionIndex;
 
 pub use accepted_table::AcceptedTable;
-
-// What the check of a table answers: refusal and place, by document 01's table of refusals.
-#[derive(Clone, Copy)]
-pub enum Checked {
-    Accepted,
-    Refused(u16, u16),
-}
 
 // Word k of record r.
 pub fn word(table: &[u16], r: usize, k: usize) -> usize
@@ -56,7 +50,7 @@ pub struct Counts {
 }
 
 pub fn read_counts(table: &[u16]) -> Counts
-    requires { check_of table.now ≡ Checked.Accepted }
+    requires { check_of table.now ≡ Accepted }
     ensures { CountsOf (meaning table.now) result.nonterminals result.terminals result.states result.productions }
 {
     Counts {
@@ -69,7 +63,7 @@ pub fn read_counts(table: &[u16]) -> Counts
 
 // The index of a state's first item.
 pub fn first_item(table: &[u16], state: usize) -> usize
-    requires table_value { check_of table.now ≡ Checked.Accepted }
+    requires table_value { check_of table.now ≡ Accepted }
     requires state_in_bounds { state < length (meaning table.now).states }
     ensures { (items_from table.now result ≡ (state_at (meaning table.now) state).items) × ItemIndex table.now result }
 {
@@ -86,7 +80,7 @@ pub struct ItemRecord {
 }
 
 pub fn item(table: &[u16], at: usize) -> ItemRecord
-    requires table_value { check_of table.now ≡ Checked.Accepted }
+    requires table_value { check_of table.now ≡ Accepted }
     requires fact { (at ≡ 0 → ⊥) × ItemIndex table.now at }
     ensures { ItemRead table.now at result.next result.production result.index }
 {
@@ -99,7 +93,7 @@ pub fn item(table: &[u16], at: usize) -> ItemRecord
 
 // The index of a state's first edge.
 pub fn first_edge(table: &[u16], state: usize) -> usize
-    requires table_value { check_of table.now ≡ Checked.Accepted }
+    requires table_value { check_of table.now ≡ Accepted }
     requires state_in_bounds { state < length (meaning table.now).states }
     ensures { (edges_from table.now result ≡ (state_at (meaning table.now) state).edges) × EdgeIndex table.now result }
 {
@@ -117,7 +111,7 @@ pub struct EdgeRecord {
 }
 
 pub fn edge(table: &[u16], at: usize) -> EdgeRecord
-    requires table_value { check_of table.now ≡ Checked.Accepted }
+    requires table_value { check_of table.now ≡ Accepted }
     requires fact { (at ≡ 0 → ⊥) × EdgeIndex table.now at }
     ensures { EdgeRead table.now at result.next result.kind result.number result.target }
 {
@@ -131,7 +125,7 @@ pub fn edge(table: &[u16], at: usize) -> EdgeRecord
 
 // The index of a nonterminal's first production.
 pub fn first_production(table: &[u16], nonterminal: usize) -> usize
-    requires table_value { check_of table.now ≡ Checked.Accepted }
+    requires table_value { check_of table.now ≡ Accepted }
     requires nonterminal_in_bounds { nonterminal < length (meaning table.now).nonterminals }
     ensures { (productions_from table.now result ≡ get_or (meaning table.now).nonterminals nonterminal []) × ProductionHead table.now result }
 {
@@ -146,7 +140,7 @@ pub struct ProductionRecord {
 }
 
 pub fn production(table: &[u16], at: usize) -> ProductionRecord
-    requires table_value { check_of table.now ≡ Checked.Accepted }
+    requires table_value { check_of table.now ≡ Accepted }
     requires fact { (at ≡ 0 → ⊥) × ProductionHead table.now at }
     ensures { ProductionRead table.now at result.next result.production }
 {
@@ -160,7 +154,7 @@ pub fn production(table: &[u16], at: usize) -> ProductionRecord
 
 // The index of a production's first symbol.
 fn first_symbol(table: &[u16], production: usize) -> usize
-    requires table_value { check_of table.now ≡ Checked.Accepted }
+    requires table_value { check_of table.now ≡ Accepted }
     requires production_in_bounds { production < length (meaning table.now).productions }
     ensures { (symbols_from table.now result ≡ (production_at (meaning table.now) production).symbols) × SymbolIndex table.now result }
 {
@@ -178,7 +172,7 @@ struct SymbolRecord {
 }
 
 fn symbol(table: &[u16], at: usize) -> SymbolRecord
-    requires table_value { check_of table.now ≡ Checked.Accepted }
+    requires table_value { check_of table.now ≡ Accepted }
     requires fact { (at ≡ 0 → ⊥) × SymbolIndex table.now at }
     ensures { SymbolRead table.now at result.next result.kind result.number }
 {
@@ -191,7 +185,7 @@ fn symbol(table: &[u16], at: usize) -> SymbolRecord
 
 // Stores a nonterminal's number in each of its productions.
 fn read_owner(table: &[u16], grammar: &mut [u16], nonterminal: usize)
-    requires table_value { check_of table.now ≡ Checked.Accepted }
+    requires table_value { check_of table.now ≡ Accepted }
     requires grammar_len { (length grammar.old ≡ grammar_room) × (nonterminal < length (meaning table.now).nonterminals) }
     ensures { OwnerStored table.now grammar.old grammar.new nonterminal }
 {
@@ -206,7 +200,7 @@ fn read_owner(table: &[u16], grammar: &mut [u16], nonterminal: usize)
 
 // Stores in each production its nonterminal's number.
 fn read_owners(table: &[u16], grammar: &mut [u16])
-    requires table_value { check_of table.now ≡ Checked.Accepted }
+    requires table_value { check_of table.now ≡ Accepted }
     requires grammar_len { length grammar.old ≡ grammar_room }
     ensures { OwnersIn (meaning table.now) grammar.new }
 {
@@ -219,7 +213,7 @@ fn read_owners(table: &[u16], grammar: &mut [u16])
 
 // Stores a production's symbols, and returns how many they are.
 fn store_symbols(table: &[u16], grammar: &mut [u16], production: usize) -> usize
-    requires table_value { check_of table.now ≡ Checked.Accepted }
+    requires table_value { check_of table.now ≡ Accepted }
     requires grammar_len { (length grammar.old ≡ grammar_room) × (production < length (meaning table.now).productions) }
     ensures { SymbolsStored table.now grammar.old grammar.new production result }
 {
@@ -238,7 +232,7 @@ fn store_symbols(table: &[u16], grammar: &mut [u16], production: usize) -> usize
 
 // Stores a production's symbols, their number and its span.
 fn read_symbols_of(table: &[u16], grammar: &mut [u16], production: usize)
-    requires table_value { check_of table.now ≡ Checked.Accepted }
+    requires table_value { check_of table.now ≡ Accepted }
     requires grammar_len { (length grammar.old ≡ grammar_room) × (production < length (meaning table.now).productions) }
     ensures { ProductionStored table.now grammar.old grammar.new production }
 {
@@ -256,7 +250,7 @@ fn read_symbols_of(table: &[u16], grammar: &mut [u16], production: usize)
 
 // Stores each production's symbols and span.
 fn read_symbols(table: &[u16], grammar: &mut [u16])
-    requires table_value { check_of table.now ≡ Checked.Accepted }
+    requires table_value { check_of table.now ≡ Accepted }
     requires owners_in { OwnersIn (meaning table.now) grammar.old }
     ensures { Packed grammar.new (length (meaning table.now).productions) × (productions_in grammar.new (length (meaning table.now).productions) ≡ (meaning table.now).productions) }
 {
@@ -269,7 +263,7 @@ fn read_symbols(table: &[u16], grammar: &mut [u16])
 
 // Writes the productions into words, as specs/Packed of repr has them.
 pub fn read_productions(table: &[u16], grammar: &mut [u16])
-    requires table_value { check_of table.now ≡ Checked.Accepted }
+    requires table_value { check_of table.now ≡ Accepted }
     requires grammar_len { length grammar.old ≡ grammar_room }
     ensures { Packed grammar.new (length (meaning table.now).productions) × (productions_in grammar.new (length (meaning table.now).productions) ≡ (meaning table.now).productions) }
 {

@@ -13,6 +13,7 @@ use Rattle.repr.specs.Sizes.{index_limit}
 use Rattle.repr.specs.Lists.{below, first?, occurrences, joined}
 use Rattle.repr.proofs.Lists.{cases}
 use Rattle.repr.proofs.Tests.{first?-yes, first?_no, first?-below-none}
+use Rattle.table.specs.Checked.{Accepted, Refused}
 use Rattle.table.specs.Words.{word_at, records, productions, state_area, production_area, loose, loose_records, production_records, against}
 use Rattle.table.specs.Decoded.{or_zero, production_chain, symbol_chain}
 use Rattle.table.specs.Refusals.{is_nonterminal, is_state, is_production, as_symbol, as_item, as_edge, row3, row4, row5, row6, row7, row8, used, offends, first_row}
@@ -22,7 +23,6 @@ use Rattle.table_check.specs.Passed.{Reaching}
 use Rattle.table_check.specs.Faults.{choose, index_bad, symbol_bad, item_bad, range_bad, spare_bad, tried, fault_at, fault_of_nonterminal, fault_of_state, fault_of_production, fault_of_loose, first_by, Best}
 use Rattle.table_check.proofs.Passed.{marked}
 use Rattle.table_check.proofs.FirstRow.{lowest, Rising, by_some, by_none, by_accepted, by_refused}
-use Rattle.table.specs.declared.Checked.TheVariants.{Accepted, Refused}
 
 -- ---- six tests in order
 chosen : Bool → Bool → Bool → Bool → Bool → Bool → ℕ

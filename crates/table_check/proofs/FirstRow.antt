@@ -12,9 +12,9 @@ use borrow.Author.Tests.{eq-eqb, ne_eqb, eqb-true, eqb-false, ltb-true, ltb-fals
 use Rattle.repr.specs.Lists.{below, first?}
 use Rattle.repr.proofs.Lists.{cases}
 use Rattle.repr.proofs.Tests.{first?-nil, first?-yes, first?_no, first?-below_intro}
+use Rattle.table.specs.Checked.{Accepted, Refused}
 use Rattle.table.specs.Decoded.{or_zero}
 use Rattle.table.proofs.Exact.{none_in}
-use Rattle.table.specs.declared.Checked.TheVariants.{Accepted, Refused}
 use Rattle.table_check.specs.Faults.{first_by, better, Best}
 
 -- ---- the lowest row of one record

@@ -13,6 +13,9 @@ use Rattle.repr.proofs.Lists.{cases}
 use Rattle.table.specs.Words.{word_at, productions, production_area, loose_records, production_records, against}
 use Rattle.table.specs.Decoded.{production_chain, symbol_chain}
 use Rattle.table.specs.Refusals.{used}
+use Rattle.table_check.specs.Rows.{number_of_row}
+use Rattle.table_check.specs.declared.fault.Row.{Row}
+use Rattle.table_check.specs.declared.fault.Row.TheVariants.{Chain, Owner, TooLong, Symbol, Target, Spare}
 use Rattle.table_check.specs.Marks.{Held, Lengths}
 use Rattle.table_check.specs.Known.{AreasOf, area}
 use Rattle.table_check.specs.Faults.{choose, index_bad, symbol_bad, item_bad, range_bad, spare_bad, fault_of_nonterminal, fault_of_state, fault_of_production, fault_of_loose, better}
@@ -217,3 +220,12 @@ module _ (m row : ℕ) where
     pub better_less : (row ≡ 0 → ⊥) → ltb m row ≡ better m row
     unfolding better
     better_less e = rw (ne_eqb _ _ ne, ne_eqb _ _ e)
+
+-- a row of the code is no 0
+pub some_row : (row : Row) → number_of_row row ≡ 0 → ⊥
+some_row Chain e = omega arith
+some_row Owner e = omega arith
+some_row TooLong e = omega arith
+some_row Symbol e = omega arith
+some_row Target e = omega arith
+some_row Spare e = omega arith

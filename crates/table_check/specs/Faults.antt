@@ -4,11 +4,10 @@ use Rattle.std.proofs.Math.Option.{none, some}
 use Rattle.repr.specs.Sizes.{index_limit}
 use Rattle.repr.specs.Lists.{below, occurrences, first?, joined}
 use Rattle.repr.specs.Listed.{symbol_is_fit}
+use Rattle.table.specs.Checked.{Checked, Accepted, Refused}
 use Rattle.table.specs.Words.{word_at, nonterminals, terminals, states, productions, production_area, loose_records, production_records, against}
 use Rattle.table.specs.Decoded.{or_zero, production_chain, symbol_chain}
 use Rattle.table.specs.Refusals.{as_item, as_edge, used, offends}
-use Rattle.table.specs.declared.Checked.{Checked}
-use Rattle.table.specs.declared.Checked.TheVariants.{Accepted, Refused}
 
 unfoldable pub choose : Bool → ℕ → ℕ → ℕ
 choose true x y = x

@@ -21,6 +21,14 @@ pub struct Areas {
     pub loose_at: usize,
 }
 
+// A table that rows 1 and 2 let through, with its areas.
+#[derive(Clone, Copy)]
+pub struct Surveyed<'a> {
+    pub words: &'a [u16],
+    pub areas: Areas,
+    pub ghost of: { AreasOf words.now areas },
+}
+
 // Row 1: no words, a part of a record, or above 32,768 words.
 pub fn bad_words(table: &[u16]) -> bool
     ensures { result ≡ row1 table.now }
@@ -113,21 +121,19 @@ pub fn against(from: usize, past: usize, r: usize, x: usize) -> bool
 }
 
 // Whether word k of record r, an index of productions, is against it.
-pub fn bad_production_index(table: &[u16], a: Areas, r: usize, k: usize) -> bool
-    requires areas_of { AreasOf table.now a }
-    requires r_lt_records { (r < a.records) × (k < 4) }
-    ensures { result ≡ against (production_records table.now) r (word_at table.now r k) }
+pub fn bad_production_index(s: Surveyed, r: usize, k: usize) -> bool
+    requires r_lt_records { (r < s.areas.records) × (k < 4) }
+    ensures { result ≡ against (production_records s.entry.words.now) r (word_at s.entry.words.now r k) }
 {
-    let x = word(table, r, k);
-    against(a.productions_at, a.loose_at, r, x)
+    let x = word(s.words, r, k);
+    against(s.areas.productions_at, s.areas.loose_at, r, x)
 }
 
 // The same of an index of loose records.
-pub fn bad_loose_index(table: &[u16], a: Areas, r: usize, k: usize) -> bool
-    requires areas_of { AreasOf table.now a }
-    requires r_lt_records { (r < a.records) × (k < 4) }
-    ensures { result ≡ against (loose_records table.now) r (word_at table.now r k) }
+pub fn bad_loose_index(s: Surveyed, r: usize, k: usize) -> bool
+    requires r_lt_records { (r < s.areas.records) × (k < 4) }
+    ensures { result ≡ against (loose_records s.entry.words.now) r (word_at s.entry.words.now r k) }
 {
-    let x = word(table, r, k);
-    against(a.loose_at, a.records, r, x)
+    let x = word(s.words, r, k);
+    against(s.areas.loose_at, s.areas.records, r, x)
 }

@@ -4,23 +4,21 @@ ghost use Rattle.repr.specs.Sizes.{index_limit};
 ghost use Rattle.table.specs.Words.{word_at};
 ghost use Rattle.table.specs.Decoded.{symbol_chain};
 ghost use Rattle.table_check.specs.Marks.{Lengths};
-ghost use Rattle.table_check.specs.Known.{AreasOf};
 
 use crate::areas;
-use crate::areas::Areas;
+use crate::areas::Surveyed;
 use repr::ProductionIndex;
 use table::word;
 
 // The symbols of production p. A shared chain costs at most seventeen steps a production.
-fn symbol_count(table: &[u16], a: Areas, p: usize) -> usize
-    requires areas_of { AreasOf table.now a }
-    requires p_bound { p < word_at table.now 0 3 }
-    ensures { result ≡ min index_limit (length (symbol_chain table.now p)) }
+fn symbol_count(s: Surveyed, p: usize) -> usize
+    requires p_bound { p < word_at s.words.now 0 3 }
+    ensures { result ≡ min index_limit (length (symbol_chain s.entry.words.now p)) }
 {
-    let from = a.loose_at;
-    let past = a.records;
-    let mut last = a.productions_at + p;
-    let mut r = word(table, last, 1);
+    let from = s.areas.loose_at;
+    let past = s.areas.records;
+    let mut last = s.areas.productions_at + p;
+    let mut r = word(s.words, last, 1);
     let mut n: usize = 0;
     while areas::names(from, past, last, r) {
         if n >= ProductionIndex::INDEXES {
@@ -28,19 +26,18 @@ fn symbol_count(table: &[u16], a: Areas, p: usize) -> usize
         }
         n += 1;
         last = r;
-        r = word(table, last, 0);
+        r = word(s.words, last, 0);
     }
     n
 }
 
 // Those of all productions.
-pub fn count(table: &[u16], a: Areas, lengths: &mut [u8])
-    requires areas_of { AreasOf table.now a }
+pub fn count(s: Surveyed, lengths: &mut [u8])
     requires lengths_len { length lengths.old ≡ 128 }
-    ensures { Lengths table.now lengths.new }
+    ensures { Lengths s.entry.words.now lengths.new }
 {
-    let productions = a.productions;
+    let productions = s.areas.productions;
     for p in 0..productions {
-        lengths[p] = symbol_count(table, a, p) as u8;
+        lengths[p] = symbol_count(s, p) as u8;
     }
 }

@@ -2,123 +2,130 @@
 ghost use Rattle.std.specs.Prelude.{Bool, ◌≡◌, ℕ, ◌<◌, ◌≤◌, length};
 ghost use Rattle.table.specs.Words.{word_at, loose_records, against};
 ghost use Rattle.table_check.specs.Marks.{Held, Lengths};
-ghost use Rattle.table_check.specs.Known.{AreasOf, Known};
+ghost use Rattle.table_check.specs.Known.{Known};
+ghost use Rattle.table_check.specs.Rows.{number_of_fault};
 ghost use Rattle.table_check.specs.Faults.{fault_at, fault_of_nonterminal, fault_of_state, fault_of_production, fault_of_loose};
 
-use crate::areas::Areas;
+use crate::areas::Surveyed;
 use crate::{areas, loose};
 
+// The rows of document 01's table that speak of one record, in their order.
+#[derive(Clone, Copy, PartialEq, Eq)]
+pub enum Row {
+    Chain = 3,
+    Owner = 4,
+    TooLong = 5,
+    Symbol = 6,
+    Target = 7,
+    Spare = 8,
+}
+
 // Rows 3 and 8: first production, then three spare words.
-fn nonterminal_fault(table: &[u16], a: Areas, r: usize) -> u16
-    requires areas_of { AreasOf table.now a }
-    requires r_lt_records { r < a.records }
-    ensures { result ≡ fault_of_nonterminal table.now r }
+fn nonterminal_fault(s: Surveyed, r: usize) -> Option<Row>
+    requires r_lt_records { r < s.areas.records }
+    ensures { number_of_fault result ≡ fault_of_nonterminal s.entry.words.now r }
 {
-    if areas::bad_production_index(table, a, r, 0) {
-        return 3;
+    if areas::bad_production_index(s, r, 0) {
+        return Some(Row::Chain);
     }
-    if loose::spare(table, a, r, 1) {
-        return 8;
+    if loose::spare(s, r, 1) {
+        return Some(Row::Spare);
     }
-    if loose::spare(table, a, r, 2) {
-        return 8;
+    if loose::spare(s, r, 2) {
+        return Some(Row::Spare);
     }
-    if loose::spare(table, a, r, 3) {
-        return 8;
+    if loose::spare(s, r, 3) {
+        return Some(Row::Spare);
     }
-    0
+    None
 }
 
 // Rows 3 and 8: first item, first edge, two spare words.
-fn state_fault(table: &[u16], a: Areas, r: usize) -> u16
-    requires areas_of { AreasOf table.now a }
-    requires r_lt_records { r < a.records }
-    ensures { result ≡ fault_of_state table.now r }
+fn state_fault(s: Surveyed, r: usize) -> Option<Row>
+    requires r_lt_records { r < s.areas.records }
+    ensures { number_of_fault result ≡ fault_of_state s.entry.words.now r }
 {
-    if areas::bad_loose_index(table, a, r, 0) {
-        return 3;
+    if areas::bad_loose_index(s, r, 0) {
+        return Some(Row::Chain);
     }
-    if areas::bad_loose_index(table, a, r, 1) {
-        return 3;
+    if areas::bad_loose_index(s, r, 1) {
+        return Some(Row::Chain);
     }
-    if loose::spare(table, a, r, 2) {
-        return 8;
+    if loose::spare(s, r, 2) {
+        return Some(Row::Spare);
     }
-    if loose::spare(table, a, r, 3) {
-        return 8;
+    if loose::spare(s, r, 3) {
+        return Some(Row::Spare);
     }
-    0
+    None
 }
 
 // Rows 3, 4 and 5: next production and first symbol, the chains that hold it, its length. Spans are free.
-fn production_fault(table: &[u16], a: Areas, held: &[u8], lengths: &[u8], r: usize) -> u16
-    requires areas_of { AreasOf table.now a }
-    requires productions_at_bound { (a.productions_at ≤ r) × (r < a.loose_at) }
-    requires held_len { (length held.now ≡ 128) × Held table.now held.now }
-    requires lengths_len { (length lengths.now ≡ 128) × Lengths table.now lengths.now }
-    ensures { result ≡ fault_of_production table.now r }
+fn production_fault(s: Surveyed, held: &[u8], lengths: &[u8], r: usize) -> Option<Row>
+    requires productions_at_bound { (s.areas.productions_at ≤ r) × (r < s.areas.loose_at) }
+    requires held_len { (length held.now ≡ 128) × Held s.words.now held.now }
+    requires lengths_len { (length lengths.now ≡ 128) × Lengths s.words.now lengths.now }
+    ensures { number_of_fault result ≡ fault_of_production s.entry.words.now r }
 {
-    if areas::bad_production_index(table, a, r, 0) {
-        return 3;
+    if areas::bad_production_index(s, r, 0) {
+        return Some(Row::Chain);
     }
-    if areas::bad_loose_index(table, a, r, 1) {
-        return 3;
+    if areas::bad_loose_index(s, r, 1) {
+        return Some(Row::Chain);
     }
-    let p = r - a.productions_at;
+    let p = r - s.areas.productions_at;
     if held[p] != 1 {
-        return 4;
+        return Some(Row::Owner);
     }
     if lengths[p] > 16 {
-        return 5;
+        return Some(Row::TooLong);
     }
-    0
+    None
 }
 
 // Rows 3, 6, 7 and 8, by what the record is reached as; reached as nothing, it offends against none. `bad`: its next index is against the rule.
 pub fn loose_fault(
-    table: &[u16],
-    a: Areas,
+    s: Surveyed,
     lengths: &[u8],
     r: usize,
     bad: bool,
     symbol: bool,
     item: bool,
     edge: bool,
-) -> u16
-    requires areas_of { AreasOf table.now a }
-    requires r_lt_records { (r < a.records) × ((length lengths.now ≡ 128) × Lengths table.now lengths.now) }
-    requires bad_value { bad ≡ against (loose_records table.now) r (word_at table.now r 0) }
-    ensures { result ≡ fault_of_loose table.now r symbol item edge }
+) -> Option<Row>
+    requires r_lt_records { (r < s.areas.records) × ((length lengths.now ≡ 128) × Lengths s.words.now lengths.now) }
+    requires bad_value { bad ≡ against (loose_records s.words.now) r (word_at s.words.now r 0) }
+    ensures { number_of_fault result ≡ fault_of_loose s.entry.words.now r symbol item edge }
 {
     if loose::index_fault(bad, symbol, item, edge) {
-        return 3;
+        return Some(Row::Chain);
     }
-    if loose::symbol_fault(table, a, r, symbol, edge) {
-        return 6;
+    if loose::symbol_fault(s, r, symbol, edge) {
+        return Some(Row::Symbol);
     }
-    if loose::range_fault(table, a, lengths, r, item, edge) {
-        return 7;
+    if loose::range_fault(s, lengths, r, item, edge) {
+        return Some(Row::Target);
     }
-    if loose::spare_fault(table, a, r, symbol, item) {
-        return 8;
+    if loose::spare_fault(s, r, symbol, item) {
+        return Some(Row::Spare);
     }
-    0
+    None
 }
 
-// The lowest row that a record before the loose ones meets, or 0.
-pub fn area_fault(table: &[u16], a: Areas, held: &[u8], lengths: &[u8], r: usize) -> u16
-    requires known { Known table.now a held.now lengths.now }
-    requires r_bound { r < a.loose_at }
-    ensures { result ≡ fault_at table.now r }
+// The lowest row that a record before the loose ones meets.
+pub fn area_fault(s: Surveyed, held: &[u8], lengths: &[u8], r: usize) -> Option<Row>
+    requires known { Known s.words.now s.areas held.now lengths.now }
+    requires r_bound { r < s.areas.loose_at }
+    ensures { number_of_fault result ≡ fault_at s.entry.words.now r }
 {
     if r == 0 {
-        return 0;
+        return None;
     }
-    if r < a.states_at {
-        return nonterminal_fault(table, a, r);
+    if r < s.areas.states_at {
+        return nonterminal_fault(s, r);
     }
-    if r < a.productions_at {
-        return state_fault(table, a, r);
+    if r < s.areas.productions_at {
+        return state_fault(s, r);
     }
-    production_fault(table, a, held, lengths, r)
+    production_fault(s, held, lengths, r)
 }

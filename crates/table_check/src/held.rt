@@ -6,7 +6,7 @@ ghost use Rattle.table_check.specs.Marks.{Held};
 ghost use Rattle.table_check.specs.Known.{AreasOf, bump};
 
 use crate::areas;
-use crate::areas::Areas;
+use crate::areas::Surveyed;
 use table::word;
 
 // One more, as far as two.
@@ -20,31 +20,29 @@ fn more(h: u8) -> u8
 }
 
 // One more for each production in the chain of nonterminal n. An index against the rule ends it.
-fn hold_chain(table: &[u16], a: Areas, n: usize, held: &mut [u8])
-    requires areas_of { AreasOf table.now a }
-    requires n_bound { (n < word_at table.now 0 0) × (length held.old ≡ 128) }
-    ensures { held.new ≡ bump (production_area table.now) held.old (production_chain table.now n) }
+fn hold_chain(s: Surveyed, n: usize, held: &mut [u8])
+    requires n_bound { (n < word_at s.words.now 0 0) × (length held.old ≡ 128) }
+    ensures { held.new ≡ bump (production_area s.entry.words.now) held.old (production_chain s.entry.words.now n) }
 {
-    let from = a.productions_at;
-    let past = a.loose_at;
+    let from = s.areas.productions_at;
+    let past = s.areas.loose_at;
     let mut last = 1 + n;
-    let mut r = word(table, last, 0);
+    let mut r = word(s.words, last, 0);
     while areas::names(from, past, last, r) {
         let p = r - from;
         held[p] = more(held[p]);
         last = r;
-        r = word(table, last, 0);
+        r = word(s.words, last, 0);
     }
 }
 
 // The chains of all nonterminals.
-pub fn hold(table: &[u16], a: Areas, held: &mut [u8])
-    requires areas_of { AreasOf table.now a }
+pub fn hold(s: Surveyed, held: &mut [u8])
     requires held_value { held.old ≡ replicate 128 0 }
-    ensures { Held table.now held.new }
+    ensures { Held s.entry.words.now held.new }
 {
-    let count = a.nonterminals;
+    let count = s.areas.nonterminals;
     for n in 0..count {
-        hold_chain(table, a, n, held);
+        hold_chain(s, n, held);
     }
 }

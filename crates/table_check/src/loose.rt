@@ -2,20 +2,18 @@
 ghost use Rattle.std.specs.Prelude.{Bool, ◌&&◌, ◌||◌, ◌≡◌, ℕ, ◌<◌, length};
 ghost use Rattle.table.specs.Refusals.{used};
 ghost use Rattle.table_check.specs.Marks.{Lengths};
-ghost use Rattle.table_check.specs.Known.{AreasOf};
 ghost use Rattle.table_check.specs.Faults.{symbol_bad, item_bad, range_bad, spare_bad};
 
-use crate::areas::Areas;
+use crate::areas::Surveyed;
 use repr::symbol_fits;
 use table::word;
 
 // Whether word k of record r, which is to be spare, is not 0.
-pub fn spare(table: &[u16], a: Areas, r: usize, k: usize) -> bool
-    requires areas_of { AreasOf table.now a }
-    requires r_lt_records { (r < a.records) × (k < 4) }
-    ensures { result ≡ used table.now r k }
+pub fn spare(s: Surveyed, r: usize, k: usize) -> bool
+    requires r_lt_records { (r < s.areas.records) × (k < 4) }
+    ensures { result ≡ used s.entry.words.now r k }
 {
-    if word(table, r, k) == 0 {
+    if word(s.words, r, k) == 0 {
         return false;
     }
     true
@@ -38,14 +36,13 @@ pub fn index_fault(bad: bool, symbol: bool, item: bool, edge: bool) -> bool
 }
 
 // Row 6: a symbol or an edge.
-pub fn symbol_fault(table: &[u16], a: Areas, r: usize, symbol: bool, edge: bool) -> bool
-    requires areas_of { AreasOf table.now a }
-    requires r_lt_records { r < a.records }
-    ensures { result ≡ symbol_bad table.now r symbol edge }
+pub fn symbol_fault(s: Surveyed, r: usize, symbol: bool, edge: bool) -> bool
+    requires r_lt_records { r < s.areas.records }
+    ensures { result ≡ symbol_bad s.entry.words.now r symbol edge }
 {
-    let kind = word(table, r, 1);
-    let number = word(table, r, 2);
-    if symbol_fits(a.nonterminals, a.terminals, kind, number) {
+    let kind = word(s.words, r, 1);
+    let number = word(s.words, r, 2);
+    if symbol_fits(s.areas.nonterminals, s.areas.terminals, kind, number) {
         return false;
     }
     if symbol {
@@ -55,15 +52,14 @@ pub fn symbol_fault(table: &[u16], a: Areas, r: usize, symbol: bool, edge: bool)
 }
 
 // Row 7 of an item: its production, and its index against the production's length.
-fn item_fault(table: &[u16], a: Areas, lengths: &[u8], r: usize, item: bool) -> bool
-    requires areas_of { AreasOf table.now a }
-    requires r_lt_records { (r < a.records) × ((length lengths.now ≡ 128) × Lengths table.now lengths.now) }
-    ensures { result ≡ item && item_bad table.now r }
+fn item_fault(s: Surveyed, lengths: &[u8], r: usize, item: bool) -> bool
+    requires r_lt_records { (r < s.areas.records) × ((length lengths.now ≡ 128) × Lengths s.words.now lengths.now) }
+    ensures { result ≡ item && item_bad s.entry.words.now r }
 {
-    let production = word(table, r, 1);
-    let index = word(table, r, 2);
+    let production = word(s.words, r, 1);
+    let index = word(s.words, r, 2);
     if item {
-        if production >= a.productions {
+        if production >= s.areas.productions {
             return true;
         }
         return (lengths[production] as usize) < index;
@@ -72,38 +68,29 @@ fn item_fault(table: &[u16], a: Areas, lengths: &[u8], r: usize, item: bool) -> 
 }
 
 // Row 7: also the target of an edge.
-pub fn range_fault(
-    table: &[u16],
-    a: Areas,
-    lengths: &[u8],
-    r: usize,
-    item: bool,
-    edge: bool,
-) -> bool
-    requires areas_of { AreasOf table.now a }
-    requires r_lt_records { (r < a.records) × ((length lengths.now ≡ 128) × Lengths table.now lengths.now) }
-    ensures { result ≡ range_bad table.now r item edge }
+pub fn range_fault(s: Surveyed, lengths: &[u8], r: usize, item: bool, edge: bool) -> bool
+    requires r_lt_records { (r < s.areas.records) × ((length lengths.now ≡ 128) × Lengths s.words.now lengths.now) }
+    ensures { result ≡ range_bad s.entry.words.now r item edge }
 {
-    if item_fault(table, a, lengths, r, item) {
+    if item_fault(s, lengths, r, item) {
         return true;
     }
     if edge {
-        return a.states <= word(table, r, 3);
+        return s.areas.states <= word(s.words, r, 3);
     }
     false
 }
 
 // Row 8: a symbol or an item; an edge's fourth word is its target.
-pub fn spare_fault(table: &[u16], a: Areas, r: usize, symbol: bool, item: bool) -> bool
-    requires areas_of { AreasOf table.now a }
-    requires r_lt_records { r < a.records }
-    ensures { result ≡ spare_bad table.now r symbol item }
+pub fn spare_fault(s: Surveyed, r: usize, symbol: bool, item: bool) -> bool
+    requires r_lt_records { r < s.areas.records }
+    ensures { result ≡ spare_bad s.entry.words.now r symbol item }
 {
     if symbol {
-        return spare(table, a, r, 3);
+        return spare(s, r, 3);
     }
     if item {
-        return spare(table, a, r, 3);
+        return spare(s, r, 3);
     }
     false
 }

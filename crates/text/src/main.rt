@@ -6,6 +6,7 @@ ghost use Rattle.std.specs.Prelude.{true, ◌≡◌, ◌+◌, ◌*◌, ◌≤◌
 ghost use Rattle.repr.specs.Sizes.{record_limit, grammar_room};
 ghost use Rattle.repr.specs.Packed.{Packed};
 ghost use Rattle.table.specs.Words.{word_at};
+ghost use Rattle.table.specs.Checked.{Accepted};
 ghost use Rattle.table.specs.Refusals.{check_of};
 ghost use Rattle.table_check.specs.Known.{AreasOf};
 ghost use Rattle.typed.specs.Typed.{IsItem};
@@ -129,7 +130,7 @@ fn write_records<R: Print + Eprint>(
 
 // The lines of an accepted table.
 fn write_table<R: Print + Eprint>(rt: &R, table: &[u16], out: &mut [u8]) -> bool
-    requires { (check_of table.now ≡ Checked.Accepted) × (2048 ≤ length out.old) }
+    requires { (check_of table.now ≡ Accepted) × (2048 ≤ length out.old) }
 {
     let a = survey(table);
     let count = [a.records as u16; 1];

@@ -7,11 +7,11 @@ use Rattle.repr.specs.Listed.{listed}
 use Rattle.repr.specs.Packed.{productions_in, production_in, symbol_words}
 use Rattle.repr.proofs.Lists.{cases, mem-yes, mem_no, get_d_map-below, length-map-below}
 use Rattle.lr1_core.specs.Items.{shifts_nonterminal}
+use Rattle.table.specs.Checked.{Accepted}
 use Rattle.table.specs.Words.{loose_records}
 use Rattle.table.specs.Decoded.{meaning, items_from}
 use Rattle.table.proofs.Chains.{chain_end}
 use Rattle.table.specs.Refusals.{check_of}
-use Rattle.table.specs.declared.Checked.TheVariants.{Accepted}
 use Rattle.table.proofs.Decoding.{fits}
 use Rattle.trace_graph.specs.Graph.{at_nonterminal, at_item, TraceEdge, add}
 use Rattle.trace.specs.Traced.{Trace, pair, enter, add_to, owner_of, symbols_of, can_shift, in_turn}

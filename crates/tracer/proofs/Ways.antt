@@ -10,6 +10,7 @@ use Rattle.trace_graph.specs.Words.{graph_words}
 use Rattle.trace_graph.specs.Fits.{item_is_fit}
 use Rattle.tracer.specs.declared.Backtrace.TheVariants.{Edges, Refused}
 use Rattle.tracer.specs.Outcome.{Outcome, outcome, edges_outcome, traced_in}
+use Rattle.table.specs.Checked.{Accepted}
 use Rattle.table.specs.Decoded.{meaning}
 use Rattle.table.proofs.Decoding.{fits}
 use Rattle.trace.proofs.Traced.{fits-item}
@@ -17,7 +18,6 @@ use Rattle.codes.specs.Coded.{Coded, Leasts}
 use Rattle.codes.specs.Carried.{Carried}
 use Rattle.table.specs.Refusals.{check_of}
 use Rattle.table.specs.Index.{CountsOf}
-use Rattle.table.specs.declared.Checked.TheVariants.{Accepted}
 use Rattle.trace.specs.Shift.{shift_edges}
 use Rattle.trace.specs.Reduce.{reduce_edges}
 use Rattle.tracer.specs.Built.{Asked, edges_by}

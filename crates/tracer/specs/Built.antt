@@ -3,9 +3,9 @@ use Rattle.std.specs.Prelude.{◌≡◌, ℕ, ◌<◌, ◌≤◌, Bool, true, fa
 use Rattle.repr.specs.Sizes.{edge_limit, edge_place}
 use Rattle.repr.specs.Meaning.{Item, Table}
 use Rattle.repr.specs.Packed.{Packed, productions_in}
+use Rattle.table.specs.Checked.{Accepted}
 use Rattle.table.specs.Decoded.{meaning}
 use Rattle.table.specs.Refusals.{check_of}
-use Rattle.table.specs.declared.Checked.TheVariants.{Accepted}
 use Rattle.trace_graph.specs.Graph.{TraceEdge}
 use Rattle.trace_graph.specs.Words.{graph_words}
 use Rattle.trace_graph.specs.Fits.{item_is_fit}

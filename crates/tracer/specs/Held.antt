@@ -4,9 +4,9 @@ use Rattle.repr.specs.Sizes.{nonterminal_limit, state_limit, production_limit, e
 use Rattle.repr.specs.Lists.{mem}
 use Rattle.repr.specs.Meaning.{Table}
 use Rattle.repr.specs.Packed.{Packed, productions_in}
+use Rattle.table.specs.Checked.{Accepted}
 use Rattle.table.specs.Decoded.{meaning}
 use Rattle.table.specs.Refusals.{check_of}
-use Rattle.table.specs.declared.Checked.TheVariants.{Accepted}
 use Rattle.trace.specs.Traced.{Trace}
 use Rattle.bits.specs.Bits.{bit_at}
 use Rattle.codes.specs.Coded.{Coded, Leasts}

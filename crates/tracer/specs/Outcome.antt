@@ -3,10 +3,9 @@ use Rattle.std.specs.Prelude.{ℕ, true, false, ◌&&◌, List, length, nat_le, 
 use Rattle.repr.specs.Sizes.{edge_limit, graph_room, scratch_words}
 use Rattle.slices.specs.Lent.{in_front, zeroed}
 use Rattle.repr.specs.Meaning.{Item, Table}
+use Rattle.table.specs.Checked.{Checked, Accepted, Refused as NotAccepted}
 use Rattle.table.specs.Decoded.{meaning}
 use Rattle.table.specs.Refusals.{check_of}
-use Rattle.table.specs.declared.Checked.{Checked}
-use Rattle.table.specs.declared.Checked.TheVariants.{Accepted, Refused as NotAccepted}
 use Rattle.trace_graph.specs.Graph.{TraceEdge}
 use Rattle.trace_graph.specs.Words.{graph_words}
 use Rattle.trace_graph.specs.Fits.{item_is_fit}

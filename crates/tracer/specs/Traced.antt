@@ -2,9 +2,9 @@
 use Rattle.std.specs.Prelude.{◌≡◌, ℕ, ◌≤◌, true, List, length}
 use Rattle.repr.specs.Sizes.{graph_room}
 use Rattle.repr.specs.Meaning.{Item, Table, All}
+use Rattle.table.specs.Checked.{Accepted}
 use Rattle.table.specs.Decoded.{meaning}
 use Rattle.table.specs.Refusals.{check_of}
-use Rattle.table.specs.declared.Checked.TheVariants.{Accepted}
 use Rattle.trace_graph.specs.Graph.{TraceEdge, at_item, is_node_of}
 use Rattle.trace_graph.specs.Words.{edges_in}
 use Rattle.trace_graph.specs.Fits.{item_is_fit, graph_fits}

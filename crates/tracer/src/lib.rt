@@ -14,6 +14,7 @@ ghost use Rattle.repr.specs.Meaning.{ItemFits};
 ghost use Rattle.repr.specs.Packed.{Packed, productions_in};
 ghost use Rattle.slices.specs.Lent.{in_front};
 ghost use Rattle.table.specs.Decoded.{meaning};
+ghost use Rattle.table.specs.Checked.{Accepted};
 ghost use Rattle.table.specs.Refusals.{check_of};
 ghost use Rattle.trace_graph.specs.declared.Inserted.TheVariants.{Done, Full};
 ghost use Rattle.trace_graph.specs.Words.{graph_words};
@@ -32,7 +33,7 @@ use first::FirstSets;
 use lr1_core::Item;
 use repr::{ProductionIndex, word};
 use slices::zero;
-use table::{Checked, read_counts, read_productions};
+use table::{read_counts, read_productions};
 use trace::reduce::suffix_ends;
 use trace_graph::{Inserted, TraceGraph, item_fits};
 
@@ -88,7 +89,7 @@ pub fn trace_codes(
 
 // The flags that a reduction asks for; a shift asks for none.
 fn fill_ends(table: &[u16], grammar: &[u16], productions: usize, ends: &mut [u64], shift: bool)
-    requires table_value { (check_of table.now ≡ Checked.Accepted) × Packed grammar.now productions × (productions_in grammar.now productions ≡ (meaning table.now).productions) }
+    requires table_value { (check_of table.now ≡ Accepted) × Packed grammar.now productions × (productions_in grammar.now productions ≡ (meaning table.now).productions) }
     requires ends_value { ends.old ≡ replicate item_flags 0 }
     ensures { shift ≡ false → Ends (meaning table.now) ends.new }
 {
@@ -188,7 +189,7 @@ fn trace_in(
     scratch: &mut [u16],
     shift: bool,
 ) -> Backtrace
-    requires { check_of table.now ≡ Checked.Accepted }
+    requires { check_of table.now ≡ Accepted }
     ensures { outcome result graph.new scratch.new ≡ traced_in (edges_by shift) state (record { production = production; index = index }) graph.old scratch.old (meaning table.now) }
 {
     let counts = read_counts(table);
@@ -232,7 +233,7 @@ pub fn shift_in(
     graph: &mut [u16],
     scratch: &mut [u16],
 ) -> Backtrace
-    requires { check_of table.now ≡ Checked.Accepted }
+    requires { check_of table.now ≡ Accepted }
     ensures { outcome result graph.new scratch.new ≡ traced_in shift_edges state (record { production = production; index = index }) graph.old scratch.old (meaning table.now) }
 {
     trace_in(table, state, production, index, graph, scratch, true)
@@ -247,7 +248,7 @@ pub fn reduce_in(
     graph: &mut [u16],
     scratch: &mut [u16],
 ) -> Backtrace
-    requires { check_of table.now ≡ Checked.Accepted }
+    requires { check_of table.now ≡ Accepted }
     ensures { outcome result graph.new scratch.new ≡ traced_in reduce_edges state (record { production = production; index = index }) graph.old scratch.old (meaning table.now) }
 {
     trace_in(table, state, production, index, graph, scratch, false)

@@ -4,10 +4,10 @@
 // `others`, `other_links`: the same of the tail that was used before, so that two long chains by turns are each listed once.
 ghost use Rattle.std.specs.Prelude.{◌≡◌, ℕ, ◌+◌, ◌*◌, ◌<◌, ◌≤◌, List, length, drop, ◌≢◌, slice_index};
 ghost use Rattle.repr.specs.Sizes.{nonterminal_limit};
+ghost use Rattle.table.specs.Checked.{Accepted};
 ghost use Rattle.table.specs.Decoded.{items_from};
 ghost use Rattle.table.specs.Index.{ItemIndex};
 ghost use Rattle.table.specs.Refusals.{check_of};
-ghost use Rattle.table.specs.declared.Checked.TheVariants.{Accepted};
 ghost use Rattle.tracer.specs.Held.{Working};
 ghost use Rattle.tracer.specs.Tails.{tail_words, first_slot, Collected, Linked, Usable, TwoTails, Begins, Follows};
 

@@ -10,9 +10,9 @@ use Rattle.repr.specs.Meaning.{Table}
 use Rattle.repr.specs.declared.NonterminalString.{NonterminalString}
 use Rattle.repr.specs.declared.ProductionIndex.{ProductionIndex}
 use Rattle.repr.proofs.Lists.{cases}
+use Rattle.table.specs.Checked.{Accepted}
 use Rattle.table.specs.Decoded.{meaning}
 use Rattle.table.specs.Refusals.{check_of}
-use Rattle.table.specs.declared.Checked.TheVariants.{Accepted}
 use Rattle.spelling.specs.Spelled.{records_of}
 use Rattle.augment.specs.Started.{Outcome as Started, Startable, is_start_needed, full, started_in, started_of}
 use Rattle.augment.specs.declared.Started.{Started as Start}

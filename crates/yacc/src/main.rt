@@ -6,6 +6,7 @@
 ghost use Rattle.std.specs.Prelude.{◌≡◌, ◌*◌, ◌≤◌, length};
 ghost use Rattle.repr.specs.Sizes.{record_limit};
 ghost use Rattle.table.specs.Decoded.{meaning};
+ghost use Rattle.table.specs.Checked.{Accepted};
 ghost use Rattle.table.specs.Refusals.{check_of};
 ghost use Rattle.augment.specs.Started.{Startable};
 
@@ -13,7 +14,6 @@ use augment::{Started, with_start};
 use pipe::{say_refused, write_records, write_words};
 use repr::{NonterminalString, ProductionIndex};
 use streams::read;
-use table::Checked;
 use yacc_read::Reading;
 use yacc_reader::{misnamed_at, read_yacc};
 use yacc_stray::{place_of, stray};
@@ -90,7 +90,7 @@ fn start_grammar<R: Print + Eprint>(
     start: NonterminalString,
     bytes: &mut [u8],
 )
-    requires table_value { check_of table.now ≡ Checked.Accepted }
+    requires table_value { check_of table.now ≡ Accepted }
     requires startable { Startable (meaning table.now) start.0 }
     requires in_bounds { 65536 ≤ length bytes.old }
 {

@@ -13,9 +13,9 @@ use Rattle.repr.specs.Lists.{some?}
 use Rattle.repr.specs.Meaning.{nonterminal, terminal, SymbolFits, All, Production, ProductionFits, StateFits, TableFits}
 use Rattle.repr.proofs.Lists.{cases, length_mapped, length-map-below, get_d_map-below}
 use Rattle.repr.proofs.Tests.{some?-cons, All_at}
+use Rattle.table.specs.Checked.{Accepted}
 use Rattle.table.specs.Decoded.{meaning}
 use Rattle.table.specs.Refusals.{check_of}
-use Rattle.table.specs.declared.Checked.TheVariants.{Accepted}
 use Rattle.spelling.specs.Spelled.{size_of, states_at, productions_at, symbols_at, items_place, edges_at, records_of, owns, spell, Ordered}
 use Rattle.spelling.proofs.Accepted.{spell_accepted}
 use Rattle.spelling.proofs.Meaning.{spell-meaning}

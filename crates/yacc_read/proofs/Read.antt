@@ -12,9 +12,9 @@ use borrow.Author.Tests.{leb-true}
 use Rattle.slices.specs.Lent.{in_front}
 use Rattle.repr.specs.declared.NonterminalString.{NonterminalString}
 use Rattle.repr.proofs.Lists.{cases}
+use Rattle.table.specs.Checked.{Accepted}
 use Rattle.table.specs.Decoded.{meaning}
 use Rattle.table.specs.Refusals.{check_of}
-use Rattle.table.specs.declared.Checked.TheVariants.{Accepted}
 use Rattle.spelling.specs.Spelled.{records_of, spell}
 use Rattle.spelling.proofs.Places.{spell-length}
 use Rattle.yacc_text.specs.Grammar.{Layout, text_limit}

@@ -1,9 +1,9 @@
 -- Which texts are read, and what is left of them, at the call (Req 09). Assumes nothing: these are definitions.
 use Rattle.std.specs.Prelude.{ℕ, ◌<◌, Bool, true, false, ◌≡◌, List, map, length, get_or}
 use Rattle.slices.specs.Lent.{in_front}
+use Rattle.table.specs.Checked.{Accepted}
 use Rattle.table.specs.Decoded.{meaning}
 use Rattle.table.specs.Refusals.{check_of}
-use Rattle.table.specs.declared.Checked.TheVariants.{Accepted}
 use Rattle.spelling.specs.Spelled.{spell}
 use Rattle.yacc_text.specs.Grammar.{byte_limit, IsText}
 use Rattle.yacc_read.specs.Source.{Source}

@@ -2,9 +2,9 @@
 use Rattle.std.specs.Prelude.{ℕ, true, false, List, length, leb}
 use Rattle.slices.specs.Lent.{in_front}
 use Rattle.repr.specs.Meaning.{Table}
+use Rattle.table.specs.Checked.{Accepted, Refused}
 use Rattle.table.specs.Decoded.{meaning}
 use Rattle.table.specs.Refusals.{check_of}
-use Rattle.table.specs.declared.Checked.TheVariants.{Accepted, Refused}
 use Rattle.yacc_write.specs.Text.{ascending, text_of}
 use Rattle.yacc_write.specs.declared.Writing.{Writing}
 use Rattle.yacc_write.specs.declared.Writing.TheVariants.{Bytes, Refused as No}

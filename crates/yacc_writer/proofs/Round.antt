@@ -12,10 +12,9 @@ use Rattle.slices.specs.Lent.{in_front}
 use Rattle.repr.specs.Lists.{up_from, below, keep}
 use Rattle.repr.specs.Meaning.{Production, Table, TableFits}
 use Rattle.repr.proofs.Lists.{cases, clash, length_mapped}
+use Rattle.table.specs.Checked.{Checked, Accepted, Refused as No}
 use Rattle.table.specs.Decoded.{meaning}
 use Rattle.table.specs.Refusals.{check_of}
-use Rattle.table.specs.declared.Checked.{Checked}
-use Rattle.table.specs.declared.Checked.TheVariants.{Accepted, Refused as No}
 use Rattle.table.proofs.Decoding.{fits}
 use Rattle.spelling.specs.Spelled.{states_at, productions_at, symbols_at, items_place, edges_at, records_of, size_of, symbol_lists, spell, owns, Ordered}
 use Rattle.spelling.proofs.Places.{spell-length}

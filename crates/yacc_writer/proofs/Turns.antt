@@ -19,9 +19,9 @@ use Rattle.repr.specs.Packed.{Packed, symbol_words, production_in, productions_i
 use Rattle.repr.proofs.Lists.{clash}
 use Rattle.repr.proofs.Packed.{words_long}
 use Rattle.repr.proofs.Listed.{fits_half, fits-step, listed-none, listed-step}
+use Rattle.table.specs.Checked.{Accepted, Refused as No}
 use Rattle.table.specs.Decoded.{meaning, productions_from}
 use Rattle.table.specs.Refusals.{check_of}
-use Rattle.table.specs.declared.Checked.TheVariants.{Accepted, Refused as No}
 use Rattle.table.proofs.Written.{productions_end as no-productions}
 use Rattle.yacc_write.specs.Text.{ascending, text_of}
 use Rattle.yacc_write.specs.Outcome.{written_of, write_of}

@@ -2,9 +2,9 @@
 use Rattle.std.specs.Prelude.{ℕ, ◌+◌, ◌*◌, ◌≡◌, List, map, length}
 use Rattle.slices.specs.Lent.{in_front}
 use Rattle.repr.specs.Meaning.{Table}
+use Rattle.table.specs.Checked.{Accepted}
 use Rattle.table.specs.Decoded.{meaning}
 use Rattle.table.specs.Refusals.{check_of}
-use Rattle.table.specs.declared.Checked.TheVariants.{Accepted}
 use Rattle.spelling.specs.Spelled.{size_of, symbol_lists}
 use Rattle.yacc_read.specs.Outcome.{read_of}
 use Rattle.yacc_read.specs.declared.Reading.TheVariants.{Read}

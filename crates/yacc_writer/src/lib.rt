@@ -9,6 +9,7 @@ ghost use Rattle.repr.specs.Lists.{joined};
 ghost use Rattle.repr.specs.Listed.{symbol_of_kind, listed, list_is_fit};
 ghost use Rattle.repr.specs.Packed.{Packed, production_in, productions_in};
 ghost use Rattle.table.specs.Decoded.{meaning};
+ghost use Rattle.table.specs.Checked.{Accepted};
 ghost use Rattle.table.specs.Refusals.{check_of};
 ghost use Rattle.yacc_write.specs.Text.{ascending};
 ghost use Rattle.yacc_write.specs.Outcome.{written_of, write_of};
@@ -171,7 +172,7 @@ fn put_file(text: &mut [u8], grammar: &[u16], terminals: usize, productions: usi
 
 // Does each nonterminal have a production, and the first ones ascend: else 23.
 fn ascends(table: &[u16]) -> bool
-    requires { check_of table.now ≡ Checked.Accepted }
+    requires { check_of table.now ≡ Accepted }
     ensures { result ≡ ascending 0 (meaning table.now).nonterminals }
 {
     let counts = read_counts(table);
@@ -196,7 +197,7 @@ fn ascends(table: &[u16]) -> bool
 
 // Writes an accepted table whose first productions ascend, if there is room: the bytes are counted first.
 fn write_ordered(table: &[u16], text: &mut [u8]) -> Writing
-    requires table_value { check_of table.now ≡ Checked.Accepted }
+    requires table_value { check_of table.now ≡ Accepted }
     requires table_value_2 { ascending 0 (meaning table.now).nonterminals ≡ true }
     ensures { record { answer = result; text = text.new } ≡ written_of (meaning table.now) text.old }
 {
@@ -217,7 +218,7 @@ fn write_ordered(table: &[u16], text: &mut [u8]) -> Writing
 
 // Writes an accepted table.
 fn write_in(table: &[u16], text: &mut [u8]) -> Writing
-    requires { check_of table.now ≡ Checked.Accepted }
+    requires { check_of table.now ≡ Accepted }
     ensures { record { answer = result; text = text.new } ≡ written_of (meaning table.now) text.old }
 {
     if ascends(table) {

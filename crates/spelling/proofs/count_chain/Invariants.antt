@@ -1,7 +1,7 @@
 use mathlib.Core.Path.{◌≡◌}
 use lib.ListN.{length}
+use Rattle.table.specs.Checked.{Accepted}
 use Rattle.table.specs.Refusals.{check_of}
-use Rattle.table.specs.declared.Checked.TheVariants.{Accepted}
 use Rattle.spelling.specs.Grown.{records_from}
 use Rattle.spelling.proofs.Counting.{Counting}
 use Rattle.spelling.proofs.count_chain.Given as goal

@@ -1,7 +1,7 @@
 use mathlib.Core.Path.{◌≡◌}
 use Prim.Native.Nat.{◌-◌}
+use Rattle.table.specs.Checked.{Accepted}
 use Rattle.table.specs.Refusals.{check_of}
-use Rattle.table.specs.declared.Checked.TheVariants.{Accepted}
 use Rattle.spelling.specs.Spelled.{size_of}
 use Rattle.spelling.specs.Grown.{chains_of}
 use Rattle.spelling.proofs.Counting.{Totalling}

@@ -1,8 +1,8 @@
 use mathlib.Core.Path.{◌≡◌}
 use Prim.Native.Nat.{◌+◌}
 use lib.ListN.{length}
+use Rattle.table.specs.Checked.{Accepted}
 use Rattle.table.specs.Refusals.{check_of}
-use Rattle.table.specs.declared.Checked.TheVariants.{Accepted}
 use Rattle.spelling.specs.Grown.{records_from}
 use Rattle.spelling.proofs.Writing.{Writing}
 use Rattle.spelling.proofs.write_chain.Given as goal

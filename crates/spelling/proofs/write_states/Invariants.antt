@@ -1,9 +1,9 @@
 use mathlib.Core.Path.{◌≡◌}
 use Prim.Native.Nat.{◌-◌}
 use lib.ListN.{length}
+use Rattle.table.specs.Checked.{Accepted}
 use Rattle.table.specs.Decoded.{meaning}
 use Rattle.table.specs.Refusals.{check_of}
-use Rattle.table.specs.declared.Checked.TheVariants.{Accepted}
 use Rattle.spelling.proofs.Areas.{States}
 use Rattle.spelling.proofs.write_states.Given as goal
 

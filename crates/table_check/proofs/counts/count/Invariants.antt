@@ -4,4 +4,4 @@ use Rattle.table.specs.Decoded.{symbol_chain}
 use Rattle.table_check.proofs.counts.count.Given as goal
 
 abbrev pub invariant-loop-p : goal.invariant-loop-p
-invariant-loop-p l = (q : ℕ) → q < l.p → get_or l.lengths q 0 ≡ min index_limit (length (symbol_chain l.table q))
+invariant-loop-p l = (q : ℕ) → q < l.p → get_or l.lengths q 0 ≡ min index_limit (length (symbol_chain l.s.words.now q))

@@ -8,7 +8,7 @@ use mathlib.Core.Path.{◌≡◌}
 use Rattle.table_check.proofs.counts.symbol_count.Given as goal
 
 abbrev pub invariant-loop-p : goal.invariant-loop-p
-invariant-loop-p l = (l.n ≤ index_limit) × (l.n + length (chain l.table (area l.from l.past) l.last l.r) ≡ length (symbol_chain l.table l.p))
+invariant-loop-p l = (l.n ≤ index_limit) × (l.n + length (chain l.s.words.now (area l.from l.past) l.last l.r) ≡ length (symbol_chain l.s.words.now l.p))
 
 abbrev pub decreases-loop-p : goal.decreases-loop-p
 decreases-loop-p l = l.past - l.last

@@ -6,14 +6,14 @@ use Rattle.table_check.proofs.fault.area_fault.Goals as goal
 pub returns-then-r-eq0 : goal.returns-then-r-eq0
 returns-then-r-eq0 c = fault-zero _ _ c.if-r-eq0.true
 
-pub returns-then-r-a : goal.returns-then-r-a
-returns-then-r-a c = let A = c.requires.known.areas in
-    c.nonterminal_fault.ensures ∙ fault-nonterminal _ _ c.if-r-eq0.false (omega (arith, c.if-r-a.true))
+pub returns-then-r-s : goal.returns-then-r-s
+returns-then-r-s c = let A = c.requires.known.areas in
+    c.nonterminal_fault.ensures ∙ fault-nonterminal _ _ c.if-r-eq0.false (omega (arith, c.if-r-s.true))
 
-pub returns-then-r-a-2 : goal.returns-then-r-a-2
-returns-then-r-a-2 c = let A = c.requires.known.areas in
-    c.state_fault.ensures ∙ fault_state _ _ (omega (arith, c.if-r-a.false)) (omega (arith, c.if-r-a-2.true))
+pub returns-then-r-s-2 : goal.returns-then-r-s-2
+returns-then-r-s-2 c = let A = c.requires.known.areas in
+    c.state_fault.ensures ∙ fault_state _ _ (omega (arith, c.if-r-s.false)) (omega (arith, c.if-r-s-2.true))
 
 pub returns : goal.returns
 returns c = let A = c.requires.known.areas in
-    c.production_fault.ensures ∙ fault-production _ _ (omega (arith, c.if-r-a-2.false)) (omega (arith, c.requires.r_bound))
+    c.production_fault.ensures ∙ fault-production _ _ (omega (arith, c.if-r-s-2.false)) (omega (arith, c.requires.r_bound))

@@ -7,11 +7,11 @@ pub loop-n-init : goal.loop-n-init
 loop-n-init c = left-start _ _ _
 
 pub hold_chain-requires : goal.hold_chain-requires
-hold_chain-requires c = let A = c.requires.areas_of in record { areas_of = A; n_bound = (omega (arith, c.loop-n-test.true), c.loop-n.auto.held ∙ ap length c.requires.held_value ∙ length-replicate {A = ℕ} 128 0) }
+hold_chain-requires c = let A = c.args.s.of in record { n_bound = (omega (arith, c.loop-n-test.true), c.loop-n.auto.held ∙ ap length c.requires.held_value ∙ length-replicate {A = ℕ} 128 0) }
 
 pub loop-n-preserved : goal.loop-n-preserved
 loop-n-preserved c = left-more _ _ _ _ _ _ c.loop-n-test.true c.hold_chain.ensures c.loop-n.invariant
 
 pub returns : goal.returns
-returns c = let A = c.requires.areas_of in
+returns c = let A = c.args.s.of in
     left-held _ _ _ _ _ A.nonterminals (omega arith) (omega arith) c.requires.held_value c.loop-n.invariant

@@ -1,19 +1,26 @@
+use Rattle.std.proofs.Common.{refl, ap, arith}
+use Rattle.table_check.specs.Faults.{fault_at, Best}
+use Rattle.table_check.specs.Offences.{row_of}
+use Rattle.table.specs.Words.{records}
+use Rattle.table_check.specs.Rows.{number_of_row}
 use Rattle.table_check.proofs.Faults.{pass_accepted, pass_refused}
-use mathlib.Core.Path.{refl}
-use native.Mathlib.Omega.{arith}
+use Rattle.table_check.proofs.Ways.{some_row}
 use Rattle.table_check.proofs.scan.scan.Goals as goal
 
 pub scan_loose-best-requires : goal.scan_loose-best-requires
-scan_loose-best-requires c = let K = c.requires.known in record { areas_of = K.areas; lengths_len = (K.lengths_long, K.lengths); reaching = c.requires.reaching; best = c.scan_areas-first.ensures }
+scan_loose-best-requires c = let K = c.requires.known in record { lengths_len = (K.lengths_long, K.lengths); reaching = c.requires.reaching; best = c.scan_areas-first.ensures }
 
-pub returns-then-best-eq0 : goal.returns-then-best-eq0
-returns-then-best-eq0 c = let A = c.requires.known.areas in
-    pass_accepted _ (omega (arith, A.room, A.loose_at, A.records)) _ _ _ refl c.if-best-eq0.true c.scan_loose-best.ensures
+pub returns-in-None : goal.returns-in-None
+returns-in-None c = let A = c.requires.known.areas in
+    pass_accepted _ (omega (arith, A.room, A.loose_at, A.records)) _ _ _ refl (ap row_of c.in-None.is) c.scan_loose-best.ensures
 
-pub overflow_cast-result : goal.overflow_cast-result
-overflow_cast-result c = let A = c.requires.known.areas in
-    omega (arith, A.few, A.records, c.scan_loose-best.ensures.within)
+pub refusal-requires : goal.refusal-requires
+refusal-requires c = let A = c.requires.known.areas in
+    let B : Best (fault_at c.args.s.words.now) (records c.args.s.words.now) (number_of_row c.in-Some.offence.row) c.in-Some.offence.place = rw c.in-Some.is at c.scan_loose-best.ensures in
+    omega (arith, A.few, A.records, B.within)
 
-pub returns : goal.returns
-returns c = let A = c.requires.known.areas in
-    pass_refused _ (omega (arith, A.room, A.loose_at, A.records)) _ _ _ refl c.if-best-eq0.false c.scan_loose-best.ensures
+pub returns-in-Some : goal.returns-in-Some
+returns-in-Some c = let A = c.requires.known.areas in
+    let B : Best (fault_at c.args.s.words.now) (records c.args.s.words.now) (number_of_row c.in-Some.offence.row) c.in-Some.offence.place = rw c.in-Some.is at c.scan_loose-best.ensures in
+    rw (c.refusal.ensures.number, c.refusal.ensures.place)
+    (pass_refused _ (omega (arith, A.room, A.loose_at, A.records)) _ _ _ refl (some_row c.in-Some.offence.row) B)

@@ -1,5 +1,6 @@
+use Rattle.table_check.specs.Offences.{row_of, place_of}
 use Rattle.table_check.specs.Faults.{fault_at, Best}
 use Rattle.table_check.proofs.scan.scan_areas.Given as goal
 
 abbrev pub invariant-loop-r : goal.invariant-loop-r
-invariant-loop-r l = Best (fault_at l.table) l.r l.best.row l.best.place
+invariant-loop-r l = Best (fault_at l.s.words.now) l.r (row_of l.best) (place_of l.best)

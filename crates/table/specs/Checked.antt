@@ -1,0 +1,13 @@
+-- What the check of a table answers, by document 01's table of refusals: accepted, or the number of a refusal and its place. Assumes nothing: these are definitions.
+use Rattle.std.specs.Prelude.{ℕ, Result, Ok, Err}
+use Rattle.repr.specs.declared.refusals.Refusal.{Refusal}
+use Rattle.repr.specs.Answer.{number_of, place_of}
+
+pub data Checked : Type 0 where
+  Accepted : Checked
+  Refused : ℕ → ℕ → Checked
+
+-- a call's answer in those terms
+abbrev pub checked_of : {A : Type 0} → Result A Refusal → Checked
+checked_of (Ok a) = Accepted
+checked_of (Err e) = Refused (number_of e) (place_of e)
