@@ -1,8 +1,7 @@
 -- The ways through the exported functions, one law each. Assumes nothing.
 use Rattle.std.proofs.Common.{◌≡◌, ℕ, Bool, List, sym, ap, ◌∙◌}
+use Rattle.repr.specs.Answer.{Answer, answered, refused}
 use Rattle.spelling.specs.Outcome.{Outcome as Spelling}
-use Rattle.spelling.specs.declared.Respelled.{Respelled}
-use Rattle.spelling.specs.declared.Respelled.TheVariants.{Records, Refused as NotSpelled}
 use Rattle.compaction.specs.Outcome.{Outcome as Compaction}
 use Rattle.compaction.specs.declared.Compacted.{Compacted}
 use Rattle.compaction.specs.declared.Compacted.TheVariants.{Records as Left, Refused as NotCompacted}
@@ -46,12 +45,12 @@ module _ (c d : Checked) (e : c ≡ d) where
   unfolding check_numbers
   check_refused n r h = rw (sym e ∙ h)
 
-module _ (old : ℕ) (c : Respelled) (words : List ℕ) (d : Spelling) (e : record { answer = c; out = words } ≡ d) where
-  pub spell-made : (count : ℕ) → c ≡ Records count → spell_numbers 0 0 count words ≡ respell_numbers old d
+module _ (old : ℕ) (c : Answer ℕ) (words : List ℕ) (d : Spelling) (e : record { answer = c; out = words } ≡ d) where
+  pub spell-made : (count : ℕ) → c ≡ answered count → spell_numbers 0 0 count words ≡ respell_numbers old d
   unfolding respell_numbers
   spell-made count h = rw (← e, h)
 
-  pub spell-refused : (n r : ℕ) → c ≡ NotSpelled n r → spell_numbers n r old words ≡ respell_numbers old d
+  pub spell-refused : (n r : ℕ) → c ≡ refused n r → spell_numbers n r old words ≡ respell_numbers old d
   unfolding respell_numbers
   spell-refused n r h = rw (← e, h)
 

@@ -1,8 +1,8 @@
 -- What the exported functions answer in numbers: 0, or the refusal, whose place stands behind `place`. A number behind another reference changes only with answer 0; lent words are those that the entry leaves.
 -- Assumes nothing: these are definitions.
 use Rattle.std.specs.Prelude.{ℕ, Bool, List}
+use Rattle.repr.specs.Answer.{answered, refused}
 use Rattle.spelling.specs.Outcome.{Outcome as Spelling}
-use Rattle.spelling.specs.declared.Respelled.TheVariants.{Records, Refused as NotSpelled}
 use Rattle.compaction.specs.Outcome.{Outcome as Compaction}
 use Rattle.compaction.specs.declared.Compacted.TheVariants.{Records as Left, Refused as NotCompacted}
 use Rattle.builder.specs.Outcome.{Left as Building}
@@ -35,7 +35,7 @@ pub data SpellNumbers : Type 0 where
   spell_numbers : ℕ → ℕ → ℕ → List ℕ → SpellNumbers
 
 unfoldable pub respell_numbers : ℕ → Spelling → SpellNumbers
-respell_numbers old o = elim o.answer [ Records count ↦ spell_numbers 0 0 count o.out | NotSpelled n r ↦ spell_numbers n r old o.out ]
+respell_numbers old o = elim o.answer [ answered count ↦ spell_numbers 0 0 count o.out | refused n r ↦ spell_numbers n r old o.out ]
 
 unfoldable pub compact_numbers : ℕ → Compaction → SpellNumbers
 compact_numbers old o = elim o.answer [ Left count ↦ spell_numbers 0 0 count o.table | NotCompacted n r ↦ spell_numbers n r old o.table ]

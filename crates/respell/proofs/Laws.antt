@@ -2,11 +2,10 @@
 use mathlib.Core.Path.{◌≡◌, sym, ap, ◌∙◌}
 use mathlib.Core.List.{List}
 use Prim.Native.Nat.{ℕ, ◌≤◌}
+use Rattle.repr.specs.Answer.{Answer, answered}
 use Rattle.repr.specs.Sizes.{record_limit}
 use Rattle.spelling.specs.Outcome.{respell_of}
-use Rattle.spelling.specs.declared.Respelled.{Respelled}
-use Rattle.spelling.specs.declared.Respelled.TheVariants.{Records}
 use Rattle.spelling.proofs.Wrote.{wrote}
 
-pub few_records : (t out ws : List ℕ) (r : Respelled) (n : ℕ) → record { answer = r; out = ws } ≡ respell_of t out → r ≡ Records n → n ≤ record_limit
-few_records t out ws r n e h = (wrote t out ws n (sym e ∙ ap (λ (a : Respelled). record { answer = a; out = ws }) h)).few
+pub few_records : (t out ws : List ℕ) (r : Answer ℕ) (n : ℕ) → record { answer = r; out = ws } ≡ respell_of t out → r ≡ answered n → n ≤ record_limit
+few_records t out ws r n e h = (wrote t out ws n (sym e ∙ ap (λ (a : Answer ℕ). record { answer = a; out = ws }) h)).few

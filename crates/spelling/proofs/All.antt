@@ -5,6 +5,7 @@ use mathlib.Core.List.{List}
 use Prim.Native.Nat.{ℕ, suc, ◌+◌, ◌-◌, ◌*◌, ◌/◌, ◌≤◌, ◌<◌, min}
 use native.Mathlib.Omega.{arith}
 use lib.ListN.{length}
+use Rattle.repr.specs.Answer.{answered, refused}
 use Rattle.repr.specs.Sizes.{record_limit}
 use Rattle.repr.specs.Meaning.{Table}
 use Rattle.repr.proofs.Lists.{cases}
@@ -17,7 +18,6 @@ use Rattle.table.proofs.Quads.{put_long}
 use Rattle.spelling.specs.Spelled.{chains_from, quads, size_of, symbol_lists, item_lists, edge_lists, states_at, productions_at, symbols_at, items_place, edges_at, records_of}
 use Rattle.spelling.specs.Grown.{Grown, Room, Stands, same_quad, chains_of, Heads, SizesOf}
 use Rattle.spelling.specs.Outcome.{room_for, written_of}
-use Rattle.spelling.specs.declared.Respelled.TheVariants.{Records, Refused}
 use Rattle.spelling.proofs.Places.{begins}
 use Rattle.spelling.proofs.Grown.{grown-join, grown-all}
 use Rattle.spelling.proofs.Sources.{Source, symbol-source, item-source, edge_source}
@@ -93,14 +93,14 @@ module _ (t : List ℕ) (e : check_of t ≡ Accepted) (n u s p : ℕ) (C : Count
       record { symbols = y; items = i; edges = d; records = r }
 
 module _ (T : Table) (g : List ℕ) where
-  none : room_for T g ≡ false → record { answer = Refused 17 0; out = g } ≡ written_of T g
+  none : room_for T g ≡ false → record { answer = refused 17 0; out = g } ≡ written_of T g
   unfolding written_of
   none f = rw (f, written_of)
 
-  pub written_many : (r : ℕ) → r ≡ min (records_of T) (suc record_limit) → record_limit < r → record { answer = Refused 17 0; out = g } ≡ written_of T g
+  pub written_many : (r : ℕ) → r ≡ min (records_of T) (suc record_limit) → record_limit < r → record { answer = refused 17 0; out = g } ≡ written_of T g
   written_many r e h = none (cases (room_for T g) (λ f. let w = (room_is T g f).0 in absurd (omega arith)) (λ f. f))
 
-  pub written_short : (r : ℕ) → r ≡ min (records_of T) (suc record_limit) → length g / 4 < r → record { answer = Refused 17 0; out = g } ≡ written_of T g
+  pub written_short : (r : ℕ) → r ≡ min (records_of T) (suc record_limit) → length g / 4 < r → record { answer = refused 17 0; out = g } ≡ written_of T g
   written_short r e h = none (cases (room_for T g) (λ f. let w = (room_is T g f).1 in absurd (omega arith)) (λ f. f))
 
   -- what was counted to the end, and room for it
@@ -116,7 +116,7 @@ module _ (T : Table) (g : List ℕ) where
         let ed : d ≡ edges_at T = omega (arith, S.edges, b.past) in
         (S.symbols, (ei, (ed, record { few = omega arith; long = omega arith })))
 
-    pub written-done : (g' : List ℕ) → Grown T g g' 0 (records_of T) → record { answer = Records r; out = g' } ≡ written_of T g
+    pub written-done : (g' : List ℕ) → Grown T g g' 0 (records_of T) → record { answer = answered r; out = g' } ≡ written_of T g
     unfolding written_of
     written-done g' G =
         let c = counted-all in

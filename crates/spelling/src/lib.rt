@@ -4,6 +4,7 @@
 
 ghost use Rattle.std.specs.Prelude.{◌≡◌, List, [], ◌∷◌, ℕ, suc, ◌+◌, ◌*◌, ◌≤◌, ◌<◌, min, length, get_or};
 ghost use Rattle.repr.specs.Sizes.{record_limit};
+ghost use Rattle.repr.specs.Answer.{answer_of};
 ghost use Rattle.table.specs.Decoded.{meaning};
 ghost use Rattle.table.specs.Checked.{Accepted};
 ghost use Rattle.table.specs.Refusals.{check_of};
@@ -11,21 +12,13 @@ ghost use Rattle.spelling.specs.Spelled.{chain_from, chains_from, size_of, state
 ghost use Rattle.spelling.specs.Grown.{Grown, Room, Stands, records_from, same_quad, LooseIndex, chains_of, Heads, SizesOf};
 ghost use Rattle.spelling.specs.Outcome.{written_of, respell_of};
 
-use table::{Checked, first_edge, first_item, put, read_counts, word};
+use repr::Refusal;
+use table::{AcceptedTable, put, word};
 
-// What writing a table afresh answers: the number of records written, or refusal and place.
-#[derive(Clone, Copy)]
-pub enum Respelled {
-    Records(u16),
-    Refused(u16, u16),
-}
+// Records of a table at most, and how far they are counted.
+const LIMIT: usize = 8192;
 
-impl Respelled {
-    // Records of a table at most, and how far they are counted.
-    pub const LIMIT: usize = 8192;
-
-    pub const COUNTED: usize = Respelled::LIMIT + 1;
-}
+const COUNTED: usize = LIMIT + 1;
 
 // The next index of a record that is followed by the next one, or by none.
 pub fn next_of(next: usize, at: usize) -> usize
@@ -36,18 +29,17 @@ pub fn next_of(next: usize, at: usize) -> usize
 }
 
 // Writes the records of a chain from record `begin` on, one behind the other, and returns the record behind them.
-fn write_chain(table: &[u16], out: &mut [u16], head: usize, begin: usize) -> usize
-    requires table_value { check_of table.now ≡ Accepted }
-    requires loose_index { LooseIndex table.now head × (Stands (quads (meaning table.now)) begin (chain_from (same_quad table.now) begin (records_from table.now head)) × Room (meaning table.now) out.old) }
-    ensures { (result ≡ begin + length (records_from table.now head)) × Grown (meaning table.now) out.old out.new begin result }
+fn write_chain(table: AcceptedTable, out: &mut [u16], head: usize, begin: usize) -> usize
+    requires loose_index { LooseIndex table.words.now head × (Stands (quads (meaning table.words.now)) begin (chain_from (same_quad table.words.now) begin (records_from table.words.now head)) × Room (meaning table.words.now) out.old) }
+    ensures { (result ≡ begin + length (records_from table.entry.words.now head)) × Grown (meaning table.entry.words.now) out.old out.new begin result }
 {
     let mut from = head;
     let mut at = begin;
     while from != 0 {
-        let next = word(table, from, 0);
-        let one = word(table, from, 1);
-        let two = word(table, from, 2);
-        let three = word(table, from, 3);
+        let next = word(table.words, from, 0);
+        let one = word(table.words, from, 1);
+        let two = word(table.words, from, 2);
+        let three = word(table.words, from, 3);
         let follower = next_of(next, at);
         put(out, at, follower, one, two, three);
         at += 1;
@@ -58,32 +50,28 @@ fn write_chain(table: &[u16], out: &mut [u16], head: usize, begin: usize) -> usi
 
 // Writes the chains whose heads stand in word k of the records from `first` up to and without `past`, one behind the other from record `begin` on, and returns the record behind them.
 fn write_chains(
-    table: &[u16],
+    table: AcceptedTable,
     out: &mut [u16],
     first: usize,
     past: usize,
     k: usize,
     begin: usize,
 ) -> usize
-    requires table_value { check_of table.now ≡ Accepted }
-    requires heads { Heads table.now first past k × (Stands (quads (meaning table.now)) begin (chains_from (same_quad table.now) begin (chains_of table.now first past k)) × Room (meaning table.now) out.old) }
-    ensures { (result ≡ begin + size_of (chains_of table.now first past k)) × Grown (meaning table.now) out.old out.new begin result }
+    requires heads { Heads table.words.now first past k × (Stands (quads (meaning table.words.now)) begin (chains_from (same_quad table.words.now) begin (chains_of table.words.now first past k)) × Room (meaning table.words.now) out.old) }
+    ensures { (result ≡ begin + size_of (chains_of table.entry.words.now first past k)) × Grown (meaning table.entry.words.now) out.old out.new begin result }
 {
     let mut at = begin;
-    let mut holder = first;
-    while holder < past {
-        let head = word(table, holder, k);
+    for holder in first..past {
+        let head = word(table.words, holder, k);
         at = write_chain(table, out, head, at);
-        holder += 1;
     }
     at
 }
 
 // How many records a chain has, counted up to `most`.
-fn count_chain(table: &[u16], head: usize, most: usize) -> usize
-    requires table_value { check_of table.now ≡ Accepted }
-    requires loose_index { LooseIndex table.now head × (most ≤ suc record_limit) }
-    ensures { result ≡ min (length (records_from table.now head)) most }
+fn count_chain(table: AcceptedTable, head: usize, most: usize) -> usize
+    requires loose_index { LooseIndex table.words.now head × (most ≤ suc record_limit) }
+    ensures { result ≡ min (length (records_from table.entry.words.now head)) most }
 {
     let mut from = head;
     let mut count: usize = 0;
@@ -91,24 +79,21 @@ fn count_chain(table: &[u16], head: usize, most: usize) -> usize
         if count == most {
             return most;
         }
-        from = word(table, from, 0);
+        from = word(table.words, from, 0);
         count += 1;
     }
     count
 }
 
 // How many records the chains of `write_chains` have, counted up to `most`: shared chains can be reached two million times over.
-fn count_chains(table: &[u16], first: usize, past: usize, k: usize, most: usize) -> usize
-    requires table_value { check_of table.now ≡ Accepted }
-    requires heads { Heads table.now first past k × (most ≤ suc record_limit) }
-    ensures { result ≡ min (size_of (chains_of table.now first past k)) most }
+fn count_chains(table: AcceptedTable, first: usize, past: usize, k: usize, most: usize) -> usize
+    requires heads { Heads table.words.now first past k × (most ≤ suc record_limit) }
+    ensures { result ≡ min (size_of (chains_of table.entry.words.now first past k)) most }
 {
     let mut total: usize = 0;
-    let mut holder = first;
-    while holder < past {
-        let head = word(table, holder, k);
+    for holder in first..past {
+        let head = word(table.words, holder, k);
         total += count_chain(table, head, most - total);
-        holder += 1;
     }
     total
 }
@@ -121,67 +106,58 @@ pub fn head_of(count: usize, at: usize) -> usize
 }
 
 // Writes the nonterminals: their heads are the table's.
-fn write_nonterminals(table: &[u16], out: &mut [u16])
-    requires table_value { check_of table.now ≡ Accepted }
-    requires room { Room (meaning table.now) out.old }
-    ensures { Grown (meaning table.now) out.old out.new 1 (states_at (meaning table.now)) }
+fn write_nonterminals(table: AcceptedTable, out: &mut [u16])
+    requires room { Room (meaning table.words.now) out.old }
+    ensures { Grown (meaning table.entry.words.now) out.old out.new 1 (states_at (meaning table.entry.words.now)) }
 {
-    let counts = read_counts(table);
+    let counts = table.counts();
     let nonterminals = counts.nonterminals;
-    let mut n: usize = 0;
-    while n < nonterminals {
-        let head = word(table, 1 + n, 0);
+    for n in 0..nonterminals {
+        let head = word(table.words, 1 + n, 0);
         put(out, 1 + n, head, 0, 0, 0);
-        n += 1;
     }
 }
 
 // Writes the states; their items begin at record `items`, their edges at record `edges`.
-fn write_states(table: &[u16], out: &mut [u16], items: usize, edges: usize)
-    requires table_value { check_of table.now ≡ Accepted }
-    requires value { (items ≡ items_place (meaning table.now)) × ((edges ≡ edges_at (meaning table.now)) × Room (meaning table.now) out.old) }
-    ensures { Grown (meaning table.now) out.old out.new (states_at (meaning table.now)) (productions_at (meaning table.now)) }
+fn write_states(table: AcceptedTable, out: &mut [u16], items: usize, edges: usize)
+    requires value { (items ≡ items_place (meaning table.words.now)) × ((edges ≡ edges_at (meaning table.words.now)) × Room (meaning table.words.now) out.old) }
+    ensures { Grown (meaning table.entry.words.now) out.old out.new (states_at (meaning table.entry.words.now)) (productions_at (meaning table.entry.words.now)) }
 {
-    let counts = read_counts(table);
+    let counts = table.counts();
     let nonterminals = counts.nonterminals;
     let states = counts.states;
     let mut i = items;
     let mut d = edges;
-    let mut s: usize = 0;
-    while s < states {
-        let many_items = count_chain(table, first_item(table, s), Respelled::LIMIT);
-        let many_edges = count_chain(table, first_edge(table, s), Respelled::LIMIT);
+    for s in 0..states {
+        let many_items = count_chain(table, table.first_item(s), LIMIT);
+        let many_edges = count_chain(table, table.first_edge(s), LIMIT);
         let item_head = head_of(many_items, i);
         let edge_head = head_of(many_edges, d);
         put(out, 1 + nonterminals + s, item_head, edge_head, 0, 0);
         i += many_items;
         d += many_edges;
-        s += 1;
     }
 }
 
 // Writes the productions: their next indexes and spans are the table's. Their symbols begin at record `symbols`.
-fn write_productions(table: &[u16], out: &mut [u16], symbols: usize)
-    requires table_value { check_of table.now ≡ Accepted }
-    requires symbols_value { (symbols ≡ symbols_at (meaning table.now)) × Room (meaning table.now) out.old }
-    ensures { Grown (meaning table.now) out.old out.new (productions_at (meaning table.now)) (symbols_at (meaning table.now)) }
+fn write_productions(table: AcceptedTable, out: &mut [u16], symbols: usize)
+    requires symbols_value { (symbols ≡ symbols_at (meaning table.words.now)) × Room (meaning table.words.now) out.old }
+    ensures { Grown (meaning table.entry.words.now) out.old out.new (productions_at (meaning table.entry.words.now)) (symbols_at (meaning table.entry.words.now)) }
 {
-    let counts = read_counts(table);
+    let counts = table.counts();
     let nonterminals = counts.nonterminals;
     let states = counts.states;
     let productions = counts.productions;
     let mut y = symbols;
-    let mut p: usize = 0;
-    while p < productions {
+    for p in 0..productions {
         let record = 1 + nonterminals + states + p;
-        let next = word(table, record, 0);
-        let start = word(table, record, 2);
-        let end = word(table, record, 3);
-        let many = count_chain(table, word(table, record, 1), Respelled::LIMIT);
+        let next = word(table.words, record, 0);
+        let start = word(table.words, record, 2);
+        let end = word(table.words, record, 3);
+        let many = count_chain(table, word(table.words, record, 1), LIMIT);
         let head = head_of(many, y);
         put(out, record, next, head, start, end);
         y += many;
-        p += 1;
     }
 }
 
@@ -194,33 +170,30 @@ struct Sizes {
     records: usize,
 }
 
-fn measure(table: &[u16]) -> Sizes
-    requires { check_of table.now ≡ Accepted }
-    ensures { SizesOf (meaning table.now) result.symbols result.items result.edges result.records }
+fn measure(table: AcceptedTable) -> Sizes
+    ensures { SizesOf (meaning table.entry.words.now) result.symbols result.items result.edges result.records }
 {
-    let counts = read_counts(table);
+    let counts = table.counts();
     let states = 1 + counts.nonterminals;
     let productions = states + counts.states;
     let symbols = productions + counts.productions;
-    let items = symbols
-        + count_chains(table, productions, symbols, 1, Respelled::COUNTED - symbols);
-    let edges = items + count_chains(table, states, productions, 0, Respelled::COUNTED - items);
-    let records = edges + count_chains(table, states, productions, 1, Respelled::COUNTED - edges);
+    let items = symbols + count_chains(table, productions, symbols, 1, COUNTED - symbols);
+    let edges = items + count_chains(table, states, productions, 0, COUNTED - items);
+    let records = edges + count_chains(table, states, productions, 1, COUNTED - edges);
     Sizes {
-        symbols: symbols,
-        items: items,
-        edges: edges,
-        records: records,
+        symbols,
+        items,
+        edges,
+        records,
     }
 }
 
 // Writes all records.
-fn write_all(table: &[u16], out: &mut [u16], symbols: usize, items: usize, edges: usize)
-    requires table_value { check_of table.now ≡ Accepted }
-    requires symbols_value { (symbols ≡ symbols_at (meaning table.now)) × ((items ≡ items_place (meaning table.now)) × ((edges ≡ edges_at (meaning table.now)) × Room (meaning table.now) out.old)) }
-    ensures { Grown (meaning table.now) out.old out.new 0 (records_of (meaning table.now)) }
+fn write_all(table: AcceptedTable, out: &mut [u16], symbols: usize, items: usize, edges: usize)
+    requires symbols_value { (symbols ≡ symbols_at (meaning table.words.now)) × ((items ≡ items_place (meaning table.words.now)) × ((edges ≡ edges_at (meaning table.words.now)) × Room (meaning table.words.now) out.old)) }
+    ensures { Grown (meaning table.entry.words.now) out.old out.new 0 (records_of (meaning table.entry.words.now)) }
 {
-    let counts = read_counts(table);
+    let counts = table.counts();
     put(
         out,
         0,
@@ -240,27 +213,24 @@ fn write_all(table: &[u16], out: &mut [u16], symbols: usize, items: usize, edges
 }
 
 // Writes an accepted table afresh, if there is room.
-fn respell_in(table: &[u16], out: &mut [u16]) -> Respelled
-    requires { check_of table.now ≡ Accepted }
-    ensures { record { answer = result; out = out.new } ≡ written_of (meaning table.now) out.old }
+fn respell_in(table: AcceptedTable, out: &mut [u16]) -> Result<u16, Refusal>
+    ensures { record { answer = answer_of result; out = out.new } ≡ written_of (meaning table.entry.words.now) out.old }
 {
     let s = measure(table);
-    if s.records > Respelled::LIMIT {
-        return Respelled::Refused(17, 0);
+    if s.records > LIMIT {
+        return Err(Refusal::NoRoom);
     }
     if s.records > out.len() / 4 {
-        return Respelled::Refused(17, 0);
+        return Err(Refusal::NoRoom);
     }
     write_all(table, out, s.symbols, s.items, s.edges);
-    Respelled::Records(s.records as u16)
+    Ok(s.records as u16)
 }
 
 // Writes an accepted table afresh at the front of `out`, and answers how many records that are. Refusals 1 to 8, then 17 without room or above 8,192 records; they change nothing.
-pub fn respell(table: &[u16], out: &mut [u16]) -> Respelled
-    ensures { record { answer = result; out = out.new } ≡ respell_of table.now out.old }
+pub fn respell(table: &[u16], out: &mut [u16]) -> Result<u16, Refusal>
+    ensures { record { answer = answer_of result; out = out.new } ≡ respell_of table.now out.old }
 {
-    match table_check::check(table) {
-        Checked::Refused(refusal, place) => Respelled::Refused(refusal, place),
-        Checked::Accepted => respell_in(table, out),
-    }
+    let accepted = table_check::check(table)?;
+    respell_in(accepted, out)
 }

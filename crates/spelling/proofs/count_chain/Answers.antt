@@ -4,7 +4,7 @@ use Rattle.spelling.proofs.Counting.{counting_start, counting_step, counting_few
 use Rattle.spelling.proofs.count_chain.Goals as goal
 
 pub loop-from-init : goal.loop-from-init
-loop-from-init c = (counting_start _ c.requires.table_value _ _ c.requires.loose_index.0, c.requires.table_value)
+loop-from-init c = (counting_start _ c.args.table.accepted _ _ c.requires.loose_index.0, c.args.table.accepted)
 
 pub returns-then-count-most : goal.returns-then-count-most
 returns-then-count-most c = counting_most _ c.loop-from.invariant.1 _ _ _ _ c.if-count-most.true c.loop-from.invariant.0

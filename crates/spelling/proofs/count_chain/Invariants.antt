@@ -7,7 +7,7 @@ use Rattle.spelling.proofs.Counting.{Counting}
 use Rattle.spelling.proofs.count_chain.Given as goal
 
 abbrev pub invariant-loop-from : goal.invariant-loop-from
-invariant-loop-from l = Counting l.table (length (records_from l.table l.head)) l.most l.from l.count × (check_of l.table ≡ Accepted)
+invariant-loop-from l = Counting l.table.words.now (length (records_from l.table.words.now l.head)) l.most l.from l.count × (check_of l.table.words.now ≡ Accepted)
 
 abbrev pub decreases-loop-from : goal.decreases-loop-from
-decreases-loop-from l = length (records_from l.table l.from)
+decreases-loop-from l = length (records_from l.table.words.now l.from)

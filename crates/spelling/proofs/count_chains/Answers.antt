@@ -4,7 +4,7 @@ use Rattle.spelling.proofs.Counting.{totalling_start, totalling_head, totalling_
 use Rattle.spelling.proofs.count_chains.Goals as goal
 
 pub loop-holder-init : goal.loop-holder-init
-loop-holder-init c = (totalling_start _ _ _ _ _ c.requires.heads.0, c.requires.table_value)
+loop-holder-init c = (totalling_start _ _ _ _ _ c.requires.heads.0, c.args.table.accepted)
 
 pub word-head-requires : goal.word-head-requires
 word-head-requires c = heads_asked _ _ _ _ c.loop-holder.invariant.1 c.loop-holder.invariant.0.heads c.loop-holder-test.true
@@ -13,16 +13,10 @@ pub overflow_sub-most : goal.overflow_sub-most
 overflow_sub-most c = c.loop-holder.invariant.0.few
 
 pub count_chain-total-requires : goal.count_chain-total-requires
-count_chain-total-requires c = record { table_value = c.loop-holder.invariant.1; loose_index = (totalling_head _ _ _ _ _ _ _ _ c.loop-holder-test.true c.word-head.ensures.0 c.loop-holder.invariant.0, omega (arith, c.requires.heads.1)) }
+count_chain-total-requires c = record { loose_index = (totalling_head _ _ _ _ _ _ _ _ c.loop-holder-test.true c.word-head.ensures.0 c.loop-holder.invariant.0, omega (arith, c.requires.heads.1)) }
 
 pub overflow_add-total : goal.overflow_add-total
 overflow_add-total c = omega (arith, c.loop-holder.invariant.0.few, c.requires.heads.1, c.count_chain-total.ensures)
-
-pub overflow_add-holder : goal.overflow_add-holder
-overflow_add-holder c = omega (arith, c.loop-holder-test.true, c.well_formed)
-
-pub loop-holder-smaller : goal.loop-holder-smaller
-loop-holder-smaller c = omega (arith, c.loop-holder-test.true)
 
 pub loop-holder-preserved : goal.loop-holder-preserved
 loop-holder-preserved c = (totalling_step _ _ _ _ _ _ _ _ _ c.loop-holder-test.true c.word-head.ensures.0 c.count_chain-total.ensures c.loop-holder.invariant.0, c.loop-holder.invariant.1)

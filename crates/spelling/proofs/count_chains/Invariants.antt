@@ -1,5 +1,4 @@
 use mathlib.Core.Path.{◌≡◌}
-use Prim.Native.Nat.{◌-◌}
 use Rattle.table.specs.Checked.{Accepted}
 use Rattle.table.specs.Refusals.{check_of}
 use Rattle.spelling.specs.Spelled.{size_of}
@@ -8,7 +7,4 @@ use Rattle.spelling.proofs.Counting.{Totalling}
 use Rattle.spelling.proofs.count_chains.Given as goal
 
 abbrev pub invariant-loop-holder : goal.invariant-loop-holder
-invariant-loop-holder l = Totalling l.table (size_of (chains_of l.table l.first l.past l.k)) l.most l.past l.k l.holder l.total × (check_of l.table ≡ Accepted)
-
-abbrev pub decreases-loop-holder : goal.decreases-loop-holder
-decreases-loop-holder l = l.past - l.holder
+invariant-loop-holder l = Totalling l.table.words.now (size_of (chains_of l.table.words.now l.first l.past l.k)) l.most l.past l.k l.holder l.total × (check_of l.table.words.now ≡ Accepted)

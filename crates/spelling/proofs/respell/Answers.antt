@@ -1,12 +1,17 @@
-use mathlib.Core.Path.{sym, ◌∙◌}
+use Rattle.std.proofs.Common.{sym, ap, ◌∙◌, List, ℕ}
+use Rattle.std.proofs.lemmas.Result.{err_from_is_err_and}
+use Rattle.table.specs.Decoded.{meaning}
+use Rattle.spelling.specs.Outcome.{written_of}
 use Rattle.spelling.proofs.Wrote.{respell-refused, respell_accepted}
 use Rattle.spelling.proofs.respell.Goals as goal
 
-pub respell_in-requires : goal.respell_in-requires
-respell_in-requires c = sym c.check.ensures ∙ c.in-Accepted.is
+pub returns-in_err-accepted : goal.returns-in_err-accepted
+returns-in_err-accepted c =
+    let p = err_from_is_err_and c.from_residual.result c.from_residual.ensures.1 in
+    rw (p.1, p.2) (sym (respell-refused _ _ _ _ (sym c.in_err-accepted.ensures.answer)))
 
-pub returns-in-Refused : goal.returns-in-Refused
-returns-in-Refused c = sym (respell-refused _ _ _ _ (sym c.check.ensures ∙ c.in-Refused.is))
-
-pub returns-in-Accepted : goal.returns-in-Accepted
-returns-in-Accepted c = c.respell_in.ensures ∙ sym (respell_accepted _ _ (sym c.check.ensures ∙ c.in-Accepted.is))
+pub returns : goal.returns
+returns c =
+    c.respell_in.ensures
+    ∙ ap (λ (ws : List ℕ). written_of (meaning ws) c.args.out.now) c.in_ok-accepted.ensures.same
+    ∙ sym (respell_accepted _ _ (sym c.in_ok-accepted.ensures.answer))

@@ -9,7 +9,7 @@ pub returns-then-s-out : goal.returns-then-s-out
 returns-then-s-out c = written_short _ _ _ c.measure-s.ensures.records (omega arith)
 
 pub write_all-requires : goal.write_all-requires
-write_all-requires c = record { table_value = c.requires; symbols_value = written_asks _ _ _ _ _ _ c.measure-s.ensures (omega arith) (omega arith) }
+write_all-requires c = record { symbols_value = written_asks _ _ _ _ _ _ c.measure-s.ensures (omega arith) (omega arith) }
 
 pub returns : goal.returns
 returns c = written-done _ _ _ _ _ _ c.measure-s.ensures (omega arith) (omega arith) _ c.write_all.ensures

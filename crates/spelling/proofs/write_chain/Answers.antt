@@ -4,7 +4,7 @@ use Rattle.spelling.proofs.Writing.{writing_start, writing_room, follower_small,
 use Rattle.spelling.proofs.write_chain.Goals as goal
 
 pub loop-from-init : goal.loop-from-init
-loop-from-init c = (writing_start _ c.requires.table_value _ _ _ c.requires.loose_index, c.requires.table_value)
+loop-from-init c = (writing_start _ c.args.table.accepted _ _ _ c.requires.loose_index, c.args.table.accepted)
 
 pub word-next-requires : goal.word-next-requires
 word-next-requires c = index_asked _ c.loop-from.invariant.1 _ c.loop-from-test.true c.loop-from.invariant.0.on _ (omega arith)

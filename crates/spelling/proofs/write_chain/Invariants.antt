@@ -8,7 +8,7 @@ use Rattle.spelling.proofs.Writing.{Writing}
 use Rattle.spelling.proofs.write_chain.Given as goal
 
 abbrev pub invariant-loop-from : goal.invariant-loop-from
-invariant-loop-from l = Writing l.table l.initial.out l.out l.begin (l.begin + length (records_from l.table l.head)) l.from l.at × (check_of l.table ≡ Accepted)
+invariant-loop-from l = Writing l.table.words.now l.initial.out l.out l.begin (l.begin + length (records_from l.table.words.now l.head)) l.from l.at × (check_of l.table.words.now ≡ Accepted)
 
 abbrev pub decreases-loop-from : goal.decreases-loop-from
-decreases-loop-from l = length (records_from l.table l.from)
+decreases-loop-from l = length (records_from l.table.words.now l.from)

@@ -1,22 +1,15 @@
-use native.Mathlib.Omega.{arith}
 use Rattle.spelling.proofs.Reading.{heads_asked}
 use Rattle.spelling.proofs.Writing.{walk_start, walk_asks, walk_step, walk_end}
 use Rattle.spelling.proofs.write_chains.Goals as goal
 
 pub loop-holder-init : goal.loop-holder-init
-loop-holder-init c = (walk_start _ _ _ _ _ _ c.requires.heads, c.requires.table_value)
+loop-holder-init c = (walk_start _ _ _ _ _ _ c.requires.heads, c.args.table.accepted)
 
 pub word-head-requires : goal.word-head-requires
 word-head-requires c = heads_asked _ _ _ _ c.loop-holder.invariant.1 c.loop-holder.invariant.0.heads c.loop-holder-test.true
 
 pub write_chain-at-requires : goal.write_chain-at-requires
-write_chain-at-requires c = record { table_value = c.loop-holder.invariant.1; loose_index = walk_asks _ _ _ _ _ _ _ _ _ _ c.loop-holder-test.true c.word-head.ensures.0 c.loop-holder.invariant.0 }
-
-pub overflow_add-holder : goal.overflow_add-holder
-overflow_add-holder c = omega (arith, c.loop-holder-test.true, c.well_formed)
-
-pub loop-holder-smaller : goal.loop-holder-smaller
-loop-holder-smaller c = omega (arith, c.loop-holder-test.true)
+write_chain-at-requires c = record { loose_index = walk_asks _ _ _ _ _ _ _ _ _ _ c.loop-holder-test.true c.word-head.ensures.0 c.loop-holder.invariant.0 }
 
 pub loop-holder-preserved : goal.loop-holder-preserved
 loop-holder-preserved c = (walk_step _ _ _ _ _ _ _ _ _ _ c.loop-holder-test.true c.word-head.ensures.0 c.loop-holder.invariant.0 _ _ c.write_chain-at.ensures, c.loop-holder.invariant.1)

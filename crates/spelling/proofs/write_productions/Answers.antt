@@ -3,11 +3,8 @@ use Rattle.spelling.proofs.Reading.{symbol_index}
 use Rattle.spelling.proofs.Areas.{inside_is, head_small, productions-start, productions-asked, productions-room, productions-head, productions-first, productions-symbols, productions-step, productions_end}
 use Rattle.spelling.proofs.write_productions.Goals as goal
 
-pub read_counts-counts-requires : goal.read_counts-counts-requires
-read_counts-counts-requires c = c.requires.table_value
-
 pub loop-p-init : goal.loop-p-init
-loop-p-init c = (productions-start _ c.requires.table_value _ _ c.requires.symbols_value.0 c.requires.symbols_value.1, (c.read_counts-counts.ensures.productions, (c.read_counts-counts.ensures.nonterminals, (c.read_counts-counts.ensures.states, c.requires.table_value))))
+loop-p-init c = (productions-start _ c.args.table.accepted _ _ c.requires.symbols_value.0 c.requires.symbols_value.1, (c.counts-counts.ensures.productions, (c.counts-counts.ensures.nonterminals, (c.counts-counts.ensures.states, c.args.table.accepted))))
 
 pub overflow_add-record : goal.overflow_add-record
 overflow_add-record c = omega (arith, (productions-room _ c.loop-p.invariant.1.1.1.1 _ _ _ _ (omega (arith, c.loop-p-test.true, c.loop-p.invariant.1.0)) c.loop-p.invariant.0 _ _ c.loop-p.invariant.1.1.0 c.loop-p.invariant.1.1.1.0).0)
@@ -32,7 +29,7 @@ word-requires c = productions-asked _ c.loop-p.invariant.1.1.1.1 _ _ _ _ c.loop-
 
 pub count_chain-many-requires : goal.count_chain-many-requires
 count_chain-many-requires c = let I = c.loop-p.invariant in
-    let h = inside_is _ _ _ c.loop-p-test.true c.loop-p.invariant.1.0 in record { table_value = I.1.1.1.1; loose_index = (symbol_index _ _ (productions-first _ I.1.1.1.1 _ _ _ _ h I.0 _ _ _ I.1.1.0 I.1.1.1.0 c.word.ensures.0).1, omega arith) }
+    let h = inside_is _ _ _ c.loop-p-test.true c.loop-p.invariant.1.0 in record { loose_index = (symbol_index _ _ (productions-first _ I.1.1.1.1 _ _ _ _ h I.0 _ _ _ I.1.1.0 I.1.1.1.0 c.word.ensures.0).1, omega arith) }
 
 pub put-requires : goal.put-requires
 put-requires c = let I = c.loop-p.invariant in

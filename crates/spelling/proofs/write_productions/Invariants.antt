@@ -1,5 +1,4 @@
 use mathlib.Core.Path.{◌≡◌}
-use Prim.Native.Nat.{◌-◌}
 use lib.ListN.{length}
 use Rattle.table.specs.Checked.{Accepted}
 use Rattle.table.specs.Decoded.{meaning}
@@ -8,8 +7,5 @@ use Rattle.spelling.proofs.Areas.{Productions}
 use Rattle.spelling.proofs.write_productions.Given as goal
 
 abbrev pub invariant-loop-p : goal.invariant-loop-p
-invariant-loop-p l = Productions l.table l.initial.out l.out l.p l.y
-    × ((l.productions ≡ length (meaning l.table).productions) × ((l.nonterminals ≡ length (meaning l.table).nonterminals) × ((l.states ≡ length (meaning l.table).states) × (check_of l.table ≡ Accepted))))
-
-abbrev pub decreases-loop-p : goal.decreases-loop-p
-decreases-loop-p l = l.productions - l.p
+invariant-loop-p l = Productions l.table.words.now l.initial.out l.out l.p l.y
+    × ((l.productions ≡ length (meaning l.table.words.now).productions) × ((l.nonterminals ≡ length (meaning l.table.words.now).nonterminals) × ((l.states ≡ length (meaning l.table.words.now).states) × (check_of l.table.words.now ≡ Accepted))))

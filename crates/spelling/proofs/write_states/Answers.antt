@@ -3,23 +3,20 @@ use Rattle.spelling.proofs.Reading.{item_index, edge_index}
 use Rattle.spelling.proofs.Areas.{inside_is, head_small, states-start, states-room, states_heads, states_items, states_edges, states-step, states_end}
 use Rattle.spelling.proofs.write_states.Goals as goal
 
-pub read_counts-counts-requires : goal.read_counts-counts-requires
-read_counts-counts-requires c = c.requires.table_value
-
 pub loop-s-init : goal.loop-s-init
-loop-s-init c = (states-start _ _ _ _ c.requires.value.0 c.requires.value.1.0 c.requires.value.1.1, (c.read_counts-counts.ensures.states, (c.read_counts-counts.ensures.nonterminals, c.requires.table_value)))
+loop-s-init c = (states-start _ _ _ _ c.requires.value.0 c.requires.value.1.0 c.requires.value.1.1, (c.counts-counts.ensures.states, (c.counts-counts.ensures.nonterminals, c.args.table.accepted)))
 
 pub first_item-requires : goal.first_item-requires
-first_item-requires c = record { table_value = c.loop-s.invariant.1.1.1; state_in_bounds = omega (arith, c.loop-s-test.true, c.loop-s.invariant.1.0) }
+first_item-requires c = omega (arith, c.loop-s-test.true, c.loop-s.invariant.1.0)
 
 pub count_chain-many_items-requires : goal.count_chain-many_items-requires
-count_chain-many_items-requires c = record { table_value = c.loop-s.invariant.1.1.1; loose_index = (item_index _ _ c.first_item.ensures.1, omega arith) }
+count_chain-many_items-requires c = record { loose_index = (item_index _ _ c.first_item.ensures.on, omega arith) }
 
 pub first_edge-requires : goal.first_edge-requires
-first_edge-requires c = record { table_value = c.loop-s.invariant.1.1.1; state_in_bounds = omega (arith, c.loop-s-test.true, c.loop-s.invariant.1.0) }
+first_edge-requires c = omega (arith, c.loop-s-test.true, c.loop-s.invariant.1.0)
 
 pub count_chain-many_edges-requires : goal.count_chain-many_edges-requires
-count_chain-many_edges-requires c = record { table_value = c.loop-s.invariant.1.1.1; loose_index = (edge_index _ _ c.first_edge.ensures.1, omega arith) }
+count_chain-many_edges-requires c = record { loose_index = (edge_index _ _ c.first_edge.ensures.on, omega arith) }
 
 pub overflow_add-nonterminals : goal.overflow_add-nonterminals
 overflow_add-nonterminals c = omega (arith, (states-room _ _ _ _ _ _ (omega (arith, c.loop-s-test.true, c.loop-s.invariant.1.0)) c.loop-s.invariant.0 _ c.loop-s.invariant.1.1.0).0)
@@ -41,8 +38,8 @@ overflow_add-d c = omega (arith, (states_heads _ _ _ _ _ _ (omega (arith, c.loop
 pub loop-s-preserved : goal.loop-s-preserved
 loop-s-preserved c = let W = c.loop-s.invariant.0 in
     let h = inside_is _ _ _ c.loop-s-test.true c.loop-s.invariant.1.0 in (
-      states-step _ _ _ _ _ _ h W _ _ _ _ _ _ c.loop-s.invariant.1.1.0 (states_items _ _ _ _ _ _ h W _ _ c.first_item.ensures.0 c.count_chain-many_items.ensures)
-          (states_edges _ _ _ _ _ _ h W _ _ c.first_edge.ensures.0 c.count_chain-many_edges.ensures) c.head_of-item_head.ensures c.head_of-edge_head.ensures c.put.ensures,
+      states-step _ _ _ _ _ _ h W _ _ _ _ _ _ c.loop-s.invariant.1.1.0 (states_items _ _ _ _ _ _ h W _ _ c.first_item.ensures.items c.count_chain-many_items.ensures)
+          (states_edges _ _ _ _ _ _ h W _ _ c.first_edge.ensures.edges c.count_chain-many_edges.ensures) c.head_of-item_head.ensures c.head_of-edge_head.ensures c.put.ensures,
       c.loop-s.invariant.1,
     )
 

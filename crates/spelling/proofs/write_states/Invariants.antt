@@ -1,5 +1,4 @@
 use mathlib.Core.Path.{◌≡◌}
-use Prim.Native.Nat.{◌-◌}
 use lib.ListN.{length}
 use Rattle.table.specs.Checked.{Accepted}
 use Rattle.table.specs.Decoded.{meaning}
@@ -8,7 +7,4 @@ use Rattle.spelling.proofs.Areas.{States}
 use Rattle.spelling.proofs.write_states.Given as goal
 
 abbrev pub invariant-loop-s : goal.invariant-loop-s
-invariant-loop-s l = States l.table l.initial.out l.out l.s l.i l.d × ((l.states ≡ length (meaning l.table).states) × ((l.nonterminals ≡ length (meaning l.table).nonterminals) × (check_of l.table ≡ Accepted)))
-
-abbrev pub decreases-loop-s : goal.decreases-loop-s
-decreases-loop-s l = l.states - l.s
+invariant-loop-s l = States l.table.words.now l.initial.out l.out l.s l.i l.d × ((l.states ≡ length (meaning l.table.words.now).states) × ((l.nonterminals ≡ length (meaning l.table.words.now).nonterminals) × (check_of l.table.words.now ≡ Accepted)))
