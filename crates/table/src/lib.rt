@@ -16,9 +16,8 @@ ghost use Rattle.table.specs.Refusals.{check_of};
 ghost use Rattle.table.specs.Index.{CountsOf, ItemIndex, EdgeIndex, ProductionHead, ItemRead, EdgeRead, ProductionRead};
 ghost use Rattle.table.specs.Written.{symbols_from, SymbolIndex, SymbolRead, OwnerStored, OwnersIn, SymbolsStored, ProductionStored};
 
-use repr::ProductionIndex;
-
 pub use accepted_table::AcceptedTable;
+use repr::ProductionIndex;
 
 // Word k of record r.
 pub fn word(table: &[u16], r: usize, k: usize) -> usize
