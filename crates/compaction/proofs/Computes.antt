@@ -2,6 +2,7 @@
 use mathlib.Core.Path.{◌≡◌, refl}
 use mathlib.Core.List.{List, [], ◌∷◌, ◌++◌}
 use Prim.Native.Nat.{ℕ}
+use Rattle.repr.specs.Answer.{answered}
 use Rattle.repr.specs.Lists.{up_from, below, mem, occurrences, first?, some?, keep, joined}
 use Rattle.repr.specs.Listed.{symbol_is_fit}
 use Rattle.table.specs.Words.{word_at, records, state_area, production_area, loose, production_records, loose_records, names, against, chain_by, chain}
@@ -11,7 +12,6 @@ use Rattle.table.specs.TableB.{table_b}
 use Rattle.table.specs.Quads.{words}
 use Rattle.compaction.specs.Compaction.{reached, rank_of, rank, moved, kept, count_of, area_quad, loose_quad, compact_quad, compacted_to, compacted}
 use Rattle.compaction.specs.Outcome.{compact_of}
-use Rattle.compaction.specs.declared.Compacted.TheVariants.{Records}
 
 -- table B, its loose records 9 to 23 moved to 9 to 11, 13 to 17, 19 to 25; records 12 and 18 hold words that no chain reaches
 abbrev pub gapped : List ℕ
@@ -21,10 +21,10 @@ gapped =
     ∷ 14 ∷ 0 ∷ 0 ∷ 0 ∷ 0 ∷ 1 ∷ 0 ∷ 0 ∷ 0 ∷ 0 ∷ 1 ∷ 0 ∷ 17 ∷ 0 ∷ 2 ∷ 0 ∷ 19 ∷ 0 ∷ 0 ∷ 0 ∷ 5 ∷ 5 ∷ 5 ∷ 5 ∷ 0 ∷ 1
     ∷ 0 ∷ 0 ∷ 21 ∷ 0 ∷ 3 ∷ 0 ∷ 0 ∷ 0 ∷ 1 ∷ 0 ∷ 0 ∷ 0 ∷ 0 ∷ 1 ∷ 0 ∷ 1 ∷ 0 ∷ 2 ∷ 0 ∷ 0 ∷ 0 ∷ 3 ∷ 0 ∷ 1 ∷ 0 ∷ 2 ∷ []
 
-pub table_b_lem : compact_of gapped ≡ record { answer = Records 24; table = table_b ++ 0 ∷ 0 ∷ 0 ∷ 0 ∷ 0 ∷ 0 ∷ 0 ∷ 0 ∷ [] }
+pub table_b_lem : compact_of gapped ≡ record { answer = answered 24; table = table_b ++ 0 ∷ 0 ∷ 0 ∷ 0 ∷ 0 ∷ 0 ∷ 0 ∷ 0 ∷ [] }
 unfolding up_from below mem occurrences first? some? keep joined word_at records state_area production_area loose production_records loose_records names against chain_by chain production_chain symbol_chain item_chain edge_chain row1 row2 is_nonterminal is_state is_production as_symbol as_item as_edge row3 row4 row5 symbol_is_fit row6 row7 used row8 offends first_row check_of words reached rank_of rank moved kept count_of area_quad loose_quad compact_quad compacted_to compacted compact_of
 table_b_lem = refl
 
-pub table_b_again : compact_of table_b ≡ record { answer = Records 24; table = table_b }
+pub table_b_again : compact_of table_b ≡ record { answer = answered 24; table = table_b }
 unfolding up_from below mem occurrences first? some? keep joined word_at records state_area production_area loose production_records loose_records names against chain_by chain production_chain symbol_chain item_chain edge_chain row1 row2 is_nonterminal is_state is_production as_symbol as_item as_edge row3 row4 row5 symbol_is_fit row6 row7 used row8 offends first_row check_of words reached rank_of rank moved kept count_of area_quad loose_quad compact_quad compacted_to compacted compact_of
 table_b_again = refl

@@ -8,6 +8,7 @@ use native.Mathlib.Omega.{arith}
 use lib.ListN.{length, get_or}
 use lib.Dec.{ltb}
 use borrow.Author.Tests.{ltb-true, ltb-false, lt-ltb}
+use Rattle.repr.specs.Answer.{answered}
 use Rattle.repr.specs.Lists.{below, mem, keep}
 use Rattle.repr.proofs.Lists.{cases, mem-keep, mem_below}
 use Rattle.table.specs.Words.{records, nonterminals, states, productions, state_area, production_area, loose}
@@ -16,7 +17,6 @@ use Rattle.table.proofs.Reached.{reached-symbol, reached-item, reached_edge}
 use Rattle.compaction.specs.Compaction.{reached, rank_of, rank, kept, count_of}
 use Rattle.compaction.specs.InUse.{InUse, AllInUse}
 use Rattle.compaction.specs.Outcome.{compact_of}
-use Rattle.compaction.specs.declared.Compacted.TheVariants.{Records}
 use Rattle.compaction.proofs.Ranks.{rank_up, rank-onto, kept_at}
 use Rattle.compaction.proofs.Moves.{by_kind, as_symbol_lem, as_item_lem, as_edge_lem, reached-place}
 use Rattle.compaction.proofs.Called.{left}
@@ -65,6 +65,6 @@ module _ (t : List ℕ) where
   count_is = refl
 
 -- 1 + N + S + P, and the loose records in use
-pub left_count : (t : List ℕ) (n : ℕ) (ws : List ℕ) → compact_of t ≡ record { answer = Records n; table = ws }
+pub left_count : (t : List ℕ) (n : ℕ) (ws : List ℕ) → compact_of t ≡ record { answer = answered n; table = ws }
     → (xs : List ℕ) × AllInUse t xs × (n ≡ 1 + nonterminals t + states t + productions t + length xs)
 left_count t n ws e = (kept t, kept_in_use t, (left t n ws e).count ∙ count_is t)

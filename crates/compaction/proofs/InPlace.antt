@@ -2,11 +2,12 @@
 -- then the heads follow and the end is freed. One law for each way through a turn of the loops; `compacted_by` joins the passes. Assumes nothing.
 use mathlib.Core.Path.{◌≡◌, refl, sym, ap, ◌∙◌}
 use mathlib.Core.Bool.{true, false}
-use mathlib.Core.List.{List}
-use Prim.Native.Nat.{ℕ, ◌+◌, ◌*◌, ◌≤◌, ◌<◌}
+use mathlib.Core.List.{List, ◌++◌}
+use Prim.Native.Nat.{ℕ, ◌+◌, ◌-◌, ◌*◌, ◌≤◌, ◌<◌}
 use native.Mathlib.Omega.{arith}
-use lib.ListN.{length, get_or, set, length-set, get_or-eq_default}
-use lib.Seq.{get_or-set_same, get_or-set_other}
+use lib.ListN.{length, get_or, take, replicate, set, length-set, length-append, length-replicate, get_or-append, get_or-eq_default}
+use lib.Seq.{get_or-set_same, get_or-set_other, get_or-take, get_or-append_right, length-take-le}
+use Rattle.std.proofs.lemmas.List.{get_or-replicate}
 use lib.Dec.{eqb, ltb}
 use borrow.Author.Tests.{eqb-true, eqb-false, ltb-true, ltb-false, le-leb, lt-leb, lt-ltb, le-ltb}
 use Rattle.repr.specs.Sizes.{record_limit}
@@ -225,19 +226,7 @@ pub record FreedTo (g g' : List ℕ) (n i : ℕ) : Type 0 where
   pub before : (j : ℕ) → j < n * 4 → get_or g' j 0 ≡ get_or g j 0
   pub freed : (j : ℕ) → n * 4 ≤ j → j < i → get_or g' j 0 ≡ 0
 
-pub freed_none : (g : List ℕ) (n : ℕ) → FreedTo g g n (n * 4)
-freed_none g n = record { before = λ j h. refl; freed = λ j h l. absurd (omega arith) }
-
-pub freed_put : (g g' : List ℕ) (n i : ℕ) → FreedTo g g' n i → n * 4 ≤ i → i < length g' → FreedTo g (set g' i 0) n (i + 1)
-freed_put g g' n i Z h l = record {
-  before = λ j b. get_or-set_other g' i j 0 0 (λ q. omega arith) ∙ Z.before j b;
-  freed = λ j b c.
-      cases (eqb j i)
-      (λ q. rw (eqb-true j i q) (get_or-set_same g' i 0 0 l))
-      (λ q. let d = eqb-false j i q in get_or-set_other g' i j 0 0 d ∙ Z.freed j b (omega arith));
-}
-
-pub freed_end : (g g' : List ℕ) (n i : ℕ) → length g' ≡ length g → length g' ≤ i → FreedTo g g' n i → Freed g g' n
+freed_end : (g g' : List ℕ) (n i : ℕ) → length g' ≡ length g → length g' ≤ i → FreedTo g g' n i → Freed g g' n
 unfolding word_at
 freed_end g g' n i e l Z = record {
   long = e;
@@ -248,3 +237,20 @@ freed_end g g' n i e l Z = record {
       (λ q. Z.freed (r * 4 + j) (omega arith) (ltb-true (r * 4 + j) i q))
       (λ q. let k = ltb-false (r * 4 + j) i q in get_or-eq_default g' 0 (omega arith));
 }
+
+-- the end filled with zeros, or none left to fill
+pub freed_filled : (g ys : List ℕ) (n : ℕ) → n * 4 ≤ length g → ys ≡ replicate (length g - n * 4) 0 → Freed g (take (n * 4) g ++ ys) n
+freed_filled g ys n h e =
+    let long : length (take (n * 4) g) ≡ n * 4 = length-take-le (n * 4) g h in
+    let rest : length ys ≡ length g - n * 4 = ap length e ∙ length-replicate {A = ℕ} (length g - n * 4) 0 in
+    let all = length-append (take (n * 4) g) ys in
+    freed_end g (take (n * 4) g ++ ys) n (length g) (omega arith) (omega arith) (record {
+      before = λ j b. get_or-append (take (n * 4) g) ys 0 j (omega arith) ∙ get_or-take (n * 4) g j 0 b;
+      freed = λ j b c.
+          get_or-append_right (take (n * 4) g) ys j 0 (omega arith)
+          ∙ ap (λ (l : List ℕ). get_or l (j - length (take (n * 4) g)) 0) e
+          ∙ get_or-replicate (length g - n * 4) (j - length (take (n * 4) g)) 0 0 (omega arith);
+    })
+
+pub freed-none : (g : List ℕ) (n : ℕ) → length g ≤ n * 4 → Freed g g n
+freed-none g n h = freed_end g g n (n * 4) refl h (record { before = λ j b. refl; freed = λ j b c. absurd (omega arith) })

@@ -6,6 +6,7 @@ use native.Mathlib.Omega.{arith}
 use lib.ListN.{length, replicate, length-replicate}
 use lib.Dec.{eqb}
 use borrow.Author.Tests.{eqb-true, eqb-false}
+use Rattle.repr.specs.Answer.{answered}
 use Rattle.repr.specs.Sizes.{record_limit}
 use Rattle.repr.proofs.Lists.{cases}
 use Rattle.table.specs.Checked.{Accepted}
@@ -19,7 +20,6 @@ use Rattle.table_check.specs.declared.areas.Areas.{Areas}
 use Rattle.compaction.specs.Compaction.{count_of, compacted}
 use Rattle.compaction.specs.Outcome.{Outcome, compact_of}
 use Rattle.compaction.specs.Passes.{Headed, HeadsMarked, Numbering, Numbers, Closing, Followed, Freed}
-use Rattle.compaction.specs.declared.Compacted.TheVariants.{Records}
 use Rattle.compaction.proofs.Theorems.{count_most}
 use Rattle.compaction.proofs.Numbering.{items_headed, others_headed, reached-below, numbering_start}
 use Rattle.compaction.proofs.InPlace.{compacted_by}
@@ -85,8 +85,8 @@ module _ (t : List ℕ) (a : Areas) (A : Accepts t) (P : AreasOf t a) where
       pub closed : (g₃ g₄ : List ℕ) (n : ℕ) → Followed ms g₂ g₃ a.states_at a.loose_at 1 → n ≡ count_of t → Freed g₃ g₄ n → g₄ ≡ compacted t
       closed g₃ g₄ n H e Z = compacted_by t ms g₁ g₂ g₃ g₄ A N C (rw (P.states_at, P.productions_at) at F) (rw (P.states_at, P.loose_at) at H) (rw e at Z)
 
-made : (n k : ℕ) (g u : List ℕ) → n ≡ k → g ≡ u → ◌≡◌ {A = Outcome} (record { answer = Records n; table = g }) (record { answer = Records k; table = u })
+made : (n k : ℕ) (g u : List ℕ) → n ≡ k → g ≡ u → ◌≡◌ {A = Outcome} (record { answer = answered n; table = g }) (record { answer = answered k; table = u })
 made n k g u p q = rw (p, q)
 
-pub answered : (t g : List ℕ) (n : ℕ) → check_of t ≡ Accepted → (n ≡ count_of t) × (g ≡ compacted t) → record { answer = Records n; table = g } ≡ compact_of t
-answered t g n e w = made n (count_of t) g (compacted t) w.0 w.1 ∙ sym (accepted_outcome t e)
+pub close_answered : (t g : List ℕ) (n : ℕ) → check_of t ≡ Accepted → (n ≡ count_of t) × (g ≡ compacted t) → record { answer = answered n; table = g } ≡ compact_of t
+close_answered t g n e w = made n (count_of t) g (compacted t) w.0 w.1 ∙ sym (accepted_outcome t e)

@@ -4,6 +4,7 @@
 
 ghost use Rattle.std.specs.Prelude.{true, List, ◌≡◌, ℕ, ◌+◌, ◌*◌, ◌≤◌, ◌<◌, length, get_or, replicate};
 ghost use Rattle.repr.specs.Sizes.{record_limit};
+ghost use Rattle.repr.specs.Answer.{answer_of};
 ghost use Rattle.table.specs.Words.{word_at, records, loose};
 ghost use Rattle.table.specs.Checked.{Accepted};
 ghost use Rattle.table.specs.Refusals.{check_of};
@@ -13,16 +14,10 @@ ghost use Rattle.compaction.specs.Compaction.{reached, moved, count_of, compacte
 ghost use Rattle.compaction.specs.Outcome.{compact_of};
 ghost use Rattle.compaction.specs.Passes.{Headed, HeadsMarked, Numbering, Numbers, Numbered, Closing, Followed, Freed};
 
-use table::{Checked, put, word};
+use repr::Refusal;
+use table::{put, word};
 use table_check::areas::{Areas, survey};
 use table_check::check;
-
-// What closing the gaps answers: the number of records that are left, or refusal and place.
-#[derive(Clone, Copy)]
-pub enum Compacted {
-    Records(u16),
-    Refused(u16, u16),
-}
 
 // Marks the heads in word k of the records from `first` up to and without `past`.
 fn mark_heads(table: &[u16], first: usize, past: usize, k: usize, numbers: &mut [u16])
@@ -31,13 +26,11 @@ fn mark_heads(table: &[u16], first: usize, past: usize, k: usize, numbers: &mut 
     requires numbers_len { length numbers.old ≡ record_limit }
     ensures { HeadsMarked table.now first past k numbers.old numbers.new }
 {
-    let mut r = first;
-    while r < past {
+    for r in first..past {
         let x = word(table, r, k);
         if x != 0 {
             numbers[x] = 1;
         }
-        r += 1;
     }
 }
 
@@ -62,15 +55,14 @@ fn number_loose(table: &[u16], a: Areas, numbers: &mut [u16]) -> usize
     requires numbers_len { (length numbers.old ≡ record_limit) × Numbering table.now numbers.old (loose table.now) }
     ensures { (result ≡ count_of table.now) × Numbers table.now numbers.new }
 {
+    let from = a.loose_at;
     let past = a.records;
-    let mut count = a.loose_at;
-    let mut r = a.loose_at;
-    while r < past {
+    let mut count = from;
+    for r in from..past {
         if numbers[r] != 0 {
             number_one(table, r, count, numbers);
             count += 1;
         }
-        r += 1;
     }
     count
 }
@@ -107,14 +99,13 @@ fn move_down(table: &mut [u16], a: Areas, numbers: &[u16])
     requires numbers { Numbers table.old numbers.now }
     ensures { Closing table.old table.new (records table.old) }
 {
+    let from = a.loose_at;
     let past = a.records;
-    let mut r = a.loose_at;
-    while r < past {
+    for r in from..past {
         let number = numbers[r] as usize;
         if number != 0 {
             move_record(table, r, number, numbers);
         }
-        r += 1;
     }
 }
 
@@ -124,11 +115,9 @@ fn follow_heads(table: &mut [u16], first: usize, past: usize, k: usize, numbers:
     requires by_index { (r : ℕ) → first ≤ r → r < past → word_at table.old r k < length numbers.now }
     ensures { Followed numbers.now table.old table.new first past k }
 {
-    let mut r = first;
-    while r < past {
+    for r in first..past {
         let x = word(table, r, k);
         table[r * 4 + k] = numbers[x];
-        r += 1;
     }
 }
 
@@ -137,10 +126,9 @@ fn free_end(table: &mut [u16], count: usize)
     requires { count ≤ record_limit }
     ensures { Freed table.old table.new count }
 {
-    let mut i = count * 4;
-    while i < table.len() {
-        table[i] = 0;
-        i += 1;
+    let from = count * 4;
+    if from < table.len() {
+        table[from..].fill(0);
     }
 }
 
@@ -159,12 +147,10 @@ fn close_gaps(table: &mut [u16]) -> usize
     count
 }
 
-// Closes the gaps of a table in place: the number of records that are left, or refusal and place.
-pub fn compact(table: &mut [u16]) -> Compacted
-    ensures { record { answer = result; table = table.new } ≡ compact_of table.old }
+// Closes the gaps of a table in place: the number of records that are left.
+pub fn compact(table: &mut [u16]) -> Result<u16, Refusal>
+    ensures { record { answer = answer_of result; table = table.new } ≡ compact_of table.old }
 {
-    match check(table) {
-        Checked::Refused(refusal, place) => Compacted::Refused(refusal, place),
-        Checked::Accepted => Compacted::Records(close_gaps(table) as u16),
-    }
+    check(table)?;
+    Ok(close_gaps(table) as u16)
 }

@@ -1,5 +1,6 @@
 -- The accuracy rule: accepted tables with the same counts, productions, spans, items in order and edges in order get the same answers, whatever their words. Assumes nothing.
 use Rattle.std.proofs.Common.{◌≡◌, ℕ, zero, suc, ◌*◌, List, [], ◌∷◌, ◌++◌, length, take, sym, refl, ap, ◌∙◌}
+use Rattle.repr.specs.Answer.{answered}
 use Rattle.repr.specs.Meaning.{Item, Table}
 use Rattle.table.specs.Checked.{Accepted}
 use Rattle.table.specs.Decoded.{meaning}
@@ -11,7 +12,6 @@ use Rattle.spelling.proofs.Same.{same_is}
 use Rattle.spelling.proofs.Rising.{meaning_ordered}
 use Rattle.spelling.proofs.Wrote.{respell_accepted}
 use Rattle.compaction.specs.Outcome.{compact_of}
-use Rattle.compaction.specs.declared.Compacted.TheVariants.{Records}
 use Rattle.compaction.proofs.Called.{left, left_accepted, left-meaning, front_accepted, front-meaning}
 use Rattle.builder.specs.Outcome.{build_of}
 use Rattle.yacc_write.specs.Outcome.{write_of}
@@ -129,7 +129,7 @@ pub same_answers : (t u : List ℕ) → check_of t ≡ Accepted → check_of u �
 same_answers t u a b s = all_same t u a b (same_is (meaning t) (meaning u) (meaning_ordered t a) (meaning_ordered u b) s)
 
 -- and for what `compact` leaves (Req 08): the whole slice, and its front of the records that are left
-pub compact_same : (t ws : List ℕ) (n : ℕ) → compact_of t ≡ record { answer = Records n; table = ws } → SameAnswers t ws × SameAnswers t (take (4 * n) ws)
+pub compact_same : (t ws : List ℕ) (n : ℕ) → compact_of t ≡ record { answer = answered n; table = ws } → SameAnswers t ws × SameAnswers t (take (4 * n) ws)
 compact_same t ws n e =
     let a = (left t n ws e).accepted in
     (all_same t ws a (left_accepted t n ws e) (sym (left-meaning t n ws e)), all_same t (take (4 * n) ws) a (front_accepted t n ws e) (sym (front-meaning t n ws e)))

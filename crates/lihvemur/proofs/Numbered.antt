@@ -3,8 +3,6 @@ use Rattle.std.proofs.Common.{◌≡◌, ℕ, Bool, List, sym, ap, ◌∙◌}
 use Rattle.repr.specs.Answer.{Answer, answered, refused}
 use Rattle.spelling.specs.Outcome.{Outcome as Spelling}
 use Rattle.compaction.specs.Outcome.{Outcome as Compaction}
-use Rattle.compaction.specs.declared.Compacted.{Compacted}
-use Rattle.compaction.specs.declared.Compacted.TheVariants.{Records as Left, Refused as NotCompacted}
 use Rattle.builder.specs.Outcome.{Left as Building}
 use Rattle.builder.specs.declared.Built.{Built}
 use Rattle.builder.specs.declared.Built.TheVariants.{States as Full, Refused as NotBuilt}
@@ -54,12 +52,12 @@ module _ (old : ℕ) (c : Answer ℕ) (words : List ℕ) (d : Spelling) (e : rec
   unfolding respell_numbers
   spell-refused n r h = rw (← e, h)
 
-module _ (old : ℕ) (c : Compacted) (words : List ℕ) (d : Compaction) (e : record { answer = c; table = words } ≡ d) where
-  pub compact-left : (count : ℕ) → c ≡ Left count → spell_numbers 0 0 count words ≡ compact_numbers old d
+module _ (old : ℕ) (c : Answer ℕ) (words : List ℕ) (d : Compaction) (e : record { answer = c; table = words } ≡ d) where
+  pub compact-left : (count : ℕ) → c ≡ answered count → spell_numbers 0 0 count words ≡ compact_numbers old d
   unfolding compact_numbers
   compact-left count h = rw (← e, h)
 
-  pub compact-refused : (n r : ℕ) → c ≡ NotCompacted n r → spell_numbers n r old words ≡ compact_numbers old d
+  pub compact-refused : (n r : ℕ) → c ≡ refused n r → spell_numbers n r old words ≡ compact_numbers old d
   unfolding compact_numbers
   compact-refused n r h = rw (← e, h)
 

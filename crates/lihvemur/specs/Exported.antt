@@ -4,7 +4,6 @@ use Rattle.std.specs.Prelude.{ℕ, Bool, List}
 use Rattle.repr.specs.Answer.{answered, refused}
 use Rattle.spelling.specs.Outcome.{Outcome as Spelling}
 use Rattle.compaction.specs.Outcome.{Outcome as Compaction}
-use Rattle.compaction.specs.declared.Compacted.TheVariants.{Records as Left, Refused as NotCompacted}
 use Rattle.builder.specs.Outcome.{Left as Building}
 use Rattle.builder.specs.declared.Built.TheVariants.{States as Full, Refused as NotBuilt}
 use Rattle.yacc_read.specs.Outcome.{Outcome as ReadOutcome}
@@ -38,7 +37,7 @@ unfoldable pub respell_numbers : ℕ → Spelling → SpellNumbers
 respell_numbers old o = elim o.answer [ answered count ↦ spell_numbers 0 0 count o.out | refused n r ↦ spell_numbers n r old o.out ]
 
 unfoldable pub compact_numbers : ℕ → Compaction → SpellNumbers
-compact_numbers old o = elim o.answer [ Left count ↦ spell_numbers 0 0 count o.table | NotCompacted n r ↦ spell_numbers n r old o.table ]
+compact_numbers old o = elim o.answer [ answered count ↦ spell_numbers 0 0 count o.table | refused n r ↦ spell_numbers n r old o.table ]
 
 -- refusal, place, number of records, number of conflicts, scratch words, and the words written of the table and of the conflicts
 pub data BuildNumbers : Type 0 where

@@ -1,20 +1,27 @@
-use mathlib.Core.Path.{refl}
-use lib.ListN.{length-set}
-use Rattle.compaction.proofs.InPlace.{freed_none, freed_put, freed_end}
-use native.Mathlib.Omega.{arith}
+use Rattle.std.proofs.Common.{◌≡◌, refl, ap, ◌∙◌, ℕ, ◌+◌, ◌-◌, ◌*◌, ◌<◌, List, ◌++◌, length, take, replicate, arith}
+use Rattle.std.proofs.lemmas.List.{length-drop, length-take-le, length-replicate}
+use Rattle.std.proofs.lemmas.List.Edits.{paste_all}
+use Rattle.std.proofs.lemmas.Slice.{put_mid-paste}
+use borrow.Rule.Slice.PartMut.{put_mid}
+use mathlib.Core.List.{append-nil}
+use lib.ListN.{drop_of_length-le}
+use Rattle.compaction.proofs.InPlace.{freed_filled, freed-none}
 use Rattle.compaction.proofs.free_end.Goals as goal
 
-pub loop-i-init : goal.loop-i-init
-loop-i-init c = (omega arith, (refl, freed_none _ _))
+-- a part to the end, written
+written : (a : ℕ) (xs ys : List ℕ) → a < length xs → length ys ≡ length xs - a → put_mid a (length xs - a) xs ys ≡ take a xs ++ ys
+written a xs ys h e =
+    put_mid-paste a (length xs - a) xs ys ys (length ys) refl e refl
+    ∙ paste_all xs a ys (length ys) refl
+    ∙ ap (λ (l : List ℕ). take a xs ++ (ys ++ l)) (drop_of_length-le xs {i = a + length ys} (omega arith))
+    ∙ ap (λ (l : List ℕ). take a xs ++ l) (append-nil ys)
 
-pub loop-i-smaller : goal.loop-i-smaller
-loop-i-smaller c = omega (arith, c.loop-i.invariant.1.0)
+pub returns-then-from-table : goal.returns-then-from-table
+returns-then-from-table c =
+    let g = c.args.table.now in
+    let zeros : c.fill.new.self ≡ replicate (length g - c.args.count * 4) 0 = c.fill.ensures.after (λ y e. e) ∙ ap (λ (n : ℕ). replicate n 0) (length-take-le _ _ (let l = length-drop (c.args.count * 4) g in omega arith)) in
+    rw (written (c.args.count * 4) g c.fill.new.self c.if-from-table.true (ap length zeros ∙ length-replicate {A = ℕ} (length g - c.args.count * 4) 0))
+    (freed_filled g c.fill.new.self c.args.count (omega arith) zeros)
 
-pub loop-i-preserved : goal.loop-i-preserved
-loop-i-preserved c = (omega arith, (simp length-set c.loop-i.invariant.1.0, freed_put _ _ _ _ c.loop-i.invariant.1.1 c.loop-i.invariant.0 c.loop-i-test.true))
-
-pub shape_of-table : goal.shape_of-table
-shape_of-table c = c.loop-i.invariant.1.0
-
-pub returns : goal.returns
-returns c = freed_end _ _ _ _ c.loop-i.invariant.1.0 (omega arith) c.loop-i.invariant.1.1
+pub returns-else-from-table : goal.returns-else-from-table
+returns-else-from-table c = freed-none _ _ c.if-from-table.false

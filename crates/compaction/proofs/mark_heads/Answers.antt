@@ -1,5 +1,4 @@
-use mathlib.Core.Path.{◌≡◌, refl, sym, ◌∙◌}
-use lib.ListN.{length-set}
+use mathlib.Core.Path.{sym, ◌∙◌}
 use Rattle.table.proofs.Accepted.{accepts}
 use Rattle.compaction.proofs.Numbering.{heads_none, heads_zero, heads_put, head_at, reached-below}
 use native.Mathlib.Omega.{arith}
@@ -7,36 +6,23 @@ use Rattle.compaction.proofs.mark_heads.Goals as goal
 use Rattle.compaction.proofs.mark_heads.Goals.{then-x-ne0, else-x-ne0}
 
 pub loop-r-init : goal.loop-r-init
-loop-r-init c = (omega arith, (omega arith, (refl, heads_none _ _ _ _)))
+loop-r-init c = heads_none _ _ _ _
 
 pub word-x-requires : goal.word-x-requires
 word-x-requires c = let A = accepts _ c.requires.table_value in omega (arith, A.words, A.few_records, A.areas)
 
 pub bounds-numbers-x : goal.bounds-numbers-x
 bounds-numbers-x c = let A = accepts _ c.requires.table_value in
-    let b = reached-below _ A _ (head_at _ _ _ _ _ _ c.requires.first_le_past.1.1.1 c.loop-r.invariant.0 c.loop-r-test.true c.word-x.ensures.0 c.if-x-ne0.true) in
-    omega (arith, b, c.loop-r.invariant.1.1.0, c.requires.numbers_len)
+    let b = reached-below _ A _ (head_at _ _ _ _ _ _ c.requires.first_le_past.1.1.1 c.loop-r.auto.r c.loop-r-test.true c.word-x.ensures.0 c.if-x-ne0.true) in
+    omega (arith, b, c.requires.numbers_len)
 
 pub loop-r-preserved : goal.loop-r-preserved
 loop-r-preserved c = let A = accepts _ c.requires.table_value in
-    let I = c.loop-r.invariant in
-    let H = I.1.1.1 in (
-      omega arith,
-      (
-        omega arith,
-        elim c.if-x-ne0.branch [
-          | then-x-ne0 w ↦
-              let R = head_at _ _ _ _ _ _ c.requires.first_le_past.1.1.1 I.0 c.loop-r-test.true c.word-x.ensures.0 w.if-x-ne0.true in
-              let b = reached-below _ A _ R in
-              rw w.numbers-is (simp length-set I.1.1.0, heads_put _ _ _ _ _ _ H _ c.word-x.ensures.0 (omega (arith, b, I.1.1.0, c.requires.numbers_len)) R)
-          | else-x-ne0 w ↦ rw w.numbers-is (I.1.1.0, heads_zero _ _ _ _ _ _ H (sym c.word-x.ensures.0 ∙ w.if-x-ne0.false))
-        ],
-      ),
-    )
-
-pub shape_of-numbers : goal.shape_of-numbers
-shape_of-numbers c = c.loop-r.invariant.1.1.0
-
-pub returns : goal.returns
-returns c = let e : c.loop-r.r ≡ c.args.past = omega arith in
-    rw e at c.loop-r.invariant.1.1.1
+    let H = c.loop-r.invariant in
+    elim c.if-x-ne0.branch [
+      | then-x-ne0 w ↦
+          let R = head_at _ _ _ _ _ _ c.requires.first_le_past.1.1.1 c.loop-r.auto.r c.loop-r-test.true c.word-x.ensures.0 w.if-x-ne0.true in
+          let b = reached-below _ A _ R in
+          rw w.numbers-is (heads_put _ _ _ _ _ _ H _ c.word-x.ensures.0 (omega (arith, b, c.requires.numbers_len)) R)
+      | else-x-ne0 w ↦ rw w.numbers-is (heads_zero _ _ _ _ _ _ H (sym c.word-x.ensures.0 ∙ w.if-x-ne0.false))
+    ]
