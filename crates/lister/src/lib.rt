@@ -135,7 +135,10 @@ fn is_item(graph: &[u16], at: usize, production: usize, index: usize) -> bool
     ensures { result ≡ is_same_node (at_item (record { production = production; index = index })) (node_at graph.now at) }
 {
     let node = read_node(graph, at);
-    node.kind != 0 && production == node.number && index == node.index
+    if node.kind == 0 {
+        return false;
+    }
+    production == node.number && index == node.index
 }
 
 // Whether an item is a node of the graph: an end of one of its edges (refusal 15).
