@@ -78,10 +78,8 @@ fn same_production(grammar: &[u16], productions: usize, p: usize, q: usize) -> b
     requires { Packed grammar.now productions × (p < productions) × (q < productions) }
     ensures { result ≡ is_same_production (productions_in grammar.now productions) p q }
 {
-    if word(grammar, p * ProductionIndex::WORDS) != word(grammar, q * ProductionIndex::WORDS) {
-        return false;
-    }
-    same_label(grammar, productions, p, 0, q, 0)
+    word(grammar, p * ProductionIndex::WORDS) == word(grammar, q * ProductionIndex::WORDS)
+        && same_label(grammar, productions, p, 0, q, 0)
 }
 
 // The least production of the same nonterminal and symbols.
@@ -89,12 +87,10 @@ fn least_same(grammar: &[u16], productions: usize, p: usize) -> usize
     requires { Packed grammar.now productions × (p < productions) }
     ensures { (result ≡ least_alike (productions_in grammar.now productions) p) × (result < production_limit) }
 {
-    let mut q: usize = 0;
-    while q < p {
+    for q in 0..p {
         if same_production(grammar, productions, q, p) {
             return q;
         }
-        q += 1;
     }
     p
 }
@@ -104,11 +100,8 @@ pub fn fill_least(grammar: &[u16], productions: usize, least: &mut [u8])
     requires { Packed grammar.now productions × (least.old ≡ replicate production_limit 0) }
     ensures { Leasts (productions_in grammar.now productions) least.new × ((p : ℕ) → p < production_limit → slice_index least.new p < production_limit) }
 {
-    let mut p: usize = 0;
-    while p < productions {
-        let q = least_same(grammar, productions, p);
-        least[p] = q as u8;
-        p += 1;
+    for p in 0..productions {
+        least[p] = least_same(grammar, productions, p) as u8;
     }
 }
 
@@ -181,11 +174,9 @@ pub fn write_codes(grammar: &[u16], words: &[u16], graph: &mut [u16])
 {
     graph[0] = 0;
     let count = word(words, 0);
-    let mut k: usize = 0;
-    while k < count {
+    for k in 0..count {
         let edge = edge_of(grammar, word(words, 1 + k));
         write_edge(graph, k, edge);
         graph[0] = (k + 1) as u16;
-        k += 1;
     }
 }

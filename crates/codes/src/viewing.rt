@@ -26,8 +26,7 @@ pub fn view_codes(
     ensures { (n : ℕ) (T : Table) (es : List TraceEdge) → Carried grammar.now n words.now T es → View es (record { production = production; index = index }) sources.new older.new latest.new × Labelled T.productions es owners.new (drop 1 words.now) }
 {
     let count = word(words, 0);
-    let mut k: usize = 0;
-    while k < count {
+    for k in 0..count {
         let edge = edge_of(grammar, word(words, 1 + k));
         let from = edge.source;
         let to = edge.target;
@@ -41,6 +40,5 @@ pub fn view_codes(
             latest,
         );
         owners[k] = word(grammar, label * ProductionIndex::WORDS) as u8;
-        k += 1;
     }
 }

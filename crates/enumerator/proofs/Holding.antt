@@ -80,6 +80,13 @@ module _ (ws : List ℕ) (long : scratch_words ≤ length ws) (at : ℕ) where
     pub zeros_more : w ≡ 0 → zeros_from ws at ≡ zeros_from ws (at + 1)
     zeros_more z = split ∙ same_eq w 0 (drop (at + 1) (take scratch_words ws)) (replicate (scratch_words - (at + 1)) 0) z
 
+-- the words from a place on
+pub part_length : (ws : List ℕ) → scratch_words ≤ length ws → (from : ℕ) → length (take (scratch_words - from) (drop from ws)) ≡ scratch_words - from
+part_length ws long from = length-take-le (scratch_words - from) (drop from ws) (omega (arith, length-drop from ws))
+
+pub part_at : (ws : List ℕ) (from i : ℕ) → i < scratch_words - from → get_or (take (scratch_words - from) (drop from ws)) i 0 ≡ get_or ws (from + i) 0
+part_at ws from i h = get_or-take (scratch_words - from) (drop from ws) i 0 h ∙ get_or-drop from ws i 0
+
 -- `only_zeros`: what is gathered from a place up to another
 none_of : (a b : ℕ) → bit_or a b ≡ 0 → (a ≡ 0) × (b ≡ 0)
 none_of a b e = let s = or_add_and a b in let l = and_le_l a b in let r = and_le_r a b in (omega arith, omega arith)

@@ -13,7 +13,7 @@ ghost use Rattle.enumerator.specs.Stacks.{Ground, Started, Roomy, Within, Stacke
 
 use example::Example;
 use repr::word;
-use trace_graph::{Node, TraceGraph, read_node, same_node};
+use trace_graph::{Node, TraceGraph, read_node};
 
 // Whether an edge comes from a nonterminal.
 fn comes_from(graph: &[u16], edge: usize, nonterminal: usize) -> bool
@@ -22,10 +22,7 @@ fn comes_from(graph: &[u16], edge: usize, nonterminal: usize) -> bool
     ensures { result ≡ is_same_node ((ends_of (edges_in graph.now)).source edge) (at_nonterminal nonterminal) }
 {
     let source = read_node(graph, edge * TraceGraph::EDGE_WORDS + 1);
-    if source.kind == 0 {
-        return source.number == nonterminal;
-    }
-    false
+    source.kind == 0 && source.number == nonterminal
 }
 
 // Whether one of the first edges comes from a nonterminal.
@@ -35,13 +32,11 @@ fn uses(graph: &[u16], words: &[u16], depth: usize, nonterminal: usize) -> bool
     requires within { Within (slice_index graph.now 0) (stack_in words.now depth) }
     ensures { result ≡ mem nonterminal (used_of (ends_of (edges_in graph.now)) (stack_in words.now depth)) }
 {
-    let mut k = depth;
-    while k != 0 {
+    for k in (1..=depth).rev() {
         let edge = word(words, k);
         if comes_from(graph, edge, nonterminal) {
             return true;
         }
-        k -= 1;
     }
     false
 }
@@ -66,11 +61,7 @@ pub fn clear(words: &mut [u16])
     requires { scratch_words ≤ length words.old }
     ensures { words.new ≡ words_of [] ++ drop scratch_words words.old }
 {
-    let mut at: usize = 0;
-    while at < TraceGraph::SCRATCH {
-        words[at] = 0;
-        at += 1;
-    }
+    words[..TraceGraph::SCRATCH].fill(0);
 }
 
 // Whether the words from a place on, up to 32,000, are zero. Every advance looks at them, so they are gathered without a way out, which lets many be read at once.
@@ -79,10 +70,8 @@ fn only_zeros(words: &[u16], from: usize) -> bool
     ensures { result ≡ same_words (drop from (take scratch_words words.now)) (replicate (scratch_words - from) 0) }
 {
     let mut all: u16 = 0;
-    let mut at = from;
-    while at < TraceGraph::SCRATCH {
-        all = all | words[at];
-        at += 1;
+    for word in &words[from..TraceGraph::SCRATCH] {
+        all |= *word;
     }
     all == 0
 }
@@ -92,12 +81,7 @@ fn enters(graph: &[u16], edge: usize, node: Node) -> bool
     requires { (G : Ground graph.now) × (node_value_fits G.ranged.nonterminals G.productions node ≡ true) }
     ensures { result ≡ (nat_lt edge (ends_of (edges_in graph.now)).count && is_same_node ((ends_of (edges_in graph.now)).target edge) (node_is node)) }
 {
-    let count = word(graph, 0);
-    if edge < count {
-        let target = read_node(graph, edge * TraceGraph::EDGE_WORDS + 4);
-        return same_node(target, node);
-    }
-    false
+    edge < word(graph, 0) && read_node(graph, edge * TraceGraph::EDGE_WORDS + 4) == node
 }
 
 // Whether the first edges are a trial from the start item: each enters the node that the one before it comes from, a nonterminal that none before comes from.
@@ -111,23 +95,19 @@ fn is_trial(graph: &[u16], words: &[u16], depth: usize, production: usize, index
         number: production,
         index: index,
     };
-    let mut at: usize = 0;
-    while at + 1 < depth {
+    for at in 0..depth - 1 {
         let edge = word(words, at + 1);
-        if enters(graph, edge, node) {
-            let source = read_node(graph, edge * TraceGraph::EDGE_WORDS + 1);
-            if source.kind != 0 {
-                return false;
-            }
-            let nonterminal = source.number;
-            if uses(graph, words, at, nonterminal) {
-                return false;
-            }
-            node = source;
-            at += 1;
-        } else {
+        if !enters(graph, edge, node) {
             return false;
         }
+        let source = read_node(graph, edge * TraceGraph::EDGE_WORDS + 1);
+        if source.kind != 0 {
+            return false;
+        }
+        if uses(graph, words, at, source.number) {
+            return false;
+        }
+        node = source;
     }
     let edge = word(words, depth);
     enters(graph, edge, node)
@@ -140,17 +120,8 @@ pub fn holds_trial(graph: &[u16], words: &[u16], production: usize, index: usize
     ensures { result ≡ has_trial (ends_of (edges_in graph.now)) (at_item (record { production = production; index = index })) words.now }
 {
     let depth = word(words, 0);
-    if depth == 0 {
+    if depth == 0 || depth > Example::REDUCTIONS || !only_zeros(words, depth + 1) {
         return false;
     }
-    if depth > Example::REDUCTIONS {
-        return false;
-    }
-    if only_zeros(words, depth + 1) {
-        if is_trial(graph, words, depth, production, index) {
-            return is_example(graph, words);
-        }
-        return false;
-    }
-    false
+    is_trial(graph, words, depth, production, index) && is_example(graph, words)
 }

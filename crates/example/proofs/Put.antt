@@ -1,7 +1,7 @@
 -- Laws of words put into a list at a place (`put_at` of specs/Written): a copy, a few stores, one part after the other. Assumes nothing.
-use Rattle.std.proofs.Common.{◌≡◌, ℕ, ◌+◌, ◌<◌, ◌≤◌, List, [], ◌∷◌, ◌++◌, length, get_or, take, drop, set, sym, refl, ap, ◌∙◌, append_assoc, zero-add, add-one, arith, length-append, length-drop, take-append-drop, length-take, length-take-le, drop-drop, take_at, drop_at}
+use Rattle.std.proofs.Common.{◌≡◌, ℕ, ◌+◌, ◌≤◌, List, [], ◌∷◌, ◌++◌, length, take, drop, set, sym, refl, ap, ◌∙◌, append_assoc, zero-add, add-one, arith, length-append, length-drop, take-append-drop, length-take, length-take-le, drop-drop, take_at, drop_at}
 use native.Mathlib.Numerals.{add-two}
-use lib.Seq.{take-length, sets-eq, paste, paste-suc}
+use lib.Seq.{sets-eq}
 use Rattle.slices.specs.Lent.{in_front}
 use Rattle.example.specs.Written.{put_at}
 
@@ -43,14 +43,6 @@ put-more at xs ys old h = rw (front, back) (simp append_assoc)
         ∙ ap (drop (length ys)) later
         ∙ drop-drop (length ys) (at + length xs) old
         ∙ ap (λ (k : ℕ). drop k old) sum
-
--- a copy, word by word
-pub copied_more : (d : List ℕ) (at : ℕ) (s : List ℕ) (i : ℕ) → at + i < length d → i < length s → set (paste d at s i) (at + i) (get_or s i 0) ≡ paste d at s (i + 1)
-copied_more d at s i h l = rw (add-one i) (paste-suc d at s i 0 h l)
-
-pub copied_all : (d : List ℕ) (at : ℕ) (s : List ℕ) → paste d at s (length s) ≡ put_at at s d
-unfolding put_at
-copied_all d at s = rw (take-length s) (append_assoc (take at d) s (drop (at + length s) d))
 
 -- a few stores
 pub stored_two : (at a b : ℕ) (old : List ℕ) → at + 2 ≤ length old → set (set old at a) (at + 1) b ≡ put_at at (a ∷ b ∷ []) old

@@ -122,10 +122,8 @@ pub fn prefix_total(grammar: &[u16], productions: usize, labels: &[u16]) -> usiz
     let count = label_count(labels);
     let first = SymbolSets::new();
     let mut total = first.prefix;
-    let mut label: usize = 0;
-    while label < count {
+    for label in 0..count {
         total += prefix_part(grammar, productions, labels, label).len() / 2;
-        label += 1;
     }
     total
 }
@@ -139,10 +137,8 @@ fn suffix_total(grammar: &[u16], productions: usize, labels: &[u16]) -> usize
     let count = label_count(labels);
     let first = SymbolSets::new();
     let mut total = first.suffix;
-    let mut label: usize = 0;
-    while label < count {
+    for label in 0..count {
         total += suffix_part(grammar, productions, labels, label).len() / 2;
-        label += 1;
     }
     total
 }
@@ -179,11 +175,7 @@ fn copy(from: &[u16], buffer: &mut [u16], at: usize)
     requires { at + length from.now ≤ length buffer.old }
     ensures { buffer.new ≡ put_at at from.now buffer.old }
 {
-    let mut i: usize = 0;
-    while i < from.len() {
-        buffer[at + i] = from[i];
-        i += 1;
-    }
+    buffer[at..at + from.len()].copy_from_slice(from);
 }
 
 // Writes three words into the buffer at a place.
@@ -211,13 +203,10 @@ fn write_prefixes(
 {
     let count = label_count(labels);
     let mut place = at;
-    let mut passed: usize = 0;
-    while passed < count {
-        let label = count - passed - 1;
+    for label in (0..count).rev() {
         let part = prefix_part(grammar, productions, labels, label);
         copy(part, buffer, place);
         place += part.len();
-        passed += 1;
     }
     place
 }
@@ -237,12 +226,10 @@ fn write_suffixes(
 {
     let count = label_count(labels);
     let mut place = at;
-    let mut label: usize = 0;
-    while label < count {
+    for label in 0..count {
         let part = suffix_part(grammar, productions, labels, label);
         copy(part, buffer, place);
         place += part.len();
-        label += 1;
     }
     place
 }
@@ -293,13 +280,11 @@ fn write_reductions(
     let mut start = prefix_total(grammar, productions, labels);
     let mut end = places - suffix_total(grammar, productions, labels);
     let mut place = at;
-    let mut label: usize = 0;
-    while label < count {
+    for label in 0..count {
         start -= prefix_part(grammar, productions, labels, label).len() / 2;
         end += suffix_part(grammar, productions, labels, label).len() / 2;
         put_three(buffer, place, start, end, nonterminal(labels, label));
         place += Example::REDUCTION_WORDS;
-        label += 1;
     }
 }
 
@@ -377,8 +362,7 @@ pub fn first0(
         tokens: TokenSet::new(),
         nullable: true,
     };
-    let mut asked: usize = 0;
-    while asked < count {
+    for asked in 0..count {
         let next = label_first0(map, terminals, grammar, productions, labels, asked);
         answer = answer.join(next);
         if !answer.nullable {
@@ -387,7 +371,6 @@ pub fn first0(
                 asked: asked + 1,
             };
         }
-        asked += 1;
     }
     Expected {
         answer: answer,

@@ -139,10 +139,7 @@ fn is_item(graph: &[u16], at: usize, production: usize, index: usize) -> bool
     if node.kind == 0 {
         return false;
     }
-    if production == node.number {
-        return index == node.index;
-    }
-    false
+    production == node.number && index == node.index
 }
 
 // Whether an item is a node of the graph: an end of one of its edges (refusal 15).
@@ -151,16 +148,11 @@ fn is_node(graph: &[u16], production: usize, index: usize) -> bool
     ensures { result ≡ is_node_of (at_item (record { production = production; index = index })) (edges_in graph.now) }
 {
     let count = word(graph, 0);
-    let mut k: usize = 0;
-    while k < count {
+    for k in 0..count {
         let at = k * TraceGraph::EDGE_WORDS + 1;
-        if is_item(graph, at, production, index) {
+        if is_item(graph, at, production, index) || is_item(graph, at + 3, production, index) {
             return true;
         }
-        if is_item(graph, at + 3, production, index) {
-            return true;
-        }
-        k += 1;
     }
     false
 }

@@ -49,15 +49,13 @@ pub fn read_labels(owners: &[u8], codes: &[u16], words: &[u16], labels: &mut [u1
     ensures labels_after { (ps : List Production) (es : List TraceEdge) → Tried ps es owners.now codes.now words.now → (p rest : List ℕ) → words.now ≡ trial_words p ++ rest → labels_in (take result labels.new) ≡ labels_of ps es p }
 {
     let count = word(words, 0);
-    let mut at: usize = 0;
-    while at < count {
+    for at in 0..count {
         let edge = word(words, at + 1);
         let code = word(codes, edge) % Item::LIMIT;
         let place = Example::LABEL_WORDS * at;
         labels[place] = owners[edge] as u16;
         labels[place + 1] = (code / ProductionIndex::INDEXES) as u16;
         labels[place + 2] = (code % ProductionIndex::INDEXES) as u16;
-        at += 1;
     }
     Example::LABEL_WORDS * count
 }
@@ -195,27 +193,24 @@ pub fn search(
     let mut counts = [0u8; NonterminalString::LIMIT];
     count_walk(sources, words, &mut counts);
     let mut made = count;
-    loop {
-        if next(sources, older, latest, words, &mut counts) {
-            if made >= Searched::TRIALS {
-                return overrun(words);
-            }
-            made += 1;
-            if hands(
-                grammar,
-                productions,
-                terminals,
-                map,
-                lookahead,
-                owners,
-                codes,
-                sources,
-                words,
-            ) {
-                return Searched::Hit(made);
-            }
-        } else {
-            return Searched::Out(made);
+    while next(sources, older, latest, words, &mut counts) {
+        if made >= Searched::TRIALS {
+            return overrun(words);
+        }
+        made += 1;
+        if hands(
+            grammar,
+            productions,
+            terminals,
+            map,
+            lookahead,
+            owners,
+            codes,
+            sources,
+            words,
+        ) {
+            return Searched::Hit(made);
         }
     }
+    Searched::Out(made)
 }

@@ -16,10 +16,7 @@ use Rattle.table.specs.Refusals.{check_of}
 use Rattle.table.specs.Index.{EdgeIndex}
 use Rattle.table.proofs.Accepted.{accepts}
 use Rattle.state_graph.specs.States.{states_in}
-use Rattle.state_graph.specs.Hits.{has_end_in, meets, SteppedTo}
-use Rattle.state_graph.specs.declared.StateSet.{StateSet}
-use Rattle.state_graph.specs.declared.Stepped.{Stepped}
-use Rattle.state_graph.specs.declared.Stepped.TheVariants.{Found}
+use Rattle.state_graph.specs.Hits.{has_end_in, meets}
 use Rattle.state_graph.proofs.Hits.{index_inside, edges_none, record_read, edges_say}
 
 -- whether a chain has an edge by the symbol into the set
@@ -49,8 +46,3 @@ module _ (t : List ℕ) (ok : check_of t ≡ Accepted) (k x l h : ℕ) where
 
     pub along-more : has_end_in t k x l h at ≡ false → (next : ℕ) → next ≡ word_at t at 0 → Along t k x l h first next
     along-more e next en = rw en (record { on = (record_read t ok k x l h f hh at ne A.on).on; same = says false e })
-
--- the states that a step along the chains answers
-pub step-found : (ss : List ℕ) (r : Stepped) (found : StateSet) → SteppedTo ss r → r ≡ Found found → states_in found.low found.high ≡ ss
-unfolding SteppedTo
-step-found ss r found h e = rw e at h

@@ -1,5 +1,5 @@
 -- The records from which a chain of edges comes to an edge by one symbol into a set of states, as the code keeps them: a bit a record. Assumes nothing: these are definitions.
-use Rattle.std.specs.Prelude.{ℕ, Bool, true, ◌&&◌, ◌||◌, ◌≡◌, List, length, eqb, ltb}
+use Rattle.std.specs.Prelude.{Option, MatchOption, ℕ, Bool, true, ◌&&◌, ◌||◌, ◌≡◌, List, length, eqb, ltb}
 use Rattle.repr.specs.Lists.{mem, some?}
 use Rattle.repr.specs.Meaning.{Symbol, is_same_symbol, Edge}
 use Rattle.repr.specs.Listed.{symbol_of_kind}
@@ -7,8 +7,7 @@ use Rattle.table.specs.Words.{word_at, records}
 use Rattle.table.specs.Decoded.{edges_from}
 use Rattle.table.specs.Refusals.{as_edge}
 use Rattle.state_graph.specs.States.{has_state, states_in}
-use Rattle.state_graph.specs.declared.Stepped.{Stepped}
-use Rattle.state_graph.specs.declared.Stepped.TheVariants.{Found, Over}
+use Rattle.state_graph.specs.declared.StateSet.{StateSet}
 use Rattle.bits.specs.Bits.{bit_at}
 
 -- words for a bit a record
@@ -34,6 +33,5 @@ pub record Hits (t : List ℕ) (k x low high : ℕ) (hs : List ℕ) : Type 0 whe
   pub exact : (r : ℕ) → as_edge t r ≡ true → bit_at hs r ≡ some? (meets (symbol_of_kind k x) (states_in low high)) (edges_from t r)
 
 -- what a step along the chains answers: the states found, or nothing
-unfoldable pub SteppedTo : List ℕ → Stepped → Type 0
-SteppedTo ss (Found r) = states_in r.low r.high ≡ ss
-SteppedTo ss Over = Unit {0}
+abbrev pub SteppedTo : List ℕ → Option StateSet → Type 0
+SteppedTo ss r = MatchOption r (Unit {0}) (λ found. states_in found.low found.high ≡ ss)

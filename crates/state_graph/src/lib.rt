@@ -2,7 +2,7 @@
 
 #![tactic(auto)]
 
-ghost use Rattle.std.specs.Prelude.{◌≡◌, Bool, true, false, ◌&&◌, ◌||◌, List, ◌++◌, ℕ, ◌+◌, ◌*◌, ◌≤◌, ◌<◌, eqb, ltb, length, get_or, set, replicate};
+ghost use Rattle.std.specs.Prelude.{MatchOption, ◌≡◌, Bool, true, false, ◌&&◌, ◌||◌, List, ◌++◌, ℕ, ◌+◌, ◌*◌, ◌≤◌, ◌<◌, eqb, ltb, length, get_or, set, replicate};
 ghost use Rattle.repr.specs.Sizes.{record_limit};
 ghost use Rattle.repr.specs.Lists.{some?};
 ghost use Rattle.repr.specs.Listed.{symbol_of_kind, symbol_is_fit, listed, list_is_fit};
@@ -31,7 +31,7 @@ impl StateIndex {
 }
 
 // A set of states: 0 to 63 in `low`, 64 to 127 in `high`. Every operation is total: a state above 127 is not contained and not inserted.
-#[derive(Clone, Copy)]
+#[derive(Clone, Copy, PartialEq, Eq)]
 pub struct StateSet {
     pub low: u64,
     pub high: u64,
@@ -143,20 +143,16 @@ impl StateSet {
 }
 
 // Whether a record, read as an edge, goes by the symbol into the set.
+#[tactic(auto, unfolding(crate::specs::Hits::has_end_in))]
 fn ends_in(table: &[u16], r: usize, kind: usize, number: usize, set: StateSet) -> bool
     requires { (r < record_limit) × (r * 4 + 3 < length table.now) }
     ensures { result ≡ has_end_in table.now kind number set.low set.high r }
 {
-    if word(table, r, 1) != kind {
-        return false;
-    }
-    if word(table, r, 2) != number {
-        return false;
-    }
-    set.contains(word(table, r, 3))
+    word(table, r, 1) == kind && word(table, r, 2) == number && set.contains(word(table, r, 3))
 }
 
 // Whether it does, or the record after it is hit. A record that no chain reaches may hold anything, so its next index is looked at only where it keeps the rule.
+#[tactic(auto, unfolding(crate::specs::Hits::is_hit_now))]
 fn hit_now(table: &[u16], hits: &[u64], r: usize, kind: usize, number: usize, set: StateSet) -> bool
     requires { (records table.now ≤ record_limit) × (length table.now ≡ 4 * records table.now) × (r < records table.now) × (length hits.now ≡ hit_words) }
     ensures { result ≡ is_hit_now table.now hits.now kind number set.low set.high r }
@@ -165,13 +161,7 @@ fn hit_now(table: &[u16], hits: &[u64], r: usize, kind: usize, number: usize, se
         return true;
     }
     let next = word(table, r, 0);
-    if next <= r {
-        return false;
-    }
-    if next >= table.len() / 4 {
-        return false;
-    }
-    is_set(hits, next)
+    next > r && next < table.len() / 4 && is_set(hits, next)
 }
 
 // The records from the last down: a next index is larger than its record's number, so what follows a record is known when it is read.
@@ -181,9 +171,7 @@ fn sweep(table: &[u16], hits: &mut [u64], kind: usize, number: usize, set: State
     requires hits_value { hits.old ≡ replicate hit_words 0 }
     ensures { Hits table.now kind number set.low set.high hits.new }
 {
-    let mut r = table.len() / 4;
-    while r > 0 {
-        r -= 1;
+    for r in (0..table.len() / 4).rev() {
         if hit_now(table, hits, r, kind, number, set) {
             put(hits, r);
         }
@@ -198,93 +186,61 @@ fn step_over(table: &[u16], hits: &mut [u64], kind: usize, number: usize, set: S
     ensures { states_in result.low result.high ≡ predecessors (meaning table.now) (symbol_of_kind kind number) (states_in set.low set.high) }
 {
     sweep(table, hits, kind, number, set);
-    let counts = read_counts(table);
-    let states = counts.states;
+    let states = read_counts(table).states;
     let mut found = StateSet::new();
-    let mut s: usize = 0;
-    while s < states {
+    for s in 0..states {
         let head = first_edge(table, s);
-        if head == 0 {
-            s += 1;
-            continue;
-        }
-        if is_set(hits, head) {
+        if head != 0 && is_set(hits, head) {
             found = found.insert(s);
-            s += 1;
-            continue;
         }
-        s += 1;
     }
     found
 }
 
-// Whether a chain of edges has one by the symbol into the set, and how many edges may still be read: where none may, nothing is said.
-#[derive(Clone, Copy)]
-struct Led {
-    leads: bool,
-    left: usize,
-}
-
-fn leads(table: &[u16], first: usize, kind: usize, number: usize, set: StateSet, most: usize) -> Led
-    requires table_value { check_of table.now ≡ Accepted }
+// Whether a chain of edges has one by the symbol into the set; none where it takes more edges than may still be read, as chains may be shared.
+fn leads(
+    table: &[u16],
+    first: usize,
+    kind: usize,
+    number: usize,
+    set: StateSet,
+    left: &mut usize,
+) -> Option<bool>
+    requires table_value { check_of table.now ≡ Checked.Accepted }
     requires number_value { symbol_is_fit (length (meaning table.now).nonterminals) (meaning table.now).terminals kind number ≡ true }
     requires edge_index { EdgeIndex table.now first }
-    ensures { (result.left ≡ 0 → ⊥) → result.leads ≡ some? (meets (symbol_of_kind kind number) (states_in set.low set.high)) (edges_from table.now first) }
+    ensures { MatchOption result (Unit {0}) (λ led. led ≡ some? (meets (symbol_of_kind kind number) (states_in set.low set.high)) (edges_from table.now first)) }
 {
     let mut at = first;
-    let mut left = most;
     while at != 0 {
-        if left == 0 {
-            return Led {
-                leads: false,
-                left: 0,
-            };
+        if *left == 0 {
+            return None;
         }
-        left -= 1;
+        *left -= 1;
         if ends_in(table, at, kind, number, set) {
-            return Led {
-                leads: true,
-                left: left,
-            };
+            return Some(true);
         }
         at = word(table, at, 0);
     }
-    Led {
-        leads: false,
-        left: left,
-    }
+    Some(false)
 }
 
-// A step along the chains of all states: the states found, or that more edges would be read than the table has records, as chains may be shared.
-#[derive(Clone, Copy)]
-enum Stepped {
-    Found(StateSet),
-    Over,
-}
-
-fn step_along(table: &[u16], kind: usize, number: usize, set: StateSet) -> Stepped
-    requires table_value { check_of table.now ≡ Accepted }
+// A step along the chains of all states: the states found, or none where more edges would be read than the table has records.
+fn step_along(table: &[u16], kind: usize, number: usize, set: StateSet) -> Option<StateSet>
+    requires table_value { check_of table.now ≡ Checked.Accepted }
     requires number_value { symbol_is_fit (length (meaning table.now).nonterminals) (meaning table.now).terminals kind number ≡ true }
     ensures { SteppedTo (predecessors (meaning table.now) (symbol_of_kind kind number) (states_in set.low set.high)) result }
 {
-    let counts = read_counts(table);
-    let states = counts.states;
+    let states = read_counts(table).states;
     let mut left = table.len() / 4;
     let mut found = StateSet::new();
-    let mut s: usize = 0;
-    while s < states {
+    for s in 0..states {
         let head = first_edge(table, s);
-        let led = leads(table, head, kind, number, set, left);
-        left = led.left;
-        if left == 0 {
-            return Stepped::Over;
-        }
-        if led.leads {
+        if leads(table, head, kind, number, set, &mut left)? {
             found = found.insert(s);
         }
-        s += 1;
     }
-    Stepped::Found(found)
+    Some(found)
 }
 
 // The states with an edge by one symbol into the set: along the chains, or where they are shared by a sweep over all records.
@@ -294,8 +250,8 @@ fn step(table: &[u16], kind: usize, number: usize, set: StateSet) -> StateSet
     ensures { states_in result.low result.high ≡ predecessors (meaning table.now) (symbol_of_kind kind number) (states_in set.low set.high) }
 {
     match step_along(table, kind, number, set) {
-        Stepped::Found(found) => found,
-        Stepped::Over => {
+        Some(found) => found,
+        None => {
             let mut hits = [0u64; StateSet::HIT_WORDS];
             step_over(table, &mut hits, kind, number, set)
         }
@@ -328,18 +284,7 @@ fn recalls(steps: &[u64], place: usize, row: usize, set: StateSet) -> bool
     requires { (place < step_places) × (row < step_rows) × (length steps.now ≡ step_words) }
     ensures { result ≡ true → (get_or steps.now (symbol_place place) 0 ≡ row + 1) × (get_or steps.now (place * 4) 0 ≡ set.low) × (get_or steps.now (place * 4 + 1) 0 ≡ set.high) }
 {
-    let symbol = steps[StateSet::STEP_SYMBOLS + place];
-    if symbol != (row + 1) as u64 {
-        return false;
-    }
-    let last = set_at(steps, place * 4);
-    if last.low != set.low {
-        return false;
-    }
-    if last.high != set.high {
-        return false;
-    }
-    true
+    steps[StateSet::STEP_SYMBOLS + place] == (row + 1) as u64 && set_at(steps, place * 4) == set
 }
 
 // What a step found, until another one takes its place.
@@ -395,9 +340,7 @@ pub fn walk_back(table: &[u16], steps: &mut [u64], set: StateSet, symbols: &[u16
     ensures remembered_2 { Remembered (meaning table.now) steps.new }
 {
     let mut found = set;
-    let mut i = symbols.len() / 2;
-    while i > 0 {
-        i -= 1;
+    for i in (0..symbols.len() / 2).rev() {
         let kind = repr::word(symbols, 2 * i);
         let number = repr::word(symbols, 2 * i + 1);
         found = step_back(table, steps, kind, number, found);
@@ -433,19 +376,6 @@ pub fn trace_back_joined(table: &[u16], state: usize, xs: &[u16], ys: &[u16]) ->
     walk_joined(table, &mut steps, StateSet::of(state), xs, ys)
 }
 
-// Whether a step is the last one over again: it led from a set to itself.
-fn repeats(row: usize, over: usize, found: StateSet, last: StateSet) -> bool
-    ensures { result ≡ true → (row ≡ over) × (found.low ≡ last.low) × (found.high ≡ last.high) }
-{
-    if row != over {
-        return false;
-    }
-    if found.low != last.low {
-        return false;
-    }
-    found.high == last.high
-}
-
 // `trace_back` of one state. The last step alone is remembered, by a row that no symbol has before the first: a run of one symbol over a set that stays costs one step.
 pub fn trace_back(table: &[u16], state: usize, symbols: &[u16]) -> StateSet
     requires table_value { check_of table.now ≡ Accepted }
@@ -455,19 +385,16 @@ pub fn trace_back(table: &[u16], state: usize, symbols: &[u16]) -> StateSet
     let mut found = StateSet::of(state);
     let mut last = found;
     let mut over = StateSet::ROWS;
-    let mut i = symbols.len() / 2;
-    while i > 0 {
-        i -= 1;
+    for i in (0..symbols.len() / 2).rev() {
         let kind = repr::word(symbols, 2 * i);
         let number = repr::word(symbols, 2 * i + 1);
         let row = kind * NonterminalString::LIMIT + number;
-        if repeats(row, over, found, last) {
+        if row == over && found == last {
             continue;
         }
-        let next = step(table, kind, number, found);
         last = found;
         over = row;
-        found = next;
+        found = step(table, kind, number, found);
     }
     found
 }

@@ -55,12 +55,10 @@ fn production_ends(
         index: 0,
     };
     let past = item.length(grammar, productions) + 1;
-    let mut index: usize = 0;
-    while index < past {
+    for index in 0..past {
         if item_ends(grammar, productions, terminals, map, production, index) {
             put(ends, production * ProductionIndex::INDEXES + index);
         }
-        index += 1;
     }
 }
 
@@ -77,9 +75,7 @@ pub fn suffix_ends(
     requires ends_value { ends.old ≡ replicate item_flags 0 }
     ensures { (T : meaning-of.Table) → T.productions ≡ productions_in grammar.now productions → T.terminals ≡ terminals → Ends T ends.new }
 {
-    let mut production: usize = 0;
-    while production < productions {
+    for production in 0..productions {
         production_ends(grammar, productions, terminals, map, ends, production);
-        production += 1;
     }
 }

@@ -1,31 +1,22 @@
--- `same_words` of specs/Same, from a place on, and the symbols that words say. Assumes nothing.
-use Rattle.std.proofs.Common.{◌≡◌, ℕ, zero, suc, ◌+◌, ◌<◌, ◌≤◌, true, false, ◌&&◌, eqb, List, [], ◌∷◌, length, get_or, drop, sym, refl, ap, ◌∙◌, true≢false, add-one, arith, drop_of_length-le, drop-cons, eq-eqb, ne_eqb}
+-- `same_words` of specs/Same, and the symbols that words say. Assumes nothing.
+use Rattle.std.proofs.Common.{◌≡◌, ℕ, Bool, zero, suc, ◌<◌, true, ◌&&◌, eqb, List, [], ◌∷◌, sym, refl, ap, true≢false, arith}
+use Rattle.std.specs.Cmp.Lexicographic.{pointwise}
 use Rattle.repr.specs.Sizes.{nonterminal_limit, terminal_limit}
 use Rattle.slices.proofs.Same.{same_words_eq, same_words_refl}
 use Rattle.slices.specs.Same.{same_words}
 use Rattle.repr.specs.Listed.{symbol_of_kind, listed, symbol_is_fit, list_is_fit}
 use Rattle.repr.proofs.Listed.{symbol_range}
 use Rattle.trace_graph.specs.Graph.{same_symbols}
-use Rattle.trace_graph.proofs.Bools.{and_left, and_right, agree, never}
+use Rattle.trace_graph.proofs.Bools.{and_left, and_right, agree}
 use Rattle.trace_graph.proofs.Labels.{symbols_equal, symbols_refl}
 
--- the ways through the loop that compares
-pub words-lengths : (a b : List ℕ) → (length a ≡ length b → ⊥) → false ≡ same_words a b
-words-lengths a b ne = sym (never (same_words a b) (λ e. ne (ap length (same_words_eq a b e))))
-
-pub words_end : (a b : List ℕ) (at : ℕ) → length a ≡ length b → length a ≤ at → same_words (drop at a) (drop at b) ≡ true
-words_end a b at l h = rw (drop_of_length-le a h, drop_of_length-le b {i = at} (omega arith)) (same_words_refl [])
-
-module _ (a b : List ℕ) (at : ℕ) (l : length a ≡ length b) (h : at < length a) where
-  here : same_words (drop at a) (drop at b) ≡ eqb (get_or a at 0) (get_or b at 0) && same_words (drop (at + 1) a) (drop (at + 1) b)
-  unfolding same_words
-  here = rw (drop-cons a at 0 h, drop-cons b at 0 (omega arith), add-one at)
-
-  pub words_differ : (get_or a at 0 ≡ get_or b at 0 → ⊥) → same_words (drop at a) (drop at b) ≡ false
-  words_differ ne = here ∙ rw (ne_eqb _ _ ne)
-
-  pub words_more : get_or a at 0 ≡ get_or b at 0 → same_words (drop at a) (drop at b) ≡ same_words (drop (at + 1) a) (drop (at + 1) b)
-  words_more e = here ∙ rw (eq-eqb _ _ e)
+-- `==` of slices tests the words in turn
+pub words_pointwise : (a b : List ℕ) → pointwise eqb a b ≡ same_words a b
+unfolding same_words
+words_pointwise [] [] = refl
+words_pointwise [] (y ∷ b) = refl
+words_pointwise (x ∷ a) [] = refl
+words_pointwise (x ∷ a) (y ∷ b) = ap (λ (c : Bool). eqb x y && c) (words_pointwise a b)
 
 -- words in range that say the same symbols are the same
 same_kind : (k x m y : ℕ) → k < 2 → m < 2 → symbol_of_kind k x ≡ symbol_of_kind m y → (k ≡ m) × (x ≡ y)

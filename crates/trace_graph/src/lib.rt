@@ -100,7 +100,7 @@ impl TraceGraphNode {
 }
 
 // A node in words while the code works: of kind 0 the nonterminal `number`, of kind 1 the item at `index` of production `number`.
-#[derive(Clone, Copy)]
+#[derive(Clone, Copy, PartialEq, Eq)]
 pub struct Node {
     pub kind: usize,
     pub number: usize,
@@ -187,23 +187,6 @@ pub fn write_edge(graph: &mut [u16], k: usize, edge: TraceEdge)
     graph[at + 7] = edge.index as u16;
 }
 
-// Whether two lists of words are equal.
-fn same_words(a: &[u16], b: &[u16]) -> bool
-    ensures { result ≡ same_words a.now b.now }
-{
-    if a.len() != b.len() {
-        return false;
-    }
-    let mut at: usize = 0;
-    while at < a.len() {
-        if a[at] != b[at] {
-            return false;
-        }
-        at += 1;
-    }
-    true
-}
-
 // Whether the labels of item i of production p and item j of production q are equal: by their symbols, and not by production.
 pub fn same_label(
     grammar: &[u16],
@@ -220,25 +203,7 @@ pub fn same_label(
     if p == q {
         return i == j;
     }
-    if i != j {
-        return false;
-    }
-    let a = symbols(grammar, p, productions);
-    let b = symbols(grammar, q, productions);
-    same_words(a, b)
-}
-
-// Whether two nodes have the same words.
-pub fn same_node(a: Node, b: Node) -> bool
-    ensures { result ≡ same_value a b }
-{
-    if a.kind != b.kind {
-        return false;
-    }
-    if a.number != b.number {
-        return false;
-    }
-    a.index == b.index
+    i == j && symbols(grammar, p, productions) == symbols(grammar, q, productions)
 }
 
 // Whether edge k is equal to the edge.
@@ -256,20 +221,16 @@ fn same_edge(
     ensures { result ≡ is_same_edge (productions_in grammar.now productions) (edge_is edge) (edge_at graph.now k) }
 {
     let other = read_edge(graph, k);
-    let a = edge.source;
-    let b = other.source;
-    if same_node(a, b) {
-        let c = edge.target;
-        let d = other.target;
-        if same_node(c, d) {
-            let p = edge.production;
-            let i = edge.index;
-            let q = other.production;
-            let j = other.index;
-            return same_label(grammar, productions, p, i, q, j);
-        }
-    }
-    false
+    edge.source == other.source
+        && edge.target == other.target
+        && same_label(
+            grammar,
+            productions,
+            edge.production,
+            edge.index,
+            other.production,
+            other.index,
+        )
 }
 
 // A list of symbols mixed into a number.
@@ -278,12 +239,10 @@ fn mix(list: &[u16], start: usize) -> usize
     ensures { (result ≡ mixed start (listed list.now)) × (result < 65536) }
 {
     let mut sum = start;
-    let mut at: usize = 0;
-    while at < list.len() {
-        let kind = word(list, at);
-        let number = word(list, at + 1);
+    for i in 0..list.len() / 2 {
+        let kind = word(list, 2 * i);
+        let number = word(list, 2 * i + 1);
         sum = (sum * 211 + (kind * NonterminalString::LIMIT + number)) % 65536;
-        at += 2;
     }
     sum
 }
@@ -371,55 +330,40 @@ pub fn insert(
 }
 
 // Whether a production and an index are those of an item.
+#[tactic(auto, unfolding(crate::specs::Fits::item_is_fit))]
 pub fn item_fits(grammar: &[u16], productions: usize, production: usize, index: usize) -> bool
     requires { Packed grammar.now productions }
     ensures { result ≡ item_is_fit (productions_in grammar.now productions) production index }
 {
-    if production < productions {
-        let item = Item {
-            production: production,
-            index: index,
-        };
-        return index <= item.length(grammar, productions);
-    }
-    false
+    let item = Item {
+        production: production,
+        index: index,
+    };
+    production < productions && index <= item.length(grammar, productions)
 }
 
 // Whether a node is in range, of n nonterminals.
+#[tactic(auto, unfolding(crate::specs::Values::node_value_fits, crate::specs::Fits::node_fits))]
 pub fn node_fits(grammar: &[u16], productions: usize, n: usize, node: Node) -> bool
     requires { Packed grammar.now productions }
     ensures { result ≡ node_value_fits n (productions_in grammar.now productions) node }
 {
-    let kind = node.kind;
-    let number = node.number;
-    let index = node.index;
-    if kind == 0 {
-        if number < n {
-            return index == 0;
-        }
-        return false;
+    match node.kind {
+        0 => node.number < n && node.index == 0,
+        1 => item_fits(grammar, productions, node.number, node.index),
+        _ => false,
     }
-    if kind == 1 {
-        return item_fits(grammar, productions, number, index);
-    }
-    false
 }
 
 // Whether an edge is.
+#[tactic(auto, unfolding(crate::specs::Values::value_fits))]
 pub fn edge_fits(grammar: &[u16], productions: usize, n: usize, edge: TraceEdge) -> bool
     requires { Packed grammar.now productions }
     ensures { result ≡ value_fits n (productions_in grammar.now productions) edge }
 {
-    let source = edge.source;
-    let target = edge.target;
-    if node_fits(grammar, productions, n, source) {
-        if node_fits(grammar, productions, n, target) {
-            let production = edge.production;
-            let index = edge.index;
-            return item_fits(grammar, productions, production, index);
-        }
-    }
-    false
+    node_fits(grammar, productions, n, edge.source)
+        && node_fits(grammar, productions, n, edge.target)
+        && item_fits(grammar, productions, edge.production, edge.index)
 }
 
 // Whether edge k is in range and equals none before it; if so the index is brought up to it.
@@ -438,15 +382,15 @@ pub fn check_edge(
     ensures graphed_2 { result ≡ true → Graphed n (productions_in grammar.now productions) graph.now ix.new (k + 1) }
 {
     let edge = read_edge(graph, k);
-    if edge_fits(grammar, productions, n, edge) {
-        let bucket = bucket_of(grammar, productions, edge);
-        if find(grammar, productions, n, graph, ix, k, edge, bucket) {
-            return false;
-        }
-        link(ix, k, bucket);
-        return true;
+    if !edge_fits(grammar, productions, n, edge) {
+        return false;
     }
-    false
+    let bucket = bucket_of(grammar, productions, edge);
+    if find(grammar, productions, n, graph, ix, k, edge, bucket) {
+        return false;
+    }
+    link(ix, k, bucket);
+    true
 }
 
 // Whether a lent graph is one (refusal 9): a count within the limit, every number in range, no edge twice. Makes its index in zeroed words.
@@ -467,11 +411,8 @@ pub fn check_graph(
     if count > TraceGraph::EDGES {
         return false;
     }
-    let mut k: usize = 0;
-    while k < count {
-        if check_edge(grammar, productions, n, graph, ix, k) {
-            k += 1;
-        } else {
+    for k in 0..count {
+        if !check_edge(grammar, productions, n, graph, ix, k) {
             return false;
         }
     }

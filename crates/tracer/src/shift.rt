@@ -207,10 +207,7 @@ fn adds_nothing(
     let earlier = known.earlier;
     let mut at = first_item(table, state);
     while at != 0 {
-        if at == last {
-            return true;
-        }
-        if at == earlier {
+        if at == last || at == earlier {
             return true;
         }
         let read = item(table, at);

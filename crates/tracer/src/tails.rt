@@ -46,13 +46,11 @@ pub fn ahead(table: &[u16], first: usize, most: usize) -> usize
     ensures { ((k : ℕ) × (items_from table.now result ≡ drop k (items_from table.now first))) × ItemIndex table.now result }
 {
     let mut at = first;
-    let mut left = most;
-    while left > 0 {
+    for _ in 0..most {
         if at == 0 {
             return first;
         }
         at = item(table, at).next;
-        left -= 1;
     }
     at
 }
@@ -103,11 +101,7 @@ fn unlink(links: &mut [u16])
     requires { length links.old ≡ tail_words }
     ensures { (n : ℕ) → n < nonterminal_limit → slice_index links.new n ≡ 0 }
 {
-    let mut n: usize = 0;
-    while n < NonterminalString::LIMIT {
-        links[n] = 0;
-        n += 1;
-    }
+    links[..NonterminalString::LIMIT].fill(0);
 }
 
 // Links the slots before `count` from the last on: each to the one that its nonterminal has so far.
@@ -123,9 +117,7 @@ fn link(
     ensures { Linked table.now records.now links.new count first_slot }
 {
     unlink(links);
-    let mut k = count;
-    while k > TailList::FIRST {
-        k -= 1;
+    for k in (TailList::FIRST..count).rev() {
         let read = item(table, word(records, k));
         let this = Item {
             production: read.production,
@@ -168,8 +160,7 @@ fn meets(table: &[u16], first: usize, tail: usize) -> bool
     requires { (check_of table.now ≡ Accepted) × ItemIndex table.now first }
 {
     let mut at = first;
-    let mut left = TailList::AHEAD;
-    while left > 0 {
+    for _ in 0..TailList::AHEAD {
         if at == 0 {
             return false;
         }
@@ -177,7 +168,6 @@ fn meets(table: &[u16], first: usize, tail: usize) -> bool
             return at == tail;
         }
         at = item(table, at).next;
-        left -= 1;
     }
     at == tail
 }
@@ -206,20 +196,6 @@ fn relist(
     true
 }
 
-// The words of two slices change places.
-fn exchange(a: &mut [u16], b: &mut [u16])
-    requires { length b.old ≡ length a.old }
-    ensures { (a.new ≡ b.old) × (b.new ≡ a.old) }
-{
-    let mut i: usize = 0;
-    while i < a.len() {
-        let from = a[i];
-        a[i] = b[i];
-        b[i] = from;
-        i += 1;
-    }
-}
-
 // Sees to it that the tail of a long chain is listed in `records` and `links`, where there is room for lists. The tail that was listed there goes to `others` and `other_links`; a tail that neither has is listed over the older one.
 pub fn list_tail(
     table: &[u16],
@@ -244,8 +220,8 @@ pub fn list_tail(
     if !relist(table, grammar, productions, first, others, other_links) {
         return;
     }
-    exchange(records, others);
-    exchange(links, other_links);
+    records.swap_with_slice(others);
+    links.swap_with_slice(other_links);
 }
 
 // The place of a record of the chain: where the tail begins the first slot of the nonterminal.

@@ -82,10 +82,8 @@ pub fn count_walk(sources: &[u8], words: &[u16], counts: &mut [u8])
     ensures { CountedWalk sources.now words.now counts.new }
 {
     let depth = word(words, 0);
-    let mut at: usize = 0;
-    while at + 1 < depth {
-        join(sources, word(words, at + 1), counts);
-        at += 1;
+    for at in 1..depth {
+        join(sources, word(words, at), counts);
     }
 }
 
@@ -97,8 +95,7 @@ fn back(sources: &[u8], older: &[u16], words: &mut [u16], counts: &mut [u8]) -> 
     ensures by_index { (st rest : List ℕ) → words.old ≡ trial_words (reverse st) ++ rest → stepped result words.new ≡ step_words (back_by older.now st) rest }
     ensures counted_walk_2 { CountedWalk sources.now words.new counts.new }
 {
-    let mut depth = word(words, 0);
-    while depth != 0 {
+    for depth in (1..=word(words, 0)).rev() {
         let edge = word(words, depth);
         let link = word(older, edge);
         if link != 0 {
@@ -107,7 +104,6 @@ fn back(sources: &[u8], older: &[u16], words: &mut [u16], counts: &mut [u8]) -> 
         }
         pop(words);
         leave(sources, words, counts);
-        depth -= 1;
     }
     false
 }
@@ -181,9 +177,5 @@ pub fn clear(words: &mut [u16])
     requires { trial_room ≤ length words.old }
     ensures { words.new ≡ trial_words [] ++ drop trial_room words.old }
 {
-    let mut at: usize = 0;
-    while at < View::TRIAL {
-        words[at] = 0;
-        at += 1;
-    }
+    words[..View::TRIAL].fill(0);
 }

@@ -21,10 +21,8 @@ pub fn slot(node: Node, production: usize, index: usize) -> usize
     if node.kind == 0 {
         return node.number;
     }
-    if node.number == production {
-        if node.index == index {
-            return View::START;
-        }
+    if node.number == production && node.index == index {
+        return View::START;
     }
     View::START + 1
 }
@@ -142,26 +140,23 @@ pub fn check_view(
     if count > View::EDGES {
         return false;
     }
-    let mut k: usize = 0;
-    while k < count {
-        if check_edge(grammar, productions, n, graph, ix, k) {
-            view_edge(
-                grammar,
-                productions,
-                graph,
-                k,
-                production,
-                index,
-                owners,
-                codes,
-                sources,
-                older,
-                latest,
-            );
-            k += 1;
-        } else {
+    for k in 0..count {
+        if !check_edge(grammar, productions, n, graph, ix, k) {
             return false;
         }
+        view_edge(
+            grammar,
+            productions,
+            graph,
+            k,
+            production,
+            index,
+            owners,
+            codes,
+            sources,
+            older,
+            latest,
+        );
     }
     true
 }

@@ -1,10 +1,6 @@
-use Rattle.std.proofs.Common.{◌-◌}
 use Rattle.repr.specs.Packed.{productions_in}
 use Rattle.codes.proofs.Least.{Filling}
 use Rattle.codes.proofs.fill_least.Given as goal
 
 abbrev pub invariant-loop-p : goal.invariant-loop-p
 invariant-loop-p l = Filling (productions_in l.grammar l.productions) l.least l.p
-
-abbrev pub decreases-loop-p : goal.decreases-loop-p
-decreases-loop-p l = l.productions - l.p

@@ -1,4 +1,4 @@
-use Rattle.std.proofs.Common.{◌∙◌, arith}
+use Rattle.std.proofs.Common.{◌∙◌, ne_eqb, arith}
 use Rattle.codes.proofs.Least.{begins, same_not, same_label}
 use Rattle.codes.proofs.same_production.Goals as goal
 
@@ -18,13 +18,13 @@ pub word-requires-2 : goal.word-requires-2
 word-requires-2 c = omega (arith, c.requires.0.few, c.requires.0.long, c.requires.2)
 
 -- src/lib.rt:63:9
-pub returns-then-word : goal.returns-then-word
-returns-then-word c = same_not c.args.grammar.now c.args.productions c.args.p c.args.q _ _ c.requires.1 c.requires.2 c.word.ensures.0 c.word-2.ensures.0 c.if-word.true
+pub returns-else-word : goal.returns-else-word
+returns-else-word c = ne_eqb _ _ c.if-word.false ∙ same_not c.args.grammar.now c.args.productions c.args.p c.args.q _ _ c.requires.1 c.requires.2 c.word.ensures.0 c.word-2.ensures.0 c.if-word.false
 
 -- src/lib.rt:65:5
 pub same_label-requires : goal.same_label-requires
 same_label-requires c = record { packed = c.requires.0; i_value = (begins c.args.grammar.now c.args.productions c.args.p c.requires.1, begins c.args.grammar.now c.args.productions c.args.q c.requires.2) }
 
 -- src/lib.rt:58:1
-pub returns : goal.returns
-returns c = c.same_label.ensures ∙ same_label c.args.grammar.now c.args.productions c.args.p c.args.q _ _ c.requires.1 c.requires.2 c.word.ensures.0 c.word-2.ensures.0 c.if-word.false
+pub returns-then-word : goal.returns-then-word
+returns-then-word c = c.same_label.ensures ∙ same_label c.args.grammar.now c.args.productions c.args.p c.args.q _ _ c.requires.1 c.requires.2 c.word.ensures.0 c.word-2.ensures.0 c.if-word.true

@@ -1,4 +1,4 @@
-use Rattle.std.proofs.Common.{◌≡◌, ◌+◌, ◌-◌, ◌≤◌, true, drop}
+use Rattle.std.proofs.Common.{◌≡◌, ◌+◌, ◌≤◌, true, drop}
 use Rattle.repr.specs.Packed.{productions_in}
 use Rattle.first.specs.First.{join_answers, first0}
 use Rattle.example.specs.Example.{ahead, asked_parts, asked_in, asked_of}
@@ -11,6 +11,3 @@ invariant-loop-asked l = (join_answers l.answer (first0 l.terminals l.map (whole
     × (l.asked + asked_in l.terminals l.map (drop l.asked (asked_parts (productions_in l.grammar l.productions) (labels_in l.labels))) ≡ asked_of l.terminals l.map (productions_in l.grammar l.productions) (labels_in l.labels))
     × (l.answer.nullable ≡ true)
     × (l.asked ≤ l.count)
-
-abbrev pub decreases-loop-asked : goal.decreases-loop-asked
-decreases-loop-asked l = l.count - l.asked

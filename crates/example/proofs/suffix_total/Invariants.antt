@@ -1,4 +1,4 @@
-use Rattle.std.proofs.Common.{◌≡◌, ◌+◌, ◌-◌, ◌≤◌, length, drop}
+use Rattle.std.proofs.Common.{◌≡◌, ◌+◌, ◌≤◌, length, drop}
 use Rattle.repr.specs.Packed.{productions_in}
 use Rattle.example.specs.Example.{suffixes}
 use Rattle.example.specs.Labels.{labels_in}
@@ -6,6 +6,3 @@ use Rattle.example.proofs.suffix_total.Given as goal
 
 abbrev pub invariant-loop-label : goal.invariant-loop-label
 invariant-loop-label l = (l.total + length (suffixes (productions_in l.grammar l.productions) (drop l.label (labels_in l.labels))) ≡ length (suffixes (productions_in l.grammar l.productions) (labels_in l.labels))) × (l.label ≤ l.count)
-
-abbrev pub decreases-loop-label : goal.decreases-loop-label
-decreases-loop-label l = l.count - l.label

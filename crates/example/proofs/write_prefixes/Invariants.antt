@@ -1,4 +1,4 @@
-use Rattle.std.proofs.Common.{◌-◌, ◌≤◌, take}
+use Rattle.std.proofs.Common.{take}
 use Rattle.repr.specs.Packed.{productions_in}
 use Rattle.example.specs.Example.{prefixes}
 use Rattle.example.specs.Labels.{labels_in}
@@ -6,8 +6,5 @@ use Rattle.example.specs.Written.{words_of}
 use Rattle.example.proofs.Put.{Turn}
 use Rattle.example.proofs.write_prefixes.Given as goal
 
-abbrev pub invariant-loop-passed : goal.invariant-loop-passed
-invariant-loop-passed l = Turn l.at (words_of (prefixes (productions_in l.grammar l.productions) (labels_in l.labels))) l.initial.buffer l.place (words_of (prefixes (productions_in l.grammar l.productions) (take (l.count - l.passed) (labels_in l.labels)))) l.buffer × (l.passed ≤ l.count)
-
-abbrev pub decreases-loop-passed : goal.decreases-loop-passed
-decreases-loop-passed l = l.count - l.passed
+abbrev pub invariant-loop-label : goal.invariant-loop-label
+invariant-loop-label l = Turn l.at (words_of (prefixes (productions_in l.grammar l.productions) (labels_in l.labels))) l.initial.buffer l.place (words_of (prefixes (productions_in l.grammar l.productions) (take l.label (labels_in l.labels)))) l.buffer

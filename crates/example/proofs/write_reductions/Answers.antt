@@ -75,12 +75,6 @@ overflow_add-place c = let ps = productions_in c.args.grammar.now c.args.product
     let r = turn_room I.0 (_ ∷ _ ∷ _ ∷ []) _ (around_turn ps ws c.args.places c.loop-label.label l _ _ _ q.0 q.1 c.nonterminal.ensures.0) in
     omega (arith, r)
 
-pub overflow_add-label : goal.overflow_add-label
-overflow_add-label c = omega (arith, c.loop-label-test.true)
-
-pub loop-label-smaller : goal.loop-label-smaller
-loop-label-smaller c = omega (arith, c.loop-label-test.true)
-
 pub loop-label-preserved : goal.loop-label-preserved
 loop-label-preserved c = let ps = productions_in c.args.grammar.now c.args.productions in
     let ws = c.args.labels.now in

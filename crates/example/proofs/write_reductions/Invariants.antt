@@ -1,4 +1,4 @@
-use Rattle.std.proofs.Common.{◌≡◌, ◌+◌, ◌-◌, ◌≤◌, length, drop}
+use Rattle.std.proofs.Common.{◌≡◌, ◌+◌, ◌≤◌, length, drop}
 use Rattle.repr.specs.Packed.{productions_in}
 use Rattle.example.specs.Example.{prefixes, suffixes}
 use Rattle.example.specs.Labels.{labels_in}
@@ -8,6 +8,3 @@ use Rattle.example.proofs.write_reductions.Given as goal
 
 abbrev pub invariant-loop-label : goal.invariant-loop-label
 invariant-loop-label l = Turn l.at (around_words (productions_in l.grammar l.productions) l.places (labels_in l.labels)) l.initial.buffer l.place (around_words (productions_in l.grammar l.productions) l.places (drop l.label (labels_in l.labels))) l.buffer × (l.start ≡ length (prefixes (productions_in l.grammar l.productions) (drop l.label (labels_in l.labels)))) × (l.end + length (suffixes (productions_in l.grammar l.productions) (drop l.label (labels_in l.labels))) ≡ l.places) × (l.label ≤ l.count)
-
-abbrev pub decreases-loop-label : goal.decreases-loop-label
-decreases-loop-label l = l.count - l.label

@@ -26,12 +26,6 @@ overflow_add-place c = let ps = productions_in c.args.grammar.now c.args.product
     let r = turn_room c.loop-label.invariant.0 c.suffix_part-part.result.now (words_of (suffixes ps (drop (c.loop-label.label + 1) (labels_in ws)))) (suffix_turn ps ws c.loop-label.label (omega (arith, c.label_count-count.ensures.0, c.loop-label-test.true)) _ c.suffix_part-part.ensures) in
     omega (arith, r)
 
-pub overflow_add-label : goal.overflow_add-label
-overflow_add-label c = omega (arith, c.loop-label-test.true)
-
-pub loop-label-smaller : goal.loop-label-smaller
-loop-label-smaller c = omega (arith, c.loop-label-test.true)
-
 pub loop-label-preserved : goal.loop-label-preserved
 loop-label-preserved c = let ps = productions_in c.args.grammar.now c.args.productions in
     let ws = c.args.labels.now in

@@ -1,4 +1,4 @@
-use Rattle.std.proofs.Common.{◌-◌, ◌≤◌, drop}
+use Rattle.std.proofs.Common.{◌≤◌, drop}
 use Rattle.repr.specs.Packed.{productions_in}
 use Rattle.example.specs.Example.{suffixes}
 use Rattle.example.specs.Labels.{labels_in}
@@ -8,6 +8,3 @@ use Rattle.example.proofs.write_suffixes.Given as goal
 
 abbrev pub invariant-loop-label : goal.invariant-loop-label
 invariant-loop-label l = Turn l.at (words_of (suffixes (productions_in l.grammar l.productions) (labels_in l.labels))) l.initial.buffer l.place (words_of (suffixes (productions_in l.grammar l.productions) (drop l.label (labels_in l.labels)))) l.buffer × (l.label ≤ l.count)
-
-abbrev pub decreases-loop-label : goal.decreases-loop-label
-decreases-loop-label l = l.count - l.label

@@ -1,3 +1,4 @@
+use Rattle.std.proofs.Common.{◌∙◌, ne_eqb}
 use Rattle.lister.proofs.Ends.{item-other, item_index, item-number}
 use Rattle.lister.proofs.is_item.Goals as goal
 
@@ -7,5 +8,5 @@ returns-then-node-eq0 c = item-other c.read_node-node.result _ c.read_node-node.
 pub returns-then-production-node : goal.returns-then-production-node
 returns-then-production-node c = item_index c.read_node-node.result _ c.read_node-node.ensures.0 _ _ c.if-node-eq0.false c.if-production-node.true
 
-pub returns : goal.returns
-returns c = item-number c.read_node-node.result _ c.read_node-node.ensures.0 _ _ c.if-node-eq0.false c.if-production-node.false
+pub returns-else-production-node : goal.returns-else-production-node
+returns-else-production-node c = ne_eqb _ _ c.if-production-node.false ∙ item-number c.read_node-node.result _ c.read_node-node.ensures.0 _ _ c.if-node-eq0.false c.if-production-node.false

@@ -2,6 +2,7 @@ use mathlib.Core.Path.{refl}
 use Rattle.lister.proofs.Ends.{look-first, look-source, look_target, look_again, look_end, roomy_long, roomy_few}
 use native.Mathlib.Omega.{arith}
 use Rattle.lister.proofs.is_node.Goals as goal
+use Rattle.lister.proofs.is_node.Goals.{then-is_item-via-then-is_item, then-is_item-via-else-is_item+then-is_item-2}
 
 pub word-count-requires : goal.word-count-requires
 word-count-requires c = let l = roomy_long _ c.requires in omega arith
@@ -18,26 +19,17 @@ overflow_add-at c = let f = roomy_few _ c.requires in omega (arith, c.loop-k-tes
 pub is_item-requires : goal.is_item-requires
 is_item-requires c = let l = roomy_long _ c.requires in let f = roomy_few _ c.requires in omega (arith, c.loop-k-test.true, c.loop-k.invariant.counted)
 
+pub is_item-requires-else-is_item : goal.is_item-requires-else-is_item
+is_item-requires-else-is_item c = let l = roomy_long _ c.requires in let f = roomy_few _ c.requires in omega (arith, c.loop-k-test.true, c.loop-k.invariant.counted)
+
 pub returns-then-is_item : goal.returns-then-is_item
-returns-then-is_item c = look-source c.loop-k.invariant c.loop-k-test.true _ refl _ c.is_item.ensures c.if-is_item.true
-
-pub overflow_add-at-in-loop-k : goal.overflow_add-at-in-loop-k
-overflow_add-at-in-loop-k c = let f = roomy_few _ c.requires in omega (arith, c.loop-k-test.true, c.loop-k.invariant.counted)
-
-pub is_item-requires-in-loop-k : goal.is_item-requires-in-loop-k
-is_item-requires-in-loop-k c = let l = roomy_long _ c.requires in let f = roomy_few _ c.requires in omega (arith, c.loop-k-test.true, c.loop-k.invariant.counted)
-
-pub returns-then-is_item-2 : goal.returns-then-is_item-2
-returns-then-is_item-2 c = look_target c.loop-k.invariant c.loop-k-test.true _ refl _ c.is_item.ensures c.if-is_item.false _ c.is_item-in-loop-k.ensures c.if-is_item-2.true
-
-pub overflow_add-k : goal.overflow_add-k
-overflow_add-k c = let f = roomy_few _ c.requires in omega (arith, c.loop-k-test.true, c.loop-k.invariant.counted)
-
-pub loop-k-smaller : goal.loop-k-smaller
-loop-k-smaller c = omega (arith, c.loop-k-test.true)
+returns-then-is_item c = elim c.then-is_item.branch [
+  | then-is_item-via-then-is_item w ↦ look-source c.loop-k.invariant c.loop-k-test.true _ refl _ c.is_item.ensures w.if-is_item.true
+  | then-is_item-via-else-is_item+then-is_item-2 w ↦ look_target c.loop-k.invariant c.loop-k-test.true _ refl _ c.is_item.ensures w.if-is_item.false _ w.is_item-else-is_item.ensures w.if-is_item-2.true
+]
 
 pub loop-k-preserved : goal.loop-k-preserved
-loop-k-preserved c = look_again c.loop-k.invariant c.loop-k-test.true _ refl _ c.is_item.ensures c.if-is_item.false _ c.is_item-in-loop-k.ensures c.if-is_item-2.false
+loop-k-preserved c = look_again c.loop-k.invariant c.loop-k-test.true _ refl _ c.is_item.ensures c.if-is_item.false _ c.is_item-else-is_item.ensures c.if-is_item-2.false
 
 pub returns : goal.returns
 returns c = look_end c.loop-k.invariant c.loop-k-test.false

@@ -60,12 +60,6 @@ offset_bounds-labels-place-in-loop-at-2 c = let R = c.loop-at.invariant _ _ c.re
 pub bounds-labels-place-in-loop-at-2 : goal.bounds-labels-place-in-loop-at-2
 bounds-labels-place-in-loop-at-2 c = let R = c.loop-at.invariant _ _ c.requires.tried.1.1 in let r = (reading_room R c.loop-at-test.true).1.1 in simp length-set (omega arith)
 
-pub overflow_add-at-in-loop-at : goal.overflow_add-at-in-loop-at
-overflow_add-at-in-loop-at c = let R = c.loop-at.invariant _ _ c.requires.tried.1.1 in omega (arith, (reading_room R c.loop-at-test.true).0)
-
-pub loop-at-smaller : goal.loop-at-smaller
-loop-at-smaller c = omega (arith, c.loop-at-test.true)
-
 pub loop-at-preserved : goal.loop-at-preserved
 loop-at-preserved c = λ ps es T. reading_again (c.loop-at.invariant ps es T) c.loop-at-test.true c.word-edge.ensures.0 refl (ap (λ (k : ℕ). k % item_limit) c.word-code.ensures.0)
 

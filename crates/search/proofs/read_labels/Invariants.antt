@@ -1,4 +1,4 @@
-use Rattle.std.specs.Prelude.{◌-◌, List}
+use Rattle.std.specs.Prelude.{List}
 use Rattle.repr.specs.Meaning.{Production}
 use Rattle.trace_graph.specs.Graph.{TraceEdge}
 use Rattle.search.specs.Given.{Tried}
@@ -7,6 +7,3 @@ use Rattle.search.proofs.read_labels.Given as goal
 
 abbrev pub invariant-loop-at : goal.invariant-loop-at
 invariant-loop-at l = (ps : List Production) (es : List TraceEdge) → Tried ps es l.owners l.codes l.words → Reading ps es l.owners l.codes l.words l.initial.labels l.count l.labels l.at
-
-abbrev pub decreases-loop-at : goal.decreases-loop-at
-decreases-loop-at l = l.count - l.at

@@ -19,19 +19,19 @@ next-requires c = let S = c.requires.searching.1.1 in
     let U = c.loop-lookahead.invariant.0 _ _ S in record { tidy = S.view.viewed.tidy; held = (searching_held U.held, searching_fitting U.held); counted_walk = c.loop-lookahead.invariant.2 }
 
 pub overrun-requires : goal.overrun-requires
-overrun-requires c = turn_long (c.loop-lookahead.invariant.0 _ _ c.requires.searching.1.1) c.next.ensures.by_index c.if-next.true
+overrun-requires c = turn_long (c.loop-lookahead.invariant.0 _ _ c.requires.searching.1.1) c.next.ensures.by_index c.loop-lookahead-test.true
 
 pub shape_of-words-then-made-ge-TRIALS : goal.shape_of-words-then-made-ge-TRIALS
 shape_of-words-then-made-ge-TRIALS c = c.overrun.auto.words ∙ c.next.auto.words ∙ (c.loop-lookahead.invariant.0 _ _ c.requires.searching.1.1).size
 
 pub returns-then-made-ge-TRIALS : goal.returns-then-made-ge-TRIALS
-returns-then-made-ge-TRIALS c = λ es start S. turn_over (c.loop-lookahead.invariant.0 es start S) c.next.ensures.by_index c.if-next.true (omega (arith, c.if-made-ge-TRIALS.true)) c.overrun.ensures
+returns-then-made-ge-TRIALS c = λ es start S. turn_over (c.loop-lookahead.invariant.0 es start S) c.next.ensures.by_index c.loop-lookahead-test.true (omega (arith, c.if-made-ge-TRIALS.true)) c.overrun.ensures
 
 pub overflow_add-made : goal.overflow_add-made
 overflow_add-made c = omega (arith, c.if-made-ge-TRIALS.false)
 
 pub hands-requires : goal.hands-requires
-hands-requires c = record { packed = c.requires.packed; tried = (c.requires.searching.0, (turn_tried (c.loop-lookahead.invariant.0 _ _ c.requires.searching.1.1) c.next.ensures.by_index c.if-next.true, view_sourced c.requires.searching.1.1.view)) }
+hands-requires c = record { packed = c.requires.packed; tried = (c.requires.searching.0, (turn_tried (c.loop-lookahead.invariant.0 _ _ c.requires.searching.1.1) c.next.ensures.by_index c.loop-lookahead-test.true, view_sourced c.requires.searching.1.1.view)) }
 
 pub shape_of-words-then-hands : goal.shape_of-words-then-hands
 shape_of-words-then-hands c = c.next.auto.words ∙ (c.loop-lookahead.invariant.0 _ _ c.requires.searching.1.1).size
@@ -39,8 +39,8 @@ shape_of-words-then-hands c = c.next.auto.words ∙ (c.loop-lookahead.invariant.
 pub returns-then-hands : goal.returns-then-hands
 returns-then-hands c = λ es start S.
     let U = c.loop-lookahead.invariant.0 es start S in
-    let T = turn_tried U c.next.ensures.by_index c.if-next.true in
-    turn_hit U c.next.ensures.by_index c.if-next.true (omega (arith, c.if-made-ge-TRIALS.false)) (c.hands.ensures es T (view_sourced S.view)) (omega arith) c.if-hands.true
+    let T = turn_tried U c.next.ensures.by_index c.loop-lookahead-test.true in
+    turn_hit U c.next.ensures.by_index c.loop-lookahead-test.true (omega (arith, c.if-made-ge-TRIALS.false)) (c.hands.ensures es T (view_sourced S.view)) (omega arith) c.if-hands.true
 
 pub loop-lookahead-smaller : goal.loop-lookahead-smaller
 loop-lookahead-smaller c = omega (arith, c.if-made-ge-TRIALS.false)
@@ -49,14 +49,14 @@ pub loop-lookahead-preserved : goal.loop-lookahead-preserved
 loop-lookahead-preserved c = (
   (λ es start S.
       let U = c.loop-lookahead.invariant.0 es start S in
-      let T = turn_tried U c.next.ensures.by_index c.if-next.true in
-      turn_again U c.next.ensures.by_index c.if-next.true (omega (arith, c.if-made-ge-TRIALS.false)) (c.hands.ensures es T (view_sourced S.view)) (omega arith) c.if-hands.false c.next.auto.words),
+      let T = turn_tried U c.next.ensures.by_index c.loop-lookahead-test.true in
+      turn_again U c.next.ensures.by_index c.loop-lookahead-test.true (omega (arith, c.if-made-ge-TRIALS.false)) (c.hands.ensures es T (view_sourced S.view)) (omega arith) c.if-hands.false c.next.auto.words),
   c.next.auto.counts ∙ c.loop-lookahead.invariant.1,
   c.next.ensures.counted_walk_2,
 )
 
-pub shape_of-words-else-next : goal.shape_of-words-else-next
-shape_of-words-else-next c = c.next.auto.words ∙ (c.loop-lookahead.invariant.0 _ _ c.requires.searching.1.1).size
+pub shape_of-words : goal.shape_of-words
+shape_of-words c = c.next.auto.words ∙ (c.loop-lookahead.invariant.0 _ _ c.requires.searching.1.1).size
 
-pub returns-else-next : goal.returns-else-next
-returns-else-next c = λ es start S. turn_end (c.loop-lookahead.invariant.0 es start S) c.next.ensures.by_index c.if-next.false (omega arith)
+pub returns : goal.returns
+returns c = λ es start S. turn_end (c.loop-lookahead.invariant.0 es start S) c.next.ensures.by_index c.loop-lookahead-test.false (omega arith)

@@ -1,4 +1,4 @@
-use mathlib.Core.Path.{refl, sym, ◌∙◌}
+use mathlib.Core.Path.{sym, ◌∙◌}
 use Rattle.state_graph.proofs.Along.{along-start, along-inside, along-hit, along-more, along-done}
 use native.Mathlib.Omega.{arith}
 use Rattle.state_graph.proofs.leads.Goals as goal
@@ -6,14 +6,11 @@ use Rattle.state_graph.proofs.leads.Goals as goal
 pub loop-at-init : goal.loop-at-init
 loop-at-init c = along-start c.args.table.now c.requires.table_value _ _ _ _ _ c.requires.edge_index
 
-pub returns-then-left-eq0 : goal.returns-then-left-eq0
-returns-then-left-eq0 c = λ ne. absurd (ne refl)
-
 pub ends_in-requires : goal.ends_in-requires
 ends_in-requires c = along-inside c.args.table.now c.requires.table_value _ _ _ _ _ _ c.loop-at.invariant c.loop-at-test.true
 
 pub returns-then-ends_in : goal.returns-then-ends_in
-returns-then-ends_in c = λ _. along-hit c.args.table.now c.requires.table_value _ _ _ _ c.requires.number_value (omega (arith, c.well_formed)) _ _ c.loop-at.invariant c.loop-at-test.true (sym c.ends_in.ensures ∙ c.if-ends_in.true)
+returns-then-ends_in c = along-hit c.args.table.now c.requires.table_value _ _ _ _ c.requires.number_value (omega (arith, c.well_formed)) _ _ c.loop-at.invariant c.loop-at-test.true (sym c.ends_in.ensures ∙ c.if-ends_in.true)
 
 pub word-at-requires : goal.word-at-requires
 word-at-requires c = let i = along-inside c.args.table.now c.requires.table_value _ _ _ _ _ _ c.loop-at.invariant c.loop-at-test.true in (i.0, (omega arith, omega (arith, i.1)))
@@ -22,4 +19,4 @@ pub loop-at-preserved : goal.loop-at-preserved
 loop-at-preserved c = along-more c.args.table.now c.requires.table_value _ _ _ _ c.requires.number_value (omega (arith, c.well_formed)) _ _ c.loop-at.invariant c.loop-at-test.true (sym c.ends_in.ensures ∙ c.if-ends_in.false) _ c.word-at.ensures.0
 
 pub returns : goal.returns
-returns c = λ _. along-done c.args.table.now c.requires.table_value _ _ _ _ _ _ c.loop-at.invariant c.loop-at-test.false
+returns c = along-done c.args.table.now c.requires.table_value _ _ _ _ _ _ c.loop-at.invariant c.loop-at-test.false

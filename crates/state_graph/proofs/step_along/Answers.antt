@@ -1,36 +1,28 @@
-use Prim.{tt}
 use mathlib.Core.Path.{sym, ◌∙◌}
 use Prim.Native.Nat.{◌<◌}
 use lib.ListN.{length}
 use Rattle.table.specs.Decoded.{meaning}
 use Rattle.table.proofs.Decoding.{fits}
-use Rattle.state_graph.specs.Hits.{SteppedTo}
 use Rattle.state_graph.proofs.Hits.{finding_start, finding_hit, finding_miss, finding_done}
 use native.Mathlib.Omega.{arith}
 use Rattle.state_graph.proofs.step_along.Goals as goal
-use Rattle.state_graph.proofs.step_along.Goals.{then-led, else-led}
+use Rattle.state_graph.proofs.step_along.Goals.{then-branch, else-branch}
 
 pub loop-s-init : goal.loop-s-init
 loop-s-init c = (omega arith, finding_start c.args.table.now c.requires.table_value _ _ _ _ _ _ c.new-found.ensures)
 
 pub first_edge-head-requires : goal.first_edge-head-requires
-first_edge-head-requires c = record { table_value = c.requires.table_value; state_in_bounds = omega (arith, c.loop-s-test.true, c.read_counts-counts.ensures.states) }
+first_edge-head-requires c = record { table_value = c.requires.table_value; state_in_bounds = omega (arith, c.loop-s-test.true, c.read_counts-states.ensures.states) }
 
-pub leads-led-requires : goal.leads-led-requires
-leads-led-requires c = record { table_value = c.requires.table_value; number_value = c.requires.number_value; edge_index = c.first_edge-head.ensures.1 }
-
-pub returns-then-left-eq0 : goal.returns-then-left-eq0
-unfolding SteppedTo
-returns-then-left-eq0 c = tt
+pub leads-requires : goal.leads-requires
+leads-requires c = record { table_value = c.requires.table_value; number_value = c.requires.number_value; edge_index = c.first_edge-head.ensures.1 }
 
 pub loop-s-preserved : goal.loop-s-preserved
-loop-s-preserved c = let i : c.loop-s.s < length (meaning c.args.table.now).states = omega (arith, c.loop-s-test.true, c.read_counts-counts.ensures.states) in
-    let says = c.leads-led.ensures c.if-left-eq0.false in
-    elim c.if-led.branch [
-      | then-led w ↦ (omega (arith, c.loop-s-test.true), rw w.found-is (finding_hit c.args.table.now c.requires.table_value _ _ _ _ _ _ _ c.loop-s.invariant.1 i _ c.first_edge-head.ensures.0 (sym says ∙ w.if-led.true) _ _ w.insert-found.ensures))
-      | else-led w ↦ (omega (arith, c.loop-s-test.true), rw w.found-is (finding_miss c.args.table.now c.requires.table_value _ _ _ _ _ _ _ c.loop-s.invariant.1 i _ c.first_edge-head.ensures.0 (sym says ∙ w.if-led.false)))
+loop-s-preserved c = let i : c.loop-s.s < length (meaning c.args.table.now).states = omega (arith, c.loop-s-test.true, c.read_counts-states.ensures.states) in
+    elim c.if-branch.branch [
+      | then-branch w ↦ (omega (arith, c.loop-s-test.true), rw w.found-is (finding_hit c.args.table.now c.requires.table_value _ _ _ _ _ _ _ c.loop-s.invariant.1 i _ c.first_edge-head.ensures.0 (sym c.in_ok-leads.ensures ∙ w.if-branch.true) _ _ w.insert-found.ensures))
+      | else-branch w ↦ (omega (arith, c.loop-s-test.true), rw w.found-is (finding_miss c.args.table.now c.requires.table_value _ _ _ _ _ _ _ c.loop-s.invariant.1 i _ c.first_edge-head.ensures.0 (sym c.in_ok-leads.ensures ∙ w.if-branch.false)))
     ]
 
 pub returns : goal.returns
-unfolding SteppedTo
-returns c = finding_done c.args.table.now c.requires.table_value _ _ _ _ (fits c.args.table.now c.requires.table_value) _ _ _ c.loop-s.invariant.1 (omega (arith, c.loop-s-test.false, c.loop-s.invariant.0, c.read_counts-counts.ensures.states))
+returns c = finding_done c.args.table.now c.requires.table_value _ _ _ _ (fits c.args.table.now c.requires.table_value) _ _ _ c.loop-s.invariant.1 (omega (arith, c.loop-s-test.false, c.loop-s.invariant.0, c.read_counts-states.ensures.states))

@@ -1,8 +1,9 @@
-use mathlib.Core.Path.{refl}
+use mathlib.Core.Path.{◌≡◌, refl}
 use Rattle.table.specs.Decoded.{meaning}
 use Rattle.table.proofs.Decoding.{fits}
 use Rattle.state_graph.proofs.Steps.{walking_start, walking_at, walking_symbol, walking_more, walking_done, no_step, step-made, step_again, row_inside, traced}
 use native.Mathlib.Omega.{arith}
+use Rattle.std.proofs.Common.{rules}
 use Rattle.state_graph.proofs.trace_back.Goals as goal
 
 pub loop-i-init : goal.loop-i-init
@@ -29,27 +30,28 @@ overflow_mul-row c = omega (arith, row_inside (meaning c.args.table.now) (fits c
 pub overflow_add-row : goal.overflow_add-row
 overflow_add-row c = omega (arith, row_inside (meaning c.args.table.now) (fits c.args.table.now c.requires.table_value) c.word-kind.result c.word-number.result (walking_symbol (meaning c.args.table.now) c.args.symbols.now c.requires.state_in_bounds.1 _ _ _ _ c.loop-i.i c.loop-i.invariant.0 c.loop-i-test.true _ _ c.word-kind.ensures.0 c.word-number.ensures.0))
 
-pub loop-i-smaller-then-repeats : goal.loop-i-smaller-then-repeats
-loop-i-smaller-then-repeats c = omega (arith, c.loop-i-test.true)
+pub loop-i-smaller-then-eq : goal.loop-i-smaller-then-eq
+loop-i-smaller-then-eq c = omega (arith, c.loop-i-test.true)
 
-pub loop-i-preserved-then-repeats : goal.loop-i-preserved-then-repeats
-loop-i-preserved-then-repeats c = let same = c.repeats.ensures c.if-repeats.true in
+pub loop-i-preserved-then-eq : goal.loop-i-preserved-then-eq
+loop-i-preserved-then-eq c = let low : c.loop-i.found.low ≡ c.loop-i.last.low = search rules in
+    let high : c.loop-i.found.high ≡ c.loop-i.last.high = search rules in
     let symbol = walking_symbol (meaning c.args.table.now) c.args.symbols.now c.requires.state_in_bounds.1 _ _ _ _ c.loop-i.i c.loop-i.invariant.0 c.loop-i-test.true _ _ c.word-kind.ensures.0 c.word-number.ensures.0 in (
       walking_more (meaning c.args.table.now) c.args.symbols.now c.requires.state_in_bounds.1 _ _ _ _ c.loop-i.i c.loop-i.invariant.0 c.loop-i-test.true _ _ _ _ c.word-kind.ensures.0 c.word-number.ensures.0
-          (step_again (meaning c.args.table.now) _ _ _ _ _ c.loop-i.invariant.1 _ _ symbol same.0 same.1 same.2),
+          (step_again (meaning c.args.table.now) _ _ _ _ _ c.loop-i.invariant.1 _ _ symbol c.if-row-over.true low high),
       c.loop-i.invariant.1,
     )
 
-pub step-next-requires : goal.step-next-requires
-step-next-requires c = record { table_value = c.requires.table_value; number_value = walking_symbol (meaning c.args.table.now) c.args.symbols.now c.requires.state_in_bounds.1 _ _ _ _ c.loop-i.i c.loop-i.invariant.0 c.loop-i-test.true _ _ c.word-kind.ensures.0 c.word-number.ensures.0 }
+pub step-found-requires : goal.step-found-requires
+step-found-requires c = record { table_value = c.requires.table_value; number_value = walking_symbol (meaning c.args.table.now) c.args.symbols.now c.requires.state_in_bounds.1 _ _ _ _ c.loop-i.i c.loop-i.invariant.0 c.loop-i-test.true _ _ c.word-kind.ensures.0 c.word-number.ensures.0 }
 
 pub loop-i-smaller : goal.loop-i-smaller
 loop-i-smaller c = omega (arith, c.loop-i-test.true)
 
 pub loop-i-preserved : goal.loop-i-preserved
 loop-i-preserved c = let symbol = walking_symbol (meaning c.args.table.now) c.args.symbols.now c.requires.state_in_bounds.1 _ _ _ _ c.loop-i.i c.loop-i.invariant.0 c.loop-i-test.true _ _ c.word-kind.ensures.0 c.word-number.ensures.0 in (
-  walking_more (meaning c.args.table.now) c.args.symbols.now c.requires.state_in_bounds.1 _ _ _ _ c.loop-i.i c.loop-i.invariant.0 c.loop-i-test.true _ _ _ _ c.word-kind.ensures.0 c.word-number.ensures.0 c.step-next.ensures,
-  step-made (meaning c.args.table.now) (fits c.args.table.now c.requires.table_value) _ _ symbol _ _ _ _ c.step-next.ensures,
+  walking_more (meaning c.args.table.now) c.args.symbols.now c.requires.state_in_bounds.1 _ _ _ _ c.loop-i.i c.loop-i.invariant.0 c.loop-i-test.true _ _ _ _ c.word-kind.ensures.0 c.word-number.ensures.0 c.step-found.ensures,
+  step-made (meaning c.args.table.now) (fits c.args.table.now c.requires.table_value) _ _ symbol _ _ _ _ c.step-found.ensures,
 )
 
 pub returns : goal.returns

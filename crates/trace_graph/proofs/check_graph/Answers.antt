@@ -23,16 +23,12 @@ loop-k-smaller c = omega (arith, c.loop-k-test.true)
 
 pub loop-k-preserved : goal.loop-k-preserved
 loop-k-preserved c = let A = c.args in (
-  checked_more A.n (productions_in A.grammar.now A.productions) A.graph.now c.loop-k.ix c.check_edge.new.ix c.loop-k.k c.loop-k.invariant.0 (c.check_edge.ensures.graphed_2 c.if-check_edge.true) c.check_edge.result c.check_edge.ensures.value c.if-check_edge.true,
+  checked_more A.n (productions_in A.grammar.now A.productions) A.graph.now c.loop-k.ix c.check_edge.new.ix c.loop-k.k c.loop-k.invariant.0 (c.check_edge.ensures.graphed_2 c.if-not-check_edge.false) c.check_edge.result c.check_edge.ensures.value c.if-not-check_edge.false,
   omega (arith, c.loop-k-test.true),
 )
 
-pub shape_of-ix-else-check_edge : goal.shape_of-ix-else-check_edge
-shape_of-ix-else-check_edge c = let A = c.args in
-    c.check_edge.auto.ix ∙ c.loop-k.invariant.0.good.index.long ∙ sym (ap length c.requires.ix_value ∙ length-replicate {A = ℕ} index_room 0)
-
-pub returns-else-check_edge : goal.returns-else-check_edge
-returns-else-check_edge c = let A = c.args in record { value = graph_bad A.n (productions_in A.grammar.now A.productions) A.graph.now c.loop-k.k (omega (arith, c.loop-k-test.true, c.word-count.ensures.0)) c.check_edge.result c.check_edge.ensures.value c.if-check_edge.false; graphed = λ z. absurd (true≢false (sym z)) }
+pub returns-then-not-check_edge : goal.returns-then-not-check_edge
+returns-then-not-check_edge c = let A = c.args in record { value = graph_bad A.n (productions_in A.grammar.now A.productions) A.graph.now c.loop-k.k (omega (arith, c.loop-k-test.true, c.word-count.ensures.0)) c.check_edge.result c.check_edge.ensures.value c.if-not-check_edge.true; graphed = λ z. absurd (true≢false (sym z)) }
 
 pub shape_of-ix : goal.shape_of-ix
 shape_of-ix c = let A = c.args in

@@ -1,10 +1,7 @@
-use Rattle.std.proofs.Common.{◌-◌, ◌≤◌}
+use Rattle.std.proofs.Common.{◌≤◌}
 use Rattle.repr.specs.Packed.{productions_in}
 use Rattle.trace_graph.proofs.Checks.{Checked}
 use Rattle.trace_graph.proofs.check_graph.Given as goal
 
 abbrev pub invariant-loop-k : goal.invariant-loop-k
 invariant-loop-k l = Checked l.n (productions_in l.grammar l.productions) l.graph l.ix l.k × (l.k ≤ l.count)
-
-abbrev pub decreases-loop-k : goal.decreases-loop-k
-decreases-loop-k l = l.count - l.k

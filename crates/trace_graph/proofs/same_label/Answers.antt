@@ -1,3 +1,5 @@
+use Rattle.std.proofs.Common.{◌∙◌, ne_eqb}
+use Rattle.trace_graph.proofs.Same.{words_pointwise}
 use Rattle.trace_graph.proofs.Fits.{Labels, left_below, right_below, label_one, label_index, label_words_lem}
 use Rattle.trace_graph.proofs.same_label.Goals as goal
 use Rattle.trace_graph.proofs.same_label.Goals.{Start}
@@ -8,14 +10,14 @@ labels S = record { packed = S.requires.packed; left = S.requires.i_value.0; rig
 pub returns-then-p-q : goal.returns-then-p-q
 returns-then-p-q c = label_one (labels (goal.at.returns-then-p-q c).Start) c.if-p-q.true
 
+pub symbols-requires : goal.symbols-requires
+symbols-requires c = record { packed = c.requires.packed; production_lt_productions = left_below (labels (goal.at.symbols-requires c).Start) }
+
+pub symbols-requires-then-i-j : goal.symbols-requires-then-i-j
+symbols-requires-then-i-j c = record { packed = c.requires.packed; production_lt_productions = right_below (labels (goal.at.symbols-requires-then-i-j c).Start) }
+
 pub returns-then-i-j : goal.returns-then-i-j
-returns-then-i-j c = label_index (labels (goal.at.returns-then-i-j c).Start) c.if-i-j.true
+returns-then-i-j c = label_words_lem (labels (goal.at.returns-then-i-j c).Start) c.if-i-j.true c.symbols.ensures c.symbols-then-i-j.ensures (c.eq.ensures ∙ words_pointwise c.symbols.result.now c.symbols-then-i-j.result.now)
 
-pub symbols-a-requires : goal.symbols-a-requires
-symbols-a-requires c = record { packed = c.requires.packed; production_lt_productions = left_below (labels (goal.at.symbols-a-requires c).Start) }
-
-pub symbols-b-requires : goal.symbols-b-requires
-symbols-b-requires c = record { packed = c.requires.packed; production_lt_productions = right_below (labels (goal.at.symbols-b-requires c).Start) }
-
-pub returns : goal.returns
-returns c = label_words_lem (labels (goal.at.returns c).Start) c.if-i-j.false c.symbols-a.ensures c.symbols-b.ensures c.same_words.ensures
+pub returns-else-i-j : goal.returns-else-i-j
+returns-else-i-j c = ne_eqb c.args.i c.args.j c.if-i-j.false ∙ label_index (labels (goal.at.returns-else-i-j c).Start) c.if-i-j.false

@@ -1,9 +1,5 @@
-use Rattle.std.proofs.Common.{◌-◌}
 use Rattle.codes.proofs.Views.{Making}
 use Rattle.codes.proofs.viewing.view_codes.Given as goal
 
 abbrev pub invariant-loop-k : goal.invariant-loop-k
 invariant-loop-k l = Making l.grammar l.words (record { production = l.production; index = l.index }) l.owners l.sources l.older l.latest l.k
-
-abbrev pub decreases-loop-k : goal.decreases-loop-k
-decreases-loop-k l = l.count - l.k

@@ -1,28 +1,8 @@
-use borrow.Author.Fill.{fill_none, fill_more}
-use Rattle.std.proofs.Common.{ℕ, List, set, refl, ap, ◌∙◌, arith, length-set}
+use Rattle.std.proofs.Common.{ℕ, ◌++◌, List, drop, replicate, refl, ap, ◌∙◌, length-take-le}
+use Rattle.repr.specs.Sizes.{scratch_words}
 use Rattle.enumerator.proofs.StackWords.{cleared}
 use Rattle.enumerator.proofs.machine.clear.Goals as goal
 
-pub loop-at-init : goal.loop-at-init
-loop-at-init c = (omega arith, refl, fill_none c.args.words.now 0)
-
-pub offset_bounds-words-at : goal.offset_bounds-words-at
-offset_bounds-words-at c = omega (arith, c.loop-at-test.true)
-
-pub bounds-words-at : goal.bounds-words-at
-bounds-words-at c = omega (arith, c.loop-at-test.true, c.loop-at.invariant.1, c.requires)
-
-pub overflow_add-at : goal.overflow_add-at
-overflow_add-at c = omega (arith, c.loop-at-test.true)
-
-pub loop-at-smaller : goal.loop-at-smaller
-loop-at-smaller c = omega (arith, c.loop-at-test.true)
-
-pub loop-at-preserved : goal.loop-at-preserved
-loop-at-preserved c = (omega (arith, c.loop-at-test.true), length-set c.loop-at.words c.loop-at.at 0 ∙ c.loop-at.invariant.1, ap (λ (l : List ℕ). set l c.loop-at.at 0) c.loop-at.invariant.2 ∙ fill_more c.loop-at.at 0 c.args.words.now (omega (arith, c.loop-at-test.true, c.requires)))
-
-pub shape_of-words : goal.shape_of-words
-shape_of-words c = c.loop-at.invariant.1
-
 pub returns : goal.returns
-returns c = cleared c.loop-at.words c.args.words.now c.loop-at.at (omega (arith, c.loop-at-test.false, c.loop-at.invariant.0)) c.loop-at.invariant.2
+returns c = let zeros = c.fill.ensures.after (λ y e. e) ∙ ap (λ (n : ℕ). replicate n 0) (length-take-le scratch_words c.args.words.now c.requires) in
+    cleared _ c.args.words.now scratch_words refl (ap (λ (l : List ℕ). l ++ drop scratch_words c.args.words.now) zeros)

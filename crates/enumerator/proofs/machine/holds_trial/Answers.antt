@@ -1,21 +1,25 @@
 use Rattle.enumerator.proofs.Stepping.{roomy}
 use Rattle.enumerator.proofs.Holding.{holds_none, holds_long, holds_stack, holds_yes, holds_not, holds_other}
 use Rattle.enumerator.proofs.machine.holds_trial.Goals as goal
+use Rattle.enumerator.proofs.machine.holds_trial.Goals.{then-depth-eq0-via-then-depth-eq0, then-depth-eq0-via-else-depth-eq0+then-depth-gt-REDUCTIONS, then-depth-eq0-via-else-depth-eq0+else-depth-gt-REDUCTIONS+then-not-only_zeros}
+use Rattle.std.proofs.Common.{◌∙◌}
 
 pub returns-then-depth-eq0 : goal.returns-then-depth-eq0
-returns-then-depth-eq0 c = holds_none c.requires.started c.args.words.now c.requires.scratch_words_in_bounds c.word-depth.result c.word-depth.ensures.0 c.if-depth-eq0.true
-
-pub returns-then-depth-gt-REDUCTIONS : goal.returns-then-depth-gt-REDUCTIONS
-returns-then-depth-gt-REDUCTIONS c = holds_long c.requires.started c.args.words.now c.requires.scratch_words_in_bounds c.word-depth.result c.word-depth.ensures.0 c.if-depth-gt-REDUCTIONS.true
+returns-then-depth-eq0 c = let g = c.requires.started in
+    let ws = c.args.words.now in
+    let long = c.requires.scratch_words_in_bounds in
+    let read = c.word-depth.ensures.0 in
+    elim c.then-depth-eq0.branch [
+      | then-depth-eq0-via-then-depth-eq0 w ↦ holds_none g ws long c.word-depth.result read w.if-depth-eq0.true
+      | then-depth-eq0-via-else-depth-eq0+then-depth-gt-REDUCTIONS w ↦ holds_long g ws long c.word-depth.result read w.if-depth-gt-REDUCTIONS.true
+      | then-depth-eq0-via-else-depth-eq0+else-depth-gt-REDUCTIONS+then-not-only_zeros w ↦ holds_other g ws long c.word-depth.result read w.if-depth-gt-REDUCTIONS.false w.only_zeros.result w.only_zeros.ensures w.if-not-only_zeros.true
+    ]
 
 pub is_example-requires : goal.is_example-requires
-is_example-requires c = record { roomy = roomy c.requires.started.ground; stacked = holds_stack c.requires.started c.args.words.now c.requires.scratch_words_in_bounds c.word-depth.result c.word-depth.ensures.0 c.if-depth-gt-REDUCTIONS.false c.only_zeros.result c.only_zeros.ensures c.if-only_zeros.true c.is_trial.result c.is_trial.ensures c.if-is_trial.true }
+is_example-requires c = record { roomy = roomy c.requires.started.ground; stacked = holds_stack c.requires.started c.args.words.now c.requires.scratch_words_in_bounds c.word-depth.result c.word-depth.ensures.0 c.if-depth-gt-REDUCTIONS.false c.only_zeros.result c.only_zeros.ensures c.if-not-only_zeros.false c.is_trial.result c.is_trial.ensures c.if-is_trial.true }
 
 pub returns-then-is_trial : goal.returns-then-is_trial
-returns-then-is_trial c = holds_yes c.requires.started c.args.words.now c.requires.scratch_words_in_bounds c.word-depth.result c.word-depth.ensures.0 c.if-depth-gt-REDUCTIONS.false c.only_zeros.result c.only_zeros.ensures c.if-only_zeros.true c.is_trial.result c.is_trial.ensures c.if-is_trial.true c.is_example.result c.is_example.ensures
+returns-then-is_trial c = holds_yes c.requires.started c.args.words.now c.requires.scratch_words_in_bounds c.word-depth.result c.word-depth.ensures.0 c.if-depth-gt-REDUCTIONS.false c.only_zeros.result c.only_zeros.ensures c.if-not-only_zeros.false c.is_trial.result c.is_trial.ensures c.if-is_trial.true c.is_example.result c.is_example.ensures
 
-pub returns-then-only_zeros : goal.returns-then-only_zeros
-returns-then-only_zeros c = holds_not c.requires.started c.args.words.now c.requires.scratch_words_in_bounds c.word-depth.result c.word-depth.ensures.0 c.if-depth-gt-REDUCTIONS.false c.only_zeros.result c.only_zeros.ensures c.if-only_zeros.true c.is_trial.result c.is_trial.ensures c.if-is_trial.false
-
-pub returns : goal.returns
-returns c = holds_other c.requires.started c.args.words.now c.requires.scratch_words_in_bounds c.word-depth.result c.word-depth.ensures.0 c.if-depth-gt-REDUCTIONS.false c.only_zeros.result c.only_zeros.ensures c.if-only_zeros.false
+pub returns-else-is_trial : goal.returns-else-is_trial
+returns-else-is_trial c = c.if-is_trial.false ∙ holds_not c.requires.started c.args.words.now c.requires.scratch_words_in_bounds c.word-depth.result c.word-depth.ensures.0 c.if-depth-gt-REDUCTIONS.false c.only_zeros.result c.only_zeros.ensures c.if-not-only_zeros.false c.is_trial.result c.is_trial.ensures c.if-is_trial.false

@@ -1,9 +1,5 @@
-use Rattle.std.proofs.Common.{◌-◌}
 use Rattle.enumerator.proofs.Holding.{Walking}
 use Rattle.enumerator.proofs.machine.is_trial.Given as goal
 
 abbrev pub invariant-loop-at : goal.invariant-loop-at
 invariant-loop-at l = Walking l.graph l.words l.depth l.production l.index l.node l.at
-
-abbrev pub decreases-loop-at : goal.decreases-loop-at
-decreases-loop-at l = l.depth - l.at

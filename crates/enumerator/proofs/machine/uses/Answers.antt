@@ -9,19 +9,13 @@ pub word-edge-requires : goal.word-edge-requires
 word-edge-requires c = omega (arith, c.loop-k.invariant.within, c.requires.depth_in_bounds)
 
 pub comes_from-requires : goal.comes_from-requires
-comes_from-requires c = record { roomy = c.requires.roomy; edge_bound = uses_edge c.loop-k.invariant c.requires.depth_in_bounds c.loop-k-test.true c.word-edge.ensures.0 }
+comes_from-requires c = record { roomy = c.requires.roomy; edge_bound = uses_edge c.loop-k.invariant c.requires.depth_in_bounds (λ e. omega (arith, e)) c.word-edge.ensures.0 }
 
 pub returns-then-comes_from : goal.returns-then-comes_from
-returns-then-comes_from c = uses-found c.loop-k.invariant c.requires.depth_in_bounds c.loop-k-test.true c.word-edge.ensures.0 c.comes_from.ensures c.if-comes_from.true
-
-pub overflow_sub-k : goal.overflow_sub-k
-overflow_sub-k c = omega (arith, c.loop-k-test.true)
-
-pub loop-k-smaller : goal.loop-k-smaller
-loop-k-smaller c = omega (arith, c.loop-k-test.true)
+returns-then-comes_from c = uses-found c.loop-k.invariant c.requires.depth_in_bounds (λ e. omega (arith, e)) c.word-edge.ensures.0 c.comes_from.ensures c.if-comes_from.true
 
 pub loop-k-preserved : goal.loop-k-preserved
-loop-k-preserved c = uses_again c.loop-k.invariant c.requires.depth_in_bounds c.loop-k-test.true c.word-edge.ensures.0 c.comes_from.ensures c.if-comes_from.false
+loop-k-preserved c = uses_again c.loop-k.invariant c.requires.depth_in_bounds (λ e. omega (arith, e)) c.word-edge.ensures.0 c.comes_from.ensures c.if-comes_from.false
 
 pub returns : goal.returns
-returns c = uses_end c.loop-k.invariant c.requires.depth_in_bounds c.loop-k-test.false
+returns c = uses_end c.loop-k.invariant c.requires.depth_in_bounds (omega arith)

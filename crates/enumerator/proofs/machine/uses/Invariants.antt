@@ -3,6 +3,3 @@ use Rattle.enumerator.proofs.machine.uses.Given as goal
 
 abbrev pub invariant-loop-k : goal.invariant-loop-k
 invariant-loop-k l = Under l.graph l.words l.depth l.nonterminal l.k
-
-abbrev pub decreases-loop-k : goal.decreases-loop-k
-decreases-loop-k l = l.k

@@ -25,9 +25,6 @@ overflow_add-production c = let q = c.requires.packed.0.few in let r = c.require
 pub put-requires : goal.put-requires
 put-requires c = let q = c.requires.packed.0.few in let r = c.requires.production_lt_productions.0 in let w = c.length-past.ensures.1 in let l = c.loop-index.invariant.0 in omega arith
 
-pub overflow_add-index : goal.overflow_add-index
-overflow_add-index c = let w = c.length-past.ensures.1 in omega arith
-
 pub loop-index-preserved : goal.loop-index-preserved
 loop-index-preserved c = let w = c.length-past.ensures.1 in
     let I = c.loop-index.invariant in

@@ -10,9 +10,6 @@ loop-production-init c = (ap length c.requires.ends_value ∙ length-replicate {
 pub production_ends-requires : goal.production_ends-requires
 production_ends-requires c = record { packed = c.requires.packed; map_value = c.requires.map_value; production_lt_productions = (c.loop-production-test.true, c.loop-production.invariant.0) }
 
-pub overflow_add-production : goal.overflow_add-production
-overflow_add-production c = let q = c.requires.packed.0.few in omega arith
-
 pub loop-production-preserved : goal.loop-production-preserved
 loop-production-preserved c = (c.production_ends.auto.ends ∙ c.loop-production.invariant.0, omega arith, λ T ep et. c.production_ends.ensures T ep et (c.loop-production.invariant.2 T ep et))
 

@@ -1,4 +1,4 @@
-use Rattle.std.proofs.Common.{◌≡◌, ◌-◌, ◌*◌, ◌≤◌, length}
+use Rattle.std.proofs.Common.{◌≡◌, ◌*◌, ◌≤◌, length}
 use Rattle.repr.specs.Sizes.{index_limit, item_flags}
 use Rattle.repr.specs.Meaning.{Table}
 use Rattle.repr.specs.Packed.{productions_in}
@@ -8,6 +8,3 @@ use Rattle.trace.proofs.reduce.suffix_ends.Given as goal
 abbrev pub invariant-loop-production : goal.invariant-loop-production
 invariant-loop-production l = (length l.ends ≡ item_flags) × (l.production ≤ l.productions)
     × ((T : Table) → T.productions ≡ productions_in l.grammar l.productions → T.terminals ≡ l.terminals → EndsTo T l.ends (l.production * index_limit))
-
-abbrev pub decreases-loop-production : goal.decreases-loop-production
-decreases-loop-production l = l.productions - l.production

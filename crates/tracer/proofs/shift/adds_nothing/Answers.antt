@@ -1,6 +1,7 @@
 use Rattle.std.proofs.Common.{length, sym, ap, true≢false, arith}
 use Rattle.tracer.proofs.Passing.{clear_none, passing_start, passing_more, passing_done}
 use Rattle.tracer.proofs.shift.adds_nothing.Goals as goal
+use Rattle.tracer.proofs.shift.adds_nothing.Goals.{then-at-last-via-then-at-last, then-at-last-via-else-at-last+then-at-earlier}
 
 pub first_item-at-requires : goal.first_item-at-requires
 first_item-at-requires c = record { table_value = c.requires.working.accepted; state_in_bounds = c.requires.flags_len.3 }
@@ -9,10 +10,10 @@ pub loop-at-init : goal.loop-at-init
 loop-at-init c = passing_start _ _ _ _ _ _ c.first_item-at.ensures.0 c.first_item-at.ensures.1
 
 pub returns-then-at-last : goal.returns-then-at-last
-returns-then-at-last c = λ _. passing_done _ _ _ _ _ _ c.loop-at.invariant _ c.if-at-last.true c.requires.clear.0
-
-pub returns-then-at-earlier : goal.returns-then-at-earlier
-returns-then-at-earlier c = λ _. passing_done _ _ _ _ _ _ c.loop-at.invariant _ c.if-at-earlier.true c.requires.clear.1
+returns-then-at-last c = elim c.then-at-last.branch [
+  | then-at-last-via-then-at-last w ↦ λ _. passing_done _ _ _ _ _ _ c.loop-at.invariant _ w.if-at-last.true c.requires.clear.0
+  | then-at-last-via-else-at-last+then-at-earlier w ↦ λ _. passing_done _ _ _ _ _ _ c.loop-at.invariant _ w.if-at-earlier.true c.requires.clear.1
+]
 
 pub item-read-requires : goal.item-read-requires
 item-read-requires c = record { table_value = c.requires.working.accepted; fact = (c.loop-at-test.true, c.loop-at.invariant.on) }

@@ -1,10 +1,10 @@
-use Rattle.std.proofs.Common.{refl, arith}
+use Rattle.std.proofs.Common.{refl}
 use Rattle.tracer.proofs.Passing.{further_more}
 use Rattle.tracer.proofs.tails.ahead.Goals as goal
 
 -- src/shift.rt:202:5
-pub loop-left-init : goal.loop-left-init
-loop-left-init c = ((0, refl), c.requires.1)
+pub loop-init : goal.loop-init
+loop-init c = ((0, refl), c.requires.1)
 
 -- src/shift.rt:204:13
 pub returns-then-at-eq0 : goal.returns-then-at-eq0
@@ -12,20 +12,14 @@ returns-then-at-eq0 c = ((0, refl), c.requires.1)
 
 -- src/shift.rt:206:14
 pub item-at-requires : goal.item-at-requires
-item-at-requires c = record { table_value = c.requires.0; fact = (c.if-at-eq0.false, c.loop-left.invariant.1) }
+item-at-requires c = record { table_value = c.requires.0; fact = (c.if-at-eq0.false, c.loop.invariant.1) }
 
 -- src/shift.rt:207:9
-pub overflow_sub-left : goal.overflow_sub-left
-overflow_sub-left c = omega (arith, c.loop-left-test.true)
-
 -- src/shift.rt:202:5
-pub loop-left-smaller : goal.loop-left-smaller
-loop-left-smaller c = omega (arith, c.loop-left-test.true)
-
 -- src/shift.rt:202:5
-pub loop-left-preserved : goal.loop-left-preserved
-loop-left-preserved c = further_more _ _ _ _ _ _ c.loop-left.invariant c.item-at.ensures
+pub loop-preserved : goal.loop-preserved
+loop-preserved c = further_more _ _ _ _ _ _ c.loop.invariant c.item-at.ensures
 
 -- src/shift.rt:196:1
 pub returns : goal.returns
-returns c = c.loop-left.invariant
+returns c = c.loop.invariant

@@ -13,9 +13,6 @@ pub loop-k-init : goal.loop-k-init
 loop-k-init c = (linked_start _ _ _ _ c.requires.0.1 _ _ _ (c.unlink.auto.links ∙ c.requires.2) c.unlink.ensures, omega arith, c.requires.1.1.least)
 
 -- src/tails.rt:130:9
-pub overflow_sub-k : goal.overflow_sub-k
-overflow_sub-k c = omega (arith, c.loop-k-test.true)
-
 -- src/tails.rt:131:32
 pub word-requires : goal.word-requires
 word-requires c = let C = c.requires.1.1 in omega (arith, C.long, C.few, c.loop-k.invariant.1, c.loop-k-test.true)
@@ -46,9 +43,6 @@ pub bounds-links-nonterminal-then-nonterminal-lt-LIMIT : goal.bounds-links-nonte
 bounds-links-nonterminal-then-nonterminal-lt-LIMIT c = let l = length-set c.loop-k.links (c.loop-k.k - 1) (get_or c.loop-k.links c.cursor-nonterminal.result 0) ∙ c.loop-k.invariant.0.long in omega (arith, c.if-nonterminal-lt-LIMIT.true)
 
 -- src/tails.rt:129:5
-pub loop-k-smaller-then-nonterminal-lt-LIMIT : goal.loop-k-smaller-then-nonterminal-lt-LIMIT
-loop-k-smaller-then-nonterminal-lt-LIMIT c = omega (arith, c.loop-k-test.true)
-
 -- src/tails.rt:129:5
 pub loop-k-preserved-then-nonterminal-lt-LIMIT : goal.loop-k-preserved-then-nonterminal-lt-LIMIT
 loop-k-preserved-then-nonterminal-lt-LIMIT c = let less = c.loop-k-test.true in
@@ -60,9 +54,6 @@ loop-k-preserved-then-nonterminal-lt-LIMIT c = let less = c.loop-k-test.true in
     )
 
 -- src/tails.rt:129:5
-pub loop-k-smaller : goal.loop-k-smaller
-loop-k-smaller c = omega (arith, c.loop-k-test.true)
-
 -- src/tails.rt:129:5
 pub loop-k-preserved : goal.loop-k-preserved
 loop-k-preserved c = let less = c.loop-k-test.true in

@@ -4,6 +4,3 @@ use Rattle.tracer.proofs.tails.link.Given as goal
 
 abbrev pub invariant-loop-k : goal.invariant-loop-k
 invariant-loop-k l = Linked l.table l.records l.links l.count l.k × (l.k ≤ l.count) × (32 ≤ l.k)
-
-abbrev pub decreases-loop-k : goal.decreases-loop-k
-decreases-loop-k l = l.k

@@ -9,4 +9,4 @@ pub returns-then-not-relist : goal.returns-then-not-relist
 returns-then-not-relist c = listed-over _ _ _ _ _ _ _ c.requires.two_tails c.relist.auto.records c.relist.auto.links c.relist.ensures
 
 pub returns : goal.returns
-returns c = turned _ _ _ _ _ (listed-over _ _ _ _ _ _ _ c.requires.two_tails c.relist.auto.records c.relist.auto.links c.relist.ensures) _ _ _ _ c.exchange.ensures.0 c.exchange-2.ensures.0 c.exchange.ensures.1 c.exchange-2.ensures.1
+returns c = turned _ _ _ _ _ (listed-over _ _ _ _ _ _ _ c.requires.two_tails c.relist.auto.records c.relist.auto.links c.relist.ensures) _ _ _ _ c.swap_with_slice.ensures.after c.swap_with_slice-2.ensures.after c.swap_with_slice.ensures.other_after c.swap_with_slice-2.ensures.other_after

@@ -1,27 +1,11 @@
-use Rattle.std.proofs.Common.{sym, ◌∙◌, arith, length-set}
-use Rattle.tracer.proofs.Linking.{cleared_more}
+use Rattle.std.proofs.Common.{ℕ, drop, replicate, ap, ◌∙◌, arith, length-take-le}
+use lib.ListN.{length-replicate}
+use Rattle.std.proofs.lemmas.List.{get_or_append_left, get_or-replicate}
 use Rattle.tracer.proofs.tails.unlink.Goals as goal
 
--- src/tails.rt:109:5
-pub loop-n-init : goal.loop-n-init
-loop-n-init c = (λ j h. absurd (omega arith), c.requires)
+pub slice_bounds-fill-end-2 : goal.slice_bounds-fill-end-2
+slice_bounds-fill-end-2 c = omega (arith, length-take-le 32 c.args.links.now (omega (arith, c.requires)))
 
--- src/tails.rt:110:9
-pub bounds-links-n : goal.bounds-links-n
-bounds-links-n c = omega (arith, c.loop-n.invariant.1, c.loop-n-test.true)
-
--- src/tails.rt:109:5
-pub loop-n-smaller : goal.loop-n-smaller
-loop-n-smaller c = omega (arith, c.loop-n-test.true)
-
--- src/tails.rt:109:5
-pub loop-n-preserved : goal.loop-n-preserved
-loop-n-preserved c = (cleared_more c.loop-n.links c.loop-n.n (omega (arith, c.loop-n.invariant.1, c.loop-n-test.true)) c.loop-n.invariant.0 _ (omega arith), length-set c.loop-n.links c.loop-n.n 0 ∙ c.loop-n.invariant.1)
-
--- src/tails.rt:104:1
-pub shape_of-links : goal.shape_of-links
-shape_of-links c = c.loop-n.invariant.1 ∙ sym c.requires
-
--- src/tails.rt:104:1
 pub returns : goal.returns
-returns c = λ n h. c.loop-n.invariant.0 n (omega (arith, c.loop-n-test.false))
+returns c = let zeros = c.fill.ensures.after (λ y e. e) ∙ ap (λ (k : ℕ). replicate k 0) (length-take-le 32 c.args.links.now (omega (arith, c.requires))) in
+    λ n h. rw zeros (get_or_append_left (replicate 32 0) (drop 32 c.args.links.now) 0 n (omega (arith, length-replicate {A = ℕ} 32 0)) ∙ get_or-replicate 32 n 0 0 h)

@@ -16,7 +16,7 @@ pub word-edge-requires : goal.word-edge-requires
 word-edge-requires c = omega (arith, back_deep c.loop-depth.invariant.2)
 
 pub word-link-requires : goal.word-link-requires
-word-link-requires c = omega (arith, back_edge c.loop-depth.invariant.2 c.loop-depth-test.true c.word-edge.ensures.0, c.requires.bounded.1.long)
+word-link-requires c = omega (arith, back_edge c.loop-depth.invariant.2 (λ e. omega (arith, e)) c.word-edge.ensures.0, c.requires.bounded.1.long)
 
 pub replace-requires : goal.replace-requires
 replace-requires c = let D = back_deep c.loop-depth.invariant.2 in
@@ -29,23 +29,17 @@ pub shape_of-counts-then-link-ne0 : goal.shape_of-counts-then-link-ne0
 shape_of-counts-then-link-ne0 c = c.loop-depth.invariant.1
 
 pub returns-then-link-ne0 : goal.returns-then-link-ne0
-returns-then-link-ne0 c = record { by_index = back_found c.loop-depth.invariant.2 c.loop-depth-test.true c.word-edge.ensures.0 c.word-link.ensures.0 c.if-link-ne0.true c.replace.ensures; counted_walk_2 = replace_counts c.args.sources.now c.loop-depth.invariant.2.held c.loop-depth.invariant.2.deep c.loop-depth-test.true c.word-edge.ensures.0 (c.word-link.result - 1) c.replace.ensures c.loop-depth.invariant.3 }
+returns-then-link-ne0 c = record { by_index = back_found c.loop-depth.invariant.2 (λ e. omega (arith, e)) c.word-edge.ensures.0 c.word-link.ensures.0 c.if-link-ne0.true c.replace.ensures; counted_walk_2 = replace_counts c.args.sources.now c.loop-depth.invariant.2.held c.loop-depth.invariant.2.deep (λ e. omega (arith, e)) c.word-edge.ensures.0 (c.word-link.result - 1) c.replace.ensures c.loop-depth.invariant.3 }
 
 pub pop-requires : goal.pop-requires
 pop-requires c = let D = back_deep c.loop-depth.invariant.2 in
-    (D.1.0, (omega (arith, D.0, c.loop-depth-test.true), omega (arith, D.1.1)))
+    (D.1.0, (omega (arith, D.0), omega (arith, D.1.1)))
 
 pub leave-requires : goal.leave-requires
-leave-requires c = record { bounded = c.requires.bounded.0; held = (back_again c.loop-depth.invariant.2 c.loop-depth-test.true c.word-edge.ensures.0 c.word-link.ensures.0 c.if-link-ne0.false c.pop.ensures).held; counted_edges = pop_counts c.args.sources.now c.loop-depth.invariant.2.held c.loop-depth.invariant.2.deep c.loop-depth-test.true c.word-edge.ensures.0 c.pop.ensures c.loop-depth.invariant.3 }
-
-pub overflow_sub-depth : goal.overflow_sub-depth
-overflow_sub-depth c = omega (arith, c.loop-depth-test.true)
-
-pub loop-depth-smaller : goal.loop-depth-smaller
-loop-depth-smaller c = omega (arith, c.loop-depth-test.true)
+leave-requires c = record { bounded = c.requires.bounded.0; held = (back_again c.loop-depth.invariant.2 (λ e. omega (arith, e)) c.word-edge.ensures.0 c.word-link.ensures.0 c.if-link-ne0.false c.pop.ensures).held; counted_edges = pop_counts c.args.sources.now c.loop-depth.invariant.2.held c.loop-depth.invariant.2.deep (λ e. omega (arith, e)) c.word-edge.ensures.0 c.pop.ensures c.loop-depth.invariant.3 }
 
 pub loop-depth-preserved : goal.loop-depth-preserved
-loop-depth-preserved c = (c.pop.auto.words ∙ c.loop-depth.invariant.0, c.leave.auto.counts ∙ c.loop-depth.invariant.1, back_again c.loop-depth.invariant.2 c.loop-depth-test.true c.word-edge.ensures.0 c.word-link.ensures.0 c.if-link-ne0.false c.pop.ensures, c.leave.ensures)
+loop-depth-preserved c = (c.pop.auto.words ∙ c.loop-depth.invariant.0, c.leave.auto.counts ∙ c.loop-depth.invariant.1, back_again c.loop-depth.invariant.2 (λ e. omega (arith, e)) c.word-edge.ensures.0 c.word-link.ensures.0 c.if-link-ne0.false c.pop.ensures, c.leave.ensures)
 
 pub shape_of-words : goal.shape_of-words
 shape_of-words c = c.loop-depth.invariant.0
@@ -54,4 +48,4 @@ pub shape_of-counts : goal.shape_of-counts
 shape_of-counts c = c.loop-depth.invariant.1
 
 pub returns : goal.returns
-returns c = record { by_index = back-over c.loop-depth.invariant.2 c.loop-depth-test.false; counted_walk_2 = c.loop-depth.invariant.3 }
+returns c = record { by_index = back-over c.loop-depth.invariant.2 (omega arith); counted_walk_2 = c.loop-depth.invariant.3 }

@@ -6,6 +6,3 @@ use Rattle.view.proofs.machine.back.Given as goal
 
 abbrev pub invariant-loop-depth : goal.invariant-loop-depth
 invariant-loop-depth l = (length l.words ≡ length l.initial.words) × (length l.counts ≡ length l.initial.counts) × Turn l.older l.initial.words l.words l.depth × CountedWalk l.sources l.words l.counts
-
-abbrev pub decreases-loop-depth : goal.decreases-loop-depth
-decreases-loop-depth l = l.depth

@@ -5,7 +5,4 @@ use Rattle.view.proofs.Counting.{Joined}
 use Rattle.view.proofs.machine.count_walk.Given as goal
 
 abbrev pub invariant-loop-at : goal.invariant-loop-at
-invariant-loop-at l = (length l.counts ≡ length l.initial.counts) × Joined l.sources l.words l.depth l.counts l.at
-
-abbrev pub decreases-loop-at : goal.decreases-loop-at
-decreases-loop-at l = l.depth - l.at
+invariant-loop-at l = (length l.counts ≡ length l.initial.counts) × Joined l.sources l.words l.depth l.counts (l.at - 1)

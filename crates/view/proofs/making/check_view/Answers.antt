@@ -25,24 +25,18 @@ pub check_edge-requires : goal.check_edge-requires
 check_edge-requires c = record { packed = c.requires.packed; graphed = c.loop-k.invariant.0.good; k_lt_edge_limit = omega (arith, c.loop-k-test.true, c.if-count-gt-EDGES.false) }
 
 pub view_edge-requires : goal.view_edge-requires
-view_edge-requires c = let G = c.check_edge.ensures.graphed_2 c.if-check_edge.true in
+view_edge-requires c = let G = c.check_edge.ensures.graphed_2 c.if-not-check_edge.false in
     let I = c.loop-k.invariant.1.1 in
     let W = I.1.tidy in
     let E : EdgeRanged (productions_in c.args.grammar.now c.args.productions) c.args.graph.now c.loop-k.k = record { nonterminals = c.args.n; few = c.requires.n_bound.0; fits = G.fits c.loop-k.k (omega arith) } in record { packed = c.requires.packed; k_lt_edge_limit = (omega (arith, G.few), G.long); edge_ranged = E; owners_len = (I.0.by_owner, I.0.by_code); sources_len = (W.by_source.long, (W.by_older.long, W.by_latest.long)) }
-
-pub overflow_add-k : goal.overflow_add-k
-overflow_add-k c = omega (arith, c.loop-k-test.true, c.word-count.ensures.1)
-
-pub loop-k-smaller : goal.loop-k-smaller
-loop-k-smaller c = omega (arith, c.loop-k-test.true)
 
 pub loop-k-preserved : goal.loop-k-preserved
 loop-k-preserved c = let A = c.args in
     let k = c.loop-k.k in
     let I = c.loop-k.invariant in
-    let G = c.check_edge.ensures.graphed_2 c.if-check_edge.true in
+    let G = c.check_edge.ensures.graphed_2 c.if-not-check_edge.false in
     let E : EdgeRanged (productions_in A.grammar.now A.productions) A.graph.now k = record { nonterminals = A.n; few = c.requires.n_bound.0; fits = G.fits k (omega arith) } in (
-      checked_more A.n (productions_in A.grammar.now A.productions) A.graph.now c.loop-k.ix c.check_edge.new.ix k I.0 G c.check_edge.result c.check_edge.ensures.value c.if-check_edge.true,
+      checked_more A.n (productions_in A.grammar.now A.productions) A.graph.now c.loop-k.ix c.check_edge.new.ix k I.0 G c.check_edge.result c.check_edge.ensures.value c.if-not-check_edge.false,
       (
         omega (arith, c.loop-k-test.true),
         (
@@ -52,26 +46,26 @@ loop-k-preserved c = let A = c.args in
       ),
     )
 
-pub shape_of-ix-else-check_edge : goal.shape_of-ix-else-check_edge
-shape_of-ix-else-check_edge c = c.check_edge.auto.ix ∙ c.loop-k.invariant.0.good.index.long ∙ sym (ap length c.requires.ix_value ∙ length-replicate {A = ℕ} index_room 0)
+pub shape_of-ix-then-not-check_edge : goal.shape_of-ix-then-not-check_edge
+shape_of-ix-then-not-check_edge c = c.check_edge.auto.ix ∙ c.loop-k.invariant.0.good.index.long ∙ sym (ap length c.requires.ix_value ∙ length-replicate {A = ℕ} index_room 0)
 
-pub shape_of-owners-else-check_edge : goal.shape_of-owners-else-check_edge
-shape_of-owners-else-check_edge c = c.loop-k.invariant.1.1.0.by_owner ∙ sym c.requires.owners_len.0
+pub shape_of-owners-then-not-check_edge : goal.shape_of-owners-then-not-check_edge
+shape_of-owners-then-not-check_edge c = c.loop-k.invariant.1.1.0.by_owner ∙ sym c.requires.owners_len.0
 
-pub shape_of-codes-else-check_edge : goal.shape_of-codes-else-check_edge
-shape_of-codes-else-check_edge c = c.loop-k.invariant.1.1.0.by_code ∙ sym c.requires.owners_len.1
+pub shape_of-codes-then-not-check_edge : goal.shape_of-codes-then-not-check_edge
+shape_of-codes-then-not-check_edge c = c.loop-k.invariant.1.1.0.by_code ∙ sym c.requires.owners_len.1
 
-pub shape_of-sources-else-check_edge : goal.shape_of-sources-else-check_edge
-shape_of-sources-else-check_edge c = kept_long c.loop-k.invariant.1.1.1.tidy.by_source c.requires.sources_value.0
+pub shape_of-sources-then-not-check_edge : goal.shape_of-sources-then-not-check_edge
+shape_of-sources-then-not-check_edge c = kept_long c.loop-k.invariant.1.1.1.tidy.by_source c.requires.sources_value.0
 
-pub shape_of-older-else-check_edge : goal.shape_of-older-else-check_edge
-shape_of-older-else-check_edge c = kept_long c.loop-k.invariant.1.1.1.tidy.by_older c.requires.sources_value.1.0
+pub shape_of-older-then-not-check_edge : goal.shape_of-older-then-not-check_edge
+shape_of-older-then-not-check_edge c = kept_long c.loop-k.invariant.1.1.1.tidy.by_older c.requires.sources_value.1.0
 
-pub shape_of-latest-else-check_edge : goal.shape_of-latest-else-check_edge
-shape_of-latest-else-check_edge c = kept_long c.loop-k.invariant.1.1.1.tidy.by_latest c.requires.sources_value.1.1
+pub shape_of-latest-then-not-check_edge : goal.shape_of-latest-then-not-check_edge
+shape_of-latest-then-not-check_edge c = kept_long c.loop-k.invariant.1.1.1.tidy.by_latest c.requires.sources_value.1.1
 
-pub returns-else-check_edge : goal.returns-else-check_edge
-returns-else-check_edge c = let A = c.args in record { value = graph_bad A.n (productions_in A.grammar.now A.productions) A.graph.now c.loop-k.k (omega (arith, c.loop-k-test.true, c.word-count.ensures.0)) c.check_edge.result c.check_edge.ensures.value c.if-check_edge.false; viewing = λ z. absurd (true≢false (sym z)) }
+pub returns-then-not-check_edge : goal.returns-then-not-check_edge
+returns-then-not-check_edge c = let A = c.args in record { value = graph_bad A.n (productions_in A.grammar.now A.productions) A.graph.now c.loop-k.k (omega (arith, c.loop-k-test.true, c.word-count.ensures.0)) c.check_edge.result c.check_edge.ensures.value c.if-not-check_edge.true; viewing = λ z. absurd (true≢false (sym z)) }
 
 pub shape_of-ix : goal.shape_of-ix
 shape_of-ix c = c.loop-k.invariant.0.good.index.long ∙ sym (ap length c.requires.ix_value ∙ length-replicate {A = ℕ} index_room 0)

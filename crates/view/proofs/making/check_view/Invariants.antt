@@ -1,4 +1,4 @@
-use Prim.Native.Nat.{◌≤◌, ◌-◌}
+use Prim.Native.Nat.{◌≤◌}
 use Rattle.repr.specs.Packed.{productions_in}
 use Rattle.trace_graph.specs.Words.{edges_in}
 use Rattle.trace_graph.proofs.Checks.{Checked}
@@ -10,6 +10,3 @@ use Rattle.view.proofs.making.check_view.Given as goal
 abbrev pub invariant-loop-k : goal.invariant-loop-k
 invariant-loop-k l = Checked l.n (productions_in l.grammar l.productions) l.graph l.ix l.k
     × ((l.k ≤ l.count) × (Labelling (productions_in l.grammar l.productions) (edges_in l.graph) l.owners l.codes l.k × Viewed (ends l.graph) (record { production = l.production; index = l.index }) l.sources l.older l.latest l.k))
-
-abbrev pub decreases-loop-k : goal.decreases-loop-k
-decreases-loop-k l = l.count - l.k
