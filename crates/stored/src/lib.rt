@@ -11,7 +11,7 @@ use lr1_core::Item;
 use repr::{ProductionIndex, word};
 
 // An item by its place, 17 * production + index, with its tokens.
-#[derive(Clone, Copy)]
+#[derive(Clone, Copy, PartialEq)]
 pub struct StoredItem {
     pub place: usize,
     pub set: u64,
@@ -36,7 +36,7 @@ pub fn read_item(words: &[u16], at: usize) -> StoredItem
     let c = part(words, base + 3);
     let d = part(words, base + 4);
     StoredItem {
-        place: place,
+        place,
         set: a + 65536 * (b + 65536 * (c + 65536 * d)),
     }
 }
@@ -102,11 +102,9 @@ pub fn move_over(
     ensures { (result ≤ past - from) × (length kernel.new ≡ length kernel.old) × (entries kernel.new 0 result ≡ moved_over grammar.now symbol (entries words.now from (past - from))) }
 {
     let mut many: usize = 0;
-    let mut at = from;
-    while at < past {
+    for at in from..past {
         let read = read_item(words, at);
         many = move_one(grammar, productions, read, symbol, kernel, many);
-        at += 1;
     }
     many
 }
@@ -123,10 +121,7 @@ fn meet_one(mine: StoredItem, kernel: &[u16], met: usize, many: usize) -> usize
         return many + 1;
     }
     let other = read_item(kernel, met);
-    if mine.place != other.place {
-        return many + 1;
-    }
-    if mine.set != other.set {
+    if mine != other {
         return many + 1;
     }
     met + 1
@@ -137,15 +132,13 @@ pub fn same_kernel(words: &[u16], from: usize, past: usize, kernel: &[u16], many
     requires { (from ≤ past) × (past ≤ record_limit) × (past * 5 ≤ length words.now) × (many ≤ record_limit) × (many * 5 ≤ length kernel.now) }
     ensures { result ≡ is_same_kernel (entries words.now from (past - from)) (entries kernel.now 0 many) }
 {
-    let mut at = from;
     let mut met: usize = 0;
-    while at < past {
+    for at in from..past {
         let mine = read_item(words, at);
         met = meet_one(mine, kernel, met, many);
         if many < met {
             return false;
         }
-        at += 1;
     }
     met == many
 }

@@ -11,11 +11,8 @@ returns-then-met-many c = met_short _ _ _ _ _ c.if-met-many.true c.if-mine-eq0.f
 pub read_item-other-requires : goal.read_item-other-requires
 read_item-other-requires c = (omega (arith, c.if-met-many.false, c.requires.0, c.requires.1), omega (arith, c.if-met-many.false, c.requires.0, c.requires.2))
 
-pub returns-then-mine-other : goal.returns-then-mine-other
-returns-then-mine-other c = met_differs _ _ _ _ _ _ _ (omega (arith, c.if-met-many.false, c.requires.0)) c.if-mine-eq0.false c.read_item-other.ensures.0 (λ w. c.if-mine-other.true w.0)
-
-pub returns-then-mine-other-2 : goal.returns-then-mine-other-2
-returns-then-mine-other-2 c = met_differs _ _ _ _ _ _ _ (omega (arith, c.if-met-many.false, c.requires.0)) c.if-mine-eq0.false c.read_item-other.ensures.0 (λ w. c.if-mine-other-2.true w.1)
+pub returns-then-ne : goal.returns-then-ne
+returns-then-ne c = met_differs _ _ _ _ _ _ _ (omega (arith, c.if-met-many.false, c.requires.0)) c.if-mine-eq0.false c.read_item-other.ensures.0 _ c.ne.ensures c.if-ne.true
 
 pub returns : goal.returns
-returns c = met_same _ _ _ _ _ _ _ (omega (arith, c.if-met-many.false, c.requires.0)) c.if-mine-eq0.false c.read_item-other.ensures.0 c.if-mine-other.false c.if-mine-other-2.false
+returns c = met_same _ _ _ _ _ _ _ (omega (arith, c.if-met-many.false, c.requires.0)) c.if-mine-eq0.false c.read_item-other.ensures.0 _ c.ne.ensures c.if-ne.false
