@@ -1,6 +1,5 @@
 -- Laws of items in words: what is put is read, and nothing else changes; one law for each way through the code. Assumes nothing.
-use Rattle.std.proofs.Common.{◌≡◌, ℕ, zero, suc, ◌+◌, ◌-◌, ◌*◌, ◌/◌, ◌%◌, ◌<◌, ◌≤◌, Bool, true, false, ◌&&◌, not, eqb, List, [], ◌∷◌, ◌++◌, map, length, get_or, set, sym, refl, ap, ◌∙◌, append_assoc, append-nil, add-one, arith, length-set, get_or-set_other, get_or-set_same, eq-eqb, ne_eqb, eqb-true}
-use Rattle.std.proofs.lemmas.Bool.{not-true, not-false}
+use Rattle.std.proofs.Common.{◌≡◌, ℕ, zero, suc, ◌+◌, ◌-◌, ◌*◌, ◌/◌, ◌%◌, ◌<◌, ◌≤◌, Bool, true, false, ◌&&◌, eqb, List, [], ◌∷◌, ◌++◌, map, length, get_or, set, sym, refl, ap, ◌∙◌, append_assoc, append-nil, add-one, arith, length-set, get_or-set_other, get_or-set_same, eq-eqb, ne_eqb, eqb-true}
 use borrow.Author.Tests.{eqb-false}
 use Rattle.repr.specs.Sizes.{index_limit}
 use Rattle.repr.specs.Lists.{up_from}
@@ -216,27 +215,21 @@ met_short x s k m n e z = record {
 }
 
 module _ (x s y t : ℕ) (k : List ℕ) (m n : ℕ) (h : m < n) (z : x % index_limit ≡ 0 → ⊥) (e : record { place = y; set = t } ≡ entry_at k m) where
-  pub met_differs : (b : Bool) → b ≡ not (eqb x y && eqb s t) → b ≡ true → MetAfter x s k m n (n + 1)
+  pub met_differs : (eqb x y && eqb s t) ≡ false → MetAfter x s k m n (n + 1)
   unfolding same_entry
-  met_differs b q r = record {
+  met_differs q = record {
     high = omega arith;
     goes = λ l. absurd (omega arith);
-    stops = λ l es. rw (entries_at k m n h, ← e, kernel_both x s es (record { place = y; set = t }) (entries k (m + 1) (n - (m + 1))) z, differ) refl;
+    stops = λ l es. rw (entries_at k m n h, ← e, kernel_both x s es (record { place = y; set = t }) (entries k (m + 1) (n - (m + 1))) z, same_entry, q) refl;
   }
-    where
-      differ : same_entry (record { place = x; set = s }) (record { place = y; set = t }) ≡ false
-      differ = not-true (eqb x y && eqb s t) (sym q ∙ r)
 
-  pub met_same : (b : Bool) → b ≡ not (eqb x y && eqb s t) → b ≡ false → MetAfter x s k m n (m + 1)
+  pub met_same : (eqb x y && eqb s t) ≡ true → MetAfter x s k m n (m + 1)
   unfolding same_entry
-  met_same b q r = record {
+  met_same q = record {
     high = omega arith;
-    goes = λ l es. rw (entries_at k m n h, ← e, kernel_both x s es (record { place = y; set = t }) (entries k (m + 1) (n - (m + 1))) z, same) refl;
+    goes = λ l es. rw (entries_at k m n h, ← e, kernel_both x s es (record { place = y; set = t }) (entries k (m + 1) (n - (m + 1))) z, same_entry, q) refl;
     stops = λ l. absurd (omega arith);
   }
-    where
-      same : same_entry (record { place = x; set = s }) (record { place = y; set = t }) ≡ true
-      same = not-false (eqb x y && eqb s t) (sym q ∙ r)
 
 pub kernel_on : (ws k : List ℕ) (m past p n r x s : ℕ) (all : Bool) → m < past → record { place = x; set = s } ≡ entry_at ws m → MetAfter x s k p n r → r ≤ n
     → is_same_kernel (entries ws m (past - m)) (entries k p (n - p)) ≡ all → is_same_kernel (entries ws (m + 1) (past - (m + 1))) (entries k r (n - r)) ≡ all

@@ -2,7 +2,7 @@
 
 #![tactic(auto)]
 
-ghost use Rattle.std.specs.Prelude.{◌≡◌, ℕ, ◌+◌, ◌-◌, ◌*◌, ◌^◌, ◌<◌, ◌≤◌, List, length, slice_index};
+ghost use Rattle.std.specs.Prelude.{◌≡◌, ℕ, ◌+◌, ◌-◌, ◌*◌, ◌^◌, ◌<◌, ◌≤◌, List, MatchOption, length, slice_index};
 ghost use Rattle.repr.specs.Sizes.{index_limit, record_limit};
 ghost use Rattle.repr.specs.Packed.{Packed};
 ghost use Rattle.stored.specs.Stored.{entry_at, entries, put_entry, moved_over, is_same_kernel, Appended, MetAfter};
@@ -109,22 +109,19 @@ pub fn move_over(
     many
 }
 
-// How many of a kernel's items are met after one item more: an index-0 item is passed over; one more than the kernel has if the item is not the kernel's next.
-fn meet_one(mine: StoredItem, kernel: &[u16], met: usize, many: usize) -> usize
+// How many of a kernel's items are met after one item more: an index-0 item is passed over. None if the item is not the kernel's next.
+fn meet_one(mine: StoredItem, kernel: &[u16], met: usize, many: usize) -> Option<usize>
     requires { (met ≤ many) × (many ≤ record_limit) × (many * 5 ≤ length kernel.now) }
-    ensures { MetAfter mine.place mine.set kernel.now met many result }
+    ensures { MatchOption result (MetAfter mine.place mine.set kernel.now met many (many + 1)) (λ n. (n ≤ many) × MetAfter mine.place mine.set kernel.now met many n) }
 {
     if mine.place % ProductionIndex::INDEXES == 0 {
-        return met;
+        return Some(met);
     }
     if met == many {
-        return many + 1;
+        return None;
     }
     let other = read_item(kernel, met);
-    if mine != other {
-        return many + 1;
-    }
-    met + 1
+    if mine == other { Some(met + 1) } else { None }
 }
 
 // Whether the items number `from` up to `past` have exactly these past index 0.
@@ -132,12 +129,12 @@ pub fn same_kernel(words: &[u16], from: usize, past: usize, kernel: &[u16], many
     requires { (from ≤ past) × (past ≤ record_limit) × (past * 5 ≤ length words.now) × (many ≤ record_limit) × (many * 5 ≤ length kernel.now) }
     ensures { result ≡ is_same_kernel (entries words.now from (past - from)) (entries kernel.now 0 many) }
 {
-    let mut met: usize = 0;
+    let mut met = 0;
     for at in from..past {
         let mine = read_item(words, at);
-        met = meet_one(mine, kernel, met, many);
-        if many < met {
-            return false;
+        match meet_one(mine, kernel, met, many) {
+            Some(more) => met = more,
+            None => return false,
         }
     }
     met == many
