@@ -2,7 +2,7 @@
 
 #![tactic(auto)]
 
-ghost use Rattle.std.specs.Prelude.{◌≡◌, ℕ, ◌+◌, ◌-◌, ◌*◌, ◌^◌, ◌<◌, ◌≤◌, List, MatchOption, length, slice_index};
+ghost use Rattle.std.specs.Prelude.{◌≡◌, ℕ, ◌+◌, ◌-◌, ◌*◌, ◌^◌, ◌<◌, ◌≤◌, List, MatchOption, length};
 ghost use Rattle.repr.specs.Sizes.{index_limit, record_limit};
 ghost use Rattle.repr.specs.Packed.{Packed};
 ghost use Rattle.stored.specs.Stored.{entry_at, entries, put_entry, moved_over, is_same_kernel, Appended, MetAfter};
@@ -17,24 +17,16 @@ pub struct StoredItem {
     pub set: u64,
 }
 
-// A word, to be part of a set.
-fn part(words: &[u16], at: usize) -> u64
-    requires { at < length words.now }
-    ensures { (result ≡ slice_index words.now at) × (result < 65536) }
-{
-    words[at] as u64
-}
-
 pub fn read_item(words: &[u16], at: usize) -> StoredItem
     requires { (at < record_limit) × (at * 5 + 5 ≤ length words.now) }
     ensures { (record { place = result.place; set = result.set } ≡ entry_at words.now at) × (result.set < 2 ^ 64) }
 {
     let base = at * 5;
     let place = word(words, base);
-    let a = part(words, base + 1);
-    let b = part(words, base + 2);
-    let c = part(words, base + 3);
-    let d = part(words, base + 4);
+    let a = u64::from(words[base + 1]);
+    let b = u64::from(words[base + 2]);
+    let c = u64::from(words[base + 3]);
+    let d = u64::from(words[base + 4]);
     StoredItem {
         place,
         set: a + 65536 * (b + 65536 * (c + 65536 * d)),

@@ -1,5 +1,5 @@
 use Rattle.stored.proofs.Stored.{met_pass, met_short, met_differs, met_same}
-use Rattle.std.proofs.Common.{◌+◌, ◌<◌, ◌≤◌, sym, ◌∙◌, arith}
+use Rattle.std.proofs.Common.{◌<◌, sym, ◌∙◌, arith}
 use Rattle.stored.proofs.meet_one.Goals as goal
 
 pub returns-then-mine-eq0 : goal.returns-then-mine-eq0
