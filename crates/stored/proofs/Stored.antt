@@ -204,6 +204,17 @@ pub kernel_long : (d : Entry) (ds : List Entry) → is_same_kernel [] (d ∷ ds)
 unfolding is_same_kernel
 kernel_long d ds = refl
 
+pub differs : (x s y t : ℕ) → ((x ≡ y) × (s ≡ t) → ⊥) → same_entry (record { place = x; set = s }) (record { place = y; set = t }) ≡ false
+unfolding same_entry
+differs x s y t ne =
+    cases (eqb x y)
+    (λ a. rw a (cases (eqb s t) (λ b. absurd (ne (eqb-true x y a, eqb-true s t b))) (λ b. b)))
+    (λ a. rw a refl)
+
+pub alike : (x s y t : ℕ) → x ≡ y → s ≡ t → same_entry (record { place = x; set = s }) (record { place = y; set = t }) ≡ true
+unfolding same_entry
+alike x s y t p q = rw (eq-eqb x y p, eq-eqb s t q) refl
+
 pub met_pass : (x s : ℕ) (k : List ℕ) (m n : ℕ) → m ≤ n → x % index_limit ≡ 0 → MetAfter x s k m n m
 met_pass x s k m n h z = record { high = omega arith; goes = λ l es. kernel_pass x s es (entries k m (n - m)) z; stops = λ l. absurd (omega arith) }
 
