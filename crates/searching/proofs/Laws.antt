@@ -1,5 +1,6 @@
 -- Laws of the whole search. Assumes nothing.
 use mathlib.Core.Path.{◌≡◌, refl}
+use Rattle.std.proofs.Common.{Result, Ok, Err}
 use mathlib.Core.Bool.{Bool, true, false}
 use mathlib.Core.List.{List, [], ◌∷◌}
 use Prim.Native.Nat.{ℕ}
@@ -10,13 +11,15 @@ use Rattle.finding.specs.Search.{Search}
 use Rattle.finding.proofs.Steps.{first-full, first_fits}
 use Rattle.starting.specs.Start.{Started}
 use Rattle.collecting.specs.Rows.{FoundAs}
-use Rattle.collecting.specs.declared.States.{States}
-use Rattle.collecting.specs.declared.States.TheVariants.{Stops}
+use Rattle.finding.specs.Search.{refusal_of}
+use Rattle.finding.specs.declared.Halt.{Halt}
+use Rattle.finding.specs.declared.Halt.TheVariants.{Records}
+use Rattle.finding.specs.declared.Sizes.{Sizes}
 use Rattle.searching.specs.Ready.{Ready}
 
-module _ (g : List ℕ) (N e P f l : ℕ) (sets : List ℕ) (start : ℕ) (s : Ready g N e P f l sets start) (ws bs : List ℕ) (b : Bool) (k : Started s.T start s.room ws bs b) where
+module _ (g : List ℕ) (sizes : Sizes) (sets : List ℕ) (start : ℕ) (s : Ready g sizes sets start) (ws bs : List ℕ) (b : Bool) (k : Started s.T start s.room ws bs b) where
   -- the search that state 0 begins
-  abbrev pub begun : b ≡ true → Search g N e P f l sets ws bs 1
+  abbrev pub begun : b ≡ true → Search g sizes sets ws bs 1
   begun t = record {
     T = s.T;
     start = start;
@@ -32,10 +35,10 @@ module _ (g : List ℕ) (N e P f l : ℕ) (sets : List ℕ) (start : ℕ) (s : R
     many = refl;
   }
 
-  pub none_fit : b ≡ false → (ws' bs' E es : List ℕ) → FoundAs s.T start (found_to s.T start s.room) ws' bs' E es (Stops 17)
+  pub none_fit : b ≡ false → (ws' bs' E es : List ℕ) → FoundAs s.T start (found_to s.T start s.room) ws' bs' E es (Err Records)
   unfolding FoundAs number_of
   none_fit q ws' bs' E es = first-full s.T start s.room (k.full q)
 
-  pub goes_on : b ≡ true → (ws' bs' E es : List ℕ) (r : States) → FoundAs s.T start (collect_to 129 s.T s.room (start_state s.T start ∷ []) []) ws' bs' E es r
+  pub goes_on : b ≡ true → (ws' bs' E es : List ℕ) (r : Result ℕ Halt) → FoundAs s.T start (collect_to 129 s.T s.room (start_state s.T start ∷ []) []) ws' bs' E es r
       → FoundAs s.T start (found_to s.T start s.room) ws' bs' E es r
   goes_on q ws' bs' E es r h = rw (first_fits s.T start s.room (k.fits q)) h
