@@ -1,9 +1,8 @@
-use mathlib.Core.Path.{refl, ◌∙◌}
+use mathlib.Core.Path.{refl}
 use lib.ListN.{length-set}
 use Rattle.std.proofs.lemmas.Result.{err_from_is_err_and}
 use Rattle.collecting.proofs.Laws.{round-start, round-stops, round-more, round_end}
 use Rattle.taking.proofs.Laws.{search_on}
-use borrow.Author.Rules.{rules}
 use native.Mathlib.Omega.{arith}
 use Rattle.collecting.proofs.find_states.Goals as goal
 
