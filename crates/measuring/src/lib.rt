@@ -50,10 +50,8 @@ pub fn count_conflicts(
     ensures { (result ≤ 135266304) × ((s : Collection grammar.now productions words.now begins.now states) → result ≡ sum (λ (S : List ℕ). length (clashes s.T S)) s.Rs) }
 {
     let mut many: usize = 0;
-    let mut k: usize = 0;
-    while k < states {
+    for k in 0..states {
         many += count_at(grammar, productions, words, begins, states, k);
-        k += 1;
     }
     many
 }

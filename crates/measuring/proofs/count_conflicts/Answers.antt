@@ -14,9 +14,6 @@ overflow_add-many c = omega (arith, c.count_at-many.ensures.0, c.loop-k.invarian
 pub overflow_add-k : goal.overflow_add-k
 overflow_add-k c = omega (arith, c.loop-k-test.true, c.requires.many, c.requires.holds.begun.few)
 
-pub loop-k-smaller : goal.loop-k-smaller
-loop-k-smaller c = omega (arith, c.loop-k-test.true)
-
 pub loop-k-preserved : goal.loop-k-preserved
 loop-k-preserved c = (omega (arith, c.loop-k-test.true), omega (arith, c.count_at-many.ensures.0, c.loop-k.invariant.1), λ s. sum_more _ _ _ _ _ s _ c.loop-k-test.true _ _ (c.loop-k.invariant.2 s) (c.count_at-many.ensures.1 s))
 
