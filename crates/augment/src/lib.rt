@@ -56,12 +56,10 @@ fn stands_in(grammar: &[u16], productions: usize, n: usize) -> bool
     requires { Packed grammar.now productions }
     ensures { result ≡ some? (uses n) (productions_in grammar.now productions) }
 {
-    let mut p: usize = 0;
-    while p < productions {
+    for p in 0..productions {
         if is_among(symbols(grammar, p, productions), n) {
             return true;
         }
-        p += 1;
     }
     false
 }

@@ -20,11 +20,9 @@ pub fn count_symbols(grammar: &[u16], productions: usize) -> usize
     requires { Packed grammar.now productions }
     ensures { result ≡ size_of (map (λ (p : Production). p.symbols) (productions_in grammar.now productions)) }
 {
-    let mut many: usize = 0;
-    let mut p: usize = 0;
-    while p < productions {
+    let mut many = 0;
+    for p in 0..productions {
         many += repr::word(grammar, p * ProductionIndex::WORDS + 1);
-        p += 1;
     }
     many
 }
@@ -34,12 +32,10 @@ pub fn next_owned(grammar: &[u16], productions: usize, owner: usize, from: usize
     requires { Packed grammar.now productions }
     ensures { result ≡ owned_from (productions_in grammar.now productions) owner from }
 {
-    let mut p = from;
-    while p < productions {
+    for p in from..productions {
         if repr::word(grammar, p * ProductionIndex::WORDS) == owner {
             return p;
         }
-        p += 1;
     }
     productions
 }
@@ -69,11 +65,9 @@ pub fn write_front(grammar: &[u16], counts: Counts, out: &mut [u16])
         counts.states,
         productions,
     );
-    let mut n: usize = 0;
-    while n < nonterminals {
+    for n in 0..nonterminals {
         let head = next_record(grammar, productions, n, 0, at);
         put(out, 1 + n, head, 0, 0, 0);
-        n += 1;
     }
 }
 
@@ -85,8 +79,7 @@ pub fn write_productions(grammar: &[u16], counts: Counts, out: &mut [u16])
     let productions = counts.productions;
     let at = 1 + counts.nonterminals + counts.states;
     let mut y = at + productions;
-    let mut p: usize = 0;
-    while p < productions {
+    for p in 0..productions {
         let place = p * ProductionIndex::WORDS;
         let owner = repr::word(grammar, place);
         let many = repr::word(grammar, place + 1);
@@ -96,7 +89,6 @@ pub fn write_productions(grammar: &[u16], counts: Counts, out: &mut [u16])
         let head = head_of(many, y);
         put(out, at + p, next, head, start, end);
         y += many;
-        p += 1;
     }
 }
 
@@ -106,17 +98,14 @@ fn write_chain(symbols: &[u16], begin: usize, out: &mut [u16]) -> usize
     requires stands { (U : Table) × (Stands (quads U) begin (chain_from symbol_quad begin (listed symbols.now)) × Room U out.old) }
     ensures { (result ≡ begin + length (listed symbols.now)) × ((U : Table) → Stands (quads U) begin (chain_from symbol_quad begin (listed symbols.now)) → Room U out.old → Grown U out.old out.new begin result) }
 {
-    let mut at = begin;
-    let mut i: usize = 0;
-    while i < symbols.len() {
-        let kind = repr::word(symbols, i);
-        let number = repr::word(symbols, i + 1);
-        i += 2;
-        let next = next_of(symbols.len() - i, at);
-        put(out, at, next, kind, number, 0);
-        at += 1;
+    let many = symbols.len() / 2;
+    for i in 0..many {
+        let kind = repr::word(symbols, 2 * i);
+        let number = repr::word(symbols, 2 * i + 1);
+        let next = next_of(many - i - 1, begin + i);
+        put(out, begin + i, next, kind, number, 0);
     }
-    at
+    begin + many
 }
 
 // The symbols of all productions, from a record on.
@@ -125,9 +114,7 @@ pub fn write_symbols(grammar: &[u16], productions: usize, begin: usize, out: &mu
     ensures { (U : Table) → PackedAs U grammar.now productions → begin ≡ symbols_at U → Room U out.old → Grown U out.old out.new (symbols_at U) (items_place U) }
 {
     let mut at = begin;
-    let mut p: usize = 0;
-    while p < productions {
+    for p in 0..productions {
         at = write_chain(symbols(grammar, p, productions), at, out);
-        p += 1;
     }
 }

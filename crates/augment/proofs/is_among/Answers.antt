@@ -17,9 +17,6 @@ returns-then-is_nonterminal c = looking_found _ _ _ c.loop-i-test.true c.loop-i.
 pub overflow_add-i-in-loop-i : goal.overflow_add-i-in-loop-i
 overflow_add-i-in-loop-i c = omega (arith, looking_whole _ _ _ c.loop-i-test.true c.loop-i.invariant, c.well_formed)
 
-pub loop-i-smaller : goal.loop-i-smaller
-loop-i-smaller c = omega (arith, c.loop-i-test.true)
-
 pub loop-i-preserved : goal.loop-i-preserved
 loop-i-preserved c = looking_step _ _ _ c.loop-i-test.true c.loop-i.invariant _ _ _ c.word-kind.ensures.0 c.word-number.ensures.0 c.is_nonterminal.ensures c.if-is_nonterminal.false
 

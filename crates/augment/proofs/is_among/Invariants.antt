@@ -5,6 +5,3 @@ use Rattle.augment.proofs.is_among.Given as goal
 
 abbrev pub invariant-loop-i : goal.invariant-loop-i
 invariant-loop-i l = Looking l.symbols l.n l.i
-
-abbrev pub decreases-loop-i : goal.decreases-loop-i
-decreases-loop-i l = length l.symbols - l.i

@@ -14,9 +14,6 @@ returns-then-is_among c = passing_found _ _ _ _ c.requires c.loop-p.invariant c.
 pub overflow_add-p : goal.overflow_add-p
 overflow_add-p c = omega (arith, c.loop-p-test.true, c.requires.few)
 
-pub loop-p-smaller : goal.loop-p-smaller
-loop-p-smaller c = omega (arith, c.loop-p-test.true)
-
 pub loop-p-preserved : goal.loop-p-preserved
 loop-p-preserved c = passing_step _ _ _ _ c.requires c.loop-p.invariant c.loop-p-test.true _ _ c.symbols.ensures c.is_among.ensures c.if-is_among.false
 

@@ -12,9 +12,6 @@ word-requires c = omega (arith, c.loop-p-test.true, c.requires.few, c.requires.l
 pub returns-then-word-owner : goal.returns-then-word-owner
 returns-then-word-owner c = packed-found _ _ _ _ _ c.requires c.loop-p-test.true c.word.ensures.0 c.if-word-owner.true ∙ c.loop-p.invariant
 
-pub overflow_add-p : goal.overflow_add-p
-overflow_add-p c = omega (arith, c.loop-p-test.true, c.requires.few)
-
 pub loop-p-preserved : goal.loop-p-preserved
 loop-p-preserved c = packed_on _ _ _ _ _ c.requires c.loop-p-test.true c.word.ensures.0 c.if-word-owner.false ∙ c.loop-p.invariant
 
