@@ -2,7 +2,7 @@
 
 #![tactic(auto)]
 
-ghost use Rattle.std.specs.Prelude.{◌≡◌, true, map, ◌+◌, ◌≤◌, length};
+ghost use Rattle.std.specs.Prelude.{◌≡◌, true, map, ◌+◌, ◌≤◌, ◌<◌, MatchOption, length};
 ghost use Rattle.repr.specs.Sizes.{record_limit, nonterminal_limit, terminal_limit};
 ghost use Rattle.repr.specs.Listed.{listed, list_is_fit};
 ghost use Rattle.repr.specs.Meaning.{Table, Production};
@@ -27,17 +27,22 @@ pub fn count_symbols(grammar: &[u16], productions: usize) -> usize
     many
 }
 
-// The lowest production from `from` on of a nonterminal, or how many productions there are.
-pub fn next_owned(grammar: &[u16], productions: usize, owner: usize, from: usize) -> usize
+// The lowest production from `from` on of a nonterminal.
+pub fn next_owned(
+    grammar: &[u16],
+    productions: usize,
+    owner: usize,
+    from: usize,
+) -> Option<usize>
     requires { Packed grammar.now productions }
-    ensures { result ≡ owned_from (productions_in grammar.now productions) owner from }
+    ensures { let p = owned_from (productions_in grammar.now productions) owner from in MatchOption result (p ≡ productions) (λ q. (q < productions) × (p ≡ q)) }
 {
     for p in from..productions {
         if repr::word(grammar, p * ProductionIndex::WORDS) == owner {
-            return p;
+            return Some(p);
         }
     }
-    productions
+    None
 }
 
 // That production's record, where production 0 is record `at`; 0 for none.
@@ -45,8 +50,10 @@ fn next_record(grammar: &[u16], productions: usize, owner: usize, from: usize, a
     requires { Packed grammar.now productions × (at ≤ record_limit) }
     ensures { (U : Table) → PackedAs U grammar.now productions → at ≡ productions_at U → result ≡ next_owned_from U owner from }
 {
-    let p = next_owned(grammar, productions, owner, from);
-    if p < productions { at + p } else { 0 }
+    match next_owned(grammar, productions, owner, from) {
+        Some(p) => at + p,
+        None => 0,
+    }
 }
 
 // Record 0 and the nonterminals.

@@ -1,4 +1,3 @@
-use Prim.Native.Nat.{◌-◌}
 use Rattle.augment.proofs.Uses.{Passing}
 use Rattle.augment.proofs.stands_in.Given as goal
 
