@@ -2,11 +2,13 @@
 use mathlib.Core.Path.{◌≡◌, refl, sym, ap, ◌∙◌}
 use mathlib.Core.Bool.{Bool, true, false}
 use mathlib.Core.List.{List, ◌∷◌}
-use Prim.Native.Nat.{ℕ, zero, suc, ◌+◌, ◌≤◌, ◌<◌}
+use Prim.Native.Nat.{ℕ, zero, suc, ◌+◌, ◌*◌, ◌/◌, ◌≤◌, ◌<◌}
 use native.Mathlib.Omega.{arith}
 use lib.ListN.{length, get_or, drop, drop_of_length-le}
 use lib.Seq.{drop-cons}
-use lib.Dec.{eqb}
+use lib.Dec.{eqb, ltb}
+use borrow.Author.Tests.{ltb-true, ltb-false}
+use Rattle.repr.proofs.Lists.{cases}
 use Rattle.repr.specs.Sizes.{nonterminal_limit, terminal_limit}
 use Rattle.repr.specs.Lists.{some?}
 use Rattle.repr.specs.Meaning.{nonterminal, is_same_symbol, no_production}
@@ -52,6 +54,11 @@ module _ (ws : List ℕ) (n : ℕ) where
         fits = (fits_head nonterminal_limit terminal_limit ws i h L.fits).1.1;
         same = sym (some?_no (is_same_symbol (nonterminal n)) (symbol_of_kind kind number) (listed (drop (i + 2) ws)) (sym er ∙ e)) ∙ sym (ap (some? (is_same_symbol (nonterminal n))) more) ∙ L.same;
       }
+
+  pub looking_past : (k : ℕ) → length ws / 2 ≤ k → Looking ws n (2 * k) → length ws ≤ 2 * k
+  looking_past k h L = cases (ltb (2 * k) (length ws))
+      (λ t. let w = looking_whole (2 * k) (ltb-true (2 * k) (length ws) t) L in absurd (omega (arith, w)))
+      (λ t. ltb-false (2 * k) (length ws) t)
 
   pub looking_end : (i : ℕ) → length ws ≤ i → Looking ws n i → false ≡ some? (is_same_symbol (nonterminal n)) (listed ws)
   looking_end i h L = sym (ap (some? (is_same_symbol (nonterminal n))) (listed-none ws i h) ∙ some?-nil (is_same_symbol (nonterminal n))) ∙ L.same

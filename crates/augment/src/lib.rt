@@ -2,7 +2,7 @@
 
 #![tactic(auto)]
 
-ghost use Rattle.std.specs.Prelude.{◌≡◌, true, [], ◌∷◌, ◌++◌, ◌+◌, ◌<◌};
+ghost use Rattle.std.specs.Prelude.{◌≡◌, true, false, [], MatchOption, ◌∷◌, ◌++◌, ◌+◌, ◌<◌};
 ghost use Rattle.repr.specs.Sizes.{nonterminal_limit, terminal_limit, production_limit};
 ghost use Rattle.repr.specs.Lists.{some?};
 ghost use Rattle.repr.specs.Meaning.{nonterminal, is_same_symbol, Table};
@@ -11,7 +11,7 @@ ghost use Rattle.repr.specs.Packed.{Packed, productions_in};
 ghost use Rattle.table.specs.Decoded.{meaning};
 ghost use Rattle.table.specs.Checked.{Accepted};
 ghost use Rattle.table.specs.Refusals.{check_of};
-ghost use Rattle.grammar_records.specs.Target.{PackedAs};
+ghost use Rattle.grammar_records.specs.Target.{PackedAs, owned_from};
 ghost use Rattle.augment.specs.Started.{uses, is_start_needed, started_in, started_of, Startable, GrammarOf};
 
 use grammar_records::{count_symbols, next_owned, write_front, write_productions, write_symbols};
@@ -29,10 +29,7 @@ pub enum Started {
 fn is_nonterminal(kind: usize, number: usize, n: usize) -> bool
     ensures { result ≡ is_same_symbol (nonterminal n) (symbol_of_kind kind number) }
 {
-    if kind == 0 {
-        return n == number;
-    }
-    false
+    kind == 0 && n == number
 }
 
 // Whether it is one of a list's symbols.
@@ -40,14 +37,12 @@ fn is_among(symbols: &[u16], n: usize) -> bool
     requires { list_is_fit nonterminal_limit terminal_limit symbols.now ≡ true }
     ensures { result ≡ some? (is_same_symbol (nonterminal n)) (listed symbols.now) }
 {
-    let mut i: usize = 0;
-    while i < symbols.len() {
-        let kind = repr::word(symbols, i);
-        let number = repr::word(symbols, i + 1);
+    for i in 0..symbols.len() / 2 {
+        let kind = repr::word(symbols, 2 * i);
+        let number = repr::word(symbols, 2 * i + 1);
         if is_nonterminal(kind, number, n) {
             return true;
         }
-        i += 2;
     }
     false
 }
@@ -57,30 +52,28 @@ fn stands_in(grammar: &[u16], productions: usize, n: usize) -> bool
     requires { Packed grammar.now productions }
     ensures { result ≡ some? (uses n) (productions_in grammar.now productions) }
 {
-    let mut p: usize = 0;
-    while p < productions {
+    for p in 0..productions {
         if is_among(symbols(grammar, p, productions), n) {
             return true;
         }
-        p += 1;
     }
     false
 }
 
-// Whether a start production is wanted.
-fn needs_start(grammar: &[u16], productions: usize, n: usize) -> bool
+// The start production that it has: its only one, if it stands in no right side.
+fn own_start(grammar: &[u16], productions: usize, n: usize) -> Option<usize>
     requires { Packed grammar.now productions }
-    ensures { (U : Table) → PackedAs U grammar.now productions → result ≡ is_start_needed U n }
+    ensures { (U : Table) → PackedAs U grammar.now productions → MatchOption result (is_start_needed U n ≡ true) (λ p. (is_start_needed U n ≡ false) × (p ≡ owned_from (productions_in grammar.now productions) n 0)) }
 {
-    let first = next_owned(grammar, productions, n, 0);
-    if first < productions {
-        let second = next_owned(grammar, productions, n, first + 1);
-        if second < productions {
-            return true;
-        }
-        return stands_in(grammar, productions, n);
+    let first = next_owned(grammar, productions, n, 0)?;
+    if next_owned(grammar, productions, n, first + 1).is_some() {
+        return None;
     }
-    true
+    if stands_in(grammar, productions, n) {
+        None
+    } else {
+        Some(first)
+    }
 }
 
 // Puts the start production behind the others.
@@ -130,22 +123,21 @@ pub fn with_start(table: &[u16], start: NonterminalString, out: &mut [u16]) -> S
     let nonterminals = counts.nonterminals;
     let productions = counts.productions;
     let n = start.0 as usize;
-    if needs_start(&grammar, productions, n) {
-        if nonterminals == NonterminalString::LIMIT {
-            return Started::Refused(2, 0);
-        }
-        if productions == ProductionIndex::LIMIT {
-            return Started::Refused(2, 0);
-        }
-        append(&mut grammar, productions, nonterminals, n);
-        let more = Counts {
-            nonterminals: nonterminals + 1,
-            terminals: counts.terminals,
-            states: counts.states,
-            productions: productions + 1,
-        };
-        return write_started(&grammar, more, productions, out);
+    if let Some(first) = own_start(&grammar, productions, n) {
+        return write_started(&grammar, counts, first, out);
     }
-    let first = next_owned(&grammar, productions, n, 0);
-    write_started(&grammar, counts, first, out)
+    if nonterminals == NonterminalString::LIMIT {
+        return Started::Refused(2, 0);
+    }
+    if productions == ProductionIndex::LIMIT {
+        return Started::Refused(2, 0);
+    }
+    append(&mut grammar, productions, nonterminals, n);
+    let more = Counts {
+        nonterminals: nonterminals + 1,
+        terminals: counts.terminals,
+        states: counts.states,
+        productions: productions + 1,
+    };
+    write_started(&grammar, more, productions, out)
 }

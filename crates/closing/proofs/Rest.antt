@@ -1,9 +1,9 @@
 -- Rounds until one changes nothing: the 32 sets beside what is given are the list that specs/Aheads of build settles, and code that goes on until two lists
 -- are the same comes to its end. Assumes nothing.
-use Rattle.std.proofs.Common.{◌≡◌, ℕ, zero, suc, ◌+◌, ◌-◌, ◌*◌, ◌/◌, ◌%◌, ◌^◌, ◌<◌, ◌≤◌, Bool, true, false, not, eqb, ltb, List, [], ◌∷◌, ◌++◌, length, get_or, take, drop, set, replicate, sym, refl, ap, ◌∙◌, subst, add-one, arith, length-append, length-drop, length-set, length-take, get_or-drop, drop-cons, get_or-set_other, get_or-take, get_or-set_same, get_or-append-add, ext_get_or, ltb-false, ltb-true, eq-eqb, ne_eqb, eqb-true}
+use Rattle.std.proofs.Common.{◌≡◌, ℕ, zero, suc, ◌+◌, ◌-◌, ◌*◌, ◌/◌, ◌%◌, ◌^◌, ◌<◌, ◌≤◌, Bool, true, false, not, eqb, ltb, List, [], ◌∷◌, ◌++◌, length, get_or, take, drop, set, replicate, sym, refl, ap, ◌∙◌, subst, add-one, arith, length-append, length-drop, length-set, length-take, get_or-drop, get_or-set_other, get_or-take, get_or-set_same, get_or-append-add, ext_get_or, ltb-false, ltb-true, eq-eqb, eqb-true}
 use mathlib.Core.List.{Memᴰ}
+use lib.Pointwise.{pointwise}
 use lib.ListN.{get_or-append, get_or-eq_default}
-use lib.Seq.{drop-length}
 use borrow.Author.Tests.{eqb-false}
 use Rattle.repr.specs.Sizes.{index_limit, item_limit, production_room}
 use Rattle.lookahead.proofs.Growing.{total}
@@ -26,17 +26,12 @@ use Rattle.closing.proofs.Grammar.{production_at_lem}
 
 -- two lists, word by word
 
-pub same_differs : (xs ys : List ℕ) (i : ℕ) → i < length xs → i < length ys → (get_or xs i 0 ≡ get_or ys i 0 → ⊥) → same_words (drop i xs) (drop i ys) ≡ same_words xs ys → false ≡ same_words xs ys
+pub same_pointwise : (xs ys : List ℕ) → pointwise eqb xs ys ≡ same_words xs ys
 unfolding same_words
-same_differs xs ys i h l n q = sym (sym q ∙ rw (drop-cons xs i 0 h, drop-cons ys i 0 l, ne_eqb (get_or xs i 0) (get_or ys i 0) n))
-
-pub same_on : (xs ys : List ℕ) (i : ℕ) → i < length xs → i < length ys → get_or xs i 0 ≡ get_or ys i 0 → same_words (drop i xs) (drop i ys) ≡ same_words xs ys → same_words (drop (i + 1) xs) (drop (i + 1) ys) ≡ same_words xs ys
-unfolding same_words
-same_on xs ys i h l e q = rw (add-one i) (sym (rw (drop-cons xs i 0 h, drop-cons ys i 0 l, eq-eqb (get_or xs i 0) (get_or ys i 0) e)) ∙ q)
-
-pub same_end : (xs ys : List ℕ) (i : ℕ) → length xs ≡ i → length ys ≡ i → same_words (drop i xs) (drop i ys) ≡ same_words xs ys → true ≡ same_words xs ys
-unfolding same_words
-same_end xs ys i h l q = sym (sym q ∙ rw (← h, drop-length xs, h, ← l, drop-length ys))
+same_pointwise [] [] = refl
+same_pointwise [] (y ∷ ys) = refl
+same_pointwise (x ∷ xs) [] = refl
+same_pointwise (x ∷ xs) (y ∷ ys) = rw (same_pointwise xs ys) refl
 
 -- behind a front
 

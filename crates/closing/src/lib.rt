@@ -5,7 +5,6 @@
 
 ghost use Rattle.std.specs.Prelude.{◌≡◌, ℕ, ◌+◌, ◌*◌, ◌<◌, ◌≤◌, List, ◌++◌, length, take, drop};
 ghost use Rattle.repr.specs.Sizes.{index_limit, item_limit};
-ghost use Rattle.slices.specs.Same.{same_words};
 ghost use Rattle.repr.specs.Lists.{below};
 ghost use Rattle.repr.specs.Meaning.{Table};
 ghost use Rattle.repr.specs.Packed.{Packed, production_in};
@@ -29,8 +28,8 @@ fn feed(
     set: TokenSet,
     aheads: &mut [u64; 32],
 )
-    requires { Packed grammar.now productions × (item.production < productions) × (terminals ≤ 63) × (length aheads.old ≡ 32) }
-    ensures { (length aheads.new ≡ 32) × ((T : Table) → Grammar T grammar.now productions terminals first.now → aheads.new ≡ feed T aheads.old (drop item.index (production_in grammar.now item.production).symbols) set.0) }
+    requires { Packed grammar.now productions × (item.production < productions) × (terminals ≤ 63) }
+    ensures { (T : Table) → Grammar T grammar.now productions terminals first.now → aheads.new ≡ feed T aheads.old (drop item.index (production_in grammar.now item.production).symbols) set.0 }
 {
     let tokens = set.0;
     if tokens == 0 {
@@ -52,12 +51,11 @@ fn feed_items(
     kernel: &[u64; Item::LIMIT],
     aheads: &mut [u64; 32],
 )
-    requires { Packed grammar.now productions × (terminals ≤ 63) × (length aheads.old ≡ 32) }
-    ensures { (length aheads.new ≡ 32) × ((T : Table) → Grammar T grammar.now productions terminals first.now → aheads.new ≡ fed_by_items T kernel.now aheads.old (below (index_limit * productions))) }
+    requires { Packed grammar.now productions × (terminals ≤ 63) }
+    ensures { (T : Table) → Grammar T grammar.now productions terminals first.now → aheads.new ≡ fed_by_items T kernel.now aheads.old (below (index_limit * productions)) }
 {
     let places = ProductionIndex::INDEXES * productions;
-    let mut place: usize = 0;
-    while place < places {
+    for place in 0..places {
         let item = Item {
             production: place / ProductionIndex::INDEXES,
             index: place % ProductionIndex::INDEXES,
@@ -71,7 +69,6 @@ fn feed_items(
             TokenSet(kernel[place]),
             aheads,
         );
-        place += 1;
     }
 }
 
@@ -83,54 +80,31 @@ fn feed_firsts(
     first: &[u64; 32],
     aheads: &mut [u64; 32],
 )
-    requires { Packed grammar.now productions × (terminals ≤ 63) × (length aheads.old ≡ 32) }
-    ensures { (length aheads.new ≡ 32) × ((T : Table) → Grammar T grammar.now productions terminals first.now → aheads.new ≡ fed_by_firsts T aheads.old (below productions)) }
+    requires { Packed grammar.now productions × (terminals ≤ 63) }
+    ensures { (T : Table) → Grammar T grammar.now productions terminals first.now → aheads.new ≡ fed_by_firsts T aheads.old (below productions) }
 {
-    let mut production: usize = 0;
-    while production < productions {
+    for production in 0..productions {
         let item = Item {
-            production: production,
+            production,
             index: 0,
         };
         let nonterminal = word(grammar, production * ProductionIndex::WORDS);
         let set = TokenSet(aheads[nonterminal]);
         feed(grammar, productions, terminals, first, item, set, aheads);
-        production += 1;
     }
 }
 
-// Whether two lists of sets are the same.
-fn same_sets(left: &[u64; 32], right: &[u64; 32]) -> bool
-    requires { (length left.now ≡ 32) × (length right.now ≡ 32) }
-    ensures { result ≡ same_words left.now right.now }
-{
-    let mut n: usize = 0;
-    while n < 32 {
-        if left[n] != right[n] {
-            return false;
-        }
-        n += 1;
-    }
-    true
-}
-
-// The lookaheads of each nonterminal's index-0 items.
-#[derive(Clone, Copy)]
-pub struct Aheads {
-    pub map: [u64; 32],
-}
-
-// Round after round until one changes nothing.
+// The lookaheads of each nonterminal's index-0 items: round after round until one changes nothing.
 fn aheads_of(
     grammar: &[u16],
     productions: usize,
     terminals: u16,
     first: &[u64; 32],
     kernel: &[u64; Item::LIMIT],
-) -> Aheads
+) -> [u64; 32]
     requires held { Held grammar.now productions terminals first.now }
     requires flat { Flat kernel.now }
-    ensures { (length result.map ≡ 32) × ((T : Table) → Grammar T grammar.now productions terminals first.now → aheads T (take (index_limit * productions) kernel.now) ≡ take (index_limit * productions) kernel.now ++ result.map) }
+    ensures { (T : Table) → Grammar T grammar.now productions terminals first.now → aheads T (take (index_limit * productions) kernel.now) ≡ take (index_limit * productions) kernel.now ++ result }
 {
     let mut aheads = [0u64; 32];
     let mut changed = true;
@@ -138,9 +112,9 @@ fn aheads_of(
         let before = aheads;
         feed_items(grammar, productions, terminals, first, kernel, &mut aheads);
         feed_firsts(grammar, productions, terminals, first, &mut aheads);
-        changed = !same_sets(&aheads, &before);
+        changed = aheads != before;
     }
-    Aheads { map: aheads }
+    aheads
 }
 
 // Each production's index-0 item gets its nonterminal's lookaheads besides its own.
@@ -148,13 +122,11 @@ fn spread(grammar: &[u16], productions: usize, aheads: &[u64; 32], state: &mut [
     requires { Packed grammar.now productions × (length state.old ≡ item_limit) }
     ensures { state.new ≡ spread_in grammar.now aheads.now state.old (below productions) }
 {
-    let mut production: usize = 0;
-    while production < productions {
+    for production in 0..productions {
         let nonterminal = word(grammar, production * ProductionIndex::WORDS);
         let own = TokenSet(state[production * ProductionIndex::INDEXES]);
         let ahead = TokenSet(aheads[nonterminal]);
         state[production * ProductionIndex::INDEXES] = own.union_with(ahead).set.0;
-        production += 1;
     }
 }
 
@@ -171,6 +143,5 @@ pub fn transitive_closure(
     ensures { (length state.new ≡ item_limit) × ((T : Table) → Grammar T grammar.now productions terminals first.now → state.new ≡ closure T (take (index_limit * productions) state.old) ++ drop (index_limit * productions) state.old) }
 {
     let aheads = aheads_of(grammar, productions, terminals, first, state);
-    let map = aheads.map;
-    spread(grammar, productions, &map, state);
+    spread(grammar, productions, &aheads, state);
 }

@@ -1,4 +1,5 @@
 -- Laws of taking state after state, one for each way through the code. Assumes nothing.
+use Rattle.std.proofs.Common.{Result, Ok, Err}
 use mathlib.Core.Path.{◌≡◌, refl, sym, ap, ◌∙◌, subst}
 use mathlib.Core.Bool.{true}
 use mathlib.Core.List.{List, [], ◌∷◌, ◌++◌, map}
@@ -17,11 +18,10 @@ use Rattle.kept_states.specs.Made.{Holds}
 use Rattle.finding.specs.Steps.{stopped, take_to, found, collect_to}
 use Rattle.finding.proofs.Steps.{to_end, to_halt, to_more}
 use Rattle.taking.specs.Taking.{edges_in, TookAll, TakenAs}
-use Rattle.taking.specs.declared.Taken.{Taken}
-use Rattle.taking.specs.declared.Taken.TheVariants.{Stops as NotTaken, Goes}
+use Rattle.finding.specs.Search.{refusal_of}
+use Rattle.finding.specs.declared.Halt.{Halt}
 use Rattle.taking.proofs.Laws.{edges_same, map_last}
 use Rattle.collecting.specs.Rows.{row_in, rows_in, FoundAs}
-use Rattle.collecting.specs.declared.States.TheVariants.{Stops, All}
 
 -- rows
 
@@ -64,7 +64,7 @@ round-start T start room Rs ws bs E es q n H z = record {
   rest = refl;
 }
 
-module _ (T : Table) (start room : ℕ) (Rs : List (List ℕ)) (ws bs E es : List ℕ) (k m q : ℕ) (u : Round T start room Rs ws bs E es k m q) (h : k < q) (ws' bs' E' : List ℕ) (r : Taken)
+module _ (T : Table) (start room : ℕ) (Rs : List (List ℕ)) (ws bs E es : List ℕ) (k m q : ℕ) (u : Round T start room Rs ws bs E es k m q) (h : k < q) (ws' bs' E' : List ℕ) (r : Result (ℕ × ℕ) Halt)
     (step : TakenAs T start u.Qs (take_to T room (get_or u.Qs k []) u.Qs (tried T)) ws' bs' E E' m r) where
   fuel : 129 - k ≡ suc (129 - (k + 1))
   fuel = omega (arith, u.many, u.holds.begun.few)
@@ -75,11 +75,11 @@ module _ (T : Table) (start room : ℕ) (Rs : List (List ℕ)) (ws bs E es : Lis
   at : length (rows_in E es k) < length u.Qs
   at = rw (rows_k, ← u.many) h
 
-  pub round-stops : (n : ℕ) → r ≡ NotTaken n → FoundAs T start (collect_to 129 T room Rs []) ws' bs' E' es (Stops n)
+  pub round-stops : (n : Halt) → r ≡ Err n → FoundAs T start (collect_to 129 T room Rs []) ws' bs' E' es (Err n)
   unfolding TakenAs FoundAs
   round-stops n p =
-      let w : take_to T room (get_or u.Qs k []) u.Qs (tried T) ≡ stopped n = subst (TakenAs T start u.Qs (take_to T room (get_or u.Qs k []) u.Qs (tried T)) ws' bs' E E' m) p step in
-      sym u.rest ∙ ap (λ (f : ℕ). collect_to f T room u.Qs (rows_in E es k)) fuel ∙ to_halt (129 - (k + 1)) T room u.Qs (rows_in E es k) at n (rw rows_k w)
+      let w : take_to T room (get_or u.Qs k []) u.Qs (tried T) ≡ stopped (refusal_of n) = subst (TakenAs T start u.Qs (take_to T room (get_or u.Qs k []) u.Qs (tried T)) ws' bs' E E' m) p step in
+      sym u.rest ∙ ap (λ (f : ℕ). collect_to f T room u.Qs (rows_in E es k)) fuel ∙ to_halt (129 - (k + 1)) T room u.Qs (rows_in E es k) at (refusal_of n) (rw rows_k w)
 
   module _ (q' m' : ℕ) (room_for : k + 1 < length es) where
     abbrev es' : List ℕ
@@ -118,15 +118,15 @@ module _ (T : Table) (start room : ℕ) (Rs : List (List ℕ)) (ws bs E es : Lis
       rest = rw (rows_more t.same) (sym (to_more (129 - (k + 1)) T room u.Qs (rows_in E es k) at t.Qs (edges_in E' m (m' - m)) (rw rows_k t.is)) ∙ ap (λ (f : ℕ). collect_to f T room u.Qs (rows_in E es k)) (sym fuel) ∙ u.rest);
     }
 
-    pub round-more : r ≡ Goes q' m' → Round T start room Rs ws' bs' E' es' (k + 1) m' q'
+    pub round-more : r ≡ Ok (q', m') → Round T start room Rs ws' bs' E' es' (k + 1) m' q'
     unfolding TakenAs
     round-more p = on (subst (TakenAs T start u.Qs (take_to T room (get_or u.Qs k []) u.Qs (tried T)) ws' bs' E E' m) p step)
 
-  pub taken_small : (q' m' : ℕ) → r ≡ Goes q' m' → m' ≤ m + 95
+  pub taken_small : (q' m' : ℕ) → r ≡ Ok (q', m') → m' ≤ m + 95
   unfolding TakenAs
   taken_small q' m' p = (subst (TakenAs T start u.Qs (take_to T room (get_or u.Qs k []) u.Qs (tried T)) ws' bs' E E' m) p step).high
 
-pub round_end : (T : Table) (start room : ℕ) (Rs : List (List ℕ)) (ws bs E es : List ℕ) (k m q : ℕ) → Round T start room Rs ws bs E es k m q → q ≤ k → FoundAs T start (collect_to 129 T room Rs []) ws bs E es (All q)
+pub round_end : (T : Table) (start room : ℕ) (Rs : List (List ℕ)) (ws bs E es : List ℕ) (k m q : ℕ) → Round T start room Rs ws bs E es k m q → q ≤ k → FoundAs T start (collect_to 129 T room Rs []) ws bs E es (Ok q)
 unfolding FoundAs
 round_end T start room Rs ws bs E es k m q u h =
     let p : k ≡ q = omega (arith, u.before) in

@@ -1,12 +1,12 @@
 -- All states found: their edges in words, and where each state's begin. Assumes nothing: these are definitions.
-use Rattle.std.specs.Prelude.{ℕ, ◌+◌, ◌-◌, ◌≤◌, ◌<◌, ◌≡◌, List, map, length, get_or}
+use Rattle.std.specs.Prelude.{Result, Ok, Err, ℕ, ◌+◌, ◌-◌, ◌≤◌, ◌<◌, ◌≡◌, List, map, length, get_or}
 use Rattle.repr.specs.Lists.{below}
 use Rattle.repr.specs.Meaning.{Edge, Table}
 use Rattle.kept_states.specs.Made.{Holds}
 use Rattle.finding.specs.Steps.{Found, halts, found}
+use Rattle.finding.specs.Search.{refusal_of}
 use Rattle.taking.specs.Taking.{edges_in}
-use Rattle.collecting.specs.declared.States.{States}
-use Rattle.collecting.specs.declared.States.TheVariants.{Stops, All}
+use Rattle.finding.specs.declared.Halt.{Halt}
 
 -- state k has the edges from number `es k` up to `es (k + 1)`
 unfoldable pub row_in : List ℕ → List ℕ → ℕ → List Edge
@@ -24,6 +24,6 @@ pub record FoundAll (T : Table) (start : ℕ) (w : Found) (ws bs E es : List ℕ
   pub rises : (k : ℕ) → k < n → get_or es k 0 ≤ get_or es (k + 1) 0
   pub few : get_or es n 0 ≤ 12160
 
-unfoldable pub FoundAs : Table → ℕ → Found → List ℕ → List ℕ → List ℕ → List ℕ → States → Type 0
-FoundAs T start w ws bs E es (Stops r) = w ≡ halts r
-FoundAs T start w ws bs E es (All n) = FoundAll T start w ws bs E es n
+unfoldable pub FoundAs : Table → ℕ → Found → List ℕ → List ℕ → List ℕ → List ℕ → Result ℕ Halt → Type 0
+FoundAs T start w ws bs E es (Err h) = w ≡ halts (refusal_of h)
+FoundAs T start w ws bs E es (Ok n) = FoundAll T start w ws bs E es n

@@ -8,17 +8,10 @@ ghost use Rattle.finding.specs.Steps.{collect_to};
 ghost use Rattle.finding.specs.Search.{Search};
 ghost use Rattle.collecting.specs.Rows.{FoundAs};
 
-use finding::Sizes;
-use taking::{Taken, take_state};
+use finding::{Halt, Sizes};
+use taking::take_state;
 
-// How many states there are, or the refusal.
-#[derive(Clone, Copy)]
-pub enum States {
-    Stops(u16),
-    All(usize),
-}
-
-// The states behind those found, and the edges of all.
+// The states behind those found, and the edges of all; how many states there are.
 pub fn find_states(
     grammar: &[u16],
     sizes: Sizes,
@@ -29,29 +22,21 @@ pub fn find_states(
     kernel: &mut [u16],
     edges: &mut [u16; 12160],
     rows: &mut [usize; 129],
-) -> States
-    requires search { Search grammar.now sizes.nonterminals sizes.terminals sizes.productions sizes.fixed sizes.limit first.now words.old begins.old found }
+) -> Result<usize, Halt>
+    requires search { Search grammar.now sizes first.now words.old begins.old found }
     requires item_limit_in_bounds { (item_limit * 5 ≤ length kernel.old) × (length edges.old ≡ 12160) × (length rows.old ≡ 129) × (get_or rows.old 0 0 ≡ 0) }
-    ensures { (s : Search grammar.now sizes.nonterminals sizes.terminals sizes.productions sizes.fixed sizes.limit first.now words.old begins.old found) → FoundAs s.T s.start (collect_to 129 s.T s.room s.Rs []) words.new begins.new edges.new rows.new result }
+    ensures { (s : Search grammar.now sizes first.now words.old begins.old found) → FoundAs s.T s.start (collect_to 129 s.T s.room s.Rs []) words.new begins.new edges.new rows.new result }
 {
     let mut states = found;
     let mut many: usize = 0;
     let mut k: usize = 0;
+    // No range: taking one adds states.
     while k < states {
-        let step = take_state(
+        (states, many) = take_state(
             grammar, sizes, first, words, begins, states, k, kernel, edges, many,
-        );
-        match step {
-            Taken::Stops(refusal) => {
-                return States::Stops(refusal);
-            }
-            Taken::Goes(q, m) => {
-                states = q;
-                many = m;
-            }
-        }
+        )?;
         k += 1;
         rows[k] = many;
     }
-    States::All(states)
+    Ok(states)
 }

@@ -31,30 +31,27 @@ fn reduction(
     ensures { (T : Table) (terminals : ℕ) (sets : List ℕ) → Grammar T grammar.now productions terminals sets → result ≡ reduces T (take (index_limit * productions) state.now) production }
 {
     let item = Item {
-        production: production,
+        production,
         index: 0,
     };
     let at = production * ProductionIndex::INDEXES + item.length(grammar, productions);
     state[at]
 }
 
-#[derive(Clone, Copy)]
-pub struct Reduced {
-    pub map: [u64; ProductionIndex::LIMIT],
-}
-
 // Of all.
-pub fn reductions(grammar: &[u16], productions: usize, state: &[u64; Item::LIMIT]) -> Reduced
+pub fn reductions(
+    grammar: &[u16],
+    productions: usize,
+    state: &[u64; Item::LIMIT],
+) -> [u64; ProductionIndex::LIMIT]
     requires { Packed grammar.now productions }
-    ensures { (length result.map ≡ production_limit) × ((T : Table) (terminals : ℕ) (sets : List ℕ) → Grammar T grammar.now productions terminals sets → ReducedAs T productions state.now result.map productions) }
+    ensures { (length result ≡ production_limit) × ((T : Table) (terminals : ℕ) (sets : List ℕ) → Grammar T grammar.now productions terminals sets → ReducedAs T productions state.now result productions) }
 {
     let mut map = [0u64; ProductionIndex::LIMIT];
-    let mut production: usize = 0;
-    while production < productions {
+    for production in 0..productions {
         map[production] = reduction(grammar, productions, state, production);
-        production += 1;
     }
-    Reduced { map: map }
+    map
 }
 
 // The terminal at the cursor of one item, if it has a token, put into the set.
@@ -93,10 +90,8 @@ pub fn shift_set(grammar: &[u16], productions: usize, state: &[u64; Item::LIMIT]
 {
     let places = ProductionIndex::INDEXES * productions;
     let mut set = TokenSet::new();
-    let mut place: usize = 0;
-    while place < places {
+    for place in 0..places {
         set = shift_one(grammar, productions, place, state[place], set);
-        place += 1;
     }
     set
 }
@@ -130,11 +125,9 @@ fn count_pairs(
     requires { (productions ≤ production_limit) × (production < productions) }
     ensures { (result ≡ length (pairs_in reduced.now production (up_from (production + 1) (productions - (production + 1))))) × (result ≤ 8192) }
 {
-    let mut many: usize = 0;
-    let mut other = production + 1;
-    while other < productions {
+    let mut many = 0;
+    for other in production + 1..productions {
         many += common(reduced, production, other).len();
-        other += 1;
     }
     many
 }
@@ -148,12 +141,10 @@ fn count_reduced(
     requires { productions ≤ production_limit }
     ensures { (result ≡ length (joined (clashes_in reduced.now shifted.0 productions) (below productions))) × (result ≤ 1056768) }
 {
-    let mut many: usize = 0;
-    let mut production: usize = 0;
-    while production < productions {
+    let mut many = 0;
+    for production in 0..productions {
         let shifts = shifts_of(reduced, shifted, production).len();
         many += shifts + count_pairs(reduced, productions, production);
-        production += 1;
     }
     many
 }
@@ -166,6 +157,5 @@ pub fn count_state(grammar: &[u16], productions: usize, state: &[u64; Item::LIMI
 {
     let reduced = reductions(grammar, productions, state);
     let shifted = shift_set(grammar, productions, state);
-    let map = reduced.map;
-    count_reduced(&map, shifted, productions)
+    count_reduced(&reduced, shifted, productions)
 }

@@ -28,8 +28,7 @@ fn write_at(
     ensures { (s : Collection grammar.now productions words.now begins.now states) → (list.new ≡ put_at at (state_words s.T s.Rs k) list.old) × (result ≡ at + length (state_words s.T s.Rs k)) }
 {
     let state = unpack(words, begins[k], begins[k + 1]);
-    let map = state.map;
-    write_state(grammar, productions, &map, k, list, at)
+    write_state(grammar, productions, &state, k, list, at)
 }
 
 // All, at the front of the list.
@@ -44,10 +43,8 @@ pub fn write_conflicts(
     requires { (s : Collection grammar.now productions words.now begins.now states) × (length (conflict_words s.T s.Rs) ≤ length list.old) }
     ensures { (s : Collection grammar.now productions words.now begins.now states) → length (conflict_words s.T s.Rs) ≤ length list.old → list.new ≡ in_front (conflict_words s.T s.Rs) list.old }
 {
-    let mut place: usize = 0;
-    let mut k: usize = 0;
-    while k < states {
+    let mut place = 0;
+    for k in 0..states {
         place = write_at(grammar, productions, words, begins, states, k, list, place);
-        k += 1;
     }
 }

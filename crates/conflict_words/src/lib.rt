@@ -81,8 +81,7 @@ fn write_pairs(
     ensures { (list.new ≡ put_at at (joined (clash_words state) (pairs_in reduced.now production (up_from (production + 1) (productions - (production + 1))))) list.old) × (result ≡ at + length (joined (clash_words state) (pairs_in reduced.now production (up_from (production + 1) (productions - (production + 1)))))) }
 {
     let mut place = at;
-    let mut other = production + 1;
-    while other < productions {
+    for other in production + 1..productions {
         let pair = Pair {
             state: state as u16,
             production: production as u16,
@@ -90,7 +89,6 @@ fn write_pairs(
             other: other as u16,
         };
         place = write_tokens(list, place, pair, common(reduced, production, other));
-        other += 1;
     }
     place
 }
@@ -133,8 +131,7 @@ fn write_reduced(
     ensures { (list.new ≡ put_at at (joined (clash_words state) (joined (clashes_in reduced.now shifted.0 productions) (below productions))) list.old) × (result ≡ at + length (joined (clash_words state) (joined (clashes_in reduced.now shifted.0 productions) (below productions)))) }
 {
     let mut place = at;
-    let mut production: usize = 0;
-    while production < productions {
+    for production in 0..productions {
         place = write_production(
             list,
             place,
@@ -144,7 +141,6 @@ fn write_reduced(
             state,
             production,
         );
-        production += 1;
     }
     place
 }
@@ -164,6 +160,5 @@ pub fn write_state(
 {
     let reduced = reductions(grammar, productions, state);
     let shifted = shift_set(grammar, productions, state);
-    let map = reduced.map;
-    write_reduced(list, at, &map, shifted, productions, number)
+    write_reduced(list, at, &reduced, shifted, productions, number)
 }

@@ -1,5 +1,5 @@
 -- One state more, in words: what `store` and `goto_over` come to. Assumes nothing.
-use Rattle.std.proofs.Common.{◌≡◌, ℕ, zero, suc, ◌+◌, ◌-◌, ◌*◌, ◌<◌, ◌≤◌, min, Bool, true, false, eqb, ltb, List, [], ◌∷◌, ◌++◌, length, get_or, take, set, sym, refl, ap, ◌∙◌, arith, ltb-false, ltb-true, le-ltb, lt-ltb, ne_eqb, eqb-true}
+use Rattle.std.proofs.Common.{◌≡◌, ℕ, zero, suc, ◌+◌, ◌-◌, ◌*◌, ◌<◌, ◌≤◌, min, true, false, Option, Some, None, Result, Ok, Err, eqb, ltb, List, [], ◌∷◌, ◌++◌, length, get_or, take, set, sym, refl, ap, ◌∙◌, arith, ltb-false, ltb-true, le-ltb, lt-ltb, ne_eqb, eqb-true}
 use lib.ListN.{get_or-append}
 use lib.Seq.{take-length}
 use borrow.Author.Tests.{eqb-false}
@@ -21,24 +21,25 @@ use Rattle.kept_states.specs.Made.{Made, next, Holds}
 use Rattle.kept_states.proofs.Holds.{holds_more, length-packed, sum-append, holds_counted, holds_place}
 use Rattle.kept_states.proofs.Kernels.{made_sized, moved_kernel}
 use Rattle.finding.specs.Steps.{Reach, nowhere, stops, reach, add_to, goto_to}
-use Rattle.finding.specs.Search.{KernelIn, Stored, Search, Keeps, Reached, symbol_of_code, CodeFits}
-use Rattle.finding.specs.declared.Goto.{Goto}
-use Rattle.finding.specs.declared.Goto.TheVariants.{Nowhere, To, Stops}
+use Rattle.finding.specs.Search.{KernelIn, Stored, Search, refusal_of, Keeps, Reached, symbol_of_code, CodeFits}
+use Rattle.finding.specs.declared.Halt.{Halt}
+use Rattle.finding.specs.declared.Halt.TheVariants.{States, Records}
+use Rattle.finding.specs.declared.Sizes.{Sizes}
 use Rattle.finding.proofs.Steps.{to_old, to_full, to_new, goto-none, goto-some}
 use Rattle.finding.proofs.Laws.{entry_places}
 
 -- what a step comes to
 
-pub comes_nowhere : (T : Table) (start : ℕ) (Rs : List (List ℕ)) (w : Reach) (ws bs : List ℕ) → w ≡ nowhere → Holds T start ws bs Rs → Reached T start Rs w ws bs Nowhere
+pub comes_nowhere : (T : Table) (start : ℕ) (Rs : List (List ℕ)) (w : Reach) (ws bs : List ℕ) → w ≡ nowhere → Holds T start ws bs Rs → Reached T start Rs w ws bs (Ok None)
 unfolding Reached
 comes_nowhere T start Rs w ws bs e H = (e, H)
 
-pub comes_stops : (T : Table) (start : ℕ) (Rs : List (List ℕ)) (w : Reach) (ws bs : List ℕ) (n : ℕ) → w ≡ stops n → Reached T start Rs w ws bs (Stops n)
+pub comes_stops : (T : Table) (start : ℕ) (Rs : List (List ℕ)) (w : Reach) (ws bs : List ℕ) (h : Halt) → w ≡ stops (refusal_of h) → Reached T start Rs w ws bs (Err h)
 unfolding Reached
-comes_stops T start Rs w ws bs n e = e
+comes_stops T start Rs w ws bs h e = e
 
 pub comes_to : (T : Table) (start : ℕ) (Rs : List (List ℕ)) (w : Reach) (ws bs : List ℕ) (t m : ℕ) (Qs : List (List ℕ)) → w ≡ reach t Qs → m ≡ length Qs → t < m → Holds T start ws bs Qs → Keeps Rs Qs
-    → Reached T start Rs w ws bs (To t m)
+    → Reached T start Rs w ws bs (Ok (Some (t, m)))
 unfolding Reached
 comes_to T start Rs w ws bs t m Qs e l h H K = (Qs, e, l, h, H, K)
 
@@ -82,41 +83,41 @@ last-begin T start ws bs Rs n H q =
     let p : n - 1 + 1 ≡ n = omega (arith, z) in
     rw p at (H.begun.ends (n - 1) (omega (arith, z))))
 
-module _ (g : List ℕ) (N e P f l : ℕ) (sets ws bs : List ℕ) (n : ℕ) (s : Search g N e P f l sets ws bs n) (C : List ℕ) (new : place C s.Rs ≡ length s.Rs) where
+module _ (g : List ℕ) (sizes : Sizes) (sets ws bs : List ℕ) (n : ℕ) (s : Search g sizes sets ws bs n) (C : List ℕ) (new : place C s.Rs ≡ length s.Rs) where
   high : length s.Rs ≤ place C s.Rs
   high = omega arith
 
-  pub store_all : n ≡ 128 → (ws' bs' : List ℕ) → Reached s.T s.start s.Rs (add_to s.T s.room C s.Rs) ws' bs' (Stops 16)
+  pub store_all : n ≡ 128 → (ws' bs' : List ℕ) → Reached s.T s.start s.Rs (add_to s.T s.room C s.Rs) ws' bs' (Err States)
   unfolding number_of
   store_all q ws' bs' =
       let k : length s.Rs ≡ 128 = sym s.many ∙ q in
-      comes_stops s.T s.start s.Rs (add_to s.T s.room C s.Rs) ws' bs' 16
+      comes_stops s.T s.start s.Rs (add_to s.T s.room C s.Rs) ws' bs' States
       (to_full s.T s.room C s.Rs high (ap (stops_at s.T s.room (s.Rs ++ C ∷ [])) k ∙ stops_128 s.T s.room (s.Rs ++ C ∷ [])) ∙ ap (λ (i : ℕ). stops (number_of i)) k)
 
-  module _ (few : n ≡ 128 → ⊥) (S ws' bs' : List ℕ) (is : take (index_limit * P) S ≡ C) where
+  module _ (few : n ≡ 128 → ⊥) (S ws' bs' : List ℕ) (is : take (index_limit * sizes.productions) S ≡ C) where
     other : length s.Rs ≡ 128 → ⊥
     other q = few (s.many ∙ q)
 
-    test : stops_at s.T s.room (s.Rs ++ C ∷ []) (length s.Rs) ≡ ltb l (f + n + 1 + (get_or bs n 0 + length (packed (take (index_limit * P) S))))
-    test = rw (is, s.many, s.limit_is) (stops-more_is s.T s.start s.room ws bs s.Rs s.holds C f s.fixed_is other)
+    test : stops_at s.T s.room (s.Rs ++ C ∷ []) (length s.Rs) ≡ ltb sizes.limit (sizes.fixed + n + 1 + (get_or bs n 0 + length (packed (take (index_limit * sizes.productions) S))))
+    test = rw (is, s.many, s.limit_is) (stops-more_is s.T s.start s.room ws bs s.Rs s.holds C sizes.fixed s.fixed_is other)
 
-    pub store_none : (r : Bool) → r ≡ false → Stored (f + n + 1) l (packed (take (index_limit * P) S)) ws ws' bs bs' n r → Reached s.T s.start s.Rs (add_to s.T s.room C s.Rs) ws' bs' (Stops 17)
-    store_none r q k =
-        comes_stops s.T s.start s.Rs (add_to s.T s.room C s.Rs) ws' bs' 17
-        (to_full s.T s.room C s.Rs high (test ∙ lt-ltb l (f + n + 1 + (get_or bs n 0 + length (packed (take (index_limit * P) S)))) (k.none q)) ∙ ap stops (number_of_lem (length s.Rs) other))
+    pub store_none : (h : Halt) → h ≡ Records → Stored (sizes.fixed + n + 1) sizes.limit (packed (take (index_limit * sizes.productions) S)) ws ws' bs bs' n false → Reached s.T s.start s.Rs (add_to s.T s.room C s.Rs) ws' bs' (Err h)
+    store_none h q k =
+        rw q (comes_stops s.T s.start s.Rs (add_to s.T s.room C s.Rs) ws' bs' Records
+        (to_full s.T s.room C s.Rs high (test ∙ lt-ltb sizes.limit (sizes.fixed + n + 1 + (get_or bs n 0 + length (packed (take (index_limit * sizes.productions) S)))) (k.none refl)) ∙ ap stops (number_of_lem (length s.Rs) other)))
 
-    pub store_some : (r : Bool) → r ≡ true → Stored (f + n + 1) l (packed (take (index_limit * P) S)) ws ws' bs bs' n r → Made s.T s.start C
-        → Reached s.T s.start s.Rs (add_to s.T s.room C s.Rs) ws' bs' (To n (n + 1))
-    store_some r q k m =
-        let past : ℕ = get_or bs n 0 + length (packed (take (index_limit * P) S)) in
-        let small : get_or bs n 0 + length (packed (take (index_limit * P) S)) ≤ record_limit = omega (arith, k.room q, s.limit_is) in
+    pub store_some : Stored (sizes.fixed + n + 1) sizes.limit (packed (take (index_limit * sizes.productions) S)) ws ws' bs bs' n true → Made s.T s.start C
+        → Reached s.T s.start s.Rs (add_to s.T s.room C s.Rs) ws' bs' (Ok (Some (n, n + 1)))
+    store_some k m =
+        let past : ℕ = get_or bs n 0 + length (packed (take (index_limit * sizes.productions) S)) in
+        let small : get_or bs n 0 + length (packed (take (index_limit * sizes.productions) S)) ≤ record_limit = omega (arith, k.room refl, s.limit_is) in
         let few' : length s.Rs < state_limit = omega (arith, other, s.holds.begun.few) in
-        let at : get_or bs n 0 + length (packed (take (index_limit * P) S)) ≡ get_or bs (length s.Rs) 0 + length (packed C) = rw (is, s.many) refl in
-        let more = holds_more s.T s.start ws bs s.Rs s.holds C m (get_or bs n 0 + length (packed (take (index_limit * P) S))) few' at small in
-        let w : ws' ≡ put_all ws (get_or bs (length s.Rs) 0) (packed C) = k.words q ∙ rw (is, s.many) refl in
-        let b : bs' ≡ set bs (length s.Rs + 1) (get_or bs n 0 + length (packed (take (index_limit * P) S))) = k.begins q ∙ ap (λ (i : ℕ). set bs (i + 1) (get_or bs n 0 + length (packed (take (index_limit * P) S)))) s.many in
+        let at : get_or bs n 0 + length (packed (take (index_limit * sizes.productions) S)) ≡ get_or bs (length s.Rs) 0 + length (packed C) = rw (is, s.many) refl in
+        let more = holds_more s.T s.start ws bs s.Rs s.holds C m (get_or bs n 0 + length (packed (take (index_limit * sizes.productions) S))) few' at small in
+        let w : ws' ≡ put_all ws (get_or bs (length s.Rs) 0) (packed C) = k.words refl ∙ rw (is, s.many) refl in
+        let b : bs' ≡ set bs (length s.Rs + 1) (get_or bs n 0 + length (packed (take (index_limit * sizes.productions) S))) = k.begins refl ∙ ap (λ (i : ℕ). set bs (i + 1) (get_or bs n 0 + length (packed (take (index_limit * sizes.productions) S)))) s.many in
         comes_to s.T s.start s.Rs (add_to s.T s.room C s.Rs) ws' bs' n (n + 1) (s.Rs ++ C ∷ [])
-        (to_new s.T s.room C s.Rs high (test ∙ le-ltb l (f + n + 1 + (get_or bs n 0 + length (packed (take (index_limit * P) S)))) (k.room q)) ∙ ap (λ (i : ℕ). reach i (s.Rs ++ C ∷ [])) (new ∙ sym s.many))
+        (to_new s.T s.room C s.Rs high (test ∙ le-ltb sizes.limit (sizes.fixed + n + 1 + (get_or bs n 0 + length (packed (take (index_limit * sizes.productions) S)))) (k.room refl)) ∙ ap (λ (i : ℕ). reach i (s.Rs ++ C ∷ [])) (new ∙ sym s.many))
         (rw (length_snoc C s.Rs) (omega (arith, s.many)))
         (omega arith)
         (rw (w, b) more)
@@ -192,14 +193,14 @@ goto_is T X S = refl
 
 -- `goto_over`
 
-module _ (g : List ℕ) (N e P f l : ℕ) (sets ws bs : List ℕ) (n : ℕ) (s : Search g N e P f l sets ws bs n) (k : ℕ) (h : k < n) where
+module _ (g : List ℕ) (sizes : Sizes) (sets ws bs : List ℕ) (n : ℕ) (s : Search g sizes sets ws bs n) (k : ℕ) (h : k < n) where
   inside : k < length s.Rs
   inside = rw s.many at h
 
   size : length (get_or s.Rs k []) ≡ places s.T
   size = (made_sized s.T s.grammar.fits s.start s.started (s.holds.made k inside)).long
 
-  many_places : index_limit * P ≡ places s.T
+  many_places : index_limit * sizes.productions ≡ places s.T
   many_places = ap (λ (i : ℕ). index_limit * i) s.grammar.many
 
   state_is : entries ws (get_or bs k 0) (get_or bs (k + 1) 0 - get_or bs k 0) ≡ packed (get_or s.Rs k [])
@@ -216,10 +217,10 @@ module _ (g : List ℕ) (N e P f l : ℕ) (sets ws bs : List ℕ) (n : ℕ) (s :
       let c = length-entries ws (get_or bs k 0) (get_or bs (k + 1) 0 - get_or bs k 0) in
       omega (arith, size, many_places, s.grammar.packed.few)
 
-  pub over-places : (m : ℕ) → get_or bs k 0 ≤ m → m < get_or bs (k + 1) 0 → (entry_at ws m).place < index_limit * P
+  pub over-places : (m : ℕ) → get_or bs k 0 ≤ m → m < get_or bs (k + 1) 0 → (entry_at ws m).place < index_limit * sizes.productions
   over-places m u v = let w = entry_places ws (get_or s.Rs k []) (get_or bs k 0) (get_or bs (k + 1) 0 - get_or bs k 0) state_is m u (omega arith) in omega (arith, size, many_places)
 
-  module _ (c : ℕ) (F : CodeFits N e c) (ks : List ℕ) (many : ℕ) (is : entries ks 0 many ≡ moved_over g c (entries ws (get_or bs k 0) (get_or bs (k + 1) 0 - get_or bs k 0))) where
+  module _ (c : ℕ) (F : CodeFits sizes.nonterminals sizes.terminals c) (ks : List ℕ) (many : ℕ) (is : entries ks 0 many ≡ moved_over g c (entries ws (get_or bs k 0) (get_or bs (k + 1) 0 - get_or bs k 0))) where
     abbrev X : Symbol
     X = symbol_of_code c
 
@@ -229,7 +230,7 @@ module _ (g : List ℕ) (N e P f l : ℕ) (sets ws bs : List ℕ) (n : ℕ) (s :
     over_is : entries ks 0 many ≡ packed M
     over_is =
         is ∙ ap (moved_over g c) state_is ∙ ap (λ (i : ℕ). moved_over g i (packed (get_or s.Rs k []))) (sym (code_of c))
-        ∙ packed-moved s.T g P e sets s.grammar (symbol_of_code c) (code_fits s.T N e c s.nonterminals_are s.grammar.tokens F) (get_or s.Rs k []) size
+        ∙ packed-moved s.T g sizes.productions sizes.terminals sets s.grammar (symbol_of_code c) (code_fits s.T sizes.nonterminals sizes.terminals c s.nonterminals_are s.grammar.tokens F) (get_or s.Rs k []) size
 
     over_many : length (packed M) ≡ many
     over_many = sym (ap length over_is) ∙ length-entries ks 0 many
@@ -237,12 +238,12 @@ module _ (g : List ℕ) (N e P f l : ℕ) (sets ws bs : List ℕ) (n : ℕ) (s :
     some : (many ≡ 0 → ⊥) → nothing? M ≡ false
     some z = cases (nothing? M) (λ t. absurd (z (sym over_many ∙ packed-nothing M t))) (λ t. t)
 
-    pub over-nowhere : many ≡ 0 → Reached s.T s.start s.Rs (goto_to s.T s.room (get_or s.Rs k []) s.Rs (symbol_of_code c)) ws bs Nowhere
+    pub over-nowhere : many ≡ 0 → Reached s.T s.start s.Rs (goto_to s.T s.room (get_or s.Rs k []) s.Rs (symbol_of_code c)) ws bs (Ok None)
     over-nowhere z =
         comes_nowhere s.T s.start s.Rs (goto_to s.T s.room (get_or s.Rs k []) s.Rs (symbol_of_code c)) ws bs
         (goto-none s.T s.room (get_or s.Rs k []) s.Rs (symbol_of_code c) (cases (nothing? M) (λ t. t) (λ t. absurd (omega (arith, packed_something M t, over_many))))) s.holds
 
-    pub over_kernel : KernelIn ks many P
+    pub over_kernel : KernelIn ks many sizes.productions
     over_kernel = record {
       kernel = M;
       long = length_moved s.T (symbol_of_code c) (get_or s.Rs k []) ∙ sym many_places;
@@ -250,13 +251,13 @@ module _ (g : List ℕ) (N e P f l : ℕ) (sets ws bs : List ℕ) (n : ℕ) (s :
       is = over_is;
     }
 
-    module _ (z : many ≡ 0 → ⊥) (t : ℕ) (at : t ≡ kernel_place (entries ks 0 many) (states_in ws bs n)) where
+    module _ (z : many ≡ 0 → ⊥) (t : ℕ) (at : kernel_place (entries ks 0 many) (states_in ws bs n) ≡ t) where
       target_is : t ≡ place (goto s.T (symbol_of_code c) (get_or s.Rs k [])) s.Rs
       target_is =
-          at ∙ rw (over_is, s.many, goto_is s.T (symbol_of_code c) (get_or s.Rs k [])) (holds_place s.T s.start ws bs s.Rs s.holds s.grammar.fits s.started M
+          sym at ∙ rw (over_is, s.many, goto_is s.T (symbol_of_code c) (get_or s.Rs k [])) (holds_place s.T s.start ws bs s.Rs s.holds s.grammar.fits s.started M
           (moved_kernel s.T s.grammar.fits s.start s.started (s.holds.made k inside) (symbol_of_code c) (some z)))
 
-      pub over_old : t < n → Reached s.T s.start s.Rs (goto_to s.T s.room (get_or s.Rs k []) s.Rs (symbol_of_code c)) ws bs (To t n)
+      pub over_old : t < n → Reached s.T s.start s.Rs (goto_to s.T s.room (get_or s.Rs k []) s.Rs (symbol_of_code c)) ws bs (Ok (Some (t, n)))
       over_old u =
           comes_to s.T s.start s.Rs (goto_to s.T s.room (get_or s.Rs k []) s.Rs (symbol_of_code c)) ws bs t n s.Rs
           (goto-some s.T s.room (get_or s.Rs k []) s.Rs (symbol_of_code c) (some z)
@@ -265,8 +266,8 @@ module _ (g : List ℕ) (N e P f l : ℕ) (sets ws bs : List ℕ) (n : ℕ) (s :
           s.many u s.holds (keeps_refl s.Rs)
 
       -- with what `store` leaves
-      pub over_new : n ≤ t → (ws' bs' : List ℕ) (r : Goto)
-          → ((M : List ℕ) → length M ≡ index_limit * P → entries ks 0 many ≡ packed M → Made s.T s.start (closure s.T M) → place (closure s.T M) s.Rs ≡ length s.Rs
+      pub over_new : t ≡ n → (ws' bs' : List ℕ) (r : Result (Option (ℕ × ℕ)) Halt)
+          → ((M : List ℕ) → length M ≡ index_limit * sizes.productions → entries ks 0 many ≡ packed M → Made s.T s.start (closure s.T M) → place (closure s.T M) s.Rs ≡ length s.Rs
           → Reached s.T s.start s.Rs (add_to s.T s.room (closure s.T M) s.Rs) ws' bs' r)
           → Reached s.T s.start s.Rs (goto_to s.T s.room (get_or s.Rs k []) s.Rs (symbol_of_code c)) ws' bs' r
       over_new u ws' bs' r stored =

@@ -28,13 +28,13 @@ stored_none f l p es ws bs n e h = record {
   begins = λ q. clash false q refl;
 }
 
-pub stored_some : (f l p : ℕ) (es : List Entry) (ws ws' bs : List ℕ) (n : ℕ) → p ≡ length es → f + (get_or bs n 0 + p) ≤ l → ws' ≡ put_all ws (get_or bs n 0) es
-    → Stored f l es ws ws' bs (set bs (n + 1) (get_or bs n 0 + p)) n true
-stored_some f l p es ws ws' bs n e h w = record {
+pub stored_some : (f l p r : ℕ) (es : List Entry) (ws ws' bs : List ℕ) (n : ℕ) → p ≡ length es → f + (get_or bs n 0 + p) ≤ l → r ≡ get_or bs n 0 + length es → ws' ≡ put_all ws (get_or bs n 0) es
+    → Stored f l es ws ws' bs (set bs (n + 1) r) n true
+stored_some f l p r es ws ws' bs n e h q w = record {
   room = λ q. rw (← e) h;
   none = λ q. clash true refl q;
-  words = λ q. w;
-  begins = λ q. rw e refl;
+  words = λ _. w;
+  begins = λ _. rw q refl;
 }
 
 -- places of packed items

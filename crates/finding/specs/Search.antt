@@ -1,5 +1,5 @@
 -- What stands in the words while states are found, and what one step leaves. Assumes nothing: these are definitions.
-use Rattle.std.specs.Prelude.{◌≡◌, ℕ, ◌+◌, ◌-◌, ◌*◌, ◌^◌, ◌<◌, ◌≤◌, min, Bool, true, false, List, [], length, nat_lt, slice_index, slice_index_or, slice_set}
+use Rattle.std.specs.Prelude.{◌≡◌, ℕ, ◌+◌, ◌-◌, ◌*◌, ◌^◌, ◌<◌, ◌≤◌, min, Bool, true, false, Option, Some, None, Result, Ok, Err, List, [], length, nat_lt, slice_index, slice_index_or, slice_set}
 use Rattle.repr.specs.Sizes.{index_limit, record_limit}
 use Rattle.repr.specs.Meaning.{Symbol, nonterminal, terminal, Production, Table}
 use Rattle.closing.specs.Grammar.{Grammar}
@@ -8,8 +8,14 @@ use Rattle.stored.specs.Stored.{Entry, entries, packed}
 use Rattle.kept_states.specs.Kept.{put_all}
 use Rattle.kept_states.specs.Made.{Holds}
 use Rattle.finding.specs.Steps.{Reach, nowhere, stops, reach}
-use Rattle.finding.specs.declared.Goto.{Goto}
-use Rattle.finding.specs.declared.Goto.TheVariants.{Nowhere, To, Stops}
+use Rattle.finding.specs.declared.Halt.{Halt}
+use Rattle.finding.specs.declared.Halt.TheVariants.{States, Records}
+use Rattle.finding.specs.declared.Sizes.{Sizes}
+
+-- the number of the refusal for what a search lacks
+abbrev pub refusal_of : Halt → ℕ
+refusal_of States = 16
+refusal_of Records = 17
 
 -- the words of a kernel are some list of sets, packed
 pub record KernelIn (ks : List ℕ) (many productions : ℕ) : Type 0 where
@@ -26,17 +32,17 @@ pub record Stored (fixed limit : ℕ) (es : List Entry) (ws ws' bs bs' : List �
   pub begins : r ≡ true → bs' ≡ slice_set bs (n + 1) (slice_index bs n + length es)
 
 -- the words and numbers that a step gets: those of some search, Rs found so far
-pub record Search (g : List ℕ) (nonterminals terminals productions fixed limit : ℕ) (sets ws bs : List ℕ) (n : ℕ) : Type 0 where
+pub record Search (g : List ℕ) (sizes : Sizes) (sets ws bs : List ℕ) (n : ℕ) : Type 0 where
   pub T : Table
   pub start : ℕ
   pub room : ℕ
   pub Rs : List (List ℕ)
-  pub grammar : Grammar T g productions terminals sets
+  pub grammar : Grammar T g sizes.productions sizes.terminals sets
   pub started : start < length T.productions
-  pub nonterminals_are : nonterminals ≡ length T.nonterminals
-  pub fixed_is : fixed ≡ 1 + length T.nonterminals + length T.productions + sum (λ (p : Production). length p.symbols) T.productions
-  pub fixed_small : fixed ≤ 65536
-  pub limit_is : limit ≡ min room record_limit
+  pub nonterminals_are : sizes.nonterminals ≡ length T.nonterminals
+  pub fixed_is : sizes.fixed ≡ 1 + length T.nonterminals + length T.productions + sum (λ (p : Production). length p.symbols) T.productions
+  pub fixed_small : sizes.fixed ≤ 65536
+  pub limit_is : sizes.limit ≡ min room record_limit
   pub holds : Holds T start ws bs Rs
   pub many : n ≡ length Rs
 
@@ -46,10 +52,10 @@ pub record Keeps (Rs Qs : List (List ℕ)) : Type 0 where
   pub same : (k : ℕ) → k < length Rs → slice_index_or Qs k [] ≡ slice_index_or Rs k []
 
 -- what one step over a symbol leaves: w is what it should come to
-unfoldable pub Reached : Table → ℕ → List (List ℕ) → Reach → List ℕ → List ℕ → Goto → Type 0
-Reached T start Rs w ws bs Nowhere = (w ≡ nowhere) × Holds T start ws bs Rs
-Reached T start Rs w ws bs (Stops n) = w ≡ stops n
-Reached T start Rs w ws bs (To t m) = (Qs : List (List ℕ)) × (w ≡ reach t Qs) × (m ≡ length Qs) × (t < m) × Holds T start ws bs Qs × Keeps Rs Qs
+unfoldable pub Reached : Table → ℕ → List (List ℕ) → Reach → List ℕ → List ℕ → Result (Option (ℕ × ℕ)) Halt → Type 0
+Reached T start Rs w ws bs (Ok None) = (w ≡ nowhere) × Holds T start ws bs Rs
+Reached T start Rs w ws bs (Err h) = w ≡ stops (refusal_of h)
+Reached T start Rs w ws bs (Ok (Some p)) = (Qs : List (List ℕ)) × (w ≡ reach p.0 Qs) × (p.1 ≡ length Qs) × (p.0 < p.1) × Holds T start ws bs Qs × Keeps Rs Qs
 
 -- the symbol of a number (specs/Grammar of closing), and whether it is one of the table's
 unfoldable pub symbol_of_code : ℕ → Symbol

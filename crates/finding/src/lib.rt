@@ -2,7 +2,7 @@
 
 #![tactic(auto)]
 
-ghost use Rattle.std.specs.Prelude.{◌≡◌, ℕ, suc, ◌+◌, ◌-◌, ◌*◌, ◌^◌, ◌<◌, ◌≤◌, Bool, true, false, List, [], length, take, slice_index, slice_index_or};
+ghost use Rattle.std.specs.Prelude.{◌≡◌, ℕ, suc, ◌+◌, ◌-◌, ◌*◌, ◌^◌, ◌<◌, ◌≤◌, true, false, List, [], MatchResult, length, take, slice_index, slice_index_or};
 ghost use Rattle.repr.specs.Sizes.{index_limit, item_limit, record_limit, state_limit};
 ghost use Rattle.repr.specs.Meaning.{Table};
 ghost use Rattle.closing.specs.Grammar.{Grammar, Held};
@@ -13,7 +13,7 @@ ghost use Rattle.finding.specs.Steps.{add_to, goto_to};
 ghost use Rattle.finding.specs.Search.{KernelIn, Stored, Search, CodeFits, symbol_of_code, Reached};
 
 use closing::transitive_closure;
-use kept_states::{State, count_items, find, pack, unpack};
+use kept_states::{count_items, find, pack, unpack};
 use lr1_core::Item;
 use repr::ProductionIndex;
 use stored::move_over;
@@ -28,49 +28,59 @@ pub struct Sizes {
     pub limit: usize,
 }
 
-// One step over a symbol: no item has its cursor there; the edge's target and how many states there are then; or the refusal.
-#[derive(Clone, Copy)]
-pub enum Goto {
-    Nowhere,
-    To(usize, usize),
-    Stops(u16),
+// What a search lacks where it halts: a number for a state, or room for its records.
+#[derive(Clone, Copy, PartialEq)]
+pub enum Halt {
+    States,
+    Records,
 }
 
-// Whether one state more has room; then it is stored behind the others.
+// One state more, stored behind the others if it has room.
 pub fn append(
     state: &[u64; Item::LIMIT],
     sizes: Sizes,
     words: &mut [u16],
     begins: &mut [usize; 129],
     states: usize,
-) -> bool
+) -> Result<(), Halt>
     requires state_len { (length state.now ≡ item_limit) × (sizes.productions ≤ 128) × (sizes.fixed ≤ 65536) × (sizes.limit ≤ record_limit) }
     requires record_limit_in_bounds { (record_limit * 5 ≤ length words.old) × (length begins.old ≡ suc state_limit) × (states < state_limit) × (slice_index begins.old states ≤ record_limit) }
-    ensures { Stored (sizes.fixed + states + 1) sizes.limit (packed (take (index_limit * sizes.productions) state.now)) words.old words.new begins.old begins.new states result }
+    ensures { let stored = Stored (sizes.fixed + states + 1) sizes.limit (packed (take (index_limit * sizes.productions) state.now)) words.old words.new begins.old begins.new states in MatchResult result (λ u. stored true) (λ h. (h ≡ Halt.Records) × stored false) }
 {
     let places = ProductionIndex::INDEXES * sizes.productions;
     let begin = begins[states];
     let past = begin + count_items(state, places);
     if sizes.limit < sizes.fixed + states + 1 + past {
-        return false;
+        return Err(Halt::Records);
     }
-    let _past = pack(state, places, words, begin);
-    begins[states + 1] = past;
-    true
+    begins[states + 1] = pack(state, places, words, begin);
+    Ok(())
 }
 
 // A kernel closed.
-pub fn close(grammar: &[u16], sizes: Sizes, first: &[u64; 32], kernel: &[u16], many: usize) -> State
+pub fn close(
+    grammar: &[u16],
+    sizes: Sizes,
+    first: &[u64; 32],
+    kernel: &[u16],
+    many: usize,
+) -> [u64; Item::LIMIT]
     requires held { Held grammar.now sizes.productions sizes.terminals first.now }
     requires many_le_record_limit { (many ≤ record_limit) × (many * 5 ≤ length kernel.now) × KernelIn kernel.now many sizes.productions }
-    ensures { (length result.map ≡ item_limit) × ((T : Table) (M : List ℕ) → Grammar T grammar.now sizes.productions sizes.terminals first.now → length M ≡ index_limit * sizes.productions → entries kernel.now 0 many ≡ packed M → take (index_limit * sizes.productions) result.map ≡ closure T M) }
+    ensures { (length result ≡ item_limit) × ((T : Table) (M : List ℕ) → Grammar T grammar.now sizes.productions sizes.terminals first.now → length M ≡ index_limit * sizes.productions → entries kernel.now 0 many ≡ packed M → take (index_limit * sizes.productions) result ≡ closure T M) }
 {
-    let mut map = unpack(kernel, 0, many).map;
-    transitive_closure(grammar, sizes.productions, sizes.terminals, first, &mut map);
-    State { map: map }
+    let mut state = unpack(kernel, 0, many);
+    transitive_closure(
+        grammar,
+        sizes.productions,
+        sizes.terminals,
+        first,
+        &mut state,
+    );
+    state
 }
 
-// A kernel that no state has, closed and stored.
+// A kernel that no state has, closed and stored: the new state's number, and how many states there are then.
 fn store(
     grammar: &[u16],
     sizes: Sizes,
@@ -80,22 +90,20 @@ fn store(
     states: usize,
     kernel: &[u16],
     many: usize,
-) -> Goto
-    requires search { Search grammar.now sizes.nonterminals sizes.terminals sizes.productions sizes.fixed sizes.limit first.now words.old begins.old states }
+) -> Result<Option<(usize, usize)>, Halt>
+    requires search { Search grammar.now sizes first.now words.old begins.old states }
     requires many_le_record_limit { (many ≤ record_limit) × (many * 5 ≤ length kernel.now) × KernelIn kernel.now many sizes.productions }
-    ensures { (s : Search grammar.now sizes.nonterminals sizes.terminals sizes.productions sizes.fixed sizes.limit first.now words.old begins.old states) (M : List ℕ) → length M ≡ index_limit * sizes.productions → entries kernel.now 0 many ≡ packed M → Made s.T s.start (closure s.T M) → place (closure s.T M) s.Rs ≡ length s.Rs → Reached s.T s.start s.Rs (add_to s.T s.room (closure s.T M) s.Rs) words.new begins.new result }
+    ensures { (s : Search grammar.now sizes first.now words.old begins.old states) (M : List ℕ) → length M ≡ index_limit * sizes.productions → entries kernel.now 0 many ≡ packed M → Made s.T s.start (closure s.T M) → place (closure s.T M) s.Rs ≡ length s.Rs → Reached s.T s.start s.Rs (add_to s.T s.room (closure s.T M) s.Rs) words.new begins.new result }
 {
     if states == 128 {
-        return Goto::Stops(16);
+        return Err(Halt::States);
     }
-    let map = close(grammar, sizes, first, kernel, many).map;
-    if append(&map, sizes, words, begins, states) {
-        return Goto::To(states, states + 1);
-    }
-    Goto::Stops(17)
+    let state = close(grammar, sizes, first, kernel, many);
+    append(&state, sizes, words, begins, states)?;
+    Ok(Some((states, states + 1)))
 }
 
-// The goto of state k over a symbol, by its number.
+// The goto of state k over a symbol, by its number: its target, and how many states there are then; None if no item has its cursor there.
 pub fn goto_over(
     grammar: &[u16],
     sizes: Sizes,
@@ -106,10 +114,10 @@ pub fn goto_over(
     k: usize,
     symbol: usize,
     kernel: &mut [u16],
-) -> Goto
-    requires search { Search grammar.now sizes.nonterminals sizes.terminals sizes.productions sizes.fixed sizes.limit first.now words.old begins.old states }
+) -> Result<Option<(usize, usize)>, Halt>
+    requires search { Search grammar.now sizes first.now words.old begins.old states }
     requires k_lt_states { (k < states) × CodeFits sizes.nonterminals sizes.terminals symbol × (item_limit * 5 ≤ length kernel.old) }
-    ensures { (length kernel.new ≡ length kernel.old) × ((s : Search grammar.now sizes.nonterminals sizes.terminals sizes.productions sizes.fixed sizes.limit first.now words.old begins.old states) → Reached s.T s.start s.Rs (goto_to s.T s.room (slice_index_or s.Rs k []) s.Rs (symbol_of_code symbol)) words.new begins.new result) }
+    ensures { (length kernel.new ≡ length kernel.old) × ((s : Search grammar.now sizes first.now words.old begins.old states) → Reached s.T s.start s.Rs (goto_to s.T s.room (slice_index_or s.Rs k []) s.Rs (symbol_of_code symbol)) words.new begins.new result) }
 {
     let begin = begins[k];
     let past = begins[k + 1];
@@ -123,11 +131,10 @@ pub fn goto_over(
         kernel,
     );
     if many == 0 {
-        return Goto::Nowhere;
+        return Ok(None);
     }
-    let target = find(words, begins, states, kernel, many);
-    if target < states {
-        return Goto::To(target, states);
+    match find(words, begins, states, kernel, many) {
+        Some(target) => Ok(Some((target, states))),
+        None => store(grammar, sizes, first, words, begins, states, kernel, many),
     }
-    store(grammar, sizes, first, words, begins, states, kernel, many)
 }

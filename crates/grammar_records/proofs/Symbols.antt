@@ -2,11 +2,11 @@
 use mathlib.Core.Path.{◌≡◌, refl, sym, ap, ◌∙◌}
 use mathlib.Core.Bool.{true}
 use mathlib.Core.List.{List, [], ◌∷◌}
-use Prim.Native.Nat.{ℕ, zero, suc, ◌+◌, ◌-◌, ◌*◌, ◌≤◌, ◌<◌}
+use Prim.Native.Nat.{ℕ, zero, suc, ◌+◌, ◌-◌, ◌*◌, ◌/◌, ◌≤◌, ◌<◌}
 use native.Mathlib.Omega.{arith}
 use lib.ListN.{length, get_or, drop}
-use lib.Dec.{eqb}
-use borrow.Author.Tests.{eqb-true, eqb-false}
+use lib.Dec.{eqb, ltb}
+use borrow.Author.Tests.{eqb-true, eqb-false, ltb-true, ltb-false}
 use Rattle.repr.specs.Sizes.{record_limit, nonterminal_limit, terminal_limit}
 use Rattle.repr.specs.Meaning.{Table, Production}
 use Rattle.repr.specs.Listed.{symbol_of_kind, listed, list_is_fit}
@@ -62,6 +62,12 @@ module _ (ws : List ℕ) (begin : ℕ) where
     pub chain-step : Chain ws begin (at + 1) (i + 2)
     chain-step = let l = ap length more in record { fits = (fits_head nonterminal_limit terminal_limit ws i h C.fits).1.1; left = omega (arith, C.left) }
 
+    -- whether one follows, counted in symbols
+    pub chain-next : (k next : ℕ) → i ≡ 2 * k → (length ws / 2 - k - 1 ≡ 0 → next ≡ 0) × ((length ws / 2 - k - 1 ≡ 0 → ⊥) → next ≡ at + 1)
+        → (length ws - (i + 2) ≡ 0 → next ≡ 0) × ((length ws - (i + 2) ≡ 0 → ⊥) → next ≡ at + 1)
+    chain-next k next e f =
+        (λ z. f.0 (omega arith), λ z. f.1 (λ q. let w = (fits_head nonterminal_limit terminal_limit ws (i + 2) (omega (arith, z)) chain-step.fits).0 in omega (arith, w, q)))
+
     module _ (next : ℕ) (f : (length ws - (i + 2) ≡ 0 → next ≡ 0) × ((length ws - (i + 2) ≡ 0 → ⊥) → next ≡ at + 1)) where
       follower : next ≡ head_of (suc at) (listed (drop (i + 2) ws))
       follower =
@@ -101,6 +107,14 @@ module _ (ws : List ℕ) (begin : ℕ) where
           (follower next f ∙ sym (spell_next U at _ here.0)) (ek ∙ sym (kind_of_lem (get_or ws i 0) (get_or ws (i + 1) 0) r) ∙ sym (spell_one U at _ here.0))
           (en ∙ sym (number_of_lem (get_or ws i 0) (get_or ws (i + 1) 0)) ∙ sym (spell_two U at _ here.0)) (sym (spell_three U at _ here.0))) in
           record { grown = grown-join U g₀ g g' begin at (at + 1) W.grown G; stands = here.1; room = room_same U g g' G.long W.room }
+
+  pub chain_room : (U : Table) (g : List ℕ) → Stands (quads U) begin (chain_from symbol_quad begin (listed ws)) → Room U g → begin + length (listed ws) ≤ record_limit
+  chain_room U g S R = let m = length_chain_from symbol_quad begin (listed ws) in omega (arith, S.within, (regions U).long, R.few)
+
+  pub chain_past : (at k : ℕ) → length ws / 2 ≤ k → Chain ws begin at (2 * k) → length ws ≤ 2 * k
+  chain_past at k h C = cases (ltb (2 * k) (length ws))
+      (λ t. let w = chain-whole at (2 * k) (ltb-true (2 * k) (length ws) t) C in absurd (omega (arith, w)))
+      (λ t. ltb-false (2 * k) (length ws) t)
 
   pub chain_end : (at i : ℕ) → length ws ≤ i → Chain ws begin at i → at ≡ begin + length (listed ws)
   chain_end at i h C = let l = ap length (listed-none ws i h) in omega (arith, C.left)

@@ -2,7 +2,7 @@
 
 #![tactic(auto)]
 
-ghost use Rattle.std.specs.Prelude.{◌≡◌, true, map, ◌+◌, ◌≤◌, length};
+ghost use Rattle.std.specs.Prelude.{◌≡◌, true, map, ◌+◌, ◌≤◌, ◌<◌, MatchOption, length};
 ghost use Rattle.repr.specs.Sizes.{record_limit, nonterminal_limit, terminal_limit};
 ghost use Rattle.repr.specs.Listed.{listed, list_is_fit};
 ghost use Rattle.repr.specs.Meaning.{Table, Production};
@@ -20,28 +20,29 @@ pub fn count_symbols(grammar: &[u16], productions: usize) -> usize
     requires { Packed grammar.now productions }
     ensures { result ≡ size_of (map (λ (p : Production). p.symbols) (productions_in grammar.now productions)) }
 {
-    let mut many: usize = 0;
-    let mut p: usize = 0;
-    while p < productions {
+    let mut many = 0;
+    for p in 0..productions {
         many += repr::word(grammar, p * ProductionIndex::WORDS + 1);
-        p += 1;
     }
     many
 }
 
-// The lowest production from `from` on of a nonterminal, or how many productions there are.
-pub fn next_owned(grammar: &[u16], productions: usize, owner: usize, from: usize) -> usize
+// The lowest production from `from` on of a nonterminal.
+pub fn next_owned(
+    grammar: &[u16],
+    productions: usize,
+    owner: usize,
+    from: usize,
+) -> Option<usize>
     requires { Packed grammar.now productions }
-    ensures { result ≡ owned_from (productions_in grammar.now productions) owner from }
+    ensures { let p = owned_from (productions_in grammar.now productions) owner from in MatchOption result (p ≡ productions) (λ q. (q < productions) × (p ≡ q)) }
 {
-    let mut p = from;
-    while p < productions {
+    for p in from..productions {
         if repr::word(grammar, p * ProductionIndex::WORDS) == owner {
-            return p;
+            return Some(p);
         }
-        p += 1;
     }
-    productions
+    None
 }
 
 // That production's record, where production 0 is record `at`; 0 for none.
@@ -49,8 +50,10 @@ fn next_record(grammar: &[u16], productions: usize, owner: usize, from: usize, a
     requires { Packed grammar.now productions × (at ≤ record_limit) }
     ensures { (U : Table) → PackedAs U grammar.now productions → at ≡ productions_at U → result ≡ next_owned_from U owner from }
 {
-    let p = next_owned(grammar, productions, owner, from);
-    if p < productions { at + p } else { 0 }
+    match next_owned(grammar, productions, owner, from) {
+        Some(p) => at + p,
+        None => 0,
+    }
 }
 
 // Record 0 and the nonterminals.
@@ -69,11 +72,9 @@ pub fn write_front(grammar: &[u16], counts: Counts, out: &mut [u16])
         counts.states,
         productions,
     );
-    let mut n: usize = 0;
-    while n < nonterminals {
+    for n in 0..nonterminals {
         let head = next_record(grammar, productions, n, 0, at);
         put(out, 1 + n, head, 0, 0, 0);
-        n += 1;
     }
 }
 
@@ -85,8 +86,7 @@ pub fn write_productions(grammar: &[u16], counts: Counts, out: &mut [u16])
     let productions = counts.productions;
     let at = 1 + counts.nonterminals + counts.states;
     let mut y = at + productions;
-    let mut p: usize = 0;
-    while p < productions {
+    for p in 0..productions {
         let place = p * ProductionIndex::WORDS;
         let owner = repr::word(grammar, place);
         let many = repr::word(grammar, place + 1);
@@ -96,7 +96,6 @@ pub fn write_productions(grammar: &[u16], counts: Counts, out: &mut [u16])
         let head = head_of(many, y);
         put(out, at + p, next, head, start, end);
         y += many;
-        p += 1;
     }
 }
 
@@ -106,17 +105,14 @@ fn write_chain(symbols: &[u16], begin: usize, out: &mut [u16]) -> usize
     requires stands { (U : Table) × (Stands (quads U) begin (chain_from symbol_quad begin (listed symbols.now)) × Room U out.old) }
     ensures { (result ≡ begin + length (listed symbols.now)) × ((U : Table) → Stands (quads U) begin (chain_from symbol_quad begin (listed symbols.now)) → Room U out.old → Grown U out.old out.new begin result) }
 {
-    let mut at = begin;
-    let mut i: usize = 0;
-    while i < symbols.len() {
-        let kind = repr::word(symbols, i);
-        let number = repr::word(symbols, i + 1);
-        i += 2;
-        let next = next_of(symbols.len() - i, at);
-        put(out, at, next, kind, number, 0);
-        at += 1;
+    let many = symbols.len() / 2;
+    for i in 0..many {
+        let kind = repr::word(symbols, 2 * i);
+        let number = repr::word(symbols, 2 * i + 1);
+        let next = next_of(many - i - 1, begin + i);
+        put(out, begin + i, next, kind, number, 0);
     }
-    at
+    begin + many
 }
 
 // The symbols of all productions, from a record on.
@@ -125,9 +121,7 @@ pub fn write_symbols(grammar: &[u16], productions: usize, begin: usize, out: &mu
     ensures { (U : Table) → PackedAs U grammar.now productions → begin ≡ symbols_at U → Room U out.old → Grown U out.old out.new (symbols_at U) (items_place U) }
 {
     let mut at = begin;
-    let mut p: usize = 0;
-    while p < productions {
+    for p in 0..productions {
         at = write_chain(symbols(grammar, p, productions), at, out);
-        p += 1;
     }
 }

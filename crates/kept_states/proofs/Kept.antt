@@ -1,9 +1,12 @@
 -- Laws of states in words, one for each way through the code. Assumes nothing.
-use Rattle.std.specs.Prelude.{◌≡◌, ℕ, zero, suc, ◌+◌, ◌-◌, ◌<◌, ◌≤◌, Bool, true, false, eqb, List, [], ◌∷◌, map, length, get_or, take, set, replicate}
+use Rattle.std.specs.Prelude.{◌≡◌, ℕ, zero, suc, ◌+◌, ◌-◌, ◌<◌, ◌≤◌, Bool, true, false, not, cond, eqb, List, [], ◌∷◌, map, length, get_or, take, drop, set, replicate}
 use mathlib.Core.Path.{refl, sym, ap, ◌∙◌}
 use native.Mathlib.Numerals.{add-one}
 use native.Mathlib.Omega.{arith}
 use lib.Seq.{length-take-le, get_or-take}
+use Rattle.std.specs.List.{count_by, sum_by}
+use Rattle.std.proofs.lemmas.List.Sums.{sum_by-drop_more}
+use Rattle.std.proofs.Math.ListN.{drop_of_length-le}
 use borrow.Author.Tests.{eqb-true, eqb-false}
 use Rattle.repr.specs.Sizes.{item_limit}
 use Rattle.repr.specs.Lists.{up_from, below, keep}
@@ -72,9 +75,6 @@ held_end S p n h = rw (range_end p n h) refl
 pub count_start : (S : List ℕ) (n : ℕ) → n ≤ length S → (m : ℕ) → m + length (held S (up_from 0 (n - 0))) ≡ m + length (packed (take n S))
 count_start S n h m = let z : n - 0 ≡ n = omega arith in rw (z, packed-take S n h) refl
 
-pub count_first : (S : List ℕ) (n : ℕ) → n ≤ length S → 0 + length (held S (up_from 0 (n - 0))) ≡ length (packed (take n S))
-count_first S n h = let w = count_start S n h 0 in omega arith
-
 pub count_more : (S : List ℕ) (p n s m r all : ℕ) → p < n → s ≡ get_or S p 0 → (s ≡ 0 → r ≡ m) × ((s ≡ 0 → ⊥) → r ≡ m + 1)
     → m + length (held S (up_from p (n - p))) ≡ all → r + length (held S (up_from (p + 1) (n - (p + 1)))) ≡ all
 count_more S p n s m r all h e f q =
@@ -85,8 +85,22 @@ count_more S p n s m r all h e f q =
 pub count_end : (S : List ℕ) (p n m all : ℕ) → n ≤ p → m + length (held S (up_from p (n - p))) ≡ all → m ≡ all
 count_end S p n m all h q = let w : m + 0 ≡ all = rw (held_end S p n h) at q in omega arith
 
-pub count_high : (s m r p : ℕ) → (s ≡ 0 → r ≡ m) × ((s ≡ 0 → ⊥) → r ≡ m + 1) → m ≤ p → r ≤ p + 1
-count_high s m r p f h = cases (eqb s 0) (λ t. omega (arith, f.0 (eqb-true s 0 t))) (λ t. omega (arith, f.1 (eqb-false s 0 t)))
+some : ℕ → ℕ
+some x = cond (not (eqb x 0)) 1 0
+
+pub count-packed : (S : List ℕ) → length (packed S) ≡ count_by (λ (x : ℕ). not (eqb x 0)) S
+unfolding packed below up_from some keep
+count-packed S = from 0 (length S) (omega arith)
+  where
+    from : (p n : ℕ) → p + n ≡ length S → length (held S (up_from p n)) ≡ sum_by some (drop p S)
+    from p zero h = let l : length S ≤ p = omega arith in rw (drop_of_length-le S l) refl
+    from p (suc n) h =
+        let more = from (suc p) n (omega arith) in
+        let l : p < length S = omega arith in
+        let step : sum_by some (drop p S) ≡ some (get_or S p 0) + sum_by some (drop (suc p) S) = rw (← add-one p) (sum_by-drop_more some S p 0 l) in
+        cases (eqb (get_or S p 0) 0)
+        (λ t. ap length (held_none S p (up_from (suc p) n) (eqb-true (get_or S p 0) 0 t)) ∙ more ∙ sym (step ∙ rw t (omega arith)))
+        (λ t. ap length (held-some S p (up_from (suc p) n) (eqb-false (get_or S p 0) 0 t)) ∙ rw more (sym (step ∙ rw t (omega arith))))
 
 -- storing them
 
@@ -103,7 +117,7 @@ put_all-none : (ws : List ℕ) (m : ℕ) → put_all ws m [] ≡ ws
 unfolding put_all
 put_all-none ws m = refl
 
--- what `pack_one` leaves
+-- what one place leaves
 abbrev pub One : List ℕ → List ℕ → ℕ → ℕ → ℕ → ℕ → Type 0
 One ws ws' m p s r = (s ≡ 0 → (r ≡ m) × (ws' ≡ ws)) × ((s ≡ 0 → ⊥) → (r ≡ m + 1) × (ws' ≡ put_entry ws m p s))
 
@@ -158,7 +172,7 @@ unfolding kernel_place
 place_no ks es ess t = rw (t, kernel_place)
 
 module _ (ks : List Entry) (ws bs : List ℕ) (k n all : ℕ) (b : Bool) (e : b ≡ is_same_kernel (state_in ws bs k) ks) where
-  pub find_here : k < n → b ≡ true → k + kernel_place ks (from_state ws bs k n) ≡ all → k ≡ all
+  pub find_here : k < n → b ≡ true → k + kernel_place ks (from_state ws bs k n) ≡ all → all ≡ k
   find_here h t q =
       let w : k + 0 ≡ all = rw (from_more ws bs k n h, place-yes ks (state_in ws bs k) (from_state ws bs (k + 1) n) (sym e ∙ t)) at q in omega arith
 
@@ -167,9 +181,9 @@ module _ (ks : List Entry) (ws bs : List ℕ) (k n all : ℕ) (b : Bool) (e : b 
       let w : k + suc (kernel_place ks (from_state ws bs (k + 1) n)) ≡ all = rw (from_more ws bs k n h, place_no ks (state_in ws bs k) (from_state ws bs (k + 1) n) (sym e ∙ t)) at q in
       omega arith
 
-pub find_end : (ks : List Entry) (ws bs : List ℕ) (k n all : ℕ) → n ≤ k → k + kernel_place ks (from_state ws bs k n) ≡ all → k ≡ all
+pub find_end : (ks : List Entry) (ws bs : List ℕ) (k n all : ℕ) → k ≤ n → n ≤ k → k + kernel_place ks (from_state ws bs k n) ≡ all → all ≡ n
 unfolding kernel_place
-find_end ks ws bs k n all h q = let w : k + 0 ≡ all = rw (range_end k n h) at q in omega arith
+find_end ks ws bs k n all l h q = let w : k + 0 ≡ all = rw (range_end k n h) at q in omega arith
 
 pub same_state : (ws bs : List ℕ) (ks : List Entry) (k m n : ℕ) (b : Bool) → m ≡ get_or bs k 0 → n ≡ get_or bs (k + 1) 0 → b ≡ is_same_kernel (entries ws m (n - m)) ks → b ≡ is_same_kernel (state_in ws bs k) ks
 unfolding state_in

@@ -27,7 +27,9 @@ use Rattle.finding.proofs.Laws.{entry_places}
 use Rattle.taking.specs.Taking.{edge_of, edges_in}
 use Rattle.taking.proofs.Laws.{map_last}
 use Rattle.collecting.specs.Rows.{row_in, rows_in}
-use Rattle.measuring.specs.declared.Measured.TheVariants.{Stops, Fits}
+use Rattle.std.proofs.Common.{Ok, Err}
+use Rattle.finding.specs.declared.Halt.TheVariants.{Records}
+use Rattle.finding.specs.declared.Sizes.{Sizes}
 use Rattle.measuring.specs.Complete.{Collection, Complete, MeasuredAs}
 
 -- a state flat again
@@ -110,7 +112,7 @@ rows_sum E es (suc k) z f =
 
 -- records
 
-module _ (g : List ℕ) (N P f l : ℕ) (ws bs es : List ℕ) (n : ℕ) (s : Complete g N P f l ws bs es n) where
+module _ (g : List ℕ) (sizes : Sizes) (ws bs es : List ℕ) (n : ℕ) (s : Complete g sizes ws bs es n) where
   pub few_begins : get_or bs n 0 ≤ record_limit
   few_begins = by n s.all.many
     where
@@ -121,7 +123,7 @@ module _ (g : List ℕ) (N P f l : ℕ) (ws bs es : List ℕ) (n : ℕ) (s : Com
   pub few_states : n ≤ 128
   few_states = omega (arith, s.all.many, s.all.holds.begun.few)
 
-  pub records_are : f + n + get_or bs n 0 + get_or es n 0 ≡ records s.T s.all.Rs + sum (λ (ds : List Edge). length ds) (rows_in s.E es n)
+  pub records_are : sizes.fixed + n + get_or bs n 0 + get_or es n 0 ≡ records s.T s.all.Rs + sum (λ (ds : List Edge). length ds) (rows_in s.E es n)
   unfolding records
   records_are =
       let a = rows_sum s.E es n s.all.front s.all.rises in
@@ -132,18 +134,18 @@ module _ (g : List ℕ) (N P f l : ℕ) (ws bs es : List ℕ) (n : ℕ) (s : Com
       omega arith
 
   module _ (r : ℕ) (is : r ≡ records s.T s.all.Rs + sum (λ (ds : List Edge). length ds) (rows_in s.E es n)) (words : ℕ) where
-    limited : (b : Bool) → ltb l r ≡ b → ltb (min s.room record_limit) (records s.T s.all.Rs + sum (λ (ds : List Edge). length ds) (rows_in s.E es n)) ≡ b
+    limited : (b : Bool) → ltb sizes.limit r ≡ b → ltb (min s.room record_limit) (records s.T s.all.Rs + sum (λ (ds : List Edge). length ds) (rows_in s.E es n)) ≡ b
     limited b q = rw (← is, ← s.counted.limit_is) q
 
-    pub edges_pass : l < r → MeasuredAs s.T s.room words s.all.Rs (rows_in s.E es n) Stops
+    pub edges_pass : sizes.limit < r → MeasuredAs s.T s.room words s.all.Rs (rows_in s.E es n) (Err Records)
     unfolding MeasuredAs finish
-    edges_pass h = rw (limited true (lt-ltb l r h), finish) refl
+    edges_pass h = rw (limited true (lt-ltb sizes.limit r h), finish) refl
 
-    module _ (low : r ≤ l) (c : ℕ) (many : c ≡ sum (λ (S : List ℕ). length (clashes s.T S)) s.all.Rs) where
-      pub conflicts_pass : words < 5 * c → MeasuredAs s.T s.room words s.all.Rs (rows_in s.E es n) Stops
+    module _ (low : r ≤ sizes.limit) (c : ℕ) (many : c ≡ sum (λ (S : List ℕ). length (clashes s.T S)) s.all.Rs) where
+      pub conflicts_pass : words < 5 * c → MeasuredAs s.T s.room words s.all.Rs (rows_in s.E es n) (Err Records)
       unfolding MeasuredAs finish
-      conflicts_pass h = rw (limited false (le-ltb l r low), ← many, lt-ltb words (5 * c) h, finish) refl
+      conflicts_pass h = rw (limited false (le-ltb sizes.limit r low), ← many, lt-ltb words (5 * c) h, finish) refl
 
-      pub measured : 5 * c ≤ words → c ≤ 135266304 → MeasuredAs s.T s.room words s.all.Rs (rows_in s.E es n) (Fits r c)
+      pub measured : 5 * c ≤ words → c ≤ 135266304 → MeasuredAs s.T s.room words s.all.Rs (rows_in s.E es n) (Ok (record { records = r; conflicts = c }))
       unfolding MeasuredAs finish
-      measured h few = (rw (limited false (le-ltb l r low), ← many, le-ltb words (5 * c) h, finish) refl, is, many, few)
+      measured h few = (rw (limited false (le-ltb sizes.limit r low), ← many, le-ltb words (5 * c) h, finish) refl, is, many, few)

@@ -1,5 +1,5 @@
 -- All states found, as words hold them: what counting and writing them gets, and what is decided at the end. Assumes nothing: these are definitions.
-use Rattle.std.specs.Prelude.{ℕ, ◌+◌, ◌≤◌, ◌<◌, ◌≡◌, List, length}
+use Rattle.std.specs.Prelude.{Result, Ok, Err, ℕ, ◌+◌, ◌≤◌, ◌<◌, ◌≡◌, List, length}
 use Rattle.repr.specs.Meaning.{Edge, Table}
 use Rattle.closing.specs.Grammar.{Grammar}
 use Rattle.build.specs.States.{built, clashes}
@@ -9,7 +9,9 @@ use Rattle.finding.specs.Steps.{Found}
 use Rattle.starting.specs.Start.{Counted}
 use Rattle.collecting.specs.Rows.{FoundAll}
 use Rattle.measuring.specs.declared.Measured.{Measured}
-use Rattle.measuring.specs.declared.Measured.TheVariants.{Stops, Fits}
+use Rattle.finding.specs.declared.Halt.{Halt}
+use Rattle.finding.specs.declared.Sizes.{Sizes}
+use Rattle.finding.specs.Search.{refusal_of}
 
 -- the n states of some table
 pub record Collection (g : List ℕ) (productions : ℕ) (ws bs : List ℕ) (n : ℕ) : Type 0 where
@@ -24,7 +26,7 @@ pub record Collection (g : List ℕ) (productions : ℕ) (ws bs : List ℕ) (n :
   pub many : n ≡ length Rs
 
 -- with their edges, and the numbers of specs/Start of starting
-pub record Complete (g : List ℕ) (nonterminals productions fixed limit : ℕ) (ws bs es : List ℕ) (n : ℕ) : Type 0 where
+pub record Complete (g : List ℕ) (sizes : Sizes) (ws bs es : List ℕ) (n : ℕ) : Type 0 where
   pub T : Table
   pub start : ℕ
   pub room : ℕ
@@ -32,14 +34,14 @@ pub record Complete (g : List ℕ) (nonterminals productions fixed limit : ℕ) 
   pub sets : List ℕ
   pub w : Found
   pub E : List ℕ
-  pub grammar : Grammar T g productions terminals sets
-  pub started : start < productions
-  pub counted : Counted T room nonterminals fixed limit
-  pub small : fixed ≤ 65536
+  pub grammar : Grammar T g sizes.productions terminals sets
+  pub started : start < sizes.productions
+  pub counted : Counted T room sizes.nonterminals sizes.fixed sizes.limit
+  pub small : sizes.fixed ≤ 65536
   pub all : FoundAll T start w ws bs E es n
 
-abbrev pub collection : (g : List ℕ) (N P f l : ℕ) (ws bs es : List ℕ) (n : ℕ) → Complete g N P f l ws bs es n → Collection g P ws bs n
-collection g N P f l ws bs es n s = record {
+abbrev pub collection : (g : List ℕ) (sizes : Sizes) (ws bs es : List ℕ) (n : ℕ) → Complete g sizes ws bs es n → Collection g sizes.productions ws bs n
+collection g sizes ws bs es n s = record {
   T = s.T;
   start = s.start;
   terminals = s.terminals;
@@ -52,7 +54,7 @@ collection g N P f l ws bs es n s = record {
 }
 
 -- refusal 17 for the edges or the conflicts, else how many records and conflicts there are, which 32 bits hold
-unfoldable pub MeasuredAs : Table → ℕ → ℕ → List (List ℕ) → List (List Edge) → Measured → Type 0
-MeasuredAs T room words Rs ds Stops = finish T room words (built Rs ds) ≡ refused 17
-MeasuredAs T room words Rs ds (Fits r c) =
-    (finish T room words (built Rs ds) ≡ full Rs ds) × (r ≡ records T Rs + sum (λ (es : List Edge). length es) ds) × (c ≡ sum (λ (S : List ℕ). length (clashes T S)) Rs) × (c ≤ 135266304)
+unfoldable pub MeasuredAs : Table → ℕ → ℕ → List (List ℕ) → List (List Edge) → Result Measured Halt → Type 0
+MeasuredAs T room words Rs ds (Err h) = finish T room words (built Rs ds) ≡ refused (refusal_of h)
+MeasuredAs T room words Rs ds (Ok m) =
+    (finish T room words (built Rs ds) ≡ full Rs ds) × (m.records ≡ records T Rs + sum (λ (es : List Edge). length es) ds) × (m.conflicts ≡ sum (λ (S : List ℕ). length (clashes T S)) Rs) × (m.conflicts ≤ 135266304)

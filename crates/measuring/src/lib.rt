@@ -10,14 +10,14 @@ ghost use Rattle.collecting.specs.Rows.{rows_in};
 ghost use Rattle.measuring.specs.Complete.{Collection, Complete, MeasuredAs};
 
 use conflict_counts::count_state;
-use finding::Sizes;
+use finding::{Halt, Sizes};
 use kept_states::unpack;
 
-// Refused, or how many records and conflicts.
+// How many records and conflicts there are.
 #[derive(Clone, Copy)]
-pub enum Measured {
-    Stops,
-    Fits(usize, usize),
+pub struct Measured {
+    pub records: usize,
+    pub conflicts: usize,
 }
 
 // The conflicts of state k.
@@ -34,8 +34,7 @@ fn count_at(
     ensures { (result ≤ 1056768) × ((s : Collection grammar.now productions words.now begins.now states) → result ≡ length (clashes s.T (get_or s.Rs k []))) }
 {
     let state = unpack(words, begins[k], begins[k + 1]);
-    let map = state.map;
-    count_state(grammar, productions, &map)
+    count_state(grammar, productions, &state)
 }
 
 // The conflicts of all.
@@ -49,11 +48,9 @@ pub fn count_conflicts(
     requires { Collection grammar.now productions words.now begins.now states }
     ensures { (result ≤ 135266304) × ((s : Collection grammar.now productions words.now begins.now states) → result ≡ sum (λ (S : List ℕ). length (clashes s.T S)) s.Rs) }
 {
-    let mut many: usize = 0;
-    let mut k: usize = 0;
-    while k < states {
+    let mut many = 0;
+    for k in 0..states {
         many += count_at(grammar, productions, words, begins, states, k);
-        k += 1;
     }
     many
 }
@@ -67,8 +64,8 @@ fn table_records(
     rows: &[usize; 129],
     states: usize,
 ) -> usize
-    requires { Complete grammar.now sizes.nonterminals sizes.productions sizes.fixed sizes.limit words.now begins.now rows.now states }
-    ensures { (s : Complete grammar.now sizes.nonterminals sizes.productions sizes.fixed sizes.limit words.now begins.now rows.now states) → result ≡ records s.T s.all.Rs + sum (λ (es : List Edge). length es) (rows_in s.E rows.now states) }
+    requires { Complete grammar.now sizes words.now begins.now rows.now states }
+    ensures { (s : Complete grammar.now sizes words.now begins.now rows.now states) → result ≡ records s.T s.all.Rs + sum (λ (es : List Edge). length es) (rows_in s.E rows.now states) }
 {
     sizes.fixed + states + begins[states] + rows[states]
 }
@@ -82,17 +79,17 @@ pub fn measure(
     rows: &[usize; 129],
     states: usize,
     room: usize,
-) -> Measured
-    requires { Complete grammar.now sizes.nonterminals sizes.productions sizes.fixed sizes.limit words.now begins.now rows.now states }
-    ensures { (s : Complete grammar.now sizes.nonterminals sizes.productions sizes.fixed sizes.limit words.now begins.now rows.now states) → MeasuredAs s.T s.room room s.all.Rs (rows_in s.E rows.now states) result }
+) -> Result<Measured, Halt>
+    requires { Complete grammar.now sizes words.now begins.now rows.now states }
+    ensures { (s : Complete grammar.now sizes words.now begins.now rows.now states) → MeasuredAs s.T s.room room s.all.Rs (rows_in s.E rows.now states) result }
 {
     let records = table_records(grammar, sizes, words, begins, rows, states);
     if sizes.limit < records {
-        return Measured::Stops;
+        return Err(Halt::Records);
     }
     let conflicts = count_conflicts(grammar, sizes.productions, words, begins, states);
     if room < 5 * conflicts {
-        return Measured::Stops;
+        return Err(Halt::Records);
     }
-    Measured::Fits(records, conflicts)
+    Ok(Measured { records, conflicts })
 }

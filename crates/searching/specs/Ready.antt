@@ -2,12 +2,13 @@
 use Rattle.std.specs.Prelude.{ℕ, ◌≤◌, ◌<◌, List}
 use Rattle.repr.specs.Meaning.{Table}
 use Rattle.closing.specs.Grammar.{Grammar}
+use Rattle.finding.specs.declared.Sizes.{Sizes}
 use Rattle.starting.specs.Start.{Counted}
 
-pub record Ready (g : List ℕ) (nonterminals terminals productions fixed limit : ℕ) (sets : List ℕ) (start : ℕ) : Type 0 where
+pub record Ready (g : List ℕ) (sizes : Sizes) (sets : List ℕ) (start : ℕ) : Type 0 where
   pub T : Table
   pub room : ℕ
-  pub grammar : Grammar T g productions terminals sets
-  pub counted : Counted T room nonterminals fixed limit
-  pub started : start < productions
-  pub small : fixed ≤ 65536
+  pub grammar : Grammar T g sizes.productions sizes.terminals sets
+  pub counted : Counted T room sizes.nonterminals sizes.fixed sizes.limit
+  pub started : start < sizes.productions
+  pub small : sizes.fixed ≤ 65536

@@ -8,11 +8,11 @@ ghost use Rattle.finding.specs.Steps.{found_to};
 ghost use Rattle.collecting.specs.Rows.{FoundAs};
 ghost use Rattle.searching.specs.Ready.{Ready};
 
-use collecting::{States, find_states};
-use finding::Sizes;
+use collecting::find_states;
+use finding::{Halt, Sizes};
 use starting::first_state;
 
-// All states and their edges, or refusal 16 or 17.
+// All states and their edges; how many states there are.
 pub fn search_states(
     grammar: &[u16],
     sizes: Sizes,
@@ -23,13 +23,11 @@ pub fn search_states(
     kernel: &mut [u16],
     edges: &mut [u16; 12160],
     rows: &mut [usize; 129],
-) -> States
-    requires ready { Ready grammar.now sizes.nonterminals sizes.terminals sizes.productions sizes.fixed sizes.limit first.now start }
+) -> Result<usize, Halt>
+    requires ready { Ready grammar.now sizes first.now start }
     requires item_limit_in_bounds { (item_limit * 5 ≤ length kernel.old) × (record_limit * 5 ≤ length words.old) × (length begins.old ≡ suc state_limit) × (get_or begins.old 0 0 ≡ 0) × (length edges.old ≡ 12160) × (length rows.old ≡ 129) × (get_or rows.old 0 0 ≡ 0) }
-    ensures { (s : Ready grammar.now sizes.nonterminals sizes.terminals sizes.productions sizes.fixed sizes.limit first.now start) → FoundAs s.T start (found_to s.T start s.room) words.new begins.new edges.new rows.new result }
+    ensures { (s : Ready grammar.now sizes first.now start) → FoundAs s.T start (found_to s.T start s.room) words.new begins.new edges.new rows.new result }
 {
-    if first_state(grammar, sizes, first, start, words, begins, kernel) {
-        return find_states(grammar, sizes, first, words, begins, 1, kernel, edges, rows);
-    }
-    States::Stops(17)
+    first_state(grammar, sizes, first, start, words, begins, kernel)?;
+    find_states(grammar, sizes, first, words, begins, 1, kernel, edges, rows)
 }

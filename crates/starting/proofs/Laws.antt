@@ -1,6 +1,9 @@
 -- Laws of state 0. Assumes nothing.
 use mathlib.Core.Path.{◌≡◌, refl, sym, ap, ◌∙◌}
-use mathlib.Core.Bool.{Bool}
+use mathlib.Core.Bool.{Bool, true, false}
+use Rattle.std.proofs.Common.{Result, Ok, Err, MatchResult}
+use Rattle.finding.specs.declared.Halt.{Halt}
+use Rattle.finding.specs.declared.Halt.TheVariants.{Records}
 use mathlib.Core.List.{List, [], ◌∷◌}
 use Prim.Native.Nat.{ℕ, zero, suc, ◌+◌, ◌*◌, ◌^◌, ◌≤◌, ◌<◌, min}
 use native.Mathlib.Omega.{arith}
@@ -133,3 +136,10 @@ module _ (T : Table) (start room N f l P : ℕ) (c : Counted T room N f l) (ws w
         let small : get_or bs 0 0 + length (packed (take (index_limit * P) S)) ≤ record_limit = omega (arith, k.room q, c.limit_is) in
         rw (k.words q, k.begins q, is) (holds_more T start ws bs [] H (start_state T start) first (get_or bs 0 0 + length (packed (start_state T start))) (omega arith) refl (rw is at small));
   }
+
+-- by what `append` says
+pub start_told : {X : Type 0} (T : Table) (start room N f l P : ℕ) → Counted T room N f l → (ws ws' bs bs' S : List ℕ) → Holds T start ws bs [] → take (index_limit * P) S ≡ start_state T start → get_or bs 0 0 ≡ 0 → (r : Result X Halt)
+    → MatchResult r (λ x. Stored (f + 0 + 1) l (packed (take (index_limit * P) S)) ws ws' bs bs' 0 true) (λ h. (h ≡ Records) × Stored (f + 0 + 1) l (packed (take (index_limit * P) S)) ws ws' bs bs' 0 false)
+    → MatchResult r (λ x. Started T start room ws' bs' true) (λ h. (h ≡ Records) × Started T start room ws' bs' false)
+start_told T start room N f l P c ws ws' bs bs' S H is z (Ok x) k = start_stored T start room N f l P c ws ws' bs bs' S H is z true k
+start_told T start room N f l P c ws ws' bs bs' S H is z (Err h) k = (k.0, start_stored T start room N f l P c ws ws' bs bs' S H is z false k.1)

@@ -2,18 +2,18 @@
 
 #![tactic(auto)]
 
-ghost use Rattle.std.specs.Prelude.{◌≡◌, List, ℕ, suc, ◌+◌, ◌*◌, ◌≤◌, ◌<◌, length, get_or};
+ghost use Rattle.std.specs.Prelude.{◌≡◌, true, false, List, ℕ, suc, MatchResult, ◌+◌, ◌*◌, ◌≤◌, ◌<◌, length, get_or};
 ghost use Rattle.repr.specs.Sizes.{record_limit, state_limit};
 ghost use Rattle.repr.specs.Meaning.{Table};
 ghost use Rattle.closing.specs.Grammar.{Grammar, Held};
 ghost use Rattle.starting.specs.Start.{Counted, Started};
 
-use finding::{Sizes, append, close};
+use finding::{Halt, Sizes, append, close};
 use lookahead::TokenSet;
 use repr::ProductionIndex;
 use stored::{StoredItem, write_item};
 
-// Whether it has room; then it is stored.
+// Stored if it has room.
 pub fn first_state(
     grammar: &[u16],
     sizes: Sizes,
@@ -22,10 +22,10 @@ pub fn first_state(
     words: &mut [u16],
     begins: &mut [usize; 129],
     kernel: &mut [u16],
-) -> bool
+) -> Result<(), Halt>
     requires held { Held grammar.now sizes.productions sizes.terminals first.now }
     requires start_lt_productions { (start < sizes.productions) × (sizes.fixed ≤ 65536) × (sizes.limit ≤ record_limit) × (5 ≤ length kernel.old) × (record_limit * 5 ≤ length words.old) × (length begins.old ≡ suc state_limit) × (get_or begins.old 0 0 ≡ 0) }
-    ensures { (length kernel.new ≡ length kernel.old) × ((T : Table) (room : ℕ) → Grammar T grammar.now sizes.productions sizes.terminals first.now → Counted T room sizes.nonterminals sizes.fixed sizes.limit → Started T start room words.new begins.new result) }
+    ensures { (length kernel.new ≡ length kernel.old) × ((T : Table) (room : ℕ) → Grammar T grammar.now sizes.productions sizes.terminals first.now → Counted T room sizes.nonterminals sizes.fixed sizes.limit → let started = Started T start room words.new begins.new in MatchResult result (λ u. started true) (λ h. (h ≡ Halt.Records) × started false)) }
 {
     let end = TokenSet::eof(sizes.terminals);
     let item = StoredItem {
@@ -33,6 +33,6 @@ pub fn first_state(
         set: end.0,
     };
     write_item(kernel, 0, item);
-    let map = close(grammar, sizes, first, kernel, 1).map;
-    append(&map, sizes, words, begins, 0)
+    let state = close(grammar, sizes, first, kernel, 1);
+    append(&state, sizes, words, begins, 0)
 }

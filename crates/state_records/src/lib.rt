@@ -28,14 +28,12 @@ pub fn write_states(
     requires { (U : Table) × ((states ≡ length U.states) × ((at ≡ states_at U) × ((items ≡ items_place U) × ((edges ≡ edges_at U) × (Begins (item_lists U) begins.now × (Begins (edge_lists U) rows.now × Room U out.old)))))) }
     ensures { (U : Table) → states ≡ length U.states → at ≡ states_at U → items ≡ items_place U → edges ≡ edges_at U → Begins (item_lists U) begins.now → Begins (edge_lists U) rows.now → Room U out.old → Grown U out.old out.new (states_at U) (productions_at U) }
 {
-    let mut s: usize = 0;
-    while s < states {
+    for s in 0..states {
         let item = begins[s];
         let edge = rows[s];
         let item_head = head_of(begins[s + 1] - item, items + item);
         let edge_head = head_of(rows[s + 1] - edge, edges + edge);
         put(out, at + s, item_head, edge_head, 0, 0);
-        s += 1;
     }
 }
 
@@ -45,8 +43,7 @@ fn write_state_items(words: &[u16], from: usize, past: usize, items: usize, out:
     requires stands { (U : Table) × (Stands (quads U) (items + from) (chain_from item_quad (items + from) (map item_of (entries words.now from (past - from)))) × Room U out.old) }
     ensures { (U : Table) → Stands (quads U) (items + from) (chain_from item_quad (items + from) (map item_of (entries words.now from (past - from)))) → Room U out.old → Grown U out.old out.new (items + from) (items + past) }
 {
-    let mut m = from;
-    while m < past {
+    for m in from..past {
         let place = repr::word(words, m * 5);
         let next = next_of(past - m - 1, items + m);
         put(
@@ -57,7 +54,6 @@ fn write_state_items(words: &[u16], from: usize, past: usize, items: usize, out:
             place % ProductionIndex::INDEXES,
             0,
         );
-        m += 1;
     }
 }
 
@@ -72,18 +68,9 @@ pub fn write_items(
     requires { (U : Table) × ((states ≡ length U.states) × ((items ≡ items_place U) × (ItemsIn U words.now begins.now × Room U out.old))) }
     ensures { (U : Table) → states ≡ length U.states → items ≡ items_place U → ItemsIn U words.now begins.now → Room U out.old → Grown U out.old out.new (items_place U) (edges_at U) }
 {
-    let mut k: usize = 0;
-    while k < states {
+    for k in 0..states {
         write_state_items(words, begins[k], begins[k + 1], items, out);
-        k += 1;
     }
-}
-
-// A word as a number: its range goes with it.
-fn wide(word: u16) -> usize
-    ensures { (result ≡ word) × (result < 65536) }
-{
-    word as usize
 }
 
 // The edges of one state.
@@ -92,9 +79,8 @@ fn write_state_edges(edges: &[u16; 12160], from: usize, past: usize, at: usize, 
     requires stands { (U : Table) × (Stands (quads U) (at + from) (chain_from edge_quad (at + from) (edges_in edges.now from (past - from))) × Room U out.old) }
     ensures { (U : Table) → Stands (quads U) (at + from) (chain_from edge_quad (at + from) (edges_in edges.now from (past - from))) → Room U out.old → Grown U out.old out.new (at + from) (at + past) }
 {
-    let mut m = from;
-    while m < past {
-        let edge = wide(edges[m]);
+    for m in from..past {
+        let edge = usize::from(edges[m]);
         let symbol = edge / 128;
         let target = edge % 128;
         let next = next_of(past - m - 1, at + m);
@@ -103,7 +89,6 @@ fn write_state_edges(edges: &[u16; 12160], from: usize, past: usize, at: usize, 
         } else {
             put(out, at + m, next, 1, symbol - 32, target);
         }
-        m += 1;
     }
 }
 
@@ -118,9 +103,7 @@ pub fn write_edges(
     requires { (U : Table) × ((states ≡ length U.states) × ((at ≡ edges_at U) × (EdgesIn U edges.now rows.now × Room U out.old))) }
     ensures { (U : Table) → states ≡ length U.states → at ≡ edges_at U → EdgesIn U edges.now rows.now → Room U out.old → Grown U out.old out.new (edges_at U) (records_of U) }
 {
-    let mut k: usize = 0;
-    while k < states {
+    for k in 0..states {
         write_state_edges(edges, rows[k], rows[k + 1], at, out);
-        k += 1;
     }
 }

@@ -226,20 +226,19 @@ met_short x s k m n e z = record {
 }
 
 module _ (x s y t : ℕ) (k : List ℕ) (m n : ℕ) (h : m < n) (z : x % index_limit ≡ 0 → ⊥) (e : record { place = y; set = t } ≡ entry_at k m) where
-  pub met_differs : ((x ≡ y) × (s ≡ t) → ⊥) → MetAfter x s k m n (n + 1)
-  met_differs ne = record {
+  pub met_differs : (eqb x y && eqb s t) ≡ false → MetAfter x s k m n (n + 1)
+  unfolding same_entry
+  met_differs q = record {
     high = omega arith;
     goes = λ l. absurd (omega arith);
-    stops = λ l es. rw (entries_at k m n h, ← e, kernel_both x s es (record { place = y; set = t }) (entries k (m + 1) (n - (m + 1))) z, differ) refl;
+    stops = λ l es. rw (entries_at k m n h, ← e, kernel_both x s es (record { place = y; set = t }) (entries k (m + 1) (n - (m + 1))) z, same_entry, q) refl;
   }
-    where
-      differ : same_entry (record { place = x; set = s }) (record { place = y; set = t }) ≡ false
-      differ = differs x s y t ne
 
-  pub met_same : x ≡ y → s ≡ t → MetAfter x s k m n (m + 1)
-  met_same p q = record {
+  pub met_same : (eqb x y && eqb s t) ≡ true → MetAfter x s k m n (m + 1)
+  unfolding same_entry
+  met_same q = record {
     high = omega arith;
-    goes = λ l es. rw (entries_at k m n h, ← e, kernel_both x s es (record { place = y; set = t }) (entries k (m + 1) (n - (m + 1))) z, alike x s y t p q) refl;
+    goes = λ l es. rw (entries_at k m n h, ← e, kernel_both x s es (record { place = y; set = t }) (entries k (m + 1) (n - (m + 1))) z, same_entry, q) refl;
     stops = λ l. absurd (omega arith);
   }
 

@@ -2,7 +2,7 @@
 
 #![tactic(auto)]
 
-ghost use Rattle.std.specs.Prelude.{◌≡◌, ℕ, ◌+◌, ◌-◌, ◌*◌, ◌^◌, ◌<◌, ◌≤◌, List, length, slice_index};
+ghost use Rattle.std.specs.Prelude.{◌≡◌, ℕ, ◌+◌, ◌-◌, ◌*◌, ◌^◌, ◌<◌, ◌≤◌, List, MatchOption, length};
 ghost use Rattle.repr.specs.Sizes.{index_limit, record_limit};
 ghost use Rattle.repr.specs.Packed.{Packed};
 ghost use Rattle.stored.specs.Stored.{entry_at, entries, put_entry, moved_over, is_same_kernel, Appended, MetAfter};
@@ -11,18 +11,10 @@ use lr1_core::Item;
 use repr::{ProductionIndex, word};
 
 // An item by its place, 17 * production + index, with its tokens.
-#[derive(Clone, Copy)]
+#[derive(Clone, Copy, PartialEq)]
 pub struct StoredItem {
     pub place: usize,
     pub set: u64,
-}
-
-// A word, to be part of a set.
-fn part(words: &[u16], at: usize) -> u64
-    requires { at < length words.now }
-    ensures { (result ≡ slice_index words.now at) × (result < 65536) }
-{
-    words[at] as u64
 }
 
 pub fn read_item(words: &[u16], at: usize) -> StoredItem
@@ -31,12 +23,12 @@ pub fn read_item(words: &[u16], at: usize) -> StoredItem
 {
     let base = at * 5;
     let place = word(words, base);
-    let a = part(words, base + 1);
-    let b = part(words, base + 2);
-    let c = part(words, base + 3);
-    let d = part(words, base + 4);
+    let a = u64::from(words[base + 1]);
+    let b = u64::from(words[base + 2]);
+    let c = u64::from(words[base + 3]);
+    let d = u64::from(words[base + 4]);
     StoredItem {
-        place: place,
+        place,
         set: a + 65536 * (b + 65536 * (c + 65536 * d)),
     }
 }
@@ -102,34 +94,26 @@ pub fn move_over(
     ensures { (result ≤ past - from) × (length kernel.new ≡ length kernel.old) × (entries kernel.new 0 result ≡ moved_over grammar.now symbol (entries words.now from (past - from))) }
 {
     let mut many: usize = 0;
-    let mut at = from;
-    while at < past {
+    for at in from..past {
         let read = read_item(words, at);
         many = move_one(grammar, productions, read, symbol, kernel, many);
-        at += 1;
     }
     many
 }
 
-// How many of a kernel's items are met after one item more: an index-0 item is passed over; one more than the kernel has if the item is not the kernel's next.
-fn meet_one(mine: StoredItem, kernel: &[u16], met: usize, many: usize) -> usize
+// How many of a kernel's items are met after one item more: an index-0 item is passed over. None if the item is not the kernel's next.
+fn meet_one(mine: StoredItem, kernel: &[u16], met: usize, many: usize) -> Option<usize>
     requires { (met ≤ many) × (many ≤ record_limit) × (many * 5 ≤ length kernel.now) }
-    ensures { MetAfter mine.place mine.set kernel.now met many result }
+    ensures { MatchOption result (MetAfter mine.place mine.set kernel.now met many (many + 1)) (λ n. (n ≤ many) × MetAfter mine.place mine.set kernel.now met many n) }
 {
     if mine.place % ProductionIndex::INDEXES == 0 {
-        return met;
+        return Some(met);
     }
     if met == many {
-        return many + 1;
+        return None;
     }
     let other = read_item(kernel, met);
-    if mine.place != other.place {
-        return many + 1;
-    }
-    if mine.set != other.set {
-        return many + 1;
-    }
-    met + 1
+    if mine == other { Some(met + 1) } else { None }
 }
 
 // Whether the items number `from` up to `past` have exactly these past index 0.
@@ -137,15 +121,13 @@ pub fn same_kernel(words: &[u16], from: usize, past: usize, kernel: &[u16], many
     requires { (from ≤ past) × (past ≤ record_limit) × (past * 5 ≤ length words.now) × (many ≤ record_limit) × (many * 5 ≤ length kernel.now) }
     ensures { result ≡ is_same_kernel (entries words.now from (past - from)) (entries kernel.now 0 many) }
 {
-    let mut at = from;
-    let mut met: usize = 0;
-    while at < past {
+    let mut met = 0;
+    for at in from..past {
         let mine = read_item(words, at);
-        met = meet_one(mine, kernel, met, many);
-        if many < met {
-            return false;
+        match meet_one(mine, kernel, met, many) {
+            Some(more) => met = more,
+            None => return false,
         }
-        at += 1;
     }
     met == many
 }

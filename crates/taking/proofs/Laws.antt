@@ -1,4 +1,5 @@
 -- Laws of taking a state, one for each way through the code. Assumes nothing.
+use Rattle.std.proofs.Common.{Option, Some, None, Result, Ok, Err}
 use mathlib.Core.Path.{◌≡◌, refl, sym, ap, ◌∙◌, subst}
 use mathlib.Core.List.{List, [], ◌∷◌, ◌++◌, map, append-nil, append_assoc}
 use Prim.Native.Nat.{ℕ, zero, suc, ◌+◌, ◌-◌, ◌*◌, ◌/◌, ◌%◌, ◌≤◌, ◌<◌}
@@ -15,18 +16,16 @@ use Rattle.repr.proofs.Lists.{cases, up_from-last, length-map-below, get_d_map-b
 use Rattle.build.specs.States.{tried}
 use Rattle.kept_states.specs.Made.{Holds}
 use Rattle.finding.specs.Steps.{Reach, stops, goto_to, Told, stopped, told, behind, take_to}
-use Rattle.finding.specs.Search.{Search, Keeps, Reached, symbol_of_code, CodeFits}
-use Rattle.finding.specs.declared.Goto.{Goto}
-use Rattle.finding.specs.declared.Goto.TheVariants.{Nowhere, To, Stops as NotTo}
+use Rattle.finding.specs.Search.{Search, Keeps, Reached, refusal_of, symbol_of_code, CodeFits}
+use Rattle.finding.specs.declared.Halt.{Halt}
+use Rattle.finding.specs.declared.Sizes.{Sizes}
 use Rattle.finding.proofs.Steps.{to_nowhere, to_stops, to_reach}
 use Rattle.taking.specs.Taking.{edge_of, edges_in, code_of, TookOne, passed, reached, Tried, TakenAs}
-use Rattle.taking.specs.declared.Taken.{Taken}
-use Rattle.taking.specs.declared.Taken.TheVariants.{Stops, Goes}
 
 -- the same search later on
-abbrev pub search_on : (g : List ℕ) (N e P f l : ℕ) (sets ws bs ws' bs' : List ℕ) (n q : ℕ) (s : Search g N e P f l sets ws bs n) (Qs : List (List ℕ)) → q ≡ length Qs → Holds s.T s.start ws' bs' Qs
-    → Search g N e P f l sets ws' bs' q
-search_on g N e P f l sets ws bs ws' bs' n q s Qs m H = record {
+abbrev pub search_on : (g : List ℕ) (sizes : Sizes) (sets ws bs ws' bs' : List ℕ) (n q : ℕ) (s : Search g sizes sets ws bs n) (Qs : List (List ℕ)) → q ≡ length Qs → Holds s.T s.start ws' bs' Qs
+    → Search g sizes sets ws' bs' q
+search_on g sizes sets ws bs ws' bs' n q s Qs m H = record {
   T = s.T;
   start = s.start;
   room = s.room;
@@ -43,20 +42,20 @@ search_on g N e P f l sets ws bs ws' bs' n q s Qs m H = record {
 
 -- one symbol
 
-module _ (T : Table) (start : ℕ) (Rs : List (List ℕ)) (w : Reach) (ws bs : List ℕ) (r : Goto) where
-  pub tried-nowhere : (c : ℕ) (E : List ℕ) (m n : ℕ) → r ≡ Nowhere → Reached T start Rs w ws bs r → n ≡ length Rs → Tried T start Rs w c ws bs E E m (Goes n m)
+module _ (T : Table) (start : ℕ) (Rs : List (List ℕ)) (w : Reach) (ws bs : List ℕ) (r : Result (Option (ℕ × ℕ)) Halt) where
+  pub tried-nowhere : (c : ℕ) (E : List ℕ) (m n : ℕ) → r ≡ Ok None → Reached T start Rs w ws bs r → n ≡ length Rs → Tried T start Rs w c ws bs E E m (Ok (n, m))
   unfolding Reached Tried
   tried-nowhere c E m n e k q = let h = subst (Reached T start Rs w ws bs) e k in passed h.0 q h.1 refl refl
 
-  pub tried-stops : (c : ℕ) (E : List ℕ) (m n : ℕ) → r ≡ NotTo n → Reached T start Rs w ws bs r → Tried T start Rs w c ws bs E E m (Stops n)
+  pub tried-stops : (c : ℕ) (E : List ℕ) (m : ℕ) (h : Halt) → r ≡ Err h → Reached T start Rs w ws bs r → Tried T start Rs w c ws bs E E m (Err h)
   unfolding Reached Tried
-  tried-stops c E m n e k = subst (Reached T start Rs w ws bs) e k
+  tried-stops c E m h e k = subst (Reached T start Rs w ws bs) e k
 
-  pub tried_to : (c : ℕ) (E : List ℕ) (m t q : ℕ) → r ≡ To t q → Reached T start Rs w ws bs r → Tried T start Rs w c ws bs E (set E m (c * state_limit + t)) m (Goes q (m + 1))
+  pub tried_to : (c : ℕ) (E : List ℕ) (m t q : ℕ) → r ≡ Ok (Some (t, q)) → Reached T start Rs w ws bs r → Tried T start Rs w c ws bs E (set E m (c * state_limit + t)) m (Ok (q, m + 1))
   unfolding Reached Tried
   tried_to c E m t q e k = let h = subst (Reached T start Rs w ws bs) e k in reached t h.0 h.1 h.2 h.3 h.4 h.5 refl refl
 
-  pub to_small : (t q : ℕ) → r ≡ To t q → Reached T start Rs w ws bs r → t < state_limit
+  pub to_small : (t q : ℕ) → r ≡ Ok (Some (t, q)) → Reached T start Rs w ws bs r → t < state_limit
   unfolding Reached
   to_small t q e k = let h = subst (Reached T start Rs w ws bs) e k in omega (arith, h.2, h.3, h.4.begun.few)
 
@@ -201,7 +200,7 @@ keeps_trans Rs Qs Ps f g = record {
 }
 
 module _ (T : Table) (F : TableFits T) (start room : ℕ) (Rs : List (List ℕ)) (k : ℕ) (inside : k < length Rs) (ws bs E₀ E : List ℕ) (N e j c m₀ m q : ℕ) (u : Turn T start room (get_or Rs k []) Rs ws bs E₀ E j m₀ m q)
-    (n : N ≡ length T.nonterminals) (t : e ≡ T.terminals) (is : c ≡ code_of N j) (h : j < N + e) (ws' bs' E' : List ℕ) (r : Taken)
+    (n : N ≡ length T.nonterminals) (t : e ≡ T.terminals) (is : c ≡ code_of N j) (h : j < N + e) (ws' bs' E' : List ℕ) (r : Result (ℕ × ℕ) Halt)
     (k' : Tried T start u.Qs (goto_to T room (get_or u.Qs k []) u.Qs (symbol_of_code c)) c ws' bs' E E' m r) where
   abbrev S : List ℕ
   S = get_or Rs k []
@@ -215,11 +214,11 @@ module _ (T : Table) (F : TableFits T) (start room : ℕ) (Rs : List (List ℕ))
   rest_at : behind (edges_in E m₀ (m - m₀)) (take_to T room S u.Qs (X ∷ drop (j + 1) (tried T))) ≡ take_to T room S Rs (tried T)
   rest_at = rw (tried_at T F N e n t j c is h) at u.rest
 
-  pub turn_stops : (i : ℕ) → r ≡ Stops i → TakenAs T start Rs (take_to T room S Rs (tried T)) ws' bs' E₀ E' m₀ (Stops i)
+  pub turn_stops : (i : Halt) → r ≡ Err i → TakenAs T start Rs (take_to T room S Rs (tried T)) ws' bs' E₀ E' m₀ (Err i)
   unfolding Tried TakenAs
   turn_stops i q' =
-      let w : goto_to T room S u.Qs X ≡ stops i = subst (Tried T start u.Qs (goto_to T room S u.Qs X) c ws' bs' E E' m) q' step in
-      sym rest_at ∙ rw (to_stops T room S u.Qs X (drop (j + 1) (tried T)) i w) (behind-stopped (edges_in E m₀ (m - m₀)) i)
+      let w : goto_to T room S u.Qs X ≡ stops (refusal_of i) = subst (Tried T start u.Qs (goto_to T room S u.Qs X) c ws' bs' E E' m) q' step in
+      sym rest_at ∙ rw (to_stops T room S u.Qs X (drop (j + 1) (tried T)) (refusal_of i) w) (behind-stopped (edges_in E m₀ (m - m₀)) (refusal_of i))
 
   on : (q' m' : ℕ) → m < length E → TookOne T start u.Qs (goto_to T room S u.Qs X) c ws' bs' E E' m q' m' → Turn T start room S Rs ws' bs' E₀ E' (j + 1) m₀ m' q'
   on q' m' l (passed w y H x z) = record {
@@ -247,12 +246,12 @@ module _ (T : Table) (F : TableFits T) (start room : ℕ) (Rs : List (List ℕ))
             ∙ ap (behind (edges_in E m₀ (m - m₀))) (sym (to_reach T room S u.Qs X (drop (j + 1) (tried T)) o Ps w)) ∙ rest_at;
       }
 
-  pub turn_more : (q' m' : ℕ) → r ≡ Goes q' m' → m < length E → Turn T start room S Rs ws' bs' E₀ E' (j + 1) m₀ m' q'
+  pub turn_more : (q' m' : ℕ) → r ≡ Ok (q', m') → m < length E → Turn T start room S Rs ws' bs' E₀ E' (j + 1) m₀ m' q'
   unfolding Tried
   turn_more q' m' p l = on q' m' l (subst (Tried T start u.Qs (goto_to T room S u.Qs X) c ws' bs' E E' m) p step)
 
 pub turn_end : (T : Table) (F : TableFits T) (start room : ℕ) (S : List ℕ) (Rs : List (List ℕ)) (ws bs E₀ E : List ℕ) (N e j m₀ m q : ℕ) → Turn T start room S Rs ws bs E₀ E j m₀ m q → N ≡ length T.nonterminals → e ≡ T.terminals
-    → j ≤ N + e → N + e ≤ j → TakenAs T start Rs (take_to T room S Rs (tried T)) ws bs E₀ E m₀ (Goes q m)
+    → j ≤ N + e → N + e ≤ j → TakenAs T start Rs (take_to T room S Rs (tried T)) ws bs E₀ E m₀ (Ok (q, m))
 unfolding TakenAs
 turn_end T F start room S Rs ws bs E₀ E N e j m₀ m q u n t a b = record {
   Qs = u.Qs;

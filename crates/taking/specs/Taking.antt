@@ -1,14 +1,13 @@
 -- The edges found, in words: one each, symbol * 128 + target, those of a state one behind the other as tried; and what taking a state leaves.
 -- Assumes nothing: these are definitions.
-use Rattle.std.specs.Prelude.{ℕ, ◌+◌, ◌-◌, ◌*◌, ◌/◌, ◌%◌, ◌≤◌, ◌<◌, true, false, ◌≡◌, List, map, length, get_or, set, ltb}
+use Rattle.std.specs.Prelude.{ℕ, ◌+◌, ◌-◌, ◌*◌, ◌/◌, ◌%◌, ◌≤◌, ◌<◌, true, false, Result, Ok, Err, ◌≡◌, List, map, length, get_or, set, ltb}
 use Rattle.repr.specs.Sizes.{state_limit}
 use Rattle.repr.specs.Lists.{up_from}
 use Rattle.repr.specs.Meaning.{Edge, Table}
 use Rattle.kept_states.specs.Made.{Holds}
 use Rattle.finding.specs.Steps.{Reach, nowhere, stops, reach, Told, stopped, told}
-use Rattle.finding.specs.Search.{Keeps, symbol_of_code}
-use Rattle.taking.specs.declared.Taken.{Taken}
-use Rattle.taking.specs.declared.Taken.TheVariants.{Stops, Goes}
+use Rattle.finding.specs.Search.{Keeps, refusal_of, symbol_of_code}
+use Rattle.finding.specs.declared.Halt.{Halt}
 
 unfoldable pub edge_of : ℕ → Edge
 edge_of w = record { symbol = symbol_of_code (w / state_limit); target = w % state_limit }
@@ -26,9 +25,9 @@ pub data TookOne (T : Table) (start : ℕ) (Rs : List (List ℕ)) (w : Reach) (c
   passed : w ≡ nowhere → q ≡ length Rs → Holds T start ws bs Rs → E' ≡ E → m' ≡ m → TookOne T start Rs w c ws bs E E' m q m'
   reached : (t : ℕ) (Qs : List (List ℕ)) → w ≡ reach t Qs → q ≡ length Qs → t < q → Holds T start ws bs Qs → Keeps Rs Qs → E' ≡ set E m (c * state_limit + t) → m' ≡ m + 1 → TookOne T start Rs w c ws bs E E' m q m'
 
-unfoldable pub Tried : Table → ℕ → List (List ℕ) → Reach → ℕ → List ℕ → List ℕ → List ℕ → List ℕ → ℕ → Taken → Type 0
-Tried T start Rs w c ws bs E E' m (Stops n) = w ≡ stops n
-Tried T start Rs w c ws bs E E' m (Goes q m') = TookOne T start Rs w c ws bs E E' m q m'
+unfoldable pub Tried : Table → ℕ → List (List ℕ) → Reach → ℕ → List ℕ → List ℕ → List ℕ → List ℕ → ℕ → Result (ℕ × ℕ) Halt → Type 0
+Tried T start Rs w c ws bs E E' m (Err h) = w ≡ stops (refusal_of h)
+Tried T start Rs w c ws bs E E' m (Ok p) = TookOne T start Rs w c ws bs E E' m p.0 p.1
 
 -- a state taken
 pub record TookAll (T : Table) (start : ℕ) (Rs : List (List ℕ)) (w : Told) (ws bs E E' : List ℕ) (m q m' : ℕ) : Type 0 where
@@ -41,6 +40,6 @@ pub record TookAll (T : Table) (start : ℕ) (Rs : List (List ℕ)) (w : Told) (
   pub high : m' ≤ m + 95
   pub same : (i : ℕ) → i < m → get_or E' i 0 ≡ get_or E i 0
 
-unfoldable pub TakenAs : Table → ℕ → List (List ℕ) → Told → List ℕ → List ℕ → List ℕ → List ℕ → ℕ → Taken → Type 0
-TakenAs T start Rs w ws bs E E' m (Stops n) = w ≡ stopped n
-TakenAs T start Rs w ws bs E E' m (Goes q m') = TookAll T start Rs w ws bs E E' m q m'
+unfoldable pub TakenAs : Table → ℕ → List (List ℕ) → Told → List ℕ → List ℕ → List ℕ → List ℕ → ℕ → Result (ℕ × ℕ) Halt → Type 0
+TakenAs T start Rs w ws bs E E' m (Err h) = w ≡ stopped (refusal_of h)
+TakenAs T start Rs w ws bs E E' m (Ok p) = TookAll T start Rs w ws bs E E' m p.0 p.1

@@ -9,14 +9,7 @@ ghost use Rattle.finding.specs.Steps.{goto_to, take_to};
 ghost use Rattle.finding.specs.Search.{Search, CodeFits, symbol_of_code};
 ghost use Rattle.taking.specs.Taking.{code_of, Tried, TakenAs};
 
-use finding::{Goto, Sizes, goto_over};
-
-// How many states and edges there are when a symbol was tried or a state taken; or the refusal.
-#[derive(Clone, Copy)]
-pub enum Taken {
-    Stops(u16),
-    Goes(usize, usize),
-}
+use finding::{Halt, Sizes, goto_over};
 
 // Symbol j of those tried, by its number.
 fn code_of(nonterminals: usize, j: usize) -> usize
@@ -24,12 +17,13 @@ fn code_of(nonterminals: usize, j: usize) -> usize
     ensures { result ≡ code_of nonterminals j }
 {
     if j < nonterminals {
-        return j;
+        j
+    } else {
+        32 + (j - nonterminals)
     }
-    32 + (j - nonterminals)
 }
 
-// One symbol tried, its edge behind the others.
+// One symbol tried, its edge behind the others; how many states and edges there are then.
 fn take_one(
     grammar: &[u16],
     sizes: Sizes,
@@ -42,25 +36,24 @@ fn take_one(
     kernel: &mut [u16],
     edges: &mut [u16; 12160],
     many: usize,
-) -> Taken
-    requires search { Search grammar.now sizes.nonterminals sizes.terminals sizes.productions sizes.fixed sizes.limit first.now words.old begins.old states }
+) -> Result<(usize, usize), Halt>
+    requires search { Search grammar.now sizes first.now words.old begins.old states }
     requires k_lt_states { (k < states) × CodeFits sizes.nonterminals sizes.terminals symbol × (symbol < 95) × (item_limit * 5 ≤ length kernel.old) × (length edges.old ≡ 12160) × (many < 12160) }
-    ensures { (length kernel.new ≡ length kernel.old) × (length edges.new ≡ 12160) × ((s : Search grammar.now sizes.nonterminals sizes.terminals sizes.productions sizes.fixed sizes.limit first.now words.old begins.old states) → Tried s.T s.start s.Rs (goto_to s.T s.room (get_or s.Rs k []) s.Rs (symbol_of_code symbol)) symbol words.new begins.new edges.old edges.new many result) }
+    ensures { (length edges.new ≡ 12160) × ((s : Search grammar.now sizes first.now words.old begins.old states) → Tried s.T s.start s.Rs (goto_to s.T s.room (get_or s.Rs k []) s.Rs (symbol_of_code symbol)) symbol words.new begins.new edges.old edges.new many result) }
 {
     let step = goto_over(
         grammar, sizes, first, words, begins, states, k, symbol, kernel,
-    );
+    )?;
     match step {
-        Goto::Nowhere => Taken::Goes(states, many),
-        Goto::Stops(refusal) => Taken::Stops(refusal),
-        Goto::To(target, more) => {
+        None => Ok((states, many)),
+        Some((target, more)) => {
             edges[many] = (symbol * 128 + target) as u16;
-            Taken::Goes(more, many + 1)
+            Ok((more, many + 1))
         }
     }
 }
 
-// State k taken.
+// State k taken; how many states and edges there are then.
 pub fn take_state(
     grammar: &[u16],
     sizes: Sizes,
@@ -72,31 +65,20 @@ pub fn take_state(
     kernel: &mut [u16],
     edges: &mut [u16; 12160],
     before: usize,
-) -> Taken
-    requires search { Search grammar.now sizes.nonterminals sizes.terminals sizes.productions sizes.fixed sizes.limit first.now words.old begins.old found }
+) -> Result<(usize, usize), Halt>
+    requires search { Search grammar.now sizes first.now words.old begins.old found }
     requires k_lt_found { (k < found) × (item_limit * 5 ≤ length kernel.old) × (length edges.old ≡ 12160) × (before + 95 ≤ 12160) }
-    ensures { (length kernel.new ≡ length kernel.old) × (length edges.new ≡ 12160) × ((s : Search grammar.now sizes.nonterminals sizes.terminals sizes.productions sizes.fixed sizes.limit first.now words.old begins.old found) → TakenAs s.T s.start s.Rs (take_to s.T s.room (get_or s.Rs k []) s.Rs (tried s.T)) words.new begins.new edges.old edges.new before result) }
+    ensures { (length kernel.new ≡ length kernel.old) × (length edges.new ≡ 12160) × ((s : Search grammar.now sizes first.now words.old begins.old found) → TakenAs s.T s.start s.Rs (take_to s.T s.room (get_or s.Rs k []) s.Rs (tried s.T)) words.new begins.new edges.old edges.new before result) }
 {
     let nonterminals = sizes.nonterminals;
     let symbols = nonterminals + sizes.terminals as usize;
     let mut states = found;
     let mut many = before;
-    let mut j: usize = 0;
-    while j < symbols {
+    for j in 0..symbols {
         let symbol = code_of(nonterminals, j);
-        let step = take_one(
+        (states, many) = take_one(
             grammar, sizes, first, words, begins, states, k, symbol, kernel, edges, many,
-        );
-        match step {
-            Taken::Stops(refusal) => {
-                return Taken::Stops(refusal);
-            }
-            Taken::Goes(q, m) => {
-                states = q;
-                many = m;
-            }
-        }
-        j += 1;
+        )?;
     }
-    Taken::Goes(states, many)
+    Ok((states, many))
 }

@@ -1,5 +1,4 @@
 use Rattle.augment.proofs.Uses.{passing_found, passing_step, passing_end, passing_fits}
-use native.Mathlib.Omega.{arith}
 use Rattle.augment.proofs.stands_in.Goals as goal
 
 pub symbols-requires : goal.symbols-requires
@@ -10,12 +9,6 @@ is_among-requires c = passing_fits _ _ _ _ c.requires c.loop-p-test.true c.symbo
 
 pub returns-then-is_among : goal.returns-then-is_among
 returns-then-is_among c = passing_found _ _ _ _ c.requires c.loop-p.invariant c.loop-p-test.true _ _ c.symbols.ensures c.is_among.ensures c.if-is_among.true
-
-pub overflow_add-p : goal.overflow_add-p
-overflow_add-p c = omega (arith, c.loop-p-test.true, c.requires.few)
-
-pub loop-p-smaller : goal.loop-p-smaller
-loop-p-smaller c = omega (arith, c.loop-p-test.true)
 
 pub loop-p-preserved : goal.loop-p-preserved
 loop-p-preserved c = passing_step _ _ _ _ c.requires c.loop-p.invariant c.loop-p-test.true _ _ c.symbols.ensures c.is_among.ensures c.if-is_among.false

@@ -1,11 +1,10 @@
-use Rattle.std.proofs.Common.{length-set}
 use Rattle.lr1_core.proofs.Cursor.{code_inside}
 use Rattle.closing.proofs.Grammar.{suffix-fits}
 use Rattle.closing.proofs.Fed.{feed-none, feed-step, feed_past}
 use Rattle.closing.proofs.feed.Goals as goal
 
 pub returns-then-tokens-eq0 : goal.returns-then-tokens-eq0
-returns-then-tokens-eq0 c = (c.requires.3, λ T G. feed-none T _ _ _ c.if-tokens-eq0.true)
+returns-then-tokens-eq0 c = λ T G. feed-none T _ _ _ c.if-tokens-eq0.true
 
 pub suffix-requires : goal.suffix-requires
 suffix-requires c = record { packed = (c.requires.0, c.requires.1); index_in_bounds = code_inside _ _ _ _ c.cursor-nonterminal.ensures c.if-nonterminal-lt32.true }
@@ -14,7 +13,7 @@ pub first1-more-requires : goal.first1-more-requires
 first1-more-requires c = (c.requires.2, rw c.suffix.ensures.0 (suffix-fits _ c.args.productions _ c.args.item.index c.requires.0 c.requires.1))
 
 pub returns-then-nonterminal-lt32 : goal.returns-then-nonterminal-lt32
-returns-then-nonterminal-lt32 c = (simp length-set c.requires.3, λ T G. feed-step T _ _ _ _ _ _ _ _ _ _ _ _ G c.if-tokens-eq0.false c.cursor-nonterminal.ensures c.if-nonterminal-lt32.true c.suffix.ensures.1 c.first1-more.ensures c.union_with.ensures.0)
+returns-then-nonterminal-lt32 c = λ T G. feed-step T _ _ _ _ _ _ _ _ _ _ _ _ G c.if-tokens-eq0.false c.cursor-nonterminal.ensures c.if-nonterminal-lt32.true c.suffix.ensures.1 c.first1-more.ensures c.union_with.ensures.0
 
 pub returns-else-nonterminal-lt32 : goal.returns-else-nonterminal-lt32
-returns-else-nonterminal-lt32 c = (c.requires.3, λ T G. feed_past T _ _ _ _ _ _ _ _ _ G c.requires.1 c.cursor-nonterminal.ensures c.if-nonterminal-lt32.false)
+returns-else-nonterminal-lt32 c = λ T G. feed_past T _ _ _ _ _ _ _ _ _ G c.requires.1 c.cursor-nonterminal.ensures c.if-nonterminal-lt32.false

@@ -3,19 +3,16 @@ use Rattle.closing.proofs.Fed.{firsts_none, firsts_more, firsts_end}
 use Rattle.closing.proofs.feed_firsts.Goals as goal
 
 pub loop-production-init : goal.loop-production-init
-loop-production-init c = (omega arith, c.requires.2, λ T G. firsts_none T _)
+loop-production-init c = λ T G. firsts_none T _
 
 pub bounds-aheads-nonterminal : goal.bounds-aheads-nonterminal
 bounds-aheads-nonterminal c = omega (arith, c.requires.0.owner _ c.loop-production-test.true, c.word-nonterminal.ensures.0)
 
 pub feed-requires : goal.feed-requires
-feed-requires c = (c.requires.0, c.loop-production-test.true, c.requires.1, c.loop-production.invariant.1)
-
-pub loop-production-smaller : goal.loop-production-smaller
-loop-production-smaller c = omega (arith, c.loop-production-test.true)
+feed-requires c = (c.requires.0, c.loop-production-test.true, c.requires.1)
 
 pub loop-production-preserved : goal.loop-production-preserved
-loop-production-preserved c = (omega (arith, c.loop-production-test.true), c.feed.ensures.0, λ T G. firsts_more T _ _ _ _ _ _ _ _ _ G c.loop-production-test.true c.word-nonterminal.ensures.0 (c.loop-production.invariant.2 T G) (c.feed.ensures.1 T G))
+loop-production-preserved c = λ T G. firsts_more T _ _ _ _ _ _ _ _ _ G c.loop-production-test.true c.word-nonterminal.ensures.0 (c.loop-production.invariant T G) (c.feed.ensures T G)
 
 pub returns : goal.returns
-returns c = (c.loop-production.invariant.1, λ T G. firsts_end T _ _ _ _ c.loop-production.invariant.0 c.loop-production-test.false (c.loop-production.invariant.2 T G))
+returns c = λ T G. firsts_end T _ _ _ _ c.loop-production.auto.production-end c.loop-production-test.false (c.loop-production.invariant T G)

@@ -3,16 +3,13 @@ use Rattle.closing.proofs.Fed.{items_none, items_more, items_end}
 use Rattle.closing.proofs.feed_items.Goals as goal
 
 pub loop-place-init : goal.loop-place-init
-loop-place-init c = (omega arith, c.requires.2, λ T G. items_none T _ _)
+loop-place-init c = λ T G. items_none T _ _
 
 pub feed-requires : goal.feed-requires
-feed-requires c = (c.requires.0, omega (arith, c.loop-place-test.true), c.requires.1, c.loop-place.invariant.1)
-
-pub loop-place-smaller : goal.loop-place-smaller
-loop-place-smaller c = omega (arith, c.loop-place-test.true)
+feed-requires c = (c.requires.0, omega (arith, c.loop-place-test.true), c.requires.1)
 
 pub loop-place-preserved : goal.loop-place-preserved
-loop-place-preserved c = (omega (arith, c.loop-place-test.true), c.feed.ensures.0, λ T G. items_more T _ _ _ _ _ _ _ _ _ G c.loop-place-test.true (c.loop-place.invariant.2 T G) (c.feed.ensures.1 T G))
+loop-place-preserved c = λ T G. items_more T _ _ _ _ _ _ _ _ _ G c.loop-place-test.true (c.loop-place.invariant T G) (c.feed.ensures T G)
 
 pub returns : goal.returns
-returns c = (c.loop-place.invariant.1, λ T G. items_end T _ _ _ _ _ c.loop-place.invariant.0 c.loop-place-test.false (c.loop-place.invariant.2 T G))
+returns c = λ T G. items_end T _ _ _ _ _ c.loop-place.auto.place-end c.loop-place-test.false (c.loop-place.invariant T G)

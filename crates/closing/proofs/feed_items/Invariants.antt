@@ -1,5 +1,4 @@
-use Rattle.std.proofs.Common.{◌≡◌, ◌-◌, ◌*◌, ◌≤◌, length}
-use Rattle.repr.specs.Sizes.{index_limit}
+use Rattle.std.proofs.Common.{◌≡◌}
 use Rattle.repr.specs.Lists.{below}
 use Rattle.repr.specs.Meaning.{Table}
 use Rattle.closing.specs.Grammar.{Grammar}
@@ -7,7 +6,4 @@ use Rattle.closing.specs.Fed.{fed_by_items}
 use Rattle.closing.proofs.feed_items.Given as goal
 
 abbrev pub invariant-loop-place : goal.invariant-loop-place
-invariant-loop-place l = (l.place ≤ index_limit * l.productions) × (length l.aheads ≡ 32) × ((T : Table) → Grammar T l.grammar l.productions l.terminals l.first → l.aheads ≡ fed_by_items T l.kernel l.initial.aheads (below l.place))
-
-abbrev pub decreases-loop-place : goal.decreases-loop-place
-decreases-loop-place l = index_limit * l.productions - l.place
+invariant-loop-place l = (T : Table) → Grammar T l.grammar l.productions l.terminals l.first → l.aheads ≡ fed_by_items T l.kernel l.initial.aheads (below l.place)

@@ -1,10 +1,7 @@
-use Rattle.std.proofs.Common.{◌≡◌, ◌-◌, ◌≤◌}
+use Rattle.std.proofs.Common.{◌≡◌}
 use Rattle.repr.specs.Lists.{below}
 use Rattle.closing.specs.Fed.{spread_in}
 use Rattle.closing.proofs.spread.Given as goal
 
 abbrev pub invariant-loop-production : goal.invariant-loop-production
-invariant-loop-production l = (l.production ≤ l.productions) × (l.state ≡ spread_in l.grammar l.aheads l.initial.state (below l.production))
-
-abbrev pub decreases-loop-production : goal.decreases-loop-production
-decreases-loop-production l = l.productions - l.production
+invariant-loop-production l = l.state ≡ spread_in l.grammar l.aheads l.initial.state (below l.production)

@@ -5,22 +5,16 @@ use Rattle.std.proofs.Common.{length, ap, ◌∙◌, arith}
 use Rattle.conflict_counts.proofs.count_pairs.Goals as goal
 
 pub loop-other-init : goal.loop-other-init
-loop-other-init c = (omega arith, omega (arith, c.requires.1), omega arith, omega arith)
+loop-other-init c = (omega arith, omega arith)
 
 pub common-requires : goal.common-requires
 common-requires c = (omega (arith, c.requires.0, c.requires.1), omega (arith, c.loop-other-test.true, c.requires.0))
 
 pub overflow_add-many : goal.overflow_add-many
-overflow_add-many c = omega (arith, c.len-many.ensures, members_few c.common.result.0, c.loop-other.invariant.2, c.loop-other-test.true, c.requires.0)
-
-pub overflow_add-other-in-loop-other : goal.overflow_add-other-in-loop-other
-overflow_add-other-in-loop-other c = omega (arith, c.loop-other-test.true, c.requires.0)
-
-pub loop-other-smaller : goal.loop-other-smaller
-loop-other-smaller c = omega (arith, c.loop-other-test.true)
+overflow_add-many c = omega (arith, c.len-many.ensures, members_few c.common.result.0, c.loop-other.invariant.0, c.loop-other-test.true, c.requires.0)
 
 pub loop-other-preserved : goal.loop-other-preserved
-loop-other-preserved c = (omega (arith, c.loop-other.invariant.0), omega (arith, c.loop-other-test.true), omega (arith, c.len-many.ensures, members_few c.common.result.0, c.loop-other.invariant.2), pair-counted _ _ _ _ _ _ _ c.loop-other-test.true (c.len-many.ensures ∙ ap (λ s. length (members s)) c.common.ensures) c.loop-other.invariant.3)
+loop-other-preserved c = (omega (arith, c.len-many.ensures, members_few c.common.result.0, c.loop-other.invariant.0), pair-counted _ _ _ _ _ _ _ c.loop-other-test.true (c.len-many.ensures ∙ ap (λ s. length (members s)) c.common.ensures) c.loop-other.invariant.1)
 
 pub returns : goal.returns
-returns c = (pair-last _ _ _ _ _ _ c.loop-other-test.false c.loop-other.invariant.3, omega (arith, c.loop-other.invariant.2, c.loop-other.invariant.1, c.requires.0))
+returns c = (pair-last _ _ _ _ _ _ c.loop-other-test.false c.loop-other.invariant.1, omega (arith, c.loop-other.invariant.0, c.loop-other.auto.other-end (omega (arith, c.requires.1)), c.requires.0))

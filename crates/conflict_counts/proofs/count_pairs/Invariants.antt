@@ -4,7 +4,4 @@ use Rattle.std.proofs.Common.{◌≡◌, ◌+◌, ◌-◌, ◌*◌, ◌≤◌, l
 use Rattle.conflict_counts.proofs.count_pairs.Given as goal
 
 abbrev pub invariant-loop-other : goal.invariant-loop-other
-invariant-loop-other l = (l.production + 1 ≤ l.other) × (l.other ≤ l.productions) × (l.many ≤ 64 * l.other) × (l.many + length (pairs_in l.reduced l.production (up_from l.other (l.productions - l.other))) ≡ length (pairs_in l.reduced l.production (up_from (l.production + 1) (l.productions - (l.production + 1)))))
-
-abbrev pub decreases-loop-other : goal.decreases-loop-other
-decreases-loop-other l = l.productions - l.other
+invariant-loop-other l = (l.many ≤ 64 * l.other) × (l.many + length (pairs_in l.reduced l.production (up_from l.other (l.productions - l.other))) ≡ length (pairs_in l.reduced l.production (up_from (l.production + 1) (l.productions - (l.production + 1)))))

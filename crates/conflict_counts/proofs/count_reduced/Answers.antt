@@ -6,7 +6,7 @@ use Rattle.std.proofs.Common.{length, ap, ◌∙◌, arith}
 use Rattle.conflict_counts.proofs.count_reduced.Goals as goal
 
 pub loop-production-init : goal.loop-production-init
-loop-production-init c = (omega arith, omega arith, let a = ap length (joined_start (clashes_in c.args.reduced.now c.args.shifted.0 c.args.productions) c.args.productions) in omega arith)
+loop-production-init c = (omega arith, let a = ap length (joined_start (clashes_in c.args.reduced.now c.args.shifted.0 c.args.productions) c.args.productions) in omega arith)
 
 pub shifts_of-requires : goal.shifts_of-requires
 shifts_of-requires c = omega (arith, c.loop-production-test.true, c.requires)
@@ -18,16 +18,10 @@ pub overflow_add-many : goal.overflow_add-many
 overflow_add-many c = omega (arith, c.count_pairs.ensures.1, c.len-shifts.ensures, members_few c.shifts_of.result.0)
 
 pub overflow_add-many-in-loop-production : goal.overflow_add-many-in-loop-production
-overflow_add-many-in-loop-production c = omega (arith, c.count_pairs.ensures.1, c.len-shifts.ensures, members_few c.shifts_of.result.0, c.loop-production.invariant.1, c.loop-production-test.true, c.requires)
-
-pub overflow_add-production : goal.overflow_add-production
-overflow_add-production c = omega (arith, c.loop-production-test.true, c.requires)
-
-pub loop-production-smaller : goal.loop-production-smaller
-loop-production-smaller c = omega (arith, c.loop-production-test.true)
+overflow_add-many-in-loop-production c = omega (arith, c.count_pairs.ensures.1, c.len-shifts.ensures, members_few c.shifts_of.result.0, c.loop-production.invariant.0, c.loop-production-test.true, c.requires)
 
 pub loop-production-preserved : goal.loop-production-preserved
-loop-production-preserved c = (omega (arith, c.loop-production-test.true), omega (arith, c.count_pairs.ensures.1, c.len-shifts.ensures, members_few c.shifts_of.result.0, c.loop-production.invariant.1), one_counted c.args.reduced.now _ _ _ _ _ _ _ c.loop-production-test.true (c.len-shifts.ensures ∙ ap (λ s. length (members s)) c.shifts_of.ensures) c.count_pairs.ensures.0 c.loop-production.invariant.2)
+loop-production-preserved c = (omega (arith, c.count_pairs.ensures.1, c.len-shifts.ensures, members_few c.shifts_of.result.0, c.loop-production.invariant.0), one_counted c.args.reduced.now _ _ _ _ _ _ _ c.loop-production-test.true (c.len-shifts.ensures ∙ ap (λ s. length (members s)) c.shifts_of.ensures) c.count_pairs.ensures.0 c.loop-production.invariant.1)
 
 pub returns : goal.returns
-returns c = (all-counted c.args.reduced.now _ _ _ _ _ c.loop-production-test.false c.loop-production.invariant.2, omega (arith, c.loop-production.invariant.1, c.loop-production.invariant.0, c.requires))
+returns c = (all-counted c.args.reduced.now _ _ _ _ _ c.loop-production-test.false c.loop-production.invariant.1, omega (arith, c.loop-production.invariant.0, c.loop-production.auto.production-end, c.requires))

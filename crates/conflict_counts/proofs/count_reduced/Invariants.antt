@@ -4,7 +4,4 @@ use Rattle.std.proofs.Common.{◌≡◌, ◌+◌, ◌-◌, ◌*◌, ◌≤◌, l
 use Rattle.conflict_counts.proofs.count_reduced.Given as goal
 
 abbrev pub invariant-loop-production : goal.invariant-loop-production
-invariant-loop-production l = (l.production ≤ l.productions) × (l.many ≤ 8256 * l.production) × (l.many + length (joined (clashes_in l.reduced l.shifted.0 l.productions) (up_from l.production (l.productions - l.production))) ≡ length (joined (clashes_in l.reduced l.shifted.0 l.productions) (below l.productions)))
-
-abbrev pub decreases-loop-production : goal.decreases-loop-production
-decreases-loop-production l = l.productions - l.production
+invariant-loop-production l = (l.many ≤ 8256 * l.production) × (l.many + length (joined (clashes_in l.reduced l.shifted.0 l.productions) (up_from l.production (l.productions - l.production))) ≡ length (joined (clashes_in l.reduced l.shifted.0 l.productions) (below l.productions)))

@@ -3,7 +3,7 @@ use Rattle.conflict_counts.proofs.Laws.{reduced_more, reduced_end}
 use Rattle.conflict_counts.proofs.reductions.Goals as goal
 
 pub loop-production-init : goal.loop-production-init
-loop-production-init c = (omega arith, refl, λ T e sets G q h. absurd (omega arith))
+loop-production-init c = (refl, λ T e sets G q h. absurd (omega arith))
 
 pub reduction-requires : goal.reduction-requires
 reduction-requires c = (c.requires, c.loop-production-test.true)
@@ -14,14 +14,8 @@ offset_bounds-map-production c = omega (arith, c.loop-production-test.true, c.re
 pub bounds-map-production : goal.bounds-map-production
 bounds-map-production c = omega (arith, c.loop-production-test.true, c.requires.few)
 
-pub overflow_add-production : goal.overflow_add-production
-overflow_add-production c = omega (arith, c.loop-production-test.true, c.requires.few)
-
-pub loop-production-smaller : goal.loop-production-smaller
-loop-production-smaller c = omega (arith, c.loop-production-test.true)
-
 pub loop-production-preserved : goal.loop-production-preserved
-loop-production-preserved c = (omega (arith, c.loop-production-test.true), simp length-set c.loop-production.invariant.1, λ T e sets G. reduced_more T c.args.productions c.args.state.now c.loop-production.map c.loop-production.production c.reduction.result (c.loop-production.invariant.2 T e sets G) (omega (arith, c.loop-production-test.true, c.requires.few, c.loop-production.invariant.1)) (c.reduction.ensures T e sets G))
+loop-production-preserved c = (simp length-set c.loop-production.invariant.0, λ T e sets G. reduced_more T c.args.productions c.args.state.now c.loop-production.map c.loop-production.production c.reduction.result (c.loop-production.invariant.1 T e sets G) (omega (arith, c.loop-production-test.true, c.requires.few, c.loop-production.invariant.0)) (c.reduction.ensures T e sets G))
 
 pub returns : goal.returns
-returns c = (c.loop-production.invariant.1, λ T e sets G. reduced_end T c.args.productions c.args.state.now c.loop-production.map c.loop-production.production c.loop-production-test.false (c.loop-production.invariant.2 T e sets G))
+returns c = (c.loop-production.invariant.0, λ T e sets G. reduced_end T c.args.productions c.args.state.now c.loop-production.map c.loop-production.production c.loop-production-test.false (c.loop-production.invariant.1 T e sets G))

@@ -1,4 +1,4 @@
-use Rattle.std.proofs.Common.{◌≡◌, ℕ, ◌-◌, ◌≤◌, List, length}
+use Rattle.std.proofs.Common.{◌≡◌, ℕ, List, length}
 use Rattle.conflict_counts.specs.Reductions.{ReducedAs}
 use Rattle.closing.specs.Grammar.{Grammar}
 use Rattle.repr.specs.Meaning.{Table}
@@ -6,7 +6,4 @@ use Rattle.repr.specs.Sizes.{production_limit}
 use Rattle.conflict_counts.proofs.reductions.Given as goal
 
 abbrev pub invariant-loop-production : goal.invariant-loop-production
-invariant-loop-production l = (l.production ≤ l.productions) × (length l.map ≡ production_limit) × ((T : Table) (e : ℕ) (sets : List ℕ) → Grammar T l.grammar l.productions e sets → ReducedAs T l.productions l.state l.map l.production)
-
-abbrev pub decreases-loop-production : goal.decreases-loop-production
-decreases-loop-production l = l.productions - l.production
+invariant-loop-production l = (length l.map ≡ production_limit) × ((T : Table) (e : ℕ) (sets : List ℕ) → Grammar T l.grammar l.productions e sets → ReducedAs T l.productions l.state l.map l.production)

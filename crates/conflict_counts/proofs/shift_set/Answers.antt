@@ -3,16 +3,13 @@ use Rattle.conflict_counts.proofs.Shifts.{shifted_start, shifted-more, shifted_i
 use Rattle.conflict_counts.proofs.shift_set.Goals as goal
 
 pub loop-place-init : goal.loop-place-init
-loop-place-init c = (omega arith, λ t. rw c.new-set.ensures.0 (shifted_start _ c.args.state.now t))
+loop-place-init c = λ t. rw c.new-set.ensures.0 (shifted_start _ c.args.state.now t)
 
 pub shift_one-set-requires : goal.shift_one-set-requires
 shift_one-set-requires c = (c.requires.packed, omega (arith, c.loop-place-test.true))
 
-pub loop-place-smaller : goal.loop-place-smaller
-loop-place-smaller c = omega (arith, c.loop-place-test.true)
-
 pub loop-place-preserved : goal.loop-place-preserved
-loop-place-preserved c = (omega (arith, c.loop-place-test.true), shifted-more _ c.args.state.now c.loop-place.place _ _ _ refl c.loop-place.invariant.1 c.shift_one-set.ensures)
+loop-place-preserved c = shifted-more _ c.args.state.now c.loop-place.place _ _ _ refl c.loop-place.invariant c.shift_one-set.ensures
 
 pub returns : goal.returns
-returns c = λ T e sets G. shifted_is T _ _ e sets G _ c.requires.flat c.loop-place.place _ (omega (arith, c.loop-place-test.false, c.loop-place.invariant.0)) c.loop-place.invariant.1
+returns c = λ T e sets G. shifted_is T _ _ e sets G _ c.requires.flat c.loop-place.place _ (omega (arith, c.loop-place-test.false, c.loop-place.auto.place-end)) c.loop-place.invariant

@@ -5,7 +5,7 @@ use native.Mathlib.Omega.{arith}
 use Rattle.conflict_words.proofs.write_pairs.Goals as goal
 
 pub loop-other-init : goal.loop-other-init
-loop-other-init c = (omega arith, omega (arith, c.requires.productions_le_production_limit.1), turn_start _ _ _ _ refl c.requires.production_in_bounds)
+loop-other-init c = turn_start _ _ _ _ refl c.requires.production_in_bounds
 
 pub overflow_cast-pair : goal.overflow_cast-pair
 overflow_cast-pair c = omega (arith, c.requires.productions_le_production_limit.2)
@@ -20,19 +20,13 @@ pub common-requires : goal.common-requires
 common-requires c = (omega (arith, c.requires.productions_le_production_limit.0, c.requires.productions_le_production_limit.1), omega (arith, c.requires.productions_le_production_limit.0, c.loop-other-test.true))
 
 pub write_tokens-place-requires : goal.write_tokens-place-requires
-write_tokens-place-requires c = pair-room c.args.state c.args.reduced.now c.args.production c.loop-other.other c.args.productions c.common.result.0 _ _ _ _ _ c.loop-other.invariant.2 c.loop-other-test.true c.common.ensures
-
-pub overflow_add-other-in-loop-other : goal.overflow_add-other-in-loop-other
-overflow_add-other-in-loop-other c = omega (arith, c.requires.productions_le_production_limit.0, c.loop-other-test.true)
-
-pub loop-other-smaller : goal.loop-other-smaller
-loop-other-smaller c = omega (arith, c.loop-other-test.true)
+write_tokens-place-requires c = pair-room c.args.state c.args.reduced.now c.args.production c.loop-other.other c.args.productions c.common.result.0 _ _ _ _ _ c.loop-other.invariant c.loop-other-test.true c.common.ensures
 
 pub loop-other-preserved : goal.loop-other-preserved
-loop-other-preserved c = (omega (arith, c.loop-other.invariant.0), omega (arith, c.loop-other-test.true), turn_next c.loop-other.invariant.2 _ _ (pair_words_lem c.args.state c.args.reduced.now c.args.production c.loop-other.other c.args.productions c.common.result.0 c.loop-other-test.true c.common.ensures) _ c.write_tokens-place.ensures.0 _ c.write_tokens-place.ensures.1)
+loop-other-preserved c = turn_next c.loop-other.invariant _ _ (pair_words_lem c.args.state c.args.reduced.now c.args.production c.loop-other.other c.args.productions c.common.result.0 c.loop-other-test.true c.common.ensures) _ c.write_tokens-place.ensures.0 _ c.write_tokens-place.ensures.1
 
 pub shape_of-list : goal.shape_of-list
-shape_of-list c = c.loop-other.invariant.2.size
+shape_of-list c = c.loop-other.invariant.size
 
 pub returns : goal.returns
-returns c = turn_end c.loop-other.invariant.2 (pair-none c.args.state c.args.reduced.now c.args.production c.loop-other.other c.args.productions c.loop-other-test.false)
+returns c = turn_end c.loop-other.invariant (pair-none c.args.state c.args.reduced.now c.args.production c.loop-other.other c.args.productions c.loop-other-test.false)

@@ -2,11 +2,8 @@ use Rattle.conflict_counts.specs.Clashed.{pairs_in}
 use Rattle.example.proofs.Put.{Turn}
 use Rattle.build.specs.Built.{clash_words}
 use Rattle.repr.specs.Lists.{up_from, joined}
-use Rattle.std.specs.Prelude.{◌+◌, ◌-◌, ◌≤◌}
+use Rattle.std.specs.Prelude.{◌+◌, ◌-◌}
 use Rattle.conflict_words.proofs.write_pairs.Given as goal
 
 abbrev pub invariant-loop-other : goal.invariant-loop-other
-invariant-loop-other l = (l.production + 1 ≤ l.other) × (l.other ≤ l.productions) × Turn l.at (joined (clash_words l.state) (pairs_in l.reduced l.production (up_from (l.production + 1) (l.productions - (l.production + 1))))) l.initial.list l.place (joined (clash_words l.state) (pairs_in l.reduced l.production (up_from l.other (l.productions - l.other)))) l.list
-
-abbrev pub decreases-loop-other : goal.decreases-loop-other
-decreases-loop-other l = l.productions - l.other
+invariant-loop-other l = Turn l.at (joined (clash_words l.state) (pairs_in l.reduced l.production (up_from (l.production + 1) (l.productions - (l.production + 1))))) l.initial.list l.place (joined (clash_words l.state) (pairs_in l.reduced l.production (up_from l.other (l.productions - l.other)))) l.list

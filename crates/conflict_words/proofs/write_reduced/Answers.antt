@@ -5,26 +5,19 @@ use Rattle.example.proofs.Put.{turn_start, turn_next, turn_end}
 use Rattle.build.specs.Built.{clash_words}
 use Rattle.repr.specs.Lists.{joined}
 use mathlib.Core.Path.{ap}
-use native.Mathlib.Omega.{arith}
 use Rattle.conflict_words.proofs.write_reduced.Goals as goal
 
 pub loop-production-init : goal.loop-production-init
-loop-production-init c = (omega arith, turn_start _ _ _ _ (ap (joined (clash_words c.args.state)) (joined_start (clashes_in c.args.reduced.now c.args.shifted.0 c.args.productions) c.args.productions)) c.requires.productions_in_bounds)
+loop-production-init c = turn_start _ _ _ _ (ap (joined (clash_words c.args.state)) (joined_start (clashes_in c.args.reduced.now c.args.shifted.0 c.args.productions) c.args.productions)) c.requires.productions_in_bounds
 
 pub write_production-place-requires : goal.write_production-place-requires
-write_production-place-requires c = record { productions_le_production_limit = (c.requires.productions_le_production_limit.0, c.loop-production-test.true, c.requires.productions_le_production_limit.1); production_in_bounds = state_room c.args.state c.args.reduced.now c.args.shifted.0 c.args.productions c.loop-production.production _ _ _ _ _ c.loop-production.invariant.1 c.loop-production-test.true }
-
-pub overflow_add-production : goal.overflow_add-production
-overflow_add-production c = omega (arith, c.loop-production-test.true, c.requires.productions_le_production_limit.0)
-
-pub loop-production-smaller : goal.loop-production-smaller
-loop-production-smaller c = omega (arith, c.loop-production-test.true)
+write_production-place-requires c = record { productions_le_production_limit = (c.requires.productions_le_production_limit.0, c.loop-production-test.true, c.requires.productions_le_production_limit.1); production_in_bounds = state_room c.args.state c.args.reduced.now c.args.shifted.0 c.args.productions c.loop-production.production _ _ _ _ _ c.loop-production.invariant c.loop-production-test.true }
 
 pub loop-production-preserved : goal.loop-production-preserved
-loop-production-preserved c = (omega (arith, c.loop-production-test.true), turn_next c.loop-production.invariant.1 _ _ (state_words_lem c.args.state c.args.reduced.now c.args.shifted.0 c.args.productions c.loop-production.production c.loop-production-test.true) _ c.write_production-place.ensures.0 _ c.write_production-place.ensures.1)
+loop-production-preserved c = turn_next c.loop-production.invariant _ _ (state_words_lem c.args.state c.args.reduced.now c.args.shifted.0 c.args.productions c.loop-production.production c.loop-production-test.true) _ c.write_production-place.ensures.0 _ c.write_production-place.ensures.1
 
 pub shape_of-list : goal.shape_of-list
-shape_of-list c = c.loop-production.invariant.1.size
+shape_of-list c = c.loop-production.invariant.size
 
 pub returns : goal.returns
-returns c = turn_end c.loop-production.invariant.1 (state_none c.args.state c.args.reduced.now c.args.shifted.0 c.args.productions c.loop-production.production c.loop-production-test.false)
+returns c = turn_end c.loop-production.invariant (state_none c.args.state c.args.reduced.now c.args.shifted.0 c.args.productions c.loop-production.production c.loop-production-test.false)

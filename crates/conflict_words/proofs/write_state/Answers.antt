@@ -11,4 +11,4 @@ pub write_reduced-requires : goal.write_reduced-requires
 write_reduced-requires c = record { productions_le_production_limit = (c.requires.by_index.3.packed.few, c.requires.flat.1); productions_in_bounds = rw (clashes_in_lem c.requires.by_index.0 _ _ c.requires.by_index.1 c.requires.by_index.2 c.requires.by_index.3 _ _ _ (c.reductions-reduced.ensures.1 c.requires.by_index.0 c.requires.by_index.1 c.requires.by_index.2 c.requires.by_index.3) (c.shift_set-shifted.ensures c.requires.by_index.0 c.requires.by_index.1 c.requires.by_index.2 c.requires.by_index.3)) c.requires.by_index.4 }
 
 pub returns : goal.returns
-returns c = λ T e sets G. rw (← (clashes_in_lem T c.args.grammar.now c.args.productions e sets G c.args.state.now c.reductions-reduced.result.map c.shift_set-shifted.result.0 (c.reductions-reduced.ensures.1 T e sets G) (c.shift_set-shifted.ensures T e sets G))) c.write_reduced.ensures
+returns c = λ T e sets G. rw (← (clashes_in_lem T c.args.grammar.now c.args.productions e sets G c.args.state.now c.reductions-reduced.result c.shift_set-shifted.result.0 (c.reductions-reduced.ensures.1 T e sets G) (c.shift_set-shifted.ensures T e sets G))) c.write_reduced.ensures

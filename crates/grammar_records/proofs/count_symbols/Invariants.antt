@@ -1,9 +1,5 @@
-use Prim.Native.Nat.{◌-◌}
 use Rattle.grammar_records.proofs.Packed.{Counted}
 use Rattle.grammar_records.proofs.count_symbols.Given as goal
 
 abbrev pub invariant-loop-p : goal.invariant-loop-p
 invariant-loop-p l = Counted l.grammar l.productions l.many l.p
-
-abbrev pub decreases-loop-p : goal.decreases-loop-p
-decreases-loop-p l = l.productions - l.p

@@ -1,4 +1,4 @@
-use mathlib.Core.Path.{◌∙◌}
+use mathlib.Core.Path.{sym, ◌∙◌}
 use Rattle.grammar_records.proofs.Owned.{packed-found, packed_on, packed_end}
 use native.Mathlib.Omega.{arith}
 use Rattle.grammar_records.proofs.next_owned.Goals as goal
@@ -10,13 +10,10 @@ pub word-requires : goal.word-requires
 word-requires c = omega (arith, c.loop-p-test.true, c.requires.few, c.requires.long)
 
 pub returns-then-word-owner : goal.returns-then-word-owner
-returns-then-word-owner c = packed-found _ _ _ _ _ c.requires c.loop-p-test.true c.word.ensures.0 c.if-word-owner.true ∙ c.loop-p.invariant
-
-pub overflow_add-p : goal.overflow_add-p
-overflow_add-p c = omega (arith, c.loop-p-test.true, c.requires.few)
+returns-then-word-owner c = (c.loop-p-test.true, sym (packed-found _ _ _ _ _ c.requires c.loop-p-test.true c.word.ensures.0 c.if-word-owner.true ∙ c.loop-p.invariant))
 
 pub loop-p-preserved : goal.loop-p-preserved
 loop-p-preserved c = packed_on _ _ _ _ _ c.requires c.loop-p-test.true c.word.ensures.0 c.if-word-owner.false ∙ c.loop-p.invariant
 
 pub returns : goal.returns
-returns c = packed_end _ _ _ _ c.loop-p-test.false ∙ c.loop-p.invariant
+returns c = sym (packed_end _ _ _ _ c.loop-p-test.false ∙ c.loop-p.invariant)

@@ -1,11 +1,7 @@
 use mathlib.Core.Path.{◌≡◌}
-use Prim.Native.Nat.{◌-◌}
 use Rattle.repr.specs.Packed.{productions_in}
 use Rattle.grammar_records.specs.Target.{owned_from}
 use Rattle.grammar_records.proofs.next_owned.Given as goal
 
 abbrev pub invariant-loop-p : goal.invariant-loop-p
 invariant-loop-p l = owned_from (productions_in l.grammar l.productions) l.owner l.p ≡ owned_from (productions_in l.grammar l.productions) l.owner l.from
-
-abbrev pub decreases-loop-p : goal.decreases-loop-p
-decreases-loop-p l = l.productions - l.p

@@ -1,12 +1,13 @@
+use mathlib.Core.Path.{sym}
 use Rattle.grammar_records.proofs.Owned.{record_is, record_zero}
 use native.Mathlib.Omega.{arith}
 use Rattle.grammar_records.proofs.next_record.Goals as goal
 
 pub overflow_add-result : goal.overflow_add-result
-overflow_add-result c = omega (arith, c.if-p-productions.true, c.requires.0.few, c.requires.1)
+overflow_add-result c = omega (arith, c.in-Some.ensures.0, c.requires.0.few, c.requires.1)
 
-pub returns-then-p-productions : goal.returns-then-p-productions
-returns-then-p-productions c = λ U P e. record_is U _ _ _ _ _ _ P e c.next_owned-p.ensures c.if-p-productions.true
+pub returns-in-Some : goal.returns-in-Some
+returns-in-Some c = λ U P e. record_is U _ _ _ _ _ _ P e (sym c.in-Some.ensures.1) c.in-Some.ensures.0
 
-pub returns-else-p-productions : goal.returns-else-p-productions
-returns-else-p-productions c = λ U P e. record_zero U _ _ _ _ _ _ P e c.next_owned-p.ensures c.if-p-productions.false
+pub returns-in-None : goal.returns-in-None
+returns-in-None c = λ U P e. record_zero U _ _ _ _ _ _ P e (sym c.in-None.ensures) (omega arith)

@@ -1,5 +1,4 @@
-use Prim.Native.Nat.{◌-◌}
-use lib.ListN.{length}
+use Prim.Native.Nat.{◌+◌, ◌*◌}
 use Rattle.repr.specs.Meaning.{Table}
 use Rattle.repr.specs.Listed.{listed}
 use Rattle.spelling.specs.Spelled.{chain_from, symbol_quad, quads}
@@ -8,7 +7,4 @@ use Rattle.grammar_records.proofs.Symbols.{Chain, Written}
 use Rattle.grammar_records.proofs.write_chain.Given as goal
 
 abbrev pub invariant-loop-i : goal.invariant-loop-i
-invariant-loop-i l = Chain l.symbols l.begin l.at l.i × ((U : Table) → Stands (quads U) l.begin (chain_from symbol_quad l.begin (listed l.symbols)) → Room U l.initial.out → Written U l.symbols l.initial.out l.out l.begin l.at l.i)
-
-abbrev pub decreases-loop-i : goal.decreases-loop-i
-decreases-loop-i l = length l.symbols - l.i
+invariant-loop-i l = Chain l.symbols l.begin (l.begin + l.i) (2 * l.i) × ((U : Table) → Stands (quads U) l.begin (chain_from symbol_quad l.begin (listed l.symbols)) → Room U l.initial.out → Written U l.symbols l.initial.out l.out l.begin (l.begin + l.i) (2 * l.i))

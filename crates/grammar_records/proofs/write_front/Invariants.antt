@@ -1,6 +1,6 @@
 use mathlib.Core.Path.{◌≡◌}
 use mathlib.Core.List.{List}
-use Prim.Native.Nat.{ℕ, ◌-◌}
+use Prim.Native.Nat.{ℕ}
 use lib.ListN.{length}
 use Rattle.repr.specs.Meaning.{Table}
 use Rattle.spelling.specs.Spelled.{productions_at}
@@ -10,6 +10,3 @@ use Rattle.grammar_records.proofs.write_front.Given as goal
 
 abbrev pub invariant-loop-n : goal.invariant-loop-n
 invariant-loop-n l = ((U : Table) (g : List ℕ) → l.nonterminals ≡ length U.nonterminals → l.at ≡ productions_at U → PackedAs U l.grammar l.productions → Front U g l.initial.out 0 → Front U g l.out l.n)
-
-abbrev pub decreases-loop-n : goal.decreases-loop-n
-decreases-loop-n l = l.nonterminals - l.n

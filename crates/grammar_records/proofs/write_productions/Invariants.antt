@@ -1,5 +1,5 @@
 use mathlib.Core.Path.{◌≡◌}
-use Prim.Native.Nat.{◌+◌, ◌-◌}
+use Prim.Native.Nat.{◌+◌}
 use Rattle.repr.specs.Meaning.{Table}
 use Rattle.spelling.specs.Spelled.{productions_at, symbols_at}
 use Rattle.spelling.specs.Grown.{Room}
@@ -9,6 +9,3 @@ use Rattle.grammar_records.proofs.write_productions.Given as goal
 
 abbrev pub invariant-loop-p : goal.invariant-loop-p
 invariant-loop-p l = ((U : Table) → l.at ≡ productions_at U → l.at + l.productions ≡ symbols_at U → PackedAs U l.grammar l.productions → Room U l.initial.out → Rows U l.initial.out l.out l.at l.y l.p)
-
-abbrev pub decreases-loop-p : goal.decreases-loop-p
-decreases-loop-p l = l.productions - l.p

@@ -1,5 +1,4 @@
 use mathlib.Core.Path.{◌≡◌}
-use Prim.Native.Nat.{◌-◌, ◌≤◌}
 use Rattle.repr.specs.Meaning.{Table}
 use Rattle.spelling.specs.Spelled.{symbols_at}
 use Rattle.spelling.specs.Grown.{Room}
@@ -8,7 +7,4 @@ use Rattle.grammar_records.proofs.Symbols.{Walk}
 use Rattle.grammar_records.proofs.write_symbols.Given as goal
 
 abbrev pub invariant-loop-p : goal.invariant-loop-p
-invariant-loop-p l = (l.p ≤ l.productions) × ((U : Table) → PackedAs U l.grammar l.productions → l.begin ≡ symbols_at U → Room U l.initial.out → Walk U l.initial.out l.out l.at l.p)
-
-abbrev pub decreases-loop-p : goal.decreases-loop-p
-decreases-loop-p l = l.productions - l.p
+invariant-loop-p l = (U : Table) → PackedAs U l.grammar l.productions → l.begin ≡ symbols_at U → Room U l.initial.out → Walk U l.initial.out l.out l.at l.p

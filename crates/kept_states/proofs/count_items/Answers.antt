@@ -1,13 +1,10 @@
-use mathlib.Core.Path.{refl}
-use Rattle.kept_states.proofs.Kept.{count_first, count_more, count_high, count_end}
-use native.Mathlib.Omega.{arith}
+use Rattle.std.proofs.Common.{◌≡◌, ℕ, not, eqb, take, ◌∙◌, sym, rules, arith, length-take}
+use Rattle.std.specs.List.{count_by}
+use Rattle.std.proofs.lemmas.List.Sums.{count_by-le-length}
+use Rattle.kept_states.proofs.Kept.{count-packed}
 use Rattle.kept_states.proofs.count_items.Goals as goal
 
-pub loop-place-init : goal.loop-place-init
-loop-place-init c = (omega arith, omega arith, count_first c.args.state.now _ (rw c.requires.1 c.requires.0))
-
-pub loop-place-preserved : goal.loop-place-preserved
-loop-place-preserved c = (omega (arith, c.loop-place-test.true), count_high _ _ _ _ c.count_one-many.ensures c.loop-place.invariant.1, count_more c.args.state.now _ _ _ _ _ _ c.loop-place-test.true refl c.count_one-many.ensures c.loop-place.invariant.2)
-
 pub returns : goal.returns
-returns c = (count_end c.args.state.now _ _ _ _ c.loop-place-test.false c.loop-place.invariant.2, omega (arith, c.loop-place.invariant.1, c.loop-place.invariant.0, c.requires.0))
+returns c =
+    let e : c.count.result ≡ count_by (λ (x : ℕ). not (eqb x 0)) (take c.args.places c.args.state.now) = search rules in
+    (e ∙ sym (count-packed (take c.args.places c.args.state.now)), omega (arith, e, count_by-le-length (λ (x : ℕ). not (eqb x 0)) (take c.args.places c.args.state.now), length-take c.args.places c.args.state.now))

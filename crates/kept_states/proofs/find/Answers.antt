@@ -4,7 +4,7 @@ use native.Mathlib.Omega.{arith}
 use Rattle.kept_states.proofs.find.Goals as goal
 
 pub loop-k-init : goal.loop-k-init
-loop-k-init c = (omega arith, find-start _ _ _ _)
+loop-k-init c = find-start _ _ _ _
 
 pub offset_bounds-begins-k : goal.offset_bounds-begins-k
 offset_bounds-begins-k c = omega (arith, c.loop-k-test.true, c.requires.begun.few)
@@ -25,13 +25,10 @@ pub same_kernel-requires : goal.same_kernel-requires
 same_kernel-requires c = (c.requires.begun.rises _ c.loop-k-test.true, c.requires.begun.ends _ c.loop-k-test.true, omega (arith, c.requires.begun.ends _ c.loop-k-test.true, c.requires.begun.room), c.requires.many_le_record_limit.0, c.requires.many_le_record_limit.1)
 
 pub returns-then-same_kernel : goal.returns-then-same_kernel
-returns-then-same_kernel c = find_here _ _ _ _ _ _ _ (same_state _ _ _ _ _ _ _ refl refl c.same_kernel.ensures) c.loop-k-test.true c.if-same_kernel.true c.loop-k.invariant.1
-
-pub loop-k-smaller : goal.loop-k-smaller
-loop-k-smaller c = omega (arith, c.loop-k-test.true)
+returns-then-same_kernel c = (c.loop-k-test.true, find_here _ _ _ _ _ _ _ (same_state _ _ _ _ _ _ _ refl refl c.same_kernel.ensures) c.loop-k-test.true c.if-same_kernel.true c.loop-k.invariant)
 
 pub loop-k-preserved : goal.loop-k-preserved
-loop-k-preserved c = (omega (arith, c.loop-k-test.true), find-more _ _ _ _ _ _ _ (same_state _ _ _ _ _ _ _ refl refl c.same_kernel.ensures) c.loop-k-test.true c.if-same_kernel.false c.loop-k.invariant.1)
+loop-k-preserved c = find-more _ _ _ _ _ _ _ (same_state _ _ _ _ _ _ _ refl refl c.same_kernel.ensures) c.loop-k-test.true c.if-same_kernel.false c.loop-k.invariant
 
 pub returns : goal.returns
-returns c = find_end _ _ _ _ _ _ c.loop-k-test.false c.loop-k.invariant.1
+returns c = find_end _ _ _ _ _ _ c.loop-k.auto.k-end c.loop-k-test.false c.loop-k.invariant

@@ -1,11 +1,8 @@
-use Rattle.std.specs.Prelude.{◌≡◌, ◌+◌, ◌-◌, ◌≤◌}
+use Rattle.std.specs.Prelude.{◌≡◌, ◌+◌}
 use Rattle.kept_states.proofs.Kept.{from_state}
 use Rattle.kept_states.specs.Kept.{states_in, kernel_place}
 use Rattle.stored.specs.Stored.{entries}
 use Rattle.kept_states.proofs.find.Given as goal
 
 abbrev pub invariant-loop-k : goal.invariant-loop-k
-invariant-loop-k l = (l.k ≤ l.states) × (l.k + kernel_place (entries l.kernel 0 l.many) (from_state l.words l.begins l.k l.states) ≡ kernel_place (entries l.kernel 0 l.many) (states_in l.words l.begins l.states))
-
-abbrev pub decreases-loop-k : goal.decreases-loop-k
-decreases-loop-k l = l.states - l.k
+invariant-loop-k l = l.k + kernel_place (entries l.kernel 0 l.many) (from_state l.words l.begins l.k l.states) ≡ kernel_place (entries l.kernel 0 l.many) (states_in l.words l.begins l.states)

@@ -1,4 +1,4 @@
-use mathlib.Core.Path.{◌≡◌, refl, ◌∙◌}
+use mathlib.Core.Path.{◌≡◌}
 use Prim.Native.Nat.{◌+◌}
 use native.Mathlib.Omega.{arith}
 use lib.ListN.{get_or}
@@ -10,35 +10,30 @@ use Rattle.state_records.proofs.Laws.{rows_few, rows_count, edges_here, edges_mo
 use Rattle.state_records.proofs.write_edges.Goals as goal
 
 pub loop-k-init : goal.loop-k-init
-loop-k-init c = (omega arith, omega (arith, c.requires.1.0, rows_few c.requires.0 (λ s. s.edges) _ c.requires.1.1.1.0.begins), refl, λ U es ei I R. let z : edges_at U ≡ edges_at U + get_or c.args.rows.now 0 0 = omega (arith, I.begins.front) in rw (← z) (grown-none U _ _))
+loop-k-init c = (omega (arith, c.requires.1.0, rows_few c.requires.0 (λ s. s.edges) _ c.requires.1.1.1.0.begins), λ U es ei I R. let z : edges_at U ≡ edges_at U + get_or c.args.rows.now 0 0 = omega (arith, I.begins.front) in rw (← z) (grown-none U _ _))
 
 pub offset_bounds-rows-k : goal.offset_bounds-rows-k
-offset_bounds-rows-k c = omega (arith, c.loop-k-test.true, c.loop-k.invariant.1)
+offset_bounds-rows-k c = omega (arith, c.loop-k-test.true, c.loop-k.invariant.0)
 
 pub bounds-rows-k : goal.bounds-rows-k
-bounds-rows-k c = omega (arith, c.loop-k-test.true, c.loop-k.invariant.1)
+bounds-rows-k c = omega (arith, c.loop-k-test.true, c.loop-k.invariant.0)
 
 pub offset_bounds-rows-k-in-loop-k : goal.offset_bounds-rows-k-in-loop-k
-offset_bounds-rows-k-in-loop-k c = omega (arith, c.loop-k-test.true, c.loop-k.invariant.1)
+offset_bounds-rows-k-in-loop-k c = omega (arith, c.loop-k-test.true, c.loop-k.invariant.0)
 
 pub write_state_edges-requires : goal.write_state_edges-requires
 write_state_edges-requires c = let P = c.requires in
     let I = P.1.1.1.0 in
-    let h = inside_is _ _ _ c.loop-k-test.true P.1.0 in record { from_le_past = omega (arith, rows_count P.0 (λ s. s.edges) _ I.begins _ h); stands = (P.0, (edges_here P.0 _ _ I _ _ h P.1.1.0, room_same _ _ _ c.loop-k.invariant.2 P.1.1.1.1)) }
+    let h = inside_is _ _ _ c.loop-k-test.true P.1.0 in record { from_le_past = omega (arith, rows_count P.0 (λ s. s.edges) _ I.begins _ h); stands = (P.0, (edges_here P.0 _ _ I _ _ h P.1.1.0, room_same _ _ _ c.loop-k.auto.out P.1.1.1.1)) }
 
 pub loop-k-preserved : goal.loop-k-preserved
 loop-k-preserved c = let P = c.requires in
     let W = c.loop-k.invariant in
     let k = c.loop-k-test.true in
     let e = c.write_state_edges.ensures in (
-      omega arith,
-      W.1,
-      (edges_more P.0 _ _ P.1.1.1.0 _ _ (inside_is _ _ _ k P.1.0) P.1.1.0 _ _ _ W.2 P.1.1.1.1 e).long ∙ W.2,
-      λ U es ei I R. grown-join U _ _ _ _ _ _ (W.3 U es ei I R) (edges_more U _ _ I _ _ (inside_is _ _ _ k es) ei _ _ _ W.2 R e),
+      W.0,
+      λ U es ei I R. grown-join U _ _ _ _ _ _ (W.1 U es ei I R) (edges_more U _ _ I _ _ (inside_is _ _ _ k es) ei _ _ _ c.loop-k.auto.out R e),
     )
 
-pub shape_of-out : goal.shape_of-out
-shape_of-out c = c.loop-k.invariant.2
-
 pub returns : goal.returns
-returns c = λ U es ei I R. rw (edges_end U _ _ c.loop-k.k I (omega (arith, c.loop-k.invariant.0, c.loop-k-test.false))) at (c.loop-k.invariant.3 U es ei I R)
+returns c = λ U es ei I R. rw (edges_end U _ _ c.loop-k.k I (omega (arith, c.loop-k.auto.k-end, c.loop-k-test.false))) at (c.loop-k.invariant.1 U es ei I R)

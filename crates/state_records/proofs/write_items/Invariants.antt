@@ -1,5 +1,5 @@
 use mathlib.Core.Path.{◌≡◌}
-use Prim.Native.Nat.{◌+◌, ◌-◌, ◌≤◌}
+use Prim.Native.Nat.{◌+◌, ◌≤◌}
 use lib.ListN.{length, get_or}
 use Rattle.repr.specs.Sizes.{state_limit}
 use Rattle.repr.specs.Meaning.{Table}
@@ -9,7 +9,4 @@ use Rattle.state_records.specs.Rows.{ItemsIn}
 use Rattle.state_records.proofs.write_items.Given as goal
 
 abbrev pub invariant-loop-k : goal.invariant-loop-k
-invariant-loop-k l = (l.k ≤ l.states) × (l.states ≤ state_limit) × (length l.out ≡ length l.initial.out) × ((U : Table) → l.states ≡ length U.states → l.items ≡ items_place U → ItemsIn U l.words l.begins → Room U l.initial.out → Grown U l.initial.out l.out (items_place U) (items_place U + get_or l.begins l.k 0))
-
-abbrev pub decreases-loop-k : goal.decreases-loop-k
-decreases-loop-k l = l.states - l.k
+invariant-loop-k l = (l.states ≤ state_limit) × ((U : Table) → l.states ≡ length U.states → l.items ≡ items_place U → ItemsIn U l.words l.begins → Room U l.initial.out → Grown U l.initial.out l.out (items_place U) (items_place U + get_or l.begins l.k 0))

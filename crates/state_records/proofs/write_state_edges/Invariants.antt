@@ -1,6 +1,4 @@
-use mathlib.Core.Path.{◌≡◌}
-use Prim.Native.Nat.{◌+◌, ◌-◌, ◌≤◌}
-use lib.ListN.{length}
+use Prim.Native.Nat.{◌+◌, ◌-◌}
 use Rattle.repr.specs.Meaning.{Table}
 use Rattle.spelling.specs.Spelled.{chain_from, edge_quad, quads}
 use Rattle.spelling.specs.Grown.{Grown, Room, Stands}
@@ -8,7 +6,4 @@ use Rattle.taking.specs.Taking.{edges_in}
 use Rattle.state_records.proofs.write_state_edges.Given as goal
 
 abbrev pub invariant-loop-m : goal.invariant-loop-m
-invariant-loop-m l = (l.from ≤ l.m) × (l.m ≤ l.past) × ((length l.out ≡ length l.initial.out) × ((U : Table) → Stands (quads U) (l.at + l.from) (chain_from edge_quad (l.at + l.from) (edges_in l.edges l.from (l.past - l.from))) → Room U l.initial.out → Grown U l.initial.out l.out (l.at + l.from) (l.at + l.m)))
-
-abbrev pub decreases-loop-m : goal.decreases-loop-m
-decreases-loop-m l = l.past - l.m
+invariant-loop-m l = (U : Table) → Stands (quads U) (l.at + l.from) (chain_from edge_quad (l.at + l.from) (edges_in l.edges l.from (l.past - l.from))) → Room U l.initial.out → Grown U l.initial.out l.out (l.at + l.from) (l.at + l.m)

@@ -1,42 +1,38 @@
-use mathlib.Core.Path.{◌≡◌, refl, ◌∙◌}
+use mathlib.Core.Path.{◌≡◌}
 use native.Mathlib.Omega.{arith}
-use Rattle.table.proofs.Quads.{put_long}
 use Rattle.spelling.proofs.Grown.{grown-none}
 use Rattle.spelling.proofs.Writing.{follower_small}
 use Rattle.state_records.proofs.Laws.{no_item, chain-below, chain-room, chain-put, items_long, item_quad_lem}
 use Rattle.state_records.proofs.write_state_items.Goals as goal
 
 pub loop-m-init : goal.loop-m-init
-loop-m-init c = (omega arith, c.requires.from_le_past.0, refl, λ U S R. grown-none U _ _)
+loop-m-init c = λ U S R. grown-none U _ _
 
 pub overflow_mul-m : goal.overflow_mul-m
-overflow_mul-m c = omega (arith, chain-below _ _ _ _ _ _ (items_long _ _ _) c.loop-m.invariant.0 c.loop-m-test.true _ c.requires.stands)
+overflow_mul-m c = omega (arith, chain-below _ _ _ _ _ _ (items_long _ _ _) c.loop-m.auto.m c.loop-m-test.true _ c.requires.stands)
 
 pub word-place-requires : goal.word-place-requires
-word-place-requires c = omega (arith, chain-below _ _ _ _ _ _ (items_long _ _ _) c.loop-m.invariant.0 c.loop-m-test.true _ c.requires.stands, c.requires.from_le_past.1)
+word-place-requires c = omega (arith, chain-below _ _ _ _ _ _ (items_long _ _ _) c.loop-m.auto.m c.loop-m-test.true _ c.requires.stands, c.requires.from_le_past.1)
 
 pub overflow_sub-past-in-loop-m : goal.overflow_sub-past-in-loop-m
 overflow_sub-past-in-loop-m c = omega (arith, c.loop-m-test.true)
 
 pub overflow_add-items : goal.overflow_add-items
-overflow_add-items c = omega (arith, chain-below _ _ _ _ _ _ (items_long _ _ _) c.loop-m.invariant.0 c.loop-m-test.true _ c.requires.stands)
+overflow_add-items c = omega (arith, chain-below _ _ _ _ _ _ (items_long _ _ _) c.loop-m.auto.m c.loop-m-test.true _ c.requires.stands)
 
 pub next_of-next-requires : goal.next_of-next-requires
-next_of-next-requires c = chain-below _ _ _ _ _ _ (items_long _ _ _) c.loop-m.invariant.0 c.loop-m-test.true _ c.requires.stands
+next_of-next-requires c = chain-below _ _ _ _ _ _ (items_long _ _ _) c.loop-m.auto.m c.loop-m-test.true _ c.requires.stands
 
 pub overflow_add-items-in-loop-m : goal.overflow_add-items-in-loop-m
-overflow_add-items-in-loop-m c = omega (arith, chain-below _ _ _ _ _ _ (items_long _ _ _) c.loop-m.invariant.0 c.loop-m-test.true _ c.requires.stands)
+overflow_add-items-in-loop-m c = omega (arith, chain-below _ _ _ _ _ _ (items_long _ _ _) c.loop-m.auto.m c.loop-m-test.true _ c.requires.stands)
 
 pub put-requires : goal.put-requires
-put-requires c = let h = chain-room _ _ _ _ _ _ (items_long _ _ _) c.loop-m.invariant.0 c.loop-m-test.true _ c.requires.stands c.loop-m.out c.loop-m.invariant.2 in record { r_lt_record_limit = h; a_bound = (follower_small _ _ _ h.0 c.next_of-next.ensures, (omega (arith, c.word-place.ensures.1), (omega arith, omega arith))) }
+put-requires c = let h = chain-room _ _ _ _ _ _ (items_long _ _ _) c.loop-m.auto.m c.loop-m-test.true _ c.requires.stands c.loop-m.out c.loop-m.auto.out in record { r_lt_record_limit = h; a_bound = (follower_small _ _ _ h.0 c.next_of-next.ensures, (omega (arith, c.word-place.ensures.1), (omega arith, omega arith))) }
 
 pub loop-m-preserved : goal.loop-m-preserved
 loop-m-preserved c = let I = c.loop-m.invariant in
     let k = c.loop-m-test.true in
-    (omega arith, omega arith, rw c.put.ensures (put_long _ _ _ _ _ _ ∙ I.2), λ U S R. chain-put _ _ _ _ _ _ (items_long _ _ _) I.0 k _ U S _ c.next_of-next.ensures R _ _ _ _ _ no_item I.2 (item_quad_lem _ _ _ _ _ _ _ I.0 k c.word-place.ensures.0) c.put.ensures (I.3 U S R))
-
-pub shape_of-out : goal.shape_of-out
-shape_of-out c = c.loop-m.invariant.2
+    λ U S R. chain-put _ _ _ _ _ _ (items_long _ _ _) c.loop-m.auto.m k _ U S _ c.next_of-next.ensures R _ _ _ _ _ no_item c.loop-m.auto.out (item_quad_lem _ _ _ _ _ _ _ c.loop-m.auto.m k c.word-place.ensures.0) c.put.ensures (I U S R)
 
 pub returns : goal.returns
-returns c = λ U S R. let z : c.loop-m.m ≡ c.args.past = omega (arith, c.loop-m.invariant.1, c.loop-m-test.false) in rw z at (c.loop-m.invariant.3 U S R)
+returns c = λ U S R. let z : c.loop-m.m ≡ c.args.past = omega (arith, c.loop-m.auto.m-end c.requires.from_le_past.0, c.loop-m-test.false) in rw z at (c.loop-m.invariant U S R)

@@ -1,7 +1,5 @@
-use mathlib.Core.Path.{◌≡◌}
 use mathlib.Core.List.{map}
-use Prim.Native.Nat.{◌+◌, ◌-◌, ◌≤◌}
-use lib.ListN.{length}
+use Prim.Native.Nat.{◌+◌, ◌-◌}
 use Rattle.repr.specs.Meaning.{Table}
 use Rattle.spelling.specs.Spelled.{chain_from, item_quad, quads}
 use Rattle.spelling.specs.Grown.{Grown, Room, Stands}
@@ -10,7 +8,4 @@ use Rattle.state_records.specs.Rows.{item_of}
 use Rattle.state_records.proofs.write_state_items.Given as goal
 
 abbrev pub invariant-loop-m : goal.invariant-loop-m
-invariant-loop-m l = (l.from ≤ l.m) × (l.m ≤ l.past) × (length l.out ≡ length l.initial.out) × ((U : Table) → Stands (quads U) (l.items + l.from) (chain_from item_quad (l.items + l.from) (map item_of (entries l.words l.from (l.past - l.from)))) → Room U l.initial.out → Grown U l.initial.out l.out (l.items + l.from) (l.items + l.m))
-
-abbrev pub decreases-loop-m : goal.decreases-loop-m
-decreases-loop-m l = l.past - l.m
+invariant-loop-m l = (U : Table) → Stands (quads U) (l.items + l.from) (chain_from item_quad (l.items + l.from) (map item_of (entries l.words l.from (l.past - l.from)))) → Room U l.initial.out → Grown U l.initial.out l.out (l.items + l.from) (l.items + l.m)

@@ -1,5 +1,5 @@
 use mathlib.Core.Path.{◌≡◌}
-use Prim.Native.Nat.{◌+◌, ◌-◌, ◌≤◌}
+use Prim.Native.Nat.{◌+◌, ◌≤◌}
 use lib.ListN.{length}
 use Rattle.repr.specs.Sizes.{state_limit}
 use Rattle.repr.specs.Meaning.{Table}
@@ -9,7 +9,4 @@ use Rattle.state_records.specs.Rows.{Begins}
 use Rattle.state_records.proofs.write_states.Given as goal
 
 abbrev pub invariant-loop-s : goal.invariant-loop-s
-invariant-loop-s l = (l.s ≤ l.states) × (l.states ≤ state_limit) × (length l.out ≡ length l.initial.out) × ((U : Table) → l.states ≡ length U.states → l.at ≡ states_at U → l.items ≡ items_place U → l.edges ≡ edges_at U → Begins (item_lists U) l.begins → Begins (edge_lists U) l.rows → Room U l.initial.out → Grown U l.initial.out l.out (states_at U) (states_at U + l.s))
-
-abbrev pub decreases-loop-s : goal.decreases-loop-s
-decreases-loop-s l = l.states - l.s
+invariant-loop-s l = (l.states ≤ state_limit) × ((U : Table) → l.states ≡ length U.states → l.at ≡ states_at U → l.items ≡ items_place U → l.edges ≡ edges_at U → Begins (item_lists U) l.begins → Begins (edge_lists U) l.rows → Room U l.initial.out → Grown U l.initial.out l.out (states_at U) (states_at U + l.s))

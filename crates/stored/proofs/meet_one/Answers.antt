@@ -1,9 +1,9 @@
 use Rattle.stored.proofs.Stored.{met_pass, met_short, met_differs, met_same}
-use Rattle.std.proofs.Common.{arith}
+use Rattle.std.proofs.Common.{◌<◌, sym, ◌∙◌, arith}
 use Rattle.stored.proofs.meet_one.Goals as goal
 
 pub returns-then-mine-eq0 : goal.returns-then-mine-eq0
-returns-then-mine-eq0 c = met_pass _ _ _ _ _ c.requires.0 c.if-mine-eq0.true
+returns-then-mine-eq0 c = (c.requires.0, met_pass _ _ _ _ _ c.requires.0 c.if-mine-eq0.true)
 
 pub returns-then-met-many : goal.returns-then-met-many
 returns-then-met-many c = met_short _ _ _ _ _ c.if-met-many.true c.if-mine-eq0.false
@@ -11,11 +11,8 @@ returns-then-met-many c = met_short _ _ _ _ _ c.if-met-many.true c.if-mine-eq0.f
 pub read_item-other-requires : goal.read_item-other-requires
 read_item-other-requires c = (omega (arith, c.if-met-many.false, c.requires.0, c.requires.1), omega (arith, c.if-met-many.false, c.requires.0, c.requires.2))
 
-pub returns-then-mine-other : goal.returns-then-mine-other
-returns-then-mine-other c = met_differs _ _ _ _ _ _ _ (omega (arith, c.if-met-many.false, c.requires.0)) c.if-mine-eq0.false c.read_item-other.ensures.0 (λ w. c.if-mine-other.true w.0)
+pub returns-then-eq : goal.returns-then-eq
+returns-then-eq c = let h : c.args.met < c.args.many = omega (arith, c.if-met-many.false, c.requires.0) in (omega arith, met_same _ _ _ _ _ _ _ h c.if-mine-eq0.false c.read_item-other.ensures.0 (sym c.eq.ensures ∙ c.if-eq.true))
 
-pub returns-then-mine-other-2 : goal.returns-then-mine-other-2
-returns-then-mine-other-2 c = met_differs _ _ _ _ _ _ _ (omega (arith, c.if-met-many.false, c.requires.0)) c.if-mine-eq0.false c.read_item-other.ensures.0 (λ w. c.if-mine-other-2.true w.1)
-
-pub returns : goal.returns
-returns c = met_same _ _ _ _ _ _ _ (omega (arith, c.if-met-many.false, c.requires.0)) c.if-mine-eq0.false c.read_item-other.ensures.0 c.if-mine-other.false c.if-mine-other-2.false
+pub returns-else-eq : goal.returns-else-eq
+returns-else-eq c = met_differs _ _ _ _ _ _ _ (omega (arith, c.if-met-many.false, c.requires.0)) c.if-mine-eq0.false c.read_item-other.ensures.0 (sym c.eq.ensures ∙ c.if-eq.false)

@@ -1,8 +1,0 @@
-use Rattle.std.proofs.Common.{refl, arith}
-use Rattle.stored.proofs.part.Goals as goal
-
-pub overflow_cast-result : goal.overflow_cast-result
-overflow_cast-result c = omega (arith, c.type_inv.words c.args.at)
-
-pub returns : goal.returns
-returns c = (refl, (c.type_inv.words c.args.at).fits)
