@@ -9,6 +9,7 @@ use lib.ListN.{length, take, drop}
 use lib.Seq.{take_at}
 use lib.Dec.{eqb, ltb, leb}
 use borrow.Author.Tests.{ltb-true, leb-true, lt-ltb, le-ltb, le-leb, lt-leb, eq-eqb, ne_eqb}
+use Rattle.std.specs.Prelude.{Option as OptionOf, Some, None, Result, Ok, Err}
 use Rattle.repr.specs.Sizes.{classify_scratch, example_room, example_limit}
 use Rattle.repr.specs.Lists.{below}
 use Rattle.repr.specs.Meaning.{Production, Table, All}
@@ -30,12 +31,11 @@ use Rattle.error.specs.Outcome.{Outcome, outcome, operand_fits, place_is_fit, co
 use Rattle.outline.specs.Kept.{outlines_room, nth}
 use Rattle.pairs.specs.Order.{places_in}
 use Rattle.pairs.proofs.Order.{order_sorted}
-use Rattle.examples.specs.declared.Side.{Side as SideValue}
-use Rattle.examples.specs.declared.Side.TheVariants.{Examples, Stopped}
 use Rattle.examples.specs.Reads.{Reads}
+use Rattle.examples.specs.declared.Gathered.{Gathered}
+use Rattle.examples.specs.declared.Refusal.{Refusal}
+use Rattle.examples.specs.Refusals.{number_of}
 use Rattle.examples.specs.Gathers.{SideKept, Gathers, Sided}
-use Rattle.judge.specs.declared.Shown.{Shown}
-use Rattle.judge.specs.declared.Shown.TheVariants.{Number, Nothing}
 use Rattle.judge.specs.declared.Judged.{Judged as JudgedValue}
 use Rattle.judge.specs.Judging.{Ordered, picked, shown_in, judged_in, ShownFits, Judges}
 use Rattle.classifier.specs.Ranges.{operand_in}
@@ -110,18 +110,18 @@ conflict_in T c e =
 
 -- the examples that are shown
 
-pub shown-fits : (n k : ℕ) (v : Shown) → v ≡ Number k → ShownFits n v → k < n
+pub shown-fits : (n k : ℕ) (v : OptionOf ℕ) → v ≡ Some k → ShownFits n v → k < n
 unfolding ShownFits
 shown-fits n k v e f = subst (ShownFits n) e f
 
-module _ (ps : List Production) (xs : List Example) (v : Shown) (b : List ℕ) where
-  pub shown-number : (k : ℕ) → v ≡ Number k → (b' : List ℕ) → b' ≡ in_front (example_words ps (nth xs k)) b → b' ≡ shown ps (shown_in xs v) b
+module _ (ps : List Production) (xs : List Example) (v : OptionOf ℕ) (b : List ℕ) where
+  pub shown-number : (k : ℕ) → v ≡ Some k → (b' : List ℕ) → b' ≡ in_front (example_words ps (nth xs k)) b → b' ≡ shown ps (shown_in xs v) b
   unfolding shown shown_in
-  shown-number k e b' w = w ∙ ap (λ (s : Shown). shown ps (shown_in xs s) b) (sym e)
+  shown-number k e b' w = w ∙ ap (λ (s : OptionOf ℕ). shown ps (shown_in xs s) b) (sym e)
 
-  pub shown-nothing : v ≡ Nothing → b ≡ shown ps (shown_in xs v) b
+  pub shown-nothing : v ≡ None → b ≡ shown ps (shown_in xs v) b
   unfolding shown shown_in
-  shown-nothing e = ap (λ (s : Shown). shown ps (shown_in xs s) b) (sym e)
+  shown-nothing e = ap (λ (s : OptionOf ℕ). shown ps (shown_in xs s) b) (sym e)
 
 -- either side empty is naive
 
@@ -172,14 +172,14 @@ kept-judged T c xs ys as' rs v action reduce action' reduce' J ea er a r =
 
 -- what was gathered
 
-module _ (T : Table) (shift : Bool) (made : ℕ → ℕ → Example → Type 0) (r : SideValue) (kept prints : List ℕ) (side : Side) (S : Sided T shift made r kept prints side) where
-  pub side_stops : (x : ℕ) → r ≡ Stopped x → side ≡ stopped x
+module _ (T : Table) (shift : Bool) (made : ℕ → ℕ → Example → Type 0) (r : Result Gathered Refusal) (kept prints : List ℕ) (side : Side) (S : Sided T shift made r kept prints side) where
+  pub side_stops : (x : Refusal) → r ≡ Err x → side ≡ stopped (number_of x)
   unfolding Sided
-  side_stops x e = subst (λ (s : SideValue). Sided T shift made s kept prints side) e S
+  side_stops x e = subst (λ (s : Result Gathered Refusal). Sided T shift made s kept prints side) e S
 
-  pub side_gathers : (n m : ℕ) → r ≡ Examples n m → Gathers T shift made n m kept prints side
+  pub side_gathers : (g : Gathered) → r ≡ Ok g → Gathers T shift made g.examples g.trials kept prints side
   unfolding Sided
-  side_gathers n m e = subst (λ (s : SideValue). Sided T shift made s kept prints side) e S
+  side_gathers g e = subst (λ (s : Result Gathered Refusal). Sided T shift made s kept prints side) e S
 
 module _ (T : Table) (c : Conflict) (w action reduce : List ℕ) where
   abbrev Action : Side

@@ -12,21 +12,21 @@ ghost use Rattle.error.specs.Numbers.{reading_of};
 ghost use Rattle.error.specs.Sides.{gather};
 ghost use Rattle.error.specs.Judge.{Example, judged};
 ghost use Rattle.error.specs.Outcome.{outcome, place_is_fit, conflict_fits, gathered_outcome, classified_in, shown as shown_words};
-ghost use Rattle.examples.specs.Reads.{Reads};
 ghost use Rattle.examples.specs.Gathers.{SideKept, is_shift, action_made, reduce_made};
 ghost use Rattle.judge.specs.Judging.{Sides, ShownFits, shown_in};
 ghost use Rattle.classifier.specs.Ranges.{operand_in};
 ghost use Rattle.classifier.specs.Shown.{judged_words, shown_of};
+ghost use Rattle.classifier.specs.Answered.{answered};
 
 use error::{Class, Classified, Conflict};
 use example::Example as ExampleBuffer;
-use examples::{Side, action_examples, prepare, reduce_examples};
-use judge::{Shown, judge, write_action, write_reduce};
+use examples::{Given, Refusal, action_examples, prepare, reduce_examples};
+use judge::{judge, write_action, write_reduce};
 use outline::Outline;
 use pairs::sort_side;
-use repr::{NonterminalString, ProductionIndex};
+use repr::ProductionIndex;
 use slices::zero;
-use table::{Counts, read_counts};
+use table::{Checked, read_counts};
 
 // The action's terminal or production in range: part of refusal 9.
 fn operand_fits(terminals: usize, productions: usize, action: usize, operand: usize) -> bool
@@ -76,70 +76,45 @@ fn shifts_end(conflict: Conflict, terminals: usize) -> bool
 
 // The action's example that is shown, if there is one, at the front of its buffer.
 fn show_action(
-    table: &[u16],
-    grammar: &[u16],
-    counts: Counts,
-    map: &[u64; NonterminalString::LIMIT],
-    least: &[u8],
-    ends: &[u64],
+    given: Given,
     conflict: Conflict,
     actions: &[u16],
     prints: &[u64],
-    shown: Shown,
+    shown: Option<usize>,
     buffer: &mut [u16],
 )
-    requires reads { Reads table.now grammar.now counts map.now least.now ends.now × (conflict_fits (meaning table.now) conflict ≡ true) }
-    requires side_kept { (xs : List Example) × (SideKept (meaning table.now) (is_shift conflict) (action_made (meaning table.now) conflict) xs actions.now prints.now × ShownFits (length xs) «shown») }
+    requires conflict_value { conflict_fits (meaning given.table.now) conflict ≡ true }
+    requires side_kept { (xs : List Example) × (SideKept (meaning given.table.now) (is_shift conflict) (action_made (meaning given.table.now) conflict) xs actions.now prints.now × ShownFits (length xs) «shown») }
     requires example_room_in_bounds { example_room ≤ length buffer.old }
-    ensures { (xs : List Example) → SideKept (meaning table.now) (is_shift conflict) (action_made (meaning table.now) conflict) xs actions.now prints.now → ShownFits (length xs) «shown» → buffer.new ≡ shown_words (meaning table.now).productions (shown_in xs «shown») buffer.old }
+    ensures { (xs : List Example) → SideKept (meaning given.entry.table.now) (is_shift conflict) (action_made (meaning given.entry.table.now) conflict) xs actions.now prints.now → ShownFits (length xs) «shown» → buffer.new ≡ shown_words (meaning given.entry.table.now).productions (shown_in xs «shown») buffer.old }
 {
-    match shown {
-        Shown::Number(k) => {
-            write_action(
-                table, grammar, counts, map, least, ends, conflict, actions, prints, k, buffer,
-            );
-        }
-        Shown::Nothing => {}
+    if let Some(k) = shown {
+        write_action(given, conflict, actions, prints, k, buffer);
     }
 }
 
 // The reduce's.
 fn show_reduce(
-    table: &[u16],
-    grammar: &[u16],
-    counts: Counts,
-    map: &[u64; NonterminalString::LIMIT],
-    least: &[u8],
-    ends: &[u64],
+    given: Given,
     conflict: Conflict,
     reduces: &[u16],
     prints: &[u64],
-    shown: Shown,
+    shown: Option<usize>,
     buffer: &mut [u16],
 )
-    requires reads { Reads table.now grammar.now counts map.now least.now ends.now × (conflict_fits (meaning table.now) conflict ≡ true) }
-    requires side_kept { (ys : List Example) × (SideKept (meaning table.now) false (reduce_made (meaning table.now) conflict.state.0 conflict.production.0 conflict.token) ys reduces.now prints.now × ShownFits (length ys) «shown») }
+    requires conflict_value { conflict_fits (meaning given.table.now) conflict ≡ true }
+    requires side_kept { (ys : List Example) × (SideKept (meaning given.table.now) false (reduce_made (meaning given.table.now) conflict.state.0 conflict.production.0 conflict.token) ys reduces.now prints.now × ShownFits (length ys) «shown») }
     requires example_room_in_bounds { example_room ≤ length buffer.old }
-    ensures { (ys : List Example) → SideKept (meaning table.now) false (reduce_made (meaning table.now) conflict.state.0 conflict.production.0 conflict.token) ys reduces.now prints.now → ShownFits (length ys) «shown» → buffer.new ≡ shown_words (meaning table.now).productions (shown_in ys «shown») buffer.old }
+    ensures { (ys : List Example) → SideKept (meaning given.entry.table.now) false (reduce_made (meaning given.entry.table.now) conflict.state.0 conflict.production.0 conflict.token) ys reduces.now prints.now → ShownFits (length ys) «shown» → buffer.new ≡ shown_words (meaning given.entry.table.now).productions (shown_in ys «shown») buffer.old }
 {
-    match shown {
-        Shown::Number(k) => {
-            write_reduce(
-                table, grammar, counts, map, least, ends, conflict, reduces, prints, k, buffer,
-            );
-        }
-        Shown::Nothing => {}
+    if let Some(k) = shown {
+        write_reduce(given, conflict, reduces, prints, k, buffer);
     }
 }
 
 // The class from both sides: either empty is naive, and writes nothing; else both are put in order and judged, and the examples shown are made again.
 fn classify_kept(
-    table: &[u16],
-    grammar: &[u16],
-    counts: Counts,
-    map: &[u64; NonterminalString::LIMIT],
-    least: &[u8],
-    ends: &[u64],
+    given: Given,
     conflict: Conflict,
     actions: &[u16],
     action_prints: &[u64],
@@ -150,10 +125,10 @@ fn classify_kept(
     action: &mut [u16],
     reduce: &mut [u16],
 ) -> Class
-    requires reads { Reads table.now grammar.now counts map.now least.now ends.now × (conflict_fits (meaning table.now) conflict ≡ true) }
-    requires sides { (xs : List Example) × ((ys : List Example) × (Sides (meaning table.now) conflict xs ys actions.now action_prints.now reduces.now reduce_prints.now × ((length xs ≡ action_count) × (length ys ≡ reduce_count)))) }
+    requires conflict_value { conflict_fits (meaning given.table.now) conflict ≡ true }
+    requires sides { (xs : List Example) × ((ys : List Example) × (Sides (meaning given.table.now) conflict xs ys actions.now action_prints.now reduces.now reduce_prints.now × ((length xs ≡ action_count) × (length ys ≡ reduce_count)))) }
     requires example_room_in_bounds { (example_room ≤ length action.old) × (example_room ≤ length reduce.old) }
-    ensures { (xs ys : List Example) → Sides (meaning table.now) conflict xs ys actions.now action_prints.now reduces.now reduce_prints.now → length xs ≡ action_count → length ys ≡ reduce_count → judged_words result action.new reduce.new ≡ shown_of (meaning table.now).productions action.old reduce.old (judged (meaning table.now) conflict xs ys) }
+    ensures { (xs ys : List Example) → Sides (meaning given.entry.table.now) conflict xs ys actions.now action_prints.now reduces.now reduce_prints.now → length xs ≡ action_count → length ys ≡ reduce_count → judged_words result action.new reduce.new ≡ shown_of (meaning given.entry.table.now).productions action.old reduce.old (judged (meaning given.entry.table.now) conflict xs ys) }
 {
     if action_count == 0 {
         return Class::Naive;
@@ -166,12 +141,7 @@ fn classify_kept(
     sort_side(actions, action_count, &mut rows);
     sort_side(reduces, reduce_count, &mut columns);
     let judged = judge(
-        table,
-        grammar,
-        counts,
-        map,
-        least,
-        ends,
+        given,
         conflict,
         actions,
         action_prints,
@@ -181,108 +151,70 @@ fn classify_kept(
         &columns[..reduce_count],
     );
     let shown = judged.action;
-    show_action(
-        table,
-        grammar,
-        counts,
-        map,
-        least,
-        ends,
-        conflict,
-        actions,
-        action_prints,
-        shown,
-        action,
-    );
+    show_action(given, conflict, actions, action_prints, shown, action);
     let other = judged.reduce;
-    show_reduce(
-        table,
-        grammar,
-        counts,
-        map,
-        least,
-        ends,
-        conflict,
-        reduces,
-        reduce_prints,
-        other,
-        reduce,
-    );
+    show_reduce(given, conflict, reduces, reduce_prints, other, reduce);
     judged.class
+}
+
+// A class, and the trials of the action side and of the reduce side.
+#[derive(Clone, Copy)]
+pub struct Classification {
+    pub class: Class,
+    pub action_trials: u32,
+    pub reduce_trials: u32,
 }
 
 // `classify`: the action's side is worked first, the reduce's even if the first is empty; 12 to 14 leave the example buffers. No scratch is used: what is written stands in small arrays.
 pub fn classify(
-    table: &[u16],
-    grammar: &[u16],
-    counts: Counts,
-    map: &[u64; NonterminalString::LIMIT],
-    least: &[u8],
-    ends: &[u64],
+    given: Given,
     conflict: Conflict,
     action: &mut [u16],
     reduce: &mut [u16],
-) -> Classified
-    requires reads { Reads table.now grammar.now counts map.now least.now ends.now × (conflict_fits (meaning table.now) conflict ≡ true) }
+) -> Result<Classification, Refusal>
+    requires conflict_value { conflict_fits (meaning given.table.now) conflict ≡ true }
     requires example_room_in_bounds { (example_room ≤ length action.old) × (example_room ≤ length reduce.old) }
-    ensures { (scratch : List ℕ) → outcome (reading_of result) (zeroed classify_scratch scratch) action.new reduce.new ≡ gathered_outcome (meaning table.now) conflict scratch action.old reduce.old (gather (meaning table.now) conflict) }
+    ensures { (scratch : List ℕ) → outcome (reading_of (answered result)) (zeroed classify_scratch scratch) action.new reduce.new ≡ gathered_outcome (meaning given.entry.table.now) conflict scratch action.old reduce.old (gather (meaning given.entry.table.now) conflict) }
 {
     let mut actions = [0u16; Outline::ALL_WORDS];
     let mut action_prints = [0u64; Conflict::EXAMPLES];
     let mut reduces = [0u16; Outline::ALL_WORDS];
     let mut reduce_prints = [0u64; Conflict::EXAMPLES];
-    match action_examples(
-        table,
-        grammar,
-        counts,
-        map,
-        least,
-        ends,
+    let own = action_examples(given, conflict, &mut actions, &mut action_prints)?;
+    let other = reduce_examples(
+        given,
+        conflict.state,
+        conflict.production.0 as usize,
+        conflict.token,
+        &mut reduces,
+        &mut reduce_prints,
+    )?;
+    let class = classify_kept(
+        given,
         conflict,
-        &mut actions,
-        &mut action_prints,
-    ) {
-        Side::Stopped(refusal) => Classified::Refused(refusal, 0),
-        Side::Examples(action_count, action_trials) => {
-            let state = conflict.state;
-            let production = conflict.production.0 as usize;
-            let token = conflict.token;
-            match reduce_examples(
-                table,
-                grammar,
-                counts,
-                map,
-                least,
-                ends,
-                state,
-                production,
-                token,
-                &mut reduces,
-                &mut reduce_prints,
-            ) {
-                Side::Stopped(refusal) => Classified::Refused(refusal, 0),
-                Side::Examples(reduce_count, reduce_trials) => {
-                    let class = classify_kept(
-                        table,
-                        grammar,
-                        counts,
-                        map,
-                        least,
-                        ends,
-                        conflict,
-                        &actions,
-                        &action_prints,
-                        action_count,
-                        &reduces,
-                        &reduce_prints,
-                        reduce_count,
-                        action,
-                        reduce,
-                    );
-                    Classified::Class(class, action_trials, reduce_trials)
-                }
-            }
-        }
+        &actions,
+        &action_prints,
+        own.examples,
+        &reduces,
+        &reduce_prints,
+        other.examples,
+        action,
+        reduce,
+    );
+    Ok(Classification {
+        class,
+        action_trials: own.trials,
+        reduce_trials: other.trials,
+    })
+}
+
+// The answer by value.
+fn classified(answer: Result<Classification, Refusal>) -> Classified
+    ensures { result ≡ answered answer }
+{
+    match answer {
+        Ok(found) => Classified::Class(found.class, found.action_trials, found.reduce_trials),
+        Err(refusal) => Classified::Refused(refusal.number(), 0),
     }
 }
 
@@ -301,23 +233,10 @@ fn classify_read(
 {
     let past = ProductionIndex::ALL_WORDS;
     let prepared = prepare(table, &mut scratch[..past]);
-    let counts = prepared.counts;
-    let map = prepared.map;
-    let least = prepared.least;
-    let ends = prepared.ends;
-    let answer = classify(
-        table,
-        &scratch[..past],
-        counts,
-        &map,
-        &least,
-        &ends,
-        conflict,
-        action,
-        reduce,
-    );
+    let given = prepared.given(table, &scratch[..past]);
+    let answer = classify(given, conflict, action, reduce);
     zero(scratch, Conflict::SCRATCH);
-    answer
+    classified(answer)
 }
 
 // `classify` over an accepted table: refusals 9 to 11 change nothing.

@@ -1,15 +1,16 @@
 -- `action_examples`: the side of the conflict's action (error/specs/Sides). Assumes nothing.
-use Rattle.std.specs.Prelude.{◌≡◌, ℕ, zero, suc, Bool, true, false, eqb, List}
+use Rattle.std.specs.Prelude.{Result, ◌≡◌, ℕ, zero, suc, Bool, true, false, eqb, List}
 use native.Mathlib.Omega.{arith}
 use mathlib.Core.Path.{refl, sym, subst}
 use borrow.Author.Tests.{ne_eqb}
 use Rattle.repr.specs.Meaning.{Table}
 use Rattle.error.specs.declared.Conflict.{Conflict}
 use Rattle.error.specs.Sides.{shift_side, reduce_side, action_side_of}
-use Rattle.examples.specs.declared.Side.{Side as SideValue}
+use Rattle.examples.specs.declared.Gathered.{Gathered}
+use Rattle.examples.specs.declared.Refusal.{Refusal}
 use Rattle.examples.specs.Gathers.{shift_made, reduce_made, made_by, action_made, is_shift, Sided}
 
-module _ (T : Table) (s o token : ℕ) (r : SideValue) (kept prints : List ℕ) where
+module _ (T : Table) (s o token : ℕ) (r : Result Gathered Refusal) (kept prints : List ℕ) where
   by_shift : (a : ℕ) → a ≡ 0 → Sided T true (shift_made T s) r kept prints (shift_side T s token) → Sided T (eqb a 0) (made_by T s a o token) r kept prints (action_side_of T s a o token)
   unfolding made_by action_side_of
   by_shift zero e S = S
@@ -20,7 +21,7 @@ module _ (T : Table) (s o token : ℕ) (r : SideValue) (kept prints : List ℕ) 
   by_reduce zero ne S = absurd (ne refl)
   by_reduce (suc a) ne S = subst (λ (b : Bool). Sided T b (reduce_made T s o token) r kept prints (reduce_side T s o token)) (sym (ne_eqb (suc a) 0 ne)) S
 
-module _ (T : Table) (c : Conflict) (r : SideValue) (kept prints : List ℕ) where
+module _ (T : Table) (c : Conflict) (r : Result Gathered Refusal) (kept prints : List ℕ) where
   pub action_shift : c.action ≡ 0 → Sided T true (shift_made T c.state.0) r kept prints (shift_side T c.state.0 c.token)
       → Sided T (is_shift c) (action_made T c) r kept prints (action_side_of T c.state.0 c.action c.operand c.token)
   unfolding is_shift action_made

@@ -1,5 +1,5 @@
 -- The ways through `open_view` and `list_item`: the trace's edges have a view, and their listing is that of error/specs/Sides. Assumes nothing.
-use Rattle.std.specs.Prelude.{◌≡◌, ℕ, ◌<◌, ◌≤◌, Bool, List, length, take}
+use Rattle.std.specs.Prelude.{Result, Err, ◌≡◌, ℕ, ◌<◌, ◌≤◌, Bool, List, length, take}
 use native.Mathlib.Omega.{arith}
 use mathlib.Core.Path.{subst}
 use mathlib.Core.Option.{Option}
@@ -17,8 +17,9 @@ use Rattle.codes.specs.Carried.{Carried}
 use Rattle.tracer.specs.Held.{Working}
 use Rattle.view.specs.View.{View, Labelled}
 use Rattle.error.specs.Sides.{Side, listing_side}
-use Rattle.examples.specs.declared.Side.{Side as SideValue}
-use Rattle.examples.specs.declared.Side.TheVariants.{Stopped}
+use Rattle.examples.specs.declared.Gathered.{Gathered}
+use Rattle.examples.specs.declared.Refusal.{Refusal}
+use Rattle.examples.specs.declared.Refusal.TheVariants.{TooManyEdges}
 use Rattle.examples.specs.Reads.{Reads}
 use Rattle.examples.specs.Listing.{listed_by, Listable}
 use Rattle.examples.specs.Gathers.{ListedOn}
@@ -61,7 +62,7 @@ module _ (t g : List ℕ) (counts : Counts) (sets least ends : List ℕ) (R : Re
 
     -- `list_item`
     module _ (ahead : Option ℕ) (shift : Bool) (count : ℕ) (kept prints kept' prints' : List ℕ) where
-      pub item-listed : (r : SideValue) → length es ≤ edge_limit → count ≤ example_limit
+      pub item-listed : (r : Result Gathered Refusal) → length es ≤ edge_limit → count ≤ example_limit
           → ListedOn (productions_in g counts.productions) shift r count kept prints kept' prints' (listed_by counts.terminals sets (productions_in g counts.productions) es ahead i count)
           → ListedOn (meaning t).productions shift r count kept prints kept' prints' (listing_side (meaning t) es i ahead count)
       item-listed r h l S =
@@ -69,6 +70,6 @@ module _ (t g : List ℕ) (counts : Counts) (sets least ends : List ℕ) (R : Re
           subst (λ (q : Side). ListedOn (meaning t).productions shift r count kept prints kept' prints' q) (listing_is (meaning t) es i ahead count h l) S₁
 
       -- 12
-      pub item-full : edge_limit < length es → ListedOn (meaning t).productions shift (Stopped 12) count kept prints kept' prints' (listing_side (meaning t) es i ahead count)
+      pub item-full : edge_limit < length es → ListedOn (meaning t).productions shift (Err TooManyEdges) count kept prints kept' prints' (listing_side (meaning t) es i ahead count)
       unfolding ListedOn
       item-full h = listing-over (meaning t) es i ahead count h

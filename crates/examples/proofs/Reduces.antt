@@ -1,5 +1,5 @@
 -- `reduce_item` and `reduce_examples`: the production at its end, filtered by the token (error/specs/Sides). Assumes nothing.
-use Rattle.std.specs.Prelude.{◌≡◌, ℕ, ◌<◌, ◌≤◌, true, false, List, length, get_or}
+use Rattle.std.specs.Prelude.{Result, ◌≡◌, ℕ, ◌<◌, ◌≤◌, true, false, List, length, get_or}
 use native.Mathlib.Omega.{arith}
 use mathlib.Core.Path.{sym, ap, ◌∙◌, subst}
 use Rattle.repr.specs.Meaning.{no_production}
@@ -20,7 +20,8 @@ use Rattle.enumerator.specs.declared.Lookahead.TheVariants.{Set}
 use Rattle.error.specs.Sides.{Side, listing_side, item_of_reduce, reduce_side}
 use Rattle.outline.specs.Kept.{Room}
 use Rattle.examples.specs.declared.Traced.{Traced}
-use Rattle.examples.specs.declared.Side.{Side as SideValue}
+use Rattle.examples.specs.declared.Gathered.{Gathered}
+use Rattle.examples.specs.declared.Refusal.{Refusal}
 use Rattle.examples.specs.Reads.{Reads}
 use Rattle.examples.specs.Gathers.{ListedOn, reduce_made, Sided}
 use Rattle.examples.proofs.Both.{reduce_is}
@@ -41,7 +42,7 @@ module _ (t g : List ℕ) (counts : Counts) (sets least ends : List ℕ) (R : Re
   not_shift : r.shift ≡ false
   not_shift = ap (λ (x : Traced). x.shift) e
 
-  pub reduce_made_lem : (token : ℕ) (tokens : TokenSet) → p < length (meaning t).productions → token ≤ (meaning t).terminals → tokens.0 ≡ with 0 token → (a : SideValue) (kept prints kept' prints' : List ℕ) → Room kept' prints'
+  pub reduce_made_lem : (token : ℕ) (tokens : TokenSet) → p < length (meaning t).productions → token ≤ (meaning t).terminals → tokens.0 ≡ with 0 token → (a : Result Gathered Refusal) (kept prints kept' prints' : List ℕ) → Room kept' prints'
       → ListedOn (meaning t).productions r.shift a 0 kept prints kept' prints' (listing_side (meaning t) (edges_by r.shift (meaning t) r.state.0 (record { production = r.production; index = r.index })) (record { production = r.production; index = r.index }) (set_of (Set tokens)) 0)
       → Sided (meaning t) false (reduce_made (meaning t) state.0 p token) a kept' prints' (reduce_side (meaning t) state.0 p token)
   reduce_made_lem token tokens h ht et a kept prints kept' prints' O S =

@@ -1,5 +1,5 @@
 -- The ways through a turn of `shift_examples`: the items in their order, each one's listing behind those before it (error/specs/Sides). Assumes nothing.
-use Rattle.std.specs.Prelude.{◌≡◌, ℕ, suc, ◌+◌, ◌*◌, ◌/◌, ◌%◌, ◌<◌, ◌≤◌, Bool, true, List, [], ◌∷◌, ◌++◌, map, length, get_or, drop}
+use Rattle.std.specs.Prelude.{Option, Some, None, Result, Ok, Err, ◌≡◌, ℕ, suc, ◌+◌, ◌*◌, ◌/◌, ◌%◌, ◌<◌, ◌≤◌, Bool, true, List, [], ◌∷◌, ◌++◌, map, length, get_or, drop}
 use native.Mathlib.Omega.{arith}
 use native.Mathlib.Numerals.{add-one}
 use mathlib.Core.Path.{refl, sym, ap, ◌∙◌}
@@ -24,13 +24,12 @@ use Rattle.error.specs.Items.{shifts_token}
 use Rattle.error.specs.Judge.{Example}
 use Rattle.error.proofs.Items.{shifts-inside}
 use Rattle.error.specs.Sides.{Side, gathered, stopped, listing_side, with_more, examples_in, shift_side_from, shift_side}
-use Rattle.shift_items.specs.declared.NextItem.{NextItem}
-use Rattle.shift_items.specs.declared.NextItem.TheVariants.{At, Nothing}
 use Rattle.shift_items.specs.Left.{Marked, is_shift_item, place_item, items_left, Next, NextIs}
 use Rattle.shift_items.proofs.Left.{left_all_lem}
 use Rattle.outline.specs.Kept.{Room}
-use Rattle.examples.specs.declared.Side.{Side as SideValue}
-use Rattle.examples.specs.declared.Side.TheVariants.{Examples, Stopped}
+use Rattle.examples.specs.declared.Gathered.{Gathered}
+use Rattle.examples.specs.declared.Refusal.{Refusal}
+use Rattle.examples.specs.Refusals.{number_of}
 use Rattle.examples.specs.Gathers.{ListedBehind, ListedOn, TrialsIn, shift_made, SideKept, Sided}
 use Rattle.examples.proofs.Sides.{none_kept, shift_kept}
 
@@ -103,15 +102,15 @@ pub turn_room : (T : Table) (s token : ℕ) (order : List ℕ) (n : ℕ) (kept�
     → Room kept prints × (total ≤ example_limit)
 turn_room T s token order n kept₀ prints₀ kept prints total trials from U = let a = U.many in let b = U.held.outlined.few in (U.held.outlined.room, omega arith)
 
-pub trials_few : (r : SideValue) (k m : ℕ) → r ≡ Examples k m → TrialsIn trial_limit r → m ≤ trial_limit
+pub trials_few : (r : Result Gathered Refusal) (g : Gathered) → r ≡ Ok g → TrialsIn trial_limit r → g.trials ≤ trial_limit
 unfolding TrialsIn
-trials_few r k m e h = rw e at h
+trials_few r g e h = rw e at h
 
-pub next_at : (T : Table) (s token : ℕ) (order : List ℕ) (n from : ℕ) (r : NextItem) (place code : ℕ) → r ≡ At place code → NextIs T s token order n from r → Next T s token order n from place code
+pub next_at : (T : Table) (s token : ℕ) (order : List ℕ) (n from : ℕ) (r : Option (ℕ × ℕ)) (found : ℕ × ℕ) → r ≡ Some found → NextIs T s token order n from r → Next T s token order n from found.0 found.1
 unfolding NextIs
-next_at T s token order n from r place code e h = rw e at h
+next_at T s token order n from r found e h = rw e at h
 
-none_left : (T : Table) (s token : ℕ) (order : List ℕ) (n from : ℕ) (r : NextItem) → r ≡ Nothing → NextIs T s token order n from r → items_left T s token order n from ≡ []
+none_left : (T : Table) (s token : ℕ) (order : List ℕ) (n from : ℕ) (r : Option (ℕ × ℕ)) → r ≡ None → NextIs T s token order n from r → items_left T s token order n from ≡ []
 unfolding NextIs
 none_left T s token order n from r e h = rw e at h
 
@@ -157,7 +156,7 @@ module _ (T : Table) (F : TableFits T) (s token : ℕ) (hs : s < length T.states
     turn_trials m h = let z = fewer in let f = U.few_trials in omega arith
 
     -- the listing that was made, r its answer
-    module _ (r : SideValue) (kept' prints' : List ℕ)
+    module _ (r : Result Gathered Refusal) (kept' prints' : List ℕ)
         (a : ListedOn T.productions true r total kept prints kept' prints' (listing_side T (edges_by true T s (record { production = c / index_limit; index = c % index_limit })) (record { production = c / index_limit; index = c % index_limit }) (set_of Any) total)) where
       abbrev listing : Side
       listing = listing_side T (edges_by true T s (item_of c)) (item_of c) none total
@@ -174,16 +173,16 @@ module _ (T : Table) (F : TableFits T) (s token : ℕ) (hs : s < length T.states
           ∙ ap (shift_side_from T s (gathered U.examples trials)) (sym N.left)
           ∙ U.same
 
-      behind : (k m : ℕ) → r ≡ Examples k m → ListedBehind T.productions true total k m kept prints kept' prints' listing
+      behind : (g : Gathered) → r ≡ Ok g → ListedBehind T.productions true total g.examples g.trials kept prints kept' prints' listing
       unfolding ListedOn
-      behind k m er = rw er at answer
+      behind g er = rw er at answer
 
-      pub turn_more : (k m : ℕ) → r ≡ Examples k m → TrialsIn trial_limit r → Room kept' prints' → length kept' ≡ length kept → length prints' ≡ length prints
-          → Turn T s token order n kept₀ prints₀ kept' prints' k (trials + m) (place + 1)
-      turn_more k m er K R l v =
-          let G = behind k m er in
+      pub turn_more : (g : Gathered) → r ≡ Ok g → TrialsIn trial_limit r → Room kept' prints' → length kept' ≡ length kept → length prints' ≡ length prints
+          → Turn T s token order n kept₀ prints₀ kept' prints' g.examples (trials + g.trials) (place + 1)
+      turn_more g er K R l v =
+          let G = behind g er in
           let B = G.behind in
-          let b = trials_few r k m er K in
+          let b = trials_few r g er K in
           let d = U.few_trials in
           let z = fewer in
           let y = B.many in
@@ -192,24 +191,24 @@ module _ (T : Table) (F : TableFits T) (s token : ℕ) (hs : s < length T.states
           rw (add-one place) (record {
             examples = U.examples ++ G.examples;
             many = omega arith;
-            held = shift_kept T F s c (item_fits T (item_of c) of_state) has_cursor U.examples G.examples total k m U.many kept prints kept' prints' U.held R B G.is;
+            held = shift_kept T F s c (item_fits T (item_of c) of_state) has_cursor U.examples G.examples total g.examples g.trials U.many kept prints kept' prints' U.held R B G.is;
             few_trials = omega arith;
             long = l ∙ U.long;
             wide = v ∙ U.wide;
-            same = step (gathered (U.examples ++ G.examples) (trials + m)) (ap (with_more (gathered U.examples trials)) G.is ∙ with_gathered U.examples G.examples trials m);
+            same = step (gathered (U.examples ++ G.examples) (trials + g.trials)) (ap (with_more (gathered U.examples trials)) G.is ∙ with_gathered U.examples G.examples trials g.trials);
           })
 
-      stopped_at : (x : ℕ) → r ≡ Stopped x → listing ≡ stopped x
+      stopped_at : (x : Refusal) → r ≡ Err x → listing ≡ stopped (number_of x)
       unfolding ListedOn
       stopped_at x er = rw er at answer
 
-      pub turn_stop : (x : ℕ) → r ≡ Stopped x → Sided T true (shift_made T s) (Stopped x) kept' prints' (shift_side T s token)
+      pub turn_stop : (x : Refusal) → r ≡ Err x → Sided T true (shift_made T s) (Err x) kept' prints' (shift_side T s token)
       unfolding Sided
       turn_stop x er =
-          sym (step (stopped x) (ap (with_more (gathered U.examples trials)) (stopped_at x er) ∙ with_stopped U.examples trials x)) ∙ from-stopped T s x (items_left T s token order n (suc place))
+          sym (step (stopped (number_of x)) (ap (with_more (gathered U.examples trials)) (stopped_at x er) ∙ with_stopped U.examples trials (number_of x))) ∙ from-stopped T s (number_of x) (items_left T s token order n (suc place))
 
 pub turn_end : (T : Table) (s token : ℕ) (order : List ℕ) (n : ℕ) (kept₀ prints₀ kept prints : List ℕ) (total trials from : ℕ) → Turn T s token order n kept₀ prints₀ kept prints total trials from
-    → (r : NextItem) → r ≡ Nothing → NextIs T s token order n from r → Sided T true (shift_made T s) (Examples total trials) kept prints (shift_side T s token)
+    → (r : Option (ℕ × ℕ)) → r ≡ None → NextIs T s token order n from r → Sided T true (shift_made T s) (Ok (record { examples = total; trials = trials })) kept prints (shift_side T s token)
 unfolding Sided
 turn_end T s token order n kept₀ prints₀ kept prints total trials from U r e h =
     let so = gathered U.examples trials in

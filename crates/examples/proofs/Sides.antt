@@ -1,5 +1,5 @@
 -- What is kept of a side with a listing's examples behind those before (specs/Gathers): of a reduce's side, which is one listing, and of a shift's, a listing more. Assumes nothing.
-use Rattle.std.specs.Prelude.{◌≡◌, ℕ, ◌+◌, ◌-◌, ◌*◌, ◌<◌, Bool, true, false, ltb, List, [], ◌++◌, length, get_or}
+use Rattle.std.specs.Prelude.{Result, Ok, Err, ◌≡◌, ℕ, ◌+◌, ◌-◌, ◌*◌, ◌<◌, Bool, true, false, ltb, List, [], ◌++◌, length, get_or}
 use native.Mathlib.Omega.{arith}
 use mathlib.Core.Path.{refl, sym, ap, ◌∙◌, subst}
 use mathlib.Core.Bool.{true≢false}
@@ -19,8 +19,8 @@ use Rattle.error.specs.Sides.{gathered, listing_side, item_of_reduce, reduce_sid
 use Rattle.outline.specs.Outline.{outline_from}
 use Rattle.outline.specs.Inline.{Shifts}
 use Rattle.outline.specs.Kept.{nth, outline_in, turn_in, labelled_limit, KeptLabels, Room}
-use Rattle.examples.specs.declared.Side.{Side as SideValue}
-use Rattle.examples.specs.declared.Side.TheVariants.{Examples, Stopped}
+use Rattle.examples.specs.declared.Gathered.{Gathered}
+use Rattle.examples.specs.declared.Refusal.{Refusal}
 use Rattle.examples.specs.Gathers.{Behind, ListedOn, shift_made, reduce_made, ExampleFits, SideKept, Sided}
 use Rattle.examples.proofs.Listed.{listed-fits, listed-first, listed-shifts}
 
@@ -122,10 +122,10 @@ module _ (T : Table) (F : TableFits T) (s p token : ℕ) (f : item_is_fit T.prod
       shifts = λ e. absurd (true≢false (sym e));
     }
 
-  pub reduce_sided : (r : SideValue) → ListedOn T.productions false r 0 kept prints kept' prints' (reduce_side T s p token) → Sided T false (reduce_made T s p token) r kept' prints' (reduce_side T s p token)
+  pub reduce_sided : (r : Result Gathered Refusal) → ListedOn T.productions false r 0 kept prints kept' prints' (reduce_side T s p token) → Sided T false (reduce_made T s p token) r kept' prints' (reduce_side T s p token)
   unfolding ListedOn Sided
-  reduce_sided (Examples n m) S =
+  reduce_sided (Ok g) S =
       let B = S.behind in
       let a = B.many in
-      record { examples = S.examples; is = S.is; many = omega arith; held = reduce_kept n m S.examples B S.is }
-  reduce_sided (Stopped x) S = S
+      record { examples = S.examples; is = S.is; many = omega arith; held = reduce_kept g.examples g.trials S.examples B S.is }
+  reduce_sided (Err x) S = S

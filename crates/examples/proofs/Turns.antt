@@ -1,5 +1,5 @@
 -- The ways through a turn of `list_outlines`: what is kept of the example that a search finds, and what of the listing is left (specs/Listing, specs/Gathers). Assumes nothing.
-use Rattle.std.specs.Prelude.{◌≡◌, ℕ, suc, ◌+◌, ◌-◌, ◌<◌, ◌≤◌, Bool, List, [], ◌∷◌, ◌++◌, length, drop, set, replicate}
+use Rattle.std.specs.Prelude.{Ok, Err, ◌≡◌, ℕ, suc, ◌+◌, ◌-◌, ◌<◌, ◌≤◌, Bool, List, [], ◌∷◌, ◌++◌, length, drop, set, replicate}
 use native.Mathlib.Omega.{arith}
 use mathlib.Core.Path.{refl, sym, ap, ◌∙◌}
 use mathlib.Core.Option.{Option}
@@ -25,7 +25,8 @@ use Rattle.outline.specs.Outline.{outline_from}
 use Rattle.outline.specs.Kept.{outline_in, turn_in, kept_with, labelled_limit, kept_room, KeptLabels, LabelsPut, Room}
 use Rattle.outline.proofs.Keeping.{keep-length, keep_here, keep_turn, keep_there, keep_turn_there}
 use Rattle.outline.proofs.Labelled.{put_outline, put_turn, put_labels, put_others, outlined_labels}
-use Rattle.examples.specs.declared.Side.TheVariants.{Examples, Stopped}
+use Rattle.examples.specs.declared.Refusal.{Refusal}
+use Rattle.examples.specs.declared.Refusal.TheVariants.{TooManyTrials, TooManyExamples}
 use Rattle.examples.specs.Listing.{more, onto, next_example, listed_by}
 use Rattle.examples.specs.Gathers.{PutBehind, Behind, ListedOn, TrialsIn}
 use Rattle.examples.proofs.Walking.{next-room, next-none, walk-out}
@@ -127,7 +128,7 @@ module _ (e : ℕ) (sets : List ℕ) (ps : List Production) (ahead : Option ℕ)
   module _ (shift : Bool) (count : ℕ) (kept₀ prints₀ kept prints : List ℕ) (turn c : ℕ) (U : Turn shift count kept₀ prints₀ kept prints turn c) where
     -- 14
     pub turn_full : (x : Example) (s : Side) → left c (count + turn) ≡ next_example (count + turn) x s → example_limit ≤ count + turn
-        → ListedOn ps shift (Stopped 14) count kept₀ prints₀ kept prints (listed_by e sets ps es ahead start count)
+        → ListedOn ps shift (Err TooManyExamples) count kept₀ prints₀ kept prints (listed_by e sets ps es ahead start count)
     unfolding ListedOn
     turn_full x s h f = sym U.same ∙ ap (onto U.examples) (h ∙ next-none (count + turn) x s f) ∙ onto-stopped U.examples 14
 
@@ -147,20 +148,20 @@ module _ (e : ℕ) (sets : List ℕ) (ps : List Production) (ahead : Option ℕ)
         }
 
     -- the end
-    pub turn_out : (n : ℕ) → left c (count + turn) ≡ gathered [] n → ListedOn ps shift (Examples (count + turn) n) count kept₀ prints₀ kept prints (listed_by e sets ps es ahead start count)
+    pub turn_out : (n : ℕ) → left c (count + turn) ≡ gathered [] n → ListedOn ps shift (Ok (record { examples = count + turn; trials = n })) count kept₀ prints₀ kept prints (listed_by e sets ps es ahead start count)
     unfolding ListedOn
     turn_out n h = record { examples = U.examples; is = sym U.same ∙ ap (onto U.examples) h ∙ onto_end U.examples n; behind = U.behind }
 
     -- 13
-    pub turn_over : left c (count + turn) ≡ stopped 13 → ListedOn ps shift (Stopped 13) count kept₀ prints₀ kept prints (listed_by e sets ps es ahead start count)
+    pub turn_over : left c (count + turn) ≡ stopped 13 → ListedOn ps shift (Err TooManyTrials) count kept₀ prints₀ kept prints (listed_by e sets ps es ahead start count)
     unfolding ListedOn
     turn_over h = sym U.same ∙ ap (onto U.examples) h ∙ onto-stopped U.examples 13
 
 -- what a listing says of its trials
-pub trials-told : (k n : ℕ) → n ≤ trial_limit → TrialsIn trial_limit (Examples k n)
+pub trials-told : (k n : ℕ) → n ≤ trial_limit → TrialsIn trial_limit (Ok (record { examples = k; trials = n }))
 unfolding TrialsIn
 trials-told k n h = h
 
-pub trials-none : (x : ℕ) → TrialsIn trial_limit (Stopped x)
+pub trials-none : (x : Refusal) → TrialsIn trial_limit (Err x)
 unfolding TrialsIn
 trials-none x = tt

@@ -1,5 +1,5 @@
 -- What the functions that list a side answer, and what is kept of its examples. Assumes nothing: these are definitions.
-use Rattle.std.specs.Prelude.{◌≡◌, ℕ, zero, suc, ◌+◌, ◌<◌, ◌≤◌, Bool, true, List, length, ◌==◌, ◌≢◌}
+use Rattle.std.specs.Prelude.{◌≡◌, ℕ, zero, suc, ◌+◌, ◌<◌, ◌≤◌, Bool, true, List, length, ◌==◌, ◌≢◌, Result, Ok, Err}
 use Rattle.std.proofs.Math.Option.{none}
 use Rattle.repr.specs.Sizes.{reduction_limit, example_limit}
 use Rattle.repr.specs.Meaning.{Production, Table, All}
@@ -12,8 +12,9 @@ use Rattle.error.specs.Sides.{Side, gathered, stopped, listing_side, reduce_side
 use Rattle.outline.specs.Outline.{outline_from}
 use Rattle.outline.specs.Kept.{nth, outline_in, turn_in, labelled_limit, KeptLabels, Outlined}
 use Rattle.outline.specs.Inline.{Shifts}
-use Rattle.examples.specs.declared.Side.{Side as SideValue}
-use Rattle.examples.specs.declared.Side.TheVariants.{Examples, Stopped}
+use Rattle.examples.specs.declared.Gathered.{Gathered}
+use Rattle.examples.specs.declared.Refusal.{Refusal}
+use Rattle.examples.specs.Refusals.{number_of}
 use Rattle.examples.specs.Again.{Listed}
 
 -- example x put as number k of its side, number `turn` of its listing: its outline, and its labels where they are kept; nothing changes of the others
@@ -42,14 +43,14 @@ pub record ListedBehind (ps : List Production) (shift : Bool) (count n m : ℕ) 
   pub is : listing ≡ gathered examples m
   pub behind : Behind ps shift count n examples kept prints kept' prints'
 
-unfoldable pub ListedOn : List Production → Bool → SideValue → ℕ → List ℕ → List ℕ → List ℕ → List ℕ → Side → Type 0
-ListedOn ps shift (Examples n m) count kept prints kept' prints' listing = ListedBehind ps shift count n m kept prints kept' prints' listing
-ListedOn ps shift (Stopped x) count kept prints kept' prints' listing = listing ≡ stopped x
+unfoldable pub ListedOn : List Production → Bool → Result Gathered Refusal → ℕ → List ℕ → List ℕ → List ℕ → List ℕ → Side → Type 0
+ListedOn ps shift (Ok g) count kept prints kept' prints' listing = ListedBehind ps shift count g.examples g.trials kept prints kept' prints' listing
+ListedOn ps shift (Err x) count kept prints kept' prints' listing = listing ≡ stopped (number_of x)
 
 -- a listing makes at most 100,000 trials
-unfoldable pub TrialsIn : ℕ → SideValue → Type 0
-TrialsIn l (Examples n m) = m ≤ l
-TrialsIn l (Stopped x) = Unit {0}
+unfoldable pub TrialsIn : ℕ → Result Gathered Refusal → Type 0
+TrialsIn l (Ok g) = g.trials ≤ l
+TrialsIn l (Err x) = Unit {0}
 
 -- how an example with a kept label is made again: it is number k of the listing of its item, which began after some examples
 pub record Made (listing : ℕ → Side) (k : ℕ) (x : Example) : Type 0 where
@@ -96,6 +97,6 @@ pub record Gathers (T : Table) (shift : Bool) (made : ℕ → ℕ → Example �
   pub held : SideKept T shift made examples kept prints
 
 -- the answer is the side's
-unfoldable pub Sided : Table → Bool → (ℕ → ℕ → Example → Type 0) → SideValue → List ℕ → List ℕ → Side → Type 0
-Sided T shift made (Examples n m) kept prints side = Gathers T shift made n m kept prints side
-Sided T shift made (Stopped x) kept prints side = side ≡ stopped x
+unfoldable pub Sided : Table → Bool → (ℕ → ℕ → Example → Type 0) → Result Gathered Refusal → List ℕ → List ℕ → Side → Type 0
+Sided T shift made (Ok g) kept prints side = Gathers T shift made g.examples g.trials kept prints side
+Sided T shift made (Err x) kept prints side = side ≡ stopped (number_of x)

@@ -2,3 +2,4 @@ pub mod Reads
 pub mod Listing
 pub mod Again
 pub mod Gathers
+pub mod Refusals

@@ -27,6 +27,7 @@ ghost use Rattle.error.specs.Outcome.{conflict_fits};
 ghost use Rattle.outline.specs.Kept.{Room};
 ghost use Rattle.outline.specs.Inline.{CodeFits};
 ghost use Rattle.examples.specs.Reads.{Reads};
+ghost use Rattle.examples.specs.Refusals.{number_of};
 ghost use Rattle.examples.specs.Listing.{listed_by, Listable};
 ghost use Rattle.examples.specs.Gathers.{ListedOn, Sided, shift_made, reduce_made, action_made, is_shift, TrialsIn, PutBehind};
 ghost use Rattle.examples.specs.Again.{Listed, Finds};
@@ -42,7 +43,7 @@ use lr1_core::Item;
 use outline::{Outline, keep, keep_labels, outline_of};
 use repr::{NonterminalString, ProductionIndex};
 use search::{Searched, read_labels, search, write_trial};
-use shift_items::{NextItem, conflicting_shift_items, next_shift_item};
+use shift_items::{conflicting_shift_items, next_shift_item};
 use state_graph::StateIndex;
 use table::{Counts, read_counts, read_productions};
 use trace::reduce::suffix_ends;
@@ -83,11 +84,62 @@ pub fn prepare(table: &[u16], grammar: &mut [u16]) -> Prepared
     }
 }
 
-// One side: how many examples are kept of it and how many trials were made; else the refusal, 12 to 14.
+impl Prepared {
+    // All of it, with the table and its packed productions.
+    pub fn given<'a>(&'a self, table: &'a [u16], grammar: &'a [u16]) -> Given<'a>
+        requires { Reads table.now grammar.now self.now.counts self.now.map self.now.least self.now.ends }
+        ensures tables { (result.table.now ≡ table.now) × (result.grammar.now ≡ grammar.now) × (result.counts ≡ self.now.counts) }
+        ensures sets { (result.map.now ≡ self.now.map) × (result.least.now ≡ self.now.least) × (result.ends.now ≡ self.now.ends) }
+    {
+        Given {
+            table,
+            grammar,
+            counts: self.counts,
+            map: &self.map,
+            least: &self.least,
+            ends: &self.ends,
+        }
+    }
+}
+
+// What gathering and judging are given of a table: the table, its packed productions, and what was prepared.
 #[derive(Clone, Copy)]
-pub enum Side {
-    Examples(usize, u32),
-    Stopped(u16),
+pub struct Given<'a> {
+    pub table: &'a [u16],
+    pub grammar: &'a [u16],
+    pub counts: Counts,
+    pub map: &'a [u64; NonterminalString::LIMIT],
+    pub least: &'a [u8],
+    pub ends: &'a [u64],
+    pub ghost reads: { Reads table.now grammar.now counts map.now least.now ends.now },
+}
+
+// Why a side's examples are not gathered.
+#[derive(Clone, Copy, PartialEq, Eq)]
+pub enum Refusal {
+    TooManyEdges,
+    TooManyTrials,
+    TooManyExamples,
+}
+
+impl Refusal {
+    // Document 01's number: 12 to 14.
+    pub fn number(self) -> u16
+        ensures { result ≡ number_of self }
+    {
+        match self {
+            Refusal::TooManyEdges => 12,
+            Refusal::TooManyTrials => 13,
+            Refusal::TooManyExamples => 14,
+        }
+    }
+}
+
+// How many examples are kept of a side, and how many trials were made.
+#[derive(Clone, Copy)]
+pub struct Gathered {
+    pub examples: usize,
+    pub trials: u32,
 }
 
 // An item that is traced from a state, as a shift's or as a reduce's.
@@ -141,7 +193,7 @@ fn list_outlines(
     kept: &mut [u16],
     prints: &mut [u64],
     count: usize,
-) -> Side
+) -> Result<Gathered, Refusal>
     requires packed { Packed grammar.now counts.productions × (counts.terminals ≤ 63) }
     requires listable { (es : List TraceEdge) × ((start : ItemOf) × Listable (productions_in grammar.now counts.productions) es owners.now codes.now sources.now older.now latest.now start) }
     requires room { Room kept.old prints.old × (count ≤ example_limit) }
@@ -170,7 +222,7 @@ fn list_outlines(
         ) {
             Searched::Hit(number) => {
                 if count + turn >= Conflict::EXAMPLES {
-                    return Side::Stopped(14);
+                    return Err(Refusal::TooManyExamples);
                 }
                 keep_trial(
                     grammar,
@@ -188,10 +240,13 @@ fn list_outlines(
                 made = number;
             }
             Searched::Out(number) => {
-                return Side::Examples(count + turn, number);
+                return Ok(Gathered {
+                    examples: count + turn,
+                    trials: number,
+                });
             }
             Searched::Over => {
-                return Side::Stopped(13);
+                return Err(Refusal::TooManyTrials);
             }
         }
     }
@@ -199,12 +254,7 @@ fn list_outlines(
 
 // The item is traced from the state: its edges in words of one each, their owners, and the view from the item in three zeroed lists. More than 1,024 edges do not fit.
 fn open_view(
-    table: &[u16],
-    grammar: &[u16],
-    counts: Counts,
-    map: &[u64; NonterminalString::LIMIT],
-    least: &[u8],
-    ends: &[u64],
+    given: Given,
     traced: Traced,
     words: &mut [u16],
     owners: &mut [u8],
@@ -212,22 +262,21 @@ fn open_view(
     older: &mut [u16],
     latest: &mut [u16],
 ) -> Inserted
-    requires reads { Reads table.now grammar.now counts map.now least.now ends.now }
-    requires state_in_bounds { (traced.state.0 < length (meaning table.now).states) × (item_is_fit (meaning table.now).productions traced.production traced.index ≡ true) }
+    requires state_in_bounds { (traced.state.0 < length (meaning given.table.now).states) × (item_is_fit (meaning given.table.now).productions traced.production traced.index ≡ true) }
     requires words_len { (length words.old ≡ codes_room) × (length owners.old ≡ edge_limit) }
     requires sources_value { (sources.old ≡ replicate edge_limit 0) × ((older.old ≡ replicate edge_limit 0) × (latest.old ≡ replicate latest_room 0)) }
-    ensures listable { result ≡ Done → Listable (meaning table.now).productions (edges_by traced.shift (meaning table.now) traced.state.0 (record { production = traced.production; index = traced.index })) owners.new (drop 1 words.new) sources.new older.new latest.new (record { production = traced.production; index = traced.index }) }
-    ensures edge_limit_in_bounds { result ≡ Full → edge_limit < length (edges_by traced.shift (meaning table.now) traced.state.0 (record { production = traced.production; index = traced.index })) }
+    ensures listable { result ≡ Done → Listable (meaning given.entry.table.now).productions (edges_by traced.shift (meaning given.entry.table.now) traced.state.0 (record { production = traced.production; index = traced.index })) owners.new (drop 1 words.new) sources.new older.new latest.new (record { production = traced.production; index = traced.index }) }
+    ensures edge_limit_in_bounds { result ≡ Full → edge_limit < length (edges_by traced.shift (meaning given.entry.table.now) traced.state.0 (record { production = traced.production; index = traced.index })) }
 {
     let state = traced.state.0 as usize;
     let production = traced.production;
     let index = traced.index;
     match trace_codes(
-        table,
-        grammar,
-        counts.productions,
-        least,
-        ends,
+        given.table,
+        given.grammar,
+        given.counts.productions,
+        given.least,
+        given.ends,
         words,
         state,
         production,
@@ -236,7 +285,14 @@ fn open_view(
     ) {
         Inserted::Done => {
             view_codes(
-                grammar, words, production, index, owners, sources, older, latest,
+                given.grammar,
+                words,
+                production,
+                index,
+                owners,
+                sources,
+                older,
+                latest,
             );
             Inserted::Done
         }
@@ -246,22 +302,16 @@ fn open_view(
 
 // One listing of a side: the item is traced from the state, and the examples of the trace are listed. More than 1,024 edges are refusal 12.
 fn list_item(
-    table: &[u16],
-    grammar: &[u16],
-    counts: Counts,
-    map: &[u64; NonterminalString::LIMIT],
-    least: &[u8],
-    ends: &[u64],
+    given: Given,
     lookahead: Lookahead,
     traced: Traced,
     kept: &mut [u16],
     prints: &mut [u64],
     count: usize,
-) -> Side
-    requires reads { Reads table.now grammar.now counts map.now least.now ends.now }
-    requires state_in_bounds { (traced.state.0 < length (meaning table.now).states) × (item_is_fit (meaning table.now).productions traced.production traced.index ≡ true) }
+) -> Result<Gathered, Refusal>
+    requires state_in_bounds { (traced.state.0 < length (meaning given.table.now).states) × (item_is_fit (meaning given.table.now).productions traced.production traced.index ≡ true) }
     requires room { Room kept.old prints.old × (count ≤ example_limit) }
-    ensures listed_on { ListedOn (meaning table.now).productions traced.shift result count kept.old prints.old kept.new prints.new (listing_side (meaning table.now) (edges_by traced.shift (meaning table.now) traced.state.0 (record { production = traced.production; index = traced.index })) (record { production = traced.production; index = traced.index }) (set_of lookahead) count) }
+    ensures listed_on { ListedOn (meaning given.entry.table.now).productions traced.shift result count kept.old prints.old kept.new prints.new (listing_side (meaning given.entry.table.now) (edges_by traced.shift (meaning given.entry.table.now) traced.state.0 (record { production = traced.production; index = traced.index })) (record { production = traced.production; index = traced.index }) (set_of lookahead) count) }
     ensures room_2 { Room kept.new prints.new × TrialsIn trial_limit result }
 {
     let mut words = [0u16; EdgeCode::WORDS];
@@ -271,12 +321,7 @@ fn list_item(
     let mut latest = [0u16; View::NODES];
     let shift = traced.shift;
     match open_view(
-        table,
-        grammar,
-        counts,
-        map,
-        least,
-        ends,
+        given,
         traced,
         &mut words,
         &mut owners,
@@ -285,9 +330,9 @@ fn list_item(
         &mut latest,
     ) {
         Inserted::Done => list_outlines(
-            grammar,
-            counts,
-            map,
+            given.grammar,
+            given.counts,
+            given.map,
             lookahead,
             shift,
             &owners,
@@ -299,73 +344,65 @@ fn list_item(
             prints,
             count,
         ),
-        Inserted::Full => Side::Stopped(12),
+        Inserted::Full => Err(Refusal::TooManyEdges),
     }
 }
 
 // `shift_examples`: the items that shift the token in their order, each traced and listed before the next.
 fn shift_examples(
-    table: &[u16],
-    grammar: &[u16],
-    counts: Counts,
-    map: &[u64; NonterminalString::LIMIT],
-    least: &[u8],
-    ends: &[u64],
+    given: Given,
     state: StateIndex,
     token: usize,
     kept: &mut [u16],
     prints: &mut [u64],
-) -> Side
-    requires reads { Reads table.now grammar.now counts map.now least.now ends.now }
-    requires state_in_bounds { state.0 < length (meaning table.now).states }
+) -> Result<Gathered, Refusal>
+    requires state_in_bounds { state.0 < length (meaning given.table.now).states }
     requires room { Room kept.old prints.old }
-    ensures { Sided (meaning table.now) true (shift_made (meaning table.now) state.0) result kept.new prints.new (shift_side (meaning table.now) state.0 token) }
+    ensures { Sided (meaning given.entry.table.now) true (shift_made (meaning given.entry.table.now) state.0) result kept.new prints.new (shift_side (meaning given.entry.table.now) state.0 token) }
 {
     let mut order = [0u16; ProductionIndex::LIMIT];
     let mut marks = [0u64; Item::FLAG_WORDS];
-    let productions = counts.productions;
-    let number = state.0 as usize;
-    conflicting_shift_items(table, grammar, productions, number, &mut order, &mut marks);
-    let mut total: usize = 0;
-    let mut trials: u32 = 0;
+    let productions = given.counts.productions;
+    conflicting_shift_items(
+        given.table,
+        given.grammar,
+        productions,
+        state.0 as usize,
+        &mut order,
+        &mut marks,
+    );
+    let mut gathered = Gathered {
+        examples: 0,
+        trials: 0,
+    };
     let mut from: usize = 0;
-    loop {
-        match next_shift_item(grammar, productions, token, &order, &marks, from) {
-            NextItem::At(place, code) => {
-                let traced = Traced {
-                    state: state,
-                    production: code / ProductionIndex::INDEXES,
-                    index: code % ProductionIndex::INDEXES,
-                    shift: true,
-                };
-                match list_item(
-                    table,
-                    grammar,
-                    counts,
-                    map,
-                    least,
-                    ends,
-                    Lookahead::Any,
-                    traced,
-                    kept,
-                    prints,
-                    total,
-                ) {
-                    Side::Examples(examples, made) => {
-                        total = examples;
-                        trials += made;
-                        from = place + 1;
-                    }
-                    Side::Stopped(refusal) => {
-                        return Side::Stopped(refusal);
-                    }
-                }
-            }
-            NextItem::Nothing => {
-                return Side::Examples(total, trials);
-            }
-        }
+    while let Some((place, code)) = next_shift_item(
+        given.grammar,
+        productions,
+        token,
+        &order,
+        &marks,
+        from,
+    ) {
+        let traced = Traced {
+            state: state,
+            production: code / ProductionIndex::INDEXES,
+            index: code % ProductionIndex::INDEXES,
+            shift: true,
+        };
+        let listed = list_item(
+            given,
+            Lookahead::Any,
+            traced,
+            kept,
+            prints,
+            gathered.examples,
+        )?;
+        gathered.examples = listed.examples;
+        gathered.trials += listed.trials;
+        from = place + 1;
     }
+    Ok(gathered)
 }
 
 // A production at its end, as a reduce traces it.
@@ -387,77 +424,40 @@ fn reduce_item(grammar: &[u16], productions: usize, state: StateIndex, productio
 
 // `reduce_examples`: the production at its end, filtered by the token.
 pub fn reduce_examples(
-    table: &[u16],
-    grammar: &[u16],
-    counts: Counts,
-    map: &[u64; NonterminalString::LIMIT],
-    least: &[u8],
-    ends: &[u64],
+    given: Given,
     state: StateIndex,
     production: usize,
     token: u16,
     kept: &mut [u16],
     prints: &mut [u64],
-) -> Side
-    requires reads { Reads table.now grammar.now counts map.now least.now ends.now }
-    requires state_in_bounds { (state.0 < length (meaning table.now).states) × ((production < length (meaning table.now).productions) × (token ≤ (meaning table.now).terminals)) }
+) -> Result<Gathered, Refusal>
+    requires state_in_bounds { (state.0 < length (meaning given.table.now).states) × ((production < length (meaning given.table.now).productions) × (token ≤ (meaning given.table.now).terminals)) }
     requires room { Room kept.old prints.old }
-    ensures { Sided (meaning table.now) false (reduce_made (meaning table.now) state.0 production token) result kept.new prints.new (reduce_side (meaning table.now) state.0 production token) }
+    ensures { Sided (meaning given.entry.table.now) false (reduce_made (meaning given.entry.table.now) state.0 production token) result kept.new prints.new (reduce_side (meaning given.entry.table.now) state.0 production token) }
 {
-    let traced = reduce_item(grammar, counts.productions, state, production);
+    let traced = reduce_item(given.grammar, given.counts.productions, state, production);
     let tokens = TokenSet::from(token);
-    list_item(
-        table,
-        grammar,
-        counts,
-        map,
-        least,
-        ends,
-        Lookahead::Set(tokens),
-        traced,
-        kept,
-        prints,
-        0,
-    )
+    list_item(given, Lookahead::Set(tokens), traced, kept, prints, 0)
 }
 
 // The side of the conflict's action.
 pub fn action_examples(
-    table: &[u16],
-    grammar: &[u16],
-    counts: Counts,
-    map: &[u64; NonterminalString::LIMIT],
-    least: &[u8],
-    ends: &[u64],
+    given: Given,
     conflict: Conflict,
     kept: &mut [u16],
     prints: &mut [u64],
-) -> Side
-    requires reads { Reads table.now grammar.now counts map.now least.now ends.now }
-    requires conflict_value { conflict_fits (meaning table.now) conflict ≡ true }
+) -> Result<Gathered, Refusal>
+    requires conflict_value { conflict_fits (meaning given.table.now) conflict ≡ true }
     requires room { Room kept.old prints.old }
-    ensures { Sided (meaning table.now) (is_shift conflict) (action_made (meaning table.now) conflict) result kept.new prints.new (action_side_of (meaning table.now) conflict.state.0 conflict.action conflict.operand conflict.token) }
+    ensures { Sided (meaning given.entry.table.now) (is_shift conflict) (action_made (meaning given.entry.table.now) conflict) result kept.new prints.new (action_side_of (meaning given.entry.table.now) conflict.state.0 conflict.action conflict.operand conflict.token) }
 {
     let state = conflict.state;
     let operand = conflict.operand as usize;
     let token = conflict.token;
     if conflict.action == 0 {
-        return shift_examples(
-            table,
-            grammar,
-            counts,
-            map,
-            least,
-            ends,
-            state,
-            token as usize,
-            kept,
-            prints,
-        );
+        return shift_examples(given, state, token as usize, kept, prints);
     }
-    reduce_examples(
-        table, grammar, counts, map, least, ends, state, operand, token, kept, prints,
-    )
+    reduce_examples(given, state, operand, token, kept, prints)
 }
 
 // From no edge on, past `wanted` examples of a listing: whether the words hold the next.
@@ -516,22 +516,10 @@ fn find_example(
 }
 
 // One listing's example made again, `wanted` others before it: the item is traced from the state, and the listing goes on to the example. No trial of it is counted.
-fn item_again(
-    table: &[u16],
-    grammar: &[u16],
-    counts: Counts,
-    map: &[u64; NonterminalString::LIMIT],
-    least: &[u8],
-    ends: &[u64],
-    lookahead: Lookahead,
-    traced: Traced,
-    wanted: usize,
-    buffer: &mut [u16],
-)
-    requires reads { Reads table.now grammar.now counts map.now least.now ends.now }
-    requires state_in_bounds { (traced.state.0 < length (meaning table.now).states) × (item_is_fit (meaning table.now).productions traced.production traced.index ≡ true) }
+fn item_again(given: Given, lookahead: Lookahead, traced: Traced, wanted: usize, buffer: &mut [u16])
+    requires state_in_bounds { (traced.state.0 < length (meaning given.table.now).states) × (item_is_fit (meaning given.table.now).productions traced.production traced.index ≡ true) }
     requires example_room_in_bounds { example_room ≤ length buffer.old }
-    ensures { (k : ℕ) (x : ExampleOf) → k ≤ example_limit → Listed (listing_side (meaning table.now) (edges_by traced.shift (meaning table.now) traced.state.0 (record { production = traced.production; index = traced.index })) (record { production = traced.production; index = traced.index }) (set_of lookahead) k) wanted x → buffer.new ≡ in_front (example_words (meaning table.now).productions x) buffer.old }
+    ensures { (k : ℕ) (x : ExampleOf) → k ≤ example_limit → Listed (listing_side (meaning given.entry.table.now) (edges_by traced.shift (meaning given.entry.table.now) traced.state.0 (record { production = traced.production; index = traced.index })) (record { production = traced.production; index = traced.index }) (set_of lookahead) k) wanted x → buffer.new ≡ in_front (example_words (meaning given.entry.table.now).productions x) buffer.old }
 {
     let mut words = [0u16; EdgeCode::WORDS];
     let mut owners = [0u8; View::EDGES];
@@ -539,12 +527,7 @@ fn item_again(
     let mut older = [0u16; View::EDGES];
     let mut latest = [0u16; View::NODES];
     match open_view(
-        table,
-        grammar,
-        counts,
-        map,
-        least,
-        ends,
+        given,
         traced,
         &mut words,
         &mut owners,
@@ -555,9 +538,9 @@ fn item_again(
         Inserted::Done => {
             let mut trial = [0u16; View::TRIAL];
             if find_example(
-                grammar,
-                counts,
-                map,
+                given.grammar,
+                given.counts,
+                given.map,
                 lookahead,
                 &owners,
                 &words[1..],
@@ -568,8 +551,8 @@ fn item_again(
                 wanted,
             ) {
                 write_trial(
-                    grammar,
-                    counts.productions,
+                    given.grammar,
+                    given.counts.productions,
                     &owners,
                     &words[1..],
                     &trial,
@@ -583,57 +566,34 @@ fn item_again(
 
 // Example `wanted` of a reduce's side made again.
 pub fn reduce_again(
-    table: &[u16],
-    grammar: &[u16],
-    counts: Counts,
-    map: &[u64; NonterminalString::LIMIT],
-    least: &[u8],
-    ends: &[u64],
+    given: Given,
     state: StateIndex,
     production: usize,
     token: u16,
     wanted: usize,
     buffer: &mut [u16],
 )
-    requires reads { Reads table.now grammar.now counts map.now least.now ends.now }
-    requires state_in_bounds { (state.0 < length (meaning table.now).states) × ((production < length (meaning table.now).productions) × (token ≤ (meaning table.now).terminals)) }
+    requires state_in_bounds { (state.0 < length (meaning given.table.now).states) × ((production < length (meaning given.table.now).productions) × (token ≤ (meaning given.table.now).terminals)) }
     requires example_room_in_bounds { example_room ≤ length buffer.old }
-    ensures { (label : ℕ) (x : ExampleOf) → reduce_made (meaning table.now) state.0 production token label wanted x → buffer.new ≡ in_front (example_words (meaning table.now).productions x) buffer.old }
+    ensures { (label : ℕ) (x : ExampleOf) → reduce_made (meaning given.entry.table.now) state.0 production token label wanted x → buffer.new ≡ in_front (example_words (meaning given.entry.table.now).productions x) buffer.old }
 {
-    let traced = reduce_item(grammar, counts.productions, state, production);
+    let traced = reduce_item(given.grammar, given.counts.productions, state, production);
     let tokens = TokenSet::from(token);
-    item_again(
-        table,
-        grammar,
-        counts,
-        map,
-        least,
-        ends,
-        Lookahead::Set(tokens),
-        traced,
-        wanted,
-        buffer,
-    );
+    item_again(given, Lookahead::Set(tokens), traced, wanted, buffer);
 }
 
 // An example of the side of the conflict's action made again: of a shift the item is the label kept.
 pub fn action_again(
-    table: &[u16],
-    grammar: &[u16],
-    counts: Counts,
-    map: &[u64; NonterminalString::LIMIT],
-    least: &[u8],
-    ends: &[u64],
+    given: Given,
     conflict: Conflict,
     label: usize,
     wanted: usize,
     buffer: &mut [u16],
 )
-    requires reads { Reads table.now grammar.now counts map.now least.now ends.now }
-    requires conflict_value { conflict_fits (meaning table.now) conflict ≡ true }
-    requires code_fits { is_shift conflict ≡ true → CodeFits (meaning table.now).productions label }
+    requires conflict_value { conflict_fits (meaning given.table.now) conflict ≡ true }
+    requires code_fits { is_shift conflict ≡ true → CodeFits (meaning given.table.now).productions label }
     requires example_room_in_bounds { example_room ≤ length buffer.old }
-    ensures { (x : ExampleOf) → action_made (meaning table.now) conflict label wanted x → buffer.new ≡ in_front (example_words (meaning table.now).productions x) buffer.old }
+    ensures { (x : ExampleOf) → action_made (meaning given.entry.table.now) conflict label wanted x → buffer.new ≡ in_front (example_words (meaning given.entry.table.now).productions x) buffer.old }
 {
     let state = conflict.state;
     let operand = conflict.operand as usize;
@@ -645,21 +605,8 @@ pub fn action_again(
             index: label % ProductionIndex::INDEXES,
             shift: true,
         };
-        item_again(
-            table,
-            grammar,
-            counts,
-            map,
-            least,
-            ends,
-            Lookahead::Any,
-            traced,
-            wanted,
-            buffer,
-        );
+        item_again(given, Lookahead::Any, traced, wanted, buffer);
     } else {
-        reduce_again(
-            table, grammar, counts, map, least, ends, state, operand, token, wanted, buffer,
-        );
+        reduce_again(given, state, operand, token, wanted, buffer);
     }
 }

@@ -1,12 +1,14 @@
 -- Laws of two examples in buffers compared by their words, one for each way through `same_words` and `same_reading`. Assumes nothing.
-use Prim.Native.Nat.{ℕ, suc, ◌+◌, ◌-◌, ◌*◌, ◌≤◌, ◌<◌}
+use Prim.Native.Nat.{ℕ, suc, ◌+◌, ◌-◌, ◌*◌, ◌≤◌}
 use native.Mathlib.Omega.{arith}
 use mathlib.Core.Path.{◌≡◌, refl, sym, ap, ◌∙◌}
 use mathlib.Core.Bool.{Bool, true, false, ◌&&◌, and-false}
 use mathlib.Core.List.{List, [], ◌∷◌, ◌++◌, append_assoc}
 use lib.ListN.{length, get_or, take, drop, length-append}
-use lib.Seq.{drop-cons, take_at}
+use lib.Seq.{take_at}
 use borrow.Author.Tests.{eq-eqb, ne_eqb}
+use lib.Dec.{eqb}
+use lib.Pointwise.{pointwise}
 use Rattle.repr.specs.Sizes.{example_room}
 use Rattle.slices.specs.Same.{same_words}
 use Rattle.slices.specs.Lent.{in_front}
@@ -18,37 +20,14 @@ use Rattle.error.specs.Judge.{Example, cursor_at, same_example_symbol, same_exam
 use Rattle.outline.proofs.Prints.{count_in}
 use Rattle.judge.specs.Judging.{InBuffer}
 
--- `same_words`: i words are the same, and what is left decides
+-- what `==` answers of two slices
 
-pub zero_less : (n : ℕ) → n - 0 ≡ n
-zero_less n = omega arith
-
-pub zero_more : (n : ℕ) → n + 0 ≡ n
-zero_more n = omega arith
-
-module _ (a r : List ℕ) (from count i : ℕ) (ha : from + count ≤ length a) (hr : from + count ≤ length r) where
-  abbrev Left : Bool
-  Left = same_words (take (count - i) (drop (from + i) a)) (take (count - i) (drop (from + i) r))
-
-  pub same_end : count ≤ i → Left ≡ true
-  unfolding same_words
-  same_end h = let z : count - i ≡ 0 = omega arith in rw z
-
-  module _ (h : i < count) where
-    part_step : (ws : List ℕ) → from + count ≤ length ws → take (count - i) (drop (from + i) ws) ≡ get_or ws (from + i) 0 ∷ take (count - (i + 1)) (drop (from + (i + 1)) ws)
-    part_step ws l =
-        let m : count - i ≡ suc (count - (i + 1)) = omega arith in
-        let n : suc (from + i) ≡ from + (i + 1) = omega arith in
-        rw (m, drop-cons ws (from + i) 0 (omega arith), n)
-
-    module _ (x y : ℕ) (ex : x ≡ get_or a (from + i) 0) (ey : y ≡ get_or r (from + i) 0) where
-      pub same_stop : (x ≡ y → ⊥) → Left ≡ false
-      unfolding same_words
-      same_stop ne = rw (part_step a ha, part_step r hr, ← ex, ← ey, ne_eqb x y ne)
-
-      pub same_more : x ≡ y → Left ≡ same_words (take (count - (i + 1)) (drop (from + (i + 1)) a)) (take (count - (i + 1)) (drop (from + (i + 1)) r))
-      unfolding same_words
-      same_more e = rw (part_step a ha, part_step r hr, ← ex, ← ey, eq-eqb x y e)
+same_pointwise : (us vs : List ℕ) → pointwise eqb us vs ≡ same_words us vs
+unfolding same_words
+same_pointwise [] [] = refl
+same_pointwise [] (v ∷ vs) = refl
+same_pointwise (u ∷ us) [] = refl
+same_pointwise (u ∷ us) (v ∷ vs) = ap (λ (b : Bool). eqb u v && b) (same_pointwise us vs)
 
 -- the words of symbols are the same where the symbols are
 
@@ -143,12 +122,14 @@ module _ (ps : List Production) (x y : Example) (a r : List ℕ) (A : InBuffer p
       let v : n ≡ cursor_at ps y = en ∙ cursor_is ps y r R in
       rw (← u, ← v, ne_eqb m n ne) (sym (and-false (same_example_symbols (symbols ps x) (symbols ps y))))
 
-  pub reading_words : (c d m n : ℕ) (b : Bool) → c ≡ get_or a 0 0 → d ≡ get_or r 0 0 → c ≡ d → m ≡ get_or a 1 0 → n ≡ get_or r 1 0 → m ≡ n → b ≡ same_words (take (2 * c) (drop 3 a)) (take (2 * c) (drop 3 r)) → b ≡ is_same_reading ps x y
+  pub reading_words : (c d m n past : ℕ) (b : Bool) → c ≡ get_or a 0 0 → d ≡ get_or r 0 0 → c ≡ d → m ≡ get_or a 1 0 → n ≡ get_or r 1 0 → m ≡ n → past ≡ 3 + 2 * c
+      → b ≡ pointwise eqb (take (past - 3) (drop 3 a)) (take (past - 3) (drop 3 r)) → b ≡ is_same_reading ps x y
   unfolding is_same_reading
-  reading_words c d m n b ec ed cd em en mn q =
+  reading_words c d m n past b ec ed cd em en mn ep q =
       let u : m ≡ cursor_at ps x = em ∙ cursor_is ps x a A in
       let v : n ≡ cursor_at ps y = en ∙ cursor_is ps y r R in
-      q ∙ rw (places_are ps x a A c ec, places_are ps y r R c (cd ∙ ed), words_same (symbols ps x) (symbols ps y), ← u, ← v, eq-eqb m n mn) (sym (and_true' (same_example_symbols (symbols ps x) (symbols ps y))))
+      let l : past - 3 ≡ 2 * c = omega arith in
+      q ∙ rw (l, places_are ps x a A c ec, places_are ps y r R c (cd ∙ ed), same_pointwise, words_same (symbols ps x) (symbols ps y), ← u, ← v, eq-eqb m n mn) (sym (and_true' (same_example_symbols (symbols ps x) (symbols ps y))))
     where
       and_true' : (b : Bool) → b && true ≡ b
       and_true' true = refl

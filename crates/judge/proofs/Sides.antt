@@ -8,6 +8,7 @@ use mathlib.Core.Option.{none, some}
 use lib.ListN.{length, get_or}
 use lib.Dec.{ltb}
 use borrow.Author.Tests.{eq-eqb, ltb-true, leb-true}
+use Rattle.std.specs.Prelude.{Option as OptionOf, Some, None}
 use Rattle.repr.specs.Sizes.{nonterminal_limit, terminal_limit, production_place, example_limit}
 use Rattle.repr.specs.Meaning.{Production, no_production, Table, TableFits, ProductionFits, production_at, All}
 use Rattle.repr.specs.Listed.{symbol_of_kind}
@@ -35,8 +36,6 @@ use Rattle.outline.specs.Kept.{outlines_room, nth, outline_in, turn_in, Room, Ou
 use Rattle.outline.specs.Inline.{CodeFits, Shifts}
 use Rattle.outline.proofs.Upcoming.{first_reduction, kept-item}
 use Rattle.shift_items.specs.Codes.{Grammar}
-use Rattle.pairs.specs.declared.Found.{Found}
-use Rattle.pairs.specs.declared.Found.TheVariants.{At, Nothing as NotFound}
 use Rattle.pairs.specs.declared.Test.TheVariants.{Alike, Inline}
 use Rattle.pairs.specs.Pairs.{test_by, pair_by, RowFits, ColumnFits, first_from, Stopped, FirstFrom, on_pair}
 use Rattle.pairs.proofs.Pairs.{pair_agree_on, pair-named}
@@ -45,8 +44,6 @@ use Rattle.pairs.proofs.Tests.{rows_alike, columns_alike, rows_inline, columns_i
 use Rattle.examples.specs.Reads.{Reads}
 use Rattle.examples.specs.Gathers.{ExampleFits, SideKept, is_shift, reduce_made}
 use Rattle.judge.specs.declared.Judged.{Judged as JudgedValue}
-use Rattle.judge.specs.declared.OptionalSymbol.{OptionalSymbol}
-use Rattle.judge.specs.declared.OptionalSymbol.TheVariants.{Symbol as OfSymbol, Nothing as NoSymbol}
 use Rattle.judge.specs.Judging.{InBuffer, Sides, Ordered, picked, pair_in, heads_in, both, Judges, found_in, FoundFits, ReadAlike, question_in, QuestionFits}
 use Rattle.judge.proofs.Ways.{owner_is, question_kind, judges_both, judges_heads}
 
@@ -204,21 +201,21 @@ module _ (T : Table) (c : Conflict) (xs ys : List Example) (actions prints reduc
     strict : (x y : ℕ) → x < length xs → y < length ys → alike x y ≡ true → by_print x y ≡ true
     strict x y hx hy q = rw eq (print_agree ps (is_shift c) xs actions prints S.action.outlined ys reduces others S.reduce.outlined e sets x y hx hy q)
 
-    module _ (i j : ℕ) (I : first_from alike rows columns i j ≡ first_fit alike rows columns) (found : Found) (F : FirstFrom by_print rows columns i j found) where
-      pub alike-none : found ≡ NotFound → ReadAlike ps xs ys rows columns NotFound
+    module _ (i j : ℕ) (I : first_from alike rows columns i j ≡ first_fit alike rows columns) (found : OptionOf (ℕ × ℕ)) (F : FirstFrom by_print rows columns i j found) where
+      pub alike-none : found ≡ None → ReadAlike ps xs ys rows columns None
       unfolding on_pair found_in FoundFits
       alike-none q =
           let n : first_fit alike rows columns ≡ none = sym I ∙ found_none (λ k. k < length xs) (λ k. k < length ys) by_print alike strict rows columns A.inside B.inside i j found F q in
           record { same = sym (named ∙ rw n); fits = tt }
 
-      module _ (k l : ℕ) (q : found ≡ At k l) (x y : ℕ) (ex : x ≡ get_or rows k 0) (ey : y ≡ get_or columns l 0) where
+      module _ (k l : ℕ) (q : found ≡ Some (k, l)) (x y : ℕ) (ex : x ≡ get_or rows k 0) (ey : y ≡ get_or columns l 0) where
         there : Stopped by_print rows columns i j k l
-        there = found-stop by_print rows columns i j found F k l q
+        there = found-stop by_print rows columns i j found F (k, l) q
 
         pub alike-inside : (x < length xs) × (y < length ys)
         alike-inside = (order_at (λ k. k < length xs) rows k x A.inside there.row ex, order_at (λ k. k < length ys) columns l y B.inside there.column ey)
 
-        pub alike-yes : true ≡ alike x y → ReadAlike ps xs ys rows columns (At x y)
+        pub alike-yes : true ≡ alike x y → ReadAlike ps xs ys rows columns (Some (x, y))
         unfolding on_pair found_in FoundFits pair_in
         alike-yes h =
             let n : first_fit alike rows columns ≡ some (record { action = x; reduce = y }) = sym I ∙ found-yes (λ k. k < length xs) (λ k. k < length ys) by_print alike strict rows columns A.inside B.inside i j k l there x y ex ey (sym h) in
@@ -261,14 +258,14 @@ module _ (T : Table) (c : Conflict) (xs ys : List Example) (actions prints reduc
       abbrev Inlined : Judged
       Inlined = inline_or ps (heads_in xs ys rows columns) (first_fit (inlines T) (picked xs rows) (picked ys columns))
 
-      module _ (found : Found) (found_is : FirstFrom by_label rows columns 0 0 found) where
-        pub inline_none : found ≡ NotFound → (v : JudgedValue) → v ≡ both InsufficientLookahead (get_or rows 0 0) (get_or columns 0 0) → Judges xs ys v Inlined
+      module _ (found : OptionOf (ℕ × ℕ)) (found_is : FirstFrom by_label rows columns 0 0 found) where
+        pub inline_none : found ≡ None → (v : JudgedValue) → v ≡ both InsufficientLookahead (get_or rows 0 0) (get_or columns 0 0) → Judges xs ys v Inlined
         unfolding inline_or on_pair
         inline_none q v ev = judges_heads xs ys rows columns A.inside A.any B.inside B.any InsufficientLookahead v Inlined ev (rw (inline_is, ← first-none by_label rows columns found found_is q))
 
-        module _ (k l : ℕ) (q : found ≡ At k l) (x y : ℕ) (ex : x ≡ get_or rows k 0) (ey : y ≡ get_or columns l 0) where
+        module _ (k l : ℕ) (q : found ≡ Some (k, l)) (x y : ℕ) (ex : x ≡ get_or rows k 0) (ey : y ≡ get_or columns l 0) where
           stopped : Stopped by_label rows columns 0 0 k l
-          stopped = found-stop by_label rows columns 0 0 found found_is k l q
+          stopped = found-stop by_label rows columns 0 0 found found_is (k, l) q
 
           pub inline_inside : (x < length xs) × (y < length ys)
           inline_inside = (order_at (λ k. k < length xs) rows k x A.inside stopped.row ex, order_at (λ k. k < length ys) columns l y B.inside stopped.column ey)
@@ -293,14 +290,14 @@ module _ (T : Table) (c : Conflict) (xs ys : List Example) (actions prints reduc
   abbrev Unambiguous : ℕ → ℕ → Judged
   Unambiguous p k = unambiguous T p k (picked xs rows) (picked ys columns) heads
 
-  module _ (p w : ℕ) (ew : w ≡ (production_at T p).nonterminal) (r : OptionalSymbol) (er : question_in r ≡ question_of T w) where
-    pub question_some : (k x : ℕ) → r ≡ OfSymbol k x → QuestionFits r → with_both (SuggestQuestion (record { 0 = w }) k x) heads ≡ Unambiguous p 0
+  module _ (p w : ℕ) (ew : w ≡ (production_at T p).nonterminal) (r : OptionOf (ℕ × ℕ)) (er : question_in r ≡ question_of T w) where
+    pub question_some : (k x : ℕ) → r ≡ Some (k, x) → QuestionFits r → with_both (SuggestQuestion (record { 0 = w }) k x) heads ≡ Unambiguous p 0
     unfolding unambiguous question_or question_in
     question_some k x e f =
         let q : question_of T (production_at T p).nonterminal ≡ some (symbol_of_kind k x) = rw (← ew, ← er, e) in
         rw (q, ← ew) (ap (λ (z : Class). with_both z heads) (question_kind w k x (rw e at f)))
 
-    pub question_none : r ≡ NoSymbol → inline_or ps heads (first_fit (inlines T) (picked xs rows) (picked ys columns)) ≡ Unambiguous p 0
+    pub question_none : r ≡ None → inline_or ps heads (first_fit (inlines T) (picked xs rows) (picked ys columns)) ≡ Unambiguous p 0
     unfolding unambiguous question_or question_in
     question_none e =
         let q : question_of T (production_at T p).nonterminal ≡ none = rw (← ew, ← er, e) in
@@ -311,19 +308,19 @@ module _ (T : Table) (c : Conflict) (xs ys : List Example) (actions prints reduc
   judge_is : judge T c (picked xs rows) (picked ys columns) ≡ ambiguous_or T c (first_fit (is_same_reading ps) (picked xs rows) (picked ys columns)) (Unambiguous c.production.0 c.action)
   judge_is = judge-cons T c xs ys rows columns A.any B.any
 
-  module _ (found : Found) (R : ReadAlike ps xs ys rows columns found) where
-    pub judge-pair : (i j : ℕ) → found ≡ At i j → ambiguity_of T c.production.0 c.action c.operand (pair_in xs ys i j) ≡ judge T c (picked xs rows) (picked ys columns)
+  module _ (found : OptionOf (ℕ × ℕ)) (R : ReadAlike ps xs ys rows columns found) where
+    pub judge-pair : (i j : ℕ) → found ≡ Some (i, j) → ambiguity_of T c.production.0 c.action c.operand (pair_in xs ys i j) ≡ judge T c (picked xs rows) (picked ys columns)
     unfolding ambiguous_or found_in
     judge-pair i j e =
         let q : first_fit (is_same_reading ps) (picked xs rows) (picked ys columns) ≡ some (pair_in xs ys i j) = sym R.same ∙ rw e in
         sym (judge_is ∙ rw q)
 
-    pub judge-none : found ≡ NotFound → Unambiguous c.production.0 c.action ≡ judge T c (picked xs rows) (picked ys columns)
+    pub judge-none : found ≡ None → Unambiguous c.production.0 c.action ≡ judge T c (picked xs rows) (picked ys columns)
     unfolding ambiguous_or found_in
     judge-none e =
         let q : first_fit (is_same_reading ps) (picked xs rows) (picked ys columns) ≡ none = sym R.same ∙ rw e in
         sym (judge_is ∙ rw q)
 
-    pub pair_inside : (i j : ℕ) → found ≡ At i j → (i < length xs) × (j < length ys)
+    pub pair_inside : (i j : ℕ) → found ≡ Some (i, j) → (i < length xs) × (j < length ys)
     unfolding FoundFits
     pair_inside i j e = rw e at R.fits

@@ -8,13 +8,16 @@ use mathlib.Core.Option.{Option, none, some}
 use lib.ListN.{length, get_or, drop, drop_of_length-le}
 use lib.Dec.{eqb}
 use borrow.Author.Tests.{eq-eqb, ne_eqb}
+use Rattle.std.specs.Prelude.{Option as OptionOf, Some, None}
+use borrow.Author.Tests.{eqb-true, eqb-false}
+use lib.Pointwise.{pointwise}
 use Rattle.repr.specs.Sizes.{nonterminal_limit, terminal_limit, production_place}
-use Rattle.repr.specs.Meaning.{Symbol, nonterminal, terminal, is_same_symbol, Production, no_production, Table, production_at, All}
-use Rattle.repr.specs.Listed.{symbol_of_kind, listed, list_is_fit}
+use Rattle.repr.specs.Meaning.{Symbol, is_same_symbol, Production, no_production, Table, production_at, All}
+use Rattle.repr.specs.Listed.{symbol_of_kind, listed, symbol_is_fit, list_is_fit}
 use Rattle.repr.specs.Packed.{Packed, symbol_words, production_in, productions_in}
-use Rattle.repr.proofs.Lists.{clash, get_d_map-below}
+use Rattle.repr.proofs.Lists.{cases, clash, get_d_map-below}
 use Rattle.repr.proofs.Tests.{All_at}
-use Rattle.repr.proofs.Listed.{fits_head, symbol_range}
+use Rattle.repr.proofs.Listed.{and_left, and_right, fits_head, symbol_range}
 use Rattle.repr.proofs.Packed.{words_long}
 use Rattle.repr.proofs.Parts.{listed_at, symbols_long, word_of}
 use Rattle.trace_graph.proofs.Fits.{production-symbols}
@@ -29,17 +32,15 @@ use Rattle.error.specs.declared.Class.{Class}
 use Rattle.error.specs.declared.Class.TheVariants.{Ambiguity, Precedence, SuggestQuestion, AmbiguousReduction}
 use Rattle.error.specs.Sorted.{Pair}
 use Rattle.error.specs.Judge.{Example, Judged, with_both, reduction_at, same_symbols, is_operator_of, ambiguity_of_shift, ambiguity_of_reduce, optional, optional_of, question_of, suggest_question}
+use Rattle.outline.proofs.Diverging.{kinds_same, kinds_differ}
 use Rattle.outline.specs.Kept.{nth}
 use Rattle.shift_items.specs.Codes.{Grammar}
-use Rattle.judge.specs.declared.Shown.TheVariants.{Number, Nothing}
 use Rattle.judge.specs.declared.Judged.{Judged as JudgedValue}
-use Rattle.judge.specs.declared.OptionalSymbol.{OptionalSymbol}
-use Rattle.judge.specs.declared.OptionalSymbol.TheVariants.{Symbol as OfSymbol, Nothing as NoSymbol}
 use Rattle.judge.specs.Judging.{pair_in, heads_in, both, shown_in, judged_in, ShownFits, Judges, question_in, QuestionFits, optional_one}
 
 -- a class with the numbers of the examples shown
 
-pub both_is : (class : Class) (i j : ℕ) → record { class = class; action = Number i; reduce = Number j } ≡ both class i j
+pub both_is : (class : Class) (i j : ℕ) → record { class = class; action = Some i; reduce = Some j } ≡ both class i j
 unfolding both
 both_is class i j = refl
 
@@ -59,6 +60,29 @@ judges_heads xs ys rows columns A ha B hb class v k e q =
 
 -- `is_operator`
 
+-- lists of symbols are the same where their words are
+
+two_same : (k x m y : ℕ) → k < 2 → m < 2 → (rest : Bool) → eqb k m && (eqb x y && rest) ≡ is_same_symbol (symbol_of_kind k x) (symbol_of_kind m y) && rest
+two_same k x m y hk hm rest = cases (eqb k m) (λ q. rw (q, kinds_same k x m y (eqb-true k m q))) (λ q. rw (q, ← kinds_differ k x m y hk hm (eqb-false k m q)))
+
+Kinds : List ℕ → Type 0
+Kinds [] = Unit {0}
+Kinds (k ∷ []) = ⊥
+Kinds (k ∷ x ∷ ws) = (k < 2) × Kinds ws
+
+same_listed : (us vs : List ℕ) → list_is_fit nonterminal_limit terminal_limit us ≡ true → Kinds vs → pointwise eqb us vs ≡ same_symbols (listed us) (listed vs)
+unfolding list_is_fit listed same_symbols Kinds
+same_listed [] [] f d = refl
+same_listed [] (m ∷ []) f d = absurd d
+same_listed [] (m ∷ y ∷ vs) f d = refl
+same_listed (k ∷ []) vs f d = clash false f refl
+same_listed (k ∷ x ∷ us) [] f d = refl
+same_listed (k ∷ x ∷ us) (m ∷ []) f d = absurd d
+same_listed (k ∷ x ∷ us) (m ∷ y ∷ vs) f d =
+    let s = and_left (symbol_is_fit nonterminal_limit terminal_limit k x) (list_is_fit nonterminal_limit terminal_limit us) f in
+    let rest = same_listed us vs (and_right (symbol_is_fit nonterminal_limit terminal_limit k x) (list_is_fit nonterminal_limit terminal_limit us) f) d.1 in
+    two_same k x m y (symbol_range nonterminal_limit terminal_limit k x s).0 d.0 (pointwise eqb us vs) ∙ rw rest
+
 two_more : (j : ℕ) → 2 * suc j ≡ suc (suc (2 * j))
 two_more j = omega arith
 
@@ -68,18 +92,6 @@ fits-drop zero ws e = e
 fits-drop (suc i) [] e = rw (two_more i)
 fits-drop (suc i) (k ∷ []) e = clash false e refl
 fits-drop (suc i) (k ∷ x ∷ ws) e = rw (two_more i) (fits-drop i ws (fits_head nonterminal_limit terminal_limit (k ∷ x ∷ ws) 0 (omega arith) e).1.1)
-
-other-false : (a : Bool) → a && false ≡ false
-other-false true = refl
-other-false false = refl
-
-other_two : (a b : Bool) → a && (b && false) ≡ false
-other_two true b = other-false b
-other_two false b = refl
-
-other_three : (a b c : Bool) → a && (b && (c && false)) ≡ false
-other_three true b c = other_two b c
-other_three false b c = refl
 
 module _ (g : List ℕ) (n : ℕ) (P : Packed g n) (p : ℕ) (h : p < n) where
   pub owner_is : (get_or (productions_in g n) p no_production).nonterminal ≡ get_or g (production_place p) 0
@@ -111,56 +123,12 @@ module _ (g : List ℕ) (n : ℕ) (P : Packed g n) (p : ℕ) (h : p < n) where
         let r = (symbol_range nonterminal_limit terminal_limit _ _ f).0 in
         rw (word_of g n p (2 * i) P h (omega arith)) at r
 
-  same_three : (xs : List Symbol) (x y z : Symbol) → (length xs ≡ 3 → ⊥) → same_symbols xs (x ∷ y ∷ z ∷ []) ≡ false
-  unfolding same_symbols
-  same_three [] x y z ne = refl
-  same_three (a ∷ []) x y z ne = other-false (is_same_symbol a x)
-  same_three (a ∷ b ∷ []) x y z ne = other_two (is_same_symbol a x) (is_same_symbol b y)
-  same_three (a ∷ b ∷ c ∷ []) x y z ne = absurd (ne refl)
-  same_three (a ∷ b ∷ c ∷ d ∷ xs) x y z ne = other_three (is_same_symbol a x) (is_same_symbol b y) (is_same_symbol c z)
-
-  module _ (o : ℕ) where
-    abbrev Operator : Bool
-    Operator = is_operator_of (get_or (productions_in g n) p no_production) o
-
-    pub operator_count : (c : ℕ) → c ≡ get_or g (production_place p + 1) 0 → (c ≡ 3 → ⊥) → false ≡ Operator
-    unfolding is_operator_of
-    operator_count c ec ne = sym (same_three (get_or (productions_in g n) p no_production).symbols _ _ _ (λ e. ne (omega (arith, count_is))))
-
-    module _ (nt c a b k m u v : ℕ) (en : nt ≡ get_or g (production_place p) 0) (ec : c ≡ get_or g (production_place p + 1) 0) (three : c ≡ 3) (ea : a ≡ get_or g (production_place p + 4) 0) (eb : b ≡ get_or g (production_place p + 5) 0) (ek : k ≡ get_or g (production_place p + 6) 0) (em : m ≡ get_or g (production_place p + 7) 0) (eu : u ≡ get_or g (production_place p + 8) 0) (ev : v ≡ get_or g (production_place p + 9) 0) where
-      place_of : (x y : ℕ) → x ≡ y → get_or g x 0 ≡ get_or g y 0
-      place_of x y e = ap (λ (z : ℕ). get_or g z 0) e
-
-      pub kinds_small : (a < 2) × (k < 2) × (u < 2)
-      kinds_small =
-          let x = kind_small 0 (omega arith) in
-          let y = kind_small 1 (omega arith) in
-          let z = kind_small 2 (omega arith) in
-          (omega (arith, place_of (production_place p + 4 + 2 * 0) (production_place p + 4) (omega arith)), omega (arith, place_of (production_place p + 4 + 2 * 1) (production_place p + 6) (omega arith)), omega (arith, place_of (production_place p + 4 + 2 * 2) (production_place p + 8) (omega arith)))
-
-      three_symbols : (get_or (productions_in g n) p no_production).symbols ≡ symbol_of_kind a b ∷ symbol_of_kind k m ∷ symbol_of_kind u v ∷ []
-      three_symbols =
-          let w = symbols_long g n p P h in
-          production-symbols g n p h ∙ symbol_at_lem 0 (omega arith)
-          ∙ rw (symbol_at_lem 1 (omega arith), symbol_at_lem 2 (omega arith), drop_of_length-le (listed (symbol_words g p)) {i = 3} (omega arith), place_of (production_place p + 4 + 2 * 0) (production_place p + 4) (omega arith), place_of (production_place p + 4 + (2 * 0 + 1)) (production_place p + 5) (omega arith), place_of (production_place p + 4 + 2 * 1) (production_place p + 6) (omega arith), place_of (production_place p + 4 + (2 * 1 + 1)) (production_place p + 7) (omega arith), place_of (production_place p + 4 + 2 * 2) (production_place p + 8) (omega arith), place_of (production_place p + 4 + (2 * 2 + 1)) (production_place p + 9) (omega arith), ← ea, ← eb, ← ek, ← em, ← eu, ← ev)
-
-      and-true : (x : Bool) → x && true ≡ x
-      and-true true = refl
-      and-true false = refl
-
-      operator_is : Operator ≡ is_same_symbol (symbol_of_kind a b) (symbol_of_kind 0 nt) && (is_same_symbol (symbol_of_kind k m) (symbol_of_kind 1 o) && is_same_symbol (symbol_of_kind u v) (symbol_of_kind 0 nt))
-      unfolding is_operator_of same_symbols symbol_of_kind
-      operator_is = rw (three_symbols, owner_is, ← en) (ap (λ (x : Bool). is_same_symbol (symbol_of_kind a b) (nonterminal nt) && (is_same_symbol (symbol_of_kind k m) (terminal o) && x)) (and-true (is_same_symbol (symbol_of_kind u v) (nonterminal nt))))
-
-      pub operator_first : false ≡ is_same_symbol (symbol_of_kind a b) (symbol_of_kind 0 nt) → false ≡ Operator
-      operator_first q = sym (operator_is ∙ rw (← q))
-
-      module _ (q : true ≡ is_same_symbol (symbol_of_kind a b) (symbol_of_kind 0 nt)) where
-        pub operator_middle : false ≡ is_same_symbol (symbol_of_kind k m) (symbol_of_kind 1 o) → false ≡ Operator
-        operator_middle f = sym (operator_is ∙ rw (← q, ← f))
-
-        pub operator_last : true ≡ is_same_symbol (symbol_of_kind k m) (symbol_of_kind 1 o) → (r : Bool) → r ≡ is_same_symbol (symbol_of_kind u v) (symbol_of_kind 0 nt) → r ≡ Operator
-        operator_last f r e = e ∙ sym (operator_is ∙ rw (← q, ← f))
+  -- `is_operator`: the words of the symbols are the operator's
+  pub operator_words : (o nt : ℕ) (ws : List ℕ) (b : Bool) → nt ≡ get_or g (production_place p) 0 → ws ≡ symbol_words g p → b ≡ pointwise eqb ws (0 ∷ nt ∷ 1 ∷ o ∷ 0 ∷ nt ∷ []) → b ≡ is_operator_of (get_or (productions_in g n) p no_production) o
+  unfolding is_operator_of listed symbol_of_kind Kinds
+  operator_words o nt ws b en ew eb =
+      let w = same_listed (symbol_words g p) (0 ∷ nt ∷ 1 ∷ o ∷ 0 ∷ nt ∷ []) (P.fits p h) (omega arith, (omega arith, (omega arith, tt))) in
+      eb ∙ rw (ew, w, production-symbols g n p h, owner_is, ← en)
 
 -- `shift_ambiguity`, `reduce_ambiguity`
 
@@ -180,7 +148,7 @@ module _ (g : List ℕ) (n : ℕ) (P : Packed g n) (p : ℕ) (h : p < n) (o : �
   ps = productions_in g n
 
   pub reduction_spans : x ≡ y → (s e s' e' : ℕ) → s ≡ get_or g (production_place p + 2) 0 → e ≡ get_or g (production_place p + 2 + 1) 0 → s' ≡ get_or g (production_place o + 2) 0 → e' ≡ get_or g (production_place o + 2 + 1) 0
-      → Judges xs ys (record { class = AmbiguousReduction s e s' e'; action = Number i; reduce = Nothing }) (ambiguity_of_reduce ps (get_or ps p no_production) (get_or ps o no_production) (pair_in xs ys i j))
+      → Judges xs ys (record { class = AmbiguousReduction s e s' e'; action = Some i; reduce = None }) (ambiguity_of_reduce ps (get_or ps p no_production) (get_or ps o no_production) (pair_in xs ys i j))
   unfolding ambiguity_of_reduce pair_in judged_in shown_in ShownFits
   reduction_spans q s e s' e' es ee es' ee' =
       let k : production_place p + 2 + 1 ≡ production_place p + 3 = omega arith in
@@ -214,19 +182,19 @@ one_is [] ys y e f = rw f
 one_is (x ∷ xs) ys y e f = let z : suc (length xs) ≡ 0 = e in absurd (omega arith)
 
 module _ (g : List ℕ) (n : ℕ) (P : Packed g n) (p : ℕ) (hp : p < n) (q : ℕ) (hq : q < n) (c : ℕ) (ec : c ≡ get_or g (production_place p + 1) 0) where
-  abbrev Answer : OptionalSymbol → Type 0
+  abbrev Answer : OptionOf (ℕ × ℕ) → Type 0
   Answer r = (question_in r ≡ optional_one (get_or (productions_in g n) p no_production).symbols (get_or (productions_in g n) q no_production).symbols) × QuestionFits r
 
-  pub optional-some : (c ≡ 0 → ⊥) → Answer NoSymbol
+  pub optional-some : (c ≡ 0 → ⊥) → Answer None
   unfolding question_in QuestionFits
   optional-some ne = (one_not-none (get_or (productions_in g n) p no_production).symbols _ (λ e. ne (omega (arith, count_is g n P p hp))), tt)
 
   module _ (none' : c ≡ 0) (d : ℕ) (ed : d ≡ get_or g (production_place q + 1) 0) where
-    pub optional-more : (d ≡ 1 → ⊥) → Answer NoSymbol
+    pub optional-more : (d ≡ 1 → ⊥) → Answer None
     unfolding question_in QuestionFits
     optional-more ne = (one_not_one (get_or (productions_in g n) p no_production).symbols (get_or (productions_in g n) q no_production).symbols (λ e. ne (omega (arith, count_is g n P q hq))), tt)
 
-    pub optional_one_lem : d ≡ 1 → (k x : ℕ) → k ≡ get_or g (production_place q + 4) 0 → x ≡ get_or g (production_place q + 4 + 1) 0 → Answer (OfSymbol k x)
+    pub optional_one_lem : d ≡ 1 → (k x : ℕ) → k ≡ get_or g (production_place q + 4) 0 → x ≡ get_or g (production_place q + 4 + 1) 0 → Answer (Some (k, x))
     unfolding question_in QuestionFits
     optional_one_lem one k x ek ex =
         let w = symbols_long g n q P hq in
@@ -258,7 +226,7 @@ optional_right (u ∷ []) (y ∷ ys) e = refl
 optional_right (u ∷ v ∷ xs) [] e = refl
 optional_right (u ∷ v ∷ xs) (y ∷ ys) e = refl
 
-pub question_kind : (w k x : ℕ) → QuestionFits (OfSymbol k x) → SuggestQuestion (record { 0 = w }) k x ≡ suggest_question w (symbol_of_kind k x)
+pub question_kind : (w k x : ℕ) → QuestionFits (Some (k, x)) → SuggestQuestion (record { 0 = w }) k x ≡ suggest_question w (symbol_of_kind k x)
 unfolding suggest_question symbol_of_kind QuestionFits
 question_kind w zero x h = refl
 question_kind w (suc zero) x h = refl
@@ -275,17 +243,17 @@ module _ (t g : List ℕ) (n : ℕ) (acc : check_of t ≡ Accepted) (G : Grammar
     abbrev symbols_of : ℕ → List Symbol
     symbols_of p = (production_at T p).symbols
 
-    pub question_none : head ≡ 0 → (question_in NoSymbol ≡ Question) × QuestionFits NoSymbol
+    pub question_none : head ≡ 0 → (question_in None ≡ Question) × QuestionFits None
     unfolding question_in question_of optional_of QuestionFits
     question_none z = (rw (← eh, z, productions_end t), tt)
 
     module _ (next p : ℕ) (ep : productions_from t head ≡ p ∷ productions_from t next) where
-      pub question_one : next ≡ 0 → (question_in NoSymbol ≡ Question) × QuestionFits NoSymbol
+      pub question_one : next ≡ 0 → (question_in None ≡ Question) × QuestionFits None
       unfolding question_in question_of optional_of QuestionFits
       question_one z = (rw (← eh, ep, z, productions_end t), tt)
 
       module _ (after q : ℕ) (eq : productions_from t next ≡ q ∷ productions_from t after) where
-        pub question_many : (after ≡ 0 → ⊥) → ProductionHead t after → (question_in NoSymbol ≡ Question) × QuestionFits NoSymbol
+        pub question_many : (after ≡ 0 → ⊥) → ProductionHead t after → (question_in None ≡ Question) × QuestionFits None
         unfolding question_in question_of optional_of QuestionFits
         question_many ne H =
             let er = (production-read t (accepts t acc) after _ _ ne H refl refl).list in
@@ -299,13 +267,14 @@ module _ (t g : List ℕ) (n : ℕ) (acc : check_of t ≡ Accepted) (G : Grammar
           own : (x : ℕ) → (get_or (productions_in g n) x no_production).symbols ≡ symbols_of x
           own x = ap (λ (ps : List Production). (get_or ps x no_production).symbols) G.same
 
-          pub question_left : (r : OptionalSymbol) (k x : ℕ) → r ≡ OfSymbol k x → (question_in r ≡ optional_one (get_or (productions_in g n) p no_production).symbols (get_or (productions_in g n) q no_production).symbols) → QuestionFits r → (question_in (OfSymbol k x) ≡ Question) × QuestionFits (OfSymbol k x)
+          pub question_left : (r : OptionOf (ℕ × ℕ)) → (r ≡ None → ⊥) → question_in r ≡ optional_one (get_or (productions_in g n) p no_production).symbols (get_or (productions_in g n) q no_production).symbols → question_in r ≡ Question
           unfolding question_in
-          question_left r k x er e f =
-              let e' : some (symbol_of_kind k x) ≡ optional_one (symbols_of p) (symbols_of q) = rw (er, own p, own q) at e in
-              (optional-left (symbols_of p) (symbols_of q) (symbol_of_kind k x) e' ∙ sym two_is, rw er at f)
+          question_left (Some s) ne e =
+              let e' : some (symbol_of_kind s.0 s.1) ≡ optional_one (symbols_of p) (symbols_of q) = rw (own p, own q) at e in
+              optional-left (symbols_of p) (symbols_of q) (symbol_of_kind s.0 s.1) e' ∙ sym two_is
+          question_left None ne e = absurd (ne refl)
 
-          pub question_right : (r r' : OptionalSymbol) → r ≡ NoSymbol → question_in r ≡ optional_one (get_or (productions_in g n) p no_production).symbols (get_or (productions_in g n) q no_production).symbols → question_in r' ≡ optional_one (get_or (productions_in g n) q no_production).symbols (get_or (productions_in g n) p no_production).symbols → question_in r' ≡ Question
+          pub question_right : (r r' : OptionOf (ℕ × ℕ)) → r ≡ None → question_in r ≡ optional_one (get_or (productions_in g n) p no_production).symbols (get_or (productions_in g n) q no_production).symbols → question_in r' ≡ optional_one (get_or (productions_in g n) q no_production).symbols (get_or (productions_in g n) p no_production).symbols → question_in r' ≡ Question
           unfolding question_in
           question_right r r' er e e' =
               let f : none ≡ optional_one (symbols_of p) (symbols_of q) = rw (er, own p, own q) at e in

@@ -1,5 +1,5 @@
 -- What the contracts of this crate cite: two sides as they are kept, a class with the numbers of the examples shown, the first pair that is read alike. Assumes nothing: these are definitions.
-use Rattle.std.specs.Prelude.{ℕ, ◌≤◌, ◌<◌, ◌≡◌, false, List, [], ◌∷◌, map, length, get_or}
+use Rattle.std.specs.Prelude.{Option as OptionOf, Some, None, ℕ, ◌≤◌, ◌<◌, ◌≡◌, false, List, [], ◌∷◌, map, length, get_or}
 use Rattle.std.proofs.Math.Option.{Option, none, some}
 use Rattle.repr.specs.Sizes.{example_room}
 use Rattle.repr.specs.Meaning.{Symbol, Production, Table, All}
@@ -11,14 +11,8 @@ use Rattle.error.specs.declared.Conflict.{Conflict}
 use Rattle.error.specs.Sorted.{Pair, first_fit}
 use Rattle.error.specs.Judge.{Example, Judged, is_same_reading}
 use Rattle.outline.specs.Kept.{nth}
-use Rattle.pairs.specs.declared.Found.{Found}
-use Rattle.pairs.specs.declared.Found.TheVariants.{At, Nothing as NotFound}
 use Rattle.examples.specs.Gathers.{SideKept, is_shift, action_made, reduce_made}
-use Rattle.judge.specs.declared.Shown.{Shown}
-use Rattle.judge.specs.declared.Shown.TheVariants.{Number, Nothing}
 use Rattle.judge.specs.declared.Judged.{Judged as JudgedValue}
-use Rattle.judge.specs.declared.OptionalSymbol.{OptionalSymbol}
-use Rattle.judge.specs.declared.OptionalSymbol.TheVariants.{Symbol as OfSymbol, Nothing as NoSymbol}
 
 -- an example that a buffer has room for stands at the front of one
 pub record InBuffer (ps : List Production) (x : Example) (b : List ℕ) : Type 0 where
@@ -48,18 +42,18 @@ unfoldable pub heads_in : List Example → List Example → List ℕ → List �
 heads_in xs ys rows columns = pair_in xs ys (get_or rows 0 0) (get_or columns 0 0)
 
 unfoldable pub both : Class → ℕ → ℕ → JudgedValue
-both k i j = record { class = k; action = Number i; reduce = Number j }
+both k i j = record { class = k; action = Some i; reduce = Some j }
 
-unfoldable pub shown_in : List Example → Shown → Option Example
-shown_in xs (Number k) = some (nth xs k)
-shown_in xs Nothing = none
+unfoldable pub shown_in : List Example → OptionOf ℕ → Option Example
+shown_in xs (Some k) = some (nth xs k)
+shown_in xs None = none
 
 unfoldable pub judged_in : List Example → List Example → JudgedValue → Judged
 judged_in xs ys v = record { class = v.class; action = shown_in xs v.action; reduce = shown_in ys v.reduce }
 
-unfoldable pub ShownFits : ℕ → Shown → Type 0
-ShownFits n (Number k) = k < n
-ShownFits n Nothing = Unit {0}
+unfoldable pub ShownFits : ℕ → OptionOf ℕ → Type 0
+ShownFits n (Some k) = k < n
+ShownFits n None = Unit {0}
 
 -- it says what the examples are judged, and shows examples of theirs
 pub record Judges (xs ys : List Example) (v : JudgedValue) (j : Judged) : Type 0 where
@@ -68,26 +62,26 @@ pub record Judges (xs ys : List Example) (v : JudgedValue) (j : Judged) : Type 0
   pub reduce : ShownFits (length ys) v.reduce
 
 -- the pair that was found, by its numbers
-unfoldable pub found_in : List Example → List Example → Found → Option (Pair Example)
-found_in xs ys (At i j) = some (pair_in xs ys i j)
-found_in xs ys NotFound = none
+unfoldable pub found_in : List Example → List Example → OptionOf (ℕ × ℕ) → Option (Pair Example)
+found_in xs ys (Some found) = some (pair_in xs ys found.0 found.1)
+found_in xs ys None = none
 
-unfoldable pub FoundFits : ℕ → ℕ → Found → Type 0
-FoundFits m n (At i j) = (i < m) × (j < n)
-FoundFits m n NotFound = Unit {0}
+unfoldable pub FoundFits : ℕ → ℕ → OptionOf (ℕ × ℕ) → Type 0
+FoundFits m n (Some found) = (found.0 < m) × (found.1 < n)
+FoundFits m n None = Unit {0}
 
 -- the first pair that is read alike, by its numbers, or none
-pub record ReadAlike (ps : List Production) (xs ys : List Example) (rows columns : List ℕ) (found : Found) : Type 0 where
+pub record ReadAlike (ps : List Production) (xs ys : List Example) (rows columns : List ℕ) (found : OptionOf (ℕ × ℕ)) : Type 0 where
   pub same : found_in xs ys found ≡ first_fit (is_same_reading ps) (picked xs rows) (picked ys columns)
   pub fits : FoundFits (length xs) (length ys) found
 
-unfoldable pub question_in : OptionalSymbol → Option Symbol
-question_in (OfSymbol k n) = some (symbol_of_kind k n)
-question_in NoSymbol = none
+unfoldable pub question_in : OptionOf (ℕ × ℕ) → Option Symbol
+question_in (Some found) = some (symbol_of_kind found.0 found.1)
+question_in None = none
 
-unfoldable pub QuestionFits : OptionalSymbol → Type 0
-QuestionFits (OfSymbol k n) = k < 2
-QuestionFits NoSymbol = Unit {0}
+unfoldable pub QuestionFits : OptionOf (ℕ × ℕ) → Type 0
+QuestionFits (Some found) = found.0 < 2
+QuestionFits None = Unit {0}
 
 -- the one symbol of the second list where the first is empty
 unfoldable pub optional_one : List Symbol → List Symbol → Option Symbol

@@ -25,111 +25,66 @@ ghost use Rattle.judge.specs.Judging.{InBuffer, Sides, Ordered, picked, pair_in,
 
 use error::{Class, Conflict};
 use example::Example as ExampleBuffer;
-use examples::{action_again, reduce_again};
+use examples::{Given, action_again, reduce_again};
 use outline::{Outline, outline_at, turn_at, write_kept};
-use pairs::{Found, Test, first_pair};
-use repr::{NonterminalString, ProductionIndex, word};
-use table::{Counts, first_production, production};
+use pairs::{Test, first_pair};
+use repr::{NonterminalString, ProductionIndex, symbols, word};
+use table::{Checked, Counts, first_production, production};
 
-// An example that is shown, by its number, or none.
-#[derive(Clone, Copy)]
-pub enum Shown {
-    Number(usize),
-    Nothing,
-}
-
-// A class and the examples that are shown with it.
+// A class and the examples that are shown with it, by their numbers.
 #[derive(Clone, Copy)]
 pub struct Judged {
     pub class: Class,
-    pub action: Shown,
-    pub reduce: Shown,
+    pub action: Option<usize>,
+    pub reduce: Option<usize>,
 }
 
 // Example k of the action side, written at the front of a buffer: from its labels where they are kept, else made again.
 pub fn write_action(
-    table: &[u16],
-    grammar: &[u16],
-    counts: Counts,
-    map: &[u64; NonterminalString::LIMIT],
-    least: &[u8],
-    ends: &[u64],
+    given: Given,
     conflict: Conflict,
     actions: &[u16],
     action_prints: &[u64],
     k: usize,
     buffer: &mut [u16],
 )
-    requires reads { Reads table.now grammar.now counts map.now least.now ends.now × (conflict_fits (meaning table.now) conflict ≡ true) }
-    requires side_kept { (xs : List Example) × (SideKept (meaning table.now) (is_shift conflict) (action_made (meaning table.now) conflict) xs actions.now action_prints.now × (k < length xs)) }
+    requires conflict_value { conflict_fits (meaning given.table.now) conflict ≡ true }
+    requires side_kept { (xs : List Example) × (SideKept (meaning given.table.now) (is_shift conflict) (action_made (meaning given.table.now) conflict) xs actions.now action_prints.now × (k < length xs)) }
     requires example_room_in_bounds { example_room ≤ length buffer.old }
-    ensures { (xs : List Example) → SideKept (meaning table.now) (is_shift conflict) (action_made (meaning table.now) conflict) xs actions.now action_prints.now → k < length xs → buffer.new ≡ in_front (example_words (meaning table.now).productions (nth xs k)) buffer.old }
+    ensures { (xs : List Example) → SideKept (meaning given.entry.table.now) (is_shift conflict) (action_made (meaning given.entry.table.now) conflict) xs actions.now action_prints.now → k < length xs → buffer.new ≡ in_front (example_words (meaning given.entry.table.now).productions (nth xs k)) buffer.old }
 {
     if k < Outline::LABELLED {
-        write_kept(grammar, counts.productions, actions, k, buffer);
+        write_kept(given.grammar, given.counts.productions, actions, k, buffer);
         return;
     }
     let outline = outline_at(actions, action_prints, k);
     let turn = turn_at(actions, k);
-    action_again(
-        table,
-        grammar,
-        counts,
-        map,
-        least,
-        ends,
-        conflict,
-        outline.label,
-        turn,
-        buffer,
-    );
+    action_again(given, conflict, outline.label, turn, buffer);
 }
 
 // Example k of the reduce side, likewise.
 pub fn write_reduce(
-    table: &[u16],
-    grammar: &[u16],
-    counts: Counts,
-    map: &[u64; NonterminalString::LIMIT],
-    least: &[u8],
-    ends: &[u64],
+    given: Given,
     conflict: Conflict,
     reduces: &[u16],
     reduce_prints: &[u64],
     k: usize,
     buffer: &mut [u16],
 )
-    requires reads { Reads table.now grammar.now counts map.now least.now ends.now × (conflict_fits (meaning table.now) conflict ≡ true) }
-    requires side_kept { (ys : List Example) × (SideKept (meaning table.now) false (reduce_made (meaning table.now) conflict.state.0 conflict.production.0 conflict.token) ys reduces.now reduce_prints.now × (k < length ys)) }
+    requires conflict_value { conflict_fits (meaning given.table.now) conflict ≡ true }
+    requires side_kept { (ys : List Example) × (SideKept (meaning given.table.now) false (reduce_made (meaning given.table.now) conflict.state.0 conflict.production.0 conflict.token) ys reduces.now reduce_prints.now × (k < length ys)) }
     requires example_room_in_bounds { example_room ≤ length buffer.old }
-    ensures { (ys : List Example) → SideKept (meaning table.now) false (reduce_made (meaning table.now) conflict.state.0 conflict.production.0 conflict.token) ys reduces.now reduce_prints.now → k < length ys → buffer.new ≡ in_front (example_words (meaning table.now).productions (nth ys k)) buffer.old }
+    ensures { (ys : List Example) → SideKept (meaning given.entry.table.now) false (reduce_made (meaning given.entry.table.now) conflict.state.0 conflict.production.0 conflict.token) ys reduces.now reduce_prints.now → k < length ys → buffer.new ≡ in_front (example_words (meaning given.entry.table.now).productions (nth ys k)) buffer.old }
 {
     if k < Outline::LABELLED {
-        write_kept(grammar, counts.productions, reduces, k, buffer);
+        write_kept(given.grammar, given.counts.productions, reduces, k, buffer);
         return;
     }
     let state = conflict.state;
     let production = conflict.production.0 as usize;
     let token = conflict.token;
     let turn = turn_at(reduces, k);
-    reduce_again(
-        table, grammar, counts, map, least, ends, state, production, token, turn, buffer,
-    );
-}
-
-// Whether `count` words from `from` on are the same in both.
-fn same_words(action: &[u16], reduce: &[u16], from: usize, count: usize) -> bool
-    requires { (from + count ≤ length action.now) × (from + count ≤ length reduce.now) × (from + count < 65536) }
-    ensures { result ≡ same_words (take count (drop from action.now)) (take count (drop from reduce.now)) }
-{
-    let mut i: usize = 0;
-    while i < count {
-        if word(action, from + i) != word(reduce, from + i) {
-            return false;
-        }
-        i += 1;
-    }
-    true
+    reduce_again(given, state, production, token, turn, buffer);
 }
 
 // Whether two examples have the same symbols and the same cursor.
@@ -144,28 +99,13 @@ fn same_reading(action: &[u16], reduce: &[u16]) -> bool
     if word(action, 1) != word(reduce, 1) {
         return false;
     }
-    same_words(action, reduce, 3, 2 * count)
-}
-
-// Whether two symbols are the same, each by kind and number.
-fn same_symbol(kind: usize, number: usize, other: usize, value: usize) -> bool
-    requires { (kind < 2) × (other < 2) }
-    ensures { result ≡ is_same_symbol (symbol_of_kind kind number) (symbol_of_kind other value) }
-{
-    if kind != other {
-        return false;
-    }
-    number == value
+    let past = 3 + 2 * count;
+    action[3..past] == reduce[3..past]
 }
 
 // Whether examples x and y, made again, are read alike.
 fn same_again(
-    table: &[u16],
-    grammar: &[u16],
-    counts: Counts,
-    map: &[u64; NonterminalString::LIMIT],
-    least: &[u8],
-    ends: &[u64],
+    given: Given,
     conflict: Conflict,
     actions: &[u16],
     action_prints: &[u64],
@@ -174,49 +114,20 @@ fn same_again(
     reduce_prints: &[u64],
     y: usize,
 ) -> bool
-    requires reads { Reads table.now grammar.now counts map.now least.now ends.now × (conflict_fits (meaning table.now) conflict ≡ true) }
-    requires sides { (xs : List Example) × ((ys : List Example) × (Sides (meaning table.now) conflict xs ys actions.now action_prints.now reduces.now reduce_prints.now × ((x < length xs) × (y < length ys)))) }
-    ensures { (xs ys : List Example) → Sides (meaning table.now) conflict xs ys actions.now action_prints.now reduces.now reduce_prints.now → x < length xs → y < length ys → result ≡ is_same_reading (meaning table.now).productions (nth xs x) (nth ys y) }
+    requires conflict_value { conflict_fits (meaning given.table.now) conflict ≡ true }
+    requires sides { (xs : List Example) × ((ys : List Example) × (Sides (meaning given.table.now) conflict xs ys actions.now action_prints.now reduces.now reduce_prints.now × ((x < length xs) × (y < length ys)))) }
+    ensures { (xs ys : List Example) → Sides (meaning given.entry.table.now) conflict xs ys actions.now action_prints.now reduces.now reduce_prints.now → x < length xs → y < length ys → result ≡ is_same_reading (meaning given.entry.table.now).productions (nth xs x) (nth ys y) }
 {
     let mut action = [0u16; ExampleBuffer::WORDS];
     let mut reduce = [0u16; ExampleBuffer::WORDS];
-    write_action(
-        table,
-        grammar,
-        counts,
-        map,
-        least,
-        ends,
-        conflict,
-        actions,
-        action_prints,
-        x,
-        &mut action,
-    );
-    write_reduce(
-        table,
-        grammar,
-        counts,
-        map,
-        least,
-        ends,
-        conflict,
-        reduces,
-        reduce_prints,
-        y,
-        &mut reduce,
-    );
+    write_action(given, conflict, actions, action_prints, x, &mut action);
+    write_reduce(given, conflict, reduces, reduce_prints, y, &mut reduce);
     same_reading(&action, &reduce)
 }
 
 // `try_classify_ambiguity`: the first pair that is read alike, by the numbers of its examples. Prints are equal where two are read alike; where they are equal both are made again and compared, and if they differ the search goes on behind them.
 fn try_classify_ambiguity(
-    table: &[u16],
-    grammar: &[u16],
-    counts: Counts,
-    map: &[u64; NonterminalString::LIMIT],
-    least: &[u8],
-    ends: &[u64],
+    given: Given,
     conflict: Conflict,
     actions: &[u16],
     action_prints: &[u64],
@@ -224,18 +135,18 @@ fn try_classify_ambiguity(
     reduces: &[u16],
     reduce_prints: &[u64],
     columns: &[u16],
-) -> Found
-    requires reads { Reads table.now grammar.now counts map.now least.now ends.now × (conflict_fits (meaning table.now) conflict ≡ true) }
-    requires sides { (xs : List Example) × ((ys : List Example) × (Sides (meaning table.now) conflict xs ys actions.now action_prints.now reduces.now reduce_prints.now × (Ordered xs rows.now × Ordered ys columns.now))) }
-    ensures { (xs ys : List Example) → Sides (meaning table.now) conflict xs ys actions.now action_prints.now reduces.now reduce_prints.now → Ordered xs rows.now → Ordered ys columns.now → ReadAlike (meaning table.now).productions xs ys rows.now columns.now result }
+) -> Option<(usize, usize)>
+    requires conflict_value { conflict_fits (meaning given.table.now) conflict ≡ true }
+    requires sides { (xs : List Example) × ((ys : List Example) × (Sides (meaning given.table.now) conflict xs ys actions.now action_prints.now reduces.now reduce_prints.now × (Ordered xs rows.now × Ordered ys columns.now))) }
+    ensures { (xs ys : List Example) → Sides (meaning given.entry.table.now) conflict xs ys actions.now action_prints.now reduces.now reduce_prints.now → Ordered xs rows.now → Ordered ys columns.now → ReadAlike (meaning given.entry.table.now).productions xs ys rows.now columns.now result }
 {
     let mut row: usize = 0;
     let mut column: usize = 0;
     loop {
         match first_pair(
-            map,
-            grammar,
-            counts,
+            given.map,
+            given.grammar,
+            given.counts,
             Test::Alike,
             actions,
             action_prints,
@@ -246,16 +157,11 @@ fn try_classify_ambiguity(
             row,
             column,
         ) {
-            Found::At(i, j) => {
+            Some((i, j)) => {
                 let x = word(rows, i);
                 let y = word(columns, j);
                 if same_again(
-                    table,
-                    grammar,
-                    counts,
-                    map,
-                    least,
-                    ends,
+                    given,
                     conflict,
                     actions,
                     action_prints,
@@ -264,13 +170,13 @@ fn try_classify_ambiguity(
                     reduce_prints,
                     y,
                 ) {
-                    return Found::At(x, y);
+                    return Some((x, y));
                 }
                 row = i;
                 column = j + 1;
             }
-            Found::Nothing => {
-                return Found::Nothing;
+            None => {
+                return None;
             }
         }
     }
@@ -282,8 +188,8 @@ fn with_both(class: Class, x: usize, y: usize) -> Judged
 {
     Judged {
         class: class,
-        action: Shown::Number(x),
-        reduce: Shown::Number(y),
+        action: Some(x),
+        reduce: Some(y),
     }
 }
 
@@ -298,28 +204,13 @@ fn with_first(class: Class, rows: &[u16], columns: &[u16]) -> Judged
 }
 
 // Whether a production is T = T S T, S being the terminal.
-fn is_operator(grammar: &[u16], productions: usize, production: usize, terminal: usize) -> bool
+fn is_operator(grammar: &[u16], productions: usize, production: usize, terminal: u16) -> bool
     requires { Packed grammar.now productions × (production < productions) }
     ensures { result ≡ is_operator_of (get_or (productions_in grammar.now productions) production no_production) terminal }
 {
-    let base = production * ProductionIndex::WORDS;
-    let nonterminal = word(grammar, base);
-    if word(grammar, base + 1) != 3 {
-        return false;
-    }
-    let first_kind = word(grammar, base + 4);
-    let first = word(grammar, base + 5);
-    let middle_kind = word(grammar, base + 6);
-    let middle = word(grammar, base + 7);
-    let last_kind = word(grammar, base + 8);
-    let last = word(grammar, base + 9);
-    if same_symbol(first_kind, first, 0, nonterminal) {
-        if same_symbol(middle_kind, middle, 1, terminal) {
-            return same_symbol(last_kind, last, 0, nonterminal);
-        }
-        return false;
-    }
-    false
+    let nonterminal = grammar[production * ProductionIndex::WORDS];
+    let operator = [0, nonterminal, 1, terminal, 0, nonterminal];
+    symbols(grammar, production, productions) == operator.as_slice()
 }
 
 // Ambiguity of a shift: precedence where the production is of an operator. The terminal of the action is tested, not the token.
@@ -327,7 +218,7 @@ fn shift_ambiguity(
     grammar: &[u16],
     productions: usize,
     production: usize,
-    terminal: usize,
+    terminal: u16,
     x: usize,
     y: usize,
 ) -> Judged
@@ -365,8 +256,8 @@ fn reduce_ambiguity(
         let other_end = grammar[other_span + 1];
         return Judged {
             class: Class::AmbiguousReduction(start, end, other_start, other_end),
-            action: Shown::Number(x),
-            reduce: Shown::Nothing,
+            action: Some(x),
+            reduce: None,
         };
     }
     with_both(Class::Ambiguity, x, y)
@@ -388,7 +279,7 @@ fn ambiguity(
     ensures { (T : Table) → Grammar T grammar.now counts.productions → conflict_fits T conflict ≡ true → (xs ys : List Example) → Sides T conflict xs ys actions.now action_prints.now reduces.now reduce_prints.now → x < length xs → y < length ys → Judges xs ys result (ambiguity_of T conflict.production.0 conflict.action conflict.operand (pair_in xs ys x y)) }
 {
     let production = conflict.production.0 as usize;
-    let operand = conflict.operand as usize;
+    let operand = conflict.operand;
     if conflict.action == 0 {
         return shift_ambiguity(grammar, counts.productions, production, operand, x, y);
     }
@@ -398,7 +289,7 @@ fn ambiguity(
         grammar,
         counts.productions,
         production,
-        operand,
+        operand as usize,
         x,
         action.first,
         y,
@@ -406,26 +297,19 @@ fn ambiguity(
     )
 }
 
-// The symbol of which a nonterminal is the optional one, or none.
-#[derive(Clone, Copy)]
-pub enum OptionalSymbol {
-    Symbol(u16, u16),
-    Nothing,
-}
-
-// The one symbol of production `one` where `none` has no symbol.
-fn optional(grammar: &[u16], productions: usize, none: usize, one: usize) -> OptionalSymbol
+// The one symbol of production `one`, its kind and number, where `none` has no symbol.
+fn optional(grammar: &[u16], productions: usize, none: usize, one: usize) -> Option<(u16, u16)>
     requires { Packed grammar.now productions × (none < productions) × (one < productions) }
     ensures { (question_in result ≡ optional_one (get_or (productions_in grammar.now productions) none no_production).symbols (get_or (productions_in grammar.now productions) one no_production).symbols) × QuestionFits result }
 {
     if word(grammar, none * ProductionIndex::WORDS + 1) != 0 {
-        return OptionalSymbol::Nothing;
+        return None;
     }
     if word(grammar, one * ProductionIndex::WORDS + 1) != 1 {
-        return OptionalSymbol::Nothing;
+        return None;
     }
     let at = one * ProductionIndex::WORDS + 4;
-    OptionalSymbol::Symbol(grammar[at], grammar[at + 1])
+    Some((grammar[at], grammar[at + 1]))
 }
 
 // `try_classify_question`: the nonterminal has two productions, one empty and one of one symbol.
@@ -434,40 +318,35 @@ fn try_classify_question(
     grammar: &[u16],
     productions: usize,
     nonterminal: usize,
-) -> OptionalSymbol
-    requires table_value { check_of table.now ≡ Accepted }
+) -> Option<(u16, u16)>
+    requires table_value { check_of table.now ≡ Checked.Accepted }
     requires grammar { Grammar (meaning table.now) grammar.now productions × (nonterminal < length (meaning table.now).nonterminals) }
     ensures { (question_in result ≡ question_of (meaning table.now) nonterminal) × QuestionFits result }
 {
     let head = first_production(table, nonterminal);
     if head == 0 {
-        return OptionalSymbol::Nothing;
+        return None;
     }
     let first = production(table, head);
     let next = first.next;
     if next == 0 {
-        return OptionalSymbol::Nothing;
+        return None;
     }
     let second = production(table, next);
     if second.next != 0 {
-        return OptionalSymbol::Nothing;
+        return None;
     }
     let p = first.production;
     let q = second.production;
     match optional(grammar, productions, p, q) {
-        OptionalSymbol::Symbol(kind, number) => OptionalSymbol::Symbol(kind, number),
-        OptionalSymbol::Nothing => optional(grammar, productions, q, p),
+        None => optional(grammar, productions, q, p),
+        symbol => symbol,
     }
 }
 
 // `try_classify_inline`: the first pair that inlining would help, else insufficient lookahead with the first of each.
 fn try_classify_inline(
-    table: &[u16],
-    grammar: &[u16],
-    counts: Counts,
-    map: &[u64; NonterminalString::LIMIT],
-    least: &[u8],
-    ends: &[u64],
+    given: Given,
     conflict: Conflict,
     actions: &[u16],
     action_prints: &[u64],
@@ -476,15 +355,15 @@ fn try_classify_inline(
     reduce_prints: &[u64],
     columns: &[u16],
 ) -> Judged
-    requires reads { Reads table.now grammar.now counts map.now least.now ends.now × (conflict_fits (meaning table.now) conflict ≡ true) }
+    requires conflict_value { conflict_fits (meaning given.table.now) conflict ≡ true }
     requires action_value { conflict.action ≡ 0 }
-    requires sides { (xs : List Example) × ((ys : List Example) × (Sides (meaning table.now) conflict xs ys actions.now action_prints.now reduces.now reduce_prints.now × (Ordered xs rows.now × Ordered ys columns.now))) }
-    ensures { (xs ys : List Example) → Sides (meaning table.now) conflict xs ys actions.now action_prints.now reduces.now reduce_prints.now → Ordered xs rows.now → Ordered ys columns.now → Judges xs ys result (inline_or (meaning table.now).productions (heads_in xs ys rows.now columns.now) (first_fit (judging.inlines (meaning table.now)) (picked xs rows.now) (picked ys columns.now))) }
+    requires sides { (xs : List Example) × ((ys : List Example) × (Sides (meaning given.table.now) conflict xs ys actions.now action_prints.now reduces.now reduce_prints.now × (Ordered xs rows.now × Ordered ys columns.now))) }
+    ensures { (xs ys : List Example) → Sides (meaning given.entry.table.now) conflict xs ys actions.now action_prints.now reduces.now reduce_prints.now → Ordered xs rows.now → Ordered ys columns.now → Judges xs ys result (inline_or (meaning given.entry.table.now).productions (heads_in xs ys rows.now columns.now) (first_fit (judging.inlines (meaning given.entry.table.now)) (picked xs rows.now) (picked ys columns.now))) }
 {
     match first_pair(
-        map,
-        grammar,
-        counts,
+        given.map,
+        given.grammar,
+        given.counts,
         Test::Inline,
         actions,
         action_prints,
@@ -495,7 +374,7 @@ fn try_classify_inline(
         0,
         0,
     ) {
-        Found::At(i, j) => {
+        Some((i, j)) => {
             let x = word(rows, i);
             let y = word(columns, j);
             let reduce = outline_at(reduces, reduce_prints, y);
@@ -505,18 +384,13 @@ fn try_classify_inline(
                 y,
             )
         }
-        Found::Nothing => with_first(Class::InsufficientLookahead, rows, columns),
+        None => with_first(Class::InsufficientLookahead, rows, columns),
     }
 }
 
 // A shift where no pair is ambiguous: question, inline, else insufficient lookahead.
 fn shift_unambiguous(
-    table: &[u16],
-    grammar: &[u16],
-    counts: Counts,
-    map: &[u64; NonterminalString::LIMIT],
-    least: &[u8],
-    ends: &[u64],
+    given: Given,
     conflict: Conflict,
     actions: &[u16],
     action_prints: &[u64],
@@ -525,26 +399,26 @@ fn shift_unambiguous(
     reduce_prints: &[u64],
     columns: &[u16],
 ) -> Judged
-    requires reads { Reads table.now grammar.now counts map.now least.now ends.now × (conflict_fits (meaning table.now) conflict ≡ true) }
+    requires conflict_value { conflict_fits (meaning given.table.now) conflict ≡ true }
     requires action_value { conflict.action ≡ 0 }
-    requires sides { (xs : List Example) × ((ys : List Example) × (Sides (meaning table.now) conflict xs ys actions.now action_prints.now reduces.now reduce_prints.now × (Ordered xs rows.now × Ordered ys columns.now))) }
-    ensures { (xs ys : List Example) → Sides (meaning table.now) conflict xs ys actions.now action_prints.now reduces.now reduce_prints.now → Ordered xs rows.now → Ordered ys columns.now → Judges xs ys result (unambiguous (meaning table.now) conflict.production.0 0 (picked xs rows.now) (picked ys columns.now) (heads_in xs ys rows.now columns.now)) }
+    requires sides { (xs : List Example) × ((ys : List Example) × (Sides (meaning given.table.now) conflict xs ys actions.now action_prints.now reduces.now reduce_prints.now × (Ordered xs rows.now × Ordered ys columns.now))) }
+    ensures { (xs ys : List Example) → Sides (meaning given.entry.table.now) conflict xs ys actions.now action_prints.now reduces.now reduce_prints.now → Ordered xs rows.now → Ordered ys columns.now → Judges xs ys result (unambiguous (meaning given.entry.table.now) conflict.production.0 0 (picked xs rows.now) (picked ys columns.now) (heads_in xs ys rows.now columns.now)) }
 {
     let production = conflict.production.0 as usize;
-    let nonterminal = word(grammar, production * ProductionIndex::WORDS);
-    match try_classify_question(table, grammar, counts.productions, nonterminal) {
-        OptionalSymbol::Symbol(kind, number) => with_first(
+    let nonterminal = word(given.grammar, production * ProductionIndex::WORDS);
+    match try_classify_question(
+        given.table,
+        given.grammar,
+        given.counts.productions,
+        nonterminal,
+    ) {
+        Some((kind, number)) => with_first(
             Class::SuggestQuestion(NonterminalString(nonterminal as u16), kind, number),
             rows,
             columns,
         ),
-        OptionalSymbol::Nothing => try_classify_inline(
-            table,
-            grammar,
-            counts,
-            map,
-            least,
-            ends,
+        None => try_classify_inline(
+            given,
             conflict,
             actions,
             action_prints,
@@ -558,12 +432,7 @@ fn shift_unambiguous(
 
 // Where no pair is ambiguous: by the action, question and inline being for a shift alone.
 fn unambiguous(
-    table: &[u16],
-    grammar: &[u16],
-    counts: Counts,
-    map: &[u64; NonterminalString::LIMIT],
-    least: &[u8],
-    ends: &[u64],
+    given: Given,
     conflict: Conflict,
     actions: &[u16],
     action_prints: &[u64],
@@ -572,18 +441,13 @@ fn unambiguous(
     reduce_prints: &[u64],
     columns: &[u16],
 ) -> Judged
-    requires reads { Reads table.now grammar.now counts map.now least.now ends.now × (conflict_fits (meaning table.now) conflict ≡ true) }
-    requires sides { (xs : List Example) × ((ys : List Example) × (Sides (meaning table.now) conflict xs ys actions.now action_prints.now reduces.now reduce_prints.now × (Ordered xs rows.now × Ordered ys columns.now))) }
-    ensures { (xs ys : List Example) → Sides (meaning table.now) conflict xs ys actions.now action_prints.now reduces.now reduce_prints.now → Ordered xs rows.now → Ordered ys columns.now → Judges xs ys result (judging.unambiguous (meaning table.now) conflict.production.0 conflict.action (picked xs rows.now) (picked ys columns.now) (heads_in xs ys rows.now columns.now)) }
+    requires conflict_value { conflict_fits (meaning given.table.now) conflict ≡ true }
+    requires sides { (xs : List Example) × ((ys : List Example) × (Sides (meaning given.table.now) conflict xs ys actions.now action_prints.now reduces.now reduce_prints.now × (Ordered xs rows.now × Ordered ys columns.now))) }
+    ensures { (xs ys : List Example) → Sides (meaning given.entry.table.now) conflict xs ys actions.now action_prints.now reduces.now reduce_prints.now → Ordered xs rows.now → Ordered ys columns.now → Judges xs ys result (judging.unambiguous (meaning given.entry.table.now) conflict.production.0 conflict.action (picked xs rows.now) (picked ys columns.now) (heads_in xs ys rows.now columns.now)) }
 {
     if conflict.action == 0 {
         return shift_unambiguous(
-            table,
-            grammar,
-            counts,
-            map,
-            least,
-            ends,
+            given,
             conflict,
             actions,
             action_prints,
@@ -598,12 +462,7 @@ fn unambiguous(
 
 // The class from two sides in their order, neither of them empty: ambiguity first.
 pub fn judge(
-    table: &[u16],
-    grammar: &[u16],
-    counts: Counts,
-    map: &[u64; NonterminalString::LIMIT],
-    least: &[u8],
-    ends: &[u64],
+    given: Given,
     conflict: Conflict,
     actions: &[u16],
     action_prints: &[u64],
@@ -612,17 +471,12 @@ pub fn judge(
     reduce_prints: &[u64],
     columns: &[u16],
 ) -> Judged
-    requires reads { Reads table.now grammar.now counts map.now least.now ends.now × (conflict_fits (meaning table.now) conflict ≡ true) }
-    requires sides { (xs : List Example) × ((ys : List Example) × (Sides (meaning table.now) conflict xs ys actions.now action_prints.now reduces.now reduce_prints.now × (Ordered xs rows.now × Ordered ys columns.now))) }
-    ensures { (xs ys : List Example) → Sides (meaning table.now) conflict xs ys actions.now action_prints.now reduces.now reduce_prints.now → Ordered xs rows.now → Ordered ys columns.now → Judges xs ys result (judge (meaning table.now) conflict (picked xs rows.now) (picked ys columns.now)) }
+    requires conflict_value { conflict_fits (meaning given.table.now) conflict ≡ true }
+    requires sides { (xs : List Example) × ((ys : List Example) × (Sides (meaning given.table.now) conflict xs ys actions.now action_prints.now reduces.now reduce_prints.now × (Ordered xs rows.now × Ordered ys columns.now))) }
+    ensures { (xs ys : List Example) → Sides (meaning given.entry.table.now) conflict xs ys actions.now action_prints.now reduces.now reduce_prints.now → Ordered xs rows.now → Ordered ys columns.now → Judges xs ys result (judge (meaning given.entry.table.now) conflict (picked xs rows.now) (picked ys columns.now)) }
 {
     match try_classify_ambiguity(
-        table,
-        grammar,
-        counts,
-        map,
-        least,
-        ends,
+        given,
         conflict,
         actions,
         action_prints,
@@ -631,9 +485,9 @@ pub fn judge(
         reduce_prints,
         columns,
     ) {
-        Found::At(x, y) => ambiguity(
-            grammar,
-            counts,
+        Some((x, y)) => ambiguity(
+            given.grammar,
+            given.counts,
             conflict,
             actions,
             action_prints,
@@ -642,13 +496,8 @@ pub fn judge(
             reduce_prints,
             y,
         ),
-        Found::Nothing => unambiguous(
-            table,
-            grammar,
-            counts,
-            map,
-            least,
-            ends,
+        None => unambiguous(
+            given,
             conflict,
             actions,
             action_prints,

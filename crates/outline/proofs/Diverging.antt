@@ -1,17 +1,19 @@
 -- Laws of the inline test on two items (specs/Inline), one for each way through the code. Assumes nothing.
-use Rattle.std.proofs.Common.{◌≡◌, ℕ, zero, suc, ◌+◌, ◌-◌, ◌*◌, ◌/◌, ◌%◌, ◌<◌, ◌≤◌, Bool, true, false, eqb, List, [], ◌∷◌, length, get_or, take, drop, sym, refl, ap, ◌∙◌, subst, arith, le-ltb, lt-ltb}
+use Rattle.std.proofs.Common.{◌++◌, ◌&&◌, eqb-true, nat_eq, ◌≡◌, ℕ, zero, suc, ◌+◌, ◌*◌, ◌/◌, ◌%◌, ◌<◌, ◌≤◌, Bool, true, false, eqb, List, [], ◌∷◌, length, get_or, drop, sym, refl, ap, ◌∙◌, subst, arith, le-ltb, lt-ltb}
+use borrow.Author.Tests.{eqb-false}
+use lib.Pointwise.{pointwise}
 use Rattle.repr.specs.Sizes.{index_limit, item_limit, nonterminal_limit, terminal_limit}
 use Rattle.repr.specs.Meaning.{Symbol, is_same_symbol, Production, no_production, All}
 use Rattle.repr.specs.Listed.{symbol_of_kind, listed, symbol_is_fit, list_is_fit}
 use Rattle.repr.specs.Packed.{Packed, productions_in, symbol_words}
-use Rattle.repr.proofs.Listed.{drop_two, listed-none, listed-step, fits_head, symbol_range}
+use Rattle.repr.proofs.Lists.{cases}
+use Rattle.repr.proofs.Listed.{and_left, and_right, symbol_range}
 use Rattle.lr1_core.specs.Items.{symbol_sets}
 use Rattle.example.specs.Example.{Label, sets_of}
 use Rattle.example.specs.Labels.{labels_in, LabelsFit}
 use Rattle.example.specs.Written.{label_at, Part}
 use Rattle.example.proofs.Labels.{item-production, item_index}
 use Rattle.example.proofs.Parts.{part_listed, suffix_is}
-use Rattle.first.specs.declared.Answer.{Answer}
 use Rattle.first.specs.First.{first0, disjoint}
 use Rattle.outline.specs.Inline.{symbols_at, suffix_at, apart, diverge_by, codes_inline, CodeFits}
 
@@ -32,25 +34,7 @@ kind_same (suc k) n n' = refl
 pub kinds_same : (k n k' n' : ℕ) → k ≡ k' → eqb n n' ≡ is_same_symbol (symbol_of_kind k n) (symbol_of_kind k' n')
 kinds_same k n k' n' e = kind_same k n n' ∙ ap (λ (m : ℕ). is_same_symbol (symbol_of_kind k n) (symbol_of_kind m n')) e
 
--- `disjoint`: the two words at a place
-
-module _ (ws : List ℕ) (at past : ℕ) (ep : past ≡ at + 2) (h : at + 1 < length ws) where
-  two_words : take (past - at) (drop at ws) ≡ get_or ws at 0 ∷ get_or ws (at + 1) 0 ∷ []
-  two_words = let m : past - at ≡ 2 = omega arith in rw (m, drop_two ws at h)
-
-  pub two_fit : symbol_is_fit nonterminal_limit terminal_limit (get_or ws at 0) (get_or ws (at + 1) 0) ≡ true → list_is_fit nonterminal_limit terminal_limit (take (past - at) (drop at ws)) ≡ true
-  unfolding list_is_fit
-  two_fit f = rw (two_words, f)
-
-  pub two_listed : listed (take (past - at) (drop at ws)) ≡ symbol_of_kind (get_or ws at 0) (get_or ws (at + 1) 0) ∷ []
-  unfolding listed
-  two_listed = rw two_words
-
-pub apart-sets : (e : ℕ) (sets : List ℕ) (a b : Answer) (xs ys : List Symbol) (x y : Symbol) (r : Bool) → xs ≡ x ∷ [] → ys ≡ y ∷ [] → a ≡ first0 e sets xs → b ≡ first0 e sets ys → r ≡ disjoint a b → r ≡ apart e sets x y
-unfolding apart
-apart-sets e sets a b xs ys x y r ex ey ea eb er = er ∙ rw (ea, eb, ex, ey)
-
--- `diverge`: the lists are the same up to a place, and what is left decides
+-- `diverge`: a symbol of each list at a time, and what is left decides
 
 module _ (e : ℕ) (sets : List ℕ) (x y : Symbol) (xs ys : List Symbol) where
   by_same : is_same_symbol x y ≡ true → diverge_by e sets (x ∷ xs) (y ∷ ys) ≡ diverge_by e sets xs ys
@@ -61,40 +45,67 @@ module _ (e : ℕ) (sets : List ℕ) (x y : Symbol) (xs ys : List Symbol) where
   unfolding diverge_by
   by_apart q = rw (q, diverge_by)
 
-module _ (e : ℕ) (sets us vs : List ℕ) (at : ℕ) (fu : list_is_fit nonterminal_limit terminal_limit (drop at us) ≡ true) (fv : list_is_fit nonterminal_limit terminal_limit (drop at vs) ≡ true) where
-  abbrev Left : Bool
-  Left = diverge_by e sets (listed (drop at us)) (listed (drop at vs))
+abbrev fit : List ℕ → Bool
+fit ws = list_is_fit nonterminal_limit terminal_limit ws
 
-  pub diverge_end : length us ≤ at → false ≡ Left
+-- two symbols in words, and the words behind them
+pub record Diverging (e : ℕ) (sets us own us' vs other vs' : List ℕ) : Type 0 where
+  pub own_fits : list_is_fit nonterminal_limit terminal_limit own ≡ true
+  pub other_fits : list_is_fit nonterminal_limit terminal_limit other ≡ true
+  pub left_fits : list_is_fit nonterminal_limit terminal_limit us' ≡ true
+  pub other_left_fits : list_is_fit nonterminal_limit terminal_limit vs' ≡ true
+  pub same : pointwise nat_eq own other ≡ true → diverge_by e sets (listed us') (listed vs') ≡ diverge_by e sets (listed us) (listed vs)
+  pub differ : pointwise nat_eq own other ≡ false → disjoint (first0 e sets (listed own)) (first0 e sets (listed other)) ≡ diverge_by e sets (listed us) (listed vs)
+
+module _ (e : ℕ) (sets : List ℕ) where
+  same_two : (a b c d : ℕ) → a < 2 → c < 2 → pointwise nat_eq (a ∷ b ∷ []) (c ∷ d ∷ []) ≡ is_same_symbol (symbol_of_kind a b) (symbol_of_kind c d)
+  same_two a b c d ha hc =
+      cases (nat_eq a c)
+      (λ q. rw q (let same : a ≡ c = eqb-true a c q in let z : nat_eq b d && true ≡ nat_eq b d = elim (nat_eq b d) as (λ v. v && true ≡ v) [ true ↦ refl | false ↦ refl ] in z ∙ kinds_same a b c d same))
+      (λ q. rw q (kinds_differ a b c d ha hc (eqb-false a c q)))
+
+  two : (a b c d : ℕ) (us vs : List ℕ) → fit (a ∷ b ∷ us) ≡ true → fit (c ∷ d ∷ vs) ≡ true → Diverging e sets (a ∷ b ∷ us) (a ∷ b ∷ []) us (c ∷ d ∷ vs) (c ∷ d ∷ []) vs
+  unfolding list_is_fit listed apart
+  two a b c d us vs fu fv =
+      let hu = and_left (symbol_is_fit nonterminal_limit terminal_limit a b) (fit us) fu in
+      let hv = and_left (symbol_is_fit nonterminal_limit terminal_limit c d) (fit vs) fv in
+      let s = same_two a b c d (symbol_range nonterminal_limit terminal_limit a b hu).0 (symbol_range nonterminal_limit terminal_limit c d hv).0 in
+      record {
+        own_fits = rw hu refl;
+        other_fits = rw hv refl;
+        left_fits = and_right (symbol_is_fit nonterminal_limit terminal_limit a b) (fit us) fu;
+        other_left_fits = and_right (symbol_is_fit nonterminal_limit terminal_limit c d) (fit vs) fv;
+        same = λ q. sym (by_same e sets (symbol_of_kind a b) (symbol_of_kind c d) (listed us) (listed vs) (sym s ∙ q));
+        differ = λ q. sym (by_apart e sets (symbol_of_kind a b) (symbol_of_kind c d) (listed us) (listed vs) (sym s ∙ q));
+      }
+
+  pub diverge_turn : (us own us' vs other vs' : List ℕ) → us ≡ own ++ us' → length own ≡ 2 → vs ≡ other ++ vs' → length other ≡ 2 → list_is_fit nonterminal_limit terminal_limit us ≡ true → list_is_fit nonterminal_limit terminal_limit vs ≡ true
+      → Diverging e sets us own us' vs other vs'
+  diverge_turn us (a ∷ b ∷ []) us' vs (c ∷ d ∷ []) vs' eu lu ev lv fu fv = rw (eu, ev) (two a b c d us' vs' (rw eu at fu) (rw ev at fv))
+  diverge_turn us [] us' vs other vs' eu lu ev lv fu fv = absurd (omega arith)
+  diverge_turn us (a ∷ []) us' vs other vs' eu lu ev lv fu fv = absurd (omega arith)
+  diverge_turn us (a ∷ b ∷ x ∷ xs) us' vs other vs' eu lu ev lv fu fv = absurd (omega arith)
+  diverge_turn us (a ∷ b ∷ []) us' vs [] vs' eu lu ev lv fu fv = absurd (omega arith)
+  diverge_turn us (a ∷ b ∷ []) us' vs (c ∷ []) vs' eu lu ev lv fu fv = absurd (omega arith)
+  diverge_turn us (a ∷ b ∷ []) us' vs (c ∷ d ∷ x ∷ xs) vs' eu lu ev lv fu fv = absurd (omega arith)
+
+  none_left : (ws : List ℕ) → length ws < 2 → listed ws ≡ []
+  unfolding listed
+  none_left [] h = refl
+  none_left (a ∷ []) h = refl
+  none_left (a ∷ b ∷ ws) h = absurd (omega arith)
+
+  pub diverge_end : (us vs : List ℕ) → length us < 2 → false ≡ diverge_by e sets (listed us) (listed vs)
   unfolding diverge_by
-  diverge_end h = rw (listed-none us at h)
+  diverge_end us vs h = rw (none_left us h)
 
-  module _ (hu : at < length us) where
-    pub head_u : (at + 1 < length us) × ((symbol_is_fit nonterminal_limit terminal_limit (get_or us at 0) (get_or us (at + 1) 0) ≡ true) × (list_is_fit nonterminal_limit terminal_limit (drop (at + 2) us) ≡ true))
-    head_u = fits_head nonterminal_limit terminal_limit us at hu fu
-
-    pub diverge-other_end : length vs ≤ at → false ≡ Left
-    unfolding diverge_by
-    diverge-other_end h = rw (listed-step us at head_u.0, listed-none vs at h)
-
-    module _ (hv : at < length vs) where
-      pub head_v : (at + 1 < length vs) × ((symbol_is_fit nonterminal_limit terminal_limit (get_or vs at 0) (get_or vs (at + 1) 0) ≡ true) × (list_is_fit nonterminal_limit terminal_limit (drop (at + 2) vs) ≡ true))
-      head_v = fits_head nonterminal_limit terminal_limit vs at hv fv
-
-      pub kinds_small : (get_or us at 0 < 2) × (get_or vs at 0 < 2)
-      kinds_small = ((symbol_range nonterminal_limit terminal_limit (get_or us at 0) (get_or us (at + 1) 0) head_u.1.0).0, (symbol_range nonterminal_limit terminal_limit (get_or vs at 0) (get_or vs (at + 1) 0) head_v.1.0).0)
-
-      abbrev x : Symbol
-      x = symbol_of_kind (get_or us at 0) (get_or us (at + 1) 0)
-
-      abbrev y : Symbol
-      y = symbol_of_kind (get_or vs at 0) (get_or vs (at + 1) 0)
-
-      pub diverge_same : true ≡ is_same_symbol x y → Left ≡ diverge_by e sets (listed (drop (at + 2) us)) (listed (drop (at + 2) vs))
-      diverge_same q = rw (listed-step us at head_u.0, listed-step vs at head_v.0) (by_same e sets x y (listed (drop (at + 2) us)) (listed (drop (at + 2) vs)) (sym q))
-
-      pub diverge-apart : false ≡ is_same_symbol x y → (r : Bool) → r ≡ apart e sets x y → r ≡ Left
-      diverge-apart q r er = er ∙ rw (listed-step us at head_u.0, listed-step vs at head_v.0) (sym (by_apart e sets x y (listed (drop (at + 2) us)) (listed (drop (at + 2) vs)) (sym q)))
+  pub diverge-other_end : (us vs : List ℕ) → length vs < 2 → false ≡ diverge_by e sets (listed us) (listed vs)
+  unfolding diverge_by
+  diverge-other_end us vs h = rw (none_left vs h) (go (listed us))
+    where
+      go : (xs : List Symbol) → false ≡ diverge_by e sets xs []
+      go [] = refl
+      go (x ∷ xs) = refl
 
 -- an item from its number, as a label that is alone: the symbols after its cursor
 

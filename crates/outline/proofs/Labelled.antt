@@ -1,6 +1,5 @@
 -- Laws of the labels that are kept of a side's first examples (specs/Kept): what was put at k is read there; outlines and the labels of the others stay. Assumes nothing.
-use Rattle.std.proofs.Common.{◌≡◌, ℕ, suc, ◌+◌, ◌-◌, ◌<◌, ◌≤◌, eqb, ltb, List, [], ◌∷◌, length, get_or, take, drop, set, sym, refl, ◌∙◌, arith, length-drop, length-set, length-take-le, get_or-drop, get_or-set_other, get_or-take, get_or-set_same, ext_get_or, ltb-false, ltb-true, eqb-true}
-use borrow.Author.Tests.{eqb-false}
+use Rattle.std.proofs.Common.{◌≡◌, ℕ, suc, ◌+◌, ◌-◌, ◌<◌, ◌≤◌, ltb, List, [], ◌∷◌, length, get_or, take, drop, sym, refl, ◌∙◌, arith, length-drop, length-take-le, get_or-drop, get_or-take, ext_get_or, ltb-false, ltb-true}
 use Rattle.repr.specs.Sizes.{labels_room, example_limit}
 use Rattle.repr.specs.Meaning.{Production}
 use Rattle.repr.proofs.Lists.{cases}
@@ -21,38 +20,6 @@ part_length f n l h = length-take-le n (drop f l) (let e = length-drop f l in om
 -- a part is known by its words
 part_is : (f n : ℕ) (l ws : List ℕ) → f + n ≤ length l → length ws ≡ n → ((i : ℕ) → i < n → get_or l (f + i) 0 ≡ get_or ws i 0) → take n (drop f l) ≡ ws
 part_is f n l ws h e s = let a = part_length f n l h in ext_get_or 0 (take n (drop f l)) ws (a ∙ sym e) (λ i q. part_at f n l i (omega arith) ∙ s i (omega arith))
-
--- the words of `keep_labels` after i turns
-pub record Putting (ls : List ℕ) (at i : ℕ) (kept kept' : List ℕ) : Type 0 where
-  pub long : length kept' ≡ length kept
-  pub here : (j : ℕ) → j < i → get_or kept' (at + 1 + j) 0 ≡ get_or ls j 0
-  pub before : (j : ℕ) → j ≤ at → get_or kept' j 0 ≡ get_or kept j 0
-  pub after : (j : ℕ) → at + 1 + i ≤ j → get_or kept' j 0 ≡ get_or kept j 0
-
-module _ (ls : List ℕ) (at : ℕ) (kept : List ℕ) where
-  pub putting_first : Putting ls at 0 kept kept
-  putting_first = record { long = refl; here = λ j h. absurd (omega arith); before = λ j h. refl; after = λ j h. refl }
-
-  module _ (i : ℕ) (kept' : List ℕ) (P : Putting ls at i kept kept') where
-    pub putting_more : at + 1 + i < length kept → Putting ls at (i + 1) kept (set kept' (at + 1 + i) (get_or ls i 0))
-    putting_more h = record {
-      long = length-set kept' (at + 1 + i) (get_or ls i 0) ∙ P.long;
-      here = λ j q.
-          cases (eqb j i)
-          (λ b. let z = eqb-true j i b in rw z (get_or-set_same kept' (at + 1 + i) (get_or ls i 0) 0 (let l = P.long in omega arith)))
-          (λ b. let z = eqb-false j i b in get_or-set_other kept' (at + 1 + i) (at + 1 + j) (get_or ls i 0) 0 (λ y. z (omega arith)) ∙ P.here j (omega (arith, z)));
-      before = λ j q. get_or-set_other kept' (at + 1 + i) j (get_or ls i 0) 0 (λ y. omega arith) ∙ P.before j q;
-      after = λ j q. get_or-set_other kept' (at + 1 + i) j (get_or ls i 0) 0 (λ y. omega arith) ∙ P.after j (omega arith);
-    }
-
-    pub putting_last : (k : ℕ) → at ≡ labelled_place k → i ≡ length ls → at < length kept → LabelsPut ls k kept (set kept' at (length ls))
-    putting_last k e m h = record {
-      long = length-set kept' at (length ls) ∙ P.long;
-      size = rw (← e) (get_or-set_same kept' at (length ls) 0 (let l = P.long in omega arith));
-      here = λ j q. rw (← e) (get_or-set_other kept' at (at + 1 + j) (length ls) 0 (λ y. omega arith) ∙ P.here j (omega arith));
-      before = λ j q. get_or-set_other kept' at j (length ls) 0 (λ y. omega arith) ∙ P.before j (omega arith);
-      after = λ j q. get_or-set_other kept' at j (length ls) 0 (λ y. omega arith) ∙ P.after j (omega arith);
-    }
 
 -- the labels of example k where none of its words changed
 pub labels_same : (ps : List Production) (kept kept' : List ℕ) (k : ℕ) (x : Example) → k < labelled_limit → kept_room ≤ length kept → length kept' ≡ length kept

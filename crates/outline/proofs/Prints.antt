@@ -1,9 +1,9 @@
 -- Prints of readings (specs/Outline): below 2 ^ 48, and equal where the readings are; the same over words. Assumes nothing.
-use Rattle.std.proofs.Common.{◌≡◌, ℕ, ◌+◌, ◌%◌, ◌<◌, ◌≤◌, true, false, List, [], ◌∷◌, ◌++◌, map, length, get_or, drop, sym, refl, ap, ◌∙◌, append_assoc, arith, length-drop, eqb-true}
+use Rattle.std.proofs.Common.{◌≡◌, ℕ, ◌%◌, ◌<◌, true, false, List, [], ◌∷◌, ◌++◌, map, length, get_or, sym, refl, ap, ◌∙◌, append_assoc, arith, eqb-true}
 use Rattle.repr.specs.Lists.{joined}
 use Rattle.repr.specs.Meaning.{Symbol, nonterminal, terminal, Production}
 use Rattle.repr.proofs.Lists.{clash}
-use Rattle.repr.proofs.Listed.{and_left, and_right, drop_two}
+use Rattle.repr.proofs.Listed.{and_left, and_right}
 use Rattle.repr.proofs.SameSymbol.{same_equal}
 use Rattle.example.specs.Example.{ExampleSymbol, symbol, epsilon, prefixes, suffixes, middle, symbols, symbol_words, reductions, reduction_words, example_words}
 use Rattle.example.specs.Written.{words_of, Part}
@@ -104,18 +104,17 @@ pub words-mark : (h : ℕ) (ws : List ℕ) → ws ≡ 2 ∷ 0 ∷ [] → mix h (
 unfolding print_words
 words-mark h ws e = rw e
 
--- `print_list`: the words before a place are passed, and what is left decides
+-- `print_list`: two words at a time, and what is left decides
 
-module _ (ws : List ℕ) (at h : ℕ) where
-  pub list_end : length ws ≤ at + 1 → print_words h (drop at ws) ≡ h
-  unfolding print_words
-  list_end le = go (drop at ws) (let d = length-drop at ws in omega arith)
-    where
-      go : (l : List ℕ) → length l ≤ 1 → print_words h l ≡ h
-      go [] e = refl
-      go (k ∷ []) e = refl
-      go (k ∷ n ∷ l) e = absurd (omega arith)
+pub list_end : (h : ℕ) (ws : List ℕ) → length ws < 2 → print_words h ws ≡ h
+unfolding print_words
+list_end h [] l = refl
+list_end h (k ∷ []) l = refl
+list_end h (k ∷ n ∷ ws) l = absurd (omega arith)
 
-  pub list_more : at + 1 < length ws → (k n r : ℕ) → k ≡ get_or ws at 0 → n ≡ get_or ws (at + 1) 0 → r ≡ mix h (symbol_code k n) → print_words r (drop (at + 2) ws) ≡ print_words h (drop at ws)
-  unfolding print_words
-  list_more lt k n r ek en er = rw (drop_two ws at lt, er, ek, en)
+pub list_more : (h : ℕ) (ws two rest : List ℕ) → ws ≡ two ++ rest → length two ≡ 2 → (k n r : ℕ) → k ≡ get_or two 0 0 → n ≡ get_or two 1 0 → r ≡ mix h (symbol_code k n) → print_words r rest ≡ print_words h ws
+unfolding print_words
+list_more h ws [] rest e l k n r ek en er = absurd (omega arith)
+list_more h ws (x ∷ []) rest e l k n r ek en er = absurd (omega arith)
+list_more h ws (x ∷ y ∷ []) rest e l k n r ek en er = rw (e, er, ek, en)
+list_more h ws (x ∷ y ∷ z ∷ zs) rest e l k n r ek en er = absurd (omega arith)

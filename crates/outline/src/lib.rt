@@ -70,10 +70,8 @@ fn print_list(print: u64, symbols: &[u16]) -> u64
     ensures { (result ≡ print_words print symbols.now) × (result < print_limit) }
 {
     let mut mixed = print;
-    let mut at: usize = 0;
-    while at + 1 < symbols.len() {
-        mixed = mix(mixed, word(symbols, at), word(symbols, at + 1));
-        at += 2;
+    for symbol in symbols.chunks_exact(2) {
+        mixed = mix(mixed, word(symbol, 0), word(symbol, 1));
     }
     mixed
 }
@@ -85,10 +83,8 @@ fn print_prefixes(print: u64, grammar: &[u16], productions: usize, labels: &[u16
     ensures { (result ≡ print_words print (words_of (prefixes (productions_in grammar.now productions) (labels_in labels.now)))) × (result < print_limit) }
 {
     let mut mixed = print;
-    let mut left = label_count(labels);
-    while left > 0 {
-        left -= 1;
-        mixed = print_list(mixed, prefix_part(grammar, productions, labels, left));
+    for label in (0..label_count(labels)).rev() {
+        mixed = print_list(mixed, prefix_part(grammar, productions, labels, label));
     }
     mixed
 }
@@ -116,12 +112,9 @@ fn print_suffixes(print: u64, grammar: &[u16], productions: usize, labels: &[u16
     requires labels_fit { LabelsFit (productions_in grammar.now productions) labels.now }
     ensures { (result ≡ print_words print (words_of (suffixes (productions_in grammar.now productions) (labels_in labels.now)))) × (result < print_limit) }
 {
-    let count = label_count(labels);
     let mut mixed = print;
-    let mut label: usize = 0;
-    while label < count {
+    for label in 0..label_count(labels) {
         mixed = print_list(mixed, suffix_part(grammar, productions, labels, label));
-        label += 1;
     }
     mixed
 }
@@ -197,11 +190,9 @@ pub fn keep_labels(labels: &[u16], kept: &mut [u16], k: usize)
     ensures { LabelsPut labels.now k kept.old kept.new }
 {
     let at = Outline::OUTLINES + k * Outline::LABELLED_WORDS;
-    let mut i: usize = 0;
-    while i < labels.len() {
-        kept[at + 1 + i] = labels[i];
-        i += 1;
-    }
+    let from = at + 1;
+    let to = from + labels.len();
+    kept[from..to].copy_from_slice(labels);
     kept[at] = labels.len() as u16;
 }
 
@@ -249,35 +240,6 @@ fn item_at(code: usize) -> Item
     }
 }
 
-// Whether the symbols at one place of two lists are the same.
-fn same_symbol(first: &[u16], second: &[u16], at: usize) -> bool
-    requires { (at + 1 < length first.now) × (at + 1 < length second.now) × (slice_index first.now at < 2) × (slice_index second.now at < 2) }
-    ensures { result ≡ is_same_symbol (symbol_of_kind (slice_index first.now at) (slice_index first.now (at + 1))) (symbol_of_kind (slice_index second.now at) (slice_index second.now (at + 1))) }
-{
-    if word(first, at) != word(second, at) {
-        return false;
-    }
-    word(first, at + 1) == word(second, at + 1)
-}
-
-// Whether FIRST of the symbols at one place of two lists are disjoint.
-fn disjoint(
-    map: &[u64; NonterminalString::LIMIT],
-    terminals: u16,
-    first: &[u16],
-    second: &[u16],
-    at: usize,
-) -> bool
-    requires terminals_le_terminal_limit { (terminals ≤ terminal_limit) × (at + 1 < length first.now) × (at + 1 < length second.now) }
-    requires at_value { symbol_is_fit nonterminal_limit terminal_limit (slice_index first.now at) (slice_index first.now (at + 1)) ≡ true }
-    requires at_value_2 { symbol_is_fit nonterminal_limit terminal_limit (slice_index second.now at) (slice_index second.now (at + 1)) ≡ true }
-    ensures { result ≡ apart terminals map.now (symbol_of_kind (slice_index first.now at) (slice_index first.now (at + 1))) (symbol_of_kind (slice_index second.now at) (slice_index second.now (at + 1))) }
-{
-    let past = at + 2;
-    let answer = first0(map, terminals, &first[at..past]);
-    answer.is_disjoint(first0(map, terminals, &second[at..past]))
-}
-
 // Whether at the first difference of two lists the FIRST sets are disjoint. An exhausted list is a no.
 fn diverge(
     map: &[u64; NonterminalString::LIMIT],
@@ -290,15 +252,9 @@ fn diverge(
     requires second_value { list_is_fit nonterminal_limit terminal_limit second.now ≡ true }
     ensures { result ≡ diverge_by terminals map.now (listed first.now) (listed second.now) }
 {
-    let mut at: usize = 0;
-    while at < first.len() {
-        if at >= second.len() {
-            return false;
-        }
-        if same_symbol(first, second, at) {
-            at += 2;
-        } else {
-            return disjoint(map, terminals, first, second, at);
+    for (own, other) in first.chunks_exact(2).zip(second.chunks_exact(2)) {
+        if own != other {
+            return first0(map, terminals, own).is_disjoint(first0(map, terminals, other));
         }
     }
     false

@@ -1,6 +1,6 @@
 -- The pairs of two orders from a place on, in product order, and the first of them that passes a test (`try_classify_ambiguity` and `try_classify_inline`, part 8 of document 01; request 06 of
 -- document 02). Assumes nothing: these are definitions.
-use Rattle.std.specs.Prelude.{ℕ, ◌+◌, ◌<◌, ◌≡◌, Bool, true, false, List, ◌++◌, length, get_or, take, drop, eqb}
+use Rattle.std.specs.Prelude.{Option as OptionOf, Some, None, ℕ, ◌+◌, ◌<◌, ◌≡◌, Bool, true, false, List, ◌++◌, length, get_or, take, drop, eqb}
 use Rattle.std.proofs.Math.Option.{Option, none, some}
 use Rattle.repr.specs.Sizes.{item_limit, example_limit}
 use Rattle.repr.specs.Lists.{first?}
@@ -11,8 +11,6 @@ use Rattle.outline.specs.Kept.{outline_in}
 use Rattle.outline.specs.Inline.{CodeFits, codes_inline}
 use Rattle.pairs.specs.declared.Test.{Test}
 use Rattle.pairs.specs.declared.Test.TheVariants.{Alike, Inline}
-use Rattle.pairs.specs.declared.Found.{Found}
-use Rattle.pairs.specs.declared.Found.TheVariants.{At, Nothing}
 
 -- the test on two outlines: equal prints; or the inline test on the kept labels (e: the end of input, sets: the FIRST sets)
 unfoldable pub test_by : ℕ → List ℕ → List Production → Test → Outline → Outline → Bool
@@ -72,14 +70,14 @@ pub record Stopped (t : ℕ → ℕ → Bool) (rows columns : List ℕ) (i j k l
   pub passed : Passed t rows columns i j k l
 
 -- the first pair from a place on that passes, by its row and column, or none
-unfoldable pub FirstFrom : (ℕ → ℕ → Bool) → List ℕ → List ℕ → ℕ → ℕ → Found → Type 0
-FirstFrom t rows columns i j (At k l) = Stopped t rows columns i j k l
-FirstFrom t rows columns i j Nothing = All (Misses t) (pairs_from rows columns i j)
+unfoldable pub FirstFrom : (ℕ → ℕ → Bool) → List ℕ → List ℕ → ℕ → ℕ → OptionOf (ℕ × ℕ) → Type 0
+FirstFrom t rows columns i j (Some found) = Stopped t rows columns i j found.0 found.1
+FirstFrom t rows columns i j None = All (Misses t) (pairs_from rows columns i j)
 
 -- a pair by its row and column, and one of other things by the numbers of its two
-unfoldable pub found_pair : List ℕ → List ℕ → Found → Option (Pair ℕ)
-found_pair rows columns (At i j) = some (record { action = get_or rows i 0; reduce = get_or columns j 0 })
-found_pair rows columns Nothing = none
+unfoldable pub found_pair : List ℕ → List ℕ → OptionOf (ℕ × ℕ) → Option (Pair ℕ)
+found_pair rows columns (Some found) = some (record { action = get_or rows found.0 0; reduce = get_or columns found.1 0 })
+found_pair rows columns None = none
 
 unfoldable pub on_pair : {A : Type 0} → (ℕ → A) → (ℕ → A) → Option (Pair ℕ) → Option (Pair A)
 on_pair f g none = none

@@ -1,6 +1,6 @@
 -- A state's shift items one by one: by places, 16 indexes for each production in their order, those that are left from a place on. `left_all_lem` of proofs/Left: from 0 on they are
 -- `shift_items` of error. Assumes nothing: these are definitions.
-use Rattle.std.specs.Prelude.{◌≡◌, ℕ, suc, ◌*◌, ◌/◌, ◌%◌, ◌<◌, Bool, ◌&&◌, List, [], ◌∷◌, map, length, drop, slice_index}
+use Rattle.std.specs.Prelude.{◌≡◌, ℕ, suc, ◌*◌, ◌/◌, ◌%◌, ◌<◌, Bool, ◌&&◌, List, [], ◌∷◌, map, length, drop, slice_index, Option, Some, None}
 use Rattle.repr.specs.Sizes.{production_limit, symbol_limit, item_limit, item_flags}
 use Rattle.repr.specs.Lists.{below, keep, some?}
 use Rattle.repr.specs.Meaning.{Item, Table, ItemFits, state_at}
@@ -8,8 +8,6 @@ use Rattle.trace_graph.specs.Graph.{same_item}
 use Rattle.trace.specs.Shifting.{item_of}
 use Rattle.error.specs.Items.{shifts_token}
 use Rattle.bits.specs.Bits.{bit_at}
-use Rattle.shift_items.specs.declared.NextItem.{NextItem}
-use Rattle.shift_items.specs.declared.NextItem.TheVariants.{At, Nothing}
 use Rattle.shift_items.specs.Order.{Ordered}
 use Rattle.shift_items.specs.Codes.{Grammar, code_of}
 
@@ -38,6 +36,6 @@ pub record Next (T : Table) (s token : ℕ) (order : List ℕ) (n from place cod
   pub inside : place < n * symbol_limit
   pub small : code < item_limit
 
-unfoldable pub NextIs : Table → ℕ → ℕ → List ℕ → ℕ → ℕ → NextItem → Type 0
-NextIs T s token order n from (At place code) = Next T s token order n from place code
-NextIs T s token order n from Nothing = items_left T s token order n from ≡ []
+unfoldable pub NextIs : Table → ℕ → ℕ → List ℕ → ℕ → ℕ → Option (ℕ × ℕ) → Type 0
+NextIs T s token order n from (Some found) = Next T s token order n from found.0 found.1
+NextIs T s token order n from None = items_left T s token order n from ≡ []

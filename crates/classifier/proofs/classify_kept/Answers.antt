@@ -31,13 +31,13 @@ pub slice_bounds-judge-end-2 : goal.slice_bounds-judge-end-2
 slice_bounds-judge-end-2 c = let P = c.requires.sides in let K = P.1.1.0 in let f = P.1.1.1.1 in sym (side_long _ _ _ _ _ _ K.reduce _ f _ c.sort_side-2.ensures)
 
 pub judge-judged-requires : goal.judge-judged-requires
-judge-judged-requires c = let P = c.requires.sides in let K = P.1.1.0 in let e = P.1.1.1.0 in let f = P.1.1.1.1 in record { reads = c.requires.reads; sides = (P.0, (P.1.0, (K, ((side_ordered _ _ _ _ _ _ K.action _ e _ c.sort_side.ensures c.if-action_count-eq0.false), (side_ordered _ _ _ _ _ _ K.reduce _ f _ c.sort_side-2.ensures c.if-reduce_count-eq0.false))))) }
+judge-judged-requires c = let P = c.requires.sides in let K = P.1.1.0 in let e = P.1.1.1.0 in let f = P.1.1.1.1 in record { conflict_value = c.requires.conflict_value; sides = (P.0, (P.1.0, (K, ((side_ordered _ _ _ _ _ _ K.action _ e _ c.sort_side.ensures c.if-action_count-eq0.false), (side_ordered _ _ _ _ _ _ K.reduce _ f _ c.sort_side-2.ensures c.if-reduce_count-eq0.false))))) }
 
 pub show_action-requires : goal.show_action-requires
-show_action-requires c = let P = c.requires.sides in let K = P.1.1.0 in let e = P.1.1.1.0 in let f = P.1.1.1.1 in let J = c.judge-judged.ensures P.0 P.1.0 K (side_ordered _ _ _ _ _ _ K.action _ e _ c.sort_side.ensures c.if-action_count-eq0.false) (side_ordered _ _ _ _ _ _ K.reduce _ f _ c.sort_side-2.ensures c.if-reduce_count-eq0.false) in record { reads = c.requires.reads; side_kept = (P.0, (K.action, J.action)); example_room_in_bounds = c.requires.example_room_in_bounds.0 }
+show_action-requires c = let P = c.requires.sides in let K = P.1.1.0 in let e = P.1.1.1.0 in let f = P.1.1.1.1 in let J = c.judge-judged.ensures P.0 P.1.0 K (side_ordered _ _ _ _ _ _ K.action _ e _ c.sort_side.ensures c.if-action_count-eq0.false) (side_ordered _ _ _ _ _ _ K.reduce _ f _ c.sort_side-2.ensures c.if-reduce_count-eq0.false) in record { conflict_value = c.requires.conflict_value; side_kept = (P.0, (K.action, J.action)); example_room_in_bounds = c.requires.example_room_in_bounds.0 }
 
 pub show_reduce-requires : goal.show_reduce-requires
-show_reduce-requires c = let P = c.requires.sides in let K = P.1.1.0 in let e = P.1.1.1.0 in let f = P.1.1.1.1 in let J = c.judge-judged.ensures P.0 P.1.0 K (side_ordered _ _ _ _ _ _ K.action _ e _ c.sort_side.ensures c.if-action_count-eq0.false) (side_ordered _ _ _ _ _ _ K.reduce _ f _ c.sort_side-2.ensures c.if-reduce_count-eq0.false) in record { reads = c.requires.reads; side_kept = (P.1.0, (K.reduce, J.reduce)); example_room_in_bounds = c.requires.example_room_in_bounds.1 }
+show_reduce-requires c = let P = c.requires.sides in let K = P.1.1.0 in let e = P.1.1.1.0 in let f = P.1.1.1.1 in let J = c.judge-judged.ensures P.0 P.1.0 K (side_ordered _ _ _ _ _ _ K.action _ e _ c.sort_side.ensures c.if-action_count-eq0.false) (side_ordered _ _ _ _ _ _ K.reduce _ f _ c.sort_side-2.ensures c.if-reduce_count-eq0.false) in record { conflict_value = c.requires.conflict_value; side_kept = (P.1.0, (K.reduce, J.reduce)); example_room_in_bounds = c.requires.example_room_in_bounds.1 }
 
 pub returns : goal.returns
 returns c = λ xs ys K e f. let J = c.judge-judged.ensures xs ys K (side_ordered _ _ _ _ _ _ K.action _ e _ c.sort_side.ensures c.if-action_count-eq0.false) (side_ordered _ _ _ _ _ _ K.reduce _ f _ c.sort_side-2.ensures c.if-reduce_count-eq0.false) in kept-judged _ c.args.conflict xs ys _ _ _ _ _ _ _ J (side_picked _ _ _ _ _ _ K.action _ e _ c.sort_side.ensures) (side_picked _ _ _ _ _ _ K.reduce _ f _ c.sort_side-2.ensures) (c.show_action.ensures xs K.action J.action) (c.show_reduce.ensures ys K.reduce J.reduce)

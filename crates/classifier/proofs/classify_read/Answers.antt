@@ -17,14 +17,17 @@ slice_bounds-prepare-end-2 c = sym (length-take-le grammar_room c.args.scratch.n
 pub prepare-prepared-requires : goal.prepare-prepared-requires
 prepare-prepared-requires c = record { table_value = c.requires.table_value; grammar_len = length-take-le grammar_room c.args.scratch.now (omega (arith, c.requires.classify_scratch_in_bounds.0)) }
 
-pub slice_bounds-classify-end : goal.slice_bounds-classify-end
-slice_bounds-classify-end c = let l = length_front {A = ℕ} c.args.scratch.now c.prepare-prepared.new.grammar grammar_room c.prepare-prepared.auto.grammar in omega (arith, l, c.requires.classify_scratch_in_bounds.0)
+pub slice_bounds-given-end : goal.slice_bounds-given-end
+slice_bounds-given-end c = let l = length_front {A = ℕ} c.args.scratch.now c.prepare-prepared.new.grammar grammar_room c.prepare-prepared.auto.grammar in omega (arith, l, c.requires.classify_scratch_in_bounds.0)
 
-pub slice_bounds-classify-end-2 : goal.slice_bounds-classify-end-2
-slice_bounds-classify-end-2 c = let l = length_front {A = ℕ} c.args.scratch.now c.prepare-prepared.new.grammar grammar_room c.prepare-prepared.auto.grammar in sym (length-take-le grammar_room (c.prepare-prepared.new.grammar ++ drop grammar_room c.args.scratch.now) (omega (arith, l, c.requires.classify_scratch_in_bounds.0)))
+pub slice_bounds-given-end-2 : goal.slice_bounds-given-end-2
+slice_bounds-given-end-2 c = let l = length_front {A = ℕ} c.args.scratch.now c.prepare-prepared.new.grammar grammar_room c.prepare-prepared.auto.grammar in sym (length-take-le grammar_room (c.prepare-prepared.new.grammar ++ drop grammar_room c.args.scratch.now) (omega (arith, l, c.requires.classify_scratch_in_bounds.0)))
+
+pub given-given-requires : goal.given-given-requires
+given-given-requires c = reads-front _ _ _ _ _ _ _ grammar_room (c.prepare-prepared.auto.grammar ∙ length-take-le grammar_room c.args.scratch.now (omega (arith, c.requires.classify_scratch_in_bounds.0))) c.prepare-prepared.ensures
 
 pub classify-answer-requires : goal.classify-answer-requires
-classify-answer-requires c = record { reads = (reads-front _ _ _ _ _ _ _ grammar_room (c.prepare-prepared.auto.grammar ∙ length-take-le grammar_room c.args.scratch.now (omega (arith, c.requires.classify_scratch_in_bounds.0))) c.prepare-prepared.ensures, c.requires.conflict_value); example_room_in_bounds = c.requires.classify_scratch_in_bounds.1 }
+classify-answer-requires c = record { conflict_value = rw c.given-given.ensures.tables.0 c.requires.conflict_value; example_room_in_bounds = c.requires.classify_scratch_in_bounds.1 }
 
 pub zero-requires : goal.zero-requires
 zero-requires c = let l = length_front {A = ℕ} c.args.scratch.now c.prepare-prepared.new.grammar grammar_room c.prepare-prepared.auto.grammar in omega (arith, l, c.requires.classify_scratch_in_bounds.0)
@@ -33,4 +36,6 @@ pub shape_of-scratch : goal.shape_of-scratch
 shape_of-scratch c = c.zero.auto.words ∙ length_front {A = ℕ} c.args.scratch.now c.prepare-prepared.new.grammar grammar_room c.prepare-prepared.auto.grammar
 
 pub returns : goal.returns
-returns c = read-zeroed _ c.args.conflict _ _ _ _ _ c.args.scratch.now _ c.prepare-prepared.new.grammar grammar_room c.classify-answer.ensures (c.prepare-prepared.auto.grammar ∙ length-take-le grammar_room c.args.scratch.now (omega (arith, c.requires.classify_scratch_in_bounds.0))) (omega arith) c.zero.ensures
+returns c =
+    let said = rw c.given-given.ensures.tables.0 at c.classify-answer.ensures in
+    rw c.classified.ensures (read-zeroed _ c.args.conflict _ _ _ _ _ c.args.scratch.now _ c.prepare-prepared.new.grammar grammar_room said (c.prepare-prepared.auto.grammar ∙ length-take-le grammar_room c.args.scratch.now (omega (arith, c.requires.classify_scratch_in_bounds.0))) (omega arith) c.zero.ensures)

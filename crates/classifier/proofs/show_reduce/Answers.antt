@@ -2,10 +2,10 @@ use Rattle.classifier.proofs.Ways.{shown-fits, shown-number, shown-nothing}
 use Rattle.classifier.proofs.show_reduce.Goals as goal
 
 pub write_reduce-requires : goal.write_reduce-requires
-write_reduce-requires c = let P = c.requires.side_kept in record { reads = c.requires.reads; side_kept = (P.0, (P.1.0, shown-fits _ _ _ c.in-Number.is P.1.1)); example_room_in_bounds = c.requires.example_room_in_bounds }
+write_reduce-requires c = let P = c.requires.side_kept in record { conflict_value = c.requires.conflict_value; side_kept = (P.0, (P.1.0, shown-fits _ _ _ c.in-Some.is P.1.1)); example_room_in_bounds = c.requires.example_room_in_bounds }
 
-pub returns-in-Number : goal.returns-in-Number
-returns-in-Number c = λ xs K F. shown-number _ xs _ _ _ c.in-Number.is _ (c.write_reduce.ensures xs K (shown-fits _ _ _ c.in-Number.is F))
+pub returns-in-Some : goal.returns-in-Some
+returns-in-Some c = λ xs K F. shown-number _ xs _ _ _ c.in-Some.is _ (c.write_reduce.ensures xs K (shown-fits _ _ _ c.in-Some.is F))
 
-pub returns-in-Nothing : goal.returns-in-Nothing
-returns-in-Nothing c = λ xs K F. shown-nothing _ xs _ _ c.in-Nothing.is
+pub returns-in_default : goal.returns-in_default
+returns-in_default c = λ xs K F. shown-nothing _ xs _ _ c.in_default.is

@@ -1,3 +1,4 @@
+use Rattle.std.proofs.Common.{refl}
 use Rattle.judge.proofs.Reading.{buffer_room, reading_counts, reading_cursors, reading_words}
 use native.Mathlib.Omega.{arith}
 use Rattle.judge.proofs.same_reading.Goals as goal
@@ -20,8 +21,11 @@ word-requires-3 c = let b = buffer_room _ _ _ c.requires.1.1.1.1 in omega (arith
 pub returns-then-word : goal.returns-then-word
 returns-then-word c = λ ps x y A B. reading_cursors ps x y _ _ A B _ _ c.word-2.ensures.0 c.word-3.ensures.0 c.if-word.true
 
-pub same_words-requires : goal.same_words-requires
-same_words-requires c = let a = buffer_room _ _ _ c.requires.1.1.1.0 in let b = buffer_room _ _ _ c.requires.1.1.1.1 in let e = c.word-count.ensures.0 in let f = c.word.ensures.0 in let q = c.if-count-word.false in (omega (arith, a, e), omega (arith, b, e, f, q), omega (arith, a, e))
+pub slice_bounds-eq-end : goal.slice_bounds-eq-end
+slice_bounds-eq-end c = let b = buffer_room _ _ _ c.requires.1.1.1.0 in omega (arith, b, c.word-count.ensures.0)
+
+pub slice_bounds-eq-end-2 : goal.slice_bounds-eq-end-2
+slice_bounds-eq-end-2 c = let b = buffer_room _ _ _ c.requires.1.1.1.1 in omega (arith, b, c.word-count.ensures.0, c.word.ensures.0, c.if-count-word.false)
 
 pub returns : goal.returns
-returns c = λ ps x y A B. reading_words ps x y _ _ A B _ _ _ _ _ c.word-count.ensures.0 c.word.ensures.0 c.if-count-word.false c.word-2.ensures.0 c.word-3.ensures.0 c.if-word.false c.same_words.ensures
+returns c = λ ps x y A B. reading_words ps x y _ _ A B _ _ _ _ _ _ c.word-count.ensures.0 c.word.ensures.0 c.if-count-word.false c.word-2.ensures.0 c.word-3.ensures.0 c.if-word.false refl c.eq.ensures

@@ -10,29 +10,29 @@ loop-i-init c = λ xs ys K A B. alike-start _ c.args.conflict xs ys _ _ _ _ K c.
 
 pub first_pair-requires : goal.first_pair-requires
 first_pair-requires c = let P = c.requires.sides in
-    let whole = alike_asks _ c.args.conflict P.0 P.1.0 _ _ _ _ P.1.1.0 c.args.rows.now c.args.columns.now P.1.1.1.0 P.1.1.1.1 (productions_in c.args.grammar.now c.args.counts.productions) in
-    record { packed = reads_ready _ _ _ _ _ _ c.requires.reads.0; room = whole.0; all = whole.1.0; all_2 = whole.1.1 }
+    let whole = alike_asks _ c.args.conflict P.0 P.1.0 _ _ _ _ P.1.1.0 c.args.rows.now c.args.columns.now P.1.1.1.0 P.1.1.1.1 (productions_in c.args.given.grammar.now c.args.given.counts.productions) in
+    record { packed = reads_ready _ _ _ _ _ _ c.args.given.reads; room = whole.0; all = whole.1.0; all_2 = whole.1.1 }
 
 pub word-x-requires : goal.word-x-requires
-word-x-requires c = (found-stop _ _ _ _ _ _ c.first_pair.ensures _ _ c.in-At.is).row
+word-x-requires c = (found-stop _ _ _ _ _ _ c.first_pair.ensures _ c.in-Some.is).row
 
 pub word-y-requires : goal.word-y-requires
-word-y-requires c = (found-stop _ _ _ _ _ _ c.first_pair.ensures _ _ c.in-At.is).column
+word-y-requires c = (found-stop _ _ _ _ _ _ c.first_pair.ensures _ c.in-Some.is).column
 
 pub same_again-requires : goal.same_again-requires
-same_again-requires c = let P = c.requires.sides in let R = c.requires.reads.0 in record { reads = c.requires.reads; sides = (P.0, (P.1.0, (P.1.1.0, alike-inside _ c.args.conflict P.0 P.1.0 _ _ _ _ P.1.1.0 c.args.rows.now c.args.columns.now P.1.1.1.0 P.1.1.1.1 _ _ _ R.same _ _ (c.loop-i.invariant P.0 P.1.0 P.1.1.0 P.1.1.1.0 P.1.1.1.1) _ c.first_pair.ensures _ _ c.in-At.is _ _ c.word-x.ensures.0 c.word-y.ensures.0))) }
+same_again-requires c = let P = c.requires.sides in let R = c.args.given.reads in record { conflict_value = c.requires.conflict_value; sides = (P.0, (P.1.0, (P.1.1.0, alike-inside _ c.args.conflict P.0 P.1.0 _ _ _ _ P.1.1.0 c.args.rows.now c.args.columns.now P.1.1.1.0 P.1.1.1.1 _ _ _ R.same _ _ (c.loop-i.invariant P.0 P.1.0 P.1.1.0 P.1.1.1.0 P.1.1.1.1) _ c.first_pair.ensures _ _ c.in-Some.is _ _ c.word-x.ensures.0 c.word-y.ensures.0))) }
 
 pub returns-then-same_again : goal.returns-then-same_again
-returns-then-same_again c = λ xs ys K A B. let R = c.requires.reads.0 in let I = alike-inside _ c.args.conflict xs ys _ _ _ _ K c.args.rows.now c.args.columns.now A B _ _ _ R.same _ _ (c.loop-i.invariant xs ys K A B) _ c.first_pair.ensures _ _ c.in-At.is _ _ c.word-x.ensures.0 c.word-y.ensures.0 in let E = c.same_again.ensures xs ys K I.0 I.1 in alike-yes _ c.args.conflict xs ys _ _ _ _ K c.args.rows.now c.args.columns.now A B _ _ _ R.same _ _ (c.loop-i.invariant xs ys K A B) _ c.first_pair.ensures _ _ c.in-At.is _ _ c.word-x.ensures.0 c.word-y.ensures.0 (sym c.if-same_again.true ∙ E)
+returns-then-same_again c = λ xs ys K A B. let R = c.args.given.reads in let I = alike-inside _ c.args.conflict xs ys _ _ _ _ K c.args.rows.now c.args.columns.now A B _ _ _ R.same _ _ (c.loop-i.invariant xs ys K A B) _ c.first_pair.ensures _ _ c.in-Some.is _ _ c.word-x.ensures.0 c.word-y.ensures.0 in let E = c.same_again.ensures xs ys K I.0 I.1 in alike-yes _ c.args.conflict xs ys _ _ _ _ K c.args.rows.now c.args.columns.now A B _ _ _ R.same _ _ (c.loop-i.invariant xs ys K A B) _ c.first_pair.ensures _ _ c.in-Some.is _ _ c.word-x.ensures.0 c.word-y.ensures.0 (sym c.if-same_again.true ∙ E)
 
 pub overflow_add-column : goal.overflow_add-column
-overflow_add-column c = let s = (found-stop _ c.args.rows.now c.args.columns.now _ _ _ c.first_pair.ensures _ _ c.in-At.is).column in omega (arith, s, c.well_formed)
+overflow_add-column c = let s = (found-stop _ c.args.rows.now c.args.columns.now _ _ _ c.first_pair.ensures _ c.in-Some.is).column in omega (arith, s, c.well_formed)
 
 pub loop-i-smaller : goal.loop-i-smaller
-loop-i-smaller c = found_fewer _ _ _ _ _ _ _ (found-stop _ _ _ _ _ _ c.first_pair.ensures _ _ c.in-At.is)
+loop-i-smaller c = found_fewer _ _ _ _ _ _ _ (found-stop _ _ _ _ _ _ c.first_pair.ensures _ c.in-Some.is)
 
 pub loop-i-preserved : goal.loop-i-preserved
-loop-i-preserved c = let R = c.requires.reads.0 in λ xs ys K A B. let I = alike-inside _ c.args.conflict xs ys _ _ _ _ K c.args.rows.now c.args.columns.now A B _ _ _ R.same _ _ (c.loop-i.invariant xs ys K A B) _ c.first_pair.ensures _ _ c.in-At.is _ _ c.word-x.ensures.0 c.word-y.ensures.0 in alike_no _ c.args.conflict xs ys _ _ _ _ K c.args.rows.now c.args.columns.now A B _ _ _ R.same _ _ (c.loop-i.invariant xs ys K A B) _ c.first_pair.ensures _ _ c.in-At.is _ _ c.word-x.ensures.0 c.word-y.ensures.0 (sym c.if-same_again.false ∙ c.same_again.ensures xs ys K I.0 I.1)
+loop-i-preserved c = let R = c.args.given.reads in λ xs ys K A B. let I = alike-inside _ c.args.conflict xs ys _ _ _ _ K c.args.rows.now c.args.columns.now A B _ _ _ R.same _ _ (c.loop-i.invariant xs ys K A B) _ c.first_pair.ensures _ _ c.in-Some.is _ _ c.word-x.ensures.0 c.word-y.ensures.0 in alike_no _ c.args.conflict xs ys _ _ _ _ K c.args.rows.now c.args.columns.now A B _ _ _ R.same _ _ (c.loop-i.invariant xs ys K A B) _ c.first_pair.ensures _ _ c.in-Some.is _ _ c.word-x.ensures.0 c.word-y.ensures.0 (sym c.if-same_again.false ∙ c.same_again.ensures xs ys K I.0 I.1)
 
-pub returns-in-Nothing : goal.returns-in-Nothing
-returns-in-Nothing c = λ xs ys K A B. let R = c.requires.reads.0 in alike-none _ c.args.conflict xs ys _ _ _ _ K c.args.rows.now c.args.columns.now A B _ _ _ R.same _ _ (c.loop-i.invariant xs ys K A B) _ c.first_pair.ensures c.in-Nothing.is
+pub returns-in-None : goal.returns-in-None
+returns-in-None c = λ xs ys K A B. let R = c.args.given.reads in alike-none _ c.args.conflict xs ys _ _ _ _ K c.args.rows.now c.args.columns.now A B _ _ _ R.same _ _ (c.loop-i.invariant xs ys K A B) _ c.first_pair.ensures c.in-None.is

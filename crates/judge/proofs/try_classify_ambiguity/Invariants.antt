@@ -10,8 +10,8 @@ use Rattle.judge.specs.Judging.{Sides, Ordered}
 use Rattle.judge.proofs.try_classify_ambiguity.Given as goal
 
 abbrev pub invariant-loop-i : goal.invariant-loop-i
-invariant-loop-i l = (xs ys : List Example) → Sides (meaning l.table) l.conflict xs ys l.actions l.action_prints l.reduces l.reduce_prints → Ordered xs l.rows → Ordered ys l.columns
-    → first_from (λ x y. is_same_reading (meaning l.table).productions (nth xs x) (nth ys y)) l.rows l.columns l.row l.column ≡ first_fit (λ x y. is_same_reading (meaning l.table).productions (nth xs x) (nth ys y)) l.rows l.columns
+invariant-loop-i l = (xs ys : List Example) → Sides (meaning l.given.table.now) l.conflict xs ys l.actions l.action_prints l.reduces l.reduce_prints → Ordered xs l.rows → Ordered ys l.columns
+    → first_from (λ x y. is_same_reading (meaning l.given.table.now).productions (nth xs x) (nth ys y)) l.rows l.columns l.row l.column ≡ first_fit (λ x y. is_same_reading (meaning l.given.table.now).productions (nth xs x) (nth ys y)) l.rows l.columns
 
 abbrev pub decreases-loop-i : goal.decreases-loop-i
 decreases-loop-i l = length (pairs_from l.rows l.columns l.row l.column)

@@ -10,8 +10,8 @@ returns-then-next-eq0 c = question_one c.args.table.now c.args.grammar.now c.arg
 pub returns-then-second-ne0 : goal.returns-then-second-ne0
 returns-then-second-ne0 c = question_many c.args.table.now c.args.grammar.now c.args.productions c.requires.table_value c.requires.grammar.0 c.args.nonterminal _ c.first_production-head.ensures.0 _ _ c.production-first.ensures.list _ _ c.production-second.ensures.list c.if-second-ne0.true c.production-second.ensures.on
 
-pub returns-in-Symbol : goal.returns-in-Symbol
-returns-in-Symbol c = question_left c.args.table.now c.args.grammar.now c.args.productions c.requires.table_value c.requires.grammar.0 c.args.nonterminal _ c.first_production-head.ensures.0 _ _ c.production-first.ensures.list _ _ c.production-second.ensures.list c.if-second-ne0.false _ _ _ c.in-Symbol.is c.optional.ensures.0 c.optional.ensures.1
+pub returns-in-None : goal.returns-in-None
+returns-in-None c = (question_right c.args.table.now c.args.grammar.now c.args.productions c.requires.table_value c.requires.grammar.0 c.args.nonterminal _ c.first_production-head.ensures.0 _ _ c.production-first.ensures.list _ _ c.production-second.ensures.list c.if-second-ne0.false _ _ c.in-None.is c.optional.ensures.0 c.optional-in-None.ensures.0, c.optional-in-None.ensures.1)
 
-pub returns-in-Nothing : goal.returns-in-Nothing
-returns-in-Nothing c = (question_right c.args.table.now c.args.grammar.now c.args.productions c.requires.table_value c.requires.grammar.0 c.args.nonterminal _ c.first_production-head.ensures.0 _ _ c.production-first.ensures.list _ _ c.production-second.ensures.list c.if-second-ne0.false _ _ c.in-Nothing.is c.optional.ensures.0 c.optional-in-Nothing.ensures.0, c.optional-in-Nothing.ensures.1)
+pub returns-in_default : goal.returns-in_default
+returns-in_default c = (question_left c.args.table.now c.args.grammar.now c.args.productions c.requires.table_value c.requires.grammar.0 c.args.nonterminal _ c.first_production-head.ensures.0 _ _ c.production-first.ensures.list _ _ c.production-second.ensures.list c.if-second-ne0.false _ c.in_default.not-None c.optional.ensures.0, c.optional.ensures.1)

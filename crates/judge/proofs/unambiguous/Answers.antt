@@ -3,7 +3,7 @@ use Rattle.judge.proofs.Sides.{unambiguous_shift, unambiguous_reduce}
 use Rattle.judge.proofs.unambiguous.Goals as goal
 
 pub shift_unambiguous-requires : goal.shift_unambiguous-requires
-shift_unambiguous-requires c = record { reads = c.requires.reads; action_value = c.if-conflict-eq0.true; sides = c.requires.sides }
+shift_unambiguous-requires c = record { conflict_value = c.requires.conflict_value; action_value = c.if-conflict-eq0.true; sides = c.requires.sides }
 
 pub returns-then-conflict-eq0 : goal.returns-then-conflict-eq0
 returns-then-conflict-eq0 c = λ xs ys K A B. judges_same xs ys _ _ _ (c.shift_unambiguous.ensures xs ys K A B) (unambiguous_shift _ _ _ _ _ _ c.if-conflict-eq0.true)

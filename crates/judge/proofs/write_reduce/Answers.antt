@@ -9,16 +9,16 @@ use Rattle.judge.proofs.Sides.{conflict_asks, kept_turn, kept_labels, kept_again
 use Rattle.judge.proofs.write_reduce.Goals as goal
 
 pub write_kept-requires : goal.write_kept-requires
-write_kept-requires c = record { packed = (c.requires.reads.0.packed, omega arith, c.requires.side_kept.1.0.outlined.room.by_words); example_room_in_bounds = ((_, kept_labels _ _ _ c.requires.side_kept.0 _ _ c.requires.side_kept.1.0 c.args.k c.requires.side_kept.1.1 _ c.requires.reads.0.same (omega arith)), c.requires.example_room_in_bounds) }
+write_kept-requires c = record { packed = (c.args.given.reads.packed, omega arith, c.requires.side_kept.1.0.outlined.room.by_words); example_room_in_bounds = ((_, kept_labels _ _ _ c.requires.side_kept.0 _ _ c.requires.side_kept.1.0 c.args.k c.requires.side_kept.1.1 _ c.args.given.reads.same (omega arith)), c.requires.example_room_in_bounds) }
 
 pub returns-then-k-lt-LABELLED : goal.returns-then-k-lt-LABELLED
-returns-then-k-lt-LABELLED c = λ xs K h. c.write_kept.ensures (nth xs c.args.k) (kept_labels _ _ _ xs _ _ K c.args.k h _ c.requires.reads.0.same (omega arith)) ∙ ap (λ (ps : List Production). in_front (example_words ps (nth xs c.args.k)) c.args.buffer.now) c.requires.reads.0.same
+returns-then-k-lt-LABELLED c = λ xs K h. c.write_kept.ensures (nth xs c.args.k) (kept_labels _ _ _ xs _ _ K c.args.k h _ c.args.given.reads.same (omega arith)) ∙ ap (λ (ps : List Production). in_front (example_words ps (nth xs c.args.k)) c.args.buffer.now) c.args.given.reads.same
 
 pub turn_at-turn-requires : goal.turn_at-turn-requires
 turn_at-turn-requires c = kept_turn _ _ _ c.requires.side_kept.0 _ _ c.requires.side_kept.1.0 c.args.k c.requires.side_kept.1.1
 
 pub reduce_again-requires : goal.reduce_again-requires
-reduce_again-requires c = record { reads = c.requires.reads.0; state_in_bounds = conflict_asks _ c.args.conflict c.requires.reads.1; example_room_in_bounds = c.requires.example_room_in_bounds }
+reduce_again-requires c = record { state_in_bounds = conflict_asks _ c.args.conflict c.requires.conflict_value; example_room_in_bounds = c.requires.example_room_in_bounds }
 
 pub returns : goal.returns
 returns c = λ ys K h. c.reduce_again.ensures _ (nth ys c.args.k) (kept_again _ _ _ ys _ _ K c.args.k h (outline_in c.args.reduces.now c.args.reduce_prints.now c.args.k) refl _ c.turn_at-turn.ensures)

@@ -1,30 +1,45 @@
-use Rattle.std.proofs.Common.{sym, refl, ◌∙◌, arith}
-use Rattle.outline.proofs.Diverging.{head_u, head_v, kinds_small, diverge_end, diverge-other_end, diverge_same, diverge-apart}
+use Rattle.std.proofs.Common.{refl, ◌∙◌, arith, rules, inl, inr}
+use Rattle.outline.proofs.Diverging.{diverge_turn, diverge_end, diverge-other_end}
 use Rattle.outline.proofs.diverge.Goals as goal
 
-pub loop-at-init : goal.loop-at-init
-loop-at-init c = (c.requires.first_value, c.requires.second_value, refl)
+pub loop-own-init : goal.loop-own-init
+loop-own-init c =
+    let own = c.chunks_exact.ensures in
+    let other = c.chunks_exact-2.ensures in
+    let z = c.zip-own-items.ensures in
+    rw (c.into_iter-own-iterator.ensures.into_iter_gives, z.first, z.second, own.rest, own.size, other.rest, other.size) (record { own_two = refl; other_two = refl; own_fits = c.requires.first_value; other_fits = c.requires.second_value; rest = refl })
 
-pub returns-then-at-second : goal.returns-then-at-second
-returns-then-at-second c = diverge-other_end c.args.terminals c.args.map.now c.args.first.now c.args.second.now c.loop-at.at c.loop-at.invariant.0 c.loop-at.invariant.1 c.loop-at-test.true c.if-at-second.true ∙ c.loop-at.invariant.2
+pub first0-requires : goal.first0-requires
+first0-requires c =
+    let i = c.loop-own.invariant in
+    let s = c.in-Some.ensures.steps in
+    let t = diverge_turn c.args.terminals c.args.map.now _ _ _ _ _ _ s.0.1.0 (s.0.1.1 ∙ i.own_two) s.1.1.0 (s.1.1.1 ∙ i.other_two) i.own_fits i.other_fits in
+    (c.requires.terminals_le_terminal_limit, t.own_fits)
 
-pub same_symbol-requires : goal.same_symbol-requires
-same_symbol-requires c = let u = head_u c.args.terminals c.args.map.now c.args.first.now c.args.second.now c.loop-at.at c.loop-at.invariant.0 c.loop-at.invariant.1 c.loop-at-test.true in let v = head_v c.args.terminals c.args.map.now c.args.first.now c.args.second.now c.loop-at.at c.loop-at.invariant.0 c.loop-at.invariant.1 c.loop-at-test.true (omega (arith, c.if-at-second.false)) in let k = kinds_small c.args.terminals c.args.map.now c.args.first.now c.args.second.now c.loop-at.at c.loop-at.invariant.0 c.loop-at.invariant.1 c.loop-at-test.true (omega (arith, c.if-at-second.false)) in (u.0, v.0, k.0, k.1)
+pub first0-requires-then-ne : goal.first0-requires-then-ne
+first0-requires-then-ne c =
+    let i = c.loop-own.invariant in
+    let s = c.in-Some.ensures.steps in
+    let t = diverge_turn c.args.terminals c.args.map.now _ _ _ _ _ _ s.0.1.0 (s.0.1.1 ∙ i.own_two) s.1.1.0 (s.1.1.1 ∙ i.other_two) i.own_fits i.other_fits in
+    (c.requires.terminals_le_terminal_limit, t.other_fits)
 
-pub overflow_add-at : goal.overflow_add-at
-overflow_add-at c = let u = head_u c.args.terminals c.args.map.now c.args.first.now c.args.second.now c.loop-at.at c.loop-at.invariant.0 c.loop-at.invariant.1 c.loop-at-test.true in omega (arith, u.0)
+pub returns-then-ne : goal.returns-then-ne
+returns-then-ne c =
+    let i = c.loop-own.invariant in
+    let s = c.in-Some.ensures.steps in
+    let t = diverge_turn c.args.terminals c.args.map.now _ _ _ _ _ _ s.0.1.0 (s.0.1.1 ∙ i.own_two) s.1.1.0 (s.1.1.1 ∙ i.other_two) i.own_fits i.other_fits in
+    c.is_disjoint.ensures ∙ rw (c.first0.ensures, c.first0-then-ne.ensures) (t.differ (search rules) ∙ i.rest)
 
-pub loop-at-smaller : goal.loop-at-smaller
-loop-at-smaller c = omega (arith, c.loop-at-test.true)
-
-pub loop-at-preserved : goal.loop-at-preserved
-loop-at-preserved c = let h = c.loop-at-test.true in let u = head_u c.args.terminals c.args.map.now c.args.first.now c.args.second.now c.loop-at.at c.loop-at.invariant.0 c.loop-at.invariant.1 h in let v = head_v c.args.terminals c.args.map.now c.args.first.now c.args.second.now c.loop-at.at c.loop-at.invariant.0 c.loop-at.invariant.1 h (omega (arith, c.if-at-second.false)) in (u.1.1, v.1.1, sym (diverge_same c.args.terminals c.args.map.now c.args.first.now c.args.second.now c.loop-at.at c.loop-at.invariant.0 c.loop-at.invariant.1 h (omega (arith, c.if-at-second.false)) (sym c.if-same_symbol.true ∙ c.same_symbol.ensures)) ∙ c.loop-at.invariant.2)
-
-pub disjoint-requires : goal.disjoint-requires
-disjoint-requires c = let h = c.loop-at-test.true in let u = head_u c.args.terminals c.args.map.now c.args.first.now c.args.second.now c.loop-at.at c.loop-at.invariant.0 c.loop-at.invariant.1 h in let v = head_v c.args.terminals c.args.map.now c.args.first.now c.args.second.now c.loop-at.at c.loop-at.invariant.0 c.loop-at.invariant.1 h (omega (arith, c.if-at-second.false)) in record { terminals_le_terminal_limit = (c.requires.terminals_le_terminal_limit, u.0, v.0); at_value = u.1.0; at_value_2 = v.1.0 }
-
-pub returns-else-same_symbol : goal.returns-else-same_symbol
-returns-else-same_symbol c = diverge-apart c.args.terminals c.args.map.now c.args.first.now c.args.second.now c.loop-at.at c.loop-at.invariant.0 c.loop-at.invariant.1 c.loop-at-test.true (omega (arith, c.if-at-second.false)) (sym c.if-same_symbol.false ∙ c.same_symbol.ensures) _ c.disjoint.ensures ∙ c.loop-at.invariant.2
+pub loop-own-preserved : goal.loop-own-preserved
+loop-own-preserved c =
+    let i = c.loop-own.invariant in
+    let s = c.in-Some.ensures.steps in
+    let t = diverge_turn c.args.terminals c.args.map.now _ _ _ _ _ _ s.0.1.0 (s.0.1.1 ∙ i.own_two) s.1.1.0 (s.1.1.1 ∙ i.other_two) i.own_fits i.other_fits in
+    record { own_two = s.0.0 ∙ i.own_two; other_two = s.1.0 ∙ i.other_two; own_fits = t.left_fits; other_fits = t.other_left_fits; rest = t.same (search rules) ∙ i.rest }
 
 pub returns : goal.returns
-returns c = diverge_end c.args.terminals c.args.map.now c.args.first.now c.args.second.now c.loop-at.at c.loop-at.invariant.0 c.loop-at.invariant.1 c.loop-at-test.false ∙ c.loop-at.invariant.2
+returns c =
+    let i = c.loop-own.invariant in
+    elim c.in-None.ensures.steps [
+      inl s ↦ diverge_end c.args.terminals c.args.map.now _ _ (omega (arith, s.1.1.0, i.own_two)) ∙ i.rest
+    | inr s ↦ diverge-other_end c.args.terminals c.args.map.now _ _ (omega (arith, s.1.1.0, i.other_two)) ∙ i.rest ]

@@ -1,11 +1,14 @@
-use Rattle.std.proofs.Common.{◌≡◌, ◌-◌, true, length, drop}
+use Rattle.std.proofs.Common.{◌≡◌, true}
 use Rattle.repr.specs.Sizes.{nonterminal_limit, terminal_limit}
 use Rattle.repr.specs.Listed.{listed, list_is_fit}
 use Rattle.outline.specs.Inline.{diverge_by}
 use Rattle.outline.proofs.diverge.Given as goal
 
-abbrev pub invariant-loop-at : goal.invariant-loop-at
-invariant-loop-at l = (list_is_fit nonterminal_limit terminal_limit (drop l.at l.first) ≡ true) × (list_is_fit nonterminal_limit terminal_limit (drop l.at l.second) ≡ true) × (diverge_by l.terminals l.map (listed (drop l.at l.first)) (listed (drop l.at l.second)) ≡ diverge_by l.terminals l.map (listed l.first) (listed l.second))
-
-abbrev pub decreases-loop-at : goal.decreases-loop-at
-decreases-loop-at l = length l.first - l.at
+abbrev pub invariant-loop-own : goal.invariant-loop-own
+invariant-loop-own l = record {
+  own_two : l.own-iterator.a.size ≡ 2;
+  other_two : l.own-iterator.b.size ≡ 2;
+  own_fits : list_is_fit nonterminal_limit terminal_limit l.own-iterator.a.rest.now ≡ true;
+  other_fits : list_is_fit nonterminal_limit terminal_limit l.own-iterator.b.rest.now ≡ true;
+  rest : diverge_by l.terminals l.map (listed l.own-iterator.a.rest.now) (listed l.own-iterator.b.rest.now) ≡ diverge_by l.terminals l.map (listed l.first) (listed l.second);
+}

@@ -1,15 +1,18 @@
-use Rattle.std.proofs.Common.{sym, refl, ◌∙◌, arith}
+use Rattle.std.proofs.Common.{sym, ◌∙◌, arith}
 use Rattle.outline.proofs.Prints.{list_end, list_more}
 use Rattle.outline.proofs.print_list.Goals as goal
 
-pub loop-at-init : goal.loop-at-init
-loop-at-init c = (omega arith, c.requires, refl)
-
-pub mix-mixed-requires : goal.mix-mixed-requires
-mix-mixed-requires c = (c.loop-at.invariant.1, c.word.ensures.1, c.word-in-loop-at.ensures.1)
-
-pub loop-at-preserved : goal.loop-at-preserved
-loop-at-preserved c = (omega (arith, c.loop-at-test.true), c.mix-mixed.ensures.1, list_more c.args.symbols.now c.loop-at.at c.loop-at.mixed c.loop-at-test.true _ _ _ c.word.ensures.0 c.word-in-loop-at.ensures.0 c.mix-mixed.ensures.0 ∙ c.loop-at.invariant.2)
+pub loop-symbol-preserved : goal.loop-symbol-preserved
+loop-symbol-preserved c =
+    let s = c.in-Some.ensures.steps in
+    record {
+      two = s.0 ∙ c.loop-symbol.invariant.two;
+      small = c.mix-mixed.ensures.1;
+      rest = list_more _ _ _ _ s.1.0 (s.1.1 ∙ c.loop-symbol.invariant.two) _ _ _ c.word.ensures.0 c.word-in-loop-symbol.ensures.0 c.mix-mixed.ensures.0 ∙ c.loop-symbol.invariant.rest;
+    }
 
 pub returns : goal.returns
-returns c = (sym (list_end c.args.symbols.now c.loop-at.at c.loop-at.mixed (omega (arith, c.loop-at-test.false))) ∙ c.loop-at.invariant.2, c.loop-at.invariant.1)
+returns c =
+    let s = c.in-None.ensures.steps in
+    let two = c.loop-symbol.invariant.two in
+    (sym (list_end c.loop-symbol.mixed c.loop-symbol.symbol-iterator.rest.now (omega (arith, s.1.0, two))) ∙ c.loop-symbol.invariant.rest, c.loop-symbol.invariant.small)

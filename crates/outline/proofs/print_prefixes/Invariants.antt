@@ -6,8 +6,5 @@ use Rattle.example.specs.Written.{words_of}
 use Rattle.outline.specs.Outline.{print_limit, print_words}
 use Rattle.outline.proofs.print_prefixes.Given as goal
 
-abbrev pub invariant-loop-left : goal.invariant-loop-left
-invariant-loop-left l = (l.left ≤ length (labels_in l.labels)) × (l.mixed < print_limit) × (print_words l.mixed (words_of (prefixes (productions_in l.grammar l.productions) (take l.left (labels_in l.labels)))) ≡ print_words l.print (words_of (prefixes (productions_in l.grammar l.productions) (labels_in l.labels))))
-
-abbrev pub decreases-loop-left : goal.decreases-loop-left
-decreases-loop-left l = l.left
+abbrev pub invariant-loop-label : goal.invariant-loop-label
+invariant-loop-label l = (l.label ≤ length (labels_in l.labels)) × (l.mixed < print_limit) × (print_words l.mixed (words_of (prefixes (productions_in l.grammar l.productions) (take l.label (labels_in l.labels)))) ≡ print_words l.print (words_of (prefixes (productions_in l.grammar l.productions) (labels_in l.labels))))

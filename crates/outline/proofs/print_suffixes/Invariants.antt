@@ -1,4 +1,4 @@
-use Rattle.std.proofs.Common.{◌≡◌, ◌-◌, ◌<◌, ◌≤◌, drop}
+use Rattle.std.proofs.Common.{◌≡◌, ◌<◌, drop}
 use Rattle.repr.specs.Packed.{productions_in}
 use Rattle.example.specs.Example.{suffixes}
 use Rattle.example.specs.Labels.{labels_in}
@@ -7,7 +7,4 @@ use Rattle.outline.specs.Outline.{print_limit, print_words}
 use Rattle.outline.proofs.print_suffixes.Given as goal
 
 abbrev pub invariant-loop-label : goal.invariant-loop-label
-invariant-loop-label l = (l.label ≤ l.count) × (l.mixed < print_limit) × (print_words l.mixed (words_of (suffixes (productions_in l.grammar l.productions) (drop l.label (labels_in l.labels)))) ≡ print_words l.print (words_of (suffixes (productions_in l.grammar l.productions) (labels_in l.labels))))
-
-abbrev pub decreases-loop-label : goal.decreases-loop-label
-decreases-loop-label l = l.count - l.label
+invariant-loop-label l = (l.mixed < print_limit) × (print_words l.mixed (words_of (suffixes (productions_in l.grammar l.productions) (drop l.label (labels_in l.labels)))) ≡ print_words l.print (words_of (suffixes (productions_in l.grammar l.productions) (labels_in l.labels))))
