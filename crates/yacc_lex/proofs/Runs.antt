@@ -129,9 +129,6 @@ closes_long b [] e = by (eqb b 42) e
     by false e = let o : ◌≡◌ {A = ℕ} 0 1 = cc in absurd (omega arith)
 closes_long b (c ∷ bs) e = omega arith
 
-pub closes-room : (t : List ℕ) (i : ℕ) (k : Bool) → k ≡ closes (get_or t i 0) (drop (i + 1) t) → k ≡ true → i + 2 ≤ length t
-closes-room t i k e y = let l = closes_long (get_or t i 0) (drop (i + 1) t) (sym e ∙ y) in let d = length-drop (i + 1) t in omega arith
-
 -- `comment_end`
 module _ (t : List ℕ) (i : ℕ) (r : Option ℕ) (inv : behind_comment i (drop i t) ≡ r) where
   pub comment-over : length t ≤ i → none ≡ r
