@@ -2,9 +2,8 @@
 
 #![tactic(auto)]
 
-ghost use Rattle.std.specs.Prelude.{◌≡◌, ◌+◌, ◌≤◌, ◌<◌, length, get_or, set};
+ghost use Rattle.std.specs.Prelude.{◌≡◌, ◌+◌, ◌≤◌, ◌<◌, length, set};
 ghost use Rattle.std.proofs.Math.Seq.{slice};
-ghost use Rattle.slices.specs.Same.{same_words};
 ghost use Rattle.trace_graph.specs.Insert.{chained};
 ghost use Rattle.yacc_names.specs.Names.{bucket_limit, bucket_number, is_name, latest, Entered, left, placing};
 
@@ -13,11 +12,12 @@ use repr::word;
 // Buckets; the links follow their words.
 const BUCKETS: usize = 2048;
 
-fn byte(text: &[u8], at: usize) -> usize
-    requires { at < length text.now }
-    ensures { (result ≡ get_or text.now at 0) × (result < 256) }
+// The bytes from a place up to another, none if that is not behind it.
+fn bytes(text: &[u8], from: usize, past: usize) -> &[u8]
+    requires { past ≤ length text.now }
+    ensures { result.now ≡ slice from past text.now }
 {
-    text[at] as usize
+    &text[from.min(past)..past]
 }
 
 // The bucket of the name that stands from a place up to another.
@@ -25,33 +25,12 @@ pub fn bucket_of(text: &[u8], from: usize, past: usize) -> usize
     requires { (from ≤ past) × (past ≤ length text.now) }
     ensures { (result ≡ bucket_number (slice from past text.now)) × (result < bucket_limit) }
 {
+    let name = bytes(text, from, past);
     let mut sum: usize = 0;
-    let mut at = from;
-    while at < past {
-        sum = (sum * 211 + byte(text, at)) % 65536;
-        at += 1;
+    for b in name {
+        sum = (sum * 211 + usize::from(*b)) % 65536;
     }
     sum % BUCKETS
-}
-
-// Do the same bytes stand from one place up to another and from a third up to a fourth.
-fn same_bytes(text: &[u8], from: usize, past: usize, start: usize, end: usize) -> bool
-    requires { (past ≤ length text.now) × (end ≤ length text.now) }
-    ensures { result ≡ same_words (slice from past text.now) (slice start end text.now) }
-{
-    let mut i = from;
-    let mut j = start;
-    while i < past {
-        if end <= j {
-            return false;
-        }
-        if text[i] != text[j] {
-            return false;
-        }
-        i += 1;
-        j += 1;
-    }
-    end <= j
 }
 
 // One more than the number of the name among the first k, or 0.
@@ -68,11 +47,12 @@ pub fn find(
     requires from_le_past { (from ≤ past) × (past ≤ length text.now) }
     ensures { result ≡ latest (is_name text.now starts.now pasts.now (slice from past text.now)) k }
 {
+    let name = bytes(text, from, past);
     let mut next = word(ix, bucket_of(text, from, past));
     while next != 0 {
         let start = word(starts, next - 1);
         let end = word(pasts, next - 1);
-        if same_bytes(text, from, past, start, end) {
+        if name == bytes(text, start, end) {
             return next;
         }
         next = word(ix, BUCKETS + (next - 1));
