@@ -167,8 +167,8 @@ module _ (t starts pasts ix : List ℕ) (k from past : ℕ) (E : Entered t start
       it : r ≡ is_name t starts pasts bytes (next - 1)
       it = is_name_lem t starts pasts bytes (next - 1) start end r p q s
 
-      pub find-found : r ≡ true → next ≡ latest (is_name t starts pasts bytes) k
-      find-found y = turn_found ix (in_bucket t starts pasts (bucket_number bytes)) (is_name t starts pasts bytes) k (λ j h. same_bucket t starts pasts bytes j) next (next - 1) F one (sym it ∙ y)
+      pub find-found : r ≡ true → suc (next - 1) ≡ latest (is_name t starts pasts bytes) k
+      find-found y = sym one ∙ turn_found ix (in_bucket t starts pasts (bucket_number bytes)) (is_name t starts pasts bytes) k (λ j h. same_bucket t starts pasts bytes j) next (next - 1) F one (sym it ∙ y)
 
       pub find_again : r ≡ false → (m : ℕ) → m ≡ get_or ix (bucket_limit + (next - 1)) 0 → Finds m
       find_again n m e = turn_again ix (in_bucket t starts pasts (bucket_number bytes)) (is_name t starts pasts bytes) k (λ j h. same_bucket t starts pasts bytes j) next (next - 1) F one m e (sym it ∙ n)
@@ -231,9 +231,9 @@ module _ (t starts pasts ix : List ℕ) (k from past f : ℕ) (e : f ≡ latest 
   unfolding placing
   by_found n q = ap (λ (m : ℕ). placed_by m t starts pasts ix k from past) (sym q ∙ e)
 
-  pub place_old : (f ≡ 0 → ⊥) → left starts pasts ix (record { number = f - 1; names = k }) ≡ placing t starts pasts ix k from past
+  pub place_old : (j : ℕ) → f ≡ suc j → left starts pasts ix (record { number = j; names = k }) ≡ placing t starts pasts ix k from past
   unfolding placed_by
-  place_old n = by_found (suc (f - 1)) (omega (arith, n))
+  place_old j n = by_found (suc j) n
 
   pub place_new : f ≡ 0 → (b : ℕ) (starts' pasts' ix' : List ℕ) → b ≡ bucket_number (slice from past t) → starts' ≡ set starts k from → pasts' ≡ set pasts k past → ix' ≡ chained ix bucket_limit b k
       → left starts' pasts' ix' (record { number = k; names = k + 1 }) ≡ placing t starts pasts ix k from past

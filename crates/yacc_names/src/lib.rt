@@ -5,7 +5,7 @@
 ghost use Rattle.std.specs.Prelude.{◌≡◌, ◌+◌, ◌≤◌, ◌<◌, length, set};
 ghost use Rattle.std.proofs.Math.Seq.{slice};
 ghost use Rattle.trace_graph.specs.Insert.{chained};
-ghost use Rattle.yacc_names.specs.Names.{bucket_limit, bucket_number, is_name, latest, Entered, left, placing};
+ghost use Rattle.yacc_names.specs.Names.{bucket_limit, bucket_number, held, is_name, latest, Entered, left, placing};
 
 use repr::word;
 
@@ -33,7 +33,7 @@ pub fn bucket_of(text: &[u8], from: usize, past: usize) -> usize
     sum % BUCKETS
 }
 
-// One more than the number of the name among the first k, or 0.
+// The number of the name among the first k.
 pub fn find(
     text: &[u8],
     starts: &[u16],
@@ -42,10 +42,10 @@ pub fn find(
     k: usize,
     from: usize,
     past: usize,
-) -> usize
+) -> Option<usize>
     requires entered { Entered text.now starts.now pasts.now ix.now k }
     requires from_le_past { (from ≤ past) × (past ≤ length text.now) }
-    ensures { result ≡ latest (is_name text.now starts.now pasts.now (slice from past text.now)) k }
+    ensures { held result ≡ latest (is_name text.now starts.now pasts.now (slice from past text.now)) k }
 {
     let name = bytes(text, from, past);
     let mut next = word(ix, bucket_of(text, from, past));
@@ -53,11 +53,11 @@ pub fn find(
         let start = word(starts, next - 1);
         let end = word(pasts, next - 1);
         if name == bytes(text, start, end) {
-            return next;
+            return Some(next - 1);
         }
         next = word(ix, BUCKETS + (next - 1));
     }
-    0
+    None
 }
 
 // Name k, in front of the chain of its bucket.
@@ -105,17 +105,18 @@ pub fn place(
     requires from_le_past { (from ≤ past) × (past ≤ length text.now) × (past < 65536) }
     ensures { left starts.new pasts.new ix.new result ≡ placing text.now starts.old pasts.old ix.old k from past }
 {
-    let found = find(text, starts, pasts, ix, k, from, past);
-    if found != 0 {
-        return Placed {
-            number: found - 1,
+    match find(text, starts, pasts, ix, k, from, past) {
+        Some(number) => Placed {
+            number: number,
             names: k,
-        };
-    }
-    let bucket = bucket_of(text, from, past);
-    enter(starts, pasts, ix, k, bucket, from, past);
-    Placed {
-        number: k,
-        names: k + 1,
+        },
+        None => {
+            let bucket = bucket_of(text, from, past);
+            enter(starts, pasts, ix, k, bucket, from, past);
+            Placed {
+                number: k,
+                names: k + 1,
+            }
+        }
     }
 }
