@@ -14,7 +14,7 @@ use yacc_lex::{Next, Word, next_token};
 use yacc_names::place;
 use yacc_numbers::number;
 use yacc_said::{Saying, said};
-use yacc_tokens::moved;
+use yacc_tokens::{Mode, moved};
 
 // How many names are entered, and how many nonterminals and terminals there are.
 #[derive(Clone, Copy)]
@@ -39,10 +39,10 @@ impl Ids {
 pub fn byte(text: &[u8], at: usize) -> usize
     ensures { (result ≡ get_or text.now at 0) × (result < byte_limit) }
 {
-    if text.len() <= at {
-        return 0;
+    match text.get(at) {
+        Some(b) => usize::from(*b),
+        None => 0,
     }
-    text[at] as usize
 }
 
 // A name that is a left side.
@@ -171,14 +171,14 @@ fn enter_word(
     lefts: &mut [u16],
     tokens: &mut [u16],
     ids: Ids,
-    mode: usize,
+    mode: Mode,
     word: Word,
     from: usize,
     past: usize,
 ) -> Ids
     requires fact { Open text.now starts.old pasts.old ix.old ids × (ids.names < length lefts.old) × (byte_limit + ids.names < length tokens.old) }
     requires within { Within text.now from past }
-    requires mode_bound { (mode < 12) × NoQuote (mode_of mode) word }
+    requires no_quote { NoQuote (mode_of mode) word }
     ensures grows { Grows ids result }
     ensures moves { Moves text.now starts.old pasts.old ix.old lefts.old tokens.old ids starts.new pasts.new ix.new lefts.new tokens.new result (joined left_side (events_of (said_in (mode_of mode) word) (id_at text.now word from past) from past)) (joined token_use (events_of (said_in (mode_of mode) word) (id_at text.now word from past) from past)) }
 {
@@ -214,7 +214,7 @@ pub fn enter_all(
         nonterminals: 0,
         terminals: 0,
     };
-    let mut mode: usize = 0;
+    let mut mode = Mode::Top(false);
     let mut at: usize = 0;
     loop {
         match next_token(text, at) {
