@@ -58,9 +58,9 @@ pub struct SymbolTable<'a> {
     pub ix: &'a [u16],
     pub lefts: &'a [u16],
     pub tokens: &'a [u16],
-    pub ids: Ids,
-    pub ghost kept: { Kept text.now starts.now pasts.now ix.now lefts.now tokens.now ids } by { Kept-prop text.now starts.now pasts.now ix.now lefts.now tokens.now ids },
-    pub ghost named: { Named text.now starts.now pasts.now ix.now lefts.now tokens.now ids } by { Named-prop text.now starts.now pasts.now ix.now lefts.now tokens.now ids },
+    pub counts: Ids,
+    pub ghost kept: { Kept text.now starts.now pasts.now ix.now lefts.now tokens.now counts } by { Kept-prop text.now starts.now pasts.now ix.now lefts.now tokens.now counts },
+    pub ghost named: { Named text.now starts.now pasts.now ix.now lefts.now tokens.now counts } by { Named-prop text.now starts.now pasts.now ix.now lefts.now tokens.now counts },
     pub ghost grammar: { is_grammar_text text.now ≡ true },
 }
 
@@ -76,9 +76,9 @@ impl<'a> SymbolTable<'a> {
     ghost use Rattle.yacc_enter.specs.Table.{Holds};
 
     // The number among the nonterminals of the id that stands from a place up to another: a literal has none.
-    pub fn left(self, kind: Word, from: usize, past: usize) -> Option<usize>
-        requires { (from < past) × (past ≤ length self.text.now) }
-        ensures { is_id kind ≡ true → (ns ts : List Known) → Holds self.entry ns ts → held result ≡ place_in ns (id_at self.entry.text.now kind from past) }
+    pub fn left(&self, kind: Word, from: usize, past: usize) -> Option<usize>
+        requires { (from < past) × (past ≤ length self.now.text.now) }
+        ensures { is_id kind ≡ true → (ns ts : List Known) → Holds self.now ns ts → held result ≡ place_in ns (id_at self.now.text.now kind from past) }
     {
         match kind {
             Word::Name => {
@@ -87,7 +87,7 @@ impl<'a> SymbolTable<'a> {
                     self.starts,
                     self.pasts,
                     self.ix,
-                    self.ids.names,
+                    self.counts.names,
                     from,
                     past,
                 )?;
@@ -98,9 +98,9 @@ impl<'a> SymbolTable<'a> {
     }
 
     // Its number among the terminals.
-    pub fn token(self, kind: Word, from: usize, past: usize) -> Option<usize>
-        requires { (from < past) × (past ≤ length self.text.now) }
-        ensures { is_id kind ≡ true → (ns ts : List Known) → Holds self.entry ns ts → held result ≡ place_in ts (id_at self.entry.text.now kind from past) }
+    pub fn token(&self, kind: Word, from: usize, past: usize) -> Option<usize>
+        requires { (from < past) × (past ≤ length self.now.text.now) }
+        ensures { is_id kind ≡ true → (ns ts : List Known) → Holds self.now ns ts → held result ≡ place_in ts (id_at self.now.text.now kind from past) }
     {
         match kind {
             Word::Name => {
@@ -109,7 +109,7 @@ impl<'a> SymbolTable<'a> {
                     self.starts,
                     self.pasts,
                     self.ix,
-                    self.ids.names,
+                    self.counts.names,
                     from,
                     past,
                 )?;

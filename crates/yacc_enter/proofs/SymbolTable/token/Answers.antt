@@ -11,10 +11,10 @@ returns-in_err-j-in-Name c =
     λ i ns ts H. ap held n ∙ token_none _ _ _ _ _ _ _ _ _ H _ _ c.requires.0 c.requires.1 _ c.in-Name.is (sym (ap held c.in_err-j-in-Name.was) ∙ c.find.ensures)
 
 pub overflow_add-j : goal.overflow_add-j
-overflow_add-j c = let l = found_low _ _ _ c.in_ok-j-in-Name.ensures in let k = c.args.self.kept.token in omega (arith, l, k)
+overflow_add-j c = let l = found_low _ _ _ c.in_ok-j-in-Name.ensures in let k = c.args.self.now.kept.token in omega (arith, l, k)
 
 pub number_at-requires : goal.number_at-requires
-number_at-requires c = let l = found_low _ _ _ c.in_ok-j-in-Name.ensures in let k = c.args.self.kept.token in omega (arith, l, k)
+number_at-requires c = let l = found_low _ _ _ c.in_ok-j-in-Name.ensures in let k = c.args.self.now.kept.token in omega (arith, l, k)
 
 pub returns-in_ok-j-in-Name : goal.returns-in_ok-j-in-Name
 returns-in_ok-j-in-Name c = λ i ns ts H. token_some _ _ _ _ _ _ _ _ _ H _ _ c.requires.0 c.requires.1 _ c.in-Name.is _ c.in_ok-j-in-Name.ensures _ c.number_at.ensures
