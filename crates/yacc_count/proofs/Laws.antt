@@ -14,10 +14,9 @@ use Rattle.repr.proofs.Lists.{cases, length_mapped}
 use Rattle.spelling.specs.Spelled.{size_of}
 use Rattle.yacc_text.specs.Grammar.{Id, text_limit}
 use Rattle.yacc_text.specs.Places.{placed_from}
-use Rattle.yacc_text.specs.Forward.{top}
-use Rattle.yacc_lex.specs.Steps.{Leads}
+use Rattle.yacc_text.specs.Forward.{Mode, top, move}
+use Rattle.yacc_lex.specs.Steps.{token_at, Leads}
 use Rattle.yacc_lex.specs.declared.Word.{Word}
-use Rattle.yacc_tokens.specs.Accepted.{mode_of, number_of_word, moves_to}
 use Rattle.yacc_read.specs.Events.{Event, lists, opens, defines, uses, shuts}
 use Rattle.yacc_read.specs.Source.{no_id, Use, Alternative, alternative, alternatives_from}
 use Rattle.yacc_read.specs.Outcome.{too_long}
@@ -29,22 +28,19 @@ use Rattle.yacc_count.specs.Counted.{short_of, counts_of, no_counts, counts_in, 
 use Rattle.yacc_count.specs.declared.Counts.{Counts}
 use Rattle.yacc_count.specs.declared.Tally.{Tally}
 
-abbrev pub counted : Tally → Counts
-counted y = record { alternatives = y.alternatives; symbols = y.symbols; short = y.short }
-
 abbrev pub no_tally : Tally
-no_tally = record { alternatives = 0; symbols = 0; short = 0; body = 0 }
+no_tally = record { counts = no_counts; body = 0 }
 
 -- all that is said, one after the other
 unfoldable pub tally_all : Tally → List Event → Counts
-tally_all y [] = counted y
+tally_all y [] = y.counts
 tally_all y (lists x at ∷ es) = tally_all y es
 tally_all y (opens x ∷ es) = tally_all y es
 tally_all y (defines x at ∷ es) = tally_all (tallied y Defines) es
 tally_all y (uses x from past ∷ es) = tally_all (tallied y Uses) es
 tally_all y (shuts at ∷ es) = tally_all (closed y) es
 
-pub tally_nil : (y : Tally) → tally_all y [] ≡ counted y
+pub tally_nil : (y : Tally) → tally_all y [] ≡ y.counts
 unfolding tally_all
 tally_nil y = refl
 
@@ -62,7 +58,7 @@ unfoldable added : ℕ → ℕ → ℕ → List Alternative → Counts
 added a s k [] = record { alternatives = a; symbols = s; short = k }
 added a s k (x ∷ xs) = added (a + 1) (s + length x.ids) (longer k a (length x.ids)) xs
 
-tally_added : (es : List Event) (a s k n : ℕ) (l : Id) (us : List Use) → n ≡ length us → tally_all (record { alternatives = a; symbols = s; short = k; body = n }) es ≡ added a s k (alternatives_from l us es)
+tally_added : (es : List Event) (a s k n : ℕ) (l : Id) (us : List Use) → n ≡ length us → tally_all (record { counts = record { alternatives = a; symbols = s; short = k }; body = n }) es ≡ added a s k (alternatives_from l us es)
 unfolding tally_all tallied closed alternative alternatives_from added
 tally_added [] a s k n l us e = refl
 tally_added (lists x at ∷ es) a s k n l us e = tally_added es a s k n l us e
@@ -143,14 +139,14 @@ added-whole xs =
     added_short xs 0 0
     ∙ same_counts (0 + length xs) (length xs) (0 + sizes xs) (sizes xs) (short_from 0 xs) (short_of xs) z (omega arith) (ap (λ (k : ℕ). elim (too_long 0 xs) [ none ↦ k | some p ↦ p ]) z)
 
-pub tally_whole : (t : List ℕ) → of_said no_counts (tally_all no_tally) (mode_of 0) (placed_from t 0) ≡ counts_in t
-unfolding mode_of counts_in
+pub tally_whole : (t : List ℕ) → of_said no_counts (tally_all no_tally) (top false) (placed_from t 0) ≡ counts_in t
+unfolding counts_in
 tally_whole t = said_same no_counts (tally_all no_tally) (λ es. counts_of (alternatives_from no_id [] es)) (λ es. tally_added es 0 0 0 0 no_id [] refl ∙ added-whole (alternatives_from no_id [] es)) (top false) (placed_from t 0)
 
 -- the loop's turns
-pub tally_turn : (t : List ℕ) (at m : ℕ) → m < 12 → (y : Tally) (r : Counts) → of_said no_counts (tally_all y) (mode_of m) (placed_from t at) ≡ r → (v : Tally) (s : Saying) (w : Word) (from past n : ℕ) → Leads t at w from past → s ≡ said_in (mode_of m) w → v ≡ tallied y s → n ≡ moves_to m (number_of_word w) → of_said no_counts (tally_all v) (mode_of n) (placed_from t past) ≡ r
-tally_turn t at m h y r inv v s w from past n L e q f =
-    said_turn no_counts t at m h (tally_all y) r inv (tally_all v) w from past n L f
+pub tally_turn : (t : List ℕ) (at : ℕ) (m : Mode) (y : Tally) (r : Counts) → of_said no_counts (tally_all y) m (placed_from t at) ≡ r → (v : Tally) (s : Saying) (w : Word) (from past : ℕ) (n : Mode) → Leads t at w from past → s ≡ said_in m w → v ≡ tallied y s → n ≡ move m (token_at t w from past) → of_said no_counts (tally_all v) n (placed_from t past) ≡ r
+tally_turn t at m y r inv v s w from past n L e q f =
+    said_turn no_counts t at m (tally_all y) r inv (tally_all v) w from past n L f
     (λ es. ap (λ (k : Tally). tally_all k es) q ∙ tally_said s y (id_at t w from past) from past es ∙ ap (λ (k : Saying). tally_all y (events_of k (id_at t w from past) from past ++ es)) e)
 
 -- its numbers stay small
@@ -186,7 +182,7 @@ within-said Uses y at past h W =
 within-said Shuts y at past h W =
     let a = W.alternatives in
     let s = W.symbols in
-    record { alternatives = omega (arith, h, a); symbols = omega (arith, h, s); short = longer-least y.short y.alternatives y.body W.short }
+    record { alternatives = omega (arith, h, a); symbols = omega (arith, h, s); short = longer-least y.counts.short y.counts.alternatives y.body W.short }
 within-said Nothing y at past h W = within_more y at past (omega (arith, h)) W
 
 pub within_turn : (v y : Tally) (s : Saying) (t : List ℕ) (at : ℕ) (w : Word) (from past : ℕ) → Leads t at w from past → v ≡ tallied y s → Within y at → Within v past
@@ -194,51 +190,3 @@ within_turn v y s t at w from past L e W =
     let o = L.order in
     let d = L.wide in
     rw e (within-said s y at past (omega (arith, o, d)) W)
-
--- what `close` and `add` answer
-module _ (y : Tally) where
-  close-kept : longer y.short y.alternatives y.body ≡ y.short → ◌≡◌ {A = Tally} (record { alternatives = y.alternatives + 1; symbols = y.symbols + y.body; short = y.short; body = 0 }) (closed y)
-  unfolding closed
-  close-kept e = ap (λ (k : ℕ). record { alternatives = y.alternatives + 1; symbols = y.symbols + y.body; short = k; body = 0 }) (sym e)
-
-  pub close_past : Roomy y → (y.short ≡ y.alternatives → ⊥) → ◌≡◌ {A = Tally} (record { alternatives = y.alternatives + 1; symbols = y.symbols + y.body; short = y.short; body = 0 }) (closed y)
-  unfolding longer
-  close_past W n = close-kept (rw (ne_eqb y.short y.alternatives n, longer))
-
-  pub close_long : symbol_limit < y.body → ◌≡◌ {A = Tally} (record { alternatives = y.alternatives + 1; symbols = y.symbols + y.body; short = y.short; body = 0 }) (closed y)
-  unfolding longer
-  close_long h = close-kept (by (eqb y.short y.alternatives))
-    where
-      by : (b : Bool) → elim (b && leb y.body symbol_limit) [ true ↦ y.short + 1 | false ↦ y.short ] ≡ y.short
-      by true = rw (lt-leb y.body symbol_limit h)
-      by false = refl
-
-  pub close_short : y.short ≡ y.alternatives → y.body ≤ symbol_limit → ◌≡◌ {A = Tally} (record { alternatives = y.alternatives + 1; symbols = y.symbols + y.body; short = y.short + 1; body = 0 }) (closed y)
-  unfolding closed longer
-  close_short e h =
-      let p : longer y.short y.alternatives y.body ≡ y.short + 1 = rw (eq-eqb y.short y.alternatives e, le-leb y.body symbol_limit h, longer) in
-      ap (λ (k : ℕ). record { alternatives = y.alternatives + 1; symbols = y.symbols + y.body; short = k; body = 0 }) (sym p)
-
-pub add-lists : (y : Tally) (s : Saying) → s ≡ Lists → y ≡ tallied y s
-unfolding tallied
-add-lists y s e = sym (ap (tallied y) e)
-
-pub add-opens : (y : Tally) (s : Saying) → s ≡ Opens → y ≡ tallied y s
-unfolding tallied
-add-opens y s e = sym (ap (tallied y) e)
-
-pub add-defines : (y : Tally) (s : Saying) → s ≡ Defines → ◌≡◌ {A = Tally} (record { alternatives = y.alternatives; symbols = y.symbols; short = y.short; body = 0 }) (tallied y s)
-unfolding tallied
-add-defines y s e = sym (ap (tallied y) e)
-
-pub add-uses : (y : Tally) (s : Saying) → s ≡ Uses → ◌≡◌ {A = Tally} (record { alternatives = y.alternatives; symbols = y.symbols; short = y.short; body = y.body + 1 }) (tallied y s)
-unfolding tallied
-add-uses y s e = sym (ap (tallied y) e)
-
-pub add-shuts : (y v : Tally) (s : Saying) → s ≡ Shuts → v ≡ closed y → v ≡ tallied y s
-unfolding tallied
-add-shuts y v s e q = q ∙ sym (ap (tallied y) e)
-
-pub add_nothing : (y : Tally) (s : Saying) → s ≡ Nothing → y ≡ tallied y s
-unfolding tallied
-add_nothing y s e = sym (ap (tallied y) e)

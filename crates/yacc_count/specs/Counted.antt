@@ -34,21 +34,21 @@ unfoldable pub longer : ℕ → ℕ → ℕ → ℕ
 longer short all body = elim (eqb short all && leb body symbol_limit) [ true ↦ short + 1 | false ↦ short ]
 
 unfoldable pub closed : Tally → Tally
-closed y = record { alternatives = y.alternatives + 1; symbols = y.symbols + y.body; short = longer y.short y.alternatives y.body; body = 0 }
+closed y = record { counts = record { alternatives = y.counts.alternatives + 1; symbols = y.counts.symbols + y.body; short = longer y.counts.short y.counts.alternatives y.body }; body = 0 }
 
 unfoldable pub tallied : Tally → Saying → Tally
 tallied y Lists = y
 tallied y Opens = y
-tallied y Defines = record { alternatives = y.alternatives; symbols = y.symbols; short = y.short; body = 0 }
-tallied y Uses = record { alternatives = y.alternatives; symbols = y.symbols; short = y.short; body = y.body + 1 }
+tallied y Defines = record { counts = y.counts; body = 0 }
+tallied y Uses = record { counts = y.counts; body = y.body + 1 }
 tallied y Shuts = closed y
 tallied y Nothing = y
 
 -- nothing in it is above the bytes that were read
 pub record Within (y : Tally) (at : ℕ) : Type 0 where
-  pub alternatives : y.alternatives ≤ at
-  pub symbols : y.symbols + y.body ≤ at
-  pub short : y.short ≤ y.alternatives
+  pub alternatives : y.counts.alternatives ≤ at
+  pub symbols : y.counts.symbols + y.body ≤ at
+  pub short : y.counts.short ≤ y.counts.alternatives
 
 abbrev pub Roomy : Tally → Type 0
 Roomy y = Within y text_limit

@@ -9,7 +9,7 @@ ghost use Rattle.yacc_count.specs.Counted.{closed, tallied, counts_in, Roomy};
 use repr::ProductionIndex;
 use yacc_lex::{Next, next_token};
 use yacc_said::{Saying, said};
-use yacc_tokens::moved;
+use yacc_tokens::{Mode, moved};
 
 // Alternatives, their symbols, and the alternatives in front of the first that has too many.
 #[derive(Clone, Copy)]
@@ -19,65 +19,49 @@ pub struct Counts {
     pub short: usize,
 }
 
-// The same of the alternatives that are closed, and the symbols of the open one.
+// The counts of the alternatives that are closed, and the symbols of the open one.
 #[derive(Clone, Copy)]
 struct Tally {
-    alternatives: usize,
-    symbols: usize,
-    short: usize,
+    counts: Counts,
     body: usize,
 }
 
 // The alternative that was open, closed.
+#[tactic(auto, unfolding(crate::specs::Counted::closed, crate::specs::Counted::longer))]
 fn close(tally: Tally) -> Tally
     requires { Roomy tally }
     ensures { result ≡ closed tally }
 {
-    if tally.short != tally.alternatives {
-        return Tally {
-            alternatives: tally.alternatives + 1,
-            symbols: tally.symbols + tally.body,
-            short: tally.short,
-            body: 0,
-        };
-    }
-    if ProductionIndex::SYMBOLS < tally.body {
-        return Tally {
-            alternatives: tally.alternatives + 1,
-            symbols: tally.symbols + tally.body,
-            short: tally.short,
-            body: 0,
-        };
-    }
+    let counts = tally.counts;
+    let none_long = counts.short == counts.alternatives;
+    let short = if none_long && tally.body <= ProductionIndex::SYMBOLS {
+        counts.short + 1
+    } else {
+        counts.short
+    };
     Tally {
-        alternatives: tally.alternatives + 1,
-        symbols: tally.symbols + tally.body,
-        short: tally.short + 1,
+        counts: Counts {
+            alternatives: counts.alternatives + 1,
+            symbols: counts.symbols + tally.body,
+            short: short,
+        },
         body: 0,
     }
 }
 
+#[tactic(auto, unfolding(crate::specs::Counted::tallied))]
 fn add(tally: Tally, what: Saying) -> Tally
     requires { Roomy tally }
     ensures { result ≡ tallied tally what }
 {
     match what {
-        Saying::Lists => tally,
-        Saying::Opens => tally,
-        Saying::Defines => Tally {
-            alternatives: tally.alternatives,
-            symbols: tally.symbols,
-            short: tally.short,
-            body: 0,
-        },
+        Saying::Defines => Tally { body: 0, ..tally },
         Saying::Uses => Tally {
-            alternatives: tally.alternatives,
-            symbols: tally.symbols,
-            short: tally.short,
             body: tally.body + 1,
+            ..tally
         },
         Saying::Shuts => close(tally),
-        Saying::Nothing => tally,
+        Saying::Lists | Saying::Opens | Saying::Nothing => tally,
     }
 }
 
@@ -86,13 +70,16 @@ pub fn count(text: &[u8]) -> Counts
     requires { length text.now ≤ text_limit }
     ensures { result ≡ counts_in text.now }
 {
-    let mut tally = Tally {
+    let zeros = Counts {
         alternatives: 0,
         symbols: 0,
         short: 0,
+    };
+    let mut tally = Tally {
+        counts: zeros,
         body: 0,
     };
-    let mut mode: usize = 0;
+    let mut mode = Mode::Top(false);
     let mut at: usize = 0;
     loop {
         match next_token(text, at) {
@@ -103,18 +90,10 @@ pub fn count(text: &[u8]) -> Counts
                 at = past;
             }
             Next::End => {
-                return Counts {
-                    alternatives: tally.alternatives,
-                    symbols: tally.symbols,
-                    short: tally.short,
-                };
+                return tally.counts;
             }
             Next::Outside => {
-                return Counts {
-                    alternatives: 0,
-                    symbols: 0,
-                    short: 0,
-                };
+                return zeros;
             }
         }
     }

@@ -11,21 +11,21 @@ use lib.Seq.{slice, get_or-set_same, get_or-set_other}
 use lib.Dec.{eqb, ltb}
 use borrow.Author.Tests.{eqb-true, eqb-false, ltb-true, ltb-false, lt-ltb, le-ltb}
 use Rattle.slices.specs.Same.{same_words}
-use Rattle.repr.specs.Lists.{joined, up_from, below}
+use Rattle.repr.specs.Lists.{joined}
 use Rattle.repr.proofs.Lists.{cases, clash}
 use Rattle.trace_graph.specs.Index.{newest, Linked}
 use Rattle.trace_graph.specs.Insert.{chained}
-use Rattle.yacc_text.specs.Grammar.{Id, named, quoted, Token, Layout, text_limit, byte_limit}
+use Rattle.yacc_text.specs.Grammar.{Id, named, quoted, Token, ident, Layout, text_limit, byte_limit}
 use Rattle.yacc_text.specs.Places.{Placed as Spot, placed, placed_from}
 use Rattle.yacc_text.specs.Parse.{parse}
-use Rattle.yacc_text.specs.Forward.{Mode, top, wanted, listed, starting, ruled, sided, bodied, done, dead, move, last, accepts}
-use Rattle.yacc_lex.specs.Steps.{Leads, Told}
+use Rattle.yacc_text.specs.Forward.{Mode, top, wanted, listed, starting, ruled, sided, bodied, done, dead, sides, move, last, accepts}
+use Rattle.yacc_lex.specs.Steps.{token_at, Leads, Told}
 use Rattle.yacc_lex.specs.declared.Next.{Next}
 use Rattle.yacc_lex.specs.declared.Next.TheVariants.{End as Ends}
 use Rattle.yacc_lex.specs.declared.Word.{Word}
 use Rattle.yacc_lex.specs.declared.Word.TheVariants.{Name, Literal, Token as TheToken, Start, Mark, Colon, Bar, Semi}
-use Rattle.yacc_tokens.specs.Accepted.{mode_of, number_of_word, moves_to, judged}
-use Rattle.yacc_tokens.proofs.Laws.{at-number, turn}
+use Rattle.yacc_tokens.specs.Accepted.{judged}
+use Rattle.yacc_tokens.proofs.Laws.{turn}
 use Rattle.yacc_read.specs.Events.{Event, events}
 use Rattle.yacc_read.specs.Source.{same_id, Known, is_known, enter, entered, left_side, token_use, literal_use, source_of}
 use Rattle.yacc_read.specs.Outcome.{source_in}
@@ -378,38 +378,33 @@ unfolding said_in
 word_undefining m w s e q N d = N q (sym (ap (said_in m) q) ∙ sym e ∙ d)
 
 -- a literal where a left side may stand ends in no text
-unfoldable is_defines : Saying → Bool
-is_defines s = elim s [ Lists ↦ false | Opens ↦ false | Defines ↦ true | Uses ↦ false | Shuts ↦ false | Nothing ↦ false ]
-
-unfoldable quoted_to : ℕ → ℕ
-quoted_to m = elim (is_defines (id_said (mode_of m))) [ true ↦ moves_to m 1 | false ↦ 11 ]
-
-abbrev eleven : ℕ → ℕ
-eleven m = 11
-
-each_defines : map quoted_to (below 12) ≡ map eleven (below 12)
-unfolding below up_from mode_of id_said moves_to quoted_to is_defines
-each_defines = refl
-
-quoted_to_lem : (m : ℕ) → id_said (mode_of m) ≡ Defines → quoted_to m ≡ moves_to m 1
-unfolding quoted_to is_defines
-quoted_to_lem m d = ap (λ (s : Saying). elim (is_defines s) [ true ↦ moves_to m 1 | false ↦ 11 ]) d
+quoted-dead : (m : Mode) (b : ℕ) → id_said m ≡ Defines → move m (ident (quoted b)) ≡ dead
+unfolding id_said move sides
+quoted-dead (top s) b d = absurd cc
+quoted-dead (wanted s) b d = absurd cc
+quoted-dead (listed s) b d = absurd cc
+quoted-dead starting b d = absurd cc
+quoted-dead ruled b d = refl
+quoted-dead sided b d = absurd cc
+quoted-dead bodied b d = absurd cc
+quoted-dead done b d = refl
+quoted-dead dead b d = absurd cc
 
 dead-tokens : (ks : List Token) → accepts dead ks ≡ false
 unfolding accepts move last
 dead-tokens [] = refl
 dead-tokens (k ∷ ks) = dead-tokens ks
 
-dead-judged : (o : Option (List Spot)) → judged (mode_of 11) o ≡ false
-unfolding judged mode_of
+dead-judged : (o : Option (List Spot)) → judged dead o ≡ false
+unfolding judged
 dead-judged none = refl
 dead-judged (some ps) = dead-tokens (map (λ p. p.token) ps)
 
-pub no_quote : (t : List ℕ) (at m : ℕ) → m < 12 → judged (mode_of m) (placed_from t at) ≡ true → (w : Word) (from past : ℕ) → Leads t at w from past → NoQuote (mode_of m) w
-unfolding number_of_word
-no_quote t at m h j w from past L q d =
-    let to : moves_to m 1 ≡ 11 = sym (quoted_to_lem m d) ∙ at-number quoted_to eleven 0 12 each_defines m h in
-    clash (judged (mode_of 11) (placed_from t past)) (turn t at m true h j w from past 11 L (sym (ap (λ (v : Word). moves_to m (number_of_word v)) q ∙ to))) (dead-judged (placed_from t past))
+pub no_quote : (t : List ℕ) (at : ℕ) (m : Mode) → judged m (placed_from t at) ≡ true → (w : Word) (from past : ℕ) → Leads t at w from past → NoQuote m w
+unfolding token_at
+no_quote t at m j w from past L q d =
+    let to : dead ≡ move m (token_at t w from past) = sym (ap (λ (v : Word). move m (token_at t v from past)) q ∙ quoted-dead m (get_or t (from + 1) 0) d) in
+    clash (judged dead (placed_from t past)) (turn t at m true j w from past dead L to) (dead-judged (placed_from t past))
 
 -- the loop's turns
 pub record Both : Type 0 where
@@ -423,7 +418,7 @@ abbrev pub no_both : Both
 no_both = record { nonterminals = []; terminals = [] }
 
 unfoldable pub both_in : List ℕ → Both
-both_in t = of_said no_both (behind [] []) (mode_of 0) (placed_from t 0)
+both_in t = of_said no_both (behind [] []) (top false) (placed_from t 0)
 
 pub behind-said : (s : Saying) (ns ts : List Known) (x : Id) (from past : ℕ) (es : List Event) → behind (entered ns (joined left_side (events_of s x from past))) (entered ts (joined token_use (events_of s x from past))) es ≡ behind ns ts (events_of s x from past ++ es)
 unfolding behind joined left_side token_use literal_use events_of entered
@@ -435,14 +430,14 @@ behind-said Uses ns ts (quoted b) from past es = refl
 behind-said Shuts ns ts x from past es = refl
 behind-said Nothing ns ts x from past es = refl
 
-pub record Turn (t starts pasts ix lefts tokens : List ℕ) (ids : Ids) (mode at : ℕ) : Type 0 where
+pub record Turn (t starts pasts ix lefts tokens : List ℕ) (ids : Ids) (mode : Mode) (at : ℕ) : Type 0 where
   pub ns : List Known
   pub ts : List Known
   pub held : Held t starts pasts ix lefts tokens ids ns ts
   pub names : ids.names ≤ at
   pub nonterminals : ids.nonterminals ≤ at
   pub terminals : ids.terminals ≤ at
-  pub same : of_said no_both (behind ns ts) (mode_of mode) (placed_from t at) ≡ both_in t
+  pub same : of_said no_both (behind ns ts) mode (placed_from t at) ≡ both_in t
 
 module _ (t starts pasts ix lefts tokens : List ℕ) (F : Fresh t starts pasts ix lefts tokens) where
   no_names : Entered t starts pasts ix 0
@@ -461,7 +456,7 @@ module _ (t starts pasts ix lefts tokens : List ℕ) (F : Fresh t starts pasts i
     rest = λ i m. z i;
   }
 
-  pub turn_first : Turn t starts pasts ix lefts tokens (record { names = 0; nonterminals = 0; terminals = 0 }) 0 0
+  pub turn_first : Turn t starts pasts ix lefts tokens (record { names = 0; nonterminals = 0; terminals = 0 }) (top false) 0
   unfolding both_in
   turn_first =
       let l = F.terminals in
@@ -480,7 +475,7 @@ module _ (t starts pasts ix lefts tokens : List ℕ) (F : Fresh t starts pasts i
         same = refl;
       }
 
-module _ (t starts pasts ix lefts tokens : List ℕ) (ids : Ids) (mode at : ℕ) (T : Turn t starts pasts ix lefts tokens ids mode at) where
+module _ (t starts pasts ix lefts tokens : List ℕ) (ids : Ids) (mode : Mode) (at : ℕ) (T : Turn t starts pasts ix lefts tokens ids mode at) where
   pub turn_within : (w : Word) (from past : ℕ) → length t ≤ text_limit → Leads t at w from past → Within t from past
   turn_within w from past h L = let i = L.inside in record { wide = L.wide; inside = L.inside; short = omega (arith, i, h) }
 
@@ -514,10 +509,10 @@ module _ (t starts pasts ix lefts tokens : List ℕ) (ids : Ids) (mode at : ℕ)
     pub turn_tokens : length tokens ≡ length tokens₀ → byte_limit + ids.names < length tokens
     turn_tokens a = let p = front in let f = F.terminals in let k = T.names in omega (arith, a, f, k, p)
 
-  pub turn_next : mode < 12 → (starts' pasts' ix' lefts' tokens' : List ℕ) (r : Ids) (w : Word) (from past n : ℕ) → Leads t at w from past → Grows ids r
-      → Moves t starts pasts ix lefts tokens ids starts' pasts' ix' lefts' tokens' r (joined left_side (events_of (said_in (mode_of mode) w) (id_at t w from past) from past)) (joined token_use (events_of (said_in (mode_of mode) w) (id_at t w from past) from past))
-      → n ≡ moves_to mode (number_of_word w) → Turn t starts' pasts' ix' lefts' tokens' r n past
-  turn_next h starts' pasts' ix' lefts' tokens' r w from past n L G M e =
+  pub turn_next : (starts' pasts' ix' lefts' tokens' : List ℕ) (r : Ids) (w : Word) (from past : ℕ) (n : Mode) → Leads t at w from past → Grows ids r
+      → Moves t starts pasts ix lefts tokens ids starts' pasts' ix' lefts' tokens' r (joined left_side (events_of (said_in mode w) (id_at t w from past) from past)) (joined token_use (events_of (said_in mode w) (id_at t w from past) from past))
+      → n ≡ move mode (token_at t w from past) → Turn t starts' pasts' ix' lefts' tokens' r n past
+  turn_next starts' pasts' ix' lefts' tokens' r w from past n L G M e =
       let o = L.order in
       let d = L.wide in
       let a = T.names in
@@ -526,7 +521,7 @@ module _ (t starts pasts ix lefts tokens : List ℕ) (ids : Ids) (mode at : ℕ)
       let a' = G.names in
       let b' = G.nonterminals in
       let c' = G.terminals in
-      let s = said_in (mode_of mode) w in
+      let s = said_in mode w in
       let x = id_at t w from past in
       record {
         ns = entered T.ns (joined left_side (events_of s x from past));
@@ -535,13 +530,13 @@ module _ (t starts pasts ix lefts tokens : List ℕ) (ids : Ids) (mode at : ℕ)
         names = omega (arith, o, d, a, a');
         nonterminals = omega (arith, o, d, b, b');
         terminals = omega (arith, o, d, c, c');
-        same = said_turn no_both t at mode h (behind T.ns T.ts) (both_in t) T.same (behind (entered T.ns (joined left_side (events_of s x from past))) (entered T.ts (joined token_use (events_of s x from past)))) w from past n L e (behind-said s T.ns T.ts x from past);
+        same = said_turn no_both t at mode (behind T.ns T.ts) (both_in t) T.same (behind (entered T.ns (joined left_side (events_of s x from past))) (entered T.ts (joined token_use (events_of s x from past)))) w from past n L e (behind-said s T.ns T.ts x from past);
       }
 
-  module _ (h : mode < 12) (x : Next) (e : x ≡ Ends) (D : Told t at x) (l : Layout) (p : parse t ≡ some l) where
+  module _ (x : Next) (e : x ≡ Ends) (D : Told t at x) (l : Layout) (p : parse t ≡ some l) where
     all : behind T.ns T.ts [] ≡ behind [] [] (events (top false) (placed 0 l.pieces))
-    unfolding both_in mode_of
-    all = said-ends no_both t at mode h (behind T.ns T.ts) (both_in t) T.same x e D ∙ said-whole no_both (behind [] []) t l p
+    unfolding both_in
+    all = said-ends no_both t at mode (behind T.ns T.ts) (both_in t) T.same x e D ∙ said-whole no_both (behind [] []) t l p
 
     last-left : T.ns ≡ (source_in l.pieces).nonterminals
     unfolding behind joined entered source_in source_of
@@ -554,5 +549,5 @@ module _ (t starts pasts ix lefts tokens : List ℕ) (ids : Ids) (mode at : ℕ)
     last-held : Held t starts pasts ix lefts tokens ids (source_in l.pieces).nonterminals (source_in l.pieces).terminals
     last-held = rw (← last-left, ← last-token) T.held
 
-  pub turn_last : mode < 12 → (x : Next) → x ≡ Ends → Told t at x → Named t starts pasts ix lefts tokens ids
-  turn_last h x e D = record { held = λ l p. last-held h x e D l p }
+  pub turn_last : (x : Next) → x ≡ Ends → Told t at x → Named t starts pasts ix lefts tokens ids
+  turn_last x e D = record { held = λ l p. last-held x e D l p }

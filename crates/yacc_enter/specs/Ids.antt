@@ -1,11 +1,11 @@
 -- The ids of a text in words: its names by their places with their index, a number for each name that is a left side, a number for each literal and each name that is a token. Assumes nothing: these are definitions.
-use Rattle.std.specs.Prelude.{ℕ, ◌+◌, ◌-◌, ◌≤◌, ◌<◌, true, false, ◌≡◌, List, length, get_or, ltb}
+use Rattle.std.specs.Prelude.{ℕ, ◌+◌, ◌-◌, ◌≤◌, ◌<◌, Bool, true, false, ◌≡◌, List, length, get_or, ltb}
 use Rattle.std.proofs.Math.Option.{some}
 use Rattle.yacc_text.specs.Grammar.{Id, quoted, Layout, text_limit, byte_limit}
 use Rattle.yacc_text.specs.Parse.{parse}
 use Rattle.yacc_text.specs.Forward.{Mode}
 use Rattle.yacc_lex.specs.declared.Word.{Word}
-use Rattle.yacc_lex.specs.declared.Word.TheVariants.{Name, Literal}
+use Rattle.yacc_lex.specs.declared.Word.TheVariants.{Name, Literal, Token, Start, Mark, Colon, Bar, Semi}
 use Rattle.yacc_read.specs.Source.{Known, is_known, entered}
 use Rattle.yacc_read.specs.Outcome.{source_in}
 use Rattle.yacc_said.specs.declared.Saying.{Saying}
@@ -40,6 +40,12 @@ pub record Held (t starts pasts ix lefts tokens : List ℕ) (ids : Ids) (ns ts :
 -- those of the whole text
 pub record Named (t starts pasts ix lefts tokens : List ℕ) (ids : Ids) : Type 0 where
   pub held : (l : Layout) → parse t ≡ some l → Held t starts pasts ix lefts tokens ids (source_in l.pieces).nonterminals (source_in l.pieces).terminals
+
+-- names entered, and words for their numbers
+pub record Kept (t starts pasts ix lefts tokens : List ℕ) (ids : Ids) : Type 0 where
+  pub names : Entered t starts pasts ix ids.names
+  pub left : ids.names ≤ length lefts
+  pub token : byte_limit + ids.names ≤ length tokens
 
 -- words enough for a name in each byte, and no name yet
 pub record Fresh (t starts pasts ix lefts tokens : List ℕ) : Type 0 where
@@ -82,6 +88,9 @@ pub record Moves (t starts pasts ix lefts tokens : List ℕ) (ids : Ids) (starts
 -- the name that stands from a place up to another
 abbrev pub name_at : List ℕ → ℕ → ℕ → Known
 name_at t from past = record { id = id_at t Name from past; at = from }
+
+unfoldable pub is_id : Word → Bool
+is_id w = elim w [ Name ↦ true | Literal ↦ true | Token ↦ false | Start ↦ false | Mark ↦ false | Colon ↦ false | Bar ↦ false | Semi ↦ false ]
 
 -- a literal is no left side
 abbrev pub Undefining : Saying → Type 0

@@ -1,2 +1,4 @@
 -- What the contracts cite. Assumes nothing.
 pub mod Ids
+pub mod Props
+pub mod Table

@@ -6,15 +6,19 @@ ghost use Rattle.std.specs.Prelude.{true, ◌≡◌, List, [], ◌∷◌, ℕ, �
 ghost use Rattle.repr.specs.Lists.{joined};
 ghost use Rattle.yacc_text.specs.Grammar.{byte_limit, quoted};
 ghost use Rattle.yacc_tokens.specs.Accepted.{mode_of, is_grammar_text};
-ghost use Rattle.yacc_read.specs.Source.{left_side, token_use};
+ghost use Rattle.yacc_read.specs.Source.{Known, left_side, token_use};
 ghost use Rattle.yacc_said.specs.Said.{said_in, id_at, events_of};
-ghost use Rattle.yacc_enter.specs.Ids.{Open, Within, Grows, Moves, Fresh, Undefining, NoQuote, name_at, Named};
+ghost use Rattle.yacc_names.specs.Names.{held};
+ghost use Rattle.yacc_numbers.specs.Numbers.{place_in};
+ghost use Rattle.yacc_enter.specs.Props.{Kept-prop, Named-prop};
+ghost use Rattle.yacc_enter.specs.Ids.{Kept, is_id, Open, Within, Grows, Moves, Fresh, Undefining, NoQuote, name_at, Named};
 
+use repr::word;
 use yacc_lex::{Next, Word, next_token};
-use yacc_names::place;
+use yacc_names::{find, place};
 use yacc_numbers::number;
 use yacc_said::{Saying, said};
-use yacc_tokens::moved;
+use yacc_tokens::{Mode, moved};
 
 // How many names are entered, and how many nonterminals and terminals there are.
 #[derive(Clone, Copy)]
@@ -39,10 +43,82 @@ impl Ids {
 pub fn byte(text: &[u8], at: usize) -> usize
     ensures { (result ≡ get_or text.now at 0) × (result < byte_limit) }
 {
-    if text.len() <= at {
-        return 0;
+    match text.get(at) {
+        Some(b) => usize::from(*b),
+        None => 0,
     }
-    text[at] as usize
+}
+
+// The ids of a text of the grammar, entered: its names by their places with their index, the numbers of those that are left sides, of the literals and of the names that are tokens.
+#[derive(Clone, Copy)]
+pub struct SymbolTable<'a> {
+    pub text: &'a [u8],
+    pub starts: &'a [u16],
+    pub pasts: &'a [u16],
+    pub ix: &'a [u16],
+    pub lefts: &'a [u16],
+    pub tokens: &'a [u16],
+    pub counts: Ids,
+    pub ghost kept: { Kept text.now starts.now pasts.now ix.now lefts.now tokens.now counts } by { Kept-prop text.now starts.now pasts.now ix.now lefts.now tokens.now counts },
+    pub ghost named: { Named text.now starts.now pasts.now ix.now lefts.now tokens.now counts } by { Named-prop text.now starts.now pasts.now ix.now lefts.now tokens.now counts },
+    pub ghost grammar: { is_grammar_text text.now ≡ true },
+}
+
+// The number that a word holds, if it holds one.
+fn number_at(words: &[u16], i: usize) -> Option<usize>
+    requires { i < length words.now }
+    ensures { held result ≡ get_or words.now i 0 }
+{
+    word(words, i).checked_sub(1)
+}
+
+impl<'a> SymbolTable<'a> {
+    ghost use Rattle.yacc_enter.specs.Table.{Holds};
+
+    // The number among the nonterminals of the id that stands from a place up to another: a literal has none.
+    pub fn left(&self, kind: Word, from: usize, past: usize) -> Option<usize>
+        requires { (from < past) × (past ≤ length self.now.text.now) }
+        ensures { is_id kind ≡ true → (ns ts : List Known) → Holds self.now ns ts → held result ≡ place_in ns (id_at self.now.text.now kind from past) }
+    {
+        match kind {
+            Word::Name => {
+                let j = find(
+                    self.text,
+                    self.starts,
+                    self.pasts,
+                    self.ix,
+                    self.counts.names,
+                    from,
+                    past,
+                )?;
+                number_at(self.lefts, j)
+            }
+            _ => None,
+        }
+    }
+
+    // Its number among the terminals.
+    pub fn token(&self, kind: Word, from: usize, past: usize) -> Option<usize>
+        requires { (from < past) × (past ≤ length self.now.text.now) }
+        ensures { is_id kind ≡ true → (ns ts : List Known) → Holds self.now ns ts → held result ≡ place_in ts (id_at self.now.text.now kind from past) }
+    {
+        match kind {
+            Word::Name => {
+                let j = find(
+                    self.text,
+                    self.starts,
+                    self.pasts,
+                    self.ix,
+                    self.counts.names,
+                    from,
+                    past,
+                )?;
+                number_at(self.tokens, 256 + j)
+            }
+            Word::Literal => number_at(self.tokens, byte(self.text, from + 1)),
+            _ => None,
+        }
+    }
 }
 
 // A name that is a left side.
@@ -171,14 +247,14 @@ fn enter_word(
     lefts: &mut [u16],
     tokens: &mut [u16],
     ids: Ids,
-    mode: usize,
+    mode: Mode,
     word: Word,
     from: usize,
     past: usize,
 ) -> Ids
     requires fact { Open text.now starts.old pasts.old ix.old ids × (ids.names < length lefts.old) × (byte_limit + ids.names < length tokens.old) }
     requires within { Within text.now from past }
-    requires mode_bound { (mode < 12) × NoQuote (mode_of mode) word }
+    requires no_quote { NoQuote (mode_of mode) word }
     ensures grows { Grows ids result }
     ensures moves { Moves text.now starts.old pasts.old ix.old lefts.old tokens.old ids starts.new pasts.new ix.new lefts.new tokens.new result (joined left_side (events_of (said_in (mode_of mode) word) (id_at text.now word from past) from past)) (joined token_use (events_of (said_in (mode_of mode) word) (id_at text.now word from past) from past)) }
 {
@@ -214,7 +290,7 @@ pub fn enter_all(
         nonterminals: 0,
         terminals: 0,
     };
-    let mut mode: usize = 0;
+    let mut mode = Mode::Top(false);
     let mut at: usize = 0;
     loop {
         match next_token(text, at) {

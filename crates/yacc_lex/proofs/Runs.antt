@@ -7,6 +7,9 @@ use mathlib.Core.Path.{◌≡◌, refl, sym, ap, ◌∙◌}
 use mathlib.Core.List.{List, [], ◌∷◌}
 use mathlib.Core.Option.{Option, none, some}
 use lib.Dec.{eqb}
+use Rattle.std.specs.List.{starts_with}
+use Rattle.std.proofs.lemmas.Grind.{common_steps}
+use Rattle.std.proofs.lemmas.Bool.Decides.{nat_tests}
 use lib.ListN.{length, get_or, take, drop, length-drop, drop_of_length-le}
 use lib.Seq.{drop-cons}
 use borrow.Author.Tests.{eq-eqb, ne_eqb}
@@ -18,6 +21,10 @@ use Rattle.yacc_lex.specs.Steps.{begins, behind_comment}
 -- the byte at a place, and what stands behind it
 pub drop-next : (t : List ℕ) (i : ℕ) → i < length t → drop i t ≡ get_or t i 0 ∷ drop (i + 1) t
 drop-next t i h = drop-cons t i 0 h ∙ ap (λ (k : ℕ). get_or t i 0 ∷ drop k t) (sym (add-one i))
+
+-- the bytes from a place on, as the code slices them
+pub rest_of : (at : ℕ) (t : List ℕ) → take (length t - at) (drop at t) ≡ drop at t
+rest_of at t = grind (arith, common_steps)
 
 -- `run_end`
 run_none : (b : ℕ) (k : List ℕ) → goes_on_byte (kind_of b) ≡ false → run_of (b ∷ k) ≡ []
@@ -35,9 +42,10 @@ module _ (t : List ℕ) (i r : ℕ) (inv : i + length (run_of (drop i t)) ≡ r)
       let l : length (run_of (drop i t)) ≡ 0 = ap length (ap run_of (drop-next t i h) ∙ run_none (get_or t i 0) (drop (i + 1) t) (sym e ∙ n)) in
       omega arith
 
-  pub run_ends : length t ≤ i → i ≡ r
+  pub run_ends : i ≡ length t → length t ≡ r
   unfolding run_of
-  run_ends h =
+  run_ends e =
+      let h : length t ≤ i = omega arith in
       let l : length (run_of (drop i t)) ≡ 0 = ap (λ (k : List ℕ). length (run_of k)) (drop_of_length-le t h) in
       omega arith
 
@@ -63,36 +71,15 @@ unfolding stops
 stops-byte t i g h e = ap not e ∙ sym (ap stops (drop-next t i h))
 
 -- `has_word`
-begins_same : (p b : ℕ) (ps k : List ℕ) → p ≡ b → begins (p ∷ ps) (b ∷ k) ≡ begins ps k
+pub begins_is : (ps k : List ℕ) → starts_with eqb k ps ≡ begins ps k
 unfolding begins
-begins_same p b ps k e = rw (eq-eqb p b e, begins)
-
-begins-other : (p b : ℕ) (ps k : List ℕ) → (p ≡ b → ⊥) → begins (p ∷ ps) (b ∷ k) ≡ false
-unfolding begins
-begins-other p b ps k n = rw (ne_eqb p b n, begins)
-
-module _ (t w : List ℕ) (at j : ℕ) (r : Bool) (inv : begins (drop j w) (drop (at + j) t) ≡ r) where
-  pub word-all : length w ≤ j → true ≡ r
-  unfolding begins
-  word-all h = sym (ap (λ (k : List ℕ). begins k (drop (at + j) t)) (drop_of_length-le w h)) ∙ inv
-
-  pub word_short : j < length w → at ≤ length t → length t - at ≤ j → false ≡ r
-  unfolding begins
-  word_short h a s =
-      let e : length t ≤ at + j = omega arith in
-      sym (ap (λ (k : List ℕ). begins k (drop (at + j) t)) (drop-next w j h) ∙ ap (begins (get_or w j 0 ∷ drop (j + 1) w)) (drop_of_length-le t e)) ∙ inv
-
-  module _ (h : j < length w) (a : at + j < length t) where
-    both : begins (drop j w) (drop (at + j) t) ≡ begins (get_or w j 0 ∷ drop (j + 1) w) (get_or t (at + j) 0 ∷ drop (at + j + 1) t)
-    both = ap (λ (k : List ℕ). begins k (drop (at + j) t)) (drop-next w j h) ∙ ap (begins (get_or w j 0 ∷ drop (j + 1) w)) (drop-next t (at + j) a)
-
-    pub word-other : (get_or w j 0 ≡ get_or t (at + j) 0 → ⊥) → false ≡ r
-    word-other n = sym (both ∙ begins-other (get_or w j 0) (get_or t (at + j) 0) (drop (j + 1) w) (drop (at + j + 1) t) n) ∙ inv
-
-    pub word_more : get_or w j 0 ≡ get_or t (at + j) 0 → begins (drop (j + 1) w) (drop (at + (j + 1)) t) ≡ r
-    word_more e =
-        let z : at + (j + 1) ≡ at + j + 1 = omega arith in
-        ap (λ (k : ℕ). begins (drop (j + 1) w) (drop k t)) z ∙ sym (both ∙ begins_same (get_or w j 0) (get_or t (at + j) 0) (drop (j + 1) w) (drop (at + j + 1) t) e) ∙ inv
+begins_is [] k = refl
+begins_is (p ∷ ps) [] = refl
+begins_is (p ∷ ps) (b ∷ k) = by (eqb p b) (begins_is ps k)
+  where
+    by : (q : Bool) → starts_with eqb k ps ≡ begins ps k → q && starts_with eqb k ps ≡ elim q [ true ↦ begins ps k | false ↦ false ]
+    by true I = I
+    by false I = refl
 
 pub begins-strip : (ps k : List ℕ) → begins ps k ≡ true → strip ps k ≡ some (drop (length ps) k)
 unfolding begins strip
@@ -125,18 +112,13 @@ begins_long (p ∷ ps) (b ∷ k) e = by (eqb p b) refl (λ f. begins_long ps k f
     by false q I = let z : ◌≡◌ {A = Bool} false true = rw (q, begins) at e in let o : ◌≡◌ {A = ℕ} 0 1 = cc in absurd (omega arith)
 
 -- `closes_at`
-module _ (t : List ℕ) (at : ℕ) where
-  pub closes-other : (get_or t at 0 ≡ 42 → ⊥) → false ≡ closes (get_or t at 0) (drop (at + 1) t)
-  unfolding closes
-  closes-other n = sym (ap (λ (x : Bool). x && slash_next (drop (at + 1) t)) (ne_eqb (get_or t at 0) 42 n))
+closed_by : (b : ℕ) (bs : List ℕ) → begins (42 ∷ 47 ∷ []) (b ∷ bs) ≡ closes b bs
+unfolding begins closes slash_next
+closed_by b [] = grind (arith, nat_tests)
+closed_by b (c ∷ bs) = grind (arith, nat_tests)
 
-  pub closes-last : get_or t at 0 ≡ 42 → length t ≤ at + 1 → false ≡ closes (get_or t at 0) (drop (at + 1) t)
-  unfolding closes slash_next
-  closes-last e h = sym (ap (λ (x : Bool). x && slash_next (drop (at + 1) t)) (eq-eqb (get_or t at 0) 42 e) ∙ ap slash_next (drop_of_length-le t h))
-
-  pub closes-next : get_or t at 0 ≡ 42 → at + 1 < length t → eqb (get_or t (at + 1) 0) 47 ≡ closes (get_or t at 0) (drop (at + 1) t)
-  unfolding closes slash_next
-  closes-next e h = sym (ap (λ (x : Bool). x && slash_next (drop (at + 1) t)) (eq-eqb (get_or t at 0) 42 e) ∙ ap slash_next (drop-next t (at + 1) h))
+pub closes_is : (t : List ℕ) (at : ℕ) → at < length t → begins (42 ∷ 47 ∷ []) (drop at t) ≡ closes (get_or t at 0) (drop (at + 1) t)
+closes_is t at h = ap (begins (42 ∷ 47 ∷ [])) (drop-next t at h) ∙ closed_by (get_or t at 0) (drop (at + 1) t)
 
 closes_long : (b : ℕ) (bs : List ℕ) → closes b bs ≡ true → 1 ≤ length bs
 unfolding closes slash_next
@@ -146,9 +128,6 @@ closes_long b [] e = by (eqb b 42) e
     by true e = let o : ◌≡◌ {A = ℕ} 0 1 = cc in absurd (omega arith)
     by false e = let o : ◌≡◌ {A = ℕ} 0 1 = cc in absurd (omega arith)
 closes_long b (c ∷ bs) e = omega arith
-
-pub closes-room : (t : List ℕ) (i : ℕ) (k : Bool) → k ≡ closes (get_or t i 0) (drop (i + 1) t) → k ≡ true → i + 2 ≤ length t
-closes-room t i k e y = let l = closes_long (get_or t i 0) (drop (i + 1) t) (sym e ∙ y) in let d = length-drop (i + 1) t in omega arith
 
 -- `comment_end`
 module _ (t : List ℕ) (i : ℕ) (r : Option ℕ) (inv : behind_comment i (drop i t) ≡ r) where

@@ -1,12 +1,10 @@
 -- What the lexer's steps answer, in the terms of crate yacc_text. Assumes nothing: these are definitions.
-use Rattle.std.specs.Prelude.{ℕ, suc, ◌+◌, ◌-◌, ◌≤◌, ◌<◌, Bool, true, false, ◌≡◌, List, [], ◌∷◌, length, get_or, take, drop, eqb}
+use Rattle.std.specs.Prelude.{ℕ, suc, ◌+◌, ◌-◌, ◌≤◌, ◌<◌, Bool, true, false, ◌≡◌, List, [], ◌∷◌, Option as Answered, Some, None, length, get_or, take, drop, eqb}
 use Rattle.std.proofs.Math.Option.{Option, none, some}
 use Rattle.yacc_text.specs.Grammar.{named, quoted, Token, ident, token, start, mark, colon, bar, semi, closes}
 use Rattle.yacc_text.specs.Places.{Placed, placed_from}
 use Rattle.yacc_lex.specs.declared.Word.{Word}
 use Rattle.yacc_lex.specs.declared.Word.TheVariants.{Name, Literal, Token as TheToken, Start, Mark, Colon, Bar, Semi}
-use Rattle.yacc_lex.specs.declared.Found.{Found}
-use Rattle.yacc_lex.specs.declared.Found.TheVariants.{At, Nothing}
 use Rattle.yacc_lex.specs.declared.Piece.{Piece}
 use Rattle.yacc_lex.specs.declared.Piece.TheVariants.{Gap, Word as AWord, End, Outside}
 use Rattle.yacc_lex.specs.declared.Next.{Next}
@@ -23,9 +21,9 @@ unfoldable pub behind_comment : ℕ → List ℕ → Option ℕ
 behind_comment at [] = none
 behind_comment at (b ∷ bs) = elim (closes b bs) [ true ↦ some (at + 2) | false ↦ elim (eqb b 0) [ true ↦ none | false ↦ behind_comment (suc at) bs ] ]
 
-unfoldable pub found_at : Found → Option ℕ
-found_at (At p) = some p
-found_at Nothing = none
+unfoldable pub found_at : Answered ℕ → Option ℕ
+found_at (Some p) = some p
+found_at None = none
 
 -- the token that stands from a place up to another
 unfoldable pub token_at : List ℕ → Word → ℕ → ℕ → Token

@@ -20,13 +20,6 @@ pub enum Word {
     Semi,
 }
 
-// The place behind a comment, or none.
-#[derive(Clone, Copy)]
-enum Found {
-    At(usize),
-    Nothing,
-}
-
 // What stands at a place: a white byte or a comment and the place behind it, a word and the place behind it, the end, or what no text has there.
 #[derive(Clone, Copy)]
 enum Piece {
@@ -47,59 +40,32 @@ pub enum Next {
 pub fn is_white(b: u8) -> bool
     ensures { result ≡ is_white_byte b }
 {
-    b == 32 || (b == 9 || (b == 10 || b == 12))
-}
-
-fn between(b: u8, low: u8, high: u8) -> bool
-    ensures { result ≡ (leb low b && leb b high) }
-{
-    low <= b && b <= high
+    matches!(b, b' ' | b'\t' | b'\n' | b'\x0c')
 }
 
 pub fn is_digit(b: u8) -> bool
     ensures { result ≡ is_digit_byte b }
 {
-    between(b, 48, 57)
+    b.is_ascii_digit()
 }
 
 pub fn is_letter(b: u8) -> bool
     ensures { result ≡ is_letter_byte b }
 {
-    if between(b, 65, 90) {
-        return true;
-    }
-    if between(b, 97, 122) {
-        return true;
-    }
-    b == 46 || b == 95
+    b.is_ascii_alphabetic() || b == b'.' || b == b'_'
 }
 
 pub fn is_literal(b: u8) -> bool
     ensures { result ≡ literal_byte b }
 {
-    if b == 0 {
-        return false;
-    }
-    if b == 10 {
-        return false;
-    }
-    if b == 39 {
-        return false;
-    }
-    b != 92
+    !matches!(b, 0 | b'\n' | b'\'' | b'\\')
 }
 
 // Goes a byte on a name.
 pub fn goes_on(b: u8) -> bool
     ensures { result ≡ goes_on_byte (kind_of b) }
 {
-    if is_white(b) {
-        return false;
-    }
-    if is_letter(b) {
-        return true;
-    }
-    is_digit(b)
+    is_letter(b) || is_digit(b)
 }
 
 // The place behind the longest run of letters and digits from `at` on.
@@ -107,14 +73,12 @@ fn run_end(text: &[u8], at: usize) -> usize
     requires { at ≤ length text.now }
     ensures { result ≡ at + length (run_of (drop at text.now)) }
 {
-    let mut i = at;
-    while i < text.len() {
+    for i in at..text.len() {
         if !goes_on(text[i]) {
             return i;
         }
-        i += 1;
     }
-    i
+    text.len()
 }
 
 // Does no letter and no digit stand at `at`.
@@ -132,17 +96,7 @@ fn has_word(text: &[u8], at: usize, word: &[u8]) -> bool
     requires { at ≤ length text.now }
     ensures { result ≡ begins word.now (drop at text.now) }
 {
-    let mut j: usize = 0;
-    while j < word.len() {
-        if text.len() - at <= j {
-            return false;
-        }
-        if word[j] != text[at + j] {
-            return false;
-        }
-        j += 1;
-    }
-    true
+    text[at..].starts_with(word)
 }
 
 // Does `*/` stand at `at`.
@@ -150,31 +104,23 @@ fn closes_at(text: &[u8], at: usize) -> bool
     requires { at < length text.now }
     ensures { result ≡ closes (get_or text.now at 0) (drop (at + 1) text.now) }
 {
-    if text[at] != 42 {
-        return false;
-    }
-    if text.len() - at < 2 {
-        return false;
-    }
-    text[at + 1] == 47
+    has_word(text, at, b"*/")
 }
 
 // The place behind a comment whose bytes begin at `at`, behind the `/*`.
-fn comment_end(text: &[u8], at: usize) -> Found
+fn comment_end(text: &[u8], at: usize) -> Option<usize>
     requires { at ≤ length text.now }
     ensures { found_at result ≡ behind_comment at (drop at text.now) }
 {
-    let mut i = at;
-    while i < text.len() {
+    for i in at..text.len() {
         if closes_at(text, i) {
-            return Found::At(i + 2);
+            return Some(i + 2);
         }
         if text[i] == 0 {
-            return Found::Nothing;
+            return None;
         }
-        i += 1;
     }
-    Found::Nothing
+    None
 }
 
 // What begins with the `'` at `at`.
@@ -225,8 +171,8 @@ fn comment_at(text: &[u8], at: usize) -> Piece
         return Piece::Outside;
     }
     match comment_end(text, at + 2) {
-        Found::At(past) => Piece::Gap(past),
-        Found::Nothing => Piece::Outside,
+        Some(past) => Piece::Gap(past),
+        None => Piece::Outside,
     }
 }
 

@@ -1,5 +1,5 @@
 -- What a limit means: the refusal, or the table and the places written. Assumes nothing: these are definitions.
-use Rattle.std.specs.Prelude.{ℕ, true, false, ◌≡◌, List, length, eqb}
+use Rattle.std.specs.Prelude.{ℕ, ◌≡◌, List, Option, Some, None, length}
 use Rattle.slices.specs.Lent.{in_front}
 use Rattle.spelling.specs.Spelled.{spell}
 use Rattle.yacc_read.specs.Source.{Source}
@@ -16,8 +16,6 @@ pub record Meant (n m : ℕ) (c : Counts) : Type 0 where
   pub terminals : m ≡ length source.terminals
   pub counts : c ≡ counts_of source.alternatives
 
-unfoldable pub limited_of : Source → Limit → List ℕ → List ℕ → Outcome
-limited_of S r table places = elim (eqb r.number 0) [
-  | true ↦ record { answer = answer_of S; table = in_front (spell (table_of S)) table; places = in_front (places_of S) places }
-  | false ↦ unchanged r.number r.place table places
-]
+unfoldable pub limited_of : Source → Option Limit → List ℕ → List ℕ → Outcome
+limited_of S None table places = record { answer = answer_of S; table = in_front (spell (table_of S)) table; places = in_front (places_of S) places }
+limited_of S (Some r) table places = unchanged r.number r.place table places

@@ -9,7 +9,7 @@ ghost use Rattle.yacc_limits.specs.Limited.{Meant, limited_of};
 use repr::{NonterminalString, ProductionIndex};
 use yacc_count::Counts;
 
-// A refusal and its place, or number 0.
+// A refusal and its place.
 #[derive(Clone, Copy)]
 pub struct Limit {
     pub number: u16,
@@ -20,49 +20,46 @@ impl Limit {
     pub const TERMINALS: usize = 63;
 }
 
-// What refuses a text of n nonterminals and m terminals that is named well, by its counts and the room there is.
-pub fn refusal(n: usize, m: usize, counts: Counts, table: &[u16], places: &[u16]) -> Limit
+// What refuses a text of n nonterminals and m terminals that is named well, by its counts and the room there is; None where nothing does.
+pub fn refusal(n: usize, m: usize, counts: Counts, table: &[u16], places: &[u16]) -> Option<Limit>
     requires { Meant n m counts }
     ensures { (w : Meant n m counts) → counted_of w.source table.now places.now ≡ limited_of w.source result table.now places.now }
 {
     if NonterminalString::LIMIT < n {
-        return Limit {
+        return Some(Limit {
             number: 2,
             place: 0,
-        };
+        });
     }
     if Limit::TERMINALS < m {
-        return Limit {
+        return Some(Limit {
             number: 2,
             place: 0,
-        };
+        });
     }
     if ProductionIndex::LIMIT < counts.alternatives {
-        return Limit {
+        return Some(Limit {
             number: 2,
             place: 0,
-        };
+        });
     }
     if counts.short < counts.alternatives {
-        return Limit {
+        return Some(Limit {
             number: 5,
             place: (2 + n + counts.short) as u16,
-        };
+        });
     }
     if table.len() / 4 < 2 + n + counts.alternatives + counts.symbols {
-        return Limit {
+        return Some(Limit {
             number: 17,
             place: 0,
-        };
+        });
     }
     if places.len() < n + m {
-        return Limit {
+        return Some(Limit {
             number: 17,
             place: 0,
-        };
+        });
     }
-    Limit {
-        number: 0,
-        place: 0,
-    }
+    None
 }

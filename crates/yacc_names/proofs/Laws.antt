@@ -1,14 +1,16 @@
 -- The turns of the loops over bytes and over a bucket's chain; a name entered. Assumes nothing.
-use Prim.Native.Nat.{ℕ, zero, suc, ◌+◌, ◌-◌, ◌*◌, ◌%◌, ◌≤◌, ◌<◌}
+use Prim.Native.Nat.{ℕ, zero, suc, ◌+◌, ◌-◌, ◌*◌, ◌%◌, ◌≤◌, ◌<◌, min}
 use native.Mathlib.Omega.{arith}
 use native.Mathlib.Numerals.{add-one}
 use mathlib.Core.Bool.{Bool, true, false, ◌&&◌}
 use mathlib.Core.Path.{◌≡◌, refl, sym, ap, ◌∙◌}
 use mathlib.Core.List.{List, [], ◌∷◌}
-use lib.ListN.{length, get_or, set, take, length-set, drop_of_length-le}
-use lib.Seq.{slice, slice-cons, length-take-le, get_or-set_same, get_or-set_other}
+use lib.ListN.{length, get_or, set, take, drop, length-set, drop_of_length-le}
+use lib.Seq.{slice, slice-cons, drop-cons, length-take-le, get_or-set_same, get_or-set_other}
 use lib.Dec.{eqb, leb}
-use borrow.Author.Tests.{eqb-true, eqb-false, eq-eqb, ne_eqb, leb-true, leb-false}
+use lib.Pointwise.{pointwise}
+use Rattle.std.proofs.lemmas.List.{drop-take}
+use borrow.Author.Tests.{eqb-true, eqb-false, eq-eqb, leb-true, leb-false}
 use Rattle.slices.specs.Same.{same_words}
 use Rattle.slices.proofs.Same.{same_words_eq}
 use Rattle.repr.proofs.Lists.{cases}
@@ -24,15 +26,28 @@ slice-next t i past h l = slice-cons i past t 0 h l ∙ ap (λ (k : ℕ). get_or
 pub slice-none : (t : List ℕ) (i past : ℕ) → past ≤ i → past ≤ length t → slice i past t ≡ []
 slice-none t i past h l = let n = length-take-le past t l in let k : length (take past t) ≤ i = omega (arith, n, h) in drop_of_length-le (take past t) k
 
--- `bucket_of`
-module _ (t : List ℕ) (past sum at r : ℕ) (inv : mixed sum (slice at past t) ≡ r) where
-  pub mix-more : (b : ℕ) → b ≡ get_or t at 0 → at < past → past ≤ length t → mixed ((sum * 211 + b) % 65536) (slice (at + 1) past t) ≡ r
-  unfolding mixed
-  mix-more b e h l = ap (λ (c : ℕ). mixed ((sum * 211 + c) % 65536) (slice (at + 1) past t)) e ∙ sym (ap (mixed sum) (slice-next t at past h l)) ∙ inv
+-- `bytes`
+pub bytes_is : (t : List ℕ) (from past m : ℕ) → past ≤ length t → m ≡ min from past → take (past - m) (drop m t) ≡ slice from past t
+bytes_is t from past m h e =
+    cases (leb from past)
+    (λ y. let l : from ≤ past = leb-true from past y in
+    let q : m ≡ from = omega arith in
+    let s : from + (past - from) ≡ past = omega arith in
+    ap (λ (k : ℕ). take (past - k) (drop k t)) q ∙ sym (drop-take from (past - from) t) ∙ ap (λ (k : ℕ). drop from (take k t)) s)
+    (λ n. let l : past < from = leb-false from past n in
+    let q : m ≡ past = omega arith in
+    let z : past - m ≡ 0 = omega arith in
+    ap (λ (k : ℕ). take k (drop m t)) z ∙ sym (slice-none t from past (omega arith) h))
 
-  pub mix_end : past ≤ at → past ≤ length t → sum ≡ r
+-- `bucket_of`
+module _ (bs : List ℕ) (sum i r : ℕ) (inv : mixed sum (drop i bs) ≡ r) where
+  pub mix-more : i < length bs → mixed ((sum * 211 + get_or bs i 0) % 65536) (drop (i + 1) bs) ≡ r
   unfolding mixed
-  mix_end h l = sym (ap (mixed sum) (slice-none t at past h l)) ∙ inv
+  mix-more h = sym (ap (mixed sum) (drop-cons bs i 0 h ∙ ap (λ (k : ℕ). get_or bs i 0 ∷ drop k bs) (sym (add-one i)))) ∙ inv
+
+  pub mix_end : length bs ≤ i → sum ≡ r
+  unfolding mixed
+  mix_end h = sym (ap (mixed sum) (drop_of_length-le bs h)) ∙ inv
 
 pub bucket_is : (sum : ℕ) (bs : List ℕ) → sum ≡ mixed 0 bs → sum % bucket_limit ≡ bucket_number bs
 unfolding bucket_number
@@ -42,34 +57,13 @@ pub bucket_small : (bs : List ℕ) → bucket_number bs < bucket_limit
 unfolding bucket_number
 bucket_small bs = omega arith
 
--- `same_bytes`
-module _ (t : List ℕ) (i past j end : ℕ) (r : Bool) (h : past ≤ length t) (l : end ≤ length t) (inv : same_words (slice i past t) (slice j end t) ≡ r) where
-  module _ (a : i < past) where
-    both : (ys : List ℕ) → slice j end t ≡ ys → same_words (get_or t i 0 ∷ slice (i + 1) past t) ys ≡ r
-    both ys e = sym (ap (λ (xs : List ℕ). same_words xs ys) (slice-next t i past a h)) ∙ sym (ap (same_words (slice i past t)) e) ∙ inv
-
-    pub same_short : end ≤ j → false ≡ r
-    unfolding same_words
-    same_short b = both [] (slice-none t j end b l)
-
-    module _ (b : j < end) where
-      heads : (eqb (get_or t i 0) (get_or t j 0) && same_words (slice (i + 1) past t) (slice (j + 1) end t)) ≡ r
-      unfolding same_words
-      heads = both (get_or t j 0 ∷ slice (j + 1) end t) (slice-next t j end b l)
-
-      pub same_other : (get_or t i 0 ≡ get_or t j 0 → ⊥) → false ≡ r
-      same_other n = sym (ap (λ (c : Bool). c && same_words (slice (i + 1) past t) (slice (j + 1) end t)) (ne_eqb (get_or t i 0) (get_or t j 0) n)) ∙ heads
-
-      pub same_more : get_or t i 0 ≡ get_or t j 0 → same_words (slice (i + 1) past t) (slice (j + 1) end t) ≡ r
-      same_more e = sym (ap (λ (c : Bool). c && same_words (slice (i + 1) past t) (slice (j + 1) end t)) (eq-eqb (get_or t i 0) (get_or t j 0) e)) ∙ heads
-
-  pub same_end : past ≤ i → leb end j ≡ r
-  unfolding same_words
-  same_end a =
-      let p : same_words [] (slice j end t) ≡ r = sym (ap (λ (xs : List ℕ). same_words xs (slice j end t)) (slice-none t i past a h)) ∙ inv in
-      cases (leb end j)
-      (λ e. e ∙ sym (ap (same_words []) (slice-none t j end (leb-true end j e) l)) ∙ p)
-      (λ e. e ∙ sym (ap (same_words []) (slice-next t j end (leb-false end j e) l)) ∙ p)
+-- equal slices
+pub same_is : (xs ys : List ℕ) → pointwise eqb xs ys ≡ same_words xs ys
+unfolding same_words
+same_is [] [] = refl
+same_is [] (y ∷ ys) = refl
+same_is (x ∷ xs) [] = refl
+same_is (x ∷ xs) (y ∷ ys) = ap (λ (b : Bool). eqb x y && b) (same_is xs ys)
 
 -- the latest that passes
 latest-yes : (u : ℕ → Bool) (k : ℕ) → u k ≡ true → latest u (suc k) ≡ suc k
@@ -173,8 +167,8 @@ module _ (t starts pasts ix : List ℕ) (k from past : ℕ) (E : Entered t start
       it : r ≡ is_name t starts pasts bytes (next - 1)
       it = is_name_lem t starts pasts bytes (next - 1) start end r p q s
 
-      pub find-found : r ≡ true → next ≡ latest (is_name t starts pasts bytes) k
-      find-found y = turn_found ix (in_bucket t starts pasts (bucket_number bytes)) (is_name t starts pasts bytes) k (λ j h. same_bucket t starts pasts bytes j) next (next - 1) F one (sym it ∙ y)
+      pub find-found : r ≡ true → suc (next - 1) ≡ latest (is_name t starts pasts bytes) k
+      find-found y = sym one ∙ turn_found ix (in_bucket t starts pasts (bucket_number bytes)) (is_name t starts pasts bytes) k (λ j h. same_bucket t starts pasts bytes j) next (next - 1) F one (sym it ∙ y)
 
       pub find_again : r ≡ false → (m : ℕ) → m ≡ get_or ix (bucket_limit + (next - 1)) 0 → Finds m
       find_again n m e = turn_again ix (in_bucket t starts pasts (bucket_number bytes)) (is_name t starts pasts bytes) k (λ j h. same_bucket t starts pasts bytes j) next (next - 1) F one m e (sym it ∙ n)
@@ -237,9 +231,9 @@ module _ (t starts pasts ix : List ℕ) (k from past f : ℕ) (e : f ≡ latest 
   unfolding placing
   by_found n q = ap (λ (m : ℕ). placed_by m t starts pasts ix k from past) (sym q ∙ e)
 
-  pub place_old : (f ≡ 0 → ⊥) → left starts pasts ix (record { number = f - 1; names = k }) ≡ placing t starts pasts ix k from past
+  pub place_old : (j : ℕ) → f ≡ suc j → left starts pasts ix (record { number = j; names = k }) ≡ placing t starts pasts ix k from past
   unfolding placed_by
-  place_old n = by_found (suc (f - 1)) (omega (arith, n))
+  place_old j n = by_found (suc j) n
 
   pub place_new : f ≡ 0 → (b : ℕ) (starts' pasts' ix' : List ℕ) → b ≡ bucket_number (slice from past t) → starts' ≡ set starts k from → pasts' ≡ set pasts k past → ix' ≡ chained ix bucket_limit b k
       → left starts' pasts' ix' (record { number = k; names = k + 1 }) ≡ placing t starts pasts ix k from past

@@ -1,6 +1,6 @@
 -- Names in the order of their entering: where each begins, and behind its last byte. Their index: a word for each bucket, which holds 0 or one more than the number of the latest name in it, then a word for each name, which holds the next older one of its bucket alike.
 -- Assumes nothing: these are definitions.
-use Rattle.std.specs.Prelude.{ℕ, zero, suc, ◌+◌, ◌*◌, ◌%◌, ◌≤◌, ◌<◌, Bool, true, false, List, [], ◌∷◌, length, get_or, set, eqb}
+use Rattle.std.specs.Prelude.{ℕ, zero, suc, ◌+◌, ◌*◌, ◌%◌, ◌≤◌, ◌<◌, Bool, true, false, List, [], ◌∷◌, Option, Some, None, length, get_or, set, eqb}
 use Rattle.std.proofs.Math.Seq.{slice}
 use Rattle.slices.specs.Same.{same_words}
 use Rattle.trace_graph.specs.Index.{newest, Linked}
@@ -32,6 +32,11 @@ is_name t starts pasts bs j = same_words bs (name_in t starts pasts j)
 unfoldable pub latest : (ℕ → Bool) → ℕ → ℕ
 latest u zero = 0
 latest u (suc k) = elim (u k) [ true ↦ suc k | false ↦ latest u k ]
+
+-- a number as words hold it: one more, or 0 for none
+abbrev pub held : Option ℕ → ℕ
+held None = 0
+held (Some j) = suc j
 
 -- the first k names and their index
 pub record Entered (t starts pasts ix : List ℕ) (k : ℕ) : Type 0 where

@@ -2,22 +2,22 @@
 
 #![tactic(auto)]
 
-ghost use Rattle.std.specs.Prelude.{◌≡◌, ◌+◌, ◌≤◌, ◌<◌, length, get_or, set};
+ghost use Rattle.std.specs.Prelude.{◌≡◌, ◌+◌, ◌≤◌, ◌<◌, length, set};
 ghost use Rattle.std.proofs.Math.Seq.{slice};
-ghost use Rattle.slices.specs.Same.{same_words};
 ghost use Rattle.trace_graph.specs.Insert.{chained};
-ghost use Rattle.yacc_names.specs.Names.{bucket_limit, bucket_number, is_name, latest, Entered, left, placing};
+ghost use Rattle.yacc_names.specs.Names.{bucket_limit, bucket_number, held, is_name, latest, Entered, left, placing};
 
 use repr::word;
 
 // Buckets; the links follow their words.
 const BUCKETS: usize = 2048;
 
-fn byte(text: &[u8], at: usize) -> usize
-    requires { at < length text.now }
-    ensures { (result ≡ get_or text.now at 0) × (result < 256) }
+// The bytes from a place up to another, none if that is not behind it.
+fn bytes(text: &[u8], from: usize, past: usize) -> &[u8]
+    requires { past ≤ length text.now }
+    ensures { result.now ≡ slice from past text.now }
 {
-    text[at] as usize
+    &text[from.min(past)..past]
 }
 
 // The bucket of the name that stands from a place up to another.
@@ -25,36 +25,15 @@ pub fn bucket_of(text: &[u8], from: usize, past: usize) -> usize
     requires { (from ≤ past) × (past ≤ length text.now) }
     ensures { (result ≡ bucket_number (slice from past text.now)) × (result < bucket_limit) }
 {
+    let name = bytes(text, from, past);
     let mut sum: usize = 0;
-    let mut at = from;
-    while at < past {
-        sum = (sum * 211 + byte(text, at)) % 65536;
-        at += 1;
+    for b in name {
+        sum = (sum * 211 + usize::from(*b)) % 65536;
     }
     sum % BUCKETS
 }
 
-// Do the same bytes stand from one place up to another and from a third up to a fourth.
-fn same_bytes(text: &[u8], from: usize, past: usize, start: usize, end: usize) -> bool
-    requires { (past ≤ length text.now) × (end ≤ length text.now) }
-    ensures { result ≡ same_words (slice from past text.now) (slice start end text.now) }
-{
-    let mut i = from;
-    let mut j = start;
-    while i < past {
-        if end <= j {
-            return false;
-        }
-        if text[i] != text[j] {
-            return false;
-        }
-        i += 1;
-        j += 1;
-    }
-    end <= j
-}
-
-// One more than the number of the name among the first k, or 0.
+// The number of the name among the first k.
 pub fn find(
     text: &[u8],
     starts: &[u16],
@@ -63,21 +42,22 @@ pub fn find(
     k: usize,
     from: usize,
     past: usize,
-) -> usize
+) -> Option<usize>
     requires entered { Entered text.now starts.now pasts.now ix.now k }
     requires from_le_past { (from ≤ past) × (past ≤ length text.now) }
-    ensures { result ≡ latest (is_name text.now starts.now pasts.now (slice from past text.now)) k }
+    ensures { held result ≡ latest (is_name text.now starts.now pasts.now (slice from past text.now)) k }
 {
+    let name = bytes(text, from, past);
     let mut next = word(ix, bucket_of(text, from, past));
     while next != 0 {
         let start = word(starts, next - 1);
         let end = word(pasts, next - 1);
-        if same_bytes(text, from, past, start, end) {
-            return next;
+        if name == bytes(text, start, end) {
+            return Some(next - 1);
         }
         next = word(ix, BUCKETS + (next - 1));
     }
-    0
+    None
 }
 
 // Name k, in front of the chain of its bucket.
@@ -125,17 +105,18 @@ pub fn place(
     requires from_le_past { (from ≤ past) × (past ≤ length text.now) × (past < 65536) }
     ensures { left starts.new pasts.new ix.new result ≡ placing text.now starts.old pasts.old ix.old k from past }
 {
-    let found = find(text, starts, pasts, ix, k, from, past);
-    if found != 0 {
-        return Placed {
-            number: found - 1,
+    match find(text, starts, pasts, ix, k, from, past) {
+        Some(number) => Placed {
+            number: number,
             names: k,
-        };
-    }
-    let bucket = bucket_of(text, from, past);
-    enter(starts, pasts, ix, k, bucket, from, past);
-    Placed {
-        number: k,
-        names: k + 1,
+        },
+        None => {
+            let bucket = bucket_of(text, from, past);
+            enter(starts, pasts, ix, k, bucket, from, past);
+            Placed {
+                number: k,
+                names: k + 1,
+            }
+        }
     }
 }

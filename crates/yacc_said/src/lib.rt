@@ -2,11 +2,12 @@
 
 #![tactic(auto)]
 
-ghost use Rattle.std.specs.Prelude.{◌≡◌, ◌<◌};
+ghost use Rattle.std.specs.Prelude.{◌≡◌};
 ghost use Rattle.yacc_tokens.specs.Accepted.{mode_of};
 ghost use Rattle.yacc_said.specs.Said.{id_said, end_said, said_in};
 
 use yacc_lex::Word;
+use yacc_tokens::Mode;
 
 // An id of a TOKEN list, the START id, a left side, an id of a body, the end of a body.
 #[derive(Clone, Copy)]
@@ -19,54 +20,37 @@ pub enum Saying {
     Nothing,
 }
 
-fn id_says(mode: usize) -> Saying
-    requires { mode < 12 }
+#[tactic(auto, unfolding(crate::specs::Said::id_said))]
+fn id_says(mode: Mode) -> Saying
     ensures { result ≡ id_said (mode_of mode) }
 {
-    if mode < 2 {
-        return Saying::Nothing;
+    match mode {
+        Mode::Wanted(_) | Mode::Listed(_) => Saying::Lists,
+        Mode::Starting => Saying::Opens,
+        Mode::Ruled | Mode::Done => Saying::Defines,
+        Mode::Bodied => Saying::Uses,
+        Mode::Top(_) | Mode::Sided | Mode::Dead => Saying::Nothing,
     }
-    if mode < 6 {
-        return Saying::Lists;
-    }
-    if mode == 6 {
-        return Saying::Opens;
-    }
-    if mode == 9 {
-        return Saying::Uses;
-    }
-    if mode == 7 {
-        return Saying::Defines;
-    }
-    if mode == 10 {
-        return Saying::Defines;
-    }
-    Saying::Nothing
 }
 
-fn end_says(mode: usize) -> Saying
-    requires { mode < 12 }
+#[tactic(auto, unfolding(crate::specs::Said::end_said))]
+fn end_says(mode: Mode) -> Saying
     ensures { result ≡ end_said (mode_of mode) }
 {
-    if mode == 9 {
-        return Saying::Shuts;
+    match mode {
+        Mode::Bodied => Saying::Shuts,
+        _ => Saying::Nothing,
     }
-    Saying::Nothing
 }
 
 // What a word says in a mode.
-pub fn said(mode: usize, word: Word) -> Saying
-    requires { mode < 12 }
+#[tactic(auto, unfolding(crate::specs::Said::said_in))]
+pub fn said(mode: Mode, word: Word) -> Saying
     ensures { result ≡ said_in (mode_of mode) word }
 {
     match word {
-        Word::Name => id_says(mode),
-        Word::Literal => id_says(mode),
-        Word::Token => Saying::Nothing,
-        Word::Start => Saying::Nothing,
-        Word::Mark => Saying::Nothing,
-        Word::Colon => Saying::Nothing,
-        Word::Bar => end_says(mode),
-        Word::Semi => end_says(mode),
+        Word::Name | Word::Literal => id_says(mode),
+        Word::Bar | Word::Semi => end_says(mode),
+        Word::Token | Word::Start | Word::Mark | Word::Colon => Saying::Nothing,
     }
 }

@@ -19,7 +19,7 @@ use Rattle.yacc_text.specs.Places.{placed_in, placed_from}
 use Rattle.yacc_text.specs.Forward.{Mode, top, wanted, listed, starting, ruled, sided, bodied, done, dead, sides, move, last, accepts}
 use Rattle.yacc_text.proofs.Lexing.{and_split}
 use Rattle.yacc_text.proofs.Exact.{parse-complete, parse_sound}
-use Rattle.yacc_tokens.specs.Accepted.{mode_of, judged, is_grammar_text}
+use Rattle.yacc_tokens.specs.Accepted.{judged, is_grammar_text}
 use Rattle.yacc_tokens.proofs.Laws.{tokens-placed, judged-whole}
 use Rattle.yacc_stray.specs.Stray.{Begins, IsStray}
 use Rattle.yacc_stray.specs.Automaton.{Part, between, run, signed, word, opened, filled, slashed, inside, starred, State, at, lost, initial, signs, marks, step_kind, step_signed, step_word, step_inside, step_part, step, fed, ending, final, ok}
@@ -32,7 +32,7 @@ pieces_judged m none = refl
 pieces_judged m (some ps) = ap (accepts m) (sym (tokens-placed 0 ps))
 
 pub exact : (t : List ℕ) → ok initial t ≡ is_grammar_text t
-unfolding mode_of placed_from
+unfolding placed_from
 exact t = pieces_ok t (top false) ∙ pieces_judged (top false) (lex t) ∙ judged-whole t
 
 parsed_by : (t : List ℕ) (o : Option Layout) → parse t ≡ o → (elim o as (λ p. Bool) [ none ↦ false | some l ↦ true ]) ≡ true → (l : Layout) × (parse t ≡ some l)

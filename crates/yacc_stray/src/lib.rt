@@ -7,25 +7,41 @@ ghost use Rattle.repr.specs.Lists.{occurrences};
 ghost use Rattle.yacc_text.specs.Grammar.{is_white_byte, is_letter_byte, is_digit_byte, kind_of};
 ghost use Rattle.yacc_tokens.specs.Accepted.{mode_of};
 ghost use Rattle.yacc_stray.specs.Stray.{IsStray, line_of, column_behind, column_of};
-ghost use Rattle.yacc_stray.specs.Automaton.{signs, step_kind, step_signed, step_inside, step_part};
+ghost use Rattle.yacc_stray.specs.Automaton.{lost, signs, marks, step_kind, step_signed, step_word, step_inside, step_part};
 ghost use Rattle.yacc_stray.specs.Numbers.{part_of, Stands};
 
 use yacc_lex::{Word, goes_on, is_digit, is_letter, is_literal, is_white};
-use yacc_tokens::moved;
+use yacc_tokens::{Mode, moved};
 
-// The mode behind a `%` in each mode.
-const SIGNS: [u8; 12] = [0, 1, 11, 11, 4, 5, 11, 11, 11, 11, 11, 11];
+// Where in a piece the next byte stands (specs/Automaton); of `%token` and `%start` with the bytes that must follow.
+#[derive(Clone, Copy)]
+pub enum Part {
+    Between,
+    Run,
+    Signed,
+    Word(&'static [u8]),
+    Opened,
+    Filled,
+    Slashed,
+    Inside,
+    Starred,
+}
 
-// The bytes that parts 3 to 10 wait for, and the part behind each.
-const LETTERS: [u8; 8] = [111, 107, 101, 110, 116, 97, 114, 116];
-
-const BEHIND: [u8; 8] = [4, 5, 6, 11, 8, 9, 10, 11];
-
-// A mode and a part of specs/Automaton, in numbers.
+// A mode and a part.
 #[derive(Clone, Copy)]
 pub struct Stage {
-    pub mode: usize,
-    pub part: usize,
+    pub mode: Mode,
+    pub part: Part,
+}
+
+// No text of the grammar goes on so.
+fn lost() -> Stage
+    ensures { Stands result lost }
+{
+    Stage {
+        mode: Mode::Dead,
+        part: Part::Between,
+    }
 }
 
 // A line and a column, both from 1.
@@ -36,198 +52,202 @@ pub struct Place {
 }
 
 // The mode behind a `%`.
-fn signed(mode: usize) -> usize
-    requires { mode < 12 }
-    ensures { (mode_of result ≡ signs (mode_of mode)) × (result < 12) }
+#[tactic(auto, unfolding(crate::specs::Automaton::signs))]
+fn signed(mode: Mode) -> Mode
+    ensures { mode_of result ≡ signs (mode_of mode) }
 {
-    SIGNS[mode] as usize
+    match mode {
+        Mode::Top(_) | Mode::Listed(_) => mode,
+        _ => Mode::Dead,
+    }
+}
+
+// The mode behind a second `%`.
+#[tactic(auto, unfolding(crate::specs::Automaton::marks))]
+fn marked(mode: Mode) -> Mode
+    ensures { mode_of result ≡ marks (mode_of mode) }
+{
+    match mode {
+        Mode::Dead => Mode::Dead,
+        _ => Mode::Ruled,
+    }
 }
 
 // The first byte of a piece that is neither white nor a letter nor a digit.
-fn begin_sign(mode: usize, b: u8) -> Stage
-    requires { (mode < 12) × (is_white_byte b ≡ false) × (is_letter_byte b ≡ false) × (is_digit_byte b ≡ false) }
+#[tactic(auto, unfolding(crate::specs::Automaton::step_kind, yacc_lex::specs::Steps::token_at))]
+fn begin_sign(mode: Mode, b: u8) -> Stage
+    requires { (is_white_byte b ≡ false) × (is_letter_byte b ≡ false) × (is_digit_byte b ≡ false) }
     ensures { Stands result (step_kind (kind_of b) (mode_of mode)) }
 {
-    if b == 39 {
-        return Stage {
+    match b {
+        b'\'' => Stage {
             mode: moved(mode, Word::Literal),
-            part: 12,
-        };
-    }
-    if b == 37 {
-        return Stage {
+            part: Part::Opened,
+        },
+        b'%' => Stage {
             mode: signed(mode),
-            part: 2,
-        };
-    }
-    if b == 47 {
-        return Stage {
+            part: Part::Signed,
+        },
+        b'/' => Stage {
             mode: mode,
-            part: 14,
-        };
-    }
-    if b == 58 {
-        return Stage {
+            part: Part::Slashed,
+        },
+        b':' => Stage {
             mode: moved(mode, Word::Colon),
-            part: 0,
-        };
-    }
-    if b == 124 {
-        return Stage {
+            part: Part::Between,
+        },
+        b'|' => Stage {
             mode: moved(mode, Word::Bar),
-            part: 0,
-        };
-    }
-    if b == 59 {
-        return Stage {
+            part: Part::Between,
+        },
+        b';' => Stage {
             mode: moved(mode, Word::Semi),
-            part: 0,
-        };
+            part: Part::Between,
+        },
+        _ => lost(),
     }
-    Stage { mode: 11, part: 0 }
 }
 
 // The first byte of a piece.
-fn begin(mode: usize, b: u8) -> Stage
-    requires { mode < 12 }
+#[tactic(auto, unfolding(crate::specs::Automaton::step_kind, yacc_lex::specs::Steps::token_at))]
+fn begin(mode: Mode, b: u8) -> Stage
     ensures { Stands result (step_kind (kind_of b) (mode_of mode)) }
 {
     if is_white(b) {
         return Stage {
             mode: mode,
-            part: 0,
+            part: Part::Between,
         };
     }
     if is_letter(b) {
         return Stage {
             mode: moved(mode, Word::Name),
-            part: 1,
+            part: Part::Run,
         };
     }
     if is_digit(b) {
-        return Stage { mode: 11, part: 0 };
+        return lost();
     }
     begin_sign(mode, b)
 }
 
 // A byte behind a `%`.
-fn behind_sign(mode: usize, b: u8) -> Stage
-    requires { mode < 11 }
+#[tactic(auto, unfolding(crate::specs::Automaton::step_signed, yacc_lex::specs::Steps::token_at))]
+fn behind_sign(mode: Mode, b: u8) -> Stage
     ensures { Stands result (step_signed (mode_of mode) b) }
 {
-    if 37 == b {
-        return Stage { mode: 7, part: 0 };
-    }
-    if 116 == b {
-        return Stage {
+    match b {
+        b'%' => Stage {
+            mode: marked(mode),
+            part: Part::Between,
+        },
+        b't' => Stage {
             mode: moved(mode, Word::Token),
-            part: 3,
-        };
-    }
-    if 115 == b {
-        return Stage {
+            part: Part::Word(b"oken"),
+        },
+        b's' => Stage {
             mode: moved(mode, Word::Start),
-            part: 7,
-        };
+            part: Part::Word(b"tart"),
+        },
+        _ => lost(),
     }
-    Stage { mode: 11, part: 0 }
 }
 
-// A byte of `%token` or `%start`.
-fn in_word(mode: usize, part: usize, b: u8) -> Stage
-    requires { (mode < 12) × (3 ≤ part) × (part < 11) }
-    ensures { Stands result (step_part (part_of part) (mode_of mode) b) }
+// A byte of `%token` or `%start`, or behind it.
+#[tactic(auto, unfolding(crate::specs::Automaton::step_word))]
+fn in_word(mode: Mode, word: &'static [u8], b: u8) -> Stage
+    ensures { Stands result (step_word word.now (mode_of mode) b) }
 {
-    let i = part - 3;
-    if LETTERS[i] == b {
-        return Stage {
-            mode: mode,
-            part: BEHIND[i] as usize,
-        };
+    match word {
+        [] => {
+            if goes_on(b) {
+                return lost();
+            }
+            begin(mode, b)
+        }
+        [next, rest @ ..] => {
+            if *next == b {
+                return Stage {
+                    mode: mode,
+                    part: Part::Word(rest),
+                };
+            }
+            lost()
+        }
     }
-    Stage { mode: 11, part: 0 }
 }
 
 // A byte in a comment.
-fn in_comment(mode: usize, b: u8) -> Stage
-    requires { mode < 12 }
+#[tactic(auto, unfolding(crate::specs::Automaton::step_inside))]
+fn in_comment(mode: Mode, b: u8) -> Stage
     ensures { Stands result (step_inside (mode_of mode) b) }
 {
-    if b == 42 {
-        return Stage {
+    match b {
+        b'*' => Stage {
             mode: mode,
-            part: 16,
-        };
-    }
-    if b == 0 {
-        return Stage { mode: 11, part: 0 };
-    }
-    Stage {
-        mode: mode,
-        part: 15,
+            part: Part::Starred,
+        },
+        0 => lost(),
+        _ => Stage {
+            mode: mode,
+            part: Part::Inside,
+        },
     }
 }
 
 // A byte.
+#[tactic(auto, unfolding(crate::specs::Automaton::step_part))]
 fn step(stage: Stage, b: u8) -> Stage
-    requires { (stage.mode < 11) × (stage.part < 17) }
     ensures { Stands result (step_part (part_of stage.part) (mode_of stage.mode) b) }
 {
     let mode = stage.mode;
-    let part = stage.part;
-    match part {
-        0 => begin(mode, b),
-        1 => {
+    match stage.part {
+        Part::Between => begin(mode, b),
+        Part::Run => {
             if goes_on(b) {
                 return stage;
             }
             begin(mode, b)
         }
-        2 => behind_sign(mode, b),
-        11 => {
-            if goes_on(b) {
-                return Stage { mode: 11, part: 0 };
-            }
-            begin(mode, b)
-        }
-        12 => {
+        Part::Signed => behind_sign(mode, b),
+        Part::Word(word) => in_word(mode, word, b),
+        Part::Opened => {
             if is_literal(b) {
                 return Stage {
                     mode: mode,
-                    part: 13,
+                    part: Part::Filled,
                 };
             }
-            Stage { mode: 11, part: 0 }
+            lost()
         }
-        13 => {
-            if b == 39 {
+        Part::Filled => {
+            if b == b'\'' {
                 return Stage {
                     mode: mode,
-                    part: 0,
+                    part: Part::Between,
                 };
             }
-            Stage { mode: 11, part: 0 }
+            lost()
         }
-        14 => {
-            if 42 == b {
+        Part::Slashed => {
+            if b == b'*' {
                 return Stage {
                     mode: mode,
-                    part: 15,
+                    part: Part::Inside,
                 };
             }
-            Stage { mode: 11, part: 0 }
+            lost()
         }
-        15 => in_comment(mode, b),
-        16 => {
-            if b == 47 {
+        Part::Inside => in_comment(mode, b),
+        Part::Starred => {
+            if b == b'/' {
                 return Stage {
                     mode: mode,
-                    part: 0,
+                    part: Part::Between,
                 };
             }
             in_comment(mode, b)
         }
-        _ => in_word(mode, part, b),
     }
 }
 
@@ -235,16 +255,17 @@ fn step(stage: Stage, b: u8) -> Stage
 pub fn stray(text: &[u8]) -> usize
     ensures { IsStray text.now result }
 {
-    let mut stage = Stage { mode: 0, part: 0 };
-    let mut i: usize = 0;
-    while i < text.len() {
-        stage = step(stage, text[i]);
-        if stage.mode == 11 {
+    let mut stage = Stage {
+        mode: Mode::Top(false),
+        part: Part::Between,
+    };
+    for (i, b) in text.iter().enumerate() {
+        stage = step(stage, *b);
+        if matches!(stage.mode, Mode::Dead) {
             return i;
         }
-        i += 1;
     }
-    i
+    text.len()
 }
 
 // Behind a byte.
@@ -252,7 +273,7 @@ fn passed(place: Place, b: u8) -> Place
     requires { (place.line < 18446744073709551615) × (place.column < 18446744073709551615) }
     ensures { (result.line ≡ place.line + occurrences 10 (b ∷ [])) × (result.column ≡ column_behind place.column (b ∷ [])) }
 {
-    if b == 10 {
+    if b == b'\n' {
         return Place {
             line: place.line + 1,
             column: 1,
@@ -270,10 +291,8 @@ pub fn place_of(text: &[u8], at: usize) -> Place
     ensures { (result.line ≡ line_of text.now at) × (result.column ≡ column_of text.now at) }
 {
     let mut place = Place { line: 1, column: 1 };
-    let mut i: usize = 0;
-    while i < at {
-        place = passed(place, text[i]);
-        i += 1;
+    for b in &text[..at] {
+        place = passed(place, *b);
     }
     place
 }

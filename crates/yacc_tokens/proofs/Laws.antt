@@ -1,19 +1,13 @@
--- The table of moves is `move`; the loop's turns; a text of the grammar is one that the loop accepts. Assumes nothing.
-use Prim.Native.Nat.{ℕ, ◌+◌, ◌*◌, ◌<◌}
-use native.Mathlib.Omega.{arith}
+-- The loop's turns; a text of the grammar is one that the loop accepts. Assumes nothing.
+use Prim.Native.Nat.{ℕ, ◌+◌}
 use mathlib.Core.Bool.{Bool, true, false}
 use mathlib.Core.Path.{◌≡◌, refl, sym, ap, ◌∙◌}
 use mathlib.Core.List.{List, [], ◌∷◌, map}
 use mathlib.Core.Option.{Option, none, some}
-use lib.Dec.{eqb, ltb}
-use lib.ListN.{get_or}
-use borrow.Author.Tests.{ltb-true}
-use Rattle.repr.specs.Lists.{up_from, below}
-use Rattle.repr.proofs.Lists.{get_d_map-below}
 use Rattle.yacc_text.specs.Grammar.{Token, Piece, white, comment, piece, tokens_in, File, Layout}
 use Rattle.yacc_text.specs.Lex.{lex}
 use Rattle.yacc_text.specs.Parse.{run, file_of, laid, parsed, parse}
-use Rattle.yacc_text.specs.Forward.{Mode, top, dead, begins, sides, move, last, accepts}
+use Rattle.yacc_text.specs.Forward.{Mode, top, begins, sides, move, last, accepts}
 use Rattle.yacc_text.specs.Places.{Placed, width_of, placed, placed_in, placed_from}
 use Rattle.yacc_text.proofs.Forward.{accepts-found}
 use Rattle.yacc_lex.specs.Steps.{token_at, front, Leads, Told}
@@ -21,77 +15,54 @@ use Rattle.yacc_lex.specs.declared.Next.{Next}
 use Rattle.yacc_lex.specs.declared.Next.TheVariants.{Token as Lexed, End as Ends, Outside as NoToken}
 use Rattle.yacc_lex.specs.declared.Word.{Word}
 use Rattle.yacc_lex.specs.declared.Word.TheVariants.{Name, Literal, Token as TheToken, Start, Mark, Colon, Bar, Semi}
-use Rattle.yacc_tokens.specs.Accepted.{mode_of, number_of_word, moves, moves_to, judged, is_grammar_text}
+use Rattle.std.proofs.Common.{cond}
+use Rattle.yacc_tokens.specs.Accepted.{mode_of, judged, is_grammar_text}
+use Rattle.yacc_tokens.specs.declared.Mode.{Mode as Mode'}
+use Rattle.yacc_tokens.specs.declared.Mode.TheVariants.{Top, Wanted, Listed, Starting, Ruled, Sided, Bodied, Done, Dead}
 
--- a test of every number below n
-pub at-number {ℓ} : {A : Type ℓ} (f g : ℕ → A) (d : A) (n : ℕ) → map f (below n) ≡ map g (below n) → (m : ℕ) → m < n → f m ≡ g m
-at-number {A} f g d n e m h = sym (get_d_map-below f n m d h) ∙ ap (λ (xs : List A). get_or xs m d) e ∙ get_d_map-below g n m d h
+-- where a word leads, as `moved` answers
+abbrev pub moves : Mode' → Word → Mode'
+moves (Top s) w = elim w [ Name ↦ Dead | Literal ↦ Dead | TheToken ↦ Wanted s | Start ↦ cond s Dead Starting | Mark ↦ Ruled | Colon ↦ Dead | Bar ↦ Dead | Semi ↦ Dead ]
+moves (Wanted s) w = elim w [ Name ↦ Listed s | Literal ↦ Listed s | TheToken ↦ Dead | Start ↦ Dead | Mark ↦ Dead | Colon ↦ Dead | Bar ↦ Dead | Semi ↦ Dead ]
+moves (Listed s) w = elim w [ Name ↦ Listed s | Literal ↦ Listed s | TheToken ↦ Wanted s | Start ↦ cond s Dead Starting | Mark ↦ Ruled | Colon ↦ Dead | Bar ↦ Dead | Semi ↦ Dead ]
+moves Starting w = elim w [ Name ↦ Top true | Literal ↦ Top true | TheToken ↦ Dead | Start ↦ Dead | Mark ↦ Dead | Colon ↦ Dead | Bar ↦ Dead | Semi ↦ Dead ]
+moves Ruled w = elim w [ Name ↦ Sided | Literal ↦ Dead | TheToken ↦ Dead | Start ↦ Dead | Mark ↦ Dead | Colon ↦ Dead | Bar ↦ Dead | Semi ↦ Dead ]
+moves Sided w = elim w [ Name ↦ Dead | Literal ↦ Dead | TheToken ↦ Dead | Start ↦ Dead | Mark ↦ Dead | Colon ↦ Bodied | Bar ↦ Dead | Semi ↦ Dead ]
+moves Bodied w = elim w [ Name ↦ Bodied | Literal ↦ Bodied | TheToken ↦ Dead | Start ↦ Dead | Mark ↦ Dead | Colon ↦ Dead | Bar ↦ Bodied | Semi ↦ Done ]
+moves Done w = elim w [ Name ↦ Sided | Literal ↦ Dead | TheToken ↦ Dead | Start ↦ Dead | Mark ↦ Dead | Colon ↦ Dead | Bar ↦ Dead | Semi ↦ Dead ]
+moves Dead w = Dead
 
--- the table of moves
-each_word : (w : Word) (t : List ℕ) (from past : ℕ) → map (λ m. mode_of (moves_to m (number_of_word w))) (below 12) ≡ map (λ m. move (mode_of m) (token_at t w from past)) (below 12)
-unfolding below up_from mode_of moves_to number_of_word move begins sides token_at
-each_word Name t from past = refl
-each_word Literal t from past = refl
-each_word TheToken t from past = refl
-each_word Start t from past = refl
-each_word Mark t from past = refl
-each_word Colon t from past = refl
-each_word Bar t from past = refl
-each_word Semi t from past = refl
+by_seen : (s : Bool) → begins s ≡ mode_of (cond s Dead Starting)
+unfolding begins
+by_seen true = refl
+by_seen false = refl
 
-pub moves_is : (m : ℕ) → m < 12 → (w : Word) (t : List ℕ) (from past : ℕ) → mode_of (moves_to m (number_of_word w)) ≡ move (mode_of m) (token_at t w from past)
-moves_is m h w t from past = at-number (λ k. mode_of (moves_to k (number_of_word w))) (λ k. move (mode_of k) (token_at t w from past)) dead 12 (each_word w t from past) m h
+abbrev Moved : Mode' → List ℕ → ℕ → ℕ → Word → Type 0
+Moved m t from past w = move (mode_of m) (token_at t w from past) ≡ mode_of (moves m w)
 
-each_small : map (λ i. ltb (get_or moves i 0) 12) (below 96) ≡ map (λ i. true) (below 96)
-unfolding below up_from
-each_small = refl
+pub moves_is : (m : Mode') (w : Word) (t : List ℕ) (from past : ℕ) → move (mode_of m) (token_at t w from past) ≡ mode_of (moves m w)
+unfolding move sides token_at
+moves_is (Top s) w t from past = elim w as (Moved (Top s) t from past) [ Name ↦ refl | Literal ↦ refl | TheToken ↦ refl | Start ↦ by_seen s | Mark ↦ refl | Colon ↦ refl | Bar ↦ refl | Semi ↦ refl ]
+moves_is (Wanted s) w t from past = elim w as (Moved (Wanted s) t from past) [ Name ↦ refl | Literal ↦ refl | TheToken ↦ refl | Start ↦ refl | Mark ↦ refl | Colon ↦ refl | Bar ↦ refl | Semi ↦ refl ]
+moves_is (Listed s) w t from past = elim w as (Moved (Listed s) t from past) [ Name ↦ refl | Literal ↦ refl | TheToken ↦ refl | Start ↦ by_seen s | Mark ↦ refl | Colon ↦ refl | Bar ↦ refl | Semi ↦ refl ]
+moves_is Starting w t from past = elim w as (Moved Starting t from past) [ Name ↦ refl | Literal ↦ refl | TheToken ↦ refl | Start ↦ refl | Mark ↦ refl | Colon ↦ refl | Bar ↦ refl | Semi ↦ refl ]
+moves_is Ruled w t from past = elim w as (Moved Ruled t from past) [ Name ↦ refl | Literal ↦ refl | TheToken ↦ refl | Start ↦ refl | Mark ↦ refl | Colon ↦ refl | Bar ↦ refl | Semi ↦ refl ]
+moves_is Sided w t from past = elim w as (Moved Sided t from past) [ Name ↦ refl | Literal ↦ refl | TheToken ↦ refl | Start ↦ refl | Mark ↦ refl | Colon ↦ refl | Bar ↦ refl | Semi ↦ refl ]
+moves_is Bodied w t from past = elim w as (Moved Bodied t from past) [ Name ↦ refl | Literal ↦ refl | TheToken ↦ refl | Start ↦ refl | Mark ↦ refl | Colon ↦ refl | Bar ↦ refl | Semi ↦ refl ]
+moves_is Done w t from past = elim w as (Moved Done t from past) [ Name ↦ refl | Literal ↦ refl | TheToken ↦ refl | Start ↦ refl | Mark ↦ refl | Colon ↦ refl | Bar ↦ refl | Semi ↦ refl ]
+moves_is Dead w t from past = refl
 
-pub moves_small : (i : ℕ) → i < 96 → get_or moves i 0 < 12
-moves_small i h = ltb-true (get_or moves i 0) 12 (at-number (λ k. ltb (get_or moves k 0) 12) (λ k. true) false 96 each_small i h)
-
-each_last : map (λ m. last (mode_of m)) (below 12) ≡ map (λ m. eqb m 10) (below 12)
-unfolding below up_from mode_of last
-each_last = refl
-
--- the words' numbers
-pub number_name : (w : Word) → w ≡ Name → (0 ≡ number_of_word w) × (0 < 8)
-unfolding number_of_word
-number_name w e = (sym (ap number_of_word e), omega arith)
-
-pub number_literal : (w : Word) → w ≡ Literal → (1 ≡ number_of_word w) × (1 < 8)
-unfolding number_of_word
-number_literal w e = (sym (ap number_of_word e), omega arith)
-
-pub number-token : (w : Word) → w ≡ TheToken → (2 ≡ number_of_word w) × (2 < 8)
-unfolding number_of_word
-number-token w e = (sym (ap number_of_word e), omega arith)
-
-pub number-start : (w : Word) → w ≡ Start → (3 ≡ number_of_word w) × (3 < 8)
-unfolding number_of_word
-number-start w e = (sym (ap number_of_word e), omega arith)
-
-pub number-mark : (w : Word) → w ≡ Mark → (4 ≡ number_of_word w) × (4 < 8)
-unfolding number_of_word
-number-mark w e = (sym (ap number_of_word e), omega arith)
-
-pub number-colon : (w : Word) → w ≡ Colon → (5 ≡ number_of_word w) × (5 < 8)
-unfolding number_of_word
-number-colon w e = (sym (ap number_of_word e), omega arith)
-
-pub number-bar : (w : Word) → w ≡ Bar → (6 ≡ number_of_word w) × (6 < 8)
-unfolding number_of_word
-number-bar w e = (sym (ap number_of_word e), omega arith)
-
-pub number-semi : (w : Word) → w ≡ Semi → (7 ≡ number_of_word w) × (7 < 8)
-unfolding number_of_word
-number-semi w e = (sym (ap number_of_word e), omega arith)
-
-pub moved_is : (m k n r : ℕ) → m < 12 → (n ≡ k) × (n < 8) → r ≡ get_or moves (m * 8 + n) 0 → (r ≡ moves_to m k) × (r < 12)
-unfolding moves_to
-moved_is m k n r h N e =
-    let q : n ≡ k = N.0 in
-    let s = moves_small (m * 8 + n) (omega (arith, N.1)) in
-    (e ∙ ap (λ (x : ℕ). get_or moves (m * 8 + x) 0) q, omega (arith, s, e))
+pub last-other : (m : Mode') → (m ≡ Done → ⊥) → false ≡ last (mode_of m)
+unfolding last
+last-other (Top s) n = refl
+last-other (Wanted s) n = refl
+last-other (Listed s) n = refl
+last-other Starting n = refl
+last-other Ruled n = refl
+last-other Sided n = refl
+last-other Bodied n = refl
+last-other Done n = absurd (n refl)
+last-other Dead n = refl
 
 -- the loop's turns
 judged-front : (m : Mode) (k : Token) (from past : ℕ) (o : Option (List Placed)) → judged m (front k from past o) ≡ judged (move m k) o
@@ -103,23 +74,20 @@ pub token-told : (t : List ℕ) (at : ℕ) (x : Next) (w : Word) (from past : �
 unfolding Told
 token-told t at x w from past e T = rw e at T
 
-module _ (t : List ℕ) (at m : ℕ) (r : Bool) (h : m < 12) (inv : judged (mode_of m) (placed_from t at) ≡ r) where
-  pub turn : (w : Word) (from past n : ℕ) → Leads t at w from past → n ≡ moves_to m (number_of_word w) → judged (mode_of n) (placed_from t past) ≡ r
+module _ (t : List ℕ) (at : ℕ) (m : Mode) (r : Bool) (inv : judged m (placed_from t at) ≡ r) where
+  pub turn : (w : Word) (from past : ℕ) (n : Mode) → Leads t at w from past → n ≡ move m (token_at t w from past) → judged n (placed_from t past) ≡ r
   turn w from past n L e =
-      ap (λ (k : ℕ). judged (mode_of k) (placed_from t past)) e
-      ∙ ap (λ (k : Mode). judged k (placed_from t past)) (moves_is m h w t from past)
-      ∙ sym (ap (judged (mode_of m)) L.is ∙ judged-front (mode_of m) (token_at t w from past) from past (placed_from t past))
+      ap (λ (k : Mode). judged k (placed_from t past)) e
+      ∙ sym (ap (judged m) L.is ∙ judged-front m (token_at t w from past) from past (placed_from t past))
       ∙ inv
 
-  pub turn_ends : (x : Next) → x ≡ Ends → Told t at x → eqb m 10 ≡ r
+  pub turn_ends : (x : Next) → x ≡ Ends → Told t at x → last m ≡ r
   unfolding Told judged accepts
-  turn_ends x e T =
-      let p : placed_from t at ≡ some [] = rw e at T in
-      sym (at-number (λ k. last (mode_of k)) (λ k. eqb k 10) false 12 each_last m h) ∙ sym (ap (judged (mode_of m)) p) ∙ inv
+  turn_ends x e T = let p : placed_from t at ≡ some [] = rw e at T in sym (ap (judged m) p) ∙ inv
 
   pub turn_outside : (x : Next) → x ≡ NoToken → Told t at x → false ≡ r
   unfolding Told judged
-  turn_outside x e T = let p : placed_from t at ≡ none = rw e at T in sym (ap (judged (mode_of m)) p) ∙ inv
+  turn_outside x e T = let p : placed_from t at ≡ none = rw e at T in sym (ap (judged m) p) ∙ inv
 
 -- a text that is accepted is one that has a layout
 pub tokens-placed : (at : ℕ) (ps : List Piece) → map (λ p. p.token) (placed at ps) ≡ tokens_in ps
@@ -142,6 +110,6 @@ unfolding judged placed_in parsed
 by_pieces none = refl
 by_pieces (some ps) = ap (accepts (top false)) (tokens-placed 0 ps) ∙ accepts-found (tokens_in ps) ∙ laid-found ps (file_of (run (tokens_in ps)))
 
-pub judged-whole : (t : List ℕ) → judged (mode_of 0) (placed_from t 0) ≡ is_grammar_text t
-unfolding mode_of placed_from is_grammar_text parse
+pub judged-whole : (t : List ℕ) → judged (top false) (placed_from t 0) ≡ is_grammar_text t
+unfolding placed_from is_grammar_text parse
 judged-whole t = by_pieces (lex t)

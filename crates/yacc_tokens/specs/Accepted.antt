@@ -1,44 +1,22 @@
--- The modes of crate yacc_text as numbers, and the texts of the grammar, but for their length. Assumes nothing: these are definitions.
-use Rattle.std.specs.Prelude.{ℕ, ◌+◌, ◌*◌, Bool, true, false, List, [], ◌∷◌, map, get_or}
+-- The code's modes as those of crate yacc_text, and the texts of the grammar, but for their length. Assumes nothing: these are definitions.
+use Rattle.std.specs.Prelude.{ℕ, Bool, true, false, List, map}
 use Rattle.std.proofs.Math.Option.{Option, none, some}
 use Rattle.yacc_text.specs.Parse.{parse}
 use Rattle.yacc_text.specs.Forward.{Mode, top, wanted, listed, starting, ruled, sided, bodied, done, dead, accepts}
 use Rattle.yacc_text.specs.Places.{Placed}
-use Rattle.yacc_lex.specs.declared.Word.{Word}
-use Rattle.yacc_lex.specs.declared.Word.TheVariants.{Name, Literal, Token, Start, Mark, Colon, Bar, Semi}
+use Rattle.yacc_tokens.specs.declared.Mode.{Mode as Mode'}
+use Rattle.yacc_tokens.specs.declared.Mode.TheVariants.{Top, Wanted, Listed, Starting, Ruled, Sided, Bodied, Done, Dead}
 
-unfoldable pub mode_of : ℕ → Mode
-mode_of n = get_or (top false ∷ top true ∷ wanted false ∷ wanted true ∷ listed false ∷ listed true ∷ starting ∷ ruled ∷ sided ∷ bodied ∷ done ∷ dead ∷ []) n dead
-
-unfoldable pub number_of_word : Word → ℕ
-number_of_word Name = 0
-number_of_word Literal = 1
-number_of_word Token = 2
-number_of_word Start = 3
-number_of_word Mark = 4
-number_of_word Colon = 5
-number_of_word Bar = 6
-number_of_word Semi = 7
-
--- where each word leads from each mode, a row for each mode
-abbrev pub moves : List ℕ
-moves =
-    11 ∷ 11 ∷ 2 ∷ 6 ∷ 7 ∷ 11 ∷ 11 ∷ 11
-    ∷ 11 ∷ 11 ∷ 3 ∷ 11 ∷ 7 ∷ 11 ∷ 11 ∷ 11
-    ∷ 4 ∷ 4 ∷ 11 ∷ 11 ∷ 11 ∷ 11 ∷ 11 ∷ 11
-    ∷ 5 ∷ 5 ∷ 11 ∷ 11 ∷ 11 ∷ 11 ∷ 11 ∷ 11
-    ∷ 4 ∷ 4 ∷ 2 ∷ 6 ∷ 7 ∷ 11 ∷ 11 ∷ 11
-    ∷ 5 ∷ 5 ∷ 3 ∷ 11 ∷ 7 ∷ 11 ∷ 11 ∷ 11
-    ∷ 1 ∷ 1 ∷ 11 ∷ 11 ∷ 11 ∷ 11 ∷ 11 ∷ 11
-    ∷ 8 ∷ 11 ∷ 11 ∷ 11 ∷ 11 ∷ 11 ∷ 11 ∷ 11
-    ∷ 11 ∷ 11 ∷ 11 ∷ 11 ∷ 11 ∷ 9 ∷ 11 ∷ 11
-    ∷ 9 ∷ 9 ∷ 11 ∷ 11 ∷ 11 ∷ 11 ∷ 9 ∷ 10
-    ∷ 8 ∷ 11 ∷ 11 ∷ 11 ∷ 11 ∷ 11 ∷ 11 ∷ 11
-    ∷ 11 ∷ 11 ∷ 11 ∷ 11 ∷ 11 ∷ 11 ∷ 11 ∷ 11
-    ∷ []
-
-unfoldable pub moves_to : ℕ → ℕ → ℕ
-moves_to m w = get_or moves (m * 8 + w) 0
+abbrev pub mode_of : Mode' → Mode
+mode_of (Top s) = top s
+mode_of (Wanted s) = wanted s
+mode_of (Listed s) = listed s
+mode_of Starting = starting
+mode_of Ruled = ruled
+mode_of Sided = sided
+mode_of Bodied = bodied
+mode_of Done = done
+mode_of Dead = dead
 
 -- the tokens from a place on, read from a mode on
 unfoldable pub judged : Mode → Option (List Placed) → Bool

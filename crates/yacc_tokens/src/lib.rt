@@ -2,48 +2,51 @@
 
 #![tactic(auto)]
 
-ghost use Rattle.std.specs.Prelude.{◌≡◌, ◌<◌};
-ghost use Rattle.yacc_tokens.specs.Accepted.{number_of_word, moves_to, is_grammar_text};
+ghost use Rattle.std.specs.Prelude.{◌≡◌, List, ℕ};
+ghost use Rattle.yacc_text.specs.Forward.{move};
+ghost use Rattle.yacc_lex.specs.Steps.{token_at};
+ghost use Rattle.yacc_tokens.specs.Accepted.{mode_of, is_grammar_text};
 
 use yacc_lex::{Next, Word, next_token};
 
-// Where each word leads from each mode, a row for each mode.
-const MOVES: [u8; 96] = [
-    11, 11, 2, 6, 7, 11, 11, 11, 11, 11, 3, 11, 7, 11, 11, 11, 4, 4, 11, 11, 11, 11, 11, 11, 5, 5,
-    11, 11, 11, 11, 11, 11, 4, 4, 2, 6, 7, 11, 11, 11, 5, 5, 3, 11, 7, 11, 11, 11, 1, 1, 11, 11,
-    11, 11, 11, 11, 8, 11, 11, 11, 11, 11, 11, 11, 11, 11, 11, 11, 11, 9, 11, 11, 9, 9, 11, 11, 11,
-    11, 9, 10, 8, 11, 11, 11, 11, 11, 11, 11, 11, 11, 11, 11, 11, 11, 11, 11,
-];
-
-fn word_number(word: Word) -> usize
-    ensures { (result ≡ number_of_word word) × (result < 8) }
-{
-    match word {
-        Word::Name => 0,
-        Word::Literal => 1,
-        Word::Token => 2,
-        Word::Start => 3,
-        Word::Mark => 4,
-        Word::Colon => 5,
-        Word::Bar => 6,
-        Word::Semi => 7,
-    }
+// What may follow (crate yacc_text, specs/Forward): between definitions, behind `%token`, in its list, each with: was a start seen; behind `%start`, behind `%%`, behind a left side, in a body, behind a rule; nothing.
+#[derive(Clone, Copy)]
+pub enum Mode {
+    Top(bool),
+    Wanted(bool),
+    Listed(bool),
+    Starting,
+    Ruled,
+    Sided,
+    Bodied,
+    Done,
+    Dead,
 }
 
 // The mode behind a word.
-pub fn moved(mode: usize, word: Word) -> usize
-    requires { mode < 12 }
-    ensures { (result ≡ moves_to mode (number_of_word word)) × (result < 12) }
+#[tactic(auto, using(crate::proofs::Laws::moves_is))]
+pub fn moved(mode: Mode, word: Word) -> Mode
+    ensures { (t : List ℕ) (from past : ℕ) → mode_of result ≡ move (mode_of mode) (token_at t word from past) }
 {
-    let number = word_number(word);
-    MOVES[mode * 8 + number] as usize
+    match (mode, word) {
+        (Mode::Top(seen) | Mode::Listed(seen), Word::Token) => Mode::Wanted(seen),
+        (Mode::Top(false) | Mode::Listed(false), Word::Start) => Mode::Starting,
+        (Mode::Top(_) | Mode::Listed(_), Word::Mark) => Mode::Ruled,
+        (Mode::Wanted(seen) | Mode::Listed(seen), Word::Name | Word::Literal) => Mode::Listed(seen),
+        (Mode::Starting, Word::Name | Word::Literal) => Mode::Top(true),
+        (Mode::Ruled | Mode::Done, Word::Name) => Mode::Sided,
+        (Mode::Sided, Word::Colon) => Mode::Bodied,
+        (Mode::Bodied, Word::Name | Word::Literal | Word::Bar) => Mode::Bodied,
+        (Mode::Bodied, Word::Semi) => Mode::Done,
+        _ => Mode::Dead,
+    }
 }
 
 // Is this a text of the grammar, but for its length.
 pub fn is_grammar(text: &[u8]) -> bool
     ensures { result ≡ is_grammar_text text.now }
 {
-    let mut mode: usize = 0;
+    let mut mode = Mode::Top(false);
     let mut at: usize = 0;
     loop {
         match next_token(text, at) {
@@ -52,7 +55,7 @@ pub fn is_grammar(text: &[u8]) -> bool
                 at = past;
             }
             Next::End => {
-                return mode == 10;
+                return matches!(mode, Mode::Done);
             }
             Next::Outside => {
                 return false;

@@ -80,37 +80,3 @@ verdict_from t (shuts at ∷ es) b o l us e =
 pub verdict_undefined : (es : List Event) → verdict_of (nowhere (source_of es)) (record { bad = false; body = false }) es ≡ undefined_use (source_of es)
 unfolding undefined_use source_of
 verdict_undefined es = verdict_from (nowhere (source_of es)) es false false no_id [] (sym (some?-nil (nowhere (source_of es))))
-
--- `judge`
-module _ (v : Verdict) (s : Saying) (w : Bool) where
-  pub judge-lists : s ≡ Lists → v ≡ judged v s w
-  unfolding judged
-  judge-lists e = sym (ap (λ (k : Saying). judged v k w) e)
-
-  pub judge-opens : s ≡ Opens → v ≡ judged v s w
-  unfolding judged
-  judge-opens e = sym (ap (λ (k : Saying). judged v k w) e)
-
-  pub judge-nothing : s ≡ Nothing → v ≡ judged v s w
-  unfolding judged
-  judge-nothing e = sym (ap (λ (k : Saying). judged v k w) e)
-
-  pub judge-defines : (r : Verdict) → s ≡ Defines → r ≡ record { bad = v.bad; body = false } → r ≡ judged v s w
-  unfolding judged
-  judge-defines r e q = q ∙ sym (ap (λ (k : Saying). judged v k w) e)
-
-  pub judge_wrong : (r : Verdict) → s ≡ Uses → w ≡ true → r ≡ record { bad = v.bad; body = true } → r ≡ judged v s w
-  unfolding judged
-  judge_wrong r e y q = q ∙ sym (ap (λ (k : Saying). judged v k w) e ∙ ap (judged v Uses) y)
-
-  pub judge_right : s ≡ Uses → w ≡ false → v ≡ judged v s w
-  unfolding judged
-  judge_right e n = sym (ap (λ (k : Saying). judged v k w) e ∙ ap (judged v Uses) n)
-
-  pub judge-shuts : s ≡ Shuts → v.body ≡ true → record { bad = true; body = false } ≡ judged v s w
-  unfolding judged
-  judge-shuts e y = sym (ap (λ (k : Saying). judged v k w) e ∙ ap (λ (b : Bool). elim b [ true ↦ record { bad = true; body = false } | false ↦ v ]) y)
-
-  pub judge_clean : s ≡ Shuts → v.body ≡ false → v ≡ judged v s w
-  unfolding judged
-  judge_clean e n = sym (ap (λ (k : Saying). judged v k w) e ∙ ap (λ (b : Bool). elim b [ true ↦ record { bad = true; body = false } | false ↦ v ]) n)

@@ -14,38 +14,24 @@ pub struct Verdict {
     pub body: bool,
 }
 
-fn body_is(verdict: Verdict, body: bool) -> Verdict
-    ensures { result ≡ record { bad = verdict.bad; body = body } }
-{
-    Verdict {
-        bad: verdict.bad,
-        body: body,
-    }
-}
-
 // What a word says, and whether it is such an id.
+#[tactic(auto, unfolding(crate::specs::Uses::judged))]
 pub fn judge(verdict: Verdict, what: Saying, wrong: bool) -> Verdict
     ensures { result ≡ judged verdict what wrong }
 {
     match what {
-        Saying::Lists => verdict,
-        Saying::Opens => verdict,
-        Saying::Defines => body_is(verdict, false),
-        Saying::Uses => {
-            if wrong {
-                return body_is(verdict, true);
-            }
-            verdict
-        }
-        Saying::Shuts => {
-            if verdict.body {
-                return Verdict {
-                    bad: true,
-                    body: false,
-                };
-            }
-            verdict
-        }
-        Saying::Nothing => verdict,
+        Saying::Defines => Verdict {
+            body: false,
+            ..verdict
+        },
+        Saying::Uses => Verdict {
+            body: verdict.body || wrong,
+            ..verdict
+        },
+        Saying::Shuts => Verdict {
+            bad: verdict.bad || verdict.body,
+            body: false,
+        },
+        Saying::Lists | Saying::Opens | Saying::Nothing => verdict,
     }
 }

@@ -1,4 +1,5 @@
 use mathlib.Core.Path.{sym, ◌∙◌}
+use Rattle.yacc_tokens.specs.Accepted.{mode_of}
 use Rattle.yacc_tokens.proofs.Laws.{token-told}
 use Rattle.yacc_said.proofs.Laws.{said-ends, said-outside}
 use Rattle.yacc_count.specs.Counted.{no_counts}
@@ -6,38 +7,23 @@ use Rattle.yacc_count.proofs.Laws.{tally_all, tally_nil, tally_whole, tally_turn
 use native.Mathlib.Omega.{arith}
 use Rattle.yacc_count.proofs.count.Goals as goal
 
--- src/lib.rt:95:5
 pub loop-word-init : goal.loop-word-init
-loop-word-init c = (omega arith, omega arith, record { alternatives = omega arith; symbols = omega arith; short = omega arith }, tally_whole c.args.text.now)
+loop-word-init c = (omega arith, record { alternatives = omega arith; symbols = omega arith; short = omega arith }, tally_whole c.args.text.now)
 
--- src/lib.rt:96:15
 pub next_token-requires : goal.next_token-requires
 next_token-requires c = c.loop-word.invariant.0
 
--- src/lib.rt:98:21
-pub said-what-requires : goal.said-what-requires
-said-what-requires c = c.loop-word.invariant.1
-
--- src/lib.rt:99:17
 pub add-tally-requires : goal.add-tally-requires
-add-tally-requires c = roomy _ _ _ c.loop-word.invariant.0 c.requires c.loop-word.invariant.2
+add-tally-requires c = roomy _ _ _ c.loop-word.invariant.0 c.requires c.loop-word.invariant.1
 
--- src/lib.rt:100:17
-pub moved-mode-requires : goal.moved-mode-requires
-moved-mode-requires c = c.loop-word.invariant.1
-
--- src/lib.rt:95:5
 pub loop-word-smaller : goal.loop-word-smaller
 loop-word-smaller c = let L = token-told c.args.text.now c.loop-word.at _ _ _ _ c.in-Token.is c.next_token.ensures in let o = L.order in let w = L.wide in let i = L.inside in omega (arith, o, w, i)
 
--- src/lib.rt:95:5
 pub loop-word-preserved : goal.loop-word-preserved
-loop-word-preserved c = let L = token-told c.args.text.now c.loop-word.at _ _ _ _ c.in-Token.is c.next_token.ensures in (L.inside, c.moved-mode.ensures.1, within_turn _ _ _ _ _ _ _ _ L c.add-tally.ensures c.loop-word.invariant.2, tally_turn c.args.text.now c.loop-word.at c.loop-word.mode c.loop-word.invariant.1 c.loop-word.tally _ c.loop-word.invariant.3 _ _ _ _ _ _ L c.said-what.ensures c.add-tally.ensures c.moved-mode.ensures.0)
+loop-word-preserved c = let L = token-told c.args.text.now c.loop-word.at _ _ _ _ c.in-Token.is c.next_token.ensures in (L.inside, within_turn _ _ _ _ _ _ _ _ L c.add-tally.ensures c.loop-word.invariant.1, tally_turn c.args.text.now c.loop-word.at (mode_of c.loop-word.mode) c.loop-word.tally _ c.loop-word.invariant.2 _ _ _ _ _ _ L c.said-what.ensures c.add-tally.ensures (c.moved-mode.ensures c.args.text.now c.in-Token._from c.in-Token.past))
 
--- src/lib.rt:104:17
 pub returns-in-End : goal.returns-in-End
-returns-in-End c = sym (tally_nil c.loop-word.tally) ∙ said-ends no_counts c.args.text.now c.loop-word.at c.loop-word.mode c.loop-word.invariant.1 (tally_all c.loop-word.tally) _ c.loop-word.invariant.3 _ c.in-End.is c.next_token.ensures
+returns-in-End c = sym (tally_nil c.loop-word.tally) ∙ said-ends no_counts c.args.text.now c.loop-word.at (mode_of c.loop-word.mode) (tally_all c.loop-word.tally) _ c.loop-word.invariant.2 _ c.in-End.is c.next_token.ensures
 
--- src/lib.rt:111:17
 pub returns-in-Outside : goal.returns-in-Outside
-returns-in-Outside c = said-outside no_counts c.args.text.now c.loop-word.at c.loop-word.mode c.loop-word.invariant.1 (tally_all c.loop-word.tally) _ c.loop-word.invariant.3 _ c.in-Outside.is c.next_token.ensures
+returns-in-Outside c = said-outside no_counts c.args.text.now c.loop-word.at (mode_of c.loop-word.mode) (tally_all c.loop-word.tally) _ c.loop-word.invariant.2 _ c.in-Outside.is c.next_token.ensures

@@ -1,4 +1,4 @@
-use Prim.Native.Nat.{◌-◌, ◌≤◌, ◌<◌}
+use Prim.Native.Nat.{◌-◌, ◌≤◌}
 use mathlib.Core.Path.{◌≡◌}
 use lib.ListN.{length}
 use Rattle.yacc_text.specs.Places.{placed_from}
@@ -9,7 +9,7 @@ use Rattle.yacc_count.proofs.Laws.{tally_all}
 use Rattle.yacc_count.proofs.count.Given as goal
 
 abbrev pub invariant-loop-word : goal.invariant-loop-word
-invariant-loop-word l = (l.at ≤ length l.text) × (l.mode < 12) × Within l.tally l.at × (of_said no_counts (tally_all l.tally) (mode_of l.mode) (placed_from l.text l.at) ≡ counts_in l.text)
+invariant-loop-word l = (l.at ≤ length l.text) × Within l.tally l.at × (of_said no_counts (tally_all l.tally) (mode_of l.mode) (placed_from l.text l.at) ≡ counts_in l.text)
 
 abbrev pub decreases-loop-word : goal.decreases-loop-word
 decreases-loop-word l = length l.text - l.at

@@ -10,10 +10,10 @@ returns-then-not-has_word c = no_comment c.args.text.now c.args.at c.requires.0 
 pub comment_end-requires : goal.comment_end-requires
 comment_end-requires c = comment-inside c.args.text.now c.args.at c.requires.0 c.requires.1 _ c.has_word.ensures c.if-not-has_word.false
 
-pub returns-in-At : goal.returns-in-At
+pub returns-in-Some : goal.returns-in-Some
 unfolding Steps found_at
-returns-in-At c = at_comment c.args.text.now c.args.at c.requires.0 c.requires.1 _ c.has_word.ensures c.if-not-has_word.false _ (sym (ap found_at c.in-At.is) ∙ c.comment_end.ensures)
+returns-in-Some c = at_comment c.args.text.now c.args.at c.requires.0 c.requires.1 _ c.has_word.ensures c.if-not-has_word.false _ (sym (ap found_at c.in-Some.is) ∙ c.comment_end.ensures)
 
-pub returns-in-Nothing : goal.returns-in-Nothing
+pub returns-in-None : goal.returns-in-None
 unfolding Steps found_at
-returns-in-Nothing c = endless c.args.text.now c.args.at c.requires.0 c.requires.1 _ c.has_word.ensures c.if-not-has_word.false (sym (ap found_at c.in-Nothing.is) ∙ c.comment_end.ensures)
+returns-in-None c = endless c.args.text.now c.args.at c.requires.0 c.requires.1 _ c.has_word.ensures c.if-not-has_word.false (sym (ap found_at c.in-None.is) ∙ c.comment_end.ensures)

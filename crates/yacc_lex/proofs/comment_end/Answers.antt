@@ -1,27 +1,18 @@
-use Rattle.yacc_lex.proofs.Runs.{closes-room, comment-over, comment-closed, comment-zero, comment-more}
-use mathlib.Core.Path.{refl}
+use Rattle.yacc_lex.proofs.Runs.{comment-over, comment-closed, comment-zero, comment-more}
 use Rattle.yacc_lex.specs.Steps.{found_at}
-use borrow.Author.Rules.{rules}
-use native.Mathlib.Omega.{arith}
 use Rattle.yacc_lex.proofs.comment_end.Goals as goal
-
-pub loop-i-init : goal.loop-i-init
-loop-i-init c = (c.requires, refl)
-
-pub overflow_add-result : goal.overflow_add-result
-overflow_add-result c = omega (arith, closes-room c.args.text.now c.loop-i.i _ c.closes_at.ensures c.if-closes_at.true)
 
 pub returns-then-closes_at : goal.returns-then-closes_at
 unfolding found_at
-returns-then-closes_at c = comment-closed _ _ _ c.loop-i.invariant.1 c.loop-i-test.true _ c.closes_at.ensures c.if-closes_at.true
+returns-then-closes_at c = comment-closed _ _ _ c.loop-i.invariant c.loop-i-test.true _ c.closes_at.ensures c.if-closes_at.true
 
 pub returns-then-text-i-eq0 : goal.returns-then-text-i-eq0
 unfolding found_at
-returns-then-text-i-eq0 c = comment-zero _ _ _ c.loop-i.invariant.1 c.loop-i-test.true _ c.closes_at.ensures c.if-closes_at.false c.if-text-i-eq0.true
+returns-then-text-i-eq0 c = comment-zero _ _ _ c.loop-i.invariant c.loop-i-test.true _ c.closes_at.ensures c.if-closes_at.false c.if-text-i-eq0.true
 
 pub loop-i-preserved : goal.loop-i-preserved
-loop-i-preserved c = (search rules, comment-more _ _ _ c.loop-i.invariant.1 c.loop-i-test.true _ c.closes_at.ensures c.if-closes_at.false c.if-text-i-eq0.false)
+loop-i-preserved c = comment-more _ _ _ c.loop-i.invariant c.loop-i-test.true _ c.closes_at.ensures c.if-closes_at.false c.if-text-i-eq0.false
 
 pub returns : goal.returns
 unfolding found_at
-returns c = comment-over _ _ _ c.loop-i.invariant.1 c.loop-i-test.false
+returns c = comment-over _ _ _ c.loop-i.invariant c.loop-i-test.false

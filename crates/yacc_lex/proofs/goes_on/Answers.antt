@@ -1,11 +1,11 @@
-use Rattle.yacc_lex.proofs.Bytes.{goes-white, goes-letter, goes-digit}
+use mathlib.Core.Path.{sym, ap, ◌∙◌}
+use mathlib.Core.Bool.{Bool, ◌||◌}
+use Rattle.yacc_text.specs.Grammar.{is_digit_byte}
+use Rattle.yacc_lex.proofs.Bytes.{goes_is}
 use Rattle.yacc_lex.proofs.goes_on.Goals as goal
 
-pub returns-then-is_white : goal.returns-then-is_white
-returns-then-is_white c = goes-white _ _ c.is_white.ensures c.if-is_white.true
-
 pub returns-then-is_letter : goal.returns-then-is_letter
-returns-then-is_letter c = goes-letter _ _ _ c.is_white.ensures c.if-is_white.false c.is_letter.ensures c.if-is_letter.true
+returns-then-is_letter c = c.if-is_letter.true ∙ sym (ap (λ (x : Bool). x || is_digit_byte c.args.b) (sym c.is_letter.ensures ∙ c.if-is_letter.true)) ∙ goes_is c.args.b
 
-pub returns : goal.returns
-returns c = goes-digit _ _ _ _ c.is_white.ensures c.if-is_white.false c.is_letter.ensures c.if-is_letter.false c.is_digit.ensures
+pub returns-else-is_letter : goal.returns-else-is_letter
+returns-else-is_letter c = c.is_digit.ensures ∙ sym (ap (λ (x : Bool). x || is_digit_byte c.args.b) (sym c.is_letter.ensures ∙ c.if-is_letter.false)) ∙ goes_is c.args.b

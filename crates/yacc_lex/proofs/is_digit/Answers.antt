@@ -1,5 +1,7 @@
-use Rattle.yacc_lex.proofs.Bytes.{digit_is}
+use Rattle.yacc_text.specs.Grammar.{is_digit_byte}
+use Rattle.std.proofs.Common.{rules}
 use Rattle.yacc_lex.proofs.is_digit.Goals as goal
 
 pub returns : goal.returns
-returns c = digit_is _ _ c.between.ensures
+unfolding is_digit_byte
+returns c = search rules

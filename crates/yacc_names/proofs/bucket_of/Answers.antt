@@ -1,17 +1,13 @@
-use Rattle.yacc_names.proofs.Laws.{mix-more, mix_end, bucket_is}
-use mathlib.Core.Path.{refl}
-use borrow.Author.Rules.{rules}
 use native.Mathlib.Omega.{arith}
+use mathlib.Core.Path.{ap, ◌∙◌}
+use Prim.Native.Nat.{ℕ, ◌+◌, ◌*◌, ◌%◌}
+use lib.ListN.{drop}
+use Rattle.yacc_names.specs.Names.{mixed, bucket_number}
+use Rattle.yacc_names.proofs.Laws.{mix-more, mix_end, bucket_is}
 use Rattle.yacc_names.proofs.bucket_of.Goals as goal
 
--- src/lib.rt:28:5
-pub loop-at-init : goal.loop-at-init
-loop-at-init c = (c.requires.0, omega arith, refl)
+pub loop-b-preserved : goal.loop-b-preserved
+loop-b-preserved c = (omega arith, ap (λ (x : ℕ). mixed ((c.loop-b.sum * 211 + x) % 65536) (drop (c.loop-b.b-index + 1) c.bytes-name.result.now)) c.from.ensures ∙ mix-more _ _ _ _ c.loop-b.invariant.1 c.loop-b-test.true)
 
--- src/lib.rt:28:5
-pub loop-at-preserved : goal.loop-at-preserved
-loop-at-preserved c = (search rules, omega arith, mix-more _ _ _ _ _ c.loop-at.invariant.2 _ c.byte.ensures.0 c.loop-at-test.true c.requires.1)
-
--- src/lib.rt:22:1
 pub returns : goal.returns
-returns c = (bucket_is _ _ (mix_end _ _ _ _ _ c.loop-at.invariant.2 c.loop-at-test.false c.requires.1), omega arith)
+returns c = (bucket_is _ _ (mix_end _ _ _ _ c.loop-b.invariant.1 c.loop-b-test.false) ∙ ap bucket_number c.bytes-name.ensures, omega arith)

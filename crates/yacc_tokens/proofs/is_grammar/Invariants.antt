@@ -1,4 +1,4 @@
-use Prim.Native.Nat.{◌-◌, ◌≤◌, ◌<◌}
+use Prim.Native.Nat.{◌-◌, ◌≤◌}
 use mathlib.Core.Path.{◌≡◌}
 use lib.ListN.{length}
 use Rattle.yacc_text.specs.Places.{placed_from}
@@ -6,7 +6,7 @@ use Rattle.yacc_tokens.specs.Accepted.{mode_of, judged, is_grammar_text}
 use Rattle.yacc_tokens.proofs.is_grammar.Given as goal
 
 abbrev pub invariant-loop-word : goal.invariant-loop-word
-invariant-loop-word l = (l.at ≤ length l.text) × (l.mode < 12) × (judged (mode_of l.mode) (placed_from l.text l.at) ≡ is_grammar_text l.text)
+invariant-loop-word l = (l.at ≤ length l.text) × (judged (mode_of l.mode) (placed_from l.text l.at) ≡ is_grammar_text l.text)
 
 abbrev pub decreases-loop-word : goal.decreases-loop-word
 decreases-loop-word l = length l.text - l.at
