@@ -3,11 +3,8 @@ use Prim.Native.Nat.{ℕ, zero, suc, ◌+◌, ◌-◌, ◌*◌, ◌≤◌, ◌<�
 use native.Mathlib.Omega.{arith}
 use mathlib.Core.Path.{◌≡◌, refl, sym, ap, ◌∙◌, subst}
 use mathlib.Core.List.{List, [], ◌∷◌, ◌++◌, append_assoc, append-nil}
-use lib.ListN.{length, get_or, take, drop, length-drop}
-use lib.Seq.{take-add, drop-cons, take_all, length-take-le}
-use lib.Dec.{eqb}
+use lib.ListN.{length, get_or, take, drop}
 use borrow.Author.Tests.{eq-eqb, ne_eqb}
-use Rattle.repr.proofs.Lists.{cases}
 use Rattle.repr.specs.Sizes.{reduction_room}
 use Rattle.repr.specs.Lists.{joined}
 use Rattle.error.specs.Numbers.{number_of_class, values_of_class, reading_of}
@@ -69,55 +66,39 @@ pub class_put : {a b c d e f g : List ℕ} {m₁ m₂ m₃ m₄ m₅ r x n : ℕ
 unfolding class_line spaced
 class_put k i j vs eq P Q R S T U = put_then P (put_then (put_as Q (ap (λ (y : ℕ). 32 ∷ numeral y) eq)) (put_then R (put_then S (put_then T U))))
 
--- symbols
-symbols-append : (k : ℕ) (l m : List ℕ) → length l ≡ k * 2 → symbol_texts (l ++ m) ≡ symbol_texts l ++ symbol_texts m
-unfolding symbol_texts
-symbols-append k [] m e = refl
-symbols-append k (a ∷ []) m e = absurd (omega arith)
-symbols-append zero (a ∷ b ∷ l) m e = absurd (omega arith)
-symbols-append (suc k) (a ∷ b ∷ l) m e = ap (λ (t : List ℕ). symbol_text a b ++ t) (symbols-append k l m (omega arith)) ∙ sym (append_assoc (symbol_text a b) (symbol_texts l) (symbol_texts m))
+-- symbols, those of the words before `left` being put
+pub record Symbols (old : List ℕ) (at : ℕ) (words new : List ℕ) (place : ℕ) (left : List ℕ) : Type 0 where
+  pub text : List ℕ
+  pub split : symbol_texts words ≡ text ++ symbol_texts left
+  pub put : Put old at text new place
+  pub small : place + 21 * length left ≤ at + 21 * length words
 
-two_symbols : (x y : ℕ) → symbol_texts (x ∷ y ∷ []) ≡ symbol_text x y
-unfolding symbol_texts
-two_symbols x y = append-nil (symbol_text x y)
+module _ {old words new left : List ℕ} {at place : ℕ} (S : Symbols old at words new place left) where
+  pub symbols-more : (pair left' : List ℕ) {new' : List ℕ} {r : ℕ} → left ≡ pair ++ left' → length pair ≡ 2 → Put new place (symbol_text (get_or pair 0 0) (get_or pair 1 0)) new' r → r ≤ place + 42 → Symbols old at words new' r left'
+  unfolding symbol_texts
+  symbols-more [] left' e two P le = absurd (omega arith)
+  symbols-more (x ∷ []) left' e two P le = absurd (omega arith)
+  symbols-more (x ∷ y ∷ z ∷ zs) left' e two P le = absurd (omega arith)
+  symbols-more (x ∷ y ∷ []) left' e two P le =
+      let s = S.small in
+      let n : length left ≡ suc (suc (length left')) = ap length e in
+      record {
+        text = S.text ++ symbol_text x y;
+        split = S.split ∙ ap (λ (l : List ℕ). S.text ++ symbol_texts l) e ∙ sym (append_assoc S.text (symbol_text x y) (symbol_texts left'));
+        put = put_then S.put P;
+        small = omega (arith, n);
+      }
 
-two_at : (ws : List ℕ) (j : ℕ) → j + 2 ≤ length ws → take (j + 2) ws ≡ take j ws ++ (get_or ws j 0 ∷ get_or ws (j + 1) 0 ∷ [])
-two_at ws j h =
-    let h₀ : j < length ws = omega arith in
-    let h₁ : suc j < length ws = omega arith in
-    let e : suc j ≡ j + 1 = omega arith in
-    take-add j 2 ws ∙ ap (λ (l : List ℕ). take j ws ++ take 2 l) (drop-cons ws j 0 h₀ ∙ ap (λ (l : List ℕ). get_or ws j 0 ∷ l) (drop-cons ws (suc j) 0 h₁ ∙ ap (λ (k : ℕ). get_or ws k 0 ∷ drop (suc k) ws) e))
+  no_symbols : (ws : List ℕ) → length ws < 2 → symbol_texts ws ≡ []
+  unfolding symbol_texts
+  no_symbols [] h = refl
+  no_symbols (x ∷ []) h = refl
+  no_symbols (x ∷ y ∷ ws) h = absurd (omega arith)
 
-pub record Symbols (old : List ℕ) (at : ℕ) (words : List ℕ) (n : ℕ) (new : List ℕ) (place i : ℕ) : Type 0 where
-  pub within : i ≤ n
-  pub put : Put old at (symbol_texts (take (i * 2) words)) new place
-  pub small : place ≤ at + 42 * i
-
-pub symbols-first : (old : List ℕ) (at : ℕ) (words : List ℕ) (n : ℕ) → Symbols old at words n old at 0
-unfolding symbol_texts
-symbols-first old at words n = record { within = omega arith; put = put-nothing old at; small = omega arith }
-
-pub symbols-more : {old : List ℕ} {at : ℕ} {words : List ℕ} {n : ℕ} {new : List ℕ} {place i : ℕ} {new' : List ℕ} {r x y : ℕ} → Symbols old at words n new place i → i < n → 2 * n ≤ length words
-    → x ≡ get_or words (i * 2) 0 → y ≡ get_or words (i * 2 + 1) 0 → Put new place (symbol_text x y) new' r → r ≤ place + 42 → Symbols old at words n new' r (i + 1)
-symbols-more {old} {at} {words} {n} {new} {place} {i} {new'} {r} {x} {y} S h l ex ey P le =
-    let s = S.small in
-    let t : i * 2 + 2 ≤ length words = omega arith in
-    let k : length (take (i * 2) words) ≡ i * 2 = length-take-le (i * 2) words (omega arith) in
-    let j : i * 2 + 2 ≡ (i + 1) * 2 = omega arith in
-    let q : get_or words (i * 2) 0 ∷ get_or words (i * 2 + 1) 0 ∷ [] ≡ x ∷ y ∷ [] = sym (ap (λ (z : ℕ). z ∷ y ∷ []) ex ∙ ap (λ (z : ℕ). get_or words (i * 2) 0 ∷ z ∷ []) ey) in
-    let e : symbol_texts (take ((i + 1) * 2) words) ≡ symbol_texts (take (i * 2) words) ++ symbol_text x y =
-    ap (λ (m : ℕ). symbol_texts (take m words)) (sym j)
-    ∙ ap symbol_texts (two_at words (i * 2) t ∙ ap (λ (m : List ℕ). take (i * 2) words ++ m) q)
-    ∙ symbols-append i (take (i * 2) words) (x ∷ y ∷ []) k
-    ∙ ap (λ (m : List ℕ). symbol_texts (take (i * 2) words) ++ m) (two_symbols x y) in
-    record { within = omega arith; put = put_as (put_then S.put P) (sym e); small = omega arith }
-
-pub symbols_end : {old : List ℕ} {at : ℕ} {words : List ℕ} {n : ℕ} {new : List ℕ} {place i : ℕ} → Symbols old at words n new place i → n ≤ i → Put old at (symbol_texts (take (2 * n) words)) new place × (place ≤ at + 42 * n)
-symbols_end {old} {at} {words} {n} {new} {place} {i} S h =
-    let w = S.within in
-    let s = S.small in
-    let e : i * 2 ≡ 2 * n = omega arith in
-    (put_as S.put (ap (λ (k : ℕ). symbol_texts (take k words)) e), omega arith)
+  pub symbols_end : length left < 2 → Put old at (symbol_texts words) new place × (place ≤ at + 21 * length words)
+  symbols_end h =
+      let s = S.small in
+      (put_as S.put (sym (S.split ∙ ap (λ (l : List ℕ). S.text ++ l) (no_symbols left h) ∙ append-nil S.text)), omega arith)
 
 -- how many are symbols
 counted-more : (x y z w : ℕ) → y ≡ z + w → x + y ≡ x + z + w
@@ -130,131 +111,105 @@ total_append k (a ∷ []) m e = absurd (omega arith)
 total_append zero (a ∷ b ∷ l) m e = absurd (omega arith)
 total_append (suc k) (a ∷ b ∷ l) m e = counted-more (counted a) _ _ _ (total_append k l m (omega arith))
 
-pub counted-mark : (k : ℕ) → k ≡ 2 → 0 ≡ counted k
+counted-mark : (k : ℕ) → k ≡ 2 → counted k ≡ 0
 unfolding counted
 counted-mark k e = rw (eq-eqb k 2 e, counted) refl
 
-pub counted-symbol : (k : ℕ) → (k ≡ 2 → ⊥) → 1 ≡ counted k
+counted-symbol : (k : ℕ) → (k ≡ 2 → ⊥) → counted k ≡ 1
 unfolding counted
 counted-symbol k ne = rw (ne_eqb k 2 ne, counted) refl
 
-pub counted_small : (k : ℕ) → counted k ≤ 1
-unfolding counted
-counted_small k = cases (eqb k 2) (λ q. rw (q, counted) (omega arith)) (λ q. rw (q, counted) (omega arith))
+-- the total of the words before `left`
+pub record Total (words : List ℕ) (total : ℕ) (left : List ℕ) : Type 0 where
+  pub is : total + total_of_symbols left ≡ total_of_symbols words
+  pub few : total + length left ≤ length words
 
-pub record Total (words : List ℕ) (n total i : ℕ) : Type 0 where
-  pub within : i ≤ n
-  pub is : total ≡ total_of_symbols (take (i * 2) words)
-  pub few : total ≤ i
+module _ {words left : List ℕ} {total : ℕ} (T : Total words total left) where
+  total_more : (pair left' : List ℕ) {c : ℕ} → left ≡ pair ++ left' → length pair ≡ 2 → c ≡ counted (get_or pair 0 0) → c ≤ 1 → Total words (total + c) left'
+  unfolding total_of_symbols
+  total_more [] left' e two ec le = absurd (omega arith)
+  total_more (x ∷ []) left' e two ec le = absurd (omega arith)
+  total_more (x ∷ y ∷ z ∷ zs) left' e two ec le = absurd (omega arith)
+  total_more (x ∷ y ∷ []) left' {c} e two ec le =
+      let f = T.few in
+      let i = T.is in
+      let n : length left ≡ suc (suc (length left')) = ap length e in
+      let t : total_of_symbols left ≡ counted x + total_of_symbols left' = ap total_of_symbols e in
+      record { is = omega (arith, t, ec); few = omega (arith, n) }
 
-pub total_first : (words : List ℕ) (n : ℕ) → Total words n 0 0
-unfolding total_of_symbols
-total_first words n = record { within = omega arith; is = refl; few = omega arith }
+  pub total_mark : (pair left' : List ℕ) → left ≡ pair ++ left' → length pair ≡ 2 → get_or pair 0 0 ≡ 2 → Total words total left'
+  total_mark pair left' e two m = subst (λ (n : ℕ). Total words n left') (omega arith) (total_more pair left' {c = 0} e two (sym (counted-mark (get_or pair 0 0) m)) (omega arith))
 
-pub total_more : {words : List ℕ} {n total i k c : ℕ} → Total words n total i → i < n → 2 * n ≤ length words → k ≡ get_or words (i * 2) 0 → c ≡ counted k
-    → Total words n (total + c) (i + 1)
-unfolding total_of_symbols
-total_more {words} {n} {total} {i} {k} {c} S h l ek ec =
-    let f = S.few in
-    let small = counted_small k in
-    let two = get_or words (i * 2) 0 ∷ get_or words (i * 2 + 1) 0 ∷ [] in
-    let j : i * 2 + 2 ≡ (i + 1) * 2 = omega arith in
-    let e : total_of_symbols (take ((i + 1) * 2) words) ≡ total + (counted k + 0) =
-    ap (λ (m : ℕ). total_of_symbols (take m words)) (sym j)
-    ∙ ap total_of_symbols (two_at words (i * 2) (omega arith))
-    ∙ total_append i (take (i * 2) words) two (length-take-le (i * 2) words (omega arith))
-    ∙ ap (λ (m : ℕ). m + total_of_symbols two) (sym S.is)
-    ∙ ap (λ (m : ℕ). total + (counted m + 0)) (sym ek) in
-    record { within = omega arith; is = omega (arith, e, ec); few = omega arith }
+  pub total_symbol : (pair left' : List ℕ) → left ≡ pair ++ left' → length pair ≡ 2 → (get_or pair 0 0 ≡ 2 → ⊥) → Total words (total + 1) left'
+  total_symbol pair left' e two m = total_more pair left' e two (sym (counted-symbol (get_or pair 0 0) m)) (omega arith)
 
-pub total_end : {words : List ℕ} {n total i : ℕ} → Total words n total i → n ≤ i → total ≡ total_of_symbols (take (2 * n) words)
-total_end {words} {n} {total} {i} S h =
-    let w = S.within in
-    let e : i * 2 ≡ 2 * n = omega arith in
-    S.is ∙ ap (λ (k : ℕ). total_of_symbols (take k words)) e
+  no_total : (ws : List ℕ) → length ws < 2 → total_of_symbols ws ≡ 0
+  unfolding total_of_symbols
+  no_total [] h = refl
+  no_total (x ∷ []) h = refl
+  no_total (x ∷ y ∷ ws) h = absurd (omega arith)
 
--- reductions
-reductions-append : (k : ℕ) (l m : List ℕ) → length l ≡ k * reduction_room → reduction_texts (l ++ m) ≡ reduction_texts l ++ reduction_texts m
-unfolding reduction_texts
-reductions-append k [] m e = refl
-reductions-append k (a ∷ []) m e = absurd (omega arith)
-reductions-append k (a ∷ b ∷ []) m e = absurd (omega arith)
-reductions-append zero (a ∷ b ∷ d ∷ l) m e = absurd (omega arith)
-reductions-append (suc k) (a ∷ b ∷ d ∷ l) m e = ap (λ (t : List ℕ). reduction_text a b d ++ t) (reductions-append k l m (omega arith)) ∙ sym (append_assoc (reduction_text a b d) (reduction_texts l) (reduction_texts m))
+  pub total_end : length left < 2 → total ≡ total_of_symbols words
+  total_end h = let i = T.is in let n = no_total left h in omega arith
 
-one_reduction : (x y z : ℕ) → reduction_texts (x ∷ y ∷ z ∷ []) ≡ reduction_text x y z
-unfolding reduction_texts
-one_reduction x y z = append-nil (reduction_text x y z)
+-- reductions, those of the words before `left` being put
+pub record Reductions (old : List ℕ) (at : ℕ) (words new : List ℕ) (place : ℕ) (left : List ℕ) : Type 0 where
+  pub text : List ℕ
+  pub split : reduction_texts words ≡ text ++ reduction_texts left
+  pub put : Put old at text new place
+  pub small : place + 21 * length left ≤ at + 21 * length words
 
-three_at : (ws : List ℕ) (j : ℕ) → j + 3 ≤ length ws → take (j + 3) ws ≡ take j ws ++ (get_or ws j 0 ∷ get_or ws (j + 1) 0 ∷ get_or ws (j + 2) 0 ∷ [])
-three_at ws j h =
-    let h₀ : j < length ws = omega arith in
-    let h₁ : suc j < length ws = omega arith in
-    let h₂ : suc (suc j) < length ws = omega arith in
-    let e : suc j ≡ j + 1 = omega arith in
-    let f : suc (suc j) ≡ j + 2 = omega arith in
-    take-add j 3 ws
-    ∙ ap (λ (l : List ℕ). take j ws ++ take 3 l) (drop-cons ws j 0 h₀ ∙ ap (λ (l : List ℕ). get_or ws j 0 ∷ l) (drop-cons ws (suc j) 0 h₁ ∙ ap (λ (l : List ℕ). get_or ws (suc j) 0 ∷ l) (drop-cons ws (suc (suc j)) 0 h₂)))
-    ∙ ap (λ (k : ℕ). take j ws ++ (get_or ws j 0 ∷ get_or ws k 0 ∷ get_or ws (suc (suc j)) 0 ∷ [])) e
-    ∙ ap (λ (k : ℕ). take j ws ++ (get_or ws j 0 ∷ get_or ws (j + 1) 0 ∷ get_or ws k 0 ∷ [])) f
+module _ {old words new left : List ℕ} {at place : ℕ} (S : Reductions old at words new place left) where
+  pub reductions-more : (three left' : List ℕ) {new' : List ℕ} {r : ℕ} → left ≡ three ++ left' → length three ≡ 3
+      → Put new place (reduction_text (get_or three 0 0) (get_or three 1 0) (get_or three 2 0)) new' r → r ≤ place + 63 → Reductions old at words new' r left'
+  unfolding reduction_texts
+  reductions-more [] left' e n P le = absurd (omega arith)
+  reductions-more (x ∷ []) left' e n P le = absurd (omega arith)
+  reductions-more (x ∷ y ∷ []) left' e n P le = absurd (omega arith)
+  reductions-more (x ∷ y ∷ z ∷ w ∷ ws) left' e n P le = absurd (omega arith)
+  reductions-more (x ∷ y ∷ z ∷ []) left' e n P le =
+      let s = S.small in
+      let n : length left ≡ suc (suc (suc (length left'))) = ap length e in
+      record {
+        text = S.text ++ reduction_text x y z;
+        split = S.split ∙ ap (λ (l : List ℕ). S.text ++ reduction_texts l) e ∙ sym (append_assoc S.text (reduction_text x y z) (reduction_texts left'));
+        put = put_then S.put P;
+        small = omega (arith, n);
+      }
 
-pub record Reductions (old : List ℕ) (at : ℕ) (words : List ℕ) (n : ℕ) (new : List ℕ) (place i : ℕ) : Type 0 where
-  pub within : i ≤ n
-  pub put : Put old at (reduction_texts (take (i * reduction_room) words)) new place
-  pub small : place ≤ at + 63 * i
+  no_reductions : (ws : List ℕ) → length ws < 3 → reduction_texts ws ≡ []
+  unfolding reduction_texts
+  no_reductions [] h = refl
+  no_reductions (x ∷ []) h = refl
+  no_reductions (x ∷ y ∷ []) h = refl
+  no_reductions (x ∷ y ∷ z ∷ ws) h = absurd (omega arith)
 
-pub reductions-first : (old : List ℕ) (at : ℕ) (words : List ℕ) (n : ℕ) → Reductions old at words n old at 0
-unfolding reduction_texts
-reductions-first old at words n = record { within = omega arith; put = put-nothing old at; small = omega arith }
-
-pub reductions-more : {old : List ℕ} {at : ℕ} {words : List ℕ} {n : ℕ} {new : List ℕ} {place i : ℕ} {new' : List ℕ} {r x y z : ℕ} → Reductions old at words n new place i → i < n → reduction_room * n ≤ length words
-    → x ≡ get_or words (i * reduction_room) 0 → y ≡ get_or words (i * reduction_room + 1) 0 → z ≡ get_or words (i * reduction_room + 2) 0 → Put new place (reduction_text x y z) new' r → r ≤ place + 63 → Reductions old at words n new' r (i + 1)
-reductions-more {old} {at} {words} {n} {new} {place} {i} {new'} {r} {x} {y} {z} S h l ex ey ez P le =
-    let s = S.small in
-    let t : i * reduction_room + 3 ≤ length words = omega arith in
-    let k : length (take (i * reduction_room) words) ≡ i * reduction_room = length-take-le (i * reduction_room) words (omega arith) in
-    let j : i * reduction_room + 3 ≡ (i + 1) * reduction_room = omega arith in
-    let q : get_or words (i * reduction_room) 0 ∷ get_or words (i * reduction_room + 1) 0 ∷ get_or words (i * reduction_room + 2) 0 ∷ [] ≡ x ∷ y ∷ z ∷ [] =
-    sym (ap (λ (v : ℕ). v ∷ y ∷ z ∷ []) ex ∙ ap (λ (v : ℕ). get_or words (i * reduction_room) 0 ∷ v ∷ z ∷ []) ey ∙ ap (λ (v : ℕ). get_or words (i * reduction_room) 0 ∷ get_or words (i * reduction_room + 1) 0 ∷ v ∷ []) ez) in
-    let e : reduction_texts (take ((i + 1) * reduction_room) words) ≡ reduction_texts (take (i * reduction_room) words) ++ reduction_text x y z =
-    ap (λ (m : ℕ). reduction_texts (take m words)) (sym j)
-    ∙ ap reduction_texts (three_at words (i * reduction_room) t ∙ ap (λ (m : List ℕ). take (i * reduction_room) words ++ m) q)
-    ∙ reductions-append i (take (i * reduction_room) words) (x ∷ y ∷ z ∷ []) k
-    ∙ ap (λ (m : List ℕ). reduction_texts (take (i * reduction_room) words) ++ m) (one_reduction x y z) in
-    record { within = omega arith; put = put_as (put_then S.put P) (sym e); small = omega arith }
-
-pub reductions_end : {old : List ℕ} {at : ℕ} {words : List ℕ} {n : ℕ} {new : List ℕ} {place i : ℕ} → Reductions old at words n new place i → n ≤ i → Put old at (reduction_texts (take (reduction_room * n) words)) new place × (place ≤ at + 63 * n)
-reductions_end {old} {at} {words} {n} {new} {place} {i} S h =
-    let w = S.within in
-    let s = S.small in
-    let e : i * reduction_room ≡ reduction_room * n = omega arith in
-    (put_as S.put (ap (λ (k : ℕ). reduction_texts (take k words)) e), omega arith)
+  pub reductions_end : length left < 3 → Put old at (reduction_texts words) new place × (place ≤ at + 21 * length words)
+  reductions_end h =
+      let s = S.small in
+      (put_as S.put (sym (S.split ∙ ap (λ (l : List ℕ). S.text ++ l) (no_reductions left h) ∙ append-nil S.text)), omega arith)
 
 -- the line of an example
-pub rest_is : (k : ℕ) (l : List ℕ) → take (length l - k) (drop k l) ≡ drop k l
-rest_is k l = let e = length-drop k l in take_all (length l - k) (drop k l) (omega (arith, e))
-
-pub rest_long : (m k : ℕ) (l : List ℕ) → k + m ≤ length l → m ≤ length (take (length l - k) (drop k l))
-rest_long m k l h = let e = length-drop k l in let f = ap length (rest_is k l) in omega (arith, e, f)
-
-pub length-put : {a b : List ℕ} {at r s total : ℕ} (example : List ℕ) → s ≡ get_or example 0 0 → total ≡ total_of_symbols (take (2 * s) (take (length example - 3) (drop 3 example)))
+pub length-put : {a b : List ℕ} {at r s total : ℕ} (example : List ℕ) → s ≡ get_or example 0 0 → total ≡ total_of_symbols (take (3 + s * 2 - 3) (drop 3 example))
     → Put a at (32 ∷ numeral total) b r → Put a at (32 ∷ numeral (printed_length example)) b r
 unfolding printed_length
 length-put {s = s} example es et P =
-    put_as P (ap (λ (k : ℕ). 32 ∷ numeral k)
-    (et ∙ ap (λ (l : List ℕ). total_of_symbols (take (2 * s) l)) (rest_is 3 example) ∙ ap (λ (k : ℕ). total_of_symbols (take (2 * k) (drop 3 example))) es))
+    let n : 3 + s * 2 - 3 ≡ 2 * get_or example 0 0 = omega arith in
+    put_as P (ap (λ (k : ℕ). 32 ∷ numeral k) (et ∙ ap (λ (k : ℕ). total_of_symbols (take k (drop 3 example))) n))
 
 pub example-put : {a b c d e f g : List ℕ} {at m₁ m₂ m₃ m₄ m₅ r : ℕ} {letter cursor s q : ℕ} (example : List ℕ) → s ≡ get_or example 0 0 → cursor ≡ get_or example 1 0 → q ≡ get_or example 2 0
     → Put a at (letter ∷ []) b m₁ → Put b m₁ (32 ∷ numeral (printed_length example)) c m₂ → Put c m₂ (32 ∷ numeral cursor) d m₃
-    → Put d m₃ (symbol_texts (take (2 * s) (take (length example - 3) (drop 3 example)))) e m₄
-    → Put e m₄ (reduction_texts (take (reduction_room * q) (take (length example - (3 + s * 2)) (drop (3 + s * 2) example)))) f m₅
+    → Put d m₃ (symbol_texts (take (3 + s * 2 - 3) (drop 3 example))) e m₄
+    → Put e m₄ (reduction_texts (take (3 + s * 2 + q * reduction_room - (3 + s * 2)) (drop (3 + s * 2) example))) f m₅
     → Put f m₅ (10 ∷ []) g r → Put a at (example_line letter example) g r
 unfolding example_line spaced
 example-put {s = s} {q} example es ec eq P Q R S T U =
+    let n : 3 + s * 2 - 3 ≡ 2 * get_or example 0 0 = omega arith in
+    let m : 3 + s * 2 + q * reduction_room - (3 + s * 2) ≡ reduction_room * get_or example 2 0 = omega arith in
     let en : 3 + s * 2 ≡ 3 + 2 * get_or example 0 0 = omega arith in
     let R' = put_as R (ap (λ (k : ℕ). 32 ∷ numeral k) ec) in
-    let S' = put_as S (ap (λ (l : List ℕ). symbol_texts (take (2 * s) l)) (rest_is 3 example) ∙ ap (λ (k : ℕ). symbol_texts (take (2 * k) (drop 3 example))) es) in
-    let T' = put_as T (ap (λ (l : List ℕ). reduction_texts (take (reduction_room * q) l)) (rest_is (3 + s * 2) example) ∙ ap (λ (k : ℕ). reduction_texts (take (reduction_room * k) (drop (3 + s * 2) example))) eq ∙ ap (λ (k : ℕ). reduction_texts (take (reduction_room * get_or example 2 0) (drop k example))) en) in
+    let S' = put_as S (ap (λ (k : ℕ). symbol_texts (take k (drop 3 example))) n) in
+    let T' = put_as T (ap (λ (k : ℕ). reduction_texts (take k (drop (3 + s * 2) example))) m ∙ ap (λ (k : ℕ). reduction_texts (take (reduction_room * get_or example 2 0) (drop k example))) en) in
     put_then P (put_then Q (put_then R' (put_then S' (put_then T' U))))
 
 -- which examples are shown

@@ -26,16 +26,12 @@ pub fn put_text(out: &mut [u8], at: usize, text: &[u8]) -> usize
     requires { at + length text.now ≤ length out.old }
     ensures { Put out.old at text.now out.new result }
 {
-    let n = text.len();
-    let mut i: usize = 0;
-    while i < n {
-        out[at + i] = text[i];
-        i += 1;
-    }
-    at + n
+    let end = at + text.len();
+    out[at..end].copy_from_slice(text);
+    end
 }
 
-// A number of at most so many digits.
+// A number of at most so many digits. By hand, since the contract says which bytes these are, and there is no heap for a text.
 fn put_digits(out: &mut [u8], at: usize, n: u64, most: usize) -> usize
     requires few { (0 < most) × (n < 10 ^ most) }
     requires in_bounds { at + most ≤ length out.old }
@@ -84,61 +80,46 @@ fn put_reduction(out: &mut [u8], at: usize, start: usize, end: usize, nontermina
     put_after(out, next, b'/', nonterminal as u64)
 }
 
-// The symbols of an example, from their words on.
-pub fn put_symbols(out: &mut [u8], at: usize, words: &[u16], n: usize) -> usize
-    requires n_in_bounds { (2 * n ≤ length words.now) × (n ≤ example_symbols) }
-    requires n_in_bounds_2 { at + 42 * n ≤ length out.old }
-    ensures { Put out.old at (symbol_texts (take (2 * n) words.now)) out.new result × (result ≤ at + 42 * n) }
+// The symbols of an example.
+pub fn put_symbols(out: &mut [u8], at: usize, words: &[u16]) -> usize
+    requires { at + 21 * length words.now ≤ length out.old }
+    ensures { Put out.old at (symbol_texts words.now) out.new result × (result ≤ at + 21 * length words.now) }
 {
     let mut place = at;
-    let mut i: usize = 0;
-    while i < n {
-        let kind = word(words, i * 2);
-        let number = word(words, i * 2 + 1);
-        place = put_symbol(out, place, kind, number);
-        i += 1;
+    for symbol in words.chunks_exact(Example::SYMBOL_WORDS) {
+        place = put_symbol(out, place, symbol[0] as usize, symbol[1] as usize);
     }
     place
 }
 
 // The reductions of an example.
-fn put_reductions(out: &mut [u8], at: usize, words: &[u16], n: usize) -> usize
-    requires n_in_bounds { (reduction_room * n ≤ length words.now) × (n ≤ reduction_limit) }
-    requires n_in_bounds_2 { at + 63 * n ≤ length out.old }
-    ensures { Put out.old at (reduction_texts (take (reduction_room * n) words.now)) out.new result × (result ≤ at + 63 * n) }
+fn put_reductions(out: &mut [u8], at: usize, words: &[u16]) -> usize
+    requires { at + 21 * length words.now ≤ length out.old }
+    ensures { Put out.old at (reduction_texts words.now) out.new result × (result ≤ at + 21 * length words.now) }
 {
     let mut place = at;
-    let mut i: usize = 0;
-    while i < n {
-        let start = word(words, i * Example::REDUCTION_WORDS);
-        let end = word(words, i * Example::REDUCTION_WORDS + 1);
-        let nonterminal = word(words, i * Example::REDUCTION_WORDS + 2);
+    for reduction in words.chunks_exact(Example::REDUCTION_WORDS) {
+        let start = reduction[0] as usize;
+        let end = reduction[1] as usize;
+        let nonterminal = reduction[2] as usize;
         place = put_reduction(out, place, start, end, nonterminal);
-        i += 1;
     }
     place
 }
 
-// 1 for a symbol, 0 for the empty mark.
-fn counted(kind: usize) -> usize
-    ensures { result ≡ counted kind }
-{
-    if kind == 2 {
-        return 0;
-    }
-    1
-}
+// The kind of the empty mark.
+const EMPTY_MARK: u16 = 2;
 
 // How many symbols an example has, its empty mark left out.
-fn symbol_total(words: &[u16], n: usize) -> usize
-    requires { (2 * n ≤ length words.now) × (n ≤ example_symbols) }
-    ensures { result ≡ total_of_symbols (take (2 * n) words.now) }
+fn symbol_total(words: &[u16]) -> usize
+    requires { length words.now ≤ 2 * example_symbols }
+    ensures { result ≡ total_of_symbols words.now }
 {
     let mut total: usize = 0;
-    let mut i: usize = 0;
-    while i < n {
-        total += counted(word(words, i * 2));
-        i += 1;
+    for symbol in words.chunks_exact(Example::SYMBOL_WORDS) {
+        if symbol[0] != EMPTY_MARK {
+            total += 1;
+        }
     }
     total
 }
@@ -150,7 +131,8 @@ fn put_length(out: &mut [u8], at: usize, example: &[u16]) -> usize
     ensures { Put out.old at (32 ∷ numeral (printed_length example.now)) out.new result × (result ≤ at + 21) }
 {
     let symbols = word(example, 0);
-    let total = symbol_total(&example[3..], symbols);
+    let past = 3 + symbols * Example::SYMBOL_WORDS;
+    let total = symbol_total(&example[3..past]);
     put_after(out, at, b' ', total as u64)
 }
 
@@ -166,9 +148,10 @@ fn put_example(out: &mut [u8], at: usize, letter: u8, example: &[u16]) -> usize
     let first = put(out, at, letter);
     let second = put_length(out, first, example);
     let third = put_after(out, second, b' ', cursor as u64);
-    let fourth = put_symbols(out, third, &example[3..], symbols);
-    let from = 3 + symbols * Example::SYMBOL_WORDS;
-    let fifth = put_reductions(out, fourth, &example[from..], reductions);
+    let past = 3 + symbols * Example::SYMBOL_WORDS;
+    let end = past + reductions * Example::REDUCTION_WORDS;
+    let fourth = put_symbols(out, third, &example[3..past]);
+    let fifth = put_reductions(out, fourth, &example[past..end]);
     put(out, fifth, b'\n')
 }
 

@@ -14,31 +14,34 @@ none [] h = refl
 none (a ∷ []) h = refl
 none (a ∷ b ∷ bs) h = absurd (omega arith)
 
-pub record Turn (bytes out₀ : List ℕ) (out : List ℕ) (i : ℕ) : Type 0 where
+-- the words of the bytes before `left` are written
+pub record Turn (bytes out₀ out : List ℕ) (i : ℕ) (left : List ℕ) : Type 0 where
   pub long : length out ≡ length out₀
-  pub done : take i out ++ words_of (drop (i * 2) bytes) ≡ words_of bytes
+  pub done : take i out ++ words_of left ≡ words_of bytes
   pub rest : drop i out ≡ drop i out₀
+  pub size : i + length left / 2 ≡ length bytes / 2
 
-module _ {bytes out₀ out : List ℕ} {i : ℕ} (T : Turn bytes out₀ out i) where
-  pub turn_end : i ≡ length bytes / 2 → out ≡ words_of bytes ++ drop i out₀
-  turn_end e =
-      let l : length (drop (i * 2) bytes) < 2 = (simp length-drop (omega arith)) in
-      let t : take i out ≡ words_of bytes = sym (append-nil (take i out)) ∙ ap (λ (l : List ℕ). take i out ++ l) (sym (none _ l)) ∙ T.done in
-      sym (take-append-drop i out) ∙ ap (λ (l : List ℕ). l ++ drop i out) t ∙ ap (λ (l : List ℕ). words_of bytes ++ l) T.rest
+module _ {bytes out₀ out : List ℕ} {i : ℕ} {left : List ℕ} (T : Turn bytes out₀ out i left) where
+  pub turn_end : length left < 2 → out ≡ words_of bytes ++ drop (length bytes / 2) out₀
+  turn_end l =
+      let e : i ≡ length bytes / 2 = let h = T.size in omega arith in
+      let t : take i out ≡ words_of bytes = sym (append-nil (take i out)) ∙ ap (λ (l : List ℕ). take i out ++ l) (sym (none left l)) ∙ T.done in
+      sym (take-append-drop i out) ∙ ap (λ (l : List ℕ). l ++ drop i out) t ∙ ap (λ (l : List ℕ). words_of bytes ++ l) T.rest ∙ ap (λ (k : ℕ). words_of bytes ++ drop k out₀) e
 
-  pub turn_again : (x y w : ℕ) → i * 2 + 1 < length bytes → i < length out → x ≡ get_or bytes (i * 2) 0 → y ≡ get_or bytes (i * 2 + 1) 0 → w ≡ x + y * 256 → length (set out i w) ≡ length out → Turn bytes out₀ (set out i w) (i + 1)
+  pub turn_again : (pair left₁ : List ℕ) (w : ℕ) → left ≡ pair ++ left₁ → length pair ≡ 2 → i < length out → w ≡ get_or pair 0 0 + get_or pair 1 0 * 256 → Turn bytes out₀ (set out i w) (i + 1) left₁
   unfolding words_of
-  turn_again x y w hb ho ex ey ew l =
-      let h₀ : i * 2 < length bytes = omega arith in
-      let h₁ : suc (i * 2) < length bytes = omega arith in
-      let e₁ : suc (i * 2) ≡ i * 2 + 1 = omega arith in
-      let e₂ : suc (suc (i * 2)) ≡ (i + 1) * 2 = omega arith in
+  turn_again [] left₁ w e two h ew = absurd (omega arith)
+  turn_again (a ∷ []) left₁ w e two h ew = absurd (omega arith)
+  turn_again (a ∷ b ∷ c ∷ cs) left₁ w e two h ew = absurd (omega arith)
+  turn_again (a ∷ b ∷ []) left₁ w e two h ew =
+      let both : words_of left ≡ w ∷ words_of left₁ = rw (e, ew) in
       let lt : i < suc i = omega arith in
-      let two : words_of (drop (i * 2) bytes) ≡ w ∷ words_of (drop ((i + 1) * 2) bytes) = rw (ew, ex, ey, drop-cons bytes (i * 2) 0 h₀, drop-cons bytes (suc (i * 2)) 0 h₁, e₂, e₁) in
+      let n : length left ≡ suc (suc (length left₁)) = ap length e in
       record {
-        long = l ∙ T.long;
-        done = ap (λ (k : ℕ). take k (set out i w) ++ words_of (drop ((i + 1) * 2) bytes)) (add-one i) ∙ ap (λ (l : List ℕ). l ++ words_of (drop ((i + 1) * 2) bytes)) (take-suc-set out i w ho) ∙ append_assoc (take i out) (w ∷ []) (words_of (drop ((i + 1) * 2) bytes)) ∙ ap (λ (l : List ℕ). take i out ++ l) (sym two) ∙ T.done;
+        long = length-set out i w ∙ T.long;
+        done = ap (λ (k : ℕ). take k (set out i w) ++ words_of left₁) (add-one i) ∙ ap (λ (l : List ℕ). l ++ words_of left₁) (take-suc-set out i w h) ∙ append_assoc (take i out) (w ∷ []) (words_of left₁) ∙ ap (λ (l : List ℕ). take i out ++ l) (sym both) ∙ T.done;
         rest = ap (λ (k : ℕ). drop k (set out i w)) (add-one i) ∙ drop-set-lt (suc i) out i w lt ∙ ap (λ (k : ℕ). drop k out) (sym (add-one i)) ∙ sym (drop-drop 1 i out) ∙ ap (drop 1) T.rest ∙ drop-drop 1 i out₀;
+        size = let s = T.size in omega (arith, n);
       }
 
 -- as many words fit as half of a beginning's bytes

@@ -15,7 +15,6 @@ use Rattle.table.specs.Words.{word_at, state_area, production_area, loose}
 use Rattle.numerals.specs.Numeral.{numeral}
 use Rattle.lines.specs.Lines.{Put, spaced, symbol_text, symbol_texts}
 use Rattle.lines.proofs.Laws.{put-nothing, put_then, put_as, put_all, put-within}
-use Rattle.lines.proofs.Texts.{rest_is}
 use Rattle.typed.specs.Typed.{hash_text, counts_text, nonterminal_text, state_text, production_text, symbol_place, item_place, equals_text, dot_text, by_nonterminal, by_terminal, to_state, unused_text, named, symbol_part, rule_text, item_part, by_text, edge_part, unused_part, loose_text, area_text, record_text, line_of, line_of_record}
 use Rattle.typed.specs.declared.Roles.{Roles}
 
@@ -66,18 +65,10 @@ pub symbol_no : {shown : Bool} (a : List ℕ) (at k n : ℕ) → shown ≡ false
 unfolding symbol_part
 symbol_no a at k n e = rw e (put-nothing a at)
 
--- all of a list of 2n words, cut behind 2i
-all_left : (ws : List ℕ) (n i : ℕ) → i ≤ n → length ws ≡ 2 * n → take (2 * (n - i)) (take (length ws - 2 * i) (drop (2 * i) ws)) ≡ drop (2 * i) ws
-all_left ws n i h l =
-    let e : 2 * (n - i) ≡ length ws - 2 * i = omega arith in
-    let s = rest_is (2 * i) ws in
-    ap (λ (k : ℕ). take k (take (length ws - 2 * i) (drop (2 * i) ws))) e ∙ ap (take (length ws - 2 * i)) s ∙ s
-
-pub rule-put : {a b c d e f : List ℕ} {at m₁ m₂ m₃ m₄ r : ℕ} (n : ℕ) (ws : List ℕ) (k i : ℕ) → i ≤ k → length ws ≡ 2 * k
-    → Put a at (named item_place n) b m₁ → Put b m₁ equals_text c m₂ → Put c m₂ (symbol_texts (take (2 * i) ws)) d m₃ → Put d m₃ dot_text e m₄
-    → Put e m₄ (symbol_texts (take (2 * (k - i)) (take (length ws - 2 * i) (drop (2 * i) ws)))) f r → Put a at (rule_text n ws i) f r
+pub rule-put : {a b c d e f front back : List ℕ} {at m₁ m₂ m₃ m₄ r : ℕ} (n : ℕ) (ws : List ℕ) (i : ℕ) → front ≡ take (2 * i) ws → back ≡ drop (2 * i) ws
+    → Put a at (named item_place n) b m₁ → Put b m₁ equals_text c m₂ → Put c m₂ (symbol_texts front) d m₃ → Put d m₃ dot_text e m₄ → Put e m₄ (symbol_texts back) f r → Put a at (rule_text n ws i) f r
 unfolding rule_text
-rule-put n ws k i h l P Q R S T = put_then P (put_then Q (put_then R (put_then S (put_as T (ap symbol_texts (all_left ws k i h l))))))
+rule-put n ws i ef eb P Q R S T = put_then P (put_then Q (put_then (put_as R (ap symbol_texts ef)) (put_then S (put_as T (ap symbol_texts eb)))))
 
 pub item-yes : {shown : Bool} {a b ws : List ℕ} {at r n : ℕ} (g : List ℕ) (p i : ℕ) → shown ≡ true → n ≡ get_or g (production_place p) 0 → ws ≡ symbol_words g p → Put a at (rule_text n ws i) b r → Put a at (item_part shown g p i) b r
 unfolding item_part

@@ -28,13 +28,9 @@ pub fn put_words(out: &mut [u8], at: usize, words: &[u16]) -> usize
     requires { (length words.now ≤ 8) × (at + 21 * length words.now ≤ length out.old) }
     ensures { Put out.old at (joined spaced words.now) out.new result × (result ≤ at + 21 * length words.now) }
 {
-    let n = words.len();
     let mut place = at;
-    let mut i: usize = 0;
-    while i < n {
-        let number = word(words, i);
-        place = put_after(out, place, b' ', number as u64);
-        i += 1;
+    for number in words {
+        place = put_after(out, place, b' ', *number as u64);
     }
     place
 }
@@ -48,6 +44,7 @@ pub fn put_named(out: &mut [u8], at: usize, name: &[u8], n: usize) -> usize
     put_after(out, next, b' ', n as u64)
 }
 
+// Whether a part is shown is an argument of what puts it, as in specs/Typed, so that `put_loose` has no branch.
 fn put_symbol_part(out: &mut [u8], at: usize, shown: bool, kind: usize, number: usize) -> usize
     requires { at + 50 ≤ length out.old }
     ensures { Put out.old at (symbol_part shown kind number) out.new result × (result ≤ at + 50) }
@@ -59,25 +56,18 @@ fn put_symbol_part(out: &mut [u8], at: usize, shown: bool, kind: usize, number: 
     at
 }
 
-// A production of n symbols with the cursor behind i of them.
-fn put_rule(
-    out: &mut [u8],
-    at: usize,
-    nonterminal: usize,
-    words: &[u16],
-    n: usize,
-    i: usize,
-) -> usize
-    requires i_le_n { (i ≤ n) × ((n ≤ 16) × (length words.now ≡ 2 * n)) }
+// A production of these symbols with the cursor behind i of them.
+fn put_rule(out: &mut [u8], at: usize, nonterminal: usize, words: &[u16], i: usize) -> usize
+    requires i_in_bounds { (2 * i ≤ length words.now) × (length words.now ≤ 32) }
     requires at_in_bounds { at + 800 ≤ length out.old }
     ensures { Put out.old at (rule_text nonterminal words.now i) out.new result × (result ≤ at + 800) }
 {
+    let (before, behind) = words.split_at(2 * i);
     let first = put_named(out, at, b": item", nonterminal);
     let second = put_text(out, first, b" =");
-    let third = put_symbols(out, second, words, i);
+    let third = put_symbols(out, second, before);
     let fourth = put_text(out, third, b" .");
-    let from = 2 * i;
-    put_symbols(out, fourth, &words[from..], n - i)
+    put_symbols(out, fourth, behind)
 }
 
 fn put_item_part(
@@ -95,8 +85,7 @@ fn put_item_part(
 {
     if shown {
         let nonterminal = word(grammar, p * ProductionIndex::WORDS);
-        let n = word(grammar, p * ProductionIndex::WORDS + 1);
-        return put_rule(out, at, nonterminal, symbols(grammar, p, productions), n, i);
+        return put_rule(out, at, nonterminal, symbols(grammar, p, productions), i);
     }
     at
 }
@@ -133,13 +122,7 @@ fn put_unused_part(out: &mut [u8], at: usize, roles: Roles) -> usize
     requires { at + 8 ≤ length out.old }
     ensures { Put out.old at (unused_part roles) out.new result × (result ≤ at + 8) }
 {
-    if roles.symbol {
-        return at;
-    }
-    if roles.item {
-        return at;
-    }
-    if roles.edge {
+    if roles.symbol || roles.item || roles.edge {
         return at;
     }
     put_text(out, at, b": unused")

@@ -1,21 +1,16 @@
-use Rattle.lines.proofs.Texts.{counted_small, total_first, total_more, total_end}
 use native.Mathlib.Omega.{arith}
+use Rattle.lines.proofs.Texts.{total_mark, total_symbol, total_end}
 use Rattle.lines.proofs.symbol_total.Goals as goal
 
-pub loop-i-init : goal.loop-i-init
-loop-i-init c = total_first _ _
+pub loop-symbol-preserved-then-symbol-ne-EMPTY_MARK : goal.loop-symbol-preserved-then-symbol-ne-EMPTY_MARK
+loop-symbol-preserved-then-symbol-ne-EMPTY_MARK c =
+    let s = c.in-Some.ensures.steps in
+    (omega arith, total_symbol c.loop-symbol.invariant.1 c.in-Some.symbol.now _ s.1.0 (omega arith) c.if-symbol-ne-EMPTY_MARK.true)
 
-pub overflow_mul-i : goal.overflow_mul-i
-overflow_mul-i c = omega (arith, c.loop-i-test.true, c.requires.1)
-
-pub word-requires : goal.word-requires
-word-requires c = omega (arith, c.loop-i-test.true, c.requires.0)
-
-pub overflow_add-total : goal.overflow_add-total
-overflow_add-total c = let small = counted_small c.word.result in omega (arith, small, c.counted-total.ensures, c.loop-i.invariant.few, c.loop-i-test.true, c.requires.1)
-
-pub loop-i-preserved : goal.loop-i-preserved
-loop-i-preserved c = total_more c.loop-i.invariant c.loop-i-test.true c.requires.0 c.word.ensures.0 c.counted-total.ensures
+pub loop-symbol-preserved : goal.loop-symbol-preserved
+loop-symbol-preserved c =
+    let s = c.in-Some.ensures.steps in
+    (omega arith, total_mark c.loop-symbol.invariant.1 c.in-Some.symbol.now _ s.1.0 (omega arith) c.if-symbol-ne-EMPTY_MARK.false)
 
 pub returns : goal.returns
-returns c = total_end c.loop-i.invariant c.loop-i-test.false
+returns c = let s = c.in-None.ensures.steps in total_end c.loop-symbol.invariant.1 (omega arith)

@@ -1,10 +1,10 @@
-use Prim.Native.Nat.{◌≤◌, ◌-◌, ◌/◌}
-use lib.ListN.{length}
+use mathlib.Core.Path.{◌≡◌}
+use Rattle.std.specs.Iterator.Adapters.{enumerate_source, enumerate_count}
+use Rattle.std.specs.Slice.Iter.{chunks_exact_rest, chunks_exact_size}
 use Rattle.little.proofs.Laws.{Turn}
 use Rattle.little.proofs.decode.Given as goal
 
 abbrev pub invariant-loop-i : goal.invariant-loop-i
-invariant-loop-i l = (l.i ≤ length l.bytes / 2) × Turn l.bytes l.initial.out l.out l.i
-
-abbrev pub decreases-loop-i : goal.decreases-loop-i
-decreases-loop-i l = length l.bytes / 2 - l.i
+invariant-loop-i l =
+    (chunks_exact_size (enumerate_source l.i-iterator) ≡ 2)
+    × Turn l.bytes l.initial.out l.out (enumerate_count l.i-iterator) (chunks_exact_rest (enumerate_source l.i-iterator))
