@@ -26,7 +26,7 @@ use outline::Outline;
 use pairs::sort_side;
 use repr::ProductionIndex;
 use slices::zero;
-use table::{Checked, read_counts};
+use table::read_counts;
 
 // The action's terminal or production in range: part of refusal 9.
 fn operand_fits(terminals: usize, productions: usize, action: usize, operand: usize) -> bool

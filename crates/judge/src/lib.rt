@@ -29,7 +29,7 @@ use examples::{Given, action_again, reduce_again};
 use outline::{Outline, outline_at, turn_at, write_kept};
 use pairs::{Test, first_pair};
 use repr::{NonterminalString, ProductionIndex, symbols, word};
-use table::{Checked, Counts, first_production, production};
+use table::{Counts, first_production, production};
 
 // A class and the examples that are shown with it, by their numbers.
 #[derive(Clone, Copy)]
@@ -319,7 +319,7 @@ fn try_classify_question(
     productions: usize,
     nonterminal: usize,
 ) -> Option<(u16, u16)>
-    requires table_value { check_of table.now ≡ Checked.Accepted }
+    requires table_value { check_of table.now ≡ Accepted }
     requires grammar { Grammar (meaning table.now) grammar.now productions × (nonterminal < length (meaning table.now).nonterminals) }
     ensures { (question_in result ≡ question_of (meaning table.now) nonterminal) × QuestionFits result }
 {

@@ -206,7 +206,7 @@ fn leads(
     set: StateSet,
     left: &mut usize,
 ) -> Option<bool>
-    requires table_value { check_of table.now ≡ Checked.Accepted }
+    requires table_value { check_of table.now ≡ Accepted }
     requires number_value { symbol_is_fit (length (meaning table.now).nonterminals) (meaning table.now).terminals kind number ≡ true }
     requires edge_index { EdgeIndex table.now first }
     ensures { MatchOption result (Unit {0}) (λ led. led ≡ some? (meets (symbol_of_kind kind number) (states_in set.low set.high)) (edges_from table.now first)) }
@@ -227,7 +227,7 @@ fn leads(
 
 // A step along the chains of all states: the states found, or none where more edges would be read than the table has records.
 fn step_along(table: &[u16], kind: usize, number: usize, set: StateSet) -> Option<StateSet>
-    requires table_value { check_of table.now ≡ Checked.Accepted }
+    requires table_value { check_of table.now ≡ Accepted }
     requires number_value { symbol_is_fit (length (meaning table.now).nonterminals) (meaning table.now).terminals kind number ≡ true }
     ensures { SteppedTo (predecessors (meaning table.now) (symbol_of_kind kind number) (states_in set.low set.high)) result }
 {
