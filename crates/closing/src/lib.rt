@@ -38,7 +38,7 @@ fn feed(
     let nonterminal = item.cursor(grammar, productions);
     if nonterminal < 32 {
         let more = first1(first, terminals, suffix(grammar, productions, item), set);
-        aheads[nonterminal] = TokenSet(aheads[nonterminal]).union_with(more).set.0;
+        aheads[nonterminal] = TokenSet(aheads[nonterminal]).union(more).0;
     }
 }
 
@@ -126,7 +126,7 @@ fn spread(grammar: &[u16], productions: usize, aheads: &[u64; 32], state: &mut [
         let nonterminal = word(grammar, production * ProductionIndex::WORDS);
         let own = TokenSet(state[production * ProductionIndex::INDEXES]);
         let ahead = TokenSet(aheads[nonterminal]);
-        state[production * ProductionIndex::INDEXES] = own.union_with(ahead).set.0;
+        state[production * ProductionIndex::INDEXES] = own.union(ahead).0;
     }
 }
 

@@ -79,7 +79,7 @@ fn shift_one(
     if 94 < symbol {
         return set;
     }
-    set.insert((symbol - 32) as u16).set
+    set.with((symbol - 32) as u16)
 }
 
 // The terminals that the state shifts.

@@ -11,9 +11,6 @@ use borrow.Author.Tests.{eqb-true, eqb-false, eq-eqb, ne_eqb, ltb-true, ltb-fals
 use Rattle.repr.specs.Lists.{up_from, below, mem, keep}
 use Rattle.repr.proofs.Lists.{cases, clash, length-below, length-up_from, get_d_up_from, mem-keep, mem_below, keep-nil, keep-yes, keep_no, keep_append, keep_agree, keep-none, length-keep, length_mapped}
 use Rattle.lookahead.specs.Tokens.{has, single, union, without, members}
-use Rattle.lookahead.specs.Iterated.{first_of_these, next_of}
-use Rattle.lookahead.specs.declared.NextToken.TheVariants.{Token, Done}
-use Rattle.lookahead.specs.declared.TokenSetIter.{TokenSetIter}
 use Rattle.lookahead.proofs.Laws.{has-none, has-below, has-union, has-single}
 use Rattle.lookahead.proofs.Members.{members-none, members_step}
 use Rattle.lookahead.proofs.Words.{shifted, contained}
@@ -195,40 +192,17 @@ states_count l h a b p q =
 
 -- the least state, and the others
 
-members-done : (s : ℕ) → Done ≡ next_of s → members s ≡ []
-unfolding next_of first_of_these
-members-done s e = go (members s) refl e
-  where
-    go : (ks : List ℕ) → members s ≡ ks → Done ≡ first_of_these s ks → members s ≡ []
-    go [] q f = q
-    go (k ∷ ks) q f = let z : ◌≡◌ {A = ℕ} 0 1 = cc in absurd (omega arith)
+pub token_small : (s k : ℕ) (ks : List ℕ) → members s ≡ k ∷ ks → k < 64
+token_small s k ks e = (members_step s k ks e).0
 
-members-token : (s k : ℕ) (i : TokenSetIter) → Token k i ≡ next_of s → members s ≡ k ∷ members i.0
-unfolding next_of first_of_these
-members-token s k i e = go (members s) refl e
-  where
-    go : (ks : List ℕ) → members s ≡ ks → Token k i ≡ first_of_these s ks → members s ≡ k ∷ members i.0
-    go [] q f = let z : ◌≡◌ {A = ℕ} 0 1 = cc in absurd (omega arith)
-    go (j ∷ ks) q f =
-        let a : k ≡ j = cc in
-        let b : i ≡ record { 0 = without s j } = cc in
-        let r = members_step s j ks q in
-        q ∙ rw (a, b, r.2)
+pub next_low : (l h k r : ℕ) → members l ≡ k ∷ members r → states_in l h ≡ k ∷ states_in r h
+next_low l h k r e = rw (states-words l h, states-words r h, e)
 
-pub token_small : (s k : ℕ) (i : TokenSetIter) → Token k i ≡ next_of s → k < 64
-token_small s k i e = (members_step s k (members i.0) (members-token s k i e)).0
+pub next_high : (l h k r : ℕ) → members l ≡ [] → members h ≡ k ∷ members r → states_in l h ≡ (64 + k) ∷ states_in 0 r
+next_high l h k r d e = rw (states-words l h, states-words 0 r, d, members-none, e)
 
-pub next_low : (l h k : ℕ) (i : TokenSetIter) → Token k i ≡ next_of l → NextIs l h (next.State (record { 0 = k }) (record { low = i.0; high = h }))
-unfolding NextIs
-next_low l h k i e = rw (states-words l h, states-words i.0 h, members-token l k i e)
-
-pub next_high : (l h k : ℕ) (i : TokenSetIter) → Done ≡ next_of l → Token k i ≡ next_of h → NextIs l h (next.State (record { 0 = 64 + k }) (record { low = 0; high = i.0 }))
-unfolding NextIs
-next_high l h k i d e = rw (states-words l h, states-words 0 i.0, members-done l d, members-none, members-token h k i e)
-
-pub next-done : (l h : ℕ) → Done ≡ next_of l → Done ≡ next_of h → NextIs l h next.Done
-unfolding NextIs
-next-done l h d e = rw (states-words l h, members-done l d, members-done h e)
+pub next-done : (l h : ℕ) → members l ≡ [] → members h ≡ [] → states_in l h ≡ []
+next-done l h d e = rw (states-words l h, d, e)
 
 -- what a caller reads of it
 pub next-states : (l h : ℕ) (s : StateIndex) (r : StateSet) → NextIs l h (next.State s r) → states_in l h ≡ s.0 ∷ states_in r.low r.high

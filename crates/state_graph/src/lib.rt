@@ -12,13 +12,14 @@ ghost use Rattle.table.specs.Decoded.{meaning, edges_from};
 ghost use Rattle.table.specs.Index.{EdgeIndex};
 ghost use Rattle.table.specs.Checked.{Accepted};
 ghost use Rattle.table.specs.Refusals.{check_of};
+ghost use Rattle.std.specs.Iterator.{YieldsFirstBy, item_count};
 ghost use Rattle.state_graph.specs.Walk.{predecessors, walked_back, traced_back};
 ghost use Rattle.state_graph.specs.States.{has_state, states_in, NextIs};
 ghost use Rattle.state_graph.specs.Hits.{hit_words, has_end_in, is_hit_now, meets, Hits, SteppedTo};
 ghost use Rattle.state_graph.specs.Remembered.{step_rows, step_places, step_words, symbol_place, Remembered};
 
 use bits::{is_set, put};
-use lookahead::{NextToken, TokenSet, TokenSetIter};
+use lookahead::TokenSet;
 use repr::NonterminalString;
 use table::{first_edge, read_counts, word};
 
@@ -116,29 +117,55 @@ impl StateSet {
         TokenSet(self.low).len() + TokenSet(self.high).len()
     }
 
-    // The states in order, one for each call.
+    // The states in order.
+    pub fn iter(self) -> StateSetIter
+        ensures { result.0 ≡ self }
+    {
+        StateSetIter(self)
+    }
+
+    // The least state, and the others.
     pub fn next(self) -> NextState
         ensures { NextIs self.low self.high result }
     {
-        match TokenSetIter(self.low).next() {
-            NextToken::Token(s, rest) => NextState::State(
-                StateIndex(s),
-                StateSet {
-                    low: rest.0,
-                    high: self.high,
-                },
-            ),
-            NextToken::Done => match TokenSetIter(self.high).next() {
-                NextToken::Token(s, rest) => NextState::State(
-                    StateIndex(64 + s),
-                    StateSet {
-                        low: 0,
-                        high: rest.0,
-                    },
-                ),
-                NextToken::Done => NextState::Done,
-            },
+        let mut rest = self.iter();
+        match rest.next() {
+            Some(state) => NextState::State(state, rest.0),
+            None => NextState::Done,
         }
+    }
+}
+
+// What is left of a set that is gone through in order.
+#[derive(Clone, Copy)]
+pub struct StateSetIter(pub StateSet);
+
+impl Iterator for StateSetIter {
+    type Item = StateIndex;
+
+    ghost next_gives = { YieldsFirstBy (λ k. k.0) (λ s. states_in s.0.low s.0.high) };
+
+    ghost remaining = { item_count (λ s. states_in s.0.low s.0.high) };
+
+    fn next(&mut self) -> Option<StateIndex> {
+        let set = self.0;
+        let mut low = TokenSet(set.low).iter();
+        if let Some(state) = low.next() {
+            self.0 = StateSet {
+                low: low.0,
+                high: set.high,
+            };
+            return Some(StateIndex(state));
+        }
+        let mut high = TokenSet(set.high).iter();
+        if let Some(state) = high.next() {
+            self.0 = StateSet {
+                low: 0,
+                high: high.0,
+            };
+            return Some(StateIndex(64 + state));
+        }
+        None
     }
 }
 

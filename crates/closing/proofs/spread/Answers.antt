@@ -9,7 +9,7 @@ pub bounds-aheads-nonterminal : goal.bounds-aheads-nonterminal
 bounds-aheads-nonterminal c = omega (arith, c.requires.0.owner _ c.loop-production-test.true, c.word-nonterminal.ensures.0)
 
 pub loop-production-preserved : goal.loop-production-preserved
-loop-production-preserved c = spread-more _ _ _ _ _ _ _ c.loop-production.invariant c.word-nonterminal.ensures.0 c.union_with.ensures.0
+loop-production-preserved c = spread-more _ _ _ _ _ _ _ c.loop-production.invariant c.word-nonterminal.ensures.0 c.union.ensures.is
 
 pub returns : goal.returns
 returns c = spread_end _ _ _ _ _ _ c.loop-production.auto.production-end c.loop-production-test.false c.loop-production.invariant
