@@ -8,11 +8,7 @@ use lib.Seq.{sets-eq}
 use borrow.Author.Tests.{eq-eqb, ne_eqb}
 use Rattle.repr.specs.Lists.{up_from, joined}
 use Rattle.repr.proofs.Lists.{joined_nil, joined_cons, joined_append}
-use Rattle.lookahead.specs.Tokens.{meet, without, members}
-use Rattle.lookahead.specs.Iterated.{first_of_these, next_of}
-use Rattle.lookahead.specs.declared.TokenSetIter.{TokenSetIter}
-use Rattle.lookahead.specs.declared.NextToken.TheVariants.{Token, Done}
-use Rattle.lookahead.proofs.Members.{members_step}
+use Rattle.lookahead.specs.Tokens.{meet, members}
 use Rattle.example.specs.Written.{put_at}
 use Rattle.example.proofs.Put.{Turn, turn_start, turn_room, turn_next, turn_end}
 use Rattle.build.specs.Built.{clash_words}
@@ -43,41 +39,15 @@ five k p a q t = refl
 
 -- the tokens of a set
 
-pub tokens-done : (s : ℕ) → Done ≡ next_of s → members s ≡ []
-unfolding next_of first_of_these
-tokens-done s e = go (members s) refl e
-  where
-    go : (ks : List ℕ) → members s ≡ ks → Done ≡ first_of_these s ks → members s ≡ []
-    go [] q f = q
-    go (k ∷ ks) q f = let z : ◌≡◌ {A = ℕ} 0 1 = cc in absurd (omega arith)
+module _ (k p a q at place s t : ℕ) (whole first list ts : List ℕ) (u : Turn at whole first place (joined (token_words k p a q) (members s)) list) (e : members s ≡ t ∷ ts) where
+  next : joined (token_words k p a q) (members s) ≡ token_words k p a q t ++ joined (token_words k p a q) ts
+  next = ap (joined (token_words k p a q)) e ∙ joined_cons (token_words k p a q) t ts
 
-pub tokens-next : (s k : ℕ) (i : TokenSetIter) → Token k i ≡ next_of s → members s ≡ k ∷ members i.0
-unfolding next_of first_of_these
-tokens-next s k i e = go (members s) refl e
-  where
-    go : (ks : List ℕ) → members s ≡ ks → Token k i ≡ first_of_these s ks → members s ≡ k ∷ members i.0
-    go [] q f = let z : ◌≡◌ {A = ℕ} 0 1 = cc in absurd (omega arith)
-    go (j ∷ ks) q f =
-        let a : k ≡ j = cc in
-        let b : i ≡ record { 0 = without s j } = cc in
-        let r = members_step s j ks q in
-        q ∙ rw (a, b, r.2)
-
-pub words-next : (f : ℕ → List ℕ) (s k : ℕ) (i : TokenSetIter) → Token k i ≡ next_of s → joined f (members s) ≡ f k ++ joined f (members i.0)
-words-next f s k i e = ap (joined f) (tokens-next s k i e) ∙ joined_cons f k (members i.0)
-
-pub words-done : (f : ℕ → List ℕ) (s : ℕ) → Done ≡ next_of s → joined f (members s) ≡ []
-words-done f s e = ap (joined f) (tokens-done s e) ∙ joined_nil f
-
-pub tokens_less : (s k : ℕ) (i : TokenSetIter) → Token k i ≡ next_of s → length (members i.0) < length (members s)
-tokens_less s k i e = omega (arith, ap length (tokens-next s k i e))
-
-module _ (k p a q at place s t : ℕ) (whole first list : List ℕ) (i : TokenSetIter) (u : Turn at whole first place (joined (token_words k p a q) (members s)) list) (e : Token t i ≡ next_of s) where
   pub tokens-room : place + 5 ≤ length list
-  tokens-room = let r = turn_room u (token_words k p a q t) (joined (token_words k p a q) (members i.0)) (words-next (token_words k p a q) s t i e) in omega (arith, r, five k p a q t)
+  tokens-room = let r = turn_room u (token_words k p a q t) (joined (token_words k p a q) ts) next in omega (arith, r, five k p a q t)
 
-  pub tokens-more : (after : List ℕ) → after ≡ put_at place (token_words k p a q t) list → Turn at whole first (place + 5) (joined (token_words k p a q) (members i.0)) after
-  tokens-more after w = turn_next u (token_words k p a q t) (joined (token_words k p a q) (members i.0)) (words-next (token_words k p a q) s t i e) after w (place + 5) (ap (λ (n : ℕ). place + n) (sym (five k p a q t)))
+  pub tokens-more : (after : List ℕ) → after ≡ put_at place (token_words k p a q t) list → Turn at whole first (place + 5) (joined (token_words k p a q) ts) after
+  tokens-more after w = turn_next u (token_words k p a q t) (joined (token_words k p a q) ts) next after w (place + 5) (ap (λ (n : ℕ). place + n) (sym (five k p a q t)))
 
 -- the words of conflicts
 

@@ -16,7 +16,7 @@ ghost use Rattle.conflict_counts.specs.Clashed.{pairs_in, clashes_in};
 ghost use Rattle.conflict_words.specs.Tokens.{other_of, token_words};
 
 use conflict_counts::{common, reductions, shift_set, shifts_of};
-use lookahead::{NextToken, TokenSet};
+use lookahead::TokenSet;
 use lr1_core::Item;
 use repr::ProductionIndex;
 
@@ -52,19 +52,11 @@ fn write_tokens(list: &mut [u16], at: usize, pair: Pair, set: TokenSet) -> usize
     ensures { (list.new ≡ put_at at (joined (token_words pair.state pair.production pair.action pair.other) (members set.0)) list.old) × (result ≡ at + length (joined (token_words pair.state pair.production pair.action pair.other) (members set.0))) }
 {
     let mut place = at;
-    let mut rest = set.iter();
-    loop {
-        match rest.next() {
-            NextToken::Token(token, others) => {
-                write_one(list, place, pair, token);
-                place += 5;
-                rest = others;
-            }
-            NextToken::Done => {
-                return place;
-            }
-        }
+    for token in set.iter() {
+        write_one(list, place, pair, token);
+        place += 5;
     }
+    place
 }
 
 // Those of a production with the higher ones.

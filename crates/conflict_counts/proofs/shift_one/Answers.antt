@@ -12,4 +12,4 @@ pub returns-then-symbol-gt94 : goal.returns-then-symbol-gt94
 returns-then-symbol-gt94 c = λ t. shift_high _ _ _ t _ c.cursor-symbol.ensures c.if-symbol-gt94.true _
 
 pub returns : goal.returns
-returns c = λ t. shift_some _ _ _ t _ c.cursor-symbol.ensures c.if-tokens-eq0.false c.if-symbol-lt32.false c.if-symbol-gt94.false (has c.args.set.0 t) _ (c.insert.ensures.2 t)
+returns c = λ t. shift_some _ _ _ t _ c.cursor-symbol.ensures c.if-tokens-eq0.false c.if-symbol-lt32.false c.if-symbol-gt94.false (has c.args.set.0 t) _ (c.with.ensures.members t)
