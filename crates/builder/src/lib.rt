@@ -25,7 +25,7 @@ use repr::ProductionIndex;
 use searching::search_states;
 use slices::zero;
 use state_records::{write_edges, write_items, write_states};
-use table::{Checked, Counts, first_edge, first_item, read_counts, read_productions};
+use table::{Counts, first_edge, first_item, read_counts, read_productions};
 
 // Records of the table and conflicts written; or the refusal and its place.
 #[derive(Clone, Copy)]
@@ -221,7 +221,7 @@ pub fn build_states(
     ensures { record { answer = result; scratch = scratch.new; out = out.new; conflicts = conflicts.new } ≡ build_of table.now start.0 scratch.old out.old conflicts.old }
 {
     match table_check::check(table) {
-        Checked::Refused(refusal, place) => Built::Refused(refusal, place),
-        Checked::Accepted => build_in(table, start.0 as usize, scratch, out, conflicts),
+        Err(refusal) => Built::Refused(refusal.number(), refusal.place()),
+        Ok(_) => build_in(table, start.0 as usize, scratch, out, conflicts),
     }
 }

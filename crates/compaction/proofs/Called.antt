@@ -4,7 +4,7 @@ use mathlib.Core.List.{List}
 use Prim.Native.Nat.{ℕ, ◌*◌}
 use native.Mathlib.Omega.{arith}
 use lib.ListN.{length, take}
-use Rattle.repr.specs.Answer.{answered, refused}
+use Rattle.repr.specs.Reply.{answered, refused}
 use Rattle.table.specs.Checked.{Checked, Accepted, Refused}
 use Rattle.table.specs.Words.{records}
 use Rattle.table.specs.Decoded.{meaning}

@@ -2,7 +2,7 @@
 use mathlib.Core.Path.{◌≡◌, refl}
 use mathlib.Core.List.{List, [], ◌∷◌, ◌++◌}
 use Prim.Native.Nat.{ℕ}
-use Rattle.repr.specs.Answer.{answered}
+use Rattle.repr.specs.Reply.{answered}
 use Rattle.repr.specs.Lists.{up_from, below, mem, occurrences, first?, some?, keep, joined}
 use Rattle.repr.specs.Listed.{symbol_is_fit}
 use Rattle.table.specs.Words.{word_at, records, state_area, production_area, loose, production_records, loose_records, names, against, chain_by, chain}

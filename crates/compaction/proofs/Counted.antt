@@ -8,7 +8,7 @@ use native.Mathlib.Omega.{arith}
 use lib.ListN.{length, get_or}
 use lib.Dec.{ltb}
 use borrow.Author.Tests.{ltb-true, ltb-false, lt-ltb}
-use Rattle.repr.specs.Answer.{answered}
+use Rattle.repr.specs.Reply.{answered}
 use Rattle.repr.specs.Lists.{below, mem, keep}
 use Rattle.repr.proofs.Lists.{cases, mem-keep, mem_below}
 use Rattle.table.specs.Words.{records, nonterminals, states, productions, state_area, production_area, loose}

@@ -6,7 +6,7 @@ use native.Mathlib.Omega.{arith}
 use lib.ListN.{length, replicate, length-replicate}
 use lib.Dec.{eqb}
 use borrow.Author.Tests.{eqb-true, eqb-false}
-use Rattle.repr.specs.Answer.{answered}
+use Rattle.repr.specs.Reply.{answered}
 use Rattle.repr.specs.Sizes.{record_limit}
 use Rattle.repr.proofs.Lists.{cases}
 use Rattle.table.specs.Checked.{Accepted}

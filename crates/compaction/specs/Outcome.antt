@@ -1,13 +1,13 @@
 -- What `compact` answers and leaves in the lent words (Req 08), for every slice. Assumes nothing: these are definitions.
 use Rattle.std.specs.Prelude.{ℕ, List}
-use Rattle.repr.specs.Answer.{Answer, answered, refused}
+use Rattle.repr.specs.Reply.{Reply, answered, refused}
 use Rattle.table.specs.Checked.{Accepted, Refused}
 use Rattle.table.specs.Refusals.{check_of}
 use Rattle.compaction.specs.Compaction.{count_of, compacted}
 
 -- the answer, and the table's words after the call
 pub record Outcome : Type 0 where
-  pub answer : Answer ℕ
+  pub answer : Reply ℕ
   pub table : List ℕ
 
 -- refusals 1 to 8 change nothing, and there is no other

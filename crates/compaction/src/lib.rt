@@ -4,7 +4,7 @@
 
 ghost use Rattle.std.specs.Prelude.{true, List, ◌≡◌, ℕ, ◌+◌, ◌*◌, ◌≤◌, ◌<◌, length, get_or, replicate};
 ghost use Rattle.repr.specs.Sizes.{record_limit};
-ghost use Rattle.repr.specs.Answer.{answer_of};
+ghost use Rattle.repr.specs.Reply.{reply_of};
 ghost use Rattle.table.specs.Words.{word_at, records, loose};
 ghost use Rattle.table.specs.Checked.{Accepted};
 ghost use Rattle.table.specs.Refusals.{check_of};
@@ -149,7 +149,7 @@ fn close_gaps(table: &mut [u16]) -> usize
 
 // Closes the gaps of a table in place: the number of records that are left.
 pub fn compact(table: &mut [u16]) -> Result<u16, Refusal>
-    ensures { record { answer = answer_of result; table = table.new } ≡ compact_of table.old }
+    ensures { record { answer = reply_of result; table = table.new } ≡ compact_of table.old }
 {
     check(table)?;
     Ok(close_gaps(table) as u16)

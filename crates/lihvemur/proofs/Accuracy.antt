@@ -1,6 +1,6 @@
 -- The accuracy rule: accepted tables with the same counts, productions, spans, items in order and edges in order get the same answers, whatever their words. Assumes nothing.
 use Rattle.std.proofs.Common.{◌≡◌, ℕ, zero, suc, ◌*◌, List, [], ◌∷◌, ◌++◌, length, take, sym, refl, ap, ◌∙◌}
-use Rattle.repr.specs.Answer.{answered}
+use Rattle.repr.specs.Reply.{answered}
 use Rattle.repr.specs.Meaning.{Item, Table}
 use Rattle.table.specs.Checked.{Accepted}
 use Rattle.table.specs.Decoded.{meaning}

@@ -1,5 +1,6 @@
 -- Table C traced, its graphs added to and listed: whole outcomes of the definitions that the public contracts cite, each a statement. The expected answers are the Rust's (oracle/README.md). Assumes nothing.
 use Rattle.std.proofs.Common.{◌≡◌, ℕ, List, [], ◌∷◌, ◌++◌, replicate, refl}
+use Rattle.repr.specs.Reply.{answered}
 use Rattle.repr.specs.Lists.{up_from, below, mem, occurrences, keep, some?, every?, first?, joined}
 use Rattle.repr.specs.Sizes.{scratch_words}
 use Rattle.repr.specs.Meaning.{is_same_symbol, Item}
@@ -23,7 +24,6 @@ use Rattle.trace.specs.Shift.{epsilon_item, epsilon, shift_trace, shift_edges}
 use Rattle.trace.specs.Reduce.{reduce_state_item, item_of_reduce, state_of_reduce, reduce_trace, reduce_edges}
 use Rattle.tracer.specs.declared.Backtrace.TheVariants.{Edges as Traced}
 use Rattle.tracer.specs.Outcome.{Outcome, outcome, edges_outcome, traced_in, trace_by, shift_of, reduce_of}
-use Rattle.lr1.specs.declared.AddEdge.TheVariants.{Edges as Added}
 use Rattle.lr1.specs.Entries.{over_table}
 use Rattle.lr1.specs.Edges.{edge_outcome, added_outcome, added_edge_in, add_edge_of}
 use Rattle.example.specs.Example.{sets_of, prefixes, suffixes, at_cursor, middle, symbols, spans, reductions, symbol_words, reduction_words, example_words, cursor_of, ahead, meets}
@@ -113,7 +113,7 @@ marked_traces = refl
 
 pub marked_edges :
     add_edge_of table_c (by_item 1) (short shift_c) ∷ add_edge_of table_c (by_item 0) (short shift_c) ∷ []
-    ≡ edge_outcome (Added 4) (long shift_more) ∷ edge_outcome (Added 3) (short shift_c) ∷ []
+    ≡ edge_outcome (answered 4) (long shift_more) ∷ edge_outcome (answered 3) (short shift_c) ∷ []
 unfolding up_from below mem occurrences keep some? every? first? joined is_same_symbol symbol_of_kind symbol_is_fit has single union meet without members first symbol_sets is_nonterminal shifts_nonterminal word_at records state_area production_area loose production_records loose_records names against chain_by chain production_chain symbol_chain item_chain edge_chain symbol_at item_at edge_at or_zero owner_in production_of state_of productions_of meaning row1 row2 nonterminal_record is_state is_production as_symbol as_item as_edge row3 row4 row5 row6 row7 used row8 offends first_row check_of join first_of marked_at_end unmarked first0 meets_ahead disjoint grown round settle sets_of_first FIRST nullable leads predecessors walked_back traced_back same_item is_same_node label_of alike same_cursor same_sets is_same_edge add is_node_of node_words edge_words graph_words node_of node_at lent_edge edges_in item_is_fit node_fits edge_is_fit once graph_fits node_is edge_is node_value_fits value_fits in_front over_table added_outcome added_edge_in add_edge_of same_words zeroed
 marked_edges = refl
 

@@ -1,6 +1,6 @@
 -- The ways through the exported functions, one law each. Assumes nothing.
 use Rattle.std.proofs.Common.{◌≡◌, ℕ, Bool, List, sym, ap, ◌∙◌}
-use Rattle.repr.specs.Answer.{Answer, answered, refused}
+use Rattle.repr.specs.Reply.{Reply, answered, refused}
 use Rattle.spelling.specs.Outcome.{Outcome as Spelling}
 use Rattle.compaction.specs.Outcome.{Outcome as Compaction}
 use Rattle.builder.specs.Outcome.{Left as Building}
@@ -16,17 +16,11 @@ use Rattle.yacc_write.specs.declared.Writing.TheVariants.{Bytes, Refused as NotW
 use Rattle.lookahead.specs.declared.TokenSet.{TokenSet}
 use Rattle.state_graph.specs.declared.StateSet.{StateSet}
 use Rattle.state_graph.specs.States.{states_in}
-use Rattle.lr1.specs.declared.First.{First}
-use Rattle.lr1.specs.declared.First.TheVariants.{Answered, Refused as NoAnswer}
-use Rattle.lr1.specs.declared.Followed.{Followed}
-use Rattle.lr1.specs.declared.Followed.TheVariants.{Tokens, Refused as NoTokens}
 use Rattle.first.specs.declared.Answer.{Answer}
 use Rattle.lr1.specs.declared.Walked.{Walked}
 use Rattle.lr1.specs.declared.Walked.TheVariants.{States, Refused as NoStates}
 use Rattle.lr1.specs.Entries.{Walk, walk_of}
 use Rattle.lr1.specs.Edges.{EdgeOutcome, edge_outcome}
-use Rattle.lr1.specs.declared.AddEdge.{AddEdge}
-use Rattle.lr1.specs.declared.AddEdge.TheVariants.{Edges as GraphEdges, Refused as NoEdge}
 use Rattle.tracer.specs.Outcome.{Outcome, outcome}
 use Rattle.tracer.specs.declared.Backtrace.{Backtrace}
 use Rattle.tracer.specs.declared.Backtrace.TheVariants.{Edges as TraceEdges, Refused as NoTrace}
@@ -43,7 +37,7 @@ module _ (c d : Checked) (e : c ≡ d) where
   unfolding check_numbers
   check_refused n r h = rw (sym e ∙ h)
 
-module _ (old : ℕ) (c : Answer ℕ) (words : List ℕ) (d : Spelling) (e : record { answer = c; out = words } ≡ d) where
+module _ (old : ℕ) (c : Reply ℕ) (words : List ℕ) (d : Spelling) (e : record { answer = c; out = words } ≡ d) where
   pub spell-made : (count : ℕ) → c ≡ answered count → spell_numbers 0 0 count words ≡ respell_numbers old d
   unfolding respell_numbers
   spell-made count h = rw (← e, h)
@@ -52,7 +46,7 @@ module _ (old : ℕ) (c : Answer ℕ) (words : List ℕ) (d : Spelling) (e : rec
   unfolding respell_numbers
   spell-refused n r h = rw (← e, h)
 
-module _ (old : ℕ) (c : Answer ℕ) (words : List ℕ) (d : Compaction) (e : record { answer = c; table = words } ≡ d) where
+module _ (old : ℕ) (c : Reply ℕ) (words : List ℕ) (d : Compaction) (e : record { answer = c; table = words } ≡ d) where
   pub compact-left : (count : ℕ) → c ≡ answered count → spell_numbers 0 0 count words ≡ compact_numbers old d
   unfolding compact_numbers
   compact-left count h = rw (← e, h)
@@ -88,21 +82,21 @@ module _ (old : ℕ) (c : Writing) (text : List ℕ) (d : WriteOutcome) (e : rec
   unfolding writing_numbers
   write-refused n r h = rw (← e, h)
 
-module _ (old : ℕ) (was : Bool) (c d : First) (e : c ≡ d) where
-  pub first_answered : (a : Answer) → c ≡ Answered a → answer_numbers 0 0 a.tokens.0 a.nullable ≡ first_numbers old was d
+module _ (old : ℕ) (was : Bool) (c d : Reply Answer) (e : c ≡ d) where
+  pub first_answered : (a : Answer) → c ≡ answered a → answer_numbers 0 0 a.tokens.0 a.nullable ≡ first_numbers old was d
   unfolding first_numbers
   first_answered a h = rw (sym e ∙ h)
 
-  pub first-refused : (n r : ℕ) → c ≡ NoAnswer n r → answer_numbers n r old was ≡ first_numbers old was d
+  pub first-refused : (n r : ℕ) → c ≡ refused n r → answer_numbers n r old was ≡ first_numbers old was d
   unfolding first_numbers
   first-refused n r h = rw (sym e ∙ h)
 
-module _ (old : ℕ) (c d : Followed) (e : c ≡ d) where
-  pub followed-tokens : (s : TokenSet) → c ≡ Tokens s → set_numbers 0 0 s.0 ≡ followed_numbers old d
+module _ (old : ℕ) (c d : Reply TokenSet) (e : c ≡ d) where
+  pub followed-tokens : (s : TokenSet) → c ≡ answered s → set_numbers 0 0 s.0 ≡ followed_numbers old d
   unfolding followed_numbers
   followed-tokens s h = rw (sym e ∙ h)
 
-  pub followed-refused : (n r : ℕ) → c ≡ NoTokens n r → set_numbers n r old ≡ followed_numbers old d
+  pub followed-refused : (n r : ℕ) → c ≡ refused n r → set_numbers n r old ≡ followed_numbers old d
   unfolding followed_numbers
   followed-refused n r h = rw (sym e ∙ h)
 
@@ -115,14 +109,14 @@ module _ (old : List ℕ) (c : Walked) (d : Walk) (e : walk_of c ≡ d) where
   unfolding walk_numbers walk_of
   walk_refused n r h = rw (sym e ∙ ap walk_of h)
 
-module _ (old : ℕ) (c : AddEdge) (graph : List ℕ) (d : EdgeOutcome) (e : edge_outcome c graph ≡ d) where
-  pub edge_there : (count : ℕ) → c ≡ GraphEdges count → add_numbers 0 0 count graph ≡ edge_numbers old d
+module _ (old : ℕ) (c : Reply ℕ) (graph : List ℕ) (d : EdgeOutcome) (e : edge_outcome c graph ≡ d) where
+  pub edge_there : (count : ℕ) → c ≡ answered count → add_numbers 0 0 count graph ≡ edge_numbers old d
   unfolding edge_numbers
-  edge_there count h = rw (sym e ∙ ap (λ (a : AddEdge). edge_outcome a graph) h)
+  edge_there count h = rw (sym e ∙ ap (λ (a : Reply ℕ). edge_outcome a graph) h)
 
-  pub edge_refused : (n r : ℕ) → c ≡ NoEdge n r → add_numbers n r old graph ≡ edge_numbers old d
+  pub edge_refused : (n r : ℕ) → c ≡ refused n r → add_numbers n r old graph ≡ edge_numbers old d
   unfolding edge_numbers
-  edge_refused n r h = rw (sym e ∙ ap (λ (a : AddEdge). edge_outcome a graph) h)
+  edge_refused n r h = rw (sym e ∙ ap (λ (a : Reply ℕ). edge_outcome a graph) h)
 
 module _ (old : ℕ) (c : Backtrace) (graph scratch : List ℕ) (d : Outcome) (e : outcome c graph scratch ≡ d) where
   pub trace_made : (count : ℕ) → c ≡ TraceEdges count → trace_numbers 0 0 count graph scratch ≡ backtrace_numbers old d

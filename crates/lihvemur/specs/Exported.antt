@@ -1,7 +1,7 @@
 -- What the exported functions answer in numbers: 0, or the refusal, whose place stands behind `place`. A number behind another reference changes only with answer 0; lent words are those that the entry leaves.
 -- Assumes nothing: these are definitions.
 use Rattle.std.specs.Prelude.{ℕ, Bool, List}
-use Rattle.repr.specs.Answer.{answered, refused}
+use Rattle.repr.specs.Reply.{answered, refused, Reply}
 use Rattle.spelling.specs.Outcome.{Outcome as Spelling}
 use Rattle.compaction.specs.Outcome.{Outcome as Compaction}
 use Rattle.builder.specs.Outcome.{Left as Building}
@@ -10,13 +10,8 @@ use Rattle.yacc_read.specs.Outcome.{Outcome as ReadOutcome}
 use Rattle.yacc_read.specs.declared.Reading.TheVariants.{Read, Refused as NotRead}
 use Rattle.yacc_write.specs.Outcome.{Outcome as WriteOutcome}
 use Rattle.yacc_write.specs.declared.Writing.TheVariants.{Bytes, Refused as NotWritten}
-use Rattle.lr1.specs.declared.First.{First}
-use Rattle.lr1.specs.declared.First.TheVariants.{Answered, Refused as NoAnswer}
-use Rattle.lr1.specs.declared.Followed.{Followed}
-use Rattle.lr1.specs.declared.Followed.TheVariants.{Tokens, Refused as NoTokens}
-use Rattle.lr1.specs.Entries.{Walk, states, refused}
+use Rattle.lr1.specs.Entries.{WALK}
 use Rattle.lr1.specs.Edges.{EdgeOutcome, edge_outcome}
-use Rattle.lr1.specs.declared.AddEdge.TheVariants.{Edges as GraphEdges, Refused as NoEdge}
 use Rattle.tracer.specs.Outcome.{Outcome, outcome}
 use Rattle.tracer.specs.declared.Backtrace.TheVariants.{Edges as TraceEdges, Refused as NoTrace}
 use Rattle.table.specs.Checked.{Checked, Accepted, Refused}
@@ -70,24 +65,24 @@ writing_numbers old o = elim o.answer [ Bytes written ↦ write_numbers 0 0 writ
 pub data SetNumbers : Type 0 where
   set_numbers : ℕ → ℕ → ℕ → SetNumbers
 
-unfoldable pub followed_numbers : ℕ → Followed → SetNumbers
-followed_numbers old (Tokens s) = set_numbers 0 0 s.0
-followed_numbers old (NoTokens n r) = set_numbers n r old
+unfoldable pub followed_numbers : ℕ → Reply TokenSet → SetNumbers
+followed_numbers old (answered s) = set_numbers 0 0 s.0
+followed_numbers old (refused n r) = set_numbers n r old
 
 -- refusal, place, set, and yes or no; both as they were where the call is refused
 pub data AnswerNumbers : Type 0 where
   answer_numbers : ℕ → ℕ → ℕ → Bool → AnswerNumbers
 
-unfoldable pub first_numbers : ℕ → Bool → First → AnswerNumbers
-first_numbers old was (Answered a) = answer_numbers 0 0 a.tokens.0 a.nullable
-first_numbers old was (NoAnswer n r) = answer_numbers n r old was
+unfoldable pub first_numbers : ℕ → Bool → Reply Answer → AnswerNumbers
+first_numbers old was (answered a) = answer_numbers 0 0 a.tokens.0 a.nullable
+first_numbers old was (refused n r) = answer_numbers n r old was
 
 -- refusal, place and the states of two words
 pub data StateNumbers : Type 0 where
   state_numbers : ℕ → ℕ → List ℕ → StateNumbers
 
 unfoldable pub walk_numbers : List ℕ → Walk → StateNumbers
-walk_numbers old (states ss) = state_numbers 0 0 ss
+walk_numbers old (answered ss) = state_numbers 0 0 ss
 walk_numbers old (refused n r) = state_numbers n r old
 
 -- refusal, place, number of edges and graph words
@@ -95,8 +90,8 @@ pub data AddNumbers : Type 0 where
   add_numbers : ℕ → ℕ → ℕ → List ℕ → AddNumbers
 
 unfoldable pub edge_numbers : ℕ → EdgeOutcome → AddNumbers
-edge_numbers old (edge_outcome (GraphEdges count) graph) = add_numbers 0 0 count graph
-edge_numbers old (edge_outcome (NoEdge n r) graph) = add_numbers n r old graph
+edge_numbers old (edge_outcome (answered count) graph) = add_numbers 0 0 count graph
+edge_numbers old (edge_outcome (refused n r) graph) = add_numbers n r old graph
 
 -- refusal, place, number of edges, graph words and scratch words
 pub data TraceNumbers : Type 0 where

@@ -14,19 +14,19 @@ use Rattle.enumerator.specs.declared.Opened.{Opened}
 use Rattle.enumerator.specs.declared.Opened.TheVariants.{Refused as NotOpened}
 
 module _ (t : List ℕ) (i : Item) (ahead : Lookahead) (g : List ℕ) where
-  pub open_refused : (c : Checked) → c ≡ check_of t → (n r : ℕ) → c ≡ NotAccepted n r → NotOpened n r ≡ open_of t i ahead g
+  pub open_refused : (n r : ℕ) → check_of t ≡ NotAccepted n r → NotOpened n r ≡ open_of t i ahead g
   unfolding open_of open_by
-  open_refused c ec n r e = rw (← ec, e)
+  open_refused n r e = rw e
 
-  pub open_accepted : (c : Checked) → c ≡ check_of t → c ≡ Accepted → (o : Opened) → o ≡ open_in i ahead g (meaning t) → o ≡ open_of t i ahead g
+  pub open_accepted : check_of t ≡ Accepted → (o : Opened) → o ≡ open_in i ahead g (meaning t) → o ≡ open_of t i ahead g
   unfolding open_of open_by
-  open_accepted c ec e o h = rw (← ec, e) h
+  open_accepted e o h = rw e h
 
 module _ (l : Listing) (t g scratch buffer : List ℕ) where
-  pub step-refused : (c : Checked) → c ≡ check_of t → (n r : ℕ) → c ≡ NotAccepted n r → outcome (Refused n r) l scratch buffer ≡ advance_of l t g scratch buffer
+  pub step-refused : (n r : ℕ) → check_of t ≡ NotAccepted n r → outcome (Refused n r) l scratch buffer ≡ advance_of l t g scratch buffer
   unfolding advance_of advance_by
-  step-refused c ec n r e = rw (← ec, e)
+  step-refused n r e = rw e
 
-  pub step_accepted : (c : Checked) → c ≡ check_of t → c ≡ Accepted → (o : Outcome) → o ≡ advance_in g l scratch buffer (meaning t) → o ≡ advance_of l t g scratch buffer
+  pub step_accepted : check_of t ≡ Accepted → (o : Outcome) → o ≡ advance_in g l scratch buffer (meaning t) → o ≡ advance_of l t g scratch buffer
   unfolding advance_of advance_by
-  step_accepted c ec e o h = rw (← ec, e) h
+  step_accepted e o h = rw e h

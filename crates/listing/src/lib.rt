@@ -11,15 +11,14 @@ use enumerator::{Advanced, Listing, Lookahead, Opened};
 use lister::{Stepped, open_in, step_in};
 use lookahead::TokenSet;
 use repr::ProductionIndex;
-use table::Checked;
 
 // A listing of all examples of a start item.
 pub fn lr0_examples(table: &[u16], production: ProductionIndex, index: u16, graph: &[u16]) -> Opened
     ensures { result ≡ open_of table.now (record { production = production.0; index = index }) Any graph.now }
 {
     match table_check::check(table) {
-        Checked::Refused(refusal, place) => Opened::Refused(refusal, place),
-        Checked::Accepted => open_in(table, production, index, Lookahead::Any, graph),
+        Err(refusal) => Opened::Refused(refusal.number(), refusal.place()),
+        Ok(_) => open_in(table, production, index, Lookahead::Any, graph),
     }
 }
 
@@ -34,8 +33,8 @@ pub fn lr1_examples(
     ensures { result ≡ open_of table.now (record { production = production.0; index = index }) (Set lookahead) graph.now }
 {
     match table_check::check(table) {
-        Checked::Refused(refusal, place) => Opened::Refused(refusal, place),
-        Checked::Accepted => open_in(table, production, index, Lookahead::Set(lookahead), graph),
+        Err(refusal) => Opened::Refused(refusal.number(), refusal.place()),
+        Ok(_) => open_in(table, production, index, Lookahead::Set(lookahead), graph),
     }
 }
 
@@ -50,11 +49,11 @@ pub fn step(
     ensures { outcome result.answer result.next scratch.new buffer.new ≡ advance_of l table.now graph.now scratch.old buffer.old }
 {
     match table_check::check(table) {
-        Checked::Refused(refusal, place) => Stepped {
+        Err(refusal) => Stepped {
             next: l,
-            answer: Advanced::Refused(refusal, place),
+            answer: Advanced::Refused(refusal.number(), refusal.place()),
         },
-        Checked::Accepted => step_in(l, table, graph, scratch, buffer),
+        Ok(_) => step_in(l, table, graph, scratch, buffer),
     }
 }
 

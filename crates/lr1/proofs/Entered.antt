@@ -7,6 +7,7 @@ use native.Mathlib.Omega.{arith}
 use lib.ListN.{length}
 use lib.Dec.{ltb}
 use borrow.Author.Tests.{lt-ltb, le-ltb}
+use Rattle.repr.specs.Reply.{answered, refused}
 use Rattle.repr.specs.Meaning.{Table, Production}
 use Rattle.repr.specs.Listed.{listed, list_is_fit}
 use Rattle.repr.proofs.Listed.{symbol_wider}
@@ -16,9 +17,7 @@ use Rattle.table.specs.Decoded.{meaning}
 use Rattle.first.specs.First.{FIRST, first0, first1, sets_of_first}
 use Rattle.first.specs.declared.Answer.{Answer}
 use Rattle.state_graph.specs.Walk.{traced_back}
-use Rattle.lr1.specs.Entries.{over_table, symbols_fit, tokens_fit, first0_answer, first1_answer, states, refused, trace_back_answer}
-use Rattle.lr1.specs.declared.First.TheVariants.{Answered, Refused as NoAnswer}
-use Rattle.lr1.specs.declared.Followed.TheVariants.{Tokens, Refused as NoTokens}
+use Rattle.lr1.specs.Entries.{over_table, symbols_fit, tokens_fit, first0_answer, first1_answer, trace_back_answer}
 
 module _ {A : Type 0} (refuse : ℕ → ℕ → A) (answer : Table → A) (t : List ℕ) where
   pub over-refused : (n r : ℕ) (c : Checked) → c ≡ Refused n r → refuse n r ≡ over_table refuse answer t c
@@ -38,16 +37,16 @@ module _ (ws : List ℕ) (T : Table) (n t : ℕ) (en : n ≡ length T.nontermina
   unfolding symbols_fit
   fits_by = rw (← en, ← et) eb
 
-  pub first0-yes : b ≡ true → (map : List ℕ) → map ≡ sets_of_first T.terminals T.productions → (a : Answer) → a ≡ first0 t map (listed ws) → Answered a ≡ first0_answer ws T
+  pub first0-yes : b ≡ true → (map : List ℕ) → map ≡ sets_of_first T.terminals T.productions → (a : Answer) → a ≡ first0 t map (listed ws) → answered a ≡ first0_answer ws T
   unfolding first0_answer FIRST
   first0-yes f map em a ea = rw (sym fits_by ∙ f, first0_answer, ea, em, et)
 
-  pub first0_no : b ≡ false → NoAnswer 9 0 ≡ first0_answer ws T
+  pub first0_no : b ≡ false → refused 9 0 ≡ first0_answer ws T
   unfolding first0_answer
   first0_no f = rw (sym fits_by ∙ f, first0_answer)
 
   module _ (ahead : ℕ) where
-    pub first1_list : b ≡ false → NoTokens 9 0 ≡ first1_answer ws ahead T
+    pub first1_list : b ≡ false → refused 9 0 ≡ first1_answer ws ahead T
     unfolding first1_answer
     first1_list f = rw (sym fits_by ∙ f, first1_answer)
 
@@ -56,17 +55,17 @@ module _ (ws : List ℕ) (T : Table) (n t : ℕ) (en : n ≡ length T.nontermina
       unfolding tokens_fit
       set_is = rw (← et) ed
 
-      pub first1-set : d ≡ false → NoTokens 9 0 ≡ first1_answer ws ahead T
+      pub first1-set : d ≡ false → refused 9 0 ≡ first1_answer ws ahead T
       unfolding first1_answer
       first1-set h = rw (sym fits_by ∙ f, sym set_is ∙ h, first1_answer)
 
-      pub first1-yes : d ≡ true → (map : List ℕ) → map ≡ sets_of_first T.terminals T.productions → (s : ℕ) → s ≡ first1 t map (listed ws) ahead → Tokens (record { 0 = s }) ≡ first1_answer ws ahead T
+      pub first1-yes : d ≡ true → (map : List ℕ) → map ≡ sets_of_first T.terminals T.productions → (s : ℕ) → s ≡ first1 t map (listed ws) ahead → answered (record { 0 = s }) ≡ first1_answer ws ahead T
       unfolding first1_answer FIRST first1
       first1-yes h map em s es = rw (sym fits_by ∙ f, sym set_is ∙ h, first1_answer, es, em, et)
 
 -- ---- the walk
 module _ (s : ℕ) (ws : List ℕ) (T : Table) where
-  pub walk-yes : s < length T.states → symbols_fit T ws ≡ true → (l : List ℕ) → l ≡ traced_back T s (listed ws) → states l ≡ trace_back_answer s ws T
+  pub walk-yes : s < length T.states → symbols_fit T ws ≡ true → (l : List ℕ) → l ≡ traced_back T s (listed ws) → answered l ≡ trace_back_answer s ws T
   unfolding trace_back_answer
   walk-yes h f l e = rw (lt-ltb s (length T.states) h, f, trace_back_answer, e)
 

@@ -8,6 +8,7 @@ use lib.ListN.{length, get_or, drop, take-append-drop, length-append, length-dro
 use lib.Seq.{drop-drop}
 use lib.Dec.{leb}
 use borrow.Author.Tests.{le-leb, lt-leb}
+use Rattle.repr.specs.Reply.{answered, refused}
 use Rattle.repr.specs.Sizes.{edge_limit, edge_place, graph_room}
 use Rattle.slices.specs.Lent.{in_front}
 use Rattle.repr.specs.Lists.{some?}
@@ -28,7 +29,6 @@ use Rattle.tracer.specs.declared.Backtrace.TheVariants.{Refused as NoTrace}
 use Rattle.tracer.specs.Outcome.{Outcome, outcome, traced_in, trace_by}
 use Rattle.tracer.proofs.Words.{built, words_long}
 use Rattle.lr1.specs.Edges.{EdgeOutcome, edge_outcome, added_outcome, added_edge_in, add_edge_of}
-use Rattle.lr1.specs.declared.AddEdge.TheVariants.{Edges, Refused}
 
 -- ---- the traces
 module _ (edges : Table → ℕ → Item → List TraceEdge) (t : List ℕ) (s : ℕ) (i : Item) (graph scratch : List ℕ) where
@@ -116,11 +116,11 @@ ways_all : (x y z : EdgeOutcome) → ways true true true x y z ≡ z
 unfolding ways
 ways_all x y z = refl
 
-added_few : (graph : List ℕ) (es : List TraceEdge) → length es ≤ edge_limit → added_outcome graph es ≡ edge_outcome (Edges (length es)) (in_front (graph_words es) graph)
+added_few : (graph : List ℕ) (es : List TraceEdge) → length es ≤ edge_limit → added_outcome graph es ≡ edge_outcome (answered (length es)) (in_front (graph_words es) graph)
 unfolding added_outcome
 added_few graph es h = rw (le-leb (length es) edge_limit h, added_outcome)
 
-added-over : (graph : List ℕ) (es : List TraceEdge) → edge_limit < length es → added_outcome graph es ≡ edge_outcome (Refused 12 0) graph
+added-over : (graph : List ℕ) (es : List TraceEdge) → edge_limit < length es → added_outcome graph es ≡ edge_outcome (refused 12 0) graph
 unfolding added_outcome
 added-over graph es h = rw (lt-leb (length es) edge_limit h, added_outcome)
 
@@ -132,22 +132,22 @@ module _ (v : EdgeValue) (graph : List ℕ) (T : Table) (n m : ℕ) (g : List �
   edge_told : b ≡ value_fits (length T.nonterminals) T.productions v
   edge_told = eb ∙ (λ j. value_fits (en j) (read j) v)
 
-  add_ways : added_edge_in v graph T ≡ ways (value_fits (length T.nonterminals) T.productions v) (leb graph_room (length graph)) (graph_fits (length T.nonterminals) T.productions graph) (edge_outcome (Refused 9 0) graph) (edge_outcome (Refused 11 0) graph) (added_outcome graph (add T.productions (edge_is v) (edges_in graph)))
+  add_ways : added_edge_in v graph T ≡ ways (value_fits (length T.nonterminals) T.productions v) (leb graph_room (length graph)) (graph_fits (length T.nonterminals) T.productions graph) (edge_outcome (refused 9 0) graph) (edge_outcome (refused 11 0) graph) (added_outcome graph (add T.productions (edge_is v) (edges_in graph)))
   unfolding added_edge_in ways
   add_ways = refl
 
-  pub edge_out : b ≡ false → edge_outcome (Refused 9 0) graph ≡ added_edge_in v graph T
+  pub edge_out : b ≡ false → edge_outcome (refused 9 0) graph ≡ added_edge_in v graph T
   edge_out f = sym (add_ways ∙ rw (sym edge_told ∙ f) (ways_edge _ _ _ _ _))
 
   module _ (f : b ≡ true) where
-    pub graph_short : length graph < graph_room → edge_outcome (Refused 11 0) graph ≡ added_edge_in v graph T
+    pub graph_short : length graph < graph_room → edge_outcome (refused 11 0) graph ≡ added_edge_in v graph T
     graph_short l = sym (add_ways ∙ rw (sym edge_told ∙ f, lt-leb graph_room (length graph) l) (ways_short _ _ _ _))
 
     module _ (l : graph_room ≤ length graph) (r : Bool) (er : r ≡ graph_fits n (productions_in g m) graph) where
       graph_told : r ≡ graph_fits (length T.nonterminals) T.productions graph
       graph_told = er ∙ (λ j. graph_fits (en j) (read j) graph)
 
-      pub graph_out : r ≡ false → edge_outcome (Refused 9 0) graph ≡ added_edge_in v graph T
+      pub graph_out : r ≡ false → edge_outcome (refused 9 0) graph ≡ added_edge_in v graph T
       graph_out q = sym (add_ways ∙ rw (sym edge_told ∙ f, le-leb graph_room (length graph) l, sym graph_told ∙ q) (ways_graph _ _ _))
 
       module _ (q : r ≡ true) where
@@ -157,7 +157,7 @@ module _ (v : EdgeValue) (graph : List ℕ) (T : Table) (n m : ℕ) (g : List �
             ∙ sym (add_ways ∙ rw (sym edge_told ∙ f, le-leb graph_room (length graph) l, sym graph_told ∙ q) (ways_all _ _ _))
 
         pub edge_added : {graph' ix ix' : List ℕ} (count : ℕ) → Graphed n (productions_in g m) graph ix (get_or graph 0 0) → Added n (productions_in g m) (edge_is v) graph graph' ix' → count ≡ get_or graph' 0 0
-            → edge_outcome (Edges count) graph' ≡ added_edge_in v graph T
+            → edge_outcome (answered count) graph' ≡ added_edge_in v graph T
         edge_added {graph' = graph'} count G A ec = make (ec ∙ counted) (A.words ∙ add_words_lem (productions_in g m) (edge_is v) graph G few) ∙ sym (added_few graph _ few) ∙ all_fit
           where
             counted : get_or graph' 0 0 ≡ length (add (productions_in g m) (edge_is v) (edges_in graph))
@@ -166,13 +166,13 @@ module _ (v : EdgeValue) (graph : List ℕ) (T : Table) (n m : ℕ) (g : List �
             few : length (add (productions_in g m) (edge_is v) (edges_in graph)) ≤ edge_limit
             few = rw counted at A.good.few
 
-            make : {a b : ℕ} {x y : List ℕ} → a ≡ b → x ≡ y → edge_outcome (Edges a) x ≡ edge_outcome (Edges b) y
-            make e h = λ j. edge_outcome (Edges (e j)) (h j)
+            make : {a b : ℕ} {x y : List ℕ} → a ≡ b → x ≡ y → edge_outcome (answered a) x ≡ edge_outcome (answered b) y
+            make e h = λ j. edge_outcome (answered (e j)) (h j)
 
-        pub edge_over : {graph' ix ix' : List ℕ} → Overfull (productions_in g m) (edge_is v) graph ix graph' ix' → edge_outcome (Refused 12 0) graph' ≡ added_edge_in v graph T
+        pub edge_over : {graph' ix ix' : List ℕ} → Overfull (productions_in g m) (edge_is v) graph ix graph' ix' → edge_outcome (refused 12 0) graph' ≡ added_edge_in v graph T
         edge_over {graph'} {ix} {ix'} F =
             let h = overfull_long (productions_in g m) (edge_is v) graph ix graph' ix' F in
-            ap (edge_outcome (Refused 12 0)) F.words ∙ sym (added-over graph _ (omega arith)) ∙ all_fit
+            ap (edge_outcome (refused 12 0)) F.words ∙ sym (added-over graph _ (omega arith)) ∙ all_fit
 
 -- an edge between equal nodes
 pub edge_between : (t : List ℕ) {a a' b b' : NodeValue} (p i : ℕ) (graph : List ℕ) → a ≡ a' → b ≡ b'

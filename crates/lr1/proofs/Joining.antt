@@ -7,6 +7,7 @@ use native.Mathlib.Omega.{arith}
 use lib.Dec.{ltb}
 use lib.ListN.{length}
 use borrow.Author.Tests.{ltb-true, lt-ltb}
+use Rattle.repr.specs.Reply.{answered, refused}
 use Rattle.repr.specs.Lists.{mem, joined}
 use Rattle.repr.specs.Meaning.{Symbol, Table}
 use Rattle.repr.specs.Listed.{listed}
@@ -23,9 +24,8 @@ use Rattle.first.proofs.Answers.{FIRST-nil, FIRST-append, join_answers_assoc, jo
 use Rattle.state_graph.specs.Walk.{traced_back, merged}
 use Rattle.state_graph.proofs.Exact.{mem_one, walk_inside}
 use Rattle.state_graph.proofs.Merged.{trace_append}
-use Rattle.lr1.specs.Entries.{over_table, symbols_fit, first0_answer, first0_of, states, refused, trace_back_answer, trace_back_of}
+use Rattle.lr1.specs.Entries.{over_table, symbols_fit, first0_answer, first0_of, trace_back_answer, trace_back_of}
 use Rattle.lr1.specs.Joining.{Joining, EntriesJoin}
-use Rattle.lr1.specs.declared.First.TheVariants.{Answered, Refused as NoAnswer}
 
 pub joining : (T : Table) → Joining T
 joining T = record {
@@ -46,15 +46,15 @@ module _ (t ws : List ℕ) where
   unfolding first0_of over_table
   first0-over A = rw (A, over_table)
 
-  first0-refused : (n r : ℕ) → check_of t ≡ Refused n r → first0_of t ws ≡ NoAnswer n r
+  first0-refused : (n r : ℕ) → check_of t ≡ Refused n r → first0_of t ws ≡ refused n r
   unfolding first0_of over_table
   first0-refused n r A = rw (A, over_table)
 
-  first0-yes : symbols_fit (meaning t) ws ≡ true → first0_answer ws (meaning t) ≡ Answered (FIRST (meaning t) (listed ws))
+  first0-yes : symbols_fit (meaning t) ws ≡ true → first0_answer ws (meaning t) ≡ answered (FIRST (meaning t) (listed ws))
   unfolding first0_answer
   first0-yes f = rw (f, first0_answer)
 
-  first0_no : symbols_fit (meaning t) ws ≡ false → first0_answer ws (meaning t) ≡ NoAnswer 9 0
+  first0_no : symbols_fit (meaning t) ws ≡ false → first0_answer ws (meaning t) ≡ refused 9 0
   unfolding first0_answer
   first0_no f = rw (f, first0_answer)
 
@@ -62,16 +62,16 @@ module _ (t ws : List ℕ) where
     abbrev Told : Type 0
     Told = (check_of t ≡ Accepted) × (symbols_fit (meaning t) ws ≡ true) × (FIRST (meaning t) (listed ws) ≡ a)
 
-    first0-found : first0_of t ws ≡ Answered a → Told
+    first0-found : first0_of t ws ≡ answered a → Told
     first0-found e = go (check_of t) refl
       where
         fit : (b : Bool) → symbols_fit (meaning t) ws ≡ b → check_of t ≡ Accepted → Told
-        fit true f A = let h : Answered (FIRST (meaning t) (listed ws)) ≡ Answered a = sym (first0-over A ∙ first0-yes f) ∙ e in (A, f, cc)
-        fit false f A = let h : NoAnswer 9 0 ≡ Answered a = sym (first0-over A ∙ first0_no f) ∙ e in no-clash cc
+        fit true f A = let h : answered (FIRST (meaning t) (listed ws)) ≡ answered a = sym (first0-over A ∙ first0-yes f) ∙ e in (A, f, cc)
+        fit false f A = let h : refused 9 0 ≡ answered a = sym (first0-over A ∙ first0_no f) ∙ e in no-clash cc
 
         go : (c : Checked) → check_of t ≡ c → Told
         go Accepted A = fit (symbols_fit (meaning t) ws) refl A
-        go (Refused n r) A = let h : NoAnswer n r ≡ Answered a = sym (first0-refused n r A) ∙ e in no-clash cc
+        go (Refused n r) A = let h : refused n r ≡ answered a = sym (first0-refused n r A) ∙ e in no-clash cc
 
   module _ (s : ℕ) where
     abbrev test : Bool
@@ -85,7 +85,7 @@ module _ (t ws : List ℕ) where
     unfolding trace_back_of over_table
     walk_refused n r A = rw (A, over_table)
 
-    walk-yes : test ≡ true → trace_back_answer s ws (meaning t) ≡ states (traced_back (meaning t) s (listed ws))
+    walk-yes : test ≡ true → trace_back_answer s ws (meaning t) ≡ answered (traced_back (meaning t) s (listed ws))
     unfolding trace_back_answer
     walk-yes f = rw (f, trace_back_answer)
 
@@ -97,20 +97,20 @@ module _ (t ws : List ℕ) where
       abbrev Found : Type 0
       Found = (check_of t ≡ Accepted) × (s < length (meaning t).states) × (symbols_fit (meaning t) ws ≡ true) × (traced_back (meaning t) s (listed ws) ≡ found)
 
-      walk-found : trace_back_of t s ws ≡ states found → Found
+      walk-found : trace_back_of t s ws ≡ answered found → Found
       walk-found e = go (check_of t) refl
         where
           fit : (b : Bool) → test ≡ b → check_of t ≡ Accepted → Found
           fit true f A =
-              let h : states (traced_back (meaning t) s (listed ws)) ≡ states found = sym (walk-over A ∙ walk-yes f) ∙ e in
+              let h : answered (traced_back (meaning t) s (listed ws)) ≡ answered found = sym (walk-over A ∙ walk-yes f) ∙ e in
               let l = and_left (ltb s (length (meaning t).states)) (symbols_fit (meaning t) ws) f in
               let r = and_right (ltb s (length (meaning t).states)) (symbols_fit (meaning t) ws) f in
               (A, ltb-true s (length (meaning t).states) l, r, cc)
-          fit false f A = let h : refused 9 0 ≡ states found = sym (walk-over A ∙ walk_no f) ∙ e in no-clash cc
+          fit false f A = let h : refused 9 0 ≡ answered found = sym (walk-over A ∙ walk_no f) ∙ e in no-clash cc
 
           go : (c : Checked) → check_of t ≡ c → Found
           go Accepted A = fit test refl A
-          go (Refused n r) A = let h : refused n r ≡ states found = sym (walk_refused n r A) ∙ e in no-clash cc
+          go (Refused n r) A = let h : refused n r ≡ answered found = sym (walk_refused n r A) ∙ e in no-clash cc
 
 -- ---- two lists that fit, joined
 
@@ -134,15 +134,15 @@ unfolding traced_back
 trace_inside T s h xs = walk_inside T (s ∷ []) (λ k m. rw (mem_one k s m) h) xs
 
 module _ (t : List ℕ) where
-  answers-join : (xs ys : List ℕ) (a b : Answer) → first0_of t xs ≡ Answered a → first0_of t ys ≡ Answered b → first0_of t (xs ++ ys) ≡ Answered (join_answers a b)
+  answers-join : (xs ys : List ℕ) (a b : Answer) → first0_of t xs ≡ answered a → first0_of t ys ≡ answered b → first0_of t (xs ++ ys) ≡ answered (join_answers a b)
   answers-join xs ys a b ea eb =
       let A = first0-found t xs a ea in
       let B = first0-found t ys b eb in
       first0-over t (xs ++ ys) A.0 ∙ first0-yes t (xs ++ ys) (both_fit (meaning t) xs ys A.1 B.1)
-      ∙ ap Answered (ap (FIRST (meaning t)) (listed-append xs ys (whole (meaning t) xs ys A.1)) ∙ FIRST-append (meaning t) (listed xs) (listed ys) ∙ (λ j. join_answers (A.2 j) (B.2 j)))
+      ∙ ap answered (ap (FIRST (meaning t)) (listed-append xs ys (whole (meaning t) xs ys A.1)) ∙ FIRST-append (meaning t) (listed xs) (listed ys) ∙ (λ j. join_answers (A.2 j) (B.2 j)))
 
-  walks_join : (s : ℕ) (xs ys found : List ℕ) (back : ℕ → List ℕ) → trace_back_of t s ys ≡ states found
-      → ((q : ℕ) → q < length (meaning t).states → trace_back_of t q xs ≡ states (back q)) → trace_back_of t s (xs ++ ys) ≡ states (merged (joined back found))
+  walks_join : (s : ℕ) (xs ys found : List ℕ) (back : ℕ → List ℕ) → trace_back_of t s ys ≡ answered found
+      → ((q : ℕ) → q < length (meaning t).states → trace_back_of t q xs ≡ answered (back q)) → trace_back_of t s (xs ++ ys) ≡ answered (merged (joined back found))
   walks_join s xs ys found back ey ex =
       let Y = walk-found t ys s found ey in
       let X = walk-found t xs s (back s) (ex s Y.1) in
@@ -151,7 +151,7 @@ module _ (t : List ℕ) where
       let h = trace_inside (meaning t) s Y.1 (listed ys) q (ap (mem q) Y.3 ∙ m) in
       (walk-found t xs q (back q) (ex q h)).3) in
       walk-over t (xs ++ ys) s Y.0 ∙ walk-yes t (xs ++ ys) s (rw (lt-ltb s (length (meaning t).states) Y.1) (both_fit (meaning t) xs ys X.2 Y.2))
-      ∙ ap states (ap (traced_back (meaning t) s) (listed-append xs ys (whole (meaning t) xs ys X.2))
+      ∙ ap answered (ap (traced_back (meaning t) s) (listed-append xs ys (whole (meaning t) xs ys X.2))
       ∙ trace_append (meaning t) s (listed xs) (listed ys)
       ∙ ap (λ (l : List ℕ). merged (joined (λ q. traced_back (meaning t) q (listed xs)) l)) Y.3
       ∙ ap merged each)

@@ -9,6 +9,7 @@ use native.Mathlib.Omega.{arith}
 use lib.ListN.{length, get_or}
 use lib.Dec.{eqb}
 use borrow.Author.Tests.{lt-ltb, ne_eqb, eqb-false}
+use Rattle.repr.specs.Reply.{answered}
 use Rattle.repr.specs.Lists.{mem}
 use Rattle.repr.specs.Meaning.{Symbol, terminal, Production, no_production, Table, TableFits, SymbolFits, All}
 use Rattle.repr.specs.Listed.{symbol_of_kind, listed, symbol_is_fit, list_is_fit}
@@ -29,8 +30,6 @@ use Rattle.first.proofs.Join.{join-left, join_right, join_cases, join-single_rig
 use Rattle.first.proofs.Textbook.{first-terminal, first_end, first-only, first-none}
 use Rattle.lr1.specs.Entries.{over_table, symbols_fit, tokens_fit, first0_answer, first0_of, first1_answer, first1_of}
 use Rattle.lr1.specs.Textbook.{IsFirst, IsFirst1}
-use Rattle.lr1.specs.declared.First.TheVariants.{Answered}
-use Rattle.lr1.specs.declared.Followed.TheVariants.{Tokens}
 
 listed-fits : (T : Table) (ws : List ℕ) → list_is_fit (length T.nonterminals) T.terminals ws ≡ true → All (SymbolFits T) (listed ws)
 unfolding list_is_fit listed All
@@ -69,13 +68,13 @@ module _ (t ws : List ℕ) (A : check_of t ≡ Accepted) (f : symbols_fit (meani
   inside = listed-fits (meaning t) ws f
 
   -- `first0` answers it
-  pub first0_textbook : (a : Answer) × (first0_of t ws ≡ Answered a) × IsFirst (meaning t) (listed ws) a
+  pub first0_textbook : (a : Answer) × (first0_of t ws ≡ answered a) × IsFirst (meaning t) (listed ws) a
   unfolding first0_of over_table first0_answer
   first0_textbook = (FIRST (meaning t) (listed ws), rw (A, f, over_table, first0_answer), first_is (meaning t) (fits t A) (listed ws) inside)
 
   -- `first1`: what begins what the list derives, and where it vanishes the lookahead
   pub first1_textbook : (ahead : ℕ) → tokens_fit (meaning t) ahead ≡ true
-      → (s : ℕ) × (first1_of t ws ahead ≡ Tokens (record { 0 = s })) × IsFirst1 (meaning t) (listed ws) ahead s
+      → (s : ℕ) × (first1_of t ws ahead ≡ answered (record { 0 = s })) × IsFirst1 (meaning t) (listed ws) ahead s
   unfolding first1_of over_table first1_answer FIRST first0 rust_first0
   first1_textbook ahead g = (join e s ahead, rw (A, f, g, over_table, first1_answer, followed-join e s ahead), record { begins = λ k. (there k, back k) })
     where
@@ -126,7 +125,7 @@ none_owned t A n h e p m q =
     clash (mem r.0 (get_or (meaning t).nonterminals n [])) o (ap (mem r.0) e ∙ mem-nil r.0)
 
 pub first0-none : (t : List ℕ) → check_of t ≡ Accepted → (n : ℕ) → n < length (meaning t).nonterminals → get_or (meaning t).nonterminals n [] ≡ []
-    → first0_of t (0 ∷ n ∷ []) ≡ Answered (record { tokens = record { 0 = 0 }; nullable = false })
+    → first0_of t (0 ∷ n ∷ []) ≡ answered (record { tokens = record { 0 = 0 }; nullable = false })
 unfolding first0_of over_table first0_answer symbols_fit list_is_fit symbol_is_fit listed symbol_of_kind FIRST first0 marked_at_end first_of unmarked
 first0-none t A n h e =
     let z : get_or (sets_of_first (meaning t).terminals (meaning t).productions) n 0 ≡ 0 =

@@ -1,5 +1,6 @@
 -- What `add_edge` answers and leaves (part 4 of document 01): answer and graph words. Assumes nothing: these are definitions.
 use Rattle.std.specs.Prelude.{ℕ, true, false, List, length, leb}
+use Rattle.repr.specs.Reply.{Reply, answered, refused}
 use Rattle.repr.specs.Sizes.{edge_limit, graph_room}
 use Rattle.slices.specs.Lent.{in_front}
 use Rattle.repr.specs.Meaning.{Table}
@@ -10,31 +11,29 @@ use Rattle.trace_graph.specs.Words.{graph_words, edges_in}
 use Rattle.trace_graph.specs.Fits.{graph_fits}
 use Rattle.trace_graph.specs.Values.{edge_is, value_fits}
 use Rattle.lr1.specs.Entries.{over_table}
-use Rattle.lr1.specs.declared.AddEdge.{AddEdge}
-use Rattle.lr1.specs.declared.AddEdge.TheVariants.{Edges, Refused}
 
 pub data EdgeOutcome : Type 0 where
-  edge_outcome : AddEdge → List ℕ → EdgeOutcome
+  edge_outcome : Reply ℕ → List ℕ → EdgeOutcome
 
 -- accepted: count and edges at the front of the graph, no other word changed; refusal 12: one edge too many, the graph as it was
 unfoldable pub added_outcome : List ℕ → List TraceEdge → EdgeOutcome
 added_outcome graph es = elim (leb (length es) edge_limit) [
-  | true ↦ edge_outcome (Edges (length es)) (in_front (graph_words es) graph)
-  | false ↦ edge_outcome (Refused 12 0) graph
+  | true ↦ edge_outcome (answered (length es)) (in_front (graph_words es) graph)
+  | false ↦ edge_outcome (refused 12 0) graph
 ]
 
 -- refusal 9 of the edge's numbers; 11; 9 of the graph's contents, which are looked at only in a graph that is long enough. Nothing is changed
 unfoldable pub added_edge_in : EdgeValue → List ℕ → Table → EdgeOutcome
 added_edge_in v graph T = elim (value_fits (length T.nonterminals) T.productions v) [
-  | false ↦ edge_outcome (Refused 9 0) graph
+  | false ↦ edge_outcome (refused 9 0) graph
   | true ↦ elim (leb graph_room (length graph)) [
-    | false ↦ edge_outcome (Refused 11 0) graph
+    | false ↦ edge_outcome (refused 11 0) graph
     | true ↦ elim (graph_fits (length T.nonterminals) T.productions graph) [
-      | false ↦ edge_outcome (Refused 9 0) graph
+      | false ↦ edge_outcome (refused 9 0) graph
       | true ↦ added_outcome graph (add T.productions (edge_is v) (edges_in graph))
     ]
   ]
 ]
 
 unfoldable pub add_edge_of : List ℕ → EdgeValue → List ℕ → EdgeOutcome
-add_edge_of t v graph = over_table (λ n r. edge_outcome (Refused n r) graph) (added_edge_in v graph) t (check_of t)
+add_edge_of t v graph = over_table (λ n r. edge_outcome (refused n r) graph) (added_edge_in v graph) t (check_of t)

@@ -1,20 +1,19 @@
 -- What the public entries answer, refusals included. A table is refused by rows 1 to 8 first; nothing above that speaks of words but through `meaning`.
 -- Assumes nothing: these are definitions.
-use Rattle.std.specs.Prelude.{ℕ, suc, ◌^◌, Bool, true, false, ◌&&◌, List, length, ltb}
+use Rattle.std.specs.Prelude.{ℕ, suc, ◌^◌, Bool, true, false, ◌&&◌, List, Result, Ok, Err, length, ltb}
+use Rattle.repr.specs.Reply.{Reply, answered, refused, number_of, place_of}
 use Rattle.repr.specs.Meaning.{Table}
 use Rattle.repr.specs.Listed.{listed, list_is_fit}
 use Rattle.table.specs.Checked.{Checked, Accepted, Refused}
 use Rattle.table.specs.Decoded.{meaning}
 use Rattle.table.specs.Refusals.{check_of}
 use Rattle.first.specs.First.{FIRST, followed}
+use Rattle.repr.specs.declared.refusals.Refusal.{Refusal}
+use Rattle.lookahead.specs.declared.TokenSet.{TokenSet}
+use Rattle.first.specs.declared.Answer.{Answer}
+use Rattle.state_graph.specs.declared.StateSet.{StateSet}
 use Rattle.state_graph.specs.Walk.{traced_back}
 use Rattle.state_graph.specs.States.{states_in}
-use Rattle.lr1.specs.declared.First.{First}
-use Rattle.lr1.specs.declared.First.TheVariants.{Answered, Refused as NoAnswer}
-use Rattle.lr1.specs.declared.Followed.{Followed}
-use Rattle.lr1.specs.declared.Followed.TheVariants.{Tokens, Refused as NoTokens}
-use Rattle.lr1.specs.declared.Walked.{Walked}
-use Rattle.lr1.specs.declared.Walked.TheVariants.{States, Refused as NoStates}
 
 -- an answer over the table's meaning, unless the check refuses
 unfoldable pub over_table {ℓ} : {A : Type ℓ} → (ℕ → ℕ → A) → (Table → A) → List ℕ → Checked → A
@@ -29,33 +28,29 @@ symbols_fit T ws = list_is_fit (length T.nonterminals) T.terminals ws
 unfoldable pub tokens_fit : Table → ℕ → Bool
 tokens_fit T s = ltb s (2 ^ suc T.terminals)
 
-unfoldable pub first0_answer : List ℕ → Table → First
-first0_answer ws T = elim (symbols_fit T ws) [ true ↦ Answered (FIRST T (listed ws)) | false ↦ NoAnswer 9 0 ]
+unfoldable pub first0_answer : List ℕ → Table → Reply Answer
+first0_answer ws T = elim (symbols_fit T ws) [ true ↦ answered (FIRST T (listed ws)) | false ↦ refused 9 0 ]
 
-unfoldable pub first0_of : List ℕ → List ℕ → First
-first0_of t ws = over_table NoAnswer (first0_answer ws) t (check_of t)
+unfoldable pub first0_of : List ℕ → List ℕ → Reply Answer
+first0_of t ws = over_table refused (first0_answer ws) t (check_of t)
 
 -- a list that a token of the lookahead follows
-unfoldable pub first1_answer : List ℕ → ℕ → Table → Followed
+unfoldable pub first1_answer : List ℕ → ℕ → Table → Reply TokenSet
 first1_answer ws ahead T = elim (symbols_fit T ws && tokens_fit T ahead) [
-  | true ↦ Tokens (record { 0 = followed (FIRST T (listed ws)) ahead })
-  | false ↦ NoTokens 9 0
+  | true ↦ answered (record { 0 = followed (FIRST T (listed ws)) ahead })
+  | false ↦ refused 9 0
 ]
 
-unfoldable pub first1_of : List ℕ → List ℕ → ℕ → Followed
-first1_of t ws ahead = over_table NoTokens (first1_answer ws ahead) t (check_of t)
+unfoldable pub first1_of : List ℕ → List ℕ → ℕ → Reply TokenSet
+first1_of t ws ahead = over_table refused (first1_answer ws ahead) t (check_of t)
 
 -- what a walk answers: the states, ascending, or a refusal and its place
-pub data Walk : Type 0 where
-  states : List ℕ → Walk
-  refused : ℕ → ℕ → Walk
+unfoldable pub walk_of : Result StateSet Refusal → Reply (List ℕ)
+walk_of (Ok s) = answered (states_in s.low s.high)
+walk_of (Err e) = refused (number_of e) (place_of e)
 
-unfoldable pub walk_of : Walked → Walk
-walk_of (States s) = states (states_in s.low s.high)
-walk_of (NoStates n r) = refused n r
+unfoldable pub trace_back_answer : ℕ → List ℕ → Table → Reply (List ℕ)
+trace_back_answer s ws T = elim (ltb s (length T.states) && symbols_fit T ws) [ true ↦ answered (traced_back T s (listed ws)) | false ↦ refused 9 0 ]
 
-unfoldable pub trace_back_answer : ℕ → List ℕ → Table → Walk
-trace_back_answer s ws T = elim (ltb s (length T.states) && symbols_fit T ws) [ true ↦ states (traced_back T s (listed ws)) | false ↦ refused 9 0 ]
-
-unfoldable pub trace_back_of : List ℕ → ℕ → List ℕ → Walk
+unfoldable pub trace_back_of : List ℕ → ℕ → List ℕ → Reply (List ℕ)
 trace_back_of t s ws = over_table refused (trace_back_answer s ws) t (check_of t)

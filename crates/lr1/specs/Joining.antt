@@ -1,14 +1,14 @@
 -- Request 14 of document 02, laws for putting strings together, in its order: for every table, all lists of symbols and all answers. Assumes nothing: these are
 -- definitions.
 use Rattle.std.specs.Prelude.{ℕ, ◌<◌, ◌≡◌, List, [], ◌++◌, length}
+use Rattle.repr.specs.Reply.{answered}
 use Rattle.repr.specs.Lists.{joined}
 use Rattle.repr.specs.Meaning.{Symbol, Table}
 use Rattle.table.specs.Decoded.{meaning}
 use Rattle.first.specs.declared.Answer.{Answer}
 use Rattle.first.specs.First.{FIRST, join_answers}
 use Rattle.state_graph.specs.Walk.{traced_back, merged}
-use Rattle.lr1.specs.Entries.{first0_of, states, trace_back_of}
-use Rattle.lr1.specs.declared.First.TheVariants.{Answered}
+use Rattle.lr1.specs.Entries.{first0_of, trace_back_of}
 
 pub record Joining (T : Table) : Type 0 where
   -- "the FIRST answer of two joined lists follows from the answers of the halves alone"
@@ -23,6 +23,6 @@ pub record Joining (T : Table) : Type 0 where
 
 -- the same of the public entries, over the words t of any table: where both halves are answered, the joined list is, by the halves' answers
 pub record EntriesJoin (t : List ℕ) : Type 0 where
-  pub answers : (xs ys : List ℕ) (a b : Answer) → first0_of t xs ≡ Answered a → first0_of t ys ≡ Answered b → first0_of t (xs ++ ys) ≡ Answered (join_answers a b)
-  pub walks : (s : ℕ) (xs ys found : List ℕ) (back : ℕ → List ℕ) → trace_back_of t s ys ≡ states found
-      → ((q : ℕ) → q < length (meaning t).states → trace_back_of t q xs ≡ states (back q)) → trace_back_of t s (xs ++ ys) ≡ states (merged (joined back found))
+  pub answers : (xs ys : List ℕ) (a b : Answer) → first0_of t xs ≡ answered a → first0_of t ys ≡ answered b → first0_of t (xs ++ ys) ≡ answered (join_answers a b)
+  pub walks : (s : ℕ) (xs ys found : List ℕ) (back : ℕ → List ℕ) → trace_back_of t s ys ≡ answered found
+      → ((q : ℕ) → q < length (meaning t).states → trace_back_of t q xs ≡ answered (back q)) → trace_back_of t s (xs ++ ys) ≡ answered (merged (joined back found))

@@ -3,10 +3,11 @@
 
 #![tactic(auto)]
 
-ghost use Rattle.std.specs.Prelude.{◌≡◌, ◌++◌};
+ghost use Rattle.std.specs.Prelude.{◌≡◌, ◌++◌, IfOk};
 ghost use Rattle.first.specs.First.{sets_of_first};
 ghost use Rattle.table.specs.Decoded.{meaning};
-ghost use Rattle.table.specs.Checked.{Accepted};
+ghost use Rattle.repr.specs.Reply.{reply_of};
+ghost use Rattle.table.specs.Checked.{Accepted, checked_of};
 ghost use Rattle.table.specs.Refusals.{check_of};
 ghost use Rattle.spelling.specs.Outcome.{respell_of};
 ghost use Rattle.compaction.specs.Outcome.{compact_of};
@@ -19,13 +20,11 @@ ghost use Rattle.lr1.specs.Edges.{edge_outcome, added_edge_in, add_edge_of};
 ghost use Rattle.lr1.specs.Entries.{first0_answer, first0_of, first1_answer, first1_of, walk_of, trace_back_answer, trace_back_of};
 
 use builder::Built;
-use compaction::Compacted;
 use first::{Answer, FirstSets};
 use lookahead::TokenSet;
-use repr::{ProductionIndex, joined_fits, list_fits, word};
-use spelling::Respelled;
+use repr::{ProductionIndex, Refusal, joined_fits, list_fits, word};
 use state_graph::{StateIndex, StateSet};
-use table::{Checked, read_counts, read_productions};
+use table::{AcceptedTable, read_productions};
 use trace_graph::{
     Inserted, TraceEdge, TraceGraph, TraceGraphNode, check_graph, edge_fits, insert,
 };
@@ -34,24 +33,25 @@ use yacc_read::Reading;
 use yacc_write::Writing;
 
 // Whether a table is accepted; else the refusal, 1 to 8, and its place.
-pub fn check(table: &[u16]) -> Checked
-    ensures { result ≡ check_of table.now }
+pub fn check(table: &[u16]) -> Result<AcceptedTable, Refusal>
+    ensures answer { checked_of result ≡ check_of table.now }
+    ensures same { IfOk result (λ t. t.words.now ≡ table.now) }
 {
     table_check::check(table)
 }
 
 // Writes an accepted table afresh in the single spelling of its meaning, at the front of `out` (Req 02), and answers how many records that are. Refusals 1 to 8, then 17 where they
 // pass 8,192 or the room of `out`; no refusal changes a word.
-pub fn respell(table: &[u16], out: &mut [u16]) -> Respelled
-    ensures { record { answer = result; out = out.new } ≡ respell_of table.now out.old }
+pub fn respell(table: &[u16], out: &mut [u16]) -> Result<u16, Refusal>
+    ensures { record { answer = reply_of result; out = out.new } ≡ respell_of table.now out.old }
 {
     spelling::respell(table, out)
 }
 
 // Takes back the records of an accepted table that no chain reaches, in place (Req 08): the reached ones move down, the freed end is 0; answers how many are left.
 // Refusals 1 to 8 alone; they change no word.
-pub fn compact(table: &mut [u16]) -> Compacted
-    ensures { record { answer = result; table = table.new } ≡ compact_of table.old }
+pub fn compact(table: &mut [u16]) -> Result<u16, Refusal>
+    ensures { record { answer = reply_of result; table = table.new } ≡ compact_of table.old }
 {
     compaction::compact(table)
 }
@@ -86,133 +86,109 @@ pub fn write_yacc(table: &[u16], text: &mut [u8]) -> Writing
     yacc_writer::write_yacc(table, text)
 }
 
-// FIRST of a list; else the refusal and its place.
-#[derive(Clone, Copy)]
-pub enum First {
-    Answered(Answer),
-    Refused(u16, u16),
-}
-
 // FIRST of a list of symbols, kind and number each: the terminals that begin what it derives, and whether it derives the empty list.
-pub fn first0(table: &[u16], symbols: &[u16]) -> First
-    ensures { result ≡ first0_of table.now symbols.now }
+pub fn first0(table: &[u16], symbols: &[u16]) -> Result<Answer, Refusal>
+    ensures { reply_of result ≡ first0_of table.now symbols.now }
 {
     first0_joined(table, &symbols[..0], symbols)
 }
 
 // FIRST of two lists joined, which may break a symbol between them (request 14 of document 02).
-pub fn first0_joined(table: &[u16], xs: &[u16], ys: &[u16]) -> First
-    ensures { result ≡ first0_of table.now (xs.now ++ ys.now) }
+pub fn first0_joined(table: &[u16], xs: &[u16], ys: &[u16]) -> Result<Answer, Refusal>
+    ensures { reply_of result ≡ first0_of table.now (xs.now ++ ys.now) }
 {
-    match table_check::check(table) {
-        Checked::Refused(refusal, place) => First::Refused(refusal, place),
-        Checked::Accepted => first0_in(table, xs, ys),
-    }
+    let accepted = table_check::check(table)?;
+    first0_in(accepted, xs, ys)
 }
 
 // FIRST of every nonterminal.
-fn first_sets(table: &[u16]) -> FirstSets
-    requires { check_of table.now ≡ Accepted }
-    ensures { result.map ≡ sets_of_first (meaning table.now).terminals (meaning table.now).productions }
+fn first_sets(table: AcceptedTable) -> FirstSets
+    ensures { result.map ≡ sets_of_first (meaning table.entry.words.now).terminals (meaning table.entry.words.now).productions }
 {
-    let counts = read_counts(table);
+    let counts = table.counts();
     let mut grammar = [0u16; ProductionIndex::ALL_WORDS];
-    read_productions(table, &mut grammar);
+    read_productions(table.words, &mut grammar);
     FirstSets::new(&grammar, counts.productions, counts.terminals as u16)
 }
 
-fn first0_in(table: &[u16], xs: &[u16], ys: &[u16]) -> First
-    requires { check_of table.now ≡ Accepted }
-    ensures { result ≡ first0_answer (xs.now ++ ys.now) (meaning table.now) }
+fn first0_in(table: AcceptedTable, xs: &[u16], ys: &[u16]) -> Result<Answer, Refusal>
+    ensures { reply_of result ≡ first0_answer (xs.now ++ ys.now) (meaning table.entry.words.now) }
 {
-    let counts = read_counts(table);
+    let counts = table.counts();
     let terminals = counts.terminals;
     if joined_fits(counts.nonterminals, terminals, xs, ys) {
         let sets = first_sets(table);
         let map = sets.map;
-        First::Answered(first::first0_joined(&map, terminals as u16, xs, ys))
+        Ok(first::first0_joined(&map, terminals as u16, xs, ys))
     } else {
-        First::Refused(9, 0)
+        Err(Refusal::OutOfRange)
     }
-}
-
-// A set of tokens; else the refusal and its place.
-#[derive(Clone, Copy)]
-pub enum Followed {
-    Tokens(TokenSet),
-    Refused(u16, u16),
 }
 
 // FIRST of a list that a token of the lookahead follows.
-pub fn first1(table: &[u16], lookahead: TokenSet, symbols: &[u16]) -> Followed
-    ensures { result ≡ first1_of table.now symbols.now lookahead.0 }
+pub fn first1(table: &[u16], lookahead: TokenSet, symbols: &[u16]) -> Result<TokenSet, Refusal>
+    ensures { reply_of result ≡ first1_of table.now symbols.now lookahead.0 }
 {
-    match table_check::check(table) {
-        Checked::Refused(refusal, place) => Followed::Refused(refusal, place),
-        Checked::Accepted => first1_in(table, lookahead, symbols),
-    }
+    let accepted = table_check::check(table)?;
+    first1_in(accepted, lookahead, symbols)
 }
 
-fn first1_in(table: &[u16], lookahead: TokenSet, symbols: &[u16]) -> Followed
-    requires { check_of table.now ≡ Accepted }
-    ensures { result ≡ first1_answer symbols.now lookahead.0 (meaning table.now) }
+fn first1_in(
+    table: AcceptedTable,
+    lookahead: TokenSet,
+    symbols: &[u16],
+) -> Result<TokenSet, Refusal>
+    ensures { reply_of result ≡ first1_answer symbols.now lookahead.0 (meaning table.entry.words.now) }
 {
-    let counts = read_counts(table);
+    let counts = table.counts();
     let n = counts.nonterminals;
     let terminals = counts.terminals;
     if list_fits(n, terminals, symbols) {
         if lookahead.fits(terminals) {
             let sets = first_sets(table);
             let map = sets.map;
-            return Followed::Tokens(first::first1(&map, terminals as u16, symbols, lookahead));
+            return Ok(first::first1(&map, terminals as u16, symbols, lookahead));
         }
     }
-    Followed::Refused(9, 0)
-}
-
-// States, ascending when gone through in order; else the refusal and its place.
-#[derive(Clone, Copy)]
-pub enum Walked {
-    States(StateSet),
-    Refused(u16, u16),
+    Err(Refusal::OutOfRange)
 }
 
 // The states from which a path of edges spells the symbols and ends at the given state.
-pub fn trace_back(table: &[u16], state: StateIndex, symbols: &[u16]) -> Walked
+pub fn trace_back(table: &[u16], state: StateIndex, symbols: &[u16]) -> Result<StateSet, Refusal>
     ensures { walk_of result ≡ trace_back_of table.now state.0 symbols.now }
 {
     trace_back_joined(table, state, &symbols[..0], symbols)
 }
 
 // The same over two lists joined, which may break a symbol between them (request 14 of document 02).
-pub fn trace_back_joined(table: &[u16], state: StateIndex, xs: &[u16], ys: &[u16]) -> Walked
+pub fn trace_back_joined(
+    table: &[u16],
+    state: StateIndex,
+    xs: &[u16],
+    ys: &[u16],
+) -> Result<StateSet, Refusal>
     ensures { walk_of result ≡ trace_back_of table.now state.0 (xs.now ++ ys.now) }
 {
-    match table_check::check(table) {
-        Checked::Refused(refusal, place) => Walked::Refused(refusal, place),
-        Checked::Accepted => trace_back_in(table, state, xs, ys),
-    }
+    let accepted = table_check::check(table)?;
+    trace_back_in(accepted, state, xs, ys)
 }
 
-fn trace_back_in(table: &[u16], state: StateIndex, xs: &[u16], ys: &[u16]) -> Walked
-    requires { check_of table.now ≡ Accepted }
-    ensures { walk_of result ≡ trace_back_answer state.0 (xs.now ++ ys.now) (meaning table.now) }
+fn trace_back_in(
+    table: AcceptedTable,
+    state: StateIndex,
+    xs: &[u16],
+    ys: &[u16],
+) -> Result<StateSet, Refusal>
+    ensures { walk_of result ≡ trace_back_answer state.0 (xs.now ++ ys.now) (meaning table.entry.words.now) }
 {
-    let counts = read_counts(table);
+    let counts = table.counts();
     let number = state.0 as usize;
     if number < counts.states {
         if joined_fits(counts.nonterminals, counts.terminals, xs, ys) {
-            return Walked::States(state_graph::trace_back_joined(table, number, xs, ys));
+            return Ok(state_graph::trace_back_joined(table.words, number, xs, ys));
         }
     }
-    Walked::Refused(9, 0)
-}
-
-// What `add_edge` answers: the number of edges that the graph then has; else the refusal and its place.
-#[derive(Clone, Copy)]
-pub enum AddEdge {
-    Edges(u16),
-    Refused(u16, u16),
+    Err(Refusal::OutOfRange)
 }
 
 // Puts an edge, whose label is the item at `index` of `production`, into a graph that the caller lends, unless an equal one is there (part 4 of document 01).
@@ -223,49 +199,44 @@ pub fn add_edge(
     production: ProductionIndex,
     index: u16,
     graph: &mut [u16],
-) -> AddEdge
-    ensures { edge_outcome result graph.new ≡ add_edge_of table.now (record { source = node_value source; target = node_value target; production = production.0; index = index }) graph.old }
+) -> Result<u16, Refusal>
+    ensures { edge_outcome (reply_of result) graph.new ≡ add_edge_of table.now (record { source = node_value source; target = node_value target; production = production.0; index = index }) graph.old }
 {
-    match table_check::check(table) {
-        Checked::Refused(refusal, place) => AddEdge::Refused(refusal, place),
-        Checked::Accepted => {
-            let from = source.words();
-            let to = target.words();
-            let p = production.0 as usize;
-            let edge = TraceEdge {
-                source: from,
-                target: to,
-                production: p,
-                index: index as usize,
-            };
-            add_edge_in(table, edge, graph)
-        }
-    }
+    let accepted = table_check::check(table)?;
+    let from = source.words();
+    let to = target.words();
+    let p = production.0 as usize;
+    let edge = TraceEdge {
+        source: from,
+        target: to,
+        production: p,
+        index: index as usize,
+    };
+    add_edge_in(accepted, edge, graph)
 }
 
 // The lowest refusal first: 9 for the edge itself comes before 11; only a graph that is long enough is looked into. No refusal changes a word.
-fn add_edge_in(table: &[u16], edge: TraceEdge, graph: &mut [u16]) -> AddEdge
-    requires { check_of table.now ≡ Accepted }
-    ensures { edge_outcome result graph.new ≡ added_edge_in edge graph.old (meaning table.now) }
+fn add_edge_in(table: AcceptedTable, edge: TraceEdge, graph: &mut [u16]) -> Result<u16, Refusal>
+    ensures { edge_outcome (reply_of result) graph.new ≡ added_edge_in edge graph.old (meaning table.entry.words.now) }
 {
-    let counts = read_counts(table);
+    let counts = table.counts();
     let productions = counts.productions;
     let n = counts.nonterminals;
     let mut grammar = [0u16; ProductionIndex::ALL_WORDS];
-    read_productions(table, &mut grammar);
+    read_productions(table.words, &mut grammar);
     if edge_fits(&grammar, productions, n, edge) {
         if graph.len() < TraceGraph::WORDS {
-            return AddEdge::Refused(11, 0);
+            return Err(Refusal::TooShort);
         }
         let mut ix = [0u16; TraceGraph::INDEX_WORDS];
         if check_graph(&grammar, productions, n, graph, &mut ix) {
             return match insert(&grammar, productions, n, graph, &mut ix, edge) {
-                Inserted::Done => AddEdge::Edges(word(graph, 0) as u16),
-                Inserted::Full => AddEdge::Refused(12, 0),
+                Inserted::Done => Ok(word(graph, 0) as u16),
+                Inserted::Full => Err(Refusal::TooManyEdges),
             };
         }
     }
-    AddEdge::Refused(9, 0)
+    Err(Refusal::OutOfRange)
 }
 
 // The trace of a shift, back from an item in a state (part 5 of document 01): its edges at the front of the graph, whose old words are not looked at.
@@ -283,8 +254,8 @@ pub fn backtrace_shift(
     let p = production.0 as usize;
     let i = index as usize;
     match table_check::check(table) {
-        Checked::Refused(refusal, place) => Backtrace::Refused(refusal, place),
-        Checked::Accepted => tracer::shift_in(table, s, p, i, graph, scratch),
+        Err(refusal) => Backtrace::Refused(refusal.number(), refusal.place()),
+        Ok(_) => tracer::shift_in(table, s, p, i, graph, scratch),
     }
 }
 
@@ -303,7 +274,7 @@ pub fn backtrace_reduce(
     let p = production.0 as usize;
     let i = index as usize;
     match table_check::check(table) {
-        Checked::Refused(refusal, place) => Backtrace::Refused(refusal, place),
-        Checked::Accepted => tracer::reduce_in(table, s, p, i, graph, scratch),
+        Err(refusal) => Backtrace::Refused(refusal.number(), refusal.place()),
+        Ok(_) => tracer::reduce_in(table, s, p, i, graph, scratch),
     }
 }

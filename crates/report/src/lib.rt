@@ -16,7 +16,6 @@ use error::{Class, Classified, Conflict};
 use example::Example;
 use lookahead::TokenSet;
 use repr::word;
-use table::Checked;
 
 // The class of a conflict, its examples at the front of the two buffers; else the refusal and its place.
 pub fn classify(
@@ -29,8 +28,8 @@ pub fn classify(
     ensures { classification (reading_of result) scratch.new action.new reduce.new ≡ classify_of table.now conflict scratch.old action.old reduce.old }
 {
     match table_check::check(table) {
-        Checked::Refused(refusal, place) => Classified::Refused(refusal, place),
-        Checked::Accepted => classify_in(table, conflict, scratch, action, reduce),
+        Err(refusal) => Classified::Refused(refusal.number(), refusal.place()),
+        Ok(_) => classify_in(table, conflict, scratch, action, reduce),
     }
 }
 
@@ -40,13 +39,13 @@ pub fn choose(table: &[u16], conflict: Conflict, tokens: TokenSet, scratch: &mut
     ensures value { result ≡ chosen_of (choice_in result) }
 {
     match table_check::check(table) {
-        Checked::Refused(refusal, place) => Chosen {
-            refusal: refusal,
-            place: place,
+        Err(refusal) => Chosen {
+            refusal: refusal.number(),
+            place: refusal.place(),
             count: 0,
             entries: [0; Class::ALL_WORDS],
         },
-        Checked::Accepted => choose_in(table, conflict, tokens, scratch),
+        Ok(_) => choose_in(table, conflict, tokens, scratch),
     }
 }
 

@@ -3,5 +3,5 @@ pub mod Lists
 pub mod Meaning
 pub mod Listed
 pub mod Packed
-pub mod Answer
+pub mod Reply
 pub mod Symbols

@@ -1,7 +1,7 @@
-// What an entry refuses, by document 01's table of refusals (1 to 15) and document 02 (from 16 on); the numbers stand in specs/Answer.
+// What an entry refuses, by document 01's table of refusals (1 to 15) and document 02 (from 16 on); the numbers stand in specs/Reply.
 
 ghost use Rattle.std.specs.Prelude.{◌≡◌};
-ghost use Rattle.repr.specs.Answer.{number_of, place_of};
+ghost use Rattle.repr.specs.Reply.{number_of, place_of};
 
 // A refusal, with its place where it has one: a record of the table, the number of a production.
 #[derive(Clone, Copy, PartialEq, Eq)]

@@ -4,7 +4,7 @@
 
 ghost use Rattle.std.specs.Prelude.{◌≡◌, List, [], ◌∷◌, ℕ, suc, ◌+◌, ◌*◌, ◌≤◌, ◌<◌, min, length, get_or};
 ghost use Rattle.repr.specs.Sizes.{record_limit};
-ghost use Rattle.repr.specs.Answer.{answer_of};
+ghost use Rattle.repr.specs.Reply.{reply_of};
 ghost use Rattle.table.specs.Decoded.{meaning};
 ghost use Rattle.table.specs.Checked.{Accepted};
 ghost use Rattle.table.specs.Refusals.{check_of};
@@ -214,7 +214,7 @@ fn write_all(table: AcceptedTable, out: &mut [u16], symbols: usize, items: usize
 
 // Writes an accepted table afresh, if there is room.
 fn respell_in(table: AcceptedTable, out: &mut [u16]) -> Result<u16, Refusal>
-    ensures { record { answer = answer_of result; out = out.new } ≡ written_of (meaning table.entry.words.now) out.old }
+    ensures { record { answer = reply_of result; out = out.new } ≡ written_of (meaning table.entry.words.now) out.old }
 {
     let s = measure(table);
     if s.records > LIMIT {
@@ -229,7 +229,7 @@ fn respell_in(table: AcceptedTable, out: &mut [u16]) -> Result<u16, Refusal>
 
 // Writes an accepted table afresh at the front of `out`, and answers how many records that are. Refusals 1 to 8, then 17 without room or above 8,192 records; they change nothing.
 pub fn respell(table: &[u16], out: &mut [u16]) -> Result<u16, Refusal>
-    ensures { record { answer = answer_of result; out = out.new } ≡ respell_of table.now out.old }
+    ensures { record { answer = reply_of result; out = out.new } ≡ respell_of table.now out.old }
 {
     let accepted = table_check::check(table)?;
     respell_in(accepted, out)

@@ -25,7 +25,7 @@ pub struct Offence {
 }
 
 impl Offence {
-    ghost use Rattle.repr.specs.Answer.{number_of as refusal_number, place_of as refusal_place};
+    ghost use Rattle.repr.specs.Reply.{number_of as refusal_number, place_of as refusal_place};
 
     fn refusal(self) -> Refusal
         requires { self.place < 65536 }

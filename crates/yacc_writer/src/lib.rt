@@ -16,7 +16,7 @@ ghost use Rattle.yacc_write.specs.Outcome.{written_of, write_of};
 ghost use Rattle.yacc_writer.specs.Wrote.{place_limit, Wrote, name_bytes, token_bytes, production_bytes, file_bytes, terminal_bytes};
 
 use repr::{ProductionIndex, symbols, word};
-use table::{Checked, first_production, production, read_counts, read_productions};
+use table::{first_production, production, read_counts, read_productions};
 use yacc_write::Writing;
 
 // A byte; the place behind it.
@@ -232,7 +232,7 @@ pub fn write_yacc(table: &[u16], text: &mut [u8]) -> Writing
     ensures { record { answer = result; text = text.new } ≡ write_of table.now text.old }
 {
     match table_check::check(table) {
-        Checked::Refused(refusal, place) => Writing::Refused(refusal, place),
-        Checked::Accepted => write_in(table, text),
+        Err(refusal) => Writing::Refused(refusal.number(), refusal.place()),
+        Ok(_) => write_in(table, text),
     }
 }

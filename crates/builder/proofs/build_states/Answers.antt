@@ -3,10 +3,10 @@ use Rattle.builder.proofs.Ways.{build-refused, build_checked}
 use Rattle.builder.proofs.build_states.Goals as goal
 
 pub build_in-requires : goal.build_in-requires
-build_in-requires c = sym c.check.ensures ∙ c.in-Accepted.is
+build_in-requires c = sym c.in-Ok.ensures.answer
 
-pub returns-in-Refused : goal.returns-in-Refused
-returns-in-Refused c = build-refused _ _ _ _ _ _ _ (sym c.check.ensures ∙ c.in-Refused.is)
+pub returns-in-Err : goal.returns-in-Err
+returns-in-Err c = rw (c.number.ensures, c.place.ensures) (build-refused _ _ _ _ _ _ _ (sym c.in-Err.ensures.answer))
 
-pub returns-in-Accepted : goal.returns-in-Accepted
-returns-in-Accepted c = build_checked _ _ _ _ _ (sym c.check.ensures ∙ c.in-Accepted.is) _ c.build_in.ensures
+pub returns-in-Ok : goal.returns-in-Ok
+returns-in-Ok c = build_checked _ _ _ _ _ (sym c.in-Ok.ensures.answer) _ c.build_in.ensures

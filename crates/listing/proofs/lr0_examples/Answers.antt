@@ -3,10 +3,10 @@ use mathlib.Core.Path.{sym, ◌∙◌}
 use Rattle.listing.proofs.lr0_examples.Goals as goal
 
 pub open_in-requires : goal.open_in-requires
-open_in-requires c = sym c.check.ensures ∙ c.in-Accepted.is
+open_in-requires c = sym c.in-Ok.ensures.answer
 
-pub returns-in-Refused : goal.returns-in-Refused
-returns-in-Refused c = open_refused _ _ _ _ _ c.check.ensures _ _ c.in-Refused.is
+pub returns-in-Err : goal.returns-in-Err
+returns-in-Err c = rw (c.number.ensures, c.place.ensures) (open_refused _ _ _ _ _ _ (sym c.in-Err.ensures.answer))
 
-pub returns-in-Accepted : goal.returns-in-Accepted
-returns-in-Accepted c = open_accepted _ _ _ _ _ c.check.ensures c.in-Accepted.is _ c.open_in.ensures
+pub returns-in-Ok : goal.returns-in-Ok
+returns-in-Ok c = open_accepted _ _ _ _ (sym c.in-Ok.ensures.answer) _ c.open_in.ensures

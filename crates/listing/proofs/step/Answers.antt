@@ -3,10 +3,10 @@ use mathlib.Core.Path.{sym, ◌∙◌}
 use Rattle.listing.proofs.step.Goals as goal
 
 pub step_in-requires : goal.step_in-requires
-step_in-requires c = sym c.check.ensures ∙ c.in-Accepted.is
+step_in-requires c = sym c.in-Ok.ensures.answer
 
-pub returns-in-Refused : goal.returns-in-Refused
-returns-in-Refused c = step-refused _ _ _ _ _ _ c.check.ensures _ _ c.in-Refused.is
+pub returns-in-Err : goal.returns-in-Err
+returns-in-Err c = rw (c.number.ensures, c.place.ensures) (step-refused _ _ _ _ _ _ _ (sym c.in-Err.ensures.answer))
 
-pub returns-in-Accepted : goal.returns-in-Accepted
-returns-in-Accepted c = step_accepted _ _ _ _ _ _ c.check.ensures c.in-Accepted.is _ c.step_in.ensures
+pub returns-in-Ok : goal.returns-in-Ok
+returns-in-Ok c = step_accepted _ _ _ _ _ (sym c.in-Ok.ensures.answer) _ c.step_in.ensures

@@ -1,17 +1,18 @@
-use mathlib.Core.Path.{sym, ◌∙◌}
-use Rattle.lr1.specs.Edges.{add_edge_of}
-use Rattle.lr1.proofs.Entered.{over-refused, over_accepted}
+use Rattle.std.proofs.Common.{sym, ap, ◌∙◌, List, ℕ, ◌++◌}
+use Rattle.std.proofs.lemmas.Result.{err_from_is_err_and}
+use Rattle.table.specs.Decoded.{meaning}
+use Rattle.lr1.specs.Edges.{add_edge_of, added_edge_in}
 use Rattle.lr1.proofs.Graphs.{edge_between}
+use Rattle.lr1.proofs.Entered.{over-refused, over_accepted}
 use Rattle.lr1.proofs.add_edge.Goals as goal
 
-pub add_edge_in-requires : goal.add_edge_in-requires
-add_edge_in-requires c = sym c.check.ensures ∙ c.in-Accepted.is
-
-pub returns-in-Refused : goal.returns-in-Refused
+pub returns-in_err-accepted : goal.returns-in_err-accepted
 unfolding add_edge_of
-returns-in-Refused c = over-refused _ _ _ _ _ _ (sym c.check.ensures ∙ c.in-Refused.is)
+returns-in_err-accepted c =
+    let p = err_from_is_err_and c.from_residual.result c.from_residual.ensures.1 in
+    rw (p.1, p.2) (over-refused _ _ _ _ _ _ (sym c.in_err-accepted.ensures.answer))
 
-pub returns-in-Accepted : goal.returns-in-Accepted
+pub returns : goal.returns
 unfolding add_edge_of
-returns-in-Accepted c = over_accepted _ _ _ _ (sym c.check.ensures ∙ c.in-Accepted.is) _ c.add_edge_in.ensures
+returns c = over_accepted _ _ _ _ (sym c.in_ok-accepted.ensures.answer) _ (c.add_edge_in.ensures ∙ ap (λ (ws : List ℕ). added_edge_in (record { source = c.words-from.result; target = c.words-to.result; production = c.args.production.0; index = c.args.index }) c.args.graph.now (meaning ws)) c.in_ok-accepted.ensures.same)
     ∙ edge_between _ _ _ _ c.words-from.ensures c.words-to.ensures

@@ -4,25 +4,25 @@ use native.Mathlib.Omega.{arith}
 use Rattle.lr1.proofs.add_edge_in.Goals as goal
 
 pub edge_fits-requires : goal.edge_fits-requires
-edge_fits-requires c = rw c.read_counts-counts.ensures.productions c.read_productions.ensures.0
+edge_fits-requires c = rw c.counts-counts.ensures.productions c.read_productions.ensures.0
 
 pub returns-then-graph-lt-WORDS : goal.returns-then-graph-lt-WORDS
-returns-then-graph-lt-WORDS c = graph_short _ _ _ _ _ _ _ c.read_counts-counts.ensures.nonterminals c.read_counts-counts.ensures.productions c.read_productions.ensures.1 c.edge_fits.ensures c.if-edge_fits.true (omega (arith, c.if-graph-lt-WORDS.true))
+returns-then-graph-lt-WORDS c = graph_short _ _ _ _ _ _ _ c.counts-counts.ensures.nonterminals c.counts-counts.ensures.productions c.read_productions.ensures.1 c.edge_fits.ensures c.if-edge_fits.true (omega (arith, c.if-graph-lt-WORDS.true))
 
 pub check_graph-requires : goal.check_graph-requires
-check_graph-requires c = record { packed = rw c.read_counts-counts.ensures.productions c.read_productions.ensures.0; n_bound = (rw c.read_counts-counts.ensures.nonterminals c.read_counts-counts.ensures.fits.few_nonterminals, omega (arith, c.if-graph-lt-WORDS.false)); ix_value = refl }
+check_graph-requires c = record { packed = rw c.counts-counts.ensures.productions c.read_productions.ensures.0; n_bound = (rw c.counts-counts.ensures.nonterminals c.counts-counts.ensures.fits.few_nonterminals, omega (arith, c.if-graph-lt-WORDS.false)); ix_value = refl }
 
 pub insert-requires : goal.insert-requires
-insert-requires c = record { packed = rw c.read_counts-counts.ensures.productions c.read_productions.ensures.0; graphed = c.check_graph.ensures.graphed c.if-check_graph.true; edge_value = sym c.edge_fits.ensures ∙ c.if-edge_fits.true }
+insert-requires c = record { packed = rw c.counts-counts.ensures.productions c.read_productions.ensures.0; graphed = c.check_graph.ensures.graphed c.if-check_graph.true; edge_value = sym c.edge_fits.ensures ∙ c.if-edge_fits.true }
 
 pub returns-in-Done : goal.returns-in-Done
-returns-in-Done c = edge_added _ _ _ _ _ _ _ c.read_counts-counts.ensures.nonterminals c.read_counts-counts.ensures.productions c.read_productions.ensures.1 c.edge_fits.ensures c.if-edge_fits.true (omega (arith, c.if-graph-lt-WORDS.false)) _ c.check_graph.ensures.value c.if-check_graph.true _ (c.check_graph.ensures.graphed c.if-check_graph.true) (c.insert.ensures.added c.in-Done.is) c.word.ensures.0
+returns-in-Done c = edge_added _ _ _ _ _ _ _ c.counts-counts.ensures.nonterminals c.counts-counts.ensures.productions c.read_productions.ensures.1 c.edge_fits.ensures c.if-edge_fits.true (omega (arith, c.if-graph-lt-WORDS.false)) _ c.check_graph.ensures.value c.if-check_graph.true _ (c.check_graph.ensures.graphed c.if-check_graph.true) (c.insert.ensures.added c.in-Done.is) c.word.ensures.0
 
 pub returns-in-Full : goal.returns-in-Full
-returns-in-Full c = edge_over _ _ _ _ _ _ _ c.read_counts-counts.ensures.nonterminals c.read_counts-counts.ensures.productions c.read_productions.ensures.1 c.edge_fits.ensures c.if-edge_fits.true (omega (arith, c.if-graph-lt-WORDS.false)) _ c.check_graph.ensures.value c.if-check_graph.true (c.insert.ensures.overfull c.in-Full.is)
+returns-in-Full c = edge_over _ _ _ _ _ _ _ c.counts-counts.ensures.nonterminals c.counts-counts.ensures.productions c.read_productions.ensures.1 c.edge_fits.ensures c.if-edge_fits.true (omega (arith, c.if-graph-lt-WORDS.false)) _ c.check_graph.ensures.value c.if-check_graph.true (c.insert.ensures.overfull c.in-Full.is)
 
 pub returns-else-check_graph : goal.returns-else-check_graph
-returns-else-check_graph c = graph_out _ _ _ _ _ _ _ c.read_counts-counts.ensures.nonterminals c.read_counts-counts.ensures.productions c.read_productions.ensures.1 c.edge_fits.ensures c.if-edge_fits.true (omega (arith, c.if-graph-lt-WORDS.false)) _ c.check_graph.ensures.value c.if-check_graph.false
+returns-else-check_graph c = graph_out _ _ _ _ _ _ _ c.counts-counts.ensures.nonterminals c.counts-counts.ensures.productions c.read_productions.ensures.1 c.edge_fits.ensures c.if-edge_fits.true (omega (arith, c.if-graph-lt-WORDS.false)) _ c.check_graph.ensures.value c.if-check_graph.false
 
 pub returns-else-edge_fits : goal.returns-else-edge_fits
-returns-else-edge_fits c = edge_out _ _ _ _ _ _ _ c.read_counts-counts.ensures.nonterminals c.read_counts-counts.ensures.productions c.read_productions.ensures.1 c.edge_fits.ensures c.if-edge_fits.false
+returns-else-edge_fits c = edge_out _ _ _ _ _ _ _ c.counts-counts.ensures.nonterminals c.counts-counts.ensures.productions c.read_productions.ensures.1 c.edge_fits.ensures c.if-edge_fits.false

@@ -4,12 +4,12 @@ use Rattle.lr1.proofs.Graphs.{trace_refused, trace_accepted}
 use Rattle.lr1.proofs.backtrace_reduce.Goals as goal
 
 pub reduce_in-requires : goal.reduce_in-requires
-reduce_in-requires c = sym c.check.ensures ∙ c.in-Accepted.is
+reduce_in-requires c = sym c.in-Ok.ensures.answer
 
-pub returns-in-Refused : goal.returns-in-Refused
+pub returns-in-Err : goal.returns-in-Err
 unfolding reduce_of
-returns-in-Refused c = trace_refused _ _ _ _ _ _ _ _ _ (sym c.check.ensures ∙ c.in-Refused.is)
+returns-in-Err c = rw (c.number.ensures, c.place.ensures) (trace_refused _ _ _ _ _ _ _ _ _ (sym c.in-Err.ensures.answer))
 
-pub returns-in-Accepted : goal.returns-in-Accepted
+pub returns-in-Ok : goal.returns-in-Ok
 unfolding reduce_of
-returns-in-Accepted c = trace_accepted _ _ _ _ _ _ _ _ (sym c.check.ensures ∙ c.in-Accepted.is) c.reduce_in.ensures
+returns-in-Ok c = trace_accepted _ _ _ _ _ _ _ _ (sym c.in-Ok.ensures.answer) c.reduce_in.ensures

@@ -2,7 +2,7 @@ use Rattle.lr1.proofs.Entered.{sets-read}
 use Rattle.lr1.proofs.first_sets.Goals as goal
 
 pub new-requires : goal.new-requires
-new-requires c = (rw c.read_counts-counts.ensures.productions c.read_productions.ensures.0, rw c.read_counts-counts.ensures.terminals c.read_counts-counts.ensures.fits.few_terminals)
+new-requires c = (rw c.counts-counts.ensures.productions c.read_productions.ensures.0, rw c.counts-counts.ensures.terminals c.counts-counts.ensures.fits.few_terminals)
 
 pub returns : goal.returns
-returns c = sets-read _ _ _ _ _ c.read_counts-counts.ensures.terminals c.read_counts-counts.ensures.productions c.read_productions.ensures.1 _ c.new.ensures
+returns c = sets-read _ _ _ _ _ c.counts-counts.ensures.terminals c.counts-counts.ensures.productions c.read_productions.ensures.1 _ c.new.ensures

@@ -1,15 +1,16 @@
-use mathlib.Core.Path.{sym, ◌∙◌}
-use Rattle.lr1.specs.Entries.{trace_back_of, walk_of}
+use Rattle.std.proofs.Common.{sym, ap, ◌∙◌, List, ℕ, ◌++◌}
+use Rattle.std.proofs.lemmas.Result.{err_from_is_err_and}
+use Rattle.table.specs.Decoded.{meaning}
+use Rattle.lr1.specs.Entries.{trace_back_of, trace_back_answer, walk_of}
 use Rattle.lr1.proofs.Entered.{over-refused, over_accepted}
 use Rattle.lr1.proofs.trace_back_joined.Goals as goal
 
-pub trace_back_in-requires : goal.trace_back_in-requires
-trace_back_in-requires c = sym c.check.ensures ∙ c.in-Accepted.is
-
-pub returns-in-Refused : goal.returns-in-Refused
+pub returns-in_err-accepted : goal.returns-in_err-accepted
 unfolding trace_back_of walk_of
-returns-in-Refused c = over-refused _ _ _ _ _ _ (sym c.check.ensures ∙ c.in-Refused.is)
+returns-in_err-accepted c =
+    let p = err_from_is_err_and c.from_residual.result c.from_residual.ensures.1 in
+    rw (p.1, p.2) (over-refused _ _ _ _ _ _ (sym c.in_err-accepted.ensures.answer))
 
-pub returns-in-Accepted : goal.returns-in-Accepted
+pub returns : goal.returns
 unfolding trace_back_of walk_of
-returns-in-Accepted c = over_accepted _ _ _ _ (sym c.check.ensures ∙ c.in-Accepted.is) _ c.trace_back_in.ensures
+returns c = over_accepted _ _ _ _ (sym c.in_ok-accepted.ensures.answer) _ (c.trace_back_in.ensures ∙ ap (λ (ws : List ℕ). trace_back_answer c.args.state.0 (c.args.xs.now ++ c.args.ys.now) (meaning ws)) c.in_ok-accepted.ensures.same)

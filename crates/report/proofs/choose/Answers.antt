@@ -3,11 +3,11 @@ use Rattle.report.proofs.Entered.{choose-refused, choose_accepted}
 use Rattle.report.proofs.choose.Goals as goal
 
 pub choose_in-requires : goal.choose_in-requires
-choose_in-requires c = sym c.check.ensures ∙ c.in-Accepted.is
+choose_in-requires c = sym c.in-Ok.ensures.answer
 
-pub returns-in-Refused : goal.returns-in-Refused
-returns-in-Refused c = let whole = choose-refused _ _ _ _ _ _ _ _ (sym c.check.ensures ∙ c.in-Refused.is) refl refl in
+pub returns-in-Err : goal.returns-in-Err
+returns-in-Err c = let whole = choose-refused _ _ _ _ _ _ _ _ (sym c.in-Err.ensures.answer) c.number.ensures c.place.ensures in
     record { scratch_after = whole.0; value = whole.1 }
 
-pub returns-in-Accepted : goal.returns-in-Accepted
-returns-in-Accepted c = record { scratch_after = choose_accepted _ _ _ _ (sym c.check.ensures ∙ c.in-Accepted.is) _ c.choose_in.ensures.scratch_after; value = c.choose_in.ensures.value }
+pub returns-in-Ok : goal.returns-in-Ok
+returns-in-Ok c = record { scratch_after = choose_accepted _ _ _ _ (sym c.in-Ok.ensures.answer) _ c.choose_in.ensures.scratch_after; value = c.choose_in.ensures.value }

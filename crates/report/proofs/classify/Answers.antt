@@ -3,10 +3,10 @@ use Rattle.report.proofs.Entered.{classify-refused, classify_accepted}
 use Rattle.report.proofs.classify.Goals as goal
 
 pub classify_in-requires : goal.classify_in-requires
-classify_in-requires c = sym c.check.ensures ∙ c.in-Accepted.is
+classify_in-requires c = sym c.in-Ok.ensures.answer
 
-pub returns-in-Refused : goal.returns-in-Refused
-returns-in-Refused c = classify-refused _ _ _ _ _ _ _ _ _ (sym c.check.ensures ∙ c.in-Refused.is) refl refl
+pub returns-in-Err : goal.returns-in-Err
+returns-in-Err c = classify-refused _ _ _ _ _ _ _ _ _ (sym c.in-Err.ensures.answer) c.number.ensures c.place.ensures
 
-pub returns-in-Accepted : goal.returns-in-Accepted
-returns-in-Accepted c = classify_accepted _ _ _ _ _ (sym c.check.ensures ∙ c.in-Accepted.is) _ c.classify_in.ensures
+pub returns-in-Ok : goal.returns-in-Ok
+returns-in-Ok c = classify_accepted _ _ _ _ _ (sym c.in-Ok.ensures.answer) _ c.classify_in.ensures

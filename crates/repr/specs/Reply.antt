@@ -37,11 +37,11 @@ place_of (Target r) = r
 place_of (Spare r) = r
 place_of _ = 0
 
-pub data Answer (A : Type 0) : Type 0 where
-  answered : A → Answer A
-  refused : ℕ → ℕ → Answer A
+pub data Reply (A : Type 0) : Type 0 where
+  answered : A → Reply A
+  refused : ℕ → ℕ → Reply A
 
 -- what a call answered, in those terms
-abbrev pub answer_of : {A : Type 0} → Result A Refusal → Answer A
-answer_of (Ok a) = answered a
-answer_of (Err e) = refused (number_of e) (place_of e)
+abbrev pub reply_of : {A : Type 0} → Result A Refusal → Reply A
+reply_of (Ok a) = answered a
+reply_of (Err e) = refused (number_of e) (place_of e)
