@@ -26,7 +26,7 @@ use spelling::Respelled;
 use state_graph::{StateIndex, StateSet};
 use table::{Checked, read_counts, read_productions};
 use trace_graph::{
-    Inserted, TraceEdge, TraceGraph, TraceGraphNode, check_graph, edge_fits, insert,
+    Full, TraceEdge, TraceGraph, TraceGraphNode, check_graph, edge_fits, insert,
 };
 use tracer::Backtrace;
 use yacc_read::Reading;
@@ -259,8 +259,8 @@ fn add_edge_in(table: &[u16], edge: TraceEdge, graph: &mut [u16]) -> AddEdge
         let mut ix = [0u16; TraceGraph::INDEX_WORDS];
         if check_graph(&grammar, productions, n, graph, &mut ix) {
             return match insert(&grammar, productions, n, graph, &mut ix, edge) {
-                Inserted::Done => AddEdge::Edges(word(graph, 0) as u16),
-                Inserted::Full => AddEdge::Refused(12, 0),
+                Ok(()) => AddEdge::Edges(word(graph, 0) as u16),
+                Err(Full) => AddEdge::Refused(12, 0),
             };
         }
     }
