@@ -2,11 +2,10 @@
 
 #![tactic(auto)]
 
-ghost use Rattle.std.specs.Prelude.{◌≡◌, ℕ, ◌+◌, ◌*◌, ◌<◌, ◌≤◌, Bool, true, false, List, ◌++◌, length, drop, replicate, slice_index};
+ghost use Rattle.std.specs.Prelude.{OnOk, OnErr, ◌≡◌, ℕ, ◌+◌, ◌*◌, ◌<◌, ◌≤◌, Bool, true, false, List, ◌++◌, length, drop, replicate, slice_index};
 ghost use Rattle.repr.specs.Sizes.{production_limit, index_limit, item_limit, edge_limit, edge_place, graph_room};
 ghost use Rattle.repr.specs.Meaning as meaning-of;
 ghost use Rattle.repr.specs.Packed.{Packed, productions_in};
-ghost use Rattle.trace_graph.specs.declared.Inserted.TheVariants.{Done, Full};
 ghost use Rattle.trace_graph.specs.Graph as graph-of;
 ghost use Rattle.trace_graph.specs.Words.{edge_words, graph_words};
 ghost use Rattle.trace_graph.specs.Values.{SmallEdge, value_words};
@@ -18,7 +17,7 @@ ghost use Rattle.codes.specs.Carried.{Decodes, Carried};
 use bits::{is_set, put};
 use lr1_core::Item;
 use repr::{ProductionIndex, word};
-use trace_graph::{Inserted, Node, TraceEdge, TraceGraph, same_label, write_edge};
+use trace_graph::{Full, Node, TraceEdge, TraceGraph, same_label, write_edge};
 
 pub mod viewing;
 
@@ -55,22 +54,27 @@ pub fn key(least: &[u8], kind: usize, production: usize, index: usize) -> usize
 }
 
 // Adds an edge by its word and its key, unless an equal one is there; refusal 12 is one edge too many.
-pub fn insert_code(words: &mut [u16], flags: &mut [u64], code: usize, key: usize) -> Inserted
+pub fn insert_code(
+    words: &mut [u16],
+    flags: &mut [u64],
+    code: usize,
+    key: usize,
+) -> Result<(), Full>
     requires { (length words.old ≡ codes_room) × (length flags.old ≡ key_words) × (code < code_limit) × (key < code_limit) }
-    ensures coded { result ≡ Done → (T : meaning-of.Table) → meaning-of.TableFits T → (es : List graph-of.TraceEdge) (e : graph-of.TraceEdge) → Coded T words.old flags.old es → EdgeSound T e → code ≡ code_of e → key ≡ key_of T.productions (code_of e) → Coded T words.new flags.new (graph-of.add T.productions e es) }
-    ensures edge_limit_in_bounds { result ≡ Full → (T : meaning-of.Table) → meaning-of.TableFits T → (es : List graph-of.TraceEdge) (e : graph-of.TraceEdge) → Coded T words.old flags.old es → EdgeSound T e → code ≡ code_of e → key ≡ key_of T.productions (code_of e) → edge_limit < length (graph-of.add T.productions e es) }
+    ensures coded { OnOk result ((T : meaning-of.Table) → meaning-of.TableFits T → (es : List graph-of.TraceEdge) (e : graph-of.TraceEdge) → Coded T words.old flags.old es → EdgeSound T e → code ≡ code_of e → key ≡ key_of T.productions (code_of e) → Coded T words.new flags.new (graph-of.add T.productions e es)) }
+    ensures edge_limit_in_bounds { OnErr result ((T : meaning-of.Table) → meaning-of.TableFits T → (es : List graph-of.TraceEdge) (e : graph-of.TraceEdge) → Coded T words.old flags.old es → EdgeSound T e → code ≡ code_of e → key ≡ key_of T.productions (code_of e) → edge_limit < length (graph-of.add T.productions e es)) }
 {
     if is_set(flags, key) {
-        return Inserted::Done;
+        return Ok(());
     }
     let count = word(words, 0);
     if count >= TraceGraph::EDGES {
-        return Inserted::Full;
+        return Err(Full);
     }
     put(flags, key);
     words[1 + count] = code as u16;
     words[0] = (count + 1) as u16;
-    Inserted::Done
+    Ok(())
 }
 
 // Whether two productions have the same nonterminal and symbols.

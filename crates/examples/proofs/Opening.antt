@@ -1,5 +1,5 @@
 -- The ways through `open_view` and `list_item`: the trace's edges have a view, and their listing is that of error/specs/Sides. Assumes nothing.
-use Rattle.std.specs.Prelude.{Result, Err, ◌≡◌, ℕ, ◌<◌, ◌≤◌, Bool, List, length, take}
+use Rattle.std.specs.Prelude.{ℕ, ◌<◌, ◌≤◌, Bool, List, length, take}
 use native.Mathlib.Omega.{arith}
 use mathlib.Core.Path.{subst}
 use mathlib.Core.Option.{Option}
@@ -11,7 +11,6 @@ use Rattle.table.specs.declared.Counts.{Counts}
 use Rattle.table.specs.Decoded.{meaning}
 use Rattle.table.proofs.Decoding.{fits}
 use Rattle.trace_graph.specs.Graph.{TraceEdge}
-use Rattle.trace_graph.specs.declared.Inserted.TheVariants.{Done, Full}
 use Rattle.codes.specs.Coded.{Coded}
 use Rattle.codes.specs.Carried.{Carried}
 use Rattle.tracer.specs.Held.{Working}
@@ -24,12 +23,6 @@ use Rattle.examples.specs.Reads.{Reads}
 use Rattle.examples.specs.Listing.{listed_by, Listable}
 use Rattle.examples.specs.Gathers.{ListedOn}
 use Rattle.examples.proofs.Traces.{listing-over, listing_is}
-
-pub not_full : {C : Type 0} → Done ≡ Full → C
-not_full e = let z : ◌≡◌ {A = ℕ} 0 1 = cc in absurd (omega arith)
-
-pub not_done : {C : Type 0} → Full ≡ Done → C
-not_done e = let z : ◌≡◌ {A = ℕ} 0 1 = cc in absurd (omega arith)
 
 module _ (t g : List ℕ) (counts : Counts) (sets least ends : List ℕ) (R : Reads t g counts sets least ends) where
   pub reads-terminals : counts.terminals ≤ 63

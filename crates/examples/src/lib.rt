@@ -2,7 +2,7 @@
 
 #![tactic(auto)]
 
-ghost use Rattle.std.specs.Prelude.{◌≡◌, ℕ, ◌<◌, ◌≤◌, true, false, List, [], ◌++◌, length, drop, replicate, slice_index_or};
+ghost use Rattle.std.specs.Prelude.{OnOk, OnErr, ◌≡◌, ℕ, ◌<◌, ◌≤◌, true, false, List, [], ◌++◌, length, drop, replicate, slice_index_or};
 ghost use Rattle.repr.specs.Sizes.{grammar_room, edge_limit, trial_limit, example_limit, example_room};
 ghost use Rattle.slices.specs.Lent.{in_front};
 ghost use Rattle.repr.specs.Meaning.{no_production, Item as ItemOf};
@@ -12,7 +12,6 @@ ghost use Rattle.table.specs.Checked.{Accepted};
 ghost use Rattle.table.specs.Refusals.{check_of};
 ghost use Rattle.trace_graph.specs.Graph.{TraceEdge};
 ghost use Rattle.trace_graph.specs.Fits.{item_is_fit};
-ghost use Rattle.trace_graph.specs.declared.Inserted.TheVariants.{Done, Full};
 ghost use Rattle.tracer.specs.Built.{edges_by};
 ghost use Rattle.codes.specs.Coded.{codes_room};
 ghost use Rattle.example.specs.Example.{example_words};
@@ -47,7 +46,7 @@ use shift_items::{conflicting_shift_items, next_shift_item};
 use state_graph::StateIndex;
 use table::{Counts, read_counts, read_productions};
 use trace::reduce::suffix_ends;
-use trace_graph::Inserted;
+use trace_graph::Full;
 use tracer::trace_codes;
 use view::View;
 
@@ -261,43 +260,33 @@ fn open_view(
     sources: &mut [u8],
     older: &mut [u16],
     latest: &mut [u16],
-) -> Inserted
-    requires state_in_bounds { (traced.state.0 < length (meaning given.table.now).states) × (item_is_fit (meaning given.table.now).productions traced.production traced.index ≡ true) }
+) -> Result<(), Full>
+    requires reads { Reads table.now grammar.now counts map.now least.now ends.now }
+    requires state_in_bounds { (traced.state.0 < length (meaning table.now).states) × (item_is_fit (meaning table.now).productions traced.production traced.index ≡ true) }
     requires words_len { (length words.old ≡ codes_room) × (length owners.old ≡ edge_limit) }
     requires sources_value { (sources.old ≡ replicate edge_limit 0) × ((older.old ≡ replicate edge_limit 0) × (latest.old ≡ replicate latest_room 0)) }
-    ensures listable { result ≡ Done → Listable (meaning given.entry.table.now).productions (edges_by traced.shift (meaning given.entry.table.now) traced.state.0 (record { production = traced.production; index = traced.index })) owners.new (drop 1 words.new) sources.new older.new latest.new (record { production = traced.production; index = traced.index }) }
-    ensures edge_limit_in_bounds { result ≡ Full → edge_limit < length (edges_by traced.shift (meaning given.entry.table.now) traced.state.0 (record { production = traced.production; index = traced.index })) }
+    ensures listable { OnOk result (Listable (meaning table.now).productions (edges_by traced.shift (meaning table.now) traced.state.0 (record { production = traced.production; index = traced.index })) owners.new (drop 1 words.new) sources.new older.new latest.new (record { production = traced.production; index = traced.index })) }
+    ensures edge_limit_in_bounds { OnErr result (edge_limit < length (edges_by traced.shift (meaning table.now) traced.state.0 (record { production = traced.production; index = traced.index }))) }
 {
     let state = traced.state.0 as usize;
     let production = traced.production;
     let index = traced.index;
-    match trace_codes(
-        given.table,
-        given.grammar,
-        given.counts.productions,
-        given.least,
-        given.ends,
+    trace_codes(
+        table,
+        grammar,
+        counts.productions,
+        least,
+        ends,
         words,
         state,
         production,
         index,
         traced.shift,
-    ) {
-        Inserted::Done => {
-            view_codes(
-                given.grammar,
-                words,
-                production,
-                index,
-                owners,
-                sources,
-                older,
-                latest,
-            );
-            Inserted::Done
-        }
-        Inserted::Full => Inserted::Full,
-    }
+    )?;
+    view_codes(
+        grammar, words, production, index, owners, sources, older, latest,
+    );
+    Ok(())
 }
 
 // One listing of a side: the item is traced from the state, and the examples of the trace are listed. More than 1,024 edges are refusal 12.
@@ -329,10 +318,10 @@ fn list_item(
         &mut older,
         &mut latest,
     ) {
-        Inserted::Done => list_outlines(
-            given.grammar,
-            given.counts,
-            given.map,
+        Ok(()) => list_outlines(
+            grammar,
+            counts,
+            map,
             lookahead,
             shift,
             &owners,
@@ -344,7 +333,7 @@ fn list_item(
             prints,
             count,
         ),
-        Inserted::Full => Err(Refusal::TooManyEdges),
+        Err(Full) => Side::Stopped(12),
     }
 }
 
@@ -535,7 +524,7 @@ fn item_again(given: Given, lookahead: Lookahead, traced: Traced, wanted: usize,
         &mut older,
         &mut latest,
     ) {
-        Inserted::Done => {
+        Ok(()) => {
             let mut trial = [0u16; View::TRIAL];
             if find_example(
                 given.grammar,
@@ -560,7 +549,7 @@ fn item_again(given: Given, lookahead: Lookahead, traced: Traced, wanted: usize,
                 );
             }
         }
-        Inserted::Full => {}
+        Err(Full) => {}
     }
 }
 

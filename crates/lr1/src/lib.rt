@@ -26,7 +26,7 @@ use repr::{ProductionIndex, Refusal, joined_fits, list_fits, word};
 use state_graph::{StateIndex, StateSet};
 use table::{AcceptedTable, read_productions};
 use trace_graph::{
-    Inserted, TraceEdge, TraceGraph, TraceGraphNode, check_graph, edge_fits, insert,
+    Full, TraceEdge, TraceGraph, TraceGraphNode, check_graph, edge_fits, insert,
 };
 use tracer::Backtrace;
 use yacc_read::Reading;
@@ -231,8 +231,8 @@ fn add_edge_in(table: AcceptedTable, edge: TraceEdge, graph: &mut [u16]) -> Resu
         let mut ix = [0u16; TraceGraph::INDEX_WORDS];
         if check_graph(&grammar, productions, n, graph, &mut ix) {
             return match insert(&grammar, productions, n, graph, &mut ix, edge) {
-                Inserted::Done => Ok(word(graph, 0) as u16),
-                Inserted::Full => Err(Refusal::TooManyEdges),
+                Ok(()) => AddEdge::Edges(word(graph, 0) as u16),
+                Err(Full) => AddEdge::Refused(12, 0),
             };
         }
     }

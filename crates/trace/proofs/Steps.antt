@@ -5,19 +5,11 @@ use Rattle.repr.specs.Meaning.{Item, Production, no_production, Table}
 use Rattle.repr.specs.Packed.{production_in, productions_in}
 use Rattle.repr.proofs.Lists.{get_d_map-below}
 use Rattle.trace_graph.specs.Graph.{at_nonterminal, at_item}
-use Rattle.trace_graph.specs.declared.Inserted.TheVariants.{Done, Full}
 use Rattle.trace.specs.Traced.{Trace, owner_of, in_turn, pairs}
 use Rattle.trace.specs.Shift.{epsilon_item, epsilon}
 use Rattle.trace.specs.Reduce.{reduce_state_item, item_of_reduce, state_of_reduce}
 use Rattle.trace.specs.Edges.{epsilon_source, epsilon_edge}
 use Rattle.trace.proofs.Grows.{Adds, grows_length, turn_grows, epsilon_item_grows, epsilon_grows, reduce_item_grows, reduce_state_item_grows, reduce_grows}
-
--- an answer is one of the two
-pub done_full {ℓ} : {P : Type ℓ} → Done ≡ Full → P
-done_full e = let z : ◌≡◌ {A = ℕ} 0 1 = cc in absurd (omega arith)
-
-pub full-done {ℓ} : {P : Type ℓ} → Full ≡ Done → P
-full-done e = let z : ◌≡◌ {A = ℕ} 0 1 = cc in absurd (omega arith)
 
 pub packed_owner : (g : List ℕ) (productions p : ℕ) → p < productions → (get_or (productions_in g productions) p no_production).nonterminal ≡ get_or g (production_place p) 0
 unfolding productions_in production_in

@@ -3,13 +3,12 @@
 
 #![tactic(auto)]
 
-ghost use Rattle.std.specs.Prelude.{◌≡◌, ◌+◌, ◌<◌, ◌≤◌, true, ◌&&◌, length, replicate, slice_index};
+ghost use Rattle.std.specs.Prelude.{OnOk, OnErr, ◌≡◌, ◌+◌, ◌<◌, ◌≤◌, true, ◌&&◌, length, replicate, slice_index};
 ghost use Rattle.repr.specs.Sizes.{nonterminal_limit, terminal_limit, edge_limit, graph_room};
 ghost use Rattle.slices.specs.Same.{same_words};
 ghost use Rattle.repr.specs.Lists.{some?};
 ghost use Rattle.repr.specs.Listed.{listed, list_is_fit};
 ghost use Rattle.repr.specs.Packed.{Packed, productions_in};
-ghost use Rattle.trace_graph.specs.declared.Inserted.TheVariants.{Done, Full};
 ghost use Rattle.trace_graph.specs.Graph.{empty_graph, label_of, same_sets, is_same_edge};
 ghost use Rattle.trace_graph.specs.Words.{node_at, edge_at};
 ghost use Rattle.trace_graph.specs.Fits.{item_is_fit, edge_is_fit, graph_fits};
@@ -116,12 +115,9 @@ pub struct TraceEdge {
     pub index: usize,
 }
 
-// Whether the edge is in the graph; Full is refusal 12.
-#[derive(Clone, Copy)]
-pub enum Inserted {
-    Done,
-    Full,
-}
+// The edges are as many as there may be: refusal 12.
+#[derive(Clone, Copy, PartialEq, Eq)]
+pub struct Full;
 
 // The number of a node, by which buckets are made.
 pub fn node_number(node: Node) -> usize
@@ -308,25 +304,25 @@ pub fn insert(
     graph: &mut [u16],
     ix: &mut [u16],
     edge: TraceEdge,
-) -> Inserted
+) -> Result<(), Full>
     requires packed { Packed grammar.now productions }
     requires graphed { Graphed n (productions_in grammar.now productions) graph.old ix.old (slice_index graph.old 0) }
     requires edge_value { value_fits n (productions_in grammar.now productions) edge ≡ true }
-    ensures added { result ≡ Done → Added n (productions_in grammar.now productions) (edge_is edge) graph.old graph.new ix.new }
-    ensures overfull { result ≡ Full → Overfull (productions_in grammar.now productions) (edge_is edge) graph.old ix.old graph.new ix.new }
+    ensures added { OnOk result (Added n (productions_in grammar.now productions) (edge_is edge) graph.old graph.new ix.new) }
+    ensures overfull { OnErr result (Overfull (productions_in grammar.now productions) (edge_is edge) graph.old ix.old graph.new ix.new) }
 {
     let count = word(graph, 0);
     let bucket = bucket_of(grammar, productions, edge);
     if find(grammar, productions, n, graph, ix, count, edge, bucket) {
-        return Inserted::Done;
+        return Ok(());
     }
     if count == TraceGraph::EDGES {
-        return Inserted::Full;
+        return Err(Full);
     }
     write_edge(graph, count, edge);
     graph[0] = (count + 1) as u16;
     link(ix, count, bucket);
-    Inserted::Done
+    Ok(())
 }
 
 // Whether a production and an index are those of an item.

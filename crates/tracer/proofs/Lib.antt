@@ -15,3 +15,4 @@ pub mod Words
 pub mod Ways
 pub mod Traced
 pub mod Opened
+pub mod Answered

@@ -8,7 +8,7 @@ pub mod shift;
 pub mod stamps;
 pub mod tails;
 
-ghost use Rattle.std.specs.Prelude.{◌≡◌, ℕ, ◌<◌, ◌≤◌, true, false, List, length, replicate};
+ghost use Rattle.std.specs.Prelude.{OnOk, OnErr, ◌≡◌, ℕ, ◌<◌, ◌≤◌, true, false, List, length, replicate};
 ghost use Rattle.repr.specs.Sizes.{edge_limit, graph_room, scratch_words, item_flags};
 ghost use Rattle.repr.specs.Meaning.{ItemFits};
 ghost use Rattle.repr.specs.Packed.{Packed, productions_in};
@@ -16,7 +16,6 @@ ghost use Rattle.slices.specs.Lent.{in_front};
 ghost use Rattle.table.specs.Decoded.{meaning};
 ghost use Rattle.table.specs.Checked.{Accepted};
 ghost use Rattle.table.specs.Refusals.{check_of};
-ghost use Rattle.trace_graph.specs.declared.Inserted.TheVariants.{Done, Full};
 ghost use Rattle.trace_graph.specs.Words.{graph_words};
 ghost use Rattle.trace.specs.Shift.{shift_edges};
 ghost use Rattle.trace.specs.Reduce.{reduce_edges};
@@ -35,7 +34,7 @@ use repr::{ProductionIndex, word};
 use slices::zero;
 use table::{read_counts, read_productions};
 use trace::reduce::suffix_ends;
-use trace_graph::{Inserted, TraceGraph, item_fits};
+use trace_graph::{Full, TraceGraph, item_fits};
 
 // What a trace answers: its number of edges, which are in the graph; else the refusal and its place.
 #[derive(Clone, Copy)]
@@ -56,11 +55,11 @@ pub fn trace_codes(
     production: usize,
     index: usize,
     shift: bool,
-) -> Inserted
+) -> Result<(), Full>
     requires working { Working table.now grammar.now productions least.now × (shift ≡ false → Ends (meaning table.now) ends.now) × (length words.old ≡ codes_room) }
     requires state_in_bounds { (state < length (meaning table.now).states) × ItemFits (meaning table.now) (record { production = production; index = index }) }
-    ensures by_index { result ≡ Done → (fs : List ℕ) × Coded (meaning table.now) words.new fs (edges_by shift (meaning table.now) state (record { production = production; index = index })) }
-    ensures edge_limit_in_bounds { result ≡ Full → edge_limit < length (edges_by shift (meaning table.now) state (record { production = production; index = index })) }
+    ensures by_index { OnOk result ((fs : List ℕ) × Coded (meaning table.now) words.new fs (edges_by shift (meaning table.now) state (record { production = production; index = index }))) }
+    ensures edge_limit_in_bounds { OnErr result (edge_limit < length (edges_by shift (meaning table.now) state (record { production = production; index = index }))) }
 {
     if shift {
         return shift_codes(
@@ -114,18 +113,18 @@ pub fn build(
     production: usize,
     index: usize,
     shift: bool,
-) -> Inserted
+) -> Result<(), Full>
     requires asked { Asked table.now grammar.now productions n state production index }
     requires graph_room_in_bounds { graph_room ≤ length graph.old }
-    ensures index_len_bound { result ≡ Done → (length (edges_by shift (meaning table.now) state (record { production = production; index = index })) ≤ edge_limit) × (graph.new ≡ in_front (graph_words (edges_by shift (meaning table.now) state (record { production = production; index = index }))) graph.old) }
-    ensures edge_limit_in_bounds { result ≡ Full → (edge_limit < length (edges_by shift (meaning table.now) state (record { production = production; index = index }))) × (graph.new ≡ graph.old) }
+    ensures index_len_bound { OnOk result ((length (edges_by shift (meaning table.now) state (record { production = production; index = index })) ≤ edge_limit) × (graph.new ≡ in_front (graph_words (edges_by shift (meaning table.now) state (record { production = production; index = index }))) graph.old)) }
+    ensures edge_limit_in_bounds { OnErr result ((edge_limit < length (edges_by shift (meaning table.now) state (record { production = production; index = index }))) × (graph.new ≡ graph.old)) }
 {
     let mut least = [0u8; ProductionIndex::LIMIT];
     fill_least(grammar, productions, &mut least);
     let mut ends = [0u64; Item::FLAG_WORDS];
     fill_ends(table, grammar, productions, &mut ends, shift);
     let mut words = [0u16; EdgeCode::WORDS];
-    match trace_codes(
+    trace_codes(
         table,
         grammar,
         productions,
@@ -136,13 +135,9 @@ pub fn build(
         production,
         index,
         shift,
-    ) {
-        Inserted::Done => {
-            write_codes(grammar, &words, graph);
-            Inserted::Done
-        }
-        Inserted::Full => Inserted::Full,
-    }
+    )?;
+    write_codes(grammar, &words, graph);
+    Ok(())
 }
 
 // A refusal of too many edges leaves the graph as it was; scratch is zero at the end.
@@ -174,8 +169,8 @@ fn work(
         index,
         shift,
     ) {
-        Inserted::Done => Backtrace::Edges(word(graph, 0) as u16),
-        Inserted::Full => Backtrace::Refused(12, 0),
+        Ok(()) => Backtrace::Edges(word(graph, 0) as u16),
+        Err(Full) => Backtrace::Refused(12, 0),
     }
 }
 

@@ -1,6 +1,6 @@
 // `backtrace_reduce` (lr1/trace/reduce), part 5 of document 01, over edges of one word: the item step and the state step, which call each other. Each pair of a state and a nonterminal is
 // entered once, so the pairs that are left fall. A frame holds slices and numbers alone: the calls may nest as deep as there are pairs.
-ghost use Rattle.std.specs.Prelude.{◌≡◌, ℕ, ◌+◌, ◌*◌, ◌<◌, ◌≤◌, List, length};
+ghost use Rattle.std.specs.Prelude.{OnOk, OnErr, ◌≡◌, ℕ, ◌+◌, ◌*◌, ◌<◌, ◌≤◌, List, length};
 ghost use Rattle.repr.specs.Sizes.{production_limit, index_limit, edge_limit, item_flags};
 ghost use Rattle.repr.specs.Meaning.{Table, ItemFits};
 ghost use Rattle.table.specs.Decoded.{meaning};
@@ -8,7 +8,6 @@ ghost use Rattle.first.specs.First.{nullable};
 ghost use Rattle.state_graph.specs.Walk.{traced_back};
 ghost use Rattle.state_graph.specs.States.{states_in};
 ghost use Rattle.state_graph.specs.Remembered.{Remembered};
-ghost use Rattle.trace_graph.specs.declared.Inserted.TheVariants.{Done, Full};
 ghost use Rattle.trace.specs.Traced.{Trace, prefix_of, suffix_of};
 ghost use Rattle.trace.specs.Reduce.{item_of_reduce, state_of_reduce, reduce_edges};
 ghost use Rattle.trace.specs.Ends.{Ends};
@@ -24,7 +23,7 @@ use lr1_core::{Item, prefix};
 use repr::{NonterminalString, ProductionIndex, word};
 use state_graph::{NextState, StateSet, walk_back};
 use table::{first_item, item};
-use trace_graph::{Inserted, TraceGraph};
+use trace_graph::{Full, TraceGraph};
 
 // The states in which the item begins that stands in a state: back over its prefix.
 fn begins(
@@ -74,20 +73,15 @@ pub fn reduce_item(
     state: usize,
     production: usize,
     index: usize,
-) -> Inserted
+) -> Result<(), Full>
     requires working { Working table.now grammar.now productions least.now × Ends (meaning table.now) ends.now × Remembered (meaning table.now) steps.old }
     requires words_len { (length words.old ≡ codes_room) × (length flags.old ≡ key_words) × (length entered.old ≡ pair_words) × (length stamps.old ≡ stamp_words) }
     requires state_in_bounds { (state < length (meaning table.now).states) × ItemFits (meaning table.now) (record { production = production; index = index }) }
-    ensures reduces { result ≡ Done → (f : ℕ) → unset entered.old ≤ f → Reduces (meaning table.now) (λ (st : Trace). item_of_reduce (meaning table.now) (λ (p m : ℕ) (u : Trace). state_of_reduce (meaning table.now) f p m u) state (record { production = production; index = index }) st) words.old flags.old entered.old stamps.old words.new flags.new entered.new stamps.new }
-    ensures reduce_exceeds { result ≡ Full → (f : ℕ) → unset entered.old ≤ f → ReduceExceeds (meaning table.now) (λ (st : Trace). item_of_reduce (meaning table.now) (λ (p m : ℕ) (u : Trace). state_of_reduce (meaning table.now) f p m u) state (record { production = production; index = index }) st) words.old flags.old entered.old stamps.old }
+    ensures reduces { OnOk result ((f : ℕ) → unset entered.old ≤ f → Reduces (meaning table.now) (λ (st : Trace). item_of_reduce (meaning table.now) (λ (p m : ℕ) (u : Trace). state_of_reduce (meaning table.now) f p m u) state (record { production = production; index = index }) st) words.old flags.old entered.old stamps.old words.new flags.new entered.new stamps.new) }
+    ensures reduce_exceeds { OnErr result ((f : ℕ) → unset entered.old ≤ f → ReduceExceeds (meaning table.now) (λ (st : Trace). item_of_reduce (meaning table.now) (λ (p m : ℕ) (u : Trace). state_of_reduce (meaning table.now) f p m u) state (record { production = production; index = index }) st) words.old flags.old entered.old stamps.old) }
     ensures entered_bound { (unset entered.new ≤ unset entered.old) × Remembered (meaning table.now) steps.new }
 {
-    match to_item(least, words, flags, production, index) {
-        Inserted::Done => {}
-        Inserted::Full => {
-            return Inserted::Full;
-        }
-    }
+    to_item(least, words, flags, production, index)?;
     let owner = word(grammar, production * ProductionIndex::WORDS);
     let mut rest = begins(
         table,
@@ -103,7 +97,7 @@ pub fn reduce_item(
         match rest.next() {
             NextState::State(p, others) => {
                 let from = p.0 as usize;
-                match reduce_state(
+                reduce_state(
                     table,
                     grammar,
                     productions,
@@ -116,16 +110,11 @@ pub fn reduce_item(
                     stamps,
                     from,
                     owner,
-                ) {
-                    Inserted::Done => {}
-                    Inserted::Full => {
-                        return Inserted::Full;
-                    }
-                }
+                )?;
                 rest = others;
             }
             NextState::Done => {
-                return Inserted::Done;
+                return Ok(());
             }
         }
     }
@@ -147,17 +136,17 @@ pub fn reduce_state(
     stamps: &mut [u16],
     state: usize,
     nonterminal: usize,
-) -> Inserted
+) -> Result<(), Full>
     requires working { Working table.now grammar.now productions least.now × Ends (meaning table.now) ends.now × Remembered (meaning table.now) steps.old }
     requires words_len { (length words.old ≡ codes_room) × (length flags.old ≡ key_words) × (length entered.old ≡ pair_words) × (length stamps.old ≡ stamp_words) }
     requires state_in_bounds { (state < length (meaning table.now).states) × (nonterminal < length (meaning table.now).nonterminals) }
-    ensures reduces { result ≡ Done → (f : ℕ) → unset entered.old ≤ f → Reduces (meaning table.now) (λ (st : Trace). state_of_reduce (meaning table.now) f state nonterminal st) words.old flags.old entered.old stamps.old words.new flags.new entered.new stamps.new }
-    ensures reduce_exceeds { result ≡ Full → (f : ℕ) → unset entered.old ≤ f → ReduceExceeds (meaning table.now) (λ (st : Trace). state_of_reduce (meaning table.now) f state nonterminal st) words.old flags.old entered.old stamps.old }
+    ensures reduces { OnOk result ((f : ℕ) → unset entered.old ≤ f → Reduces (meaning table.now) (λ (st : Trace). state_of_reduce (meaning table.now) f state nonterminal st) words.old flags.old entered.old stamps.old words.new flags.new entered.new stamps.new) }
+    ensures reduce_exceeds { OnErr result ((f : ℕ) → unset entered.old ≤ f → ReduceExceeds (meaning table.now) (λ (st : Trace). state_of_reduce (meaning table.now) f state nonterminal st) words.old flags.old entered.old stamps.old) }
     ensures entered_bound { (unset entered.new ≤ unset entered.old) × Remembered (meaning table.now) steps.new }
 {
     let pair = state * NonterminalString::LIMIT + nonterminal;
     if is_set(entered, pair) {
-        return Inserted::Done;
+        return Ok(());
     }
     put(entered, pair);
     let mut at = first_item(table, state);
@@ -175,19 +164,14 @@ pub fn reduce_state(
             continue;
         }
         let on = ends_at(ends, production, index);
-        match to_nonterminal(least, words, flags, on, production, index) {
-            Inserted::Done => {}
-            Inserted::Full => {
-                return Inserted::Full;
-            }
-        }
+        to_nonterminal(least, words, flags, on, production, index)?;
         if !on {
             continue;
         }
         if stamp_at(stamps, production, index) == state + 1 {
             continue;
         }
-        match reduce_item(
+        reduce_item(
             table,
             grammar,
             productions,
@@ -201,15 +185,10 @@ pub fn reduce_state(
             state,
             production,
             index,
-        ) {
-            Inserted::Done => {}
-            Inserted::Full => {
-                return Inserted::Full;
-            }
-        }
+        )?;
         put_stamp(stamps, production, index, state + 1);
     }
-    Inserted::Done
+    Ok(())
 }
 
 // `backtrace_reduce`: the words may hold anything before; the flags of keys and of entered pairs and the stamps are its own. The traced item itself gets no stamp: where it is met again, not all
@@ -224,12 +203,12 @@ pub fn reduce_codes(
     state: usize,
     production: usize,
     index: usize,
-) -> Inserted
+) -> Result<(), Full>
     requires working { Working table.now grammar.now productions least.now × Ends (meaning table.now) ends.now }
     requires words_len { length words.old ≡ codes_room }
     requires state_in_bounds { (state < length (meaning table.now).states) × ItemFits (meaning table.now) (record { production = production; index = index }) }
-    ensures by_index { result ≡ Done → (fs : List ℕ) × Coded (meaning table.now) words.new fs (reduce_edges (meaning table.now) state (record { production = production; index = index })) }
-    ensures edge_limit_in_bounds { result ≡ Full → edge_limit < length (reduce_edges (meaning table.now) state (record { production = production; index = index })) }
+    ensures by_index { OnOk result ((fs : List ℕ) × Coded (meaning table.now) words.new fs (reduce_edges (meaning table.now) state (record { production = production; index = index }))) }
+    ensures edge_limit_in_bounds { OnErr result (edge_limit < length (reduce_edges (meaning table.now) state (record { production = production; index = index }))) }
 {
     let empty = TraceGraph::new();
     words[0] = empty.edges as u16;

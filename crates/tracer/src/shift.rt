@@ -1,11 +1,10 @@
 // `backtrace_shift` (lr1/trace/shift), part 5 of document 01, over edges of one word: straight over the chain of a state's items.
-ghost use Rattle.std.specs.Prelude.{◌≡◌, ℕ, ◌+◌, ◌*◌, ◌<◌, ◌≤◌, true, List, [], length, replicate, ◌≢◌, slice_index};
+ghost use Rattle.std.specs.Prelude.{OnOk, OnErr, ◌≡◌, ℕ, ◌+◌, ◌*◌, ◌<◌, ◌≤◌, true, List, [], length, replicate, ◌≢◌, slice_index};
 ghost use Rattle.repr.specs.Sizes.{production_limit, index_limit, state_limit, nonterminal_limit, edge_limit};
 ghost use Rattle.repr.specs.Lists.{mem, some?};
 ghost use Rattle.repr.specs.Meaning.{Table, TableFits, ItemFits, state_at};
 ghost use Rattle.table.specs.Decoded.{meaning, items_from};
 ghost use Rattle.state_graph.specs.States.{states_in};
-ghost use Rattle.trace_graph.specs.declared.Inserted.TheVariants.{Done, Full};
 ghost use Rattle.trace_graph.specs.Graph.{TraceEdge, is_same_edge, add, at_nonterminal, at_item};
 ghost use Rattle.trace.specs.Traced.{can_shift, in_turn, pairs, owner_of, add_to};
 ghost use Rattle.trace.specs.Shift.{epsilon, shift_edges};
@@ -25,7 +24,7 @@ use lr1_core::{Item, prefix};
 use repr::{NonterminalString, ProductionIndex, word};
 use state_graph::{NextState, StateIndex, StateSet, trace_back};
 use table::{first_item, item};
-use trace_graph::{Inserted, TraceGraph};
+use trace_graph::{Full, TraceGraph};
 
 // The edge of an item that can shift a nonterminal: past its beginning from the item, else from its nonterminal.
 fn epsilon_code(
@@ -34,11 +33,11 @@ fn epsilon_code(
     flags: &mut [u64],
     production: usize,
     index: usize,
-) -> Inserted
+) -> Result<(), Full>
     requires production_lt_production_limit { (production < production_limit) × (index < index_limit) × (length least.now ≡ production_limit) × ((p : ℕ) → p < production_limit → slice_index least.now p < production_limit) }
     requires words_len { (length words.old ≡ codes_room) × (length flags.old ≡ key_words) }
-    ensures coded { result ≡ Done → (T : Table) → TableFits T → Leasts T.productions least.now → (n : ℕ) → n < length T.nonterminals → ItemFits T (record { production = production; index = index }) → can_shift T n (record { production = production; index = index }) ≡ true → (es : List TraceEdge) → Coded T words.old flags.old es → Coded T words.new flags.new (add T.productions (epsilon_edge T.productions (record { production = production; index = index }) n) es) }
-    ensures edge_limit_in_bounds { result ≡ Full → (T : Table) → TableFits T → Leasts T.productions least.now → (n : ℕ) → n < length T.nonterminals → ItemFits T (record { production = production; index = index }) → can_shift T n (record { production = production; index = index }) ≡ true → (es : List TraceEdge) → Coded T words.old flags.old es → edge_limit < length (add T.productions (epsilon_edge T.productions (record { production = production; index = index }) n) es) }
+    ensures coded { OnOk result ((T : Table) → TableFits T → Leasts T.productions least.now → (n : ℕ) → n < length T.nonterminals → ItemFits T (record { production = production; index = index }) → can_shift T n (record { production = production; index = index }) ≡ true → (es : List TraceEdge) → Coded T words.old flags.old es → Coded T words.new flags.new (add T.productions (epsilon_edge T.productions (record { production = production; index = index }) n) es)) }
+    ensures edge_limit_in_bounds { OnErr result ((T : Table) → TableFits T → Leasts T.productions least.now → (n : ℕ) → n < length T.nonterminals → ItemFits T (record { production = production; index = index }) → can_shift T n (record { production = production; index = index }) ≡ true → (es : List TraceEdge) → Coded T words.old flags.old es → edge_limit < length (add T.productions (epsilon_edge T.productions (record { production = production; index = index }) n) es)) }
 {
     to_nonterminal(least, words, flags, index == 0, production, index)
 }
@@ -56,18 +55,18 @@ pub fn trace_epsilon(
     nonterminal: usize,
     records: &[u16],
     links: &[u16],
-) -> Inserted
+) -> Result<(), Full>
     requires working { Working table.now grammar.now productions least.now }
     requires words_len { (length words.old ≡ codes_room) × (length flags.old ≡ key_words) × (length entered.old ≡ pair_words) }
     requires state_in_bounds { (state < length (meaning table.now).states) × (nonterminal < length (meaning table.now).nonterminals) }
     requires usable { Usable table.now records.now links.now }
-    ensures steps { result ≡ Done → (f : ℕ) → unset entered.old ≤ f → Steps (meaning table.now) (epsilon (meaning table.now) f state nonterminal) words.old flags.old entered.old words.new flags.new entered.new }
-    ensures exceeds { result ≡ Full → (f : ℕ) → unset entered.old ≤ f → Exceeds (meaning table.now) (epsilon (meaning table.now) f state nonterminal) words.old flags.old entered.old }
+    ensures steps { OnOk result ((f : ℕ) → unset entered.old ≤ f → Steps (meaning table.now) (epsilon (meaning table.now) f state nonterminal) words.old flags.old entered.old words.new flags.new entered.new) }
+    ensures exceeds { OnErr result ((f : ℕ) → unset entered.old ≤ f → Exceeds (meaning table.now) (epsilon (meaning table.now) f state nonterminal) words.old flags.old entered.old) }
     ensures entered_bound { unset entered.new ≤ unset entered.old }
 {
     let pair = state * NonterminalString::LIMIT + nonterminal;
     if is_set(entered, pair) {
-        return Inserted::Done;
+        return Ok(());
     }
     put(entered, pair);
     let mut place = begin(records, links, nonterminal, first_item(table, state));
@@ -84,17 +83,12 @@ pub fn trace_epsilon(
         if !can {
             continue;
         }
-        match epsilon_code(least, words, flags, production, index) {
-            Inserted::Done => {}
-            Inserted::Full => {
-                return Inserted::Full;
-            }
-        }
+        epsilon_code(least, words, flags, production, index)?;
         if index > 0 {
             continue;
         }
         let owner = word(grammar, production * ProductionIndex::WORDS);
-        match trace_epsilon(
+        trace_epsilon(
             table,
             grammar,
             productions,
@@ -106,14 +100,9 @@ pub fn trace_epsilon(
             owner,
             records,
             links,
-        ) {
-            Inserted::Done => {}
-            Inserted::Full => {
-                return Inserted::Full;
-            }
-        }
+        )?;
     }
-    Inserted::Done
+    Ok(())
 }
 
 // Whether the edge of an item that can shift a nonterminal is there.
@@ -284,13 +273,13 @@ fn trace_each(
     links: &mut [u16],
     others: &mut [u16],
     other_links: &mut [u16],
-) -> Inserted
+) -> Result<(), Full>
     requires working { Working table.now grammar.now productions least.now }
     requires words_len { (length words.old ≡ codes_room) × (length flags.old ≡ key_words) × (entered.old ≡ replicate pair_words 0) }
     requires by_index { ((s : ℕ) → mem s (states_in states.low states.high) ≡ true → s < length (meaning table.now).states) × (nonterminal < length (meaning table.now).nonterminals) }
     requires two_tails { TwoTails table.now records.old links.old others.old other_links.old }
-    ensures coded { result ≡ Done → (es : List TraceEdge) → Coded (meaning table.now) words.old flags.old es → Coded (meaning table.now) words.new flags.new (in_turn (λ p u. epsilon (meaning table.now) pairs p nonterminal u) (states_in states.low states.high) (record { edges = es; seen = [] })).edges }
-    ensures edge_limit_in_bounds { result ≡ Full → (es : List TraceEdge) → Coded (meaning table.now) words.old flags.old es → edge_limit < length (in_turn (λ p u. epsilon (meaning table.now) pairs p nonterminal u) (states_in states.low states.high) (record { edges = es; seen = [] })).edges }
+    ensures coded { OnOk result ((es : List TraceEdge) → Coded (meaning table.now) words.old flags.old es → Coded (meaning table.now) words.new flags.new (in_turn (λ p u. epsilon (meaning table.now) pairs p nonterminal u) (states_in states.low states.high) (record { edges = es; seen = [] })).edges) }
+    ensures edge_limit_in_bounds { OnErr result ((es : List TraceEdge) → Coded (meaning table.now) words.old flags.old es → edge_limit < length (in_turn (λ p u. epsilon (meaning table.now) pairs p nonterminal u) (states_in states.low states.high) (record { edges = es; seen = [] })).edges) }
 {
     let mut rest = states;
     let mut before = StateIndex::LIMIT;
@@ -328,7 +317,7 @@ fn trace_each(
                     others,
                     other_links,
                 );
-                match trace_epsilon(
+                trace_epsilon(
                     table,
                     grammar,
                     productions,
@@ -340,12 +329,7 @@ fn trace_each(
                     nonterminal,
                     records,
                     links,
-                ) {
-                    Inserted::Done => {}
-                    Inserted::Full => {
-                        return Inserted::Full;
-                    }
-                }
+                )?;
                 before = from;
                 known = Known {
                     last: 0,
@@ -353,7 +337,7 @@ fn trace_each(
                 };
             }
             NextState::Done => {
-                return Inserted::Done;
+                return Ok(());
             }
         }
     }
@@ -370,12 +354,12 @@ pub fn trace_states(
     entered: &mut [u64],
     states: StateSet,
     nonterminal: usize,
-) -> Inserted
+) -> Result<(), Full>
     requires working { Working table.now grammar.now productions least.now }
     requires words_len { (length words.old ≡ codes_room) × (length flags.old ≡ key_words) × (entered.old ≡ replicate pair_words 0) }
     requires by_index { ((s : ℕ) → mem s (states_in states.low states.high) ≡ true → s < length (meaning table.now).states) × (nonterminal < length (meaning table.now).nonterminals) }
-    ensures coded { result ≡ Done → (es : List TraceEdge) → Coded (meaning table.now) words.old flags.old es → Coded (meaning table.now) words.new flags.new (in_turn (λ p u. epsilon (meaning table.now) pairs p nonterminal u) (states_in states.low states.high) (record { edges = es; seen = [] })).edges }
-    ensures edge_limit_in_bounds { result ≡ Full → (es : List TraceEdge) → Coded (meaning table.now) words.old flags.old es → edge_limit < length (in_turn (λ p u. epsilon (meaning table.now) pairs p nonterminal u) (states_in states.low states.high) (record { edges = es; seen = [] })).edges }
+    ensures coded { OnOk result ((es : List TraceEdge) → Coded (meaning table.now) words.old flags.old es → Coded (meaning table.now) words.new flags.new (in_turn (λ p u. epsilon (meaning table.now) pairs p nonterminal u) (states_in states.low states.high) (record { edges = es; seen = [] })).edges) }
+    ensures edge_limit_in_bounds { OnErr result ((es : List TraceEdge) → Coded (meaning table.now) words.old flags.old es → edge_limit < length (in_turn (λ p u. epsilon (meaning table.now) pairs p nonterminal u) (states_in states.low states.high) (record { edges = es; seen = [] })).edges) }
 {
     if table.len() < TailList::SHORT {
         let mut records = [0u16; 2];
@@ -431,19 +415,14 @@ pub fn shift_over(
     states: StateSet,
     production: usize,
     index: usize,
-) -> Inserted
+) -> Result<(), Full>
     requires working { Working table.now grammar.now productions least.now }
     requires words_len { (length words.old ≡ codes_room) × (length flags.old ≡ key_words) × (entered.old ≡ replicate pair_words 0) }
     requires by_index { ((s : ℕ) → mem s (states_in states.low states.high) ≡ true → s < length (meaning table.now).states) × ItemFits (meaning table.now) (record { production = production; index = index }) }
-    ensures coded { result ≡ Done → (es : List TraceEdge) → Coded (meaning table.now) words.old flags.old es → Coded (meaning table.now) words.new flags.new (in_turn (λ p u. epsilon (meaning table.now) pairs p (owner_of (meaning table.now) (record { production = production; index = index })) u) (states_in states.low states.high) (add_to (meaning table.now) (at_nonterminal (owner_of (meaning table.now) (record { production = production; index = index }))) (at_item (record { production = production; index = index })) (record { production = production; index = index }) (record { edges = es; seen = [] }))).edges }
-    ensures edge_limit_in_bounds { result ≡ Full → (es : List TraceEdge) → Coded (meaning table.now) words.old flags.old es → edge_limit < length (in_turn (λ p u. epsilon (meaning table.now) pairs p (owner_of (meaning table.now) (record { production = production; index = index })) u) (states_in states.low states.high) (add_to (meaning table.now) (at_nonterminal (owner_of (meaning table.now) (record { production = production; index = index }))) (at_item (record { production = production; index = index })) (record { production = production; index = index }) (record { edges = es; seen = [] }))).edges }
+    ensures coded { OnOk result ((es : List TraceEdge) → Coded (meaning table.now) words.old flags.old es → Coded (meaning table.now) words.new flags.new (in_turn (λ p u. epsilon (meaning table.now) pairs p (owner_of (meaning table.now) (record { production = production; index = index })) u) (states_in states.low states.high) (add_to (meaning table.now) (at_nonterminal (owner_of (meaning table.now) (record { production = production; index = index }))) (at_item (record { production = production; index = index })) (record { production = production; index = index }) (record { edges = es; seen = [] }))).edges) }
+    ensures edge_limit_in_bounds { OnErr result ((es : List TraceEdge) → Coded (meaning table.now) words.old flags.old es → edge_limit < length (in_turn (λ p u. epsilon (meaning table.now) pairs p (owner_of (meaning table.now) (record { production = production; index = index })) u) (states_in states.low states.high) (add_to (meaning table.now) (at_nonterminal (owner_of (meaning table.now) (record { production = production; index = index }))) (at_item (record { production = production; index = index })) (record { production = production; index = index }) (record { edges = es; seen = [] }))).edges) }
 {
-    match to_item(least, words, flags, production, index) {
-        Inserted::Done => {}
-        Inserted::Full => {
-            return Inserted::Full;
-        }
-    }
+    to_item(least, words, flags, production, index)?;
     let owner = word(grammar, production * ProductionIndex::WORDS);
     trace_states(
         table,
@@ -468,12 +447,12 @@ pub fn shift_codes(
     state: usize,
     production: usize,
     index: usize,
-) -> Inserted
+) -> Result<(), Full>
     requires working { Working table.now grammar.now productions least.now }
     requires words_len { length words.old ≡ codes_room }
     requires state_in_bounds { (state < length (meaning table.now).states) × ItemFits (meaning table.now) (record { production = production; index = index }) }
-    ensures by_index { result ≡ Done → (fs : List ℕ) × Coded (meaning table.now) words.new fs (shift_edges (meaning table.now) state (record { production = production; index = index })) }
-    ensures edge_limit_in_bounds { result ≡ Full → edge_limit < length (shift_edges (meaning table.now) state (record { production = production; index = index })) }
+    ensures by_index { OnOk result ((fs : List ℕ) × Coded (meaning table.now) words.new fs (shift_edges (meaning table.now) state (record { production = production; index = index }))) }
+    ensures edge_limit_in_bounds { OnErr result (edge_limit < length (shift_edges (meaning table.now) state (record { production = production; index = index }))) }
 {
     let empty = TraceGraph::new();
     words[0] = empty.edges as u16;

@@ -1,23 +1,22 @@
 use Rattle.std.proofs.Common.{sym, ◌∙◌, arith}
-use Rattle.trace.proofs.Steps.{done_full, full-done}
 use Rattle.codes.proofs.Coding.{coded_there, coded_full, coded_new}
 use Rattle.codes.proofs.insert_code.Goals as goal
 
 -- src/lib.rt:42:9
 pub returns-then-is_set : goal.returns-then-is_set
-returns-then-is_set c = record { coded = λ _ T fits es e C t ec ek. coded_there T fits _ _ es e C t c.args.code c.args.key ec ek c.requires.3 (sym c.is_set.ensures ∙ c.if-is_set.true); edge_limit_in_bounds = λ q. done_full q }
+returns-then-is_set c = record { coded = λ T fits es e C t ec ek. coded_there T fits _ _ es e C t c.args.code c.args.key ec ek c.requires.3 (sym c.is_set.ensures ∙ c.if-is_set.true); edge_limit_in_bounds = tt }
 
 -- src/lib.rt:46:9
 pub returns-then-count-ge-EDGES : goal.returns-then-count-ge-EDGES
-returns-then-count-ge-EDGES c = record { coded = λ q. full-done q; edge_limit_in_bounds = λ _ T fits es e C t ec ek. coded_full T fits _ _ es e C t c.args.code c.args.key ec ek c.requires.3 (sym c.is_set.ensures ∙ c.if-is_set.false) (omega (arith, c.word-count.ensures.0, c.if-count-ge-EDGES.true)) }
+returns-then-count-ge-EDGES c = record { coded = tt; edge_limit_in_bounds = λ T fits es e C t ec ek. coded_full T fits _ _ es e C t c.args.code c.args.key ec ek c.requires.3 (sym c.is_set.ensures ∙ c.if-is_set.false) (omega (arith, c.word-count.ensures.0, c.if-count-ge-EDGES.true)) }
 
 -- src/lib.rt:36:1
 pub returns : goal.returns
 returns c = record {
-  coded = λ _ T fits es e C t ec ek.
+  coded = λ T fits es e C t ec ek.
       let b = sym c.is_set.ensures ∙ c.if-is_set.false in
       let w = c.word-count.ensures.0 in
       let made = coded_new T fits _ _ es e C t c.args.code c.args.key ec ek c.requires.3 b (omega (arith, w, c.if-count-ge-EDGES.false)) in
       rw (c.put.ensures, w) made;
-  edge_limit_in_bounds = λ q. done_full q;
+  edge_limit_in_bounds = tt;
 }

@@ -15,10 +15,10 @@ pub find-requires : goal.find-requires
 find-requires c = let A = c.args in record { packed = c.requires.packed; graphed = graphed_count A.n (productions_in A.grammar.now A.productions) A.graph.now A.ix.now c.word-count.result (get_or A.graph.now 0 0) c.word-count.ensures.0 c.requires.graphed; edge_value = c.requires.edge_value; bucket_value = c.bucket_of-bucket.ensures }
 
 pub returns-then-find : goal.returns-then-find
-returns-then-find c = record { added = λ _. insert_there (adding (goal.at.returns-then-find c).After-find) c.if-find.true; overfull = λ z. let q : ◌≡◌ {A = ℕ} 0 1 = cc in absurd (omega arith) }
+returns-then-find c = record { added = insert_there (adding (goal.at.returns-then-find c).After-find) c.if-find.true; overfull = tt }
 
 pub returns-then-count-eq-EDGES : goal.returns-then-count-eq-EDGES
-returns-then-count-eq-EDGES c = record { added = λ z. let q : ◌≡◌ {A = ℕ} 0 1 = cc in absurd (omega arith); overfull = λ _. insert-full (adding (goal.at.returns-then-count-eq-EDGES c).After-find) c.if-find.false c.if-count-eq-EDGES.true }
+returns-then-count-eq-EDGES c = record { added = tt; overfull = insert-full (adding (goal.at.returns-then-count-eq-EDGES c).After-find) c.if-find.false c.if-count-eq-EDGES.true }
 
 pub write_edge-requires : goal.write_edge-requires
 write_edge-requires c = let A = adding (goal.at.write_edge-requires c).After-find in record { k_lt_edge_limit = (insert_low A c.if-find.false c.if-count-eq-EDGES.false, A.graph.long); small_edge = insert_small A }
@@ -28,4 +28,4 @@ link-requires c = let A = adding (goal.at.link-requires c).After-find in
     (A.graph.index.long, (insert_low A c.if-find.false c.if-count-eq-EDGES.false, c.bucket_of-bucket.ensures.1))
 
 pub returns : goal.returns
-returns c = record { added = λ _. insert-more (adding (goal.at.returns c).After-find) c.if-find.false c.if-count-eq-EDGES.false (ap (λ (l : List ℕ). set l 0 (c.word-count.result + 1)) c.write_edge.ensures) c.bucket_of-bucket.ensures c.link.ensures; overfull = λ z. let q : ◌≡◌ {A = ℕ} 0 1 = cc in absurd (omega arith) }
+returns c = record { added = insert-more (adding (goal.at.returns c).After-find) c.if-find.false c.if-count-eq-EDGES.false (ap (λ (l : List ℕ). set l 0 (c.word-count.result + 1)) c.write_edge.ensures) c.bucket_of-bucket.ensures c.link.ensures; overfull = tt }

@@ -1,3 +1,4 @@
+use Rattle.tracer.proofs.Answered.{on_ok, on_err}
 use Rattle.std.proofs.Common.{set, replicate, refl, ◌∙◌, arith, length-set}
 use Rattle.table.specs.Decoded.{meaning}
 use Rattle.state_graph.proofs.Steps.{none_remembered}
@@ -19,4 +20,4 @@ shape_of-words c = c.reduce_item.auto.words ∙ length-set c.args.words.now 0 c.
 pub returns : goal.returns
 returns c = let k = c.new-empty.result.edges in
     let H = held_none (meaning c.args.table.now) (set c.args.words.now 0 k) (replicate key_words 0) (replicate pair_words 0) (length-set c.args.words.now 0 k ∙ c.requires.words_len) (emptied c.args.words.now k c.new-empty.ensures c.requires.words_len) refl refl in
-    let R = begun (meaning c.args.table.now) _ _ _ H in record { by_index = λ r. reduce_coded (meaning c.args.table.now) _ _ _ _ _ _ R _ _ _ _ (c.reduce_item.ensures.reduces r); edge_limit_in_bounds = λ r. reduce_exceeds (meaning c.args.table.now) _ _ _ _ _ _ R (c.reduce_item.ensures.reduce_exceeds r) }
+    let R = begun (meaning c.args.table.now) _ _ _ H in record { by_index = on_ok c.reduce_item.result c.reduce_item.ensures.reduces (λ r. reduce_coded (meaning c.args.table.now) _ _ _ _ _ _ R _ _ _ _ (r)); edge_limit_in_bounds = on_err c.reduce_item.result c.reduce_item.ensures.reduce_exceeds (λ r. reduce_exceeds (meaning c.args.table.now) _ _ _ _ _ _ R (r)) }

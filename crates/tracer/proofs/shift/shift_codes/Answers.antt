@@ -1,3 +1,4 @@
+use Rattle.tracer.proofs.Answered.{on_ok, on_err}
 use Rattle.std.proofs.Common.{◌<◌, length, set, refl, ◌∙◌, arith, length-set}
 use Rattle.repr.specs.Sizes.{edge_limit}
 use Rattle.table.specs.Decoded.{meaning}
@@ -23,4 +24,4 @@ shape_of-words c = c.shift_over.auto.words ∙ length-set c.args.words.now 0 c.n
 pub returns : goal.returns
 returns c = let k = c.new-empty.result.edges in
     let e = found_is c.requires.working c.requires.state_in_bounds.0 c.requires.state_in_bounds.1 _ _ c.prefix.ensures.1 c.trace_back-states.ensures in
-    let C = coded_none (meaning c.args.table.now) (set c.args.words.now 0 k) (length-set c.args.words.now 0 k ∙ c.requires.words_len) (emptied c.args.words.now k c.new-empty.ensures c.requires.words_len) in record { by_index = λ r. (_, shift_from c.requires.working c.requires.state_in_bounds.0 c.requires.state_in_bounds.1 _ e _ C (Coded (meaning c.args.table.now) _ _) (c.shift_over.ensures.coded r)); edge_limit_in_bounds = λ r. shift_from c.requires.working c.requires.state_in_bounds.0 c.requires.state_in_bounds.1 _ e _ C (λ es. edge_limit < length es) (c.shift_over.ensures.edge_limit_in_bounds r) }
+    let C = coded_none (meaning c.args.table.now) (set c.args.words.now 0 k) (length-set c.args.words.now 0 k ∙ c.requires.words_len) (emptied c.args.words.now k c.new-empty.ensures c.requires.words_len) in record { by_index = on_ok c.shift_over.result c.shift_over.ensures.coded (λ r. (_, shift_from c.requires.working c.requires.state_in_bounds.0 c.requires.state_in_bounds.1 _ e _ C (Coded (meaning c.args.table.now) _ _) (r))); edge_limit_in_bounds = on_err c.shift_over.result c.shift_over.ensures.edge_limit_in_bounds (λ r. shift_from c.requires.working c.requires.state_in_bounds.0 c.requires.state_in_bounds.1 _ e _ C (λ es. edge_limit < length es) (r)) }
