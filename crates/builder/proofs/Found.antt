@@ -26,12 +26,13 @@ use Rattle.kept_states.proofs.Holds.{length-packed, holds_counted}
 use Rattle.finding.specs.Steps.{halts, found_to, finish_to}
 use Rattle.finding.proofs.Steps.{outcome_steps}
 use Rattle.collecting.specs.Rows.{row_in, rows_in, FoundAll, FoundAs}
-use Rattle.collecting.specs.declared.States.{States as Searched}
-use Rattle.collecting.specs.declared.States.TheVariants.{Stops as Halts, All as AllFound}
+use Rattle.std.proofs.Common.{Result, Ok, Err}
+use Rattle.finding.specs.Search.{refusal_of}
+use Rattle.finding.specs.declared.Halt.{Halt}
+use Rattle.finding.specs.declared.Sizes.{Sizes}
 use Rattle.searching.specs.Ready.{Ready}
 use Rattle.measuring.specs.Complete.{MeasuredAs}
 use Rattle.measuring.specs.declared.Measured.{Measured}
-use Rattle.measuring.specs.declared.Measured.TheVariants.{Stops, Fits}
 use Rattle.measuring.proofs.Laws.{length_row}
 use Rattle.conflict_list.proofs.Laws.{list_long}
 use Rattle.state_records.specs.Rows.{item_of, ItemsIn, EdgesIn}
@@ -55,7 +56,7 @@ module _ {T : Table} (g : List ℕ) {N P symbols : ℕ} (F : TableFits T) (same 
   pub fixed_small : 1 + N + P + symbols ≤ 65536
   fixed_small = let a = few_symbols T T.productions F.productions in omega (arith, symbols_are, F.few_nonterminals, F.few_productions_lem)
 
-  pub sizes_are : {e : ℕ} → e ≡ T.terminals → {room limit : ℕ} → limit ≡ min room record_limit → SizesOf T room N e P (1 + N + P + symbols) limit
+  pub sizes_are : {e : ℕ} → e ≡ T.terminals → {room limit : ℕ} → limit ≡ min room record_limit → SizesOf T room (record { nonterminals = N; terminals = e; productions = P; fixed = 1 + N + P + symbols; limit = limit })
   sizes_are q l = record {
     counted = record { nonterminals_are = n; fixed_is = omega (arith, symbols_are); limit_is = l };
     tokens = q;
@@ -73,7 +74,7 @@ packed-written : (S : List ℕ) → map item_of (packed S) ≡ written S
 unfolding packed written
 packed-written S = map-map (λ (x : ℕ). record { place = x; set = get_or S x 0 }) item_of (keep (λ x. not (eqb (get_or S x 0) 0)) (below (length S)))
 
-module _ {T : Table} {room : ℕ} {g : List ℕ} {N t P f l : ℕ} {ws bs E es : List ℕ} {n : ℕ} (s : Ended T room g N t P f l ws bs E es n) where
+module _ {T : Table} {room : ℕ} {g : List ℕ} {sizes : Sizes} {ws bs E es : List ℕ} {n : ℕ} (s : Ended T room g sizes ws bs E es n) where
   abbrev Rs : List (List ℕ)
   Rs = s.all.Rs
 
@@ -126,14 +127,14 @@ module _ {T : Table} {room : ℕ} {g : List ℕ} {N t P f l : ℕ} {ws bs E es :
     is = λ k h. let i : k < n = omega (arith, long_states, s.all.many) in sym (ap (λ (q : State). q.edges) (state_at_lem k h) ∙ row_at k i);
   }
 
-  items_from_lem : f + n ≡ items_place table_found
+  items_from_lem : sizes.fixed + n ≡ items_place table_found
   unfolding items_place symbols_at productions_at states_at built_table
   items_from_lem =
       let a : length (map (built_state Rs ds) (below (length Rs))) ≡ length Rs = length-map-below (built_state Rs ds) (length Rs) in
       let y : size_of (symbol_lists T) ≡ sum (λ (p : Production). length p.symbols) T.productions = size-map (λ (p : Production). p.symbols) T.productions in
       rw (a, y) (omega (arith, s.counted.fixed_is, s.all.many))
 
-  edges_from_lem : f + n + get_or bs n 0 ≡ edges_at table_found
+  edges_from_lem : sizes.fixed + n + get_or bs n 0 ≡ edges_at table_found
   unfolding edges_at
   edges_from_lem =
       let i : size_of (item_lists table_found) ≡ sum (λ (S : List ℕ). length (written S)) Rs = ap size_of (items_are T Rs ds) ∙ size-map written Rs in
@@ -147,38 +148,38 @@ module _ {T : Table} {room : ℕ} {g : List ℕ} {N t P f l : ℕ} {ws bs E es :
 
   -- what `measure` decides
 
-  module _ (words : ℕ) {m : Measured} (h : MeasuredAs T room words Rs ds m) where
-    pub stops-answer : m ≡ Stops → {out conflicts : List ℕ} (S : List ℕ)
-        → record { answer = Refused 17 0; scratch = zeroed build_scratch S; out = out; conflicts = conflicts } ≡ built_of T S out conflicts (outcome T s.start room words)
+  module _ (words : ℕ) {m : Result Measured Halt} (h : MeasuredAs T room words Rs ds m) where
+    pub stops-answer : {v : Halt} → m ≡ Err v → {out conflicts : List ℕ} (S : List ℕ)
+        → record { answer = Refused (refusal_of v) 0; scratch = zeroed build_scratch S; out = out; conflicts = conflicts } ≡ built_of T S out conflicts (outcome T s.start room words)
     unfolding MeasuredAs built_of
-    stops-answer e S = let q : finish T room words (built Rs ds) ≡ refused 17 = rw e at h in rw (outcome_is words ∙ q) refl
+    stops-answer {v} e S = let q : finish T room words (built Rs ds) ≡ refused (refusal_of v) = rw e at h in rw (outcome_is words ∙ q) refl
 
-    module _ {r c : ℕ} (e : m ≡ Fits r c) where
-      fitted : MeasuredAs T room words Rs ds (Fits r c)
+    module _ {v : Measured} (e : m ≡ Ok v) where
+      fitted : MeasuredAs T room words Rs ds (Ok v)
       fitted = rw e at h
 
       whole : outcome T s.start room words ≡ full Rs ds
       unfolding MeasuredAs
       whole = outcome_is words ∙ fitted.0
 
-      records_answered : r ≡ records_of table_found
+      records_answered : v.records ≡ records_of table_found
       unfolding MeasuredAs
       records_answered = fitted.1 ∙ sym (records_are T Rs ds long_rows)
 
       few_written : records_of table_found ≤ min room record_limit
       few_written = rw (records_are T Rs ds long_rows) (outcome-full T s.start room words Rs ds whole).1
 
-      pub few_records : r ≤ record_limit
+      pub few_records : v.records ≤ record_limit
       few_records = omega (arith, records_answered, few_written)
 
-      pub few_conflicts : c ≤ 135266304
+      pub few_conflicts : v.conflicts ≤ 135266304
       unfolding MeasuredAs
       few_conflicts = fitted.3
 
       pub list_room : length (conflict_words T Rs) ≤ words
       list_room = rw (list_long T Rs) (outcome-full T s.start room words Rs ds whole).2
 
-      pub laid : {out : List ℕ} → room ≡ length out / 4 → Laid table_found g N t P f ws bs E es n out
+      pub laid : {out : List ℕ} → room ≡ length out / 4 → Laid table_found g sizes ws bs E es n out
       unfolding built_table
       laid q = record {
         target = record {
@@ -198,20 +199,20 @@ module _ {T : Table} {room : ℕ} {g : List ℕ} {N t P f l : ℕ} {ws bs E es :
       }
 
       pub full-answer : (out conflicts : List ℕ) {out' conflicts' : List ℕ} → out' ≡ in_front (spell table_found) out → conflicts' ≡ in_front (conflict_words T Rs) conflicts → (S : List ℕ)
-          → record { answer = States r c; scratch = zeroed build_scratch S; out = out'; conflicts = conflicts' } ≡ built_of T S out conflicts (outcome T s.start room words)
+          → record { answer = States v.records v.conflicts; scratch = zeroed build_scratch S; out = out'; conflicts = conflicts' } ≡ built_of T S out conflicts (outcome T s.start room words)
       unfolding MeasuredAs built_of conflict_count
       full-answer out conflicts a b S = rw (whole, a, b, records_answered, fitted.2) refl
 
 -- what FIRST asks for
 
-pub new_asks : {T : Table} {room : ℕ} {g : List ℕ} {N e P f l : ℕ} → TableFits T → SizesOf T room N e P f l → Packed g (length T.productions) → Packed g P × (e ≤ terminal_limit)
+pub new_asks : {T : Table} {room : ℕ} {g : List ℕ} {sizes : Sizes} → TableFits T → SizesOf T room sizes → Packed g (length T.productions) → Packed g sizes.productions × (sizes.terminals ≤ terminal_limit)
 new_asks F z k = (rw z.many k, rw z.tokens F.few_terminals)
 
 -- what the search gets and leaves
 
-module _ {T : Table} {room : ℕ} {g : List ℕ} {N e P f l : ℕ} {sets : List ℕ} (start : ℕ) (F : TableFits T) (z : SizesOf T room N e P f l) (k : Packed g (length T.productions))
-    (same : productions_in g (length T.productions) ≡ T.productions) (q : sets ≡ sets_of_first e (productions_in g P)) (h : start_is_fit T start ≡ true) where
-  pub grammar : Grammar T g P e sets
+module _ {T : Table} {room : ℕ} {g : List ℕ} {sizes : Sizes} {sets : List ℕ} (start : ℕ) (F : TableFits T) (z : SizesOf T room sizes) (k : Packed g (length T.productions))
+    (same : productions_in g (length T.productions) ≡ T.productions) (q : sets ≡ sets_of_first sizes.terminals (productions_in g sizes.productions)) (h : start_is_fit T start ≡ true) where
+  pub grammar : Grammar T g sizes.productions sizes.terminals sets
   grammar = record {
     fits = F;
     packed = rw z.many k;
@@ -221,24 +222,24 @@ module _ {T : Table} {room : ℕ} {g : List ℕ} {N e P f l : ℕ} {sets : List 
     firsts = q ∙ rw (z.tokens, z.many, same) refl;
   }
 
-  pub started : start < P
+  pub started : start < sizes.productions
   unfolding start_is_fit
   started = rw z.many (ltb-true start (length T.productions) (and-true _ _ h).0)
 
-  abbrev pub ready : Ready g N e P f l sets start
+  abbrev pub ready : Ready g sizes sets start
   ready = record { T = T; room = room; grammar = grammar; counted = z.counted; started = started; small = z.small }
 
-  module _ (ws bs E es : List ℕ) {r : Searched} (w : (s : Ready g N e P f l sets start) → FoundAs s.T start (found_to s.T start s.room) ws bs E es r) where
-    pub halts-answer : {n : ℕ} → r ≡ Halts n → (words : ℕ) {out conflicts : List ℕ} (S : List ℕ)
-        → record { answer = Refused n 0; scratch = zeroed build_scratch S; out = out; conflicts = conflicts } ≡ built_of T S out conflicts (outcome T start room words)
+  module _ (ws bs E es : List ℕ) {r : Result ℕ Halt} (w : (s : Ready g sizes sets start) → FoundAs s.T start (found_to s.T start s.room) ws bs E es r) where
+    pub halts-answer : {v : Halt} → r ≡ Err v → (words : ℕ) {out conflicts : List ℕ} (S : List ℕ)
+        → record { answer = Refused (refusal_of v) 0; scratch = zeroed build_scratch S; out = out; conflicts = conflicts } ≡ built_of T S out conflicts (outcome T start room words)
     unfolding FoundAs finish_to built_of
-    halts-answer {n} x words S = let y : found_to T start room ≡ halts n = rw x at (w ready) in rw (outcome_steps T start room words ∙ ap (finish_to T room words) y) refl
+    halts-answer {v} x words S = let y : found_to T start room ≡ halts (refusal_of v) = rw x at (w ready) in rw (outcome_steps T start room words ∙ ap (finish_to T room words) y) refl
 
-    pub all_found : {n : ℕ} → r ≡ AllFound n → FoundAll T start (found_to T start room) ws bs E es n
+    pub all_found : {n : ℕ} → r ≡ Ok n → FoundAll T start (found_to T start room) ws bs E es n
     unfolding FoundAs
     all_found x = rw x at (w ready)
 
-    abbrev pub ended : {n : ℕ} → r ≡ AllFound n → Ended T room g N e P f l ws bs E es n
+    abbrev pub ended : {n : ℕ} → r ≡ Ok n → Ended T room g sizes ws bs E es n
     ended x = record {
       start = start;
       sets = sets;

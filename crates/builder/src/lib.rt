@@ -15,12 +15,11 @@ ghost use Rattle.build.specs.Outcome.{outcome};
 ghost use Rattle.builder.specs.Outcome.{build_scratch, start_is_fit, grammar_alone, built_of, built_in, build_of};
 ghost use Rattle.builder.specs.Ended.{SizesOf, Ended, Laid};
 
-use collecting::States;
 use conflict_list::write_conflicts;
 use finding::Sizes;
 use first::FirstSets;
 use grammar_records::{count_symbols, write_front, write_productions, write_symbols};
-use measuring::{Measured, measure};
+use measuring::measure;
 use repr::ProductionIndex;
 use searching::search_states;
 use slices::zero;
@@ -45,13 +44,7 @@ fn is_grammar_alone(table: &[u16]) -> bool
     ensures { result ≡ grammar_alone (meaning table.now) }
 {
     let counts = read_counts(table);
-    if counts.states != 1 {
-        return false;
-    }
-    if first_item(table, 0) != 0 {
-        return false;
-    }
-    first_edge(table, 0) == 0
+    counts.states == 1 && first_item(table, 0) == 0 && first_edge(table, 0) == 0
 }
 
 // Refusal 18.
@@ -60,10 +53,7 @@ fn start_fits(table: &[u16], start: usize) -> bool
     ensures { result ≡ start_is_fit (meaning table.now) start }
 {
     let counts = read_counts(table);
-    if start < counts.productions {
-        return is_grammar_alone(table);
-    }
-    false
+    start < counts.productions && is_grammar_alone(table)
 }
 
 // The table of what was found, region by region.
@@ -77,16 +67,16 @@ fn write_table(
     states: usize,
     out: &mut [u16],
 )
-    requires { (U : Table) × Laid U grammar.now sizes.nonterminals sizes.terminals sizes.productions sizes.fixed words.now begins.now edges.now rows.now states out.old }
-    ensures { (U : Table) → Laid U grammar.now sizes.nonterminals sizes.terminals sizes.productions sizes.fixed words.now begins.now edges.now rows.now states out.old → out.new ≡ in_front (spell U) out.old }
+    requires { (U : Table) × Laid U grammar.now sizes words.now begins.now edges.now rows.now states out.old }
+    ensures { (U : Table) → Laid U grammar.now sizes words.now begins.now edges.now rows.now states out.old → out.new ≡ in_front (spell U) out.old }
 {
     let nonterminals = sizes.nonterminals;
     let productions = sizes.productions;
     let counts = Counts {
-        nonterminals: nonterminals,
+        nonterminals,
         terminals: sizes.terminals as usize,
-        states: states,
-        productions: productions,
+        states,
+        productions,
     };
     let items = sizes.fixed + states;
     let ends = items + begins[states];
@@ -115,15 +105,15 @@ fn write_found(
     out: &mut [u16],
     conflicts: &mut [u16],
 ) -> Built
-    requires { (T : Table) × Ended T (length out.old / 4) grammar.now sizes.nonterminals sizes.terminals sizes.productions sizes.fixed sizes.limit words.now begins.now edges.now rows.now states }
-    ensures { (T : Table) (s : Ended T (length out.old / 4) grammar.now sizes.nonterminals sizes.terminals sizes.productions sizes.fixed sizes.limit words.now begins.now edges.now rows.now states) (S : List ℕ) → record { answer = result; scratch = zeroed build_scratch S; out = out.new; conflicts = conflicts.new } ≡ built_of T S out.old conflicts.old (outcome T s.start (length out.old / 4) (length conflicts.old)) }
+    requires { (T : Table) × Ended T (length out.old / 4) grammar.now sizes words.now begins.now edges.now rows.now states }
+    ensures { (T : Table) (s : Ended T (length out.old / 4) grammar.now sizes words.now begins.now edges.now rows.now states) (S : List ℕ) → record { answer = result; scratch = zeroed build_scratch S; out = out.new; conflicts = conflicts.new } ≡ built_of T S out.old conflicts.old (outcome T s.start (length out.old / 4) (length conflicts.old)) }
 {
     match measure(grammar, sizes, words, begins, rows, states, conflicts.len()) {
-        Measured::Stops => Built::Refused(17, 0),
-        Measured::Fits(records, many) => {
+        Err(halt) => Built::Refused(halt.refusal(), 0),
+        Ok(measured) => {
             write_table(grammar, sizes, words, begins, edges, rows, states, out);
             write_conflicts(grammar, sizes.productions, words, begins, states, conflicts);
-            Built::States(records as u16, many as u32)
+            Built::States(measured.records as u16, measured.conflicts as u32)
         }
     }
 }
@@ -132,19 +122,18 @@ fn write_found(
 fn sizes_of(table: &[u16], grammar: &[u16], room: usize) -> Sizes
     requires table_value { check_of table.now ≡ Accepted }
     requires packed { Packed grammar.now (length (meaning table.now).productions) × (productions_in grammar.now (length (meaning table.now).productions) ≡ (meaning table.now).productions) }
-    ensures { SizesOf (meaning table.now) room result.nonterminals result.terminals result.productions result.fixed result.limit }
+    ensures { SizesOf (meaning table.now) room result }
 {
     let counts = read_counts(table);
     let nonterminals = counts.nonterminals;
     let productions = counts.productions;
     let symbols = count_symbols(grammar, productions);
-    let limit = if room < 8192 { room } else { 8192 };
     Sizes {
-        nonterminals: nonterminals,
+        nonterminals,
         terminals: counts.terminals as u16,
-        productions: productions,
+        productions,
         fixed: 1 + nonterminals + productions + symbols,
-        limit: limit,
+        limit: room.min(8192),
     }
 }
 
@@ -180,8 +169,8 @@ fn build_found(
         &mut edges,
         &mut rows,
     ) {
-        States::Stops(refusal) => Built::Refused(refusal, 0),
-        States::All(states) => write_found(
+        Err(halt) => Built::Refused(halt.refusal(), 0),
+        Ok(states) => write_found(
             &grammar, sizes, words, &begins, &edges, &rows, states, out, conflicts,
         ),
     }

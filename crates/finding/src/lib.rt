@@ -10,7 +10,7 @@ ghost use Rattle.build.specs.States.{closure, place};
 ghost use Rattle.stored.specs.Stored.{entries, packed};
 ghost use Rattle.kept_states.specs.Made.{Made};
 ghost use Rattle.finding.specs.Steps.{add_to, goto_to};
-ghost use Rattle.finding.specs.Search.{KernelIn, Stored, Search, CodeFits, symbol_of_code, Reached};
+ghost use Rattle.finding.specs.Search.{KernelIn, Stored, Search, refusal_of, CodeFits, symbol_of_code, Reached};
 
 use closing::transitive_closure;
 use kept_states::{count_items, find, pack, unpack};
@@ -33,6 +33,18 @@ pub struct Sizes {
 pub enum Halt {
     States,
     Records,
+}
+
+impl Halt {
+    // The number of its refusal.
+    pub fn refusal(self) -> u16
+        ensures { result ≡ refusal_of self }
+    {
+        match self {
+            Halt::States => 16,
+            Halt::Records => 17,
+        }
+    }
 }
 
 // One state more, stored behind the others if it has room.

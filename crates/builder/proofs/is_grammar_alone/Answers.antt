@@ -1,11 +1,17 @@
+use Rattle.std.proofs.Common.{sym, ◌∙◌, eqb-true}
+use borrow.Author.Tests.{eqb-false}
 use Rattle.builder.proofs.Ways.{no_items, no_edges, alone_states, alone_items, alone_edges}
 use Rattle.builder.proofs.is_grammar_alone.Goals as goal
+use Rattle.builder.proofs.is_grammar_alone.Goals.{then-counts-eq1, else-counts-eq1}
 
-pub returns-then-counts-ne1 : goal.returns-then-counts-ne1
-returns-then-counts-ne1 c = alone_states _ _ c.read_counts-counts.ensures.states c.if-counts-ne1.true
+pub returns-then-first_item-eq0 : goal.returns-then-first_item-eq0
+returns-then-first_item-eq0 c = elim c.if-counts-eq1.branch [
+  | then-counts-eq1 w ↦ alone_edges _ _ _ c.read_counts-counts.ensures.states w.if-counts-eq1.true (no_items _ c.requires _ _ w.first_item.ensures.0 w.first_item.ensures.1) (eqb-true _ 0 (sym w.value-is ∙ c.if-first_item-eq0.true)) c.first_edge.result (no_edges _ c.requires c.first_edge.result _ c.first_edge.ensures.0 c.first_edge.ensures.1)
+  | else-counts-eq1 w ↦ absurd (w.if-counts-eq1.false (eqb-true _ 1 (sym w.value-is ∙ c.if-first_item-eq0.true)))
+]
 
-pub returns-then-first_item-ne0 : goal.returns-then-first_item-ne0
-returns-then-first_item-ne0 c = alone_items _ _ _ c.read_counts-counts.ensures.states c.if-counts-ne1.false (no_items _ c.requires _ _ c.first_item.ensures.0 c.first_item.ensures.1) c.if-first_item-ne0.true
-
-pub returns : goal.returns
-returns c = alone_edges _ _ _ c.read_counts-counts.ensures.states c.if-counts-ne1.false (no_items _ c.requires _ _ c.first_item.ensures.0 c.first_item.ensures.1) c.if-first_item-ne0.false c.first_edge.result (no_edges _ c.requires c.first_edge.result _ c.first_edge.ensures.0 c.first_edge.ensures.1)
+pub returns-else-first_item-eq0 : goal.returns-else-first_item-eq0
+returns-else-first_item-eq0 c = elim c.if-counts-eq1.branch [
+  | then-counts-eq1 w ↦ c.if-first_item-eq0.false ∙ alone_items _ _ _ c.read_counts-counts.ensures.states w.if-counts-eq1.true (no_items _ c.requires _ _ w.first_item.ensures.0 w.first_item.ensures.1) (eqb-false _ 0 (sym w.value-is ∙ c.if-first_item-eq0.false))
+  | else-counts-eq1 w ↦ c.if-first_item-eq0.false ∙ alone_states _ _ c.read_counts-counts.ensures.states w.if-counts-eq1.false
+]

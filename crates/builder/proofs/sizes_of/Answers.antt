@@ -1,7 +1,6 @@
 use native.Mathlib.Omega.{arith}
 use Rattle.builder.proofs.Found.{fixed_small, sizes_are}
 use Rattle.builder.proofs.sizes_of.Goals as goal
-use Rattle.builder.proofs.sizes_of.Goals.{then-room-lt8192, else-room-lt8192}
 
 pub count_symbols-symbols-requires : goal.count_symbols-symbols-requires
 count_symbols-symbols-requires c = rw c.read_counts-counts.ensures.productions c.requires.packed.0
@@ -10,4 +9,4 @@ pub overflow_add-result-3 : goal.overflow_add-result-3
 overflow_add-result-3 c = let l = fixed_small _ c.read_counts-counts.ensures.fits c.requires.packed.1 c.read_counts-counts.ensures.nonterminals c.read_counts-counts.ensures.productions c.count_symbols-symbols.ensures in omega arith
 
 pub returns : goal.returns
-returns c = sizes_are _ c.read_counts-counts.ensures.fits c.requires.packed.1 c.read_counts-counts.ensures.nonterminals c.read_counts-counts.ensures.productions c.count_symbols-symbols.ensures c.read_counts-counts.ensures.terminals (elim c.if-room-lt8192.branch [ then-room-lt8192 w ↦ omega (arith, w.limit-is, w.if-room-lt8192.true) | else-room-lt8192 w ↦ omega (arith, w.limit-is, w.if-room-lt8192.false) ])
+returns c = sizes_are _ c.read_counts-counts.ensures.fits c.requires.packed.1 c.read_counts-counts.ensures.nonterminals c.read_counts-counts.ensures.productions c.count_symbols-symbols.ensures c.read_counts-counts.ensures.terminals c.min.ensures
