@@ -10,7 +10,7 @@ use Rattle.repr.specs.Lists.{below, joined}
 use Rattle.repr.proofs.Lists.{length-map-below, get_d_map-below, joined_cons}
 use Rattle.error.specs.Choose.{Entry, Choice, chosen, refused}
 use Rattle.entries.specs.Entries.{count_of_values, entry_in, entries_in, entry_words}
-use Rattle.entries.proofs.Laws.{no_entry, entries_long}
+use Rattle.entries.proofs.Laws.{few_values, no_entry, entries_long}
 use Rattle.chooser.specs.declared.Chosen.{Chosen}
 use Rattle.chooser.specs.Choosing.{choice_by, choice_in, choice_words, chosen_of}
 
@@ -31,16 +31,6 @@ pub refused-whole : (n r : ℕ) (x : Chosen) → (n ≡ 0 → ⊥) → x ≡ cho
 refused-whole n r x ne e = fields_of (refused n r) x (refused_choice n r x ne e) e
 
 -- an entry's words, read back
-few_values : (k : ℕ) → count_of_values k ≤ 4
-unfolding count_of_values
-few_values zero = omega arith
-few_values (suc zero) = omega arith
-few_values (suc (suc zero)) = omega arith
-few_values (suc (suc (suc zero))) = omega arith
-few_values (suc (suc (suc (suc zero)))) = omega arith
-few_values (suc (suc (suc (suc (suc zero))))) = omega arith
-few_values (suc (suc (suc (suc (suc (suc k)))))) = omega arith
-
 values_back : (v more : List ℕ) → length v ≤ 4 → take (length v) (get_or v 0 0 ∷ get_or v 1 0 ∷ get_or v 2 0 ∷ get_or v 3 0 ∷ more) ≡ v
 values_back [] more h = refl
 values_back (a ∷ []) more h = refl

@@ -7,6 +7,7 @@ use native.Mathlib.Omega.{arith}
 use lib.ListN.{length, drop}
 use lib.Dec.{eqb, ltb}
 use borrow.Author.Tests.{le-leb, lt-leb, eq-eqb, ne_eqb}
+use Rattle.std.specs.Prelude.{Result, Ok, Err}
 use Rattle.repr.specs.Sizes.{classify_scratch}
 use Rattle.slices.specs.Lent.{zeroed}
 use Rattle.slices.proofs.Lent.{zeroed_lent}
@@ -20,8 +21,9 @@ use Rattle.error.specs.Choose.{Entry, Choice, chosen, refused, Outcome, outcome,
 use Rattle.error.proofs.Late.{LateHalts, classes_late}
 use Rattle.entries.specs.Entries.{entries_in}
 use Rattle.entries.proofs.Laws.{entries_long}
-use Rattle.chooser.specs.declared.Step.{Step}
-use Rattle.chooser.specs.declared.Step.TheVariants.{Counts, Halted}
+use Rattle.examples.specs.declared.Refusal.{Refusal}
+use Rattle.examples.specs.Refusals.{number_of}
+use Rattle.chooser.specs.declared.Written.{Written}
 use Rattle.chooser.specs.declared.Chosen.{Chosen}
 use Rattle.chooser.specs.Choosing.{choice_in, chosen_of, sorted, stopped, sorted_in, CountsWithin, is_naive, added_to, count_of_naive}
 use Rattle.chooser.proofs.Answered.{refused_choice, refused-whole}
@@ -51,9 +53,9 @@ naive_few r zero n b m e h = omega arith
 naive_few r (suc a) zero b m e h = omega arith
 naive_few r (suc a) (suc n) b m e h = omega arith
 
-pub counts-within : (r : Step) (b a n : ℕ) → r ≡ Counts b a → CountsWithin n r → b + a ≤ n
+pub counts-within : (r : Result Written Refusal) (w : Written) (n : ℕ) → r ≡ Ok w → CountsWithin n r → w.better + w.naive ≤ n
 unfolding CountsWithin
-counts-within r b a n e h = subst (CountsWithin n) e h
+counts-within r w n e h = subst (CountsWithin n) e h
 
 naive_entries : (action n : ℕ) (ws : List ℕ) → entries_in ws (count_of_naive action n) ≡ naive_ones action (entries_in ws n)
 unfolding count_of_naive naive_ones entries_in below up_from
@@ -114,27 +116,27 @@ naive_choice action b a better naive (entries es) h e =
     let o : keep is_better es ≡ [] = sym x ∙ ap (entries_in better) h ∙ no_entries better in
     ap chosen (naive_entries action a naive ∙ ap (naive_ones action) (y ∙ all_naive es o) ∙ ap (choice_from action es) (sym o))
 
-module _ (T : Table) (c : Conflict) (set : ℕ) (better naive : List ℕ) (r : Step) (e : sorted_in r better naive ≡ added_to [] [] (classes_of T c (members set))) where
+module _ (T : Table) (c : Conflict) (set : ℕ) (better naive : List ℕ) (r : Result Written Refusal) (e : sorted_in r better naive ≡ added_to [] [] (classes_of T c (members set))) where
   abbrev Chooses : Chosen → Type 0
   Chooses x = choice_in x ≡ choice_of c.action (classes_of T c (members set))
 
-  pub chosen-halts : (n : ℕ) → r ≡ Halted n → (x : Chosen) → x ≡ chosen_of (refused n 0) → Chooses x × (x ≡ chosen_of (choice_in x))
+  pub chosen-halts : (n : Refusal) → r ≡ Err n → (x : Chosen) → x ≡ chosen_of (refused (number_of n) 0) → Chooses x × (x ≡ chosen_of (choice_in x))
   unfolding sorted_in
   chosen-halts n er x q =
-      let p = halt_choice c.action n (classes_of T c (members set)) (classes_late T c (members set)) (ap (λ (y : Step). sorted_in y better naive) (sym er) ∙ e) in
-      (refused_choice n 0 x p.0 q ∙ p.1, refused-whole n 0 x p.0 q)
+      let p = halt_choice c.action (number_of n) (classes_of T c (members set)) (classes_late T c (members set)) (ap (λ (y : Result Written Refusal). sorted_in y better naive) (sym er) ∙ e) in
+      (refused_choice (number_of n) 0 x p.0 q ∙ p.1, refused-whole (number_of n) 0 x p.0 q)
 
-  module _ (b a : ℕ) (er : r ≡ Counts b a) where
-    sorted_all : sorted (entries_in better b) (entries_in naive a) ≡ added_to [] [] (classes_of T c (members set))
+  module _ (s : Written) (er : r ≡ Ok s) where
+    sorted_all : sorted (entries_in better s.better) (entries_in naive s.naive) ≡ added_to [] [] (classes_of T c (members set))
     unfolding sorted_in
-    sorted_all = ap (λ (y : Step). sorted_in y better naive) (sym er) ∙ e
+    sorted_all = ap (λ (y : Result Written Refusal). sorted_in y better naive) (sym er) ∙ e
 
-    pub chosen-better : (b ≡ 0 → ⊥) → (x : Chosen) → choice_in x ≡ chosen (entries_in better b) → Chooses x
-    chosen-better h x q = q ∙ better_choice c.action b a better naive (classes_of T c (members set)) h sorted_all
+    pub chosen-better : (s.better ≡ 0 → ⊥) → (x : Chosen) → choice_in x ≡ chosen (entries_in better s.better) → Chooses x
+    chosen-better h x q = q ∙ better_choice c.action s.better s.naive better naive (classes_of T c (members set)) h sorted_all
 
-    pub chosen_naive : b ≡ 0 → (n : ℕ) → n ≡ count_of_naive c.action a → (x : Chosen) → choice_in x ≡ chosen (entries_in naive n) → Chooses x
+    pub chosen_naive : s.better ≡ 0 → (n : ℕ) → n ≡ count_of_naive c.action s.naive → (x : Chosen) → choice_in x ≡ chosen (entries_in naive n) → Chooses x
     chosen_naive h n en x q =
-        q ∙ ap (λ (k : ℕ). chosen (entries_in naive k)) en ∙ naive_choice c.action b a better naive (classes_of T c (members set)) h sorted_all
+        q ∙ ap (λ (k : ℕ). chosen (entries_in naive k)) en ∙ naive_choice c.action s.better s.naive better naive (classes_of T c (members set)) h sorted_all
 
 -- the words lent on for the productions are zeroed with the rest
 pub chosen-zeroed : (k l : Choice) (w w' front : List ℕ) (m : ℕ) → k ≡ l → length front ≡ m → m ≤ classify_scratch → w' ≡ zeroed classify_scratch (front ++ drop m w) → outcome k w' ≡ outcome l (zeroed classify_scratch w)

@@ -7,6 +7,7 @@ use native.Mathlib.Omega.{arith}
 use lib.ListN.{length}
 use lib.Dec.{eqb, ltb}
 use borrow.Author.Tests.{ltb-true, le-leb}
+use Rattle.std.specs.Prelude.{Result, Ok, Err}
 use Rattle.repr.specs.Sizes.{classify_scratch, entry_limit, entries_room}
 use Rattle.slices.specs.Lent.{zeroed}
 use Rattle.repr.specs.Lists.{keep, below, up_from}
@@ -26,8 +27,9 @@ use Rattle.error.specs.Outcome.{outcome, place_is_fit, conflict_fits, shown, jud
 use Rattle.error.specs.Choose.{Entry, Entries, entries, halts, then, at_token, entry_of, is_better, classes_of, set_fits}
 use Rattle.entries.specs.Entries.{entries_in, with_entry}
 use Rattle.entries.proofs.Laws.{entries-more}
-use Rattle.chooser.specs.declared.Step.{Step}
-use Rattle.chooser.specs.declared.Step.TheVariants.{Counts, Halted}
+use Rattle.examples.specs.declared.Refusal.{Refusal}
+use Rattle.examples.specs.Refusals.{number_of}
+use Rattle.chooser.specs.declared.Written.{Written}
 use Rattle.chooser.specs.Choosing.{sorted, stopped, sorted_in, CountsWithin, token_entries, is_naive, added_to}
 
 -- the conflict of one token, as the code makes it
@@ -87,10 +89,10 @@ added_none bs as' = λ j. sorted (append-nil bs j) (append-nil as' j)
 
 -- the ways through one token; b better ones, a naive ones
 module _ (T : Table) (c : Conflict) (set k : ℕ) (better naive : List ℕ) (b a : ℕ) (few : b + a ≤ k) where
-  abbrev Goal : Step → List ℕ → List ℕ → Type 0
+  abbrev Goal : Result Written Refusal → List ℕ → List ℕ → Type 0
   Goal r better' naive' = (sorted_in r better' naive' ≡ added_to (entries_in better b) (entries_in naive a) (token_entries T c set k)) × CountsWithin (k + 1) r
 
-  pub token-out : has set k ≡ false → Goal (Counts b a) better naive
+  pub token-out : has set k ≡ false → Goal (Ok (record { better = b; naive = a })) better naive
   unfolding sorted_in CountsWithin
   token-out h = (sym (added_none (entries_in better b) (entries_in naive a)) ∙ ap (added_to (entries_in better b) (entries_in naive a)) (sym (token_entries-out T c set k h)), omega arith)
 
@@ -99,10 +101,10 @@ module _ (T : Table) (c : Conflict) (set k : ℕ) (better naive : List ℕ) (b a
     token_in : token_entries T c set k ≡ then T c k (gather T (at_token c k)) (entries [])
     token_in = token_entries_in T c set k h
 
-    pub token-refused : (n p : ℕ) → r ≡ Refused n p → Goal (Halted n) better naive
+    pub token-refused : (n : Refusal) → r ≡ Refused (number_of n) 0 → Goal (Err n) better naive
     unfolding sorted_in added_to CountsWithin at_token
-    token-refused n p er =
-        let R = refused_by T c k x (zeroed classify_scratch x) x x' y y' r (gather T (at_token c k)) n p er (e x) in
+    token-refused n er =
+        let R = refused_by T c k x (zeroed classify_scratch x) x x' y y' r (gather T (at_token c k)) (number_of n) 0 er (e x) in
         (ap (added_to (entries_in better b) (entries_in naive a)) (sym (token_in ∙ R)), tt)
 
     module _ (class : Class) (i j : ℕ) (er : r ≡ IsClass class i j) where
@@ -115,7 +117,7 @@ module _ (T : Table) (c : Conflict) (set k : ℕ) (better naive : List ℕ) (b a
           let R = classed_by T c k x (zeroed classify_scratch x) x x' y y' r (gather T (at_token c k)) class i j er (e x) in
           ap (added_to (entries_in better b) (entries_in naive a)) (sym (token_in ∙ R))
 
-      pub token_naive : (t : Bool) → t ≡ eqb (number_of_class class) 0 → t ≡ true → (naive' : List ℕ) → length naive ≡ entries_room → k < 64 → naive' ≡ with_entry naive a k class → Goal (Counts b (a + 1)) better naive'
+      pub token_naive : (t : Bool) → t ≡ eqb (number_of_class class) 0 → t ≡ true → (naive' : List ℕ) → length naive ≡ entries_room → k < 64 → naive' ≡ with_entry naive a k class → Goal (Ok (record { better = b; naive = a + 1 })) better naive'
       unfolding sorted_in CountsWithin is_naive is_better keep
       token_naive t et tt naive' long room ew =
           let q : eqb (number_of_class class) 0 ≡ true = sym et ∙ tt in
@@ -126,7 +128,7 @@ module _ (T : Table) (c : Conflict) (set k : ℕ) (better naive : List ℕ) (b a
           let g : entries_in better b ≡ entries_in better b ++ keep is_better (E ∷ []) = sym (append-nil (entries_in better b)) ∙ ap (λ (l : List Entry). entries_in better b ++ l) (sym p) in
           ((λ l. sorted (g l) (f l)) ∙ added, omega arith)
 
-      pub token-better : (t : Bool) → t ≡ eqb (number_of_class class) 0 → t ≡ false → (better' : List ℕ) → length better ≡ entries_room → k < 64 → better' ≡ with_entry better b k class → Goal (Counts (b + 1) a) better' naive
+      pub token-better : (t : Bool) → t ≡ eqb (number_of_class class) 0 → t ≡ false → (better' : List ℕ) → length better ≡ entries_room → k < 64 → better' ≡ with_entry better b k class → Goal (Ok (record { better = b + 1; naive = a })) better' naive
       unfolding sorted_in CountsWithin is_naive is_better keep
       token-better t et tt better' long room ew =
           let q : eqb (number_of_class class) 0 ≡ false = sym et ∙ tt in
@@ -206,11 +208,11 @@ pub record Turn (T : Table) (c : Conflict) (set : ℕ) (better₀ naive₀ bette
   pub better_long : length better ≡ length better₀
   pub naive_long : length naive ≡ length naive₀
 
-pub counts_few : (b a k : ℕ) → b + a ≤ k → k ≤ 64 → CountsWithin entry_limit (Counts b a)
+pub counts_few : (b a k : ℕ) → b + a ≤ k → k ≤ 64 → CountsWithin entry_limit (Ok (record { better = b; naive = a }))
 unfolding CountsWithin
 counts_few b a k h l = omega arith
 
-pub halted_few : (n : ℕ) → CountsWithin entry_limit (Halted n)
+pub halted_few : (n : Refusal) → CountsWithin entry_limit (Err n)
 unfolding CountsWithin
 halted_few n = tt
 
@@ -220,7 +222,7 @@ module _ (T : Table) (c : Conflict) (set : ℕ) (better₀ naive₀ : List ℕ) 
   turn_first = record { same = refl; few = omega arith; within = omega arith; better_long = refl; naive_long = refl }
 
   module _ (better naive : List ℕ) (b a k : ℕ) (I : Turn T c set better₀ naive₀ better naive b a k) where
-    pub turn_end : 64 ≤ k → sorted_in (Counts b a) better naive ≡ added_to [] [] (classes_of T c (members set))
+    pub turn_end : 64 ≤ k → sorted_in (Ok (record { better = b; naive = a })) better naive ≡ added_to [] [] (classes_of T c (members set))
     unfolding sorted_in up_from keep classes_of
     turn_end h =
         let l = I.within in
@@ -229,23 +231,23 @@ module _ (T : Table) (c : Conflict) (set : ℕ) (better₀ naive₀ : List ℕ) 
         ap (λ (i : ℕ). added_to (entries_in better b) (entries_in naive a) (classes_of T c (keep (has set) (up_from k i)))) (sym z) ∙ I.same in
         sym (added_none (entries_in better b) (entries_in naive a)) ∙ e
 
-    module _ (h : k < 64) (better' naive' : List ℕ) (r : Step)
+    module _ (h : k < 64) (better' naive' : List ℕ) (r : Result Written Refusal)
         (e : sorted_in r better' naive' ≡ added_to (entries_in better b) (entries_in naive a) (token_entries T c set k)) where
-      pub turn_halts : (x : ℕ) → r ≡ Halted x → sorted_in (Halted x) better' naive' ≡ added_to [] [] (classes_of T c (members set))
+      pub turn_halts : (x : Refusal) → r ≡ Err x → sorted_in (Err x) better' naive' ≡ added_to [] [] (classes_of T c (members set))
       unfolding sorted_in
       turn_halts x er =
-          let s : stopped x ≡ added_to (entries_in better b) (entries_in naive a) (token_entries T c set k) = ap (λ (y : Step). sorted_in y better' naive') (sym er) ∙ e in
-          turn_stopped T c k (entries_in better b) (entries_in naive a) set (up_from (k + 1) (64 - (k + 1))) x s
+          let s : stopped (number_of x) ≡ added_to (entries_in better b) (entries_in naive a) (token_entries T c set k) = ap (λ (y : Result Written Refusal). sorted_in y better' naive') (sym er) ∙ e in
+          turn_stopped T c k (entries_in better b) (entries_in naive a) set (up_from (k + 1) (64 - (k + 1))) (number_of x) s
           ∙ ap (λ (l : List ℕ). added_to (entries_in better b) (entries_in naive a) (classes_of T c (keep (has set) l))) (sym (tokens-first k h)) ∙ I.same
 
-      pub turn_again : (b' a' : ℕ) → r ≡ Counts b' a' → CountsWithin (k + 1) r → length better' ≡ length better → length naive' ≡ length naive → Turn T c set better₀ naive₀ better' naive' b' a' (k + 1)
+      pub turn_again : (w : Written) → r ≡ Ok w → CountsWithin (k + 1) r → length better' ≡ length better → length naive' ≡ length naive → Turn T c set better₀ naive₀ better' naive' w.better w.naive (k + 1)
       unfolding sorted_in CountsWithin
-      turn_again b' a' er f lb la =
-          let s : sorted (entries_in better' b') (entries_in naive' a') ≡ added_to (entries_in better b) (entries_in naive a) (token_entries T c set k) = ap (λ (y : Step). sorted_in y better' naive') (sym er) ∙ e in
-          let g : b' + a' ≤ k + 1 = rw er at f in
+      turn_again w er f lb la =
+          let s : sorted (entries_in better' w.better) (entries_in naive' w.naive) ≡ added_to (entries_in better b) (entries_in naive a) (token_entries T c set k) = ap (λ (y : Result Written Refusal). sorted_in y better' naive') (sym er) ∙ e in
+          let g : w.better + w.naive ≤ k + 1 = rw er at f in
           record {
             same =
-                sym (turn_sorted T c k (entries_in better b) (entries_in naive a) set (up_from (k + 1) (64 - (k + 1))) (entries_in better' b') (entries_in naive' a') s)
+                sym (turn_sorted T c k (entries_in better b) (entries_in naive a) set (up_from (k + 1) (64 - (k + 1))) (entries_in better' w.better) (entries_in naive' w.naive) s)
                 ∙ ap (λ (l : List ℕ). added_to (entries_in better b) (entries_in naive a) (classes_of T c (keep (has set) l))) (sym (tokens-first k h)) ∙ I.same;
             few = g;
             within = omega arith;

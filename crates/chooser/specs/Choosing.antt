@@ -1,5 +1,5 @@
 -- What choosing answers by value, and one token of the set after another: better classes and naive ones apart. Assumes nothing: these are definitions.
-use Rattle.std.specs.Prelude.{ℕ, zero, suc, ◌+◌, ◌*◌, ◌-◌, ◌≤◌, Bool, true, false, not, List, [], ◌++◌, length, replicate}
+use Rattle.std.specs.Prelude.{Result, Ok, Err, ℕ, zero, suc, ◌+◌, ◌*◌, ◌-◌, ◌≤◌, Bool, true, false, not, List, [], ◌++◌, length, replicate}
 use Rattle.repr.specs.Sizes.{entry_room, entries_room}
 use Rattle.repr.specs.Lists.{keep, joined}
 use Rattle.repr.specs.Meaning.{Table}
@@ -9,8 +9,9 @@ use Rattle.error.specs.Sides.{gather}
 use Rattle.error.specs.Choose.{Entry, Choice, chosen, refused, Entries, entries, halts, then, at_token, is_better}
 use Rattle.entries.specs.Entries.{entries_in, entry_words}
 use Rattle.chooser.specs.declared.Chosen.{Chosen}
-use Rattle.chooser.specs.declared.Step.{Step}
-use Rattle.chooser.specs.declared.Step.TheVariants.{Counts, Halted}
+use Rattle.examples.specs.declared.Refusal.{Refusal}
+use Rattle.examples.specs.Refusals.{number_of}
+use Rattle.chooser.specs.declared.Written.{Written}
 
 unfoldable pub choice_by : ℕ → ℕ → ℕ → List ℕ → Choice
 choice_by zero place count ws = chosen (entries_in ws count)
@@ -33,13 +34,13 @@ pub data Sorted : Type 0 where
   sorted : List Entry → List Entry → Sorted
   stopped : ℕ → Sorted
 
-unfoldable pub sorted_in : Step → List ℕ → List ℕ → Sorted
-sorted_in (Counts b a) better naive = sorted (entries_in better b) (entries_in naive a)
-sorted_in (Halted n) better naive = stopped n
+unfoldable pub sorted_in : Result Written Refusal → List ℕ → List ℕ → Sorted
+sorted_in (Ok w) better naive = sorted (entries_in better w.better) (entries_in naive w.naive)
+sorted_in (Err n) better naive = stopped (number_of n)
 
-unfoldable pub CountsWithin : ℕ → Step → Type 0
-CountsWithin k (Counts b a) = b + a ≤ k
-CountsWithin k (Halted n) = Unit {0}
+unfoldable pub CountsWithin : ℕ → Result Written Refusal → Type 0
+CountsWithin k (Ok w) = w.better + w.naive ≤ k
+CountsWithin k (Err n) = Unit {0}
 
 -- one token of the set, or none
 unfoldable pub token_entries : Table → Conflict → ℕ → ℕ → Entries

@@ -9,20 +9,19 @@ ghost use Rattle.lookahead.specs.Tokens.{has, members};
 ghost use Rattle.table.specs.Decoded.{meaning};
 ghost use Rattle.table.specs.Checked.{Accepted};
 ghost use Rattle.table.specs.Refusals.{check_of};
-ghost use Rattle.examples.specs.Reads.{Reads};
 ghost use Rattle.error.specs.Choose.{chosen, refused, outcome, set_fits, classes_of, choice_of, chosen_in};
 ghost use Rattle.entries.specs.Entries.{entries_in};
 ghost use Rattle.chooser.specs.Choosing.{choice_in, chosen_of, sorted_in, CountsWithin, token_entries, added_to, count_of_naive};
 
 use classifier::{classify, place_fits};
 use entries::{copy_entries, is_naive, write_entry};
-use error::{Class, Classified, Conflict};
+use error::{Class, Conflict};
 use example::Example;
-use examples::prepare;
+use examples::{Given, Refusal, prepare};
 use lookahead::TokenSet;
-use repr::{NonterminalString, ProductionIndex};
+use repr::ProductionIndex;
 use slices::zero;
-use table::{Counts, read_counts};
+use table::{Checked, read_counts};
 
 // What choosing answers: the refusal, 0 if there is none, and its place; the number of tokens chosen; for each six words, its token, the number of its class, the class's own values, zeros; zeros behind the last.
 #[derive(Clone, Copy)]
@@ -33,126 +32,71 @@ pub struct Chosen {
     pub entries: [u16; Class::ALL_WORDS],
 }
 
-// What a token comes to: the numbers of better and of naive classes so far; else the refusal, 12 to 14.
+// How many better and how many naive classes are written.
 #[derive(Clone, Copy)]
-enum Step {
-    Counts(usize, usize),
-    Halted(u16),
+struct Written {
+    better: usize,
+    naive: usize,
 }
 
 // One token: if the set has it, its class is written behind the better ones or behind the naive ones.
 fn choose_token(
-    table: &[u16],
-    grammar: &[u16],
-    counts: Counts,
-    map: &[u64; NonterminalString::LIMIT],
-    least: &[u8],
-    ends: &[u64],
+    given: Given,
     conflict: Conflict,
     tokens: TokenSet,
     token: u16,
     better: &mut [u16],
-    better_count: usize,
     naive: &mut [u16],
-    naive_count: usize,
-) -> Step
-    requires reads { Reads table.now grammar.now counts map.now least.now ends.now }
-    requires tokens_value { set_fits (meaning table.now) conflict tokens.0 ≡ true }
-    requires token_bound { (token < 64) × (better_count + naive_count ≤ token) }
+    written: Written,
+) -> Result<Written, Refusal>
+    requires tokens_value { set_fits (meaning given.table.now) conflict tokens.0 ≡ true }
+    requires token_bound { (token < 64) × (written.better + written.naive ≤ token) }
     requires better_len { (length better.old ≡ entries_room) × (length naive.old ≡ entries_room) }
-    ensures naive_after { sorted_in result better.new naive.new ≡ added_to (entries_in better.old better_count) (entries_in naive.old naive_count) (token_entries (meaning table.now) conflict tokens.0 token) }
+    ensures naive_after { sorted_in result better.new naive.new ≡ added_to (entries_in better.old written.better) (entries_in naive.old written.naive) (token_entries (meaning given.entry.table.now) conflict tokens.0 token) }
     ensures counts_within { CountsWithin (token + 1) result }
 {
-    if tokens.contains(token) {
-        let state = conflict.state;
-        let production = conflict.production;
-        let act = conflict.action;
-        let operand = conflict.operand;
-        let one = Conflict {
-            state: state,
-            production: production,
-            action: act,
-            operand: operand,
-            token: token,
-        };
-        let mut action = [0u16; Example::WORDS];
-        let mut reduce = [0u16; Example::WORDS];
-        match classify(
-            table,
-            grammar,
-            counts,
-            map,
-            least,
-            ends,
-            one,
-            &mut action,
-            &mut reduce,
-        ) {
-            Classified::Refused(refusal, place) => {
-                return Step::Halted(refusal);
-            }
-            Classified::Class(class, action_trials, reduce_trials) => {
-                if is_naive(class) {
-                    write_entry(naive, naive_count, token, class);
-                    return Step::Counts(better_count, naive_count + 1);
-                }
-                write_entry(better, better_count, token, class);
-                return Step::Counts(better_count + 1, naive_count);
-            }
-        }
+    if !tokens.contains(token) {
+        return Ok(written);
     }
-    Step::Counts(better_count, naive_count)
+    let one = Conflict { token, ..conflict };
+    let mut action = [0u16; Example::WORDS];
+    let mut reduce = [0u16; Example::WORDS];
+    let found = classify(given, one, &mut action, &mut reduce)?;
+    if is_naive(found.class) {
+        write_entry(naive, written.naive, token, found.class);
+        return Ok(Written {
+            naive: written.naive + 1,
+            ..written
+        });
+    }
+    write_entry(better, written.better, token, found.class);
+    Ok(Written {
+        better: written.better + 1,
+        ..written
+    })
 }
 
 // Every token of the set in order.
 fn choose_tokens(
-    table: &[u16],
-    grammar: &[u16],
-    counts: Counts,
-    map: &[u64; NonterminalString::LIMIT],
-    least: &[u8],
-    ends: &[u64],
+    given: Given,
     conflict: Conflict,
     tokens: TokenSet,
     better: &mut [u16],
     naive: &mut [u16],
-) -> Step
-    requires reads { Reads table.now grammar.now counts map.now least.now ends.now }
-    requires tokens_value { set_fits (meaning table.now) conflict tokens.0 ≡ true }
+) -> Result<Written, Refusal>
+    requires tokens_value { set_fits (meaning given.table.now) conflict tokens.0 ≡ true }
     requires better_len { (length better.old ≡ entries_room) × (length naive.old ≡ entries_room) }
-    ensures naive_after { sorted_in result better.new naive.new ≡ added_to [] [] (classes_of (meaning table.now) conflict (members tokens.0)) }
+    ensures naive_after { sorted_in result better.new naive.new ≡ added_to [] [] (classes_of (meaning given.entry.table.now) conflict (members tokens.0)) }
     ensures counts_within { CountsWithin entry_limit result }
 {
-    let mut better_count: usize = 0;
-    let mut naive_count: usize = 0;
-    let mut token: u16 = 0;
-    while token < 64 {
-        match choose_token(
-            table,
-            grammar,
-            counts,
-            map,
-            least,
-            ends,
-            conflict,
-            tokens,
-            token,
-            better,
-            better_count,
-            naive,
-            naive_count,
-        ) {
-            Step::Counts(better_ones, naive_ones) => {
-                better_count = better_ones;
-                naive_count = naive_ones;
-                token += 1;
-            }
-            Step::Halted(refusal) => {
-                return Step::Halted(refusal);
-            }
-        }
+    let mut written = Written {
+        better: 0,
+        naive: 0,
+    };
+    for token in 0..64 {
+        written = choose_token(given, conflict, tokens, token, better, naive, written)?;
     }
-    Step::Counts(better_count, naive_count)
+    Ok(written)
 }
 
 // How many naive ones are chosen: of a reduce/reduce only the first.
@@ -196,42 +140,20 @@ fn answer(entries: &[u16], count: usize) -> Chosen
 }
 
 // The better classes if there are any, else the naive ones.
-fn choose_gathered(
-    table: &[u16],
-    grammar: &[u16],
-    counts: Counts,
-    map: &[u64; NonterminalString::LIMIT],
-    least: &[u8],
-    ends: &[u64],
-    conflict: Conflict,
-    tokens: TokenSet,
-) -> Chosen
-    requires reads { Reads table.now grammar.now counts map.now least.now ends.now }
-    requires tokens_value { set_fits (meaning table.now) conflict tokens.0 ≡ true }
-    ensures result_value { choice_in result ≡ choice_of conflict.action (classes_of (meaning table.now) conflict (members tokens.0)) }
+fn choose_gathered(given: Given, conflict: Conflict, tokens: TokenSet) -> Chosen
+    requires tokens_value { set_fits (meaning given.table.now) conflict tokens.0 ≡ true }
+    ensures result_value { choice_in result ≡ choice_of conflict.action (classes_of (meaning given.entry.table.now) conflict (members tokens.0)) }
     ensures value { result ≡ chosen_of (choice_in result) }
 {
     let mut better = [0u16; Class::ALL_WORDS];
     let mut naive = [0u16; Class::ALL_WORDS];
-    match choose_tokens(
-        table,
-        grammar,
-        counts,
-        map,
-        least,
-        ends,
-        conflict,
-        tokens,
-        &mut better,
-        &mut naive,
-    ) {
-        Step::Halted(refusal) => refuse(refusal),
-        Step::Counts(better_count, naive_count) => {
-            if better_count != 0 {
-                return answer(&better, better_count);
+    match choose_tokens(given, conflict, tokens, &mut better, &mut naive) {
+        Err(refusal) => refuse(refusal.number()),
+        Ok(written) => {
+            if written.better != 0 {
+                return answer(&better, written.better);
             }
-            let action = conflict.action;
-            let count = naive_chosen(action, naive_count);
+            let count = naive_chosen(conflict.action, written.naive);
             answer(&naive, count)
         }
     }
@@ -247,20 +169,8 @@ fn choose_read(table: &[u16], conflict: Conflict, tokens: TokenSet, scratch: &mu
 {
     let past = ProductionIndex::ALL_WORDS;
     let prepared = prepare(table, &mut scratch[..past]);
-    let counts = prepared.counts;
-    let map = prepared.map;
-    let least = prepared.least;
-    let ends = prepared.ends;
-    let chosen = choose_gathered(
-        table,
-        &scratch[..past],
-        counts,
-        &map,
-        &least,
-        &ends,
-        conflict,
-        tokens,
-    );
+    let given = prepared.given(table, &scratch[..past]);
+    let chosen = choose_gathered(given, conflict, tokens);
     zero(scratch, Conflict::SCRATCH);
     chosen
 }

@@ -1,104 +1,36 @@
 -- Classes in words, the words with one entry more, and entries copied (specs/Entries). Assumes nothing.
 use mathlib.Core.Path.{◌≡◌, refl, sym, ap, ◌∙◌}
-use mathlib.Core.Bool.{true, false}
 use mathlib.Core.List.{List, [], ◌∷◌, ◌++◌, map, map-append, append_assoc, append-nil}
-use Prim.Native.Nat.{ℕ, zero, suc, ◌+◌, ◌*◌, ◌≤◌, ◌<◌}
+use Prim.Native.Nat.{ℕ, zero, suc, ◌-◌, ◌+◌, ◌*◌, ◌≤◌, ◌<◌}
 use native.Mathlib.Omega.{arith}
 use lib.ListN.{length, get_or, take, drop, set, length-append}
 use lib.Seq.{sets, sets-eq, length-take-le, get_or-take, take_at, drop_at, get_or-drop, drop-drop, ext_get_or}
-use lib.Dec.{eqb}
+use lib.ListN.{length-set, length-drop}
+use borrow.Rule.Slice.PartMut.{put_mid, Post-is}
 use Rattle.repr.specs.Sizes.{entry_room, entry_place, entries_room}
 use Rattle.repr.specs.Lists.{up_from, below, joined}
 use Rattle.repr.proofs.Lists.{below_last, length-map-below, get_d_map-below, joined_nil, joined_cons, joined_append}
 use Rattle.repr.proofs.Fronts.{same_part, same_word}
-use Rattle.repr.specs.declared.NonterminalString.{NonterminalString}
 use Rattle.error.specs.declared.Class.{Class}
 use Rattle.error.specs.declared.Class.TheVariants.{Naive, Ambiguity, Precedence, SuggestInline, SuggestQuestion, AmbiguousReduction, InsufficientLookahead}
 use Rattle.error.specs.Numbers.{number_of_class, values_of_class}
 use Rattle.error.specs.Choose.{Entry}
-use Rattle.entries.specs.declared.Numbered.{Numbered}
-use Rattle.entries.specs.Entries.{class_words, numbered_words, with_entry, count_of_values, entry_in, entries_in, entry_words}
+use Rattle.entries.specs.Entries.{class_words, with_entry, count_of_values, entry_in, entries_in, entry_words}
 
-pub five : (a b c d e : ℕ) → numbered_words (record { number = a; first = b; second = c; third = d; fourth = e }) ≡ a ∷ b ∷ c ∷ d ∷ e ∷ []
-unfolding numbered_words
-five a b c d e = refl
-
--- the words of each class
-
-module _ (class : Class) (v : List ℕ) where
-  pub naive_words : class ≡ Naive → v ≡ 0 ∷ 0 ∷ 0 ∷ 0 ∷ 0 ∷ [] → v ≡ class_words class
-  unfolding class_words
-  naive_words e q = q ∙ ap class_words (sym e)
-
-  pub ambiguity_words : class ≡ Ambiguity → v ≡ 1 ∷ 0 ∷ 0 ∷ 0 ∷ 0 ∷ [] → v ≡ class_words class
-  unfolding class_words
-  ambiguity_words e q = q ∙ ap class_words (sym e)
-
-  pub precedence_words : (n : NonterminalString) → class ≡ Precedence n → v ≡ 2 ∷ n.0 ∷ 0 ∷ 0 ∷ 0 ∷ [] → v ≡ class_words class
-  unfolding class_words
-  precedence_words n e q = q ∙ ap class_words (sym e)
-
-  pub inline_words : (n : NonterminalString) → class ≡ SuggestInline n → v ≡ 3 ∷ n.0 ∷ 0 ∷ 0 ∷ 0 ∷ [] → v ≡ class_words class
-  unfolding class_words
-  inline_words n e q = q ∙ ap class_words (sym e)
-
-  pub question_words : (n : NonterminalString) (k x : ℕ) → class ≡ SuggestQuestion n k x → v ≡ 4 ∷ n.0 ∷ k ∷ x ∷ 0 ∷ [] → v ≡ class_words class
-  unfolding class_words
-  question_words n k x e q = q ∙ ap class_words (sym e)
-
-  pub reduction_words_lem : (a b c d : ℕ) → class ≡ AmbiguousReduction a b c d → v ≡ 5 ∷ a ∷ b ∷ c ∷ d ∷ [] → v ≡ class_words class
-  unfolding class_words
-  reduction_words_lem a b c d e q = q ∙ ap class_words (sym e)
-
-  pub insufficient_words : class ≡ InsufficientLookahead → v ≡ 6 ∷ 0 ∷ 0 ∷ 0 ∷ 0 ∷ [] → v ≡ class_words class
-  unfolding class_words
-  insufficient_words e q = q ∙ ap class_words (sym e)
-
--- whether it is naive
-
-pub naive_yes : (class : Class) → class ≡ Naive → true ≡ eqb (number_of_class class) 0
-unfolding number_of_class
-naive_yes class e = ap (λ (k : Class). eqb (number_of_class k) 0) (sym e)
-
-pub naive_not : (class k : Class) → class ≡ k → false ≡ eqb (number_of_class k) 0 → false ≡ eqb (number_of_class class) 0
-naive_not class k e q = q ∙ ap (λ (x : Class). eqb (number_of_class x) 0) (sym e)
-
-pub not_ambiguity : false ≡ eqb (number_of_class Ambiguity) 0
-unfolding number_of_class
-not_ambiguity = refl
-
-pub not_precedence : (n : NonterminalString) → false ≡ eqb (number_of_class (Precedence n)) 0
-unfolding number_of_class
-not_precedence n = refl
-
-pub not_inline : (n : NonterminalString) → false ≡ eqb (number_of_class (SuggestInline n)) 0
-unfolding number_of_class
-not_inline n = refl
-
-pub not_question : (n : NonterminalString) (k x : ℕ) → false ≡ eqb (number_of_class (SuggestQuestion n k x)) 0
-unfolding number_of_class
-not_question n k x = refl
-
-pub not_reduction : (a b c d : ℕ) → false ≡ eqb (number_of_class (AmbiguousReduction a b c d)) 0
-unfolding number_of_class
-not_reduction a b c d = refl
-
-pub not_insufficient : false ≡ eqb (number_of_class InsufficientLookahead) 0
-unfolding number_of_class
-not_insufficient = refl
-
--- six stores are an entry's words
-pub words-written : (ws : List ℕ) (k token : ℕ) (v : Numbered)
-    → set (set (set (set (set (set ws (entry_place k) token) (entry_place k + 1) v.number) (entry_place k + 2) v.first) (entry_place k + 3) v.second) (entry_place k + 4) v.third) (entry_place k + 5) v.fourth
-    ≡ sets ws (entry_place k) (token ∷ numbered_words v)
-unfolding numbered_words
-words-written ws k token v =
-    let z1 : entry_place k + 1 ≡ suc (entry_place k) = omega arith in
-    let z2 : entry_place k + 2 ≡ suc (suc (entry_place k)) = omega arith in
-    let z3 : entry_place k + 3 ≡ suc (suc (suc (entry_place k))) = omega arith in
-    let z4 : entry_place k + 4 ≡ suc (suc (suc (suc (entry_place k)))) = omega arith in
-    let z5 : entry_place k + 5 ≡ suc (suc (suc (suc (suc (entry_place k))))) = omega arith in
-    rw (z1, z2, z3, z4, z5)
+-- a token, and five words behind it, are an entry's words
+pub words_put : (ws part v : List ℕ) (token k : ℕ) → part ≡ v → length part ≡ length (take (entry_place k + 6 - (entry_place k + 1)) (drop (entry_place k + 1) (set ws (entry_place k) token))) → entry_place k + 6 ≤ length ws
+    → put_mid (entry_place k + 1) (entry_place k + 6 - (entry_place k + 1)) (set ws (entry_place k) token) part ≡ sets ws (entry_place k) (token ∷ v)
+words_put ws part v token k e l h =
+    let ws' = set ws (entry_place k) token in
+    let one : entry_place k + 1 ≡ suc (entry_place k) = omega arith in
+    let long = length-set ws (entry_place k) token in
+    let left = length-drop (entry_place k + 1) ws' in
+    let few = length-take-le (entry_place k + 6 - (entry_place k + 1)) (drop (entry_place k + 1) ws') (omega arith) in
+    let same = ap length e in
+    let past : suc (entry_place k) + length v ≡ entry_place k + 6 = omega arith in
+    let behind = Post-is (entry_place k + 1) (entry_place k + 6) ws' (omega arith) in
+    let s = sets-eq v ws' (suc (entry_place k)) (omega arith) in
+    rw (e, behind, one) (sym (s ∙ rw past (append_assoc (take (suc (entry_place k)) ws') v (drop (entry_place k + 6) ws'))))
 
 pub entry_written : (ws ws' v : List ℕ) (count token : ℕ) (class : Class) → v ≡ class_words class → ws' ≡ sets ws (entry_place count) (token ∷ v) → ws' ≡ with_entry ws count token class
 unfolding with_entry
@@ -138,7 +70,7 @@ values_read InsufficientLookahead rest = refl
 
 -- a part of a beginning
 
-few_values : (k : ℕ) → count_of_values k ≤ 4
+pub few_values : (k : ℕ) → count_of_values k ≤ 4
 unfolding count_of_values
 few_values zero = omega arith
 few_values (suc zero) = omega arith
@@ -213,16 +145,6 @@ module _ (ws ws' : List ℕ) (k token : ℕ) (class : Class) (long : length ws �
           get_d_map-below (entry_in ws') k i no_entry l ∙ earlier i l ∙ sym (get_d_map-below (entry_in ws) k i no_entry l))
 
 -- an entry's words
-
-pub count_none : (k : ℕ) → (k ≡ 2 → ⊥) → (k ≡ 3 → ⊥) → (k ≡ 4 → ⊥) → (k ≡ 5 → ⊥) → 0 ≡ count_of_values k
-unfolding count_of_values
-count_none zero a b c d = refl
-count_none (suc zero) a b c d = refl
-count_none (suc (suc zero)) a b c d = absurd (a refl)
-count_none (suc (suc (suc zero))) a b c d = absurd (b refl)
-count_none (suc (suc (suc (suc zero)))) a b c d = absurd (c refl)
-count_none (suc (suc (suc (suc (suc zero))))) a b c d = absurd (d refl)
-count_none (suc (suc (suc (suc (suc (suc k)))))) a b c d = refl
 
 pub value_own : (ws : List ℕ) (at n i : ℕ) → i < n → get_or ws (at + i) 0 ≡ get_or (take n (drop at ws)) i 0
 value_own ws at n i h = sym (get_or-take n (drop at ws) i 0 h ∙ get_or-drop at ws i 0)

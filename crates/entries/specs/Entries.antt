@@ -7,7 +7,6 @@ use Rattle.std.proofs.lemmas.List.Edits.{sets}
 use Rattle.error.specs.declared.Class.{Class}
 use Rattle.error.specs.declared.Class.TheVariants.{Naive, Ambiguity, Precedence, SuggestInline, SuggestQuestion, AmbiguousReduction, InsufficientLookahead}
 use Rattle.error.specs.Choose.{Entry}
-use Rattle.entries.specs.declared.Numbered.{Numbered}
 
 -- a class in five words: its number, its own values, zeros
 unfoldable pub class_words : Class → List ℕ
@@ -18,9 +17,6 @@ class_words (SuggestInline n) = 3 ∷ n.0 ∷ 0 ∷ 0 ∷ 0 ∷ []
 class_words (SuggestQuestion n k x) = 4 ∷ n.0 ∷ k ∷ x ∷ 0 ∷ []
 class_words (AmbiguousReduction a b c d) = 5 ∷ a ∷ b ∷ c ∷ d ∷ []
 class_words InsufficientLookahead = 6 ∷ 0 ∷ 0 ∷ 0 ∷ 0 ∷ []
-
-unfoldable pub numbered_words : Numbered → List ℕ
-numbered_words v = v.number ∷ v.first ∷ v.second ∷ v.third ∷ v.fourth ∷ []
 
 -- entry k written
 unfoldable pub with_entry : List ℕ → ℕ → ℕ → Class → List ℕ

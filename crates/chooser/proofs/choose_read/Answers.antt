@@ -18,14 +18,17 @@ slice_bounds-prepare-end-2 c = sym (length-take-le grammar_room c.args.scratch.n
 pub prepare-prepared-requires : goal.prepare-prepared-requires
 prepare-prepared-requires c = record { table_value = c.requires.table_value; grammar_len = length-take-le grammar_room c.args.scratch.now (omega (arith, c.requires.classify_scratch_in_bounds)) }
 
-pub slice_bounds-choose_gathered-end : goal.slice_bounds-choose_gathered-end
-slice_bounds-choose_gathered-end c = let l = length_front {A = ℕ} c.args.scratch.now c.prepare-prepared.new.grammar grammar_room c.prepare-prepared.auto.grammar in omega (arith, l, c.requires.classify_scratch_in_bounds)
+pub slice_bounds-given-end : goal.slice_bounds-given-end
+slice_bounds-given-end c = let l = length_front {A = ℕ} c.args.scratch.now c.prepare-prepared.new.grammar grammar_room c.prepare-prepared.auto.grammar in omega (arith, l, c.requires.classify_scratch_in_bounds)
 
-pub slice_bounds-choose_gathered-end-2 : goal.slice_bounds-choose_gathered-end-2
-slice_bounds-choose_gathered-end-2 c = let l = length_front {A = ℕ} c.args.scratch.now c.prepare-prepared.new.grammar grammar_room c.prepare-prepared.auto.grammar in sym (length-take-le grammar_room (c.prepare-prepared.new.grammar ++ drop grammar_room c.args.scratch.now) (omega (arith, l, c.requires.classify_scratch_in_bounds)))
+pub slice_bounds-given-end-2 : goal.slice_bounds-given-end-2
+slice_bounds-given-end-2 c = let l = length_front {A = ℕ} c.args.scratch.now c.prepare-prepared.new.grammar grammar_room c.prepare-prepared.auto.grammar in sym (length-take-le grammar_room (c.prepare-prepared.new.grammar ++ drop grammar_room c.args.scratch.now) (omega (arith, l, c.requires.classify_scratch_in_bounds)))
+
+pub given-given-requires : goal.given-given-requires
+given-given-requires c = reads-front _ _ _ _ _ _ _ grammar_room (c.prepare-prepared.auto.grammar ∙ length-take-le grammar_room c.args.scratch.now (omega (arith, c.requires.classify_scratch_in_bounds))) c.prepare-prepared.ensures
 
 pub choose_gathered-chosen-requires : goal.choose_gathered-chosen-requires
-choose_gathered-chosen-requires c = record { reads = reads-front _ _ _ _ _ _ _ grammar_room (c.prepare-prepared.auto.grammar ∙ length-take-le grammar_room c.args.scratch.now (omega (arith, c.requires.classify_scratch_in_bounds))) c.prepare-prepared.ensures; tokens_value = c.requires.tokens_value }
+choose_gathered-chosen-requires c = rw c.given-given.ensures.tables.0 (record { tokens_value = c.requires.tokens_value })
 
 pub zero-requires : goal.zero-requires
 zero-requires c = let l = length_front {A = ℕ} c.args.scratch.now c.prepare-prepared.new.grammar grammar_room c.prepare-prepared.auto.grammar in omega (arith, l, c.requires.classify_scratch_in_bounds)
@@ -34,4 +37,4 @@ pub shape_of-scratch : goal.shape_of-scratch
 shape_of-scratch c = c.zero.auto.words ∙ length_front {A = ℕ} c.args.scratch.now c.prepare-prepared.new.grammar grammar_room c.prepare-prepared.auto.grammar
 
 pub returns : goal.returns
-returns c = record { scratch_after = chosen-zeroed _ _ c.args.scratch.now _ c.prepare-prepared.new.grammar grammar_room c.choose_gathered-chosen.ensures.result_value (c.prepare-prepared.auto.grammar ∙ length-take-le grammar_room c.args.scratch.now (omega (arith, c.requires.classify_scratch_in_bounds))) (omega arith) c.zero.ensures; value = c.choose_gathered-chosen.ensures.value }
+returns c = record { scratch_after = chosen-zeroed _ _ c.args.scratch.now _ c.prepare-prepared.new.grammar grammar_room (rw c.given-given.ensures.tables.0 at c.choose_gathered-chosen.ensures.result_value) (c.prepare-prepared.auto.grammar ∙ length-take-le grammar_room c.args.scratch.now (omega (arith, c.requires.classify_scratch_in_bounds))) (omega arith) c.zero.ensures; value = c.choose_gathered-chosen.ensures.value }

@@ -1,5 +1,5 @@
-use native.Mathlib.Omega.{arith}
 use mathlib.Core.Path.{◌∙◌}
+use Rattle.std.proofs.lemmas.Result.{err_from_is_err_and}
 use Rattle.chooser.proofs.Tokens.{turn_first, turn_end, turn_halts, turn_again, counts_few, halted_few}
 use Rattle.chooser.proofs.choose_tokens.Goals as goal
 
@@ -7,25 +7,19 @@ pub loop-token-init : goal.loop-token-init
 loop-token-init c = turn_first _ c.args.conflict _ _ _
 
 pub choose_token-requires : goal.choose_token-requires
-choose_token-requires c = record { reads = c.requires.reads; tokens_value = c.requires.tokens_value; token_bound = (c.loop-token-test.true, c.loop-token.invariant.few); better_len = (c.loop-token.invariant.better_long ∙ c.requires.better_len.0, c.loop-token.invariant.naive_long ∙ c.requires.better_len.1) }
-
-pub overflow_add-token : goal.overflow_add-token
-overflow_add-token c = omega (arith, c.loop-token-test.true)
-
-pub loop-token-smaller : goal.loop-token-smaller
-loop-token-smaller c = omega (arith, c.loop-token-test.true)
+choose_token-requires c = record { tokens_value = c.requires.tokens_value; token_bound = (c.loop-token-test.true, c.loop-token.invariant.few); better_len = (c.loop-token.invariant.better_long ∙ c.requires.better_len.0, c.loop-token.invariant.naive_long ∙ c.requires.better_len.1) }
 
 pub loop-token-preserved : goal.loop-token-preserved
-loop-token-preserved c = turn_again _ c.args.conflict c.args.tokens.0 _ _ _ _ _ _ _ c.loop-token.invariant c.loop-token-test.true _ _ _ c.choose_token.ensures.naive_after _ _ c.in-Counts.is c.choose_token.ensures.counts_within c.choose_token.auto.better c.choose_token.auto.naive
+loop-token-preserved c = turn_again _ c.args.conflict c.args.tokens.0 _ _ _ _ _ _ _ c.loop-token.invariant c.loop-token-test.true _ _ _ c.choose_token.ensures.naive_after _ c.in_ok-written.was c.choose_token.ensures.counts_within c.choose_token.auto.better c.choose_token.auto.naive
 
-pub shape_of-better-in-Halted : goal.shape_of-better-in-Halted
-shape_of-better-in-Halted c = c.choose_token.auto.better ∙ c.loop-token.invariant.better_long
+pub shape_of-better-in_err-written : goal.shape_of-better-in_err-written
+shape_of-better-in_err-written c = c.choose_token.auto.better ∙ c.loop-token.invariant.better_long
 
-pub shape_of-naive-in-Halted : goal.shape_of-naive-in-Halted
-shape_of-naive-in-Halted c = c.choose_token.auto.naive ∙ c.loop-token.invariant.naive_long
+pub shape_of-naive-in_err-written : goal.shape_of-naive-in_err-written
+shape_of-naive-in_err-written c = c.choose_token.auto.naive ∙ c.loop-token.invariant.naive_long
 
-pub returns-in-Halted : goal.returns-in-Halted
-returns-in-Halted c = record { naive_after = turn_halts _ c.args.conflict c.args.tokens.0 _ _ _ _ _ _ _ c.loop-token.invariant c.loop-token-test.true _ _ _ c.choose_token.ensures.naive_after _ c.in-Halted.is; counts_within = halted_few _ }
+pub returns-in_err-written : goal.returns-in_err-written
+returns-in_err-written c = let p = err_from_is_err_and c.from_residual.result c.from_residual.ensures.1 in rw (p.1, p.2) (record { naive_after = turn_halts _ c.args.conflict c.args.tokens.0 _ _ _ _ _ _ _ c.loop-token.invariant c.loop-token-test.true _ _ _ c.choose_token.ensures.naive_after _ c.in_err-written.was; counts_within = halted_few _ })
 
 pub shape_of-better : goal.shape_of-better
 shape_of-better c = c.loop-token.invariant.better_long
