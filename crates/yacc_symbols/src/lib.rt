@@ -27,11 +27,11 @@ pub fn symbol(symbols: &SymbolTable, kind: Word, from: usize, past: usize) -> Nu
     match symbols.left(kind, from, past) {
         Some(number) => Numbered {
             kind: 0,
-            number: number,
+            number: usize::from(number),
         },
         None => Numbered {
             kind: 1,
-            number: symbols.token(kind, from, past).unwrap_or(0),
+            number: usize::from(symbols.token(kind, from, past).unwrap_or(0)),
         },
     }
 }
