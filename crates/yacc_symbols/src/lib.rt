@@ -15,8 +15,8 @@ use yacc_lex::Word;
 // A symbol: kind (0 nonterminal, 1 terminal) and number, as words hold it.
 #[derive(Clone, Copy)]
 pub struct Numbered {
-    pub kind: usize,
-    pub number: usize,
+    pub kind: u16,
+    pub number: u16,
 }
 
 // The symbol of the id that stands from a place up to another.
@@ -27,11 +27,11 @@ pub fn symbol(symbols: &SymbolTable, kind: Word, from: usize, past: usize) -> Nu
     match symbols.left(kind, from, past) {
         Some(number) => Numbered {
             kind: 0,
-            number: usize::from(number),
+            number: number,
         },
         None => Numbered {
             kind: 1,
-            number: usize::from(symbols.token(kind, from, past).unwrap_or(0)),
+            number: symbols.token(kind, from, past).unwrap_or(0),
         },
     }
 }
