@@ -13,7 +13,6 @@ ghost use Rattle.yacc_numbers.specs.Numbers.{place_in};
 ghost use Rattle.yacc_enter.specs.Props.{Kept-prop, Named-prop};
 ghost use Rattle.yacc_enter.specs.Ids.{Kept, is_id, Open, Within, Grows, Moves, Fresh, Undefining, NoQuote, name_at, Named};
 
-use repr::word;
 use yacc_lex::{Next, Word, next_token};
 use yacc_names::{find, place};
 use yacc_numbers::number;
@@ -65,18 +64,18 @@ pub struct SymbolTable<'a> {
 }
 
 // The number that a word holds, if it holds one.
-fn number_at(words: &[u16], i: usize) -> Option<usize>
+fn number_at(words: &[u16], i: usize) -> Option<u16>
     requires { i < length words.now }
     ensures { held result ≡ get_or words.now i 0 }
 {
-    word(words, i).checked_sub(1)
+    words[i].checked_sub(1)
 }
 
 impl<'a> SymbolTable<'a> {
     ghost use Rattle.yacc_enter.specs.Table.{Holds};
 
     // The number among the nonterminals of the id that stands from a place up to another: a literal has none.
-    pub fn left(&self, kind: Word, from: usize, past: usize) -> Option<usize>
+    pub fn left(&self, kind: Word, from: usize, past: usize) -> Option<u16>
         requires { (from < past) × (past ≤ length self.now.text.now) }
         ensures { is_id kind ≡ true → (ns ts : List Known) → Holds self.now ns ts → held result ≡ place_in ns (id_at self.now.text.now kind from past) }
     {
@@ -98,7 +97,7 @@ impl<'a> SymbolTable<'a> {
     }
 
     // Its number among the terminals.
-    pub fn token(&self, kind: Word, from: usize, past: usize) -> Option<usize>
+    pub fn token(&self, kind: Word, from: usize, past: usize) -> Option<u16>
         requires { (from < past) × (past ≤ length self.now.text.now) }
         ensures { is_id kind ≡ true → (ns ts : List Known) → Holds self.now ns ts → held result ≡ place_in ts (id_at self.now.text.now kind from past) }
     {

@@ -11,7 +11,7 @@ use Rattle.yacc_text.specs.Grammar.{Id, Token, ident, token, start, mark, colon,
 use Rattle.yacc_text.specs.Places.{Placed, placed}
 use Rattle.yacc_text.specs.Parse.{parse}
 use Rattle.yacc_text.specs.Forward.{Mode, top, wanted, listed, starting, ruled, sided, bodied, done, dead, move, last, accepts}
-use Rattle.yacc_tokens.specs.Accepted.{mode_of, judged, is_grammar_text}
+use Rattle.yacc_tokens.specs.Accepted.{judged, is_grammar_text}
 use Rattle.yacc_tokens.proofs.Laws.{judged-whole}
 use Rattle.yacc_read.specs.Events.{Event, lists, opens, defines, uses, shuts, event_of, events}
 use Rattle.yacc_read.specs.Source.{same_id, Known, is_known, left_side, start_use, Use, alternative, alternatives_from, no_id, Source, source_of}
@@ -171,7 +171,7 @@ found-faulty S (p ∷ ps) m k e =
     (λ n. a ∙ ap (λ (b : Bool). b || some? (faulty S) (events (move m p.token) ps)) n ∙ found-faulty S ps (move m p.token) k (sym (fault-goes S m p ps n) ∙ e))
 
 pub fault-misnamed : (t : List ℕ) (l : Layout) (k : ℕ) → parse t ≡ some l → fault_from (source_in l.pieces) (top false) (placed 0 l.pieces) ≡ some k → misnamed (source_in l.pieces) ≡ true
-unfolding source_in is_grammar_text judged mode_of in_body
+unfolding source_in is_grammar_text judged in_body
 fault-misnamed t l k e f =
     let p = placed 0 l.pieces in
     let g : is_grammar_text t ≡ true = ap (λ (o : Option Layout). elim o as (λ x. Bool) [ none ↦ false | some y ↦ true ]) e in

@@ -1,15 +1,13 @@
 -- 21 has a token at fault; the turns of the loop that looks for it. Assumes nothing.
-use Prim.Native.Nat.{ℕ, ◌+◌, ◌<◌}
+use Prim.Native.Nat.{ℕ}
 use mathlib.Core.Bool.{Bool, true, false, ◌||◌, not, or-false}
 use mathlib.Core.Path.{◌≡◌, refl, sym, ap, ◌∙◌}
 use mathlib.Core.List.{List, [], ◌∷◌, ◌++◌, map}
 use mathlib.Core.Option.{Option, none, some}
-use lib.ListN.{get_or}
-use lib.Dec.{eqb}
 use Rattle.repr.specs.Lists.{some?, joined}
 use Rattle.repr.proofs.Lists.{cases, clash}
 use Rattle.repr.proofs.Tests.{some?-nil, some?-yes, some?_no, some?-cons, some?-append}
-use Rattle.yacc_text.specs.Grammar.{Id, quoted, Token, Layout, spell, byte_limit}
+use Rattle.yacc_text.specs.Grammar.{Id, Token, Layout, spell}
 use Rattle.yacc_text.specs.Places.{Placed, placed, placed_in, placed_from}
 use Rattle.yacc_text.specs.Parse.{parse}
 use Rattle.yacc_text.specs.Lex.{lex}
@@ -17,25 +15,20 @@ use Rattle.yacc_text.specs.Forward.{Mode, top, move}
 use Rattle.yacc_text.proofs.Lexing.{lex-complete}
 use Rattle.yacc_text.proofs.Exact.{parse_sound}
 use Rattle.yacc_read.specs.Events.{Event, lists, opens, defines, uses, shuts, event_of, events}
-use Rattle.yacc_read.specs.Source.{same_id, Known, is_known, left_side, start_use, Use, alternative, alternatives_from, Source, source_of}
+use Rattle.yacc_read.specs.Source.{same_id, is_known, left_side, start_use, Use, alternative, alternatives_from, Source, source_of}
 use Rattle.yacc_read.specs.Outcome.{nowhere, undefined_use, named_both_ways, undefined_start, misnamed, source_in}
 use Rattle.yacc_read.proofs.Known.{same_id_eq, known_cons, known_none, known_entered}
 use Rattle.yacc_lex.specs.Steps.{token_at, front, Leads, Told}
 use Rattle.yacc_lex.specs.declared.Next.{Next}
 use Rattle.yacc_lex.specs.declared.Next.TheVariants.{End as Ends, Outside as NoToken}
 use Rattle.yacc_lex.specs.declared.Word.{Word}
-use Rattle.yacc_lex.specs.declared.Word.TheVariants.{Literal}
-use Rattle.yacc_tokens.specs.Accepted.{mode_of, number_of_word, moves_to}
-use Rattle.yacc_tokens.proofs.Laws.{moves_is}
 use Rattle.yacc_said.specs.Said.{said_in, id_at, events_of}
 use Rattle.yacc_said.specs.declared.Saying.{Saying}
 use Rattle.yacc_said.specs.declared.Saying.TheVariants.{Lists, Opens, Defines, Uses, Shuts, Nothing}
 use Rattle.yacc_said.proofs.Laws.{said_event}
-use Rattle.yacc_enter.specs.declared.Ids.{Ids}
-use Rattle.yacc_enter.specs.Ids.{Held}
 use Rattle.yacc_misnamed.specs.Looked.{nowhere_of}
 use Rattle.yacc_misnamed.specs.Fault.{faulty, fault_from}
-use Rattle.yacc_misnamed.proofs.Laws.{none_both, literal_word, nowhere_is}
+use Rattle.yacc_misnamed.proofs.Laws.{none_both, nowhere_is}
 
 -- a test that none passes
 pub none-cons {ℓ} : {A : Type ℓ} (t : A → Bool) (x : A) (xs : List A) → some? t (x ∷ xs) ≡ false → (t x ≡ false) × (some? t xs ≡ false)
@@ -124,49 +117,49 @@ pub misnamed-fault : (l : Layout) → misnamed (source_in l.pieces) ≡ true →
 unfolding source_in
 misnamed-fault l e = fault-found (source_in l.pieces) (placed 0 l.pieces) (top false) (misnamed-faulty (events (top false) (placed 0 l.pieces)) e)
 
--- `is_token_id`
-pub token_literal_id : (t starts pasts ix lefts tokens : List ℕ) (ids : Ids) (ns ts : List Known) → Held t starts pasts ix lefts tokens ids ns ts → (k : Word) → k ≡ Literal → (from past b w : ℕ) → (b ≡ get_or t (from + 1) 0) × (b < byte_limit) → w ≡ get_or tokens b 0 → not (eqb w 0) ≡ is_known ts (id_at t k from past)
-unfolding id_at
-token_literal_id t starts pasts ix lefts tokens ids ns ts H k q from past b w B e =
-    literal_word t starts pasts ix lefts tokens ids ns ts H b B.1 w e
-    ∙ ap (λ (c : ℕ). is_known ts (quoted c)) B.0
-    ∙ sym (ap (λ (v : Word). is_known ts (id_at t v from past)) q)
-
 -- `is_fault`
-module _ (S : Source) (t : List ℕ) (m : ℕ) (h : m < 12) (w : Word) (from past : ℕ) (s : Saying) (e : s ≡ said_in (mode_of m) w) where
-  said-fault : some? (faulty S) (events_of s (id_at t w from past) from past) ≡ some? (faulty S) (event_of (mode_of m) (token_at t w from past) from past)
+module _ (S : Source) (t : List ℕ) (m : Mode) (w : Word) (from past : ℕ) (s : Saying) (e : s ≡ said_in m w) where
+  said-fault : some? (faulty S) (events_of s (id_at t w from past) from past) ≡ some? (faulty S) (event_of m (token_at t w from past) from past)
   said-fault =
       ap (λ (k : Saying). some? (faulty S) (events_of k (id_at t w from past) from past)) e
-      ∙ ap (some? (faulty S)) (sym (said_event m h w t from past))
+      ∙ ap (some? (faulty S)) (sym (said_event m w t from past))
 
-  said_one : (v : Event) → events_of s (id_at t w from past) from past ≡ v ∷ [] → faulty S v ≡ some? (faulty S) (event_of (mode_of m) (token_at t w from past) from past)
+  said_one : (v : Event) → events_of s (id_at t w from past) from past ≡ v ∷ [] → faulty S v ≡ some? (faulty S) (event_of m (token_at t w from past) from past)
   said_one v q =
       sym (ap (some? (faulty S)) q ∙ some?-cons (faulty S) v [] ∙ ap (λ (c : Bool). faulty S v || c) (some?-nil (faulty S)) ∙ or-false (faulty S v))
       ∙ said-fault
 
-  pub fault-lists : s ≡ Lists → false ≡ some? (faulty S) (event_of (mode_of m) (token_at t w from past) from past)
+  pub fault-lists : s ≡ Lists → false ≡ some? (faulty S) (event_of m (token_at t w from past) from past)
   unfolding events_of faulty
   fault-lists q = said_one (lists (id_at t w from past) from) (ap (λ (k : Saying). events_of k (id_at t w from past) from past) q)
 
-  pub fault-opens : s ≡ Opens → (b : Bool) → b ≡ is_known S.nonterminals (id_at t w from past) → not b ≡ some? (faulty S) (event_of (mode_of m) (token_at t w from past) from past)
+  pub fault-opens : s ≡ Opens → (b : Bool) → b ≡ not (is_known S.nonterminals (id_at t w from past)) → b ≡ some? (faulty S) (event_of m (token_at t w from past) from past)
   unfolding events_of faulty
-  fault-opens q b p = ap not p ∙ said_one (opens (id_at t w from past)) (ap (λ (k : Saying). events_of k (id_at t w from past) from past) q)
+  fault-opens q b p = p ∙ said_one (opens (id_at t w from past)) (ap (λ (k : Saying). events_of k (id_at t w from past) from past) q)
 
-  pub fault-defines : s ≡ Defines → (b : Bool) → b ≡ is_known S.terminals (id_at t w from past) → b ≡ some? (faulty S) (event_of (mode_of m) (token_at t w from past) from past)
+  pub fault-defines : s ≡ Defines → (b : Bool) → b ≡ is_known S.terminals (id_at t w from past) → b ≡ some? (faulty S) (event_of m (token_at t w from past) from past)
   unfolding events_of faulty
   fault-defines q b p = p ∙ said_one (defines (id_at t w from past) from) (ap (λ (k : Saying). events_of k (id_at t w from past) from past) q)
 
-  pub fault-uses : s ≡ Uses → (b : Bool) → b ≡ nowhere_of S.nonterminals S.terminals (id_at t w from past) → b ≡ some? (faulty S) (event_of (mode_of m) (token_at t w from past) from past)
+  pub fault-uses : s ≡ Uses → (b : Bool) → b ≡ nowhere_of S.nonterminals S.terminals (id_at t w from past) → b ≡ some? (faulty S) (event_of m (token_at t w from past) from past)
   unfolding events_of faulty
   fault-uses q b p = p ∙ nowhere_is S (id_at t w from past) ∙ said_one (uses (id_at t w from past) from past) (ap (λ (k : Saying). events_of k (id_at t w from past) from past) q)
 
-  pub fault-shuts : s ≡ Shuts → false ≡ some? (faulty S) (event_of (mode_of m) (token_at t w from past) from past)
+  pub fault-shuts : s ≡ Shuts → false ≡ some? (faulty S) (event_of m (token_at t w from past) from past)
   unfolding events_of faulty
   fault-shuts q = said_one (shuts from) (ap (λ (k : Saying). events_of k (id_at t w from past) from past) q)
 
-  pub fault-nothing : s ≡ Nothing → false ≡ some? (faulty S) (event_of (mode_of m) (token_at t w from past) from past)
+  pub fault-nothing : s ≡ Nothing → false ≡ some? (faulty S) (event_of m (token_at t w from past) from past)
   unfolding events_of
   fault-nothing q = sym (ap (λ (k : Saying). some? (faulty S) (events_of k (id_at t w from past) from past)) q ∙ some?-nil (faulty S)) ∙ said-fault
+
+pub fault-other : (S : Source) (t : List ℕ) (m : Mode) (w : Word) (from past : ℕ) (s : Saying) → s ≡ said_in m w → (s ≡ Opens → ⊥) → (s ≡ Defines → ⊥) → (s ≡ Uses → ⊥) → false ≡ some? (faulty S) (event_of m (token_at t w from past) from past)
+fault-other S t m w from past Lists e a b c = fault-lists S t m w from past Lists e refl
+fault-other S t m w from past Opens e a b c = absurd (a refl)
+fault-other S t m w from past Defines e a b c = absurd (b refl)
+fault-other S t m w from past Uses e a b c = absurd (c refl)
+fault-other S t m w from past Shuts e a b c = fault-shuts S t m w from past Shuts e refl
+fault-other S t m w from past Nothing e a b c = fault-nothing S t m w from past Nothing e refl
 
 -- `fault_place`: tokens are left, and the first at fault is still the text's
 abbrev pub Rests : Source → Mode → Option (List Placed) → Option ℕ → Type 0
@@ -178,8 +171,7 @@ text_placed t l e =
     let s = parse_sound t l e in
     ap (λ (k : List ℕ). placed_in 0 (lex k)) (sym s.1) ∙ ap (placed_in 0) (lex-complete l.pieces s.0.fit)
 
-pub rests_first : (t : List ℕ) (l : Layout) → parse t ≡ some l → Rests (source_in l.pieces) (mode_of 0) (placed_from t 0) (fault_from (source_in l.pieces) (top false) (placed 0 l.pieces))
-unfolding mode_of
+pub rests_first : (t : List ℕ) (l : Layout) → parse t ≡ some l → Rests (source_in l.pieces) (top false) (placed_from t 0) (fault_from (source_in l.pieces) (top false) (placed 0 l.pieces))
 rests_first t l e = (placed 0 l.pieces, text_placed t l e, refl)
 
 pub never {ℓ} : {P : Type ℓ} {A : Type 0} (x : A) → ◌≡◌ {A = Option A} none (some x) → P
@@ -190,26 +182,26 @@ unfolding front
 front-some k from past none ps e = never ps e
 front-some k from past (some qs) ps e = (qs, refl, cc)
 
-module _ (S : Source) (t : List ℕ) (at m : ℕ) (h : m < 12) (F : Option ℕ) (R : Rests S (mode_of m) (placed_from t at) F) where
-  module _ (w : Word) (from past : ℕ) (L : Leads t at w from past) (b : Bool) (q : b ≡ some? (faulty S) (event_of (mode_of m) (token_at t w from past) from past)) where
+module _ (S : Source) (t : List ℕ) (at : ℕ) (m : Mode) (F : Option ℕ) (R : Rests S m (placed_from t at) F) where
+  module _ (w : Word) (from past : ℕ) (L : Leads t at w from past) (b : Bool) (q : b ≡ some? (faulty S) (event_of m (token_at t w from past) from past)) where
     rests_front : (qs : List Placed) × (placed_from t past ≡ some qs) × (R.0 ≡ record { token = token_at t w from past; from = from; past = past } ∷ qs)
     rests_front = front-some (token_at t w from past) from past (placed_from t past) R.0 (sym L.is ∙ R.1)
 
-    pub rests_turn : b ≡ false → (n : ℕ) → n ≡ moves_to m (number_of_word w) → Rests S (mode_of n) (placed_from t past) F
+    pub rests_turn : b ≡ false → (n : Mode) → n ≡ move m (token_at t w from past) → Rests S n (placed_from t past) F
     rests_turn f n e = (
       rests_front.0,
       rests_front.1,
-      ap (λ (k : Mode). fault_from S k rests_front.0) (ap mode_of e ∙ moves_is m h w t from past)
-          ∙ sym (fault-goes S (mode_of m) (record { token = token_at t w from past; from = from; past = past }) rests_front.0 (sym q ∙ f))
-          ∙ ap (fault_from S (mode_of m)) (sym rests_front.2)
+      ap (λ (k : Mode). fault_from S k rests_front.0) e
+          ∙ sym (fault-goes S m (record { token = token_at t w from past; from = from; past = past }) rests_front.0 (sym q ∙ f))
+          ∙ ap (fault_from S m) (sym rests_front.2)
           ∙ R.2,
     )
 
     pub rests_here : b ≡ true → F ≡ some from
     rests_here y =
         sym R.2
-        ∙ ap (fault_from S (mode_of m)) rests_front.2
-        ∙ fault_here S (mode_of m) (record { token = token_at t w from past; from = from; past = past }) rests_front.0 (sym q ∙ y)
+        ∙ ap (fault_from S m) rests_front.2
+        ∙ fault_here S m (record { token = token_at t w from past; from = from; past = past }) rests_front.0 (sym q ∙ y)
 
   pub rests_ends : (x : Next) → x ≡ Ends → Told t at x → F ≡ none
   unfolding Told fault_from
@@ -217,7 +209,7 @@ module _ (S : Source) (t : List ℕ) (at m : ℕ) (h : m < 12) (F : Option ℕ) 
       let p : placed_from t at ≡ some [] = rw e at T in
       let i : some [] ≡ some R.0 = sym p ∙ R.1 in
       let j : [] ≡ R.0 = cc in
-      sym R.2 ∙ ap (fault_from S (mode_of m)) (sym j)
+      sym R.2 ∙ ap (fault_from S m) (sym j)
 
   pub rests_outside : (x : Next) → x ≡ NoToken → Told t at x → F ≡ none
   unfolding Told

@@ -13,16 +13,15 @@ use Rattle.slices.specs.Lent.{in_front}
 use Rattle.slices.proofs.Lent.{length-in_front}
 use Rattle.repr.specs.Lists.{joined}
 use Rattle.repr.proofs.Lists.{cases, clash, length_mapped, get_d_map}
-use Rattle.yacc_text.specs.Grammar.{Id, named, quoted, Layout, byte_limit}
+use Rattle.yacc_text.specs.Grammar.{Id, named, quoted, Layout}
 use Rattle.yacc_text.specs.Places.{Placed, placed_from}
 use Rattle.yacc_text.specs.Parse.{parse}
-use Rattle.yacc_text.specs.Forward.{Mode}
-use Rattle.yacc_lex.specs.Steps.{Leads, Told}
+use Rattle.yacc_text.specs.Forward.{Mode, top, move}
+use Rattle.yacc_lex.specs.Steps.{token_at, Leads, Told}
 use Rattle.yacc_lex.specs.declared.Next.{Next}
 use Rattle.yacc_lex.specs.declared.Next.TheVariants.{End as Ends, Outside as NoToken}
 use Rattle.yacc_lex.specs.declared.Word.{Word}
-use Rattle.yacc_lex.specs.declared.Word.TheVariants.{Name, Literal}
-use Rattle.yacc_tokens.specs.Accepted.{mode_of, number_of_word, moves_to}
+use Rattle.yacc_lex.specs.declared.Word.TheVariants.{Name, Literal, Token, Start, Mark, Colon, Bar, Semi}
 use Rattle.yacc_read.specs.Events.{Event, events}
 use Rattle.yacc_read.specs.Source.{Known, is_known, number_in, enter, entered, same_id, left_side, token_use, literal_use, start_use, no_id, Source, source_of}
 use Rattle.yacc_read.specs.Meaning.{places_of, start_of}
@@ -34,12 +33,9 @@ use Rattle.yacc_said.specs.declared.Saying.TheVariants.{Lists, Opens, Defines, U
 use Rattle.yacc_said.proofs.Laws.{said_turn, said-ends, said-outside, said-whole}
 use Rattle.yacc_numbers.specs.Numbers.{place_in}
 use Rattle.yacc_numbers.proofs.Laws.{number-front, number_behind, place-yes, place_no}
-use Rattle.yacc_enter.specs.declared.Ids.{Ids}
-use Rattle.yacc_enter.specs.Ids.{Held}
-use Rattle.yacc_enter.proofs.Laws.{Both, behind, behind-said, token_literal}
-use Rattle.yacc_misnamed.specs.Looked.{is_id}
-use Rattle.yacc_misnamed.proofs.Laws.{left_literal, start_word}
-use Rattle.yacc_places.specs.Placed.{entered_place, written_to, written_in, is_opens}
+use Rattle.yacc_enter.specs.Ids.{is_id}
+use Rattle.yacc_enter.proofs.Laws.{Both, behind, behind-said}
+use Rattle.yacc_places.specs.Placed.{entered_place, written_to, written_in}
 
 -- `write_place`
 pub written_to_lem : (n place : ℕ) → place ≡ n + 1 → place ≡ written_to n place
@@ -225,16 +221,16 @@ module _ (S : Source) (base n m : ℕ) (p₀ p : List ℕ) (b : base ≡ length 
 abbrev both_of : Source → Both
 both_of S = record { nonterminals = S.nonterminals; terminals = S.terminals }
 
-pub record Placing (t : List ℕ) (S : Source) (base : ℕ) (p₀ p : List ℕ) (n m mode at : ℕ) : Type 0 where
+pub record Placing (t : List ℕ) (S : Source) (base : ℕ) (p₀ p : List ℕ) (n m : ℕ) (mode : Mode) (at : ℕ) : Type 0 where
   pub ns : List Known
   pub ts : List Known
-  pub same : (z : Both) → of_said z (behind ns ts) (mode_of mode) (placed_from t at) ≡ both_of S
+  pub same : (z : Both) → of_said z (behind ns ts) mode (placed_from t at) ≡ both_of S
   pub lefts : Front p 0 n ns
   pub tokens : Front p base m ts
   pub rest : (i : ℕ) → length S.nonterminals + length S.terminals ≤ i → get_or p i 0 ≡ get_or p₀ i 0
 
-pub placing-first : (t : List ℕ) (l : Layout) → parse t ≡ some l → (base : ℕ) (p : List ℕ) → Placing t (source_in l.pieces) base p p 0 0 0 0
-unfolding mode_of source_in source_of behind
+pub placing-first : (t : List ℕ) (l : Layout) → parse t ≡ some l → (base : ℕ) (p : List ℕ) → Placing t (source_in l.pieces) base p p 0 0 (top false) 0
+unfolding source_in source_of behind
 placing-first t l e base p = record {
   ns = [];
   ts = [];
@@ -255,21 +251,21 @@ unfolding of_said
 all-tokens f r m none h = absurd (not-all r h)
 all-tokens f r m (some ps) h = (events m ps, h r)
 
-module _ (t : List ℕ) (S : Source) (base : ℕ) (p₀ p : List ℕ) (n m mode at : ℕ) (P : Placing t S base p₀ p n m mode at) (h : mode < 12) (b : base ≡ length S.nonterminals) (room : length S.nonterminals + length S.terminals ≤ length p)
-    (s : Saying) (w : Word) (from past k : ℕ) (L : Leads t at w from past) (e : s ≡ said_in (mode_of mode) w) (g : k ≡ moves_to mode (number_of_word w)) where
+module _ (t : List ℕ) (S : Source) (base : ℕ) (p₀ p : List ℕ) (n m : ℕ) (mode : Mode) (at : ℕ) (P : Placing t S base p₀ p n m mode at) (b : base ≡ length S.nonterminals) (room : length S.nonterminals + length S.terminals ≤ length p)
+    (s : Saying) (w : Word) (from past : ℕ) (k : Mode) (L : Leads t at w from past) (e : s ≡ said_in mode w) (g : k ≡ move mode (token_at t w from past)) where
   abbrev os : List Known
   os = joined left_side (events_of s (id_at t w from past) from past)
 
   abbrev us : List Known
   us = joined token_use (events_of s (id_at t w from past) from past)
 
-  next_same : (z : Both) → of_said z (behind (entered P.ns os) (entered P.ts us)) (mode_of k) (placed_from t past) ≡ both_of S
+  next_same : (z : Both) → of_said z (behind (entered P.ns os) (entered P.ts us)) k (placed_from t past) ≡ both_of S
   next_same z =
-      said_turn z t at mode h (behind P.ns P.ts) (both_of S) (P.same z) (behind (entered P.ns os) (entered P.ts us)) w from past k L g
+      said_turn z t at mode (behind P.ns P.ts) (both_of S) (P.same z) (behind (entered P.ns os) (entered P.ts us)) w from past k L g
       (λ es. behind-said s P.ns P.ts (id_at t w from past) from past es ∙ ap (λ (j : Saying). behind P.ns P.ts (events_of j (id_at t w from past) from past ++ es)) e)
 
   said-next : (es : List Event) × (behind (entered P.ns os) (entered P.ts us) es ≡ both_of S)
-  said-next = all-tokens (behind (entered P.ns os) (entered P.ts us)) (both_of S) (mode_of k) (placed_from t past) next_same
+  said-next = all-tokens (behind (entered P.ns os) (entered P.ts us)) (both_of S) k (placed_from t past) next_same
 
   lefts_then : entered (entered P.ns os) (joined left_side said-next.0) ≡ S.nonterminals
   unfolding behind
@@ -300,73 +296,80 @@ module _ (t : List ℕ) (S : Source) (base : ℕ) (p₀ p : List ℕ) (n m mode 
         rest = λ i l. ap (λ (q : List ℕ). get_or q i 0) e₂ ∙ rest-other p₀ p₁ (length S.nonterminals + length S.terminals) R₁ base m token from (λ q. let z = d (q ∙ ap (λ (j : ℕ). j + 1) cm) in omega (arith, z, cm, b)) i l;
       }
 
-module _ (t : List ℕ) (S : Source) (base : ℕ) (p₀ p : List ℕ) (n m mode at : ℕ) (P : Placing t S base p₀ p n m mode at) (h : mode < 12) (x : Next) (T : Told t at x) where
+module _ (t : List ℕ) (S : Source) (base : ℕ) (p₀ p : List ℕ) (n m : ℕ) (mode : Mode) (at : ℕ) (P : Placing t S base p₀ p n m mode at) (x : Next) (T : Told t at x) where
   pub placing-last : x ≡ Ends → base ≡ length S.nonterminals → length p ≡ length p₀ → length S.nonterminals + length S.terminals ≤ length p₀ → p ≡ in_front (places_of S) p₀
   unfolding behind joined entered
   placing-last e b l room =
-      let q : behind P.ns P.ts [] ≡ both_of S = said-ends (both_of S) t at mode h (behind P.ns P.ts) (both_of S) (P.same (both_of S)) x e T in
+      let q : behind P.ns P.ts [] ≡ both_of S = said-ends (both_of S) t at mode (behind P.ns P.ts) (both_of S) (P.same (both_of S)) x e T in
       let u : P.ns ≡ S.nonterminals = ap (λ (k : Both). k.nonterminals) q in
       let v : P.ts ≡ S.terminals = ap (λ (k : Both). k.terminals) q in
       places-all S base n m p₀ p b (rw u at P.lefts) (rw v at P.tokens) P.rest l room
 
   pub placing-outside {ℓ} : {Q : Type ℓ} → x ≡ NoToken → Q
-  placing-outside e = absurd (not-all (both_of S) (λ z. said-outside z t at mode h (behind P.ns P.ts) (both_of S) (P.same z) x e T))
-
--- ids by their words
-pub place_at : (t : List ℕ) (ks : List Known) (from past p : ℕ) (k v : Word) → k ≡ v → p ≡ place_in ks (id_at t v from past) → p ≡ place_in ks (id_at t k from past)
-place_at t ks from past p k v e q = q ∙ sym (ap (λ (j : Word). place_in ks (id_at t j from past)) e)
-
-module _ (t starts pasts ix lefts tokens : List ℕ) (ids : Ids) (ns ts : List Known) (H : Held t starts pasts ix lefts tokens ids ns ts) (from past : ℕ) (k : Word) (e : k ≡ Literal) where
-  pub place-quoted : 0 ≡ place_in ns (id_at t k from past)
-  place-quoted = sym (place_no ns (id_at t k from past) (sym (left_literal t starts pasts ix lefts tokens ids ns ts H from past k e)))
-
-  pub place_literal : (b w : ℕ) → (b ≡ get_or t (from + 1) 0) × (b < byte_limit) → w ≡ get_or tokens b 0 → w ≡ place_in ts (id_at t k from past)
-  unfolding id_at
-  place_literal b w B q =
-      let h : b < byte_limit = B.1 in
-      place_at t ts from past w k Literal e (q ∙ H.terminals.numbers.place b (omega (arith, h)) ∙ ap (place_in ts) (token_literal t starts pasts b h ∙ ap quoted B.0))
-
-  pub use_literal : (w : ℕ) → w ≡ place_in ts (id_at t k from past) → w ≡ entered_place ts (literal_use (id_at t k from past) from)
-  unfolding entered_place literal_use id_at
-  use_literal w q = q ∙ ap (λ (j : Word). place_in ts (id_at t j from past)) e ∙ sym (ap (λ (j : Word). entered_place ts (literal_use (id_at t j from past) from)) e)
-
-pub use_name : (t : List ℕ) (ts : List Known) (from past : ℕ) (k : Word) → k ≡ Name → 0 ≡ entered_place ts (literal_use (id_at t k from past) from)
-unfolding entered_place literal_use id_at
-use_name t ts from past k e = sym (ap (λ (j : Word). entered_place ts (literal_use (id_at t j from past) from)) e)
+  placing-outside e = absurd (not-all (both_of S) (λ z. said-outside z t at mode (behind P.ns P.ts) (both_of S) (P.same z) x e T))
 
 -- what a word enters, by what it says
 pub said_enters : (f : Event → List Known) (ks os : List Known) (x : Id) (from past p : ℕ) (s v : Saying) → s ≡ v → joined f (events_of v x from past) ≡ os → p ≡ entered_place ks os → p ≡ entered_place ks (joined f (events_of s x from past))
 said_enters f ks os x from past p s v e q w = w ∙ ap (entered_place ks) (sym q) ∙ sym (ap (λ (j : Saying). entered_place ks (joined f (events_of j x from past))) e)
 
-pub enters_none : (f : Event → List Known) (ks : List Known) (x : Id) (from past : ℕ) (s v : Saying) → s ≡ v → joined f (events_of v x from past) ≡ [] → 0 ≡ entered_place ks (joined f (events_of s x from past))
-unfolding entered_place
-enters_none f ks x from past s v e q = said_enters f ks [] x from past 0 s v e q refl
+-- what enters no nonterminal, and no terminal
+pub left_none : (ns : List Known) (x : Id) (from past : ℕ) (s : Saying) → (s ≡ Defines → ⊥) → 0 ≡ entered_place ns (joined left_side (events_of s x from past))
+unfolding joined left_side events_of entered_place
+left_none ns x from past Lists n = refl
+left_none ns x from past Opens n = refl
+left_none ns x from past Defines n = absurd (n refl)
+left_none ns x from past Uses n = refl
+left_none ns x from past Shuts n = refl
+left_none ns x from past Nothing n = refl
+
+pub token_none : (ts : List Known) (x : Id) (from past : ℕ) (s : Saying) → (s ≡ Lists → ⊥) → (s ≡ Uses → ⊥) → 0 ≡ entered_place ts (joined token_use (events_of s x from past))
+unfolding joined token_use events_of entered_place
+token_none ts x from past Lists n m = absurd (n refl)
+token_none ts x from past Opens n m = refl
+token_none ts x from past Defines n m = refl
+token_none ts x from past Uses n m = absurd (m refl)
+token_none ts x from past Shuts n m = refl
+token_none ts x from past Nothing n m = refl
+
+-- what a body enters: a literal
+literal_used : (t : List ℕ) (ts : List Known) (from past p : ℕ) → p ≡ place_in ts (id_at t Literal from past) → p ≡ entered_place ts (literal_use (id_at t Literal from past) from)
+unfolding entered_place literal_use id_at
+literal_used t ts from past p e = e
+
+pub use_literal : (t : List ℕ) (ts : List Known) (from past p : ℕ) (k : Word) → k ≡ Literal → p ≡ place_in ts (id_at t k from past) → p ≡ entered_place ts (literal_use (id_at t k from past) from)
+use_literal t ts from past p k e q = literal_used t ts from past p (q ∙ ap (λ (j : Word). place_in ts (id_at t j from past)) e) ∙ sym (ap (λ (j : Word). entered_place ts (literal_use (id_at t j from past) from)) e)
+
+pub use_name : (t : List ℕ) (ts : List Known) (from past : ℕ) (k : Word) → is_id k ≡ true → (k ≡ Literal → ⊥) → 0 ≡ entered_place ts (literal_use (id_at t k from past) from)
+unfolding is_id entered_place literal_use id_at
+use_name t ts from past Name i n = refl
+use_name t ts from past Literal i n = absurd (n refl)
+use_name t ts from past Token i n = clash false i refl
+use_name t ts from past Start i n = clash false i refl
+use_name t ts from past Mark i n = clash false i refl
+use_name t ts from past Colon i n = clash false i refl
+use_name t ts from past Bar i n = clash false i refl
+use_name t ts from past Semi i n = clash false i refl
 
 -- the START id
 unfoldable pub start_in : List Known → List Event → ℕ
 start_in ns es = start_of ns (joined start_use es)
 
-pub start_first : (t : List ℕ) (l : Layout) → parse t ≡ some l → (z : ℕ) → of_said z (start_in (source_in l.pieces).nonterminals) (mode_of 0) (placed_from t 0) ≡ start_of (source_in l.pieces).nonterminals (source_in l.pieces).starts
-unfolding mode_of source_in source_of start_in
+pub start_first : (t : List ℕ) (l : Layout) → parse t ≡ some l → (z : ℕ) → of_said z (start_in (source_in l.pieces).nonterminals) (top false) (placed_from t 0) ≡ start_of (source_in l.pieces).nonterminals (source_in l.pieces).starts
+unfolding source_in source_of start_in
 start_first t l e z = said-whole z (start_in (source_in l.pieces).nonterminals) t l e
 
 pub start_none : (ns : List Known) → start_in ns [] ≡ 0
 unfolding start_in joined start_of
 start_none ns = refl
 
-start_takes : (s : Saying) → is_opens s ≡ true → (ns : List Known) (x : Id) (from past : ℕ) (es : List Event) → number_in ns x ≡ start_in ns (events_of s x from past ++ es)
-unfolding is_opens start_in joined start_use events_of start_of
-start_takes Lists y ns x from past es = clash false y refl
-start_takes Opens y ns x from past es = refl
-start_takes Defines y ns x from past es = clash false y refl
-start_takes Uses y ns x from past es = clash false y refl
-start_takes Shuts y ns x from past es = clash false y refl
-start_takes Nothing y ns x from past es = clash false y refl
+start_takes : (ns : List Known) (x : Id) (from past : ℕ) (es : List Event) → number_in ns x ≡ start_in ns (events_of Opens x from past ++ es)
+unfolding start_in joined start_use events_of start_of
+start_takes ns x from past es = refl
 
-start-passes : (s : Saying) → is_opens s ≡ false → (ns : List Known) (x : Id) (from past : ℕ) (es : List Event) → start_in ns es ≡ start_in ns (events_of s x from past ++ es)
-unfolding is_opens start_in joined start_use events_of
+start-passes : (s : Saying) → (s ≡ Opens → ⊥) → (ns : List Known) (x : Id) (from past : ℕ) (es : List Event) → start_in ns es ≡ start_in ns (events_of s x from past ++ es)
+unfolding start_in joined start_use events_of
 start-passes Lists y ns x from past es = refl
-start-passes Opens y ns x from past es = clash true refl y
+start-passes Opens y ns x from past es = absurd (y refl)
 start-passes Defines y ns x from past es = refl
 start-passes Uses y ns x from past es = refl
 start-passes Shuts y ns x from past es = refl
@@ -377,27 +380,15 @@ unfolding of_said
 said_one c m none = refl
 said_one c m (some ps) = refl
 
-module _ (t : List ℕ) (at m : ℕ) (h : m < 12) (ns : List Known) (r : ℕ) (inv : (z : ℕ) → of_said z (start_in ns) (mode_of m) (placed_from t at) ≡ r) (s : Saying) (w : Word) (from past : ℕ) (L : Leads t at w from past) (e : s ≡ said_in (mode_of m) w) where
-  pub start_turn : is_opens s ≡ false → (n : ℕ) → n ≡ moves_to m (number_of_word w) → (z : ℕ) → of_said z (start_in ns) (mode_of n) (placed_from t past) ≡ r
-  start_turn f n g z = said_turn z t at m h (start_in ns) r (inv z) (start_in ns) w from past n L g (λ es. start-passes s f ns (id_at t w from past) from past es ∙ ap (λ (j : Saying). start_in ns (events_of j (id_at t w from past) from past ++ es)) e)
+module _ (t : List ℕ) (at : ℕ) (m : Mode) (ns : List Known) (r : ℕ) (inv : (z : ℕ) → of_said z (start_in ns) m (placed_from t at) ≡ r) (s : Saying) (w : Word) (from past : ℕ) (L : Leads t at w from past) (e : s ≡ said_in m w) where
+  pub start_turn : (s ≡ Opens → ⊥) → (n : Mode) → n ≡ move m (token_at t w from past) → (z : ℕ) → of_said z (start_in ns) n (placed_from t past) ≡ r
+  start_turn f n g z = said_turn z t at m (start_in ns) r (inv z) (start_in ns) w from past n L g (λ es. start-passes s f ns (id_at t w from past) from past es ∙ ap (λ (j : Saying). start_in ns (events_of j (id_at t w from past) from past ++ es)) e)
 
-  pub start_here : is_opens s ≡ true → number_in ns (id_at t w from past) ≡ r
+  pub start_here : s ≡ Opens → number_in ns (id_at t w from past) ≡ r
   start_here y =
       let c = number_in ns (id_at t w from past) in
-      sym (said_one c (mode_of (moves_to m (number_of_word w))) (placed_from t past))
-      ∙ said_turn c t at m h (start_in ns) r (inv c) (λ es. c) w from past (moves_to m (number_of_word w)) L refl (λ es. start_takes s y ns (id_at t w from past) from past es ∙ ap (λ (j : Saying). start_in ns (events_of j (id_at t w from past) from past ++ es)) e)
-
-opens_is : (s : Saying) → is_opens s ≡ true → s ≡ Opens
-unfolding is_opens
-opens_is Lists y = clash false y refl
-opens_is Opens y = refl
-opens_is Defines y = clash false y refl
-opens_is Uses y = clash false y refl
-opens_is Shuts y = clash false y refl
-opens_is Nothing y = clash false y refl
-
-pub opens-word : (m : Mode) (w : Word) (s : Saying) → s ≡ said_in m w → is_opens s ≡ true → is_id w ≡ true
-opens-word m w s e y = start_word m w s e (opens_is s y)
+      sym (said_one c (move m (token_at t w from past)) (placed_from t past))
+      ∙ said_turn c t at m (start_in ns) r (inv c) (λ es. c) w from past (move m (token_at t w from past)) L refl (λ es. start_takes ns (id_at t w from past) from past es ∙ ap (λ (j : Saying). start_in ns (events_of j (id_at t w from past) from past ++ es)) (sym y ∙ e))
 
 -- an id that is not known has the number behind the last
 number-none : (ks : List Known) (x : Id) → is_known ks x ≡ false → number_in ks x ≡ length ks
@@ -408,8 +399,8 @@ number-none (k ∷ ks) x f =
     (λ y. clash (is_known (k ∷ ks) x) (known_cons k ks x ∙ ap (λ (b : Bool). b || is_known ks x) y) f)
     (λ n. number_there k ks x n ∙ ap suc (number-none ks x (sym (known_cons k ks x ∙ ap (λ (b : Bool). b || is_known ks x) n) ∙ f)))
 
-pub number_is : (ks : List Known) (x : Id) (place r n : ℕ) → place ≡ place_in ks x → n ≡ length ks → (place ≡ 0 → r ≡ n) × ((place ≡ 0 → ⊥) → place ≡ r + 1) → r ≡ number_in ks x
-number_is ks x place r n p c R =
-    cases (is_known ks x)
-    (λ y. let q = p ∙ place-yes ks x y in let z = R.1 (λ o. omega (arith, o, q)) in omega (arith, q, z))
-    (λ f. R.0 (p ∙ place_no ks x f) ∙ c ∙ sym (number-none ks x f))
+pub number_known : (ks : List Known) (x : Id) (j : ℕ) → suc j ≡ place_in ks x → j ≡ number_in ks x
+number_known ks x j p = cases (is_known ks x) (λ y. let q = p ∙ place-yes ks x y in omega (arith, q)) (λ f. let q = p ∙ place_no ks x f in absurd (omega (arith, q)))
+
+pub number_unknown : (ks : List Known) (x : Id) (n : ℕ) → 0 ≡ place_in ks x → n ≡ length ks → n ≡ number_in ks x
+number_unknown ks x n p c = cases (is_known ks x) (λ y. let q = p ∙ place-yes ks x y in absurd (omega (arith, q))) (λ f. c ∙ sym (number-none ks x f))

@@ -1,9 +1,7 @@
 -- The place that gets an id's number, written when its turn comes. Assumes nothing: these are definitions.
-use Rattle.std.specs.Prelude.{ℕ, ◌+◌, Bool, true, false, List, [], ◌∷◌, set, eqb}
+use Rattle.std.specs.Prelude.{ℕ, ◌+◌, true, false, List, [], ◌∷◌, set, eqb}
 use Rattle.yacc_read.specs.Source.{Known}
 use Rattle.yacc_numbers.specs.Numbers.{place_in}
-use Rattle.yacc_said.specs.declared.Saying.{Saying}
-use Rattle.yacc_said.specs.declared.Saying.TheVariants.{Lists, Opens, Defines, Uses, Shuts, Nothing}
 
 -- one more than the number, among those known, of the id that a word enters; 0 where it enters none
 unfoldable pub entered_place : List Known → List Known → ℕ
@@ -16,6 +14,3 @@ written_to n place = elim (eqb place (n + 1)) [ true ↦ n + 1 | false ↦ n ]
 
 unfoldable pub written_in : List ℕ → ℕ → ℕ → ℕ → ℕ → List ℕ
 written_in xs base n place from = elim (eqb place (n + 1)) [ true ↦ set xs (base + n) from | false ↦ xs ]
-
-unfoldable pub is_opens : Saying → Bool
-is_opens s = elim s [ Lists ↦ false | Opens ↦ true | Defines ↦ false | Uses ↦ false | Shuts ↦ false | Nothing ↦ false ]

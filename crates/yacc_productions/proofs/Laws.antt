@@ -10,7 +10,7 @@ use lib.Seq.{get_or-append_seam, take-set-le}
 use lib.Dec.{eqb}
 use borrow.Author.Tests.{eqb-true, eqb-false, eq-eqb, ne_eqb, not-false}
 use Rattle.repr.specs.Sizes.{nonterminal_limit, terminal_limit, production_limit, production_place, grammar_room}
-use Rattle.repr.specs.Lists.{some?, below, up_from}
+use Rattle.repr.specs.Lists.{some?}
 use Rattle.repr.specs.Meaning.{Symbol, nonterminal, terminal, Production, no_production, production_at, ProductionFits, TableFits}
 use Rattle.repr.specs.Packed.{production_in, productions_in}
 use Rattle.repr.proofs.Lists.{cases, clash, get_d_map, length_mapped}
@@ -22,16 +22,14 @@ use Rattle.spelling.proofs.Meaning.{map-below-is}
 use Rattle.grammar_records.specs.Target.{PackedAs}
 use Rattle.yacc_text.specs.Grammar.{Id, Layout}
 use Rattle.yacc_text.specs.Places.{Placed, placed_from}
-use Rattle.yacc_text.specs.Forward.{Mode}
+use Rattle.yacc_text.specs.Forward.{Mode, top, wanted, listed, starting, ruled, sided, bodied, done, dead, begins, sides, move}
 use Rattle.yacc_text.specs.Parse.{parse}
 use Rattle.yacc_text.proofs.Exact.{parse_sound}
-use Rattle.yacc_lex.specs.Steps.{Leads, Told}
+use Rattle.yacc_lex.specs.Steps.{token_at, Leads, Told}
 use Rattle.yacc_lex.specs.declared.Next.{Next}
 use Rattle.yacc_lex.specs.declared.Next.TheVariants.{End as Ends, Outside as NoToken}
 use Rattle.yacc_lex.specs.declared.Word.{Word}
 use Rattle.yacc_lex.specs.declared.Word.TheVariants.{Name, Literal, Token, Start, Mark, Colon, Bar, Semi}
-use Rattle.yacc_tokens.specs.Accepted.{mode_of, number_of_word, moves_to}
-use Rattle.yacc_tokens.proofs.Laws.{at-number}
 use Rattle.yacc_read.specs.Events.{Event, events}
 use Rattle.yacc_read.specs.Source.{Known, is_known, number_in, no_id, Use, span_start, span_end, Alternative, alternative, alternatives_from, Source, source_of}
 use Rattle.yacc_read.specs.Meaning.{symbol_of, production_of, productions_of, table_of}
@@ -44,6 +42,9 @@ use Rattle.yacc_said.specs.declared.Saying.{Saying}
 use Rattle.yacc_said.specs.declared.Saying.TheVariants.{Lists, Opens, Defines, Uses, Shuts, Nothing}
 use Rattle.yacc_said.proofs.Laws.{said_turn, said-ends, said-outside, said-whole}
 use Rattle.yacc_numbers.specs.Numbers.{place_in}
+use Rattle.std.proofs.Common.{Option as Answer, Some, None}
+use Rattle.std.specs.Option.{unwrap_or}
+use Rattle.yacc_names.specs.Names.{held}
 use Rattle.yacc_symbols.specs.Symbols.{IsSymbol}
 use Rattle.yacc_symbols.specs.declared.Numbered.{Numbered}
 use Rattle.yacc_productions.specs.Readable.{Readable, Whole}
@@ -68,6 +69,10 @@ module _ (ks : List Known) (x : Id) (p : ℕ) (e : p ≡ place_in ks x) (y : is_
   pub place-number : p ≡ suc (number_in ks x)
   unfolding place_in
   place-number = e ∙ ap (λ (b : Bool). elim b [ true ↦ suc (number_in ks x) | false ↦ 0 ]) y
+
+pub known_number : (ks : List Known) (x : Id) (o : Answer ℕ) → held o ≡ place_in ks x → is_known ks x ≡ true → unwrap_or o 0 ≡ number_in ks x
+known_number ks x None e y = let q = place-number ks x 0 e y in absurd (omega (arith, q))
+known_number ks x (Some j) e y = let q : suc j ≡ suc (number_in ks x) = place-number ks x (suc j) e y in omega (arith, q)
 
 -- `place_or`
 module _ (n at x : ℕ) where
@@ -113,31 +118,45 @@ name_is Colon e = clash false e refl
 name_is Bar e = clash false e refl
 name_is Semi e = clash false e refl
 
-unfoldable rule_from : Saying → ℕ → Word → Bool
+unfoldable rule_from : Saying → Mode → Word → Bool
 rule_from s m w = elim s [ Lists ↦ in_rule m | Opens ↦ in_rule m | Defines ↦ is_name w | Uses ↦ in_rule m | Shuts ↦ in_rule m | Nothing ↦ in_rule m ]
 
-unfoldable shut_from : Saying → ℕ → Bool
+unfoldable shut_from : Saying → Mode → Bool
 shut_from s m = elim s [ Lists ↦ true | Opens ↦ true | Defines ↦ true | Uses ↦ true | Shuts ↦ in_rule m | Nothing ↦ true ]
 
-abbrev rule_kept : Word → ℕ → Bool
-rule_kept w m = (not (in_rule (moves_to m (number_of_word w))) || rule_from (said_in (mode_of m) w) m w) && shut_from (said_in (mode_of m) w) m
+abbrev KeepsRule : List ℕ → ℕ → ℕ → Word → Mode → Type 0
+KeepsRule t from past w m = (not (in_rule (move m (token_at t w from past))) || rule_from (said_in m w) m w) && shut_from (said_in m w) m ≡ true
 
-each_rule : (w : Word) → map (rule_kept w) (below 12) ≡ map (λ m. true) (below 12)
-unfolding below up_from mode_of moves_to number_of_word said_in id_said end_said in_rule is_name rule_from shut_from
-each_rule Name = refl
-each_rule Literal = refl
-each_rule Token = refl
-each_rule Start = refl
-each_rule Mark = refl
-each_rule Colon = refl
-each_rule Bar = refl
-each_rule Semi = refl
+begun : (s : Bool) → (not (in_rule (begins s)) || false) && true ≡ true
+unfolding begins in_rule
+begun true = refl
+begun false = refl
+
+each_rule : (w : Word) (m : Mode) (t : List ℕ) (from past : ℕ) → KeepsRule t from past w m
+unfolding move sides token_at said_in id_said end_said in_rule is_name rule_from shut_from
+each_rule Name m t from past = elim m as (KeepsRule t from past Name) [ top s ↦ refl | wanted s ↦ refl | listed s ↦ refl | starting ↦ refl | ruled ↦ refl | sided ↦ refl | bodied ↦ refl | done ↦ refl | dead ↦ refl ]
+each_rule Literal m t from past = elim m as (KeepsRule t from past Literal) [ top s ↦ refl | wanted s ↦ refl | listed s ↦ refl | starting ↦ refl | ruled ↦ refl | sided ↦ refl | bodied ↦ refl | done ↦ refl | dead ↦ refl ]
+each_rule Token m t from past = elim m as (KeepsRule t from past Token) [ top s ↦ refl | wanted s ↦ refl | listed s ↦ refl | starting ↦ refl | ruled ↦ refl | sided ↦ refl | bodied ↦ refl | done ↦ refl | dead ↦ refl ]
+each_rule Start m t from past = elim m as (KeepsRule t from past Start) [ top s ↦ begun s | wanted s ↦ refl | listed s ↦ begun s | starting ↦ refl | ruled ↦ refl | sided ↦ refl | bodied ↦ refl | done ↦ refl | dead ↦ refl ]
+each_rule Mark m t from past = elim m as (KeepsRule t from past Mark) [ top s ↦ refl | wanted s ↦ refl | listed s ↦ refl | starting ↦ refl | ruled ↦ refl | sided ↦ refl | bodied ↦ refl | done ↦ refl | dead ↦ refl ]
+each_rule Colon m t from past = elim m as (KeepsRule t from past Colon) [ top s ↦ refl | wanted s ↦ refl | listed s ↦ refl | starting ↦ refl | ruled ↦ refl | sided ↦ refl | bodied ↦ refl | done ↦ refl | dead ↦ refl ]
+each_rule Bar m t from past = elim m as (KeepsRule t from past Bar) [ top s ↦ refl | wanted s ↦ refl | listed s ↦ refl | starting ↦ refl | ruled ↦ refl | sided ↦ refl | bodied ↦ refl | done ↦ refl | dead ↦ refl ]
+each_rule Semi m t from past = elim m as (KeepsRule t from past Semi) [ top s ↦ refl | wanted s ↦ refl | listed s ↦ refl | starting ↦ refl | ruled ↦ refl | sided ↦ refl | bodied ↦ refl | done ↦ refl | dead ↦ refl ]
 
 -- words that say nothing of the alternatives
 unfoldable pub quiet : Saying → Bool
 quiet s = elim s [ Lists ↦ true | Opens ↦ true | Defines ↦ false | Uses ↦ false | Shuts ↦ false | Nothing ↦ true ]
 
-quiet_rule : (s : Saying) (m : ℕ) (w : Word) → quiet s ≡ true → rule_from s m w ≡ true → in_rule m ≡ true
+pub quiet_other : (s : Saying) → (s ≡ Defines → ⊥) → (s ≡ Uses → ⊥) → (s ≡ Shuts → ⊥) → quiet s ≡ true
+unfolding quiet
+quiet_other Lists a b c = refl
+quiet_other Opens a b c = refl
+quiet_other Defines a b c = absurd (a refl)
+quiet_other Uses a b c = absurd (b refl)
+quiet_other Shuts a b c = absurd (c refl)
+quiet_other Nothing a b c = refl
+
+quiet_rule : (s : Saying) (m : Mode) (w : Word) → quiet s ≡ true → rule_from s m w ≡ true → in_rule m ≡ true
 unfolding quiet rule_from
 quiet_rule Lists m w q r = r
 quiet_rule Opens m w q r = r
@@ -270,7 +289,7 @@ made a c ss s u e v p q r =
     ∙ ap (λ (k : ℕ). record { nonterminal = c; symbols = ss; start = u; end = k }) r
 
 -- the turns
-pub turn_first : (S : Source) (t g : List ℕ) → of_said none (λ es. some (alternatives_from no_id [] es)) (mode_of 0) (placed_from t 0) ≡ some S.alternatives → Turn S t g (record { production = 0; owner = 0; symbols = 0; start = 0; end = 0 }) 0 0
+pub turn_first : (S : Source) (t g : List ℕ) → of_said none (λ es. some (alternatives_from no_id [] es)) (top false) (placed_from t 0) ≡ some S.alternatives → Turn S t g (record { production = 0; owner = 0; symbols = 0; start = 0; end = 0 }) (top false) 0
 unfolding in_rule
 turn_first S t g e = record {
   closed = [];
@@ -283,17 +302,17 @@ turn_first S t g e = record {
   body = λ F. opened-none S g 0 0;
 }
 
-module _ (S : Source) (t g : List ℕ) (b : Body) (m at : ℕ) (h : m < 12) (T : Turn S t g b m at) (s : Saying) (w : Word) (from past n : ℕ) (L : Leads t at w from past) (e : s ≡ said_in (mode_of m) w) (q : n ≡ moves_to m (number_of_word w)) where
-  goes_on : (ks : List Alternative) (l : Id) (us : List Use) → ((es : List Event) → ks ++ alternatives_from l us es ≡ T.closed ++ alternatives_from T.left T.us (events_of s (id_at t w from past) from past ++ es)) → of_said none (λ es. some (ks ++ alternatives_from l us es)) (mode_of n) (placed_from t past) ≡ some S.alternatives
+module _ (S : Source) (t g : List ℕ) (b : Body) (m : Mode) (at : ℕ) (T : Turn S t g b m at) (s : Saying) (w : Word) (from past : ℕ) (n : Mode) (L : Leads t at w from past) (e : s ≡ said_in m w) (q : n ≡ move m (token_at t w from past)) where
+  goes_on : (ks : List Alternative) (l : Id) (us : List Use) → ((es : List Event) → ks ++ alternatives_from l us es ≡ T.closed ++ alternatives_from T.left T.us (events_of s (id_at t w from past) from past ++ es)) → of_said none (λ es. some (ks ++ alternatives_from l us es)) n (placed_from t past) ≡ some S.alternatives
   goes_on ks l us f =
-      said_turn none t at m h (λ es. some (T.closed ++ alternatives_from T.left T.us es)) (some S.alternatives) T.rest (λ es. some (ks ++ alternatives_from l us es)) w from past n L q
+      said_turn none t at m (λ es. some (T.closed ++ alternatives_from T.left T.us es)) (some S.alternatives) T.rest (λ es. some (ks ++ alternatives_from l us es)) w from past n L q
       (λ es. ap some (f es ∙ ap (λ (k : Saying). T.closed ++ alternatives_from T.left T.us (events_of k (id_at t w from past) from past ++ es)) e))
 
   rule-kept : (not (in_rule n) || rule_from s m w) && shut_from s m ≡ true
   rule-kept =
-      ap (λ (k : ℕ). (not (in_rule k) || rule_from s m w) && shut_from s m) q
-      ∙ ap (λ (k : Saying). (not (in_rule (moves_to m (number_of_word w))) || rule_from k m w) && shut_from k m) e
-      ∙ at-number (rule_kept w) (λ k. true) true 12 (each_rule w) m h
+      ap (λ (k : Mode). (not (in_rule k) || rule_from s m w) && shut_from s m) q
+      ∙ ap (λ (k : Saying). (not (in_rule (move m (token_at t w from past))) || rule_from k m w) && shut_from k m) e
+      ∙ each_rule w m t from past
 
   rule-from : in_rule n ≡ true → rule_from s m w ≡ true
   rule-from = implied (in_rule n) (rule_from s m w) (and_left (not (in_rule n) || rule_from s m w) (shut_from s m) rule-kept)
@@ -362,10 +381,10 @@ module _ (S : Source) (t g : List ℕ) (b : Body) (m at : ℕ) (h : m < 12) (T :
   turn_shuts d W long g' r C =
       let a : Alternative = alternative T.left T.us from in
       let ks : List Alternative = T.closed ++ a ∷ [] in
-      let on : of_said none (λ es. some (ks ++ alternatives_from T.left [] es)) (mode_of n) (placed_from t past) ≡ some S.alternatives =
+      let on : of_said none (λ es. some (ks ++ alternatives_from T.left [] es)) n (placed_from t past) ≡ some S.alternatives =
       goes_on ks T.left []
       (λ es. append_assoc T.closed (a ∷ []) (alternatives_from T.left [] es) ∙ ap (λ (l : List Alternative). T.closed ++ l) (shuts-said s T.left T.us (id_at t w from past) from past es d)) in
-      let B = behind ks (alternatives_from T.left []) S.alternatives (mode_of n) (placed_from t past) on in
+      let B = behind ks (alternatives_from T.left []) S.alternatives n (placed_from t past) on in
       let p = b.production in
       let c = length-append T.closed (a ∷ []) in
       let z = T.many in
@@ -401,17 +420,17 @@ module _ (S : Source) (t g : List ℕ) (b : Body) (m at : ℕ) (h : m < 12) (T :
       })
 
 -- in the end
-module _ (S : Source) (t g : List ℕ) (b : Body) (m at : ℕ) (h : m < 12) (T : Turn S t g b m at) (x : Next) (D : Told t at x) where
+module _ (S : Source) (t g : List ℕ) (b : Body) (m : Mode) (at : ℕ) (T : Turn S t g b m at) (x : Next) (D : Told t at x) where
   pub turn_outside {ℓ} : {P : Type ℓ} → x ≡ NoToken → P
   turn_outside e =
-      let q : none ≡ some S.alternatives = said-outside none t at m h (λ es. some (T.closed ++ alternatives_from T.left T.us es)) (some S.alternatives) T.rest x e D in
+      let q : none ≡ some S.alternatives = said-outside none t at m (λ es. some (T.closed ++ alternatives_from T.left T.us es)) (some S.alternatives) T.rest x e D in
       let z : ◌≡◌ {A = ℕ} 0 1 = cc in
       absurd (omega (arith, z))
 
   turn_all : x ≡ Ends → T.closed ≡ S.alternatives
   unfolding alternatives_from
   turn_all e =
-      let q : some (T.closed ++ []) ≡ some S.alternatives = said-ends none t at m h (λ es. some (T.closed ++ alternatives_from T.left T.us es)) (some S.alternatives) T.rest x e D in
+      let q : some (T.closed ++ []) ≡ some S.alternatives = said-ends none t at m (λ es. some (T.closed ++ alternatives_from T.left T.us es)) (some S.alternatives) T.rest x e D in
       sym (append-nil T.closed) ∙ cc
 
   pub turn_last : x ≡ Ends → Whole S → length g ≡ grammar_room → (b.production ≡ length S.alternatives) × PackedAs (table_of S) g b.production
@@ -442,8 +461,8 @@ module _ (S : Source) (t g : List ℕ) (b : Body) (m at : ℕ) (h : m < 12) (T :
 pub whole_of : (t : List ℕ) (l : Layout) → parse t ≡ some l → Readable (source_in l.pieces) → Whole (source_in l.pieces)
 whole_of t l e R = let S = (parse_sound t l e).0 in record { readable = R; lefts = lefts_known l S; some_one = some-alternative l S }
 
-pub said_all : (t : List ℕ) (l : Layout) → parse t ≡ some l → of_said none (λ es. some (alternatives_from no_id [] es)) (mode_of 0) (placed_from t 0) ≡ some (source_in l.pieces).alternatives
-unfolding mode_of source_in source_of
+pub said_all : (t : List ℕ) (l : Layout) → parse t ≡ some l → of_said none (λ es. some (alternatives_from no_id [] es)) (top false) (placed_from t 0) ≡ some (source_in l.pieces).alternatives
+unfolding source_in source_of
 said_all t l e = said-whole none (λ es. some (alternatives_from no_id [] es)) t l e
 
 -- `add` where there is room

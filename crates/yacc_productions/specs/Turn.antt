@@ -1,5 +1,5 @@
 -- The productions of a text (docs/YACC.md, Meaning: Production, Span) as the loop over its tokens packs them. Assumes nothing: these are definitions.
-use Rattle.std.specs.Prelude.{ℕ, ◌+◌, ◌*◌, ◌≤◌, ◌<◌, Bool, true, false, ◌||◌, ◌≡◌, List, [], ◌∷◌, ◌++◌, map, length, get_or, take, drop, set, eqb}
+use Rattle.std.specs.Prelude.{ℕ, ◌+◌, ◌*◌, ◌≤◌, ◌<◌, Bool, true, false, ◌≡◌, List, [], ◌∷◌, ◌++◌, map, length, get_or, take, drop, set, eqb}
 use Rattle.std.proofs.Math.Option.{none, some}
 use Rattle.repr.specs.Sizes.{nonterminal_limit, terminal_limit, production_limit, symbol_limit, production_place}
 use Rattle.repr.specs.Lists.{some?}
@@ -10,16 +10,16 @@ use Rattle.table.specs.Quads.{put_quad}
 use Rattle.spelling.specs.Spelled.{kind_of, number_of}
 use Rattle.yacc_text.specs.Grammar.{Id}
 use Rattle.yacc_text.specs.Places.{placed_from}
-use Rattle.yacc_tokens.specs.Accepted.{mode_of}
+use Rattle.yacc_text.specs.Forward.{Mode, top, wanted, listed, starting, ruled, sided, bodied, done, dead}
 use Rattle.yacc_read.specs.Source.{is_known, number_in, Use, span_start, span_end, Alternative, alternatives_from, Source}
 use Rattle.yacc_read.specs.Meaning.{symbol_of, table_of}
 use Rattle.yacc_read.specs.Outcome.{nowhere}
 use Rattle.yacc_said.specs.Said.{of_said}
 use Rattle.yacc_productions.specs.declared.Body.{Body}
 
--- behind a left side, and in a body (modes `sided` and `bodied`)
-unfoldable pub in_rule : ℕ → Bool
-in_rule m = eqb m 8 || eqb m 9
+-- behind a left side, and in a body
+unfoldable pub in_rule : Mode → Bool
+in_rule m = elim m [ top s ↦ false | wanted s ↦ false | listed s ↦ false | starting ↦ false | ruled ↦ false | sided ↦ true | bodied ↦ true | done ↦ false | dead ↦ false ]
 
 -- symbols in words, kind and number each
 unfoldable pub pairs : List Symbol → List ℕ
@@ -83,11 +83,11 @@ pub record Opened (S : Source) (g : List ℕ) (b : Body) (us : List Use) : Type 
   pub end : (at : ℕ) → ended_at b at ≡ span_end us at
 
 -- before a token: the alternatives that are closed stand packed, and with what the text still says they are all
-pub record Turn (S : Source) (t g : List ℕ) (b : Body) (mode at : ℕ) : Type 0 where
+pub record Turn (S : Source) (t g : List ℕ) (b : Body) (mode : Mode) (at : ℕ) : Type 0 where
   pub closed : List Alternative
   pub left : Id
   pub us : List Use
-  pub rest : of_said none (λ es. some (closed ++ alternatives_from left us es)) (mode_of mode) (placed_from t at) ≡ some S.alternatives
+  pub rest : of_said none (λ es. some (closed ++ alternatives_from left us es)) mode (placed_from t at) ≡ some S.alternatives
   pub many : b.production ≡ length closed
   pub stored : (q : ℕ) → q < b.production → Stored (table_of S) g q
   pub owner : in_rule mode ≡ true → is_known S.nonterminals left ≡ true → b.owner ≡ number_in S.nonterminals left

@@ -8,25 +8,23 @@ ghost use Rattle.repr.specs.Sizes.{grammar_room};
 ghost use Rattle.grammar_records.specs.Target.{PackedAs};
 ghost use Rattle.yacc_text.specs.Grammar.{text_limit, Layout};
 ghost use Rattle.yacc_text.specs.Parse.{parse};
-ghost use Rattle.yacc_lex.specs.Steps.{Leads};
-ghost use Rattle.yacc_tokens.specs.Accepted.{mode_of, number_of_word, moves_to, is_grammar_text};
+ghost use Rattle.yacc_text.specs.Forward.{Mode as TextMode, move};
+ghost use Rattle.yacc_lex.specs.Steps.{token_at, Leads};
 ghost use Rattle.yacc_read.specs.Source.{Known, is_known, number_in, Source};
 ghost use Rattle.yacc_read.specs.Meaning.{table_of};
 ghost use Rattle.yacc_read.specs.Outcome.{source_in};
 ghost use Rattle.yacc_said.specs.Said.{said_in, id_at};
-ghost use Rattle.yacc_names.specs.Names.{Entered};
-ghost use Rattle.yacc_enter.specs.Ids.{Held, Named};
-ghost use Rattle.yacc_misnamed.specs.Looked.{Kept};
+ghost use Rattle.yacc_enter.specs.Table.{Holds};
 ghost use Rattle.yacc_productions.specs.Readable.{Readable, Whole};
 ghost use Rattle.yacc_productions.specs.Turn.{Small, place_or_else, Added, Closed, Turn};
 
 use repr::ProductionIndex;
 use table::put;
-use yacc_enter::Ids;
+use yacc_enter::SymbolTable;
 use yacc_lex::{Next, Word, next_token};
 use yacc_said::{Saying, said};
-use yacc_symbols::{Numbered, left_place, symbol};
-use yacc_tokens::moved;
+use yacc_symbols::{Numbered, symbol};
+use yacc_tokens::{Mode, moved};
 
 // The production that is open: its number, its nonterminal's, its symbols so far and their span.
 #[derive(Clone, Copy)]
@@ -38,36 +36,12 @@ struct Body {
     end: usize,
 }
 
-// A number, or 0 in place of one that no word holds.
-fn fitted(n: usize) -> usize
-    ensures { (result < 65536) × (n < 65536 → result ≡ n) }
-{
-    if 65535 < n {
-        return 0;
-    }
-    n
-}
-
 // The number of the nonterminal whose name stands from a place up to another.
-fn left_number(
-    text: &[u8],
-    starts: &[u16],
-    pasts: &[u16],
-    ix: &[u16],
-    lefts: &[u16],
-    ids: Ids,
-    from: usize,
-    past: usize,
-) -> usize
-    requires entered { Entered text.now starts.now pasts.now ix.now ids.names × (ids.names ≤ length lefts.now) }
-    requires from_lt_past { (from < past) × (past ≤ length text.now) }
-    ensures { (result < 65536) × ((tokens : List ℕ) (ns ts : List Known) → Held text.now starts.now pasts.now ix.now lefts.now tokens ids ns ts → is_known ns (id_at text.now Word.Name from past) ≡ true → number_in ns (id_at text.now Word.Name from past) < 65536 → result ≡ number_in ns (id_at text.now Word.Name from past)) }
+fn left_number(symbols: &SymbolTable, from: usize, past: usize) -> usize
+    requires { (from < past) × (past ≤ length symbols.now.text.now) }
+    ensures { (result < 65536) × ((ns ts : List Known) → Holds symbols.now ns ts → is_known ns (id_at symbols.now.text.now Word.Name from past) ≡ true → number_in ns (id_at symbols.now.text.now Word.Name from past) < 65536 → result ≡ number_in ns (id_at symbols.now.text.now Word.Name from past)) }
 {
-    let place = left_place(text, starts, pasts, ix, lefts, ids, from, past);
-    if place == 0 {
-        return 0;
-    }
-    fitted(place - 1)
+    usize::from(symbols.left(Word::Name, from, past).unwrap_or(0))
 }
 
 // A place of the span of a body: of an empty one where something else stands.
@@ -94,12 +68,10 @@ fn add(grammar: &mut [u16], body: Body, read: Numbered, from: usize, past: usize
     if ProductionIndex::SYMBOLS <= symbols {
         return body;
     }
-    let kind = fitted(read.kind);
-    let number = fitted(read.number);
     let start = place_or(symbols, from, body.start);
     let at = production * ProductionIndex::WORDS + 4 + 2 * symbols;
-    grammar[at] = kind as u16;
-    grammar[at + 1] = number as u16;
+    grammar[at] = read.kind;
+    grammar[at + 1] = read.number;
     Body {
         production: production,
         owner: body.owner,
@@ -134,13 +106,7 @@ fn close(grammar: &mut [u16], body: Body, at: usize) -> Body
 
 // What a word says is packed.
 fn step(
-    text: &[u8],
-    starts: &[u16],
-    pasts: &[u16],
-    ix: &[u16],
-    lefts: &[u16],
-    tokens: &[u16],
-    ids: Ids,
+    symbols: &SymbolTable,
     grammar: &mut [u16],
     body: Body,
     what: Saying,
@@ -148,17 +114,14 @@ fn step(
     from: usize,
     past: usize,
 ) -> Body
-    requires kept { Kept text.now starts.now pasts.now ix.now lefts.now tokens.now ids }
-    requires from_lt_past { ((from < past) × (past ≤ length text.now)) × (length text.now ≤ text_limit) }
+    requires from_lt_past { (from < past) × (past ≤ length symbols.now.text.now) × (length symbols.now.text.now ≤ text_limit) }
     requires grammar_len { (length grammar.old ≡ grammar_room) × Small body }
     ensures small { Small result }
-    ensures turn { (S : Source) → Held text.now starts.now pasts.now ix.now lefts.now tokens.now ids S.nonterminals S.terminals → Whole S → (mode at n : ℕ) → mode < 12 → Leads text.now at kind from past → what ≡ said_in (mode_of mode) kind → n ≡ moves_to mode (number_of_word kind) → Turn S text.now grammar.old body mode at → Turn S text.now grammar.new result n past }
+    ensures turn { (S : Source) → Holds symbols.now S.nonterminals S.terminals → Whole S → (mode : TextMode) (at : ℕ) (n : TextMode) → Leads symbols.now.text.now at kind from past → what ≡ said_in mode kind → n ≡ move mode (token_at symbols.now.text.now kind from past) → Turn S symbols.now.text.now grammar.old body mode at → Turn S symbols.now.text.now grammar.new result n past }
 {
     match what {
-        Saying::Lists => body,
-        Saying::Opens => body,
         Saying::Defines => {
-            let owner = left_number(text, starts, pasts, ix, lefts, ids, from, past);
+            let owner = left_number(symbols, from, past);
             Body {
                 production: body.production,
                 owner: owner,
@@ -168,31 +131,19 @@ fn step(
             }
         }
         Saying::Uses => {
-            let read = symbol(
-                text, starts, pasts, ix, lefts, tokens, ids, kind, from, past,
-            );
+            let read = symbol(symbols, kind, from, past);
             add(grammar, body, read, from, past)
         }
         Saying::Shuts => close(grammar, body, from),
-        Saying::Nothing => body,
+        _ => body,
     }
 }
 
 // The productions of a text whose ids are entered, packed; how many there are.
-pub fn pack(
-    text: &[u8],
-    starts: &[u16],
-    pasts: &[u16],
-    ix: &[u16],
-    lefts: &[u16],
-    tokens: &[u16],
-    ids: Ids,
-    grammar: &mut [u16],
-) -> usize
-    requires named { Named text.now starts.now pasts.now ix.now lefts.now tokens.now ids × (is_grammar_text text.now ≡ true) }
-    requires text_len_bound { (length text.now ≤ text_limit) × (length grammar.old ≡ grammar_room) }
-    requires readable { (l : Layout) → parse text.now ≡ some l → Readable (source_in l.pieces) }
-    ensures { (l : Layout) → parse text.now ≡ some l → (result ≡ length (source_in l.pieces).alternatives) × PackedAs (table_of (source_in l.pieces)) grammar.new result }
+pub fn pack(symbols: &SymbolTable, grammar: &mut [u16]) -> usize
+    requires text_len_bound { (length symbols.now.text.now ≤ text_limit) × (length grammar.old ≡ grammar_room) }
+    requires readable { (l : Layout) → parse symbols.now.text.now ≡ some l → Readable (source_in l.pieces) }
+    ensures { (l : Layout) → parse symbols.now.text.now ≡ some l → (result ≡ length (source_in l.pieces).alternatives) × PackedAs (table_of (source_in l.pieces)) grammar.new result }
 {
     let mut body = Body {
         production: 0,
@@ -201,16 +152,13 @@ pub fn pack(
         start: 0,
         end: 0,
     };
-    let mut mode: usize = 0;
+    let mut mode = Mode::Top(false);
     let mut at: usize = 0;
     loop {
-        match next_token(text, at) {
+        match next_token(symbols.text, at) {
             Next::Token(kind, from, past) => {
                 let what = said(mode, kind);
-                body = step(
-                    text, starts, pasts, ix, lefts, tokens, ids, grammar, body, what, kind, from,
-                    past,
-                );
+                body = step(symbols, grammar, body, what, kind, from, past);
                 mode = moved(mode, kind);
                 at = past;
             }

@@ -1,23 +1,8 @@
-use Rattle.yacc_misnamed.proofs.Laws.{lost-lists, lost-opens, lost-defines, lost-uses, lost-shuts, lost-nothing}
+use Rattle.yacc_misnamed.proofs.Laws.{none_known, lost-opens, lost-other}
 use Rattle.yacc_misnamed.proofs.is_lost.Goals as goal
 
-pub is_left_id-requires : goal.is_left_id-requires
-is_left_id-requires c = record { entered = c.requires.entered; from_lt_past = c.requires.from_lt_past }
-
-pub returns-in-Lists : goal.returns-in-Lists
-returns-in-Lists c = λ i tokens ns ts H. lost-lists _ _ _ _ _ c.in-Lists.is
-
 pub returns-in-Opens : goal.returns-in-Opens
-returns-in-Opens c = λ i tokens ns ts H. lost-opens _ _ _ _ _ c.in-Opens.is _ (c.is_left_id.ensures (i c.in-Opens.is) tokens ns ts H)
+returns-in-Opens c = λ i ns ts H. lost-opens _ _ _ _ _ c.in-Opens.is _ (none_known _ _ _ _ (c.left.ensures (i c.in-Opens.is) ns ts H) c.is_none.ensures)
 
-pub returns-in-Defines : goal.returns-in-Defines
-returns-in-Defines c = λ i tokens ns ts H. lost-defines _ _ _ _ _ c.in-Defines.is
-
-pub returns-in-Uses : goal.returns-in-Uses
-returns-in-Uses c = λ i tokens ns ts H. lost-uses _ _ _ _ _ c.in-Uses.is
-
-pub returns-in-Shuts : goal.returns-in-Shuts
-returns-in-Shuts c = λ i tokens ns ts H. lost-shuts _ _ _ _ _ c.in-Shuts.is
-
-pub returns-in-Nothing : goal.returns-in-Nothing
-returns-in-Nothing c = λ i tokens ns ts H. lost-nothing _ _ _ _ _ c.in-Nothing.is
+pub returns-in_default : goal.returns-in_default
+returns-in_default c = λ i ns ts H. lost-other _ _ _ _ _ c.in_default.not-Opens

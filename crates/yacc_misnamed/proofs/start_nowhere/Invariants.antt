@@ -1,4 +1,4 @@
-use Prim.Native.Nat.{◌-◌, ◌≤◌, ◌<◌}
+use Prim.Native.Nat.{◌-◌, ◌≤◌}
 use mathlib.Core.Bool.{true}
 use mathlib.Core.Path.{◌≡◌}
 use mathlib.Core.Option.{some}
@@ -13,7 +13,7 @@ use Rattle.yacc_misnamed.specs.Looked.{lost_of}
 use Rattle.yacc_misnamed.proofs.start_nowhere.Given as goal
 
 abbrev pub invariant-loop-kind : goal.invariant-loop-kind
-invariant-loop-kind live = (live.at ≤ length live.text) × (live.mode < 12) × ((l : Layout) → parse live.text ≡ some l → of_said true (lost_of (source_in l.pieces).nonterminals) (mode_of live.mode) (placed_from live.text live.at) ≡ undefined_start (source_in l.pieces))
+invariant-loop-kind live = (live.at ≤ length live.symbols.text.now) × ((l : Layout) → parse live.symbols.text.now ≡ some l → of_said true (lost_of (source_in l.pieces).nonterminals) (mode_of live.mode) (placed_from live.symbols.text.now live.at) ≡ undefined_start (source_in l.pieces))
 
 abbrev pub decreases-loop-kind : goal.decreases-loop-kind
-decreases-loop-kind l = length l.text - l.at
+decreases-loop-kind l = length l.symbols.text.now - l.at

@@ -1,4 +1,4 @@
-use Prim.Native.Nat.{ℕ, ◌-◌, ◌≤◌, ◌<◌}
+use Prim.Native.Nat.{ℕ, ◌-◌, ◌≤◌}
 use mathlib.Core.Path.{◌≡◌}
 use mathlib.Core.Option.{some}
 use lib.ListN.{length}
@@ -13,7 +13,7 @@ use Rattle.yacc_places.proofs.Laws.{start_in}
 use Rattle.yacc_places.proofs.start_of.Given as goal
 
 abbrev pub invariant-loop-kind : goal.invariant-loop-kind
-invariant-loop-kind live = (live.at ≤ length live.text) × (live.mode < 12) × ((l : Layout) → parse live.text ≡ some l → (z : ℕ) → of_said z (start_in (source_in l.pieces).nonterminals) (mode_of live.mode) (placed_from live.text live.at) ≡ start_of (source_in l.pieces).nonterminals (source_in l.pieces).starts)
+invariant-loop-kind live = (live.at ≤ length live.symbols.text.now) × ((l : Layout) → parse live.symbols.text.now ≡ some l → (z : ℕ) → of_said z (start_in (source_in l.pieces).nonterminals) (mode_of live.mode) (placed_from live.symbols.text.now live.at) ≡ start_of (source_in l.pieces).nonterminals (source_in l.pieces).starts)
 
 abbrev pub decreases-loop-kind : goal.decreases-loop-kind
-decreases-loop-kind l = length l.text - l.at
+decreases-loop-kind l = length l.symbols.text.now - l.at

@@ -1,15 +1,16 @@
-use Prim.Native.Nat.{◌-◌, ◌≤◌, ◌<◌}
+use Prim.Native.Nat.{◌-◌, ◌≤◌}
 use mathlib.Core.Path.{◌≡◌}
 use mathlib.Core.Option.{some}
 use lib.ListN.{length}
 use Rattle.yacc_text.specs.Grammar.{Layout}
 use Rattle.yacc_text.specs.Parse.{parse}
+use Rattle.yacc_tokens.specs.Accepted.{mode_of}
 use Rattle.yacc_read.specs.Outcome.{source_in}
 use Rattle.yacc_places.proofs.Laws.{Placing}
 use Rattle.yacc_places.proofs.write_places.Given as goal
 
 abbrev pub invariant-loop-kind : goal.invariant-loop-kind
-invariant-loop-kind live = (length live.places ≡ length live.initial.places) × (live.at ≤ length live.text) × (live.mode < 12) × ((l : Layout) → parse live.text ≡ some l → Placing live.text (source_in l.pieces) live.ids.nonterminals live.initial.places live.places live.n live.m live.mode live.at)
+invariant-loop-kind live = (length live.places ≡ length live.initial.places) × (live.at ≤ length live.symbols.text.now) × ((l : Layout) → parse live.symbols.text.now ≡ some l → Placing live.symbols.text.now (source_in l.pieces) live.symbols.counts.nonterminals live.initial.places live.places live.n live.m (mode_of live.mode) live.at)
 
 abbrev pub decreases-loop-kind : goal.decreases-loop-kind
-decreases-loop-kind l = length l.text - l.at
+decreases-loop-kind l = length l.symbols.text.now - l.at

@@ -1,16 +1,9 @@
-use Rattle.yacc_productions.proofs.Laws.{place-number}
+use mathlib.Core.Path.{refl, ◌∙◌}
 use native.Mathlib.Omega.{arith}
+use Rattle.yacc_enter.specs.Ids.{is_id}
+use Rattle.yacc_productions.proofs.Laws.{known_number}
 use Rattle.yacc_productions.proofs.left_number.Goals as goal
 
-pub returns-then-place-eq0 : goal.returns-then-place-eq0
-returns-then-place-eq0 c = let z = c.if-place-eq0.true in
-    (omega arith, λ tokens ns ts H y h. let q = place-number ns _ _ (c.left_place-place.ensures tokens ns ts H) y in absurd (omega (arith, q, z)))
-
 pub returns : goal.returns
-returns c = (
-  c.fitted.ensures.0,
-  λ tokens ns ts H y h.
-      let q = place-number ns _ _ (c.left_place-place.ensures tokens ns ts H) y in
-      let f = c.fitted.ensures.1 (omega (arith, q, h)) in
-      omega (arith, f, q),
-)
+unfolding is_id
+returns c = (omega (arith, c.from.ensures, c.unwrap_or.type_inv), λ ns ts H y h. c.from.ensures ∙ c.unwrap_or.ensures ∙ known_number _ _ _ (c.left.ensures refl ns ts H) y)

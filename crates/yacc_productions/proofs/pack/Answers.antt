@@ -1,7 +1,6 @@
 use mathlib.Core.Path.{refl, ◌∙◌}
 use Rattle.yacc_tokens.proofs.Laws.{token-told}
 use Rattle.yacc_read.specs.Outcome.{source_in}
-use Rattle.yacc_misnamed.proofs.Laws.{kept_of}
 use Rattle.yacc_productions.proofs.Laws.{turn_first, turn_last, turn_outside, whole_of, said_all}
 use borrow.Author.Rules.{rules}
 use native.Mathlib.Omega.{arith}
@@ -11,7 +10,6 @@ pub loop-kind-init : goal.loop-kind-init
 loop-kind-init c = (
   refl,
   omega arith,
-  omega arith,
   record { production = omega arith; owner = omega arith; symbols = omega arith; start = omega arith; end = omega arith },
   λ l p. turn_first _ _ _ (said_all _ l p),
 )
@@ -19,14 +17,8 @@ loop-kind-init c = (
 pub next_token-requires : goal.next_token-requires
 next_token-requires c = c.loop-kind.invariant.1
 
-pub said-what-requires : goal.said-what-requires
-said-what-requires c = c.loop-kind.invariant.2
-
 pub step-body-requires : goal.step-body-requires
-step-body-requires c = let L = token-told _ c.loop-kind.at _ _ _ _ c.in-Token.is c.next_token.ensures in record { kept = kept_of _ _ _ _ _ _ _ c.requires.named.1 c.requires.named.0; from_lt_past = ((L.wide, L.inside), c.requires.text_len_bound.0); grammar_len = (c.loop-kind.invariant.0 ∙ c.requires.text_len_bound.1, c.loop-kind.invariant.3) }
-
-pub moved-mode-requires : goal.moved-mode-requires
-moved-mode-requires c = c.loop-kind.invariant.2
+step-body-requires c = let L = token-told _ c.loop-kind.at _ _ _ _ c.in-Token.is c.next_token.ensures in record { from_lt_past = (L.wide, L.inside, c.requires.text_len_bound.0); grammar_len = (c.loop-kind.invariant.0 ∙ c.requires.text_len_bound.1, c.loop-kind.invariant.2) }
 
 pub loop-kind-smaller : goal.loop-kind-smaller
 loop-kind-smaller c = let L = token-told _ c.loop-kind.at _ _ _ _ c.in-Token.is c.next_token.ensures in
@@ -39,19 +31,18 @@ pub loop-kind-preserved : goal.loop-kind-preserved
 loop-kind-preserved c = let L = token-told _ c.loop-kind.at _ _ _ _ c.in-Token.is c.next_token.ensures in (
   search rules,
   L.inside,
-  c.moved-mode.ensures.1,
   c.step-body.ensures.small,
-  λ l p. c.step-body.ensures.turn (source_in l.pieces) (c.requires.named.0.held l p) (whole_of _ l p (c.requires.readable l p)) _ _ _ c.loop-kind.invariant.2 L c.said-what.ensures c.moved-mode.ensures.0 (c.loop-kind.invariant.4 l p),
+  λ l p. c.step-body.ensures.turn (source_in l.pieces) (c.args.symbols.now.named.held l p) (whole_of _ l p (c.requires.readable l p)) _ _ _ L c.said-what.ensures (c.moved-mode.ensures c.args.symbols.now.text.now c.in-Token.from c.in-Token.past) (c.loop-kind.invariant.3 l p),
 )
 
 pub shape_of-grammar-in-End : goal.shape_of-grammar-in-End
 shape_of-grammar-in-End c = c.loop-kind.invariant.0
 
 pub returns-in-End : goal.returns-in-End
-returns-in-End c = λ l p. turn_last (source_in l.pieces) _ _ _ _ _ c.loop-kind.invariant.2 (c.loop-kind.invariant.4 l p) _ c.next_token.ensures c.in-End.is (whole_of _ l p (c.requires.readable l p)) (c.loop-kind.invariant.0 ∙ c.requires.text_len_bound.1)
+returns-in-End c = λ l p. turn_last (source_in l.pieces) _ _ _ _ _ (c.loop-kind.invariant.3 l p) _ c.next_token.ensures c.in-End.is (whole_of _ l p (c.requires.readable l p)) (c.loop-kind.invariant.0 ∙ c.requires.text_len_bound.1)
 
 pub shape_of-grammar-in-Outside : goal.shape_of-grammar-in-Outside
 shape_of-grammar-in-Outside c = c.loop-kind.invariant.0
 
 pub returns-in-Outside : goal.returns-in-Outside
-returns-in-Outside c = λ l p. turn_outside (source_in l.pieces) _ _ _ _ _ c.loop-kind.invariant.2 (c.loop-kind.invariant.4 l p) _ c.next_token.ensures c.in-Outside.is
+returns-in-Outside c = λ l p. turn_outside (source_in l.pieces) _ _ _ _ _ (c.loop-kind.invariant.3 l p) _ c.next_token.ensures c.in-Outside.is

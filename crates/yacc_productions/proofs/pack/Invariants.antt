@@ -1,15 +1,16 @@
-use Prim.Native.Nat.{◌-◌, ◌≤◌, ◌<◌}
+use Prim.Native.Nat.{◌-◌, ◌≤◌}
 use mathlib.Core.Path.{◌≡◌}
 use mathlib.Core.Option.{some}
 use lib.ListN.{length}
 use Rattle.yacc_text.specs.Grammar.{Layout}
 use Rattle.yacc_text.specs.Parse.{parse}
+use Rattle.yacc_tokens.specs.Accepted.{mode_of}
 use Rattle.yacc_read.specs.Outcome.{source_in}
 use Rattle.yacc_productions.specs.Turn.{Small, Turn}
 use Rattle.yacc_productions.proofs.pack.Given as goal
 
 abbrev pub invariant-loop-kind : goal.invariant-loop-kind
-invariant-loop-kind live = (length live.grammar ≡ length live.initial.grammar) × (live.at ≤ length live.text) × (live.mode < 12) × Small live.body × ((l : Layout) → parse live.text ≡ some l → Turn (source_in l.pieces) live.text live.grammar live.body live.mode live.at)
+invariant-loop-kind live = (length live.grammar ≡ length live.initial.grammar) × (live.at ≤ length live.symbols.text.now) × Small live.body × ((l : Layout) → parse live.symbols.text.now ≡ some l → Turn (source_in l.pieces) live.symbols.text.now live.grammar live.body (mode_of live.mode) live.at)
 
 abbrev pub decreases-loop-kind : goal.decreases-loop-kind
-decreases-loop-kind l = length l.text - l.at
+decreases-loop-kind l = length l.symbols.text.now - l.at

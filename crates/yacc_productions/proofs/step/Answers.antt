@@ -1,42 +1,32 @@
-use mathlib.Core.Path.{ap}
 use Rattle.yacc_misnamed.proofs.Laws.{use_word}
-use Rattle.yacc_productions.proofs.Laws.{quiet, turn_quiet, turn_defines, turn_uses, turn_shuts}
+use Rattle.yacc_productions.proofs.Laws.{quiet_other, turn_quiet, turn_defines, turn_uses, turn_shuts}
 use native.Mathlib.Omega.{arith}
 use Rattle.yacc_productions.proofs.step.Goals as goal
 
 pub left_number-owner-requires : goal.left_number-owner-requires
-left_number-owner-requires c = let k = c.requires.kept in record { entered = (k.names, k.left); from_lt_past = c.requires.from_lt_past.0 }
+left_number-owner-requires c = (c.requires.from_lt_past.0, c.requires.from_lt_past.1)
 
 pub symbol-read-requires : goal.symbol-read-requires
-symbol-read-requires c = record { kept = c.requires.kept; from_lt_past = c.requires.from_lt_past.0 }
+symbol-read-requires c = (c.requires.from_lt_past.0, c.requires.from_lt_past.1)
 
 pub add-requires : goal.add-requires
-add-requires c = let w = c.requires.from_lt_past.0.0 in
-    let i = c.requires.from_lt_past.0.1 in
-    let l = c.requires.from_lt_past.1 in record { grammar_len = c.requires.grammar_len; from_bound = (omega (arith, w, i, l), omega (arith, i, l)) }
+add-requires c = let w = c.requires.from_lt_past.0 in
+    let i = c.requires.from_lt_past.1 in
+    let l = c.requires.from_lt_past.2 in record { grammar_len = c.requires.grammar_len; from_bound = (omega (arith, w, i, l), omega (arith, i, l)) }
 
 pub close-requires : goal.close-requires
-close-requires c = let w = c.requires.from_lt_past.0.0 in
-    let i = c.requires.from_lt_past.0.1 in
-    let l = c.requires.from_lt_past.1 in record { grammar_len = c.requires.grammar_len; at_bound = omega (arith, w, i, l) }
-
-pub returns-in-Lists : goal.returns-in-Lists
-unfolding quiet
-returns-in-Lists c = record { small = c.requires.grammar_len.1; turn = λ S H W m at n h L e q T. turn_quiet S _ _ _ m at h T _ _ _ _ n L e q (ap quiet c.in-Lists.is) }
-
-pub returns-in-Opens : goal.returns-in-Opens
-unfolding quiet
-returns-in-Opens c = record { small = c.requires.grammar_len.1; turn = λ S H W m at n h L e q T. turn_quiet S _ _ _ m at h T _ _ _ _ n L e q (ap quiet c.in-Opens.is) }
+close-requires c = let w = c.requires.from_lt_past.0 in
+    let i = c.requires.from_lt_past.1 in
+    let l = c.requires.from_lt_past.2 in record { grammar_len = c.requires.grammar_len; at_bound = omega (arith, w, i, l) }
 
 pub returns-in-Defines : goal.returns-in-Defines
-returns-in-Defines c = let B = c.requires.grammar_len.1 in record { small = record { production = B.production; owner = c.left_number-owner.ensures.0; symbols = omega arith; start = omega arith; end = omega arith }; turn = λ S H W m at n h L e q T. turn_defines S _ _ _ m at h T _ _ _ _ n L e q c.in-Defines.is W _ (c.left_number-owner.ensures.1 _ _ _ H) }
+returns-in-Defines c = let B = c.requires.grammar_len.1 in record { small = record { production = B.production; owner = c.left_number-owner.ensures.0; symbols = omega arith; start = omega arith; end = omega arith }; turn = λ S H W m at n L e q T. turn_defines S _ _ _ m at T _ _ _ _ n L e q c.in-Defines.is W _ (c.left_number-owner.ensures.1 _ _ H) }
 
 pub returns-in-Uses : goal.returns-in-Uses
-returns-in-Uses c = record { small = c.add.ensures.0; turn = λ S H W m at n h L e q T. turn_uses S _ _ _ m at h T _ _ _ _ n L e q c.in-Uses.is W c.requires.grammar_len.0 _ (c.symbol-read.ensures (use_word _ _ _ e c.in-Uses.is) S H) _ _ c.add.ensures.1 }
+returns-in-Uses c = record { small = c.add.ensures.0; turn = λ S H W m at n L e q T. turn_uses S _ _ _ m at T _ _ _ _ n L e q c.in-Uses.is W c.requires.grammar_len.0 _ (c.symbol-read.ensures (use_word _ _ _ e c.in-Uses.is) S H) _ _ c.add.ensures.1 }
 
 pub returns-in-Shuts : goal.returns-in-Shuts
-returns-in-Shuts c = record { small = c.close.ensures.0; turn = λ S H W m at n h L e q T. turn_shuts S _ _ _ m at h T _ _ _ _ n L e q c.in-Shuts.is W c.requires.grammar_len.0 _ _ c.close.ensures.1 }
+returns-in-Shuts c = record { small = c.close.ensures.0; turn = λ S H W m at n L e q T. turn_shuts S _ _ _ m at T _ _ _ _ n L e q c.in-Shuts.is W c.requires.grammar_len.0 _ _ c.close.ensures.1 }
 
-pub returns-in-Nothing : goal.returns-in-Nothing
-unfolding quiet
-returns-in-Nothing c = record { small = c.requires.grammar_len.1; turn = λ S H W m at n h L e q T. turn_quiet S _ _ _ m at h T _ _ _ _ n L e q (ap quiet c.in-Nothing.is) }
+pub returns-in_default : goal.returns-in_default
+returns-in_default c = record { small = c.requires.grammar_len.1; turn = λ S H W m at n L e q T. turn_quiet S _ _ _ m at T _ _ _ _ n L e q (quiet_other _ c.in_default.not-Defines c.in_default.not-Uses c.in_default.not-Shuts) }
