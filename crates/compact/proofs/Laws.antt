@@ -1,17 +1,15 @@
--- What is left has no more records than a table may, and stands in the words that were lent. Assumes nothing.
+-- What is left stands in the words that were lent. Assumes nothing.
 use mathlib.Core.Path.{◌≡◌, sym, ap, ◌∙◌}
 use mathlib.Core.List.{List, ◌++◌}
 use Prim.Native.Nat.{ℕ, ◌*◌, ◌≤◌}
 use native.Mathlib.Omega.{arith}
 use lib.ListN.{length, length-append}
-use Rattle.repr.specs.Reply.{Reply, answered}
-use Rattle.repr.specs.Sizes.{record_limit}
 use Rattle.table.proofs.Accepted.{accepts}
 use Rattle.compaction.specs.Outcome.{compact_of}
 use Rattle.compaction.proofs.Called.{left, left-length}
 use Rattle.compaction.proofs.Theorems.{count_most}
 
-pub few_left : (t ws behind : List ℕ) (r : Reply ℕ) (n : ℕ) → record { answer = r; table = ws } ≡ compact_of t → r ≡ answered n → (n ≤ record_limit) × (n * 4 ≤ length (ws ++ behind))
+pub few_left : (t ws behind : List ℕ) (r : Compacted) (n : ℕ) → record { answer = r; table = ws } ≡ compact_of t → r ≡ Records n → n * 4 ≤ length (ws ++ behind)
 few_left t ws behind r n e h =
     let o = sym e ∙ ap (λ (a : Reply ℕ). record { answer = a; table = ws }) h in
     let L = left t n ws o in
@@ -22,4 +20,4 @@ few_left t ws behind r n e h =
     let m = count_most t L.accepted in
     let s = left-length t n ws o in
     let b = length-append ws behind in
-    (omega arith, omega arith)
+    omega arith

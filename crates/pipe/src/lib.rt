@@ -1,64 +1,52 @@
 // A table in a stream, as the programs read and write it: the number of its records, its words, the rest. What fails is said on standard error (crate streams).
 #![tactic(auto)]
 
-ghost use Rattle.std.specs.Prelude.{◌*◌, ◌≤◌, ◌<◌, length};
+ghost use Rattle.std.specs.Prelude.{◌*◌, ◌≤◌, IfOk, length};
 ghost use Rattle.repr.specs.Sizes.{record_limit};
 ghost use Rattle.pipe.specs.Given.{Holds};
 
 use little::{decode, encode};
-use repr::word;
 use std::io;
-use streams::{read, write};
+use streams::{Failed, read, read_some, write};
 
-// What the front of a stream gives: a table of so many records; or it ends before its table does, or has a number of records that no table has; or a read failed.
+// What ends a program's run: a refusal, its number and its place; or a read or a write failed, which standard error says already.
 #[derive(Clone, Copy)]
-pub enum Given {
-    Table(usize),
-    Cut,
+pub enum Stop {
+    Refused(u16, u16),
     Failed,
 }
 
-// The words of the table, the number of its records being read.
-fn read_words<R: io::Input + Eprint>(
-    rt: &R,
-    records: usize,
-    bytes: &mut [u8],
-    table: &mut [u16],
-) -> Given
-    requires { (records ≤ record_limit) × ((65536 ≤ length bytes.old) × (32768 ≤ length table.old)) }
-    ensures { Holds result bytes.new table.new }
-{
-    let size = records * 8;
-    let input = read(rt, &mut bytes[..size]);
-    if input.failed {
-        return Given::Failed;
+impl From<Failed> for Stop {
+    fn from(_failed: Failed) -> Stop {
+        Stop::Failed
     }
-    if input.got < size {
-        return Given::Cut;
-    }
-    decode(&bytes[..size], table);
-    Given::Table(records)
 }
 
-// The table, its words at the front of `table`.
-pub fn read_table<R: io::Input + Eprint>(rt: &R, bytes: &mut [u8], table: &mut [u16]) -> Given
+// The number of the table's records, its words at the front of `table`. A stream that ends before its table does, or has a number of records that no table has, is refusal 1.
+#[tactic(auto, unfolding(crate::specs::Given::Holds))]
+pub fn read_table<R: io::Input + Eprint>(
+    rt: &R,
+    bytes: &mut [u8],
+    table: &mut [u16],
+) -> Result<usize, Stop>
     requires { (65536 ≤ length bytes.old) × (32768 ≤ length table.old) }
-    ensures { Holds result bytes.new table.new }
+    ensures words { Holds result bytes.new table.new }
+    ensures few { IfOk result (λ records. records ≤ record_limit) }
 {
     let mut first = [0u8; 2];
-    let input = read(rt, &mut first);
-    if input.failed {
-        return Given::Failed;
+    if read(rt, &mut first)? < 2 {
+        return Err(Stop::Refused(1, 0));
     }
-    if input.got < 2 {
-        return Given::Cut;
-    }
-    decode(&first, table);
-    let records = word(table, 0);
+    let records = u16::from_le_bytes(first) as usize;
     if records > 8192 {
-        return Given::Cut;
+        return Err(Stop::Refused(1, 0));
     }
-    read_words(rt, records, bytes, table)
+    let size = records * 8;
+    if read(rt, &mut bytes[..size])? < size {
+        return Err(Stop::Refused(1, 0));
+    }
+    decode(&bytes[..size], table);
+    Ok(records)
 }
 
 // A refusal, in one line on standard error.
@@ -66,87 +54,58 @@ pub fn say_refused<R: Eprint>(rt: &R, refusal: u16, place: u16) {
     let _ = eprintln!(rt; "refused {refusal} {place}");
 }
 
-// A piece of the rest; whether there may be more.
-fn pass_piece<R: io::Input + Print + Eprint>(rt: &R, bytes: &mut [u8]) -> bool {
-    let input = read(rt, bytes);
-    let got = input.got;
-    if !write(rt, &bytes[..got]) {
-        return false;
+// How a run ended: a refusal is said.
+pub fn say_end<R: Eprint>(rt: &R, run: Result<(), Stop>) {
+    if let Err(Stop::Refused(refusal, place)) = run {
+        say_refused(rt, refusal, place);
     }
-    if input.failed {
-        return false;
-    }
-    got == bytes.len()
 }
 
-// The rest, byte for byte. A loop has to end, so it counts its pieces down from a number that no run uses up.
-pub fn pass_on<R: io::Input + Print + Eprint>(rt: &R, bytes: &mut [u8]) {
-    let mut pieces: u64 = 1099511627776;
-    while pieces > 0 {
-        if !pass_piece(rt, bytes) {
-            return;
+// The rest, byte for byte. A loop has to end, so it counts its pieces.
+pub fn pass_on<R: io::Input + Print + Eprint>(rt: &R, bytes: &mut [u8]) -> Result<(), Failed> {
+    for _ in 0..u64::MAX {
+        let got = read_some(rt, bytes)?;
+        if got == 0 {
+            break;
         }
-        pieces -= 1;
+        write(rt, &bytes[..got])?;
     }
+    Ok(())
 }
 
-// How many of so many words are written at a time.
-fn piece(left: usize) -> usize
-    ensures { (result ≤ left) × ((result ≤ 32768) × (0 < left → 0 < result)) }
-{
-    if left < 32768 {
-        return left;
-    }
-    32768
-}
-
-// Words as bytes, 32,768 at a time; whether they were written.
-pub fn write_words<R: Print + Eprint>(rt: &R, words: &[u16], bytes: &mut [u8]) -> bool
+// Words as bytes, 32,768 at a time.
+pub fn write_words<R: Print + Eprint>(rt: &R, words: &[u16], bytes: &mut [u8]) -> Result<(), Failed>
     requires { 65536 ≤ length bytes.old }
 {
-    let n = words.len();
-    let mut at: usize = 0;
-    while at < n {
-        let left = n - at;
-        let some = piece(left);
-        let end = at + some;
-        let size = some * 2;
-        encode(&words[at..end], bytes);
-        if !write(rt, &bytes[..size]) {
-            return false;
-        }
-        at = end;
+    for piece in words.chunks(32768) {
+        let size = piece.len() * 2;
+        encode(piece, bytes);
+        write(rt, &bytes[..size])?;
     }
-    true
+    Ok(())
 }
 
-// A table of so many records; whether it was written.
+// A table's words, the number of its records before them.
 pub fn write_records<R: Print + Eprint>(
     rt: &R,
-    records: usize,
     table: &[u16],
     bytes: &mut [u8],
-) -> bool
-    requires { (records ≤ record_limit) × ((65536 ≤ length bytes.old) × (records * 4 ≤ length table.now)) }
+) -> Result<(), Failed>
+    requires { (length table.now ≤ record_limit * 4) × (65536 ≤ length bytes.old) }
 {
-    let count = [records as u16; 1];
-    if !write_words(rt, &count, bytes) {
-        return false;
-    }
-    let words = records * 4;
-    write_words(rt, &table[..words], bytes)
+    let records = (table.len() / 4) as u16;
+    write(rt, &records.to_le_bytes())?;
+    write_words(rt, table, bytes)
 }
 
-// A table of so many records, then the rest of the input.
+// A table, then the rest of the input.
 pub fn write_table<R: io::Input + Print + Eprint>(
     rt: &R,
-    records: usize,
     table: &[u16],
     bytes: &mut [u8],
-)
-    requires { (records ≤ record_limit) × ((65536 ≤ length bytes.old) × (records * 4 ≤ length table.now)) }
+) -> Result<(), Failed>
+    requires { (length table.now ≤ record_limit * 4) × (65536 ≤ length bytes.old) }
 {
-    if write_records(rt, records, table, bytes) {
-        pass_on(rt, bytes);
-    }
+    write_records(rt, table, bytes)?;
+    pass_on(rt, bytes)
 }

@@ -1,18 +1,15 @@
 // Standard input and output for the programs: what fails is said on standard error. There is no exit status, so nothing else shows it.
 #![tactic(auto)]
 
-ghost use Rattle.std.specs.Prelude.{◌≤◌, length};
+ghost use Rattle.std.specs.Prelude.{IfOk, length, ◌≤◌};
 ghost use Rattle.streams.specs.Counts.{IsPrefixLen};
 
 use std::io;
 use std::io::{Read, Write};
 
-// How many bytes were read to the front of a buffer, and whether a read failed.
+// A read or a write failed, and standard error says why.
 #[derive(Clone, Copy)]
-pub struct Input {
-    pub got: usize,
-    pub failed: bool,
-}
+pub struct Failed;
 
 // A text's front, up to the number that std puts behind the system's text of an error.
 fn without_number(text: &str) -> &str {
@@ -33,59 +30,40 @@ fn put_error(error: io::Error, bytes: &mut [u8]) -> usize
 }
 
 // What failed, a colon and the system's text.
-fn say_failed<R: Eprint>(rt: &R, what: &str, error: io::Error) {
+fn say_failed<R: Eprint>(rt: &R, what: &str, error: io::Error) -> Failed {
     let mut bytes = [0u8; 128];
     let n = put_error(error, &mut bytes);
     let text = without_number(str::from_utf8(&bytes[..n]).unwrap_or(""));
     let _ = eprintln!(rt; "{what}: {text}");
+    Failed
 }
 
 // One read, at the front of the bytes; 0 at the end of the input.
-fn read_some<R: io::Input + Eprint>(rt: &R, bytes: &mut [u8]) -> Input
-    ensures { result.got ≤ length bytes.old }
+pub fn read_some<R: io::Input + Eprint>(rt: &R, bytes: &mut [u8]) -> Result<usize, Failed>
+    ensures { IfOk result (λ got. IsPrefixLen got bytes.new) }
 {
-    match rt.reader().read(bytes) {
-        Ok(got) => Input { got, failed: false },
-        Err(error) => {
-            say_failed(rt, "standard input", error);
-            Input {
-                got: 0,
-                failed: true,
-            }
-        }
-    }
+    rt.reader()
+        .read(bytes)
+        .map_err(|error| say_failed(rt, "standard input", error))
 }
 
-// Bytes until the buffer is full, the input ends or a read fails.
-pub fn read<R: io::Input + Eprint>(rt: &R, bytes: &mut [u8]) -> Input
-    ensures { IsPrefixLen result.got bytes.new }
+// Bytes until the buffer is full or the input ends; how many.
+pub fn read<R: io::Input + Eprint>(rt: &R, bytes: &mut [u8]) -> Result<usize, Failed>
+    ensures { IfOk result (λ got. IsPrefixLen got bytes.new) }
 {
-    let n = bytes.len();
     let mut got: usize = 0;
-    while got < n {
-        let more = read_some(rt, &mut bytes[got..]);
-        let moved = more.got;
-        if moved == 0 {
-            return Input {
-                got: got,
-                failed: more.failed,
-            };
+    while got < bytes.len() {
+        let more = read_some(rt, &mut bytes[got..])?;
+        if more == 0 {
+            break;
         }
-        got += moved;
+        got += more;
     }
-    Input {
-        got: got,
-        failed: false,
-    }
+    Ok(got)
 }
 
-// All of the bytes; whether they were written.
-pub fn write<R: Print + Eprint>(rt: &R, bytes: &[u8]) -> bool {
-    match rt.write_all(bytes) {
-        Ok(()) => true,
-        Err(error) => {
-            say_failed(rt, "standard output", error);
-            false
-        }
-    }
+// All of the bytes.
+pub fn write<R: Print + Eprint>(rt: &R, bytes: &[u8]) -> Result<(), Failed> {
+    rt.write_all(bytes)
+        .map_err(|error| say_failed(rt, "standard output", error))
 }

@@ -1,6 +1,10 @@
-use native.Mathlib.Omega.{arith}
-use Rattle.pipe.proofs.Laws.{table_few}
+use mathlib.Core.Path.{sym}
+use lib.Seq.{length-take-le}
+use Rattle.compact.proofs.Laws.{few_left}
 use Rattle.compact.proofs.compact_input.Goals as goal
 
-pub compact_table-requires : goal.compact_table-requires
-compact_table-requires g c = let f = table_few _ _ _ _ c.read_table.ensures c.in-Table.is in (f, (omega (arith, c.requires.0, c.read_table.auto.bytes), omega (arith, f, c.requires.1, c.read_table.auto.table)))
+pub slice_bounds-table-end-in-Records : goal.slice_bounds-table-end-in-Records
+slice_bounds-table-end-in-Records g c = few_left _ _ _ _ _ c.compact.ensures c.in-Records.is
+
+pub slice_bounds-write_table-end : goal.slice_bounds-write_table-end
+slice_bounds-write_table-end g c = sym (length-take-le _ _ (few_left _ _ _ _ _ c.compact.ensures c.in-Records.is))

@@ -1,8 +1,6 @@
-use Rattle.std.proofs.Common.{◌≡◌, ◌-◌, ◌≤◌, length}
+use mathlib.Core.Path.{◌≡◌}
+use Rattle.std.specs.Slice.Iter.{chunks_size}
 use Rattle.pipe.proofs.write_words.Given as goal
 
-abbrev pub invariant-loop-at : goal.invariant-loop-at
-invariant-loop-at g l = (l.at ≤ length l.words) × (length l.bytes ≡ length l.fn.bytes)
-
-abbrev pub decreases-loop-at : goal.decreases-loop-at
-decreases-loop-at g l = length l.words - l.at
+abbrev pub invariant-loop-piece : goal.invariant-loop-piece
+invariant-loop-piece g l = chunks_size l.piece-iterator ≡ 32768

@@ -1,6 +1,11 @@
+use mathlib.Core.Path.{sym}
+use lib.Seq.{length-take-le}
 use native.Mathlib.Omega.{arith}
-use Rattle.pipe.proofs.Laws.{table_few}
+use Rattle.respell.proofs.Laws.{few_records}
 use Rattle.respell.proofs.respell_input.Goals as goal
 
-pub respell_table-requires : goal.respell_table-requires
-respell_table-requires g c = let f = table_few _ _ _ _ c.read_table.ensures c.in-Table.is in record { records_le_record_limit = (f, omega (arith, f, c.requires.1.0, c.read_table.auto.table)); in_bounds = (omega (arith, c.requires.0, c.read_table.auto.bytes), c.requires.1.1) }
+pub slice_bounds-out-end : goal.slice_bounds-out-end
+slice_bounds-out-end g c = let f = few_records _ _ _ _ _ c.respell.ensures c.in-Records.is in omega arith
+
+pub slice_bounds-write_table-end : goal.slice_bounds-write_table-end
+slice_bounds-write_table-end g c = let f = few_records _ _ _ _ _ c.respell.ensures c.in-Records.is in sym (length-take-le _ _ (omega arith))

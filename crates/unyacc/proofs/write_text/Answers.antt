@@ -4,9 +4,6 @@ use lib.Seq.{length-take-le}
 use Rattle.unyacc.proofs.Laws.{bytes_fit}
 use Rattle.unyacc.proofs.write_text.Goals as goal
 
-pub slice_bounds-write_yacc-end : goal.slice_bounds-write_yacc-end
-slice_bounds-write_yacc-end g c = sym (length-take-le _ _ c.requires.1)
-
 pub slice_bounds-text-end : goal.slice_bounds-text-end
 slice_bounds-text-end g c = let f = bytes_fit _ _ _ _ _ c.write_yacc.ensures c.in-Bytes.is in omega (arith, f, c.write_yacc.auto.text)
 
