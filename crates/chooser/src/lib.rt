@@ -21,7 +21,7 @@ use examples::{Given, Refusal, prepare};
 use lookahead::TokenSet;
 use repr::ProductionIndex;
 use slices::zero;
-use table::{Checked, read_counts};
+use table::read_counts;
 
 // What choosing answers: the refusal, 0 if there is none, and its place; the number of tokens chosen; for each six words, its token, the number of its class, the class's own values, zeros; zeros behind the last.
 #[derive(Clone, Copy)]
