@@ -4,12 +4,13 @@ use mathlib.Core.List.{List, ◌++◌}
 use Prim.Native.Nat.{ℕ, ◌*◌, ◌≤◌}
 use native.Mathlib.Omega.{arith}
 use lib.ListN.{length, length-append}
+use Rattle.repr.specs.Reply.{Reply, answered}
 use Rattle.table.proofs.Accepted.{accepts}
 use Rattle.compaction.specs.Outcome.{compact_of}
 use Rattle.compaction.proofs.Called.{left, left-length}
 use Rattle.compaction.proofs.Theorems.{count_most}
 
-pub few_left : (t ws behind : List ℕ) (r : Compacted) (n : ℕ) → record { answer = r; table = ws } ≡ compact_of t → r ≡ Records n → n * 4 ≤ length (ws ++ behind)
+pub few_left : (t ws behind : List ℕ) (r : Reply ℕ) (n : ℕ) → record { answer = r; table = ws } ≡ compact_of t → r ≡ answered n → n * 4 ≤ length (ws ++ behind)
 few_left t ws behind r n e h =
     let o = sym e ∙ ap (λ (a : Reply ℕ). record { answer = a; table = ws }) h in
     let L = left t n ws o in

@@ -2,7 +2,7 @@
 // A refusal is said in one line on standard error, and nothing is written. A read or a write that fails is said there too and ends the run.
 #![tactic(auto)]
 
-use compaction::{Compacted, compact};
+use compaction::compact;
 use pipe::{Stop, read_table, say_end, write_table};
 use std::io;
 
@@ -11,8 +11,8 @@ fn compact_input<R: io::Input + Print + Eprint>(rt: &R) -> Result<(), Stop> {
     let mut table = [0u16; 32768];
     let words = read_table(rt, &mut bytes, &mut table)? * 4;
     match compact(&mut table[..words]) {
-        Compacted::Refused(refusal, place) => Err(Stop::Refused(refusal, place)),
-        Compacted::Records(left) => {
+        Err(refusal) => Err(Stop::Refused(refusal.number(), refusal.place())),
+        Ok(left) => {
             let past = left as usize * 4;
             Ok(write_table(rt, &table[..past], &mut bytes)?)
         }

@@ -16,7 +16,6 @@ use repr::ProductionIndex;
 use state_graph::StateIndex;
 use std::io;
 use streams::{read, write};
-use table::Checked;
 use table_check::check;
 
 // One line for a refusal of the table (number 0) or of a conflict.
@@ -168,10 +167,10 @@ fn explain<R: io::Input + Print + Eprint>(rt: &R, records: usize, bytes: &mut [u
 {
     let length = records * 4;
     match check(&table[..length]) {
-        Checked::Refused(refusal, place) => {
-            say_refused(rt, 0, refusal, place);
+        Err(refusal) => {
+            say_refused(rt, 0, refusal.number(), refusal.place());
         }
-        Checked::Accepted => explain_conflicts(rt, &table[..length], bytes),
+        Ok(_) => explain_conflicts(rt, &table[..length], bytes),
     }
 }
 

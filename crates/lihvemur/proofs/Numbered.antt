@@ -1,6 +1,8 @@
 -- The ways through the exported functions, one law each. Assumes nothing.
 use Rattle.std.proofs.Common.{◌≡◌, ℕ, Bool, List, sym, ap, ◌∙◌}
-use Rattle.repr.specs.Reply.{Reply, answered, refused}
+use Rattle.std.specs.Prelude.{Result, Ok, Err}
+use Rattle.repr.specs.declared.refusals.Refusal.{Refusal}
+use Rattle.repr.specs.Reply.{Reply, answered, refused, number_of, place_of}
 use Rattle.spelling.specs.Outcome.{Outcome as Spelling}
 use Rattle.compaction.specs.Outcome.{Outcome as Compaction}
 use Rattle.builder.specs.Outcome.{Left as Building}
@@ -17,9 +19,7 @@ use Rattle.lookahead.specs.declared.TokenSet.{TokenSet}
 use Rattle.state_graph.specs.declared.StateSet.{StateSet}
 use Rattle.state_graph.specs.States.{states_in}
 use Rattle.first.specs.declared.Answer.{Answer}
-use Rattle.lr1.specs.declared.Walked.{Walked}
-use Rattle.lr1.specs.declared.Walked.TheVariants.{States, Refused as NoStates}
-use Rattle.lr1.specs.Entries.{Walk, walk_of}
+use Rattle.lr1.specs.Entries.{walk_of}
 use Rattle.lr1.specs.Edges.{EdgeOutcome, edge_outcome}
 use Rattle.tracer.specs.Outcome.{Outcome, outcome}
 use Rattle.tracer.specs.declared.Backtrace.{Backtrace}
@@ -100,14 +100,14 @@ module _ (old : ℕ) (c d : Reply TokenSet) (e : c ≡ d) where
   unfolding followed_numbers
   followed-refused n r h = rw (sym e ∙ h)
 
-module _ (old : List ℕ) (c : Walked) (d : Walk) (e : walk_of c ≡ d) where
-  pub walk-states : (s : StateSet) → c ≡ States s → state_numbers 0 0 (states_in s.low s.high) ≡ walk_numbers old d
+module _ (old : List ℕ) (c : Result StateSet Refusal) (d : Reply (List ℕ)) (e : walk_of c ≡ d) where
+  pub walk-states : (s : StateSet) → c ≡ Ok s → state_numbers 0 0 (states_in s.low s.high) ≡ walk_numbers old d
   unfolding walk_numbers walk_of
   walk-states s h = rw (sym e ∙ ap walk_of h)
 
-  pub walk_refused : (n r : ℕ) → c ≡ NoStates n r → state_numbers n r old ≡ walk_numbers old d
+  pub walk_refused : (r : Refusal) → c ≡ Err r → state_numbers (number_of r) (place_of r) old ≡ walk_numbers old d
   unfolding walk_numbers walk_of
-  walk_refused n r h = rw (sym e ∙ ap walk_of h)
+  walk_refused r h = rw (sym e ∙ ap walk_of h)
 
 module _ (old : ℕ) (c : Reply ℕ) (graph : List ℕ) (d : EdgeOutcome) (e : edge_outcome c graph ≡ d) where
   pub edge_there : (count : ℕ) → c ≡ answered count → add_numbers 0 0 count graph ≡ edge_numbers old d

@@ -10,7 +10,6 @@ use Rattle.yacc_read.specs.Outcome.{Outcome as ReadOutcome}
 use Rattle.yacc_read.specs.declared.Reading.TheVariants.{Read, Refused as NotRead}
 use Rattle.yacc_write.specs.Outcome.{Outcome as WriteOutcome}
 use Rattle.yacc_write.specs.declared.Writing.TheVariants.{Bytes, Refused as NotWritten}
-use Rattle.lr1.specs.Entries.{WALK}
 use Rattle.lr1.specs.Edges.{EdgeOutcome, edge_outcome}
 use Rattle.tracer.specs.Outcome.{Outcome, outcome}
 use Rattle.tracer.specs.declared.Backtrace.TheVariants.{Edges as TraceEdges, Refused as NoTrace}
@@ -81,7 +80,7 @@ first_numbers old was (refused n r) = answer_numbers n r old was
 pub data StateNumbers : Type 0 where
   state_numbers : ℕ → ℕ → List ℕ → StateNumbers
 
-unfoldable pub walk_numbers : List ℕ → Walk → StateNumbers
+unfoldable pub walk_numbers : List ℕ → Reply (List ℕ) → StateNumbers
 walk_numbers old (answered ss) = state_numbers 0 0 ss
 walk_numbers old (refused n r) = state_numbers n r old
 

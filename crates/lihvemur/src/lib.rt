@@ -7,6 +7,7 @@ pub mod conflicts;
 pub mod listings;
 
 ghost use Rattle.std.specs.Prelude.{◌≡◌, ◌++◌};
+ghost use Rattle.repr.specs.Reply.{number_of, place_of};
 ghost use Rattle.table.specs.Refusals.{check_of};
 ghost use Rattle.spelling.specs.Outcome.{respell_of};
 ghost use Rattle.compaction.specs.Outcome.{compact_of};
@@ -20,30 +21,32 @@ ghost use Rattle.tracer.specs.Outcome.{shift_of, reduce_of};
 ghost use Rattle.lihvemur.specs.Exported.{numbers, check_numbers, spell_numbers, respell_numbers, compact_numbers, build_numbers, built_numbers, read_numbers, reading_numbers, write_numbers, writing_numbers, set_numbers, followed_numbers, answer_numbers, first_numbers, state_numbers, walk_numbers, add_numbers, edge_numbers, trace_numbers, backtrace_numbers};
 
 use builder::Built;
-use compaction::Compacted;
 use lookahead::TokenSet;
-use lr1::{AddEdge, First, Followed, Walked};
-use repr::ProductionIndex;
-use spelling::Respelled;
+use repr::{ProductionIndex, Refusal};
 use state_graph::StateIndex;
-use table::Checked;
 use trace_graph::TraceGraphNode;
 use tracer::Backtrace;
 use yacc_read::Reading;
 use yacc_write::Writing;
 
+// A refusal in numbers.
+fn refuse(refusal: Refusal, place: &mut u16) -> u16
+    ensures number { result ≡ number_of refusal }
+    ensures place { place.new ≡ place_of refusal }
+{
+    *place = refusal.place();
+    refusal.number()
+}
+
 pub fn lihvemur_check(table: &[u16], place: &mut u16) -> u16
     ensures { numbers result place.new ≡ check_numbers (check_of table.now) }
 {
     match lr1::check(table) {
-        Checked::Accepted => {
+        Ok(_) => {
             *place = 0;
             0
         }
-        Checked::Refused(refusal, at) => {
-            *place = at;
-            refusal
-        }
+        Err(refusal) => refuse(refusal, place),
     }
 }
 
@@ -51,15 +54,12 @@ pub fn lihvemur_respell(table: &[u16], out: &mut [u16], records: &mut u16, place
     ensures { spell_numbers result place.new records.new out.new ≡ respell_numbers records.old (respell_of table.now out.old) }
 {
     match lr1::respell(table, out) {
-        Respelled::Records(count) => {
+        Ok(count) => {
             *place = 0;
             *records = count;
             0
         }
-        Respelled::Refused(refusal, at) => {
-            *place = at;
-            refusal
-        }
+        Err(refusal) => refuse(refusal, place),
     }
 }
 
@@ -67,15 +67,12 @@ pub fn lihvemur_compact(table: &mut [u16], records: &mut u16, place: &mut u16) -
     ensures { spell_numbers result place.new records.new table.new ≡ compact_numbers records.old (compact_of table.old) }
 {
     match lr1::compact(table) {
-        Compacted::Records(count) => {
+        Ok(count) => {
             *place = 0;
             *records = count;
             0
         }
-        Compacted::Refused(refusal, at) => {
-            *place = at;
-            refusal
-        }
+        Err(refusal) => refuse(refusal, place),
     }
 }
 
@@ -171,16 +168,13 @@ pub fn lihvemur_first0_joined(
     ensures { answer_numbers result place.new set.new nullable.new ≡ first_numbers set.old nullable.old (first0_of table.now (xs.now ++ ys.now)) }
 {
     match lr1::first0_joined(table, xs, ys) {
-        First::Answered(answer) => {
+        Ok(answer) => {
             *place = 0;
             *set = answer.tokens.0;
             *nullable = answer.nullable;
             0
         }
-        First::Refused(refusal, at) => {
-            *place = at;
-            refusal
-        }
+        Err(refusal) => refuse(refusal, place),
     }
 }
 
@@ -194,15 +188,12 @@ pub fn lihvemur_first1(
     ensures { set_numbers result place.new set.new ≡ followed_numbers set.old (first1_of table.now symbols.now lookahead) }
 {
     match lr1::first1(table, TokenSet(lookahead), symbols) {
-        Followed::Tokens(tokens) => {
+        Ok(tokens) => {
             *place = 0;
             *set = tokens.0;
             0
         }
-        Followed::Refused(refusal, at) => {
-            *place = at;
-            refusal
-        }
+        Err(refusal) => refuse(refusal, place),
     }
 }
 
@@ -231,16 +222,13 @@ pub fn lihvemur_trace_back_joined(
     ensures { state_numbers result place.new (states_in low.new high.new) ≡ walk_numbers (states_in low.old high.old) (trace_back_of table.now state (xs.now ++ ys.now)) }
 {
     match lr1::trace_back_joined(table, StateIndex(state), xs, ys) {
-        Walked::States(states) => {
+        Ok(states) => {
             *place = 0;
             *low = states.low;
             *high = states.high;
             0
         }
-        Walked::Refused(refusal, at) => {
-            *place = at;
-            refusal
-        }
+        Err(refusal) => refuse(refusal, place),
     }
 }
 
@@ -264,15 +252,12 @@ pub fn lihvemur_add_edge(
     let from = TraceGraphNode::of(source_kind, source, source_index);
     let to = TraceGraphNode::of(target_kind, target, target_index);
     match lr1::add_edge(table, from, to, ProductionIndex(production), index, graph) {
-        AddEdge::Edges(count) => {
+        Ok(count) => {
             *place = 0;
             *edges = count;
             0
         }
-        AddEdge::Refused(refusal, at) => {
-            *place = at;
-            refusal
-        }
+        Err(refusal) => refuse(refusal, place),
     }
 }
 

@@ -169,8 +169,8 @@ pub fn trace_back_joined(
 ) -> Result<StateSet, Refusal>
     ensures { walk_of result ≡ trace_back_of table.now state.0 (xs.now ++ ys.now) }
 {
-    let accepted = table_check::check(table)?;
-    trace_back_in(accepted, state, xs, ys)
+    let states = table_check::check(table)?;
+    trace_back_in(states, state, xs, ys)
 }
 
 fn trace_back_in(
@@ -231,8 +231,8 @@ fn add_edge_in(table: AcceptedTable, edge: TraceEdge, graph: &mut [u16]) -> Resu
         let mut ix = [0u16; TraceGraph::INDEX_WORDS];
         if check_graph(&grammar, productions, n, graph, &mut ix) {
             return match insert(&grammar, productions, n, graph, &mut ix, edge) {
-                Ok(()) => AddEdge::Edges(word(graph, 0) as u16),
-                Err(Full) => AddEdge::Refused(12, 0),
+                Ok(()) => Ok(word(graph, 0) as u16),
+                Err(Full) => Err(Refusal::TooManyEdges),
             };
         }
     }

@@ -7,19 +7,18 @@ ghost use Rattle.repr.specs.Listed.{listed};
 
 use crate::say::{say_answer, say_bool, say_halves, say_next, say_words};
 use crate::words::{at, number, set_at};
-use lookahead::{Changed, NextToken, TokenSet};
+use lookahead::TokenSet;
 use lr1_core::{Item, prefix, suffix};
 use repr::{ProductionIndex, symbols};
-use table::{Checked, read_counts, read_productions};
+use table::{read_counts, read_productions};
 
 fn say_set<R: Print>(rt: &R, set: TokenSet) {
     say_halves(rt, set.0);
 }
 
-fn say_changed<R: Print>(rt: &R, c: Changed) {
-    let set = c.set;
+fn say_changed<R: Print>(rt: &R, set: TokenSet, changed: bool) {
     say_set(rt, set);
-    say_bool(rt, c.changed);
+    say_bool(rt, changed);
 }
 
 // What is asked of one set and a token.
@@ -27,13 +26,21 @@ fn say_one<R: Print>(rt: &R, a: TokenSet, terminals: u16, token: u16) {
     say_next(rt, a.len() as u64);
     say_bool(rt, a.contains(token));
     say_bool(rt, a.contains_eof(terminals));
-    say_changed(rt, a.insert(token));
-    say_changed(rt, a.insert_eof(terminals));
-    say_changed(rt, a.take_eof(terminals));
+    let mut set = a;
+    let changed = set.insert(token);
+    say_changed(rt, set, changed);
+    let mut set = a;
+    let changed = set.insert_eof(terminals);
+    say_changed(rt, set, changed);
+    let mut set = a;
+    let changed = set.take_eof(terminals);
+    say_changed(rt, set, changed);
 }
 
 fn say_two<R: Print>(rt: &R, a: TokenSet, b: TokenSet) {
-    say_changed(rt, a.union_with(b));
+    let mut united = a;
+    let changed = united.union_with(b);
+    say_changed(rt, united, changed);
     say_set(rt, a.intersection(b));
     say_bool(rt, a.is_disjoint(b));
     say_bool(rt, a.is_intersecting(b));
@@ -48,19 +55,8 @@ fn say_made<R: Print>(rt: &R, terminals: u16, token: u16) {
 
 // The members, as the iterator hands them out.
 fn say_members<R: Print>(rt: &R, a: TokenSet) {
-    let mut iter = a.iter();
-    let mut left: u16 = TokenSet::LIMIT;
-    while left > 0 {
-        match iter.next() {
-            NextToken::Token(token, next) => {
-                say_next(rt, token as u64);
-                iter = next;
-                left -= 1;
-            }
-            NextToken::Done => {
-                left = 0;
-            }
-        }
+    for token in a.iter() {
+        say_next(rt, token as u64);
     }
 }
 
@@ -129,7 +125,7 @@ fn ask_item_in<R: Print>(rt: &R, table: &[u16], production: usize, index: usize)
 
 pub fn ask_item<R: Print>(rt: &R, table: &[u16], more: &[u16]) {
     match table_check::check(table) {
-        Checked::Refused(refusal, place) => say_answer(rt, refusal, place),
-        Checked::Accepted => ask_item_in(rt, table, number(more, 0), number(more, 1)),
+        Err(refusal) => say_answer(rt, refusal.number(), refusal.place()),
+        Ok(_) => ask_item_in(rt, table, number(more, 0), number(more, 1)),
     }
 }

@@ -3,7 +3,7 @@
 #![tactic(auto)]
 
 use pipe::{Stop, read_table, say_end, write_table};
-use spelling::{Respelled, respell};
+use spelling::respell;
 use std::io;
 
 fn respell_input<R: io::Input + Print + Eprint>(rt: &R) -> Result<(), Stop> {
@@ -12,8 +12,8 @@ fn respell_input<R: io::Input + Print + Eprint>(rt: &R) -> Result<(), Stop> {
     let mut out = [0u16; 32768];
     let words = read_table(rt, &mut bytes, &mut table)? * 4;
     match respell(&table[..words], &mut out) {
-        Respelled::Refused(refusal, place) => Err(Stop::Refused(refusal, place)),
-        Respelled::Records(count) => {
+        Err(refusal) => Err(Stop::Refused(refusal.number(), refusal.place())),
+        Ok(count) => {
             let past = count as usize * 4;
             Ok(write_table(rt, &out[..past], &mut bytes)?)
         }

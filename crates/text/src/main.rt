@@ -16,7 +16,7 @@ use pipe::{Given, read_table, say_refused};
 use repr::ProductionIndex;
 use std::io;
 use streams::{read, write};
-use table::{Checked, read_productions};
+use table::read_productions;
 use table_check::areas::{Areas, survey};
 use table_check::check;
 use typed::{Roles, numbers_line, record_line};
@@ -270,8 +270,8 @@ fn text_table<R: io::Input + Print + Eprint>(rt: &R, records: usize, table: &[u1
 {
     let words = records * 4;
     match check(&table[..words]) {
-        Checked::Refused(refusal, place) => say_refused(rt, refusal, place),
-        Checked::Accepted => {
+        Err(refusal) => say_refused(rt, refusal.number(), refusal.place()),
+        Ok(_) => {
             if write_table(rt, &table[..words], out) {
                 text_rest(rt, out);
             }

@@ -1,10 +1,12 @@
+use Rattle.std.proofs.Common.{ap}
+use Rattle.repr.specs.Reply.{reply_of}
 use mathlib.Core.Path.{sym}
 use lib.Seq.{length-take-le}
 use Rattle.compact.proofs.Laws.{few_left}
 use Rattle.compact.proofs.compact_input.Goals as goal
 
-pub slice_bounds-table-end-in-Records : goal.slice_bounds-table-end-in-Records
-slice_bounds-table-end-in-Records g c = few_left _ _ _ _ _ c.compact.ensures c.in-Records.is
+pub slice_bounds-table-end-in-Ok : goal.slice_bounds-table-end-in-Ok
+slice_bounds-table-end-in-Ok g c = few_left _ _ _ _ _ c.compact.ensures (ap reply_of c.in-Ok.is)
 
 pub slice_bounds-write_table-end : goal.slice_bounds-write_table-end
-slice_bounds-write_table-end g c = sym (length-take-le _ _ (few_left _ _ _ _ _ c.compact.ensures c.in-Records.is))
+slice_bounds-write_table-end g c = sym (length-take-le _ _ (few_left _ _ _ _ _ c.compact.ensures (ap reply_of c.in-Ok.is)))

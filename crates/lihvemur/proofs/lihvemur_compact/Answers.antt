@@ -1,8 +1,10 @@
+use Rattle.std.proofs.Common.{ap, ◌∙◌}
+use Rattle.repr.specs.Reply.{reply_of}
 use Rattle.lihvemur.proofs.Numbered.{compact-left, compact-refused}
 use Rattle.lihvemur.proofs.lihvemur_compact.Goals as goal
 
-pub returns-in-Records : goal.returns-in-Records
-returns-in-Records c = compact-left _ _ _ _ c.compact.ensures _ c.in-Records.is
+pub returns-in-Ok : goal.returns-in-Ok
+returns-in-Ok c = compact-left _ _ _ _ c.compact.ensures _ (ap reply_of c.in-Ok.is)
 
-pub returns-in-Refused : goal.returns-in-Refused
-returns-in-Refused c = compact-refused _ _ _ _ c.compact.ensures _ _ c.in-Refused.is
+pub returns-in-Err : goal.returns-in-Err
+returns-in-Err c = rw (c.refuse.ensures.number, c.refuse.ensures.place) (compact-refused _ _ _ _ c.compact.ensures _ _ (ap reply_of c.in-Err.is))

@@ -1,8 +1,10 @@
+use Rattle.std.proofs.Common.{ap, ◌∙◌}
+use Rattle.repr.specs.Reply.{reply_of}
 use Rattle.lihvemur.proofs.Numbered.{followed-tokens, followed-refused}
 use Rattle.lihvemur.proofs.lihvemur_first1.Goals as goal
 
-pub returns-in-Tokens : goal.returns-in-Tokens
-returns-in-Tokens c = followed-tokens _ _ _ c.first1.ensures _ c.in-Tokens.is
+pub returns-in-Ok : goal.returns-in-Ok
+returns-in-Ok c = followed-tokens _ _ _ c.first1.ensures _ (ap reply_of c.in-Ok.is)
 
-pub returns-in-Refused : goal.returns-in-Refused
-returns-in-Refused c = followed-refused _ _ _ c.first1.ensures _ _ c.in-Refused.is
+pub returns-in-Err : goal.returns-in-Err
+returns-in-Err c = rw (c.refuse.ensures.number, c.refuse.ensures.place) (followed-refused _ _ _ c.first1.ensures _ _ (ap reply_of c.in-Err.is))
