@@ -7,7 +7,7 @@ use mathlib.Core.List.{List, [], ◌∷◌}
 use mathlib.Core.Option.{Option, none, some}
 use lib.ListN.{length, get_or, replicate, length-replicate}
 use lib.Dec.{leb}
-use borrow.Author.Tests.{eq-eqb, ne_eqb, leb-true, le-leb, lt-leb}
+use borrow.Author.Tests.{leb-true, le-leb, lt-leb}
 use Rattle.slices.specs.Lent.{in_front}
 use Rattle.repr.specs.Meaning.{no_state, TableFits}
 use Rattle.repr.specs.declared.ProductionIndex.{ProductionIndex}
@@ -33,6 +33,7 @@ use Rattle.yacc_read.proofs.Read.{was_read}
 use Rattle.yacc_count.specs.Counted.{counts_in}
 use Rattle.yacc_count.specs.declared.Counts.{Counts}
 use Rattle.yacc_count.proofs.Limits.{counts_whole, places_long, written_of}
+use Rattle.std.proofs.Common.{Option as Answer, Some, None}
 use Rattle.yacc_limits.specs.Limited.{Meant, limited_of}
 use Rattle.yacc_limits.specs.declared.Limit.{Limit}
 use Rattle.yacc_names.specs.Names.{bucket_limit}
@@ -121,18 +122,18 @@ module _ (t starts pasts ix lefts tokens : List ℕ) (ids : Ids) (N : Named t st
   pub meant_some : is_grammar_text t ≡ true → Meant ids.nonterminals ids.terminals c
   meant_some g = let k = layout_of t g in meant_at k.0 k.1
 
-  pub limit_at : (r : Limit) (table places : List ℕ) → ((w : Meant ids.nonterminals ids.terminals c) → counted_of w.source table places ≡ limited_of w.source r table places) → (l : Layout) → parse t ≡ some l → counted_of (source_in l.pieces) table places ≡ limited_of (source_in l.pieces) r table places
+  pub limit_at : (r : Answer Limit) (table places : List ℕ) → ((w : Meant ids.nonterminals ids.terminals c) → counted_of w.source table places ≡ limited_of w.source r table places) → (l : Layout) → parse t ≡ some l → counted_of (source_in l.pieces) table places ≡ limited_of (source_in l.pieces) r table places
   unfolding meant_at
   limit_at r table places f l p = f (meant_at l p)
 
-module _ (S : Source) (r : Limit) (table places : List ℕ) where
-  pub limit_refused : (r.number ≡ 0 → ⊥) → record { answer = Refused r.number r.place; table = table; places = places } ≡ limited_of S r table places
+module _ (S : Source) (table places : List ℕ) where
+  pub limit_refused : (r : Limit) → record { answer = Refused r.number r.place; table = table; places = places } ≡ limited_of S (Some r) table places
   unfolding limited_of unchanged
-  limit_refused n = sym (rw (ne_eqb r.number 0 n, limited_of))
+  limit_refused r = refl
 
-  pub limit_written : r.number ≡ 0 → limited_of S r table places ≡ written_of S table places
+  pub limit_written : limited_of S None table places ≡ written_of S table places
   unfolding limited_of
-  limit_written z = rw (eq-eqb r.number 0 z, limited_of)
+  limit_written = refl
 
 -- `read_in`: arrays of zeros are fresh
 zero_at : (n i : ℕ) → ◌≡◌ {A = ℕ} (get_or (replicate n 0) i 0) 0

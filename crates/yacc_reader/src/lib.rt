@@ -10,7 +10,6 @@ ghost use Rattle.yacc_text.specs.Forward.{top};
 ghost use Rattle.yacc_text.specs.Places.{placed};
 ghost use Rattle.yacc_tokens.specs.Accepted.{is_grammar_text};
 ghost use Rattle.yacc_read.specs.Outcome.{source_in, misnamed, counted_of, named_of, read_of};
-ghost use Rattle.yacc_enter.specs.Ids.{Named};
 ghost use Rattle.yacc_misnamed.specs.Fault.{fault_from};
 ghost use Rattle.yacc_reader.specs.Passed.{Passes, records_in};
 
@@ -18,7 +17,7 @@ use augment::{Started, write_started};
 use repr::{NonterminalString, ProductionIndex};
 use table::Counts;
 use yacc_count::count;
-use yacc_enter::{Ids, enter_all};
+use yacc_enter::{Ids, SymbolTable, enter_all};
 use yacc_limits::refusal;
 use yacc_misnamed::{fault_place, is_misnamed};
 use yacc_places::{start_of, write_places};
@@ -37,82 +36,50 @@ fn records_of(started: Started) -> u16
 }
 
 // Writes the table and the places of a text that nothing refuses, whose ids are entered.
-fn write_read(
-    text: &[u8],
-    starts: &[u16],
-    pasts: &[u16],
-    ix: &[u16],
-    lefts: &[u16],
-    tokens: &[u16],
-    ids: Ids,
-    table: &mut [u16],
-    places: &mut [u16],
-) -> Reading
-    requires named { Named text.now starts.now pasts.now ix.now lefts.now tokens.now ids × (is_grammar_text text.now ≡ true) }
-    requires text_len_bound { length text.now ≤ text_limit }
-    requires passes { (l : Layout) → parse text.now ≡ some l → Passes (source_in l.pieces) table.old places.old }
-    ensures { (l : Layout) → parse text.now ≡ some l → record { answer = result; table = table.new; places = places.new } ≡ counted_of (source_in l.pieces) table.old places.old }
+fn write_read(symbols: &SymbolTable, table: &mut [u16], places: &mut [u16]) -> Reading
+    requires text_len_bound { length symbols.now.text.now ≤ text_limit }
+    requires passes { (l : Layout) → parse symbols.now.text.now ≡ some l → Passes (source_in l.pieces) table.old places.old }
+    ensures { (l : Layout) → parse symbols.now.text.now ≡ some l → record { answer = result; table = table.new; places = places.new } ≡ counted_of (source_in l.pieces) table.old places.old }
 {
     let mut grammar = [0u16; ProductionIndex::ALL_WORDS];
-    let productions = pack(text, starts, pasts, ix, lefts, tokens, ids, &mut grammar);
+    let productions = pack(symbols, &mut grammar);
     let counts = Counts {
-        nonterminals: ids.nonterminals,
-        terminals: ids.terminals,
+        nonterminals: symbols.counts.nonterminals,
+        terminals: symbols.counts.terminals,
         states: 1,
         productions: productions,
     };
     let records = records_of(write_started(&grammar, counts, 0, table));
-    write_places(text, starts, pasts, ix, lefts, tokens, ids, places);
-    let start = start_of(text, starts, pasts, ix, lefts, tokens, ids);
-    let listed = ids.nonterminals + ids.terminals;
+    write_places(symbols, places);
+    let start = start_of(symbols);
+    let listed = symbols.counts.nonterminals + symbols.counts.terminals;
     Reading::Read(records, listed as u16, NonterminalString(start as u16))
 }
 
 // Reads a text that is named well, whose ids are entered: 2, 5 and 17.
-fn read_counted(
-    text: &[u8],
-    starts: &[u16],
-    pasts: &[u16],
-    ix: &[u16],
-    lefts: &[u16],
-    tokens: &[u16],
-    ids: Ids,
-    table: &mut [u16],
-    places: &mut [u16],
-) -> Reading
-    requires named { Named text.now starts.now pasts.now ix.now lefts.now tokens.now ids × (is_grammar_text text.now ≡ true) }
-    requires text_len_bound { length text.now ≤ text_limit }
-    requires pieces_value { (l : Layout) → parse text.now ≡ some l → misnamed (source_in l.pieces) ≡ false }
-    ensures { (l : Layout) → parse text.now ≡ some l → record { answer = result; table = table.new; places = places.new } ≡ counted_of (source_in l.pieces) table.old places.old }
+fn read_counted(symbols: &SymbolTable, table: &mut [u16], places: &mut [u16]) -> Reading
+    requires text_len_bound { length symbols.now.text.now ≤ text_limit }
+    requires pieces_value { (l : Layout) → parse symbols.now.text.now ≡ some l → misnamed (source_in l.pieces) ≡ false }
+    ensures { (l : Layout) → parse symbols.now.text.now ≡ some l → record { answer = result; table = table.new; places = places.new } ≡ counted_of (source_in l.pieces) table.old places.old }
 {
-    let counts = count(text);
-    let limit = refusal(ids.nonterminals, ids.terminals, counts, table, places);
-    if limit.number != 0 {
-        return Reading::Refused(limit.number, limit.place);
+    let counts = count(symbols.text);
+    let nonterminals = symbols.counts.nonterminals;
+    let terminals = symbols.counts.terminals;
+    match refusal(nonterminals, terminals, counts, table, places) {
+        Some(limit) => Reading::Refused(limit.number, limit.place),
+        None => write_read(symbols, table, places),
     }
-    write_read(text, starts, pasts, ix, lefts, tokens, ids, table, places)
 }
 
 // Reads a text of the grammar whose ids are entered: 21, then the others.
-fn read_named(
-    text: &[u8],
-    starts: &[u16],
-    pasts: &[u16],
-    ix: &[u16],
-    lefts: &[u16],
-    tokens: &[u16],
-    ids: Ids,
-    table: &mut [u16],
-    places: &mut [u16],
-) -> Reading
-    requires named { Named text.now starts.now pasts.now ix.now lefts.now tokens.now ids × (is_grammar_text text.now ≡ true) }
-    requires text_len_bound { length text.now ≤ text_limit }
-    ensures { (l : Layout) → parse text.now ≡ some l → record { answer = result; table = table.new; places = places.new } ≡ named_of (source_in l.pieces) table.old places.old }
+fn read_named(symbols: &SymbolTable, table: &mut [u16], places: &mut [u16]) -> Reading
+    requires text_len_bound { length symbols.now.text.now ≤ text_limit }
+    ensures { (l : Layout) → parse symbols.now.text.now ≡ some l → record { answer = result; table = table.new; places = places.new } ≡ named_of (source_in l.pieces) table.old places.old }
 {
-    if is_misnamed(text, starts, pasts, ix, lefts, tokens, ids) {
+    if is_misnamed(symbols) {
         return Reading::Refused(21, 0);
     }
-    read_counted(text, starts, pasts, ix, lefts, tokens, ids, table, places)
+    read_counted(symbols, table, places)
 }
 
 // Reads a text of the grammar: a word of each array is room for a name, of which there are fewer than bytes.
@@ -125,7 +92,7 @@ fn read_in(text: &[u8], table: &mut [u16], places: &mut [u16]) -> Reading
     let mut ix = [0u16; Ids::INDEX_WORDS];
     let mut lefts = [0u16; Ids::NAMES];
     let mut tokens = [0u16; Ids::TOKEN_WORDS];
-    let ids = enter_all(
+    let counts = enter_all(
         text,
         &mut starts,
         &mut pasts,
@@ -133,9 +100,16 @@ fn read_in(text: &[u8], table: &mut [u16], places: &mut [u16]) -> Reading
         &mut lefts,
         &mut tokens,
     );
-    read_named(
-        text, &starts, &pasts, &ix, &lefts, &tokens, ids, table, places,
-    )
+    let symbols = SymbolTable {
+        text: text,
+        starts: &starts,
+        pasts: &pasts,
+        ix: &ix,
+        lefts: &lefts,
+        tokens: &tokens,
+        counts: counts,
+    };
+    read_named(&symbols, table, places)
 }
 
 // Reads a yacc text into a table with one empty state: the table at the front of `table`, the places at the front of `places`. Refusals 20, 21, 2, 5, 17 in this order; they change nothing.
@@ -161,7 +135,7 @@ fn fault_in(text: &[u8]) -> usize
     let mut ix = [0u16; Ids::INDEX_WORDS];
     let mut lefts = [0u16; Ids::NAMES];
     let mut tokens = [0u16; Ids::TOKEN_WORDS];
-    let ids = enter_all(
+    let counts = enter_all(
         text,
         &mut starts,
         &mut pasts,
@@ -169,7 +143,16 @@ fn fault_in(text: &[u8]) -> usize
         &mut lefts,
         &mut tokens,
     );
-    fault_place(text, &starts, &pasts, &ix, &lefts, &tokens, ids)
+    let symbols = SymbolTable {
+        text: text,
+        starts: &starts,
+        pasts: &pasts,
+        ix: &ix,
+        lefts: &lefts,
+        tokens: &tokens,
+        counts: counts,
+    };
+    fault_place(&symbols)
 }
 
 // Where a text that 21 refuses is at fault: the first byte of the first token that is. A place of the text for any other.

@@ -5,25 +5,22 @@ use native.Mathlib.Omega.{arith}
 use Rattle.yacc_reader.proofs.write_read.Goals as goal
 
 pub pack-productions-requires : goal.pack-productions-requires
-pack-productions-requires c = record { named = c.requires.named; text_len_bound = (c.requires.text_len_bound, length-replicate {A = ℕ} 4608 0); readable = λ l p. readable _ _ _ (c.requires.passes l p) }
+pack-productions-requires c = record { text_len_bound = (c.requires.text_len_bound, length-replicate {A = ℕ} 4608 0); readable = λ l p. readable _ _ _ (c.requires.passes l p) }
 
 pub write_started-requires : goal.write_started-requires
-write_started-requires c = let k = layout_of c.args.text.now c.requires.named.1 in record { grammar_of = (_, grammar_of c.args.text.now k.0 k.1 _ _ (c.requires.passes k.0 k.1) _ _ _ _ _ _ c.requires.named.0 _ _ (c.pack-productions.ensures k.0 k.1)); production_lt_production_limit = omega arith }
+write_started-requires c = let k = layout_of c.args.symbols.now.text.now c.args.symbols.now.grammar in record { grammar_of = (_, grammar_of c.args.symbols.now.text.now k.0 k.1 _ _ (c.requires.passes k.0 k.1) _ _ _ _ _ _ c.args.symbols.now.named _ _ (c.pack-productions.ensures k.0 k.1)); production_lt_production_limit = omega arith }
 
 pub write_places-requires : goal.write_places-requires
-write_places-requires c = let k = layout_of c.args.text.now c.requires.named.1 in record { named = c.requires.named; text_len_bound = (c.requires.text_len_bound, listed-room c.args.text.now k.0 k.1 _ _ (c.requires.passes k.0 k.1) _ _ _ _ _ _ c.requires.named.0) }
-
-pub start_of-start-requires : goal.start_of-start-requires
-start_of-start-requires c = c.requires.named
+write_places-requires c = let k = layout_of c.args.symbols.now.text.now c.args.symbols.now.grammar in (c.requires.text_len_bound, listed-room c.args.symbols.now.text.now k.0 k.1 _ _ (c.requires.passes k.0 k.1) _ _ _ _ _ _ c.args.symbols.now.named)
 
 pub overflow_add-listed : goal.overflow_add-listed
-overflow_add-listed c = let k = layout_of c.args.text.now c.requires.named.1 in let s = listed_small c.args.text.now k.0 k.1 _ _ (c.requires.passes k.0 k.1) _ _ _ _ _ _ c.requires.named.0 in omega (arith, s)
+overflow_add-listed c = let k = layout_of c.args.symbols.now.text.now c.args.symbols.now.grammar in let s = listed_small c.args.symbols.now.text.now k.0 k.1 _ _ (c.requires.passes k.0 k.1) _ _ _ _ _ _ c.args.symbols.now.named in omega (arith, s)
 
 pub overflow_cast-result : goal.overflow_cast-result
-overflow_cast-result c = let k = layout_of c.args.text.now c.requires.named.1 in let s = listed_small c.args.text.now k.0 k.1 _ _ (c.requires.passes k.0 k.1) _ _ _ _ _ _ c.requires.named.0 in omega (arith, s)
+overflow_cast-result c = let k = layout_of c.args.symbols.now.text.now c.args.symbols.now.grammar in let s = listed_small c.args.symbols.now.text.now k.0 k.1 _ _ (c.requires.passes k.0 k.1) _ _ _ _ _ _ c.args.symbols.now.named in omega (arith, s)
 
 pub overflow_cast-result-2 : goal.overflow_cast-result-2
-overflow_cast-result-2 c = let k = layout_of c.args.text.now c.requires.named.1 in let s = start_small c.args.text.now k.0 k.1 _ _ (c.requires.passes k.0 k.1) _ _ _ _ _ _ c.requires.named.0 _ (c.start_of-start.ensures k.0 k.1) in omega (arith, s)
+overflow_cast-result-2 c = let k = layout_of c.args.symbols.now.text.now c.args.symbols.now.grammar in let s = start_small c.args.symbols.now.text.now k.0 k.1 _ _ (c.requires.passes k.0 k.1) _ _ _ _ _ _ c.args.symbols.now.named _ (c.start_of-start.ensures k.0 k.1) in omega (arith, s)
 
 pub returns : goal.returns
-returns c = λ l p. written c.args.text.now l p _ _ (c.requires.passes l p) _ _ _ _ _ _ c.requires.named.0 _ _ _ _ _ (c.write_started.ensures _ (grammar_of c.args.text.now l p _ _ (c.requires.passes l p) _ _ _ _ _ _ c.requires.named.0 _ _ (c.pack-productions.ensures l p))) c.records_of-records.ensures (c.write_places.ensures l p) (c.start_of-start.ensures l p)
+returns c = λ l p. written c.args.symbols.now.text.now l p _ _ (c.requires.passes l p) _ _ _ _ _ _ c.args.symbols.now.named _ _ _ _ _ (c.write_started.ensures _ (grammar_of c.args.symbols.now.text.now l p _ _ (c.requires.passes l p) _ _ _ _ _ _ c.args.symbols.now.named _ _ (c.pack-productions.ensures l p))) c.records_of-records.ensures (c.write_places.ensures l p) (c.start_of-start.ensures l p)
