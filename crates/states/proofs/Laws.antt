@@ -55,10 +55,3 @@ module _ (t : List ℕ) (start : ℕ) (scratch out conflicts : List ℕ) where
   room-kept r ss os cs n m e h =
       let f = subst (Few (length out / 4) (length conflicts)) (ap (λ (l : Left). l.answer) (sym e) ∙ h) (few (check_of t) refl) in
       (omega (arith, f.0), omega (arith, f.0), omega (arith, f.1))
-
--- in a buffer that keeps its length
-pub kept : (k old new : ℕ) → k ≤ old → new ≡ old → k ≤ new
-kept k old new h l = omega arith
-
-pub few_conflicts : (m words : ℕ) → m * 5 ≤ words → 327675 ≡ words → m ≤ 65535
-few_conflicts m words h e = omega arith

@@ -1,7 +1,17 @@
+use mathlib.Core.Path.{sym}
+use lib.Seq.{length-take-le}
 use native.Mathlib.Omega.{arith}
-use Rattle.pipe.proofs.Laws.{table_few}
+use Rattle.states.proofs.Laws.{room-kept}
 use Rattle.states.proofs.build_input.Goals as goal
 
--- src/main.rt:96:34
-pub build_from-requires : goal.build_from-requires
-build_from-requires g c = let f = table_few _ _ _ _ c.read_table.ensures c.in-Table.is in (f, (omega (arith, c.requires.0, c.read_table.auto.bytes), omega (arith, f, c.requires.1, c.read_table.auto.table)))
+pub slice_bounds-out-end : goal.slice_bounds-out-end
+slice_bounds-out-end g c = let f = room-kept _ _ _ _ _ _ _ _ _ _ _ c.build_states.ensures c.in-States.is in omega arith
+
+pub slice_bounds-write_states-end : goal.slice_bounds-write_states-end
+slice_bounds-write_states-end g c = let f = room-kept _ _ _ _ _ _ _ _ _ _ _ c.build_states.ensures c.in-States.is in sym (length-take-le _ _ (omega arith))
+
+pub slice_bounds-conflicts-end : goal.slice_bounds-conflicts-end
+slice_bounds-conflicts-end g c = let f = room-kept _ _ _ _ _ _ _ _ _ _ _ c.build_states.ensures c.in-States.is in omega arith
+
+pub slice_bounds-write_states-end-in-States : goal.slice_bounds-write_states-end-in-States
+slice_bounds-write_states-end-in-States g c = let f = room-kept _ _ _ _ _ _ _ _ _ _ _ c.build_states.ensures c.in-States.is in sym (length-take-le _ _ (omega arith))
