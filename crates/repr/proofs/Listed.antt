@@ -1,8 +1,8 @@
 -- Laws of lists of symbols in words (specs/Listed): a list from a place on, symbol by symbol. Assumes nothing.
 use mathlib.Core.Path.{◌≡◌, refl, sym, ap, ◌∙◌}
-use mathlib.Core.Bool.{Bool, true, false, ◌&&◌}
+use mathlib.Core.Bool.{Bool, true, false, ◌&&◌, and-false}
 use mathlib.Core.List.{List, [], ◌∷◌}
-use Prim.Native.Nat.{ℕ, zero, suc, ◌+◌, ◌≤◌, ◌<◌}
+use Prim.Native.Nat.{ℕ, zero, suc, ◌+◌, ◌%◌, ◌≤◌, ◌<◌}
 use native.Mathlib.Omega.{arith}
 use native.Mathlib.Numerals.{add-one, add-two}
 use lib.ListN.{length, get_or, drop, drop_of_length-le}
@@ -40,6 +40,13 @@ module _ (n t : ℕ) (ws : List ℕ) (at : ℕ) where
   pub fits_good : at + 1 < length ws → (k x : ℕ) → k ≡ get_or ws at 0 → x ≡ get_or ws (at + 1) 0 → symbol_is_fit n t k x ≡ true
       → list_is_fit n t (drop at ws) ≡ list_is_fit n t (drop (at + 2) ws)
   fits_good h k x ek ex e = fits-step h k x ek ex ∙ rw e
+
+-- a list of an odd number of words ends with half a symbol
+pub odd_unfit : (n t : ℕ) (ws : List ℕ) → (length ws % 2 ≡ 0 → ⊥) → list_is_fit n t ws ≡ false
+unfolding list_is_fit
+odd_unfit n t [] o = absurd (o refl)
+odd_unfit n t (k ∷ []) o = refl
+odd_unfit n t (k ∷ x ∷ ws) o = rw (odd_unfit n t ws (λ e. o (omega arith))) (and-false (symbol_is_fit n t k x))
 
 -- one symbol from a place on
 pub listed-none : (ws : List ℕ) (at : ℕ) → length ws ≤ at → listed (drop at ws) ≡ []

@@ -103,16 +103,13 @@ pub fn symbol_fits(n: usize, t: usize, kind: usize, number: usize) -> bool
 pub fn list_fits(n: usize, t: usize, list: &[u16]) -> bool
     ensures { result ≡ list_is_fit n t list.now }
 {
-    let mut at: usize = 0;
-    while at < list.len() {
-        if list.len() - at < 2 {
-            return false;
-        }
-        let kind = word(list, at);
-        let number = word(list, at + 1);
-        if symbol_fits(n, t, kind, number) {
-            at += 2;
-        } else {
+    if list.len() % 2 != 0 {
+        return false;
+    }
+    for i in 0..list.len() / 2 {
+        let kind = word(list, 2 * i);
+        let number = word(list, 2 * i + 1);
+        if !symbol_fits(n, t, kind, number) {
             return false;
         }
     }
