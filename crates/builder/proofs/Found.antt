@@ -229,17 +229,17 @@ module _ {T : Table} {room : ℕ} {g : List ℕ} {sizes : Sizes} {sets : List �
   abbrev pub ready : Ready g sizes sets start
   ready = record { T = T; room = room; grammar = grammar; counted = z.counted; started = started; small = z.small }
 
-  module _ (ws bs E es : List ℕ) {r : Result ℕ Halt} (w : (s : Ready g sizes sets start) → FoundAs s.T start (found_to s.T start s.room) ws bs E es r) where
+  module _ (ws bs E es : List ℕ) (n : ℕ) {r : Result (Unit {0}) Halt} (w : (s : Ready g sizes sets start) → FoundAs s.T start (found_to s.T start s.room) ws bs E es n r) where
     pub halts-answer : {v : Halt} → r ≡ Err v → (words : ℕ) {out conflicts : List ℕ} (S : List ℕ)
         → record { answer = Refused (refusal_of v) 0; scratch = zeroed build_scratch S; out = out; conflicts = conflicts } ≡ built_of T S out conflicts (outcome T start room words)
     unfolding FoundAs finish_to built_of
     halts-answer {v} x words S = let y : found_to T start room ≡ halts (refusal_of v) = rw x at (w ready) in rw (outcome_steps T start room words ∙ ap (finish_to T room words) y) refl
 
-    pub all_found : {n : ℕ} → r ≡ Ok n → FoundAll T start (found_to T start room) ws bs E es n
+    pub all_found : {u : Unit {0}} → r ≡ Ok u → FoundAll T start (found_to T start room) ws bs E es n
     unfolding FoundAs
     all_found x = rw x at (w ready)
 
-    abbrev pub ended : {n : ℕ} → r ≡ Ok n → Ended T room g sizes ws bs E es n
+    abbrev pub ended : {u : Unit {0}} → r ≡ Ok u → Ended T room g sizes ws bs E es n
     ended x = record {
       start = start;
       sets = sets;

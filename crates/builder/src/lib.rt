@@ -16,15 +16,17 @@ ghost use Rattle.builder.specs.Outcome.{build_scratch, start_is_fit, grammar_alo
 ghost use Rattle.builder.specs.Ended.{SizesOf, Ended, Laid};
 
 use conflict_list::write_conflicts;
-use finding::Sizes;
+use finding::{Sizes, Source};
 use first::FirstSets;
 use grammar_records::{count_symbols, write_front, write_productions, write_symbols};
+use kept_states::Begins;
 use measuring::measure;
 use repr::ProductionIndex;
 use searching::search_states;
 use slices::zero;
 use state_records::{write_edges, write_items, write_states};
-use table::{Counts, first_edge, first_item, read_counts, read_productions};
+use table::{Checked, Counts, first_edge, first_item, read_counts, read_productions};
+use taking::Edges;
 
 // Records of the table and conflicts written; or the refusal and its place.
 #[derive(Clone, Copy)]
@@ -57,21 +59,15 @@ fn start_fits(table: &[u16], start: usize) -> bool
 }
 
 // The table of what was found, region by region.
-fn write_table(
-    grammar: &[u16],
-    sizes: Sizes,
-    words: &[u16],
-    begins: &[usize; 129],
-    edges: &[u16; 12160],
-    rows: &[usize; 129],
-    states: usize,
-    out: &mut [u16],
-)
-    requires { (U : Table) × Laid U grammar.now sizes words.now begins.now edges.now rows.now states out.old }
-    ensures { (U : Table) → Laid U grammar.now sizes words.now begins.now edges.now rows.now states out.old → out.new ≡ in_front (spell U) out.old }
+fn write_table(source: Source, words: &[u16], begins: &Begins, edges: &Edges, out: &mut [u16])
+    requires { (U : Table) × Laid U source.grammar.now source.sizes words.now begins.now.items edges.now.words edges.now.rows begins.now.states out.old }
+    ensures { (U : Table) → Laid U source.entry.grammar.now source.entry.sizes words.now begins.now.items edges.now.words edges.now.rows begins.now.states out.old → out.new ≡ in_front (spell U) out.old }
 {
+    let grammar = source.grammar;
+    let sizes = source.sizes;
     let nonterminals = sizes.nonterminals;
     let productions = sizes.productions;
+    let states = begins.states;
     let counts = Counts {
         nonterminals,
         terminals: sizes.terminals as usize,
@@ -79,9 +75,17 @@ fn write_table(
         productions,
     };
     let items = sizes.fixed + states;
-    let ends = items + begins[states];
+    let ends = items + begins.items[states];
     write_front(grammar, counts, out);
-    write_states(begins, rows, states, 1 + nonterminals, items, ends, out);
+    write_states(
+        &begins.items,
+        &edges.rows,
+        states,
+        1 + nonterminals,
+        items,
+        ends,
+        out,
+    );
     write_productions(grammar, counts, out);
     write_symbols(
         grammar,
@@ -89,30 +93,28 @@ fn write_table(
         1 + nonterminals + states + productions,
         out,
     );
-    write_items(words, begins, states, items, out);
-    write_edges(edges, rows, states, ends, out);
+    write_items(words, &begins.items, states, items, out);
+    write_edges(&edges.words, &edges.rows, states, ends, out);
 }
 
 // Refusal 17 at the end of the search, else the table and its conflicts.
 fn write_found(
-    grammar: &[u16],
-    sizes: Sizes,
+    source: Source,
     words: &[u16],
-    begins: &[usize; 129],
-    edges: &[u16; 12160],
-    rows: &[usize; 129],
-    states: usize,
+    begins: &Begins,
+    edges: &Edges,
     out: &mut [u16],
     conflicts: &mut [u16],
 ) -> Built
-    requires { (T : Table) × Ended T (length out.old / 4) grammar.now sizes words.now begins.now edges.now rows.now states }
-    ensures { (T : Table) (s : Ended T (length out.old / 4) grammar.now sizes words.now begins.now edges.now rows.now states) (S : List ℕ) → record { answer = result; scratch = zeroed build_scratch S; out = out.new; conflicts = conflicts.new } ≡ built_of T S out.old conflicts.old (outcome T s.start (length out.old / 4) (length conflicts.old)) }
+    requires { (T : Table) × Ended T (length out.old / 4) source.grammar.now source.sizes words.now begins.now.items edges.now.words edges.now.rows begins.now.states }
+    ensures { (T : Table) (s : Ended T (length out.old / 4) source.entry.grammar.now source.entry.sizes words.now begins.now.items edges.now.words edges.now.rows begins.now.states) (S : List ℕ) → record { answer = result; scratch = zeroed build_scratch S; out = out.new; conflicts = conflicts.new } ≡ built_of T S out.old conflicts.old (outcome T s.start (length out.old / 4) (length conflicts.old)) }
 {
-    match measure(grammar, sizes, words, begins, rows, states, conflicts.len()) {
+    match measure(source, words, begins, edges, conflicts.len()) {
         Err(halt) => Built::Refused(halt.refusal(), 0),
         Ok(measured) => {
-            write_table(grammar, sizes, words, begins, edges, rows, states, out);
-            write_conflicts(grammar, sizes.productions, words, begins, states, conflicts);
+            write_table(source, words, begins, edges, out);
+            let productions = source.sizes.productions;
+            write_conflicts(source.grammar, productions, words, begins, conflicts);
             Built::States(measured.records as u16, measured.conflicts as u32)
         }
     }
@@ -153,26 +155,24 @@ fn build_found(
     read_productions(table, &mut grammar);
     let sizes = sizes_of(table, &grammar, out.len() / 4);
     let sets = FirstSets::new(&grammar, sizes.productions, sizes.terminals);
-    let first = sets.map;
-    let mut begins = [0usize; 129];
-    let mut kernel = [0u16; 10880];
-    let mut edges = [0u16; 12160];
-    let mut rows = [0usize; 129];
-    match search_states(
-        &grammar,
+    let source = Source {
+        grammar: &grammar,
+        first: &sets.map,
         sizes,
-        &first,
-        start,
-        words,
-        &mut begins,
-        &mut kernel,
-        &mut edges,
-        &mut rows,
-    ) {
+    };
+    let mut begins = Begins {
+        items: [0; 129],
+        states: 0,
+    };
+    let mut kernel = [0u16; 10880];
+    let mut edges = Edges {
+        words: [0; 12160],
+        rows: [0; 129],
+        many: 0,
+    };
+    match search_states(source, start, words, &mut begins, &mut kernel, &mut edges) {
         Err(halt) => Built::Refused(halt.refusal(), 0),
-        Ok(states) => write_found(
-            &grammar, sizes, words, &begins, &edges, &rows, states, out, conflicts,
-        ),
+        Ok(()) => write_found(source, words, &begins, &edges, out, conflicts),
     }
 }
 

@@ -1,6 +1,6 @@
 -- Laws of taking state after state, one for each way through the code. Assumes nothing.
-use Rattle.std.proofs.Common.{Result, Ok, Err}
-use mathlib.Core.Path.{◌≡◌, refl, sym, ap, ◌∙◌, subst}
+use Rattle.std.proofs.Common.{Ok, Err}
+use mathlib.Core.Path.{◌≡◌, refl, sym, ap, ◌∙◌}
 use mathlib.Core.Bool.{true}
 use mathlib.Core.List.{List, [], ◌∷◌, ◌++◌, map}
 use Prim.Native.Nat.{ℕ, suc, ◌+◌, ◌-◌, ◌*◌, ◌≤◌, ◌<◌}
@@ -64,8 +64,7 @@ round-start T start room Rs ws bs E es q n H z = record {
   rest = refl;
 }
 
-module _ (T : Table) (start room : ℕ) (Rs : List (List ℕ)) (ws bs E es : List ℕ) (k m q : ℕ) (u : Round T start room Rs ws bs E es k m q) (h : k < q) (ws' bs' E' : List ℕ) (r : Result (ℕ × ℕ) Halt)
-    (step : TakenAs T start u.Qs (take_to T room (get_or u.Qs k []) u.Qs (tried T)) ws' bs' E E' m r) where
+module _ (T : Table) (start room : ℕ) (Rs : List (List ℕ)) (ws bs E es : List ℕ) (k m q : ℕ) (u : Round T start room Rs ws bs E es k m q) (h : k < q) (ws' bs' E' : List ℕ) (q' m' : ℕ) where
   fuel : 129 - k ≡ suc (129 - (k + 1))
   fuel = omega (arith, u.many, u.holds.begun.few)
 
@@ -75,13 +74,13 @@ module _ (T : Table) (start room : ℕ) (Rs : List (List ℕ)) (ws bs E es : Lis
   at : length (rows_in E es k) < length u.Qs
   at = rw (rows_k, ← u.many) h
 
-  pub round-stops : (n : Halt) → r ≡ Err n → FoundAs T start (collect_to 129 T room Rs []) ws' bs' E' es (Err n)
+  pub round-stops : (n : Halt) → TakenAs T start u.Qs (take_to T room (get_or u.Qs k []) u.Qs (tried T)) ws' bs' E E' m q' m' (Err n) → FoundAs T start (collect_to 129 T room Rs []) ws' bs' E' es q' (Err n)
   unfolding TakenAs FoundAs
-  round-stops n p =
-      let w : take_to T room (get_or u.Qs k []) u.Qs (tried T) ≡ stopped (refusal_of n) = subst (TakenAs T start u.Qs (take_to T room (get_or u.Qs k []) u.Qs (tried T)) ws' bs' E E' m) p step in
+  round-stops n step =
+      let w : take_to T room (get_or u.Qs k []) u.Qs (tried T) ≡ stopped (refusal_of n) = step in
       sym u.rest ∙ ap (λ (f : ℕ). collect_to f T room u.Qs (rows_in E es k)) fuel ∙ to_halt (129 - (k + 1)) T room u.Qs (rows_in E es k) at (refusal_of n) (rw rows_k w)
 
-  module _ (q' m' : ℕ) (room_for : k + 1 < length es) where
+  module _ (room_for : k + 1 < length es) where
     abbrev es' : List ℕ
     es' = set es (k + 1) m'
 
@@ -118,15 +117,15 @@ module _ (T : Table) (start room : ℕ) (Rs : List (List ℕ)) (ws bs E es : Lis
       rest = rw (rows_more t.same) (sym (to_more (129 - (k + 1)) T room u.Qs (rows_in E es k) at t.Qs (edges_in E' m (m' - m)) (rw rows_k t.is)) ∙ ap (λ (f : ℕ). collect_to f T room u.Qs (rows_in E es k)) (sym fuel) ∙ u.rest);
     }
 
-    pub round-more : r ≡ Ok (q', m') → Round T start room Rs ws' bs' E' es' (k + 1) m' q'
+    pub round-more : (v : Unit {0}) → TakenAs T start u.Qs (take_to T room (get_or u.Qs k []) u.Qs (tried T)) ws' bs' E E' m q' m' (Ok v) → Round T start room Rs ws' bs' E' es' (k + 1) m' q'
     unfolding TakenAs
-    round-more p = on (subst (TakenAs T start u.Qs (take_to T room (get_or u.Qs k []) u.Qs (tried T)) ws' bs' E E' m) p step)
+    round-more v step = on step
 
-  pub taken_small : (q' m' : ℕ) → r ≡ Ok (q', m') → m' ≤ m + 95
+  pub taken_small : (v : Unit {0}) → TakenAs T start u.Qs (take_to T room (get_or u.Qs k []) u.Qs (tried T)) ws' bs' E E' m q' m' (Ok v) → m' ≤ m + 95
   unfolding TakenAs
-  taken_small q' m' p = (subst (TakenAs T start u.Qs (take_to T room (get_or u.Qs k []) u.Qs (tried T)) ws' bs' E E' m) p step).high
+  taken_small v step = step.high
 
-pub round_end : (T : Table) (start room : ℕ) (Rs : List (List ℕ)) (ws bs E es : List ℕ) (k m q : ℕ) → Round T start room Rs ws bs E es k m q → q ≤ k → FoundAs T start (collect_to 129 T room Rs []) ws bs E es (Ok q)
+pub round_end : (T : Table) (start room : ℕ) (Rs : List (List ℕ)) (ws bs E es : List ℕ) (k m q : ℕ) → Round T start room Rs ws bs E es k m q → q ≤ k → FoundAs T start (collect_to 129 T room Rs []) ws bs E es q (Ok tt)
 unfolding FoundAs
 round_end T start room Rs ws bs E es k m q u h =
     let p : k ≡ q = omega (arith, u.before) in

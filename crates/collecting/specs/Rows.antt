@@ -24,6 +24,6 @@ pub record FoundAll (T : Table) (start : ℕ) (w : Found) (ws bs E es : List ℕ
   pub rises : (k : ℕ) → k < n → get_or es k 0 ≤ get_or es (k + 1) 0
   pub few : get_or es n 0 ≤ 12160
 
-unfoldable pub FoundAs : Table → ℕ → Found → List ℕ → List ℕ → List ℕ → List ℕ → Result ℕ Halt → Type 0
-FoundAs T start w ws bs E es (Err h) = w ≡ halts (refusal_of h)
-FoundAs T start w ws bs E es (Ok n) = FoundAll T start w ws bs E es n
+unfoldable pub FoundAs : Table → ℕ → Found → List ℕ → List ℕ → List ℕ → List ℕ → ℕ → Result (Unit {0}) Halt → Type 0
+FoundAs T start w ws bs E es n (Err h) = w ≡ halts (refusal_of h)
+FoundAs T start w ws bs E es n (Ok u) = FoundAll T start w ws bs E es n

@@ -8,35 +8,28 @@ ghost use Rattle.finding.specs.Steps.{collect_to};
 ghost use Rattle.finding.specs.Search.{Search};
 ghost use Rattle.collecting.specs.Rows.{FoundAs};
 
-use finding::{Halt, Sizes};
-use taking::take_state;
+use finding::{Halt, Source};
+use kept_states::Begins;
+use taking::{Edges, take_state};
 
-// The states behind those found, and the edges of all; how many states there are.
+// The states behind those found, and the edges of all.
 pub fn find_states(
-    grammar: &[u16],
-    sizes: Sizes,
-    first: &[u64; 32],
+    source: Source,
     words: &mut [u16],
-    begins: &mut [usize; 129],
-    found: usize,
+    begins: &mut Begins,
     kernel: &mut [u16],
-    edges: &mut [u16; 12160],
-    rows: &mut [usize; 129],
-) -> Result<usize, Halt>
-    requires search { Search grammar.now sizes first.now words.old begins.old found }
-    requires item_limit_in_bounds { (item_limit * 5 ≤ length kernel.old) × (length edges.old ≡ 12160) × (length rows.old ≡ 129) × (get_or rows.old 0 0 ≡ 0) }
-    ensures { (s : Search grammar.now sizes first.now words.old begins.old found) → FoundAs s.T s.start (collect_to 129 s.T s.room s.Rs []) words.new begins.new edges.new rows.new result }
+    edges: &mut Edges,
+) -> Result<(), Halt>
+    requires search { Search source.grammar.now source.sizes source.first.now words.old begins.old.items begins.old.states }
+    requires item_limit_in_bounds { (item_limit * 5 ≤ length kernel.old) × (length edges.old.words ≡ 12160) × (length edges.old.rows ≡ 129) × (get_or edges.old.rows 0 0 ≡ 0) × (edges.old.many ≡ 0) }
+    ensures { (s : Search source.entry.grammar.now source.entry.sizes source.entry.first.now words.old begins.old.items begins.old.states) → FoundAs s.T s.start (collect_to 129 s.T s.room s.Rs []) words.new begins.new.items edges.new.words edges.new.rows begins.new.states result }
 {
-    let mut states = found;
-    let mut many: usize = 0;
-    let mut k: usize = 0;
+    let mut k = 0;
     // No range: taking one adds states.
-    while k < states {
-        (states, many) = take_state(
-            grammar, sizes, first, words, begins, states, k, kernel, edges, many,
-        )?;
+    while k < begins.states {
+        take_state(source, words, begins, k, kernel, edges)?;
         k += 1;
-        rows[k] = many;
+        edges.rows[k] = edges.many;
     }
-    Ok(states)
+    Ok(())
 }

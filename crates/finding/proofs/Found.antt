@@ -30,16 +30,16 @@ use Rattle.finding.proofs.Laws.{entry_places}
 
 -- what a step comes to
 
-pub comes_nowhere : (T : Table) (start : ℕ) (Rs : List (List ℕ)) (w : Reach) (ws bs : List ℕ) → w ≡ nowhere → Holds T start ws bs Rs → Reached T start Rs w ws bs (Ok None)
+pub comes_nowhere : (T : Table) (start : ℕ) (Rs : List (List ℕ)) (w : Reach) (ws bs : List ℕ) (m : ℕ) → w ≡ nowhere → m ≡ length Rs → Holds T start ws bs Rs → Reached T start Rs w ws bs m (Ok None)
 unfolding Reached
-comes_nowhere T start Rs w ws bs e H = (e, H)
+comes_nowhere T start Rs w ws bs m e l H = (e, l, H)
 
-pub comes_stops : (T : Table) (start : ℕ) (Rs : List (List ℕ)) (w : Reach) (ws bs : List ℕ) (h : Halt) → w ≡ stops (refusal_of h) → Reached T start Rs w ws bs (Err h)
+pub comes_stops : (T : Table) (start : ℕ) (Rs : List (List ℕ)) (w : Reach) (ws bs : List ℕ) (m : ℕ) (h : Halt) → w ≡ stops (refusal_of h) → Reached T start Rs w ws bs m (Err h)
 unfolding Reached
-comes_stops T start Rs w ws bs h e = e
+comes_stops T start Rs w ws bs m h e = e
 
 pub comes_to : (T : Table) (start : ℕ) (Rs : List (List ℕ)) (w : Reach) (ws bs : List ℕ) (t m : ℕ) (Qs : List (List ℕ)) → w ≡ reach t Qs → m ≡ length Qs → t < m → Holds T start ws bs Qs → Keeps Rs Qs
-    → Reached T start Rs w ws bs (Ok (Some (t, m)))
+    → Reached T start Rs w ws bs m (Ok (Some t))
 unfolding Reached
 comes_to T start Rs w ws bs t m Qs e l h H K = (Qs, e, l, h, H, K)
 
@@ -87,28 +87,28 @@ module _ (g : List ℕ) (sizes : Sizes) (sets ws bs : List ℕ) (n : ℕ) (s : S
   high : length s.Rs ≤ place C s.Rs
   high = omega arith
 
-  pub store_all : n ≡ 128 → (ws' bs' : List ℕ) → Reached s.T s.start s.Rs (add_to s.T s.room C s.Rs) ws' bs' (Err States)
+  pub store_all : n ≡ 128 → (ws' bs' : List ℕ) (m' : ℕ) → Reached s.T s.start s.Rs (add_to s.T s.room C s.Rs) ws' bs' m' (Err States)
   unfolding number_of
-  store_all q ws' bs' =
+  store_all q ws' bs' m' =
       let k : length s.Rs ≡ 128 = sym s.many ∙ q in
-      comes_stops s.T s.start s.Rs (add_to s.T s.room C s.Rs) ws' bs' States
+      comes_stops s.T s.start s.Rs (add_to s.T s.room C s.Rs) ws' bs' m' States
       (to_full s.T s.room C s.Rs high (ap (stops_at s.T s.room (s.Rs ++ C ∷ [])) k ∙ stops_128 s.T s.room (s.Rs ++ C ∷ [])) ∙ ap (λ (i : ℕ). stops (number_of i)) k)
 
-  module _ (few : n ≡ 128 → ⊥) (S ws' bs' : List ℕ) (is : take (index_limit * sizes.productions) S ≡ C) where
+  module _ (few : n ≡ 128 → ⊥) (S ws' bs' : List ℕ) (m' : ℕ) (is : take (index_limit * sizes.productions) S ≡ C) where
     other : length s.Rs ≡ 128 → ⊥
     other q = few (s.many ∙ q)
 
     test : stops_at s.T s.room (s.Rs ++ C ∷ []) (length s.Rs) ≡ ltb sizes.limit (sizes.fixed + n + 1 + (get_or bs n 0 + length (packed (take (index_limit * sizes.productions) S))))
     test = rw (is, s.many, s.limit_is) (stops-more_is s.T s.start s.room ws bs s.Rs s.holds C sizes.fixed s.fixed_is other)
 
-    pub store_none : (h : Halt) → h ≡ Records → Stored (sizes.fixed + n + 1) sizes.limit (packed (take (index_limit * sizes.productions) S)) ws ws' bs bs' n false → Reached s.T s.start s.Rs (add_to s.T s.room C s.Rs) ws' bs' (Err h)
+    pub store_none : (h : Halt) → h ≡ Records → Stored (sizes.fixed + n + 1) sizes.limit (packed (take (index_limit * sizes.productions) S)) ws ws' bs bs' n false → Reached s.T s.start s.Rs (add_to s.T s.room C s.Rs) ws' bs' m' (Err h)
     store_none h q k =
-        rw q (comes_stops s.T s.start s.Rs (add_to s.T s.room C s.Rs) ws' bs' Records
+        rw q (comes_stops s.T s.start s.Rs (add_to s.T s.room C s.Rs) ws' bs' m' Records
         (to_full s.T s.room C s.Rs high (test ∙ lt-ltb sizes.limit (sizes.fixed + n + 1 + (get_or bs n 0 + length (packed (take (index_limit * sizes.productions) S)))) (k.none refl)) ∙ ap stops (number_of_lem (length s.Rs) other)))
 
-    pub store_some : Stored (sizes.fixed + n + 1) sizes.limit (packed (take (index_limit * sizes.productions) S)) ws ws' bs bs' n true → Made s.T s.start C
-        → Reached s.T s.start s.Rs (add_to s.T s.room C s.Rs) ws' bs' (Ok (Some (n, n + 1)))
-    store_some k m =
+    pub store_some : Stored (sizes.fixed + n + 1) sizes.limit (packed (take (index_limit * sizes.productions) S)) ws ws' bs bs' n true → m' ≡ n + 1 → Made s.T s.start C
+        → Reached s.T s.start s.Rs (add_to s.T s.room C s.Rs) ws' bs' m' (Ok (Some n))
+    store_some k w' m =
         let past : ℕ = get_or bs n 0 + length (packed (take (index_limit * sizes.productions) S)) in
         let small : get_or bs n 0 + length (packed (take (index_limit * sizes.productions) S)) ≤ record_limit = omega (arith, k.room refl, s.limit_is) in
         let few' : length s.Rs < state_limit = omega (arith, other, s.holds.begun.few) in
@@ -116,10 +116,10 @@ module _ (g : List ℕ) (sizes : Sizes) (sets ws bs : List ℕ) (n : ℕ) (s : S
         let more = holds_more s.T s.start ws bs s.Rs s.holds C m (get_or bs n 0 + length (packed (take (index_limit * sizes.productions) S))) few' at small in
         let w : ws' ≡ put_all ws (get_or bs (length s.Rs) 0) (packed C) = k.words refl ∙ rw (is, s.many) refl in
         let b : bs' ≡ set bs (length s.Rs + 1) (get_or bs n 0 + length (packed (take (index_limit * sizes.productions) S))) = k.begins refl ∙ ap (λ (i : ℕ). set bs (i + 1) (get_or bs n 0 + length (packed (take (index_limit * sizes.productions) S)))) s.many in
-        comes_to s.T s.start s.Rs (add_to s.T s.room C s.Rs) ws' bs' n (n + 1) (s.Rs ++ C ∷ [])
+        comes_to s.T s.start s.Rs (add_to s.T s.room C s.Rs) ws' bs' n m' (s.Rs ++ C ∷ [])
         (to_new s.T s.room C s.Rs high (test ∙ le-ltb sizes.limit (sizes.fixed + n + 1 + (get_or bs n 0 + length (packed (take (index_limit * sizes.productions) S)))) (k.room refl)) ∙ ap (λ (i : ℕ). reach i (s.Rs ++ C ∷ [])) (new ∙ sym s.many))
-        (rw (length_snoc C s.Rs) (omega (arith, s.many)))
-        (omega arith)
+        (rw (length_snoc C s.Rs) (omega (arith, s.many, w')))
+        (omega (arith, w'))
         (rw (w, b) more)
         (keeps_snoc s.Rs C)
 
@@ -238,10 +238,10 @@ module _ (g : List ℕ) (sizes : Sizes) (sets ws bs : List ℕ) (n : ℕ) (s : S
     some : (many ≡ 0 → ⊥) → nothing? M ≡ false
     some z = cases (nothing? M) (λ t. absurd (z (sym over_many ∙ packed-nothing M t))) (λ t. t)
 
-    pub over-nowhere : many ≡ 0 → Reached s.T s.start s.Rs (goto_to s.T s.room (get_or s.Rs k []) s.Rs (symbol_of_code c)) ws bs (Ok None)
+    pub over-nowhere : many ≡ 0 → Reached s.T s.start s.Rs (goto_to s.T s.room (get_or s.Rs k []) s.Rs (symbol_of_code c)) ws bs n (Ok None)
     over-nowhere z =
-        comes_nowhere s.T s.start s.Rs (goto_to s.T s.room (get_or s.Rs k []) s.Rs (symbol_of_code c)) ws bs
-        (goto-none s.T s.room (get_or s.Rs k []) s.Rs (symbol_of_code c) (cases (nothing? M) (λ t. t) (λ t. absurd (omega (arith, packed_something M t, over_many))))) s.holds
+        comes_nowhere s.T s.start s.Rs (goto_to s.T s.room (get_or s.Rs k []) s.Rs (symbol_of_code c)) ws bs n
+        (goto-none s.T s.room (get_or s.Rs k []) s.Rs (symbol_of_code c) (cases (nothing? M) (λ t. t) (λ t. absurd (omega (arith, packed_something M t, over_many))))) s.many s.holds
 
     pub over_kernel : KernelIn ks many sizes.productions
     over_kernel = record {
@@ -257,7 +257,7 @@ module _ (g : List ℕ) (sizes : Sizes) (sets ws bs : List ℕ) (n : ℕ) (s : S
           sym at ∙ rw (over_is, s.many, goto_is s.T (symbol_of_code c) (get_or s.Rs k [])) (holds_place s.T s.start ws bs s.Rs s.holds s.grammar.fits s.started M
           (moved_kernel s.T s.grammar.fits s.start s.started (s.holds.made k inside) (symbol_of_code c) (some z)))
 
-      pub over_old : t < n → Reached s.T s.start s.Rs (goto_to s.T s.room (get_or s.Rs k []) s.Rs (symbol_of_code c)) ws bs (Ok (Some (t, n)))
+      pub over_old : t < n → Reached s.T s.start s.Rs (goto_to s.T s.room (get_or s.Rs k []) s.Rs (symbol_of_code c)) ws bs n (Ok (Some t))
       over_old u =
           comes_to s.T s.start s.Rs (goto_to s.T s.room (get_or s.Rs k []) s.Rs (symbol_of_code c)) ws bs t n s.Rs
           (goto-some s.T s.room (get_or s.Rs k []) s.Rs (symbol_of_code c) (some z)
@@ -266,11 +266,11 @@ module _ (g : List ℕ) (sizes : Sizes) (sets ws bs : List ℕ) (n : ℕ) (s : S
           s.many u s.holds (keeps_refl s.Rs)
 
       -- with what `store` leaves
-      pub over_new : t ≡ n → (ws' bs' : List ℕ) (r : Result (Option (ℕ × ℕ)) Halt)
+      pub over_new : t ≡ n → (ws' bs' : List ℕ) (m' : ℕ) (r : Result (Option ℕ) Halt)
           → ((M : List ℕ) → length M ≡ index_limit * sizes.productions → entries ks 0 many ≡ packed M → Made s.T s.start (closure s.T M) → place (closure s.T M) s.Rs ≡ length s.Rs
-          → Reached s.T s.start s.Rs (add_to s.T s.room (closure s.T M) s.Rs) ws' bs' r)
-          → Reached s.T s.start s.Rs (goto_to s.T s.room (get_or s.Rs k []) s.Rs (symbol_of_code c)) ws' bs' r
-      over_new u ws' bs' r stored =
+          → Reached s.T s.start s.Rs (add_to s.T s.room (closure s.T M) s.Rs) ws' bs' m' r)
+          → Reached s.T s.start s.Rs (goto_to s.T s.room (get_or s.Rs k []) s.Rs (symbol_of_code c)) ws' bs' m' r
+      over_new u ws' bs' m' r stored =
           let q = goto_is s.T (symbol_of_code c) (get_or s.Rs k []) in
           let m : Made s.T s.start (goto s.T (symbol_of_code c) (get_or s.Rs k [])) = next (symbol_of_code c) (s.holds.made k inside) (some z) in
           let p : place (goto s.T (symbol_of_code c) (get_or s.Rs k [])) s.Rs ≡ length s.Rs = omega (arith, target_is, s.many, place_le (goto s.T (symbol_of_code c) (get_or s.Rs k [])) s.Rs) in

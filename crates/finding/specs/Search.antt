@@ -51,11 +51,11 @@ pub record Keeps (Rs Qs : List (List ℕ)) : Type 0 where
   pub long : length Rs ≤ length Qs
   pub same : (k : ℕ) → k < length Rs → slice_index_or Qs k [] ≡ slice_index_or Rs k []
 
--- what one step over a symbol leaves: w is what it should come to
-unfoldable pub Reached : Table → ℕ → List (List ℕ) → Reach → List ℕ → List ℕ → Result (Option (ℕ × ℕ)) Halt → Type 0
-Reached T start Rs w ws bs (Ok None) = (w ≡ nowhere) × Holds T start ws bs Rs
-Reached T start Rs w ws bs (Err h) = w ≡ stops (refusal_of h)
-Reached T start Rs w ws bs (Ok (Some p)) = (Qs : List (List ℕ)) × (w ≡ reach p.0 Qs) × (p.1 ≡ length Qs) × (p.0 < p.1) × Holds T start ws bs Qs × Keeps Rs Qs
+-- what one step over a symbol leaves: w is what it should come to, m how many states there are then
+unfoldable pub Reached : Table → ℕ → List (List ℕ) → Reach → List ℕ → List ℕ → ℕ → Result (Option ℕ) Halt → Type 0
+Reached T start Rs w ws bs m (Ok None) = (w ≡ nowhere) × (m ≡ length Rs) × Holds T start ws bs Rs
+Reached T start Rs w ws bs m (Err h) = w ≡ stops (refusal_of h)
+Reached T start Rs w ws bs m (Ok (Some t)) = (Qs : List (List ℕ)) × (w ≡ reach t Qs) × (m ≡ length Qs) × (t < m) × Holds T start ws bs Qs × Keeps Rs Qs
 
 -- the symbol of a number (specs/Grammar of closing), and whether it is one of the table's
 unfoldable pub symbol_of_code : ℕ → Symbol

@@ -13,7 +13,7 @@ ghost use Rattle.finding.specs.Steps.{add_to, goto_to};
 ghost use Rattle.finding.specs.Search.{KernelIn, Stored, Search, refusal_of, CodeFits, symbol_of_code, Reached};
 
 use closing::transitive_closure;
-use kept_states::{count_items, find, pack, unpack};
+use kept_states::{Begins, count_items, find, pack, unpack};
 use lr1_core::Item;
 use repr::ProductionIndex;
 use stored::move_over;
@@ -26,6 +26,14 @@ pub struct Sizes {
     pub productions: usize,
     pub fixed: usize,
     pub limit: usize,
+}
+
+// What a search is given: the grammar, its FIRST sets, the numbers.
+#[derive(Clone, Copy)]
+pub struct Source<'a> {
+    pub grammar: &'a [u16],
+    pub first: &'a [u64; 32],
+    pub sizes: Sizes,
 }
 
 // What a search lacks where it halts: a number for a state, or room for its records.
@@ -52,90 +60,82 @@ pub fn append(
     state: &[u64; Item::LIMIT],
     sizes: Sizes,
     words: &mut [u16],
-    begins: &mut [usize; 129],
-    states: usize,
+    begins: &mut Begins,
 ) -> Result<(), Halt>
     requires state_len { (length state.now ≡ item_limit) × (sizes.productions ≤ 128) × (sizes.fixed ≤ 65536) × (sizes.limit ≤ record_limit) }
-    requires record_limit_in_bounds { (record_limit * 5 ≤ length words.old) × (length begins.old ≡ suc state_limit) × (states < state_limit) × (slice_index begins.old states ≤ record_limit) }
-    ensures { let stored = Stored (sizes.fixed + states + 1) sizes.limit (packed (take (index_limit * sizes.productions) state.now)) words.old words.new begins.old begins.new states in MatchResult result (λ u. stored true) (λ h. (h ≡ Halt.Records) × stored false) }
+    requires record_limit_in_bounds { (record_limit * 5 ≤ length words.old) × (length begins.old.items ≡ suc state_limit) × (begins.old.states < state_limit) × (slice_index begins.old.items begins.old.states ≤ record_limit) }
+    ensures { let stored = Stored (sizes.fixed + begins.old.states + 1) sizes.limit (packed (take (index_limit * sizes.productions) state.now)) words.old words.new begins.old.items begins.new.items begins.old.states in MatchResult result (λ u. stored true × (begins.new.states ≡ begins.old.states + 1)) (λ h. (h ≡ Halt.Records) × stored false) }
 {
     let places = ProductionIndex::INDEXES * sizes.productions;
-    let begin = begins[states];
+    let states = begins.states;
+    let begin = begins.items[states];
     let past = begin + count_items(state, places);
     if sizes.limit < sizes.fixed + states + 1 + past {
         return Err(Halt::Records);
     }
-    begins[states + 1] = pack(state, places, words, begin);
+    begins.items[states + 1] = pack(state, places, words, begin);
+    begins.states = states + 1;
     Ok(())
 }
 
 // A kernel closed.
-pub fn close(
-    grammar: &[u16],
-    sizes: Sizes,
-    first: &[u64; 32],
-    kernel: &[u16],
-    many: usize,
-) -> [u64; Item::LIMIT]
-    requires held { Held grammar.now sizes.productions sizes.terminals first.now }
-    requires many_le_record_limit { (many ≤ record_limit) × (many * 5 ≤ length kernel.now) × KernelIn kernel.now many sizes.productions }
-    ensures { (length result ≡ item_limit) × ((T : Table) (M : List ℕ) → Grammar T grammar.now sizes.productions sizes.terminals first.now → length M ≡ index_limit * sizes.productions → entries kernel.now 0 many ≡ packed M → take (index_limit * sizes.productions) result ≡ closure T M) }
+pub fn close(source: Source, kernel: &[u16], many: usize) -> [u64; Item::LIMIT]
+    requires held { Held source.grammar.now source.sizes.productions source.sizes.terminals source.first.now }
+    requires many_le_record_limit { (many ≤ record_limit) × (many * 5 ≤ length kernel.now) × KernelIn kernel.now many source.sizes.productions }
+    ensures { (length result ≡ item_limit) × ((T : Table) (M : List ℕ) → Grammar T source.entry.grammar.now source.entry.sizes.productions source.entry.sizes.terminals source.entry.first.now → length M ≡ index_limit * source.entry.sizes.productions → entries kernel.now 0 many ≡ packed M → take (index_limit * source.entry.sizes.productions) result ≡ closure T M) }
 {
+    let sizes = source.sizes;
     let mut state = unpack(kernel, 0, many);
     transitive_closure(
-        grammar,
+        source.grammar,
         sizes.productions,
         sizes.terminals,
-        first,
+        source.first,
         &mut state,
     );
     state
 }
 
-// A kernel that no state has, closed and stored: the new state's number, and how many states there are then.
+// A kernel that no state has, closed and stored: the new state's number.
 fn store(
-    grammar: &[u16],
-    sizes: Sizes,
-    first: &[u64; 32],
+    source: Source,
     words: &mut [u16],
-    begins: &mut [usize; 129],
-    states: usize,
+    begins: &mut Begins,
     kernel: &[u16],
     many: usize,
-) -> Result<Option<(usize, usize)>, Halt>
-    requires search { Search grammar.now sizes first.now words.old begins.old states }
-    requires many_le_record_limit { (many ≤ record_limit) × (many * 5 ≤ length kernel.now) × KernelIn kernel.now many sizes.productions }
-    ensures { (s : Search grammar.now sizes first.now words.old begins.old states) (M : List ℕ) → length M ≡ index_limit * sizes.productions → entries kernel.now 0 many ≡ packed M → Made s.T s.start (closure s.T M) → place (closure s.T M) s.Rs ≡ length s.Rs → Reached s.T s.start s.Rs (add_to s.T s.room (closure s.T M) s.Rs) words.new begins.new result }
+) -> Result<Option<usize>, Halt>
+    requires search { Search source.grammar.now source.sizes source.first.now words.old begins.old.items begins.old.states }
+    requires many_le_record_limit { (many ≤ record_limit) × (many * 5 ≤ length kernel.now) × KernelIn kernel.now many source.sizes.productions }
+    ensures { (s : Search source.entry.grammar.now source.entry.sizes source.entry.first.now words.old begins.old.items begins.old.states) (M : List ℕ) → length M ≡ index_limit * source.entry.sizes.productions → entries kernel.now 0 many ≡ packed M → Made s.T s.start (closure s.T M) → place (closure s.T M) s.Rs ≡ length s.Rs → Reached s.T s.start s.Rs (add_to s.T s.room (closure s.T M) s.Rs) words.new begins.new.items begins.new.states result }
 {
-    if states == 128 {
+    let number = begins.states;
+    if number == 128 {
         return Err(Halt::States);
     }
-    let state = close(grammar, sizes, first, kernel, many);
-    append(&state, sizes, words, begins, states)?;
-    Ok(Some((states, states + 1)))
+    let state = close(source, kernel, many);
+    append(&state, source.sizes, words, begins)?;
+    Ok(Some(number))
 }
 
-// The goto of state k over a symbol, by its number: its target, and how many states there are then; None if no item has its cursor there.
+// The goto of state k over a symbol, by its number; None if no item has its cursor there.
 pub fn goto_over(
-    grammar: &[u16],
-    sizes: Sizes,
-    first: &[u64; 32],
+    source: Source,
     words: &mut [u16],
-    begins: &mut [usize; 129],
-    states: usize,
+    begins: &mut Begins,
     k: usize,
     symbol: usize,
     kernel: &mut [u16],
-) -> Result<Option<(usize, usize)>, Halt>
-    requires search { Search grammar.now sizes first.now words.old begins.old states }
-    requires k_lt_states { (k < states) × CodeFits sizes.nonterminals sizes.terminals symbol × (item_limit * 5 ≤ length kernel.old) }
-    ensures { (length kernel.new ≡ length kernel.old) × ((s : Search grammar.now sizes first.now words.old begins.old states) → Reached s.T s.start s.Rs (goto_to s.T s.room (slice_index_or s.Rs k []) s.Rs (symbol_of_code symbol)) words.new begins.new result) }
+) -> Result<Option<usize>, Halt>
+    requires search { Search source.grammar.now source.sizes source.first.now words.old begins.old.items begins.old.states }
+    requires k_lt_states { (k < begins.old.states) × CodeFits source.sizes.nonterminals source.sizes.terminals symbol × (item_limit * 5 ≤ length kernel.old) }
+    ensures { (length kernel.new ≡ length kernel.old) × ((s : Search source.entry.grammar.now source.entry.sizes source.entry.first.now words.old begins.old.items begins.old.states) → Reached s.T s.start s.Rs (goto_to s.T s.room (slice_index_or s.Rs k []) s.Rs (symbol_of_code symbol)) words.new begins.new.items begins.new.states result) }
 {
-    let begin = begins[k];
-    let past = begins[k + 1];
+    let begin = begins.items[k];
+    let past = begins.items[k + 1];
+    let productions = source.sizes.productions;
     let many = move_over(
-        grammar,
-        sizes.productions,
+        source.grammar,
+        productions,
         words,
         begin,
         past,
@@ -145,8 +145,8 @@ pub fn goto_over(
     if many == 0 {
         return Ok(None);
     }
-    match find(words, begins, states, kernel, many) {
-        Some(target) => Ok(Some((target, states))),
-        None => store(grammar, sizes, first, words, begins, states, kernel, many),
+    match find(words, begins, kernel, many) {
+        Some(target) => Ok(Some(target)),
+        None => store(source, words, begins, kernel, many),
     }
 }

@@ -10,6 +10,13 @@ ghost use Rattle.kept_states.specs.Kept.{unpacked, put_all, states_in, Begun, ke
 use lr1_core::Item;
 use stored::{StoredItem, read_item, same_kernel, write_item};
 
+// Where the items of the states found begin, and how many states there are.
+#[derive(Clone, Copy)]
+pub struct Begins {
+    pub items: [usize; 129],
+    pub states: usize,
+}
+
 // The items number `from` up to `past`, flat: item [production, index] at 17 * production + index.
 pub fn unpack(words: &[u16], from: usize, past: usize) -> [u64; Item::LIMIT]
     requires from_le_past { (from ≤ past) × (past ≤ record_limit) × (past * 5 ≤ length words.now) }
@@ -48,19 +55,13 @@ pub fn count_items(state: &[u64; Item::LIMIT], places: usize) -> usize
 }
 
 // The first state that has this kernel.
-pub fn find(
-    words: &[u16],
-    begins: &[usize; 129],
-    states: usize,
-    kernel: &[u16],
-    many: usize,
-) -> Option<usize>
-    requires begun { Begun words.now begins.now states }
+pub fn find(words: &[u16], begins: &Begins, kernel: &[u16], many: usize) -> Option<usize>
+    requires begun { Begun words.now begins.now.items begins.now.states }
     requires many_le_record_limit { (many ≤ record_limit) × (many * 5 ≤ length kernel.now) }
-    ensures { let k = kernel_place (entries kernel.now 0 many) (states_in words.now begins.now states) in MatchOption result (k ≡ states) (λ n. (n < states) × (k ≡ n)) }
+    ensures { let k = kernel_place (entries kernel.now 0 many) (states_in words.now begins.now.items begins.now.states) in MatchOption result (k ≡ begins.now.states) (λ n. (n < begins.now.states) × (k ≡ n)) }
 {
-    for k in 0..states {
-        if same_kernel(words, begins[k], begins[k + 1], kernel, many) {
+    for k in 0..begins.states {
+        if same_kernel(words, begins.items[k], begins.items[k + 1], kernel, many) {
             return Some(k);
         }
     }

@@ -16,9 +16,9 @@ use Rattle.finding.specs.declared.Halt.TheVariants.{Records}
 use Rattle.finding.specs.declared.Sizes.{Sizes}
 use Rattle.searching.specs.Ready.{Ready}
 
-module _ (g : List ℕ) (sizes : Sizes) (sets : List ℕ) (start : ℕ) (s : Ready g sizes sets start) (ws bs : List ℕ) where
+module _ (g : List ℕ) (sizes : Sizes) (sets : List ℕ) (start : ℕ) (s : Ready g sizes sets start) (ws bs : List ℕ) (n : ℕ) where
   -- the search that state 0 begins
-  abbrev pub begun : Started s.T start s.room ws bs true → Search g sizes sets ws bs 1
+  abbrev pub begun : Started s.T start s.room ws bs true × (n ≡ 1) → Search g sizes sets ws bs n
   begun k = record {
     T = s.T;
     start = start;
@@ -30,14 +30,14 @@ module _ (g : List ℕ) (sizes : Sizes) (sets : List ℕ) (start : ℕ) (s : Rea
     fixed_is = s.counted.fixed_is;
     fixed_small = s.small;
     limit_is = s.counted.limit_is;
-    holds = k.holds refl;
-    many = refl;
+    holds = k.0.holds refl;
+    many = k.1;
   }
 
-  pub none_fit : (h : Halt) → (h ≡ Records) × Started s.T start s.room ws bs false → (ws' bs' E es : List ℕ) → FoundAs s.T start (found_to s.T start s.room) ws' bs' E es (Err h)
+  pub none_fit : (h : Halt) → (h ≡ Records) × Started s.T start s.room ws bs false → (ws' bs' E es : List ℕ) (n' : ℕ) → FoundAs s.T start (found_to s.T start s.room) ws' bs' E es n' (Err h)
   unfolding FoundAs number_of
-  none_fit h k ws' bs' E es = rw k.0 (first-full s.T start s.room (k.1.full refl))
+  none_fit h k ws' bs' E es n' = rw k.0 (first-full s.T start s.room (k.1.full refl))
 
-  pub goes_on : Started s.T start s.room ws bs true → (ws' bs' E es : List ℕ) (r : Result ℕ Halt) → FoundAs s.T start (collect_to 129 s.T s.room (start_state s.T start ∷ []) []) ws' bs' E es r
-      → FoundAs s.T start (found_to s.T start s.room) ws' bs' E es r
-  goes_on k ws' bs' E es r h = rw (first_fits s.T start s.room (k.fits refl)) h
+  pub goes_on : Started s.T start s.room ws bs true × (n ≡ 1) → (ws' bs' E es : List ℕ) (n' : ℕ) (r : Result (Unit {0}) Halt) → FoundAs s.T start (collect_to 129 s.T s.room (start_state s.T start ∷ []) []) ws' bs' E es n' r
+      → FoundAs s.T start (found_to s.T start s.room) ws' bs' E es n' r
+  goes_on k ws' bs' E es n' r h = rw (first_fits s.T start s.room (k.0.fits refl)) h

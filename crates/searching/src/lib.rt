@@ -9,25 +9,24 @@ ghost use Rattle.collecting.specs.Rows.{FoundAs};
 ghost use Rattle.searching.specs.Ready.{Ready};
 
 use collecting::find_states;
-use finding::{Halt, Sizes};
+use finding::{Halt, Source};
+use kept_states::Begins;
 use starting::first_state;
+use taking::Edges;
 
-// All states and their edges; how many states there are.
+// All states and their edges.
 pub fn search_states(
-    grammar: &[u16],
-    sizes: Sizes,
-    first: &[u64; 32],
+    source: Source,
     start: usize,
     words: &mut [u16],
-    begins: &mut [usize; 129],
+    begins: &mut Begins,
     kernel: &mut [u16],
-    edges: &mut [u16; 12160],
-    rows: &mut [usize; 129],
-) -> Result<usize, Halt>
-    requires ready { Ready grammar.now sizes first.now start }
-    requires item_limit_in_bounds { (item_limit * 5 ≤ length kernel.old) × (record_limit * 5 ≤ length words.old) × (length begins.old ≡ suc state_limit) × (get_or begins.old 0 0 ≡ 0) × (length edges.old ≡ 12160) × (length rows.old ≡ 129) × (get_or rows.old 0 0 ≡ 0) }
-    ensures { (s : Ready grammar.now sizes first.now start) → FoundAs s.T start (found_to s.T start s.room) words.new begins.new edges.new rows.new result }
+    edges: &mut Edges,
+) -> Result<(), Halt>
+    requires ready { Ready source.grammar.now source.sizes source.first.now start }
+    requires item_limit_in_bounds { (item_limit * 5 ≤ length kernel.old) × (record_limit * 5 ≤ length words.old) × (length begins.old.items ≡ suc state_limit) × (get_or begins.old.items 0 0 ≡ 0) × (begins.old.states ≡ 0) × (length edges.old.words ≡ 12160) × (length edges.old.rows ≡ 129) × (get_or edges.old.rows 0 0 ≡ 0) × (edges.old.many ≡ 0) }
+    ensures { (s : Ready source.entry.grammar.now source.entry.sizes source.entry.first.now start) → FoundAs s.T start (found_to s.T start s.room) words.new begins.new.items edges.new.words edges.new.rows begins.new.states result }
 {
-    first_state(grammar, sizes, first, start, words, begins, kernel)?;
-    find_states(grammar, sizes, first, words, begins, 1, kernel, edges, rows)
+    first_state(source, start, words, begins, kernel)?;
+    find_states(source, words, begins, kernel, edges)
 }

@@ -138,8 +138,8 @@ module _ (T : Table) (start room N f l P : ℕ) (c : Counted T room N f l) (ws w
   }
 
 -- by what `append` says
-pub start_told : {X : Type 0} (T : Table) (start room N f l P : ℕ) → Counted T room N f l → (ws ws' bs bs' S : List ℕ) → Holds T start ws bs [] → take (index_limit * P) S ≡ start_state T start → get_or bs 0 0 ≡ 0 → (r : Result X Halt)
-    → MatchResult r (λ x. Stored (f + 0 + 1) l (packed (take (index_limit * P) S)) ws ws' bs bs' 0 true) (λ h. (h ≡ Records) × Stored (f + 0 + 1) l (packed (take (index_limit * P) S)) ws ws' bs bs' 0 false)
-    → MatchResult r (λ x. Started T start room ws' bs' true) (λ h. (h ≡ Records) × Started T start room ws' bs' false)
-start_told T start room N f l P c ws ws' bs bs' S H is z (Ok x) k = start_stored T start room N f l P c ws ws' bs bs' S H is z true k
-start_told T start room N f l P c ws ws' bs bs' S H is z (Err h) k = (k.0, start_stored T start room N f l P c ws ws' bs bs' S H is z false k.1)
+pub start_told : {X : Type 0} (T : Table) (start room N f l P : ℕ) → Counted T room N f l → (ws ws' bs bs' S : List ℕ) → Holds T start ws bs [] → take (index_limit * P) S ≡ start_state T start → get_or bs 0 0 ≡ 0 → (n n' : ℕ) → n ≡ 0 → (r : Result X Halt)
+    → MatchResult r (λ x. Stored (f + n + 1) l (packed (take (index_limit * P) S)) ws ws' bs bs' n true × (n' ≡ n + 1)) (λ h. (h ≡ Records) × Stored (f + n + 1) l (packed (take (index_limit * P) S)) ws ws' bs bs' n false)
+    → MatchResult r (λ x. Started T start room ws' bs' true × (n' ≡ 1)) (λ h. (h ≡ Records) × Started T start room ws' bs' false)
+start_told T start room N f l P c ws ws' bs bs' S H is z n n' e (Ok x) k = (start_stored T start room N f l P c ws ws' bs bs' S H is z true (rw e at k.0), omega (arith, k.1, e))
+start_told T start room N f l P c ws ws' bs bs' S H is z n n' e (Err h) k = (k.0, start_stored T start room N f l P c ws ws' bs bs' S H is z false (rw e at k.1))

@@ -8,31 +8,30 @@ ghost use Rattle.repr.specs.Meaning.{Table};
 ghost use Rattle.closing.specs.Grammar.{Grammar, Held};
 ghost use Rattle.starting.specs.Start.{Counted, Started};
 
-use finding::{Halt, Sizes, append, close};
+use finding::{Halt, Source, append, close};
+use kept_states::Begins;
 use lookahead::TokenSet;
 use repr::ProductionIndex;
 use stored::{StoredItem, write_item};
 
 // Stored if it has room.
 pub fn first_state(
-    grammar: &[u16],
-    sizes: Sizes,
-    first: &[u64; 32],
+    source: Source,
     start: usize,
     words: &mut [u16],
-    begins: &mut [usize; 129],
+    begins: &mut Begins,
     kernel: &mut [u16],
 ) -> Result<(), Halt>
-    requires held { Held grammar.now sizes.productions sizes.terminals first.now }
-    requires start_lt_productions { (start < sizes.productions) × (sizes.fixed ≤ 65536) × (sizes.limit ≤ record_limit) × (5 ≤ length kernel.old) × (record_limit * 5 ≤ length words.old) × (length begins.old ≡ suc state_limit) × (get_or begins.old 0 0 ≡ 0) }
-    ensures { (length kernel.new ≡ length kernel.old) × ((T : Table) (room : ℕ) → Grammar T grammar.now sizes.productions sizes.terminals first.now → Counted T room sizes.nonterminals sizes.fixed sizes.limit → let started = Started T start room words.new begins.new in MatchResult result (λ u. started true) (λ h. (h ≡ Halt.Records) × started false)) }
+    requires held { Held source.grammar.now source.sizes.productions source.sizes.terminals source.first.now }
+    requires start_lt_productions { (start < source.sizes.productions) × (source.sizes.fixed ≤ 65536) × (source.sizes.limit ≤ record_limit) × (5 ≤ length kernel.old) × (record_limit * 5 ≤ length words.old) × (length begins.old.items ≡ suc state_limit) × (get_or begins.old.items 0 0 ≡ 0) × (begins.old.states ≡ 0) }
+    ensures { (length kernel.new ≡ length kernel.old) × ((T : Table) (room : ℕ) → Grammar T source.entry.grammar.now source.entry.sizes.productions source.entry.sizes.terminals source.entry.first.now → Counted T room source.entry.sizes.nonterminals source.entry.sizes.fixed source.entry.sizes.limit → let started = Started T start room words.new begins.new.items in MatchResult result (λ u. started true × (begins.new.states ≡ 1)) (λ h. (h ≡ Halt.Records) × started false)) }
 {
-    let end = TokenSet::eof(sizes.terminals);
+    let end = TokenSet::eof(source.sizes.terminals);
     let item = StoredItem {
         place: start * ProductionIndex::INDEXES,
         set: end.0,
     };
     write_item(kernel, 0, item);
-    let state = close(grammar, sizes, first, kernel, 1);
-    append(&state, sizes, words, begins, 0)
+    let state = close(source, kernel, 1);
+    append(&state, source.sizes, words, begins)
 }

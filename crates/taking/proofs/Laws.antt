@@ -42,22 +42,22 @@ search_on g sizes sets ws bs ws' bs' n q s Qs m H = record {
 
 -- one symbol
 
-module _ (T : Table) (start : ℕ) (Rs : List (List ℕ)) (w : Reach) (ws bs : List ℕ) (r : Result (Option (ℕ × ℕ)) Halt) where
-  pub tried-nowhere : (c : ℕ) (E : List ℕ) (m n : ℕ) → r ≡ Ok None → Reached T start Rs w ws bs r → n ≡ length Rs → Tried T start Rs w c ws bs E E m (Ok (n, m))
+module _ (T : Table) (start : ℕ) (Rs : List (List ℕ)) (w : Reach) (ws bs : List ℕ) (q : ℕ) where
+  pub tried-nowhere : (c : ℕ) (E : List ℕ) (m : ℕ) (u : Unit {0}) → Reached T start Rs w ws bs q (Ok None) → Tried T start Rs w c ws bs E E m q m (Ok u)
   unfolding Reached Tried
-  tried-nowhere c E m n e k q = let h = subst (Reached T start Rs w ws bs) e k in passed h.0 q h.1 refl refl
+  tried-nowhere c E m u h = passed h.0 h.1 h.2 refl refl
 
-  pub tried-stops : (c : ℕ) (E : List ℕ) (m : ℕ) (h : Halt) → r ≡ Err h → Reached T start Rs w ws bs r → Tried T start Rs w c ws bs E E m (Err h)
+  pub tried-stops : (c : ℕ) (E : List ℕ) (m m' : ℕ) (v : Halt) → Reached T start Rs w ws bs q (Err v) → Tried T start Rs w c ws bs E E m q m' (Err v)
   unfolding Reached Tried
-  tried-stops c E m h e k = subst (Reached T start Rs w ws bs) e k
+  tried-stops c E m m' v h = h
 
-  pub tried_to : (c : ℕ) (E : List ℕ) (m t q : ℕ) → r ≡ Ok (Some (t, q)) → Reached T start Rs w ws bs r → Tried T start Rs w c ws bs E (set E m (c * state_limit + t)) m (Ok (q, m + 1))
+  pub tried_to : (c : ℕ) (E : List ℕ) (m t : ℕ) (u : Unit {0}) → Reached T start Rs w ws bs q (Ok (Some t)) → Tried T start Rs w c ws bs E (set E m (c * state_limit + t)) m q (m + 1) (Ok u)
   unfolding Reached Tried
-  tried_to c E m t q e k = let h = subst (Reached T start Rs w ws bs) e k in reached t h.0 h.1 h.2 h.3 h.4 h.5 refl refl
+  tried_to c E m t u h = reached t h.0 h.1 h.2 h.3 h.4 h.5 refl refl
 
-  pub to_small : (t q : ℕ) → r ≡ Ok (Some (t, q)) → Reached T start Rs w ws bs r → t < state_limit
-  unfolding Reached
-  to_small t q e k = let h = subst (Reached T start Rs w ws bs) e k in omega (arith, h.2, h.3, h.4.begun.few)
+pub to_small : (T : Table) (start : ℕ) (Rs : List (List ℕ)) (w : Reach) (ws bs : List ℕ) (q t : ℕ) → Reached T start Rs w ws bs q (Ok (Some t)) → t < state_limit
+unfolding Reached
+to_small T start Rs w ws bs q t h = omega (arith, h.2, h.3, h.4.begun.few)
 
 -- edges
 
@@ -200,28 +200,24 @@ keeps_trans Rs Qs Ps f g = record {
 }
 
 module _ (T : Table) (F : TableFits T) (start room : ℕ) (Rs : List (List ℕ)) (k : ℕ) (inside : k < length Rs) (ws bs E₀ E : List ℕ) (N e j c m₀ m q : ℕ) (u : Turn T start room (get_or Rs k []) Rs ws bs E₀ E j m₀ m q)
-    (n : N ≡ length T.nonterminals) (t : e ≡ T.terminals) (is : c ≡ code_of N j) (h : j < N + e) (ws' bs' E' : List ℕ) (r : Result (ℕ × ℕ) Halt)
-    (k' : Tried T start u.Qs (goto_to T room (get_or u.Qs k []) u.Qs (symbol_of_code c)) c ws' bs' E E' m r) where
+    (n : N ≡ length T.nonterminals) (t : e ≡ T.terminals) (is : c ≡ code_of N j) (h : j < N + e) (ws' bs' E' : List ℕ) (q' m' : ℕ) where
   abbrev S : List ℕ
   S = get_or Rs k []
 
   abbrev X : Symbol
   X = symbol_of_code c
 
-  step : Tried T start u.Qs (goto_to T room S u.Qs X) c ws' bs' E E' m r
-  step = rw (u.keeps.same k inside) at k'
-
   rest_at : behind (edges_in E m₀ (m - m₀)) (take_to T room S u.Qs (X ∷ drop (j + 1) (tried T))) ≡ take_to T room S Rs (tried T)
   rest_at = rw (tried_at T F N e n t j c is h) at u.rest
 
-  pub turn_stops : (i : Halt) → r ≡ Err i → TakenAs T start Rs (take_to T room S Rs (tried T)) ws' bs' E₀ E' m₀ (Err i)
+  pub turn_stops : (i : Halt) → Tried T start u.Qs (goto_to T room (get_or u.Qs k []) u.Qs (symbol_of_code c)) c ws' bs' E E' m q' m' (Err i) → TakenAs T start Rs (take_to T room S Rs (tried T)) ws' bs' E₀ E' m₀ q' m' (Err i)
   unfolding Tried TakenAs
-  turn_stops i q' =
-      let w : goto_to T room S u.Qs X ≡ stops (refusal_of i) = subst (Tried T start u.Qs (goto_to T room S u.Qs X) c ws' bs' E E' m) q' step in
+  turn_stops i k' =
+      let w : goto_to T room S u.Qs X ≡ stops (refusal_of i) = rw (u.keeps.same k inside) at k' in
       sym rest_at ∙ rw (to_stops T room S u.Qs X (drop (j + 1) (tried T)) (refusal_of i) w) (behind-stopped (edges_in E m₀ (m - m₀)) (refusal_of i))
 
-  on : (q' m' : ℕ) → m < length E → TookOne T start u.Qs (goto_to T room S u.Qs X) c ws' bs' E E' m q' m' → Turn T start room S Rs ws' bs' E₀ E' (j + 1) m₀ m' q'
-  on q' m' l (passed w y H x z) = record {
+  on : m < length E → TookOne T start u.Qs (goto_to T room S u.Qs X) c ws' bs' E E' m q' m' → Turn T start room S Rs ws' bs' E₀ E' (j + 1) m₀ m' q'
+  on l (passed w y H x z) = record {
     Qs = u.Qs;
     many = y;
     holds = H;
@@ -231,7 +227,7 @@ module _ (T : Table) (F : TableFits T) (start room : ℕ) (Rs : List (List ℕ))
     same = λ i b. ap (λ (d : List ℕ). get_or d i 0) x ∙ u.same i b;
     rest = rw (x, z, ← to_nowhere T room S u.Qs X (drop (j + 1) (tried T)) w) rest_at;
   }
-  on q' m' l (reached o Ps w y b H K x z) =
+  on l (reached o Ps w y b H K x z) =
       let small : o < state_limit = omega (arith, y, b, H.begun.few) in
       record {
         Qs = Ps;
@@ -246,14 +242,14 @@ module _ (T : Table) (F : TableFits T) (start room : ℕ) (Rs : List (List ℕ))
             ∙ ap (behind (edges_in E m₀ (m - m₀))) (sym (to_reach T room S u.Qs X (drop (j + 1) (tried T)) o Ps w)) ∙ rest_at;
       }
 
-  pub turn_more : (q' m' : ℕ) → r ≡ Ok (q', m') → m < length E → Turn T start room S Rs ws' bs' E₀ E' (j + 1) m₀ m' q'
+  pub turn_more : (v : Unit {0}) → Tried T start u.Qs (goto_to T room (get_or u.Qs k []) u.Qs (symbol_of_code c)) c ws' bs' E E' m q' m' (Ok v) → m < length E → Turn T start room S Rs ws' bs' E₀ E' (j + 1) m₀ m' q'
   unfolding Tried
-  turn_more q' m' p l = on q' m' l (subst (Tried T start u.Qs (goto_to T room S u.Qs X) c ws' bs' E E' m) p step)
+  turn_more v k' l = on l (rw (u.keeps.same k inside) at k')
 
-pub turn_end : (T : Table) (F : TableFits T) (start room : ℕ) (S : List ℕ) (Rs : List (List ℕ)) (ws bs E₀ E : List ℕ) (N e j m₀ m q : ℕ) → Turn T start room S Rs ws bs E₀ E j m₀ m q → N ≡ length T.nonterminals → e ≡ T.terminals
-    → j ≤ N + e → N + e ≤ j → TakenAs T start Rs (take_to T room S Rs (tried T)) ws bs E₀ E m₀ (Ok (q, m))
+pub turn_end : (v : Unit {0}) (T : Table) (F : TableFits T) (start room : ℕ) (S : List ℕ) (Rs : List (List ℕ)) (ws bs E₀ E : List ℕ) (N e j m₀ m q : ℕ) → Turn T start room S Rs ws bs E₀ E j m₀ m q → N ≡ length T.nonterminals → e ≡ T.terminals
+    → j ≤ N + e → N + e ≤ j → TakenAs T start Rs (take_to T room S Rs (tried T)) ws bs E₀ E m₀ q m (Ok v)
 unfolding TakenAs
-turn_end T F start room S Rs ws bs E₀ E N e j m₀ m q u n t a b = record {
+turn_end v T F start room S Rs ws bs E₀ E N e j m₀ m q u n t a b = record {
   Qs = u.Qs;
   is = sym u.rest ∙ rw (none) (behind-told (edges_in E m₀ (m - m₀)) T room S u.Qs);
   many = u.many;

@@ -25,9 +25,9 @@ pub data TookOne (T : Table) (start : ℕ) (Rs : List (List ℕ)) (w : Reach) (c
   passed : w ≡ nowhere → q ≡ length Rs → Holds T start ws bs Rs → E' ≡ E → m' ≡ m → TookOne T start Rs w c ws bs E E' m q m'
   reached : (t : ℕ) (Qs : List (List ℕ)) → w ≡ reach t Qs → q ≡ length Qs → t < q → Holds T start ws bs Qs → Keeps Rs Qs → E' ≡ set E m (c * state_limit + t) → m' ≡ m + 1 → TookOne T start Rs w c ws bs E E' m q m'
 
-unfoldable pub Tried : Table → ℕ → List (List ℕ) → Reach → ℕ → List ℕ → List ℕ → List ℕ → List ℕ → ℕ → Result (ℕ × ℕ) Halt → Type 0
-Tried T start Rs w c ws bs E E' m (Err h) = w ≡ stops (refusal_of h)
-Tried T start Rs w c ws bs E E' m (Ok p) = TookOne T start Rs w c ws bs E E' m p.0 p.1
+unfoldable pub Tried : Table → ℕ → List (List ℕ) → Reach → ℕ → List ℕ → List ℕ → List ℕ → List ℕ → ℕ → ℕ → ℕ → Result (Unit {0}) Halt → Type 0
+Tried T start Rs w c ws bs E E' m q m' (Err h) = w ≡ stops (refusal_of h)
+Tried T start Rs w c ws bs E E' m q m' (Ok u) = TookOne T start Rs w c ws bs E E' m q m'
 
 -- a state taken
 pub record TookAll (T : Table) (start : ℕ) (Rs : List (List ℕ)) (w : Told) (ws bs E E' : List ℕ) (m q m' : ℕ) : Type 0 where
@@ -40,6 +40,6 @@ pub record TookAll (T : Table) (start : ℕ) (Rs : List (List ℕ)) (w : Told) (
   pub high : m' ≤ m + 95
   pub same : (i : ℕ) → i < m → get_or E' i 0 ≡ get_or E i 0
 
-unfoldable pub TakenAs : Table → ℕ → List (List ℕ) → Told → List ℕ → List ℕ → List ℕ → List ℕ → ℕ → Result (ℕ × ℕ) Halt → Type 0
-TakenAs T start Rs w ws bs E E' m (Err h) = w ≡ stopped (refusal_of h)
-TakenAs T start Rs w ws bs E E' m (Ok p) = TookAll T start Rs w ws bs E E' m p.0 p.1
+unfoldable pub TakenAs : Table → ℕ → List (List ℕ) → Told → List ℕ → List ℕ → List ℕ → List ℕ → ℕ → ℕ → ℕ → Result (Unit {0}) Halt → Type 0
+TakenAs T start Rs w ws bs E E' m q m' (Err h) = w ≡ stopped (refusal_of h)
+TakenAs T start Rs w ws bs E E' m q m' (Ok u) = TookAll T start Rs w ws bs E E' m q m'

@@ -9,7 +9,16 @@ ghost use Rattle.finding.specs.Steps.{goto_to, take_to};
 ghost use Rattle.finding.specs.Search.{Search, CodeFits, symbol_of_code};
 ghost use Rattle.taking.specs.Taking.{code_of, Tried, TakenAs};
 
-use finding::{Halt, Sizes, goto_over};
+use finding::{Halt, Source, goto_over};
+use kept_states::Begins;
+
+// The edges found, one word each, where those of each state begin, and how many there are.
+#[derive(Clone, Copy)]
+pub struct Edges {
+    pub words: [u16; 12160],
+    pub rows: [usize; 129],
+    pub many: usize,
+}
 
 // Symbol j of those tried, by its number.
 fn code_of(nonterminals: usize, j: usize) -> usize
@@ -23,62 +32,49 @@ fn code_of(nonterminals: usize, j: usize) -> usize
     }
 }
 
-// One symbol tried, its edge behind the others; how many states and edges there are then.
+// One symbol tried, its edge behind the others.
 fn take_one(
-    grammar: &[u16],
-    sizes: Sizes,
-    first: &[u64; 32],
+    source: Source,
     words: &mut [u16],
-    begins: &mut [usize; 129],
-    states: usize,
+    begins: &mut Begins,
     k: usize,
     symbol: usize,
     kernel: &mut [u16],
-    edges: &mut [u16; 12160],
-    many: usize,
-) -> Result<(usize, usize), Halt>
-    requires search { Search grammar.now sizes first.now words.old begins.old states }
-    requires k_lt_states { (k < states) × CodeFits sizes.nonterminals sizes.terminals symbol × (symbol < 95) × (item_limit * 5 ≤ length kernel.old) × (length edges.old ≡ 12160) × (many < 12160) }
-    ensures { (length edges.new ≡ 12160) × ((s : Search grammar.now sizes first.now words.old begins.old states) → Tried s.T s.start s.Rs (goto_to s.T s.room (get_or s.Rs k []) s.Rs (symbol_of_code symbol)) symbol words.new begins.new edges.old edges.new many result) }
+    edges: &mut Edges,
+) -> Result<(), Halt>
+    requires search { Search source.grammar.now source.sizes source.first.now words.old begins.old.items begins.old.states }
+    requires k_lt_states { (k < begins.old.states) × CodeFits source.sizes.nonterminals source.sizes.terminals symbol × (symbol < 95) × (item_limit * 5 ≤ length kernel.old) × (length edges.old.words ≡ 12160) × (edges.old.many < 12160) }
+    ensures { (length edges.new.words ≡ 12160) × (edges.new.rows ≡ edges.old.rows) × ((s : Search source.entry.grammar.now source.entry.sizes source.entry.first.now words.old begins.old.items begins.old.states) → Tried s.T s.start s.Rs (goto_to s.T s.room (get_or s.Rs k []) s.Rs (symbol_of_code symbol)) symbol words.new begins.new.items edges.old.words edges.new.words edges.old.many begins.new.states edges.new.many result) }
 {
-    let step = goto_over(
-        grammar, sizes, first, words, begins, states, k, symbol, kernel,
-    )?;
-    match step {
-        None => Ok((states, many)),
-        Some((target, more)) => {
-            edges[many] = (symbol * 128 + target) as u16;
-            Ok((more, many + 1))
+    match goto_over(source, words, begins, k, symbol, kernel)? {
+        None => Ok(()),
+        Some(target) => {
+            let many = edges.many;
+            edges.words[many] = (symbol * 128 + target) as u16;
+            edges.many = many + 1;
+            Ok(())
         }
     }
 }
 
-// State k taken; how many states and edges there are then.
+// State k taken.
 pub fn take_state(
-    grammar: &[u16],
-    sizes: Sizes,
-    first: &[u64; 32],
+    source: Source,
     words: &mut [u16],
-    begins: &mut [usize; 129],
-    found: usize,
+    begins: &mut Begins,
     k: usize,
     kernel: &mut [u16],
-    edges: &mut [u16; 12160],
-    before: usize,
-) -> Result<(usize, usize), Halt>
-    requires search { Search grammar.now sizes first.now words.old begins.old found }
-    requires k_lt_found { (k < found) × (item_limit * 5 ≤ length kernel.old) × (length edges.old ≡ 12160) × (before + 95 ≤ 12160) }
-    ensures { (length kernel.new ≡ length kernel.old) × (length edges.new ≡ 12160) × ((s : Search grammar.now sizes first.now words.old begins.old found) → TakenAs s.T s.start s.Rs (take_to s.T s.room (get_or s.Rs k []) s.Rs (tried s.T)) words.new begins.new edges.old edges.new before result) }
+    edges: &mut Edges,
+) -> Result<(), Halt>
+    requires search { Search source.grammar.now source.sizes source.first.now words.old begins.old.items begins.old.states }
+    requires k_lt_found { (k < begins.old.states) × (item_limit * 5 ≤ length kernel.old) × (length edges.old.words ≡ 12160) × (edges.old.many + 95 ≤ 12160) }
+    ensures { (length kernel.new ≡ length kernel.old) × (length edges.new.words ≡ 12160) × (edges.new.rows ≡ edges.old.rows) × ((s : Search source.entry.grammar.now source.entry.sizes source.entry.first.now words.old begins.old.items begins.old.states) → TakenAs s.T s.start s.Rs (take_to s.T s.room (get_or s.Rs k []) s.Rs (tried s.T)) words.new begins.new.items edges.old.words edges.new.words edges.old.many begins.new.states edges.new.many result) }
 {
-    let nonterminals = sizes.nonterminals;
-    let symbols = nonterminals + sizes.terminals as usize;
-    let mut states = found;
-    let mut many = before;
+    let nonterminals = source.sizes.nonterminals;
+    let symbols = nonterminals + source.sizes.terminals as usize;
     for j in 0..symbols {
         let symbol = code_of(nonterminals, j);
-        (states, many) = take_one(
-            grammar, sizes, first, words, begins, states, k, symbol, kernel, edges, many,
-        )?;
+        take_one(source, words, begins, k, symbol, kernel, edges)?;
     }
-    Ok((states, many))
+    Ok(())
 }

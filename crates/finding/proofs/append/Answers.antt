@@ -6,4 +6,4 @@ pub returns-then-sizes-states : goal.returns-then-sizes-states
 returns-then-sizes-states c = (refl, stored_none _ _ _ _ _ _ _ c.count_items.ensures.0 (omega (arith, c.if-sizes-states.true)))
 
 pub returns : goal.returns
-returns c = stored_some _ _ _ _ _ _ _ _ _ c.count_items.ensures.0 (omega (arith, c.if-sizes-states.false)) c.pack.ensures.0 c.pack.ensures.1
+returns c = (stored_some _ _ _ _ _ _ _ _ _ c.count_items.ensures.0 (omega (arith, c.if-sizes-states.false)) c.pack.ensures.0 c.pack.ensures.1, refl)

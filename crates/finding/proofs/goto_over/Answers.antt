@@ -33,4 +33,4 @@ pub store-requires : goal.store-requires
 store-requires c = let o = over-room _ _ _ _ _ _ c.requires.search _ c.requires.k_lt_states.0 in record { search = c.requires.search; many_le_record_limit = (omega (arith, o, c.move_over-many.ensures.0), omega (arith, o, c.move_over-many.ensures.0, c.move_over-many.ensures.1, c.requires.k_lt_states.2), over_kernel _ _ _ _ _ _ c.requires.search _ c.requires.k_lt_states.0 _ c.requires.k_lt_states.1 _ _ c.move_over-many.ensures.2) }
 
 pub returns-in-None : goal.returns-in-None
-returns-in-None c = (c.move_over-many.ensures.1, λ s. over_new _ _ _ _ _ _ s _ c.requires.k_lt_states.0 _ c.requires.k_lt_states.1 _ _ c.move_over-many.ensures.2 c.if-many-eq0.false _ c.in-None.ensures refl _ _ _ (λ M l e m p. c.store.ensures s M l e m p))
+returns-in-None c = (c.move_over-many.ensures.1, λ s. over_new _ _ _ _ _ _ s _ c.requires.k_lt_states.0 _ c.requires.k_lt_states.1 _ _ c.move_over-many.ensures.2 c.if-many-eq0.false _ c.in-None.ensures refl _ _ _ _ (λ M l e m p. c.store.ensures s M l e m p))
