@@ -20,9 +20,9 @@ ghost use Rattle.classifier.specs.Answered.{answered};
 
 use error::{Class, Classified, Conflict};
 use example::Example as ExampleBuffer;
-use examples::{Given, Refusal, action_examples, prepare, reduce_examples};
-use judge::{judge, write_action, write_reduce};
-use outline::Outline;
+use examples::{Given, Refusal, action_examples, prepare, reduced};
+use judge::{judge, write_example};
+use outline::Side;
 use pairs::sort_side;
 use repr::ProductionIndex;
 use slices::zero;
@@ -74,41 +74,15 @@ fn shifts_end(conflict: Conflict, terminals: usize) -> bool
     false
 }
 
-// The action's example that is shown, if there is one, at the front of its buffer.
-fn show_action(
-    given: Given,
-    conflict: Conflict,
-    actions: &[u16],
-    prints: &[u64],
-    shown: Option<usize>,
-    buffer: &mut [u16],
-)
+// The example of the action's side that is shown, if there is one, at the front of its buffer.
+fn show(given: Given, conflict: Conflict, side: &Side, shown: Option<usize>, buffer: &mut [u16])
     requires conflict_value { conflict_fits (meaning given.table.now) conflict ≡ true }
-    requires side_kept { (xs : List Example) × (SideKept (meaning given.table.now) (is_shift conflict) (action_made (meaning given.table.now) conflict) xs actions.now prints.now × ShownFits (length xs) «shown») }
+    requires side_kept { (xs : List Example) × (SideKept (meaning given.table.now) (is_shift conflict) (action_made (meaning given.table.now) conflict) xs side.now.kept side.now.prints × ShownFits (length xs) «shown») }
     requires example_room_in_bounds { example_room ≤ length buffer.old }
-    ensures { (xs : List Example) → SideKept (meaning given.entry.table.now) (is_shift conflict) (action_made (meaning given.entry.table.now) conflict) xs actions.now prints.now → ShownFits (length xs) «shown» → buffer.new ≡ shown_words (meaning given.entry.table.now).productions (shown_in xs «shown») buffer.old }
+    ensures { (xs : List Example) → SideKept (meaning given.entry.table.now) (is_shift conflict) (action_made (meaning given.entry.table.now) conflict) xs side.now.kept side.now.prints → ShownFits (length xs) «shown» → buffer.new ≡ shown_words (meaning given.entry.table.now).productions (shown_in xs «shown») buffer.old }
 {
     if let Some(k) = shown {
-        write_action(given, conflict, actions, prints, k, buffer);
-    }
-}
-
-// The reduce's.
-fn show_reduce(
-    given: Given,
-    conflict: Conflict,
-    reduces: &[u16],
-    prints: &[u64],
-    shown: Option<usize>,
-    buffer: &mut [u16],
-)
-    requires conflict_value { conflict_fits (meaning given.table.now) conflict ≡ true }
-    requires side_kept { (ys : List Example) × (SideKept (meaning given.table.now) false (reduce_made (meaning given.table.now) conflict.state.0 conflict.production.0 conflict.token) ys reduces.now prints.now × ShownFits (length ys) «shown») }
-    requires example_room_in_bounds { example_room ≤ length buffer.old }
-    ensures { (ys : List Example) → SideKept (meaning given.entry.table.now) false (reduce_made (meaning given.entry.table.now) conflict.state.0 conflict.production.0 conflict.token) ys reduces.now prints.now → ShownFits (length ys) «shown» → buffer.new ≡ shown_words (meaning given.entry.table.now).productions (shown_in ys «shown») buffer.old }
-{
-    if let Some(k) = shown {
-        write_reduce(given, conflict, reduces, prints, k, buffer);
+        write_example(given, conflict, side, k, buffer);
     }
 }
 
@@ -116,19 +90,17 @@ fn show_reduce(
 fn classify_kept(
     given: Given,
     conflict: Conflict,
-    actions: &[u16],
-    action_prints: &[u64],
+    actions: &Side,
     action_count: usize,
-    reduces: &[u16],
-    reduce_prints: &[u64],
+    reduces: &Side,
     reduce_count: usize,
     action: &mut [u16],
     reduce: &mut [u16],
 ) -> Class
     requires conflict_value { conflict_fits (meaning given.table.now) conflict ≡ true }
-    requires sides { (xs : List Example) × ((ys : List Example) × (Sides (meaning given.table.now) conflict xs ys actions.now action_prints.now reduces.now reduce_prints.now × ((length xs ≡ action_count) × (length ys ≡ reduce_count)))) }
+    requires sides { (xs : List Example) × ((ys : List Example) × (Sides (meaning given.table.now) conflict xs ys actions.now.kept actions.now.prints reduces.now.kept reduces.now.prints × ((length xs ≡ action_count) × (length ys ≡ reduce_count)))) }
     requires example_room_in_bounds { (example_room ≤ length action.old) × (example_room ≤ length reduce.old) }
-    ensures { (xs ys : List Example) → Sides (meaning given.entry.table.now) conflict xs ys actions.now action_prints.now reduces.now reduce_prints.now → length xs ≡ action_count → length ys ≡ reduce_count → judged_words result action.new reduce.new ≡ shown_of (meaning given.entry.table.now).productions action.old reduce.old (judged (meaning given.entry.table.now) conflict xs ys) }
+    ensures { (xs ys : List Example) → Sides (meaning given.entry.table.now) conflict xs ys actions.now.kept actions.now.prints reduces.now.kept reduces.now.prints → length xs ≡ action_count → length ys ≡ reduce_count → judged_words result action.new reduce.new ≡ shown_of (meaning given.entry.table.now).productions action.old reduce.old (judged (meaning given.entry.table.now) conflict xs ys) }
 {
     if action_count == 0 {
         return Class::Naive;
@@ -144,16 +116,12 @@ fn classify_kept(
         given,
         conflict,
         actions,
-        action_prints,
         &rows[..action_count],
         reduces,
-        reduce_prints,
         &columns[..reduce_count],
     );
-    let shown = judged.action;
-    show_action(given, conflict, actions, action_prints, shown, action);
-    let other = judged.reduce;
-    show_reduce(given, conflict, reduces, reduce_prints, other, reduce);
+    show(given, conflict, actions, judged.action, action);
+    show(given, reduced(conflict), reduces, judged.reduce, reduce);
     judged.class
 }
 
@@ -176,27 +144,16 @@ pub fn classify(
     requires example_room_in_bounds { (example_room ≤ length action.old) × (example_room ≤ length reduce.old) }
     ensures { (scratch : List ℕ) → outcome (reading_of (answered result)) (zeroed classify_scratch scratch) action.new reduce.new ≡ gathered_outcome (meaning given.entry.table.now) conflict scratch action.old reduce.old (gather (meaning given.entry.table.now) conflict) }
 {
-    let mut actions = [0u16; Outline::ALL_WORDS];
-    let mut action_prints = [0u64; Conflict::EXAMPLES];
-    let mut reduces = [0u16; Outline::ALL_WORDS];
-    let mut reduce_prints = [0u64; Conflict::EXAMPLES];
-    let own = action_examples(given, conflict, &mut actions, &mut action_prints)?;
-    let other = reduce_examples(
-        given,
-        conflict.state,
-        conflict.production.0 as usize,
-        conflict.token,
-        &mut reduces,
-        &mut reduce_prints,
-    )?;
+    let mut actions = Side::new();
+    let mut reduces = Side::new();
+    let own = action_examples(given, conflict, &mut actions)?;
+    let other = action_examples(given, reduced(conflict), &mut reduces)?;
     let class = classify_kept(
         given,
         conflict,
         &actions,
-        &action_prints,
         own.examples,
         &reduces,
-        &reduce_prints,
         other.examples,
         action,
         reduce,

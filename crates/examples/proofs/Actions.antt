@@ -1,14 +1,17 @@
--- `action_examples`: the side of the conflict's action (error/specs/Sides). Assumes nothing.
-use Rattle.std.specs.Prelude.{Result, ◌≡◌, ℕ, zero, suc, Bool, true, false, eqb, List}
+-- `action_examples`: the side of the conflict's action, and by `reduced` the other side (error/specs/Sides). Assumes nothing.
+use Rattle.std.specs.Prelude.{◌&&◌, ltb, leb, length, Result, ◌≡◌, ℕ, zero, suc, Bool, true, false, eqb, List}
 use native.Mathlib.Omega.{arith}
 use mathlib.Core.Path.{refl, sym, subst}
 use borrow.Author.Tests.{ne_eqb}
+use Rattle.trace_graph.proofs.Bools.{and_left, and_right}
 use Rattle.repr.specs.Meaning.{Table}
 use Rattle.error.specs.declared.Conflict.{Conflict}
+use Rattle.error.specs.Judge.{Example}
+use Rattle.error.specs.Outcome.{operand_fits, place_is_fit, conflict_fits}
 use Rattle.error.specs.Sides.{shift_side, reduce_side, action_side_of}
 use Rattle.examples.specs.declared.Gathered.{Gathered}
 use Rattle.examples.specs.declared.Refusal.{Refusal}
-use Rattle.examples.specs.Gathers.{shift_made, reduce_made, made_by, action_made, is_shift, Sided}
+use Rattle.examples.specs.Gathers.{shift_made, reduce_made, made_by, action_made, is_shift, reduced, SideKept, Sided}
 
 module _ (T : Table) (s o token : ℕ) (r : Result Gathered Refusal) (kept prints : List ℕ) where
   by_shift : (a : ℕ) → a ≡ 0 → Sided T true (shift_made T s) r kept prints (shift_side T s token) → Sided T (eqb a 0) (made_by T s a o token) r kept prints (action_side_of T s a o token)
@@ -31,3 +34,24 @@ module _ (T : Table) (c : Conflict) (r : Result Gathered Refusal) (kept prints :
       → Sided T (is_shift c) (action_made T c) r kept prints (action_side_of T c.state.0 c.action c.operand c.token)
   unfolding is_shift action_made
   action_reduce ne S = by_reduce T c.state.0 c.operand c.token r kept prints c.action ne S
+
+-- the other side
+
+module _ (T : Table) (c : Conflict) where
+  pub reduced_fits : conflict_fits T c ≡ true → conflict_fits T (reduced c) ≡ true
+  unfolding conflict_fits place_is_fit operand_fits
+  reduced_fits f =
+      let place = and_left (place_is_fit T c) (leb c.token T.terminals) f in
+      let token = and_right (place_is_fit T c) (leb c.token T.terminals) f in
+      let state = and_left (ltb c.state.0 (length T.states)) (ltb c.production.0 (length T.productions) && operand_fits T c.action c.operand) place in
+      let production = and_left (ltb c.production.0 (length T.productions)) (operand_fits T c.action c.operand) (and_right (ltb c.state.0 (length T.states)) (ltb c.production.0 (length T.productions) && operand_fits T c.action c.operand) place) in
+      rw (state, production, token)
+
+  pub reduced-kept : (ys : List Example) (kept prints : List ℕ) → SideKept T false (reduce_made T c.state.0 c.production.0 c.token) ys kept prints → SideKept T (is_shift (reduced c)) (action_made T (reduced c)) ys kept prints
+  unfolding is_shift action_made made_by
+  reduced-kept ys kept prints K = K
+
+  pub reduced-sided : (r : Result Gathered Refusal) (kept prints : List ℕ) → Sided T (is_shift (reduced c)) (action_made T (reduced c)) r kept prints (action_side_of T c.state.0 1 c.production.0 c.token)
+      → Sided T false (reduce_made T c.state.0 c.production.0 c.token) r kept prints (reduce_side T c.state.0 c.production.0 c.token)
+  unfolding is_shift action_made made_by action_side_of
+  reduced-sided r kept prints S = S

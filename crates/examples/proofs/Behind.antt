@@ -10,12 +10,8 @@ use Rattle.repr.specs.Meaning.{Production}
 use Rattle.repr.proofs.Lists.{cases}
 use Rattle.error.specs.Judge.{Example}
 use Rattle.outline.specs.Outline.{outline_from}
-use Rattle.outline.specs.Kept.{nth, outline_in, labelled_limit, KeptLabels, Room}
+use Rattle.outline.specs.Kept.{nth, outline_in, labelled_limit, KeptLabels}
 use Rattle.examples.specs.Gathers.{PutBehind, Behind}
-
--- the room stays, as lengths do
-pub room-kept : (kept prints kept' prints' : List ℕ) → length kept' ≡ length kept → length prints' ≡ length prints → Room kept prints → Room kept' prints'
-room-kept kept prints kept' prints' a b R = record { by_words = rw a R.by_words; by_print_lem = rw b R.by_print_lem }
 
 pub behind-none : (ps : List Production) (shift : Bool) (count : ℕ) (kept prints : List ℕ) → count ≤ example_limit → Behind ps shift count (count + 0) [] kept prints kept prints
 behind-none ps shift count kept prints h = record {

@@ -33,14 +33,12 @@ use Rattle.examples.specs.Refusals.{number_of}
 use Rattle.examples.specs.Gathers.{ListedBehind, ListedOn, TrialsIn, shift_made, SideKept, Sided}
 use Rattle.examples.proofs.Sides.{none_kept, shift_kept}
 
--- n productions in their order; kept₀, prints₀: what was kept at the beginning
-pub record Turn (T : Table) (s token : ℕ) (order : List ℕ) (n : ℕ) (kept₀ prints₀ kept prints : List ℕ) (total trials from : ℕ) : Type 0 where
+-- n productions in their order
+pub record Turn (T : Table) (s token : ℕ) (order : List ℕ) (n : ℕ) (kept prints : List ℕ) (total trials from : ℕ) : Type 0 where
   pub examples : List Example
   pub many : length examples ≡ total
   pub held : SideKept T true (shift_made T s) examples kept prints
   pub few_trials : trials + length (items_left T s token order n from) * trial_limit ≤ n * symbol_limit * trial_limit
-  pub long : length kept ≡ length kept₀
-  pub wide : length prints ≡ length prints₀
   pub same : shift_side_from T s (gathered examples trials) (items_left T s token order n from) ≡ shift_side T s token
 
 -- sides
@@ -84,7 +82,7 @@ left_few T s token order n =
     let c : length (drop 0 (below (n * symbol_limit))) ≡ n * symbol_limit = length-below (n * symbol_limit) in
     omega arith
 
-pub turn_first : (T : Table) (s token : ℕ) (g : List ℕ) (n : ℕ) (order marks kept prints : List ℕ) → Marked T s g n order marks → Room kept prints → Turn T s token order n kept prints kept prints 0 0 0
+pub turn_first : (T : Table) (s token : ℕ) (g : List ℕ) (n : ℕ) (order marks kept prints : List ℕ) → Marked T s g n order marks → Room kept prints → Turn T s token order n kept prints 0 0 0
 unfolding shift_side
 turn_first T s token g n order marks kept prints M R =
     let l = left_few T s token order n in
@@ -93,14 +91,12 @@ turn_first T s token g n order marks kept prints M R =
       many = refl;
       held = none_kept T true (shift_made T s) kept prints R;
       few_trials = omega arith;
-      long = refl;
-      wide = refl;
       same = ap (shift_side_from T s (gathered [] 0)) (left_all_lem M token);
     }
 
-pub turn_room : (T : Table) (s token : ℕ) (order : List ℕ) (n : ℕ) (kept₀ prints₀ kept prints : List ℕ) (total trials from : ℕ) → Turn T s token order n kept₀ prints₀ kept prints total trials from
-    → Room kept prints × (total ≤ example_limit)
-turn_room T s token order n kept₀ prints₀ kept prints total trials from U = let a = U.many in let b = U.held.outlined.few in (U.held.outlined.room, omega arith)
+pub turn_room : (T : Table) (s token : ℕ) (order : List ℕ) (n : ℕ) (kept prints : List ℕ) (total trials from : ℕ) → Turn T s token order n kept prints total trials from
+    → total ≤ example_limit
+turn_room T s token order n kept prints total trials from U = let a = U.many in let b = U.held.outlined.few in omega arith
 
 pub trials_few : (r : Result Gathered Refusal) (g : Gathered) → r ≡ Ok g → TrialsIn trial_limit r → g.trials ≤ trial_limit
 unfolding TrialsIn
@@ -151,7 +147,7 @@ module _ (T : Table) (F : TableFits T) (s token : ℕ) (hs : s < length T.states
   pub turn_less : length (items_left T s token order n (place + 1)) < length (items_left T s token order n from)
   turn_less = let z = fewer in rw (add-one place) (omega arith)
 
-  module _ (kept₀ prints₀ kept prints : List ℕ) (total trials : ℕ) (U : Turn T s token order n kept₀ prints₀ kept prints total trials from) where
+  module _ (kept prints : List ℕ) (total trials : ℕ) (U : Turn T s token order n kept prints total trials from) where
     pub turn_trials : (m : ℕ) → m ≤ trial_limit → trials + m ≤ n * symbol_limit * trial_limit
     turn_trials m h = let z = fewer in let f = U.few_trials in omega arith
 
@@ -177,9 +173,9 @@ module _ (T : Table) (F : TableFits T) (s token : ℕ) (hs : s < length T.states
       unfolding ListedOn
       behind g er = rw er at answer
 
-      pub turn_more : (g : Gathered) → r ≡ Ok g → TrialsIn trial_limit r → Room kept' prints' → length kept' ≡ length kept → length prints' ≡ length prints
-          → Turn T s token order n kept₀ prints₀ kept' prints' g.examples (trials + g.trials) (place + 1)
-      turn_more g er K R l v =
+      pub turn_more : (g : Gathered) → r ≡ Ok g → TrialsIn trial_limit r → Room kept' prints'
+          → Turn T s token order n kept' prints' g.examples (trials + g.trials) (place + 1)
+      turn_more g er K R =
           let G = behind g er in
           let B = G.behind in
           let b = trials_few r g er K in
@@ -193,8 +189,6 @@ module _ (T : Table) (F : TableFits T) (s token : ℕ) (hs : s < length T.states
             many = omega arith;
             held = shift_kept T F s c (item_fits T (item_of c) of_state) has_cursor U.examples G.examples total g.examples g.trials U.many kept prints kept' prints' U.held R B G.is;
             few_trials = omega arith;
-            long = l ∙ U.long;
-            wide = v ∙ U.wide;
             same = step (gathered (U.examples ++ G.examples) (trials + g.trials)) (ap (with_more (gathered U.examples trials)) G.is ∙ with_gathered U.examples G.examples trials g.trials);
           })
 
@@ -207,10 +201,10 @@ module _ (T : Table) (F : TableFits T) (s token : ℕ) (hs : s < length T.states
       turn_stop x er =
           sym (step (stopped (number_of x)) (ap (with_more (gathered U.examples trials)) (stopped_at x er) ∙ with_stopped U.examples trials (number_of x))) ∙ from-stopped T s (number_of x) (items_left T s token order n (suc place))
 
-pub turn_end : (T : Table) (s token : ℕ) (order : List ℕ) (n : ℕ) (kept₀ prints₀ kept prints : List ℕ) (total trials from : ℕ) → Turn T s token order n kept₀ prints₀ kept prints total trials from
+pub turn_end : (T : Table) (s token : ℕ) (order : List ℕ) (n : ℕ) (kept prints : List ℕ) (total trials from : ℕ) → Turn T s token order n kept prints total trials from
     → (r : Option (ℕ × ℕ)) → r ≡ None → NextIs T s token order n from r → Sided T true (shift_made T s) (Ok (record { examples = total; trials = trials })) kept prints (shift_side T s token)
 unfolding Sided
-turn_end T s token order n kept₀ prints₀ kept prints total trials from U r e h =
+turn_end T s token order n kept prints total trials from U r e h =
     let so = gathered U.examples trials in
     record {
       examples = U.examples;

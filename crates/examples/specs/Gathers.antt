@@ -72,6 +72,10 @@ made_by T s (suc a) operand token = reduce_made T s operand token
 unfoldable pub action_made : Table → Conflict → ℕ → ℕ → Example → Type 0
 action_made T c = made_by T c.state.0 c.action c.operand c.token
 
+-- the conflict's reduce as the action of one, whose side is then the other side
+abbrev pub reduced : Conflict → Conflict
+reduced c = record { state = c.state; production = c.production; action = 1; operand = c.production.0; token = c.token }
+
 unfoldable pub is_shift : Conflict → Bool
 is_shift c = c.action == 0
 

@@ -23,12 +23,11 @@ ghost use Rattle.search.specs.Given.{Tried};
 ghost use Rattle.error.specs.Judge.{Example as ExampleOf};
 ghost use Rattle.error.specs.Sides.{listing_side, shift_side, reduce_side, action_side_of};
 ghost use Rattle.error.specs.Outcome.{conflict_fits};
-ghost use Rattle.outline.specs.Kept.{Room};
 ghost use Rattle.outline.specs.Inline.{CodeFits};
 ghost use Rattle.examples.specs.Reads.{Reads};
 ghost use Rattle.examples.specs.Refusals.{number_of};
 ghost use Rattle.examples.specs.Listing.{listed_by, Listable};
-ghost use Rattle.examples.specs.Gathers.{ListedOn, Sided, shift_made, reduce_made, action_made, is_shift, TrialsIn, PutBehind};
+ghost use Rattle.examples.specs.Gathers.{ListedOn, Sided, shift_made, reduce_made, action_made, is_shift, reduced, TrialsIn, PutBehind};
 ghost use Rattle.examples.specs.Again.{Listed, Finds};
 
 use codes::viewing::view_codes;
@@ -39,7 +38,7 @@ use example::Example;
 use first::FirstSets;
 use lookahead::TokenSet;
 use lr1_core::Item;
-use outline::{Outline, keep, keep_labels, outline_of};
+use outline::{Outline, Side, outline_of};
 use repr::{NonterminalString, ProductionIndex};
 use search::{Searched, read_labels, search, write_trial};
 use shift_items::{conflicting_shift_items, next_shift_item};
@@ -158,22 +157,21 @@ fn keep_trial(
     owners: &[u8],
     codes: &[u16],
     words: &[u16],
-    kept: &mut [u16],
-    prints: &mut [u64],
+    side: &mut Side,
     count: usize,
     turn: usize,
 )
     requires packed { Packed grammar.now productions }
     requires tried { (es : List TraceEdge) × Tried (productions_in grammar.now productions) es owners.now codes.now words.now }
-    requires room { Room kept.old prints.old × (count < example_limit) × (turn < example_limit) }
-    ensures { (es : List TraceEdge) → Tried (productions_in grammar.now productions) es owners.now codes.now words.now → (p rest : List ℕ) → words.now ≡ trial_words p ++ rest → PutBehind (productions_in grammar.now productions) shift (labels_of (productions_in grammar.now productions) es p) turn count kept.old prints.old kept.new prints.new }
+    requires count_in_bounds { (count < example_limit) × (turn < example_limit) }
+    ensures { (es : List TraceEdge) → Tried (productions_in grammar.now productions) es owners.now codes.now words.now → (p rest : List ℕ) → words.now ≡ trial_words p ++ rest → PutBehind (productions_in grammar.now productions) shift (labels_of (productions_in grammar.now productions) es p) turn count side.old.kept side.old.prints side.new.kept side.new.prints }
 {
     let mut labels = [0u16; Example::ALL_LABEL_WORDS];
     let size = read_labels(owners, codes, words, &mut labels);
     let outline = outline_of(grammar, productions, &labels[..size], shift);
-    keep(outline, turn, kept, prints, count);
+    side.keep(outline, turn, count);
     if count < Outline::LABELLED {
-        keep_labels(&labels[..size], kept, count);
+        side.keep_labels(&labels[..size], count);
     }
 }
 
@@ -189,15 +187,14 @@ fn list_outlines(
     sources: &[u8],
     older: &[u16],
     latest: &[u16],
-    kept: &mut [u16],
-    prints: &mut [u64],
+    side: &mut Side,
     count: usize,
 ) -> Result<Gathered, Refusal>
     requires packed { Packed grammar.now counts.productions × (counts.terminals ≤ 63) }
     requires listable { (es : List TraceEdge) × ((start : ItemOf) × Listable (productions_in grammar.now counts.productions) es owners.now codes.now sources.now older.now latest.now start) }
-    requires room { Room kept.old prints.old × (count ≤ example_limit) }
-    ensures listed_on { (es : List TraceEdge) (start : ItemOf) → Listable (productions_in grammar.now counts.productions) es owners.now codes.now sources.now older.now latest.now start → ListedOn (productions_in grammar.now counts.productions) shift result count kept.old prints.old kept.new prints.new (listed_by counts.terminals map.now (productions_in grammar.now counts.productions) es (set_of lookahead) start count) }
-    ensures room_2 { Room kept.new prints.new × TrialsIn trial_limit result }
+    requires count_in_bounds { count ≤ example_limit }
+    ensures listed_on { (es : List TraceEdge) (start : ItemOf) → Listable (productions_in grammar.now counts.productions) es owners.now codes.now sources.now older.now latest.now start → ListedOn (productions_in grammar.now counts.productions) shift result count side.old.kept side.old.prints side.new.kept side.new.prints (listed_by counts.terminals map.now (productions_in grammar.now counts.productions) es (set_of lookahead) start count) }
+    ensures trials_in { TrialsIn trial_limit result }
 {
     let mut words = [0u16; View::TRIAL];
     let productions = counts.productions;
@@ -230,8 +227,7 @@ fn list_outlines(
                     owners,
                     codes,
                     &words,
-                    kept,
-                    prints,
+                    side,
                     count + turn,
                     turn,
                 );
@@ -294,14 +290,13 @@ fn list_item(
     given: Given,
     lookahead: Lookahead,
     traced: Traced,
-    kept: &mut [u16],
-    prints: &mut [u64],
+    side: &mut Side,
     count: usize,
 ) -> Result<Gathered, Refusal>
     requires state_in_bounds { (traced.state.0 < length (meaning given.table.now).states) × (item_is_fit (meaning given.table.now).productions traced.production traced.index ≡ true) }
-    requires room { Room kept.old prints.old × (count ≤ example_limit) }
-    ensures listed_on { ListedOn (meaning given.entry.table.now).productions traced.shift result count kept.old prints.old kept.new prints.new (listing_side (meaning given.entry.table.now) (edges_by traced.shift (meaning given.entry.table.now) traced.state.0 (record { production = traced.production; index = traced.index })) (record { production = traced.production; index = traced.index }) (set_of lookahead) count) }
-    ensures room_2 { Room kept.new prints.new × TrialsIn trial_limit result }
+    requires count_in_bounds { count ≤ example_limit }
+    ensures listed_on { ListedOn (meaning given.entry.table.now).productions traced.shift result count side.old.kept side.old.prints side.new.kept side.new.prints (listing_side (meaning given.entry.table.now) (edges_by traced.shift (meaning given.entry.table.now) traced.state.0 (record { production = traced.production; index = traced.index })) (record { production = traced.production; index = traced.index }) (set_of lookahead) count) }
+    ensures trials_in { TrialsIn trial_limit result }
 {
     let mut words = [0u16; EdgeCode::WORDS];
     let mut owners = [0u8; View::EDGES];
@@ -329,8 +324,7 @@ fn list_item(
             &sources,
             &older,
             &latest,
-            kept,
-            prints,
+            side,
             count,
         ),
         Err(Full) => Side::Stopped(12),
@@ -342,12 +336,10 @@ fn shift_examples(
     given: Given,
     state: StateIndex,
     token: usize,
-    kept: &mut [u16],
-    prints: &mut [u64],
+    side: &mut Side,
 ) -> Result<Gathered, Refusal>
     requires state_in_bounds { state.0 < length (meaning given.table.now).states }
-    requires room { Room kept.old prints.old }
-    ensures { Sided (meaning given.entry.table.now) true (shift_made (meaning given.entry.table.now) state.0) result kept.new prints.new (shift_side (meaning given.entry.table.now) state.0 token) }
+    ensures { Sided (meaning given.entry.table.now) true (shift_made (meaning given.entry.table.now) state.0) result side.new.kept side.new.prints (shift_side (meaning given.entry.table.now) state.0 token) }
 {
     let mut order = [0u16; ProductionIndex::LIMIT];
     let mut marks = [0u64; Item::FLAG_WORDS];
@@ -379,14 +371,7 @@ fn shift_examples(
             index: code % ProductionIndex::INDEXES,
             shift: true,
         };
-        let listed = list_item(
-            given,
-            Lookahead::Any,
-            traced,
-            kept,
-            prints,
-            gathered.examples,
-        )?;
+        let listed = list_item(given, Lookahead::Any, traced, side, gathered.examples)?;
         gathered.examples = listed.examples;
         gathered.trials += listed.trials;
         from = place + 1;
@@ -412,41 +397,48 @@ fn reduce_item(grammar: &[u16], productions: usize, state: StateIndex, productio
 }
 
 // `reduce_examples`: the production at its end, filtered by the token.
-pub fn reduce_examples(
+fn reduce_examples(
     given: Given,
     state: StateIndex,
     production: usize,
     token: u16,
-    kept: &mut [u16],
-    prints: &mut [u64],
+    side: &mut Side,
 ) -> Result<Gathered, Refusal>
     requires state_in_bounds { (state.0 < length (meaning given.table.now).states) × ((production < length (meaning given.table.now).productions) × (token ≤ (meaning given.table.now).terminals)) }
-    requires room { Room kept.old prints.old }
-    ensures { Sided (meaning given.entry.table.now) false (reduce_made (meaning given.entry.table.now) state.0 production token) result kept.new prints.new (reduce_side (meaning given.entry.table.now) state.0 production token) }
+    ensures { Sided (meaning given.entry.table.now) false (reduce_made (meaning given.entry.table.now) state.0 production token) result side.new.kept side.new.prints (reduce_side (meaning given.entry.table.now) state.0 production token) }
 {
     let traced = reduce_item(given.grammar, given.counts.productions, state, production);
     let tokens = TokenSet::from(token);
-    list_item(given, Lookahead::Set(tokens), traced, kept, prints, 0)
+    list_item(given, Lookahead::Set(tokens), traced, side, 0)
+}
+
+// The conflict's reduce as the action of a conflict: what is said of an action's side is said of the other side so.
+pub fn reduced(conflict: Conflict) -> Conflict
+    ensures { result ≡ reduced conflict }
+{
+    Conflict {
+        action: 1,
+        operand: conflict.production.0,
+        ..conflict
+    }
 }
 
 // The side of the conflict's action.
 pub fn action_examples(
     given: Given,
     conflict: Conflict,
-    kept: &mut [u16],
-    prints: &mut [u64],
+    side: &mut Side,
 ) -> Result<Gathered, Refusal>
     requires conflict_value { conflict_fits (meaning given.table.now) conflict ≡ true }
-    requires room { Room kept.old prints.old }
-    ensures { Sided (meaning given.entry.table.now) (is_shift conflict) (action_made (meaning given.entry.table.now) conflict) result kept.new prints.new (action_side_of (meaning given.entry.table.now) conflict.state.0 conflict.action conflict.operand conflict.token) }
+    ensures { Sided (meaning given.entry.table.now) (is_shift conflict) (action_made (meaning given.entry.table.now) conflict) result side.new.kept side.new.prints (action_side_of (meaning given.entry.table.now) conflict.state.0 conflict.action conflict.operand conflict.token) }
 {
     let state = conflict.state;
     let operand = conflict.operand as usize;
     let token = conflict.token;
     if conflict.action == 0 {
-        return shift_examples(given, state, token as usize, kept, prints);
+        return shift_examples(given, state, token as usize, side);
     }
-    reduce_examples(given, state, operand, token, kept, prints)
+    reduce_examples(given, state, operand, token, side)
 }
 
 // From no edge on, past `wanted` examples of a listing: whether the words hold the next.
@@ -554,7 +546,7 @@ fn item_again(given: Given, lookahead: Lookahead, traced: Traced, wanted: usize,
 }
 
 // Example `wanted` of a reduce's side made again.
-pub fn reduce_again(
+fn reduce_again(
     given: Given,
     state: StateIndex,
     production: usize,

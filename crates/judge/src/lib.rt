@@ -1,4 +1,4 @@
-// The class of a conflict from what is kept of its examples (`classify` and the three `try_classify_` of lr1/error/mod.rs; part 8 of document 01, request 06 of document 02). Of either side the code has what is kept of the examples, their prints, and their order: of the action side `actions`, `action_prints`, `rows`, of the reduce side `reduces`, `reduce_prints`, `columns`.
+// The class of a conflict from what is kept of its examples (`classify` and the three `try_classify_` of lr1/error/mod.rs; part 8 of document 01, request 06 of document 02). Of either side the code has what is kept of the examples, and their order: of the action side `actions`, `rows`, of the reduce side `reduces`, `columns`.
 
 #![tactic(auto)]
 
@@ -25,8 +25,8 @@ ghost use Rattle.judge.specs.Judging.{InBuffer, Sides, Ordered, picked, pair_in,
 
 use error::{Class, Conflict};
 use example::Example as ExampleBuffer;
-use examples::{Given, action_again, reduce_again};
-use outline::{Outline, outline_at, turn_at, write_kept};
+use examples::{Given, action_again, reduced};
+use outline::{Outline, Side};
 use pairs::{Test, first_pair};
 use repr::{NonterminalString, ProductionIndex, symbols, word};
 use table::{Counts, first_production, production};
@@ -39,52 +39,20 @@ pub struct Judged {
     pub reduce: Option<usize>,
 }
 
-// Example k of the action side, written at the front of a buffer: from its labels where they are kept, else made again.
-pub fn write_action(
-    given: Given,
-    conflict: Conflict,
-    actions: &[u16],
-    action_prints: &[u64],
-    k: usize,
-    buffer: &mut [u16],
-)
+// Example k of the side of the conflict's action, written at the front of a buffer: from its labels where they are kept, else made again.
+pub fn write_example(given: Given, conflict: Conflict, side: &Side, k: usize, buffer: &mut [u16])
     requires conflict_value { conflict_fits (meaning given.table.now) conflict ≡ true }
-    requires side_kept { (xs : List Example) × (SideKept (meaning given.table.now) (is_shift conflict) (action_made (meaning given.table.now) conflict) xs actions.now action_prints.now × (k < length xs)) }
+    requires side_kept { (xs : List Example) × (SideKept (meaning given.table.now) (is_shift conflict) (action_made (meaning given.table.now) conflict) xs side.now.kept side.now.prints × (k < length xs)) }
     requires example_room_in_bounds { example_room ≤ length buffer.old }
-    ensures { (xs : List Example) → SideKept (meaning given.entry.table.now) (is_shift conflict) (action_made (meaning given.entry.table.now) conflict) xs actions.now action_prints.now → k < length xs → buffer.new ≡ in_front (example_words (meaning given.entry.table.now).productions (nth xs k)) buffer.old }
+    ensures { (xs : List Example) → SideKept (meaning given.entry.table.now) (is_shift conflict) (action_made (meaning given.entry.table.now) conflict) xs side.now.kept side.now.prints → k < length xs → buffer.new ≡ in_front (example_words (meaning given.entry.table.now).productions (nth xs k)) buffer.old }
 {
     if k < Outline::LABELLED {
-        write_kept(given.grammar, given.counts.productions, actions, k, buffer);
+        side.write_kept(given.grammar, given.counts.productions, k, buffer);
         return;
     }
-    let outline = outline_at(actions, action_prints, k);
-    let turn = turn_at(actions, k);
+    let outline = side.outline(k);
+    let turn = side.turn(k);
     action_again(given, conflict, outline.label, turn, buffer);
-}
-
-// Example k of the reduce side, likewise.
-pub fn write_reduce(
-    given: Given,
-    conflict: Conflict,
-    reduces: &[u16],
-    reduce_prints: &[u64],
-    k: usize,
-    buffer: &mut [u16],
-)
-    requires conflict_value { conflict_fits (meaning given.table.now) conflict ≡ true }
-    requires side_kept { (ys : List Example) × (SideKept (meaning given.table.now) false (reduce_made (meaning given.table.now) conflict.state.0 conflict.production.0 conflict.token) ys reduces.now reduce_prints.now × (k < length ys)) }
-    requires example_room_in_bounds { example_room ≤ length buffer.old }
-    ensures { (ys : List Example) → SideKept (meaning given.entry.table.now) false (reduce_made (meaning given.entry.table.now) conflict.state.0 conflict.production.0 conflict.token) ys reduces.now reduce_prints.now → k < length ys → buffer.new ≡ in_front (example_words (meaning given.entry.table.now).productions (nth ys k)) buffer.old }
-{
-    if k < Outline::LABELLED {
-        write_kept(given.grammar, given.counts.productions, reduces, k, buffer);
-        return;
-    }
-    let state = conflict.state;
-    let production = conflict.production.0 as usize;
-    let token = conflict.token;
-    let turn = turn_at(reduces, k);
-    reduce_again(given, state, production, token, turn, buffer);
 }
 
 // Whether two examples have the same symbols and the same cursor.
@@ -107,21 +75,19 @@ fn same_reading(action: &[u16], reduce: &[u16]) -> bool
 fn same_again(
     given: Given,
     conflict: Conflict,
-    actions: &[u16],
-    action_prints: &[u64],
+    actions: &Side,
     x: usize,
-    reduces: &[u16],
-    reduce_prints: &[u64],
+    reduces: &Side,
     y: usize,
 ) -> bool
     requires conflict_value { conflict_fits (meaning given.table.now) conflict ≡ true }
-    requires sides { (xs : List Example) × ((ys : List Example) × (Sides (meaning given.table.now) conflict xs ys actions.now action_prints.now reduces.now reduce_prints.now × ((x < length xs) × (y < length ys)))) }
-    ensures { (xs ys : List Example) → Sides (meaning given.entry.table.now) conflict xs ys actions.now action_prints.now reduces.now reduce_prints.now → x < length xs → y < length ys → result ≡ is_same_reading (meaning given.entry.table.now).productions (nth xs x) (nth ys y) }
+    requires sides { (xs : List Example) × ((ys : List Example) × (Sides (meaning given.table.now) conflict xs ys actions.now.kept actions.now.prints reduces.now.kept reduces.now.prints × ((x < length xs) × (y < length ys)))) }
+    ensures { (xs ys : List Example) → Sides (meaning given.entry.table.now) conflict xs ys actions.now.kept actions.now.prints reduces.now.kept reduces.now.prints → x < length xs → y < length ys → result ≡ is_same_reading (meaning given.entry.table.now).productions (nth xs x) (nth ys y) }
 {
     let mut action = [0u16; ExampleBuffer::WORDS];
     let mut reduce = [0u16; ExampleBuffer::WORDS];
-    write_action(given, conflict, actions, action_prints, x, &mut action);
-    write_reduce(given, conflict, reduces, reduce_prints, y, &mut reduce);
+    write_example(given, conflict, actions, x, &mut action);
+    write_example(given, reduced(conflict), reduces, y, &mut reduce);
     same_reading(&action, &reduce)
 }
 
@@ -129,16 +95,14 @@ fn same_again(
 fn try_classify_ambiguity(
     given: Given,
     conflict: Conflict,
-    actions: &[u16],
-    action_prints: &[u64],
+    actions: &Side,
     rows: &[u16],
-    reduces: &[u16],
-    reduce_prints: &[u64],
+    reduces: &Side,
     columns: &[u16],
 ) -> Option<(usize, usize)>
     requires conflict_value { conflict_fits (meaning given.table.now) conflict ≡ true }
-    requires sides { (xs : List Example) × ((ys : List Example) × (Sides (meaning given.table.now) conflict xs ys actions.now action_prints.now reduces.now reduce_prints.now × (Ordered xs rows.now × Ordered ys columns.now))) }
-    ensures { (xs ys : List Example) → Sides (meaning given.entry.table.now) conflict xs ys actions.now action_prints.now reduces.now reduce_prints.now → Ordered xs rows.now → Ordered ys columns.now → ReadAlike (meaning given.entry.table.now).productions xs ys rows.now columns.now result }
+    requires sides { (xs : List Example) × ((ys : List Example) × (Sides (meaning given.table.now) conflict xs ys actions.now.kept actions.now.prints reduces.now.kept reduces.now.prints × (Ordered xs rows.now × Ordered ys columns.now))) }
+    ensures { (xs ys : List Example) → Sides (meaning given.entry.table.now) conflict xs ys actions.now.kept actions.now.prints reduces.now.kept reduces.now.prints → Ordered xs rows.now → Ordered ys columns.now → ReadAlike (meaning given.entry.table.now).productions xs ys rows.now columns.now result }
 {
     let mut row: usize = 0;
     let mut column: usize = 0;
@@ -149,10 +113,8 @@ fn try_classify_ambiguity(
             given.counts,
             Test::Alike,
             actions,
-            action_prints,
             rows,
             reduces,
-            reduce_prints,
             columns,
             row,
             column,
@@ -160,16 +122,7 @@ fn try_classify_ambiguity(
             Some((i, j)) => {
                 let x = word(rows, i);
                 let y = word(columns, j);
-                if same_again(
-                    given,
-                    conflict,
-                    actions,
-                    action_prints,
-                    x,
-                    reduces,
-                    reduce_prints,
-                    y,
-                ) {
+                if same_again(given, conflict, actions, x, reduces, y) {
                     return Some((x, y));
                 }
                 row = i;
@@ -268,23 +221,21 @@ fn ambiguity(
     grammar: &[u16],
     counts: Counts,
     conflict: Conflict,
-    actions: &[u16],
-    action_prints: &[u64],
+    actions: &Side,
     x: usize,
-    reduces: &[u16],
-    reduce_prints: &[u64],
+    reduces: &Side,
     y: usize,
 ) -> Judged
-    requires { (T : Table) × (Grammar T grammar.now counts.productions × ((conflict_fits T conflict ≡ true) × ((xs : List Example) × ((ys : List Example) × (Sides T conflict xs ys actions.now action_prints.now reduces.now reduce_prints.now × ((x < length xs) × (y < length ys))))))) }
-    ensures { (T : Table) → Grammar T grammar.now counts.productions → conflict_fits T conflict ≡ true → (xs ys : List Example) → Sides T conflict xs ys actions.now action_prints.now reduces.now reduce_prints.now → x < length xs → y < length ys → Judges xs ys result (ambiguity_of T conflict.production.0 conflict.action conflict.operand (pair_in xs ys x y)) }
+    requires { (T : Table) × (Grammar T grammar.now counts.productions × ((conflict_fits T conflict ≡ true) × ((xs : List Example) × ((ys : List Example) × (Sides T conflict xs ys actions.now.kept actions.now.prints reduces.now.kept reduces.now.prints × ((x < length xs) × (y < length ys))))))) }
+    ensures { (T : Table) → Grammar T grammar.now counts.productions → conflict_fits T conflict ≡ true → (xs ys : List Example) → Sides T conflict xs ys actions.now.kept actions.now.prints reduces.now.kept reduces.now.prints → x < length xs → y < length ys → Judges xs ys result (ambiguity_of T conflict.production.0 conflict.action conflict.operand (pair_in xs ys x y)) }
 {
     let production = conflict.production.0 as usize;
     let operand = conflict.operand;
     if conflict.action == 0 {
         return shift_ambiguity(grammar, counts.productions, production, operand, x, y);
     }
-    let action = outline_at(actions, action_prints, x);
-    let reduce = outline_at(reduces, reduce_prints, y);
+    let action = actions.outline(x);
+    let reduce = reduces.outline(y);
     reduce_ambiguity(
         grammar,
         counts.productions,
@@ -348,17 +299,15 @@ fn try_classify_question(
 fn try_classify_inline(
     given: Given,
     conflict: Conflict,
-    actions: &[u16],
-    action_prints: &[u64],
+    actions: &Side,
     rows: &[u16],
-    reduces: &[u16],
-    reduce_prints: &[u64],
+    reduces: &Side,
     columns: &[u16],
 ) -> Judged
     requires conflict_value { conflict_fits (meaning given.table.now) conflict ≡ true }
     requires action_value { conflict.action ≡ 0 }
-    requires sides { (xs : List Example) × ((ys : List Example) × (Sides (meaning given.table.now) conflict xs ys actions.now action_prints.now reduces.now reduce_prints.now × (Ordered xs rows.now × Ordered ys columns.now))) }
-    ensures { (xs ys : List Example) → Sides (meaning given.entry.table.now) conflict xs ys actions.now action_prints.now reduces.now reduce_prints.now → Ordered xs rows.now → Ordered ys columns.now → Judges xs ys result (inline_or (meaning given.entry.table.now).productions (heads_in xs ys rows.now columns.now) (first_fit (judging.inlines (meaning given.entry.table.now)) (picked xs rows.now) (picked ys columns.now))) }
+    requires sides { (xs : List Example) × ((ys : List Example) × (Sides (meaning given.table.now) conflict xs ys actions.now.kept actions.now.prints reduces.now.kept reduces.now.prints × (Ordered xs rows.now × Ordered ys columns.now))) }
+    ensures { (xs ys : List Example) → Sides (meaning given.entry.table.now) conflict xs ys actions.now.kept actions.now.prints reduces.now.kept reduces.now.prints → Ordered xs rows.now → Ordered ys columns.now → Judges xs ys result (inline_or (meaning given.entry.table.now).productions (heads_in xs ys rows.now columns.now) (first_fit (judging.inlines (meaning given.entry.table.now)) (picked xs rows.now) (picked ys columns.now))) }
 {
     match first_pair(
         given.map,
@@ -366,10 +315,8 @@ fn try_classify_inline(
         given.counts,
         Test::Inline,
         actions,
-        action_prints,
         rows,
         reduces,
-        reduce_prints,
         columns,
         0,
         0,
@@ -377,7 +324,7 @@ fn try_classify_inline(
         Some((i, j)) => {
             let x = word(rows, i);
             let y = word(columns, j);
-            let reduce = outline_at(reduces, reduce_prints, y);
+            let reduce = reduces.outline(y);
             with_both(
                 Class::SuggestInline(NonterminalString(reduce.first as u16)),
                 x,
@@ -392,17 +339,15 @@ fn try_classify_inline(
 fn shift_unambiguous(
     given: Given,
     conflict: Conflict,
-    actions: &[u16],
-    action_prints: &[u64],
+    actions: &Side,
     rows: &[u16],
-    reduces: &[u16],
-    reduce_prints: &[u64],
+    reduces: &Side,
     columns: &[u16],
 ) -> Judged
     requires conflict_value { conflict_fits (meaning given.table.now) conflict ≡ true }
     requires action_value { conflict.action ≡ 0 }
-    requires sides { (xs : List Example) × ((ys : List Example) × (Sides (meaning given.table.now) conflict xs ys actions.now action_prints.now reduces.now reduce_prints.now × (Ordered xs rows.now × Ordered ys columns.now))) }
-    ensures { (xs ys : List Example) → Sides (meaning given.entry.table.now) conflict xs ys actions.now action_prints.now reduces.now reduce_prints.now → Ordered xs rows.now → Ordered ys columns.now → Judges xs ys result (unambiguous (meaning given.entry.table.now) conflict.production.0 0 (picked xs rows.now) (picked ys columns.now) (heads_in xs ys rows.now columns.now)) }
+    requires sides { (xs : List Example) × ((ys : List Example) × (Sides (meaning given.table.now) conflict xs ys actions.now.kept actions.now.prints reduces.now.kept reduces.now.prints × (Ordered xs rows.now × Ordered ys columns.now))) }
+    ensures { (xs ys : List Example) → Sides (meaning given.entry.table.now) conflict xs ys actions.now.kept actions.now.prints reduces.now.kept reduces.now.prints → Ordered xs rows.now → Ordered ys columns.now → Judges xs ys result (unambiguous (meaning given.entry.table.now) conflict.production.0 0 (picked xs rows.now) (picked ys columns.now) (heads_in xs ys rows.now columns.now)) }
 {
     let production = conflict.production.0 as usize;
     let nonterminal = word(given.grammar, production * ProductionIndex::WORDS);
@@ -417,16 +362,7 @@ fn shift_unambiguous(
             rows,
             columns,
         ),
-        None => try_classify_inline(
-            given,
-            conflict,
-            actions,
-            action_prints,
-            rows,
-            reduces,
-            reduce_prints,
-            columns,
-        ),
+        None => try_classify_inline(given, conflict, actions, rows, reduces, columns),
     }
 }
 
@@ -434,28 +370,17 @@ fn shift_unambiguous(
 fn unambiguous(
     given: Given,
     conflict: Conflict,
-    actions: &[u16],
-    action_prints: &[u64],
+    actions: &Side,
     rows: &[u16],
-    reduces: &[u16],
-    reduce_prints: &[u64],
+    reduces: &Side,
     columns: &[u16],
 ) -> Judged
     requires conflict_value { conflict_fits (meaning given.table.now) conflict ≡ true }
-    requires sides { (xs : List Example) × ((ys : List Example) × (Sides (meaning given.table.now) conflict xs ys actions.now action_prints.now reduces.now reduce_prints.now × (Ordered xs rows.now × Ordered ys columns.now))) }
-    ensures { (xs ys : List Example) → Sides (meaning given.entry.table.now) conflict xs ys actions.now action_prints.now reduces.now reduce_prints.now → Ordered xs rows.now → Ordered ys columns.now → Judges xs ys result (judging.unambiguous (meaning given.entry.table.now) conflict.production.0 conflict.action (picked xs rows.now) (picked ys columns.now) (heads_in xs ys rows.now columns.now)) }
+    requires sides { (xs : List Example) × ((ys : List Example) × (Sides (meaning given.table.now) conflict xs ys actions.now.kept actions.now.prints reduces.now.kept reduces.now.prints × (Ordered xs rows.now × Ordered ys columns.now))) }
+    ensures { (xs ys : List Example) → Sides (meaning given.entry.table.now) conflict xs ys actions.now.kept actions.now.prints reduces.now.kept reduces.now.prints → Ordered xs rows.now → Ordered ys columns.now → Judges xs ys result (judging.unambiguous (meaning given.entry.table.now) conflict.production.0 conflict.action (picked xs rows.now) (picked ys columns.now) (heads_in xs ys rows.now columns.now)) }
 {
     if conflict.action == 0 {
-        return shift_unambiguous(
-            given,
-            conflict,
-            actions,
-            action_prints,
-            rows,
-            reduces,
-            reduce_prints,
-            columns,
-        );
+        return shift_unambiguous(given, conflict, actions, rows, reduces, columns);
     }
     with_first(Class::InsufficientLookahead, rows, columns)
 }
@@ -464,47 +389,25 @@ fn unambiguous(
 pub fn judge(
     given: Given,
     conflict: Conflict,
-    actions: &[u16],
-    action_prints: &[u64],
+    actions: &Side,
     rows: &[u16],
-    reduces: &[u16],
-    reduce_prints: &[u64],
+    reduces: &Side,
     columns: &[u16],
 ) -> Judged
     requires conflict_value { conflict_fits (meaning given.table.now) conflict ≡ true }
-    requires sides { (xs : List Example) × ((ys : List Example) × (Sides (meaning given.table.now) conflict xs ys actions.now action_prints.now reduces.now reduce_prints.now × (Ordered xs rows.now × Ordered ys columns.now))) }
-    ensures { (xs ys : List Example) → Sides (meaning given.entry.table.now) conflict xs ys actions.now action_prints.now reduces.now reduce_prints.now → Ordered xs rows.now → Ordered ys columns.now → Judges xs ys result (judge (meaning given.entry.table.now) conflict (picked xs rows.now) (picked ys columns.now)) }
+    requires sides { (xs : List Example) × ((ys : List Example) × (Sides (meaning given.table.now) conflict xs ys actions.now.kept actions.now.prints reduces.now.kept reduces.now.prints × (Ordered xs rows.now × Ordered ys columns.now))) }
+    ensures { (xs ys : List Example) → Sides (meaning given.entry.table.now) conflict xs ys actions.now.kept actions.now.prints reduces.now.kept reduces.now.prints → Ordered xs rows.now → Ordered ys columns.now → Judges xs ys result (judge (meaning given.entry.table.now) conflict (picked xs rows.now) (picked ys columns.now)) }
 {
-    match try_classify_ambiguity(
-        given,
-        conflict,
-        actions,
-        action_prints,
-        rows,
-        reduces,
-        reduce_prints,
-        columns,
-    ) {
+    match try_classify_ambiguity(given, conflict, actions, rows, reduces, columns) {
         Some((x, y)) => ambiguity(
             given.grammar,
             given.counts,
             conflict,
             actions,
-            action_prints,
             x,
             reduces,
-            reduce_prints,
             y,
         ),
-        None => unambiguous(
-            given,
-            conflict,
-            actions,
-            action_prints,
-            rows,
-            reduces,
-            reduce_prints,
-            columns,
-        ),
+        None => unambiguous(given, conflict, actions, rows, reduces, columns),
     }
 }

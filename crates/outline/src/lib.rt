@@ -170,64 +170,83 @@ pub fn outline_of(grammar: &[u16], productions: usize, labels: &[u16], shift: bo
     }
 }
 
-// Keeps an outline as example k of a side, and which of its listing's it is.
-pub fn keep(outline: Outline, turn: usize, kept: &mut [u16], prints: &mut [u64], k: usize)
-    requires { OutlineFits outline × (turn < example_limit) × (k < example_limit) × Room kept.old prints.old }
-    ensures kept_after { kept.new ≡ kept_with kept.old k outline turn }
-    ensures prints_after { prints.new ≡ slice_set prints.old k outline.print }
-{
-    let at = k * Outline::WORDS;
-    kept[at] = outline.places as u16;
-    kept[at + 1] = outline.first as u16;
-    kept[at + 2] = outline.label as u16;
-    kept[at + 3] = turn as u16;
-    prints[k] = outline.print;
+// What is kept of a side's examples: outlines, behind them the labels of the first, and of each example its print.
+#[derive(Drop)]
+pub struct Side {
+    pub kept: [u16; Outline::ALL_WORDS],
+    pub prints: [u64; Conflict::EXAMPLES],
+    pub ghost room: { Room kept prints },
 }
 
-// Keeps the labels of example k of a side.
-pub fn keep_labels(labels: &[u16], kept: &mut [u16], k: usize)
-    requires { (length labels.now ≤ labels_room) × (k < labelled_limit) × (kept_room ≤ length kept.old) }
-    ensures { LabelsPut labels.now k kept.old kept.new }
-{
-    let at = Outline::OUTLINES + k * Outline::LABELLED_WORDS;
-    let from = at + 1;
-    let to = from + labels.len();
-    kept[from..to].copy_from_slice(labels);
-    kept[at] = labels.len() as u16;
-}
-
-// Example k of a side, whose labels are kept, at the front of the buffer.
-pub fn write_kept(grammar: &[u16], productions: usize, kept: &[u16], k: usize, buffer: &mut [u16])
-    requires packed { Packed grammar.now productions × (k < labelled_limit) × (kept_room ≤ length kept.now) }
-    requires example_room_in_bounds { ((x : ExampleOf) × KeptLabels (productions_in grammar.now productions) kept.now k x) × (example_room ≤ length buffer.old) }
-    ensures { (x : ExampleOf) → KeptLabels (productions_in grammar.now productions) kept.now k x → buffer.new ≡ in_front (example_words (productions_in grammar.now productions) x) buffer.old }
-{
-    let at = Outline::OUTLINES + k * Outline::LABELLED_WORDS;
-    let from = at + 1;
-    let to = from + word(kept, at);
-    write_example(grammar, productions, &kept[from..to], buffer);
-}
-
-// What is kept of example k.
-pub fn outline_at(kept: &[u16], prints: &[u64], k: usize) -> Outline
-    requires { (k < example_limit) × Room kept.now prints.now }
-    ensures { result ≡ outline_in kept.now prints.now k }
-{
-    let at = k * Outline::WORDS;
-    Outline {
-        places: word(kept, at),
-        print: prints[k],
-        first: word(kept, at + 1),
-        label: word(kept, at + 2),
+impl Side {
+    // Nothing kept.
+    pub fn new() -> Side {
+        Side {
+            kept: [0; Outline::ALL_WORDS],
+            prints: [0; Conflict::EXAMPLES],
+        }
     }
-}
 
-// Which of its listing's example k is.
-pub fn turn_at(kept: &[u16], k: usize) -> usize
-    requires { (k < example_limit) × (outlines_room ≤ length kept.now) }
-    ensures { result ≡ turn_in kept.now k }
-{
-    word(kept, k * Outline::WORDS + 3)
+    // Keeps an outline as example k, and which of its listing's it is.
+    pub fn keep(&mut self, outline: Outline, turn: usize, k: usize)
+        requires { OutlineFits outline × (turn < example_limit) × (k < example_limit) }
+        ensures kept_after { self.new.kept ≡ kept_with self.old.kept k outline turn }
+        ensures prints_after { self.new.prints ≡ slice_set self.old.prints k outline.print }
+    {
+        let at = k * Outline::WORDS;
+        self.kept[at] = outline.places as u16;
+        self.kept[at + 1] = outline.first as u16;
+        self.kept[at + 2] = outline.label as u16;
+        self.kept[at + 3] = turn as u16;
+        self.prints[k] = outline.print;
+    }
+
+    // Keeps the labels of example k.
+    pub fn keep_labels(&mut self, labels: &[u16], k: usize)
+        requires { (length labels.now ≤ labels_room) × (k < labelled_limit) }
+        ensures kept_after { LabelsPut labels.now k self.old.kept self.new.kept }
+        ensures prints_after { self.new.prints ≡ self.old.prints }
+    {
+        let at = Outline::OUTLINES + k * Outline::LABELLED_WORDS;
+        let from = at + 1;
+        let to = from + labels.len();
+        self.kept[from..to].copy_from_slice(labels);
+        self.kept[at] = labels.len() as u16;
+    }
+
+    // Example k, whose labels are kept, at the front of the buffer.
+    pub fn write_kept(&self, grammar: &[u16], productions: usize, k: usize, buffer: &mut [u16])
+        requires packed { Packed grammar.now productions × (k < labelled_limit) }
+        requires example_room_in_bounds { ((x : ExampleOf) × KeptLabels (productions_in grammar.now productions) self.now.kept k x) × (example_room ≤ length buffer.old) }
+        ensures { (x : ExampleOf) → KeptLabels (productions_in grammar.now productions) self.now.kept k x → buffer.new ≡ in_front (example_words (productions_in grammar.now productions) x) buffer.old }
+    {
+        let at = Outline::OUTLINES + k * Outline::LABELLED_WORDS;
+        let from = at + 1;
+        let to = from + word(&self.kept, at);
+        write_example(grammar, productions, &self.kept[from..to], buffer);
+    }
+
+    // What is kept of example k.
+    pub fn outline(&self, k: usize) -> Outline
+        requires { k < example_limit }
+        ensures { result ≡ outline_in self.now.kept self.now.prints k }
+    {
+        let at = k * Outline::WORDS;
+        Outline {
+            places: word(&self.kept, at),
+            print: self.prints[k],
+            first: word(&self.kept, at + 1),
+            label: word(&self.kept, at + 2),
+        }
+    }
+
+    // Which of its listing's example k is.
+    pub fn turn(&self, k: usize) -> usize
+        requires { k < example_limit }
+        ensures { result ≡ turn_in self.now.kept k }
+    {
+        word(&self.kept, k * Outline::WORDS + 3)
+    }
 }
 
 // An item from its number.

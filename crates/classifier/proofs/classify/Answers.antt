@@ -4,19 +4,20 @@ use lib.ListN.{length-replicate}
 use Rattle.std.proofs.lemmas.Result.{err_from_is_err_and}
 use Rattle.repr.specs.Sizes.{example_limit}
 use Rattle.outline.specs.Kept.{kept_room}
-use Rattle.classifier.proofs.Ways.{conflict_in, side_stops, side_gathers, action_stops, reduce_stops, both-judged}
+use Rattle.examples.proofs.Actions.{reduced_fits, reduced-sided}
+use Rattle.classifier.proofs.Ways.{side_stops, side_gathers, action_stops, reduce_stops, both-judged}
 use Rattle.classifier.proofs.classify.Goals as goal
 
 pub action_examples-requires : goal.action_examples-requires
-action_examples-requires c = record { conflict_value = c.requires.conflict_value; room = record { by_words = rw (length-replicate {A = ℕ} kept_room 0) (omega arith); by_print_lem = rw (length-replicate {A = ℕ} example_limit 0) (omega arith) } }
+action_examples-requires c = record { conflict_value = c.requires.conflict_value }
 
-pub reduce_examples-requires : goal.reduce_examples-requires
-reduce_examples-requires c = record { state_in_bounds = conflict_in _ c.args.conflict c.requires.conflict_value; room = record { by_words = rw (length-replicate {A = ℕ} kept_room 0) (omega arith); by_print_lem = rw (length-replicate {A = ℕ} example_limit 0) (omega arith) } }
+pub action_examples-requires-2 : goal.action_examples-requires-2
+action_examples-requires-2 c = rw c.reduced.ensures (record { conflict_value = reduced_fits _ c.args.conflict c.requires.conflict_value })
 
 pub classify_kept-class-requires : goal.classify_kept-class-requires
 classify_kept-class-requires c =
     let A = side_gathers _ _ _ _ _ _ _ c.action_examples.ensures _ c.in_ok-own.was in
-    let R = side_gathers _ _ _ _ _ _ _ c.reduce_examples.ensures _ c.in_ok-other.was in
+    let R = side_gathers _ _ _ _ _ _ _ (reduced-sided _ c.args.conflict _ _ _ (rw c.reduced.ensures at c.action_examples-2.ensures)) _ c.in_ok-other.was in
     record { conflict_value = c.requires.conflict_value; sides = (A.examples, (R.examples, (record { action = A.held; reduce = R.held }, (A.many, R.many)))); example_room_in_bounds = c.requires.example_room_in_bounds }
 
 pub returns-in_err-own : goal.returns-in_err-own
@@ -28,10 +29,10 @@ pub returns-in_err-other : goal.returns-in_err-other
 returns-in_err-other c =
     let p = err_from_is_err_and c.from_residual-in_err-other.result c.from_residual-in_err-other.ensures.1 in
     let A = side_gathers _ _ _ _ _ _ _ c.action_examples.ensures _ c.in_ok-own.was in
-    λ w. rw (p.1, p.2) (reduce_stops _ c.args.conflict w _ _ _ _ _ A.is (side_stops _ _ _ _ _ _ _ c.reduce_examples.ensures _ c.in_err-other.was))
+    λ w. rw (p.1, p.2) (reduce_stops _ c.args.conflict w _ _ _ _ _ A.is (side_stops _ _ _ _ _ _ _ (reduced-sided _ c.args.conflict _ _ _ (rw c.reduced.ensures at c.action_examples-2.ensures)) _ c.in_err-other.was))
 
 pub returns : goal.returns
 returns c =
     let A = side_gathers _ _ _ _ _ _ _ c.action_examples.ensures _ c.in_ok-own.was in
-    let R = side_gathers _ _ _ _ _ _ _ c.reduce_examples.ensures _ c.in_ok-other.was in
+    let R = side_gathers _ _ _ _ _ _ _ (reduced-sided _ c.args.conflict _ _ _ (rw c.reduced.ensures at c.action_examples-2.ensures)) _ c.in_ok-other.was in
     λ w. both-judged _ c.args.conflict w _ _ A.examples R.examples _ _ A.is R.is _ _ _ (c.classify_kept-class.ensures A.examples R.examples (record { action = A.held; reduce = R.held }) A.many R.many)

@@ -20,10 +20,10 @@ pub slice_bounds-keep_labels-end : goal.slice_bounds-keep_labels-end
 slice_bounds-keep_labels-end c = let l = c.read_labels-size.auto.labels ∙ length-replicate {A = ℕ} labels_room 0 in sym (length-take-le _ c.read_labels-size.new.labels (omega (arith, c.read_labels-size.ensures.upper_bound.0)))
 
 pub keep_labels-requires : goal.keep_labels-requires
-keep_labels-requires c = ((c.read_labels-size.ensures.upper_bound.1 _ _ c.requires.tried.1).few, omega arith, omega (arith, c.keep.auto.kept, c.requires.room.0.by_words))
+keep_labels-requires c = ((c.read_labels-size.ensures.upper_bound.1 _ _ c.requires.tried.1).few, omega arith)
 
 pub returns-then-count-lt-LABELLED : goal.returns-then-count-lt-LABELLED
-returns-then-count-lt-LABELLED c = λ es T p rest w. trial_labelled _ _ _ _ (c.read_labels-size.ensures.upper_bound.1 _ _ T) (c.read_labels-size.ensures.labels_after _ _ T p rest w) _ c.outline_of-outline.ensures.0 _ _ c.requires.room.1 _ _ c.requires.room.0 _ _ c.keep.ensures.kept_after c.keep.ensures.prints_after (omega arith) _ c.keep_labels.ensures
+returns-then-count-lt-LABELLED c = λ es T p rest w. rw c.keep_labels.ensures.prints_after (trial_labelled _ _ _ _ (c.read_labels-size.ensures.upper_bound.1 _ _ T) (c.read_labels-size.ensures.labels_after _ _ T p rest w) _ c.outline_of-outline.ensures.0 _ _ c.requires.count_in_bounds.0 _ _ c.args.side.now.room _ _ c.keep.ensures.kept_after c.keep.ensures.prints_after (omega arith) _ c.keep_labels.ensures.kept_after)
 
 pub returns-else-count-lt-LABELLED : goal.returns-else-count-lt-LABELLED
-returns-else-count-lt-LABELLED c = λ es T p rest w. trial_unlabelled _ _ _ _ (c.read_labels-size.ensures.upper_bound.1 _ _ T) (c.read_labels-size.ensures.labels_after _ _ T p rest w) _ c.outline_of-outline.ensures.0 _ _ c.requires.room.1 _ _ c.requires.room.0 _ _ c.keep.ensures.kept_after c.keep.ensures.prints_after (omega arith)
+returns-else-count-lt-LABELLED c = λ es T p rest w. trial_unlabelled _ _ _ _ (c.read_labels-size.ensures.upper_bound.1 _ _ T) (c.read_labels-size.ensures.labels_after _ _ T p rest w) _ c.outline_of-outline.ensures.0 _ _ c.requires.count_in_bounds.0 _ _ c.args.side.now.room _ _ c.keep.ensures.kept_after c.keep.ensures.prints_after (omega arith)

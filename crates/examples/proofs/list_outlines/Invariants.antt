@@ -11,10 +11,10 @@ use Rattle.examples.proofs.Turns.{Turn}
 use Rattle.examples.proofs.list_outlines.Given as goal
 
 abbrev pub invariant-loop-number : goal.invariant-loop-number
-invariant-loop-number l = ((length l.kept ≡ length l.initial.kept) × (length l.prints ≡ length l.initial.prints) × (length l.words ≡ trial_room) × (l.count + l.turn ≤ example_limit))
+invariant-loop-number l = ((length l.words ≡ trial_room) × (l.count + l.turn ≤ example_limit))
     × ((es : List TraceEdge) (start : Item) → Listable (productions_in l.grammar l.productions) es l.owners l.codes l.sources l.older l.latest start
     → Walk l.terminals l.map (productions_in l.grammar l.productions) (set_of l.lookahead) es start l.words l.made
-    × Turn l.terminals l.map (productions_in l.grammar l.productions) (set_of l.lookahead) es start l.shift l.count l.initial.kept l.initial.prints l.kept l.prints l.turn l.made)
+    × Turn l.terminals l.map (productions_in l.grammar l.productions) (set_of l.lookahead) es start l.shift l.count l.initial.side.kept l.initial.side.prints l.side.kept l.side.prints l.turn l.made)
 
 abbrev pub decreases-loop-number : goal.decreases-loop-number
 decreases-loop-number l = example_limit - (l.count + l.turn)

@@ -1,4 +1,4 @@
-use mathlib.Core.Path.{refl, ◌∙◌}
+use mathlib.Core.Path.{refl}
 use Rattle.std.specs.Prelude.{ℕ}
 use lib.ListN.{length-replicate}
 use Rattle.std.proofs.lemmas.Result.{err_from_is_err_and}
@@ -12,17 +12,17 @@ pub conflicting_shift_items-requires : goal.conflicting_shift_items-requires
 conflicting_shift_items-requires c = record { table_value = c.args.given.reads.accepted; grammar = (record { packed = c.args.given.reads.packed; same = c.args.given.reads.same; many = c.args.given.reads.many }, c.requires.state_in_bounds); order_len = (length-replicate {A = ℕ} production_limit 0, refl) }
 
 pub loop-place-init : goal.loop-place-init
-loop-place-init c = turn_first _ _ _ _ _ _ _ _ _ c.conflicting_shift_items.ensures c.requires.room
+loop-place-init c = turn_first _ _ _ _ _ _ _ _ _ c.conflicting_shift_items.ensures c.args.side.now.room
 
 pub next_shift_item-requires : goal.next_shift_item-requires
 next_shift_item-requires c = (_, (_, c.conflicting_shift_items.ensures))
 
 pub list_item-requires : goal.list_item-requires
-list_item-requires c = let N = next_at _ _ _ _ _ _ _ _ c.in-Some.is (c.next_shift_item.ensures _ _ c.conflicting_shift_items.ensures) in record { state_in_bounds = (c.requires.state_in_bounds, item_in_lem _ (fits _ c.args.given.reads.accepted) _ _ c.requires.state_in_bounds _ _ _ _ _ N); room = turn_room _ _ _ _ _ _ _ _ _ _ _ _ c.loop-place.invariant }
+list_item-requires c = let N = next_at _ _ _ _ _ _ _ _ c.in-Some.is (c.next_shift_item.ensures _ _ c.conflicting_shift_items.ensures) in record { state_in_bounds = (c.requires.state_in_bounds, item_in_lem _ (fits _ c.args.given.reads.accepted) _ _ c.requires.state_in_bounds _ _ _ _ _ N); count_in_bounds = turn_room _ _ _ _ _ _ _ _ _ _ c.loop-place.invariant }
 
 pub overflow_add-gathered : goal.overflow_add-gathered
 overflow_add-gathered c = let N = next_at _ _ _ _ _ _ _ _ c.in-Some.is (c.next_shift_item.ensures _ _ c.conflicting_shift_items.ensures) in
-    let b = turn_trials _ (fits _ c.args.given.reads.accepted) _ _ c.requires.state_in_bounds _ _ _ _ _ N _ _ _ _ _ _ c.loop-place.invariant _ (trials_few _ _ c.in_ok-listed.was c.list_item.ensures.room_2.1) in
+    let b = turn_trials _ (fits _ c.args.given.reads.accepted) _ _ c.requires.state_in_bounds _ _ _ _ _ N _ _ _ _ c.loop-place.invariant _ (trials_few _ _ c.in_ok-listed.was c.list_item.ensures.trials_in) in
     omega (arith, b, c.args.given.reads.packed.few)
 
 pub overflow_add-from : goal.overflow_add-from
@@ -35,18 +35,12 @@ loop-place-smaller c = let N = next_at _ _ _ _ _ _ _ _ c.in-Some.is (c.next_shif
 
 pub loop-place-preserved : goal.loop-place-preserved
 loop-place-preserved c = let N = next_at _ _ _ _ _ _ _ _ c.in-Some.is (c.next_shift_item.ensures _ _ c.conflicting_shift_items.ensures) in
-    turn_more _ (fits _ c.args.given.reads.accepted) _ _ c.requires.state_in_bounds _ _ _ _ _ N _ _ _ _ _ _ c.loop-place.invariant _ _ _ c.list_item.ensures.listed_on _ c.in_ok-listed.was c.list_item.ensures.room_2.1 c.list_item.ensures.room_2.0 c.list_item.auto.kept c.list_item.auto.prints
-
-pub shape_of-kept-in_err-listed : goal.shape_of-kept-in_err-listed
-shape_of-kept-in_err-listed c = c.list_item.auto.kept ∙ c.loop-place.invariant.long
-
-pub shape_of-prints-in_err-listed : goal.shape_of-prints-in_err-listed
-shape_of-prints-in_err-listed c = c.list_item.auto.prints ∙ c.loop-place.invariant.wide
+    turn_more _ (fits _ c.args.given.reads.accepted) _ _ c.requires.state_in_bounds _ _ _ _ _ N _ _ _ _ c.loop-place.invariant _ _ _ c.list_item.ensures.listed_on _ c.in_ok-listed.was c.list_item.ensures.trials_in c.list_item.new.side.room
 
 pub returns-in_err-listed : goal.returns-in_err-listed
 returns-in_err-listed c = let N = next_at _ _ _ _ _ _ _ _ c.in-Some.is (c.next_shift_item.ensures _ _ c.conflicting_shift_items.ensures) in
     let p = err_from_is_err_and c.from_residual.result c.from_residual.ensures.1 in
-    rw (p.1, p.2) (turn_stop _ (fits _ c.args.given.reads.accepted) _ _ c.requires.state_in_bounds _ _ _ _ _ N _ _ _ _ _ _ c.loop-place.invariant _ _ _ c.list_item.ensures.listed_on _ c.in_err-listed.was)
+    rw (p.1, p.2) (turn_stop _ (fits _ c.args.given.reads.accepted) _ _ c.requires.state_in_bounds _ _ _ _ _ N _ _ _ _ c.loop-place.invariant _ _ _ c.list_item.ensures.listed_on _ c.in_err-listed.was)
 
 pub returns : goal.returns
-returns c = turn_end _ _ _ _ _ _ _ _ _ _ _ _ c.loop-place.invariant _ c.in_default.is (c.next_shift_item.ensures _ _ c.conflicting_shift_items.ensures)
+returns c = turn_end _ _ _ _ _ _ _ _ _ _ c.loop-place.invariant _ c.in_default.is (c.next_shift_item.ensures _ _ c.conflicting_shift_items.ensures)

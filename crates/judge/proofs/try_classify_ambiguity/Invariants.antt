@@ -10,7 +10,7 @@ use Rattle.judge.specs.Judging.{Sides, Ordered}
 use Rattle.judge.proofs.try_classify_ambiguity.Given as goal
 
 abbrev pub invariant-loop-i : goal.invariant-loop-i
-invariant-loop-i l = (xs ys : List Example) → Sides (meaning l.given.table.now) l.conflict xs ys l.actions l.action_prints l.reduces l.reduce_prints → Ordered xs l.rows → Ordered ys l.columns
+invariant-loop-i l = (xs ys : List Example) → Sides (meaning l.given.table.now) l.conflict xs ys l.actions.kept l.actions.prints l.reduces.kept l.reduces.prints → Ordered xs l.rows → Ordered ys l.columns
     → first_from (λ x y. is_same_reading (meaning l.given.table.now).productions (nth xs x) (nth ys y)) l.rows l.columns l.row l.column ≡ first_fit (λ x y. is_same_reading (meaning l.given.table.now).productions (nth xs x) (nth ys y)) l.rows l.columns
 
 abbrev pub decreases-loop-i : goal.decreases-loop-i

@@ -41,5 +41,6 @@ pub returns : goal.returns
 returns c =
     let i = c.loop-own.invariant in
     elim c.in-None.ensures.steps [
-      inl s ↦ diverge_end c.args.terminals c.args.map.now _ _ (omega (arith, s.1.1.0, i.own_two)) ∙ i.rest
-    | inr s ↦ diverge-other_end c.args.terminals c.args.map.now _ _ (omega (arith, s.1.1.0, i.other_two)) ∙ i.rest ]
+      | inl s ↦ diverge_end c.args.terminals c.args.map.now _ _ (omega (arith, s.1.1.0, i.own_two)) ∙ i.rest
+      | inr s ↦ diverge-other_end c.args.terminals c.args.map.now _ _ (omega (arith, s.1.1.0, i.other_two)) ∙ i.rest
+    ]
