@@ -7,8 +7,8 @@ use Rattle.yacc.proofs.read_text.Goals as goal
 pub slice_bounds-table-end : goal.slice_bounds-table-end
 slice_bounds-table-end g c = let f = few_read _ _ _ _ _ _ _ _ _ c.read_yacc.ensures c.in-Read.is in omega (arith, f, c.read_yacc.auto.table)
 
-pub slice_bounds-start_grammar-end : goal.slice_bounds-start_grammar-end
-slice_bounds-start_grammar-end g c = let f = few_read _ _ _ _ _ _ _ _ _ c.read_yacc.ensures c.in-Read.is in sym (length-take-le _ _ (omega (arith, f, c.read_yacc.auto.table)))
+pub slice_bounds-write_grammar-end : goal.slice_bounds-write_grammar-end
+slice_bounds-write_grammar-end g c = let f = few_read _ _ _ _ _ _ _ _ _ c.read_yacc.ensures c.in-Read.is in sym (length-take-le _ _ (omega (arith, f, c.read_yacc.auto.table)))
 
-pub start_grammar-requires : goal.start_grammar-requires
-start_grammar-requires g c = record { table_value = accepted _ _ _ _ _ _ _ _ _ c.read_yacc.ensures c.in-Read.is; startable = startable _ _ _ _ _ _ _ _ _ c.read_yacc.ensures c.in-Read.is; in_bounds = c.requires.1 }
+pub write_grammar-requires : goal.write_grammar-requires
+write_grammar-requires g c = record { table_value = accepted _ _ _ _ _ _ _ _ _ c.read_yacc.ensures c.in-Read.is; startable = startable _ _ _ _ _ _ _ _ _ c.read_yacc.ensures c.in-Read.is; in_bounds = c.requires }
