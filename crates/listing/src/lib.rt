@@ -125,14 +125,12 @@ fn calls_refusal(calls: &[u32], words: usize) -> u16
         return 9;
     }
     let mut left = words;
-    let mut at: usize = 0;
-    while at < calls.len() {
-        let part = 3 + number(calls, at + 2);
+    for i in 0..calls.len() / 3 {
+        let part = 3 + number(calls, 3 * i + 2);
         if left < part {
             return 11;
         }
         left -= part;
-        at += 3;
     }
     0
 }
@@ -201,11 +199,10 @@ fn make_calls(
 {
     let mut listing = l;
     let mut from: usize = 0;
-    let mut at: usize = 0;
-    while at < calls.len() {
-        let graph_words = number(calls, at);
-        let scratch_words = number(calls, at + 1);
-        let to = from + 3 + number(calls, at + 2);
+    for i in 0..calls.len() / 3 {
+        let graph_words = number(calls, 3 * i);
+        let scratch_words = number(calls, 3 * i + 1);
+        let to = from + 3 + number(calls, 3 * i + 2);
         listing = call(
             listing,
             table,
@@ -216,7 +213,6 @@ fn make_calls(
             &mut output[from..to],
         );
         from = to;
-        at += 3;
     }
 }
 

@@ -25,9 +25,7 @@ use repr::{ProductionIndex, joined_fits, list_fits, word};
 use spelling::Respelled;
 use state_graph::{StateIndex, StateSet};
 use table::{Checked, read_counts, read_productions};
-use trace_graph::{
-    Full, TraceEdge, TraceGraph, TraceGraphNode, check_graph, edge_fits, insert,
-};
+use trace_graph::{Full, TraceEdge, TraceGraph, TraceGraphNode, check_graph, edge_fits, insert};
 use tracer::Backtrace;
 use yacc_read::Reading;
 use yacc_write::Writing;
