@@ -31,7 +31,6 @@ ghost use Rattle.examples.specs.Again.{Listed, Finds};
 
 use codes::viewing::view_codes;
 use codes::{EdgeCode, fill_least};
-use enumerator::Lookahead;
 use error::Conflict;
 use example::Example;
 use first::FirstSets;
@@ -129,7 +128,7 @@ fn list_outlines(
     grammar: &[u16],
     counts: Counts,
     map: &[u64; NonterminalString::LIMIT],
-    lookahead: Lookahead,
+    lookahead: Option<TokenSet>,
     shift: bool,
     owners: &[u8],
     codes: &[u16],
@@ -246,7 +245,7 @@ fn list_item(
     map: &[u64; NonterminalString::LIMIT],
     least: &[u8],
     ends: &[u64],
-    lookahead: Lookahead,
+    lookahead: Option<TokenSet>,
     traced: Traced,
     kept: &mut [u16],
     prints: &mut [u64],
@@ -339,7 +338,7 @@ fn shift_examples(
                     map,
                     least,
                     ends,
-                    Lookahead::Any,
+                    None,
                     traced,
                     kept,
                     prints,
@@ -407,7 +406,7 @@ pub fn reduce_examples(
         map,
         least,
         ends,
-        Lookahead::Set(tokens),
+        Some(tokens),
         traced,
         kept,
         prints,
@@ -459,7 +458,7 @@ fn find_example(
     grammar: &[u16],
     counts: Counts,
     map: &[u64; NonterminalString::LIMIT],
-    lookahead: Lookahead,
+    lookahead: Option<TokenSet>,
     owners: &[u8],
     codes: &[u16],
     sources: &[u8],
@@ -517,7 +516,7 @@ fn item_again(
     map: &[u64; NonterminalString::LIMIT],
     least: &[u8],
     ends: &[u64],
-    lookahead: Lookahead,
+    lookahead: Option<TokenSet>,
     traced: Traced,
     wanted: usize,
     buffer: &mut [u16],
@@ -603,7 +602,7 @@ pub fn reduce_again(
         map,
         least,
         ends,
-        Lookahead::Set(tokens),
+        Some(tokens),
         traced,
         wanted,
         buffer,
@@ -646,7 +645,7 @@ pub fn action_again(
             map,
             least,
             ends,
-            Lookahead::Any,
+            None,
             traced,
             wanted,
             buffer,

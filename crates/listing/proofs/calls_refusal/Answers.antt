@@ -1,6 +1,5 @@
 use mathlib.Core.Path.{◌≡◌, refl}
-use Prim.Native.Nat.{◌+◌, ◌*◌, ◌≤◌}
-use lib.ListN.{length}
+use Prim.Native.Nat.{◌+◌, ◌*◌}
 use Rattle.listing.proofs.Asked.{words_at, words-none, cut_short, too_short, fits_all}
 use native.Mathlib.Omega.{arith}
 use Rattle.listing.proofs.calls_refusal.Goals as goal
