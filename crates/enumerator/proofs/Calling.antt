@@ -13,7 +13,7 @@ use Rattle.enumerator.specs.Advance.{outcome, set_of, start_of, found_outcome, r
 use Rattle.enumerator.specs.Calls.{Lent, called, lengths}
 use Rattle.enumerator.specs.Opening.{listing, Ready}
 use Rattle.enumerator.specs.Behind.{trials_in, Fit}
-use Rattle.enumerator.specs.declared.Lookahead.{Lookahead}
+use Rattle.enumerator.specs.Lookahead.{Lookahead}
 use Rattle.enumerator.specs.declared.Listing.{Listing}
 use Rattle.enumerator.specs.declared.Advanced.TheVariants.{End, Refused}
 use Rattle.enumerator.proofs.Nodes.{and_left, and_right}

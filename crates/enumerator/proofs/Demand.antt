@@ -12,7 +12,7 @@ use Rattle.enumerator.specs.Opening.{listing, Ready}
 use Rattle.enumerator.specs.Behind.{trials_in, Fit, Behind}
 use Rattle.enumerator.specs.Told.{count_after, open_at, open_after}
 use Rattle.enumerator.specs.Demand.{Demand}
-use Rattle.enumerator.specs.declared.Lookahead.{Lookahead}
+use Rattle.enumerator.specs.Lookahead.{Lookahead}
 use Rattle.enumerator.specs.declared.Listing.{Listing}
 use Rattle.enumerator.specs.declared.Advanced.{Advanced}
 use Rattle.enumerator.specs.declared.Opened.TheVariants.{Listing as Opens}

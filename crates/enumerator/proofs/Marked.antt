@@ -26,7 +26,7 @@ use Rattle.enumerator.specs.Trials.{Path, trials}
 use Rattle.enumerator.specs.Lister.{Call, enough, owner_of_node, label_at, labels_of, passes, hands, says, search, example, end, Out, found_out, found_then, plain_find, plain_out, plain_then, plain_run, plain_lister}
 use Rattle.enumerator.specs.Told.{path_lister, handed, ends, IsHanded, Handed}
 use Rattle.enumerator.specs.Advance.{set_of, ahead_fits, lent_graph_fits, asked}
-use Rattle.enumerator.specs.declared.Lookahead.TheVariants.{Any, Set}
+use Rattle.std.specs.Prelude.{None, Some}
 use Rattle.enumerator.specs.Calls.{Lent, lengths}
 use Rattle.enumerator.specs.Opening.{listing, Ready}
 use Rattle.enumerator.proofs.Opening.{opens}
@@ -121,7 +121,7 @@ unfolding joined node_words edge_words graph_words
 marked-lengths = refl
 
 -- so that opening gives both listings
-pub ready_shift : Ready table_b (item 0 1) Any shift_words
+pub ready_shift : Ready table_b (item 0 1) None shift_words
 unfolding set_of
 ready_shift =
     let e : edges_in shift_words ≡ shift_b = cc marked_edges in
@@ -129,7 +129,7 @@ ready_shift =
     let l : length shift_words ≡ graph_room = cc marked-lengths in
     record { accepted = marked_check; asks = cc marked_asks; long = omega arith; node = ap (is_node_of (at_item (item 0 1))) e ∙ n }
 
-pub ready_reduce : Ready table_b (item 0 3) (Set (record { 0 = 1 })) reduce_words
+pub ready_reduce : Ready table_b (item 0 3) (Some (record { 0 = 1 })) reduce_words
 unfolding set_of
 ready_reduce =
     let e : edges_in reduce_words ≡ reduce_b = cc marked_edges in
@@ -154,7 +154,7 @@ handed-B : Handed (meaning table_b) shift_b (item 0 1) none (whole ∷ whole ∷
 unfolding set_of
 handed-B =
     let e : edges_in shift_words ≡ shift_b = cc marked_edges in
-    let D = demand table_b (item 0 1) Any shift_words (listing (item 0 1) Any 0 true) (opens table_b (item 0 1) Any shift_words ready_shift) scratch_b (lent_b ∷ lent_b ∷ lent_b ∷ []) in
+    let D = demand table_b (item 0 1) None shift_words (listing (item 0 1) None 0 true) (opens table_b (item 0 1) None shift_words ready_shift) scratch_b (lent_b ∷ lent_b ∷ lent_b ∷ []) in
     subst (λ (es : List TraceEdge). Handed (meaning table_b) es (item 0 1) none (whole ∷ whole ∷ whole ∷ [])) e
     (subst (λ (ks : List Call). Handed (meaning table_b) (edges_in shift_words) (item 0 1) none ks) lent_lengths D.handed)
 

@@ -15,7 +15,7 @@ use Rattle.enumerator.specs.Advance.{outcome, set_of, moved, found_outcome}
 use Rattle.enumerator.specs.Calls.{Lent, called, lengths, left_of}
 use Rattle.enumerator.specs.Opening.{listing, Ready}
 use Rattle.enumerator.specs.Behind.{trials_in, Fit}
-use Rattle.enumerator.specs.declared.Lookahead.{Lookahead}
+use Rattle.enumerator.specs.Lookahead.{Lookahead}
 use Rattle.enumerator.specs.declared.Advanced.{Advanced}
 use Rattle.enumerator.specs.declared.Advanced.TheVariants.{Example, End, Refused}
 use Rattle.enumerator.proofs.Nodes.{and_left}

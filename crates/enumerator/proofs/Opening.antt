@@ -14,7 +14,7 @@ use Rattle.trace_graph.specs.Fits.{item_is_fit, graph_fits}
 use Rattle.enumerator.specs.Trials.{ends_of, Small}
 use Rattle.enumerator.specs.Opening.{listing, Ready}
 use Rattle.enumerator.specs.Advance.{set_of, ahead_fits, lent_graph_fits, asked, open_in, open_by, open_of}
-use Rattle.enumerator.specs.declared.Lookahead.{Lookahead}
+use Rattle.enumerator.specs.Lookahead.{Lookahead}
 use Rattle.enumerator.specs.declared.Listing.{Listing}
 use Rattle.enumerator.specs.declared.Opened.{Opened}
 use Rattle.enumerator.specs.declared.Opened.TheVariants.{Listing as Opens, Refused as NotOpened}

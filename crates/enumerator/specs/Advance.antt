@@ -13,8 +13,8 @@ use Rattle.trace_graph.specs.Fits.{item_is_fit, graph_fits}
 use Rattle.enumerator.specs.Trials.{Path, ends_of, trials}
 use Rattle.enumerator.specs.Lister.{enough, hands, says, Found, hit, out, over, search}
 use Rattle.enumerator.specs.Words.{words_of, path_in, has_trial, after}
-use Rattle.enumerator.specs.declared.Lookahead.{Lookahead}
-use Rattle.enumerator.specs.declared.Lookahead.TheVariants.{Any, Set}
+use Rattle.enumerator.specs.Lookahead.{Lookahead}
+use Rattle.std.specs.Prelude.{None, Some}
 use Rattle.enumerator.specs.declared.Listing.{Listing}
 use Rattle.enumerator.specs.declared.Advanced.{Advanced}
 use Rattle.enumerator.specs.declared.Advanced.TheVariants.{Example, End, Refused}
@@ -26,8 +26,8 @@ pub data Outcome : Type 0 where
   outcome : Advanced → Listing → List ℕ → List ℕ → Outcome
 
 unfoldable pub set_of : Lookahead → Option ℕ
-set_of Any = none
-set_of (Set s) = some s.0
+set_of None = none
+set_of (Some s) = some s.0
 
 unfoldable pub start_of : Listing → Item
 start_of l = record { production = l.production.0; index = l.index }
@@ -106,6 +106,6 @@ unfoldable pub open_by : List ℕ → Item → Lookahead → List ℕ → Checke
 open_by t i ahead g (NotAccepted n r) = NotOpened n r
 open_by t i ahead g Accepted = open_in i ahead g (meaning t)
 
--- `lr0_examples` with `Any`, `lr1_examples` with a set
+-- `lr0_examples` with `None`, `lr1_examples` with a set
 unfoldable pub open_of : List ℕ → Item → Lookahead → List ℕ → Opened
 open_of t i ahead g = open_by t i ahead g (check_of t)

@@ -9,7 +9,7 @@ use Rattle.trace_graph.specs.Words.{edges_in}
 use Rattle.enumerator.specs.Trials.{Path, ends_of, trials, is_example_in}
 use Rattle.enumerator.specs.Words.{words_of}
 use Rattle.enumerator.specs.Opening.{listing}
-use Rattle.enumerator.specs.declared.Lookahead.{Lookahead}
+use Rattle.enumerator.specs.Lookahead.{Lookahead}
 use Rattle.enumerator.specs.declared.Listing.{Listing}
 
 -- the trials over a graph's words

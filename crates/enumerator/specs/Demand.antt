@@ -9,7 +9,7 @@ use Rattle.enumerator.specs.Advance.{set_of}
 use Rattle.enumerator.specs.Calls.{Lent, calls, listing_after, scratch_after, lengths, left_all}
 use Rattle.enumerator.specs.Told.{count_after, open_after, Handed}
 use Rattle.enumerator.specs.Behind.{Behind}
-use Rattle.enumerator.specs.declared.Lookahead.{Lookahead}
+use Rattle.enumerator.specs.Lookahead.{Lookahead}
 use Rattle.enumerator.specs.declared.Listing.{Listing}
 
 pub record Demand (t : List ℕ) (i : Item) (ahead : Lookahead) (g : List ℕ) (l : Listing) (scratch : List ℕ) (cs : List Lent) : Type 0 where

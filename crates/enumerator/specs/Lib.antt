@@ -10,3 +10,4 @@ pub mod Demand
 pub mod Machine
 pub mod Stacks
 pub mod Counts
+pub mod Lookahead

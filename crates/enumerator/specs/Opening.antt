@@ -8,7 +8,7 @@ use Rattle.table.specs.Refusals.{check_of}
 use Rattle.trace_graph.specs.Graph.{at_item, is_node_of}
 use Rattle.trace_graph.specs.Words.{edges_in}
 use Rattle.enumerator.specs.Advance.{set_of, asked}
-use Rattle.enumerator.specs.declared.Lookahead.{Lookahead}
+use Rattle.enumerator.specs.Lookahead.{Lookahead}
 use Rattle.enumerator.specs.declared.Listing.{Listing}
 
 -- "A listing holds its start item, any lookahead, its count and whether it is open"

@@ -7,19 +7,12 @@ use repr::ProductionIndex;
 
 pub mod machine;
 
-// Any lookahead that the listing filters by.
-#[derive(Clone, Copy)]
-pub enum Lookahead {
-    Any,
-    Set(TokenSet),
-}
-
 // A listing: its start item, any lookahead, its count and whether it is open. What it has come to stands in the lent words.
 #[derive(Clone, Copy)]
 pub struct Listing {
     pub production: ProductionIndex,
     pub index: u16,
-    pub lookahead: Lookahead,
+    pub lookahead: Option<TokenSet>,
     pub count: u32,
     pub is_open: bool,
 }

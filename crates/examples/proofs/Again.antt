@@ -20,7 +20,7 @@ use Rattle.codes.specs.Coded.{codes_room}
 use Rattle.example.specs.Example.{example_words}
 use Rattle.enumerator.specs.Lister.{labels_of}
 use Rattle.enumerator.specs.Advance.{set_of}
-use Rattle.enumerator.specs.declared.Lookahead.TheVariants.{Any}
+use Rattle.std.specs.Prelude.{None}
 use Rattle.view.specs.Trial.{trial_words}
 use Rattle.search.specs.Given.{Tried}
 use Rattle.error.specs.declared.Conflict.{Conflict}
@@ -107,7 +107,7 @@ made_reduce T s (suc a) o token label k x e M = M
 module _ (T : Table) (c : Conflict) (label wanted : ℕ) (b b' : List ℕ) where
   pub action_shift : c.action ≡ 0
       → ((k : ℕ) (x : Example) → k ≤ example_limit
-      → Listed (listing_side T (edges_by true T c.state.0 (record { production = label / index_limit; index = label % index_limit })) (record { production = label / index_limit; index = label % index_limit }) (set_of Any) k) wanted x
+      → Listed (listing_side T (edges_by true T c.state.0 (record { production = label / index_limit; index = label % index_limit })) (record { production = label / index_limit; index = label % index_limit }) (set_of None) k) wanted x
       → b' ≡ in_front (example_words T.productions x) b)
       → (x : Example) → action_made T c label wanted x → b' ≡ in_front (example_words T.productions x) b
   unfolding edges_by set_of item_of shift_made action_made

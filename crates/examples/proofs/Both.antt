@@ -21,7 +21,7 @@ use Rattle.trace.specs.Reduce.{reduce_edges}
 use Rattle.trace.proofs.Traced.{item_fits}
 use Rattle.tracer.specs.Built.{edges_by}
 use Rattle.enumerator.specs.Advance.{set_of}
-use Rattle.enumerator.specs.declared.Lookahead.TheVariants.{Set}
+use Rattle.std.specs.Prelude.{Some}
 use Rattle.error.specs.declared.Conflict.{Conflict}
 use Rattle.error.specs.Outcome.{operand_fits, place_is_fit, conflict_fits}
 use Rattle.error.specs.Sides.{listing_side, item_of_reduce, reduce_side}
@@ -44,13 +44,13 @@ module _ (t g : List ℕ) (counts : Counts) (sets least ends : List ℕ) (R : Re
       (hs, item_fits (meaning t) (record { production = p; index = length (get_or (productions_in g counts.productions) p no_production).symbols }) (record { production = h; index = omega arith }))
 
   pub reduce_is : (token : ℕ) (tokens : TokenSet) → token ≤ (meaning t).terminals → tokens.0 ≡ with 0 token
-      → listing_side (meaning t) (edges_by r.shift (meaning t) r.state.0 (record { production = r.production; index = r.index })) (record { production = r.production; index = r.index }) (set_of (Set tokens)) 0
+      → listing_side (meaning t) (edges_by r.shift (meaning t) r.state.0 (record { production = r.production; index = r.index })) (record { production = r.production; index = r.index }) (set_of (Some tokens)) 0
       ≡ reduce_side (meaning t) state.0 p token
   unfolding edges_by set_of reduce_side item_of_reduce
   reduce_is token tokens ht et =
       let f = (fits t R.accepted).few_terminals in
       let st = single-token token tokens.0 (omega arith) et in
-      ap (λ (x : Traced). listing_side (meaning t) (edges_by x.shift (meaning t) x.state.0 (record { production = x.production; index = x.index })) (record { production = x.production; index = x.index }) (set_of (Set tokens)) 0) e
+      ap (λ (x : Traced). listing_side (meaning t) (edges_by x.shift (meaning t) x.state.0 (record { production = x.production; index = x.index })) (record { production = x.production; index = x.index }) (set_of (Some tokens)) 0) e
       ∙ (λ j. listing_side (meaning t) (reduce_edges (meaning t) state.0 (record { production = p; index = end_same j })) (record { production = p; index = end_same j }) (some (st j)) 0)
 
 -- a conflict in range

@@ -32,7 +32,6 @@ ghost use Rattle.examples.specs.Again.{Listed, Finds};
 
 use codes::viewing::view_codes;
 use codes::{EdgeCode, fill_least};
-use enumerator::Lookahead;
 use error::Conflict;
 use example::Example;
 use first::FirstSets;
@@ -180,7 +179,7 @@ fn list_outlines(
     grammar: &[u16],
     counts: Counts,
     map: &[u64; NonterminalString::LIMIT],
-    lookahead: Lookahead,
+    lookahead: Option<TokenSet>,
     shift: bool,
     owners: &[u8],
     codes: &[u16],
@@ -287,8 +286,13 @@ fn open_view(
 
 // One listing of a side: the item is traced from the state, and the examples of the trace are listed. More than 1,024 edges are refusal 12.
 fn list_item(
-    given: Given,
-    lookahead: Lookahead,
+    table: &[u16],
+    grammar: &[u16],
+    counts: Counts,
+    map: &[u64; NonterminalString::LIMIT],
+    least: &[u8],
+    ends: &[u64],
+    lookahead: Option<TokenSet>,
     traced: Traced,
     side: &mut Side,
     count: usize,
@@ -357,24 +361,42 @@ fn shift_examples(
         trials: 0,
     };
     let mut from: usize = 0;
-    while let Some((place, code)) = next_shift_item(
-        given.grammar,
-        productions,
-        token,
-        &order,
-        &marks,
-        from,
-    ) {
-        let traced = Traced {
-            state: state,
-            production: code / ProductionIndex::INDEXES,
-            index: code % ProductionIndex::INDEXES,
-            shift: true,
-        };
-        let listed = list_item(given, Lookahead::Any, traced, side, gathered.examples)?;
-        gathered.examples = listed.examples;
-        gathered.trials += listed.trials;
-        from = place + 1;
+    loop {
+        match next_shift_item(grammar, productions, token, &order, &marks, from) {
+            NextItem::At(place, code) => {
+                let traced = Traced {
+                    state: state,
+                    production: code / ProductionIndex::INDEXES,
+                    index: code % ProductionIndex::INDEXES,
+                    shift: true,
+                };
+                match list_item(
+                    table,
+                    grammar,
+                    counts,
+                    map,
+                    least,
+                    ends,
+                    None,
+                    traced,
+                    kept,
+                    prints,
+                    total,
+                ) {
+                    Side::Examples(examples, made) => {
+                        total = examples;
+                        trials += made;
+                        from = place + 1;
+                    }
+                    Side::Stopped(refusal) => {
+                        return Side::Stopped(refusal);
+                    }
+                }
+            }
+            NextItem::Nothing => {
+                return Side::Examples(total, trials);
+            }
+        }
     }
     Ok(gathered)
 }
@@ -409,18 +431,19 @@ fn reduce_examples(
 {
     let traced = reduce_item(given.grammar, given.counts.productions, state, production);
     let tokens = TokenSet::from(token);
-    list_item(given, Lookahead::Set(tokens), traced, side, 0)
-}
-
-// The conflict's reduce as the action of a conflict: what is said of an action's side is said of the other side so.
-pub fn reduced(conflict: Conflict) -> Conflict
-    ensures { result ≡ reduced conflict }
-{
-    Conflict {
-        action: 1,
-        operand: conflict.production.0,
-        ..conflict
-    }
+    list_item(
+        table,
+        grammar,
+        counts,
+        map,
+        least,
+        ends,
+        Some(tokens),
+        traced,
+        kept,
+        prints,
+        0,
+    )
 }
 
 // The side of the conflict's action.
@@ -446,7 +469,7 @@ fn find_example(
     grammar: &[u16],
     counts: Counts,
     map: &[u64; NonterminalString::LIMIT],
-    lookahead: Lookahead,
+    lookahead: Option<TokenSet>,
     owners: &[u8],
     codes: &[u16],
     sources: &[u8],
@@ -497,8 +520,20 @@ fn find_example(
 }
 
 // One listing's example made again, `wanted` others before it: the item is traced from the state, and the listing goes on to the example. No trial of it is counted.
-fn item_again(given: Given, lookahead: Lookahead, traced: Traced, wanted: usize, buffer: &mut [u16])
-    requires state_in_bounds { (traced.state.0 < length (meaning given.table.now).states) × (item_is_fit (meaning given.table.now).productions traced.production traced.index ≡ true) }
+fn item_again(
+    table: &[u16],
+    grammar: &[u16],
+    counts: Counts,
+    map: &[u64; NonterminalString::LIMIT],
+    least: &[u8],
+    ends: &[u64],
+    lookahead: Option<TokenSet>,
+    traced: Traced,
+    wanted: usize,
+    buffer: &mut [u16],
+)
+    requires reads { Reads table.now grammar.now counts map.now least.now ends.now }
+    requires state_in_bounds { (traced.state.0 < length (meaning table.now).states) × (item_is_fit (meaning table.now).productions traced.production traced.index ≡ true) }
     requires example_room_in_bounds { example_room ≤ length buffer.old }
     ensures { (k : ℕ) (x : ExampleOf) → k ≤ example_limit → Listed (listing_side (meaning given.entry.table.now) (edges_by traced.shift (meaning given.entry.table.now) traced.state.0 (record { production = traced.production; index = traced.index })) (record { production = traced.production; index = traced.index }) (set_of lookahead) k) wanted x → buffer.new ≡ in_front (example_words (meaning given.entry.table.now).productions x) buffer.old }
 {
@@ -560,7 +595,18 @@ fn reduce_again(
 {
     let traced = reduce_item(given.grammar, given.counts.productions, state, production);
     let tokens = TokenSet::from(token);
-    item_again(given, Lookahead::Set(tokens), traced, wanted, buffer);
+    item_again(
+        table,
+        grammar,
+        counts,
+        map,
+        least,
+        ends,
+        Some(tokens),
+        traced,
+        wanted,
+        buffer,
+    );
 }
 
 // An example of the side of the conflict's action made again: of a shift the item is the label kept.
@@ -586,7 +632,18 @@ pub fn action_again(
             index: label % ProductionIndex::INDEXES,
             shift: true,
         };
-        item_again(given, Lookahead::Any, traced, wanted, buffer);
+        item_again(
+            table,
+            grammar,
+            counts,
+            map,
+            least,
+            ends,
+            None,
+            traced,
+            wanted,
+            buffer,
+        );
     } else {
         reduce_again(given, state, operand, token, wanted, buffer);
     }

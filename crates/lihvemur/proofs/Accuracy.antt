@@ -20,7 +20,7 @@ use Rattle.lr1.specs.Edges.{add_edge_of}
 use Rattle.tracer.specs.Outcome.{trace_by, shift_of, reduce_of}
 use Rattle.enumerator.specs.Advance.{open_by, open_of, advance_by, advance_of}
 use Rattle.enumerator.specs.Calls.{Lent, listing_by, scratch_by, called, scratch_after}
-use Rattle.enumerator.specs.declared.Lookahead.{Lookahead}
+use Rattle.enumerator.specs.Lookahead.{Lookahead}
 use Rattle.enumerator.specs.declared.Listing.{Listing}
 use Rattle.enumerator.specs.declared.Opened.{Opened}
 use Rattle.enumerator.specs.declared.Opened.TheVariants.{Listing as Opens, Refused as NotOpened}

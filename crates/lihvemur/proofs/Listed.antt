@@ -3,8 +3,8 @@ use Rattle.std.proofs.Common.{◌≡◌, ℕ, Bool, true, false, List, sym, ap, 
 use Rattle.repr.specs.Meaning.{Item}
 use Rattle.repr.specs.declared.ProductionIndex.{ProductionIndex}
 use Rattle.enumerator.specs.Advance.{outcome, advance_of}
-use Rattle.enumerator.specs.declared.Lookahead.{Lookahead}
-use Rattle.enumerator.specs.declared.Lookahead.TheVariants.{Any, Set}
+use Rattle.enumerator.specs.Lookahead.{Lookahead}
+use Rattle.std.specs.Prelude.{None, Some}
 use Rattle.enumerator.specs.declared.Listing.{Listing}
 use Rattle.enumerator.specs.declared.Advanced.{Advanced}
 use Rattle.enumerator.specs.declared.Advanced.TheVariants.{Example, End, Refused}
@@ -16,11 +16,11 @@ use Rattle.listing.specs.declared.Listed.TheVariants.{Calls, Refused as NotListe
 use Rattle.lihvemur.specs.Exported.{numbers}
 use Rattle.lihvemur.specs.Listings.{ahead_of, open_numbers, advance_numbers, advanced_numbers, list_numbers, listed_numbers}
 
-pub ahead-set : (f : Bool) (s : ℕ) → f ≡ true → Set (record { 0 = s }) ≡ ahead_of f s
+pub ahead-set : (f : Bool) (s : ℕ) → f ≡ true → Some (record { 0 = s }) ≡ ahead_of f s
 unfolding ahead_of
 ahead-set f s h = rw h
 
-pub ahead-any : (f : Bool) (s : ℕ) → f ≡ false → Any ≡ ahead_of f s
+pub ahead-any : (f : Bool) (s : ℕ) → f ≡ false → None ≡ ahead_of f s
 unfolding ahead_of
 ahead-any f s h = rw h
 

@@ -32,8 +32,8 @@ use Rattle.enumerator.specs.Words.{words_of, path_in, has_trial, after}
 use Rattle.enumerator.specs.Lister.{enough, owner_of_node, label_at, labels_of, passes, hands, says, search, found_out, found_then, plain_find, plain_out, plain_then, plain_run, plain_lister}
 use Rattle.enumerator.specs.Advance.{set_of, start_of, ahead_fits, lent_graph_fits, asked as asked_in, moved, found_outcome, rest_of, lost, advance_in, advance_by, advance_of, open_in, open_by, open_of}
 use Rattle.enumerator.specs.Calls.{left_by, listing_by, scratch_by, called, scratch_after, lengths, left_of, left_all}
-use Rattle.enumerator.specs.declared.Lookahead.{Lookahead}
-use Rattle.enumerator.specs.declared.Lookahead.TheVariants.{Any, Set}
+use Rattle.enumerator.specs.Lookahead.{Lookahead}
+use Rattle.std.specs.Prelude.{None, Some}
 use Rattle.listing.specs.declared.Listed.TheVariants.{Calls}
 use Rattle.listing.specs.CallList.{lents_in, output_words, number_of_answer, record_of, records_of, refusal_by, refusal_of_calls, Ran, listed, list_by, list_of}
 use Rattle.lihvemur.specs.TableC.{table_c}
@@ -127,19 +127,19 @@ told answer ws rest = listed (Calls 2) (replicate scratch_words 0 ++ 7 ∷ []) (
 abbrev example : List ℕ → Ran
 example ws = told 0 ws (replicate 1138 7)
 
-pub marked_shift_listing : lists 2 Any (short shift_c) ≡ example line_a
+pub marked_shift_listing : lists 2 None (short shift_c) ≡ example line_a
 unfolding up_from below mem occurrences keep some? every? first? joined is_same_symbol symbol_of_kind symbol_is_fit has single union meet without members first symbol_sets is_nonterminal shifts_nonterminal word_at records state_area production_area loose production_records loose_records names against chain_by chain production_chain symbol_chain item_chain edge_chain symbol_at item_at edge_at or_zero owner_in production_of state_of productions_of meaning row1 row2 nonterminal_record is_state is_production as_symbol as_item as_edge row3 row4 row5 row6 row7 used row8 offends first_row check_of join first_of marked_at_end unmarked first0 meets_ahead disjoint grown round settle sets_of_first FIRST nullable leads predecessors walked_back traced_back same_item is_same_node label_of alike same_cursor same_sets is_same_edge add is_node_of node_words edge_words graph_words node_of node_at lent_edge edges_in item_is_fit node_fits edge_is_fit once graph_fits node_is edge_is node_value_fits value_fits owner_of symbols_of sets_of prefixes suffixes at_cursor middle symbols spans reductions symbol_words reduction_words example_words cursor_of ahead meets trials words_of path_in same_words has_trial after enough owner_of_node label_at labels_of passes hands says search found_out found_then plain_find plain_out plain_then plain_run plain_lister set_of start_of ahead_fits lent_graph_fits asked_in moved found_outcome rest_of lost advance_in advance_by advance_of open_in open_by open_of left_by listing_by scratch_by called scratch_after lengths left_of left_all lents_in output_words number_of_answer record_of records_of refusal_by refusal_of_calls list_by list_of in_front zeroed
 marked_shift_listing = refl
 
-pub marked_reduce_listing : lists 3 (Set (record { 0 = 1 })) (long reduce_c) ≡ example line_r
+pub marked_reduce_listing : lists 3 (Some (record { 0 = 1 })) (long reduce_c) ≡ example line_r
 unfolding up_from below mem occurrences keep some? every? first? joined is_same_symbol symbol_of_kind symbol_is_fit has single union meet without members first symbol_sets is_nonterminal shifts_nonterminal word_at records state_area production_area loose production_records loose_records names against chain_by chain production_chain symbol_chain item_chain edge_chain symbol_at item_at edge_at or_zero owner_in production_of state_of productions_of meaning row1 row2 nonterminal_record is_state is_production as_symbol as_item as_edge row3 row4 row5 row6 row7 used row8 offends first_row check_of join first_of marked_at_end unmarked first0 meets_ahead disjoint grown round settle sets_of_first FIRST nullable leads predecessors walked_back traced_back same_item is_same_node label_of alike same_cursor same_sets is_same_edge add is_node_of node_words edge_words graph_words node_of node_at lent_edge edges_in item_is_fit node_fits edge_is_fit once graph_fits node_is edge_is node_value_fits value_fits owner_of symbols_of sets_of prefixes suffixes at_cursor middle symbols spans reductions symbol_words reduction_words example_words cursor_of ahead meets trials words_of path_in same_words has_trial after enough owner_of_node label_at labels_of passes hands says search found_out found_then plain_find plain_out plain_then plain_run plain_lister set_of start_of ahead_fits lent_graph_fits asked_in moved found_outcome rest_of lost advance_in advance_by advance_of open_in open_by open_of left_by listing_by scratch_by called scratch_after lengths left_of left_all lents_in output_words number_of_answer record_of records_of refusal_by refusal_of_calls list_by list_of in_front zeroed
 marked_reduce_listing = refl
 
-pub marked-behind-listing : lists 3 (Set (record { 0 = 2 })) (long reduce_behind) ≡ example line_behind
+pub marked-behind-listing : lists 3 (Some (record { 0 = 2 })) (long reduce_behind) ≡ example line_behind
 unfolding up_from below mem occurrences keep some? every? first? joined is_same_symbol symbol_of_kind symbol_is_fit has single union meet without members first symbol_sets is_nonterminal shifts_nonterminal word_at records state_area production_area loose production_records loose_records names against chain_by chain production_chain symbol_chain item_chain edge_chain symbol_at item_at edge_at or_zero owner_in production_of state_of productions_of meaning row1 row2 nonterminal_record is_state is_production as_symbol as_item as_edge row3 row4 row5 row6 row7 used row8 offends first_row check_of join first_of marked_at_end unmarked first0 meets_ahead disjoint grown round settle sets_of_first FIRST nullable leads predecessors walked_back traced_back same_item is_same_node label_of alike same_cursor same_sets is_same_edge add is_node_of node_words edge_words graph_words node_of node_at lent_edge edges_in item_is_fit node_fits edge_is_fit once graph_fits node_is edge_is node_value_fits value_fits owner_of symbols_of sets_of prefixes suffixes at_cursor middle symbols spans reductions symbol_words reduction_words example_words cursor_of ahead meets trials words_of path_in same_words has_trial after enough owner_of_node label_at labels_of passes hands says search found_out found_then plain_find plain_out plain_then plain_run plain_lister set_of start_of ahead_fits lent_graph_fits asked_in moved found_outcome rest_of lost advance_in advance_by advance_of open_in open_by open_of left_by listing_by scratch_by called scratch_after lengths left_of left_all lents_in output_words number_of_answer record_of records_of refusal_by refusal_of_calls list_by list_of in_front zeroed
 marked-behind-listing = refl
 
 -- no example begins with a: the end at once
-pub marked_no_listing : lists 3 (Set (record { 0 = 1 })) (long reduce_behind) ≡ told 16 [] (replicate 1158 7)
+pub marked_no_listing : lists 3 (Some (record { 0 = 1 })) (long reduce_behind) ≡ told 16 [] (replicate 1158 7)
 unfolding up_from below mem occurrences keep some? every? first? joined is_same_symbol symbol_of_kind symbol_is_fit has single union meet without members first symbol_sets is_nonterminal shifts_nonterminal word_at records state_area production_area loose production_records loose_records names against chain_by chain production_chain symbol_chain item_chain edge_chain symbol_at item_at edge_at or_zero owner_in production_of state_of productions_of meaning row1 row2 nonterminal_record is_state is_production as_symbol as_item as_edge row3 row4 row5 row6 row7 used row8 offends first_row check_of join first_of marked_at_end unmarked first0 meets_ahead disjoint grown round settle sets_of_first FIRST nullable leads predecessors walked_back traced_back same_item is_same_node label_of alike same_cursor same_sets is_same_edge add is_node_of node_words edge_words graph_words node_of node_at lent_edge edges_in item_is_fit node_fits edge_is_fit once graph_fits node_is edge_is node_value_fits value_fits owner_of symbols_of sets_of prefixes suffixes at_cursor middle symbols spans reductions symbol_words reduction_words example_words cursor_of ahead meets trials words_of path_in same_words has_trial after enough owner_of_node label_at labels_of passes hands says search found_out found_then plain_find plain_out plain_then plain_run plain_lister set_of start_of ahead_fits lent_graph_fits asked_in moved found_outcome rest_of lost advance_in advance_by advance_of open_in open_by open_of left_by listing_by scratch_by called scratch_after lengths left_of left_all lents_in output_words number_of_answer record_of records_of refusal_by refusal_of_calls list_by list_of in_front zeroed
 marked_no_listing = refl

@@ -3,7 +3,7 @@
 use Rattle.std.specs.Prelude.{◌≡◌, ℕ, List, ◌++◌}
 use Rattle.repr.specs.Meaning.{Item}
 use Rattle.trace_graph.specs.declared.TraceEdge.{TraceEdge}
-use Rattle.enumerator.specs.declared.Lookahead.{Lookahead}
+use Rattle.enumerator.specs.Lookahead.{Lookahead}
 use Rattle.enumerator.specs.declared.Listing.{Listing}
 use Rattle.error.specs.declared.Conflict.{Conflict}
 use Rattle.spelling.specs.Outcome.{respell_of}

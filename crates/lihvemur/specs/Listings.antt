@@ -1,8 +1,8 @@
 -- What the exported functions of a listing answer in numbers, as in Exported. Assumes nothing: these are definitions.
 use Rattle.std.specs.Prelude.{ℕ, Bool, true, false, List}
 use Rattle.enumerator.specs.Advance.{Outcome, outcome}
-use Rattle.enumerator.specs.declared.Lookahead.{Lookahead}
-use Rattle.enumerator.specs.declared.Lookahead.TheVariants.{Any, Set}
+use Rattle.enumerator.specs.Lookahead.{Lookahead}
+use Rattle.std.specs.Prelude.{None, Some}
 use Rattle.enumerator.specs.declared.Advanced.TheVariants.{Example, End, Refused}
 use Rattle.enumerator.specs.declared.Opened.{Opened}
 use Rattle.enumerator.specs.declared.Opened.TheVariants.{Listing as Opens, Refused as NotOpened}
@@ -12,8 +12,8 @@ use Rattle.lihvemur.specs.Exported.{Numbers, numbers}
 
 -- any lookahead, by whether the listing is filtered
 unfoldable pub ahead_of : Bool → ℕ → Lookahead
-ahead_of true s = Set (record { 0 = s })
-ahead_of false s = Any
+ahead_of true s = Some (record { 0 = s })
+ahead_of false s = None
 
 unfoldable pub open_numbers : Opened → Numbers
 open_numbers (Opens l) = numbers 0 0

@@ -2,24 +2,23 @@
 // A fresh one has count 0 and is open, so that opening hands out nothing but its answer.
 ghost use Rattle.std.specs.Prelude.{◌≡◌};
 ghost use Rattle.enumerator.specs.Advance.{open_of, advance_of};
-ghost use Rattle.enumerator.specs.declared.Lookahead.TheVariants.{Any, Set};
 ghost use Rattle.listing.specs.CallList.{list_of};
 ghost use Rattle.lihvemur.specs.Exported.{numbers};
 ghost use Rattle.lihvemur.specs.Listings.{ahead_of, open_numbers, advance_numbers, advanced_numbers, list_numbers, listed_numbers};
 
-use enumerator::{Advanced, Listing, Lookahead, Opened};
+use enumerator::{Advanced, Listing, Opened};
 use listing::Listed;
 use lookahead::TokenSet;
 use repr::ProductionIndex;
 
 // Any lookahead of a listing from its two parts; the set counts only where it is filtered.
-fn lookahead_of(filtered: bool, set: u64) -> Lookahead
+fn lookahead_of(filtered: bool, set: u64) -> Option<TokenSet>
     ensures { result ≡ ahead_of filtered set }
 {
     if filtered {
-        return Lookahead::Set(TokenSet(set));
+        return Some(TokenSet(set));
     }
-    Lookahead::Any
+    None
 }
 
 pub fn lihvemur_lr0_examples(
@@ -29,7 +28,7 @@ pub fn lihvemur_lr0_examples(
     graph: &[u16],
     place: &mut u16,
 ) -> u16
-    ensures { numbers result place.new ≡ open_numbers (open_of table.now (record { production = production; index = index }) Any graph.now) }
+    ensures { numbers result place.new ≡ open_numbers (open_of table.now (record { production = production; index = index }) None graph.now) }
 {
     match listing::lr0_examples(table, ProductionIndex(production), index, graph) {
         Opened::Listing(_) => {
@@ -51,7 +50,7 @@ pub fn lihvemur_lr1_examples(
     graph: &[u16],
     place: &mut u16,
 ) -> u16
-    ensures { numbers result place.new ≡ open_numbers (open_of table.now (record { production = production; index = index }) (Set (record { 0 = lookahead })) graph.now) }
+    ensures { numbers result place.new ≡ open_numbers (open_of table.now (record { production = production; index = index }) (Some (record { 0 = lookahead })) graph.now) }
 {
     let p = ProductionIndex(production);
     match listing::lr1_examples(table, p, index, TokenSet(lookahead), graph) {

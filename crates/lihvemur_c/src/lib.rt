@@ -14,7 +14,6 @@ ghost use Rattle.lr1.specs.Edges.{add_edge_of};
 ghost use Rattle.tracer.specs.Outcome.{shift_of, reduce_of};
 ghost use Rattle.lihvemur.specs.Exported.{numbers, check_numbers, spell_numbers, respell_numbers, compact_numbers, build_numbers, built_numbers, read_numbers, reading_numbers, write_numbers, writing_numbers, set_numbers, followed_numbers, answer_numbers, first_numbers, state_numbers, walk_numbers, add_numbers, edge_numbers, trace_numbers, backtrace_numbers};
 ghost use Rattle.enumerator.specs.Advance.{open_of, advance_of};
-ghost use Rattle.enumerator.specs.declared.Lookahead.TheVariants.{Any, Set};
 ghost use Rattle.listing.specs.CallList.{list_of};
 ghost use Rattle.lihvemur.specs.Listings.{ahead_of, open_numbers, advance_numbers, advanced_numbers, list_numbers, listed_numbers};
 ghost use Rattle.error.specs.Outcome.{classify_of};
@@ -236,7 +235,7 @@ pub extern "C" fn lihvemur_lr0_examples(
     graph: &[u16],
     place: &mut u16,
 ) -> u16
-    ensures { numbers result place.new ≡ open_numbers (open_of table.now (record { production = production; index = index }) Any graph.now) }
+    ensures { numbers result place.new ≡ open_numbers (open_of table.now (record { production = production; index = index }) None graph.now) }
 {
     lihvemur::listings::lihvemur_lr0_examples(table, production, index, graph, place)
 }
@@ -250,7 +249,7 @@ pub extern "C" fn lihvemur_lr1_examples(
     graph: &[u16],
     place: &mut u16,
 ) -> u16
-    ensures { numbers result place.new ≡ open_numbers (open_of table.now (record { production = production; index = index }) (Set (record { 0 = lookahead })) graph.now) }
+    ensures { numbers result place.new ≡ open_numbers (open_of table.now (record { production = production; index = index }) (Some (record { 0 = lookahead })) graph.now) }
 {
     lihvemur::listings::lihvemur_lr1_examples(table, production, index, lookahead, graph, place)
 }

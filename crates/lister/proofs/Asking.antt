@@ -14,25 +14,25 @@ use Rattle.first.specs.First.{sets_of_first}
 use Rattle.trace_graph.specs.Fits.{item_is_fit, graph_fits}
 use Rattle.enumerator.specs.Words.{words_of}
 use Rattle.enumerator.specs.Advance.{set_of, ahead_fits, lent_graph_fits, asked}
-use Rattle.enumerator.specs.declared.Lookahead.{Lookahead}
-use Rattle.enumerator.specs.declared.Lookahead.TheVariants.{Any, Set}
+use Rattle.enumerator.specs.Lookahead.{Lookahead}
+use Rattle.std.specs.Prelude.{None, Some}
 use Rattle.lister.specs.Context.{Read, ahead_by, sets_for, begun}
 
 -- by the lookahead
 module _ (a : Lookahead) (t : ℕ) where
-  pub ahead-any : a ≡ Any → true ≡ ahead_by t (set_of a)
+  pub ahead-any : a ≡ None → true ≡ ahead_by t (set_of a)
   unfolding set_of ahead_by
   ahead-any e = rw e
 
-  pub ahead-set : (s : TokenSet) → a ≡ Set s → (r : Bool) → r ≡ ltb s.0 (2 ^ suc t) → r ≡ ahead_by t (set_of a)
+  pub ahead-set : (s : TokenSet) → a ≡ Some s → (r : Bool) → r ≡ ltb s.0 (2 ^ suc t) → r ≡ ahead_by t (set_of a)
   unfolding set_of ahead_by
   ahead-set s e r h = rw e h
 
-  pub sets-any : a ≡ Any → (ps : List Production) → replicate 32 0 ≡ sets_for (set_of a) t ps
+  pub sets-any : a ≡ None → (ps : List Production) → replicate 32 0 ≡ sets_for (set_of a) t ps
   unfolding set_of sets_for
   sets-any e ps = rw e
 
-  pub sets-set : (s : TokenSet) → a ≡ Set s → (ps : List Production) (m : List ℕ) → m ≡ sets_of_first t ps → m ≡ sets_for (set_of a) t ps
+  pub sets-set : (s : TokenSet) → a ≡ Some s → (ps : List Production) (m : List ℕ) → m ≡ sets_of_first t ps → m ≡ sets_for (set_of a) t ps
   unfolding set_of sets_for
   sets-set s e ps m h = rw e h
 

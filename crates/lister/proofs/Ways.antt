@@ -16,7 +16,7 @@ use Rattle.enumerator.specs.Trials.{ends_of, trials}
 use Rattle.enumerator.specs.Lister.{enough, hands, search}
 use Rattle.enumerator.specs.Stacks.{Roomy, Started, Ranged}
 use Rattle.enumerator.specs.Advance.{Outcome, outcome, set_of, start_of, asked, found_outcome, rest_of, lost, advance_in, open_in}
-use Rattle.enumerator.specs.declared.Lookahead.{Lookahead}
+use Rattle.enumerator.specs.Lookahead.{Lookahead}
 use Rattle.enumerator.specs.declared.Listing.{Listing}
 use Rattle.enumerator.specs.declared.Advanced.{Advanced}
 use Rattle.enumerator.specs.declared.Advanced.TheVariants.{End, Refused}

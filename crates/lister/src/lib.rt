@@ -24,7 +24,7 @@ ghost use Rattle.search.specs.Given.{Tried};
 ghost use Rattle.lister.specs.Context.{Read, Listable, ahead_by, sets_for, begun};
 
 use enumerator::machine::{clear, holds_trial};
-use enumerator::{Advanced, Listing, Lookahead, Opened};
+use enumerator::{Advanced, Listing, Opened};
 use example::Example;
 use first::FirstSets;
 use lookahead::TokenSet;
@@ -43,13 +43,13 @@ pub struct Stepped {
 }
 
 // Whether any lookahead holds tokens of the table alone.
-fn lookahead_fits(terminals: usize, lookahead: Lookahead) -> bool
+fn lookahead_fits(terminals: usize, lookahead: Option<TokenSet>) -> bool
     requires { terminals ≤ 63 }
     ensures { result ≡ ahead_by terminals (set_of lookahead) }
 {
     match lookahead {
-        Lookahead::Any => true,
-        Lookahead::Set(set) => set.fits(terminals),
+        None => true,
+        Some(set) => set.fits(terminals),
     }
 }
 
@@ -61,7 +61,7 @@ fn asked(
     terminals: usize,
     production: usize,
     index: usize,
-    lookahead: Lookahead,
+    lookahead: Option<TokenSet>,
     graph: &[u16],
     ix: &mut [u16],
 ) -> bool
@@ -90,7 +90,7 @@ fn asked_view(
     terminals: usize,
     production: usize,
     index: usize,
-    lookahead: Lookahead,
+    lookahead: Option<TokenSet>,
     graph: &[u16],
     owners: &mut [u8],
     codes: &mut [u16],
@@ -162,7 +162,7 @@ pub fn open_in(
     table: &[u16],
     production: ProductionIndex,
     index: u16,
-    lookahead: Lookahead,
+    lookahead: Option<TokenSet>,
     graph: &[u16],
 ) -> Opened
     requires { check_of table.now ≡ Accepted }
@@ -206,16 +206,16 @@ fn first_sets(
     grammar: &[u16],
     productions: usize,
     terminals: u16,
-    lookahead: Lookahead,
+    lookahead: Option<TokenSet>,
 ) -> FirstSets
     requires { Packed grammar.now productions × (terminals ≤ 63) }
     ensures { result.map ≡ sets_for (set_of lookahead) terminals (productions_in grammar.now productions) }
 {
     match lookahead {
-        Lookahead::Any => FirstSets {
+        None => FirstSets {
             map: [0u64; NonterminalString::LIMIT],
         },
-        Lookahead::Set(set) => FirstSets::new(grammar, productions, terminals),
+        Some(set) => FirstSets::new(grammar, productions, terminals),
     }
 }
 

@@ -7,7 +7,7 @@ use Rattle.table.specs.Checked.{Checked, Accepted, Refused as NotAccepted}
 use Rattle.table.specs.Decoded.{meaning}
 use Rattle.table.specs.Refusals.{check_of}
 use Rattle.enumerator.specs.Advance.{Outcome, outcome, open_by, open_in, open_of, advance_by, advance_in, advance_of}
-use Rattle.enumerator.specs.declared.Lookahead.{Lookahead}
+use Rattle.enumerator.specs.Lookahead.{Lookahead}
 use Rattle.enumerator.specs.declared.Listing.{Listing}
 use Rattle.enumerator.specs.declared.Advanced.TheVariants.{Refused}
 use Rattle.enumerator.specs.declared.Opened.{Opened}

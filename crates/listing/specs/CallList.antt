@@ -6,7 +6,7 @@ use Rattle.trace_graph.specs.Words.{edges_in}
 use Rattle.enumerator.specs.Lister.{plain_lister}
 use Rattle.enumerator.specs.Advance.{Outcome, set_of, open_of}
 use Rattle.enumerator.specs.Calls.{Lent, Left, left_by, listing_by, scratch_by, called, calls, scratch_after, lengths, left_all}
-use Rattle.enumerator.specs.declared.Lookahead.{Lookahead}
+use Rattle.enumerator.specs.Lookahead.{Lookahead}
 use Rattle.enumerator.specs.declared.Listing.{Listing}
 use Rattle.enumerator.specs.declared.Advanced.{Advanced}
 use Rattle.enumerator.specs.declared.Advanced.TheVariants.{Example, End, Refused}

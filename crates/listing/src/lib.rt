@@ -2,23 +2,22 @@
 
 #![tactic(auto)]
 
-ghost use Rattle.std.specs.Prelude.{◌≡◌, [], ◌∷◌, min, ◌≤◌, ◌<◌, ◌%◌, ◌/◌, length, get_or, drop};
+ghost use Rattle.std.specs.Prelude.{◌≡◌, [], ◌∷◌, ◌≤◌, ◌<◌, ◌%◌, ◌/◌, length, get_or, drop};
 ghost use Rattle.enumerator.specs.Advance.{outcome, open_of, advance_of};
-ghost use Rattle.enumerator.specs.declared.Lookahead.TheVariants.{Any, Set};
 ghost use Rattle.listing.specs.CallList.{number_of_answer, made, made_of, refusal_of_calls, listed, list_of, ended, ended_of};
 
-use enumerator::{Advanced, Listing, Lookahead, Opened};
+use enumerator::{Advanced, Listing, Opened};
 use lister::{Stepped, open_in, step_in};
 use lookahead::TokenSet;
 use repr::ProductionIndex;
 
 // A listing of all examples of a start item.
 pub fn lr0_examples(table: &[u16], production: ProductionIndex, index: u16, graph: &[u16]) -> Opened
-    ensures { result ≡ open_of table.now (record { production = production.0; index = index }) Any graph.now }
+    ensures { result ≡ open_of table.now (record { production = production.0; index = index }) None graph.now }
 {
     match table_check::check(table) {
-        Err(refusal) => Opened::Refused(refusal.number(), refusal.place()),
-        Ok(_) => open_in(table, production, index, Lookahead::Any, graph),
+        Checked::Refused(refusal, place) => Opened::Refused(refusal, place),
+        Checked::Accepted => open_in(table, production, index, None, graph),
     }
 }
 
@@ -30,11 +29,11 @@ pub fn lr1_examples(
     lookahead: TokenSet,
     graph: &[u16],
 ) -> Opened
-    ensures { result ≡ open_of table.now (record { production = production.0; index = index }) (Set lookahead) graph.now }
+    ensures { result ≡ open_of table.now (record { production = production.0; index = index }) (Some lookahead) graph.now }
 {
     match table_check::check(table) {
-        Err(refusal) => Opened::Refused(refusal.number(), refusal.place()),
-        Ok(_) => open_in(table, production, index, Lookahead::Set(lookahead), graph),
+        Checked::Refused(refusal, place) => Opened::Refused(refusal, place),
+        Checked::Accepted => open_in(table, production, index, Some(lookahead), graph),
     }
 }
 
@@ -91,12 +90,6 @@ pub enum Listed {
     Refused(u16, u16),
 }
 
-fn least(a: usize, b: usize) -> usize
-    ensures { result ≡ min a b }
-{
-    if a <= b { a } else { b }
-}
-
 // A number of the list of calls.
 fn number(calls: &[u32], at: usize) -> usize
     requires { at < length calls.now }
@@ -124,14 +117,12 @@ fn calls_refusal(calls: &[u32], words: usize) -> u16
         return 9;
     }
     let mut left = words;
-    let mut at: usize = 0;
-    while at < calls.len() {
-        let part = 3 + number(calls, at + 2);
+    for i in 0..calls.len() / 3 {
+        let part = 3 + number(calls, 3 * i + 2);
         if left < part {
             return 11;
         }
         left -= part;
-        at += 3;
     }
     0
 }
@@ -141,14 +132,14 @@ fn open_listing(
     table: &[u16],
     production: ProductionIndex,
     index: u16,
-    lookahead: Lookahead,
+    lookahead: Option<TokenSet>,
     graph: &[u16],
 ) -> Opened
     ensures { result ≡ open_of table.now (record { production = production.0; index = index }) lookahead graph.now }
 {
     match lookahead {
-        Lookahead::Any => lr0_examples(table, production, index, graph),
-        Lookahead::Set(set) => lr1_examples(table, production, index, set, graph),
+        None => lr0_examples(table, production, index, graph),
+        Some(set) => lr1_examples(table, production, index, set, graph),
     }
 }
 
@@ -175,10 +166,9 @@ fn call(
     requires { 3 ≤ length part.old }
     ensures { made result scratch.new part.new ≡ made_of table.now graph.now l graph_words scratch_words scratch.old part.old }
 {
-    let n = least(graph_words, graph.len());
-    let m = least(scratch_words, scratch.len());
-    let end = part.len();
-    let s = hop(l, table, &graph[..n], &mut scratch[..m], &mut part[3..end]);
+    let n = graph_words.min(graph.len());
+    let m = scratch_words.min(scratch.len());
+    let s = hop(l, table, &graph[..n], &mut scratch[..m], &mut part[3..]);
     let next = s.next;
     let answer = s.answer;
     let count = next.count;
@@ -200,11 +190,10 @@ fn make_calls(
 {
     let mut listing = l;
     let mut from: usize = 0;
-    let mut at: usize = 0;
-    while at < calls.len() {
-        let graph_words = number(calls, at);
-        let scratch_words = number(calls, at + 1);
-        let to = from + 3 + number(calls, at + 2);
+    for i in 0..calls.len() / 3 {
+        let graph_words = number(calls, 3 * i);
+        let scratch_words = number(calls, 3 * i + 1);
+        let to = from + 3 + number(calls, 3 * i + 2);
         listing = call(
             listing,
             table,
@@ -215,7 +204,6 @@ fn make_calls(
             &mut output[from..to],
         );
         from = to;
-        at += 3;
     }
 }
 
@@ -225,7 +213,7 @@ pub fn examples(
     table: &[u16],
     production: ProductionIndex,
     index: u16,
-    lookahead: Lookahead,
+    lookahead: Option<TokenSet>,
     calls: &[u32],
     graph: &[u16],
     scratch: &mut [u16],

@@ -15,8 +15,8 @@ use Rattle.enumerator.specs.Trials.{Path, ends_of, is_example_in}
 use Rattle.enumerator.specs.Lister.{labels_of}
 use Rattle.enumerator.specs.Advance.{set_of}
 use Rattle.enumerator.specs.Stacks.{Within}
-use Rattle.enumerator.specs.declared.Lookahead.{Lookahead}
-use Rattle.enumerator.specs.declared.Lookahead.TheVariants.{Any, Set}
+use Rattle.enumerator.specs.Lookahead.{Lookahead}
+use Rattle.std.specs.Prelude.{None, Some}
 use Rattle.enumerator.proofs.Holding.{within-reverse}
 use Rattle.view.specs.View.{Sourced}
 use Rattle.view.specs.Trial.{trial_words, Held}
@@ -45,11 +45,11 @@ module _ (e : ℕ) (sets : List ℕ) (ps : List Production) (es : List TraceEdge
       er ∙ ap (λ (y : Answer). meets_ahead e y set) ex ∙ ap (λ (l : List Label). meets_ahead e (first0 e sets (ahead ps l)) set) el
 
   -- `passes`
-  pub passes-any : (l : Lookahead) → l ≡ Any → (p : Path) → true ≡ passes_by e sets ps es (set_of l) p
+  pub passes-any : (l : Lookahead) → l ≡ None → (p : Path) → true ≡ passes_by e sets ps es (set_of l) p
   unfolding passes_by set_of
   passes-any l q p = sym (ap (λ (y : Lookahead). passes_by e sets ps es (set_of y) p) q)
 
-  pub passes-set : (l : Lookahead) (s : TokenSet) → l ≡ Set s → (r : Bool) (p : Path) → r ≡ passes_by e sets ps es (some s.0) p → r ≡ passes_by e sets ps es (set_of l) p
+  pub passes-set : (l : Lookahead) (s : TokenSet) → l ≡ Some s → (r : Bool) (p : Path) → r ≡ passes_by e sets ps es (some s.0) p → r ≡ passes_by e sets ps es (set_of l) p
   unfolding set_of
   passes-set l s q r p h = h ∙ sym (ap (λ (y : Lookahead). passes_by e sets ps es (set_of y) p) q)
 

@@ -21,7 +21,6 @@ ghost use Rattle.search.specs.Filter.{passes_by, hands_by};
 ghost use Rattle.search.specs.Given.{Searching, Tried};
 ghost use Rattle.search.specs.Found.{searched, searched_of, later_than};
 
-use enumerator::Lookahead;
 use example::{Example, first0, write_example};
 use lookahead::TokenSet;
 use lr1_core::Item;
@@ -107,7 +106,7 @@ pub fn passes(
     productions: usize,
     terminals: u16,
     map: &[u64; NonterminalString::LIMIT],
-    lookahead: Lookahead,
+    lookahead: Option<TokenSet>,
     owners: &[u8],
     codes: &[u16],
     words: &[u16],
@@ -117,8 +116,8 @@ pub fn passes(
     ensures { (es : List TraceEdge) → Tried (productions_in grammar.now productions) es owners.now codes.now words.now → (p rest : List ℕ) → words.now ≡ trial_words p ++ rest → result ≡ passes_by terminals map.now (productions_in grammar.now productions) es (set_of lookahead) p }
 {
     match lookahead {
-        Lookahead::Any => true,
-        Lookahead::Set(set) => meets(
+        None => true,
+        Some(set) => meets(
             grammar,
             productions,
             terminals,
@@ -137,7 +136,7 @@ fn hands(
     productions: usize,
     terminals: u16,
     map: &[u64; NonterminalString::LIMIT],
-    ahead: Lookahead,
+    ahead: Option<TokenSet>,
     owners: &[u8],
     codes: &[u16],
     sources: &[u8],
@@ -177,7 +176,7 @@ pub fn search(
     productions: usize,
     terminals: u16,
     map: &[u64; NonterminalString::LIMIT],
-    lookahead: Lookahead,
+    lookahead: Option<TokenSet>,
     owners: &[u8],
     codes: &[u16],
     sources: &[u8],

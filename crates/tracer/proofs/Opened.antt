@@ -9,7 +9,7 @@ use Rattle.tracer.specs.declared.Backtrace.TheVariants.{Edges}
 use Rattle.tracer.proofs.Traced.{shift_traced, reduce_traced}
 use Rattle.enumerator.specs.Advance.{set_of, ahead_fits, open_of}
 use Rattle.enumerator.specs.Opening.{listing}
-use Rattle.enumerator.specs.declared.Lookahead.{Lookahead}
+use Rattle.enumerator.specs.Lookahead.{Lookahead}
 use Rattle.enumerator.specs.declared.Opened.TheVariants.{Listing as Opens}
 use Rattle.enumerator.proofs.Opening.{ready, opens}
 

@@ -1,11 +1,8 @@
 use mathlib.Core.Path.{◌≡◌}
-use Prim.Native.Nat.{◌+◌, ◌-◌, ◌%◌, ◌≤◌}
-use lib.ListN.{length, drop}
+use Prim.Native.Nat.{◌+◌, ◌*◌}
+use lib.ListN.{drop}
 use Rattle.listing.specs.CallList.{output_words}
 use Rattle.listing.proofs.calls_refusal.Given as goal
 
-abbrev pub invariant-loop-at : goal.invariant-loop-at
-invariant-loop-at l = (l.at ≤ length l.calls) × ((length l.calls - l.at) % 3 ≡ 0) × (l.words + output_words (drop l.at l.calls) ≡ l.left + output_words l.calls)
-
-abbrev pub decreases-loop-at : goal.decreases-loop-at
-decreases-loop-at l = length l.calls - l.at
+abbrev pub invariant-loop-i : goal.invariant-loop-i
+invariant-loop-i l = (l.words + output_words (drop (3 * l.i) l.calls) ≡ l.left + output_words l.calls)

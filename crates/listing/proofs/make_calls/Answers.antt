@@ -1,6 +1,6 @@
 use mathlib.Core.Path.{◌≡◌, refl, sym, ap, ◌∙◌}
 use mathlib.Core.List.{List, []}
-use Prim.Native.Nat.{ℕ, ◌+◌, ◌-◌, ◌≤◌}
+use Prim.Native.Nat.{ℕ, ◌+◌, ◌*◌, ◌-◌, ◌≤◌}
 use lib.ListN.{length, take, drop, drop_of_length-le, length-take, length-drop}
 use borrow.Rule.Slice.PartMut.{same_len_mid}
 use Rattle.listing.specs.CallList.{ended_of}
@@ -9,82 +9,68 @@ use Rattle.listing.proofs.Turns.{calls-more, calls-none}
 use native.Mathlib.Omega.{arith}
 use Rattle.listing.proofs.make_calls.Goals as goal
 
-pub loop-at-init : goal.loop-at-init
-loop-at-init c = let a = accepted _ _ c.requires in let b = a.1 in (omega arith, omega (arith, a.0), omega arith, refl, refl, refl)
+pub loop-i-init : goal.loop-i-init
+loop-i-init c = (omega (arith, (accepted _ _ c.requires).1), refl, refl, refl)
 
 pub number-graph_words-requires : goal.number-graph_words-requires
-number-graph_words-requires c = omega (arith, c.loop-at-test.true)
-
-pub overflow_add-at : goal.overflow_add-at
-overflow_add-at c = let h = c.loop-at.invariant.1 in let k = c.loop-at-test.true in omega arith
+number-graph_words-requires c = omega (arith, c.loop-i-test.true)
 
 pub number-scratch_words-requires : goal.number-scratch_words-requires
-number-scratch_words-requires c = let h = c.loop-at.invariant.1 in let k = c.loop-at-test.true in omega arith
+number-scratch_words-requires c = let k = c.loop-i-test.true in omega arith
 
 pub overflow_add-to : goal.overflow_add-to
-overflow_add-to c = let h = c.loop-at.invariant.1 in let k = c.loop-at-test.true in let w = words_at c.args.calls.now c.loop-at.at (omega arith) in let e = c.loop-at.invariant.2 in let s = c.loop-at.invariant.3 in omega arith
-
-pub overflow_add-at-in-loop-at : goal.overflow_add-at-in-loop-at
-overflow_add-at-in-loop-at c = let h = c.loop-at.invariant.1 in let k = c.loop-at-test.true in omega arith
+overflow_add-to c = let k = c.loop-i-test.true in let w = words_at c.args.calls.now (3 * c.loop-i.i) (omega arith) in let e = c.loop-i.invariant.0 in let s = c.loop-i.invariant.1 in omega arith
 
 pub number-requires : goal.number-requires
-number-requires c = let h = c.loop-at.invariant.1 in let k = c.loop-at-test.true in omega arith
+number-requires c = let k = c.loop-i-test.true in omega arith
 
-pub overflow_add-to-in-loop-at : goal.overflow_add-to-in-loop-at
-overflow_add-to-in-loop-at c = let h = c.loop-at.invariant.1 in let k = c.loop-at-test.true in let w = words_at c.args.calls.now c.loop-at.at (omega arith) in let e = c.loop-at.invariant.2 in let s = c.loop-at.invariant.3 in let n = c.number.ensures.0 in omega arith
+pub overflow_add-to-in-loop-i : goal.overflow_add-to-in-loop-i
+overflow_add-to-in-loop-i c = let k = c.loop-i-test.true in let w = words_at c.args.calls.now (3 * c.loop-i.i) (omega arith) in let e = c.loop-i.invariant.0 in let s = c.loop-i.invariant.1 in let n = c.number.ensures.0 in omega arith
 
 pub offset_bounds-output-from : goal.offset_bounds-output-from
-offset_bounds-output-from c = let h = c.loop-at.invariant.1 in let k = c.loop-at-test.true in let w = words_at c.args.calls.now c.loop-at.at (omega arith) in let e = c.loop-at.invariant.2 in let s = c.loop-at.invariant.3 in omega (arith, c.well_formed)
+offset_bounds-output-from c = let k = c.loop-i-test.true in let w = words_at c.args.calls.now (3 * c.loop-i.i) (omega arith) in let e = c.loop-i.invariant.0 in let s = c.loop-i.invariant.1 in omega (arith, c.well_formed)
 
 pub slice_bounds-call-start : goal.slice_bounds-call-start
-slice_bounds-call-start c = let h = c.loop-at.invariant.1 in let k = c.loop-at-test.true in let w = words_at c.args.calls.now c.loop-at.at (omega arith) in let e = c.loop-at.invariant.2 in let s = c.loop-at.invariant.3 in let n = c.number.ensures.0 in omega arith
+slice_bounds-call-start c = let k = c.loop-i-test.true in let w = words_at c.args.calls.now (3 * c.loop-i.i) (omega arith) in let e = c.loop-i.invariant.0 in let s = c.loop-i.invariant.1 in let n = c.number.ensures.0 in omega arith
 
 pub slice_bounds-call-end : goal.slice_bounds-call-end
-slice_bounds-call-end c = let h = c.loop-at.invariant.1 in let k = c.loop-at-test.true in let w = words_at c.args.calls.now c.loop-at.at (omega arith) in let e = c.loop-at.invariant.2 in let s = c.loop-at.invariant.3 in let n = c.number.ensures.0 in omega arith
+slice_bounds-call-end c = let k = c.loop-i-test.true in let w = words_at c.args.calls.now (3 * c.loop-i.i) (omega arith) in let e = c.loop-i.invariant.0 in let s = c.loop-i.invariant.1 in let n = c.number.ensures.0 in omega arith
 
 pub call-listing-requires : goal.call-listing-requires
-call-listing-requires c = let h = c.loop-at.invariant.1 in
-    let k = c.loop-at-test.true in
-    let w = words_at c.args.calls.now c.loop-at.at (omega arith) in
-    let e = c.loop-at.invariant.2 in
-    let s = c.loop-at.invariant.3 in
+call-listing-requires c = let k = c.loop-i-test.true in
+    let w = words_at c.args.calls.now (3 * c.loop-i.i) (omega arith) in
+    let e = c.loop-i.invariant.0 in
+    let s = c.loop-i.invariant.1 in
     let n = c.number.ensures.0 in
-    let d = length-drop c.loop-at.from c.loop-at.output in
-    let t = length-take (c.loop-at.from + 3 + c.number.result - c.loop-at.from) (drop c.loop-at.from c.loop-at.output) in
+    let d = length-drop c.loop-i.from c.loop-i.output in
+    let t = length-take (c.loop-i.from + 3 + c.number.result - c.loop-i.from) (drop c.loop-i.from c.loop-i.output) in
     omega arith
 
-pub overflow_add-at-in-loop-at-2 : goal.overflow_add-at-in-loop-at-2
-overflow_add-at-in-loop-at-2 c = let h = c.loop-at.invariant.1 in let k = c.loop-at-test.true in omega arith
-
-pub loop-at-smaller : goal.loop-at-smaller
-loop-at-smaller c = omega (arith, c.loop-at-test.true)
-
-pub loop-at-preserved : goal.loop-at-preserved
-loop-at-preserved c = let h = c.loop-at.invariant.1 in
-    let k = c.loop-at-test.true in
-    let three : c.loop-at.at + 3 ≤ length c.args.calls.now = omega arith in
-    let w = words_at c.args.calls.now c.loop-at.at three in
-    let e = c.loop-at.invariant.2 in
-    let s = c.loop-at.invariant.3 in
+pub loop-i-preserved : goal.loop-i-preserved
+loop-i-preserved c = let k = c.loop-i-test.true in
+    let three : 3 * c.loop-i.i + 3 ≤ length c.args.calls.now = omega arith in
+    let next : 3 * (c.loop-i.i + 1) ≡ 3 * c.loop-i.i + 3 = omega arith in
+    let w = words_at c.args.calls.now (3 * c.loop-i.i) three in
+    let e = c.loop-i.invariant.0 in
+    let s = c.loop-i.invariant.1 in
     let n = c.number.ensures.0 in
-    let to : c.loop-at.from + 3 + c.number.result ≤ length c.loop-at.output = omega arith in (
-      three,
+    let to : c.loop-i.from + 3 + c.number.result ≤ length c.loop-i.output = omega arith in rw next (
       omega arith,
-      omega arith,
-      same_len_mid c.loop-at.from (c.loop-at.from + 3 + c.number.result - c.loop-at.from) c.loop-at.output c.call-listing.new.part c.call-listing.auto.part ∙ s,
-      c.call-listing.auto.scratch ∙ c.loop-at.invariant.4,
-      calls-more c.args.table.now c.args.graph.now c.args.calls.now c.loop-at.at three c.loop-at.listing c.loop-at.scratch c.loop-at.output c.loop-at.from (c.loop-at.from + 3 + c.number.result) _ _ _ c.number-graph_words.ensures.0 c.number-scratch_words.ensures.0 n refl to _ _ _ c.call-listing.auto.part c.call-listing.ensures ∙ c.loop-at.invariant.5,
+      same_len_mid c.loop-i.from (c.loop-i.from + 3 + c.number.result - c.loop-i.from) c.loop-i.output c.call-listing.new.part c.call-listing.auto.part ∙ s,
+      c.call-listing.auto.scratch ∙ c.loop-i.invariant.2,
+      calls-more c.args.table.now c.args.graph.now c.args.calls.now (3 * c.loop-i.i) three c.loop-i.listing c.loop-i.scratch c.loop-i.output c.loop-i.from (c.loop-i.from + 3 + c.number.result) _ _ _ c.number-graph_words.ensures.0 c.number-scratch_words.ensures.0 n refl to _ _ _ c.call-listing.auto.part c.call-listing.ensures ∙ c.loop-i.invariant.3,
     )
 
 pub shape_of-scratch : goal.shape_of-scratch
-shape_of-scratch c = c.loop-at.invariant.4
+shape_of-scratch c = c.loop-i.invariant.2
 
 pub shape_of-output : goal.shape_of-output
-shape_of-output c = c.loop-at.invariant.3
+shape_of-output c = c.loop-i.invariant.1
 
 pub returns : goal.returns
-returns c = let k = c.loop-at-test.false in
-    let z : drop c.loop-at.at c.args.calls.now ≡ [] = drop_of_length-le c.args.calls.now {i = c.loop-at.at} (omega arith) in
-    calls-none c.args.table.now c.args.graph.now c.loop-at.listing c.loop-at.scratch c.loop-at.output c.loop-at.from
-    ∙ sym (ap (λ (cs : List ℕ). ended_of c.args.table.now c.args.graph.now cs c.loop-at.listing c.loop-at.scratch (take c.loop-at.from c.loop-at.output) (drop c.loop-at.from c.loop-at.output)) z)
-    ∙ c.loop-at.invariant.5
+returns c = let k = c.loop-i-test.false in
+    let m = (accepted _ _ c.requires).0 in
+    let z : drop (3 * c.loop-i.i) c.args.calls.now ≡ [] = drop_of_length-le c.args.calls.now {i = (3 * c.loop-i.i)} (omega arith) in
+    calls-none c.args.table.now c.args.graph.now c.loop-i.listing c.loop-i.scratch c.loop-i.output c.loop-i.from
+    ∙ sym (ap (λ (cs : List ℕ). ended_of c.args.table.now c.args.graph.now cs c.loop-i.listing c.loop-i.scratch (take c.loop-i.from c.loop-i.output) (drop c.loop-i.from c.loop-i.output)) z)
+    ∙ c.loop-i.invariant.3
