@@ -16,8 +16,8 @@ pub fn lr0_examples(table: &[u16], production: ProductionIndex, index: u16, grap
     ensures { result ≡ open_of table.now (record { production = production.0; index = index }) None graph.now }
 {
     match table_check::check(table) {
-        Checked::Refused(refusal, place) => Opened::Refused(refusal, place),
-        Checked::Accepted => open_in(table, production, index, None, graph),
+        Err(refusal) => Opened::Refused(refusal.number(), refusal.place()),
+        Ok(_) => open_in(table, production, index, None, graph),
     }
 }
 
@@ -32,8 +32,8 @@ pub fn lr1_examples(
     ensures { result ≡ open_of table.now (record { production = production.0; index = index }) (Some lookahead) graph.now }
 {
     match table_check::check(table) {
-        Checked::Refused(refusal, place) => Opened::Refused(refusal, place),
-        Checked::Accepted => open_in(table, production, index, Some(lookahead), graph),
+        Err(refusal) => Opened::Refused(refusal.number(), refusal.place()),
+        Ok(_) => open_in(table, production, index, Some(lookahead), graph),
     }
 }
 

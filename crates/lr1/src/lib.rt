@@ -24,7 +24,7 @@ use first::{Answer, FirstSets};
 use lookahead::TokenSet;
 use repr::{ProductionIndex, Refusal, joined_fits, list_fits, word};
 use state_graph::{StateIndex, StateSet};
-use table::{Checked, read_counts, read_productions};
+use table::{AcceptedTable, read_productions};
 use trace_graph::{Full, TraceEdge, TraceGraph, TraceGraphNode, check_graph, edge_fits, insert};
 use tracer::Backtrace;
 use yacc_read::Reading;

@@ -112,7 +112,7 @@ fn write_records<R: Print + Eprint>(
 
 // The lines of an accepted table.
 fn write_table<R: Print + Eprint>(rt: &R, table: &[u16], out: &mut [u8]) -> Result<(), Failed>
-    requires { (check_of table.now ≡ Checked.Accepted) × (2048 ≤ length out.old) }
+    requires { (check_of table.now ≡ Accepted) × (2048 ≤ length out.old) }
 {
     let a = survey(table);
     let count = [a.records as u16; 1];
@@ -207,8 +207,8 @@ fn text_input<R: io::Input + Print + Eprint>(rt: &R) -> Result<(), Stop> {
     let words = read_table(rt, &mut bytes, &mut table)? * 4;
     let table = &table[..words];
     match check(table) {
-        Checked::Refused(refusal, place) => Err(Stop::Refused(refusal, place)),
-        Checked::Accepted => {
+        Err(refusal) => Err(Stop::Refused(refusal.number(), refusal.place())),
+        Ok(_) => {
             write_table(rt, table, &mut out)?;
             Ok(text_rest(rt, &mut out)?)
         }

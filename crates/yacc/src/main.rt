@@ -13,7 +13,6 @@ use augment::{Started, with_start};
 use pipe::{Stop, say_end, write_records};
 use repr::NonterminalString;
 use streams::{read, write};
-use table::Checked;
 use yacc_read::Reading;
 use yacc_reader::{misnamed_at, read_yacc};
 use yacc_stray::{place_of, stray};
@@ -57,7 +56,7 @@ fn write_grammar<R: Print + Eprint>(
     start: NonterminalString,
     bytes: &mut [u8],
 ) -> Result<(), Stop>
-    requires table_value { check_of table.now ≡ Checked.Accepted }
+    requires table_value { check_of table.now ≡ Accepted }
     requires startable { Startable (meaning table.now) start.0 }
     requires in_bounds { 65536 ≤ length bytes.old }
 {
