@@ -42,7 +42,7 @@ module _ (t g : List ℕ) (counts : Counts) (sets least ends : List ℕ) (R : Re
   not_shift : r.shift ≡ false
   not_shift = ap (λ (x : Traced). x.shift) e
 
-  pub reduce_made_lem : (token : ℕ) (tokens : TokenSet) → p < length (meaning t).productions → token ≤ (meaning t).terminals → tokens.0 ≡ with 0 token → (a : SideValue) (kept prints kept' prints' : List ℕ) → Room kept' prints'
+  pub reduce_made_lem : (token : ℕ) (tokens : TokenSet) → p < length (meaning t).productions → token ≤ (meaning t).terminals → tokens.0 ≡ with 0 token → (a : Result Gathered Refusal) (kept prints kept' prints' : List ℕ) → Room kept' prints'
       → ListedOn (meaning t).productions r.shift a 0 kept prints kept' prints' (listing_side (meaning t) (edges_by r.shift (meaning t) r.state.0 (record { production = r.production; index = r.index })) (record { production = r.production; index = r.index }) (set_of (Some tokens)) 0)
       → Sided (meaning t) false (reduce_made (meaning t) state.0 p token) a kept' prints' (reduce_side (meaning t) state.0 p token)
   reduce_made_lem token tokens h ht et a kept prints kept' prints' O S =

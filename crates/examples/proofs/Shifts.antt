@@ -152,7 +152,7 @@ module _ (T : Table) (F : TableFits T) (s token : ℕ) (hs : s < length T.states
     turn_trials m h = let z = fewer in let f = U.few_trials in omega arith
 
     -- the listing that was made, r its answer
-    module _ (r : SideValue) (kept' prints' : List ℕ)
+    module _ (r : Result Gathered Refusal) (kept' prints' : List ℕ)
         (a : ListedOn T.productions true r total kept prints kept' prints' (listing_side T (edges_by true T s (record { production = c / index_limit; index = c % index_limit })) (record { production = c / index_limit; index = c % index_limit }) (set_of None) total)) where
       abbrev listing : Side
       listing = listing_side T (edges_by true T s (item_of c)) (item_of c) none total

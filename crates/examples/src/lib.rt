@@ -74,10 +74,10 @@ pub fn prepare(table: &[u16], grammar: &mut [u16]) -> Prepared
     let mut ends = [0u64; Item::FLAG_WORDS];
     suffix_ends(grammar, productions, terminals, &map, &mut ends);
     Prepared {
-        counts: counts,
-        map: map,
-        least: least,
-        ends: ends,
+        counts,
+        map,
+        least,
+        ends,
     }
 }
 
@@ -139,7 +139,7 @@ pub struct Gathered {
     pub trials: u32,
 }
 
-// An item that is traced from a state, as a shift's or as a reduce's.
+// An item that is traced from a state, as a shift's or as a reduce's: a yes or no, as what it picks is defined by (`edges_by`, `label_of`).
 #[derive(Clone, Copy)]
 pub struct Traced {
     pub state: StateIndex,
@@ -256,22 +256,21 @@ fn open_view(
     older: &mut [u16],
     latest: &mut [u16],
 ) -> Result<(), Full>
-    requires reads { Reads table.now grammar.now counts map.now least.now ends.now }
-    requires state_in_bounds { (traced.state.0 < length (meaning table.now).states) × (item_is_fit (meaning table.now).productions traced.production traced.index ≡ true) }
+    requires state_in_bounds { (traced.state.0 < length (meaning given.table.now).states) × (item_is_fit (meaning given.table.now).productions traced.production traced.index ≡ true) }
     requires words_len { (length words.old ≡ codes_room) × (length owners.old ≡ edge_limit) }
     requires sources_value { (sources.old ≡ replicate edge_limit 0) × ((older.old ≡ replicate edge_limit 0) × (latest.old ≡ replicate latest_room 0)) }
-    ensures listable { OnOk result (Listable (meaning table.now).productions (edges_by traced.shift (meaning table.now) traced.state.0 (record { production = traced.production; index = traced.index })) owners.new (drop 1 words.new) sources.new older.new latest.new (record { production = traced.production; index = traced.index })) }
-    ensures edge_limit_in_bounds { OnErr result (edge_limit < length (edges_by traced.shift (meaning table.now) traced.state.0 (record { production = traced.production; index = traced.index }))) }
+    ensures listable { OnOk result (Listable (meaning given.entry.table.now).productions (edges_by traced.shift (meaning given.entry.table.now) traced.state.0 (record { production = traced.production; index = traced.index })) owners.new (drop 1 words.new) sources.new older.new latest.new (record { production = traced.production; index = traced.index })) }
+    ensures edge_limit_in_bounds { OnErr result (edge_limit < length (edges_by traced.shift (meaning given.entry.table.now) traced.state.0 (record { production = traced.production; index = traced.index }))) }
 {
     let state = traced.state.0 as usize;
     let production = traced.production;
     let index = traced.index;
     trace_codes(
-        table,
-        grammar,
-        counts.productions,
-        least,
-        ends,
+        given.table,
+        given.grammar,
+        given.counts.productions,
+        given.least,
+        given.ends,
         words,
         state,
         production,
@@ -279,19 +278,21 @@ fn open_view(
         traced.shift,
     )?;
     view_codes(
-        grammar, words, production, index, owners, sources, older, latest,
+            given.grammar,
+            words,
+            production,
+            index,
+            owners,
+            sources,
+            older,
+            latest,
     );
     Ok(())
 }
 
 // One listing of a side: the item is traced from the state, and the examples of the trace are listed. More than 1,024 edges are refusal 12.
 fn list_item(
-    table: &[u16],
-    grammar: &[u16],
-    counts: Counts,
-    map: &[u64; NonterminalString::LIMIT],
-    least: &[u8],
-    ends: &[u64],
+    given: Given,
     lookahead: Option<TokenSet>,
     traced: Traced,
     side: &mut Side,
@@ -318,9 +319,9 @@ fn list_item(
         &mut latest,
     ) {
         Ok(()) => list_outlines(
-            grammar,
-            counts,
-            map,
+            given.grammar,
+            given.counts,
+            given.map,
             lookahead,
             shift,
             &owners,
@@ -331,7 +332,7 @@ fn list_item(
             side,
             count,
         ),
-        Err(Full) => Side::Stopped(12),
+        Err(Full) => Err(Refusal::TooManyEdges),
     }
 }
 
@@ -361,42 +362,24 @@ fn shift_examples(
         trials: 0,
     };
     let mut from: usize = 0;
-    loop {
-        match next_shift_item(grammar, productions, token, &order, &marks, from) {
-            NextItem::At(place, code) => {
-                let traced = Traced {
-                    state: state,
-                    production: code / ProductionIndex::INDEXES,
-                    index: code % ProductionIndex::INDEXES,
-                    shift: true,
-                };
-                match list_item(
-                    table,
-                    grammar,
-                    counts,
-                    map,
-                    least,
-                    ends,
-                    None,
-                    traced,
-                    kept,
-                    prints,
-                    total,
-                ) {
-                    Side::Examples(examples, made) => {
-                        total = examples;
-                        trials += made;
-                        from = place + 1;
-                    }
-                    Side::Stopped(refusal) => {
-                        return Side::Stopped(refusal);
-                    }
-                }
-            }
-            NextItem::Nothing => {
-                return Side::Examples(total, trials);
-            }
-        }
+    while let Some((place, code)) = next_shift_item(
+        given.grammar,
+        productions,
+        token,
+        &order,
+        &marks,
+        from,
+    ) {
+        let traced = Traced {
+            state,
+            production: code / ProductionIndex::INDEXES,
+            index: code % ProductionIndex::INDEXES,
+            shift: true,
+        };
+        let listed = list_item(given, None, traced, side, gathered.examples)?;
+        gathered.examples = listed.examples;
+        gathered.trials += listed.trials;
+        from = place + 1;
     }
     Ok(gathered)
 }
@@ -407,12 +390,12 @@ fn reduce_item(grammar: &[u16], productions: usize, state: StateIndex, productio
     ensures { result ≡ record { state = state; production = production; index = length (slice_index_or (productions_in grammar.now productions) production no_production).symbols; shift = false } }
 {
     let item = Item {
-        production: production,
+        production,
         index: 0,
     };
     Traced {
-        state: state,
-        production: production,
+        state,
+        production,
         index: item.length(grammar, productions),
         shift: false,
     }
@@ -431,19 +414,18 @@ fn reduce_examples(
 {
     let traced = reduce_item(given.grammar, given.counts.productions, state, production);
     let tokens = TokenSet::from(token);
-    list_item(
-        table,
-        grammar,
-        counts,
-        map,
-        least,
-        ends,
-        Some(tokens),
-        traced,
-        kept,
-        prints,
-        0,
-    )
+    list_item(given, Some(tokens), traced, side, 0)
+}
+
+// The conflict's reduce as the action of a conflict: what is said of an action's side is said of the other side so.
+pub fn reduced(conflict: Conflict) -> Conflict
+    ensures { result ≡ reduced conflict }
+{
+    Conflict {
+        action: 1,
+        operand: conflict.production.0,
+        ..conflict
+    }
 }
 
 // The side of the conflict's action.
@@ -485,6 +467,7 @@ fn find_example(
 {
     let productions = counts.productions;
     let terminals = counts.terminals as u16;
+    // Counted beside the searches: with a range the last search would stand once more behind the loop.
     let mut left = wanted;
     let mut made: u32 = 0;
     loop {
@@ -520,20 +503,8 @@ fn find_example(
 }
 
 // One listing's example made again, `wanted` others before it: the item is traced from the state, and the listing goes on to the example. No trial of it is counted.
-fn item_again(
-    table: &[u16],
-    grammar: &[u16],
-    counts: Counts,
-    map: &[u64; NonterminalString::LIMIT],
-    least: &[u8],
-    ends: &[u64],
-    lookahead: Option<TokenSet>,
-    traced: Traced,
-    wanted: usize,
-    buffer: &mut [u16],
-)
-    requires reads { Reads table.now grammar.now counts map.now least.now ends.now }
-    requires state_in_bounds { (traced.state.0 < length (meaning table.now).states) × (item_is_fit (meaning table.now).productions traced.production traced.index ≡ true) }
+fn item_again(given: Given, lookahead: Option<TokenSet>, traced: Traced, wanted: usize, buffer: &mut [u16])
+    requires state_in_bounds { (traced.state.0 < length (meaning given.table.now).states) × (item_is_fit (meaning given.table.now).productions traced.production traced.index ≡ true) }
     requires example_room_in_bounds { example_room ≤ length buffer.old }
     ensures { (k : ℕ) (x : ExampleOf) → k ≤ example_limit → Listed (listing_side (meaning given.entry.table.now) (edges_by traced.shift (meaning given.entry.table.now) traced.state.0 (record { production = traced.production; index = traced.index })) (record { production = traced.production; index = traced.index }) (set_of lookahead) k) wanted x → buffer.new ≡ in_front (example_words (meaning given.entry.table.now).productions x) buffer.old }
 {
@@ -595,18 +566,7 @@ fn reduce_again(
 {
     let traced = reduce_item(given.grammar, given.counts.productions, state, production);
     let tokens = TokenSet::from(token);
-    item_again(
-        table,
-        grammar,
-        counts,
-        map,
-        least,
-        ends,
-        Some(tokens),
-        traced,
-        wanted,
-        buffer,
-    );
+    item_again(given, Some(tokens), traced, wanted, buffer);
 }
 
 // An example of the side of the conflict's action made again: of a shift the item is the label kept.
@@ -627,23 +587,12 @@ pub fn action_again(
     let token = conflict.token;
     if conflict.action == 0 {
         let traced = Traced {
-            state: state,
+            state,
             production: label / ProductionIndex::INDEXES,
             index: label % ProductionIndex::INDEXES,
             shift: true,
         };
-        item_again(
-            table,
-            grammar,
-            counts,
-            map,
-            least,
-            ends,
-            None,
-            traced,
-            wanted,
-            buffer,
-        );
+        item_again(given, None, traced, wanted, buffer);
     } else {
         reduce_again(given, state, operand, token, wanted, buffer);
     }

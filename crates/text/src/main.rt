@@ -16,7 +16,7 @@ use pipe::{Stop, read_table, say_end};
 use repr::ProductionIndex;
 use std::io;
 use streams::{Failed, read, write};
-use table::{Checked, read_productions};
+use table::read_productions;
 use table_check::areas::{Areas, survey};
 use table_check::check;
 use typed::{Roles, numbers_line, record_line};
