@@ -7,7 +7,7 @@ use native.Mathlib.Omega.{arith}
 use Rattle.collecting.proofs.find_states.Goals as goal
 
 pub loop-k-init : goal.loop-k-init
-loop-k-init c = (refl, c.requires.item_limit_in_bounds.1, c.requires.item_limit_in_bounds.2, λ s. rw c.requires.item_limit_in_bounds.4 (round-start _ _ _ _ _ _ _ _ _ s.many s.holds c.requires.item_limit_in_bounds.3))
+loop-k-init c = (refl, c.requires.item_limit_in_bounds.1, c.requires.item_limit_in_bounds.2, λ s. round-start _ _ _ _ _ _ _ _ _ s.many s.holds c.requires.item_limit_in_bounds.3)
 
 pub take_state-requires : goal.take_state-requires
 take_state-requires c = let t = c.loop-k.invariant.3 c.requires.search in record { search = search_on _ _ _ _ _ _ _ _ _ c.requires.search t.Qs t.many t.holds; k_lt_found = (c.loop-k-test.true, omega (arith, c.loop-k.invariant.0, c.requires.item_limit_in_bounds.0), c.loop-k.invariant.1, omega (arith, t.few, c.loop-k-test.true, t.many, t.holds.begun.few)) }
