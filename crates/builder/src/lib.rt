@@ -25,7 +25,8 @@ use repr::ProductionIndex;
 use searching::search_states;
 use slices::zero;
 use state_records::{write_edges, write_items, write_states};
-use table::{Counts, first_edge, first_item, read_counts, read_productions};
+use stored::Kernel;
+use table::{Checked, Counts, first_edge, first_item, read_counts, read_productions};
 use taking::Edges;
 
 // Records of the table and conflicts written; or the refusal and its place.
@@ -164,7 +165,10 @@ fn build_found(
         items: [0; 129],
         states: 0,
     };
-    let mut kernel = [0u16; 10880];
+    let mut kernel = Kernel {
+        words: [0; 10880],
+        many: 0,
+    };
     let mut edges = Edges {
         words: [0; 12160],
         rows: [0; 129],

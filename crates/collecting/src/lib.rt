@@ -10,6 +10,7 @@ ghost use Rattle.collecting.specs.Rows.{FoundAs};
 
 use finding::{Halt, Source};
 use kept_states::Begins;
+use stored::Kernel;
 use taking::{Edges, take_state};
 
 // The states behind those found, and the edges of all.
@@ -17,13 +18,14 @@ pub fn find_states(
     source: Source,
     words: &mut [u16],
     begins: &mut Begins,
-    kernel: &mut [u16],
+    kernel: &mut Kernel,
     edges: &mut Edges,
 ) -> Result<(), Halt>
     requires search { Search source.grammar.now source.sizes source.first.now words.old begins.old.items begins.old.states }
-    requires item_limit_in_bounds { (item_limit * 5 ≤ length kernel.old) × (length edges.old.words ≡ 12160) × (length edges.old.rows ≡ 129) × (get_or edges.old.rows 0 0 ≡ 0) × (edges.old.many ≡ 0) }
+    requires item_limit_in_bounds { (item_limit * 5 ≤ length kernel.old.words) × (length edges.old.words ≡ 12160) × (length edges.old.rows ≡ 129) × (get_or edges.old.rows 0 0 ≡ 0) }
     ensures { (s : Search source.entry.grammar.now source.entry.sizes source.entry.first.now words.old begins.old.items begins.old.states) → FoundAs s.T s.start (collect_to 129 s.T s.room s.Rs []) words.new begins.new.items edges.new.words edges.new.rows begins.new.states result }
 {
+    edges.many = 0;
     let mut k = 0;
     // No range: taking one adds states.
     while k < begins.states {

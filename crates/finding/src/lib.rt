@@ -16,7 +16,7 @@ use closing::transitive_closure;
 use kept_states::{Begins, count_items, find, pack, unpack};
 use lr1_core::Item;
 use repr::ProductionIndex;
-use stored::move_over;
+use stored::{Kernel, move_over};
 
 // What is known of the table while its states are found: records without states, items and edges, and how many there may be.
 #[derive(Clone, Copy)]
@@ -79,13 +79,13 @@ pub fn append(
 }
 
 // A kernel closed.
-pub fn close(source: Source, kernel: &[u16], many: usize) -> [u64; Item::LIMIT]
+pub fn close(source: Source, kernel: &Kernel) -> [u64; Item::LIMIT]
     requires held { Held source.grammar.now source.sizes.productions source.sizes.terminals source.first.now }
-    requires many_le_record_limit { (many ≤ record_limit) × (many * 5 ≤ length kernel.now) × KernelIn kernel.now many source.sizes.productions }
-    ensures { (length result ≡ item_limit) × ((T : Table) (M : List ℕ) → Grammar T source.entry.grammar.now source.entry.sizes.productions source.entry.sizes.terminals source.entry.first.now → length M ≡ index_limit * source.entry.sizes.productions → entries kernel.now 0 many ≡ packed M → take (index_limit * source.entry.sizes.productions) result ≡ closure T M) }
+    requires many_le_record_limit { (kernel.now.many ≤ record_limit) × (kernel.now.many * 5 ≤ length kernel.now.words) × KernelIn kernel.now.words kernel.now.many source.sizes.productions }
+    ensures { (length result ≡ item_limit) × ((T : Table) (M : List ℕ) → Grammar T source.entry.grammar.now source.entry.sizes.productions source.entry.sizes.terminals source.entry.first.now → length M ≡ index_limit * source.entry.sizes.productions → entries kernel.now.words 0 kernel.now.many ≡ packed M → take (index_limit * source.entry.sizes.productions) result ≡ closure T M) }
 {
     let sizes = source.sizes;
-    let mut state = unpack(kernel, 0, many);
+    let mut state = unpack(&kernel.words, 0, kernel.many);
     transitive_closure(
         source.grammar,
         sizes.productions,
@@ -101,18 +101,17 @@ fn store(
     source: Source,
     words: &mut [u16],
     begins: &mut Begins,
-    kernel: &[u16],
-    many: usize,
+    kernel: &Kernel,
 ) -> Result<Option<usize>, Halt>
     requires search { Search source.grammar.now source.sizes source.first.now words.old begins.old.items begins.old.states }
-    requires many_le_record_limit { (many ≤ record_limit) × (many * 5 ≤ length kernel.now) × KernelIn kernel.now many source.sizes.productions }
-    ensures { (s : Search source.entry.grammar.now source.entry.sizes source.entry.first.now words.old begins.old.items begins.old.states) (M : List ℕ) → length M ≡ index_limit * source.entry.sizes.productions → entries kernel.now 0 many ≡ packed M → Made s.T s.start (closure s.T M) → place (closure s.T M) s.Rs ≡ length s.Rs → Reached s.T s.start s.Rs (add_to s.T s.room (closure s.T M) s.Rs) words.new begins.new.items begins.new.states result }
+    requires many_le_record_limit { (kernel.now.many ≤ record_limit) × (kernel.now.many * 5 ≤ length kernel.now.words) × KernelIn kernel.now.words kernel.now.many source.sizes.productions }
+    ensures { (s : Search source.entry.grammar.now source.entry.sizes source.entry.first.now words.old begins.old.items begins.old.states) (M : List ℕ) → length M ≡ index_limit * source.entry.sizes.productions → entries kernel.now.words 0 kernel.now.many ≡ packed M → Made s.T s.start (closure s.T M) → place (closure s.T M) s.Rs ≡ length s.Rs → Reached s.T s.start s.Rs (add_to s.T s.room (closure s.T M) s.Rs) words.new begins.new.items begins.new.states result }
 {
     let number = begins.states;
     if number == 128 {
         return Err(Halt::States);
     }
-    let state = close(source, kernel, many);
+    let state = close(source, kernel);
     append(&state, source.sizes, words, begins)?;
     Ok(Some(number))
 }
@@ -124,16 +123,16 @@ pub fn goto_over(
     begins: &mut Begins,
     k: usize,
     symbol: usize,
-    kernel: &mut [u16],
+    kernel: &mut Kernel,
 ) -> Result<Option<usize>, Halt>
     requires search { Search source.grammar.now source.sizes source.first.now words.old begins.old.items begins.old.states }
-    requires k_lt_states { (k < begins.old.states) × CodeFits source.sizes.nonterminals source.sizes.terminals symbol × (item_limit * 5 ≤ length kernel.old) }
-    ensures { (length kernel.new ≡ length kernel.old) × ((s : Search source.entry.grammar.now source.entry.sizes source.entry.first.now words.old begins.old.items begins.old.states) → Reached s.T s.start s.Rs (goto_to s.T s.room (slice_index_or s.Rs k []) s.Rs (symbol_of_code symbol)) words.new begins.new.items begins.new.states result) }
+    requires k_lt_states { (k < begins.old.states) × CodeFits source.sizes.nonterminals source.sizes.terminals symbol × (item_limit * 5 ≤ length kernel.old.words) }
+    ensures { (length kernel.new.words ≡ length kernel.old.words) × ((s : Search source.entry.grammar.now source.entry.sizes source.entry.first.now words.old begins.old.items begins.old.states) → Reached s.T s.start s.Rs (goto_to s.T s.room (slice_index_or s.Rs k []) s.Rs (symbol_of_code symbol)) words.new begins.new.items begins.new.states result) }
 {
     let begin = begins.items[k];
     let past = begins.items[k + 1];
     let productions = source.sizes.productions;
-    let many = move_over(
+    move_over(
         source.grammar,
         productions,
         words,
@@ -142,11 +141,11 @@ pub fn goto_over(
         symbol,
         kernel,
     );
-    if many == 0 {
+    if kernel.many == 0 {
         return Ok(None);
     }
-    match find(words, begins, kernel, many) {
+    match find(words, begins, kernel) {
         Some(target) => Ok(Some(target)),
-        None => store(source, words, begins, kernel, many),
+        None => store(source, words, begins, kernel),
     }
 }

@@ -8,7 +8,7 @@ ghost use Rattle.stored.specs.Stored.{entry_at, entries, put_entry, packed};
 ghost use Rattle.kept_states.specs.Kept.{unpacked, put_all, states_in, Begun, kernel_place};
 
 use lr1_core::Item;
-use stored::{StoredItem, read_item, same_kernel, write_item};
+use stored::{Kernel, StoredItem, read_item, same_kernel, write_item};
 
 // Where the items of the states found begin, and how many states there are.
 #[derive(Clone, Copy)]
@@ -55,13 +55,13 @@ pub fn count_items(state: &[u64; Item::LIMIT], places: usize) -> usize
 }
 
 // The first state that has this kernel.
-pub fn find(words: &[u16], begins: &Begins, kernel: &[u16], many: usize) -> Option<usize>
+pub fn find(words: &[u16], begins: &Begins, kernel: &Kernel) -> Option<usize>
     requires begun { Begun words.now begins.now.items begins.now.states }
-    requires many_le_record_limit { (many ≤ record_limit) × (many * 5 ≤ length kernel.now) }
-    ensures { let k = kernel_place (entries kernel.now 0 many) (states_in words.now begins.now.items begins.now.states) in MatchOption result (k ≡ begins.now.states) (λ n. (n < begins.now.states) × (k ≡ n)) }
+    requires many_le_record_limit { (kernel.now.many ≤ record_limit) × (kernel.now.many * 5 ≤ length kernel.now.words) }
+    ensures { let k = kernel_place (entries kernel.now.words 0 kernel.now.many) (states_in words.now begins.now.items begins.now.states) in MatchOption result (k ≡ begins.now.states) (λ n. (n < begins.now.states) × (k ≡ n)) }
 {
     for k in 0..begins.states {
-        if same_kernel(words, begins.items[k], begins.items[k + 1], kernel, many) {
+        if same_kernel(words, begins.items[k], begins.items[k + 1], kernel) {
             return Some(k);
         }
     }

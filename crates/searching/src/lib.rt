@@ -12,6 +12,7 @@ use collecting::find_states;
 use finding::{Halt, Source};
 use kept_states::Begins;
 use starting::first_state;
+use stored::Kernel;
 use taking::Edges;
 
 // All states and their edges.
@@ -20,11 +21,11 @@ pub fn search_states(
     start: usize,
     words: &mut [u16],
     begins: &mut Begins,
-    kernel: &mut [u16],
+    kernel: &mut Kernel,
     edges: &mut Edges,
 ) -> Result<(), Halt>
     requires ready { Ready source.grammar.now source.sizes source.first.now start }
-    requires item_limit_in_bounds { (item_limit * 5 ≤ length kernel.old) × (record_limit * 5 ≤ length words.old) × (length begins.old.items ≡ suc state_limit) × (get_or begins.old.items 0 0 ≡ 0) × (begins.old.states ≡ 0) × (length edges.old.words ≡ 12160) × (length edges.old.rows ≡ 129) × (get_or edges.old.rows 0 0 ≡ 0) × (edges.old.many ≡ 0) }
+    requires item_limit_in_bounds { (item_limit * 5 ≤ length kernel.old.words) × (record_limit * 5 ≤ length words.old) × (length begins.old.items ≡ suc state_limit) × (get_or begins.old.items 0 0 ≡ 0) × (length edges.old.words ≡ 12160) × (length edges.old.rows ≡ 129) × (get_or edges.old.rows 0 0 ≡ 0) }
     ensures { (s : Ready source.entry.grammar.now source.entry.sizes source.entry.first.now start) → FoundAs s.T start (found_to s.T start s.room) words.new begins.new.items edges.new.words edges.new.rows begins.new.states result }
 {
     first_state(source, start, words, begins, kernel)?;

@@ -49,18 +49,24 @@ pub fn write_item(words: &mut [u16], at: usize, item: StoredItem)
     words[base + 4] = d as u16;
 }
 
-// One item, moved over the symbol and put behind the kernel's, if its cursor stands there; how many the kernel has then.
+// A kernel's items, and how many they are.
+#[derive(Clone, Copy)]
+pub struct Kernel {
+    pub words: [u16; 10880],
+    pub many: usize,
+}
+
+// One item, moved over the symbol and put behind the kernel's, if its cursor stands there.
 fn move_one(
     grammar: &[u16],
     productions: usize,
     read: StoredItem,
     symbol: usize,
-    kernel: &mut [u16],
-    many: usize,
-) -> usize
+    kernel: &mut Kernel,
+)
     requires packed { Packed grammar.now productions × (read.place < index_limit * productions) × (read.set < 2 ^ 64) }
-    requires many_lt_record_limit { (many < record_limit) × (many * 5 + 5 ≤ length kernel.old) }
-    ensures { Appended grammar.now symbol read.place read.set kernel.old kernel.new many result }
+    requires many_lt_record_limit { (kernel.old.many < record_limit) × (kernel.old.many * 5 + 5 ≤ length kernel.old.words) }
+    ensures { Appended grammar.now symbol read.place read.set kernel.old.words kernel.new.words kernel.old.many kernel.new.many }
 {
     let place = read.place;
     let item = Item {
@@ -72,13 +78,13 @@ fn move_one(
             place: place + 1,
             set: read.set,
         };
-        write_item(kernel, many, next);
-        return many + 1;
+        let many = kernel.many;
+        write_item(&mut kernel.words, many, next);
+        kernel.many = many + 1;
     }
-    many
 }
 
-// The items number `from` up to `past` that have their cursor at the symbol, moved over it, at the front of the kernel's words; how many they are.
+// The items number `from` up to `past` that have their cursor at the symbol, moved over it, as the kernel.
 pub fn move_over(
     grammar: &[u16],
     productions: usize,
@@ -86,48 +92,47 @@ pub fn move_over(
     from: usize,
     past: usize,
     symbol: usize,
-    kernel: &mut [u16],
-) -> usize
+    kernel: &mut Kernel,
+)
     requires packed { Packed grammar.now productions }
-    requires from_le_past { (from ≤ past) × (past ≤ record_limit) × (past * 5 ≤ length words.now) × ((past - from) * 5 ≤ length kernel.old) }
+    requires from_le_past { (from ≤ past) × (past ≤ record_limit) × (past * 5 ≤ length words.now) × ((past - from) * 5 ≤ length kernel.old.words) }
     requires by_index { (m : ℕ) → from ≤ m → m < past → (entry_at words.now m).place < index_limit * productions }
-    ensures { (result ≤ past - from) × (length kernel.new ≡ length kernel.old) × (entries kernel.new 0 result ≡ moved_over grammar.now symbol (entries words.now from (past - from))) }
+    ensures { (kernel.new.many ≤ past - from) × (length kernel.new.words ≡ length kernel.old.words) × (entries kernel.new.words 0 kernel.new.many ≡ moved_over grammar.now symbol (entries words.now from (past - from))) }
 {
-    let mut many: usize = 0;
+    kernel.many = 0;
     for at in from..past {
         let read = read_item(words, at);
-        many = move_one(grammar, productions, read, symbol, kernel, many);
+        move_one(grammar, productions, read, symbol, kernel);
     }
-    many
 }
 
 // How many of a kernel's items are met after one item more: an index-0 item is passed over. None if the item is not the kernel's next.
-fn meet_one(mine: StoredItem, kernel: &[u16], met: usize, many: usize) -> Option<usize>
-    requires { (met ≤ many) × (many ≤ record_limit) × (many * 5 ≤ length kernel.now) }
-    ensures { MatchOption result (MetAfter mine.place mine.set kernel.now met many (many + 1)) (λ n. (n ≤ many) × MetAfter mine.place mine.set kernel.now met many n) }
+fn meet_one(mine: StoredItem, kernel: &Kernel, met: usize) -> Option<usize>
+    requires { (met ≤ kernel.now.many) × (kernel.now.many ≤ record_limit) × (kernel.now.many * 5 ≤ length kernel.now.words) }
+    ensures { MatchOption result (MetAfter mine.place mine.set kernel.now.words met kernel.now.many (kernel.now.many + 1)) (λ n. (n ≤ kernel.now.many) × MetAfter mine.place mine.set kernel.now.words met kernel.now.many n) }
 {
     if mine.place % ProductionIndex::INDEXES == 0 {
         return Some(met);
     }
-    if met == many {
+    if met == kernel.many {
         return None;
     }
-    let other = read_item(kernel, met);
+    let other = read_item(&kernel.words, met);
     if mine == other { Some(met + 1) } else { None }
 }
 
 // Whether the items number `from` up to `past` have exactly these past index 0.
-pub fn same_kernel(words: &[u16], from: usize, past: usize, kernel: &[u16], many: usize) -> bool
-    requires { (from ≤ past) × (past ≤ record_limit) × (past * 5 ≤ length words.now) × (many ≤ record_limit) × (many * 5 ≤ length kernel.now) }
-    ensures { result ≡ is_same_kernel (entries words.now from (past - from)) (entries kernel.now 0 many) }
+pub fn same_kernel(words: &[u16], from: usize, past: usize, kernel: &Kernel) -> bool
+    requires { (from ≤ past) × (past ≤ record_limit) × (past * 5 ≤ length words.now) × (kernel.now.many ≤ record_limit) × (kernel.now.many * 5 ≤ length kernel.now.words) }
+    ensures { result ≡ is_same_kernel (entries words.now from (past - from)) (entries kernel.now.words 0 kernel.now.many) }
 {
     let mut met = 0;
     for at in from..past {
         let mine = read_item(words, at);
-        match meet_one(mine, kernel, met, many) {
+        match meet_one(mine, kernel, met) {
             Some(more) => met = more,
             None => return false,
         }
     }
-    met == many
+    met == kernel.many
 }

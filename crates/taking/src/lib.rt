@@ -11,6 +11,7 @@ ghost use Rattle.taking.specs.Taking.{code_of, Tried, TakenAs};
 
 use finding::{Halt, Source, goto_over};
 use kept_states::Begins;
+use stored::Kernel;
 
 // The edges found, one word each, where those of each state begin, and how many there are.
 #[derive(Clone, Copy)]
@@ -39,12 +40,12 @@ fn take_one(
     begins: &mut Begins,
     k: usize,
     symbol: usize,
-    kernel: &mut [u16],
+    kernel: &mut Kernel,
     edges: &mut Edges,
 ) -> Result<(), Halt>
     requires search { Search source.grammar.now source.sizes source.first.now words.old begins.old.items begins.old.states }
-    requires k_lt_states { (k < begins.old.states) × CodeFits source.sizes.nonterminals source.sizes.terminals symbol × (symbol < 95) × (item_limit * 5 ≤ length kernel.old) × (length edges.old.words ≡ 12160) × (edges.old.many < 12160) }
-    ensures { (length edges.new.words ≡ 12160) × (edges.new.rows ≡ edges.old.rows) × ((s : Search source.entry.grammar.now source.entry.sizes source.entry.first.now words.old begins.old.items begins.old.states) → Tried s.T s.start s.Rs (goto_to s.T s.room (get_or s.Rs k []) s.Rs (symbol_of_code symbol)) symbol words.new begins.new.items edges.old.words edges.new.words edges.old.many begins.new.states edges.new.many result) }
+    requires k_lt_states { (k < begins.old.states) × CodeFits source.sizes.nonterminals source.sizes.terminals symbol × (symbol < 95) × (item_limit * 5 ≤ length kernel.old.words) × (length edges.old.words ≡ 12160) × (edges.old.many < 12160) }
+    ensures { (length kernel.new.words ≡ length kernel.old.words) × (length edges.new.words ≡ 12160) × (edges.new.rows ≡ edges.old.rows) × ((s : Search source.entry.grammar.now source.entry.sizes source.entry.first.now words.old begins.old.items begins.old.states) → Tried s.T s.start s.Rs (goto_to s.T s.room (get_or s.Rs k []) s.Rs (symbol_of_code symbol)) symbol words.new begins.new.items edges.old.words edges.new.words edges.old.many begins.new.states edges.new.many result) }
 {
     match goto_over(source, words, begins, k, symbol, kernel)? {
         None => Ok(()),
@@ -63,12 +64,12 @@ pub fn take_state(
     words: &mut [u16],
     begins: &mut Begins,
     k: usize,
-    kernel: &mut [u16],
+    kernel: &mut Kernel,
     edges: &mut Edges,
 ) -> Result<(), Halt>
     requires search { Search source.grammar.now source.sizes source.first.now words.old begins.old.items begins.old.states }
-    requires k_lt_found { (k < begins.old.states) × (item_limit * 5 ≤ length kernel.old) × (length edges.old.words ≡ 12160) × (edges.old.many + 95 ≤ 12160) }
-    ensures { (length kernel.new ≡ length kernel.old) × (length edges.new.words ≡ 12160) × (edges.new.rows ≡ edges.old.rows) × ((s : Search source.entry.grammar.now source.entry.sizes source.entry.first.now words.old begins.old.items begins.old.states) → TakenAs s.T s.start s.Rs (take_to s.T s.room (get_or s.Rs k []) s.Rs (tried s.T)) words.new begins.new.items edges.old.words edges.new.words edges.old.many begins.new.states edges.new.many result) }
+    requires k_lt_found { (k < begins.old.states) × (item_limit * 5 ≤ length kernel.old.words) × (length edges.old.words ≡ 12160) × (edges.old.many + 95 ≤ 12160) }
+    ensures { (length kernel.new.words ≡ length kernel.old.words) × (length edges.new.words ≡ 12160) × (edges.new.rows ≡ edges.old.rows) × ((s : Search source.entry.grammar.now source.entry.sizes source.entry.first.now words.old begins.old.items begins.old.states) → TakenAs s.T s.start s.Rs (take_to s.T s.room (get_or s.Rs k []) s.Rs (tried s.T)) words.new begins.new.items edges.old.words edges.new.words edges.old.many begins.new.states edges.new.many result) }
 {
     let nonterminals = source.sizes.nonterminals;
     let symbols = nonterminals + source.sizes.terminals as usize;

@@ -11,5 +11,5 @@ write_item-requires c = (c.requires.many_lt_record_limit.0, c.requires.many_lt_r
 pub returns-then-cursor-symbol : goal.returns-then-cursor-symbol
 returns-then-cursor-symbol c = appended _ _ _ _ _ _ _ _ c.requires.many_lt_record_limit.1 c.cursor.ensures c.if-cursor-symbol.true c.write_item.ensures
 
-pub returns : goal.returns
-returns c = passed _ _ _ _ _ _ _ c.cursor.ensures c.if-cursor-symbol.false
+pub returns-else-cursor-symbol : goal.returns-else-cursor-symbol
+returns-else-cursor-symbol c = passed _ _ _ _ _ _ _ c.cursor.ensures c.if-cursor-symbol.false
