@@ -75,10 +75,10 @@ pub fn prepare(table: &[u16], grammar: &mut [u16]) -> Prepared
     let mut ends = [0u64; Item::FLAG_WORDS];
     suffix_ends(grammar, productions, terminals, &map, &mut ends);
     Prepared {
-        counts: counts,
-        map: map,
-        least: least,
-        ends: ends,
+        counts,
+        map,
+        least,
+        ends,
     }
 }
 
@@ -140,7 +140,7 @@ pub struct Gathered {
     pub trials: u32,
 }
 
-// An item that is traced from a state, as a shift's or as a reduce's.
+// An item that is traced from a state, as a shift's or as a reduce's: a yes or no, as what it picks is defined by (`edges_by`, `label_of`).
 #[derive(Clone, Copy)]
 pub struct Traced {
     pub state: StateIndex,
@@ -376,7 +376,7 @@ fn shift_examples(
         from,
     ) {
         let traced = Traced {
-            state: state,
+            state,
             production: code / ProductionIndex::INDEXES,
             index: code % ProductionIndex::INDEXES,
             shift: true,
@@ -395,12 +395,12 @@ fn reduce_item(grammar: &[u16], productions: usize, state: StateIndex, productio
     ensures { result ≡ record { state = state; production = production; index = length (slice_index_or (productions_in grammar.now productions) production no_production).symbols; shift = false } }
 {
     let item = Item {
-        production: production,
+        production,
         index: 0,
     };
     Traced {
-        state: state,
-        production: production,
+        state,
+        production,
         index: item.length(grammar, productions),
         shift: false,
     }
@@ -472,6 +472,7 @@ fn find_example(
 {
     let productions = counts.productions;
     let terminals = counts.terminals as u16;
+    // Counted beside the searches: with a range the last search would stand once more behind the loop.
     let mut left = wanted;
     let mut made: u32 = 0;
     loop {
@@ -591,7 +592,7 @@ pub fn action_again(
     let token = conflict.token;
     if conflict.action == 0 {
         let traced = Traced {
-            state: state,
+            state,
             production: label / ProductionIndex::INDEXES,
             index: label % ProductionIndex::INDEXES,
             shift: true,

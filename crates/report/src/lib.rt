@@ -41,8 +41,8 @@ pub fn choose(table: &[u16], conflict: Conflict, tokens: TokenSet, scratch: &mut
 {
     match table_check::check(table) {
         Checked::Refused(refusal, place) => Chosen {
-            refusal: refusal,
-            place: place,
+            refusal,
+            place,
             count: 0,
             entries: [0; Class::ALL_WORDS],
         },
