@@ -8,6 +8,7 @@ use lib.ListN.{length, drop}
 use lib.Dec.{eqb, ltb}
 use borrow.Author.Tests.{le-leb, lt-leb, eq-eqb, ne_eqb}
 use Rattle.std.specs.Prelude.{Result, Ok, Err}
+use Rattle.std.specs.Prelude.{min}
 use Rattle.repr.specs.Sizes.{classify_scratch}
 use Rattle.slices.specs.Lent.{zeroed}
 use Rattle.slices.proofs.Lent.{zeroed_lent}
@@ -35,17 +36,11 @@ unfolding count_of_naive
 count_shift zero n e = refl
 count_shift (suc a) n e = absurd (omega arith)
 
-pub count_none : (a n : ℕ) → (a ≡ 0 → ⊥) → n ≡ 0 → 0 ≡ count_of_naive a n
+pub count_first : (a n m : ℕ) → (a ≡ 0 → ⊥) → m ≡ min n 1 → m ≡ count_of_naive a n
 unfolding count_of_naive
-count_none zero n h e = absurd (h refl)
-count_none (suc a) zero h e = refl
-count_none (suc a) (suc n) h e = absurd (omega arith)
-
-pub count_one : (a n : ℕ) → (a ≡ 0 → ⊥) → (n ≡ 0 → ⊥) → 1 ≡ count_of_naive a n
-unfolding count_of_naive
-count_one zero n h e = absurd (h refl)
-count_one (suc a) zero h e = absurd (e refl)
-count_one (suc a) (suc n) h e = refl
+count_first zero n m h e = absurd (h refl)
+count_first (suc a) zero m h e = omega arith
+count_first (suc a) (suc n) m h e = omega arith
 
 pub naive_few : (r a n b m : ℕ) → r ≡ count_of_naive a n → b + n ≤ m → r ≤ m
 unfolding count_of_naive

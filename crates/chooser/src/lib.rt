@@ -103,20 +103,14 @@ fn choose_tokens(
 fn naive_chosen(action: u16, count: usize) -> usize
     ensures { result ≡ count_of_naive action count }
 {
-    if action == 0 {
-        return count;
-    }
-    if count == 0 {
-        return 0;
-    }
-    1
+    if action == 0 { count } else { count.min(1) }
 }
 
 fn refuse(refusal: u16) -> Chosen
     ensures { result ≡ chosen_of (refused refusal 0) }
 {
     Chosen {
-        refusal: refusal,
+        refusal,
         place: 0,
         count: 0,
         entries: [0; Class::ALL_WORDS],
@@ -134,7 +128,7 @@ fn answer(entries: &[u16], count: usize) -> Chosen
     Chosen {
         refusal: 0,
         place: 0,
-        count: count,
+        count,
         entries: words,
     }
 }

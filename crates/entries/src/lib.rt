@@ -11,7 +11,7 @@ ghost use Rattle.entries.specs.Entries.{class_words, with_entry, count_of_values
 
 use error::Class;
 
-// Document 01's number of a class.
+// Document 01's number of a class. No `From`, as neither type is this crate's.
 #[tactic(auto, unfolding(error::specs::Numbers::number_of_class))]
 pub fn class_number(class: Class) -> u16
     ensures { result ≡ number_of_class class }

@@ -140,7 +140,7 @@ fn with_both(class: Class, x: usize, y: usize) -> Judged
     ensures { result ≡ both class x y }
 {
     Judged {
-        class: class,
+        class,
         action: Some(x),
         reduce: Some(y),
     }

@@ -1,9 +1,4 @@
-use native.Mathlib.Omega.{arith}
-use Prim.Native.Nat.{ℕ}
-use lib.ListN.{length-replicate}
 use Rattle.std.proofs.lemmas.Result.{err_from_is_err_and}
-use Rattle.repr.specs.Sizes.{example_limit}
-use Rattle.outline.specs.Kept.{kept_room}
 use Rattle.examples.proofs.Actions.{reduced_fits, reduced-sided}
 use Rattle.classifier.proofs.Ways.{side_stops, side_gathers, action_stops, reduce_stops, both-judged}
 use Rattle.classifier.proofs.classify.Goals as goal
