@@ -120,12 +120,10 @@ fn put_symbols(text: &mut [u8], at: usize, words: &[u16]) -> usize
     ensures { Wrote text.old at (joined name_bytes (listed words.now)) text.new result × (result ≤ at + 64) }
 {
     let mut place = at;
-    let mut i: usize = 0;
-    while i < words.len() {
+    for i in (0..words.len()).step_by(2) {
         let kind = word(words, i);
         let number = word(words, i + 1);
         place = put_symbol(text, place, kind, number);
-        i += 2;
     }
     place
 }
