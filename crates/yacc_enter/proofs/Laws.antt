@@ -6,6 +6,7 @@ use mathlib.Core.Bool.{Bool, true, false, ◌||◌, or-false}
 use mathlib.Core.Path.{◌≡◌, refl, sym, ap, ◌∙◌, subst}
 use mathlib.Core.List.{List, [], ◌∷◌, ◌++◌, map}
 use mathlib.Core.Option.{Option, none, some}
+use mathlib.Core.Logic.{◌⊎◌, inl, inr}
 use lib.ListN.{length, get_or, set}
 use lib.Seq.{slice, get_or-set_same, get_or-set_other}
 use lib.Dec.{eqb, ltb}
@@ -49,9 +50,6 @@ past_end [] zero h = refl
 past_end [] (suc i) h = refl
 past_end (x ∷ xs) zero h = absurd (omega (arith, h))
 past_end (x ∷ xs) (suc i) h = past_end xs i (omega (arith, h))
-
-pub byte_past : (t : List ℕ) (i : ℕ) → length t ≤ i → (0 ≡ get_or t i 0) × (0 < byte_limit)
-byte_past t i h = (sym (past_end t i h), omega arith)
 
 -- ids
 not_same : (x y : Id) → (x ≡ y → ⊥) → same_id x y ≡ false
@@ -295,21 +293,24 @@ module _ (t starts pasts ix lefts tokens : List ℕ) (ids : Ids) (from past : �
   unfolding entered
   still = record { on = λ ns ts H. H }
 
-  pub still_opens : (x : Id) (s : Saying) → s ≡ Opens → StillOf x s
-  unfolding joined left_side token_use events_of
-  still_opens x s e = subst (StillOf x) (sym e) still
-
-  pub still_shuts : (x : Id) (s : Saying) → s ≡ Shuts → StillOf x s
-  unfolding joined left_side token_use events_of
-  still_shuts x s e = subst (StillOf x) (sym e) still
-
-  pub still_nothing : (x : Id) (s : Saying) → s ≡ Nothing → StillOf x s
-  unfolding joined left_side token_use events_of
-  still_nothing x s e = subst (StillOf x) (sym e) still
-
-  pub still_uses : (s : Saying) → s ≡ Uses → StillOf (id_at t Name from past) s
+  -- a name that is no left side and of no list enters nothing, nor does a literal but of a list or a body
+  pub still_name : (s : Saying) → (s ≡ Lists → ⊥) → (s ≡ Defines → ⊥) → StillOf (id_at t Name from past) s
   unfolding joined left_side token_use literal_use events_of id_at
-  still_uses s e = subst (StillOf (id_at t Name from past)) (sym e) still
+  still_name Lists n d = absurd (n refl)
+  still_name Opens n d = still
+  still_name Defines n d = absurd (d refl)
+  still_name Uses n d = still
+  still_name Shuts n d = still
+  still_name Nothing n d = still
+
+  pub still_literal : (s : Saying) → (s ≡ Lists → ⊥) → (s ≡ Uses → ⊥) → (s ≡ Defines → ⊥) → StillOf (id_at t Literal from past) s
+  unfolding joined left_side token_use events_of
+  still_literal Lists n u d = absurd (n refl)
+  still_literal Opens n u d = still
+  still_literal Defines n u d = absurd (d refl)
+  still_literal Uses n u d = absurd (u refl)
+  still_literal Shuts n u d = still
+  still_literal Nothing n u d = still
 
   still_end : (x : Id) (m : Mode) → StillOf x (end_said m)
   unfolding joined left_side token_use events_of end_said
@@ -326,29 +327,16 @@ module _ (t starts pasts ix lefts tokens : List ℕ) (ids : Ids) (from past : �
   abbrev StillIn : Mode → Word → Type 0
   StillIn m w = StillOf (id_at t w from past) (said_in m w)
 
-  pub still_token : (m : Mode) (w : Word) → w ≡ TheToken → StillIn m w
+  pub still_word : (m : Mode) (w : Word) → (w ≡ Name → ⊥) → (w ≡ Literal → ⊥) → StillIn m w
   unfolding joined left_side token_use events_of said_in
-  still_token m w e = subst (StillIn m) (sym e) still
-
-  pub still_start : (m : Mode) (w : Word) → w ≡ Start → StillIn m w
-  unfolding joined left_side token_use events_of said_in
-  still_start m w e = subst (StillIn m) (sym e) still
-
-  pub still_mark : (m : Mode) (w : Word) → w ≡ Mark → StillIn m w
-  unfolding joined left_side token_use events_of said_in
-  still_mark m w e = subst (StillIn m) (sym e) still
-
-  pub still_colon : (m : Mode) (w : Word) → w ≡ Colon → StillIn m w
-  unfolding joined left_side token_use events_of said_in
-  still_colon m w e = subst (StillIn m) (sym e) still
-
-  pub still_bar : (m : Mode) (w : Word) → w ≡ Bar → StillIn m w
-  unfolding said_in
-  still_bar m w e = subst (StillIn m) (sym e) (still_end (id_at t Bar from past) m)
-
-  pub still_semi : (m : Mode) (w : Word) → w ≡ Semi → StillIn m w
-  unfolding said_in
-  still_semi m w e = subst (StillIn m) (sym e) (still_end (id_at t Semi from past) m)
+  still_word m Name n l = absurd (n refl)
+  still_word m Literal n l = absurd (l refl)
+  still_word m TheToken n l = still
+  still_word m Start n l = still
+  still_word m Mark n l = still
+  still_word m Colon n l = still
+  still_word m Bar n l = still_end (id_at t Bar from past) m
+  still_word m Semi n l = still_end (id_at t Semi from past) m
 
 -- literals
 module _ (t starts pasts ix lefts tokens tokens' : List ℕ) (ids r : Ids) (from past : ℕ) (s : Saying) (M : Moves t starts pasts ix lefts tokens ids starts pasts ix lefts tokens' r [] (record { id = quoted (get_or t (from + 1) 0); at = from } ∷ [])) where
@@ -362,6 +350,10 @@ module _ (t starts pasts ix lefts tokens tokens' : List ℕ) (ids r : Ids) (from
   pub literal_uses : s ≡ Uses → Quoted s
   unfolding joined left_side token_use literal_use events_of id_at
   literal_uses e = subst Quoted (sym e) M
+
+  pub literal_said : (s ≡ Lists) ⊎ (s ≡ Uses) → Quoted s
+  literal_said (inl e) = literal_lists e
+  literal_said (inr e) = literal_uses e
 
 -- by the word
 module _ (t starts pasts ix lefts tokens starts' pasts' ix' lefts' tokens' : List ℕ) (ids r : Ids) (from past : ℕ) (m : Mode) (w : Word) (s : Saying) (e : s ≡ said_in m w) where

@@ -205,11 +205,8 @@ fn enter_name(
 {
     match what {
         Saying::Lists => declare(text, starts, pasts, ix, tokens, ids, from, past),
-        Saying::Opens => ids,
         Saying::Defines => define(text, starts, pasts, ix, lefts, ids, from, past),
-        Saying::Uses => ids,
-        Saying::Shuts => ids,
-        Saying::Nothing => ids,
+        _ => ids,
     }
 }
 
@@ -228,12 +225,8 @@ fn enter_literal(
     ensures moves { (starts pasts ix lefts : List ℕ) → Moves text.now starts pasts ix lefts tokens.old ids starts pasts ix lefts tokens.new result (joined left_side (events_of what (id_at text.now Word.Literal from past) from past)) (joined token_use (events_of what (id_at text.now Word.Literal from past) from past)) }
 {
     match what {
-        Saying::Lists => quote(text, tokens, ids, from),
-        Saying::Opens => ids,
-        Saying::Defines => ids,
-        Saying::Uses => quote(text, tokens, ids, from),
-        Saying::Shuts => ids,
-        Saying::Nothing => ids,
+        Saying::Lists | Saying::Uses => quote(text, tokens, ids, from),
+        _ => ids,
     }
 }
 
@@ -263,12 +256,7 @@ fn enter_word(
             text, starts, pasts, ix, lefts, tokens, ids, what, from, past,
         ),
         Word::Literal => enter_literal(text, tokens, ids, what, from, past),
-        Word::Token => ids,
-        Word::Start => ids,
-        Word::Mark => ids,
-        Word::Colon => ids,
-        Word::Bar => ids,
-        Word::Semi => ids,
+        _ => ids,
     }
 }
 

@@ -4,8 +4,10 @@ use native.Mathlib.Nat.{add-zero, add-suc, suc-add}
 use native.Mathlib.Omega.{arith}
 use mathlib.Core.Path.{◌≡◌, refl, sym, ap, ◌∙◌, subst}
 use mathlib.Core.List.{List, [], ◌∷◌, ◌++◌}
-use lib.ListN.{length, get_or, set, drop, length-append}
-use lib.Seq.{sets, sets-eq, set_out}
+use lib.ListN.{length, get_or, set, take, drop, length-append}
+use lib.Seq.{sets, sets-eq, set_out, take-suc}
+use native.Mathlib.Numerals.{add-one}
+use Rattle.std.proofs.lemmas.List.{take_all}
 use borrow.Author.Tests.{lt-ltb, le-ltb}
 use Rattle.slices.specs.Lent.{in_front}
 use Rattle.repr.specs.Sizes.{production_place}
@@ -38,6 +40,13 @@ wrote_then {a} {b} {c} {at} {m} {r} {t} {u} P Q = record {
   is = Q.is ∙ ap (λ (l : List ℕ). sets l m u) P.is ∙ ap (λ (k : ℕ). sets (sets a at t) k u) P.place ∙ sym (sets-append t u a at);
   place = let e = P.place in let f = Q.place in let g = length-append t u in omega arith;
 }
+
+-- one byte more of some
+pub wrote_more : {a b c : List ℕ} {at m r : ℕ} (bs : List ℕ) (i : ℕ) → i < length bs → Wrote a at (take i bs) b m → Wrote b m (get_or bs i 0 ∷ []) c r → Wrote a at (take (i + 1) bs) c r
+wrote_more {a} {b} {c} {at} {m} {r} bs i h P Q = subst (λ (l : List ℕ). Wrote a at l c r) (sym (ap (λ (k : ℕ). take k bs) (add-one i) ∙ take-suc bs i 0 h)) (wrote_then P Q)
+
+pub wrote_all : {a b : List ℕ} {at r : ℕ} (bs : List ℕ) (i : ℕ) → length bs ≤ i → Wrote a at (take i bs) b r → Wrote a at bs b r
+wrote_all {a} {b} {at} {r} bs i h P = subst (λ (l : List ℕ). Wrote a at l b r) (take_all i bs h) P
 
 pub wrote_as : {a b : List ℕ} {at r : ℕ} {t u : List ℕ} → Wrote a at t b r → t ≡ u → Wrote a at u b r
 wrote_as {a} {b} {at} {r} P e = subst (λ (l : List ℕ). Wrote a at l b r) e P
@@ -115,16 +124,15 @@ pub no_tokens : (a : List ℕ) (n : ℕ) → n ≡ 0 → Wrote a 0 (token_bytes 
 unfolding token_bytes
 no_tokens a n e = (subst (λ (k : ℕ). Wrote a 0 (token_bytes k) a 0) (sym e) (wrote_nothing a 0), omega arith)
 
-pub some-tokens : {a b c d e : List ℕ} {i j k r : ℕ} (n : ℕ) → (n ≡ 0 → ⊥) → n ≤ 63 → Wrote a 0 (37 ∷ 116 ∷ 111 ∷ []) b i → Wrote b i (107 ∷ 101 ∷ 110 ∷ []) c j
-    → Wrote c j (terminal_bytes n) d k × (k ≤ j + 4 * n) → Wrote d k (10 ∷ []) e r → Wrote a 0 (token_bytes n) e r × (r ≤ 259)
+pub some-tokens : {a b c d : List ℕ} {i k r : ℕ} (n : ℕ) → (n ≡ 0 → ⊥) → n ≤ 63 → Wrote a 0 (37 ∷ 116 ∷ 111 ∷ 107 ∷ 101 ∷ 110 ∷ []) b i
+    → Wrote b i (terminal_bytes n) c k × (k ≤ i + 4 * n) → Wrote c k (10 ∷ []) d r → Wrote a 0 (token_bytes n) d r × (r ≤ 259)
 unfolding token_bytes
-some-tokens zero ne h S W X Y = absurd (ne refl)
-some-tokens (suc n) ne h S W X Y =
+some-tokens zero ne h S X Y = absurd (ne refl)
+some-tokens (suc n) ne h S X Y =
     let p = S.place in
-    let q = W.place in
     let s = X.1 in
     let t = Y.place in
-    (wrote_then S (wrote_then W (wrote_then X.0 Y)), omega arith)
+    (wrote_then S (wrote_then X.0 Y), omega arith)
 
 -- the line of a production
 pub production-put : {a b c d e f : List ℕ} {at i j k l r : ℕ} (g : List ℕ) (p o : ℕ) (ws : List ℕ) → o ≡ get_or g (production_place p) 0 → ws ≡ symbol_words g p

@@ -31,14 +31,16 @@ fn put(text: &mut [u8], at: usize, byte: u8) -> usize
     at + 1
 }
 
-// Three bytes.
-fn put_three(text: &mut [u8], at: usize, first: u8, second: u8, third: u8) -> usize
-    requires { at + 2 < place_limit }
-    ensures { Wrote text.old at (first ∷ second ∷ third ∷ []) text.new result }
+// Bytes one behind the other.
+fn put_all(text: &mut [u8], at: usize, bytes: &[u8]) -> usize
+    requires { at + length bytes.now ≤ place_limit }
+    ensures { Wrote text.old at bytes.now text.new result }
 {
-    let next = put(text, at, first);
-    let last = put(text, next, second);
-    put(text, last, third)
+    let mut place = at;
+    for byte in bytes {
+        place = put(text, place, *byte);
+    }
+    place
 }
 
 fn digit(n: usize) -> u8
@@ -94,10 +96,8 @@ fn put_terminals(text: &mut [u8], at: usize, n: usize) -> usize
     ensures { Wrote text.old at (terminal_bytes n) text.new result × (result ≤ at + 4 * n) }
 {
     let mut place = at;
-    let mut t: usize = 0;
-    while t < n {
+    for t in 0..n {
         place = put_symbol(text, place, 1, t);
-        t += 1;
     }
     place
 }
@@ -110,8 +110,7 @@ fn put_tokens(text: &mut [u8], n: usize) -> usize
     if n == 0 {
         return 0;
     }
-    let middle = put_three(text, 0, b'%', b't', b'o');
-    let next = put_three(text, middle, b'k', b'e', b'n');
+    let next = put_all(text, 0, b"%token");
     let last = put_terminals(text, next, n);
     put(text, last, b'\n')
 }
@@ -122,12 +121,10 @@ fn put_symbols(text: &mut [u8], at: usize, words: &[u16]) -> usize
     ensures { Wrote text.old at (joined name_bytes (listed words.now)) text.new result × (result ≤ at + 64) }
 {
     let mut place = at;
-    let mut i: usize = 0;
-    while i < words.len() {
+    for i in (0..words.len()).step_by(2) {
         let kind = word(words, i);
         let number = word(words, i + 1);
         place = put_symbol(text, place, kind, number);
-        i += 2;
     }
     place
 }
@@ -143,7 +140,7 @@ fn put_production(text: &mut [u8], at: usize, grammar: &[u16], p: usize, n: usiz
     let space = put(text, name, b' ');
     let colon = put(text, space, b':');
     let last = put_symbols(text, colon, words);
-    put_three(text, last, b' ', b';', b'\n')
+    put_all(text, last, b" ;\n")
 }
 
 // The lines of the productions.
@@ -152,10 +149,8 @@ fn put_productions(text: &mut [u8], at: usize, grammar: &[u16], n: usize) -> usi
     ensures { Wrote text.old at (joined production_bytes (productions_in grammar.now n)) text.new result × (result ≤ at + 72 * n) }
 {
     let mut place = at;
-    let mut p: usize = 0;
-    while p < n {
+    for p in 0..n {
         place = put_production(text, place, grammar, p, n);
-        p += 1;
     }
     place
 }
@@ -166,7 +161,7 @@ fn put_file(text: &mut [u8], grammar: &[u16], terminals: usize, productions: usi
     ensures { Wrote text.old 0 (file_bytes terminals (productions_in grammar.now productions)) text.new result × (result < 65536) }
 {
     let tokens = put_tokens(text, terminals);
-    let mark = put_three(text, tokens, b'%', b'%', b'\n');
+    let mark = put_all(text, tokens, b"%%\n");
     put_productions(text, mark, grammar, productions)
 }
 
@@ -178,8 +173,7 @@ fn ascends(table: &[u16]) -> bool
     let counts = read_counts(table);
     let nonterminals = counts.nonterminals;
     let mut least: usize = 0;
-    let mut n: usize = 0;
-    while n < nonterminals {
+    for n in 0..nonterminals {
         let head = first_production(table, n);
         if head == 0 {
             return false;
@@ -190,7 +184,6 @@ fn ascends(table: &[u16]) -> bool
             return false;
         }
         least = first + 1;
-        n += 1;
     }
     true
 }

@@ -1,4 +1,4 @@
-use Rattle.yacc_enter.proofs.Laws.{grows_none, word_name, word_literal, word_undefining, still_token, still_start, still_mark, still_colon, still_bar, still_semi}
+use Rattle.yacc_enter.proofs.Laws.{grows_none, word_name, word_literal, word_undefining, still_word}
 use native.Mathlib.Omega.{arith}
 use Rattle.yacc_enter.proofs.enter_word.Goals as goal
 
@@ -14,20 +14,5 @@ returns-in-Name c = record { grows = c.enter_name.ensures.grows; moves = word_na
 pub returns-in-Literal : goal.returns-in-Literal
 returns-in-Literal c = record { grows = c.enter_literal.ensures.grows; moves = word_literal _ _ _ _ _ _ _ _ _ _ _ _ _ _ _ _ _ _ c.said-what.ensures c.in-Literal.is (c.enter_literal.ensures.moves _ _ _ _) }
 
-pub returns-in-Token : goal.returns-in-Token
-returns-in-Token c = record { grows = grows_none _; moves = still_token _ _ _ _ _ _ _ _ _ _ _ c.in-Token.is }
-
-pub returns-in-Start : goal.returns-in-Start
-returns-in-Start c = record { grows = grows_none _; moves = still_start _ _ _ _ _ _ _ _ _ _ _ c.in-Start.is }
-
-pub returns-in-Mark : goal.returns-in-Mark
-returns-in-Mark c = record { grows = grows_none _; moves = still_mark _ _ _ _ _ _ _ _ _ _ _ c.in-Mark.is }
-
-pub returns-in-Colon : goal.returns-in-Colon
-returns-in-Colon c = record { grows = grows_none _; moves = still_colon _ _ _ _ _ _ _ _ _ _ _ c.in-Colon.is }
-
-pub returns-in-Bar : goal.returns-in-Bar
-returns-in-Bar c = record { grows = grows_none _; moves = still_bar _ _ _ _ _ _ _ _ _ _ _ c.in-Bar.is }
-
-pub returns-in-Semi : goal.returns-in-Semi
-returns-in-Semi c = record { grows = grows_none _; moves = still_semi _ _ _ _ _ _ _ _ _ _ _ c.in-Semi.is }
+pub returns-in_default : goal.returns-in_default
+returns-in_default c = record { grows = grows_none _; moves = still_word _ _ _ _ _ _ _ _ _ _ _ c.in_default.not-Name c.in_default.not-Literal }

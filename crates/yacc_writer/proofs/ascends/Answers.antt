@@ -25,12 +25,6 @@ returns-then-first-least c = ascends_below c.loop-n.invariant.0 _ _ (omega (arit
 pub overflow_add-least : goal.overflow_add-least
 overflow_add-least c = omega (arith, c.production-read.ensures.fits, c.read_counts-counts.ensures.fits.few_productions_lem)
 
-pub overflow_add-n : goal.overflow_add-n
-overflow_add-n c = omega (arith, c.loop-n-test.true, c.loop-n.invariant.1, c.read_counts-counts.ensures.fits.few_nonterminals)
-
-pub loop-n-smaller : goal.loop-n-smaller
-loop-n-smaller c = omega (arith, c.loop-n-test.true)
-
 pub loop-n-preserved : goal.loop-n-preserved
 loop-n-preserved c = (ascends_more c.loop-n.invariant.0 _ _ (omega (arith, c.loop-n-test.true, c.loop-n.invariant.1)) (sym c.first_production-head.ensures.0 ∙ c.production-read.ensures.list) c.if-first-least.false, c.loop-n.invariant.1)
 

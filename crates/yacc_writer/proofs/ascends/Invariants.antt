@@ -1,5 +1,4 @@
 use mathlib.Core.Path.{◌≡◌}
-use Prim.Native.Nat.{◌-◌}
 use lib.ListN.{length}
 use Rattle.table.specs.Decoded.{meaning}
 use Rattle.yacc_writer.proofs.Turns.{Ascends}
@@ -7,6 +6,3 @@ use Rattle.yacc_writer.proofs.ascends.Given as goal
 
 abbrev pub invariant-loop-n : goal.invariant-loop-n
 invariant-loop-n l = Ascends (meaning l.table).nonterminals l.least l.n × (l.nonterminals ≡ length (meaning l.table).nonterminals)
-
-abbrev pub decreases-loop-n : goal.decreases-loop-n
-decreases-loop-n l = l.nonterminals - l.n

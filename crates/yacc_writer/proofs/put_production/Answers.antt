@@ -24,8 +24,8 @@ put-colon-requires c = omega (arith, c.put-space.ensures.place, c.put_name-name.
 pub put_symbols-last-requires : goal.put_symbols-last-requires
 put_symbols-last-requires c = (omega (arith, c.put-colon.ensures.place, c.put-space.ensures.place, c.put_name-name.ensures.1, c.requires.0), words_small _ _ _ _ c.requires.1.0 c.requires.1.1 c.symbols-words.ensures)
 
-pub put_three-requires : goal.put_three-requires
-put_three-requires c = omega (arith, c.put_symbols-last.ensures.1, c.put-colon.ensures.place, c.put-space.ensures.place, c.put_name-name.ensures.1, c.requires.0)
+pub put_all-requires : goal.put_all-requires
+put_all-requires c = omega (arith, c.put_symbols-last.ensures.1, c.put-colon.ensures.place, c.put-space.ensures.place, c.put_name-name.ensures.1, c.requires.0)
 
 pub returns : goal.returns
-returns c = production-put _ _ _ _ c.word-owner.ensures.0 c.symbols-words.ensures c.put_name-name.ensures c.put-space.ensures c.put-colon.ensures c.put_symbols-last.ensures c.put_three.ensures
+returns c = production-put _ _ _ _ c.word-owner.ensures.0 c.symbols-words.ensures c.put_name-name.ensures c.put-space.ensures c.put-colon.ensures c.put_symbols-last.ensures c.put_all.ensures

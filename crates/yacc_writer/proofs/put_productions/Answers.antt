@@ -8,12 +8,6 @@ loop-p-init c = numbered-first _ _ _ _ _
 pub put_production-place-requires : goal.put_production-place-requires
 put_production-place-requires c = (omega (arith, c.loop-p.invariant.near, c.loop-p-test.true, c.requires.0, c.requires.1.few), (c.requires.1, c.loop-p-test.true))
 
-pub overflow_add-p : goal.overflow_add-p
-overflow_add-p c = omega (arith, c.loop-p-test.true, c.requires.1.few)
-
-pub loop-p-smaller : goal.loop-p-smaller
-loop-p-smaller c = omega (arith, c.loop-p-test.true)
-
 pub loop-p-preserved : goal.loop-p-preserved
 loop-p-preserved c = numbered_more c.loop-p.invariant c.loop-p-test.true c.put_production-place.ensures.0 c.put_production-place.ensures.1
 

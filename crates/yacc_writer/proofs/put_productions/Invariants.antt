@@ -1,4 +1,3 @@
-use Prim.Native.Nat.{◌-◌}
 use Rattle.repr.specs.Packed.{production_in}
 use Rattle.yacc_writer.specs.Wrote.{production_bytes}
 use Rattle.yacc_writer.proofs.Turns.{Numbered}
@@ -6,6 +5,3 @@ use Rattle.yacc_writer.proofs.put_productions.Given as goal
 
 abbrev pub invariant-loop-p : goal.invariant-loop-p
 invariant-loop-p l = Numbered (λ k. production_bytes (production_in l.grammar k)) 72 l.initial.text l.at l.n l.text l.place l.p
-
-abbrev pub decreases-loop-p : goal.decreases-loop-p
-decreases-loop-p l = l.n - l.p

@@ -9,12 +9,6 @@ loop-t-init c = numbered-first _ _ _ _ _
 pub put_symbol-place-requires : goal.put_symbol-place-requires
 put_symbol-place-requires c = (omega (arith, c.loop-t.invariant.near, c.loop-t-test.true, c.requires.0, c.requires.1), omega (arith, c.loop-t-test.true, c.requires.1))
 
-pub overflow_add-t : goal.overflow_add-t
-overflow_add-t c = omega (arith, c.loop-t-test.true, c.requires.1)
-
-pub loop-t-smaller : goal.loop-t-smaller
-loop-t-smaller c = omega (arith, c.loop-t-test.true)
-
 pub loop-t-preserved : goal.loop-t-preserved
 loop-t-preserved c = numbered_more c.loop-t.invariant c.loop-t-test.true (terminal-put _ c.put_symbol-place.ensures.0) c.put_symbol-place.ensures.1
 

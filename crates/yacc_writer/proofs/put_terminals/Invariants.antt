@@ -1,4 +1,3 @@
-use Prim.Native.Nat.{◌-◌}
 use Rattle.repr.specs.Meaning.{terminal}
 use Rattle.yacc_writer.specs.Wrote.{name_bytes}
 use Rattle.yacc_writer.proofs.Turns.{Numbered}
@@ -6,6 +5,3 @@ use Rattle.yacc_writer.proofs.put_terminals.Given as goal
 
 abbrev pub invariant-loop-t : goal.invariant-loop-t
 invariant-loop-t l = Numbered (λ k. name_bytes (terminal k)) 4 l.initial.text l.at l.n l.text l.place l.t
-
-abbrev pub decreases-loop-t : goal.decreases-loop-t
-decreases-loop-t l = l.n - l.t

@@ -5,14 +5,11 @@ use Rattle.yacc_writer.proofs.put_tokens.Goals as goal
 pub returns-then-n-eq0 : goal.returns-then-n-eq0
 returns-then-n-eq0 c = no_tokens _ _ c.if-n-eq0.true
 
-pub put_three-next-requires : goal.put_three-next-requires
-put_three-next-requires c = omega (arith, c.put_three-middle.ensures.place)
-
 pub put_terminals-last-requires : goal.put_terminals-last-requires
-put_terminals-last-requires c = (omega (arith, c.put_three-middle.ensures.place, c.put_three-next.ensures.place), c.requires)
+put_terminals-last-requires c = (omega (arith, c.put_all-next.ensures.place), c.requires)
 
 pub put-requires : goal.put-requires
-put-requires c = omega (arith, c.put_terminals-last.ensures.1, c.put_three-middle.ensures.place, c.put_three-next.ensures.place, c.requires)
+put-requires c = omega (arith, c.put_terminals-last.ensures.1, c.put_all-next.ensures.place, c.requires)
 
 pub returns : goal.returns
-returns c = some-tokens _ c.if-n-eq0.false c.requires c.put_three-middle.ensures c.put_three-next.ensures c.put_terminals-last.ensures c.put.ensures
+returns c = some-tokens _ c.if-n-eq0.false c.requires c.put_all-next.ensures c.put_terminals-last.ensures c.put.ensures
