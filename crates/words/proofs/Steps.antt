@@ -10,7 +10,6 @@ use borrow.Author.Tests.{le-leb, lt-leb, eq-eqb, ne_eqb}
 use Rattle.words.specs.Text.{Reader, Step, goes, fails, ended, line_begun, line_continued, is_space_byte, is_digit_byte, digit, step}
 use Rattle.words.specs.Bytes.{Near}
 
--- white space
 -- a number's end and its digits
 pub ended-word : (r : Reader) → r.in_number ≡ true → ended r ≡ r.number ∷ []
 unfolding ended
