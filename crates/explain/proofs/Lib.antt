@@ -1,3 +1,2 @@
 -- The laws that the proofs share. Assumes nothing.
-pub mod Laws
 pub mod Whole

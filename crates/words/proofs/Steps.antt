@@ -10,23 +10,6 @@ use borrow.Author.Tests.{le-leb, lt-leb, eq-eqb, ne_eqb}
 use Rattle.words.specs.Text.{Reader, Step, goes, fails, ended, line_begun, line_continued, is_space_byte, is_digit_byte, digit, step}
 use Rattle.words.specs.Bytes.{Near}
 
--- white space
-pub space_is : (b : ℕ) → b ≡ 32 → true ≡ is_space_byte b
-unfolding is_space_byte
-space_is b e = rw (eq-eqb b 32 e)
-
-pub space_low : (b : ℕ) → (b ≡ 32 → ⊥) → b < 9 → false ≡ is_space_byte b
-unfolding is_space_byte
-space_low b n h = rw (ne_eqb b 32 n, lt-leb 9 b h)
-
-pub space_high : (b : ℕ) → (b ≡ 32 → ⊥) → 9 ≤ b → 13 < b → false ≡ is_space_byte b
-unfolding is_space_byte
-space_high b n l h = rw (ne_eqb b 32 n, le-leb 9 b l, lt-leb b 13 h)
-
-pub space_other : (b : ℕ) → (b ≡ 32 → ⊥) → 9 ≤ b → b ≤ 13 → true ≡ is_space_byte b
-unfolding is_space_byte
-space_other b n l h = rw (ne_eqb b 32 n, le-leb 9 b l, le-leb b 13 h)
-
 -- a number's end and its digits
 pub ended-word : (r : Reader) → r.in_number ≡ true → ended r ≡ r.number ∷ []
 unfolding ended

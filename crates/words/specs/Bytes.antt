@@ -1,5 +1,5 @@
 -- What the program's own types say in the terms of specs/Text. Assumes nothing: these are definitions.
-use Rattle.std.specs.Prelude.{ℕ, ◌+◌, ◌*◌, ◌/◌, ◌%◌, ◌≤◌, ◌<◌, Bool, true, false, List, [], ◌∷◌, ◌++◌, length, take, set}
+use Rattle.std.specs.Prelude.{ℕ, ◌+◌, ◌*◌, ◌/◌, ◌%◌, ◌≤◌, ◌<◌, true, false, List, [], ◌∷◌, length, take, set}
 use Rattle.little.specs.Little.{encoded}
 use Rattle.words.specs.Text.{Reader, Step, goes, fails, step, Scan, reads, stops}
 use Rattle.words.specs.declared.Reader.{Reader as Held}

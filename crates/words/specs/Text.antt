@@ -1,5 +1,5 @@
 -- A table typed as text: numbers in decimal, between them any white space, from `#` to the end of the line a comment. Assumes nothing: these are definitions.
-use Rattle.std.specs.Prelude.{ℕ, ◌+◌, ◌-◌, ◌*◌, Bool, true, false, ◌&&◌, ◌||◌, List, [], ◌∷◌, ◌++◌, eqb, leb, ltb}
+use Rattle.std.specs.Prelude.{ℕ, ◌+◌, ◌-◌, ◌*◌, Bool, true, false, ◌&&◌, ◌||◌, List, [], ◌∷◌, ◌++◌, eqb, leb}
 
 -- between two bytes: the place of the next one, line and column from 1, and what it stands in
 pub record Reader : Type 0 where

@@ -2,12 +2,12 @@
 // At a byte that cannot be read it says where that is on standard error, and writes one lone byte after the words before it, so that whatever reads them sees that they are cut; so it does where a read fails. A write that fails is said too, and ends the run.
 #![tactic(auto)]
 
-ghost use Rattle.std.specs.Prelude.{◌≡◌, ◌+◌, ◌*◌, ◌≤◌, ◌<◌, length};
+ghost use Rattle.std.specs.Prelude.{◌≡◌, ◌+◌, ◌*◌, ◌≤◌, ◌<◌, IfOk, IfSome, length};
 ghost use Rattle.words.specs.Text.{is_space_byte, digit, ended, line_begun, line_continued, step, goes, scan};
 ghost use Rattle.words.specs.Bytes.{Below, Near, reader_of, fed_of, written_of, step_into, tell, in_bytes};
 
 use std::io;
-use streams::{read, write};
+use streams::{Failed, read, write};
 
 // Between two bytes: the place of the next one, the number that it may go on, and whether it stands in a number or in a comment.
 #[derive(Clone, Copy)]
@@ -35,26 +35,11 @@ pub struct Turn {
     pub reader: Reader,
 }
 
-// A piece of the input read, and whether there may be more.
-#[derive(Clone, Copy)]
-pub struct Piece {
-    pub more: bool,
-    pub reader: Reader,
-}
-
+#[tactic(auto, unfolding(crate::specs::Text::is_space_byte))]
 fn is_space(byte: u8) -> bool
     ensures { result ≡ is_space_byte byte }
 {
-    if byte == 32 {
-        return true;
-    }
-    if byte < 9 {
-        return false;
-    }
-    if byte > 13 {
-        return false;
-    }
-    true
+    matches!(byte, b' ' | b'\t'..=b'\r')
 }
 
 fn new_line(reader: Reader) -> Reader
@@ -183,99 +168,71 @@ fn words_of(start: Reader, bytes: &[u8], out: &mut [u8]) -> Turn
     ensures result_after { tell (written_of out.new result) ≡ in_bytes (scan (reader_of start) bytes.now) }
     ensures place_in_bounds { (result.place ≤ length out.new) × Near (reader_of start) (reader_of result.reader) (length bytes.now) }
 {
-    let n = bytes.len();
     let mut reader = start;
     let mut place: usize = 0;
-    let mut i: usize = 0;
-    while i < n {
-        let byte = bytes[i];
-        let turn = take_byte(reader, byte, out, place);
-        let readable = turn.readable;
-        if readable {
-            reader = turn.reader;
-            place = turn.place;
-            i += 1;
-        } else {
+    for byte in bytes {
+        let turn = take_byte(reader, *byte, out, place);
+        if !turn.readable {
             return turn;
         }
+        reader = turn.reader;
+        place = turn.place;
     }
     Turn {
         readable: true,
-        place: place,
-        reader: reader,
+        place,
+        reader,
     }
 }
 
 // Where a byte cannot be read.
-fn say_unreadable<R: Print + Eprint>(rt: &R, line: u64, column: u64) {
+fn say_unreadable<R: Print + Eprint>(rt: &R, line: u64, column: u64) -> Result<(), Failed> {
     let _ = eprintln!(rt; "line {line} column {column}: cannot read this");
-    write(rt, b"\0");
+    write(rt, b"\0")
 }
 
 // The number at the very end.
-fn write_last<R: Print + Eprint>(rt: &R, reader: Reader) {
-    let digits = reader.digits;
-    if digits {
-        let number = reader.number;
-        let mut out = [0u8; 2];
-        out[0] = (number % 256) as u8;
-        out[1] = (number / 256) as u8;
-        write(rt, &out[..2]);
+fn write_last<R: Print + Eprint>(rt: &R, reader: Reader) -> Result<(), Failed> {
+    if reader.digits {
+        write(rt, &reader.number.to_le_bytes())?;
     }
+    Ok(())
 }
 
-// What follows a piece: its words written, then the next piece or the end.
-fn write_piece<R: Print + Eprint>(rt: &R, turn: Turn, whole: bool, out: &[u8]) -> bool
-    requires { turn.place ≤ length out.now }
-{
-    let n = turn.place;
-    let next = turn.reader;
-    let readable = turn.readable;
-    let went = write(rt, &out[..n]);
-    if went {} else {
-        return false;
-    }
-    if readable {} else {
-        say_unreadable(rt, next.line, next.column);
-        return false;
-    }
-    if whole {
-        return true;
-    }
-    write_last(rt, next);
-    false
-}
-
-// A piece of 65,536 bytes, or the rest.
+// A piece of 65,536 bytes, or the rest; the reader after it, where there may be more.
 fn read_piece<R: io::Input + Print + Eprint>(
     rt: &R,
     reader: Reader,
     bytes: &mut [u8],
     out: &mut [u8],
-) -> Piece
+) -> Result<Option<Reader>, Failed>
     requires below { Below (reader_of reader) 9223372036854775808 }
     requires bytes_len { (length bytes.old ≡ 65536) × (131072 ≤ length out.old) }
-    ensures { Near (reader_of reader) (reader_of result.reader) 65536 }
+    ensures { IfOk result (λ more. IfSome more (λ next. Near (reader_of reader) (reader_of next) 65536)) }
 {
-    let input = read(rt, bytes);
-    if input.failed {
-        write(rt, b"\0");
-        return Piece {
-            more: false,
-            reader: reader,
-        };
-    }
-    let got = input.got;
+    let got = match read(rt, bytes) {
+        Ok(got) => got,
+        Err(failed) => {
+            write(rt, b"\0")?;
+            return Err(failed);
+        }
+    };
     let turn = words_of(reader, &bytes[..got], out);
     let next = turn.reader;
-    let more = write_piece(rt, turn, got == 65536, out);
-    Piece {
-        more: more,
-        reader: next,
+    let place = turn.place;
+    write(rt, &out[..place])?;
+    if !turn.readable {
+        say_unreadable(rt, next.line, next.column)?;
+        return Ok(None);
     }
+    if got == 65536 {
+        return Ok(Some(next));
+    }
+    write_last(rt, next)?;
+    Ok(None)
 }
 
-// A loop has to end, so this one counts its pieces down from a number that no run uses up.
+// A loop has to end, so this one counts its pieces up to a number that no run comes to.
 fn main(rt: HostRuntime) {
     let mut bytes = [0u8; 65536];
     let mut out = [0u8; 131072];
@@ -286,15 +243,10 @@ fn main(rt: HostRuntime) {
         digits: false,
         comment: false,
     };
-    let mut pieces: u64 = 1099511627776;
-    while pieces > 0 {
-        let piece = read_piece(&rt, reader, &mut bytes, &mut out);
-        let more = piece.more;
-        if more {
-            reader = piece.reader;
-            pieces -= 1;
-        } else {
+    for _piece in 0..1099511627776u64 {
+        let Ok(Some(next)) = read_piece(&rt, reader, &mut bytes, &mut out) else {
             return;
-        }
+        };
+        reader = next;
     }
 }

@@ -1,6 +1,10 @@
 use native.Mathlib.Omega.{arith}
-use Rattle.pipe.proofs.Laws.{table_few}
+use mathlib.Core.Path.{sym}
+use lib.Seq.{length-take-le}
 use Rattle.explain.proofs.explain_input.Goals as goal
 
-pub explain-requires : goal.explain-requires
-explain-requires g c = let f = table_few _ _ _ _ c.read_table.ensures c.in-Table.is in (f, (omega (arith, c.requires.0, c.read_table.auto.bytes), omega (arith, f, c.requires.1, c.read_table.auto.table)))
+pub slice_bounds-explain_conflicts-end : goal.slice_bounds-explain_conflicts-end
+slice_bounds-explain_conflicts-end g c = sym (length-take-le 40960 c.read_table.new.bytes (omega arith))
+
+pub explain_conflicts-requires : goal.explain_conflicts-requires
+explain_conflicts-requires g c = length-take-le 40960 c.read_table.new.bytes (omega arith)
