@@ -28,6 +28,7 @@ use repr::{NonterminalString, ProductionIndex, word};
 use view::machine::{clear, count_walk, is_example, next};
 
 // What a search finds: an example with its number, the end with the number of all trials, or a trial past the 100,000th (refusal 13).
+// Three ends, and a count at the second too: as a Result of an Option it would be no plainer.
 #[derive(Clone, Copy)]
 pub enum Searched {
     Hit(u32),

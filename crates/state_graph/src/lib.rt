@@ -12,7 +12,7 @@ ghost use Rattle.table.specs.Decoded.{meaning, edges_from};
 ghost use Rattle.table.specs.Index.{EdgeIndex};
 ghost use Rattle.table.specs.Checked.{Accepted};
 ghost use Rattle.table.specs.Refusals.{check_of};
-ghost use Rattle.std.specs.Iterator.{YieldsFirstBy, item_count};
+ghost use Rattle.table.specs.declared.Checked.TheVariants.{Accepted};
 ghost use Rattle.state_graph.specs.Walk.{predecessors, walked_back, traced_back};
 ghost use Rattle.state_graph.specs.States.{has_state, states_in, NextIs};
 ghost use Rattle.state_graph.specs.Hits.{hit_words, has_end_in, is_hit_now, meets, Hits, SteppedTo};
@@ -136,151 +136,116 @@ impl StateSet {
     }
 }
 
-// What is left of a set that is gone through in order.
+// A step back in an accepted table: over edges by one symbol, into a set of states.
 #[derive(Clone, Copy)]
-pub struct StateSetIter(pub StateSet);
-
-impl Iterator for StateSetIter {
-    type Item = StateIndex;
-
-    ghost next_gives = { YieldsFirstBy (λ k. k.0) (λ s. states_in s.0.low s.0.high) };
-
-    ghost remaining = { item_count (λ s. states_in s.0.low s.0.high) };
-
-    fn next(&mut self) -> Option<StateIndex> {
-        let set = self.0;
-        let mut low = TokenSet(set.low).iter();
-        if let Some(state) = low.next() {
-            self.0 = StateSet {
-                low: low.0,
-                high: set.high,
-            };
-            return Some(StateIndex(state));
-        }
-        let mut high = TokenSet(set.high).iter();
-        if let Some(state) = high.next() {
-            self.0 = StateSet {
-                low: 0,
-                high: high.0,
-            };
-            return Some(StateIndex(64 + state));
-        }
-        None
-    }
-}
-
-// Whether a record, read as an edge, goes by the symbol into the set.
-#[tactic(auto, unfolding(crate::specs::Hits::has_end_in))]
-fn ends_in(table: &[u16], r: usize, kind: usize, number: usize, set: StateSet) -> bool
-    requires { (r < record_limit) × (r * 4 + 3 < length table.now) }
-    ensures { result ≡ has_end_in table.now kind number set.low set.high r }
-{
-    word(table, r, 1) == kind && word(table, r, 2) == number && set.contains(word(table, r, 3))
-}
-
-// Whether it does, or the record after it is hit. A record that no chain reaches may hold anything, so its next index is looked at only where it keeps the rule.
-#[tactic(auto, unfolding(crate::specs::Hits::is_hit_now))]
-fn hit_now(table: &[u16], hits: &[u64], r: usize, kind: usize, number: usize, set: StateSet) -> bool
-    requires { (records table.now ≤ record_limit) × (length table.now ≡ 4 * records table.now) × (r < records table.now) × (length hits.now ≡ hit_words) }
-    ensures { result ≡ is_hit_now table.now hits.now kind number set.low set.high r }
-{
-    if ends_in(table, r, kind, number, set) {
-        return true;
-    }
-    let next = word(table, r, 0);
-    next > r && next < table.len() / 4 && is_set(hits, next)
-}
-
-// The records from the last down: a next index is larger than its record's number, so what follows a record is known when it is read.
-fn sweep(table: &[u16], hits: &mut [u64], kind: usize, number: usize, set: StateSet)
-    requires table_value { check_of table.now ≡ Accepted }
-    requires number_value { symbol_is_fit (length (meaning table.now).nonterminals) (meaning table.now).terminals kind number ≡ true }
-    requires hits_value { hits.old ≡ replicate hit_words 0 }
-    ensures { Hits table.now kind number set.low set.high hits.new }
-{
-    for r in (0..table.len() / 4).rev() {
-        if hit_now(table, hits, r, kind, number, set) {
-            put(hits, r);
-        }
-    }
-}
-
-// With the hits in words that are lent.
-fn step_over(table: &[u16], hits: &mut [u64], kind: usize, number: usize, set: StateSet) -> StateSet
-    requires table_value { check_of table.now ≡ Accepted }
-    requires number_value { symbol_is_fit (length (meaning table.now).nonterminals) (meaning table.now).terminals kind number ≡ true }
-    requires hits_value { hits.old ≡ replicate hit_words 0 }
-    ensures { states_in result.low result.high ≡ predecessors (meaning table.now) (symbol_of_kind kind number) (states_in set.low set.high) }
-{
-    sweep(table, hits, kind, number, set);
-    let states = read_counts(table).states;
-    let mut found = StateSet::new();
-    for s in 0..states {
-        let head = first_edge(table, s);
-        if head != 0 && is_set(hits, head) {
-            found = found.insert(s);
-        }
-    }
-    found
-}
-
-// Whether a chain of edges has one by the symbol into the set; none where it takes more edges than may still be read, as chains may be shared.
-fn leads(
-    table: &[u16],
-    first: usize,
+struct Step<'a> {
+    table: &'a [u16],
     kind: usize,
     number: usize,
     set: StateSet,
-    left: &mut usize,
-) -> Option<bool>
-    requires table_value { check_of table.now ≡ Accepted }
-    requires number_value { symbol_is_fit (length (meaning table.now).nonterminals) (meaning table.now).terminals kind number ≡ true }
-    requires edge_index { EdgeIndex table.now first }
-    ensures { MatchOption result (Unit {0}) (λ led. led ≡ some? (meets (symbol_of_kind kind number) (states_in set.low set.high)) (edges_from table.now first)) }
-{
-    let mut at = first;
-    while at != 0 {
-        if *left == 0 {
-            return None;
-        }
-        *left -= 1;
-        if ends_in(table, at, kind, number, set) {
-            return Some(true);
-        }
-        at = word(table, at, 0);
-    }
-    Some(false)
+    ghost accepted: { check_of table.now ≡ Accepted },
+    ghost symbol: { symbol_is_fit (length (meaning table.now).nonterminals) (meaning table.now).terminals kind number ≡ true },
 }
 
-// A step along the chains of all states: the states found, or none where more edges would be read than the table has records.
-fn step_along(table: &[u16], kind: usize, number: usize, set: StateSet) -> Option<StateSet>
-    requires table_value { check_of table.now ≡ Accepted }
-    requires number_value { symbol_is_fit (length (meaning table.now).nonterminals) (meaning table.now).terminals kind number ≡ true }
-    ensures { SteppedTo (predecessors (meaning table.now) (symbol_of_kind kind number) (states_in set.low set.high)) result }
-{
-    let states = read_counts(table).states;
-    let mut left = table.len() / 4;
-    let mut found = StateSet::new();
-    for s in 0..states {
-        let head = first_edge(table, s);
-        if leads(table, head, kind, number, set, &mut left)? {
-            found = found.insert(s);
+impl Step<'_> {
+    // Whether a record, read as an edge, goes by the symbol into the set.
+    #[tactic(auto, unfolding(crate::specs::Hits::has_end_in))]
+    fn ends_in(self, r: usize) -> bool
+        requires { (r < record_limit) × (r * 4 + 3 < length self.table.now) }
+        ensures { result ≡ has_end_in self.entry.table.now self.entry.kind self.entry.number self.entry.set.low self.entry.set.high r }
+    {
+        word(self.table, r, 1) == self.kind
+            && word(self.table, r, 2) == self.number
+            && self.set.contains(word(self.table, r, 3))
+    }
+
+    // Whether it does, or the record after it is hit. A record that no chain reaches may hold anything, so its next index is looked at only where it keeps the rule.
+    #[tactic(auto, unfolding(crate::specs::Hits::is_hit_now))]
+    fn hit_now(self, hits: &[u64], r: usize) -> bool
+        requires { (records self.table.now ≤ record_limit) × (length self.table.now ≡ 4 * records self.table.now) × (r < records self.table.now) × (length hits.now ≡ hit_words) }
+        ensures { result ≡ is_hit_now self.entry.table.now hits.now self.entry.kind self.entry.number self.entry.set.low self.entry.set.high r }
+    {
+        if self.ends_in(r) {
+            return true;
+        }
+        let next = word(self.table, r, 0);
+        next > r && next < self.table.len() / 4 && is_set(hits, next)
+    }
+
+    // The records from the last down: a next index is larger than its record's number, so what follows a record is known when it is read.
+    fn sweep(self, hits: &mut [u64])
+        requires { hits.old ≡ replicate hit_words 0 }
+        ensures { Hits self.entry.table.now self.entry.kind self.entry.number self.entry.set.low self.entry.set.high hits.new }
+    {
+        for r in (0..self.table.len() / 4).rev() {
+            if self.hit_now(hits, r) {
+                put(hits, r);
+            }
         }
     }
-    Some(found)
-}
 
-// The states with an edge by one symbol into the set: along the chains, or where they are shared by a sweep over all records.
-fn step(table: &[u16], kind: usize, number: usize, set: StateSet) -> StateSet
-    requires table_value { check_of table.now ≡ Accepted }
-    requires number_value { symbol_is_fit (length (meaning table.now).nonterminals) (meaning table.now).terminals kind number ≡ true }
-    ensures { states_in result.low result.high ≡ predecessors (meaning table.now) (symbol_of_kind kind number) (states_in set.low set.high) }
-{
-    match step_along(table, kind, number, set) {
-        Some(found) => found,
-        None => {
-            let mut hits = [0u64; StateSet::HIT_WORDS];
-            step_over(table, &mut hits, kind, number, set)
+    // With the hits in words that are lent.
+    fn states_over(self, hits: &mut [u64]) -> StateSet
+        requires { hits.old ≡ replicate hit_words 0 }
+        ensures { states_in result.low result.high ≡ predecessors (meaning self.entry.table.now) (symbol_of_kind self.entry.kind self.entry.number) (states_in self.entry.set.low self.entry.set.high) }
+    {
+        self.sweep(hits);
+        let states = read_counts(self.table).states;
+        let mut found = StateSet::new();
+        for s in 0..states {
+            let head = first_edge(self.table, s);
+            if head != 0 && is_set(hits, head) {
+                found = found.insert(s);
+            }
+        }
+        found
+    }
+
+    // Whether a chain of edges has one by the symbol into the set; none where it takes more edges than may still be read, as chains may be shared.
+    fn leads(self, first: usize, left: &mut usize) -> Option<bool>
+        requires { EdgeIndex self.table.now first }
+        ensures { MatchOption result (Unit {0}) (λ led. led ≡ some? (meets (symbol_of_kind self.entry.kind self.entry.number) (states_in self.entry.set.low self.entry.set.high)) (edges_from self.entry.table.now first)) }
+    {
+        let mut at = first;
+        while at != 0 {
+            if *left == 0 {
+                return None;
+            }
+            *left -= 1;
+            if self.ends_in(at) {
+                return Some(true);
+            }
+            at = word(self.table, at, 0);
+        }
+        Some(false)
+    }
+
+    // Along the chains of all states: the states found, or none where more edges would be read than the table has records.
+    fn states_along(self) -> Option<StateSet>
+        ensures { SteppedTo (predecessors (meaning self.entry.table.now) (symbol_of_kind self.entry.kind self.entry.number) (states_in self.entry.set.low self.entry.set.high)) result }
+    {
+        let states = read_counts(self.table).states;
+        let mut left = self.table.len() / 4;
+        let mut found = StateSet::new();
+        for s in 0..states {
+            let head = first_edge(self.table, s);
+            if self.leads(head, &mut left)? {
+                found = found.insert(s);
+            }
+        }
+        Some(found)
+    }
+
+    // The states with an edge by the symbol into the set: along the chains, or where they are shared by a sweep over all records.
+    fn states(self) -> StateSet
+        ensures { states_in result.low result.high ≡ predecessors (meaning self.entry.table.now) (symbol_of_kind self.entry.kind self.entry.number) (states_in self.entry.set.low self.entry.set.high) }
+    {
+        match self.states_along() {
+            Some(found) => found,
+            None => {
+                let mut hits = [0u64; StateSet::HIT_WORDS];
+                self.states_over(&mut hits)
+            }
         }
     }
 }
@@ -352,7 +317,13 @@ fn step_back(
     if recalls(steps, place, row, set) {
         return set_at(steps, place * 4 + 2);
     }
-    let found = step(table, kind, number, set);
+    let step = Step {
+        table: table,
+        kind: kind,
+        number: number,
+        set: set,
+    };
+    let found = step.states();
     remember(steps, place, set, found);
     note(steps, place, row);
     found
@@ -421,7 +392,13 @@ pub fn trace_back(table: &[u16], state: usize, symbols: &[u16]) -> StateSet
         }
         last = found;
         over = row;
-        found = step(table, kind, number, found);
+        let step = Step {
+            table: table,
+            kind: kind,
+            number: number,
+            set: found,
+        };
+        found = step.states();
     }
     found
 }

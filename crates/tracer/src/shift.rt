@@ -154,6 +154,7 @@ fn is_passed(
 }
 
 // Records from which on the items of a state that was passed over may be those of others too (0: none): of the last such state, and of one before it with another.
+// Numbers as the chain has them, which ends in 0: what is read is compared with them as it is.
 #[derive(Clone, Copy)]
 pub struct Known {
     pub last: usize,

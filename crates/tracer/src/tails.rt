@@ -17,6 +17,7 @@ use repr::{NonterminalString, ProductionIndex, word};
 use table::item;
 
 // A slot and its record, or slot 0 and a record of the chain; record 0 is the end.
+// Numbers as the table and the lists have them: an Option would be made of each word that is read.
 #[derive(Clone, Copy)]
 pub struct Place {
     pub slot: usize,

@@ -34,4 +34,4 @@ pub note-requires : goal.note-requires
 note-requires c = let n = c.requires.remembered.long in (c.place_of-place.ensures, row_inside (meaning c.args.table.now) (fits c.args.table.now c.requires.table_value) c.args.kind c.args.number c.requires.number_value, omega (arith, n, c.remember.auto.steps))
 
 pub returns : goal.returns
-returns c = let P = c.place_of-place in record { high_value = c.step-found.ensures; remembered_2 = subst (Remembered (meaning c.args.table.now)) (sym (c.note.ensures ∙ ap (λ (g : List ℕ). set g (symbol_place P.result) (step_row c.args.kind c.args.number + 1)) c.remember.ensures)) (remembered (meaning c.args.table.now) (fits c.args.table.now c.requires.table_value) c.args.steps.now c.requires.remembered c.args.kind c.args.number c.requires.number_value P.result P.ensures _ _ _ _ c.step-found.ensures) }
+returns c = let P = c.place_of-place in record { high_value = c.states-found.ensures; remembered_2 = subst (Remembered (meaning c.args.table.now)) (sym (c.note.ensures ∙ ap (λ (g : List ℕ). set g (symbol_place P.result) (step_row c.args.kind c.args.number + 1)) c.remember.ensures)) (remembered (meaning c.args.table.now) (fits c.args.table.now c.requires.table_value) c.args.steps.now c.requires.remembered c.args.kind c.args.number c.requires.number_value P.result P.ensures _ _ _ _ c.states-found.ensures) }

@@ -42,16 +42,16 @@ loop-i-preserved-then-eq c = let low : c.loop-i.found.low ≡ c.loop-i.last.low 
       c.loop-i.invariant.1,
     )
 
-pub step-found-requires : goal.step-found-requires
-step-found-requires c = record { table_value = c.requires.table_value; number_value = walking_symbol (meaning c.args.table.now) c.args.symbols.now c.requires.state_in_bounds.1 _ _ _ _ c.loop-i.i c.loop-i.invariant.0 c.loop-i-test.true _ _ c.word-kind.ensures.0 c.word-number.ensures.0 }
+pub invariant_of-step : goal.invariant_of-step
+invariant_of-step c = record { accepted = c.requires.table_value; symbol = walking_symbol (meaning c.args.table.now) c.args.symbols.now c.requires.state_in_bounds.1 _ _ _ _ c.loop-i.i c.loop-i.invariant.0 c.loop-i-test.true _ _ c.word-kind.ensures.0 c.word-number.ensures.0 }
 
 pub loop-i-smaller : goal.loop-i-smaller
 loop-i-smaller c = omega (arith, c.loop-i-test.true)
 
 pub loop-i-preserved : goal.loop-i-preserved
 loop-i-preserved c = let symbol = walking_symbol (meaning c.args.table.now) c.args.symbols.now c.requires.state_in_bounds.1 _ _ _ _ c.loop-i.i c.loop-i.invariant.0 c.loop-i-test.true _ _ c.word-kind.ensures.0 c.word-number.ensures.0 in (
-  walking_more (meaning c.args.table.now) c.args.symbols.now c.requires.state_in_bounds.1 _ _ _ _ c.loop-i.i c.loop-i.invariant.0 c.loop-i-test.true _ _ _ _ c.word-kind.ensures.0 c.word-number.ensures.0 c.step-found.ensures,
-  step-made (meaning c.args.table.now) (fits c.args.table.now c.requires.table_value) _ _ symbol _ _ _ _ c.step-found.ensures,
+  walking_more (meaning c.args.table.now) c.args.symbols.now c.requires.state_in_bounds.1 _ _ _ _ c.loop-i.i c.loop-i.invariant.0 c.loop-i-test.true _ _ _ _ c.word-kind.ensures.0 c.word-number.ensures.0 c.states-found.ensures,
+  step-made (meaning c.args.table.now) (fits c.args.table.now c.requires.table_value) _ _ symbol _ _ _ _ c.states-found.ensures,
 )
 
 pub returns : goal.returns
