@@ -26,7 +26,7 @@ use searching::search_states;
 use slices::zero;
 use state_records::{write_edges, write_items, write_states};
 use stored::Kernel;
-use table::{Checked, Counts, first_edge, first_item, read_counts, read_productions};
+use table::{Counts, first_edge, first_item, read_counts, read_productions};
 use taking::Edges;
 
 // Records of the table and conflicts written; or the refusal and its place.

@@ -278,14 +278,14 @@ fn open_view(
         traced.shift,
     )?;
     view_codes(
-            given.grammar,
-            words,
-            production,
-            index,
-            owners,
-            sources,
-            older,
-            latest,
+        given.grammar,
+        words,
+        production,
+        index,
+        owners,
+        sources,
+        older,
+        latest,
     );
     Ok(())
 }
@@ -503,7 +503,13 @@ fn find_example(
 }
 
 // One listing's example made again, `wanted` others before it: the item is traced from the state, and the listing goes on to the example. No trial of it is counted.
-fn item_again(given: Given, lookahead: Option<TokenSet>, traced: Traced, wanted: usize, buffer: &mut [u16])
+fn item_again(
+    given: Given,
+    lookahead: Option<TokenSet>,
+    traced: Traced,
+    wanted: usize,
+    buffer: &mut [u16],
+)
     requires state_in_bounds { (traced.state.0 < length (meaning given.table.now).states) × (item_is_fit (meaning given.table.now).productions traced.production traced.index ≡ true) }
     requires example_room_in_bounds { example_room ≤ length buffer.old }
     ensures { (k : ℕ) (x : ExampleOf) → k ≤ example_limit → Listed (listing_side (meaning given.entry.table.now) (edges_by traced.shift (meaning given.entry.table.now) traced.state.0 (record { production = traced.production; index = traced.index })) (record { production = traced.production; index = traced.index }) (set_of lookahead) k) wanted x → buffer.new ≡ in_front (example_words (meaning given.entry.table.now).productions x) buffer.old }

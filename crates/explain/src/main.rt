@@ -16,7 +16,6 @@ use repr::ProductionIndex;
 use state_graph::StateIndex;
 use std::io;
 use streams::{Failed, read, write};
-use table::Checked;
 use table_check::check;
 
 // One line for a refusal of the table (number 0) or of a conflict.
@@ -135,8 +134,8 @@ fn explain_input<R: io::Input + Print + Eprint>(rt: &R) -> Result<(), Stop> {
     let words = read_table(rt, &mut bytes, &mut table)? * 4;
     let table = &table[..words];
     match check(table) {
-        Checked::Refused(refusal, place) => Err(Stop::Refused(refusal, place)),
-        Checked::Accepted => Ok(explain_conflicts(rt, table, &mut bytes[..40960])?),
+        Err(refusal) => Err(Stop::Refused(refusal.number(), refusal.place())),
+        Ok(_) => Ok(explain_conflicts(rt, table, &mut bytes[..40960])?),
     }
 }
 

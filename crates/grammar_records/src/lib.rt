@@ -28,12 +28,7 @@ pub fn count_symbols(grammar: &[u16], productions: usize) -> usize
 }
 
 // The lowest production from `from` on of a nonterminal.
-pub fn next_owned(
-    grammar: &[u16],
-    productions: usize,
-    owner: usize,
-    from: usize,
-) -> Option<usize>
+pub fn next_owned(grammar: &[u16], productions: usize, owner: usize, from: usize) -> Option<usize>
     requires { Packed grammar.now productions }
     ensures { let p = owned_from (productions_in grammar.now productions) owner from in MatchOption result (p ≡ productions) (λ q. (q < productions) × (p ≡ q)) }
 {

@@ -39,9 +39,9 @@ pub fn choose(table: &[u16], conflict: Conflict, tokens: TokenSet, scratch: &mut
     ensures value { result ≡ chosen_of (choice_in result) }
 {
     match table_check::check(table) {
-        Checked::Refused(refusal, place) => Chosen {
-            refusal,
-            place,
+        Err(refusal) => Chosen {
+            refusal: refusal.number(),
+            place: refusal.place(),
             count: 0,
             entries: [0; Class::ALL_WORDS],
         },

@@ -12,7 +12,7 @@ ghost use Rattle.table.specs.Decoded.{meaning, edges_from};
 ghost use Rattle.table.specs.Index.{EdgeIndex};
 ghost use Rattle.table.specs.Checked.{Accepted};
 ghost use Rattle.table.specs.Refusals.{check_of};
-ghost use Rattle.table.specs.declared.Checked.TheVariants.{Accepted};
+ghost use Rattle.std.specs.Iterator.{YieldsFirstBy, item_count};
 ghost use Rattle.state_graph.specs.Walk.{predecessors, walked_back, traced_back};
 ghost use Rattle.state_graph.specs.States.{has_state, states_in, NextIs};
 ghost use Rattle.state_graph.specs.Hits.{hit_words, has_end_in, is_hit_now, meets, Hits, SteppedTo};
@@ -133,6 +133,39 @@ impl StateSet {
             Some(state) => NextState::State(state, rest.0),
             None => NextState::Done,
         }
+    }
+}
+
+// What is left of a set that is gone through in order.
+#[derive(Clone, Copy)]
+pub struct StateSetIter(pub StateSet);
+
+impl Iterator for StateSetIter {
+    type Item = StateIndex;
+
+    ghost next_gives = { YieldsFirstBy (λ k. k.0) (λ s. states_in s.0.low s.0.high) };
+
+    ghost remaining = { item_count (λ s. states_in s.0.low s.0.high) };
+
+    fn next(&mut self) -> Option<StateIndex> {
+        let set = self.0;
+        let mut low = TokenSet(set.low).iter();
+        if let Some(state) = low.next() {
+            self.0 = StateSet {
+                low: low.0,
+                high: set.high,
+            };
+            return Some(StateIndex(state));
+        }
+        let mut high = TokenSet(set.high).iter();
+        if let Some(state) = high.next() {
+            self.0 = StateSet {
+                low: 0,
+                high: high.0,
+            };
+            return Some(StateIndex(64 + state));
+        }
+        None
     }
 }
 
