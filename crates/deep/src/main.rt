@@ -22,10 +22,7 @@ fn put(table: &mut [u16], number: u16, row: Row)
     requires { (length table.old ≡ 1812) × (number < 453) }
 {
     let at = number as usize * 4;
-    table[at] = row.0;
-    table[at + 1] = row.1;
-    table[at + 2] = row.2;
-    table[at + 3] = row.3;
+    table[at..at + 4].copy_from_slice(&[row.0, row.1, row.2, row.3]);
 }
 
 // A row with a step added.
@@ -49,11 +46,9 @@ fn put_rows(table: &mut [u16], first: u16, count: u16, row: Row, step: Row)
     requires step_bound { (step.0 ≤ 1) × ((step.1 ≤ 1) × ((step.2 ≤ 1) × (step.3 ≤ 1))) }
 {
     let mut words = row;
-    let mut i: u16 = 0;
-    while i < count {
+    for i in 0..count {
         put(table, first + i, words);
         words = next_row(words, step);
-        i += 1;
     }
 }
 
@@ -105,17 +100,10 @@ fn put_states(table: &mut [u16])
 }
 
 fn say<R: Print>(rt: &R, answer: Backtrace) {
-    let mut first: u64 = 0;
-    let mut second: u64 = 0;
-    match answer {
-        Backtrace::Edges(count) => {
-            second = count as u64;
-        }
-        Backtrace::Refused(refusal, place) => {
-            first = refusal as u64;
-            second = place as u64;
-        }
-    }
+    let (first, second) = match answer {
+        Backtrace::Edges(count) => (0, count),
+        Backtrace::Refused(refusal, place) => (refusal, place),
+    };
     let _ = println!(rt; "{first} {second}");
 }
 
