@@ -1,6 +1,6 @@
 // Op 20: build_states.
 use crate::say::{say_answer, say_digest, say_next, say_words};
-use crate::words::{at, front, least, number};
+use crate::words::{at, front, number};
 
 // Prints the numbers.
 fn build_lent<R: Print>(
@@ -14,9 +14,9 @@ fn build_lent<R: Print>(
     let mut place: u16 = 7;
     let mut records: u16 = 7;
     let mut count: u32 = 7;
-    let s = least(number(more, 1), scratch.len());
-    let o = least(number(more, 2), out.len());
-    let c = least(number(more, 3), conflicts.len());
+    let s = number(more, 1).min(scratch.len());
+    let o = number(more, 2).min(out.len());
+    let c = number(more, 3).min(conflicts.len());
     let answer = lihvemur::lihvemur_build_states(
         table,
         at(more, 0),

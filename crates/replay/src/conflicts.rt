@@ -1,6 +1,6 @@
 // Ops 10 to 12: classify, choose, observed.
 use crate::say::{say_answer, say_digest, say_halves, say_next, say_words};
-use crate::words::{at, front, least, number, rest, set_at};
+use crate::words::{at, front, number, rest, set_at};
 
 fn classify(
     table: &[u16],
@@ -46,9 +46,9 @@ fn classify_lent<R: Print>(
     let mut values: u64 = 7;
     let mut action_trials: u32 = 7;
     let mut reduce_trials: u32 = 7;
-    let s = least(number(more, 5), scratch.len());
-    let a = least(number(more, 6), action.len());
-    let r = least(number(more, 7), reduce.len());
+    let s = number(more, 5).min(scratch.len());
+    let a = number(more, 6).min(action.len());
+    let r = number(more, 7).min(reduce.len());
     let answer = classify(
         table,
         more,
@@ -131,8 +131,8 @@ fn choose_lent<R: Print>(
 ) -> usize {
     let mut place: u16 = 7;
     let mut count: usize = 77;
-    let s = least(number(more, 8), scratch.len());
-    let e = least(number(more, 9), entries.len());
+    let s = number(more, 8).min(scratch.len());
+    let e = number(more, 9).min(entries.len());
     let answer = choose(
         table,
         more,
@@ -143,7 +143,7 @@ fn choose_lent<R: Print>(
     );
     say_answer(rt, answer, place);
     say_next(rt, count as u64);
-    if answer == 0 { least(count, 64) * 6 } else { 0 }
+    if answer == 0 { count.min(64) * 6 } else { 0 }
 }
 
 pub fn ask_choose<R: Print>(rt: &R, table: &[u16], more: &[u16]) {

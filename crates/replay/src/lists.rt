@@ -1,6 +1,6 @@
 // Ops 8, 9 and 13: the next example of any listing, a list of calls, opening.
 use crate::say::{say_answer, say_bool, say_digest, say_next, say_words};
-use crate::words::{at, front, least, number, number32, put, rest, set_at, zero_if};
+use crate::words::{at, front, number, number32, put, rest, set_at, zero_if};
 
 fn advance(
     table: &[u16],
@@ -32,8 +32,8 @@ fn advance_lent<R: Print>(
     let mut place: u16 = 7;
     let mut count = number32(more, 7) + number32(more, 8) * 65536;
     let mut is_open = at(more, 9) != 0;
-    let s = least(number(more, 11), scratch.len());
-    let b = least(number(more, 12), buffer.len());
+    let s = number(more, 11).min(scratch.len());
+    let b = number(more, 12).min(buffer.len());
     let answer = advance(
         table,
         more,
@@ -70,11 +70,8 @@ pub fn ask_advance<R: Print>(rt: &R, table: &[u16], more: &[u16]) {
 
 // Numbers of a list of calls from words.
 fn put_numbers(from: &[u16], to: &mut [u32]) {
-    let n = least(from.len(), to.len());
-    let mut i: usize = 0;
-    while i < n {
-        to[i] = number32(from, i);
-        i += 1;
+    for (number, word) in to.iter_mut().zip(from) {
+        *number = *word as u32;
     }
 }
 
@@ -108,8 +105,8 @@ fn examples_lent<R: Print>(
 ) {
     let mut place: u16 = 7;
     let mut made: usize = 7;
-    let s = least(number(more, 8), scratch.len());
-    let o = least(number(more, 9), output.len());
+    let s = number(more, 8).min(scratch.len());
+    let o = number(more, 9).min(output.len());
     let answer = examples(
         table,
         more,
@@ -129,7 +126,7 @@ fn examples_by<R: Print>(rt: &R, table: &[u16], more: &[u16], n: usize, graph: &
     let mut calls = [0u32; 96];
     let mut scratch = [7u16; 32008];
     let mut output = [0u16; 32008];
-    let m = least(n, 96);
+    let m = n.min(96);
     put_numbers(front(rest(more, 11), n), &mut calls);
     examples_lent(
         rt,

@@ -38,7 +38,7 @@ pub mod walks;
 pub mod words;
 pub mod yaccs;
 
-ghost use Rattle.std.specs.Prelude.{◌*◌, ◌<◌, ◌≤◌, length};
+ghost use Rattle.std.specs.Prelude.{◌≤◌, length};
 
 use builds::ask_build;
 use conflicts::{ask_choose, ask_classify, ask_observed};
@@ -53,126 +53,71 @@ use traces::ask_trace;
 use walks::{ask_joined, ask_walk};
 use yaccs::{ask_read_yacc, ask_write_yacc};
 
-// Reads n words to the front of a list, by way of bytes; false if the input is shorter.
-fn read_by<R: io::Input>(rt: &R, n: usize, bytes: &mut [u8], out: &mut [u16]) -> bool
-    requires { (n * 2 ≤ length bytes.old) × (n ≤ length out.old) × (n < 1000000) }
-{
-    let m = n * 2;
-    if rt.reader().read_exact(&mut bytes[..m]).is_ok() {
-        decode(&bytes[..m], out);
-        true
-    } else {
-        false
-    }
-}
-
-fn read_words<R: io::Input>(rt: &R, n: usize, out: &mut [u16]) -> bool
-    requires { (n ≤ 32772) × (n ≤ length out.old) }
+// Fills a list with words, by way of bytes; none if the input is shorter.
+fn read_words<R: io::Input>(rt: &R, out: &mut [u16]) -> Option<()>
+    requires { length out.old ≤ 32772 }
 {
     let mut bytes = [0u8; 65544];
-    read_by(rt, n, &mut bytes, out)
-}
-
-fn ask_list<R: Print>(rt: &R, op: u16, table: &[u16], more: &[u16]) {
-    if op == 8 {
-        ask_advance(rt, table, more);
-    } else {
-        ask_examples(rt, table, more);
-    }
-}
-
-fn ask_conflict<R: Print>(rt: &R, op: u16, table: &[u16], more: &[u16]) {
-    if op == 10 {
-        ask_classify(rt, table, more);
-    } else if op == 11 {
-        ask_choose(rt, table, more);
-    } else {
-        ask_observed(rt, more);
-    }
-}
-
-fn ask_other<R: Print>(rt: &R, op: u16, table: &[u16], more: &[u16]) {
-    if op == 13 {
-        ask_open(rt, table, more);
-    } else if op == 14 {
-        ask_sets(rt, more);
-    } else if op == 15 {
-        ask_item(rt, table, more);
-    } else if op == 16 {
-        ask_joined(rt, op, table, more);
-    } else if op == 17 {
-        ask_joined(rt, op, table, more);
-    } else if op == 18 {
-        ask_rewrite(rt, op, table, more);
-    } else if op == 19 {
-        ask_rewrite(rt, op, table, more);
-    } else if op == 20 {
-        ask_build(rt, table, more);
-    } else if op == 21 {
-        ask_read_yacc(rt, table, more);
-    } else if op == 22 {
-        ask_write_yacc(rt, table, more);
-    } else {
-        let _ = print!(rt; "?");
-    }
+    let size = out.len() * 2;
+    rt.reader().read_exact(&mut bytes[..size]).ok()?;
+    decode(&bytes[..size], out);
+    Some(())
 }
 
 fn ask<R: Print>(rt: &R, op: u16, table: &[u16], more: &[u16]) {
-    if op < 5 {
-        ask_walk(rt, op, table, more);
-    } else if op < 8 {
-        ask_trace(rt, op, table, more);
-    } else if op < 10 {
-        ask_list(rt, op, table, more);
-    } else if op < 13 {
-        ask_conflict(rt, op, table, more);
-    } else {
-        ask_other(rt, op, table, more);
+    match op {
+        0..=4 => ask_walk(rt, op, table, more),
+        5..=7 => ask_trace(rt, op, table, more),
+        8 => ask_advance(rt, table, more),
+        9 => ask_examples(rt, table, more),
+        10 => ask_classify(rt, table, more),
+        11 => ask_choose(rt, table, more),
+        12 => ask_observed(rt, more),
+        13 => ask_open(rt, table, more),
+        14 => ask_sets(rt, more),
+        15 => ask_item(rt, table, more),
+        16 | 17 => ask_joined(rt, op, table, more),
+        18 | 19 => ask_rewrite(rt, op, table, more),
+        20 => ask_build(rt, table, more),
+        21 => ask_read_yacc(rt, table, more),
+        22 => ask_write_yacc(rt, table, more),
+        _ => {
+            let _ = print!(rt; "?");
+        }
     }
     let _ = println!(rt; "");
 }
 
 // The further words, and the answer.
-fn replay_rest<R: io::Input + Print>(rt: &R, op: u16, table: &[u16]) -> bool {
+fn replay_rest<R: io::Input + Print>(rt: &R, op: u16, table: &[u16]) -> Option<()> {
     let mut more = [0u16; 8448];
-    if !read_words(rt, 1, &mut more) {
-        return false;
-    }
+    read_words(rt, &mut more[..1])?;
     let n = word(&more, 0);
     if n > 8448 {
-        return false;
+        return None;
     }
-    if !read_words(rt, n, &mut more) {
-        return false;
-    }
+    read_words(rt, &mut more[..n])?;
     ask(rt, op, table, &more[..n]);
-    true
+    Some(())
 }
 
-// One request; false at the end of the input. Document 01 says nothing of this form; it is the sample's own.
-fn replay<R: io::Input + Print>(rt: &R) -> bool {
+// One request; none at the end of the input. Document 01 says nothing of this form; it is the sample's own.
+fn replay<R: io::Input + Print>(rt: &R) -> Option<()> {
     let mut head = [0u16; 3];
     let mut table = [0u16; 32772];
-    if !read_words(rt, 3, &mut head) {
-        return false;
-    }
+    read_words(rt, &mut head)?;
     let n = word(&head, 1) + word(&head, 2) * 65536;
     if n > 32772 {
-        return false;
+        return None;
     }
-    if !read_words(rt, n, &mut table) {
-        return false;
-    }
+    read_words(rt, &mut table[..n])?;
     replay_rest(rt, head[0], &table[..n])
 }
 
 fn main(rt: HostRuntime) {
-    let mut left: usize = 1000000;
-    while left > 0 {
-        if replay(&rt) {
-            left -= 1;
-        } else {
-            left = 0;
+    for _ in 0..1000000 {
+        if replay(&rt).is_none() {
+            break;
         }
     }
 }

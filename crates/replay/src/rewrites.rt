@@ -1,11 +1,11 @@
 // Ops 18 and 19: respell, compact.
 use crate::say::{say_answer, say_digest, say_next, say_words};
-use crate::words::{front, least, number, put};
+use crate::words::{front, number, put};
 
 fn ask_respell<R: Print>(rt: &R, table: &[u16], more: &[u16], out: &mut [u16]) {
     let mut place: u16 = 7;
     let mut records: u16 = 7;
-    let n = least(number(more, 0), out.len());
+    let n = number(more, 0).min(out.len());
     let answer = lihvemur::lihvemur_respell(table, &mut out[..n], &mut records, &mut place);
     say_answer(rt, answer, place);
     say_next(rt, records as u64);
@@ -18,7 +18,7 @@ fn ask_compact<R: Print>(rt: &R, table: &[u16], lent: &mut [u16]) {
     let mut place: u16 = 7;
     let mut records: u16 = 7;
     put(table, lent);
-    let n = least(table.len(), lent.len());
+    let n = table.len().min(lent.len());
     let answer = lihvemur::lihvemur_compact(&mut lent[..n], &mut records, &mut place);
     say_answer(rt, answer, place);
     say_next(rt, records as u64);

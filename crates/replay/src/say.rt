@@ -1,14 +1,12 @@
 // Numbers of an answer, a line each request.
 ghost use Rattle.std.specs.Prelude.{◌<◌, ◌≤◌};
 
-use repr::word;
-
 pub fn say_next<R: Print>(rt: &R, n: u64) {
     let _ = print!(rt; " {n}");
 }
 
 pub fn say_bool<R: Print>(rt: &R, yes: bool) {
-    say_next(rt, if yes { 1 } else { 0 });
+    say_next(rt, u64::from(yes));
 }
 
 // How every answer begins.
@@ -27,22 +25,16 @@ pub fn say_halves<R: Print>(rt: &R, word: u64) {
 pub fn say_ones<R: Print>(rt: &R, bits: u64, from: u64)
     requires { from ≤ 64 }
 {
-    let mut rest = bits;
-    let mut i: u64 = 0;
-    while i < 64 {
-        if rest % 2 == 1 {
+    for i in 0..64u64 {
+        if bits >> i & 1 == 1 {
             say_next(rt, from + i);
         }
-        rest /= 2;
-        i += 1;
     }
 }
 
 pub fn say_words<R: Print>(rt: &R, words: &[u16]) {
-    let mut i: usize = 0;
-    while i < words.len() {
-        say_next(rt, word(words, i) as u64);
-        i += 1;
+    for word in words {
+        say_next(rt, *word as u64);
     }
 }
 
@@ -56,10 +48,8 @@ fn mix(d: u64, w: u64) -> u64
 // A number that depends on every word of a list.
 fn digest(words: &[u16]) -> u64 {
     let mut d: u64 = 1;
-    let mut i: usize = 0;
-    while i < words.len() {
-        d = mix(d, word(words, i) as u64);
-        i += 1;
+    for word in words {
+        d = mix(d, *word as u64);
     }
     d
 }

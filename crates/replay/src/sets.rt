@@ -76,12 +76,10 @@ pub fn ask_sets<R: Print>(rt: &R, more: &[u16]) {
 fn shifted(item: Item, grammar: &[u16], productions: usize) -> u64
     requires { Packed grammar.now productions × (item.production < productions) }
 {
-    let mut n: usize = 0;
-    while n < 32 {
+    for n in 0..32usize {
         if item.can_shift_nonterminal(grammar, productions, n) {
             return n as u64 + 1;
         }
-        n += 1;
     }
     0
 }

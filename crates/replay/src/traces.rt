@@ -1,6 +1,6 @@
 // Ops 5 to 7: backtrace_shift, backtrace_reduce, add_edge.
 use crate::say::{say_answer, say_digest, say_next, say_words};
-use crate::words::{at, front, least, number, put, rest};
+use crate::words::{at, front, number, put, rest};
 
 // The words of an accepted graph.
 fn say_graph<R: Print>(rt: &R, answer: u16, edges: u16, graph: &[u16]) {
@@ -44,8 +44,8 @@ fn ask_backtrace<R: Print>(
 ) {
     let mut place: u16 = 7;
     let mut edges: u16 = 7;
-    let g = least(number(more, 3), graph.len());
-    let s = least(number(more, 4), scratch.len());
+    let g = number(more, 3).min(graph.len());
+    let s = number(more, 4).min(scratch.len());
     let answer = backtrace(
         op,
         table,
@@ -86,7 +86,7 @@ fn add_edge(
 fn ask_add_edge<R: Print>(rt: &R, table: &[u16], more: &[u16], graph: &mut [u16]) {
     let mut place: u16 = 7;
     let mut edges: u16 = 7;
-    let g = least(number(more, 8), graph.len());
+    let g = number(more, 8).min(graph.len());
     put(rest(more, 9), graph);
     let answer = add_edge(table, more, &mut graph[..g], &mut edges, &mut place);
     say_traced(rt, answer, place, edges, graph);

@@ -1,22 +1,14 @@
 // Parts of a request, and words that are lent. Every function is total: words that a request has not are zeros.
 ghost use Rattle.std.specs.Prelude.{◌<◌, ◌≤◌};
 
-use repr::word;
-
-pub fn least(a: usize, b: usize) -> usize
-    ensures { (result ≤ a) × (result ≤ b) }
-{
-    if a <= b { a } else { b }
-}
-
 pub fn at(words: &[u16], i: usize) -> u16 {
-    if i < words.len() { words[i] } else { 0 }
+    words.get(i).copied().unwrap_or(0)
 }
 
 pub fn number(words: &[u16], i: usize) -> usize
     ensures { result < 65536 }
 {
-    if i < words.len() { word(words, i) } else { 0 }
+    at(words, i) as usize
 }
 
 pub fn number32(words: &[u16], i: usize) -> u32
@@ -38,34 +30,26 @@ pub fn set_at(words: &[u16], i: usize) -> u64
 
 // The first n words, or all.
 pub fn front<'a>(words: &'a [u16], n: usize) -> &'a [u16] {
-    let to = least(n, words.len());
+    let to = n.min(words.len());
     &words[..to]
 }
 
 // The words from a place on.
 pub fn rest<'a>(words: &'a [u16], n: usize) -> &'a [u16] {
-    let from = least(n, words.len());
+    let from = n.min(words.len());
     &words[from..]
 }
 
 // Words put at a list's front, as many as it has room for.
 pub fn put(from: &[u16], to: &mut [u16]) {
-    let n = least(from.len(), to.len());
-    let mut i: usize = 0;
-    while i < n {
-        to[i] = from[i];
-        i += 1;
-    }
+    let n = from.len().min(to.len());
+    to[..n].copy_from_slice(&from[..n]);
 }
 
 // The words of scratch that a listing uses.
 pub fn zero(to: &mut [u16]) {
-    let n = least(32000, to.len());
-    let mut i: usize = 0;
-    while i < n {
-        to[i] = 0;
-        i += 1;
-    }
+    let n = to.len().min(32000);
+    to[..n].fill(0);
 }
 
 pub fn zero_if(yes: u16, to: &mut [u16]) {

@@ -1,15 +1,10 @@
 // Ops 21 and 22: read_yacc, write_yacc.
 use crate::say::{say_answer, say_digest, say_next, say_words};
-use crate::words::{at, front, least, number};
+use crate::words::{at, front, number};
 
 // A byte of some words, two in each, the low one first; past them 0.
 fn byte_at(words: &[u16], i: usize) -> u8 {
-    let w = at(words, i / 2);
-    if i % 2 == 0 {
-        (w % 256) as u8
-    } else {
-        (w / 256) as u8
-    }
+    at(words, i / 2).to_le_bytes()[i % 2]
 }
 
 // Which of the given bytes stands at a place of the text: the one at `from` stands so many times more.
@@ -25,10 +20,8 @@ fn given_at(i: usize, from: usize, times: usize) -> usize {
 
 // The text of a request.
 fn put_text(words: &[u16], from: usize, times: usize, text: &mut [u8]) {
-    let mut i: usize = 0;
-    while i < text.len() {
-        text[i] = byte_at(words, given_at(i, from, times));
-        i += 1;
+    for (i, byte) in text.iter_mut().enumerate() {
+        *byte = byte_at(words, given_at(i, from, times));
     }
 }
 
@@ -38,8 +31,8 @@ fn read_lent<R: Print>(rt: &R, text: &[u8], more: &[u16], table: &mut [u16], pla
     let mut records: u16 = 7;
     let mut count: u16 = 7;
     let mut start: u16 = 7;
-    let t = least(number(more, 0), table.len());
-    let p = least(number(more, 1), places.len());
+    let t = number(more, 0).min(table.len());
+    let p = number(more, 1).min(places.len());
     let answer = lihvemur::lihvemur_read_yacc(
         text,
         &mut table[..t],
@@ -69,7 +62,7 @@ fn ask_read<R: Print>(rt: &R, text: &[u8], more: &[u16]) {
 fn read_by<R: Print>(rt: &R, words: &[u16], more: &[u16], text: &mut [u8]) {
     let from = number(more, 3);
     let times = number(more, 4);
-    let n = least(number(more, 2) + times, text.len());
+    let n = (number(more, 2) + times).min(text.len());
     put_text(words, from, times, &mut text[..n]);
     ask_read(rt, &text[..n], more);
 }
@@ -80,17 +73,10 @@ pub fn ask_read_yacc<R: Print>(rt: &R, words: &[u16], more: &[u16]) {
     read_by(rt, words, more, &mut text);
 }
 
-fn wide(x: u8) -> u16 {
-    x as u16
-}
-
 // Bytes as words, as many as there is room for.
 fn widen(bytes: &[u8], words: &mut [u16]) {
-    let n = least(bytes.len(), words.len());
-    let mut i: usize = 0;
-    while i < n {
-        words[i] = wide(bytes[i]);
-        i += 1;
+    for (word, byte) in words.iter_mut().zip(bytes) {
+        *word = *byte as u16;
     }
 }
 
@@ -98,7 +84,7 @@ fn widen(bytes: &[u8], words: &mut [u16]) {
 fn write_lent<R: Print>(rt: &R, table: &[u16], more: &[u16], text: &mut [u8]) {
     let mut place: u16 = 7;
     let mut bytes: u16 = 7;
-    let n = least(number(more, 0), text.len());
+    let n = number(more, 0).min(text.len());
     let answer = lihvemur::lihvemur_write_yacc(table, &mut text[..n], &mut bytes, &mut place);
     say_answer(rt, answer, place);
     say_next(rt, bytes as u64);
