@@ -10,6 +10,8 @@ use Rattle.yacc_read.specs.Outcome.{Outcome as ReadOutcome}
 use Rattle.yacc_read.specs.declared.Reading.TheVariants.{Read, Refused as NotRead}
 use Rattle.yacc_write.specs.Outcome.{Outcome as WriteOutcome}
 use Rattle.yacc_write.specs.declared.Writing.TheVariants.{Bytes, Refused as NotWritten}
+use Rattle.lookahead.specs.declared.TokenSet.{TokenSet}
+use Rattle.first.specs.declared.Answer.{Answer}
 use Rattle.lr1.specs.Edges.{EdgeOutcome, edge_outcome}
 use Rattle.tracer.specs.Outcome.{Outcome, outcome}
 use Rattle.tracer.specs.declared.Backtrace.TheVariants.{Edges as TraceEdges, Refused as NoTrace}

@@ -1,4 +1,4 @@
-use Rattle.std.proofs.Common.{ap, ◌∙◌}
+use Rattle.std.proofs.Common.{ap}
 use Rattle.table.specs.Checked.{checked_of}
 use Rattle.lihvemur.proofs.Numbered.{check_accepted, check_refused}
 use Rattle.lihvemur.proofs.lihvemur_check.Goals as goal

@@ -1,4 +1,4 @@
-use Rattle.std.proofs.Common.{ap, ◌∙◌}
+use Rattle.std.proofs.Common.{ap}
 use Rattle.repr.specs.Reply.{reply_of}
 use Rattle.lihvemur.proofs.Numbered.{compact-left, compact-refused}
 use Rattle.lihvemur.proofs.lihvemur_compact.Goals as goal

@@ -1,4 +1,4 @@
-use Rattle.std.proofs.Common.{ap, ◌∙◌}
+use Rattle.std.proofs.Common.{ap}
 use Rattle.repr.specs.Reply.{reply_of}
 use Rattle.lihvemur.proofs.Numbered.{first_answered, first-refused}
 use Rattle.lihvemur.proofs.lihvemur_first0_joined.Goals as goal

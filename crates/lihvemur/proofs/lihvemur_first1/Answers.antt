@@ -1,4 +1,4 @@
-use Rattle.std.proofs.Common.{ap, ◌∙◌}
+use Rattle.std.proofs.Common.{ap}
 use Rattle.repr.specs.Reply.{reply_of}
 use Rattle.lihvemur.proofs.Numbered.{followed-tokens, followed-refused}
 use Rattle.lihvemur.proofs.lihvemur_first1.Goals as goal

@@ -1,4 +1,3 @@
-use Rattle.std.proofs.Common.{ap, ◌∙◌}
 use Rattle.lihvemur.proofs.Numbered.{walk-states, walk_refused}
 use Rattle.lihvemur.proofs.lihvemur_trace_back_joined.Goals as goal
 

@@ -16,10 +16,10 @@ pub insert-requires : goal.insert-requires
 insert-requires c = record { packed = rw c.counts-counts.ensures.productions c.read_productions.ensures.0; graphed = c.check_graph.ensures.graphed c.if-check_graph.true; edge_value = sym c.edge_fits.ensures ∙ c.if-edge_fits.true }
 
 pub returns-in-Ok : goal.returns-in-Ok
-returns-in-Ok c = edge_added _ _ _ _ _ _ _ c.read_counts-counts.ensures.nonterminals c.read_counts-counts.ensures.productions c.read_productions.ensures.1 c.edge_fits.ensures c.if-edge_fits.true (omega (arith, c.if-graph-lt-WORDS.false)) _ c.check_graph.ensures.value c.if-check_graph.true _ (c.check_graph.ensures.graphed c.if-check_graph.true) (c.in-Ok.ensures.added) c.word.ensures.0
+returns-in-Ok c = edge_added _ _ _ _ _ _ _ c.counts-counts.ensures.nonterminals c.counts-counts.ensures.productions c.read_productions.ensures.1 c.edge_fits.ensures c.if-edge_fits.true (omega (arith, c.if-graph-lt-WORDS.false)) _ c.check_graph.ensures.value c.if-check_graph.true _ (c.check_graph.ensures.graphed c.if-check_graph.true) (c.in-Ok.ensures.added) c.word.ensures.0
 
 pub returns-in-Err : goal.returns-in-Err
-returns-in-Err c = edge_over _ _ _ _ _ _ _ c.read_counts-counts.ensures.nonterminals c.read_counts-counts.ensures.productions c.read_productions.ensures.1 c.edge_fits.ensures c.if-edge_fits.true (omega (arith, c.if-graph-lt-WORDS.false)) _ c.check_graph.ensures.value c.if-check_graph.true (c.in-Err.ensures.overfull)
+returns-in-Err c = edge_over _ _ _ _ _ _ _ c.counts-counts.ensures.nonterminals c.counts-counts.ensures.productions c.read_productions.ensures.1 c.edge_fits.ensures c.if-edge_fits.true (omega (arith, c.if-graph-lt-WORDS.false)) _ c.check_graph.ensures.value c.if-check_graph.true (c.in-Err.ensures.overfull)
 
 pub returns-else-check_graph : goal.returns-else-check_graph
 returns-else-check_graph c = graph_out _ _ _ _ _ _ _ c.counts-counts.ensures.nonterminals c.counts-counts.ensures.productions c.read_productions.ensures.1 c.edge_fits.ensures c.if-edge_fits.true (omega (arith, c.if-graph-lt-WORDS.false)) _ c.check_graph.ensures.value c.if-check_graph.false
