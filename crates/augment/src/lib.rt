@@ -15,7 +15,7 @@ ghost use Rattle.grammar_records.specs.Target.{PackedAs, owned_from};
 ghost use Rattle.augment.specs.Started.{uses, is_start_needed, started_in, started_of, Startable, GrammarOf};
 
 use grammar_records::{count_symbols, next_owned, write_front, write_productions, write_symbols};
-use repr::{NonterminalString, ProductionIndex, symbols};
+use repr::{Grammar, NonterminalString, ProductionIndex, symbols};
 use table::{Counts, put, read_counts, read_productions};
 
 // Records written and the start production; or the refusal and its place.
@@ -48,12 +48,11 @@ fn is_among(symbols: &[u16], n: usize) -> bool
 }
 
 // Whether it stands in a right side.
-fn stands_in(grammar: &[u16], productions: usize, n: usize) -> bool
-    requires { Packed grammar.now productions }
-    ensures { result ≡ some? (uses n) (productions_in grammar.now productions) }
+fn stands_in(grammar: Grammar, n: usize) -> bool
+    ensures { result ≡ some? (uses n) (productions_in grammar.entry.words.now grammar.entry.productions) }
 {
-    for p in 0..productions {
-        if is_among(symbols(grammar, p, productions), n) {
+    for p in 0..grammar.productions {
+        if is_among(grammar.symbols(p), n) {
             return true;
         }
     }
@@ -61,15 +60,14 @@ fn stands_in(grammar: &[u16], productions: usize, n: usize) -> bool
 }
 
 // The start production that it has: its only one, if it stands in no right side.
-fn own_start(grammar: &[u16], productions: usize, n: usize) -> Option<usize>
-    requires { Packed grammar.now productions }
-    ensures { (U : Table) → PackedAs U grammar.now productions → MatchOption result (is_start_needed U n ≡ true) (λ p. (is_start_needed U n ≡ false) × (p ≡ owned_from (productions_in grammar.now productions) n 0)) }
+fn own_start(grammar: Grammar, n: usize) -> Option<usize>
+    ensures { (U : Table) → PackedAs U grammar.entry.words.now grammar.entry.productions → MatchOption result (is_start_needed U n ≡ true) (λ p. (is_start_needed U n ≡ false) × (p ≡ owned_from (productions_in grammar.entry.words.now grammar.entry.productions) n 0)) }
 {
-    let first = next_owned(grammar, productions, n, 0)?;
-    if next_owned(grammar, productions, n, first + 1).is_some() {
+    let first = next_owned(grammar, n, 0)?;
+    if next_owned(grammar, n, first + 1).is_some() {
         return None;
     }
-    if stands_in(grammar, productions, n) {
+    if stands_in(grammar, n) {
         None
     } else {
         Some(first)
@@ -100,14 +98,14 @@ pub fn write_started(grammar: &[u16], counts: Counts, production: usize, out: &m
     let nonterminals = counts.nonterminals;
     let productions = counts.productions;
     let begin = 2 + nonterminals + productions;
-    let records = begin + count_symbols(grammar, productions);
+    let records = begin + count_symbols(Grammar { words: grammar, productions });
     if records > out.len() / 4 {
         return Started::Refused(17, 0);
     }
     write_front(grammar, counts, out);
     put(out, 1 + nonterminals, 0, 0, 0, 0);
     write_productions(grammar, counts, out);
-    write_symbols(grammar, productions, begin, out);
+    write_symbols(Grammar { words: grammar, productions }, begin, out);
     Started::Production(records as u16, ProductionIndex(production as u16))
 }
 
@@ -123,7 +121,7 @@ pub fn with_start(table: &[u16], start: NonterminalString, out: &mut [u16]) -> S
     let nonterminals = counts.nonterminals;
     let productions = counts.productions;
     let n = start.0 as usize;
-    if let Some(first) = own_start(&grammar, productions, n) {
+    if let Some(first) = own_start(Grammar { words: &grammar, productions }, n) {
         return write_started(&grammar, counts, first, out);
     }
     if nonterminals == NonterminalString::LIMIT {

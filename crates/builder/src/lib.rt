@@ -21,7 +21,7 @@ use first::FirstSets;
 use grammar_records::{count_symbols, write_front, write_productions, write_symbols};
 use kept_states::Begins;
 use measuring::measure;
-use repr::ProductionIndex;
+use repr::{Grammar, ProductionIndex};
 use searching::search_states;
 use slices::zero;
 use state_records::{write_edges, write_items, write_states};
@@ -89,8 +89,7 @@ fn write_table(source: Source, words: &[u16], begins: &Begins, edges: &Edges, ou
     );
     write_productions(grammar, counts, out);
     write_symbols(
-        grammar,
-        productions,
+        Grammar { words: grammar, productions },
         1 + nonterminals + states + productions,
         out,
     );
@@ -130,7 +129,7 @@ fn sizes_of(table: &[u16], grammar: &[u16], room: usize) -> Sizes
     let counts = read_counts(table);
     let nonterminals = counts.nonterminals;
     let productions = counts.productions;
-    let symbols = count_symbols(grammar, productions);
+    let symbols = count_symbols(Grammar { words: grammar, productions });
     Sizes {
         nonterminals,
         terminals: counts.terminals as u16,
@@ -155,7 +154,7 @@ fn build_found(
     let mut grammar = [0u16; ProductionIndex::ALL_WORDS];
     read_productions(table, &mut grammar);
     let sizes = sizes_of(table, &grammar, out.len() / 4);
-    let sets = FirstSets::new(&grammar, sizes.productions, sizes.terminals);
+    let sets = FirstSets::new(Grammar { words: &grammar, productions: sizes.productions }, sizes.terminals);
     let source = Source {
         grammar: &grammar,
         first: &sets.map,

@@ -16,45 +16,43 @@ ghost use Rattle.closing.specs.Fed.{Flat, feed, fed_by_items, fed_by_firsts, spr
 use first::first1;
 use lookahead::TokenSet;
 use lr1_core::{Item, suffix};
-use repr::{ProductionIndex, word};
+use repr::{Grammar, ProductionIndex, word};
 
 // What an item gives to the nonterminal at its cursor: FIRST of what stands behind it, followed by the item's tokens. An item without a token gives nothing.
 fn feed(
-    grammar: &[u16],
-    productions: usize,
+    grammar: Grammar,
     terminals: u16,
     first: &[u64; 32],
     item: Item,
     set: TokenSet,
     aheads: &mut [u64; 32],
 )
-    requires { Packed grammar.now productions × (item.production < productions) × (terminals ≤ 63) }
-    ensures { (T : Table) → Grammar T grammar.now productions terminals first.now → aheads.new ≡ feed T aheads.old (drop item.index (production_in grammar.now item.production).symbols) set.0 }
+    requires { (item.production < grammar.productions) × (terminals ≤ 63) }
+    ensures { (T : Table) → Grammar T grammar.entry.words.now grammar.entry.productions terminals first.now → aheads.new ≡ feed T aheads.old (drop item.index (production_in grammar.entry.words.now item.production).symbols) set.0 }
 {
     let tokens = set.0;
     if tokens == 0 {
         return;
     }
-    let nonterminal = item.cursor(grammar, productions);
+    let nonterminal = item.cursor(grammar);
     if nonterminal < 32 {
-        let more = first1(first, terminals, suffix(grammar, productions, item), set);
+        let more = first1(first, terminals, suffix(grammar, item), set);
         aheads[nonterminal] = TokenSet(aheads[nonterminal]).union(more).0;
     }
 }
 
 // By each item of the set that is closed.
 fn feed_items(
-    grammar: &[u16],
-    productions: usize,
+    grammar: Grammar,
     terminals: u16,
     first: &[u64; 32],
     kernel: &[u64; Item::LIMIT],
     aheads: &mut [u64; 32],
 )
-    requires { Packed grammar.now productions × (terminals ≤ 63) }
-    ensures { (T : Table) → Grammar T grammar.now productions terminals first.now → aheads.new ≡ fed_by_items T kernel.now aheads.old (below (index_limit * productions)) }
+    requires { terminals ≤ 63 }
+    ensures { (T : Table) → Grammar T grammar.entry.words.now grammar.entry.productions terminals first.now → aheads.new ≡ fed_by_items T kernel.now aheads.old (below (index_limit * grammar.entry.productions)) }
 {
-    let places = ProductionIndex::INDEXES * productions;
+    let places = ProductionIndex::INDEXES * grammar.productions;
     for place in 0..places {
         let item = Item {
             production: place / ProductionIndex::INDEXES,
@@ -62,7 +60,6 @@ fn feed_items(
         };
         feed(
             grammar,
-            productions,
             terminals,
             first,
             item,
@@ -74,23 +71,22 @@ fn feed_items(
 
 // By the first item of each production.
 fn feed_firsts(
-    grammar: &[u16],
-    productions: usize,
+    grammar: Grammar,
     terminals: u16,
     first: &[u64; 32],
     aheads: &mut [u64; 32],
 )
-    requires { Packed grammar.now productions × (terminals ≤ 63) }
-    ensures { (T : Table) → Grammar T grammar.now productions terminals first.now → aheads.new ≡ fed_by_firsts T aheads.old (below productions) }
+    requires { terminals ≤ 63 }
+    ensures { (T : Table) → Grammar T grammar.entry.words.now grammar.entry.productions terminals first.now → aheads.new ≡ fed_by_firsts T aheads.old (below grammar.entry.productions) }
 {
-    for production in 0..productions {
+    for production in 0..grammar.productions {
         let item = Item {
             production,
             index: 0,
         };
-        let nonterminal = word(grammar, production * ProductionIndex::WORDS);
+        let nonterminal = word(grammar.words, production * ProductionIndex::WORDS);
         let set = TokenSet(aheads[nonterminal]);
-        feed(grammar, productions, terminals, first, item, set, aheads);
+        feed(grammar, terminals, first, item, set, aheads);
     }
 }
 
@@ -110,20 +106,20 @@ fn aheads_of(
     let mut changed = true;
     while changed {
         let before = aheads;
-        feed_items(grammar, productions, terminals, first, kernel, &mut aheads);
-        feed_firsts(grammar, productions, terminals, first, &mut aheads);
+        feed_items(Grammar { words: grammar, productions }, terminals, first, kernel, &mut aheads);
+        feed_firsts(Grammar { words: grammar, productions }, terminals, first, &mut aheads);
         changed = aheads != before;
     }
     aheads
 }
 
 // Each production's index-0 item gets its nonterminal's lookaheads besides its own.
-fn spread(grammar: &[u16], productions: usize, aheads: &[u64; 32], state: &mut [u64; Item::LIMIT])
-    requires { Packed grammar.now productions × (length state.old ≡ item_limit) }
-    ensures { state.new ≡ spread_in grammar.now aheads.now state.old (below productions) }
+fn spread(grammar: Grammar, aheads: &[u64; 32], state: &mut [u64; Item::LIMIT])
+    requires { length state.old ≡ item_limit }
+    ensures { state.new ≡ spread_in grammar.entry.words.now aheads.now state.old (below grammar.entry.productions) }
 {
-    for production in 0..productions {
-        let nonterminal = word(grammar, production * ProductionIndex::WORDS);
+    for production in 0..grammar.productions {
+        let nonterminal = word(grammar.words, production * ProductionIndex::WORDS);
         let own = TokenSet(state[production * ProductionIndex::INDEXES]);
         let ahead = TokenSet(aheads[nonterminal]);
         state[production * ProductionIndex::INDEXES] = own.union(ahead).0;
@@ -142,6 +138,6 @@ pub fn transitive_closure(
     requires flat { Flat state.old }
     ensures { (length state.new ≡ item_limit) × ((T : Table) → Grammar T grammar.now productions terminals first.now → state.new ≡ closure T (take (index_limit * productions) state.old) ++ drop (index_limit * productions) state.old) }
 {
-    let aheads = aheads_of(grammar, productions, terminals, first, state);
-    spread(grammar, productions, &aheads, state);
+    let aheads = aheads_of(Grammar { words: grammar, productions }, terminals, first, state);
+    spread(Grammar { words: grammar, productions }, &aheads, state);
 }

@@ -16,7 +16,7 @@ ghost use Rattle.codes.specs.Carried.{Decodes, Carried};
 
 use bits::{is_set, put};
 use lr1_core::Item;
-use repr::{ProductionIndex, word};
+use repr::{Grammar, ProductionIndex, word};
 use trace_graph::{Full, Node, TraceEdge, TraceGraph, same_label, write_edge};
 
 pub mod viewing;
@@ -78,21 +78,21 @@ pub fn insert_code(
 }
 
 // Whether two productions have the same nonterminal and symbols.
-fn same_production(grammar: &[u16], productions: usize, p: usize, q: usize) -> bool
-    requires { Packed grammar.now productions × (p < productions) × (q < productions) }
-    ensures { result ≡ is_same_production (productions_in grammar.now productions) p q }
+fn same_production(grammar: Grammar, p: usize, q: usize) -> bool
+    requires { (p < grammar.productions) × (q < grammar.productions) }
+    ensures { result ≡ is_same_production (productions_in grammar.entry.words.now grammar.entry.productions) p q }
 {
-    word(grammar, p * ProductionIndex::WORDS) == word(grammar, q * ProductionIndex::WORDS)
-        && same_label(grammar, productions, p, 0, q, 0)
+    word(grammar.words, p * ProductionIndex::WORDS) == word(grammar.words, q * ProductionIndex::WORDS)
+        && same_label(grammar, p, 0, q, 0)
 }
 
 // The least production of the same nonterminal and symbols.
-fn least_same(grammar: &[u16], productions: usize, p: usize) -> usize
-    requires { Packed grammar.now productions × (p < productions) }
-    ensures { (result ≡ least_alike (productions_in grammar.now productions) p) × (result < production_limit) }
+fn least_same(grammar: Grammar, p: usize) -> usize
+    requires { p < grammar.productions }
+    ensures { (result ≡ least_alike (productions_in grammar.entry.words.now grammar.entry.productions) p) × (result < production_limit) }
 {
     for q in 0..p {
-        if same_production(grammar, productions, q, p) {
+        if same_production(grammar, q, p) {
             return q;
         }
     }
@@ -100,12 +100,12 @@ fn least_same(grammar: &[u16], productions: usize, p: usize) -> usize
 }
 
 // That of every production.
-pub fn fill_least(grammar: &[u16], productions: usize, least: &mut [u8])
-    requires { Packed grammar.now productions × (least.old ≡ replicate production_limit 0) }
-    ensures { Leasts (productions_in grammar.now productions) least.new × ((p : ℕ) → p < production_limit → slice_index least.new p < production_limit) }
+pub fn fill_least(grammar: Grammar, least: &mut [u8])
+    requires { least.old ≡ replicate production_limit 0 }
+    ensures { Leasts (productions_in grammar.entry.words.now grammar.entry.productions) least.new × ((p : ℕ) → p < production_limit → slice_index least.new p < production_limit) }
 {
-    for p in 0..productions {
-        least[p] = least_same(grammar, productions, p) as u8;
+    for p in 0..grammar.productions {
+        least[p] = least_same(grammar, p) as u8;
     }
 }
 

@@ -18,52 +18,48 @@ ghost use Rattle.conflict_counts.specs.Clashed.{shifts_at, pairs_in, clashes_in}
 
 use lookahead::TokenSet;
 use lr1_core::Item;
-use repr::ProductionIndex;
+use repr::{Grammar, ProductionIndex};
 
 // Of one production.
 fn reduction(
-    grammar: &[u16],
-    productions: usize,
+    grammar: Grammar,
     state: &[u64; Item::LIMIT],
     production: usize,
 ) -> u64
-    requires { Packed grammar.now productions × (production < productions) }
-    ensures { (T : Table) (terminals : ℕ) (sets : List ℕ) → Grammar T grammar.now productions terminals sets → result ≡ reduces T (take (index_limit * productions) state.now) production }
+    requires { production < grammar.productions }
+    ensures { (T : Table) (terminals : ℕ) (sets : List ℕ) → Grammar T grammar.entry.words.now grammar.entry.productions terminals sets → result ≡ reduces T (take (index_limit * grammar.entry.productions) state.now) production }
 {
     let item = Item {
         production,
         index: 0,
     };
-    let at = production * ProductionIndex::INDEXES + item.length(grammar, productions);
+    let at = production * ProductionIndex::INDEXES + item.length(grammar);
     state[at]
 }
 
 // Of all.
 pub fn reductions(
-    grammar: &[u16],
-    productions: usize,
+    grammar: Grammar,
     state: &[u64; Item::LIMIT],
 ) -> [u64; ProductionIndex::LIMIT]
-    requires { Packed grammar.now productions }
-    ensures { (length result ≡ production_limit) × ((T : Table) (terminals : ℕ) (sets : List ℕ) → Grammar T grammar.now productions terminals sets → ReducedAs T productions state.now result productions) }
+    ensures { (length result ≡ production_limit) × ((T : Table) (terminals : ℕ) (sets : List ℕ) → Grammar T grammar.entry.words.now grammar.entry.productions terminals sets → ReducedAs T grammar.entry.productions state.now result grammar.entry.productions) }
 {
     let mut map = [0u64; ProductionIndex::LIMIT];
-    for production in 0..productions {
-        map[production] = reduction(grammar, productions, state, production);
+    for production in 0..grammar.productions {
+        map[production] = reduction(grammar, state, production);
     }
     map
 }
 
 // The terminal at the cursor of one item, if it has a token, put into the set.
 fn shift_one(
-    grammar: &[u16],
-    productions: usize,
+    grammar: Grammar,
     place: usize,
     tokens: u64,
     set: TokenSet,
 ) -> TokenSet
-    requires { Packed grammar.now productions × (place < index_limit * productions) }
-    ensures { (t : ℕ) → has result.0 t ≡ has set.0 t || (nat_lt t 63 && shifts_at grammar.now tokens place t) }
+    requires { place < index_limit * grammar.productions }
+    ensures { (t : ℕ) → has result.0 t ≡ has set.0 t || (nat_lt t 63 && shifts_at grammar.entry.words.now tokens place t) }
 {
     if tokens == 0 {
         return set;
@@ -72,7 +68,7 @@ fn shift_one(
         production: place / ProductionIndex::INDEXES,
         index: place % ProductionIndex::INDEXES,
     };
-    let symbol = item.cursor(grammar, productions);
+    let symbol = item.cursor(grammar);
     if symbol < 32 {
         return set;
     }
@@ -83,15 +79,14 @@ fn shift_one(
 }
 
 // The terminals that the state shifts.
-pub fn shift_set(grammar: &[u16], productions: usize, state: &[u64; Item::LIMIT]) -> TokenSet
-    requires packed { Packed grammar.now productions }
+pub fn shift_set(grammar: Grammar, state: &[u64; Item::LIMIT]) -> TokenSet
     requires flat { Flat state.now }
-    ensures { (T : Table) (terminals : ℕ) (sets : List ℕ) → Grammar T grammar.now productions terminals sets → Shifted T (take (index_limit * productions) state.now) result.0 }
+    ensures { (T : Table) (terminals : ℕ) (sets : List ℕ) → Grammar T grammar.entry.words.now grammar.entry.productions terminals sets → Shifted T (take (index_limit * grammar.entry.productions) state.now) result.0 }
 {
-    let places = ProductionIndex::INDEXES * productions;
+    let places = ProductionIndex::INDEXES * grammar.productions;
     let mut set = TokenSet::new();
     for place in 0..places {
-        set = shift_one(grammar, productions, place, state[place], set);
+        set = shift_one(grammar, place, state[place], set);
     }
     set
 }
@@ -150,12 +145,11 @@ fn count_reduced(
 }
 
 // The conflicts of the state.
-pub fn count_state(grammar: &[u16], productions: usize, state: &[u64; Item::LIMIT]) -> usize
-    requires packed { Packed grammar.now productions }
+pub fn count_state(grammar: Grammar, state: &[u64; Item::LIMIT]) -> usize
     requires flat { Flat state.now }
-    ensures { (result ≤ 1056768) × ((T : Table) (terminals : ℕ) (sets : List ℕ) → Grammar T grammar.now productions terminals sets → result ≡ length (clashes T (take (index_limit * productions) state.now))) }
+    ensures { (result ≤ 1056768) × ((T : Table) (terminals : ℕ) (sets : List ℕ) → Grammar T grammar.entry.words.now grammar.entry.productions terminals sets → result ≡ length (clashes T (take (index_limit * grammar.entry.productions) state.now))) }
 {
-    let reduced = reductions(grammar, productions, state);
-    let shifted = shift_set(grammar, productions, state);
-    count_reduced(&reduced, shifted, productions)
+    let reduced = reductions(grammar, state);
+    let shifted = shift_set(grammar, state);
+    count_reduced(&reduced, shifted, grammar.productions)
 }

@@ -27,7 +27,7 @@ fn write_at(
     ensures { (s : Collection grammar.now productions words.now begins.now.items begins.now.states) → (list.new ≡ put_at at (state_words s.T s.Rs k) list.old) × (result ≡ at + length (state_words s.T s.Rs k)) }
 {
     let state = unpack(words, begins.items[k], begins.items[k + 1]);
-    write_state(grammar, productions, &state, k, list, at)
+    write_state(Grammar { words: grammar, productions }, &state, k, list, at)
 }
 
 // All, at the front of the list.
@@ -43,6 +43,6 @@ pub fn write_conflicts(
 {
     let mut place = 0;
     for k in 0..begins.states {
-        place = write_at(grammar, productions, words, begins, k, list, place);
+        place = write_at(Grammar { words: grammar, productions }, words, begins, k, list, place);
     }
 }

@@ -18,7 +18,7 @@ ghost use Rattle.conflict_words.specs.Tokens.{other_of, token_words};
 use conflict_counts::{common, reductions, shift_set, shifts_of};
 use lookahead::TokenSet;
 use lr1_core::Item;
-use repr::ProductionIndex;
+use repr::{Grammar, ProductionIndex};
 
 // A conflict without its token: action 0 shifts it, 1 reduces by production `other`.
 #[derive(Clone, Copy)]
@@ -150,7 +150,7 @@ pub fn write_state(
     requires by_index { (T : Table) × (terminals : ℕ) × (sets : List ℕ) × Grammar T grammar.now productions terminals sets × (at + length (joined (clash_words number) (clashes T (take (index_limit * productions) state.now))) ≤ length list.old) }
     ensures { (T : Table) (terminals : ℕ) (sets : List ℕ) → Grammar T grammar.now productions terminals sets → (list.new ≡ put_at at (joined (clash_words number) (clashes T (take (index_limit * productions) state.now))) list.old) × (result ≡ at + length (joined (clash_words number) (clashes T (take (index_limit * productions) state.now)))) }
 {
-    let reduced = reductions(grammar, productions, state);
-    let shifted = shift_set(grammar, productions, state);
+    let reduced = reductions(Grammar { words: grammar, productions }, state);
+    let shifted = shift_set(Grammar { words: grammar, productions }, state);
     write_reduced(list, at, &reduced, shifted, productions, number)
 }

@@ -15,7 +15,7 @@ ghost use Rattle.example.specs.Written.{label_at, words_of, Part, put_at, around
 use first::Answer;
 use lookahead::TokenSet;
 use lr1_core::{Item, SymbolSets, prefix, suffix};
-use repr::{NonterminalString, ProductionIndex, word};
+use repr::{Grammar, NonterminalString, ProductionIndex, word};
 
 // An example in words: its limits.
 #[derive(Clone, Copy)]
@@ -71,85 +71,77 @@ fn item(labels: &[u16], label: usize) -> Item
 
 // The symbols before a label's cursor.
 pub fn prefix_part<'a>(
-    grammar: &'a [u16],
-    productions: usize,
+    grammar: Grammar<'a>,
     labels: &[u16],
     label: usize,
 ) -> &'a [u16]
-    requires packed { Packed grammar.now productions }
-    requires labels_fit { LabelsFit (productions_in grammar.now productions) labels.now }
+    requires labels_fit { LabelsFit (productions_in grammar.words.now grammar.productions) labels.now }
     requires label_in_bounds { label < length (labels_in labels.now) }
-    ensures { Part result.now (sets_of (productions_in grammar.now productions) (label_at labels.now label)).prefix }
+    ensures { Part result.now (sets_of (productions_in grammar.entry.words.now grammar.entry.productions) (label_at labels.now label)).prefix }
 {
-    prefix(grammar, productions, item(labels, label))
+    prefix(grammar, item(labels, label))
 }
 
 // The symbols after a label's cursor.
 pub fn suffix_part<'a>(
-    grammar: &'a [u16],
-    productions: usize,
+    grammar: Grammar<'a>,
     labels: &[u16],
     label: usize,
 ) -> &'a [u16]
-    requires packed { Packed grammar.now productions }
-    requires labels_fit { LabelsFit (productions_in grammar.now productions) labels.now }
+    requires labels_fit { LabelsFit (productions_in grammar.words.now grammar.productions) labels.now }
     requires label_in_bounds { label < length (labels_in labels.now) }
-    ensures { Part result.now (sets_of (productions_in grammar.now productions) (label_at labels.now label)).suffix }
+    ensures { Part result.now (sets_of (productions_in grammar.entry.words.now grammar.entry.productions) (label_at labels.now label)).suffix }
 {
-    suffix(grammar, productions, item(labels, label))
+    suffix(grammar, item(labels, label))
 }
 
 // The symbol at the first label's cursor, or none.
-pub fn cursor_part<'a>(grammar: &'a [u16], productions: usize, labels: &[u16]) -> &'a [u16]
-    requires packed { Packed grammar.now productions }
-    requires labels_fit { LabelsFit (productions_in grammar.now productions) labels.now }
-    ensures { Part result.now (cursor_of (productions_in grammar.now productions) (labels_in labels.now)) }
+pub fn cursor_part<'a>(grammar: Grammar<'a>, labels: &[u16]) -> &'a [u16]
+    requires labels_fit { LabelsFit (productions_in grammar.words.now grammar.productions) labels.now }
+    ensures { Part result.now (cursor_of (productions_in grammar.entry.words.now grammar.entry.productions) (labels_in labels.now)) }
 {
     let first = item(labels, 0);
     let from = first.production * ProductionIndex::WORDS + 4 + 2 * first.index;
-    if first.can_shift(grammar, productions) {
-        return &grammar[from..from + 2];
+    if first.can_shift(grammar) {
+        return &grammar.words[from..from + 2];
     }
-    &grammar[..0]
+    &grammar.words[..0]
 }
 
 // How many symbols stand before the cursors of all labels; the walk's first entry has the empty sets.
-pub fn prefix_total(grammar: &[u16], productions: usize, labels: &[u16]) -> usize
-    requires packed { Packed grammar.now productions }
-    requires labels_fit { LabelsFit (productions_in grammar.now productions) labels.now }
-    ensures { result ≡ length (prefixes (productions_in grammar.now productions) (labels_in labels.now)) }
+pub fn prefix_total(grammar: Grammar, labels: &[u16]) -> usize
+    requires labels_fit { LabelsFit (productions_in grammar.words.now grammar.productions) labels.now }
+    ensures { result ≡ length (prefixes (productions_in grammar.entry.words.now grammar.entry.productions) (labels_in labels.now)) }
 {
     let count = label_count(labels);
     let first = SymbolSets::new();
     let mut total = first.prefix;
     for label in 0..count {
-        total += prefix_part(grammar, productions, labels, label).len() / 2;
+        total += prefix_part(grammar, labels, label).len() / 2;
     }
     total
 }
 
 // How many stand after them, in the same way.
-fn suffix_total(grammar: &[u16], productions: usize, labels: &[u16]) -> usize
-    requires packed { Packed grammar.now productions }
-    requires labels_fit { LabelsFit (productions_in grammar.now productions) labels.now }
-    ensures { result ≡ length (suffixes (productions_in grammar.now productions) (labels_in labels.now)) }
+fn suffix_total(grammar: Grammar, labels: &[u16]) -> usize
+    requires labels_fit { LabelsFit (productions_in grammar.words.now grammar.productions) labels.now }
+    ensures { result ≡ length (suffixes (productions_in grammar.entry.words.now grammar.entry.productions) (labels_in labels.now)) }
 {
     let count = label_count(labels);
     let first = SymbolSets::new();
     let mut total = first.suffix;
     for label in 0..count {
-        total += suffix_part(grammar, productions, labels, label).len() / 2;
+        total += suffix_part(grammar, labels, label).len() / 2;
     }
     total
 }
 
 // How many places the cursor place has: one, or none after a prefix with nothing at the cursor.
-fn middle_count(grammar: &[u16], productions: usize, labels: &[u16]) -> usize
-    requires packed { Packed grammar.now productions }
-    requires labels_fit { LabelsFit (productions_in grammar.now productions) labels.now }
-    ensures { result ≡ length (middle (productions_in grammar.now productions) (labels_in labels.now)) }
+fn middle_count(grammar: Grammar, labels: &[u16]) -> usize
+    requires labels_fit { LabelsFit (productions_in grammar.words.now grammar.productions) labels.now }
+    ensures { result ≡ length (middle (productions_in grammar.entry.words.now grammar.entry.productions) (labels_in labels.now)) }
 {
-    let sets = item(labels, 0).symbol_sets(grammar, productions);
+    let sets = item(labels, 0).symbol_sets(grammar);
     if sets.cursor > 0 {
         return 1;
     }
@@ -160,14 +152,13 @@ fn middle_count(grammar: &[u16], productions: usize, labels: &[u16]) -> usize
 }
 
 // How many places the symbol list of the example has.
-pub fn symbol_count(grammar: &[u16], productions: usize, labels: &[u16]) -> usize
-    requires packed { Packed grammar.now productions }
-    requires labels_fit { LabelsFit (productions_in grammar.now productions) labels.now }
-    ensures { (result ≡ length (symbols (productions_in grammar.now productions) (labels_in labels.now))) × (result ≤ example_symbols) }
+pub fn symbol_count(grammar: Grammar, labels: &[u16]) -> usize
+    requires labels_fit { LabelsFit (productions_in grammar.words.now grammar.productions) labels.now }
+    ensures { (result ≡ length (symbols (productions_in grammar.entry.words.now grammar.entry.productions) (labels_in labels.now))) × (result ≤ example_symbols) }
 {
-    let around = prefix_total(grammar, productions, labels)
-        + suffix_total(grammar, productions, labels);
-    around + middle_count(grammar, productions, labels)
+    let around = prefix_total(grammar, labels)
+        + suffix_total(grammar, labels);
+    around + middle_count(grammar, labels)
 }
 
 // Copies words into the buffer at a place.
@@ -190,21 +181,19 @@ fn put_three(buffer: &mut [u16], at: usize, first: usize, second: usize, third: 
 
 // Writes the prefixes, outermost first; returns the place after them.
 fn write_prefixes(
-    grammar: &[u16],
-    productions: usize,
+    grammar: Grammar,
     labels: &[u16],
     buffer: &mut [u16],
     at: usize,
 ) -> usize
-    requires packed { Packed grammar.now productions }
-    requires labels_fit { LabelsFit (productions_in grammar.now productions) labels.now }
-    requires labels_in_bounds { at + length (words_of (prefixes (productions_in grammar.now productions) (labels_in labels.now))) ≤ length buffer.old }
-    ensures { (buffer.new ≡ put_at at (words_of (prefixes (productions_in grammar.now productions) (labels_in labels.now))) buffer.old) × (result ≡ at + length (words_of (prefixes (productions_in grammar.now productions) (labels_in labels.now)))) }
+    requires labels_fit { LabelsFit (productions_in grammar.words.now grammar.productions) labels.now }
+    requires labels_in_bounds { at + length (words_of (prefixes (productions_in grammar.words.now grammar.productions) (labels_in labels.now))) ≤ length buffer.old }
+    ensures { (buffer.new ≡ put_at at (words_of (prefixes (productions_in grammar.entry.words.now grammar.entry.productions) (labels_in labels.now))) buffer.old) × (result ≡ at + length (words_of (prefixes (productions_in grammar.entry.words.now grammar.entry.productions) (labels_in labels.now)))) }
 {
     let count = label_count(labels);
     let mut place = at;
     for label in (0..count).rev() {
-        let part = prefix_part(grammar, productions, labels, label);
+        let part = prefix_part(grammar, labels, label);
         copy(part, buffer, place);
         place += part.len();
     }
@@ -213,21 +202,19 @@ fn write_prefixes(
 
 // Writes the suffixes, innermost first; returns the place after them.
 fn write_suffixes(
-    grammar: &[u16],
-    productions: usize,
+    grammar: Grammar,
     labels: &[u16],
     buffer: &mut [u16],
     at: usize,
 ) -> usize
-    requires packed { Packed grammar.now productions }
-    requires labels_fit { LabelsFit (productions_in grammar.now productions) labels.now }
-    requires labels_in_bounds { at + length (words_of (suffixes (productions_in grammar.now productions) (labels_in labels.now))) ≤ length buffer.old }
-    ensures { (buffer.new ≡ put_at at (words_of (suffixes (productions_in grammar.now productions) (labels_in labels.now))) buffer.old) × (result ≡ at + length (words_of (suffixes (productions_in grammar.now productions) (labels_in labels.now)))) }
+    requires labels_fit { LabelsFit (productions_in grammar.words.now grammar.productions) labels.now }
+    requires labels_in_bounds { at + length (words_of (suffixes (productions_in grammar.words.now grammar.productions) (labels_in labels.now))) ≤ length buffer.old }
+    ensures { (buffer.new ≡ put_at at (words_of (suffixes (productions_in grammar.entry.words.now grammar.entry.productions) (labels_in labels.now))) buffer.old) × (result ≡ at + length (words_of (suffixes (productions_in grammar.entry.words.now grammar.entry.productions) (labels_in labels.now)))) }
 {
     let count = label_count(labels);
     let mut place = at;
     for label in 0..count {
-        let part = suffix_part(grammar, productions, labels, label);
+        let part = suffix_part(grammar, labels, label);
         copy(part, buffer, place);
         place += part.len();
     }
@@ -236,23 +223,21 @@ fn write_suffixes(
 
 // Writes the cursor place: the cursor's symbol, or the empty mark where the first label has no symbol; returns the place after it.
 fn write_middle(
-    grammar: &[u16],
-    productions: usize,
+    grammar: Grammar,
     labels: &[u16],
     buffer: &mut [u16],
     at: usize,
 ) -> usize
-    requires packed { Packed grammar.now productions }
-    requires labels_fit { LabelsFit (productions_in grammar.now productions) labels.now }
-    requires labels_in_bounds { at + length (joined symbol_words (middle (productions_in grammar.now productions) (labels_in labels.now))) ≤ length buffer.old }
-    ensures { (buffer.new ≡ put_at at (joined symbol_words (middle (productions_in grammar.now productions) (labels_in labels.now))) buffer.old) × (result ≡ at + length (joined symbol_words (middle (productions_in grammar.now productions) (labels_in labels.now)))) }
+    requires labels_fit { LabelsFit (productions_in grammar.words.now grammar.productions) labels.now }
+    requires labels_in_bounds { at + length (joined symbol_words (middle (productions_in grammar.words.now grammar.productions) (labels_in labels.now))) ≤ length buffer.old }
+    ensures { (buffer.new ≡ put_at at (joined symbol_words (middle (productions_in grammar.entry.words.now grammar.entry.productions) (labels_in labels.now))) buffer.old) × (result ≡ at + length (joined symbol_words (middle (productions_in grammar.entry.words.now grammar.entry.productions) (labels_in labels.now)))) }
 {
-    let part = cursor_part(grammar, productions, labels);
+    let part = cursor_part(grammar, labels);
     if part.len() > 0 {
         copy(part, buffer, at);
         return at + 2;
     }
-    let lead = prefix_part(grammar, productions, labels, 0);
+    let lead = prefix_part(grammar, labels, 0);
     if lead.len() > 0 {
         return at;
     }
@@ -263,46 +248,44 @@ fn write_middle(
 
 // Writes the reductions, innermost first: of `places` symbols, each starts after the prefixes of the labels around it and ends before their suffixes.
 fn write_reductions(
-    grammar: &[u16],
-    productions: usize,
+    grammar: Grammar,
     labels: &[u16],
     places: usize,
     buffer: &mut [u16],
     at: usize,
 )
-    requires packed { Packed grammar.now productions × (places ≤ example_symbols) }
-    requires labels_fit { LabelsFit (productions_in grammar.now productions) labels.now }
-    requires places_value { places ≡ length (symbols (productions_in grammar.now productions) (labels_in labels.now)) }
+    requires within { places ≤ example_symbols }
+    requires labels_fit { LabelsFit (productions_in grammar.words.now grammar.productions) labels.now }
+    requires places_value { places ≡ length (symbols (productions_in grammar.words.now grammar.productions) (labels_in labels.now)) }
     requires labels_in_bounds { at + reduction_room * length (labels_in labels.now) ≤ length buffer.old }
-    ensures { buffer.new ≡ put_at at (around_words (productions_in grammar.now productions) places (labels_in labels.now)) buffer.old }
+    ensures { buffer.new ≡ put_at at (around_words (productions_in grammar.entry.words.now grammar.entry.productions) places (labels_in labels.now)) buffer.old }
 {
     let count = label_count(labels);
-    let mut start = prefix_total(grammar, productions, labels);
-    let mut end = places - suffix_total(grammar, productions, labels);
+    let mut start = prefix_total(grammar, labels);
+    let mut end = places - suffix_total(grammar, labels);
     let mut place = at;
     for label in 0..count {
-        start -= prefix_part(grammar, productions, labels, label).len() / 2;
-        end += suffix_part(grammar, productions, labels, label).len() / 2;
+        start -= prefix_part(grammar, labels, label).len() / 2;
+        end += suffix_part(grammar, labels, label).len() / 2;
         put_three(buffer, place, start, end, nonterminal(labels, label));
         place += Example::REDUCTION_WORDS;
     }
 }
 
 // Writes the example of the labels at the front of the buffer.
-pub fn write_example(grammar: &[u16], productions: usize, labels: &[u16], buffer: &mut [u16])
-    requires packed { Packed grammar.now productions }
-    requires labels_fit { LabelsFit (productions_in grammar.now productions) labels.now }
+pub fn write_example(grammar: Grammar, labels: &[u16], buffer: &mut [u16])
+    requires labels_fit { LabelsFit (productions_in grammar.words.now grammar.productions) labels.now }
     requires example_room_in_bounds { example_room ≤ length buffer.old }
-    ensures { buffer.new ≡ in_front (example_words (productions_in grammar.now productions) (labels_in labels.now)) buffer.old }
+    ensures { buffer.new ≡ in_front (example_words (productions_in grammar.entry.words.now grammar.entry.productions) (labels_in labels.now)) buffer.old }
 {
-    let places = symbol_count(grammar, productions, labels);
-    let cursor = prefix_total(grammar, productions, labels);
+    let places = symbol_count(grammar, labels);
+    let cursor = prefix_total(grammar, labels);
     let count = label_count(labels);
     put_three(buffer, 0, places, cursor, count);
-    let middle = write_prefixes(grammar, productions, labels, buffer, 3);
-    let after = write_middle(grammar, productions, labels, buffer, middle);
-    let end = write_suffixes(grammar, productions, labels, buffer, after);
-    write_reductions(grammar, productions, labels, places, buffer, end);
+    let middle = write_prefixes(grammar, labels, buffer, 3);
+    let after = write_middle(grammar, labels, buffer, middle);
+    let end = write_suffixes(grammar, labels, buffer, after);
+    write_reductions(grammar, labels, places, buffer, end);
 }
 
 // FIRST of what the example expects next, and how many labels were asked for it.
@@ -316,31 +299,30 @@ pub struct Expected {
 fn label_first0(
     map: &[u64; NonterminalString::LIMIT],
     terminals: u16,
-    grammar: &[u16],
-    productions: usize,
+    grammar: Grammar,
     labels: &[u16],
     label: usize,
 ) -> Answer
-    requires packed { Packed grammar.now productions × (terminals ≤ terminal_limit) }
-    requires labels_fit { LabelsFit (productions_in grammar.now productions) labels.now }
+    requires within { terminals ≤ terminal_limit }
+    requires labels_fit { LabelsFit (productions_in grammar.words.now grammar.productions) labels.now }
     requires label_in_bounds { label < length (labels_in labels.now) }
-    ensures { result ≡ first0 terminals map.now (slice_index_or (asked_parts (productions_in grammar.now productions) (labels_in labels.now)) label []) }
+    ensures { result ≡ first0 terminals map.now (slice_index_or (asked_parts (productions_in grammar.entry.words.now grammar.entry.productions) (labels_in labels.now)) label []) }
 {
     if label > 0 {
         return first::first0(
             map,
             terminals,
-            suffix_part(grammar, productions, labels, label),
+            suffix_part(grammar, labels, label),
         );
     }
-    let own = first::first0(map, terminals, cursor_part(grammar, productions, labels));
+    let own = first::first0(map, terminals, cursor_part(grammar, labels));
     if !own.nullable {
         return own;
     }
     let after = first::first0(
         map,
         terminals,
-        suffix_part(grammar, productions, labels, label),
+        suffix_part(grammar, labels, label),
     );
     own.join(after)
 }
@@ -349,13 +331,12 @@ fn label_first0(
 pub fn first0(
     map: &[u64; NonterminalString::LIMIT],
     terminals: u16,
-    grammar: &[u16],
-    productions: usize,
+    grammar: Grammar,
     labels: &[u16],
 ) -> Expected
-    requires packed { Packed grammar.now productions × (terminals ≤ terminal_limit) }
-    requires labels_fit { LabelsFit (productions_in grammar.now productions) labels.now }
-    ensures { (result.answer ≡ first0 terminals map.now (ahead (productions_in grammar.now productions) (labels_in labels.now))) × (result.asked ≡ asked_of terminals map.now (productions_in grammar.now productions) (labels_in labels.now)) }
+    requires within { terminals ≤ terminal_limit }
+    requires labels_fit { LabelsFit (productions_in grammar.words.now grammar.productions) labels.now }
+    ensures { (result.answer ≡ first0 terminals map.now (ahead (productions_in grammar.entry.words.now grammar.entry.productions) (labels_in labels.now))) × (result.asked ≡ asked_of terminals map.now (productions_in grammar.entry.words.now grammar.entry.productions) (labels_in labels.now)) }
 {
     let count = label_count(labels);
     let mut answer = Answer {
@@ -363,7 +344,7 @@ pub fn first0(
         nullable: true,
     };
     for asked in 0..count {
-        let next = label_first0(map, terminals, grammar, productions, labels, asked);
+        let next = label_first0(map, terminals, grammar, labels, asked);
         answer = answer.join(next);
         if !answer.nullable {
             return Expected {

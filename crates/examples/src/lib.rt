@@ -38,7 +38,7 @@ use first::FirstSets;
 use lookahead::TokenSet;
 use lr1_core::Item;
 use outline::{Outline, Side, outline_of};
-use repr::{NonterminalString, ProductionIndex};
+use repr::{Grammar, NonterminalString, ProductionIndex};
 use search::{Searched, read_labels, search, write_trial};
 use shift_items::{conflicting_shift_items, next_shift_item};
 use state_graph::StateIndex;
@@ -67,12 +67,12 @@ pub fn prepare(table: &[u16], grammar: &mut [u16]) -> Prepared
     let productions = counts.productions;
     let terminals = counts.terminals as u16;
     read_productions(table, grammar);
-    let sets = FirstSets::new(grammar, productions, terminals);
+    let sets = FirstSets::new(Grammar { words: grammar, productions }, terminals);
     let map = sets.map;
     let mut least = [0u8; ProductionIndex::LIMIT];
-    fill_least(grammar, productions, &mut least);
+    fill_least(Grammar { words: grammar, productions }, &mut least);
     let mut ends = [0u64; Item::FLAG_WORDS];
-    suffix_ends(grammar, productions, terminals, &map, &mut ends);
+    suffix_ends(Grammar { words: grammar, productions }, terminals, &map, &mut ends);
     Prepared {
         counts,
         map,
@@ -150,8 +150,7 @@ pub struct Traced {
 
 // The outline of the trial that the words hold, kept as example `count` of its side, number `turn` of its listing; and the labels of the side's first.
 fn keep_trial(
-    grammar: &[u16],
-    productions: usize,
+    grammar: Grammar,
     shift: bool,
     owners: &[u8],
     codes: &[u16],
@@ -160,14 +159,13 @@ fn keep_trial(
     count: usize,
     turn: usize,
 )
-    requires packed { Packed grammar.now productions }
-    requires tried { (es : List TraceEdge) × Tried (productions_in grammar.now productions) es owners.now codes.now words.now }
+    requires tried { (es : List TraceEdge) × Tried (productions_in grammar.words.now grammar.productions) es owners.now codes.now words.now }
     requires count_in_bounds { (count < example_limit) × (turn < example_limit) }
-    ensures { (es : List TraceEdge) → Tried (productions_in grammar.now productions) es owners.now codes.now words.now → (p rest : List ℕ) → words.now ≡ trial_words p ++ rest → PutBehind (productions_in grammar.now productions) shift (labels_of (productions_in grammar.now productions) es p) turn count side.old.kept side.old.prints side.new.kept side.new.prints }
+    ensures { (es : List TraceEdge) → Tried (productions_in grammar.entry.words.now grammar.entry.productions) es owners.now codes.now words.now → (p rest : List ℕ) → words.now ≡ trial_words p ++ rest → PutBehind (productions_in grammar.entry.words.now grammar.entry.productions) shift (labels_of (productions_in grammar.entry.words.now grammar.entry.productions) es p) turn count side.old.kept side.old.prints side.new.kept side.new.prints }
 {
     let mut labels = [0u16; Example::ALL_LABEL_WORDS];
     let size = read_labels(owners, codes, words, &mut labels);
-    let outline = outline_of(grammar, productions, &labels[..size], shift);
+    let outline = outline_of(grammar, &labels[..size], shift);
     side.keep(outline, turn, count);
     if count < Outline::LABELLED {
         side.keep_labels(&labels[..size], count);
@@ -202,8 +200,7 @@ fn list_outlines(
     let mut made: u32 = 0;
     loop {
         match search(
-            grammar,
-            productions,
+            Grammar { words: grammar, productions },
             terminals,
             map,
             lookahead,
@@ -220,8 +217,7 @@ fn list_outlines(
                     return Err(Refusal::TooManyExamples);
                 }
                 keep_trial(
-                    grammar,
-                    productions,
+                    Grammar { words: grammar, productions },
                     shift,
                     owners,
                     codes,
@@ -385,9 +381,9 @@ fn shift_examples(
 }
 
 // A production at its end, as a reduce traces it.
-fn reduce_item(grammar: &[u16], productions: usize, state: StateIndex, production: usize) -> Traced
-    requires { Packed grammar.now productions × (production < productions) }
-    ensures { result ≡ record { state = state; production = production; index = length (slice_index_or (productions_in grammar.now productions) production no_production).symbols; shift = false } }
+fn reduce_item(grammar: Grammar, state: StateIndex, production: usize) -> Traced
+    requires { production < grammar.productions }
+    ensures { result ≡ record { state = state; production = production; index = length (slice_index_or (productions_in grammar.entry.words.now grammar.entry.productions) production no_production).symbols; shift = false } }
 {
     let item = Item {
         production,
@@ -396,7 +392,7 @@ fn reduce_item(grammar: &[u16], productions: usize, state: StateIndex, productio
     Traced {
         state,
         production,
-        index: item.length(grammar, productions),
+        index: item.length(grammar),
         shift: false,
     }
 }
@@ -472,8 +468,7 @@ fn find_example(
     let mut made: u32 = 0;
     loop {
         match search(
-            grammar,
-            productions,
+            Grammar { words: grammar, productions },
             terminals,
             map,
             lookahead,

@@ -7,11 +7,11 @@ ghost use Rattle.repr.specs.Sizes.{nonterminal_limit, terminal_limit};
 ghost use Rattle.slices.specs.Same.{same_words};
 ghost use Rattle.repr.specs.Listed.{listed, list_is_fit};
 ghost use Rattle.repr.specs.Symbols.{meant, IsInRange};
-ghost use Rattle.repr.specs.Packed.{Packed, production_in, productions_in};
+ghost use Rattle.repr.specs.Packed.{production_in, productions_in};
 ghost use Rattle.first.specs.First.{first_of, marked_at_end, first0, first1, join_answers, meets_ahead, disjoint, grown, round, sets_of_first};
 
 use lookahead::TokenSet;
-use repr::{NonterminalString, ProductionIndex, Symbol, SymbolIter, symbols, word};
+use repr::{Grammar, NonterminalString, Symbol, SymbolIter};
 
 // FIRST of a list: the terminals that begin what it derives, never the end of input; and whether it derives the empty list.
 #[derive(Clone, Copy, PartialEq, Eq)]
@@ -70,150 +70,129 @@ impl Answer {
 #[derive(Clone, Copy)]
 pub struct FirstSets {
     pub map: [u64; NonterminalString::LIMIT],
+    pub terminals: u16,
+    pub ghost few: { terminals ≤ terminal_limit },
 }
 
 impl FirstSets {
     // The least solution over all productions: round after round until one changes nothing.
-    pub fn new(grammar: &[u16], productions: usize, terminals: u16) -> FirstSets
-        requires { Packed grammar.now productions × (terminals ≤ terminal_limit) }
-        ensures { result.map ≡ sets_of_first terminals (productions_in grammar.now productions) }
+    pub fn new(grammar: Grammar, terminals: u16) -> FirstSets
+        requires { terminals ≤ terminal_limit }
+        ensures is { result.map ≡ sets_of_first terminals (productions_in grammar.entry.words.now grammar.entry.productions) }
+        ensures terminals { result.terminals ≡ terminals }
     {
-        let mut map = [0u64; NonterminalString::LIMIT];
+        let mut sets = FirstSets {
+            map: [0u64; NonterminalString::LIMIT],
+            terminals,
+        };
         let mut changed = true;
         while changed {
-            changed = grow(grammar, productions, terminals, &mut map);
+            changed = sets.grow(grammar);
         }
-        FirstSets { map }
+        sets
     }
-}
 
-// Of one symbol: the terminal itself, or the nonterminal's set. `end_marked` asks either for the end of input; a terminal of a table never has it.
-fn symbol_first(map: &[u64; NonterminalString::LIMIT], symbol: Symbol) -> TokenSet
-    requires { IsInRange symbol }
-    ensures { result.0 ≡ first_of map.now (meant symbol) }
-{
-    match symbol {
-        Symbol::Nonterminal(nonterminal) => TokenSet(map[nonterminal.0 as usize]),
-        Symbol::Terminal(terminal) => TokenSet::from(terminal),
-    }
-}
-
-// FIRST of a list of symbols as the sets have it, with the end of input in it exactly if the list may derive the empty string.
-fn end_marked(map: &[u64; NonterminalString::LIMIT], terminals: u16, symbols: &[u16]) -> TokenSet
-    requires { (terminals ≤ terminal_limit) × (list_is_fit nonterminal_limit terminal_limit symbols.now ≡ true) }
-    ensures { result.0 ≡ marked_at_end terminals map.now (listed symbols.now) }
-{
-    let mut result = TokenSet::new();
-    for symbol in (SymbolIter { words: symbols }) {
-        let mut set = symbol_first(map, symbol);
-        let nullable = set.take_eof(terminals);
-        result = result.union(set);
-        if !nullable {
-            return result;
+    // Of one symbol: the terminal itself, or the nonterminal's set. A terminal of a table never has the end of input.
+    fn symbol_first(&self, symbol: Symbol) -> TokenSet
+        requires { IsInRange symbol }
+        ensures { result.0 ≡ first_of self.now.map (meant symbol) }
+    {
+        match symbol {
+            Symbol::Nonterminal(nonterminal) => TokenSet(self.map[nonterminal.0 as usize]),
+            Symbol::Terminal(terminal) => TokenSet::from(terminal),
         }
     }
-    // The list is empty, or of nonterminals each of which may derive the empty string.
-    result.with(terminals)
-}
 
-// FIRST of a list of symbols.
-pub fn first0(map: &[u64; NonterminalString::LIMIT], terminals: u16, symbols: &[u16]) -> Answer
-    requires { (terminals ≤ terminal_limit) × (list_is_fit nonterminal_limit terminal_limit symbols.now ≡ true) }
-    ensures { result ≡ first0 terminals map.now (listed symbols.now) }
-{
-    let mut tokens = end_marked(map, terminals, symbols);
-    let nullable = tokens.take_eof(terminals);
-    Answer { tokens, nullable }
-}
-
-// FIRST of a list with an answer, and of the symbols behind it: they are asked only where the answer is nullable.
-fn followed_by(
-    answer: Answer,
-    map: &[u64; NonterminalString::LIMIT],
-    terminals: u16,
-    symbols: &[u16],
-) -> Answer
-    requires { (terminals ≤ terminal_limit) × (list_is_fit nonterminal_limit terminal_limit symbols.now ≡ true) }
-    ensures { result ≡ join_answers answer (first0 terminals map.now (listed symbols.now)) }
-{
-    if answer.nullable {
-        return answer.join(first0(map, terminals, symbols));
+    // FIRST of a list of symbols as the sets have it, with the end of input in it exactly if the list may derive the empty string.
+    fn end_marked(&self, symbols: &[u16]) -> TokenSet
+        requires { list_is_fit nonterminal_limit terminal_limit symbols.now ≡ true }
+        ensures { result.0 ≡ marked_at_end self.now.terminals self.now.map (listed symbols.now) }
+    {
+        let mut result = TokenSet::new();
+        for symbol in (SymbolIter { words: symbols }) {
+            let mut set = self.symbol_first(symbol);
+            let nullable = set.take_eof(self.terminals);
+            result = result.union(set);
+            if !nullable {
+                return result;
+            }
+        }
+        // The list is empty, or of nonterminals each of which may derive the empty string.
+        result.with(self.terminals)
     }
-    answer
-}
 
-// FIRST of two lists joined. Where the first is odd, a symbol begins with its last word and ends with the other's first.
-pub fn first0_joined(
-    map: &[u64; NonterminalString::LIMIT],
-    terminals: u16,
-    xs: &[u16],
-    ys: &[u16],
-) -> Answer
-    requires { (terminals ≤ terminal_limit) × (list_is_fit nonterminal_limit terminal_limit (xs.now ++ ys.now) ≡ true) }
-    ensures { result ≡ first0 terminals map.now (listed (xs.now ++ ys.now)) }
-{
-    if xs.len() % 2 == 0 {
-        let answer = first0(map, terminals, xs);
-        return followed_by(answer, map, terminals, ys);
+    // FIRST of a list of symbols.
+    pub fn first0(&self, symbols: &[u16]) -> Answer
+        requires { list_is_fit nonterminal_limit terminal_limit symbols.now ≡ true }
+        ensures { result ≡ first0 self.now.terminals self.now.map (listed symbols.now) }
+    {
+        let mut tokens = self.end_marked(symbols);
+        let nullable = tokens.take_eof(self.terminals);
+        Answer { tokens, nullable }
     }
-    let last = xs.len() - 1;
-    let straddling = [xs[last], ys[0]];
-    let front = first0(map, terminals, &xs[..last]);
-    let answer = followed_by(front, map, terminals, &straddling);
-    followed_by(answer, map, terminals, &ys[1..])
-}
 
-// FIRST of a list that a token of the lookahead follows.
-pub fn first1(
-    map: &[u64; NonterminalString::LIMIT],
-    terminals: u16,
-    symbols: &[u16],
-    lookahead: TokenSet,
-) -> TokenSet
-    requires { (terminals ≤ terminal_limit) × (list_is_fit nonterminal_limit terminal_limit symbols.now ≡ true) }
-    ensures { result.0 ≡ first1 terminals map.now (listed symbols.now) lookahead.0 }
-{
-    let answer = first0(map, terminals, symbols);
-    let tokens = answer.tokens;
-    if answer.nullable {
-        tokens.union(lookahead)
-    } else {
-        tokens
+    // FIRST of a list with an answer, and of the symbols behind it: they are asked only where the answer is nullable.
+    fn followed_by(&self, answer: Answer, symbols: &[u16]) -> Answer
+        requires { list_is_fit nonterminal_limit terminal_limit symbols.now ≡ true }
+        ensures { result ≡ join_answers answer (first0 self.now.terminals self.now.map (listed symbols.now)) }
+    {
+        if answer.nullable {
+            return answer.join(self.first0(symbols));
+        }
+        answer
     }
-}
 
-// One production: its nonterminal's set with FIRST of its symbols, and whether that is more.
-fn grow_one(
-    grammar: &[u16],
-    production: usize,
-    productions: usize,
-    terminals: u16,
-    map: &mut [u64; NonterminalString::LIMIT],
-) -> bool
-    requires { Packed grammar.now productions × (production < productions) × (terminals ≤ terminal_limit) × (length map.old ≡ nonterminal_limit) }
-    ensures { (map.new ≡ grown terminals map.old (production_in grammar.now production)) × (result ≡ not (same_words map.new map.old)) }
-{
-    let nonterminal = word(grammar, production * ProductionIndex::WORDS);
-    let lookahead = end_marked(map, terminals, symbols(grammar, production, productions));
-    let mut united = TokenSet(map[nonterminal]);
-    let changed = united.union_with(lookahead);
-    map[nonterminal] = united.0;
-    changed
-}
-
-// One round over all productions, in the order of their numbers; whether some set changed.
-fn grow(
-    grammar: &[u16],
-    productions: usize,
-    terminals: u16,
-    map: &mut [u64; NonterminalString::LIMIT],
-) -> bool
-    requires { Packed grammar.now productions × (terminals ≤ terminal_limit) × (length map.old ≡ nonterminal_limit) }
-    ensures { (map.new ≡ round terminals map.old (productions_in grammar.now productions)) × (result ≡ not (same_words map.new map.old)) }
-{
-    let mut changed = false;
-    for production in 0..productions {
-        changed |= grow_one(grammar, production, productions, terminals, map);
+    // FIRST of two lists joined. Where the first is odd, a symbol begins with its last word and ends with the other's first.
+    pub fn first0_joined(&self, xs: &[u16], ys: &[u16]) -> Answer
+        requires { list_is_fit nonterminal_limit terminal_limit (xs.now ++ ys.now) ≡ true }
+        ensures { result ≡ first0 self.now.terminals self.now.map (listed (xs.now ++ ys.now)) }
+    {
+        if xs.len() % 2 == 0 {
+            let answer = self.first0(xs);
+            return self.followed_by(answer, ys);
+        }
+        let last = xs.len() - 1;
+        let straddling = [xs[last], ys[0]];
+        let front = self.first0(&xs[..last]);
+        let answer = self.followed_by(front, &straddling);
+        self.followed_by(answer, &ys[1..])
     }
-    changed
+
+    // FIRST of a list that a token of the lookahead follows.
+    pub fn first1(&self, symbols: &[u16], lookahead: TokenSet) -> TokenSet
+        requires { list_is_fit nonterminal_limit terminal_limit symbols.now ≡ true }
+        ensures { result.0 ≡ first1 self.now.terminals self.now.map (listed symbols.now) lookahead.0 }
+    {
+        let answer = self.first0(symbols);
+        let tokens = answer.tokens;
+        if answer.nullable {
+            tokens.union(lookahead)
+        } else {
+            tokens
+        }
+    }
+
+    // One production: its nonterminal's set with FIRST of its symbols, and whether that is more.
+    fn grow_one(&mut self, grammar: Grammar, production: usize) -> bool
+        requires { production < grammar.productions }
+        ensures { (self.new.map ≡ grown self.old.terminals self.old.map (production_in grammar.entry.words.now production)) × (result ≡ not (same_words self.new.map self.old.map)) × (self.new.terminals ≡ self.old.terminals) }
+    {
+        let nonterminal = grammar.owner(production);
+        let lookahead = self.end_marked(grammar.symbols(production));
+        let mut united = TokenSet(self.map[nonterminal]);
+        let changed = united.union_with(lookahead);
+        self.map[nonterminal] = united.0;
+        changed
+    }
+
+    // One round over all productions, in the order of their numbers; whether some set changed.
+    fn grow(&mut self, grammar: Grammar) -> bool
+        ensures { (self.new.map ≡ round self.old.terminals self.old.map (productions_in grammar.entry.words.now grammar.entry.productions)) × (result ≡ not (same_words self.new.map self.old.map)) × (self.new.terminals ≡ self.old.terminals) }
+    {
+        let mut changed = false;
+        for production in 0..grammar.productions {
+            changed |= self.grow_one(grammar, production);
+        }
+        changed
+    }
 }

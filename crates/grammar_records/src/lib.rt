@@ -11,29 +11,27 @@ ghost use Rattle.spelling.specs.Spelled.{chain_from, symbol_quad, quads, size_of
 ghost use Rattle.spelling.specs.Grown.{Grown, Room, Stands};
 ghost use Rattle.grammar_records.specs.Target.{Target, PackedAs, owned_from};
 
-use repr::{ProductionIndex, symbols};
+use repr::{Grammar, ProductionIndex, symbols};
 use spelling::{head_of, next_of};
 use table::{Counts, put};
 
 // How many symbols all productions have.
-pub fn count_symbols(grammar: &[u16], productions: usize) -> usize
-    requires { Packed grammar.now productions }
-    ensures { result ≡ size_of (map (λ (p : Production). p.symbols) (productions_in grammar.now productions)) }
+pub fn count_symbols(grammar: Grammar) -> usize
+    ensures { result ≡ size_of (map (λ (p : Production). p.symbols) (productions_in grammar.entry.words.now grammar.entry.productions)) }
 {
     let mut many = 0;
-    for p in 0..productions {
-        many += repr::word(grammar, p * ProductionIndex::WORDS + 1);
+    for p in 0..grammar.productions {
+        many += repr::word(grammar.words, p * ProductionIndex::WORDS + 1);
     }
     many
 }
 
 // The lowest production from `from` on of a nonterminal.
-pub fn next_owned(grammar: &[u16], productions: usize, owner: usize, from: usize) -> Option<usize>
-    requires { Packed grammar.now productions }
-    ensures { let p = owned_from (productions_in grammar.now productions) owner from in MatchOption result (p ≡ productions) (λ q. (q < productions) × (p ≡ q)) }
+pub fn next_owned(grammar: Grammar, owner: usize, from: usize) -> Option<usize>
+    ensures { let p = owned_from (productions_in grammar.entry.words.now grammar.entry.productions) owner from in MatchOption result (p ≡ grammar.entry.productions) (λ q. (q < grammar.entry.productions) × (p ≡ q)) }
 {
-    for p in from..productions {
-        if repr::word(grammar, p * ProductionIndex::WORDS) == owner {
+    for p in from..grammar.productions {
+        if repr::word(grammar.words, p * ProductionIndex::WORDS) == owner {
             return Some(p);
         }
     }
@@ -41,11 +39,11 @@ pub fn next_owned(grammar: &[u16], productions: usize, owner: usize, from: usize
 }
 
 // That production's record, where production 0 is record `at`; 0 for none.
-fn next_record(grammar: &[u16], productions: usize, owner: usize, from: usize, at: usize) -> usize
-    requires { Packed grammar.now productions × (at ≤ record_limit) }
-    ensures { (U : Table) → PackedAs U grammar.now productions → at ≡ productions_at U → result ≡ next_owned_from U owner from }
+fn next_record(grammar: Grammar, owner: usize, from: usize, at: usize) -> usize
+    requires { at ≤ record_limit }
+    ensures { (U : Table) → PackedAs U grammar.entry.words.now grammar.entry.productions → at ≡ productions_at U → result ≡ next_owned_from U owner from }
 {
-    match next_owned(grammar, productions, owner, from) {
+    match next_owned(grammar, owner, from) {
         Some(p) => at + p,
         None => 0,
     }
@@ -68,7 +66,7 @@ pub fn write_front(grammar: &[u16], counts: Counts, out: &mut [u16])
         productions,
     );
     for n in 0..nonterminals {
-        let head = next_record(grammar, productions, n, 0, at);
+        let head = next_record(Grammar { words: grammar, productions }, n, 0, at);
         put(out, 1 + n, head, 0, 0, 0);
     }
 }
@@ -87,7 +85,7 @@ pub fn write_productions(grammar: &[u16], counts: Counts, out: &mut [u16])
         let many = repr::word(grammar, place + 1);
         let start = repr::word(grammar, place + 2);
         let end = repr::word(grammar, place + 3);
-        let next = next_record(grammar, productions, owner, p + 1, at);
+        let next = next_record(Grammar { words: grammar, productions }, owner, p + 1, at);
         let head = head_of(many, y);
         put(out, at + p, next, head, start, end);
         y += many;

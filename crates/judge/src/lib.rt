@@ -28,7 +28,7 @@ use example::Example as ExampleBuffer;
 use examples::{Given, action_again, reduced};
 use outline::{Outline, Side};
 use pairs::{Test, first_pair};
-use repr::{NonterminalString, ProductionIndex, symbols, word};
+use repr::{Grammar, NonterminalString, ProductionIndex, word};
 use table::{Counts, first_production, production};
 
 // A class and the examples that are shown with it, by their numbers.
@@ -157,30 +157,29 @@ fn with_first(class: Class, rows: &[u16], columns: &[u16]) -> Judged
 }
 
 // Whether a production is T = T S T, S being the terminal.
-fn is_operator(grammar: &[u16], productions: usize, production: usize, terminal: u16) -> bool
-    requires { Packed grammar.now productions × (production < productions) }
-    ensures { result ≡ is_operator_of (get_or (productions_in grammar.now productions) production no_production) terminal }
+fn is_operator(grammar: Grammar, production: usize, terminal: u16) -> bool
+    requires { production < grammar.productions }
+    ensures { result ≡ is_operator_of (get_or (productions_in grammar.entry.words.now grammar.entry.productions) production no_production) terminal }
 {
     let nonterminal = grammar[production * ProductionIndex::WORDS];
     let operator = [0, nonterminal, 1, terminal, 0, nonterminal];
-    symbols(grammar, production, productions) == operator.as_slice()
+    grammar.symbols(production) == operator.as_slice()
 }
 
 // Ambiguity of a shift: precedence where the production is of an operator. The terminal of the action is tested, not the token.
 fn shift_ambiguity(
-    grammar: &[u16],
-    productions: usize,
+    grammar: Grammar,
     production: usize,
     terminal: u16,
     x: usize,
     y: usize,
 ) -> Judged
-    requires { Packed grammar.now productions × (production < productions) }
-    ensures { (xs ys : List Example) → x < length xs → y < length ys → Judges xs ys result (ambiguity_of_shift (get_or (productions_in grammar.now productions) production no_production) terminal (pair_in xs ys x y)) }
+    requires { production < grammar.productions }
+    ensures { (xs ys : List Example) → x < length xs → y < length ys → Judges xs ys result (ambiguity_of_shift (get_or (productions_in grammar.entry.words.now grammar.entry.productions) production no_production) terminal (pair_in xs ys x y)) }
 {
     let at = production * ProductionIndex::WORDS;
     let nonterminal = grammar[at];
-    if is_operator(grammar, productions, production, terminal) {
+    if is_operator(grammar, production, terminal) {
         return with_both(Class::Precedence(NonterminalString(nonterminal)), x, y);
     }
     with_both(Class::Ambiguity, x, y)
@@ -188,8 +187,7 @@ fn shift_ambiguity(
 
 // Ambiguity of a reduce: where both first reductions are to one nonterminal, the action's example alone and both spans, the conflict's first.
 fn reduce_ambiguity(
-    grammar: &[u16],
-    productions: usize,
+    grammar: Grammar,
     production: usize,
     other: usize,
     x: usize,
@@ -197,8 +195,8 @@ fn reduce_ambiguity(
     y: usize,
     second: usize,
 ) -> Judged
-    requires { Packed grammar.now productions × (production < productions) × (other < productions) }
-    ensures { (xs ys : List Example) → x < length xs → y < length ys → first ≡ (judging.reduction_at (productions_in grammar.now productions) (nth xs x) 0).nonterminal → second ≡ (judging.reduction_at (productions_in grammar.now productions) (nth ys y) 0).nonterminal → Judges xs ys result (ambiguity_of_reduce (productions_in grammar.now productions) (get_or (productions_in grammar.now productions) production no_production) (get_or (productions_in grammar.now productions) other no_production) (pair_in xs ys x y)) }
+    requires { (production < grammar.productions) × (other < grammar.productions) }
+    ensures { (xs ys : List Example) → x < length xs → y < length ys → first ≡ (judging.reduction_at (productions_in grammar.entry.words.now grammar.entry.productions) (nth xs x) 0).nonterminal → second ≡ (judging.reduction_at (productions_in grammar.entry.words.now grammar.entry.productions) (nth ys y) 0).nonterminal → Judges xs ys result (ambiguity_of_reduce (productions_in grammar.entry.words.now grammar.entry.productions) (get_or (productions_in grammar.entry.words.now grammar.entry.productions) production no_production) (get_or (productions_in grammar.entry.words.now grammar.entry.productions) other no_production) (pair_in xs ys x y)) }
 {
     if first == second {
         let span = production * ProductionIndex::WORDS + 2;
@@ -232,13 +230,12 @@ fn ambiguity(
     let production = conflict.production.0 as usize;
     let operand = conflict.operand;
     if conflict.action == 0 {
-        return shift_ambiguity(grammar, counts.productions, production, operand, x, y);
+        return shift_ambiguity(Grammar { words: grammar, productions: counts.productions }, production, operand, x, y);
     }
     let action = actions.outline(x);
     let reduce = reduces.outline(y);
     reduce_ambiguity(
-        grammar,
-        counts.productions,
+        Grammar { words: grammar, productions: counts.productions },
         production,
         operand as usize,
         x,
@@ -249,14 +246,14 @@ fn ambiguity(
 }
 
 // The one symbol of production `one`, its kind and number, where `none` has no symbol.
-fn optional(grammar: &[u16], productions: usize, none: usize, one: usize) -> Option<(u16, u16)>
-    requires { Packed grammar.now productions × (none < productions) × (one < productions) }
-    ensures { (question_in result ≡ optional_one (get_or (productions_in grammar.now productions) none no_production).symbols (get_or (productions_in grammar.now productions) one no_production).symbols) × QuestionFits result }
+fn optional(grammar: Grammar, none: usize, one: usize) -> Option<(u16, u16)>
+    requires { (none < grammar.productions) × (one < grammar.productions) }
+    ensures { (question_in result ≡ optional_one (get_or (productions_in grammar.entry.words.now grammar.entry.productions) none no_production).symbols (get_or (productions_in grammar.entry.words.now grammar.entry.productions) one no_production).symbols) × QuestionFits result }
 {
-    if word(grammar, none * ProductionIndex::WORDS + 1) != 0 {
+    if word(grammar.words, none * ProductionIndex::WORDS + 1) != 0 {
         return None;
     }
-    if word(grammar, one * ProductionIndex::WORDS + 1) != 1 {
+    if word(grammar.words, one * ProductionIndex::WORDS + 1) != 1 {
         return None;
     }
     let at = one * ProductionIndex::WORDS + 4;
@@ -289,8 +286,8 @@ fn try_classify_question(
     }
     let p = first.production;
     let q = second.production;
-    match optional(grammar, productions, p, q) {
-        None => optional(grammar, productions, q, p),
+    match optional(Grammar { words: grammar, productions }, p, q) {
+        None => optional(Grammar { words: grammar, productions }, q, p),
         symbol => symbol,
     }
 }

@@ -28,7 +28,7 @@ use enumerator::{Advanced, Listing, Opened};
 use example::Example;
 use first::FirstSets;
 use lookahead::TokenSet;
-use repr::{NonterminalString, ProductionIndex, word};
+use repr::{Grammar, NonterminalString, ProductionIndex, word};
 use search::{Searched, search, write_trial};
 use table::{read_counts, read_productions};
 use trace_graph::{TraceGraph, check_graph, item_fits, read_node};
@@ -55,8 +55,7 @@ fn lookahead_fits(terminals: usize, lookahead: Option<TokenSet>) -> bool
 
 // Refusal 9 for the start item, the lookahead, and the graph if it is long enough; its index is made in zeroed words.
 fn asked(
-    grammar: &[u16],
-    productions: usize,
+    grammar: Grammar,
     n: usize,
     terminals: usize,
     production: usize,
@@ -65,18 +64,17 @@ fn asked(
     graph: &[u16],
     ix: &mut [u16],
 ) -> bool
-    requires packed { Packed grammar.now productions }
     requires n_bound { (n ≤ 32) × (terminals ≤ 63) }
     requires ix_value { ix.old ≡ replicate index_room 0 }
-    ensures value { (T : Table) → Read T n terminals (productions_in grammar.now productions) → result ≡ asked T (record { production = production; index = index }) (set_of lookahead) graph.now }
-    ensures ranged { result ≡ true → graph_room ≤ length graph.now → Ranged (productions_in grammar.now productions) graph.now }
+    ensures value { (T : Table) → Read T n terminals (productions_in grammar.entry.words.now grammar.entry.productions) → result ≡ asked T (record { production = production; index = index }) (set_of lookahead) graph.now }
+    ensures ranged { result ≡ true → graph_room ≤ length graph.now → Ranged (productions_in grammar.entry.words.now grammar.entry.productions) graph.now }
 {
-    if item_fits(grammar, productions, production, index) {
+    if item_fits(grammar, production, index) {
         if lookahead_fits(terminals, lookahead) {
             if graph.len() < TraceGraph::WORDS {
                 return true;
             }
-            return check_graph(grammar, productions, n, graph, ix);
+            return check_graph(grammar, n, graph, ix);
         }
     }
     false
@@ -84,8 +82,7 @@ fn asked(
 
 // The same of a step, which makes the graph's view from the item and the labels of its edges as well, in zeroed words.
 fn asked_view(
-    grammar: &[u16],
-    productions: usize,
+    grammar: Grammar,
     n: usize,
     terminals: usize,
     production: usize,
@@ -98,14 +95,13 @@ fn asked_view(
     older: &mut [u16],
     latest: &mut [u16],
 ) -> bool
-    requires packed { Packed grammar.now productions }
     requires n_bound { (n ≤ 32) × (terminals ≤ 63) }
     requires owners_len { (length owners.old ≡ edge_limit) × (length codes.old ≡ edge_limit) }
     requires sources_value { (sources.old ≡ replicate edge_limit 0) × ((older.old ≡ replicate edge_limit 0) × (latest.old ≡ replicate latest_room 0)) }
-    ensures value { (T : Table) → Read T n terminals (productions_in grammar.now productions) → result ≡ asked T (record { production = production; index = index }) (set_of lookahead) graph.now }
-    ensures listable { result ≡ true → graph_room ≤ length graph.now → Listable (productions_in grammar.now productions) graph.now production index owners.new codes.new sources.new older.new latest.new }
+    ensures value { (T : Table) → Read T n terminals (productions_in grammar.entry.words.now grammar.entry.productions) → result ≡ asked T (record { production = production; index = index }) (set_of lookahead) graph.now }
+    ensures listable { result ≡ true → graph_room ≤ length graph.now → Listable (productions_in grammar.entry.words.now grammar.entry.productions) graph.now production index owners.new codes.new sources.new older.new latest.new }
 {
-    if item_fits(grammar, productions, production, index) {
+    if item_fits(grammar, production, index) {
         if lookahead_fits(terminals, lookahead) {
             if graph.len() < TraceGraph::WORDS {
                 return true;
@@ -113,7 +109,6 @@ fn asked_view(
             let mut ix = [0u16; TraceGraph::INDEX_WORDS];
             return check_view(
                 grammar,
-                productions,
                 n,
                 graph,
                 production,
@@ -174,8 +169,7 @@ pub fn open_in(
     read_productions(table, &mut grammar);
     let mut ix = [0u16; TraceGraph::INDEX_WORDS];
     if asked(
-        &grammar,
-        counts.productions,
+        Grammar { words: &grammar, productions: counts.productions },
         counts.nonterminals,
         counts.terminals,
         p,
@@ -203,19 +197,18 @@ pub fn open_in(
 
 // The FIRST sets, where a lookahead is set.
 fn first_sets(
-    grammar: &[u16],
-    productions: usize,
+    grammar: Grammar,
     terminals: u16,
     lookahead: Option<TokenSet>,
 ) -> FirstSets
-    requires { Packed grammar.now productions × (terminals ≤ 63) }
-    ensures { result.map ≡ sets_for (set_of lookahead) terminals (productions_in grammar.now productions) }
+    requires { terminals ≤ 63 }
+    ensures { result.map ≡ sets_for (set_of lookahead) terminals (productions_in grammar.entry.words.now grammar.entry.productions) }
 {
     match lookahead {
         None => FirstSets {
             map: [0u64; NonterminalString::LIMIT],
         },
-        Some(set) => FirstSets::new(grammar, productions, terminals),
+        Some(set) => FirstSets::new(grammar, terminals),
     }
 }
 
@@ -277,8 +270,7 @@ fn unmoved(l: Listing, answer: Advanced) -> Stepped
 // The search of an open listing, over the view of its graph: the next example, the end, or refusal 13.
 fn find_next(
     l: Listing,
-    grammar: &[u16],
-    productions: usize,
+    grammar: Grammar,
     terminals: u16,
     graph: &[u16],
     owners: &[u8],
@@ -289,20 +281,19 @@ fn find_next(
     scratch: &mut [u16],
     buffer: &mut [u16],
 ) -> Stepped
-    requires packed { Packed grammar.now productions × (terminals ≤ 63) }
-    requires viewing { Viewing (edges_in graph.now) (record { production = l.production.0; index = l.index }) sources.now older.now latest.now × Labelled (productions_in grammar.now productions) (edges_in graph.now) owners.now codes.now }
+    requires within { terminals ≤ 63 }
+    requires viewing { Viewing (edges_in graph.now) (record { production = l.production.0; index = l.index }) sources.now older.now latest.now × Labelled (productions_in grammar.words.now grammar.productions) (edges_in graph.now) owners.now codes.now }
     requires scratch_words_in_bounds { (scratch_words ≤ length scratch.old) × (example_room ≤ length buffer.old) }
     requires is_open_value { (l.is_open ≡ true) × (lost (edges_in graph.now) l scratch.old ≡ false) }
-    ensures { (n : ℕ) (T : Table) → Read T n terminals (productions_in grammar.now productions) → outcome result.answer result.next scratch.new buffer.new ≡ found_outcome T (edges_in graph.now) l scratch.old buffer.old (search (hands T (edges_in graph.now) (set_of l.lookahead)) (trial_limit - l.count) l.count (rest_of l.count scratch.old (trials (ends_of (edges_in graph.now)) (at_item (start_of l))))) }
+    ensures { (n : ℕ) (T : Table) → Read T n terminals (productions_in grammar.entry.words.now grammar.entry.productions) → outcome result.answer result.next scratch.new buffer.new ≡ found_outcome T (edges_in graph.now) l scratch.old buffer.old (search (hands T (edges_in graph.now) (set_of l.lookahead)) (trial_limit - l.count) l.count (rest_of l.count scratch.old (trials (ends_of (edges_in graph.now)) (at_item (start_of l))))) }
 {
     let lookahead = l.lookahead;
     let count = l.count;
-    let sets = first_sets(grammar, productions, terminals, lookahead);
+    let sets = first_sets(grammar, terminals, lookahead);
     let map = sets.map;
     begin(scratch, count);
     match search(
         grammar,
-        productions,
         terminals,
         &map,
         lookahead,
@@ -315,7 +306,7 @@ fn find_next(
         count,
     ) {
         Searched::Hit(number) => {
-            write_trial(grammar, productions, owners, codes, scratch, buffer);
+            write_trial(grammar, owners, codes, scratch, buffer);
             Stepped {
                 next: moved(l, number, true),
                 answer: Advanced::Example,
@@ -335,8 +326,7 @@ fn find_next(
 // A call that is lent what refusal 11 asks: 9 for the words, 15, the end of an ended listing, the search.
 fn go_on(
     l: Listing,
-    grammar: &[u16],
-    productions: usize,
+    grammar: Grammar,
     terminals: u16,
     graph: &[u16],
     owners: &[u8],
@@ -347,10 +337,10 @@ fn go_on(
     scratch: &mut [u16],
     buffer: &mut [u16],
 ) -> Stepped
-    requires packed { Packed grammar.now productions × (terminals ≤ 63) }
-    requires listable { Listable (productions_in grammar.now productions) graph.now l.production.0 l.index owners.now codes.now sources.now older.now latest.now }
+    requires within { terminals ≤ 63 }
+    requires listable { Listable (productions_in grammar.words.now grammar.productions) graph.now l.production.0 l.index owners.now codes.now sources.now older.now latest.now }
     requires scratch_words_in_bounds { (scratch_words ≤ length scratch.old) × (example_room ≤ length buffer.old) }
-    ensures { (n : ℕ) (T : Table) → Read T n terminals (productions_in grammar.now productions) → asked T (start_of l) (set_of l.lookahead) graph.now ≡ true → outcome result.answer result.next scratch.new buffer.new ≡ advance_in graph.now l scratch.old buffer.old T }
+    ensures { (n : ℕ) (T : Table) → Read T n terminals (productions_in grammar.entry.words.now grammar.entry.productions) → asked T (start_of l) (set_of l.lookahead) graph.now ≡ true → outcome result.answer result.next scratch.new buffer.new ≡ advance_in graph.now l scratch.old buffer.old T }
 {
     let production = l.production.0 as usize;
     let index = l.index as usize;
@@ -364,7 +354,6 @@ fn go_on(
             return find_next(
                 l,
                 grammar,
-                productions,
                 terminals,
                 graph,
                 owners,
@@ -406,8 +395,7 @@ pub fn step_in(
     let index = l.index as usize;
     let lookahead = l.lookahead;
     if asked_view(
-        &grammar,
-        productions,
+        Grammar { words: &grammar, productions },
         counts.nonterminals,
         terminals,
         production,
@@ -431,8 +419,7 @@ pub fn step_in(
         }
         return go_on(
             l,
-            &grammar,
-            productions,
+            Grammar { words: &grammar, productions },
             terminals as u16,
             graph,
             &owners,

@@ -22,7 +22,7 @@ ghost use Rattle.lr1.specs.Entries.{first0_answer, first0_of, first1_answer, fir
 use builder::Built;
 use first::{Answer, FirstSets};
 use lookahead::TokenSet;
-use repr::{ProductionIndex, Refusal, joined_fits, list_fits, word};
+use repr::{Grammar, ProductionIndex, Refusal, joined_fits, list_fits, word};
 use state_graph::{StateIndex, StateSet};
 use table::{AcceptedTable, read_productions};
 use trace_graph::{Full, TraceEdge, TraceGraph, TraceGraphNode, check_graph, edge_fits, insert};
@@ -106,7 +106,7 @@ fn first_sets(table: AcceptedTable) -> FirstSets
     let counts = table.counts();
     let mut grammar = [0u16; ProductionIndex::ALL_WORDS];
     read_productions(table.words, &mut grammar);
-    FirstSets::new(&grammar, counts.productions, counts.terminals as u16)
+    FirstSets::new(Grammar { words: &grammar, productions: counts.productions }, counts.terminals as u16)
 }
 
 fn first0_in(table: AcceptedTable, xs: &[u16], ys: &[u16]) -> Result<Answer, Refusal>
@@ -222,13 +222,13 @@ fn add_edge_in(table: AcceptedTable, edge: TraceEdge, graph: &mut [u16]) -> Resu
     let n = counts.nonterminals;
     let mut grammar = [0u16; ProductionIndex::ALL_WORDS];
     read_productions(table.words, &mut grammar);
-    if edge_fits(&grammar, productions, n, edge) {
+    if edge_fits(Grammar { words: &grammar, productions }, n, edge) {
         if graph.len() < TraceGraph::WORDS {
             return Err(Refusal::TooShort);
         }
         let mut ix = [0u16; TraceGraph::INDEX_WORDS];
-        if check_graph(&grammar, productions, n, graph, &mut ix) {
-            return match insert(&grammar, productions, n, graph, &mut ix, edge) {
+        if check_graph(Grammar { words: &grammar, productions }, n, graph, &mut ix) {
+            return match insert(Grammar { words: &grammar, productions }, n, graph, &mut ix, edge) {
                 Ok(()) => Ok(word(graph, 0) as u16),
                 Err(Full) => Err(Refusal::TooManyEdges),
             };

@@ -8,7 +8,7 @@ ghost use Rattle.repr.specs.Packed.{Packed, symbol_words};
 ghost use Rattle.lr1_core.specs.Cursor.{code_in};
 ghost use Rattle.lr1_core.specs.Items.{no_sets, symbol_sets, counts, counts_of, shifts_nonterminal, sets_in};
 
-use repr::{NonterminalString, ProductionIndex, symbols, word};
+use repr::{Grammar, NonterminalString, ProductionIndex, word};
 
 // The number of symbols before the cursor, at it and after it.
 #[derive(Clone, Copy)]
@@ -47,35 +47,35 @@ impl Item {
     pub const FLAG_WORDS: usize = 34;
 
     // How many symbols the production has.
-    pub fn length(self, grammar: &[u16], productions: usize) -> usize
-        requires { Packed grammar.now productions × (self.production < productions) }
-        ensures { (result ≡ length (listed (symbol_words grammar.now self.production))) × (result ≤ 16) }
+    pub fn length(self, grammar: Grammar) -> usize
+        requires { self.production < grammar.productions }
+        ensures { (result ≡ length (listed (symbol_words grammar.entry.words.now self.production))) × (result ≤ 16) }
     {
         let production = self.production;
-        word(grammar, production * ProductionIndex::WORDS + 1)
+        word(grammar.words, production * ProductionIndex::WORDS + 1)
     }
 
-    pub fn can_shift(self, grammar: &[u16], productions: usize) -> bool
-        requires { Packed grammar.now productions × (self.production < productions) }
-        ensures { result ≡ nat_lt self.index (length (listed (symbol_words grammar.now self.production))) }
+    pub fn can_shift(self, grammar: Grammar) -> bool
+        requires { self.production < grammar.productions }
+        ensures { result ≡ nat_lt self.index (length (listed (symbol_words grammar.entry.words.now self.production))) }
     {
-        self.index < self.length(grammar, productions)
+        self.index < self.length(grammar)
     }
 
-    pub fn can_reduce(self, grammar: &[u16], productions: usize) -> bool
-        requires { Packed grammar.now productions × (self.production < productions) }
-        ensures { result ≡ (self.index == length (listed (symbol_words grammar.now self.production))) }
+    pub fn can_reduce(self, grammar: Grammar) -> bool
+        requires { self.production < grammar.productions }
+        ensures { result ≡ (self.index == length (listed (symbol_words grammar.entry.words.now self.production))) }
     {
-        self.index == self.length(grammar, productions)
+        self.index == self.length(grammar)
     }
 
-    pub fn symbol_sets(self, grammar: &[u16], productions: usize) -> SymbolSets
-        requires packed { Packed grammar.now productions × (self.production < productions) }
-        requires index_in_bounds { self.index ≤ length (listed (symbol_words grammar.now self.production)) }
-        ensures suffix_value { sets_in (symbol_words grammar.now self.production) result.prefix result.cursor result.suffix ≡ symbol_sets (listed (symbol_words grammar.now self.production)) self.index }
-        ensures suffix_value_2 { counts result.prefix result.cursor result.suffix ≡ counts_of (symbol_sets (listed (symbol_words grammar.now self.production)) self.index) }
+    pub fn symbol_sets(self, grammar: Grammar) -> SymbolSets
+        requires within { self.production < grammar.productions }
+        requires index_in_bounds { self.index ≤ length (listed (symbol_words grammar.words.now self.production)) }
+        ensures suffix_value { sets_in (symbol_words grammar.entry.words.now self.production) result.prefix result.cursor result.suffix ≡ symbol_sets (listed (symbol_words grammar.entry.words.now self.production)) self.index }
+        ensures suffix_value_2 { counts result.prefix result.cursor result.suffix ≡ counts_of (symbol_sets (listed (symbol_words grammar.entry.words.now self.production)) self.index) }
     {
-        let length = self.length(grammar, productions);
+        let length = self.length(grammar);
         let index = self.index;
         if index < length {
             SymbolSets {
@@ -93,16 +93,16 @@ impl Item {
     }
 
     // The symbol at the cursor as one number: a nonterminal's own, 32 more than a terminal's, 95 at the end.
-    pub fn cursor(self, grammar: &[u16], productions: usize) -> usize
-        requires { Packed grammar.now productions × (self.production < productions) }
-        ensures { result ≡ code_in grammar.now self.production self.index }
+    pub fn cursor(self, grammar: Grammar) -> usize
+        requires { self.production < grammar.productions }
+        ensures { result ≡ code_in grammar.entry.words.now self.production self.index }
     {
         let production = self.production;
         let index = self.index;
-        if index < self.length(grammar, productions) {
+        if index < self.length(grammar) {
             let at = production * ProductionIndex::WORDS + 4 + 2 * index;
-            let number = word(grammar, at + 1);
-            if word(grammar, at) == 0 {
+            let number = word(grammar.words, at + 1);
+            if word(grammar.words, at) == 0 {
                 return number;
             }
             return 32 + number;
@@ -112,45 +112,44 @@ impl Item {
 
     pub fn can_shift_nonterminal(
         self,
-        grammar: &[u16],
-        productions: usize,
+        grammar: Grammar,
         nonterminal: usize,
     ) -> bool
-        requires { Packed grammar.now productions × (self.production < productions) }
-        ensures { result ≡ shifts_nonterminal (listed (symbol_words grammar.now self.production)) self.index nonterminal }
+        requires { self.production < grammar.productions }
+        ensures { result ≡ shifts_nonterminal (listed (symbol_words grammar.entry.words.now self.production)) self.index nonterminal }
     {
         if nonterminal >= NonterminalString::LIMIT {
             return false;
         }
-        self.cursor(grammar, productions) == nonterminal
+        self.cursor(grammar) == nonterminal
     }
 }
 
 // The symbols before the cursor.
-pub fn prefix<'a>(grammar: &'a [u16], productions: usize, item: Item) -> &'a [u16]
-    requires packed { Packed grammar.now productions × (item.production < productions) }
-    requires index_in_bounds { item.index ≤ length (listed (symbol_words grammar.now item.production)) }
-    ensures { (result.now ≡ take (2 * item.index) (symbol_words grammar.now item.production)) × (listed result.now ≡ (symbol_sets (listed (symbol_words grammar.now item.production)) item.index).prefix) }
+pub fn prefix<'a>(grammar: Grammar<'a>, item: Item) -> &'a [u16]
+    requires within { item.production < grammar.productions }
+    requires index_in_bounds { item.index ≤ length (listed (symbol_words grammar.words.now item.production)) }
+    ensures { (result.now ≡ take (2 * item.index) (symbol_words grammar.entry.words.now item.production)) × (listed result.now ≡ (symbol_sets (listed (symbol_words grammar.entry.words.now item.production)) item.index).prefix) }
 {
     let from = item.production * ProductionIndex::WORDS + 4;
     let past = from + 2 * item.index;
-    &grammar[from..past]
+    &grammar.words[from..past]
 }
 
 // The symbols after the cursor.
-pub fn suffix<'a>(grammar: &'a [u16], productions: usize, item: Item) -> &'a [u16]
-    requires packed { Packed grammar.now productions × (item.production < productions) }
-    requires index_in_bounds { item.index ≤ length (listed (symbol_words grammar.now item.production)) }
-    ensures { (result.now ≡ drop (2 * item.index + 2) (symbol_words grammar.now item.production)) × (listed result.now ≡ (symbol_sets (listed (symbol_words grammar.now item.production)) item.index).suffix) }
+pub fn suffix<'a>(grammar: Grammar<'a>, item: Item) -> &'a [u16]
+    requires within { item.production < grammar.productions }
+    requires index_in_bounds { item.index ≤ length (listed (symbol_words grammar.words.now item.production)) }
+    ensures { (result.now ≡ drop (2 * item.index + 2) (symbol_words grammar.entry.words.now item.production)) × (listed result.now ≡ (symbol_sets (listed (symbol_words grammar.entry.words.now item.production)) item.index).suffix) }
 {
-    let length = item.length(grammar, productions);
+    let length = item.length(grammar);
     let start = item.production * ProductionIndex::WORDS + 4;
     let past = start + 2 * length;
     let index = item.index;
     if index < length {
         let from = start + 2 * index + 2;
-        &grammar[from..past]
+        &grammar.words[from..past]
     } else {
-        &grammar[past..past]
+        &grammar.words[past..past]
     }
 }

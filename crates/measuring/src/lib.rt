@@ -28,7 +28,7 @@ fn count_at(grammar: &[u16], productions: usize, words: &[u16], begins: &Begins,
     ensures { (result ≤ 1056768) × ((s : Collection grammar.now productions words.now begins.now.items begins.now.states) → result ≡ length (clashes s.T (get_or s.Rs k []))) }
 {
     let state = unpack(words, begins.items[k], begins.items[k + 1]);
-    count_state(grammar, productions, &state)
+    count_state(Grammar { words: grammar, productions }, &state)
 }
 
 // The conflicts of all.
@@ -38,7 +38,7 @@ pub fn count_conflicts(grammar: &[u16], productions: usize, words: &[u16], begin
 {
     let mut many = 0;
     for k in 0..begins.states {
-        many += count_at(grammar, productions, words, begins, k);
+        many += count_at(Grammar { words: grammar, productions }, words, begins, k);
     }
     many
 }

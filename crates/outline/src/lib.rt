@@ -24,7 +24,7 @@ use example::{
 };
 use first::first0;
 use lr1_core::{Item, suffix};
-use repr::{NonterminalString, ProductionIndex, word};
+use repr::{Grammar, NonterminalString, ProductionIndex, word};
 
 // Places, a print of cursor and symbols, the nonterminal of the first reduction, the label that the inline test reads.
 #[derive(Clone, Copy)]
@@ -77,29 +77,29 @@ fn print_list(print: u64, symbols: &[u16]) -> u64
 }
 
 // With the prefixes more, outermost first.
-fn print_prefixes(print: u64, grammar: &[u16], productions: usize, labels: &[u16]) -> u64
-    requires packed { Packed grammar.now productions × (print < print_limit) }
-    requires labels_fit { LabelsFit (productions_in grammar.now productions) labels.now }
-    ensures { (result ≡ print_words print (words_of (prefixes (productions_in grammar.now productions) (labels_in labels.now)))) × (result < print_limit) }
+fn print_prefixes(print: u64, grammar: Grammar, labels: &[u16]) -> u64
+    requires within { print < print_limit }
+    requires labels_fit { LabelsFit (productions_in grammar.words.now grammar.productions) labels.now }
+    ensures { (result ≡ print_words print (words_of (prefixes (productions_in grammar.entry.words.now grammar.entry.productions) (labels_in labels.now)))) × (result < print_limit) }
 {
     let mut mixed = print;
     for label in (0..label_count(labels)).rev() {
-        mixed = print_list(mixed, prefix_part(grammar, productions, labels, label));
+        mixed = print_list(mixed, prefix_part(grammar, labels, label));
     }
     mixed
 }
 
 // With the cursor place more: the cursor's symbol, or the empty mark where the first label has no symbol.
-fn print_middle(print: u64, grammar: &[u16], productions: usize, labels: &[u16]) -> u64
-    requires packed { Packed grammar.now productions × (print < print_limit) }
-    requires labels_fit { LabelsFit (productions_in grammar.now productions) labels.now }
-    ensures { (result ≡ print_words print (joined symbol_words (middle (productions_in grammar.now productions) (labels_in labels.now)))) × (result < print_limit) }
+fn print_middle(print: u64, grammar: Grammar, labels: &[u16]) -> u64
+    requires within { print < print_limit }
+    requires labels_fit { LabelsFit (productions_in grammar.words.now grammar.productions) labels.now }
+    ensures { (result ≡ print_words print (joined symbol_words (middle (productions_in grammar.entry.words.now grammar.entry.productions) (labels_in labels.now)))) × (result < print_limit) }
 {
-    let part = cursor_part(grammar, productions, labels);
+    let part = cursor_part(grammar, labels);
     if part.len() > 0 {
         return print_list(print, part);
     }
-    let lead = prefix_part(grammar, productions, labels, 0);
+    let lead = prefix_part(grammar, labels, 0);
     if lead.len() > 0 {
         return print;
     }
@@ -107,35 +107,33 @@ fn print_middle(print: u64, grammar: &[u16], productions: usize, labels: &[u16])
 }
 
 // With the suffixes more, innermost first.
-fn print_suffixes(print: u64, grammar: &[u16], productions: usize, labels: &[u16]) -> u64
-    requires packed { Packed grammar.now productions × (print < print_limit) }
-    requires labels_fit { LabelsFit (productions_in grammar.now productions) labels.now }
-    ensures { (result ≡ print_words print (words_of (suffixes (productions_in grammar.now productions) (labels_in labels.now)))) × (result < print_limit) }
+fn print_suffixes(print: u64, grammar: Grammar, labels: &[u16]) -> u64
+    requires within { print < print_limit }
+    requires labels_fit { LabelsFit (productions_in grammar.words.now grammar.productions) labels.now }
+    ensures { (result ≡ print_words print (words_of (suffixes (productions_in grammar.entry.words.now grammar.entry.productions) (labels_in labels.now)))) × (result < print_limit) }
 {
     let mut mixed = print;
     for label in 0..label_count(labels) {
-        mixed = print_list(mixed, suffix_part(grammar, productions, labels, label));
+        mixed = print_list(mixed, suffix_part(grammar, labels, label));
     }
     mixed
 }
 
 // The print of the example of the labels: of its cursor, then of its symbols.
-fn print(grammar: &[u16], productions: usize, labels: &[u16]) -> u64
-    requires packed { Packed grammar.now productions }
-    requires labels_fit { LabelsFit (productions_in grammar.now productions) labels.now }
-    ensures { result ≡ print_of (productions_in grammar.now productions) (labels_in labels.now) }
+fn print(grammar: Grammar, labels: &[u16]) -> u64
+    requires labels_fit { LabelsFit (productions_in grammar.words.now grammar.productions) labels.now }
+    ensures { result ≡ print_of (productions_in grammar.entry.words.now grammar.entry.productions) (labels_in labels.now) }
 {
-    let cursor = prefix_total(grammar, productions, labels) as u64;
-    let before = print_prefixes(cursor, grammar, productions, labels);
-    let passed = print_middle(before, grammar, productions, labels);
-    print_suffixes(passed, grammar, productions, labels)
+    let cursor = prefix_total(grammar, labels) as u64;
+    let before = print_prefixes(cursor, grammar, labels);
+    let passed = print_middle(before, grammar, labels);
+    print_suffixes(passed, grammar, labels)
 }
 
 // The label that the inline test reads: of an example of a shift its first item; of a reduce the second reduction's, where that shifts more and its nonterminal is another.
-fn kept_label(grammar: &[u16], productions: usize, labels: &[u16], shift: bool) -> usize
-    requires packed { Packed grammar.now productions }
-    requires labels_fit { LabelsFit (productions_in grammar.now productions) labels.now }
-    ensures { (result ≡ label_of (productions_in grammar.now productions) shift (labels_in labels.now)) × (result ≤ item_limit) }
+fn kept_label(grammar: Grammar, labels: &[u16], shift: bool) -> usize
+    requires labels_fit { LabelsFit (productions_in grammar.words.now grammar.productions) labels.now }
+    ensures { (result ≡ label_of (productions_in grammar.entry.words.now grammar.entry.productions) shift (labels_in labels.now)) × (result ≤ item_limit) }
 {
     if shift {
         return word(labels, 1) * ProductionIndex::INDEXES + word(labels, 2);
@@ -150,23 +148,22 @@ fn kept_label(grammar: &[u16], productions: usize, labels: &[u16], shift: bool) 
     if word(labels, 3) == word(labels, 0) {
         return Item::LIMIT;
     }
-    if next.length(grammar, productions) <= next.index + 1 {
+    if next.length(grammar) <= next.index + 1 {
         return Item::LIMIT;
     }
     next.production * ProductionIndex::INDEXES + next.index
 }
 
 // What is kept of the example of the labels.
-pub fn outline_of(grammar: &[u16], productions: usize, labels: &[u16], shift: bool) -> Outline
-    requires packed { Packed grammar.now productions }
-    requires labels_fit { LabelsFit (productions_in grammar.now productions) labels.now }
-    ensures { (result ≡ outline_from (productions_in grammar.now productions) shift (labels_in labels.now)) × OutlineFits result }
+pub fn outline_of(grammar: Grammar, labels: &[u16], shift: bool) -> Outline
+    requires labels_fit { LabelsFit (productions_in grammar.words.now grammar.productions) labels.now }
+    ensures { (result ≡ outline_from (productions_in grammar.entry.words.now grammar.entry.productions) shift (labels_in labels.now)) × OutlineFits result }
 {
     Outline {
-        places: symbol_count(grammar, productions, labels),
-        print: print(grammar, productions, labels),
+        places: symbol_count(grammar, labels),
+        print: print(grammar, labels),
         first: word(labels, 0),
-        label: kept_label(grammar, productions, labels, shift),
+        label: kept_label(grammar, labels, shift),
     }
 }
 
@@ -215,15 +212,15 @@ impl Side {
     }
 
     // Example k, whose labels are kept, at the front of the buffer.
-    pub fn write_kept(&self, grammar: &[u16], productions: usize, k: usize, buffer: &mut [u16])
-        requires packed { Packed grammar.now productions × (k < labelled_limit) }
-        requires example_room_in_bounds { ((x : ExampleOf) × KeptLabels (productions_in grammar.now productions) self.now.kept k x) × (example_room ≤ length buffer.old) }
-        ensures { (x : ExampleOf) → KeptLabels (productions_in grammar.now productions) self.now.kept k x → buffer.new ≡ in_front (example_words (productions_in grammar.now productions) x) buffer.old }
+    pub fn write_kept(&self, grammar: Grammar, k: usize, buffer: &mut [u16])
+        requires within { k < labelled_limit }
+        requires example_room_in_bounds { ((x : ExampleOf) × KeptLabels (productions_in grammar.words.now grammar.productions) self.now.kept k x) × (example_room ≤ length buffer.old) }
+        ensures { (x : ExampleOf) → KeptLabels (productions_in grammar.entry.words.now grammar.entry.productions) self.now.kept k x → buffer.new ≡ in_front (example_words (productions_in grammar.entry.words.now grammar.entry.productions) x) buffer.old }
     {
         let at = Outline::OUTLINES + k * Outline::LABELLED_WORDS;
         let from = at + 1;
         let to = from + word(&self.kept, at);
-        write_example(grammar, productions, &self.kept[from..to], buffer);
+        write_example(grammar, &self.kept[from..to], buffer);
     }
 
     // What is kept of example k.
@@ -283,20 +280,19 @@ fn diverge(
 pub fn inlines(
     map: &[u64; NonterminalString::LIMIT],
     terminals: u16,
-    grammar: &[u16],
-    productions: usize,
+    grammar: Grammar,
     label: usize,
     other: usize,
 ) -> bool
-    requires packed { Packed grammar.now productions × (terminals ≤ terminal_limit) }
-    requires code_fits { CodeFits (productions_in grammar.now productions) label }
-    requires code_fits_2 { other < item_limit → CodeFits (productions_in grammar.now productions) other }
-    ensures { result ≡ codes_inline terminals map.now (productions_in grammar.now productions) label other }
+    requires within { terminals ≤ terminal_limit }
+    requires code_fits { CodeFits (productions_in grammar.words.now grammar.productions) label }
+    requires code_fits_2 { other < item_limit → CodeFits (productions_in grammar.words.now grammar.productions) other }
+    ensures { result ≡ codes_inline terminals map.now (productions_in grammar.entry.words.now grammar.entry.productions) label other }
 {
     if other >= Item::LIMIT {
         return false;
     }
-    let own = suffix(grammar, productions, item_at(label));
-    let next = suffix(grammar, productions, item_at(other));
+    let own = suffix(grammar, item_at(label));
+    let next = suffix(grammar, item_at(other));
     diverge(map, terminals, own, next)
 }

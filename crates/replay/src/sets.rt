@@ -9,7 +9,7 @@ use crate::say::{say_answer, say_bool, say_halves, say_next, say_words};
 use crate::words::{at, number, set_at};
 use lookahead::TokenSet;
 use lr1_core::{Item, prefix, suffix};
-use repr::{ProductionIndex, symbols};
+use repr::{Grammar, ProductionIndex};
 use table::{read_counts, read_productions};
 
 fn say_set<R: Print>(rt: &R, set: TokenSet) {
@@ -73,32 +73,32 @@ pub fn ask_sets<R: Print>(rt: &R, more: &[u16]) {
 }
 
 // The nonterminal that an item can shift and one more, or 0.
-fn shifted(item: Item, grammar: &[u16], productions: usize) -> u64
-    requires { Packed grammar.now productions × (item.production < productions) }
+fn shifted(item: Item, grammar: Grammar) -> u64
+    requires { item.production < grammar.productions }
 {
     for n in 0..32usize {
-        if item.can_shift_nonterminal(grammar, productions, n) {
+        if item.can_shift_nonterminal(grammar, n) {
             return n as u64 + 1;
         }
     }
     0
 }
 
-fn say_item<R: Print>(rt: &R, item: Item, grammar: &[u16], productions: usize)
-    requires packed { Packed grammar.now productions × (item.production < productions) }
-    requires index_in_bounds { item.index ≤ length (listed (symbol_words grammar.now item.production)) }
+fn say_item<R: Print>(rt: &R, item: Item, grammar: Grammar)
+    requires within { item.production < grammar.productions }
+    requires index_in_bounds { item.index ≤ length (listed (symbol_words grammar.words.now item.production)) }
 {
-    let sets = item.symbol_sets(grammar, productions);
+    let sets = item.symbol_sets(grammar);
     say_answer(rt, 0, 0);
     say_next(rt, sets.prefix as u64);
     say_next(rt, sets.cursor as u64);
     say_next(rt, sets.suffix as u64);
-    say_bool(rt, item.can_shift(grammar, productions));
-    say_bool(rt, item.can_reduce(grammar, productions));
-    say_next(rt, shifted(item, grammar, productions));
-    say_words(rt, prefix(grammar, productions, item));
-    say_words(rt, symbols(grammar, item.production, productions));
-    say_words(rt, suffix(grammar, productions, item));
+    say_bool(rt, item.can_shift(grammar));
+    say_bool(rt, item.can_reduce(grammar));
+    say_next(rt, shifted(item, grammar));
+    say_words(rt, prefix(grammar, item));
+    say_words(rt, grammar.symbols(item.production));
+    say_words(rt, suffix(grammar, item));
 }
 
 fn ask_item_in<R: Print>(rt: &R, table: &[u16], production: usize, index: usize)
@@ -113,8 +113,8 @@ fn ask_item_in<R: Print>(rt: &R, table: &[u16], production: usize, index: usize)
             production: production,
             index: index,
         };
-        if index <= item.length(&grammar, productions) {
-            say_item(rt, item, &grammar, productions);
+        if index <= item.length(Grammar { words: &grammar, productions }) {
+            say_item(rt, item, Grammar { words: &grammar, productions });
             return;
         }
     }

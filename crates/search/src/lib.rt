@@ -24,7 +24,7 @@ ghost use Rattle.search.specs.Found.{searched, searched_of, later_than};
 use example::{Example, first0, write_example};
 use lookahead::TokenSet;
 use lr1_core::Item;
-use repr::{NonterminalString, ProductionIndex, word};
+use repr::{Grammar, NonterminalString, ProductionIndex, word};
 use view::machine::{clear, count_walk, is_example, next};
 
 // What a search finds: an example with its number, the end with the number of all trials, or a trial past the 100,000th (refusal 13).
@@ -62,27 +62,24 @@ pub fn read_labels(owners: &[u8], codes: &[u16], words: &[u16], labels: &mut [u1
 
 // The example of the trial that the words hold, at the front of the buffer.
 pub fn write_trial(
-    grammar: &[u16],
-    productions: usize,
+    grammar: Grammar,
     owners: &[u8],
     codes: &[u16],
     words: &[u16],
     buffer: &mut [u16],
 )
-    requires packed { Packed grammar.now productions }
-    requires tried { (es : List TraceEdge) × Tried (productions_in grammar.now productions) es owners.now codes.now words.now }
+    requires tried { (es : List TraceEdge) × Tried (productions_in grammar.words.now grammar.productions) es owners.now codes.now words.now }
     requires example_room_in_bounds { example_room ≤ length buffer.old }
-    ensures { (es : List TraceEdge) → Tried (productions_in grammar.now productions) es owners.now codes.now words.now → (p rest : List ℕ) → words.now ≡ trial_words p ++ rest → buffer.new ≡ in_front (example_words (productions_in grammar.now productions) (labels_of (productions_in grammar.now productions) es p)) buffer.old }
+    ensures { (es : List TraceEdge) → Tried (productions_in grammar.entry.words.now grammar.entry.productions) es owners.now codes.now words.now → (p rest : List ℕ) → words.now ≡ trial_words p ++ rest → buffer.new ≡ in_front (example_words (productions_in grammar.entry.words.now grammar.entry.productions) (labels_of (productions_in grammar.entry.words.now grammar.entry.productions) es p)) buffer.old }
 {
     let mut labels = [0u16; Example::ALL_LABEL_WORDS];
     let size = read_labels(owners, codes, words, &mut labels);
-    write_example(grammar, productions, &labels[..size], buffer);
+    write_example(grammar, &labels[..size], buffer);
 }
 
 // Whether what the trial's example expects next meets a set.
 fn meets(
-    grammar: &[u16],
-    productions: usize,
+    grammar: Grammar,
     terminals: u16,
     map: &[u64; NonterminalString::LIMIT],
     set: TokenSet,
@@ -90,21 +87,20 @@ fn meets(
     codes: &[u16],
     words: &[u16],
 ) -> bool
-    requires packed { Packed grammar.now productions × (terminals ≤ 63) }
-    requires tried { (es : List TraceEdge) × Tried (productions_in grammar.now productions) es owners.now codes.now words.now }
-    ensures { (es : List TraceEdge) → Tried (productions_in grammar.now productions) es owners.now codes.now words.now → (p rest : List ℕ) → words.now ≡ trial_words p ++ rest → result ≡ passes_by terminals map.now (productions_in grammar.now productions) es (some set.0) p }
+    requires within { terminals ≤ 63 }
+    requires tried { (es : List TraceEdge) × Tried (productions_in grammar.words.now grammar.productions) es owners.now codes.now words.now }
+    ensures { (es : List TraceEdge) → Tried (productions_in grammar.entry.words.now grammar.entry.productions) es owners.now codes.now words.now → (p rest : List ℕ) → words.now ≡ trial_words p ++ rest → result ≡ passes_by terminals map.now (productions_in grammar.entry.words.now grammar.entry.productions) es (some set.0) p }
 {
     let mut labels = [0u16; Example::ALL_LABEL_WORDS];
     let size = read_labels(owners, codes, words, &mut labels);
-    let expected = first0(map, terminals, grammar, productions, &labels[..size]);
+    let expected = first0(map, terminals, grammar, &labels[..size]);
     let answer = expected.answer;
     answer.meets(terminals, set)
 }
 
 // The filter: without a lookahead every example passes.
 pub fn passes(
-    grammar: &[u16],
-    productions: usize,
+    grammar: Grammar,
     terminals: u16,
     map: &[u64; NonterminalString::LIMIT],
     lookahead: Option<TokenSet>,
@@ -112,15 +108,14 @@ pub fn passes(
     codes: &[u16],
     words: &[u16],
 ) -> bool
-    requires packed { Packed grammar.now productions × (terminals ≤ 63) }
-    requires tried { (es : List TraceEdge) × Tried (productions_in grammar.now productions) es owners.now codes.now words.now }
-    ensures { (es : List TraceEdge) → Tried (productions_in grammar.now productions) es owners.now codes.now words.now → (p rest : List ℕ) → words.now ≡ trial_words p ++ rest → result ≡ passes_by terminals map.now (productions_in grammar.now productions) es (set_of lookahead) p }
+    requires within { terminals ≤ 63 }
+    requires tried { (es : List TraceEdge) × Tried (productions_in grammar.words.now grammar.productions) es owners.now codes.now words.now }
+    ensures { (es : List TraceEdge) → Tried (productions_in grammar.entry.words.now grammar.entry.productions) es owners.now codes.now words.now → (p rest : List ℕ) → words.now ≡ trial_words p ++ rest → result ≡ passes_by terminals map.now (productions_in grammar.entry.words.now grammar.entry.productions) es (set_of lookahead) p }
 {
     match lookahead {
         None => true,
         Some(set) => meets(
             grammar,
-            productions,
             terminals,
             map,
             set,
@@ -133,8 +128,7 @@ pub fn passes(
 
 // Whether the trial is handed out: an example that passes.
 fn hands(
-    grammar: &[u16],
-    productions: usize,
+    grammar: Grammar,
     terminals: u16,
     map: &[u64; NonterminalString::LIMIT],
     ahead: Option<TokenSet>,
@@ -143,14 +137,13 @@ fn hands(
     sources: &[u8],
     words: &[u16],
 ) -> bool
-    requires packed { Packed grammar.now productions × (terminals ≤ 63) }
-    requires tried { (es : List TraceEdge) × (Tried (productions_in grammar.now productions) es owners.now codes.now words.now × Sourced es sources.now) }
-    ensures { (es : List TraceEdge) → Tried (productions_in grammar.now productions) es owners.now codes.now words.now → Sourced es sources.now → (p rest : List ℕ) → words.now ≡ trial_words p ++ rest → result ≡ hands_by terminals map.now (productions_in grammar.now productions) es (set_of ahead) p }
+    requires within { terminals ≤ 63 }
+    requires tried { (es : List TraceEdge) × (Tried (productions_in grammar.words.now grammar.productions) es owners.now codes.now words.now × Sourced es sources.now) }
+    ensures { (es : List TraceEdge) → Tried (productions_in grammar.entry.words.now grammar.entry.productions) es owners.now codes.now words.now → Sourced es sources.now → (p rest : List ℕ) → words.now ≡ trial_words p ++ rest → result ≡ hands_by terminals map.now (productions_in grammar.entry.words.now grammar.entry.productions) es (set_of ahead) p }
 {
     if is_example(sources, words) {
         return passes(
             grammar,
-            productions,
             terminals,
             map,
             ahead,
@@ -173,8 +166,7 @@ fn overrun(words: &mut [u16]) -> Searched
 
 // From the trial that the words hold on, past `count` trials made: the next that is handed out. The view says from which item.
 pub fn search(
-    grammar: &[u16],
-    productions: usize,
+    grammar: Grammar,
     terminals: u16,
     map: &[u64; NonterminalString::LIMIT],
     lookahead: Option<TokenSet>,
@@ -186,9 +178,9 @@ pub fn search(
     words: &mut [u16],
     count: u32,
 ) -> Searched
-    requires packed { Packed grammar.now productions × (terminals ≤ 63) }
-    requires searching { (es : List TraceEdge) × ((start : ItemOf) × Searching (productions_in grammar.now productions) es owners.now codes.now sources.now older.now latest.now words.old start) }
-    ensures { (es : List TraceEdge) (start : ItemOf) → Searching (productions_in grammar.now productions) es owners.now codes.now sources.now older.now latest.now words.old start → (p rest : List ℕ) → words.old ≡ trial_words p ++ rest → searched result words.new ≡ searched_of rest (search (hands_by terminals map.now (productions_in grammar.now productions) es (set_of lookahead)) (trial_limit - count) count (later_than p (trials (ends_of es) (at_item start)))) }
+    requires within { terminals ≤ 63 }
+    requires searching { (es : List TraceEdge) × ((start : ItemOf) × Searching (productions_in grammar.words.now grammar.productions) es owners.now codes.now sources.now older.now latest.now words.old start) }
+    ensures { (es : List TraceEdge) (start : ItemOf) → Searching (productions_in grammar.entry.words.now grammar.entry.productions) es owners.now codes.now sources.now older.now latest.now words.old start → (p rest : List ℕ) → words.old ≡ trial_words p ++ rest → searched result words.new ≡ searched_of rest (search (hands_by terminals map.now (productions_in grammar.entry.words.now grammar.entry.productions) es (set_of lookahead)) (trial_limit - count) count (later_than p (trials (ends_of es) (at_item start)))) }
 {
     let mut counts = [0u8; NonterminalString::LIMIT];
     count_walk(sources, words, &mut counts);
@@ -200,7 +192,6 @@ pub fn search(
         made += 1;
         if hands(
             grammar,
-            productions,
             terminals,
             map,
             lookahead,

@@ -8,7 +8,7 @@ ghost use Rattle.repr.specs.Packed.{Packed};
 ghost use Rattle.stored.specs.Stored.{entry_at, entries, put_entry, moved_over, is_same_kernel, Appended, MetAfter};
 
 use lr1_core::Item;
-use repr::{ProductionIndex, word};
+use repr::{Grammar, ProductionIndex, word};
 
 // An item by its place, 17 * production + index, with its tokens.
 #[derive(Clone, Copy, PartialEq)]
@@ -58,22 +58,21 @@ pub struct Kernel {
 
 // One item, moved over the symbol and put behind the kernel's, if its cursor stands there.
 fn move_one(
-    grammar: &[u16],
-    productions: usize,
+    grammar: Grammar,
     read: StoredItem,
     symbol: usize,
     kernel: &mut Kernel,
 )
-    requires packed { Packed grammar.now productions × (read.place < index_limit * productions) × (read.set < 2 ^ 64) }
+    requires within { (read.place < index_limit * grammar.productions) × (read.set < 2 ^ 64) }
     requires many_lt_record_limit { (kernel.old.many < record_limit) × (kernel.old.many * 5 + 5 ≤ length kernel.old.words) }
-    ensures { Appended grammar.now symbol read.place read.set kernel.old.words kernel.new.words kernel.old.many kernel.new.many }
+    ensures { Appended grammar.entry.words.now symbol read.place read.set kernel.old.words kernel.new.words kernel.old.many kernel.new.many }
 {
     let place = read.place;
     let item = Item {
         production: place / ProductionIndex::INDEXES,
         index: place % ProductionIndex::INDEXES,
     };
-    if item.cursor(grammar, productions) == symbol {
+    if item.cursor(grammar) == symbol {
         let next = StoredItem {
             place: place + 1,
             set: read.set,
@@ -86,23 +85,21 @@ fn move_one(
 
 // The items number `from` up to `past` that have their cursor at the symbol, moved over it, as the kernel.
 pub fn move_over(
-    grammar: &[u16],
-    productions: usize,
+    grammar: Grammar,
     words: &[u16],
     from: usize,
     past: usize,
     symbol: usize,
     kernel: &mut Kernel,
 )
-    requires packed { Packed grammar.now productions }
     requires from_le_past { (from ≤ past) × (past ≤ record_limit) × (past * 5 ≤ length words.now) × ((past - from) * 5 ≤ length kernel.old.words) }
-    requires by_index { (m : ℕ) → from ≤ m → m < past → (entry_at words.now m).place < index_limit * productions }
-    ensures { (kernel.new.many ≤ past - from) × (length kernel.new.words ≡ length kernel.old.words) × (entries kernel.new.words 0 kernel.new.many ≡ moved_over grammar.now symbol (entries words.now from (past - from))) }
+    requires by_index { (m : ℕ) → from ≤ m → m < past → (entry_at words.now m).place < index_limit * grammar.productions }
+    ensures { (kernel.new.many ≤ past - from) × (length kernel.new.words ≡ length kernel.old.words) × (entries kernel.new.words 0 kernel.new.many ≡ moved_over grammar.entry.words.now symbol (entries words.now from (past - from))) }
 {
     kernel.many = 0;
     for at in from..past {
         let read = read_item(words, at);
-        move_one(grammar, productions, read, symbol, kernel);
+        move_one(grammar, read, symbol, kernel);
     }
 }
 

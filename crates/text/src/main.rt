@@ -13,7 +13,7 @@ ghost use Rattle.typed.specs.Typed.{IsItem};
 
 use little::decode;
 use pipe::{Stop, read_table, say_end};
-use repr::ProductionIndex;
+use repr::{Grammar, ProductionIndex};
 use std::io;
 use streams::{Failed, read, write};
 use table::read_productions;
@@ -69,11 +69,10 @@ fn follow(marks: &mut [bool], r: usize, next: usize) -> bool {
 }
 
 // Whether production and index are an item's.
-fn is_item(grammar: &[u16], productions: usize, p: usize, i: usize) -> bool
-    requires { Packed grammar.now productions }
-    ensures { result ≡ true → IsItem grammar.now productions p i }
+fn is_item(grammar: Grammar, p: usize, i: usize) -> bool
+    ensures { result ≡ true → IsItem grammar.entry.words.now grammar.entry.productions p i }
 {
-    p < productions && i <= repr::word(grammar, p * ProductionIndex::WORDS + 1)
+    p < grammar.productions && i <= repr::word(grammar.words, p * ProductionIndex::WORDS + 1)
 }
 
 // The sorts of chains that reach record r, those before it being followed.
@@ -84,7 +83,7 @@ fn roles_of(table: &[u16], a: Areas, grammar: &[u16], r: usize, marks: &mut Mark
     let next = table::word(table, r, 0);
     let one = table::word(table, r, 1);
     let two = table::word(table, r, 2);
-    let fits = is_item(grammar, a.productions, one, two);
+    let fits = is_item(Grammar { words: grammar, productions: a.productions }, one, two);
     let symbol = follow(&mut marks.symbols, r, next);
     let item = follow(&mut marks.items, r, next) && fits;
     let edge = follow(&mut marks.edges, r, next);

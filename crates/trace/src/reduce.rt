@@ -12,51 +12,49 @@ ghost use Rattle.trace.specs.Ends.{EndsTo, Ends};
 use bits::put;
 use first::first0;
 use lr1_core::{Item, suffix};
-use repr::{NonterminalString, ProductionIndex};
+use repr::{Grammar, NonterminalString, ProductionIndex};
 
 // Whether an item's suffix may derive the empty string.
 fn item_ends(
-    grammar: &[u16],
-    productions: usize,
+    grammar: Grammar,
     terminals: u16,
     map: &[u64; NonterminalString::LIMIT],
     production: usize,
     index: usize,
 ) -> bool
-    requires packed { Packed grammar.now productions × (terminals ≤ 63) }
-    requires map_value { map.now ≡ sets_of_first terminals (productions_in grammar.now productions) }
-    requires production_lt_productions { (production < productions) × (index ≤ length (listed (symbol_words grammar.now production))) }
-    ensures { (T : meaning-of.Table) → T.productions ≡ productions_in grammar.now productions → T.terminals ≡ terminals → result ≡ nullable T (suffix_of T (item_at production index)) }
+    requires within { terminals ≤ 63 }
+    requires map_value { map.now ≡ sets_of_first terminals (productions_in grammar.words.now grammar.productions) }
+    requires production_lt_productions { (production < grammar.productions) × (index ≤ length (listed (symbol_words grammar.words.now production))) }
+    ensures { (T : meaning-of.Table) → T.productions ≡ productions_in grammar.entry.words.now grammar.entry.productions → T.terminals ≡ terminals → result ≡ nullable T (suffix_of T (item_at production index)) }
 {
     let item = Item {
         production: production,
         index: index,
     };
-    let rest = suffix(grammar, productions, item);
+    let rest = suffix(grammar, item);
     first0(map, terminals, rest).nullable
 }
 
 // The flags of one production's items.
 fn production_ends(
-    grammar: &[u16],
-    productions: usize,
+    grammar: Grammar,
     terminals: u16,
     map: &[u64; NonterminalString::LIMIT],
     ends: &mut [u64],
     production: usize,
 )
-    requires packed { Packed grammar.now productions × (terminals ≤ 63) }
-    requires map_value { map.now ≡ sets_of_first terminals (productions_in grammar.now productions) }
-    requires production_lt_productions { (production < productions) × (length ends.old ≡ item_flags) }
-    ensures { (T : meaning-of.Table) → T.productions ≡ productions_in grammar.now productions → T.terminals ≡ terminals → EndsTo T ends.old (production * index_limit) → EndsTo T ends.new ((production + 1) * index_limit) }
+    requires within { terminals ≤ 63 }
+    requires map_value { map.now ≡ sets_of_first terminals (productions_in grammar.words.now grammar.productions) }
+    requires production_lt_productions { (production < grammar.productions) × (length ends.old ≡ item_flags) }
+    ensures { (T : meaning-of.Table) → T.productions ≡ productions_in grammar.entry.words.now grammar.entry.productions → T.terminals ≡ terminals → EndsTo T ends.old (production * index_limit) → EndsTo T ends.new ((production + 1) * index_limit) }
 {
     let item = Item {
         production: production,
         index: 0,
     };
-    let past = item.length(grammar, productions) + 1;
+    let past = item.length(grammar) + 1;
     for index in 0..past {
-        if item_ends(grammar, productions, terminals, map, production, index) {
+        if item_ends(grammar, terminals, map, production, index) {
             put(ends, production * ProductionIndex::INDEXES + index);
         }
     }
@@ -64,18 +62,17 @@ fn production_ends(
 
 // The flags of all items, made once: tracing asks for each item that it meets whether its suffix is nullable.
 pub fn suffix_ends(
-    grammar: &[u16],
-    productions: usize,
+    grammar: Grammar,
     terminals: u16,
     map: &[u64; NonterminalString::LIMIT],
     ends: &mut [u64],
 )
-    requires packed { Packed grammar.now productions × (terminals ≤ 63) }
-    requires map_value { map.now ≡ sets_of_first terminals (productions_in grammar.now productions) }
+    requires within { terminals ≤ 63 }
+    requires map_value { map.now ≡ sets_of_first terminals (productions_in grammar.words.now grammar.productions) }
     requires ends_value { ends.old ≡ replicate item_flags 0 }
-    ensures { (T : meaning-of.Table) → T.productions ≡ productions_in grammar.now productions → T.terminals ≡ terminals → Ends T ends.new }
+    ensures { (T : meaning-of.Table) → T.productions ≡ productions_in grammar.entry.words.now grammar.entry.productions → T.terminals ≡ terminals → Ends T ends.new }
 {
-    for production in 0..productions {
-        production_ends(grammar, productions, terminals, map, ends, production);
+    for production in 0..grammar.productions {
+        production_ends(grammar, terminals, map, ends, production);
     }
 }

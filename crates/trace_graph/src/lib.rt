@@ -18,7 +18,7 @@ ghost use Rattle.trace_graph.specs.Nodes.{graph_node, node_value};
 ghost use Rattle.trace_graph.specs.Insert.{Graphed, chained, Added, Overfull, fresh};
 
 use lr1_core::Item;
-use repr::{NonterminalString, ProductionIndex, symbols, word};
+use repr::{Grammar, NonterminalString, ProductionIndex, word};
 
 #[derive(Clone, Copy)]
 pub struct TraceGraph {
@@ -185,43 +185,38 @@ pub fn write_edge(graph: &mut [u16], k: usize, edge: TraceEdge)
 
 // Whether the labels of item i of production p and item j of production q are equal: by their symbols, and not by production.
 pub fn same_label(
-    grammar: &[u16],
-    productions: usize,
+    grammar: Grammar,
     p: usize,
     i: usize,
     q: usize,
     j: usize,
 ) -> bool
-    requires packed { Packed grammar.now productions }
-    requires i_value { (item_is_fit (productions_in grammar.now productions) p i ≡ true) × (item_is_fit (productions_in grammar.now productions) q j ≡ true) }
-    ensures { result ≡ same_sets (label_of (productions_in grammar.now productions) (record { production = p; index = i })) (label_of (productions_in grammar.now productions) (record { production = q; index = j })) }
+    requires i_value { (item_is_fit (productions_in grammar.words.now grammar.productions) p i ≡ true) × (item_is_fit (productions_in grammar.words.now grammar.productions) q j ≡ true) }
+    ensures { result ≡ same_sets (label_of (productions_in grammar.entry.words.now grammar.entry.productions) (record { production = p; index = i })) (label_of (productions_in grammar.entry.words.now grammar.entry.productions) (record { production = q; index = j })) }
 {
     if p == q {
         return i == j;
     }
-    i == j && symbols(grammar, p, productions) == symbols(grammar, q, productions)
+    i == j && grammar.symbols(p) == grammar.symbols(q)
 }
 
 // Whether edge k is equal to the edge.
 fn same_edge(
-    grammar: &[u16],
-    productions: usize,
+    grammar: Grammar,
     n: usize,
     graph: &[u16],
     k: usize,
     edge: TraceEdge,
 ) -> bool
-    requires packed { Packed grammar.now productions }
     requires k_lt_edge_limit { (k < edge_limit) × (graph_room ≤ length graph.now) }
-    requires k_value { (edge_is_fit n (productions_in grammar.now productions) graph.now k ≡ true) × (value_fits n (productions_in grammar.now productions) edge ≡ true) }
-    ensures { result ≡ is_same_edge (productions_in grammar.now productions) (edge_is edge) (edge_at graph.now k) }
+    requires k_value { (edge_is_fit n (productions_in grammar.words.now grammar.productions) graph.now k ≡ true) × (value_fits n (productions_in grammar.words.now grammar.productions) edge ≡ true) }
+    ensures { result ≡ is_same_edge (productions_in grammar.entry.words.now grammar.entry.productions) (edge_is edge) (edge_at graph.now k) }
 {
     let other = read_edge(graph, k);
     edge.source == other.source
         && edge.target == other.target
         && same_label(
             grammar,
-            productions,
             edge.production,
             edge.index,
             other.production,
@@ -244,10 +239,9 @@ fn mix(list: &[u16], start: usize) -> usize
 }
 
 // The bucket of an edge.
-fn bucket_of(grammar: &[u16], productions: usize, edge: TraceEdge) -> usize
-    requires packed { Packed grammar.now productions }
-    requires small_edge { SmallEdge edge × (edge.production < productions) }
-    ensures { (result ≡ bucket_number (productions_in grammar.now productions) (edge_is edge)) × (result < bucket_limit) }
+fn bucket_of(grammar: Grammar, edge: TraceEdge) -> usize
+    requires small_edge { SmallEdge edge × (edge.production < grammar.productions) }
+    ensures { (result ≡ bucket_number (productions_in grammar.entry.words.now grammar.entry.productions) (edge_is edge)) × (result < bucket_limit) }
 {
     let source = edge.source;
     let target = edge.target;
@@ -255,14 +249,13 @@ fn bucket_of(grammar: &[u16], productions: usize, edge: TraceEdge) -> usize
     let to = node_number(target);
     let start = (from * 3001 + (to * 613 + edge.index * 89)) % 65536;
     let production = edge.production;
-    let label = symbols(grammar, production, productions);
+    let label = grammar.symbols(production);
     mix(label, start) % TraceGraph::BUCKETS
 }
 
 // Whether an equal edge is among the first k edges: only those in the edge's bucket are looked at.
 pub fn find(
-    grammar: &[u16],
-    productions: usize,
+    grammar: Grammar,
     n: usize,
     graph: &[u16],
     ix: &[u16],
@@ -270,15 +263,14 @@ pub fn find(
     edge: TraceEdge,
     bucket: usize,
 ) -> bool
-    requires packed { Packed grammar.now productions }
-    requires graphed { Graphed n (productions_in grammar.now productions) graph.now ix.now k }
-    requires edge_value { value_fits n (productions_in grammar.now productions) edge ≡ true }
-    requires bucket_value { (bucket ≡ bucket_number (productions_in grammar.now productions) (edge_is edge)) × (bucket < bucket_limit) }
-    ensures { result ≡ some? (is_same_edge (productions_in grammar.now productions) (edge_is edge)) (first_edges graph.now k) }
+    requires graphed { Graphed n (productions_in grammar.words.now grammar.productions) graph.now ix.now k }
+    requires edge_value { value_fits n (productions_in grammar.words.now grammar.productions) edge ≡ true }
+    requires bucket_value { (bucket ≡ bucket_number (productions_in grammar.words.now grammar.productions) (edge_is edge)) × (bucket < bucket_limit) }
+    ensures { result ≡ some? (is_same_edge (productions_in grammar.entry.words.now grammar.entry.productions) (edge_is edge)) (first_edges graph.now k) }
 {
     let mut next = word(ix, bucket);
     while next != 0 {
-        if same_edge(grammar, productions, n, graph, next - 1, edge) {
+        if same_edge(grammar, n, graph, next - 1, edge) {
             return true;
         }
         next = word(ix, TraceGraph::BUCKETS + (next - 1));
@@ -298,22 +290,20 @@ pub fn link(ix: &mut [u16], k: usize, bucket: usize)
 
 // `add_edge`: puts the edge into the graph unless an equal one is there.
 pub fn insert(
-    grammar: &[u16],
-    productions: usize,
+    grammar: Grammar,
     n: usize,
     graph: &mut [u16],
     ix: &mut [u16],
     edge: TraceEdge,
 ) -> Result<(), Full>
-    requires packed { Packed grammar.now productions }
-    requires graphed { Graphed n (productions_in grammar.now productions) graph.old ix.old (slice_index graph.old 0) }
-    requires edge_value { value_fits n (productions_in grammar.now productions) edge ≡ true }
-    ensures added { OnOk result (Added n (productions_in grammar.now productions) (edge_is edge) graph.old graph.new ix.new) }
-    ensures overfull { OnErr result (Overfull (productions_in grammar.now productions) (edge_is edge) graph.old ix.old graph.new ix.new) }
+    requires graphed { Graphed n (productions_in grammar.words.now grammar.productions) graph.old ix.old (slice_index graph.old 0) }
+    requires edge_value { value_fits n (productions_in grammar.words.now grammar.productions) edge ≡ true }
+    ensures added { OnOk result (Added n (productions_in grammar.entry.words.now grammar.entry.productions) (edge_is edge) graph.old graph.new ix.new) }
+    ensures overfull { OnErr result (Overfull (productions_in grammar.entry.words.now grammar.entry.productions) (edge_is edge) graph.old ix.old graph.new ix.new) }
 {
     let count = word(graph, 0);
-    let bucket = bucket_of(grammar, productions, edge);
-    if find(grammar, productions, n, graph, ix, count, edge, bucket) {
+    let bucket = bucket_of(grammar, edge);
+    if find(grammar, n, graph, ix, count, edge, bucket) {
         return Ok(());
     }
     if count == TraceGraph::EDGES {
@@ -327,62 +317,57 @@ pub fn insert(
 
 // Whether a production and an index are those of an item.
 #[tactic(auto, unfolding(crate::specs::Fits::item_is_fit))]
-pub fn item_fits(grammar: &[u16], productions: usize, production: usize, index: usize) -> bool
-    requires { Packed grammar.now productions }
-    ensures { result ≡ item_is_fit (productions_in grammar.now productions) production index }
+pub fn item_fits(grammar: Grammar, production: usize, index: usize) -> bool
+    ensures { result ≡ item_is_fit (productions_in grammar.entry.words.now grammar.entry.productions) production index }
 {
     let item = Item {
         production: production,
         index: index,
     };
-    production < productions && index <= item.length(grammar, productions)
+    production < grammar.productions && index <= item.length(grammar)
 }
 
 // Whether a node is in range, of n nonterminals.
 #[tactic(auto, unfolding(crate::specs::Values::node_value_fits, crate::specs::Fits::node_fits))]
-pub fn node_fits(grammar: &[u16], productions: usize, n: usize, node: Node) -> bool
-    requires { Packed grammar.now productions }
-    ensures { result ≡ node_value_fits n (productions_in grammar.now productions) node }
+pub fn node_fits(grammar: Grammar, n: usize, node: Node) -> bool
+    ensures { result ≡ node_value_fits n (productions_in grammar.entry.words.now grammar.entry.productions) node }
 {
     match node.kind {
         0 => node.number < n && node.index == 0,
-        1 => item_fits(grammar, productions, node.number, node.index),
+        1 => item_fits(grammar, node.number, node.index),
         _ => false,
     }
 }
 
 // Whether an edge is.
 #[tactic(auto, unfolding(crate::specs::Values::value_fits))]
-pub fn edge_fits(grammar: &[u16], productions: usize, n: usize, edge: TraceEdge) -> bool
-    requires { Packed grammar.now productions }
-    ensures { result ≡ value_fits n (productions_in grammar.now productions) edge }
+pub fn edge_fits(grammar: Grammar, n: usize, edge: TraceEdge) -> bool
+    ensures { result ≡ value_fits n (productions_in grammar.entry.words.now grammar.entry.productions) edge }
 {
-    node_fits(grammar, productions, n, edge.source)
-        && node_fits(grammar, productions, n, edge.target)
-        && item_fits(grammar, productions, edge.production, edge.index)
+    node_fits(grammar, n, edge.source)
+        && node_fits(grammar, n, edge.target)
+        && item_fits(grammar, edge.production, edge.index)
 }
 
 // Whether edge k is in range and equals none before it; if so the index is brought up to it.
 pub fn check_edge(
-    grammar: &[u16],
-    productions: usize,
+    grammar: Grammar,
     n: usize,
     graph: &[u16],
     ix: &mut [u16],
     k: usize,
 ) -> bool
-    requires packed { Packed grammar.now productions }
-    requires graphed { Graphed n (productions_in grammar.now productions) graph.now ix.old k }
+    requires graphed { Graphed n (productions_in grammar.words.now grammar.productions) graph.now ix.old k }
     requires k_lt_edge_limit { k < edge_limit }
-    ensures value { result ≡ edge_is_fit n (productions_in grammar.now productions) graph.now k && fresh (productions_in grammar.now productions) graph.now k }
-    ensures graphed_2 { result ≡ true → Graphed n (productions_in grammar.now productions) graph.now ix.new (k + 1) }
+    ensures value { result ≡ edge_is_fit n (productions_in grammar.entry.words.now grammar.entry.productions) graph.now k && fresh (productions_in grammar.entry.words.now grammar.entry.productions) graph.now k }
+    ensures graphed_2 { result ≡ true → Graphed n (productions_in grammar.entry.words.now grammar.entry.productions) graph.now ix.new (k + 1) }
 {
     let edge = read_edge(graph, k);
-    if !edge_fits(grammar, productions, n, edge) {
+    if !edge_fits(grammar, n, edge) {
         return false;
     }
-    let bucket = bucket_of(grammar, productions, edge);
-    if find(grammar, productions, n, graph, ix, k, edge, bucket) {
+    let bucket = bucket_of(grammar, edge);
+    if find(grammar, n, graph, ix, k, edge, bucket) {
         return false;
     }
     link(ix, k, bucket);
@@ -391,24 +376,22 @@ pub fn check_edge(
 
 // Whether a lent graph is one (refusal 9): a count within the limit, every number in range, no edge twice. Makes its index in zeroed words.
 pub fn check_graph(
-    grammar: &[u16],
-    productions: usize,
+    grammar: Grammar,
     n: usize,
     graph: &[u16],
     ix: &mut [u16],
 ) -> bool
-    requires packed { Packed grammar.now productions }
     requires n_bound { (n ≤ 32) × (graph_room ≤ length graph.now) }
     requires ix_value { ix.old ≡ replicate index_room 0 }
-    ensures value { result ≡ graph_fits n (productions_in grammar.now productions) graph.now }
-    ensures graphed { result ≡ true → Graphed n (productions_in grammar.now productions) graph.now ix.new (slice_index graph.now 0) }
+    ensures value { result ≡ graph_fits n (productions_in grammar.entry.words.now grammar.entry.productions) graph.now }
+    ensures graphed { result ≡ true → Graphed n (productions_in grammar.entry.words.now grammar.entry.productions) graph.now ix.new (slice_index graph.now 0) }
 {
     let count = word(graph, 0);
     if count > TraceGraph::EDGES {
         return false;
     }
     for k in 0..count {
-        if !check_edge(grammar, productions, n, graph, ix, k) {
+        if !check_edge(grammar, n, graph, ix, k) {
             return false;
         }
     }

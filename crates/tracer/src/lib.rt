@@ -30,7 +30,7 @@ use crate::shift::shift_codes;
 use codes::{EdgeCode, fill_least, write_codes};
 use first::FirstSets;
 use lr1_core::Item;
-use repr::{ProductionIndex, word};
+use repr::{Grammar, ProductionIndex, word};
 use slices::zero;
 use table::{read_counts, read_productions};
 use trace::reduce::suffix_ends;
@@ -64,8 +64,7 @@ pub fn trace_codes(
     if shift {
         return shift_codes(
             table,
-            grammar,
-            productions,
+            Grammar { words: grammar, productions },
             least,
             words,
             state,
@@ -75,8 +74,7 @@ pub fn trace_codes(
     }
     reduce_codes(
         table,
-        grammar,
-        productions,
+        Grammar { words: grammar, productions },
         least,
         ends,
         words,
@@ -87,8 +85,8 @@ pub fn trace_codes(
 }
 
 // The flags that a reduction asks for; a shift asks for none.
-fn fill_ends(table: &[u16], grammar: &[u16], productions: usize, ends: &mut [u64], shift: bool)
-    requires table_value { (check_of table.now ≡ Accepted) × Packed grammar.now productions × (productions_in grammar.now productions ≡ (meaning table.now).productions) }
+fn fill_ends(table: &[u16], grammar: Grammar, ends: &mut [u64], shift: bool)
+    requires table_value { (check_of table.now ≡ Accepted) × (productions_in grammar.words.now grammar.productions ≡ (meaning table.now).productions) }
     requires ends_value { ends.old ≡ replicate item_flags 0 }
     ensures { shift ≡ false → Ends (meaning table.now) ends.new }
 {
@@ -97,9 +95,9 @@ fn fill_ends(table: &[u16], grammar: &[u16], productions: usize, ends: &mut [u64
     }
     let counts = read_counts(table);
     let terminals = counts.terminals as u16;
-    let sets = FirstSets::new(grammar, productions, terminals);
+    let sets = FirstSets::new(grammar, terminals);
     let map = sets.map;
-    suffix_ends(grammar, productions, terminals, &map, ends);
+    suffix_ends(grammar, terminals, &map, ends);
 }
 
 // The trace, its graph at the front of the words lent; one of too many edges leaves them as they were.
@@ -120,14 +118,13 @@ pub fn build(
     ensures edge_limit_in_bounds { OnErr result ((edge_limit < length (edges_by shift (meaning table.now) state (record { production = production; index = index }))) × (graph.new ≡ graph.old)) }
 {
     let mut least = [0u8; ProductionIndex::LIMIT];
-    fill_least(grammar, productions, &mut least);
+    fill_least(Grammar { words: grammar, productions }, &mut least);
     let mut ends = [0u64; Item::FLAG_WORDS];
-    fill_ends(table, grammar, productions, &mut ends, shift);
+    fill_ends(table, Grammar { words: grammar, productions }, &mut ends, shift);
     let mut words = [0u16; EdgeCode::WORDS];
     trace_codes(
         table,
-        grammar,
-        productions,
+        Grammar { words: grammar, productions },
         &least,
         &ends,
         &mut words,
@@ -160,8 +157,7 @@ fn work(
     zero(scratch, TraceGraph::SCRATCH);
     match build(
         table,
-        grammar,
-        productions,
+        Grammar { words: grammar, productions },
         n,
         graph,
         state,
@@ -196,7 +192,7 @@ fn trace_in(
     let n = counts.nonterminals;
     let mut grammar = [0u16; ProductionIndex::ALL_WORDS];
     read_productions(table, &mut grammar);
-    if !item_fits(&grammar, productions, production, index) {
+    if !item_fits(Grammar { words: &grammar, productions }, production, index) {
         return Backtrace::Refused(9, 0);
     }
     if graph.len() < TraceGraph::WORDS {
@@ -207,8 +203,7 @@ fn trace_in(
     }
     work(
         table,
-        &grammar,
-        productions,
+        Grammar { words: &grammar, productions },
         n,
         graph,
         state,

@@ -20,7 +20,7 @@ use crate::stamps::{Stamps, put_stamp, stamp_at};
 use bits::{is_set, put};
 use codes::EdgeCode;
 use lr1_core::{Item, prefix};
-use repr::{NonterminalString, ProductionIndex, word};
+use repr::{Grammar, NonterminalString, ProductionIndex, word};
 use state_graph::{NextState, StateSet, walk_back};
 use table::{first_item, item};
 use trace_graph::{Full, TraceGraph};
@@ -45,7 +45,7 @@ fn begins(
         production: production,
         index: index,
     };
-    let symbols = prefix(grammar, productions, item);
+    let symbols = prefix(Grammar { words: grammar, productions }, item);
     walk_back(table, steps, StateSet::of(state), symbols)
 }
 
@@ -85,8 +85,7 @@ pub fn reduce_item(
     let owner = word(grammar, production * ProductionIndex::WORDS);
     let mut rest = begins(
         table,
-        grammar,
-        productions,
+        Grammar { words: grammar, productions },
         least,
         steps,
         state,
@@ -99,8 +98,7 @@ pub fn reduce_item(
                 let from = p.0 as usize;
                 reduce_state(
                     table,
-                    grammar,
-                    productions,
+                    Grammar { words: grammar, productions },
                     least,
                     ends,
                     steps,
@@ -159,7 +157,7 @@ pub fn reduce_state(
             production: production,
             index: index,
         };
-        let can = this.can_shift_nonterminal(grammar, productions, nonterminal);
+        let can = this.can_shift_nonterminal(Grammar { words: grammar, productions }, nonterminal);
         if !can {
             continue;
         }
@@ -173,8 +171,7 @@ pub fn reduce_state(
         }
         reduce_item(
             table,
-            grammar,
-            productions,
+            Grammar { words: grammar, productions },
             least,
             ends,
             steps,
@@ -218,8 +215,7 @@ pub fn reduce_codes(
     let mut stamps = [0u16; Stamps::WORDS];
     reduce_item(
         table,
-        grammar,
-        productions,
+        Grammar { words: grammar, productions },
         least,
         ends,
         &mut steps,

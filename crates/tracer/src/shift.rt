@@ -21,7 +21,7 @@ use crate::tails::{TailList, after, ahead, begin, list_tail};
 use bits::{is_set, put};
 use codes::{EdgeCode, key};
 use lr1_core::{Item, prefix};
-use repr::{NonterminalString, ProductionIndex, word};
+use repr::{Grammar, NonterminalString, ProductionIndex, word};
 use state_graph::{NextState, StateIndex, StateSet, trace_back};
 use table::{first_item, item};
 use trace_graph::{Full, TraceGraph};
@@ -79,7 +79,7 @@ pub fn trace_epsilon(
             production: production,
             index: index,
         };
-        let can = this.can_shift_nonterminal(grammar, productions, nonterminal);
+        let can = this.can_shift_nonterminal(Grammar { words: grammar, productions }, nonterminal);
         if !can {
             continue;
         }
@@ -90,8 +90,7 @@ pub fn trace_epsilon(
         let owner = word(grammar, production * ProductionIndex::WORDS);
         trace_epsilon(
             table,
-            grammar,
-            productions,
+            Grammar { words: grammar, productions },
             least,
             words,
             flags,
@@ -136,7 +135,7 @@ fn is_passed(
         production: production,
         index: index,
     };
-    let nonterminal = item.cursor(grammar, productions);
+    let nonterminal = item.cursor(Grammar { words: grammar, productions });
     if nonterminal >= NonterminalString::LIMIT {
         return true;
     }
@@ -205,8 +204,7 @@ fn adds_nothing(
         let index = read.index;
         at = read.next;
         if !is_passed(
-            grammar,
-            productions,
+            Grammar { words: grammar, productions },
             least,
             flags,
             entered,
@@ -248,8 +246,7 @@ fn passes_over(
     }
     adds_nothing(
         table,
-        grammar,
-        productions,
+        Grammar { words: grammar, productions },
         least,
         flags,
         entered,
@@ -295,8 +292,7 @@ fn trace_each(
                 let from = state.0 as usize;
                 if passes_over(
                     table,
-                    grammar,
-                    productions,
+                    Grammar { words: grammar, productions },
                     least,
                     flags,
                     entered,
@@ -310,8 +306,7 @@ fn trace_each(
                 }
                 list_tail(
                     table,
-                    grammar,
-                    productions,
+                    Grammar { words: grammar, productions },
                     first_item(table, from),
                     records,
                     links,
@@ -320,8 +315,7 @@ fn trace_each(
                 );
                 trace_epsilon(
                     table,
-                    grammar,
-                    productions,
+                    Grammar { words: grammar, productions },
                     least,
                     words,
                     flags,
@@ -369,8 +363,7 @@ pub fn trace_states(
         let mut other_links = [0u16; 2];
         return trace_each(
             table,
-            grammar,
-            productions,
+            Grammar { words: grammar, productions },
             least,
             words,
             flags,
@@ -389,8 +382,7 @@ pub fn trace_states(
     let mut other_links = [0u16; TailList::WORDS];
     trace_each(
         table,
-        grammar,
-        productions,
+        Grammar { words: grammar, productions },
         least,
         words,
         flags,
@@ -427,8 +419,7 @@ pub fn shift_over(
     let owner = word(grammar, production * ProductionIndex::WORDS);
     trace_states(
         table,
-        grammar,
-        productions,
+        Grammar { words: grammar, productions },
         least,
         words,
         flags,
@@ -461,13 +452,12 @@ pub fn shift_codes(
         production: production,
         index: index,
     };
-    let states = trace_back(table, state, prefix(grammar, productions, item));
+    let states = trace_back(table, state, prefix(Grammar { words: grammar, productions }, item));
     let mut flags = [0u64; EdgeCode::KEY_WORDS];
     let mut entered = [0u64; EdgeCode::PAIR_WORDS];
     shift_over(
         table,
-        grammar,
-        productions,
+        Grammar { words: grammar, productions },
         least,
         words,
         &mut flags,

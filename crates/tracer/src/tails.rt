@@ -13,7 +13,7 @@ ghost use Rattle.tracer.specs.Tails.{tail_words, first_slot, Collected, Linked, 
 
 use bits::{is_set, put};
 use lr1_core::Item;
-use repr::{NonterminalString, ProductionIndex, word};
+use repr::{Grammar, NonterminalString, ProductionIndex, word};
 use table::item;
 
 // A slot and its record, or slot 0 and a record of the chain; record 0 is the end.
@@ -80,7 +80,7 @@ fn collect(
             production: production,
             index: index,
         };
-        if this.cursor(grammar, productions) >= NonterminalString::LIMIT {
+        if this.cursor(Grammar { words: grammar, productions }) >= NonterminalString::LIMIT {
             continue;
         }
         let code = production * ProductionIndex::INDEXES + index;
@@ -124,7 +124,7 @@ fn link(
             production: read.production,
             index: read.index,
         };
-        let nonterminal = this.cursor(grammar, productions);
+        let nonterminal = this.cursor(Grammar { words: grammar, productions });
         if nonterminal < NonterminalString::LIMIT {
             let next = links[nonterminal];
             links[k] = next;
@@ -146,13 +146,13 @@ fn fill(
     requires records_len { (length records.old ≡ tail_words) × (length links.old ≡ tail_words) }
     ensures { Usable table.now records.new links.new }
 {
-    let count = collect(table, grammar, productions, tail, records);
+    let count = collect(table, Grammar { words: grammar, productions }, tail, records);
     records[0] = 0;
     records[1] = 0;
     if count == 0 {
         return;
     }
-    link(table, grammar, productions, records, count, links);
+    link(table, Grammar { words: grammar, productions }, records, count, links);
     records[1] = tail as u16;
 }
 
@@ -193,7 +193,7 @@ fn relist(
     if tail == first {
         return false;
     }
-    fill(table, grammar, productions, tail, records, links);
+    fill(table, Grammar { words: grammar, productions }, tail, records, links);
     true
 }
 
@@ -218,7 +218,7 @@ pub fn list_tail(
     if meets(table, first, word(records, 1)) {
         return;
     }
-    if !relist(table, grammar, productions, first, others, other_links) {
+    if !relist(table, Grammar { words: grammar, productions }, first, others, other_links) {
         return;
     }
     records.swap_with_slice(others);

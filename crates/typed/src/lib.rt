@@ -12,7 +12,7 @@ ghost use Rattle.lines.specs.Lines.{Put, spaced};
 ghost use Rattle.typed.specs.Typed.{IsItem, named, symbol_part, rule_text, item_part, by_text, edge_part, unused_part, loose_text, area_text, record_text, line_of, line_of_record};
 
 use lines::{put, put_after, put_symbol, put_symbols, put_text};
-use repr::{ProductionIndex, symbols, word};
+use repr::{Grammar, ProductionIndex, word};
 use table_check::areas::Areas;
 
 // The sorts of chains that reach a loose record.
@@ -74,18 +74,17 @@ fn put_item_part(
     out: &mut [u8],
     at: usize,
     shown: bool,
-    grammar: &[u16],
-    productions: usize,
+    grammar: Grammar,
     p: usize,
     i: usize,
 ) -> usize
-    requires packed { Packed grammar.now productions × (shown ≡ true → IsItem grammar.now productions p i) }
+    requires within { shown ≡ true → IsItem grammar.words.now grammar.productions p i }
     requires at_in_bounds { at + 800 ≤ length out.old }
-    ensures { Put out.old at (item_part shown grammar.now p i) out.new result × (result ≤ at + 800) }
+    ensures { Put out.old at (item_part shown grammar.entry.words.now p i) out.new result × (result ≤ at + 800) }
 {
     if shown {
-        let nonterminal = word(grammar, p * ProductionIndex::WORDS);
-        return put_rule(out, at, nonterminal, symbols(grammar, p, productions), i);
+        let nonterminal = word(grammar.words, p * ProductionIndex::WORDS);
+        return put_rule(out, at, nonterminal, grammar.symbols(p), i);
     }
     at
 }
@@ -133,21 +132,20 @@ fn put_loose(
     out: &mut [u8],
     at: usize,
     table: &[u16],
-    grammar: &[u16],
-    productions: usize,
+    grammar: Grammar,
     r: usize,
     roles: Roles,
 ) -> usize
     requires r_lt_record_limit { (r < record_limit) × (r * 4 + 3 < length table.now) }
-    requires packed { Packed grammar.now productions × (roles.item ≡ true → IsItem grammar.now productions (word_at table.now r 1) (word_at table.now r 2)) }
+    requires within { roles.item ≡ true → IsItem grammar.words.now grammar.productions (word_at table.now r 1) (word_at table.now r 2) }
     requires at_in_bounds { at + 1028 ≤ length out.old }
-    ensures { Put out.old at (loose_text table.now grammar.now r roles) out.new result × (result ≤ at + 1028) }
+    ensures { Put out.old at (loose_text table.now grammar.entry.words.now r roles) out.new result × (result ≤ at + 1028) }
 {
     let one = table::word(table, r, 1);
     let two = table::word(table, r, 2);
     let three = table::word(table, r, 3);
     let first = put_symbol_part(out, at, roles.symbol, one, two);
-    let second = put_item_part(out, first, roles.item, grammar, productions, one, two);
+    let second = put_item_part(out, first, roles.item, grammar, one, two);
     let third = put_edge_part(out, second, roles.edge, one, two, three);
     put_unused_part(out, third, roles)
 }
@@ -187,7 +185,7 @@ fn put_record(
     if r < a.loose_at {
         return put_area(out, at, table, a, r);
     }
-    put_loose(out, at, table, grammar, a.productions, r, roles)
+    put_loose(out, at, table, Grammar { words: grammar, productions: a.productions }, r, roles)
 }
 
 // The line of a record, at the front of the bytes; its length.

@@ -10,7 +10,7 @@ ghost use Rattle.enumerator.specs.Lister.{owner_of_node};
 ghost use Rattle.view.specs.View.{latest_room, slot_of, source_of, Labelled, EdgeRanged, View as Viewing};
 
 use crate::View;
-use repr::{ProductionIndex, word};
+use repr::{Grammar, ProductionIndex, word};
 use trace_graph::{Node, check_edge, read_edge};
 
 // The number of a node among those of the view from an item.
@@ -59,22 +59,20 @@ pub fn put(
 }
 
 // The nonterminal of a node: an item's is its production's.
-fn node_owner(grammar: &[u16], productions: usize, node: Node) -> usize
-    requires packed { Packed grammar.now productions }
-    requires by_index { (n : ℕ) × (n ≤ 32) × (node_value_fits n (productions_in grammar.now productions) node ≡ true) }
-    ensures { (result ≡ owner_of_node (productions_in grammar.now productions) (node_is node)) × (result < 32) }
+fn node_owner(grammar: Grammar, node: Node) -> usize
+    requires by_index { (n : ℕ) × (n ≤ 32) × (node_value_fits n (productions_in grammar.words.now grammar.productions) node ≡ true) }
+    ensures { (result ≡ owner_of_node (productions_in grammar.entry.words.now grammar.entry.productions) (node_is node)) × (result < 32) }
 {
     let number = node.number;
     if node.kind == 0 {
         return number;
     }
-    word(grammar, number * ProductionIndex::WORDS)
+    word(grammar.words, number * ProductionIndex::WORDS)
 }
 
 // Edge k of a graph, which is in range: its label, as the nonterminal that the edge comes from and the item in one word, and itself put into the view from an item.
 fn view_edge(
-    grammar: &[u16],
-    productions: usize,
+    grammar: Grammar,
     graph: &[u16],
     k: usize,
     production: usize,
@@ -85,12 +83,11 @@ fn view_edge(
     older: &mut [u16],
     latest: &mut [u16],
 )
-    requires packed { Packed grammar.now productions }
     requires k_lt_edge_limit { (k < edge_limit) × (graph_room ≤ length graph.now) }
-    requires edge_ranged { EdgeRanged (productions_in grammar.now productions) graph.now k }
+    requires edge_ranged { EdgeRanged (productions_in grammar.words.now grammar.productions) graph.now k }
     requires owners_len { (length owners.old ≡ edge_limit) × (length codes.old ≡ edge_limit) }
     requires sources_len { (length sources.old ≡ edge_limit) × ((length older.old ≡ edge_limit) × (length latest.old ≡ latest_room)) }
-    ensures owners_after { owners.new ≡ set owners.old k (owner_of_node (productions_in grammar.now productions) (edge_at graph.now k).source) }
+    ensures owners_after { owners.new ≡ set owners.old k (owner_of_node (productions_in grammar.entry.words.now grammar.entry.productions) (edge_at graph.now k).source) }
     ensures codes_after { codes.new ≡ set codes.old k ((edge_at graph.now k).label.production * index_limit + (edge_at graph.now k).label.index) }
     ensures sources_after { sources.new ≡ set sources.old k (source_of (edge_at graph.now k).source) }
     ensures older_after { older.new ≡ set older.old k (get_or latest.old (slot_of (record { production = production; index = index }) (edge_at graph.now k).target) 0) }
@@ -101,7 +98,7 @@ fn view_edge(
     let to = edge.target;
     let label = edge.production;
     let place = edge.index;
-    owners[k] = node_owner(grammar, productions, from) as u8;
+    owners[k] = node_owner(grammar, from) as u8;
     codes[k] = (label * ProductionIndex::INDEXES + place) as u16;
     put(
         k,
@@ -115,8 +112,7 @@ fn view_edge(
 
 // Whether a lent graph is one (refusal 9), as `check_graph` asks; in the same pass its view for a listing from an item is made in zeroed words, and the label of every edge.
 pub fn check_view(
-    grammar: &[u16],
-    productions: usize,
+    grammar: Grammar,
     n: usize,
     graph: &[u16],
     production: usize,
@@ -128,25 +124,23 @@ pub fn check_view(
     older: &mut [u16],
     latest: &mut [u16],
 ) -> bool
-    requires packed { Packed grammar.now productions }
     requires n_bound { (n ≤ 32) × (graph_room ≤ length graph.now) }
     requires ix_value { ix.old ≡ replicate index_room 0 }
     requires owners_len { (length owners.old ≡ edge_limit) × (length codes.old ≡ edge_limit) }
     requires sources_value { (sources.old ≡ replicate edge_limit 0) × ((older.old ≡ replicate edge_limit 0) × (latest.old ≡ replicate latest_room 0)) }
-    ensures value { result ≡ graph_fits n (productions_in grammar.now productions) graph.now }
-    ensures viewing { result ≡ true → Viewing (edges_in graph.now) (record { production = production; index = index }) sources.new older.new latest.new × Labelled (productions_in grammar.now productions) (edges_in graph.now) owners.new codes.new }
+    ensures value { result ≡ graph_fits n (productions_in grammar.entry.words.now grammar.entry.productions) graph.now }
+    ensures viewing { result ≡ true → Viewing (edges_in graph.now) (record { production = production; index = index }) sources.new older.new latest.new × Labelled (productions_in grammar.entry.words.now grammar.entry.productions) (edges_in graph.now) owners.new codes.new }
 {
     let count = word(graph, 0);
     if count > View::EDGES {
         return false;
     }
     for k in 0..count {
-        if !check_edge(grammar, productions, n, graph, ix, k) {
+        if !check_edge(grammar, n, graph, ix, k) {
             return false;
         }
         view_edge(
             grammar,
-            productions,
             graph,
             k,
             production,

@@ -15,7 +15,7 @@ ghost use Rattle.yacc_write.specs.Text.{ascending};
 ghost use Rattle.yacc_write.specs.Outcome.{written_of, write_of};
 ghost use Rattle.yacc_writer.specs.Wrote.{place_limit, Wrote, name_bytes, token_bytes, production_bytes, file_bytes, terminal_bytes};
 
-use repr::{ProductionIndex, symbols, word};
+use repr::{Grammar, ProductionIndex, symbols, word};
 use table::{first_production, production, read_counts, read_productions};
 use yacc_write::Writing;
 
@@ -156,13 +156,13 @@ fn put_productions(text: &mut [u8], at: usize, grammar: &[u16], n: usize) -> usi
 }
 
 // The whole text, from the front on.
-fn put_file(text: &mut [u8], grammar: &[u16], terminals: usize, productions: usize) -> usize
-    requires { (terminals ≤ terminal_limit) × Packed grammar.now productions }
-    ensures { Wrote text.old 0 (file_bytes terminals (productions_in grammar.now productions)) text.new result × (result < 65536) }
+fn put_file(text: &mut [u8], grammar: Grammar, terminals: usize) -> usize
+    requires { terminals ≤ terminal_limit }
+    ensures { Wrote text.old 0 (file_bytes terminals (productions_in grammar.entry.words.now grammar.entry.productions)) text.new result × (result < 65536) }
 {
     let tokens = put_tokens(text, terminals);
     let mark = put_all(text, tokens, b"%%\n");
-    put_productions(text, mark, grammar, productions)
+    put_productions(text, mark, grammar)
 }
 
 // Does each nonterminal have a production, and the first ones ascend: else 23.

@@ -2,16 +2,16 @@ use Rattle.augment.proofs.Uses.{passing_found, passing_step, passing_end, passin
 use Rattle.augment.proofs.stands_in.Goals as goal
 
 pub symbols-requires : goal.symbols-requires
-symbols-requires c = record { packed = c.requires; production_lt_productions = c.loop-p-test.true }
+symbols-requires c = record { production_lt_productions = c.loop-p-test.true }
 
 pub is_among-requires : goal.is_among-requires
-is_among-requires c = passing_fits _ _ _ _ c.requires c.loop-p-test.true c.symbols.ensures
+is_among-requires c = passing_fits _ _ _ _ c.args.grammar.packed c.loop-p-test.true c.symbols.ensures
 
 pub returns-then-is_among : goal.returns-then-is_among
-returns-then-is_among c = passing_found _ _ _ _ c.requires c.loop-p.invariant c.loop-p-test.true _ _ c.symbols.ensures c.is_among.ensures c.if-is_among.true
+returns-then-is_among c = passing_found _ _ _ _ c.args.grammar.packed c.loop-p.invariant c.loop-p-test.true _ _ c.symbols.ensures c.is_among.ensures c.if-is_among.true
 
 pub loop-p-preserved : goal.loop-p-preserved
-loop-p-preserved c = passing_step _ _ _ _ c.requires c.loop-p.invariant c.loop-p-test.true _ _ c.symbols.ensures c.is_among.ensures c.if-is_among.false
+loop-p-preserved c = passing_step _ _ _ _ c.args.grammar.packed c.loop-p.invariant c.loop-p-test.true _ _ c.symbols.ensures c.is_among.ensures c.if-is_among.false
 
 pub returns : goal.returns
-returns c = passing_end _ _ _ _ c.requires c.loop-p.invariant c.loop-p-test.false
+returns c = passing_end _ _ _ _ c.args.grammar.packed c.loop-p.invariant c.loop-p-test.false

@@ -6,7 +6,7 @@ pub loop-production-init : goal.loop-production-init
 loop-production-init c = spread_none _ _ _
 
 pub bounds-aheads-nonterminal : goal.bounds-aheads-nonterminal
-bounds-aheads-nonterminal c = omega (arith, c.requires.0.owner _ c.loop-production-test.true, c.word-nonterminal.ensures.0)
+bounds-aheads-nonterminal c = omega (arith, c.args.grammar.packed.owner _ c.loop-production-test.true, c.word-nonterminal.ensures.0)
 
 pub loop-production-preserved : goal.loop-production-preserved
 loop-production-preserved c = spread-more _ _ _ _ _ _ _ c.loop-production.invariant c.word-nonterminal.ensures.0 c.union.ensures.is

@@ -3,4 +3,4 @@ use Rattle.codes.proofs.Least.{Filling}
 use Rattle.codes.proofs.fill_least.Given as goal
 
 abbrev pub invariant-loop-p : goal.invariant-loop-p
-invariant-loop-p l = Filling (productions_in l.grammar l.productions) l.least l.p
+invariant-loop-p l = Filling (productions_in l.grammar.words.now l.grammar.productions) l.least l.p

@@ -4,4 +4,4 @@ use Rattle.codes.specs.Codes.{is_same_production}
 use Rattle.codes.proofs.least_same.Given as goal
 
 abbrev pub invariant-loop-q : goal.invariant-loop-q
-invariant-loop-q l = (l.q ≤ l.p) × ((j : ℕ) → j < l.q → is_same_production (productions_in l.grammar l.productions) j l.p ≡ false)
+invariant-loop-q l = (l.q ≤ l.p) × ((j : ℕ) → j < l.q → is_same_production (productions_in l.grammar.words.now l.grammar.productions) j l.p ≡ false)

@@ -6,4 +6,4 @@ use Rattle.repr.specs.Sizes.{production_limit}
 use Rattle.conflict_counts.proofs.reductions.Given as goal
 
 abbrev pub invariant-loop-production : goal.invariant-loop-production
-invariant-loop-production l = (length l.map ≡ production_limit) × ((T : Table) (e : ℕ) (sets : List ℕ) → Grammar T l.grammar l.productions e sets → ReducedAs T l.productions l.state l.map l.production)
+invariant-loop-production l = (length l.map ≡ production_limit) × ((T : Table) (e : ℕ) (sets : List ℕ) → Grammar T l.grammar.words.now l.grammar.productions e sets → ReducedAs T l.grammar.productions l.state l.map l.production)

@@ -6,7 +6,7 @@ pub loop-place-init : goal.loop-place-init
 loop-place-init c = λ t. rw c.new-set.ensures.0 (shifted_start _ c.args.state.now t)
 
 pub shift_one-set-requires : goal.shift_one-set-requires
-shift_one-set-requires c = (c.requires.packed, omega (arith, c.loop-place-test.true))
+shift_one-set-requires c = (omega (arith, c.loop-place-test.true))
 
 pub loop-place-preserved : goal.loop-place-preserved
 loop-place-preserved c = shifted-more _ c.args.state.now c.loop-place.place _ _ _ refl c.loop-place.invariant c.shift_one-set.ensures

@@ -7,35 +7,35 @@ pub item-first-requires : goal.item-first-requires
 item-first-requires c = some_label _ c.requires.labels_fit
 
 pub overflow_mul-from : goal.overflow_mul-from
-overflow_mul-from c = let q = item_small c.args.grammar.now c.args.productions c.args.labels.now c.requires.labels_fit 0 (some_label _ c.requires.labels_fit) _ _ c.item-first.ensures.0 c.item-first.ensures.1 c.requires.packed in omega (arith, q)
+overflow_mul-from c = let q = item_small c.args.grammar.words.now c.args.grammar.productions c.args.labels.now c.requires.labels_fit 0 (some_label _ c.requires.labels_fit) _ _ c.item-first.ensures.0 c.item-first.ensures.1 c.args.grammar.packed in omega (arith, q)
 
 pub overflow_add-from : goal.overflow_add-from
-overflow_add-from c = let q = item_small c.args.grammar.now c.args.productions c.args.labels.now c.requires.labels_fit 0 (some_label _ c.requires.labels_fit) _ _ c.item-first.ensures.0 c.item-first.ensures.1 c.requires.packed in omega (arith, q)
+overflow_add-from c = let q = item_small c.args.grammar.words.now c.args.grammar.productions c.args.labels.now c.requires.labels_fit 0 (some_label _ c.requires.labels_fit) _ _ c.item-first.ensures.0 c.item-first.ensures.1 c.args.grammar.packed in omega (arith, q)
 
 pub overflow_mul-from-2 : goal.overflow_mul-from-2
-overflow_mul-from-2 c = let q = item_small c.args.grammar.now c.args.productions c.args.labels.now c.requires.labels_fit 0 (some_label _ c.requires.labels_fit) _ _ c.item-first.ensures.0 c.item-first.ensures.1 c.requires.packed in omega (arith, q)
+overflow_mul-from-2 c = let q = item_small c.args.grammar.words.now c.args.grammar.productions c.args.labels.now c.requires.labels_fit 0 (some_label _ c.requires.labels_fit) _ _ c.item-first.ensures.0 c.item-first.ensures.1 c.args.grammar.packed in omega (arith, q)
 
 pub overflow_add-from-2 : goal.overflow_add-from-2
-overflow_add-from-2 c = let q = item_small c.args.grammar.now c.args.productions c.args.labels.now c.requires.labels_fit 0 (some_label _ c.requires.labels_fit) _ _ c.item-first.ensures.0 c.item-first.ensures.1 c.requires.packed in omega (arith, q)
+overflow_add-from-2 c = let q = item_small c.args.grammar.words.now c.args.grammar.productions c.args.labels.now c.requires.labels_fit 0 (some_label _ c.requires.labels_fit) _ _ c.item-first.ensures.0 c.item-first.ensures.1 c.args.grammar.packed in omega (arith, q)
 
 pub can_shift-requires : goal.can_shift-requires
 can_shift-requires c = let e = c.item-first.ensures in
-    (c.requires.packed, item-production c.args.grammar.now c.args.productions c.args.labels.now c.requires.labels_fit 0 (some_label _ c.requires.labels_fit) _ _ e.0 e.1)
+    (c.args.grammar.packed, item-production c.args.grammar.words.now c.args.grammar.productions c.args.labels.now c.requires.labels_fit 0 (some_label _ c.requires.labels_fit) _ _ e.0 e.1)
 
 pub overflow_add-result : goal.overflow_add-result
-overflow_add-result c = let q = item_small c.args.grammar.now c.args.productions c.args.labels.now c.requires.labels_fit 0 (some_label _ c.requires.labels_fit) _ _ c.item-first.ensures.0 c.item-first.ensures.1 c.requires.packed in omega (arith, q)
+overflow_add-result c = let q = item_small c.args.grammar.words.now c.args.grammar.productions c.args.labels.now c.requires.labels_fit 0 (some_label _ c.requires.labels_fit) _ _ c.item-first.ensures.0 c.item-first.ensures.1 c.args.grammar.packed in omega (arith, q)
 
 pub offset_bounds-grammar-from : goal.offset_bounds-grammar-from
-offset_bounds-grammar-from c = let q = item_small c.args.grammar.now c.args.productions c.args.labels.now c.requires.labels_fit 0 (some_label _ c.requires.labels_fit) _ _ c.item-first.ensures.0 c.item-first.ensures.1 c.requires.packed in omega (arith, q)
+offset_bounds-grammar-from c = let q = item_small c.args.grammar.words.now c.args.grammar.productions c.args.labels.now c.requires.labels_fit 0 (some_label _ c.requires.labels_fit) _ _ c.item-first.ensures.0 c.item-first.ensures.1 c.args.grammar.packed in omega (arith, q)
 
 pub slice_bounds-result-end : goal.slice_bounds-result-end
 slice_bounds-result-end c = let e = c.item-first.ensures in
-    cursor_room c.args.grammar.now c.args.productions c.requires.packed c.args.labels.now c.requires.labels_fit (some_label _ c.requires.labels_fit) _ _ e.0 e.1 (ltb-true _ _ (sym c.can_shift.ensures ∙ c.if-can_shift.true))
+    cursor_room c.args.grammar.words.now c.args.grammar.productions c.args.grammar.packed c.args.labels.now c.requires.labels_fit (some_label _ c.requires.labels_fit) _ _ e.0 e.1 (ltb-true _ _ (sym c.can_shift.ensures ∙ c.if-can_shift.true))
 
 pub returns-then-can_shift : goal.returns-then-can_shift
 returns-then-can_shift c = let e = c.item-first.ensures in
-    cursor_is c.args.grammar.now c.args.productions c.requires.packed c.args.labels.now c.requires.labels_fit (some_label _ c.requires.labels_fit) _ _ e.0 e.1 (ltb-true _ _ (sym c.can_shift.ensures ∙ c.if-can_shift.true)) _ _ refl refl
+    cursor_is c.args.grammar.words.now c.args.grammar.productions c.args.grammar.packed c.args.labels.now c.requires.labels_fit (some_label _ c.requires.labels_fit) _ _ e.0 e.1 (ltb-true _ _ (sym c.can_shift.ensures ∙ c.if-can_shift.true)) _ _ refl refl
 
 pub returns : goal.returns
 returns c = let e = c.item-first.ensures in
-    cursor_none c.args.grammar.now c.args.productions c.requires.packed c.args.labels.now c.requires.labels_fit (some_label _ c.requires.labels_fit) _ _ e.0 e.1 (ltb-false _ _ (sym c.can_shift.ensures ∙ c.if-can_shift.false))
+    cursor_none c.args.grammar.words.now c.args.grammar.productions c.args.grammar.packed c.args.labels.now c.requires.labels_fit (some_label _ c.requires.labels_fit) _ _ e.0 e.1 (ltb-false _ _ (sym c.can_shift.ensures ∙ c.if-can_shift.false))

@@ -10,17 +10,17 @@ use Rattle.example.proofs.first0.Goals as goal
 pub loop-asked-init : goal.loop-asked-init
 loop-asked-init c = let e = c.args.terminals in
     let sets = c.args.map.now in
-    let ps = productions_in c.args.grammar.now c.args.productions in
+    let ps = productions_in c.args.grammar.words.now c.args.grammar.productions in
     let ls = labels_in c.args.labels.now in
     (asked-start e sets ps ls _ c.new.ensures.0, number-start e sets ps ls, refl, omega arith)
 
 pub label_first0-next-requires : goal.label_first0-next-requires
-label_first0-next-requires c = record { packed = c.requires.packed; labels_fit = c.requires.labels_fit; label_in_bounds = omega (arith, c.label_count-count.ensures.0, c.loop-asked-test.true) }
+label_first0-next-requires c = record { packed = c.requires.within; labels_fit = c.requires.labels_fit; label_in_bounds = omega (arith, c.label_count-count.ensures.0, c.loop-asked-test.true) }
 
 pub returns-then-not-answer : goal.returns-then-not-answer
 returns-then-not-answer c = let e = c.args.terminals in
     let sets = c.args.map.now in
-    let ps = productions_in c.args.grammar.now c.args.productions in
+    let ps = productions_in c.args.grammar.words.now c.args.grammar.productions in
     let ls = labels_in c.args.labels.now in
     let L = c.loop-asked in
     let h : L.asked < length (asked_parts ps ls) = omega (arith, c.label_count-count.ensures.0, c.loop-asked-test.true, parts-length ps ls) in
@@ -32,7 +32,7 @@ returns-then-not-answer c = let e = c.args.terminals in
 pub loop-asked-preserved : goal.loop-asked-preserved
 loop-asked-preserved c = let e = c.args.terminals in
     let sets = c.args.map.now in
-    let ps = productions_in c.args.grammar.now c.args.productions in
+    let ps = productions_in c.args.grammar.words.now c.args.grammar.productions in
     let ls = labels_in c.args.labels.now in
     let L = c.loop-asked in
     let h : L.asked < length (asked_parts ps ls) = omega (arith, c.label_count-count.ensures.0, c.loop-asked-test.true, parts-length ps ls) in
@@ -48,7 +48,7 @@ loop-asked-preserved c = let e = c.args.terminals in
 pub returns : goal.returns
 returns c = let e = c.args.terminals in
     let sets = c.args.map.now in
-    let ps = productions_in c.args.grammar.now c.args.productions in
+    let ps = productions_in c.args.grammar.words.now c.args.grammar.productions in
     let ls = labels_in c.args.labels.now in
     let L = c.loop-asked in
     let parts = asked_parts ps ls in

@@ -9,25 +9,25 @@ item-requires c = some_label _ c.requires.labels_fit
 
 pub symbol_sets-sets-requires : goal.symbol_sets-sets-requires
 symbol_sets-sets-requires c = let h = some_label _ c.requires.labels_fit in
-    let e = c.item.ensures in record { packed = (c.requires.packed, item-production c.args.grammar.now c.args.productions c.args.labels.now c.requires.labels_fit 0 h _ _ e.0 e.1); index_in_bounds = item_index c.args.grammar.now c.args.productions c.args.labels.now c.requires.labels_fit 0 h _ _ e.0 e.1 }
+    let e = c.item.ensures in record { within = (item-production c.args.grammar.words.now c.args.grammar.productions c.args.labels.now c.requires.labels_fit 0 h _ _ e.0 e.1); index_in_bounds = item_index c.args.grammar.words.now c.args.grammar.productions c.args.labels.now c.requires.labels_fit 0 h _ _ e.0 e.1 }
 
 pub returns-then-sets-gt0 : goal.returns-then-sets-gt0
 returns-then-sets-gt0 c = let h = some_label _ c.requires.labels_fit in
     let e = c.item.ensures in
-    counted_one (productions_in c.args.grammar.now c.args.productions) c.args.labels.now h _ _ _
-    (sets-counted c.args.grammar.now c.args.productions c.requires.packed c.args.labels.now c.requires.labels_fit 0 h _ _ e.0 e.1 _ c.symbol_sets-sets.ensures.suffix_value_2)
+    counted_one (productions_in c.args.grammar.words.now c.args.grammar.productions) c.args.labels.now h _ _ _
+    (sets-counted c.args.grammar.words.now c.args.grammar.productions c.args.grammar.packed c.args.labels.now c.requires.labels_fit 0 h _ _ e.0 e.1 _ c.symbol_sets-sets.ensures.suffix_value_2)
     c.if-sets-gt0.true
 
 pub returns-then-sets-gt0-2 : goal.returns-then-sets-gt0-2
 returns-then-sets-gt0-2 c = let h = some_label _ c.requires.labels_fit in
     let e = c.item.ensures in
-    counted_none (productions_in c.args.grammar.now c.args.productions) c.args.labels.now h _ _ _
-    (sets-counted c.args.grammar.now c.args.productions c.requires.packed c.args.labels.now c.requires.labels_fit 0 h _ _ e.0 e.1 _ c.symbol_sets-sets.ensures.suffix_value_2)
+    counted_none (productions_in c.args.grammar.words.now c.args.grammar.productions) c.args.labels.now h _ _ _
+    (sets-counted c.args.grammar.words.now c.args.grammar.productions c.args.grammar.packed c.args.labels.now c.requires.labels_fit 0 h _ _ e.0 e.1 _ c.symbol_sets-sets.ensures.suffix_value_2)
     c.if-sets-gt0.false c.if-sets-gt0-2.true
 
 pub returns : goal.returns
 returns c = let h = some_label _ c.requires.labels_fit in
     let e = c.item.ensures in
-    counted-mark (productions_in c.args.grammar.now c.args.productions) c.args.labels.now h _ _ _
-    (sets-counted c.args.grammar.now c.args.productions c.requires.packed c.args.labels.now c.requires.labels_fit 0 h _ _ e.0 e.1 _ c.symbol_sets-sets.ensures.suffix_value_2)
+    counted-mark (productions_in c.args.grammar.words.now c.args.grammar.productions) c.args.labels.now h _ _ _
+    (sets-counted c.args.grammar.words.now c.args.grammar.productions c.args.grammar.packed c.args.labels.now c.requires.labels_fit 0 h _ _ e.0 e.1 _ c.symbol_sets-sets.ensures.suffix_value_2)
     c.if-sets-gt0.false c.if-sets-gt0-2.false

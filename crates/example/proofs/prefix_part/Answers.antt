@@ -6,8 +6,8 @@ pub item-requires : goal.item-requires
 item-requires c = c.requires.label_in_bounds
 
 pub prefix-requires : goal.prefix-requires
-prefix-requires c = let e = c.item.ensures in record { packed = (c.requires.packed, item-production c.args.grammar.now c.args.productions c.args.labels.now c.requires.labels_fit _ c.requires.label_in_bounds _ _ e.0 e.1); index_in_bounds = item_index c.args.grammar.now c.args.productions c.args.labels.now c.requires.labels_fit _ c.requires.label_in_bounds _ _ e.0 e.1 }
+prefix-requires c = let e = c.item.ensures in record { within = (item-production c.args.grammar.words.now c.args.grammar.productions c.args.labels.now c.requires.labels_fit _ c.requires.label_in_bounds _ _ e.0 e.1); index_in_bounds = item_index c.args.grammar.words.now c.args.grammar.productions c.args.labels.now c.requires.labels_fit _ c.requires.label_in_bounds _ _ e.0 e.1 }
 
 pub returns : goal.returns
 returns c = let e = c.item.ensures in
-    prefix_is c.args.grammar.now c.args.productions c.requires.packed c.args.labels.now c.requires.labels_fit _ c.requires.label_in_bounds _ _ e.0 e.1 _ c.prefix.ensures.0 c.prefix.ensures.1
+    prefix_is c.args.grammar.words.now c.args.grammar.productions c.args.grammar.packed c.args.labels.now c.requires.labels_fit _ c.requires.label_in_bounds _ _ e.0 e.1 _ c.prefix.ensures.0 c.prefix.ensures.1

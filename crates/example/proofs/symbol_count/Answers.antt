@@ -4,19 +4,19 @@ use Rattle.std.proofs.Common.{arith}
 use Rattle.example.proofs.symbol_count.Goals as goal
 
 pub overflow_add-around : goal.overflow_add-around
-overflow_add-around c = let ps = productions_in c.args.grammar.now c.args.productions in
+overflow_add-around c = let ps = productions_in c.args.grammar.words.now c.args.grammar.productions in
     let ws = c.args.labels.now in
-    let few = around_few c.args.grammar.now c.args.productions c.requires.packed ws c.requires.labels_fit in
+    let few = around_few c.args.grammar.words.now c.args.grammar.productions c.args.grammar.packed ws c.requires.labels_fit in
     omega (arith, few, c.prefix_total.ensures, c.suffix_total.ensures)
 
 pub overflow_add-result : goal.overflow_add-result
-overflow_add-result c = let ps = productions_in c.args.grammar.now c.args.productions in
+overflow_add-result c = let ps = productions_in c.args.grammar.words.now c.args.grammar.productions in
     let ws = c.args.labels.now in
     let e = symbols-sum ps ws _ _ _ c.prefix_total.ensures c.middle_count.ensures c.suffix_total.ensures in
-    omega (arith, e, symbols_528 c.args.grammar.now c.args.productions c.requires.packed ws c.requires.labels_fit)
+    omega (arith, e, symbols_528 c.args.grammar.words.now c.args.grammar.productions c.args.grammar.packed ws c.requires.labels_fit)
 
 pub returns : goal.returns
-returns c = let ps = productions_in c.args.grammar.now c.args.productions in
+returns c = let ps = productions_in c.args.grammar.words.now c.args.grammar.productions in
     let ws = c.args.labels.now in
     let e = symbols-sum ps ws _ _ _ c.prefix_total.ensures c.middle_count.ensures c.suffix_total.ensures in
-    (e, omega (arith, e, symbols_528 c.args.grammar.now c.args.productions c.requires.packed ws c.requires.labels_fit))
+    (e, omega (arith, e, symbols_528 c.args.grammar.words.now c.args.grammar.productions c.args.grammar.packed ws c.requires.labels_fit))

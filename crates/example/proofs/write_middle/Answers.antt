@@ -7,7 +7,7 @@ use Rattle.example.proofs.Walk.{middle_one, middle-words, none-words, mark-words
 use Rattle.example.proofs.write_middle.Goals as goal
 
 pub copy-requires : goal.copy-requires
-copy-requires c = let ps = productions_in c.args.grammar.now c.args.productions in
+copy-requires c = let ps = productions_in c.args.grammar.words.now c.args.grammar.productions in
     let ws = c.args.labels.now in
     let h = some_label ws c.requires.labels_fit in
     let at = c.args.at in
@@ -16,7 +16,7 @@ copy-requires c = let ps = productions_in c.args.grammar.now c.args.productions 
     omega (arith, e, c.requires.labels_in_bounds)
 
 pub returns-then-part-gt0 : goal.returns-then-part-gt0
-returns-then-part-gt0 c = let ps = productions_in c.args.grammar.now c.args.productions in
+returns-then-part-gt0 c = let ps = productions_in c.args.grammar.words.now c.args.grammar.productions in
     let ws = c.args.labels.now in
     let h = some_label ws c.requires.labels_fit in
     let at = c.args.at in
@@ -26,10 +26,10 @@ returns-then-part-gt0 c = let ps = productions_in c.args.grammar.now c.args.prod
     (c.copy.ensures ∙ ap (λ (l : List ℕ). put_at at l b) (sym e), omega (arith, ap length e, two))
 
 pub prefix_part-lead-requires : goal.prefix_part-lead-requires
-prefix_part-lead-requires c = record { packed = c.requires.packed; labels_fit = c.requires.labels_fit; label_in_bounds = some_label _ c.requires.labels_fit }
+prefix_part-lead-requires c = record { labels_fit = c.requires.labels_fit; label_in_bounds = some_label _ c.requires.labels_fit }
 
 pub returns-then-lead-gt0 : goal.returns-then-lead-gt0
-returns-then-lead-gt0 c = let ps = productions_in c.args.grammar.now c.args.productions in
+returns-then-lead-gt0 c = let ps = productions_in c.args.grammar.words.now c.args.grammar.productions in
     let ws = c.args.labels.now in
     let h = some_label ws c.requires.labels_fit in
     let at = c.args.at in
@@ -38,7 +38,7 @@ returns-then-lead-gt0 c = let ps = productions_in c.args.grammar.now c.args.prod
     (sym (put-nil at b) ∙ ap (λ (l : List ℕ). put_at at l b) (sym e), omega (arith, ap length e))
 
 pub bounds-buffer-at : goal.bounds-buffer-at
-bounds-buffer-at c = let ps = productions_in c.args.grammar.now c.args.productions in
+bounds-buffer-at c = let ps = productions_in c.args.grammar.words.now c.args.grammar.productions in
     let ws = c.args.labels.now in
     let h = some_label ws c.requires.labels_fit in
     let at = c.args.at in
@@ -47,7 +47,7 @@ bounds-buffer-at c = let ps = productions_in c.args.grammar.now c.args.productio
     omega (arith, ap length e, c.requires.labels_in_bounds)
 
 pub bounds-buffer-at-2 : goal.bounds-buffer-at-2
-bounds-buffer-at-2 c = let ps = productions_in c.args.grammar.now c.args.productions in
+bounds-buffer-at-2 c = let ps = productions_in c.args.grammar.words.now c.args.grammar.productions in
     let ws = c.args.labels.now in
     let h = some_label ws c.requires.labels_fit in
     let at = c.args.at in
@@ -56,7 +56,7 @@ bounds-buffer-at-2 c = let ps = productions_in c.args.grammar.now c.args.product
     simp length-set (omega (arith, ap length e, c.requires.labels_in_bounds))
 
 pub returns : goal.returns
-returns c = let ps = productions_in c.args.grammar.now c.args.productions in
+returns c = let ps = productions_in c.args.grammar.words.now c.args.grammar.productions in
     let ws = c.args.labels.now in
     let h = some_label ws c.requires.labels_fit in
     let at = c.args.at in

@@ -8,21 +8,21 @@ use Rattle.example.proofs.Walk.{prefix-whole, prefix_turn, prefix-done}
 use Rattle.example.proofs.write_prefixes.Goals as goal
 
 pub loop-label-init : goal.loop-label-init
-loop-label-init c = let ps = productions_in c.args.grammar.now c.args.productions in
+loop-label-init c = let ps = productions_in c.args.grammar.words.now c.args.grammar.productions in
     turn_start _ _ _ _ (prefix-whole ps c.args.labels.now c.label_count-count.result (omega (arith, c.label_count-count.ensures.0))) c.requires.labels_in_bounds
 
 pub prefix_part-part-requires : goal.prefix_part-part-requires
-prefix_part-part-requires c = record { packed = c.requires.packed; labels_fit = c.requires.labels_fit; label_in_bounds = omega (arith, c.label_count-count.ensures.0) }
+prefix_part-part-requires c = record { labels_fit = c.requires.labels_fit; label_in_bounds = omega (arith, c.label_count-count.ensures.0) }
 
 pub copy-requires : goal.copy-requires
-copy-requires c = let ps = productions_in c.args.grammar.now c.args.productions in
+copy-requires c = let ps = productions_in c.args.grammar.words.now c.args.grammar.productions in
     let ws = c.args.labels.now in
     let n = c.loop-label.label in
     let step = prefix_turn ps ws (n - 1) n (n - 1) (omega arith) (omega arith) (omega (arith, c.label_count-count.ensures.0)) _ c.prefix_part-part.ensures in
     turn_room c.loop-label.invariant c.prefix_part-part.result.now (words_of (prefixes ps (take (n - 1) (labels_in ws)))) step
 
 pub overflow_add-place : goal.overflow_add-place
-overflow_add-place c = let ps = productions_in c.args.grammar.now c.args.productions in
+overflow_add-place c = let ps = productions_in c.args.grammar.words.now c.args.grammar.productions in
     let ws = c.args.labels.now in
     let n = c.loop-label.label in
     let step = prefix_turn ps ws (n - 1) n (n - 1) (omega arith) (omega arith) (omega (arith, c.label_count-count.ensures.0)) _ c.prefix_part-part.ensures in
@@ -30,12 +30,12 @@ overflow_add-place c = let ps = productions_in c.args.grammar.now c.args.product
     omega (arith, r)
 
 pub loop-label-preserved : goal.loop-label-preserved
-loop-label-preserved c = let ps = productions_in c.args.grammar.now c.args.productions in
+loop-label-preserved c = let ps = productions_in c.args.grammar.words.now c.args.grammar.productions in
     let ws = c.args.labels.now in
     let n = c.loop-label.label in
     let step = prefix_turn ps ws (n - 1) n (n - 1) (omega arith) (omega arith) (omega (arith, c.label_count-count.ensures.0)) _ c.prefix_part-part.ensures in
     turn_more c.loop-label.invariant _ _ step _ c.copy.ensures
 
 pub returns : goal.returns
-returns c = let ps = productions_in c.args.grammar.now c.args.productions in
+returns c = let ps = productions_in c.args.grammar.words.now c.args.grammar.productions in
     turn_end c.loop-label.invariant (prefix-done ps c.args.labels.now c.loop-label.label (omega arith))

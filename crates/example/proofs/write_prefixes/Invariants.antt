@@ -7,4 +7,4 @@ use Rattle.example.proofs.Put.{Turn}
 use Rattle.example.proofs.write_prefixes.Given as goal
 
 abbrev pub invariant-loop-label : goal.invariant-loop-label
-invariant-loop-label l = Turn l.at (words_of (prefixes (productions_in l.grammar l.productions) (labels_in l.labels))) l.initial.buffer l.place (words_of (prefixes (productions_in l.grammar l.productions) (take l.label (labels_in l.labels)))) l.buffer
+invariant-loop-label l = Turn l.at (words_of (prefixes (productions_in l.grammar.words.now l.grammar.productions) (labels_in l.labels))) l.initial.buffer l.place (words_of (prefixes (productions_in l.grammar.words.now l.grammar.productions) (take l.label (labels_in l.labels)))) l.buffer

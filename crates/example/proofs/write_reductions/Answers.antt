@@ -8,18 +8,18 @@ use Rattle.example.proofs.Walk.{around_few, prefix-step, prefix-left, around-nex
 use Rattle.example.proofs.write_reductions.Goals as goal
 
 pub prefix_total-start-requires : goal.prefix_total-start-requires
-prefix_total-start-requires c = record { packed = c.requires.packed.0; labels_fit = c.requires.labels_fit }
+prefix_total-start-requires c = record { labels_fit = c.requires.labels_fit }
 
 pub suffix_total-requires : goal.suffix_total-requires
-suffix_total-requires c = record { packed = c.requires.packed.0; labels_fit = c.requires.labels_fit }
+suffix_total-requires c = record { labels_fit = c.requires.labels_fit }
 
 pub overflow_sub-end : goal.overflow_sub-end
-overflow_sub-end c = let ps = productions_in c.args.grammar.now c.args.productions in
+overflow_sub-end c = let ps = productions_in c.args.grammar.words.now c.args.grammar.productions in
     let ws = c.args.labels.now in
     omega (arith, length_symbols ps (labels_in ws), c.suffix_total.ensures, c.requires.places_value)
 
 pub loop-label-init : goal.loop-label-init
-loop-label-init c = let ps = productions_in c.args.grammar.now c.args.productions in
+loop-label-init c = let ps = productions_in c.args.grammar.words.now c.args.grammar.productions in
     let ws = c.args.labels.now in
     let r = around-length ps c.args.places (labels_in ws) in (
       turn_start _ _ _ _ refl (omega (arith, r, c.requires.labels_in_bounds)),
@@ -29,10 +29,10 @@ loop-label-init c = let ps = productions_in c.args.grammar.now c.args.production
     )
 
 pub prefix_part-requires : goal.prefix_part-requires
-prefix_part-requires c = record { packed = c.requires.packed.0; labels_fit = c.requires.labels_fit; label_in_bounds = omega (arith, c.label_count-count.ensures.0, c.loop-label-test.true) }
+prefix_part-requires c = record { labels_fit = c.requires.labels_fit; label_in_bounds = omega (arith, c.label_count-count.ensures.0, c.loop-label-test.true) }
 
 pub overflow_sub-start : goal.overflow_sub-start
-overflow_sub-start c = let ps = productions_in c.args.grammar.now c.args.productions in
+overflow_sub-start c = let ps = productions_in c.args.grammar.words.now c.args.grammar.productions in
     let ws = c.args.labels.now in
     let I = c.loop-label.invariant in
     let l : c.loop-label.label < length (labels_in ws) = omega (arith, c.label_count-count.ensures.0, c.loop-label-test.true) in
@@ -40,34 +40,34 @@ overflow_sub-start c = let ps = productions_in c.args.grammar.now c.args.product
     omega (arith, q, I.1)
 
 pub suffix_part-requires : goal.suffix_part-requires
-suffix_part-requires c = record { packed = c.requires.packed.0; labels_fit = c.requires.labels_fit; label_in_bounds = omega (arith, c.label_count-count.ensures.0, c.loop-label-test.true) }
+suffix_part-requires c = record { labels_fit = c.requires.labels_fit; label_in_bounds = omega (arith, c.label_count-count.ensures.0, c.loop-label-test.true) }
 
 pub overflow_add-end : goal.overflow_add-end
-overflow_add-end c = let ps = productions_in c.args.grammar.now c.args.productions in
+overflow_add-end c = let ps = productions_in c.args.grammar.words.now c.args.grammar.productions in
     let ws = c.args.labels.now in
     let I = c.loop-label.invariant in
     let l : c.loop-label.label < length (labels_in ws) = omega (arith, c.label_count-count.ensures.0, c.loop-label-test.true) in
     let q = around-next ps ws c.args.places c.loop-label.label l _ _ I.1 I.2 _ _ c.prefix_part.ensures c.suffix_part.ensures in
-    omega (arith, q, c.requires.packed.1)
+    omega (arith, q, c.requires.within)
 
 pub nonterminal-requires : goal.nonterminal-requires
 nonterminal-requires c = omega (arith, c.label_count-count.ensures.0, c.loop-label-test.true)
 
 pub put_three-requires : goal.put_three-requires
-put_three-requires c = let ps = productions_in c.args.grammar.now c.args.productions in
+put_three-requires c = let ps = productions_in c.args.grammar.words.now c.args.grammar.productions in
     let ws = c.args.labels.now in
     let I = c.loop-label.invariant in
     let l : c.loop-label.label < length (labels_in ws) = omega (arith, c.label_count-count.ensures.0, c.loop-label-test.true) in
     let q = around-next ps ws c.args.places c.loop-label.label l _ _ I.1 I.2 _ _ c.prefix_part.ensures c.suffix_part.ensures in
-    let few = around_few c.args.grammar.now c.args.productions c.requires.packed.0 ws c.requires.labels_fit in (
+    let few = around_few c.args.grammar.words.now c.args.grammar.productions c.args.grammar.packed ws c.requires.labels_fit in (
       turn_room I.0 (_ ∷ _ ∷ _ ∷ []) _ (around_turn ps ws c.args.places c.loop-label.label l _ _ _ q.0 q.1 c.nonterminal.ensures.0),
       omega (arith, I.1, prefix-left ps ws c.loop-label.label, few),
-      omega (arith, q.1, c.requires.packed.1),
+      omega (arith, q.1, c.requires.within),
       c.nonterminal.ensures.1,
     )
 
 pub overflow_add-place : goal.overflow_add-place
-overflow_add-place c = let ps = productions_in c.args.grammar.now c.args.productions in
+overflow_add-place c = let ps = productions_in c.args.grammar.words.now c.args.grammar.productions in
     let ws = c.args.labels.now in
     let I = c.loop-label.invariant in
     let l : c.loop-label.label < length (labels_in ws) = omega (arith, c.label_count-count.ensures.0, c.loop-label-test.true) in
@@ -76,7 +76,7 @@ overflow_add-place c = let ps = productions_in c.args.grammar.now c.args.product
     omega (arith, r)
 
 pub loop-label-preserved : goal.loop-label-preserved
-loop-label-preserved c = let ps = productions_in c.args.grammar.now c.args.productions in
+loop-label-preserved c = let ps = productions_in c.args.grammar.words.now c.args.grammar.productions in
     let ws = c.args.labels.now in
     let I = c.loop-label.invariant in
     let l : c.loop-label.label < length (labels_in ws) = omega (arith, c.label_count-count.ensures.0, c.loop-label-test.true) in
@@ -91,6 +91,6 @@ pub shape_of-buffer : goal.shape_of-buffer
 shape_of-buffer c = c.loop-label.invariant.0.size
 
 pub returns : goal.returns
-returns c = let ps = productions_in c.args.grammar.now c.args.productions in
+returns c = let ps = productions_in c.args.grammar.words.now c.args.grammar.productions in
     let ws = c.args.labels.now in
     (turn_end c.loop-label.invariant.0 (around-done ps ws _ c.loop-label.label (omega (arith, c.label_count-count.ensures.0, c.loop-label-test.false)))).0

@@ -8,26 +8,26 @@ use Rattle.example.proofs.Walk.{suffix_turn, suffix-done}
 use Rattle.example.proofs.write_suffixes.Goals as goal
 
 pub loop-label-init : goal.loop-label-init
-loop-label-init c = let ps = productions_in c.args.grammar.now c.args.productions in
+loop-label-init c = let ps = productions_in c.args.grammar.words.now c.args.grammar.productions in
     let ws = c.args.labels.now in
     (turn_start _ _ _ _ refl c.requires.labels_in_bounds, omega (arith, c.label_count-count.ensures.0))
 
 pub suffix_part-part-requires : goal.suffix_part-part-requires
-suffix_part-part-requires c = record { packed = c.requires.packed; labels_fit = c.requires.labels_fit; label_in_bounds = omega (arith, c.label_count-count.ensures.0, c.loop-label-test.true) }
+suffix_part-part-requires c = record { labels_fit = c.requires.labels_fit; label_in_bounds = omega (arith, c.label_count-count.ensures.0, c.loop-label-test.true) }
 
 pub copy-requires : goal.copy-requires
-copy-requires c = let ps = productions_in c.args.grammar.now c.args.productions in
+copy-requires c = let ps = productions_in c.args.grammar.words.now c.args.grammar.productions in
     let ws = c.args.labels.now in
     turn_room c.loop-label.invariant.0 c.suffix_part-part.result.now (words_of (suffixes ps (drop (c.loop-label.label + 1) (labels_in ws)))) (suffix_turn ps ws c.loop-label.label (omega (arith, c.label_count-count.ensures.0, c.loop-label-test.true)) _ c.suffix_part-part.ensures)
 
 pub overflow_add-place : goal.overflow_add-place
-overflow_add-place c = let ps = productions_in c.args.grammar.now c.args.productions in
+overflow_add-place c = let ps = productions_in c.args.grammar.words.now c.args.grammar.productions in
     let ws = c.args.labels.now in
     let r = turn_room c.loop-label.invariant.0 c.suffix_part-part.result.now (words_of (suffixes ps (drop (c.loop-label.label + 1) (labels_in ws)))) (suffix_turn ps ws c.loop-label.label (omega (arith, c.label_count-count.ensures.0, c.loop-label-test.true)) _ c.suffix_part-part.ensures) in
     omega (arith, r)
 
 pub loop-label-preserved : goal.loop-label-preserved
-loop-label-preserved c = let ps = productions_in c.args.grammar.now c.args.productions in
+loop-label-preserved c = let ps = productions_in c.args.grammar.words.now c.args.grammar.productions in
     let ws = c.args.labels.now in
     (turn_more c.loop-label.invariant.0 _ _ (suffix_turn ps ws c.loop-label.label (omega (arith, c.label_count-count.ensures.0, c.loop-label-test.true)) _ c.suffix_part-part.ensures) _ c.copy.ensures, omega (arith, c.loop-label-test.true, c.loop-label.invariant.1))
 
@@ -35,6 +35,6 @@ pub shape_of-buffer : goal.shape_of-buffer
 shape_of-buffer c = c.loop-label.invariant.0.size
 
 pub returns : goal.returns
-returns c = let ps = productions_in c.args.grammar.now c.args.productions in
+returns c = let ps = productions_in c.args.grammar.words.now c.args.grammar.productions in
     let ws = c.args.labels.now in
     turn_end c.loop-label.invariant.0 (suffix-done ps ws c.loop-label.label (omega (arith, c.label_count-count.ensures.0, c.loop-label-test.false)))

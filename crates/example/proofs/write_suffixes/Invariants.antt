@@ -7,4 +7,4 @@ use Rattle.example.proofs.Put.{Turn}
 use Rattle.example.proofs.write_suffixes.Given as goal
 
 abbrev pub invariant-loop-label : goal.invariant-loop-label
-invariant-loop-label l = Turn l.at (words_of (suffixes (productions_in l.grammar l.productions) (labels_in l.labels))) l.initial.buffer l.place (words_of (suffixes (productions_in l.grammar l.productions) (drop l.label (labels_in l.labels)))) l.buffer × (l.label ≤ l.count)
+invariant-loop-label l = Turn l.at (words_of (suffixes (productions_in l.grammar.words.now l.grammar.productions) (labels_in l.labels))) l.initial.buffer l.place (words_of (suffixes (productions_in l.grammar.words.now l.grammar.productions) (drop l.label (labels_in l.labels)))) l.buffer × (l.label ≤ l.count)

@@ -14,7 +14,7 @@ pub slice_bounds-outline_of-end : goal.slice_bounds-outline_of-end
 slice_bounds-outline_of-end c = let l = c.read_labels-size.auto.labels ∙ length-replicate {A = ℕ} labels_room 0 in sym (length-take-le _ c.read_labels-size.new.labels (omega (arith, c.read_labels-size.ensures.upper_bound.0)))
 
 pub outline_of-outline-requires : goal.outline_of-outline-requires
-outline_of-outline-requires c = record { packed = c.requires.packed; labels_fit = c.read_labels-size.ensures.upper_bound.1 _ _ c.requires.tried.1 }
+outline_of-outline-requires c = record { labels_fit = c.read_labels-size.ensures.upper_bound.1 _ _ c.requires.tried.1 }
 
 pub slice_bounds-keep_labels-end : goal.slice_bounds-keep_labels-end
 slice_bounds-keep_labels-end c = let l = c.read_labels-size.auto.labels ∙ length-replicate {A = ℕ} labels_room 0 in sym (length-take-le _ c.read_labels-size.new.labels (omega (arith, c.read_labels-size.ensures.upper_bound.0)))

@@ -4,7 +4,7 @@ use native.Mathlib.Omega.{arith}
 use Rattle.grammar_records.proofs.next_record.Goals as goal
 
 pub overflow_add-result : goal.overflow_add-result
-overflow_add-result c = omega (arith, c.in-Some.ensures.0, c.requires.0.few, c.requires.1)
+overflow_add-result c = omega (arith, c.in-Some.ensures.0, c.args.grammar.packed.few, c.requires)
 
 pub returns-in-Some : goal.returns-in-Some
 returns-in-Some c = λ U P e. record_is U _ _ _ _ _ _ P e (sym c.in-Some.ensures.1) c.in-Some.ensures.0

@@ -8,12 +8,12 @@ pub begin-requires : goal.begin-requires
 begin-requires c = c.requires.scratch_words_in_bounds.0
 
 pub search-requires : goal.search-requires
-search-requires c = record { packed = c.requires.packed; searching = (_, (_, searching _ c.requires.viewing.1 c.requires.viewing.0 (start_at _ _ _ c.requires.is_open_value.0 c.requires.is_open_value.1) c.begin.ensures)) }
+search-requires c = record { packed = c.requires.within; searching = (_, (_, searching _ c.requires.viewing.1 c.requires.viewing.0 (start_at _ _ _ c.requires.is_open_value.0 c.requires.is_open_value.1) c.begin.ensures)) }
 
 pub write_trial-requires : goal.write_trial-requires
 write_trial-requires c = let L = c.requires.viewing.1 in
     let A = start_at _ _ _ c.requires.is_open_value.0 c.requires.is_open_value.1 in
-    let B = c.begin.ensures in record { packed = c.requires.packed.0; tried = (_, hit-tried L A _ _ _ _ B (c.search.ensures _ _ (searching _ L c.requires.viewing.0 A B)) _ c.in-Hit.is); example_room_in_bounds = c.requires.scratch_words_in_bounds.1 }
+    let B = c.begin.ensures in record { tried = (_, hit-tried L A _ _ _ _ B (c.search.ensures _ _ (searching _ L c.requires.viewing.0 A B)) _ c.in-Hit.is); example_room_in_bounds = c.requires.scratch_words_in_bounds.1 }
 
 pub shape_of-scratch-in-Hit : goal.shape_of-scratch-in-Hit
 shape_of-scratch-in-Hit c = c.search.auto.words ∙ c.begin.auto.words

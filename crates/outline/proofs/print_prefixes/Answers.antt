@@ -6,7 +6,7 @@ use Rattle.outline.proofs.print_prefixes.Goals as goal
 
 pub loop-label-preserved : goal.loop-label-preserved
 loop-label-preserved c =
-    let ps = productions_in c.args.grammar.now c.args.productions in
+    let ps = productions_in c.args.grammar.words.now c.args.grammar.productions in
     let ws = c.args.labels.now in
     let label = c.loop-label.label in
     let step = prefix_turn ps ws (label - 1) label (label - 1) (omega (arith, c.loop-label-test.true)) (omega arith) c.loop-label.invariant.0 _ c.prefix_part.ensures in
@@ -14,6 +14,6 @@ loop-label-preserved c =
 
 pub returns : goal.returns
 returns c =
-    let ps = productions_in c.args.grammar.now c.args.productions in
+    let ps = productions_in c.args.grammar.words.now c.args.grammar.productions in
     let ws = c.args.labels.now in
     (words-none c.loop-label.mixed _ (prefix-done ps ws c.loop-label.label (omega (arith, c.loop-label-test.false))) ∙ c.loop-label.invariant.2, c.loop-label.invariant.1)

@@ -11,7 +11,7 @@ pub slice_bounds-write_example-end : goal.slice_bounds-write_example-end
 slice_bounds-write_example-end c = sym (length-take-le _ _ (omega (arith, c.read_labels-size.ensures.upper_bound.0, c.read_labels-size.auto.labels)))
 
 pub write_example-requires : goal.write_example-requires
-write_example-requires c = record { packed = c.requires.packed; labels_fit = c.read_labels-size.ensures.upper_bound.1 _ _ c.requires.tried.1; example_room_in_bounds = c.requires.example_room_in_bounds }
+write_example-requires c = record { labels_fit = c.read_labels-size.ensures.upper_bound.1 _ _ c.requires.tried.1; example_room_in_bounds = c.requires.example_room_in_bounds }
 
 pub returns : goal.returns
 returns c = λ es T p rest w. written_is _ _ _ _ _ (c.read_labels-size.ensures.labels_after _ es T p rest w) c.write_example.ensures

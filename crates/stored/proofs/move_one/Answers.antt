@@ -3,10 +3,10 @@ use Rattle.std.proofs.Common.{arith}
 use Rattle.stored.proofs.move_one.Goals as goal
 
 pub cursor-requires : goal.cursor-requires
-cursor-requires c = (c.requires.packed.0, omega (arith, c.requires.packed.1))
+cursor-requires c = (omega (arith, c.requires.within.0))
 
 pub write_item-requires : goal.write_item-requires
-write_item-requires c = (c.requires.many_lt_record_limit.0, c.requires.many_lt_record_limit.1, omega (arith, c.requires.packed.1, c.requires.packed.0.few))
+write_item-requires c = (c.requires.many_lt_record_limit.0, c.requires.many_lt_record_limit.1, omega (arith, c.requires.within.0, c.args.grammar.packed.few))
 
 pub returns-then-cursor-symbol : goal.returns-then-cursor-symbol
 returns-then-cursor-symbol c = appended _ _ _ _ _ _ _ _ c.requires.many_lt_record_limit.1 c.cursor.ensures c.if-cursor-symbol.true c.write_item.ensures

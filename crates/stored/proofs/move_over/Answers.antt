@@ -10,7 +10,7 @@ pub read_item-read-requires : goal.read_item-read-requires
 read_item-read-requires c = (omega (arith, c.loop-at-test.true, c.requires.from_le_past.1), omega (arith, c.loop-at-test.true, c.requires.from_le_past.2))
 
 pub move_one-requires : goal.move_one-requires
-move_one-requires c = record { packed = (c.requires.packed, rw (ap (λ (e : Entry). e.place) c.read_item-read.ensures.0) (c.requires.by_index c.loop-at.at c.loop-at.auto.at c.loop-at-test.true), c.read_item-read.ensures.1); many_lt_record_limit = (omega (arith, c.loop-at.invariant.0, c.loop-at-test.true, c.requires.from_le_past.1), rw c.loop-at.invariant.1 (omega (arith, c.loop-at.invariant.0, c.loop-at-test.true, c.requires.from_le_past.3))) }
+move_one-requires c = record { within = (rw (ap (λ (e : Entry). e.place) c.read_item-read.ensures.0) (c.requires.by_index c.loop-at.at c.loop-at.auto.at c.loop-at-test.true), c.read_item-read.ensures.1); many_lt_record_limit = (omega (arith, c.loop-at.invariant.0, c.loop-at-test.true, c.requires.from_le_past.1), rw c.loop-at.invariant.1 (omega (arith, c.loop-at.invariant.0, c.loop-at-test.true, c.requires.from_le_past.3))) }
 
 pub loop-at-preserved : goal.loop-at-preserved
 loop-at-preserved c = (omega (arith, c.loop-at.invariant.0, c.move_one.ensures.high), c.move_one.ensures.long ∙ c.loop-at.invariant.1, over-more _ _ _ _ _ _ _ _ _ _ _ _ c.loop-at-test.true c.read_item-read.ensures.0 c.move_one.ensures c.loop-at.invariant.2)

@@ -16,7 +16,7 @@ loop-k-init c = let A = c.args in
     (checked_first (productions_in A.grammar.now A.productions) A.n A.graph.now A.ix.now c.requires.n_bound.0 c.requires.n_bound.1 c.requires.ix_value, omega arith)
 
 pub check_edge-requires : goal.check_edge-requires
-check_edge-requires c = record { packed = c.requires.packed; graphed = c.loop-k.invariant.0.good; k_lt_edge_limit = omega (arith, c.loop-k-test.true, c.if-count-gt-EDGES.false) }
+check_edge-requires c = record { graphed = c.loop-k.invariant.0.good; k_lt_edge_limit = omega (arith, c.loop-k-test.true, c.if-count-gt-EDGES.false) }
 
 pub loop-k-smaller : goal.loop-k-smaller
 loop-k-smaller c = omega (arith, c.loop-k-test.true)

@@ -16,7 +16,7 @@ loop-next-init c = find_first (sought (goal.at.loop-next-init c).Start) c.word-n
 pub same_edge-requires : goal.same_edge-requires
 same_edge-requires c = let W = sought (goal.at.same_edge-requires c).Start in
     let T = c.loop-next.invariant in
-    let h = c.loop-next-test.true in record { packed = c.requires.packed; k_lt_edge_limit = (find_low W T h, c.requires.graphed.long); k_value = (find-fits W T h, W.fits) }
+    let h = c.loop-next-test.true in record { k_lt_edge_limit = (find_low W T h, c.requires.graphed.long); k_value = (find-fits W T h, W.fits) }
 
 pub returns-then-same_edge : goal.returns-then-same_edge
 returns-then-same_edge c = find-found (sought (goal.at.returns-then-same_edge c).Start) c.loop-next.invariant c.loop-next-test.true c.same_edge.ensures c.if-same_edge.true

@@ -6,7 +6,7 @@ use Rattle.trace_graph.proofs.Index.{Turn}
 use Rattle.trace_graph.proofs.find.Given as goal
 
 abbrev pub invariant-loop-next : goal.invariant-loop-next
-invariant-loop-next l = Turn l.graph l.ix bucket_limit (in_bucket (productions_in l.grammar l.productions) l.graph l.bucket) (is_same_edge (productions_in l.grammar l.productions) (edge_is l.edge)) l.k l.next
+invariant-loop-next l = Turn l.graph l.ix bucket_limit (in_bucket (productions_in l.grammar.words.now l.grammar.productions) l.graph l.bucket) (is_same_edge (productions_in l.grammar.words.now l.grammar.productions) (edge_is l.edge)) l.k l.next
 
 abbrev pub decreases-loop-next : goal.decreases-loop-next
 decreases-loop-next l = l.next

@@ -5,11 +5,11 @@ use Rattle.trace_graph.proofs.Finds.{Compared, left_label, right_label, edge_sou
 use Rattle.trace_graph.proofs.same_edge.Goals as goal
 use Rattle.trace_graph.proofs.same_edge.Goals.{After-read_edge-other, then-eq, else-eq}
 
-compared : (c : After-read_edge-other) → Compared c.args.n (productions_in c.args.grammar.now c.args.productions) c.args.graph.now c.args.k c.args.edge c.read_edge-other.result
+compared : (c : After-read_edge-other) → Compared c.args.n (productions_in c.args.grammar.words.now c.args.grammar.productions) c.args.graph.now c.args.k c.args.edge c.read_edge-other.result
 compared c = record { read = c.read_edge-other.ensures.1; here = c.requires.k_value.0; fits = c.requires.k_value.1 }
 
 pub same_label-requires : goal.same_label-requires
-same_label-requires c = record { packed = c.requires.packed; i_value = (left_label (compared (goal.at.same_label-requires c).After-read_edge-other), right_label (compared (goal.at.same_label-requires c).After-read_edge-other)) }
+same_label-requires c = record { i_value = (left_label (compared (goal.at.same_label-requires c).After-read_edge-other), right_label (compared (goal.at.same_label-requires c).After-read_edge-other)) }
 
 pub returns-then-eq-2 : goal.returns-then-eq-2
 unfolding same_value

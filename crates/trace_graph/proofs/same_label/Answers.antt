@@ -11,10 +11,10 @@ pub returns-then-p-q : goal.returns-then-p-q
 returns-then-p-q c = label_one (labels (goal.at.returns-then-p-q c).Start) c.if-p-q.true
 
 pub symbols-requires : goal.symbols-requires
-symbols-requires c = record { packed = c.requires.packed; production_lt_productions = left_below (labels (goal.at.symbols-requires c).Start) }
+symbols-requires c = record { production_lt_productions = left_below (labels (goal.at.symbols-requires c).Start) }
 
 pub symbols-requires-then-i-j : goal.symbols-requires-then-i-j
-symbols-requires-then-i-j c = record { packed = c.requires.packed; production_lt_productions = right_below (labels (goal.at.symbols-requires-then-i-j c).Start) }
+symbols-requires-then-i-j c = record { production_lt_productions = right_below (labels (goal.at.symbols-requires-then-i-j c).Start) }
 
 pub returns-then-i-j : goal.returns-then-i-j
 returns-then-i-j c = label_words_lem (labels (goal.at.returns-then-i-j c).Start) c.if-i-j.true c.symbols.ensures c.symbols-then-i-j.ensures (c.eq.ensures ∙ words_pointwise c.symbols.result.now c.symbols-then-i-j.result.now)

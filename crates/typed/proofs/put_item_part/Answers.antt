@@ -7,9 +7,9 @@ use Rattle.typed.proofs.put_item_part.Goals as goal
 
 pub put_rule-requires-clause-i_in_bounds : goal.put_rule-requires-clause-i_in_bounds
 put_rule-requires-clause-i_in_bounds c =
-    let I = c.requires.packed.1 c.if-shown.true in
-    let s = c.requires.packed.0.short _ I.production in
-    let l = ap length c.symbols.ensures ∙ words_long _ _ _ c.requires.packed.0 I.production in
+    let I = c.requires.within c.if-shown.true in
+    let s = c.args.grammar.packed.short _ I.production in
+    let l = ap length c.symbols.ensures ∙ words_long _ _ _ c.args.grammar.packed I.production in
     (omega (arith, l, I.index), omega (arith, s, l))
 
 pub returns-then-shown : goal.returns-then-shown

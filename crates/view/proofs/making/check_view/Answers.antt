@@ -22,13 +22,13 @@ loop-k-init c = let A = c.args in
     (checked_first (productions_in A.grammar.now A.productions) A.n A.graph.now A.ix.now c.requires.n_bound.0 c.requires.n_bound.1 c.requires.ix_value, (omega arith, (labelling_first c.requires.owners_len.0 c.requires.owners_len.1, viewed_first c.requires.sources_value.0 c.requires.sources_value.1.0 c.requires.sources_value.1.1)))
 
 pub check_edge-requires : goal.check_edge-requires
-check_edge-requires c = record { packed = c.requires.packed; graphed = c.loop-k.invariant.0.good; k_lt_edge_limit = omega (arith, c.loop-k-test.true, c.if-count-gt-EDGES.false) }
+check_edge-requires c = record { graphed = c.loop-k.invariant.0.good; k_lt_edge_limit = omega (arith, c.loop-k-test.true, c.if-count-gt-EDGES.false) }
 
 pub view_edge-requires : goal.view_edge-requires
 view_edge-requires c = let G = c.check_edge.ensures.graphed_2 c.if-not-check_edge.false in
     let I = c.loop-k.invariant.1.1 in
     let W = I.1.tidy in
-    let E : EdgeRanged (productions_in c.args.grammar.now c.args.productions) c.args.graph.now c.loop-k.k = record { nonterminals = c.args.n; few = c.requires.n_bound.0; fits = G.fits c.loop-k.k (omega arith) } in record { packed = c.requires.packed; k_lt_edge_limit = (omega (arith, G.few), G.long); edge_ranged = E; owners_len = (I.0.by_owner, I.0.by_code); sources_len = (W.by_source.long, (W.by_older.long, W.by_latest.long)) }
+    let E : EdgeRanged (productions_in c.args.grammar.words.now c.args.grammar.productions) c.args.graph.now c.loop-k.k = record { nonterminals = c.args.n; few = c.requires.n_bound.0; fits = G.fits c.loop-k.k (omega arith) } in record { k_lt_edge_limit = (omega (arith, G.few), G.long); edge_ranged = E; owners_len = (I.0.by_owner, I.0.by_code); sources_len = (W.by_source.long, (W.by_older.long, W.by_latest.long)) }
 
 pub loop-k-preserved : goal.loop-k-preserved
 loop-k-preserved c = let A = c.args in
@@ -40,7 +40,7 @@ loop-k-preserved c = let A = c.args in
       (
         omega (arith, c.loop-k-test.true),
         (
-          labelling_more c.requires.packed E (omega (arith, c.loop-k-test.true, c.word-count.ensures.0)) (omega (arith, c.if-count-gt-EDGES.false, c.word-count.ensures.0)) I.1.1.0 c.view_edge.ensures.owners_after c.view_edge.ensures.codes_after,
+          labelling_more c.args.grammar.packed E (omega (arith, c.loop-k-test.true, c.word-count.ensures.0)) (omega (arith, c.if-count-gt-EDGES.false, c.word-count.ensures.0)) I.1.1.0 c.view_edge.ensures.owners_after c.view_edge.ensures.codes_after,
           making_more E (omega (arith, c.loop-k-test.true, c.word-count.ensures.0)) (omega (arith, c.if-count-gt-EDGES.false, c.word-count.ensures.0)) I.1.1.1 c.view_edge.ensures.sources_after c.view_edge.ensures.older_after c.view_edge.ensures.latest_after,
         ),
       ),

@@ -7,16 +7,16 @@ use Rattle.view.proofs.Labelling.{labelling_source, labelling_small, owner_put, 
 use Rattle.view.proofs.making.view_edge.Goals as goal
 
 pub node_owner-requires : goal.node_owner-requires
-node_owner-requires c = record { packed = c.requires.packed; by_index = labelling_source c.requires.packed c.requires.edge_ranged c.read_edge-edge.ensures.1 }
+node_owner-requires c = record { by_index = labelling_source c.args.grammar.packed c.requires.edge_ranged c.read_edge-edge.ensures.1 }
 
 pub overflow_mul-codes : goal.overflow_mul-codes
-overflow_mul-codes c = omega (arith, (labelling_small c.requires.packed c.requires.edge_ranged c.read_edge-edge.ensures.1).0)
+overflow_mul-codes c = omega (arith, (labelling_small c.args.grammar.packed c.requires.edge_ranged c.read_edge-edge.ensures.1).0)
 
 pub overflow_add-codes : goal.overflow_add-codes
-overflow_add-codes c = let s = labelling_small c.requires.packed c.requires.edge_ranged c.read_edge-edge.ensures.1 in omega (arith, s.0, s.1)
+overflow_add-codes c = let s = labelling_small c.args.grammar.packed c.requires.edge_ranged c.read_edge-edge.ensures.1 in omega (arith, s.0, s.1)
 
 pub overflow_cast-codes : goal.overflow_cast-codes
-overflow_cast-codes c = let s = labelling_small c.requires.packed c.requires.edge_ranged c.read_edge-edge.ensures.1 in omega (arith, s.0, s.1)
+overflow_cast-codes c = let s = labelling_small c.args.grammar.packed c.requires.edge_ranged c.read_edge-edge.ensures.1 in omega (arith, s.0, s.1)
 
 pub source-requires : goal.source-requires
 source-requires c = source_small c.requires.edge_ranged c.read_edge-edge.ensures.1
@@ -31,4 +31,4 @@ pub returns : goal.returns
 returns c = let A = c.args in
     let E = c.requires.edge_ranged in
     let q = c.read_edge-edge.ensures.1 in
-    let o = slot-put E q (record { production = A.production; index = A.index }) c.slot.ensures.0 in record { owners_after = ap (λ (x : ℕ). set A.owners.now A.k x) (owner_put c.requires.packed E q c.node_owner.ensures.0); codes_after = ap (λ (x : ℕ). set A.codes.now A.k x) (code_put c.requires.packed E q); sources_after = c.put.ensures.sources_after ∙ ap (λ (x : ℕ). set A.sources.now A.k x) (source-put E q c.source.ensures.0); older_after = c.put.ensures.older_after ∙ ap (λ (x : ℕ). set A.older.now A.k (get_or A.latest.now x 0)) o; latest_after = c.put.ensures.latest_after ∙ ap (λ (x : ℕ). set A.latest.now x (A.k + 1)) o }
+    let o = slot-put E q (record { production = A.production; index = A.index }) c.slot.ensures.0 in record { owners_after = ap (λ (x : ℕ). set A.owners.now A.k x) (owner_put c.args.grammar.packed E q c.node_owner.ensures.0); codes_after = ap (λ (x : ℕ). set A.codes.now A.k x) (code_put c.args.grammar.packed E q); sources_after = c.put.ensures.sources_after ∙ ap (λ (x : ℕ). set A.sources.now A.k x) (source-put E q c.source.ensures.0); older_after = c.put.ensures.older_after ∙ ap (λ (x : ℕ). set A.older.now A.k (get_or A.latest.now x 0)) o; latest_after = c.put.ensures.latest_after ∙ ap (λ (x : ℕ). set A.latest.now x (A.k + 1)) o }

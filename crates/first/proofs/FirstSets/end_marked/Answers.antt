@@ -1,7 +1,7 @@
 use Rattle.std.proofs.Common.{◌∙◌}
 use Rattle.repr.proofs.FrontSymbol.{first_in_range}
 use Rattle.first.proofs.Walk.{walk_start, walk_end, walk_more, walk-stop}
-use Rattle.first.proofs.end_marked.Goals as goal
+use Rattle.first.proofs.FirstSets.end_marked.Goals as goal
 
 pub loop-symbol-init : goal.loop-symbol-init
 loop-symbol-init c = rw c.into_iter-symbol-iterator.ensures.into_iter_gives (walk_start _ _ _ _ c.new-result.ensures.0)
@@ -18,4 +18,4 @@ loop-symbol-preserved c = walk_more _ _ _ _ _ _ _ _ _ _ c.in-Some.ensures.steps 
     ∙ c.loop-symbol.invariant
 
 pub returns : goal.returns
-returns c = walk_end _ _ _ _ _ c.in-None.ensures.steps.0 c.requires.0 c.with.ensures.is ∙ c.loop-symbol.invariant
+returns c = walk_end _ _ _ _ _ c.in-None.ensures.steps.0 c.args.self.now.few c.with.ensures.is ∙ c.loop-symbol.invariant

@@ -1,8 +1,0 @@
-use Rattle.std.proofs.Common.{◌≡◌}
-use Rattle.repr.specs.Listed.{listed}
-use Rattle.lookahead.specs.Tokens.{union}
-use Rattle.first.specs.First.{marked_at_end}
-use Rattle.first.proofs.end_marked.Given as goal
-
-abbrev pub invariant-loop-symbol : goal.invariant-loop-symbol
-invariant-loop-symbol l = union l.result.0 (marked_at_end l.terminals l.map (listed l.symbol-iterator.words.now)) ≡ marked_at_end l.terminals l.map (listed l.symbols)
