@@ -13,7 +13,7 @@ ghost use Rattle.build.specs.Aheads.{aheads};
 ghost use Rattle.closing.specs.Grammar.{Grammar, Held};
 ghost use Rattle.closing.specs.Fed.{Flat, feed, fed_by_items, fed_by_firsts, spread_in};
 
-use first::first1;
+use first::FirstSets;
 use lookahead::TokenSet;
 use lr1_core::{Item, suffix};
 use repr::{Grammar, ProductionIndex, word};
@@ -21,14 +21,13 @@ use repr::{Grammar, ProductionIndex, word};
 // What an item gives to the nonterminal at its cursor: FIRST of what stands behind it, followed by the item's tokens. An item without a token gives nothing.
 fn feed(
     grammar: Grammar,
-    terminals: u16,
-    first: &[u64; 32],
+    sets: &FirstSets,
     item: Item,
     set: TokenSet,
     aheads: &mut [u64; 32],
 )
-    requires { (item.production < grammar.productions) × (terminals ≤ 63) }
-    ensures { (T : Table) → Grammar T grammar.entry.words.now grammar.entry.productions terminals first.now → aheads.new ≡ feed T aheads.old (drop item.index (production_in grammar.entry.words.now item.production).symbols) set.0 }
+    requires { item.production < grammar.productions }
+    ensures { (T : Table) → Grammar T grammar.entry.words.now grammar.entry.productions sets.now.terminals sets.now.map → aheads.new ≡ feed T aheads.old (drop item.index (production_in grammar.entry.words.now item.production).symbols) set.0 }
 {
     let tokens = set.0;
     if tokens == 0 {
@@ -36,7 +35,7 @@ fn feed(
     }
     let nonterminal = item.cursor(grammar);
     if nonterminal < 32 {
-        let more = first1(first, terminals, suffix(grammar, item), set);
+        let more = sets.first1(suffix(grammar, item), set);
         aheads[nonterminal] = TokenSet(aheads[nonterminal]).union(more).0;
     }
 }
@@ -44,13 +43,11 @@ fn feed(
 // By each item of the set that is closed.
 fn feed_items(
     grammar: Grammar,
-    terminals: u16,
-    first: &[u64; 32],
+    sets: &FirstSets,
     kernel: &[u64; Item::LIMIT],
     aheads: &mut [u64; 32],
 )
-    requires { terminals ≤ 63 }
-    ensures { (T : Table) → Grammar T grammar.entry.words.now grammar.entry.productions terminals first.now → aheads.new ≡ fed_by_items T kernel.now aheads.old (below (index_limit * grammar.entry.productions)) }
+    ensures { (T : Table) → Grammar T grammar.entry.words.now grammar.entry.productions sets.now.terminals sets.now.map → aheads.new ≡ fed_by_items T kernel.now aheads.old (below (index_limit * grammar.entry.productions)) }
 {
     let places = ProductionIndex::INDEXES * grammar.productions;
     for place in 0..places {
@@ -60,8 +57,7 @@ fn feed_items(
         };
         feed(
             grammar,
-            terminals,
-            first,
+            sets,
             item,
             TokenSet(kernel[place]),
             aheads,
@@ -72,12 +68,10 @@ fn feed_items(
 // By the first item of each production.
 fn feed_firsts(
     grammar: Grammar,
-    terminals: u16,
-    first: &[u64; 32],
+    sets: &FirstSets,
     aheads: &mut [u64; 32],
 )
-    requires { terminals ≤ 63 }
-    ensures { (T : Table) → Grammar T grammar.entry.words.now grammar.entry.productions terminals first.now → aheads.new ≡ fed_by_firsts T aheads.old (below grammar.entry.productions) }
+    ensures { (T : Table) → Grammar T grammar.entry.words.now grammar.entry.productions sets.now.terminals sets.now.map → aheads.new ≡ fed_by_firsts T aheads.old (below grammar.entry.productions) }
 {
     for production in 0..grammar.productions {
         let item = Item {
@@ -86,7 +80,7 @@ fn feed_firsts(
         };
         let nonterminal = word(grammar.words, production * ProductionIndex::WORDS);
         let set = TokenSet(aheads[nonterminal]);
-        feed(grammar, terminals, first, item, set, aheads);
+        feed(grammar, sets, item, set, aheads);
     }
 }
 
@@ -94,20 +88,19 @@ fn feed_firsts(
 fn aheads_of(
     grammar: &[u16],
     productions: usize,
-    terminals: u16,
-    first: &[u64; 32],
+    sets: &FirstSets,
     kernel: &[u64; Item::LIMIT],
 ) -> [u64; 32]
-    requires held { Held grammar.now productions terminals first.now }
+    requires held { Held grammar.now productions sets.now.terminals sets.now.map }
     requires flat { Flat kernel.now }
-    ensures { (T : Table) → Grammar T grammar.now productions terminals first.now → aheads T (take (index_limit * productions) kernel.now) ≡ take (index_limit * productions) kernel.now ++ result }
+    ensures { (T : Table) → Grammar T grammar.now productions sets.now.terminals sets.now.map → aheads T (take (index_limit * productions) kernel.now) ≡ take (index_limit * productions) kernel.now ++ result }
 {
     let mut aheads = [0u64; 32];
     let mut changed = true;
     while changed {
         let before = aheads;
-        feed_items(Grammar { words: grammar, productions }, terminals, first, kernel, &mut aheads);
-        feed_firsts(Grammar { words: grammar, productions }, terminals, first, &mut aheads);
+        feed_items(Grammar { words: grammar, productions }, sets, kernel, &mut aheads);
+        feed_firsts(Grammar { words: grammar, productions }, sets, &mut aheads);
         changed = aheads != before;
     }
     aheads
@@ -130,14 +123,13 @@ fn spread(grammar: Grammar, aheads: &[u64; 32], state: &mut [u64; Item::LIMIT])
 pub fn transitive_closure(
     grammar: &[u16],
     productions: usize,
-    terminals: u16,
-    first: &[u64; 32],
+    sets: &FirstSets,
     state: &mut [u64; Item::LIMIT],
 )
-    requires held { Held grammar.now productions terminals first.now }
+    requires held { Held grammar.now productions sets.now.terminals sets.now.map }
     requires flat { Flat state.old }
-    ensures { (length state.new ≡ item_limit) × ((T : Table) → Grammar T grammar.now productions terminals first.now → state.new ≡ closure T (take (index_limit * productions) state.old) ++ drop (index_limit * productions) state.old) }
+    ensures { (length state.new ≡ item_limit) × ((T : Table) → Grammar T grammar.now productions sets.now.terminals sets.now.map → state.new ≡ closure T (take (index_limit * productions) state.old) ++ drop (index_limit * productions) state.old) }
 {
-    let aheads = aheads_of(Grammar { words: grammar, productions }, terminals, first, state);
+    let aheads = aheads_of(Grammar { words: grammar, productions }, sets, state);
     spread(Grammar { words: grammar, productions }, &aheads, state);
 }

@@ -12,7 +12,7 @@ ghost use Rattle.example.specs.Example.{sets_of, prefixes, suffixes, middle, sym
 ghost use Rattle.example.specs.Labels.{labels_in, LabelsFit};
 ghost use Rattle.example.specs.Written.{label_at, words_of, Part, put_at, around_words};
 
-use first::Answer;
+use first::{Answer, FirstSets};
 use lookahead::TokenSet;
 use lr1_core::{Item, SymbolSets, prefix, suffix};
 use repr::{Grammar, NonterminalString, ProductionIndex, word};
@@ -297,31 +297,25 @@ pub struct Expected {
 
 // FIRST of what is asked of a label: of the first its cursor symbol followed by its suffix, of any other its suffix.
 fn label_first0(
-    map: &[u64; NonterminalString::LIMIT],
-    terminals: u16,
+    sets: &FirstSets,
     grammar: Grammar,
     labels: &[u16],
     label: usize,
 ) -> Answer
-    requires within { terminals ≤ terminal_limit }
     requires labels_fit { LabelsFit (productions_in grammar.words.now grammar.productions) labels.now }
     requires label_in_bounds { label < length (labels_in labels.now) }
-    ensures { result ≡ first0 terminals map.now (slice_index_or (asked_parts (productions_in grammar.entry.words.now grammar.entry.productions) (labels_in labels.now)) label []) }
+    ensures { result ≡ first0 sets.now.terminals sets.now.map (slice_index_or (asked_parts (productions_in grammar.entry.words.now grammar.entry.productions) (labels_in labels.now)) label []) }
 {
     if label > 0 {
-        return first::first0(
-            map,
-            terminals,
+        return sets.first0(
             suffix_part(grammar, labels, label),
         );
     }
-    let own = first::first0(map, terminals, cursor_part(grammar, labels));
+    let own = sets.first0(cursor_part(grammar, labels));
     if !own.nullable {
         return own;
     }
-    let after = first::first0(
-        map,
-        terminals,
+    let after = sets.first0(
         suffix_part(grammar, labels, label),
     );
     own.join(after)
@@ -329,14 +323,12 @@ fn label_first0(
 
 // Asked label by label outward, up to the first whose symbols may not derive the empty string; no list of them is written.
 pub fn first0(
-    map: &[u64; NonterminalString::LIMIT],
-    terminals: u16,
+    sets: &FirstSets,
     grammar: Grammar,
     labels: &[u16],
 ) -> Expected
-    requires within { terminals ≤ terminal_limit }
     requires labels_fit { LabelsFit (productions_in grammar.words.now grammar.productions) labels.now }
-    ensures { (result.answer ≡ first0 terminals map.now (ahead (productions_in grammar.entry.words.now grammar.entry.productions) (labels_in labels.now))) × (result.asked ≡ asked_of terminals map.now (productions_in grammar.entry.words.now grammar.entry.productions) (labels_in labels.now)) }
+    ensures { (result.answer ≡ first0 sets.now.terminals sets.now.map (ahead (productions_in grammar.entry.words.now grammar.entry.productions) (labels_in labels.now))) × (result.asked ≡ asked_of sets.now.terminals sets.now.map (productions_in grammar.entry.words.now grammar.entry.productions) (labels_in labels.now)) }
 {
     let count = label_count(labels);
     let mut answer = Answer {
@@ -344,7 +336,7 @@ pub fn first0(
         nullable: true,
     };
     for asked in 0..count {
-        let next = label_first0(map, terminals, grammar, labels, asked);
+        let next = label_first0(sets, grammar, labels, asked);
         answer = answer.join(next);
         if !answer.nullable {
             return Expected {

@@ -22,7 +22,7 @@ use example::{
     Example, cursor_part, label_count, prefix_part, prefix_total, suffix_part, symbol_count,
     write_example,
 };
-use first::first0;
+use first::FirstSets;
 use lr1_core::{Item, suffix};
 use repr::{Grammar, NonterminalString, ProductionIndex, word};
 
@@ -258,19 +258,17 @@ fn item_at(code: usize) -> Item
 
 // Whether at the first difference of two lists the FIRST sets are disjoint. An exhausted list is a no.
 fn diverge(
-    map: &[u64; NonterminalString::LIMIT],
-    terminals: u16,
+    sets: &FirstSets,
     first: &[u16],
     second: &[u16],
 ) -> bool
-    requires terminals_le_terminal_limit { terminals ≤ terminal_limit }
     requires first_value { list_is_fit nonterminal_limit terminal_limit first.now ≡ true }
     requires second_value { list_is_fit nonterminal_limit terminal_limit second.now ≡ true }
-    ensures { result ≡ diverge_by terminals map.now (listed first.now) (listed second.now) }
+    ensures { result ≡ diverge_by sets.now.terminals sets.now.map (listed first.now) (listed second.now) }
 {
     for (own, other) in first.chunks_exact(2).zip(second.chunks_exact(2)) {
         if own != other {
-            return first0(map, terminals, own).is_disjoint(first0(map, terminals, other));
+            return sets.first0(own).is_disjoint(sets.first0(other));
         }
     }
     false
@@ -278,21 +276,19 @@ fn diverge(
 
 // The inline test on a shift item and what is kept of a reduce's second label.
 pub fn inlines(
-    map: &[u64; NonterminalString::LIMIT],
-    terminals: u16,
+    sets: &FirstSets,
     grammar: Grammar,
     label: usize,
     other: usize,
 ) -> bool
-    requires within { terminals ≤ terminal_limit }
     requires code_fits { CodeFits (productions_in grammar.words.now grammar.productions) label }
     requires code_fits_2 { other < item_limit → CodeFits (productions_in grammar.words.now grammar.productions) other }
-    ensures { result ≡ codes_inline terminals map.now (productions_in grammar.entry.words.now grammar.entry.productions) label other }
+    ensures { result ≡ codes_inline sets.now.terminals sets.now.map (productions_in grammar.entry.words.now grammar.entry.productions) label other }
 {
     if other >= Item::LIMIT {
         return false;
     }
     let own = suffix(grammar, item_at(label));
     let next = suffix(grammar, item_at(other));
-    diverge(map, terminals, own, next)
+    diverge(sets, own, next)
 }

@@ -80,44 +80,39 @@ pub fn write_trial(
 // Whether what the trial's example expects next meets a set.
 fn meets(
     grammar: Grammar,
-    terminals: u16,
-    map: &[u64; NonterminalString::LIMIT],
+    sets: &FirstSets,
     set: TokenSet,
     owners: &[u8],
     codes: &[u16],
     words: &[u16],
 ) -> bool
-    requires within { terminals ≤ 63 }
     requires tried { (es : List TraceEdge) × Tried (productions_in grammar.words.now grammar.productions) es owners.now codes.now words.now }
-    ensures { (es : List TraceEdge) → Tried (productions_in grammar.entry.words.now grammar.entry.productions) es owners.now codes.now words.now → (p rest : List ℕ) → words.now ≡ trial_words p ++ rest → result ≡ passes_by terminals map.now (productions_in grammar.entry.words.now grammar.entry.productions) es (some set.0) p }
+    ensures { (es : List TraceEdge) → Tried (productions_in grammar.entry.words.now grammar.entry.productions) es owners.now codes.now words.now → (p rest : List ℕ) → words.now ≡ trial_words p ++ rest → result ≡ passes_by sets.now.terminals sets.now.map (productions_in grammar.entry.words.now grammar.entry.productions) es (some set.0) p }
 {
     let mut labels = [0u16; Example::ALL_LABEL_WORDS];
     let size = read_labels(owners, codes, words, &mut labels);
-    let expected = first0(map, terminals, grammar, &labels[..size]);
+    let expected = first0(sets, grammar, &labels[..size]);
     let answer = expected.answer;
-    answer.meets(terminals, set)
+    answer.meets(sets.terminals, set)
 }
 
 // The filter: without a lookahead every example passes.
 pub fn passes(
     grammar: Grammar,
-    terminals: u16,
-    map: &[u64; NonterminalString::LIMIT],
+    sets: &FirstSets,
     lookahead: Option<TokenSet>,
     owners: &[u8],
     codes: &[u16],
     words: &[u16],
 ) -> bool
-    requires within { terminals ≤ 63 }
     requires tried { (es : List TraceEdge) × Tried (productions_in grammar.words.now grammar.productions) es owners.now codes.now words.now }
-    ensures { (es : List TraceEdge) → Tried (productions_in grammar.entry.words.now grammar.entry.productions) es owners.now codes.now words.now → (p rest : List ℕ) → words.now ≡ trial_words p ++ rest → result ≡ passes_by terminals map.now (productions_in grammar.entry.words.now grammar.entry.productions) es (set_of lookahead) p }
+    ensures { (es : List TraceEdge) → Tried (productions_in grammar.entry.words.now grammar.entry.productions) es owners.now codes.now words.now → (p rest : List ℕ) → words.now ≡ trial_words p ++ rest → result ≡ passes_by sets.now.terminals sets.now.map (productions_in grammar.entry.words.now grammar.entry.productions) es (set_of lookahead) p }
 {
     match lookahead {
         None => true,
         Some(set) => meets(
             grammar,
-            terminals,
-            map,
+            sets,
             set,
             owners,
             codes,
@@ -129,23 +124,20 @@ pub fn passes(
 // Whether the trial is handed out: an example that passes.
 fn hands(
     grammar: Grammar,
-    terminals: u16,
-    map: &[u64; NonterminalString::LIMIT],
+    sets: &FirstSets,
     ahead: Option<TokenSet>,
     owners: &[u8],
     codes: &[u16],
     sources: &[u8],
     words: &[u16],
 ) -> bool
-    requires within { terminals ≤ 63 }
     requires tried { (es : List TraceEdge) × (Tried (productions_in grammar.words.now grammar.productions) es owners.now codes.now words.now × Sourced es sources.now) }
-    ensures { (es : List TraceEdge) → Tried (productions_in grammar.entry.words.now grammar.entry.productions) es owners.now codes.now words.now → Sourced es sources.now → (p rest : List ℕ) → words.now ≡ trial_words p ++ rest → result ≡ hands_by terminals map.now (productions_in grammar.entry.words.now grammar.entry.productions) es (set_of ahead) p }
+    ensures { (es : List TraceEdge) → Tried (productions_in grammar.entry.words.now grammar.entry.productions) es owners.now codes.now words.now → Sourced es sources.now → (p rest : List ℕ) → words.now ≡ trial_words p ++ rest → result ≡ hands_by sets.now.terminals sets.now.map (productions_in grammar.entry.words.now grammar.entry.productions) es (set_of ahead) p }
 {
     if is_example(sources, words) {
         return passes(
             grammar,
-            terminals,
-            map,
+            sets,
             ahead,
             owners,
             codes,
@@ -167,8 +159,7 @@ fn overrun(words: &mut [u16]) -> Searched
 // From the trial that the words hold on, past `count` trials made: the next that is handed out. The view says from which item.
 pub fn search(
     grammar: Grammar,
-    terminals: u16,
-    map: &[u64; NonterminalString::LIMIT],
+    sets: &FirstSets,
     lookahead: Option<TokenSet>,
     owners: &[u8],
     codes: &[u16],
@@ -178,9 +169,8 @@ pub fn search(
     words: &mut [u16],
     count: u32,
 ) -> Searched
-    requires within { terminals ≤ 63 }
     requires searching { (es : List TraceEdge) × ((start : ItemOf) × Searching (productions_in grammar.words.now grammar.productions) es owners.now codes.now sources.now older.now latest.now words.old start) }
-    ensures { (es : List TraceEdge) (start : ItemOf) → Searching (productions_in grammar.entry.words.now grammar.entry.productions) es owners.now codes.now sources.now older.now latest.now words.old start → (p rest : List ℕ) → words.old ≡ trial_words p ++ rest → searched result words.new ≡ searched_of rest (search (hands_by terminals map.now (productions_in grammar.entry.words.now grammar.entry.productions) es (set_of lookahead)) (trial_limit - count) count (later_than p (trials (ends_of es) (at_item start)))) }
+    ensures { (es : List TraceEdge) (start : ItemOf) → Searching (productions_in grammar.entry.words.now grammar.entry.productions) es owners.now codes.now sources.now older.now latest.now words.old start → (p rest : List ℕ) → words.old ≡ trial_words p ++ rest → searched result words.new ≡ searched_of rest (search (hands_by sets.now.terminals sets.now.map (productions_in grammar.entry.words.now grammar.entry.productions) es (set_of lookahead)) (trial_limit - count) count (later_than p (trials (ends_of es) (at_item start)))) }
 {
     let mut counts = [0u8; NonterminalString::LIMIT];
     count_walk(sources, words, &mut counts);
@@ -192,8 +182,7 @@ pub fn search(
         made += 1;
         if hands(
             grammar,
-            terminals,
-            map,
+            sets,
             lookahead,
             owners,
             codes,

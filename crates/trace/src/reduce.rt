@@ -10,43 +10,39 @@ ghost use Rattle.trace.specs.Edges.{item_at};
 ghost use Rattle.trace.specs.Ends.{EndsTo, Ends};
 
 use bits::put;
-use first::first0;
+use first::FirstSets;
 use lr1_core::{Item, suffix};
 use repr::{Grammar, NonterminalString, ProductionIndex};
 
 // Whether an item's suffix may derive the empty string.
 fn item_ends(
     grammar: Grammar,
-    terminals: u16,
-    map: &[u64; NonterminalString::LIMIT],
+    sets: &FirstSets,
     production: usize,
     index: usize,
 ) -> bool
-    requires within { terminals ≤ 63 }
-    requires map_value { map.now ≡ sets_of_first terminals (productions_in grammar.words.now grammar.productions) }
+    requires map_value { sets.now.map ≡ sets_of_first sets.now.terminals (productions_in grammar.words.now grammar.productions) }
     requires production_lt_productions { (production < grammar.productions) × (index ≤ length (listed (symbol_words grammar.words.now production))) }
-    ensures { (T : meaning-of.Table) → T.productions ≡ productions_in grammar.entry.words.now grammar.entry.productions → T.terminals ≡ terminals → result ≡ nullable T (suffix_of T (item_at production index)) }
+    ensures { (T : meaning-of.Table) → T.productions ≡ productions_in grammar.entry.words.now grammar.entry.productions → T.terminals ≡ sets.now.terminals → result ≡ nullable T (suffix_of T (item_at production index)) }
 {
     let item = Item {
         production: production,
         index: index,
     };
     let rest = suffix(grammar, item);
-    first0(map, terminals, rest).nullable
+    sets.first0(rest).nullable
 }
 
 // The flags of one production's items.
 fn production_ends(
     grammar: Grammar,
-    terminals: u16,
-    map: &[u64; NonterminalString::LIMIT],
+    sets: &FirstSets,
     ends: &mut [u64],
     production: usize,
 )
-    requires within { terminals ≤ 63 }
-    requires map_value { map.now ≡ sets_of_first terminals (productions_in grammar.words.now grammar.productions) }
+    requires map_value { sets.now.map ≡ sets_of_first sets.now.terminals (productions_in grammar.words.now grammar.productions) }
     requires production_lt_productions { (production < grammar.productions) × (length ends.old ≡ item_flags) }
-    ensures { (T : meaning-of.Table) → T.productions ≡ productions_in grammar.entry.words.now grammar.entry.productions → T.terminals ≡ terminals → EndsTo T ends.old (production * index_limit) → EndsTo T ends.new ((production + 1) * index_limit) }
+    ensures { (T : meaning-of.Table) → T.productions ≡ productions_in grammar.entry.words.now grammar.entry.productions → T.terminals ≡ sets.now.terminals → EndsTo T ends.old (production * index_limit) → EndsTo T ends.new ((production + 1) * index_limit) }
 {
     let item = Item {
         production: production,
@@ -54,7 +50,7 @@ fn production_ends(
     };
     let past = item.length(grammar) + 1;
     for index in 0..past {
-        if item_ends(grammar, terminals, map, production, index) {
+        if item_ends(grammar, sets, production, index) {
             put(ends, production * ProductionIndex::INDEXES + index);
         }
     }
@@ -63,16 +59,14 @@ fn production_ends(
 // The flags of all items, made once: tracing asks for each item that it meets whether its suffix is nullable.
 pub fn suffix_ends(
     grammar: Grammar,
-    terminals: u16,
-    map: &[u64; NonterminalString::LIMIT],
+    sets: &FirstSets,
     ends: &mut [u64],
 )
-    requires within { terminals ≤ 63 }
-    requires map_value { map.now ≡ sets_of_first terminals (productions_in grammar.words.now grammar.productions) }
+    requires map_value { sets.now.map ≡ sets_of_first sets.now.terminals (productions_in grammar.words.now grammar.productions) }
     requires ends_value { ends.old ≡ replicate item_flags 0 }
-    ensures { (T : meaning-of.Table) → T.productions ≡ productions_in grammar.entry.words.now grammar.entry.productions → T.terminals ≡ terminals → Ends T ends.new }
+    ensures { (T : meaning-of.Table) → T.productions ≡ productions_in grammar.entry.words.now grammar.entry.productions → T.terminals ≡ sets.now.terminals → Ends T ends.new }
 {
     for production in 0..grammar.productions {
-        production_ends(grammar, terminals, map, ends, production);
+        production_ends(grammar, sets, ends, production);
     }
 }

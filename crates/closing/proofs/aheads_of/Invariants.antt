@@ -6,7 +6,7 @@ use Rattle.closing.proofs.Rest.{left, Turn}
 use Rattle.closing.proofs.aheads_of.Given as goal
 
 abbrev pub invariant-loop-changed : goal.invariant-loop-changed
-invariant-loop-changed l = (T : Table) → Grammar T l.grammar l.productions l.terminals l.first → Turn T (take (index_limit * l.productions) l.kernel) l.aheads l.changed
+invariant-loop-changed l = (T : Table) → Grammar T l.grammar l.productions l.sets.terminals l.sets.map → Turn T (take (index_limit * l.productions) l.kernel) l.aheads l.changed
 
 abbrev pub decreases-loop-changed : goal.decreases-loop-changed
 decreases-loop-changed l = left (index_limit * l.productions + 32) l.changed (take (index_limit * l.productions) l.kernel ++ l.aheads)

@@ -9,7 +9,7 @@ pub bounds-aheads-nonterminal : goal.bounds-aheads-nonterminal
 bounds-aheads-nonterminal c = omega (arith, c.args.grammar.packed.owner _ c.loop-production-test.true, c.word-nonterminal.ensures.0)
 
 pub feed-requires : goal.feed-requires
-feed-requires c = (c.loop-production-test.true, c.requires)
+feed-requires c = (c.loop-production-test.true, c.args.sets.now.few)
 
 pub loop-production-preserved : goal.loop-production-preserved
 loop-production-preserved c = λ T G. firsts_more T _ _ _ _ _ _ _ _ _ G c.loop-production-test.true c.word-nonterminal.ensures.0 (c.loop-production.invariant T G) (c.feed.ensures T G)

@@ -6,4 +6,4 @@ use Rattle.closing.specs.Fed.{fed_by_firsts}
 use Rattle.closing.proofs.feed_firsts.Given as goal
 
 abbrev pub invariant-loop-production : goal.invariant-loop-production
-invariant-loop-production l = (T : Table) → Grammar T l.grammar.words.now l.grammar.productions l.terminals l.first → l.aheads ≡ fed_by_firsts T l.initial.aheads (below l.production)
+invariant-loop-production l = (T : Table) → Grammar T l.grammar.words.now l.grammar.productions l.sets.terminals l.sets.map → l.aheads ≡ fed_by_firsts T l.initial.aheads (below l.production)

@@ -6,4 +6,4 @@ use Rattle.closing.specs.Fed.{fed_by_items}
 use Rattle.closing.proofs.feed_items.Given as goal
 
 abbrev pub invariant-loop-place : goal.invariant-loop-place
-invariant-loop-place l = (T : Table) → Grammar T l.grammar.words.now l.grammar.productions l.terminals l.first → l.aheads ≡ fed_by_items T l.kernel l.initial.aheads (below l.place)
+invariant-loop-place l = (T : Table) → Grammar T l.grammar.words.now l.grammar.productions l.sets.terminals l.sets.map → l.aheads ≡ fed_by_items T l.kernel l.initial.aheads (below l.place)

@@ -8,18 +8,18 @@ use Rattle.example.proofs.Asked.{parts-length, asked-start, asked-more, asked_en
 use Rattle.example.proofs.first0.Goals as goal
 
 pub loop-asked-init : goal.loop-asked-init
-loop-asked-init c = let e = c.args.terminals in
-    let sets = c.args.map.now in
+loop-asked-init c = let e = c.args.sets.now.terminals in
+    let sets = c.args.sets.now.map in
     let ps = productions_in c.args.grammar.words.now c.args.grammar.productions in
     let ls = labels_in c.args.labels.now in
     (asked-start e sets ps ls _ c.new.ensures.0, number-start e sets ps ls, refl, omega arith)
 
 pub label_first0-next-requires : goal.label_first0-next-requires
-label_first0-next-requires c = record { packed = c.requires.within; labels_fit = c.requires.labels_fit; label_in_bounds = omega (arith, c.label_count-count.ensures.0, c.loop-asked-test.true) }
+label_first0-next-requires c = record { packed = c.args.sets.now.few; labels_fit = c.requires.labels_fit; label_in_bounds = omega (arith, c.label_count-count.ensures.0, c.loop-asked-test.true) }
 
 pub returns-then-not-answer : goal.returns-then-not-answer
-returns-then-not-answer c = let e = c.args.terminals in
-    let sets = c.args.map.now in
+returns-then-not-answer c = let e = c.args.sets.now.terminals in
+    let sets = c.args.sets.now.map in
     let ps = productions_in c.args.grammar.words.now c.args.grammar.productions in
     let ls = labels_in c.args.labels.now in
     let L = c.loop-asked in
@@ -30,8 +30,8 @@ returns-then-not-answer c = let e = c.args.terminals in
     (sym (join-stop _ _ n) ∙ more ∙ L.invariant.0, number-stop e sets parts L.asked h _ _ _ c.label_first0-next.ensures c.join-answer.ensures L.invariant.2 n ∙ L.invariant.1)
 
 pub loop-asked-preserved : goal.loop-asked-preserved
-loop-asked-preserved c = let e = c.args.terminals in
-    let sets = c.args.map.now in
+loop-asked-preserved c = let e = c.args.sets.now.terminals in
+    let sets = c.args.sets.now.map in
     let ps = productions_in c.args.grammar.words.now c.args.grammar.productions in
     let ls = labels_in c.args.labels.now in
     let L = c.loop-asked in
@@ -46,8 +46,8 @@ loop-asked-preserved c = let e = c.args.terminals in
     )
 
 pub returns : goal.returns
-returns c = let e = c.args.terminals in
-    let sets = c.args.map.now in
+returns c = let e = c.args.sets.now.terminals in
+    let sets = c.args.sets.now.map in
     let ps = productions_in c.args.grammar.words.now c.args.grammar.productions in
     let ls = labels_in c.args.labels.now in
     let L = c.loop-asked in

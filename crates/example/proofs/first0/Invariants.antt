@@ -7,7 +7,7 @@ use Rattle.example.proofs.Asked.{whole}
 use Rattle.example.proofs.first0.Given as goal
 
 abbrev pub invariant-loop-asked : goal.invariant-loop-asked
-invariant-loop-asked l = (join_answers l.answer (first0 l.terminals l.map (whole (drop l.asked (asked_parts (productions_in l.grammar.words.now l.grammar.productions) (labels_in l.labels))))) ≡ first0 l.terminals l.map (ahead (productions_in l.grammar.words.now l.grammar.productions) (labels_in l.labels)))
-    × (l.asked + asked_in l.terminals l.map (drop l.asked (asked_parts (productions_in l.grammar.words.now l.grammar.productions) (labels_in l.labels))) ≡ asked_of l.terminals l.map (productions_in l.grammar.words.now l.grammar.productions) (labels_in l.labels))
+invariant-loop-asked l = (join_answers l.answer (first0 l.sets.terminals l.sets.map (whole (drop l.asked (asked_parts (productions_in l.grammar.words.now l.grammar.productions) (labels_in l.labels))))) ≡ first0 l.sets.terminals l.sets.map (ahead (productions_in l.grammar.words.now l.grammar.productions) (labels_in l.labels)))
+    × (l.asked + asked_in l.sets.terminals l.sets.map (drop l.asked (asked_parts (productions_in l.grammar.words.now l.grammar.productions) (labels_in l.labels))) ≡ asked_of l.sets.terminals l.sets.map (productions_in l.grammar.words.now l.grammar.productions) (labels_in l.labels))
     × (l.answer.nullable ≡ true)
     × (l.asked ≤ l.count)

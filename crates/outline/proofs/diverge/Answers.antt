@@ -13,34 +13,34 @@ pub first0-requires : goal.first0-requires
 first0-requires c =
     let i = c.loop-own.invariant in
     let s = c.in-Some.ensures.steps in
-    let t = diverge_turn c.args.terminals c.args.map.now _ _ _ _ _ _ s.0.1.0 (s.0.1.1 ∙ i.own_two) s.1.1.0 (s.1.1.1 ∙ i.other_two) i.own_fits i.other_fits in
-    (c.requires.terminals_le_terminal_limit, t.own_fits)
+    let t = diverge_turn c.args.sets.now.terminals c.args.sets.now.map _ _ _ _ _ _ s.0.1.0 (s.0.1.1 ∙ i.own_two) s.1.1.0 (s.1.1.1 ∙ i.other_two) i.own_fits i.other_fits in
+    (c.args.sets.now.few, t.own_fits)
 
 pub first0-requires-then-ne : goal.first0-requires-then-ne
 first0-requires-then-ne c =
     let i = c.loop-own.invariant in
     let s = c.in-Some.ensures.steps in
-    let t = diverge_turn c.args.terminals c.args.map.now _ _ _ _ _ _ s.0.1.0 (s.0.1.1 ∙ i.own_two) s.1.1.0 (s.1.1.1 ∙ i.other_two) i.own_fits i.other_fits in
-    (c.requires.terminals_le_terminal_limit, t.other_fits)
+    let t = diverge_turn c.args.sets.now.terminals c.args.sets.now.map _ _ _ _ _ _ s.0.1.0 (s.0.1.1 ∙ i.own_two) s.1.1.0 (s.1.1.1 ∙ i.other_two) i.own_fits i.other_fits in
+    (c.args.sets.now.few, t.other_fits)
 
 pub returns-then-ne : goal.returns-then-ne
 returns-then-ne c =
     let i = c.loop-own.invariant in
     let s = c.in-Some.ensures.steps in
-    let t = diverge_turn c.args.terminals c.args.map.now _ _ _ _ _ _ s.0.1.0 (s.0.1.1 ∙ i.own_two) s.1.1.0 (s.1.1.1 ∙ i.other_two) i.own_fits i.other_fits in
+    let t = diverge_turn c.args.sets.now.terminals c.args.sets.now.map _ _ _ _ _ _ s.0.1.0 (s.0.1.1 ∙ i.own_two) s.1.1.0 (s.1.1.1 ∙ i.other_two) i.own_fits i.other_fits in
     c.is_disjoint.ensures ∙ rw (c.first0.ensures, c.first0-then-ne.ensures) (t.differ (search rules) ∙ i.rest)
 
 pub loop-own-preserved : goal.loop-own-preserved
 loop-own-preserved c =
     let i = c.loop-own.invariant in
     let s = c.in-Some.ensures.steps in
-    let t = diverge_turn c.args.terminals c.args.map.now _ _ _ _ _ _ s.0.1.0 (s.0.1.1 ∙ i.own_two) s.1.1.0 (s.1.1.1 ∙ i.other_two) i.own_fits i.other_fits in
+    let t = diverge_turn c.args.sets.now.terminals c.args.sets.now.map _ _ _ _ _ _ s.0.1.0 (s.0.1.1 ∙ i.own_two) s.1.1.0 (s.1.1.1 ∙ i.other_two) i.own_fits i.other_fits in
     record { own_two = s.0.0 ∙ i.own_two; other_two = s.1.0 ∙ i.other_two; own_fits = t.left_fits; other_fits = t.other_left_fits; rest = t.same (search rules) ∙ i.rest }
 
 pub returns : goal.returns
 returns c =
     let i = c.loop-own.invariant in
     elim c.in-None.ensures.steps [
-      | inl s ↦ diverge_end c.args.terminals c.args.map.now _ _ (omega (arith, s.1.1.0, i.own_two)) ∙ i.rest
-      | inr s ↦ diverge-other_end c.args.terminals c.args.map.now _ _ (omega (arith, s.1.1.0, i.other_two)) ∙ i.rest
+      | inl s ↦ diverge_end c.args.sets.now.terminals c.args.sets.now.map _ _ (omega (arith, s.1.1.0, i.own_two)) ∙ i.rest
+      | inr s ↦ diverge-other_end c.args.sets.now.terminals c.args.sets.now.map _ _ (omega (arith, s.1.1.0, i.other_two)) ∙ i.rest
     ]

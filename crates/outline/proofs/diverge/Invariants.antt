@@ -10,5 +10,5 @@ invariant-loop-own l = record {
   other_two : l.own-iterator.b.size ≡ 2;
   own_fits : list_is_fit nonterminal_limit terminal_limit l.own-iterator.a.rest.now ≡ true;
   other_fits : list_is_fit nonterminal_limit terminal_limit l.own-iterator.b.rest.now ≡ true;
-  rest : diverge_by l.terminals l.map (listed l.own-iterator.a.rest.now) (listed l.own-iterator.b.rest.now) ≡ diverge_by l.terminals l.map (listed l.first) (listed l.second);
+  rest : diverge_by l.sets.terminals l.sets.map (listed l.own-iterator.a.rest.now) (listed l.own-iterator.b.rest.now) ≡ diverge_by l.sets.terminals l.sets.map (listed l.first) (listed l.second);
 }

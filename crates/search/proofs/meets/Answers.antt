@@ -14,9 +14,9 @@ pub slice_bounds-first0-end : goal.slice_bounds-first0-end
 slice_bounds-first0-end c = sym (length-take-le _ c.read_labels-size.new.labels (omega (arith, c.read_labels-size.ensures.upper_bound.0, c.read_labels-size.auto.labels)))
 
 pub first0-expected-requires : goal.first0-expected-requires
-first0-expected-requires c = record { packed = c.requires.within; labels_fit = c.read_labels-size.ensures.upper_bound.1 _ _ c.requires.tried.1 }
+first0-expected-requires c = record { packed = c.args.sets.now.few; labels_fit = c.read_labels-size.ensures.upper_bound.1 _ _ c.requires.tried.1 }
 
 pub returns : goal.returns
 returns c = λ es T p rest w.
-    meets_is c.args.terminals c.args.map.now (productions_in c.args.grammar.words.now c.args.grammar.productions) es c.args.set.0 c.first0-expected.result.answer c.meets.result
+    meets_is c.args.sets.now.terminals c.args.sets.now.map (productions_in c.args.grammar.words.now c.args.grammar.productions) es c.args.set.0 c.first0-expected.result.answer c.meets.result
     (labels_in (take c.read_labels-size.result c.read_labels-size.new.labels)) p c.first0-expected.ensures.0 c.meets.ensures (c.read_labels-size.ensures.labels_after _ es T p rest w)

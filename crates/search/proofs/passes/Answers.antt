@@ -4,8 +4,8 @@ use Rattle.search.proofs.passes.Goals as goal
 
 pub returns-in-None : goal.returns-in-None
 returns-in-None c = λ es T p rest w.
-    passes-any c.args.terminals c.args.map.now (productions_in c.args.grammar.words.now c.args.grammar.productions) es c.args.lookahead c.in-None.is p
+    passes-any c.args.sets.now.terminals c.args.sets.now.map (productions_in c.args.grammar.words.now c.args.grammar.productions) es c.args.lookahead c.in-None.is p
 
 pub returns-in-Some : goal.returns-in-Some
 returns-in-Some c = λ es T p rest w.
-    passes-set c.args.terminals c.args.map.now (productions_in c.args.grammar.words.now c.args.grammar.productions) es c.args.lookahead c.in-Some.set c.in-Some.is c.meets.result p (c.meets.ensures es T p rest w)
+    passes-set c.args.sets.now.terminals c.args.sets.now.map (productions_in c.args.grammar.words.now c.args.grammar.productions) es c.args.lookahead c.in-Some.set c.in-Some.is c.meets.result p (c.meets.ensures es T p rest w)

@@ -31,7 +31,7 @@ pub overflow_add-made : goal.overflow_add-made
 overflow_add-made c = omega (arith, c.if-made-ge-TRIALS.false)
 
 pub hands-requires : goal.hands-requires
-hands-requires c = record { packed = c.requires.within; tried = (c.requires.searching.0, (turn_tried (c.loop-lookahead.invariant.0 _ _ c.requires.searching.1.1) c.next.ensures.by_index c.loop-lookahead-test.true, view_sourced c.requires.searching.1.1.view)) }
+hands-requires c = record { packed = c.args.sets.now.few; tried = (c.requires.searching.0, (turn_tried (c.loop-lookahead.invariant.0 _ _ c.requires.searching.1.1) c.next.ensures.by_index c.loop-lookahead-test.true, view_sourced c.requires.searching.1.1.view)) }
 
 pub shape_of-words-then-hands : goal.shape_of-words-then-hands
 shape_of-words-then-hands c = c.next.auto.words ∙ (c.loop-lookahead.invariant.0 _ _ c.requires.searching.1.1).size

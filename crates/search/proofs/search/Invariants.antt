@@ -12,7 +12,7 @@ use Rattle.search.proofs.search.Given as goal
 
 abbrev pub invariant-loop-lookahead : goal.invariant-loop-lookahead
 invariant-loop-lookahead l = ((es : List TraceEdge) (start : Item) → Searching (productions_in l.grammar.words.now l.grammar.productions) es l.owners l.codes l.sources l.older l.latest l.initial.words start
-    → Turn (hands_by l.terminals l.map (productions_in l.grammar.words.now l.grammar.productions) es (set_of l.lookahead)) (productions_in l.grammar.words.now l.grammar.productions) es l.owners l.codes l.sources l.older l.latest l.initial.words start l.count l.words l.made)
+    → Turn (hands_by l.sets.terminals l.sets.map (productions_in l.grammar.words.now l.grammar.productions) es (set_of l.lookahead)) (productions_in l.grammar.words.now l.grammar.productions) es l.owners l.codes l.sources l.older l.latest l.initial.words start l.count l.words l.made)
     × (length l.counts ≡ 32)
     × CountedWalk l.sources l.words l.counts
 

@@ -7,4 +7,4 @@ use Rattle.trace.proofs.reduce.production_ends.Given as goal
 
 abbrev pub invariant-loop-index : goal.invariant-loop-index
 invariant-loop-index l = (length l.ends ≡ item_flags) × (l.index ≤ l.past)
-    × ((T : Table) → T.productions ≡ productions_in l.grammar.words.now l.grammar.productions → T.terminals ≡ l.terminals → EndsTo T l.initial.ends (l.production * index_limit) → EndsTo T l.ends (l.production * index_limit + l.index))
+    × ((T : Table) → T.productions ≡ productions_in l.grammar.words.now l.grammar.productions → T.terminals ≡ l.sets.terminals → EndsTo T l.initial.ends (l.production * index_limit) → EndsTo T l.ends (l.production * index_limit + l.index))

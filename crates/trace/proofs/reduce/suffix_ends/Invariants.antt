@@ -7,4 +7,4 @@ use Rattle.trace.proofs.reduce.suffix_ends.Given as goal
 
 abbrev pub invariant-loop-production : goal.invariant-loop-production
 invariant-loop-production l = (length l.ends ≡ item_flags) × (l.production ≤ l.grammar.productions)
-    × ((T : Table) → T.productions ≡ productions_in l.grammar.words.now l.grammar.productions → T.terminals ≡ l.terminals → EndsTo T l.ends (l.production * index_limit))
+    × ((T : Table) → T.productions ≡ productions_in l.grammar.words.now l.grammar.productions → T.terminals ≡ l.sets.terminals → EndsTo T l.ends (l.production * index_limit))
