@@ -8,7 +8,6 @@ ghost use Rattle.table.specs.Checked.{Accepted};
 ghost use Rattle.table.specs.Decoded.{meaning, items_from, edges_from, productions_from};
 ghost use Rattle.table.specs.Refusals.{check_of};
 ghost use Rattle.table.specs.Index.{CountsOf, ItemIndex, EdgeIndex, ProductionHead, ItemRead, EdgeRead, ProductionRead};
-
 ghost use Rattle.table.specs.Written.{symbols_from, SymbolIndex, SymbolRead, OwnerStored, OwnersIn, SymbolsStored, ProductionStored};
 
 use crate::{Counts, EdgeRecord, ItemRecord, ProductionRecord, word};
