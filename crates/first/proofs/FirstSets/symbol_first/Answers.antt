@@ -8,4 +8,4 @@ returns-in-Nonterminal c = rw c.in-Nonterminal.is
 
 pub returns-in-Terminal : goal.returns-in-Terminal
 returns-in-Terminal c =
-    rw c.in-Terminal.is (symbol-terminal c.args.self.now.map c.in-Terminal.terminal c.from.result.0 (rw c.in-Terminal.is at c.requires) c.from.ensures.from_gives.0)
+    rw c.in-Terminal.is (symbol-terminal c.args.self.now.map c.in-Terminal.terminal c.from.result.0 (rw c.in-Terminal.is at c.requires) c.from.ensures.0)
