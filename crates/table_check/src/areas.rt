@@ -39,17 +39,12 @@ pub struct Gathered<'a> {
 }
 
 // Row 1: no words, a part of a record, or above 32,768 words.
+#[tactic(auto, unfolding(table::specs::Refusals::row1))]
 pub fn bad_words(table: &[u16]) -> bool
     ensures { result ≡ row1 table.now }
 {
     let words = table.len();
-    if words == 0 {
-        return true;
-    }
-    if words % 4 == 0 {
-        return words > 32768;
-    }
-    true
+    words == 0 || words % 4 != 0 || words > 32768
 }
 
 // Row 2: a count outside its range, or areas longer than the table.
@@ -93,10 +88,10 @@ pub fn survey(table: &[u16]) -> Areas
     let productions = word(table, 0, 3);
     Areas {
         records: table.len() / 4,
-        nonterminals: nonterminals,
-        terminals: terminals,
-        states: states,
-        productions: productions,
+        nonterminals,
+        terminals,
+        states,
+        productions,
         states_at: 1 + nonterminals,
         productions_at: 1 + nonterminals + states,
         loose_at: 1 + nonterminals + states + productions,
@@ -104,29 +99,19 @@ pub fn survey(table: &[u16]) -> Areas
 }
 
 // Whether index x, held by record r, names a record of the area by the rule.
+#[tactic(auto, unfolding(table::specs::Words::names))]
 pub fn names(from: usize, past: usize, r: usize, x: usize) -> bool
     ensures { result ≡ names (area from past) r x }
 {
-    if x < from {
-        return false;
-    }
-    if x >= past {
-        return false;
-    }
-    r < x
+    from <= x && x < past && r < x
 }
 
 // Whether it is against the rule: not 0, and no such name.
+#[tactic(auto, unfolding(table::specs::Words::against))]
 pub fn against(from: usize, past: usize, r: usize, x: usize) -> bool
     ensures { result ≡ against (area from past) r x }
 {
-    if x == 0 {
-        return false;
-    }
-    if names(from, past, r, x) {
-        return false;
-    }
-    true
+    x != 0 && !names(from, past, r, x)
 }
 
 // Whether word k of record r, an index of productions, is against it.

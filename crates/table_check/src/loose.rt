@@ -8,46 +8,30 @@ use repr::symbol_fits;
 use table::word;
 
 // Whether word k of record r, which is to be spare, is not 0.
+#[tactic(auto, unfolding(table::specs::Refusals::used))]
 pub fn spare(s: Surveyed, r: usize, k: usize) -> bool
     requires r_lt_records { (r < s.areas.records) × (k < 4) }
     ensures { result ≡ used s.entry.words.now r k }
 {
-    if word(s.words, r, k) == 0 {
-        return false;
-    }
-    true
+    word(s.words, r, k) != 0
 }
 
 // Row 3: the next index, which is `bad` or not.
 pub fn index_fault(bad: bool, symbol: bool, item: bool, edge: bool) -> bool
     ensures { result ≡ (symbol || (item || edge)) && bad }
 {
-    if symbol {
-        return bad;
-    }
-    if item {
-        return bad;
-    }
-    if edge {
-        return bad;
-    }
-    false
+    (symbol || item || edge) && bad
 }
 
 // Row 6: a symbol or an edge.
+#[tactic(auto, unfolding(crate::specs::Faults::symbol_bad))]
 pub fn symbol_fault(s: Surveyed, r: usize, symbol: bool, edge: bool) -> bool
     requires r_lt_records { r < s.areas.records }
     ensures { result ≡ symbol_bad s.entry.words.now r symbol edge }
 {
     let kind = word(s.words, r, 1);
     let number = word(s.words, r, 2);
-    if symbol_fits(s.areas.nonterminals, s.areas.terminals, kind, number) {
-        return false;
-    }
-    if symbol {
-        return true;
-    }
-    edge
+    (symbol || edge) && !symbol_fits(s.areas.nonterminals, s.areas.terminals, kind, number)
 }
 
 // Row 7 of an item: its production, and its index against the production's length.
@@ -82,15 +66,10 @@ pub fn range_fault(g: Gathered, r: usize, item: bool, edge: bool) -> bool
 }
 
 // Row 8: a symbol or an item; an edge's fourth word is its target.
+#[tactic(auto, unfolding(crate::specs::Faults::spare_bad))]
 pub fn spare_fault(s: Surveyed, r: usize, symbol: bool, item: bool) -> bool
     requires r_lt_records { r < s.areas.records }
     ensures { result ≡ spare_bad s.entry.words.now r symbol item }
 {
-    if symbol {
-        return spare(s, r, 3);
-    }
-    if item {
-        return spare(s, r, 3);
-    }
-    false
+    (symbol || item) && spare(s, r, 3)
 }
