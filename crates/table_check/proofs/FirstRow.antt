@@ -4,18 +4,16 @@ use mathlib.Core.Path.{◌≡◌, refl, sym, ap, ◌∙◌}
 use mathlib.Core.Bool.{Bool, true, false}
 use mathlib.Core.List.{List, [], ◌∷◌}
 use mathlib.Core.Option.{none, some}
-use Prim.Native.Nat.{ℕ, ◌+◌, ◌≤◌, ◌<◌}
+use Prim.Native.Nat.{ℕ, ◌<◌}
 use native.Mathlib.Omega.{arith}
 use native.Mathlib.Decide.{ℕ_discrete}
-use lib.Dec.{eqb}
-use borrow.Author.Tests.{eq-eqb, ne_eqb, eqb-true, eqb-false, ltb-true, ltb-false}
 use Rattle.repr.specs.Lists.{below, first?}
 use Rattle.repr.proofs.Lists.{cases}
 use Rattle.repr.proofs.Tests.{first?-nil, first?-yes, first?_no, first?-below_intro}
 use Rattle.table.specs.Checked.{Accepted, Refused}
 use Rattle.table.specs.Decoded.{or_zero}
 use Rattle.table.proofs.Exact.{none_in}
-use Rattle.table_check.specs.Faults.{first_by, better, Best}
+use Rattle.table_check.specs.Faults.{first_by, Best}
 
 -- ---- the lowest row of one record
 unfoldable pub lowest : (ℕ → Bool) → List ℕ → ℕ
@@ -61,58 +59,6 @@ best_start f = record {
   least = λ ne j h. absurd (ne refl);
   early = λ ne j h. absurd (ne refl);
 }
-
-module _ (f : ℕ → ℕ) (r row place m : ℕ) (b : Best f r row place) (e : m ≡ f r) where
-  pub best_better : better m row ≡ true → Best f (r + 1) m r
-  unfolding better
-  best_better t =
-      cases (eqb m 0)
-      (λ q. absurd (false-true (rw q at t)))
-      (λ q.
-      cases (eqb row 0)
-      (λ w. made (eqb-false m 0 q) (λ j h ne. absurd (ne (b.none (eqb-true row 0 w) j h))))
-      (λ w.
-      let l = ltb-true m row (rw (q, w) at t) in
-      made (eqb-false m 0 q) (λ j h ne. let k = b.least (eqb-false row 0 w) j h ne in omega arith)))
-    where
-      false-true : ◌≡◌ {A = Bool} false true → ⊥
-      false-true z = let y : ◌≡◌ {A = ℕ} 0 1 = cc in omega arith
-
-      made : (m ≡ 0 → ⊥) → ((j : ℕ) → j < r → (f j ≡ 0 → ⊥) → m < f j) → Best f (r + 1) m r
-      made ne lower = record {
-        none = λ z. absurd (ne z);
-        within = omega arith;
-        inside = λ _. omega arith;
-        is = λ _. sym e;
-        least = λ _ j h nz. at j h nz (ℕ_discrete j r);
-        early = λ _ j h nz. lower j h nz;
-      }
-        where
-          at : (j : ℕ) → j < r + 1 → (f j ≡ 0 → ⊥) → Dec (j ≡ r) → m ≤ f j
-          at j h nz (yes q) = let w : f j ≡ f r = ap f q in omega arith
-          at j h nz (no ne) = let w = lower j (omega arith) nz in omega arith
-
-  pub best_kept : better m row ≡ false → Best f (r + 1) row place
-  unfolding better
-  best_kept t = record {
-    none = λ z j h. at z j h (ℕ_discrete j r);
-    within = let w = b.within in omega arith;
-    inside = λ ne. let w = b.inside ne in omega arith;
-    is = b.is;
-    least = λ ne j h nz. at' ne j h nz (ℕ_discrete j r);
-    early = b.early;
-  }
-    where
-      zero_new : row ≡ 0 → m ≡ 0
-      zero_new z = cases (eqb m 0) (eqb-true m 0) (λ q. let y : ◌≡◌ {A = Bool} true false = rw (q, eq-eqb row 0 z) at t in let x : ◌≡◌ {A = ℕ} 0 1 = cc in absurd (omega arith))
-
-      at : row ≡ 0 → (j : ℕ) → j < r + 1 → Dec (j ≡ r) → f j ≡ 0
-      at z j h (yes q) = ap f q ∙ sym e ∙ zero_new z
-      at z j h (no ne) = b.none z j (omega arith)
-
-      at' : (row ≡ 0 → ⊥) → (j : ℕ) → j < r + 1 → (f j ≡ 0 → ⊥) → Dec (j ≡ r) → row ≤ f j
-      at' nz j h ne (yes q) = let w : f j ≡ f r = ap f q in let k = ltb-false m row (rw (ne_eqb m 0 (λ z. ne (w ∙ sym e ∙ z)), ne_eqb row 0 nz) at t) in omega arith
-      at' nz j h ne (no g) = b.least nz j (omega arith) ne
 
 -- two that agree on the records passed have the same best
 best_agree : (f g : ℕ → ℕ) (r row place : ℕ) → ((j : ℕ) → j < r → f j ≡ g j) → Best f r row place → Best g r row place

@@ -1,35 +1,22 @@
 -- Rows 1 and 2: their cases, and what holds of a table that they let through. Assumes nothing.
-use mathlib.Core.Path.{◌≡◌, refl, sym}
-use mathlib.Core.Bool.{Bool, true, false, not}
+use mathlib.Core.Path.{◌≡◌, refl}
+use mathlib.Core.Bool.{false, not}
 use mathlib.Core.List.{List}
 use Prim.Native.Nat.{ℕ, ◌+◌, ◌*◌, ◌/◌, ◌%◌, ◌≤◌, ◌<◌}
 use native.Mathlib.Omega.{arith}
 use lib.ListN.{length, replicate, length-replicate}
 use lib.Dec.{eqb, ltb}
-use borrow.Author.Tests.{eq-eqb, ne_eqb, eqb-true, eqb-false, lt-ltb, le-ltb, ltb-false, le-leb, not-false}
+use borrow.Author.Tests.{eqb-true, eqb-false, ltb-false, not-false}
 use Rattle.repr.specs.Sizes.{record_limit}
-use Rattle.table.specs.Words.{word_at, records, state_area, production_area, loose, names, against}
+use Rattle.table.specs.Words.{word_at, records, state_area, production_area, loose}
 use Rattle.table.specs.Refusals.{row1, row2}
-use Rattle.table.proofs.Chains.{or-false, names-before, names_past}
+use Rattle.table.proofs.Chains.{or-false}
 use Rattle.table_check.specs.Marks.{Sized, Held, Lengths}
-use Rattle.table_check.specs.Known.{AreasOf, Known, area}
+use Rattle.table_check.specs.Known.{AreasOf, Known}
 use Rattle.table_check.specs.Passed.{Blank, Passed, Reaching}
 use Rattle.table_check.specs.declared.areas.Areas.{Areas}
 
 -- ---- row 1
-module _ (t : List ℕ) where
-  pub words-none : length t ≡ 0 → true ≡ row1 t
-  unfolding row1
-  words-none e = rw (eq-eqb _ _ e)
-
-  pub words-whole : (length t ≡ 0 → ⊥) → length t % 4 ≡ 0 → ltb 32768 (length t) ≡ row1 t
-  unfolding row1
-  words-whole ne e = rw (ne_eqb _ _ ne, eq-eqb _ _ e)
-
-  pub words_part : (length t ≡ 0 → ⊥) → (length t % 4 ≡ 0 → ⊥) → true ≡ row1 t
-  unfolding row1
-  words_part ne e = rw (ne_eqb _ _ ne, ne_eqb _ _ e)
-
 pub record Whole (t : List ℕ) : Type 0 where
   pub some : 0 < length t
   pub whole : length t ≡ length t / 4 * 4
@@ -44,47 +31,6 @@ whole_of t e =
     let m : length t % 4 ≡ 0 = eqb-true _ _ (not-false _ b.0) in
     let f : length t ≤ 32768 = ltb-false _ _ b.1 in
     record { some = omega arith; whole = omega arith; few = f }
-
--- ---- row 2, with the counts that were read
-pub record CountsAre (t : List ℕ) (n m s p : ℕ) : Type 0 where
-  pub nonterminals : n ≡ word_at t 0 0
-  pub terminals : m ≡ word_at t 0 1
-  pub states : s ≡ word_at t 0 2
-  pub productions : p ≡ word_at t 0 3
-
-module _ {t : List ℕ} {n m s p : ℕ} (C : CountsAre t n m s p) where
-  pub counts_1 : n ≡ 0 → true ≡ row2 t
-  unfolding row2
-  counts_1 e = rw (← C.nonterminals, eq-eqb _ _ e)
-
-  module _ (n0 : n ≡ 0 → ⊥) where
-    pub counts_2 : 32 < n → true ≡ row2 t
-    unfolding row2
-    counts_2 h = rw (← C.nonterminals, ne_eqb _ _ n0, lt-ltb _ _ h)
-
-    module _ (n1 : n ≤ 32) where
-      pub counts_3 : 63 < m → true ≡ row2 t
-      unfolding row2
-      counts_3 h = rw (← C.nonterminals, ← C.terminals, ne_eqb _ _ n0, le-ltb _ _ n1, lt-ltb _ _ h)
-
-      module _ (m1 : m ≤ 63) where
-        pub counts_4 : s ≡ 0 → true ≡ row2 t
-        unfolding row2
-        counts_4 e = rw (← C.nonterminals, ← C.terminals, ← C.states, ne_eqb _ _ n0, le-ltb _ _ n1, le-ltb _ _ m1, eq-eqb _ _ e)
-
-        module _ (s0 : s ≡ 0 → ⊥) where
-          pub counts_5 : 128 < s → true ≡ row2 t
-          unfolding row2
-          counts_5 h = rw (← C.nonterminals, ← C.terminals, ← C.states, ne_eqb _ _ n0, le-ltb _ _ n1, le-ltb _ _ m1, ne_eqb _ _ s0, lt-ltb _ _ h)
-
-          module _ (s1 : s ≤ 128) where
-            pub counts_6 : 128 < p → true ≡ row2 t
-            unfolding row2
-            counts_6 h = rw (← C.nonterminals, ← C.terminals, ← C.states, ← C.productions, ne_eqb _ _ n0, le-ltb _ _ n1, le-ltb _ _ m1, ne_eqb _ _ s0, le-ltb _ _ s1, lt-ltb _ _ h)
-
-            pub counts_7 : p ≤ 128 → ltb (length t / 4) (1 + n + s + p) ≡ row2 t
-            unfolding row2 records loose production_area state_area
-            counts_7 h = rw (← C.nonterminals, ← C.terminals, ← C.states, ← C.productions, ne_eqb _ _ n0, le-ltb _ _ n1, le-ltb _ _ m1, ne_eqb _ _ s0, le-ltb _ _ s1, le-ltb _ _ h)
 
 pub record Counted (t : List ℕ) : Type 0 where
   pub productions : word_at t 0 3 ≤ 128
@@ -119,6 +65,13 @@ room t z =
 pub word_in : {t : List ℕ} → Room t → (r k : ℕ) → r < records t → k < 4 → (r < record_limit) × ((k < 4) × (r * 4 + k < length t))
 word_in R r k h l = omega arith
 
+-- ---- row 2, with the counts that were read
+pub record CountsAre (t : List ℕ) (n m s p : ℕ) : Type 0 where
+  pub nonterminals : n ≡ word_at t 0 0
+  pub terminals : m ≡ word_at t 0 1
+  pub states : s ≡ word_at t 0 2
+  pub productions : p ≡ word_at t 0 3
+
 -- ---- the areas
 pub surveyed : {t : List ℕ} → Sized t → {n m s p : ℕ} → CountsAre t n m s p
     → AreasOf t (record { records = length t / 4; nonterminals = n; terminals = m; states = s; productions = p; states_at = 1 + n; productions_at = 1 + n + s; loose_at = 1 + n + s + p })
@@ -145,25 +98,6 @@ surveyed {t} z {n} {m} {s} {p} C =
     }
 
 -- ---- the rule of an index
-module _ (from past r x : ℕ) where
-  pub names_low : x < from → false ≡ names (area from past) r x
-  names_low h = sym (names-before (area from past) r x h)
-
-  pub names_high : past ≤ x → false ≡ names (area from past) r x
-  names_high h = sym (names_past (area from past) r x h)
-
-  pub names-inside : from ≤ x → x < past → ltb r x ≡ names (area from past) r x
-  unfolding names
-  names-inside h l = rw (le-leb _ _ h, lt-ltb _ _ l)
-
-  pub against-none : x ≡ 0 → false ≡ against (area from past) r x
-  unfolding against
-  against-none e = rw (eq-eqb _ _ e)
-
-  pub against-named : (x ≡ 0 → ⊥) → (b : Bool) → b ≡ names (area from past) r x → not b ≡ against (area from past) r x
-  unfolding against
-  against-named ne b e = rw (ne_eqb _ _ ne, e)
-
 -- ---- blank marks
 pub blank : {t : List ℕ} (n : ℕ) → records t ≤ n * 64 → Blank t (replicate n 0)
 blank n h = record { room = rw (length-replicate {A = ℕ} n 0) h; blank = rw (length-replicate {A = ℕ} n 0) }

@@ -8,27 +8,15 @@ use lib.ListN.{length, get_or}
 use lib.Dec.{ltb, leb}
 use borrow.Author.Tests.{eq-eqb, ne_eqb, lt-ltb, le-ltb, le-leb, lt-leb}
 use Rattle.repr.specs.Lists.{below, occurrences, joined}
-use Rattle.repr.specs.Listed.{symbol_is_fit}
-use Rattle.repr.proofs.Lists.{cases}
 use Rattle.table.specs.Words.{word_at, productions, production_area, loose_records, production_records, against}
 use Rattle.table.specs.Decoded.{production_chain, symbol_chain}
-use Rattle.table.specs.Refusals.{used}
 use Rattle.table_check.specs.Rows.{number_of_row}
 use Rattle.table_check.specs.declared.fault.Row.{Row}
 use Rattle.table_check.specs.declared.fault.Row.TheVariants.{Chain, Owner, TooLong, Symbol, Target, Spare}
 use Rattle.table_check.specs.Marks.{Held, Lengths}
 use Rattle.table_check.specs.Known.{AreasOf, area}
-use Rattle.table_check.specs.Faults.{choose, index_bad, symbol_bad, item_bad, range_bad, spare_bad, fault_of_nonterminal, fault_of_state, fault_of_production, fault_of_loose, better}
+use Rattle.table_check.specs.Faults.{choose, index_bad, symbol_bad, item_bad, range_bad, spare_bad, fault_of_production, fault_of_loose, better}
 use Rattle.table_check.specs.declared.areas.Areas.{Areas}
-
--- ---- a spare word
-pub spare_zero : (t : List ℕ) (r k w : ℕ) → w ≡ word_at t r k → w ≡ 0 → false ≡ used t r k
-unfolding used
-spare_zero t r k w e z = rw (← e, eq-eqb w 0 z)
-
-pub spare_used : (t : List ℕ) (r k w : ℕ) → w ≡ word_at t r k → (w ≡ 0 → ⊥) → true ≡ used t r k
-unfolding used
-spare_used t r k w e z = rw (← e, ne_eqb w 0 z)
 
 -- ---- an index that was read, by the areas
 module _ (t : List ℕ) (a : Areas) (A : AreasOf t a) where
@@ -47,44 +35,7 @@ module _ (t : List ℕ) (a : Areas) (A : AreasOf t a) where
   loose_index r k x e = rw (e, loose-area)
 
 -- ---- a nonterminal
-module _ (t : List ℕ) (r : ℕ) where
-  pub nonterminal_1 : against (production_records t) r (word_at t r 0) ≡ true → 3 ≡ fault_of_nonterminal t r
-  unfolding fault_of_nonterminal choose
-  nonterminal_1 i = rw i
-
-  module _ (i : against (production_records t) r (word_at t r 0) ≡ false) where
-    pub nonterminal_2 : used t r 1 ≡ true → 8 ≡ fault_of_nonterminal t r
-    unfolding fault_of_nonterminal choose
-    nonterminal_2 u = rw (i, u)
-
-    pub nonterminal_3 : used t r 1 ≡ false → used t r 2 ≡ true → 8 ≡ fault_of_nonterminal t r
-    unfolding fault_of_nonterminal choose
-    nonterminal_3 u v = rw (i, u, v)
-
-    pub nonterminal_4 : used t r 1 ≡ false → used t r 2 ≡ false → (b : Bool) → used t r 3 ≡ b → choose b 8 0 ≡ fault_of_nonterminal t r
-    unfolding fault_of_nonterminal choose
-    nonterminal_4 u v b w = rw (i, u, v, w)
-
 -- ---- a state
-module _ (t : List ℕ) (r : ℕ) where
-  pub state_1 : against (loose_records t) r (word_at t r 0) ≡ true → 3 ≡ fault_of_state t r
-  unfolding fault_of_state choose
-  state_1 i = rw i
-
-  module _ (i : against (loose_records t) r (word_at t r 0) ≡ false) where
-    pub state_2 : against (loose_records t) r (word_at t r 1) ≡ true → 3 ≡ fault_of_state t r
-    unfolding fault_of_state choose
-    state_2 j = rw (i, j)
-
-    module _ (j : against (loose_records t) r (word_at t r 1) ≡ false) where
-      pub state_3 : used t r 2 ≡ true → 8 ≡ fault_of_state t r
-      unfolding fault_of_state choose
-      state_3 u = rw (i, j, u)
-
-      pub state_4 : used t r 2 ≡ false → (b : Bool) → used t r 3 ≡ b → choose b 8 0 ≡ fault_of_state t r
-      unfolding fault_of_state choose
-      state_4 u b v = rw (i, j, u, v)
-
 -- ---- a production, with how often it is held and how long it is
 held-once : (n : ℕ) → min 2 n ≡ 1 → n ≡ 1
 held-once n e = omega arith
@@ -147,30 +98,9 @@ module _ (t : List ℕ) (r : ℕ) (s i e : Bool) where
       unfolding fault_of_loose choose
       loose_4 z b w = rw (x, y, z, w)
 
--- ---- its tests
-pub index_any : (s i e b : Bool) → s || (i || e) ≡ true → b ≡ (s || (i || e)) && b
-index_any s i e b o = rw o
-
-pub index_none : (s i e b : Bool) → s ≡ false → i ≡ false → e ≡ false → false ≡ (s || (i || e)) && b
-index_none s i e b p q o = rw (p, q, o)
-
 pub index_is : (t : List ℕ) (r : ℕ) (s i e bad b : Bool) → bad ≡ against (loose_records t) r (word_at t r 0) → b ≡ (s || (i || e)) && bad → index_bad t r s i e ≡ b
 unfolding index_bad
 index_is t r s i e bad b h q = rw (← h, q)
-
-module _ (t : List ℕ) (r kind number n m : ℕ) (s e b : Bool) (ek : kind ≡ word_at t r 1) (ex : number ≡ word_at t r 2) (en : n ≡ word_at t 0 0) (em : m ≡ word_at t 0 1)
-    (h : b ≡ symbol_is_fit n m kind number) where
-  pub symbol_good : b ≡ true → false ≡ symbol_bad t r s e
-  unfolding symbol_bad
-  symbol_good q = rw (← ek, ← ex, ← en, ← em, ← h, q) (cases (s || e) (λ o. rw o) (λ o. rw o))
-
-  pub symbol-yes : b ≡ false → s ≡ true → true ≡ symbol_bad t r s e
-  unfolding symbol_bad
-  symbol-yes q o = rw (← ek, ← ex, ← en, ← em, ← h, q, o)
-
-  pub symbol_edge : b ≡ false → s ≡ false → e ≡ symbol_bad t r s e
-  unfolding symbol_bad
-  symbol_edge q o = rw (← ek, ← ex, ← en, ← em, ← h, q, o) (cases e (λ o. rw o) (λ o. rw o))
 
 module _ (t : List ℕ) (r production index k : ℕ) (i : Bool) (ep : production ≡ word_at t r 1) (ei : index ≡ word_at t r 2) (ek : k ≡ word_at t 0 3) (ii : i ≡ true) where
   pub item_past : k ≤ production → true ≡ i && item_bad t r
@@ -197,28 +127,12 @@ module _ (t : List ℕ) (r : ℕ) (i e : Bool) where
   unfolding range_bad
   range_none n q = rw (n, q)
 
-pub spare_any : (t : List ℕ) (r : ℕ) (s i b : Bool) → b ≡ used t r 3 → s || i ≡ true → b ≡ spare_bad t r s i
-unfolding spare_bad
-spare_any t r s i b h o = rw (o, h)
-
-pub spare_none : (t : List ℕ) (r : ℕ) (s i : Bool) → s ≡ false → i ≡ false → false ≡ spare_bad t r s i
-unfolding spare_bad
-spare_none t r s i p q = rw (p, q)
-
 -- ---- a row before the best so far
 module _ (m row : ℕ) where
-  pub better-none : m ≡ 0 → false ≡ better m row
-  unfolding better
-  better-none e = rw (eq-eqb _ _ e)
-
   module _ (ne : m ≡ 0 → ⊥) where
     pub better-first : row ≡ 0 → true ≡ better m row
     unfolding better
     better-first e = rw (ne_eqb _ _ ne, eq-eqb _ _ e)
-
-    pub better_less : (row ≡ 0 → ⊥) → ltb m row ≡ better m row
-    unfolding better
-    better_less e = rw (ne_eqb _ _ ne, ne_eqb _ _ e)
 
 -- a row of the code is no 0
 pub some_row : (row : Row) → number_of_row row ≡ 0 → ⊥

@@ -48,6 +48,7 @@ pub fn bad_words(table: &[u16]) -> bool
 }
 
 // Row 2: a count outside its range, or areas longer than the table.
+#[tactic(auto, unfolding(table::specs::Refusals::row2, table::specs::Words::records, table::specs::Words::loose, table::specs::Words::production_area, table::specs::Words::state_area))]
 pub fn bad_counts(table: &[u16]) -> bool
     requires { row1 table.now ≡ false }
     ensures { result ≡ row2 table.now }
@@ -56,25 +57,13 @@ pub fn bad_counts(table: &[u16]) -> bool
     let terminals = word(table, 0, 1);
     let states = word(table, 0, 2);
     let productions = word(table, 0, 3);
-    if nonterminals == 0 {
-        return true;
-    }
-    if nonterminals > NonterminalString::LIMIT {
-        return true;
-    }
-    if terminals > 63 {
-        return true;
-    }
-    if states == 0 {
-        return true;
-    }
-    if states > 128 {
-        return true;
-    }
-    if productions > ProductionIndex::LIMIT {
-        return true;
-    }
-    table.len() / 4 < 1 + nonterminals + states + productions
+    nonterminals == 0
+        || nonterminals > NonterminalString::LIMIT
+        || terminals > 63
+        || states == 0
+        || states > 128
+        || productions > ProductionIndex::LIMIT
+        || table.len() / 4 < 1 + nonterminals + states + productions
 }
 
 // Read once; what works on the records is handed this by value.

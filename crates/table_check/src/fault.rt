@@ -19,6 +19,7 @@ pub enum Row {
 }
 
 // Rows 3 and 8: first production, then three spare words.
+#[tactic(auto, unfolding(crate::specs::Faults::fault_of_nonterminal, crate::specs::Faults::choose))]
 fn nonterminal_fault(s: Surveyed, r: usize) -> Option<Row>
     requires r_lt_records { r < s.areas.records }
     ensures { number_of_fault result ≡ fault_of_nonterminal s.entry.words.now r }
@@ -26,33 +27,22 @@ fn nonterminal_fault(s: Surveyed, r: usize) -> Option<Row>
     if areas::bad_production_index(s, r, 0) {
         return Some(Row::Chain);
     }
-    if loose::spare(s, r, 1) {
-        return Some(Row::Spare);
-    }
-    if loose::spare(s, r, 2) {
-        return Some(Row::Spare);
-    }
-    if loose::spare(s, r, 3) {
+    if loose::spare(s, r, 1) || loose::spare(s, r, 2) || loose::spare(s, r, 3) {
         return Some(Row::Spare);
     }
     None
 }
 
 // Rows 3 and 8: first item, first edge, two spare words.
+#[tactic(auto, unfolding(crate::specs::Faults::fault_of_state, crate::specs::Faults::choose))]
 fn state_fault(s: Surveyed, r: usize) -> Option<Row>
     requires r_lt_records { r < s.areas.records }
     ensures { number_of_fault result ≡ fault_of_state s.entry.words.now r }
 {
-    if areas::bad_loose_index(s, r, 0) {
+    if areas::bad_loose_index(s, r, 0) || areas::bad_loose_index(s, r, 1) {
         return Some(Row::Chain);
     }
-    if areas::bad_loose_index(s, r, 1) {
-        return Some(Row::Chain);
-    }
-    if loose::spare(s, r, 2) {
-        return Some(Row::Spare);
-    }
-    if loose::spare(s, r, 3) {
+    if loose::spare(s, r, 2) || loose::spare(s, r, 3) {
         return Some(Row::Spare);
     }
     None
