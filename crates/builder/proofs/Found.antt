@@ -16,7 +16,7 @@ use Rattle.slices.specs.Lent.{in_front, zeroed}
 use Rattle.spelling.specs.Spelled.{size_of, symbol_lists, item_lists, states_at, productions_at, symbols_at, items_place, edges_at, records_of, spell}
 use Rattle.table.proofs.Chains.{and-true}
 use Rattle.first.specs.First.{sets_of_first}
-use Rattle.closing.specs.Grammar.{Grammar}
+use Rattle.closing.specs.Grammar.{OfTable}
 use Rattle.build.specs.States.{built, written}
 use Rattle.build.specs.Built.{built_state, built_table, conflict_words}
 use Rattle.build.specs.Outcome.{sum, refused, full, finish, outcome}
@@ -212,7 +212,7 @@ new_asks F z k = (rw z.many k, rw z.tokens F.few_terminals)
 
 module _ {T : Table} {room : ℕ} {g : List ℕ} {sizes : Sizes} {sets : List ℕ} (start : ℕ) (F : TableFits T) (z : SizesOf T room sizes) (k : Packed g (length T.productions))
     (same : productions_in g (length T.productions) ≡ T.productions) (q : sets ≡ sets_of_first sizes.terminals (productions_in g sizes.productions)) (h : start_is_fit T start ≡ true) where
-  pub grammar : Grammar T g sizes.productions sizes.terminals sets
+  pub grammar : OfTable T g sizes.productions sizes.terminals sets
   grammar = record {
     fits = F;
     packed = rw z.many k;

@@ -3,7 +3,7 @@ use Rattle.std.specs.Prelude.{ℕ, ◌+◌, ◌≤◌, ◌<◌, ◌≡◌, List,
 use Rattle.repr.specs.Sizes.{state_limit}
 use Rattle.repr.specs.Meaning.{Table}
 use Rattle.spelling.specs.Spelled.{items_place, edges_at}
-use Rattle.closing.specs.Grammar.{Grammar}
+use Rattle.closing.specs.Grammar.{OfTable}
 use Rattle.finding.specs.Steps.{found_to}
 use Rattle.finding.specs.declared.Sizes.{Sizes}
 use Rattle.starting.specs.Start.{Counted}
@@ -22,7 +22,7 @@ pub record SizesOf (T : Table) (room : ℕ) (sizes : Sizes) : Type 0 where
 pub record Ended (T : Table) (room : ℕ) (g : List ℕ) (sizes : Sizes) (ws bs E es : List ℕ) (n : ℕ) : Type 0 where
   pub start : ℕ
   pub sets : List ℕ
-  pub grammar : Grammar T g sizes.productions sizes.terminals sets
+  pub grammar : OfTable T g sizes.productions sizes.terminals sets
   pub started : start < sizes.productions
   pub counted : Counted T room sizes.nonterminals sizes.fixed sizes.limit
   pub small : sizes.fixed ≤ 65536

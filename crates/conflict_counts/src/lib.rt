@@ -10,7 +10,7 @@ ghost use Rattle.repr.specs.Lists.{up_from, below, joined};
 ghost use Rattle.repr.specs.Packed.{Packed};
 ghost use Rattle.lookahead.specs.Tokens.{has, meet};
 ghost use Rattle.build.specs.States.{reduces, clashes};
-ghost use Rattle.closing.specs.Grammar.{Grammar};
+ghost use Rattle.closing.specs.Grammar.{OfTable};
 ghost use Rattle.closing.specs.Fed.{Flat};
 ghost use Rattle.clashing.specs.Clashes.{Shifted};
 ghost use Rattle.conflict_counts.specs.Reductions.{ReducedAs};
@@ -27,7 +27,7 @@ fn reduction(
     production: usize,
 ) -> u64
     requires { production < grammar.productions }
-    ensures { (T : Table) (terminals : ℕ) (sets : List ℕ) → Grammar T grammar.entry.words.now grammar.entry.productions terminals sets → result ≡ reduces T (take (index_limit * grammar.entry.productions) state.now) production }
+    ensures { (T : Table) (terminals : ℕ) (sets : List ℕ) → OfTable T grammar.entry.words.now grammar.entry.productions terminals sets → result ≡ reduces T (take (index_limit * grammar.entry.productions) state.now) production }
 {
     let item = Item {
         production,
@@ -42,7 +42,7 @@ pub fn reductions(
     grammar: Grammar,
     state: &[u64; Item::LIMIT],
 ) -> [u64; ProductionIndex::LIMIT]
-    ensures { (length result ≡ production_limit) × ((T : Table) (terminals : ℕ) (sets : List ℕ) → Grammar T grammar.entry.words.now grammar.entry.productions terminals sets → ReducedAs T grammar.entry.productions state.now result grammar.entry.productions) }
+    ensures { (length result ≡ production_limit) × ((T : Table) (terminals : ℕ) (sets : List ℕ) → OfTable T grammar.entry.words.now grammar.entry.productions terminals sets → ReducedAs T grammar.entry.productions state.now result grammar.entry.productions) }
 {
     let mut map = [0u64; ProductionIndex::LIMIT];
     for production in 0..grammar.productions {
@@ -81,7 +81,7 @@ fn shift_one(
 // The terminals that the state shifts.
 pub fn shift_set(grammar: Grammar, state: &[u64; Item::LIMIT]) -> TokenSet
     requires flat { Flat state.now }
-    ensures { (T : Table) (terminals : ℕ) (sets : List ℕ) → Grammar T grammar.entry.words.now grammar.entry.productions terminals sets → Shifted T (take (index_limit * grammar.entry.productions) state.now) result.0 }
+    ensures { (T : Table) (terminals : ℕ) (sets : List ℕ) → OfTable T grammar.entry.words.now grammar.entry.productions terminals sets → Shifted T (take (index_limit * grammar.entry.productions) state.now) result.0 }
 {
     let places = ProductionIndex::INDEXES * grammar.productions;
     let mut set = TokenSet::new();
@@ -147,7 +147,7 @@ fn count_reduced(
 // The conflicts of the state.
 pub fn count_state(grammar: Grammar, state: &[u64; Item::LIMIT]) -> usize
     requires flat { Flat state.now }
-    ensures { (result ≤ 1056768) × ((T : Table) (terminals : ℕ) (sets : List ℕ) → Grammar T grammar.entry.words.now grammar.entry.productions terminals sets → result ≡ length (clashes T (take (index_limit * grammar.entry.productions) state.now))) }
+    ensures { (result ≤ 1056768) × ((T : Table) (terminals : ℕ) (sets : List ℕ) → OfTable T grammar.entry.words.now grammar.entry.productions terminals sets → result ≡ length (clashes T (take (index_limit * grammar.entry.productions) state.now))) }
 {
     let reduced = reductions(grammar, state);
     let shifted = shift_set(grammar, state);

@@ -10,7 +10,7 @@ ghost use Rattle.lookahead.specs.Tokens.{members};
 ghost use Rattle.example.specs.Written.{put_at};
 ghost use Rattle.build.specs.States.{clashes};
 ghost use Rattle.build.specs.Built.{clash_words};
-ghost use Rattle.closing.specs.Grammar.{Grammar};
+ghost use Rattle.closing.specs.Grammar.{OfTable};
 ghost use Rattle.closing.specs.Fed.{Flat};
 ghost use Rattle.conflict_counts.specs.Clashed.{pairs_in, clashes_in};
 ghost use Rattle.conflict_words.specs.Tokens.{other_of, token_words};
@@ -147,8 +147,8 @@ pub fn write_state(
     at: usize,
 ) -> usize
     requires flat { Flat state.now × (number < state_limit) }
-    requires by_index { (T : Table) × (terminals : ℕ) × (sets : List ℕ) × Grammar T grammar.now productions terminals sets × (at + length (joined (clash_words number) (clashes T (take (index_limit * productions) state.now))) ≤ length list.old) }
-    ensures { (T : Table) (terminals : ℕ) (sets : List ℕ) → Grammar T grammar.now productions terminals sets → (list.new ≡ put_at at (joined (clash_words number) (clashes T (take (index_limit * productions) state.now))) list.old) × (result ≡ at + length (joined (clash_words number) (clashes T (take (index_limit * productions) state.now)))) }
+    requires by_index { (T : Table) × (terminals : ℕ) × (sets : List ℕ) × OfTable T grammar.now productions terminals sets × (at + length (joined (clash_words number) (clashes T (take (index_limit * productions) state.now))) ≤ length list.old) }
+    ensures { (T : Table) (terminals : ℕ) (sets : List ℕ) → OfTable T grammar.now productions terminals sets → (list.new ≡ put_at at (joined (clash_words number) (clashes T (take (index_limit * productions) state.now))) list.old) × (result ≡ at + length (joined (clash_words number) (clashes T (take (index_limit * productions) state.now)))) }
 {
     let reduced = reductions(Grammar { words: grammar, productions }, state);
     let shifted = shift_set(Grammar { words: grammar, productions }, state);

@@ -2,7 +2,7 @@
 use Rattle.std.specs.Prelude.{◌≡◌, ℕ, ◌+◌, ◌-◌, ◌*◌, ◌^◌, ◌<◌, ◌≤◌, min, Bool, true, false, Option, Some, None, Result, Ok, Err, List, [], length, nat_lt, slice_index, slice_index_or, slice_set}
 use Rattle.repr.specs.Sizes.{index_limit, record_limit}
 use Rattle.repr.specs.Meaning.{Symbol, nonterminal, terminal, Production, Table}
-use Rattle.closing.specs.Grammar.{Grammar}
+use Rattle.closing.specs.Grammar.{OfTable}
 use Rattle.build.specs.Outcome.{sum}
 use Rattle.stored.specs.Stored.{Entry, entries, packed}
 use Rattle.kept_states.specs.Kept.{put_all}
@@ -37,7 +37,7 @@ pub record Search (g : List ℕ) (sizes : Sizes) (sets ws bs : List ℕ) (n : �
   pub start : ℕ
   pub room : ℕ
   pub Rs : List (List ℕ)
-  pub grammar : Grammar T g sizes.productions sizes.terminals sets
+  pub grammar : OfTable T g sizes.productions sizes.terminals sets
   pub started : start < length T.productions
   pub nonterminals_are : sizes.nonterminals ≡ length T.nonterminals
   pub fixed_is : sizes.fixed ≡ 1 + length T.nonterminals + length T.productions + sum (λ (p : Production). length p.symbols) T.productions

@@ -5,7 +5,7 @@
 ghost use Rattle.std.specs.Prelude.{◌≡◌, ℕ, suc, ◌+◌, ◌-◌, ◌*◌, ◌^◌, ◌<◌, ◌≤◌, true, false, List, [], MatchResult, length, take, slice_index, slice_index_or};
 ghost use Rattle.repr.specs.Sizes.{index_limit, item_limit, record_limit, state_limit};
 ghost use Rattle.repr.specs.Meaning.{Table};
-ghost use Rattle.closing.specs.Grammar.{Grammar, Held};
+ghost use Rattle.closing.specs.Grammar.{OfTable, Held};
 ghost use Rattle.build.specs.States.{closure, place};
 ghost use Rattle.stored.specs.Stored.{entries, packed};
 ghost use Rattle.kept_states.specs.Made.{Made};
@@ -82,7 +82,7 @@ pub fn append(
 pub fn close(source: Source, kernel: &Kernel) -> [u64; Item::LIMIT]
     requires held { Held source.grammar.now source.sizes.productions source.sizes.terminals source.first.now }
     requires many_le_record_limit { (kernel.now.many ≤ record_limit) × (kernel.now.many * 5 ≤ length kernel.now.words) × KernelIn kernel.now.words kernel.now.many source.sizes.productions }
-    ensures { (length result ≡ item_limit) × ((T : Table) (M : List ℕ) → Grammar T source.entry.grammar.now source.entry.sizes.productions source.entry.sizes.terminals source.entry.first.now → length M ≡ index_limit * source.entry.sizes.productions → entries kernel.now.words 0 kernel.now.many ≡ packed M → take (index_limit * source.entry.sizes.productions) result ≡ closure T M) }
+    ensures { (length result ≡ item_limit) × ((T : Table) (M : List ℕ) → OfTable T source.entry.grammar.now source.entry.sizes.productions source.entry.sizes.terminals source.entry.first.now → length M ≡ index_limit * source.entry.sizes.productions → entries kernel.now.words 0 kernel.now.many ≡ packed M → take (index_limit * source.entry.sizes.productions) result ≡ closure T M) }
 {
     let sizes = source.sizes;
     let mut state = unpack(&kernel.words, 0, kernel.many);

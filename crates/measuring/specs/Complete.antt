@@ -1,7 +1,7 @@
 -- All states found, as words hold them: what counting and writing them gets, and what is decided at the end. Assumes nothing: these are definitions.
 use Rattle.std.specs.Prelude.{Result, Ok, Err, ℕ, ◌+◌, ◌≤◌, ◌<◌, ◌≡◌, List, length}
 use Rattle.repr.specs.Meaning.{Edge, Table}
-use Rattle.closing.specs.Grammar.{Grammar}
+use Rattle.closing.specs.Grammar.{OfTable}
 use Rattle.build.specs.States.{built, clashes}
 use Rattle.build.specs.Outcome.{sum, records, refused, full, finish}
 use Rattle.kept_states.specs.Made.{Holds}
@@ -20,7 +20,7 @@ pub record Collection (g : List ℕ) (productions : ℕ) (ws bs : List ℕ) (n :
   pub terminals : ℕ
   pub sets : List ℕ
   pub Rs : List (List ℕ)
-  pub grammar : Grammar T g productions terminals sets
+  pub grammar : OfTable T g productions terminals sets
   pub started : start < productions
   pub holds : Holds T start ws bs Rs
   pub many : n ≡ length Rs
@@ -34,7 +34,7 @@ pub record Complete (g : List ℕ) (sizes : Sizes) (ws bs es : List ℕ) (n : �
   pub sets : List ℕ
   pub w : Found
   pub E : List ℕ
-  pub grammar : Grammar T g sizes.productions terminals sets
+  pub grammar : OfTable T g sizes.productions terminals sets
   pub started : start < sizes.productions
   pub counted : Counted T room sizes.nonterminals sizes.fixed sizes.limit
   pub small : sizes.fixed ≤ 65536
