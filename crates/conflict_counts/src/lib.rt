@@ -21,11 +21,7 @@ use lr1_core::Item;
 use repr::{Grammar, ProductionIndex};
 
 // Of one production.
-fn reduction(
-    grammar: Grammar,
-    state: &[u64; Item::LIMIT],
-    production: usize,
-) -> u64
+fn reduction(grammar: Grammar, state: &[u64; Item::LIMIT], production: usize) -> u64
     requires { production < grammar.productions }
     ensures { (T : Table) (terminals : ℕ) (sets : List ℕ) → OfTable T grammar.entry.words.now grammar.entry.productions terminals sets → result ≡ reduces T (take (index_limit * grammar.entry.productions) state.now) production }
 {
@@ -38,10 +34,7 @@ fn reduction(
 }
 
 // Of all.
-pub fn reductions(
-    grammar: Grammar,
-    state: &[u64; Item::LIMIT],
-) -> [u64; ProductionIndex::LIMIT]
+pub fn reductions(grammar: Grammar, state: &[u64; Item::LIMIT]) -> [u64; ProductionIndex::LIMIT]
     ensures { (length result ≡ production_limit) × ((T : Table) (terminals : ℕ) (sets : List ℕ) → OfTable T grammar.entry.words.now grammar.entry.productions terminals sets → ReducedAs T grammar.entry.productions state.now result grammar.entry.productions) }
 {
     let mut map = [0u64; ProductionIndex::LIMIT];
@@ -52,12 +45,7 @@ pub fn reductions(
 }
 
 // The terminal at the cursor of one item, if it has a token, put into the set.
-fn shift_one(
-    grammar: Grammar,
-    place: usize,
-    tokens: u64,
-    set: TokenSet,
-) -> TokenSet
+fn shift_one(grammar: Grammar, place: usize, tokens: u64, set: TokenSet) -> TokenSet
     requires { place < index_limit * grammar.productions }
     ensures { (t : ℕ) → has result.0 t ≡ has set.0 t || (nat_lt t 63 && shifts_at grammar.entry.words.now tokens place t) }
 {

@@ -57,12 +57,7 @@ pub struct Kernel {
 }
 
 // One item, moved over the symbol and put behind the kernel's, if its cursor stands there.
-fn move_one(
-    grammar: Grammar,
-    read: StoredItem,
-    symbol: usize,
-    kernel: &mut Kernel,
-)
+fn move_one(grammar: Grammar, read: StoredItem, symbol: usize, kernel: &mut Kernel)
     requires within { (read.place < index_limit * grammar.productions) × (read.set < 2 ^ 64) }
     requires many_lt_record_limit { (kernel.old.many < record_limit) × (kernel.old.many * 5 + 5 ≤ length kernel.old.words) }
     ensures { Appended grammar.entry.words.now symbol read.place read.set kernel.old.words kernel.new.words kernel.old.many kernel.new.many }
