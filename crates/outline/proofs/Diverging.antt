@@ -12,7 +12,7 @@ use Rattle.lr1_core.specs.Items.{symbol_sets}
 use Rattle.example.specs.Example.{Label, sets_of}
 use Rattle.example.specs.Labels.{labels_in, LabelsFit}
 use Rattle.example.specs.Written.{label_at, Part}
-use Rattle.example.proofs.Labels.{item-production, item_index}
+use Rattle.example.proofs.LabelList.{item-production, item_index}
 use Rattle.example.proofs.Parts.{part_listed, suffix_is}
 use Rattle.first.specs.First.{first0, disjoint}
 use Rattle.outline.specs.Inline.{symbols_at, suffix_at, apart, diverge_by, codes_inline, CodeFits}
