@@ -20,13 +20,13 @@ overflow_add-from-2 c = let q = item_small c.args.self.grammar.words.now c.args.
 
 pub can_shift-requires : goal.can_shift-requires
 can_shift-requires c = let e = c.item-first.ensures in
-    (c.args.self.grammar.packed, item-production c.args.self.grammar.words.now c.args.self.grammar.productions c.args.self.words.now c.args.self.fit 0 (some_label _ c.args.self.fit) _ _ e.0 e.1)
+    item-production c.args.self.grammar.words.now c.args.self.grammar.productions c.args.self.words.now c.args.self.fit 0 (some_label _ c.args.self.fit) _ _ e.0 e.1
 
 pub overflow_add-result : goal.overflow_add-result
 overflow_add-result c = let q = item_small c.args.self.grammar.words.now c.args.self.grammar.productions c.args.self.words.now c.args.self.fit 0 (some_label _ c.args.self.fit) _ _ c.item-first.ensures.0 c.item-first.ensures.1 c.args.self.grammar.packed in omega (arith, q)
 
-pub offset_bounds-grammar-from : goal.offset_bounds-grammar-from
-offset_bounds-grammar-from c = let q = item_small c.args.self.grammar.words.now c.args.self.grammar.productions c.args.self.words.now c.args.self.fit 0 (some_label _ c.args.self.fit) _ _ c.item-first.ensures.0 c.item-first.ensures.1 c.args.self.grammar.packed in omega (arith, q)
+pub offset_bounds-words-from : goal.offset_bounds-words-from
+offset_bounds-words-from c = let q = item_small c.args.self.grammar.words.now c.args.self.grammar.productions c.args.self.words.now c.args.self.fit 0 (some_label _ c.args.self.fit) _ _ c.item-first.ensures.0 c.item-first.ensures.1 c.args.self.grammar.packed in omega (arith, q)
 
 pub slice_bounds-result-end : goal.slice_bounds-result-end
 slice_bounds-result-end c = let e = c.item-first.ensures in

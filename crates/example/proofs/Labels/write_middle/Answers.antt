@@ -13,7 +13,7 @@ copy-requires c = let ps = productions_in c.args.self.grammar.words.now c.args.s
     let at = c.args.at in
     let b = c.args.buffer.now in
     let e = ap length (middle-words ps ws h _ c.cursor-part.ensures c.if-part-gt0.true) in
-    omega (arith, e, c.requires.labels_in_bounds)
+    omega (arith, e, c.requires)
 
 pub returns-then-part-gt0 : goal.returns-then-part-gt0
 returns-then-part-gt0 c = let ps = productions_in c.args.self.grammar.words.now c.args.self.grammar.productions in
@@ -26,7 +26,7 @@ returns-then-part-gt0 c = let ps = productions_in c.args.self.grammar.words.now 
     (c.copy.ensures ∙ ap (λ (l : List ℕ). put_at at l b) (sym e), omega (arith, ap length e, two))
 
 pub prefix-lead-requires : goal.prefix-lead-requires
-prefix-lead-requires c = record { labels_fit = c.args.self.fit; label_in_bounds = some_label _ c.args.self.fit }
+prefix-lead-requires c = some_label _ c.args.self.fit
 
 pub returns-then-lead-gt0 : goal.returns-then-lead-gt0
 returns-then-lead-gt0 c = let ps = productions_in c.args.self.grammar.words.now c.args.self.grammar.productions in
@@ -44,7 +44,7 @@ bounds-buffer-at c = let ps = productions_in c.args.self.grammar.words.now c.arg
     let at = c.args.at in
     let b = c.args.buffer.now in
     let e = mark-words ps ws h _ c.cursor-part.ensures c.if-part-gt0.false _ c.prefix-lead.ensures c.if-lead-gt0.false in
-    omega (arith, ap length e, c.requires.labels_in_bounds)
+    omega (arith, ap length e, c.requires)
 
 pub bounds-buffer-at-2 : goal.bounds-buffer-at-2
 bounds-buffer-at-2 c = let ps = productions_in c.args.self.grammar.words.now c.args.self.grammar.productions in
@@ -53,7 +53,7 @@ bounds-buffer-at-2 c = let ps = productions_in c.args.self.grammar.words.now c.a
     let at = c.args.at in
     let b = c.args.buffer.now in
     let e = mark-words ps ws h _ c.cursor-part.ensures c.if-part-gt0.false _ c.prefix-lead.ensures c.if-lead-gt0.false in
-    simp length-set (omega (arith, ap length e, c.requires.labels_in_bounds))
+    simp length-set (omega (arith, ap length e, c.requires))
 
 pub returns : goal.returns
 returns c = let ps = productions_in c.args.self.grammar.words.now c.args.self.grammar.productions in
@@ -62,6 +62,6 @@ returns c = let ps = productions_in c.args.self.grammar.words.now c.args.self.gr
     let at = c.args.at in
     let b = c.args.buffer.now in
     let e = mark-words ps ws h _ c.cursor-part.ensures c.if-part-gt0.false _ c.prefix-lead.ensures c.if-lead-gt0.false in (
-      stored_two at 2 0 b (omega (arith, ap length e, c.requires.labels_in_bounds)) ∙ ap (λ (l : List ℕ). put_at at l b) (sym e),
+      stored_two at 2 0 b (omega (arith, ap length e, c.requires)) ∙ ap (λ (l : List ℕ). put_at at l b) (sym e),
       omega (arith, ap length e),
     )

@@ -9,10 +9,10 @@ use Rattle.example.proofs.Labels.write_prefixes.Goals as goal
 
 pub loop-label-init : goal.loop-label-init
 loop-label-init c = let ps = productions_in c.args.self.grammar.words.now c.args.self.grammar.productions in
-    turn_start _ _ _ _ (prefix-whole ps c.args.self.words.now c.count-count.result (omega (arith, c.count-count.ensures.0))) c.requires.labels_in_bounds
+    turn_start _ _ _ _ (prefix-whole ps c.args.self.words.now c.count-count.result (omega (arith, c.count-count.ensures.0))) c.requires
 
 pub prefix-part-requires : goal.prefix-part-requires
-prefix-part-requires c = record { labels_fit = c.args.self.fit; label_in_bounds = omega (arith, c.count-count.ensures.0) }
+prefix-part-requires c = omega (arith, c.count-count.ensures.0)
 
 pub copy-requires : goal.copy-requires
 copy-requires c = let ps = productions_in c.args.self.grammar.words.now c.args.self.grammar.productions in

@@ -7,29 +7,23 @@ use Rattle.example.proofs.Reductions.{around-length}
 use Rattle.example.proofs.Walk.{around_few, prefix-step, prefix-left, around-next, around_turn, around-done}
 use Rattle.example.proofs.Labels.write_reductions.Goals as goal
 
-pub prefix_total-start-requires : goal.prefix_total-start-requires
-prefix_total-start-requires c = record { labels_fit = c.args.self.fit }
-
-pub suffix_total-requires : goal.suffix_total-requires
-suffix_total-requires c = record { labels_fit = c.args.self.fit }
-
 pub overflow_sub-end : goal.overflow_sub-end
 overflow_sub-end c = let ps = productions_in c.args.self.grammar.words.now c.args.self.grammar.productions in
     let ws = c.args.self.words.now in
-    omega (arith, length_symbols ps (labels_in ws), c.suffix_total.ensures, c.requires.places_value)
+    omega (arith, length_symbols ps (labels_in ws), c.totals-totals.ensures.1, c.requires.places_value.0)
 
 pub loop-label-init : goal.loop-label-init
 loop-label-init c = let ps = productions_in c.args.self.grammar.words.now c.args.self.grammar.productions in
     let ws = c.args.self.words.now in
     let r = around-length ps c.args.places (labels_in ws) in (
       turn_start _ _ _ _ refl (omega (arith, r, c.requires.labels_in_bounds)),
-      c.prefix_total-start.ensures,
-      omega (arith, length_symbols ps (labels_in ws), c.suffix_total.ensures, c.requires.places_value),
+      c.totals-totals.ensures.0,
+      omega (arith, length_symbols ps (labels_in ws), c.totals-totals.ensures.1, c.requires.places_value.0),
       omega arith,
     )
 
 pub prefix-requires : goal.prefix-requires
-prefix-requires c = record { labels_fit = c.args.self.fit; label_in_bounds = omega (arith, c.count-count.ensures.0, c.loop-label-test.true) }
+prefix-requires c = omega (arith, c.count-count.ensures.0, c.loop-label-test.true)
 
 pub overflow_sub-start : goal.overflow_sub-start
 overflow_sub-start c = let ps = productions_in c.args.self.grammar.words.now c.args.self.grammar.productions in
@@ -40,7 +34,7 @@ overflow_sub-start c = let ps = productions_in c.args.self.grammar.words.now c.a
     omega (arith, q, I.1)
 
 pub suffix-requires : goal.suffix-requires
-suffix-requires c = record { labels_fit = c.args.self.fit; label_in_bounds = omega (arith, c.count-count.ensures.0, c.loop-label-test.true) }
+suffix-requires c = omega (arith, c.count-count.ensures.0, c.loop-label-test.true)
 
 pub overflow_add-end : goal.overflow_add-end
 overflow_add-end c = let ps = productions_in c.args.self.grammar.words.now c.args.self.grammar.productions in
@@ -48,7 +42,7 @@ overflow_add-end c = let ps = productions_in c.args.self.grammar.words.now c.arg
     let I = c.loop-label.invariant in
     let l : c.loop-label.label < length (labels_in ws) = omega (arith, c.count-count.ensures.0, c.loop-label-test.true) in
     let q = around-next ps ws c.args.places c.loop-label.label l _ _ I.1 I.2 _ _ c.prefix.ensures c.suffix.ensures in
-    omega (arith, q, c.requires.within)
+    omega (arith, q, c.requires.places_value.1)
 
 pub nonterminal-requires : goal.nonterminal-requires
 nonterminal-requires c = omega (arith, c.count-count.ensures.0, c.loop-label-test.true)
@@ -62,7 +56,7 @@ put_three-requires c = let ps = productions_in c.args.self.grammar.words.now c.a
     let few = around_few c.args.self.grammar.words.now c.args.self.grammar.productions c.args.self.grammar.packed ws c.args.self.fit in (
       turn_room I.0 (_ ∷ _ ∷ _ ∷ []) _ (around_turn ps ws c.args.places c.loop-label.label l _ _ _ q.0 q.1 c.nonterminal.ensures.0),
       omega (arith, I.1, prefix-left ps ws c.loop-label.label, few),
-      omega (arith, q.1, c.requires.within),
+      omega (arith, q.1, c.requires.places_value.1),
       c.nonterminal.ensures.1,
     )
 

@@ -10,10 +10,10 @@ use Rattle.example.proofs.Labels.write_suffixes.Goals as goal
 pub loop-label-init : goal.loop-label-init
 loop-label-init c = let ps = productions_in c.args.self.grammar.words.now c.args.self.grammar.productions in
     let ws = c.args.self.words.now in
-    (turn_start _ _ _ _ refl c.requires.labels_in_bounds, omega (arith, c.count-count.ensures.0))
+    (turn_start _ _ _ _ refl c.requires, omega (arith, c.count-count.ensures.0))
 
 pub suffix-part-requires : goal.suffix-part-requires
-suffix-part-requires c = record { labels_fit = c.args.self.fit; label_in_bounds = omega (arith, c.count-count.ensures.0, c.loop-label-test.true) }
+suffix-part-requires c = omega (arith, c.count-count.ensures.0, c.loop-label-test.true)
 
 pub copy-requires : goal.copy-requires
 copy-requires c = let ps = productions_in c.args.self.grammar.words.now c.args.self.grammar.productions in
