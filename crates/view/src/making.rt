@@ -140,7 +140,16 @@ pub fn check_view(
             return false;
         }
         view_edge(
-            grammar, graph, k, production, index, owners, codes, sources, older, latest,
+            grammar,
+            graph,
+            k,
+            production,
+            index,
+            owners,
+            codes,
+            sources,
+            older,
+            latest,
         );
     }
     true
