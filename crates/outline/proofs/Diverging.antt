@@ -123,7 +123,7 @@ module _ (g : List ℕ) (n : ℕ) (P : Packed g n) (code : ℕ) (F : CodeFits (p
       let a = F.production in
       let b = F.index in
       let c = ap length own_symbols in
-      record { some_label = omega arith; few = omega arith; whole = (1, refl); each = (record { nonterminal = omega arith; production = omega arith; index = omega arith }, tt) }
+      record { some_label = omega arith; few = omega arith; whole = refl; each = (record { nonterminal = omega arith; production = omega arith; index = omega arith }, tt) }
 
   at_first : (0 < length (labels_in alone)) × (label_at alone 0 ≡ record { nonterminal = 0; production = p; index = i })
   unfolding labels_in label_at

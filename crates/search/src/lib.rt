@@ -70,7 +70,10 @@ pub fn write_trial(grammar: Grammar, view: View, words: &[u16], buffer: &mut [u1
 {
     let mut room = [0u16; Example::ALL_LABEL_WORDS];
     let size = read_labels(view, words, &mut room);
-    let labels = Labels { grammar, words: &room[..size] };
+    let labels = Labels {
+        grammar,
+        words: &room[..size],
+    };
     labels.write_example(buffer);
 }
 
@@ -81,7 +84,10 @@ fn meets(grammar: Grammar, sets: &FirstSets, set: TokenSet, view: View, words: &
 {
     let mut room = [0u16; Example::ALL_LABEL_WORDS];
     let size = read_labels(view, words, &mut room);
-    let labels = Labels { grammar, words: &room[..size] };
+    let labels = Labels {
+        grammar,
+        words: &room[..size],
+    };
     let expected = labels.first0(sets);
     let answer = expected.answer;
     answer.meets(sets.terminals, set)
