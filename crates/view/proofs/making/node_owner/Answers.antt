@@ -1,6 +1,5 @@
 use Rattle.repr.specs.Packed.{productions_in}
-use Rattle.view.proofs.Owner.{owner_nonterminal, owner_below, owner_place, owner_item}
-use native.Mathlib.Omega.{arith}
+use Rattle.view.proofs.Owner.{owner_nonterminal, owner_below, owner_item}
 use Rattle.view.proofs.making.node_owner.Goals as goal
 
 pub returns-then-node-eq0 : goal.returns-then-node-eq0
