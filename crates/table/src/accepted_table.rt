@@ -8,10 +8,11 @@ ghost use Rattle.table.specs.Checked.{Accepted};
 ghost use Rattle.table.specs.Decoded.{meaning, items_from, edges_from, productions_from};
 ghost use Rattle.table.specs.Refusals.{check_of};
 ghost use Rattle.table.specs.Index.{CountsOf, ItemIndex, EdgeIndex, ProductionHead, ItemRead, EdgeRead, ProductionRead};
-
 ghost use Rattle.table.specs.Written.{symbols_from, SymbolIndex, SymbolRead, OwnerStored, OwnersIn, SymbolsStored, ProductionStored};
 
-use crate::{Counts, EdgeRecord, ItemRecord, ProductionRecord, word};
+use crate::{
+    Counts, EdgeIter, EdgeRecord, ItemIter, ItemRecord, ProductionIter, ProductionRecord, word,
+};
 use repr::ProductionIndex;
 
 // A symbol, and the index of the next.
@@ -54,12 +55,25 @@ impl<'a> AcceptedTable<'a> {
     pub fn item(self, at: usize) -> ItemRecord
         requires some { at ≡ 0 → ⊥ }
         requires on { ItemIndex self.words.now at }
-        ensures { ItemRead self.entry.words.now at result.next result.production result.index }
+        ensures read { ItemRead self.entry.words.now at result.next result.production result.index }
+        ensures at { result.at ≡ at }
     {
         ItemRecord {
+            at,
             next: word(self.words, at, 0),
             production: word(self.words, at, 1),
             index: word(self.words, at, 2),
+        }
+    }
+
+    // A state's items.
+    pub fn items(self, state: usize) -> ItemIter<'a>
+        requires { state < length (meaning self.words.now).states }
+        ensures { (result.table.words.now ≡ self.entry.words.now) × (items_from self.entry.words.now result.at ≡ (state_at (meaning self.entry.words.now) state).items) }
+    {
+        ItemIter {
+            table: self,
+            at: self.first_item(state),
         }
     }
 
@@ -86,6 +100,17 @@ impl<'a> AcceptedTable<'a> {
         }
     }
 
+    // A state's edges.
+    pub fn edges(self, state: usize) -> EdgeIter<'a>
+        requires { state < length (meaning self.words.now).states }
+        ensures { (result.table.words.now ≡ self.entry.words.now) × (edges_from self.entry.words.now result.at ≡ (state_at (meaning self.entry.words.now) state).edges) }
+    {
+        EdgeIter {
+            table: self,
+            at: self.first_edge(state),
+        }
+    }
+
     // The index of a nonterminal's first production.
     pub fn first_production(self, nonterminal: usize) -> usize
         requires { nonterminal < length (meaning self.words.now).nonterminals }
@@ -105,6 +130,17 @@ impl<'a> AcceptedTable<'a> {
         ProductionRecord {
             next: word(self.words, at, 0),
             production: at - (1 + nonterminals + states),
+        }
+    }
+
+    // A nonterminal's productions.
+    pub fn productions(self, nonterminal: usize) -> ProductionIter<'a>
+        requires { nonterminal < length (meaning self.words.now).nonterminals }
+        ensures { (result.table.words.now ≡ self.entry.words.now) × (productions_from self.entry.words.now result.at ≡ get_or (meaning self.entry.words.now).nonterminals nonterminal []) }
+    {
+        ProductionIter {
+            table: self,
+            at: self.first_production(nonterminal),
         }
     }
 
@@ -134,12 +170,9 @@ impl<'a> AcceptedTable<'a> {
         requires { (length grammar.old ≡ grammar_room) × (nonterminal < length (meaning self.words.now).nonterminals) }
         ensures { OwnerStored self.entry.words.now grammar.old grammar.new nonterminal }
     {
-        let mut at = self.first_production(nonterminal);
-        while at != 0 {
-            let read = self.production(at);
+        for read in self.productions(nonterminal) {
             let owned = read.production;
             grammar[owned * ProductionIndex::WORDS] = nonterminal as u16;
-            at = read.next;
         }
     }
 

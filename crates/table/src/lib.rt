@@ -3,6 +3,7 @@
 #![tactic(auto)]
 
 mod accepted_table;
+mod iter;
 
 ghost use Rattle.std.specs.Prelude.{◌≡◌, List, [], ◌∷◌, ℕ, ◌+◌, ◌*◌, ◌≤◌, ◌<◌, length, get_or};
 ghost use Rattle.repr.specs.Sizes.{record_limit, grammar_room};
@@ -17,6 +18,7 @@ ghost use Rattle.table.specs.Index.{CountsOf, ItemIndex, EdgeIndex, ProductionHe
 ghost use Rattle.table.specs.Written.{symbols_from, SymbolIndex, SymbolRead, OwnerStored, OwnersIn, SymbolsStored, ProductionStored};
 
 pub use accepted_table::AcceptedTable;
+pub use iter::{EdgeIter, ItemIter, ProductionIter};
 use repr::ProductionIndex;
 
 // Word k of record r.
@@ -64,9 +66,10 @@ pub fn first_item(table: &[u16], state: usize) -> usize
     AcceptedTable { words: table }.first_item(state)
 }
 
-// An item, and the index of the next.
+// An item, the index of its record, and the index of the next.
 #[derive(Clone, Copy)]
 pub struct ItemRecord {
+    pub at: usize,
     pub next: usize,
     pub production: usize,
     pub index: usize,

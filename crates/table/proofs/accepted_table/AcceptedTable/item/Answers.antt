@@ -1,3 +1,4 @@
+use mathlib.Core.Path.{refl}
 use native.Mathlib.Omega.{arith}
 use Rattle.table.proofs.Accepted.{accepts}
 use Rattle.table.proofs.Indexes.{item-asked, item-read}
@@ -13,4 +14,4 @@ pub word-requires-3 : goal.word-requires-3
 word-requires-3 c = item-asked _ c.args.self.accepted _ _ c.requires.some c.requires.on (omega arith)
 
 pub returns : goal.returns
-returns c = item-read _ (accepts _ c.args.self.accepted) _ _ _ _ c.requires.some c.requires.on c.word.ensures.0 c.word-2.ensures.0 c.word-3.ensures.0
+returns c = record { read = item-read _ (accepts _ c.args.self.accepted) _ _ _ _ c.requires.some c.requires.on c.word.ensures.0 c.word-2.ensures.0 c.word-3.ensures.0; at = refl }

@@ -1,10 +1,6 @@
-use lib.ListN.{length}
-use Rattle.table.specs.Decoded.{productions_from}
+use mathlib.Core.Path.{◌≡◌}
 use Rattle.table.proofs.Written.{Owning}
 use Rattle.table.proofs.accepted_table.AcceptedTable.read_owner.Given as goal
 
-abbrev pub invariant-loop-at : goal.invariant-loop-at
-invariant-loop-at l = Owning l.self.words.now l.initial.grammar l.grammar l.nonterminal l.at
-
-abbrev pub decreases-loop-at : goal.decreases-loop-at
-decreases-loop-at l = length (productions_from l.self.words.now l.at)
+abbrev pub invariant-loop-read : goal.invariant-loop-read
+invariant-loop-read l = (l.read-iterator.table.words.now ≡ l.self.words.now) × Owning l.self.words.now l.initial.grammar l.grammar l.nonterminal l.read-iterator.at
