@@ -82,8 +82,7 @@ fn same_production(grammar: Grammar, p: usize, q: usize) -> bool
     requires { (p < grammar.productions) × (q < grammar.productions) }
     ensures { result ≡ is_same_production (productions_in grammar.entry.words.now grammar.entry.productions) p q }
 {
-    word(grammar.words, p * ProductionIndex::WORDS) == word(grammar.words, q * ProductionIndex::WORDS)
-        && same_label(grammar, p, 0, q, 0)
+    grammar.owner(p) == grammar.owner(q) && same_label(grammar, p, 0, q, 0)
 }
 
 // The least production of the same nonterminal and symbols.

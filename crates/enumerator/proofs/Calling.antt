@@ -1,6 +1,7 @@
 -- One call of a list of calls (specs/Calls), over a listing that opening gave and words that fit it: the graph and the scratch are lent whole or only a beginning of them. Assumes nothing.
 use Rattle.std.proofs.Common.{◌≡◌, ℕ, zero, suc, ◌-◌, ◌≤◌, Bool, true, false, not, ◌&&◌, eqb, leb, List, ◌∷◌, length, take, drop, refl, ap, ◌∙◌, arith, length-take, leb-true}
 use mathlib.Core.Bool.{and-false}
+use Rattle.repr.specs.Reply.{answered, refused}
 use Rattle.repr.specs.Sizes.{graph_room, scratch_words, trial_limit, example_room}
 use Rattle.repr.specs.Meaning.{Item}
 use Rattle.table.specs.Decoded.{meaning}
@@ -15,7 +16,7 @@ use Rattle.enumerator.specs.Opening.{listing, Ready}
 use Rattle.enumerator.specs.Behind.{trials_in, Fit}
 use Rattle.enumerator.specs.Lookahead.{Lookahead}
 use Rattle.enumerator.specs.declared.Listing.{Listing}
-use Rattle.enumerator.specs.declared.Advanced.TheVariants.{End, Refused}
+use Rattle.enumerator.specs.declared.Advanced.TheVariants.{End}
 use Rattle.enumerator.proofs.Nodes.{and_left, and_right}
 use Rattle.enumerator.proofs.Short.{short_trial}
 use Rattle.enumerator.proofs.Edges.{few_edges}
@@ -89,7 +90,7 @@ module _ (t : List ℕ) (i : Item) (ahead : Lookahead) (g : List ℕ) (R : Ready
 
   module _ (ws₀ : List ℕ) (k : Lent) (c : ℕ) (ws : List ℕ) (len : length ws ≡ length ws₀) where
     pub call_short : (o : Bool) → enough (lengths g ws₀ k) ≡ false
-        → called t g (listing i ahead c o) ws k ≡ outcome (Refused 11 0) (listing i ahead c o) (take k.scratch ws) k.buffer
+        → called t g (listing i ahead c o) ws k ≡ outcome (refused 11 0) (listing i ahead c o) (take k.scratch ws) k.buffer
     unfolding start_of
     call_short o e =
         called_in (listing i ahead c o) ws k
@@ -112,7 +113,7 @@ module _ (t : List ℕ) (i : Item) (ahead : Lookahead) (g : List ℕ) (R : Ready
       scratch_lent : scratch_words ≤ k.scratch
       scratch_lent = let a = length-take k.scratch ws in omega (arith, lent_parts.1)
 
-      pub call_ended : called t g (listing i ahead c false) ws k ≡ outcome End (listing i ahead c false) (take k.scratch ws) k.buffer
+      pub call_ended : called t g (listing i ahead c false) ws k ≡ outcome (answered End) (listing i ahead c false) (take k.scratch ws) k.buffer
       unfolding start_of lost
       call_ended =
           called_in (listing i ahead c false) ws k

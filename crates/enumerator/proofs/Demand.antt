@@ -1,5 +1,6 @@
 -- Demand 3 of document 01, whole (`Demand` of specs/Demand): over any list of calls, refused ones included, between one example and the next no path is passed over. Assumes nothing.
 use Rattle.std.proofs.Common.{◌≡◌, ℕ, ◌-◌, Bool, true, false, List, [], ◌∷◌, ◌++◌, map, length, drop, refl, ap, ◌∙◌}
+use Rattle.repr.specs.Reply.{Reply, answered}
 use Rattle.repr.specs.Sizes.{trial_limit}
 use Rattle.repr.specs.Meaning.{Item}
 use Rattle.table.specs.Decoded.{meaning}
@@ -15,13 +16,12 @@ use Rattle.enumerator.specs.Demand.{Demand}
 use Rattle.enumerator.specs.Lookahead.{Lookahead}
 use Rattle.enumerator.specs.declared.Listing.{Listing}
 use Rattle.enumerator.specs.declared.Advanced.{Advanced}
-use Rattle.enumerator.specs.declared.Opened.TheVariants.{Listing as Opens}
 use Rattle.enumerator.proofs.Opening.{opened, ready_small}
 use Rattle.enumerator.proofs.Calling.{hands_in, says_in}
 use Rattle.enumerator.proofs.Moving.{call_moves}
 use Rattle.enumerator.proofs.Handed.{handed_out}
 
-goes : (t g : List ℕ) (l : Listing) (ws : List ℕ) (k : Lent) (ks : List Lent) (a : Advanced) (l' : Listing) (s b : List ℕ) → called t g l ws k ≡ outcome a l' s b
+goes : (t g : List ℕ) (l : Listing) (ws : List ℕ) (k : Lent) (ks : List Lent) (a : Reply Advanced) (l' : Listing) (s b : List ℕ) → called t g l ws k ≡ outcome a l' s b
     → calls t g l ws (k ∷ ks) ≡ record { answer = a; count = l'.count; buffer = b } ∷ calls t g l' (s ++ drop k.scratch ws) ks
 unfolding calls left_by listing_by scratch_by
 goes t g l ws k ks a l' s b e = rw e
@@ -70,7 +70,7 @@ module _ (t : List ℕ) (i : Item) (ahead : Lookahead) (g : List ℕ) (R : Ready
       rw (M.outcomes, ← x.0, ← x.1) (behind ks s.count s.is_open (M.scratch ++ drop k.scratch ws) M.fit M.long)
 
 -- THE demand: from the listing that opening gives, over any scratch and any list of calls
-pub demand : (t : List ℕ) (i : Item) (ahead : Lookahead) (g : List ℕ) (l : Listing) → open_of t i ahead g ≡ Opens l → (scratch : List ℕ) (cs : List Lent) → Demand t i ahead g l scratch cs
+pub demand : (t : List ℕ) (i : Item) (ahead : Lookahead) (g : List ℕ) (l : Listing) → open_of t i ahead g ≡ answered l → (scratch : List ℕ) (cs : List Lent) → Demand t i ahead g l scratch cs
 unfolding Fit plain_lister run
 demand t i ahead g l e scratch cs =
     let r = opened t i ahead g l e in

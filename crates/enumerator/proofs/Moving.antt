@@ -1,6 +1,7 @@
 -- One call on both sides: what it answers and leaves is what the plain lister says, and the listing that it leaves fits the words that it leaves. Assumes nothing.
 use Rattle.std.proofs.Common.{◌≡◌, ℕ, suc, ◌-◌, ◌≤◌, Bool, true, false, List, ◌∷◌, ◌++◌, length, take, drop, refl, ap, ◌∙◌, arith, take-append-drop}
 use mathlib.Core.Option.{Option}
+use Rattle.repr.specs.Reply.{Reply, answered, refused}
 use Rattle.repr.specs.Sizes.{scratch_words, trial_limit}
 use Rattle.slices.proofs.Lent.{length-in_front, length-zeroed}
 use Rattle.slices.specs.Lent.{in_front, zeroed}
@@ -17,7 +18,7 @@ use Rattle.enumerator.specs.Opening.{listing, Ready}
 use Rattle.enumerator.specs.Behind.{trials_in, Fit}
 use Rattle.enumerator.specs.Lookahead.{Lookahead}
 use Rattle.enumerator.specs.declared.Advanced.{Advanced}
-use Rattle.enumerator.specs.declared.Advanced.TheVariants.{Example, End, Refused}
+use Rattle.enumerator.specs.declared.Advanced.TheVariants.{Example, End}
 use Rattle.enumerator.proofs.Nodes.{and_left}
 use Rattle.enumerator.proofs.Short.{short_trial}
 use Rattle.enumerator.proofs.After.{drop_in}
@@ -33,7 +34,7 @@ hands-example T es a p e = and_left (is_example_in (ends_of es) p) (passes T es 
 
 -- a call that answers and leaves what the plain lister says, u its answer and s its state after
 pub record Moves (t : List ℕ) (i : Item) (ahead : Lookahead) (g ws₀ : List ℕ) (k : Lent) (c : ℕ) (o : Bool) (ws : List ℕ) (u : Out) (s : Plain) : Type 0 where
-  pub answer : Advanced
+  pub answer : Reply Advanced
   pub scratch : List ℕ
   pub buffer : List ℕ
   pub outcomes : called t g (listing i ahead c o) ws k ≡ outcome answer (listing i ahead s.count s.is_open) scratch buffer
@@ -53,7 +54,7 @@ module _ (t : List ℕ) (i : Item) (ahead : Lookahead) (g : List ℕ) (R : Ready
       let u = words_long p (omega arith) in
       let w = in_front (words_of p) (take k.scratch ws) in
       record {
-        answer = Example;
+        answer = answered Example;
         scratch = w;
         buffer = in_front (says_in t g p) k.buffer;
         outcomes = e;
@@ -62,7 +63,7 @@ module _ (t : List ℕ) (i : Item) (ahead : Lookahead) (g : List ℕ) (R : Ready
         left = refl;
       }
   found h r (out n) f e = record {
-    answer = End;
+    answer = answered End;
     scratch = zeroed scratch_words (take k.scratch ws);
     buffer = k.buffer;
     outcomes = e;
@@ -71,7 +72,7 @@ module _ (t : List ℕ) (i : Item) (ahead : Lookahead) (g : List ℕ) (R : Ready
     left = refl;
   }
   found h r over f e = record {
-    answer = Refused 13 0;
+    answer = refused 13 0;
     scratch = zeroed scratch_words (take k.scratch ws);
     buffer = k.buffer;
     outcomes = e;
@@ -81,7 +82,7 @@ module _ (t : List ℕ) (i : Item) (ahead : Lookahead) (g : List ℕ) (R : Ready
   }
 
   -- a call that leaves listing and words
-  stays : (o : Bool) → Fit i g ws₀ c o ws → (a : Advanced) (u : Out) → called t g (listing i ahead c o) ws k ≡ outcome a (listing i ahead c o) (take k.scratch ws) k.buffer
+  stays : (o : Bool) → Fit i g ws₀ c o ws → (a : Reply Advanced) (u : Out) → called t g (listing i ahead c o) ws k ≡ outcome a (listing i ahead c o) (take k.scratch ws) k.buffer
       → record { answer = a; count = c; buffer = k.buffer } ≡ left_of k u → Moves t i ahead g ws₀ k c o ws u (record { count = c; is_open = o })
   stays o f a u e l =
       let w = take-append-drop k.scratch ws in
@@ -91,8 +92,8 @@ module _ (t : List ℕ) (i : Item) (ahead : Lookahead) (g : List ℕ) (R : Ready
       → Moves t i ahead g ws₀ k c o ws (plain_out (hands_in t ahead g) (says_in t g) (trials_in i g) b o (record { count = c; is_open = o }))
       (plain_then (hands_in t ahead g) (says_in t g) (trials_in i g) b o (record { count = c; is_open = o }))
   unfolding plain_out plain_then plain_find left_of
-  moves false e o f = stays o f (Refused 11 0) _ (call_short t i ahead g R ws₀ k c ws len o e) refl
-  moves true e false f = stays false f End _ (call_ended t i ahead g R ws₀ k c ws len e) refl
+  moves false e o f = stays o f (refused 11 0) _ (call_short t i ahead g R ws₀ k c ws len o e) refl
+  moves true e false f = stays false f (answered End) _ (call_ended t i ahead g R ws₀ k c ws len e) refl
   moves true e true f =
       found (lent_parts t i ahead g R ws₀ k c ws len e).1 (fit_rest t i ahead g R ws₀ c true ws f) (search (hands_in t ahead g) (trial_limit - c) c (drop c (trials_in i g)))
       (finds (hands_in t ahead g) (trials_in i g) (trial_limit - c) c (drop c (trials_in i g)) refl (fit_count t i ahead g R ws₀ c ws f))

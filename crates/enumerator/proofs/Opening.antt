@@ -1,6 +1,7 @@
 -- When opening gives a listing (specs/Advance), and which. Assumes nothing.
 use Rattle.std.proofs.Common.{◌≡◌, ℕ, ◌≤◌, true, leb, List, length, refl, ◌∙◌, arith, le-leb, leb-true}
 use mathlib.Core.Option.{Option}
+use Rattle.repr.specs.Reply.{Reply, answered, refused}
 use Rattle.repr.specs.Sizes.{graph_room}
 use Rattle.repr.specs.Meaning.{Item, Table, TableFits}
 use Rattle.repr.proofs.Lists.{cases}
@@ -16,8 +17,6 @@ use Rattle.enumerator.specs.Opening.{listing, Ready}
 use Rattle.enumerator.specs.Advance.{set_of, ahead_fits, lent_graph_fits, asked, open_in, open_by, open_of}
 use Rattle.enumerator.specs.Lookahead.{Lookahead}
 use Rattle.enumerator.specs.declared.Listing.{Listing}
-use Rattle.enumerator.specs.declared.Opened.{Opened}
-use Rattle.enumerator.specs.declared.Opened.TheVariants.{Listing as Opens, Refused as NotOpened}
 use Rattle.enumerator.proofs.Nodes.{and_both}
 use Rattle.enumerator.proofs.Edges.{small_of}
 use Rattle.enumerator.proofs.Taken.{fits_long, asked_graph}
@@ -36,11 +35,11 @@ ready t i ahead g a f s l x n = record {
   node = n;
 }
 
-pub opens : (t : List ℕ) (i : Item) (ahead : Lookahead) (g : List ℕ) → Ready t i ahead g → open_of t i ahead g ≡ Opens (listing i ahead 0 true)
+pub opens : (t : List ℕ) (i : Item) (ahead : Lookahead) (g : List ℕ) → Ready t i ahead g → open_of t i ahead g ≡ answered (listing i ahead 0 true)
 unfolding open_of open_by open_in
 opens t i ahead g R = rw (R.accepted, R.asks, le-leb graph_room (length g) R.long, R.node, open_in)
 
-open_in_lem : (T : Table) (i : Item) (ahead : Lookahead) (g : List ℕ) (l : Listing) → open_in i ahead g T ≡ Opens l
+open_in_lem : (T : Table) (i : Item) (ahead : Lookahead) (g : List ℕ) (l : Listing) → open_in i ahead g T ≡ answered l
     → (asked T i (set_of ahead) g ≡ true) × (leb graph_room (length g) ≡ true) × (is_node_of (at_item i) (edges_in g) ≡ true) × (l ≡ listing i ahead 0 true)
 unfolding open_in
 open_in_lem T i ahead g l e =
@@ -49,21 +48,21 @@ open_in_lem T i ahead g l e =
     cases (leb graph_room (length g))
     (λ b.
     cases (is_node_of (at_item i) (edges_in g))
-    (λ c. let z : ◌≡◌ {A = Opened} (Opens (listing i ahead 0 true)) (Opens l) = rw (a, b, c, open_in) at e in (a, b, c, cc))
-    (λ c. let z : ◌≡◌ {A = Opened} (NotOpened 15 0) (Opens l) = rw (a, b, c, open_in) at e in let y : ◌≡◌ {A = ℕ} 0 1 = cc in absurd (omega arith)))
-    (λ b. let z : ◌≡◌ {A = Opened} (NotOpened 11 0) (Opens l) = rw (a, b, open_in) at e in let y : ◌≡◌ {A = ℕ} 0 1 = cc in absurd (omega arith)))
-    (λ a. let z : ◌≡◌ {A = Opened} (NotOpened 9 0) (Opens l) = rw (a, open_in) at e in let y : ◌≡◌ {A = ℕ} 0 1 = cc in absurd (omega arith))
+    (λ c. let z : ◌≡◌ {A = Reply Listing} (answered (listing i ahead 0 true)) (answered l) = rw (a, b, c, open_in) at e in (a, b, c, cc))
+    (λ c. let z : ◌≡◌ {A = Reply Listing} (refused 15 0) (answered l) = rw (a, b, c, open_in) at e in let y : ◌≡◌ {A = ℕ} 0 1 = cc in absurd (omega arith)))
+    (λ b. let z : ◌≡◌ {A = Reply Listing} (refused 11 0) (answered l) = rw (a, b, open_in) at e in let y : ◌≡◌ {A = ℕ} 0 1 = cc in absurd (omega arith)))
+    (λ a. let z : ◌≡◌ {A = Reply Listing} (refused 9 0) (answered l) = rw (a, open_in) at e in let y : ◌≡◌ {A = ℕ} 0 1 = cc in absurd (omega arith))
 
 -- a listing that opening gives is fresh
-pub opened : (t : List ℕ) (i : Item) (ahead : Lookahead) (g : List ℕ) (l : Listing) → open_of t i ahead g ≡ Opens l → Ready t i ahead g × (l ≡ listing i ahead 0 true)
+pub opened : (t : List ℕ) (i : Item) (ahead : Lookahead) (g : List ℕ) (l : Listing) → open_of t i ahead g ≡ answered l → Ready t i ahead g × (l ≡ listing i ahead 0 true)
 unfolding open_of open_by
 opened t i ahead g l e = by (check_of t) refl e
   where
-    by : (k : Checked) → check_of t ≡ k → open_by t i ahead g k ≡ Opens l → Ready t i ahead g × (l ≡ listing i ahead 0 true)
+    by : (k : Checked) → check_of t ≡ k → open_by t i ahead g k ≡ answered l → Ready t i ahead g × (l ≡ listing i ahead 0 true)
     by Accepted a f =
         let r = open_in_lem (meaning t) i ahead g l f in
         (record { accepted = a; asks = r.0; long = leb-true graph_room (length g) r.1; node = r.2 }, r.3)
-    by (NotAccepted n r) a f = let z : ◌≡◌ {A = Opened} (NotOpened n r) (Opens l) = f in let y : ◌≡◌ {A = ℕ} 0 1 = cc in absurd (omega arith)
+    by (NotAccepted n r) a f = let z : ◌≡◌ {A = Reply Listing} (refused n r) (answered l) = f in let y : ◌≡◌ {A = ℕ} 0 1 = cc in absurd (omega arith)
 
 -- over an accepted table a graph that is asked for comes from nonterminals below 32, so that the trials are all paths (`complete` of proofs/Exact)
 pub asked_small : (T : Table) (i : Item) (a : Option ℕ) (g : List ℕ) → TableFits T → graph_room ≤ length g → asked T i a g ≡ true → Small (ends_of (edges_in g))

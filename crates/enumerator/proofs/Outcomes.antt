@@ -1,5 +1,6 @@
 -- The ways through a call of `advance` (specs/Advance) that is asked rightly. Assumes nothing.
 use Rattle.std.proofs.Common.{◌≡◌, ℕ, ◌-◌, Bool, true, false, List, length, sym, refl, true≢false}
+use Rattle.repr.specs.Reply.{answered, refused}
 use Rattle.repr.specs.Sizes.{trial_limit}
 use Rattle.repr.specs.Meaning.{Table}
 use Rattle.trace_graph.specs.Graph.{at_item, is_node_of}
@@ -8,7 +9,7 @@ use Rattle.enumerator.specs.Trials.{ends_of, trials}
 use Rattle.enumerator.specs.Lister.{enough, hands, search}
 use Rattle.enumerator.specs.Advance.{outcome, set_of, start_of, asked, found_outcome, rest_of, lost, advance_in}
 use Rattle.enumerator.specs.declared.Listing.{Listing}
-use Rattle.enumerator.specs.declared.Advanced.TheVariants.{End, Refused}
+use Rattle.enumerator.specs.declared.Advanced.TheVariants.{End}
 
 -- by a fact that speaks of the whole listing, since `rw` would change the listing itself
 branch : {A : Type 0} (o : Bool) (x y : A) → o ≡ true → ◌≡◌ {A = A} (elim o [ true ↦ x | false ↦ y ]) x
@@ -22,14 +23,14 @@ branch_no false x y e = refl
 module _ (g : List ℕ) (l : Listing) (scratch buffer : List ℕ) (T : Table) (a : asked T (start_of l) (set_of l.lookahead) g ≡ true) where
   -- lent too little
   pub advance_short : enough (record { graph = length g; scratch = length scratch; buffer = length buffer }) ≡ false
-      → advance_in g l scratch buffer T ≡ outcome (Refused 11 0) l scratch buffer
+      → advance_in g l scratch buffer T ≡ outcome (refused 11 0) l scratch buffer
   unfolding advance_in
   advance_short e = rw (a, e, advance_in)
 
   module _ (e : enough (record { graph = length g; scratch = length scratch; buffer = length buffer }) ≡ true)
       (k : lost (edges_in g) l scratch ≡ false) (n : is_node_of (at_item (start_of l)) (edges_in g) ≡ true) where
     -- ended before
-    pub advance_ended : l.is_open ≡ false → advance_in g l scratch buffer T ≡ outcome End l scratch buffer
+    pub advance_ended : l.is_open ≡ false → advance_in g l scratch buffer T ≡ outcome (answered End) l scratch buffer
     unfolding advance_in
     advance_ended o = rw (a, e, k, n, advance_in) (branch_no l.is_open _ _ o)
 

@@ -1,6 +1,7 @@
 -- What opening and `advance` answer and leave, part 6 of document 01. Assumes nothing: these are definitions.
 use Rattle.std.specs.Prelude.{ℕ, zero, suc, ◌-◌, ◌^◌, Bool, true, false, not, ◌&&◌, List, length, ◌==◌, nat_le, nat_lt}
 use Rattle.std.proofs.Math.Option.{Option, none, some}
+use Rattle.repr.specs.Reply.{Reply, answered, refused}
 use Rattle.repr.specs.Sizes.{graph_room, scratch_words, trial_limit}
 use Rattle.slices.specs.Lent.{in_front, zeroed}
 use Rattle.repr.specs.Meaning.{Item, Table}
@@ -17,13 +18,11 @@ use Rattle.enumerator.specs.Lookahead.{Lookahead}
 use Rattle.std.specs.Prelude.{None, Some}
 use Rattle.enumerator.specs.declared.Listing.{Listing}
 use Rattle.enumerator.specs.declared.Advanced.{Advanced}
-use Rattle.enumerator.specs.declared.Advanced.TheVariants.{Example, End, Refused}
-use Rattle.enumerator.specs.declared.Opened.{Opened}
-use Rattle.enumerator.specs.declared.Opened.TheVariants.{Listing as Opens, Refused as NotOpened}
+use Rattle.enumerator.specs.declared.Advanced.TheVariants.{Example, End}
 
 -- answer, listing, scratch words and buffer words after a call
 pub data Outcome : Type 0 where
-  outcome : Advanced → Listing → List ℕ → List ℕ → Outcome
+  outcome : Reply Advanced → Listing → List ℕ → List ℕ → Outcome
 
 unfoldable pub set_of : Lookahead → Option ℕ
 set_of None = none
@@ -48,9 +47,9 @@ unfoldable pub moved : Listing → ℕ → Bool → Listing
 moved l n o = record { production = l.production; index = l.index; lookahead = l.lookahead; count = n; is_open = o }
 
 unfoldable pub found_outcome : Table → List TraceEdge → Listing → List ℕ → List ℕ → Found → Outcome
-found_outcome T es l scratch buffer (hit n p) = outcome Example (moved l n true) (in_front (words_of p) scratch) (in_front (says T es p) buffer)
-found_outcome T es l scratch buffer (out n) = outcome End (moved l n false) (zeroed scratch_words scratch) buffer
-found_outcome T es l scratch buffer over = outcome (Refused 13 0) (moved l trial_limit false) (zeroed scratch_words scratch) buffer
+found_outcome T es l scratch buffer (hit n p) = outcome (answered Example) (moved l n true) (in_front (words_of p) scratch) (in_front (says T es p) buffer)
+found_outcome T es l scratch buffer (out n) = outcome (answered End) (moved l n false) (zeroed scratch_words scratch) buffer
+found_outcome T es l scratch buffer over = outcome (refused 13 0) (moved l trial_limit false) (zeroed scratch_words scratch) buffer
 
 -- where an open listing goes on: at count 0 before all trials, whatever the words hold; else after the words' trial
 unfoldable pub rest_of : ℕ → List ℕ → List Path → List Path
@@ -65,15 +64,15 @@ unfoldable pub advance_in : List ℕ → Listing → List ℕ → List ℕ → T
 advance_in g l scratch buffer T =
     let es = edges_in g in
     elim (asked T (start_of l) (set_of l.lookahead) g) [
-      | false ↦ outcome (Refused 9 0) l scratch buffer
+      | false ↦ outcome (refused 9 0) l scratch buffer
       | true ↦ elim (enough (record { graph = length g; scratch = length scratch; buffer = length buffer })) [
-        | false ↦ outcome (Refused 11 0) l scratch buffer
+        | false ↦ outcome (refused 11 0) l scratch buffer
         | true ↦ elim (lost es l scratch) [
-          | true ↦ outcome (Refused 9 0) l scratch buffer
+          | true ↦ outcome (refused 9 0) l scratch buffer
           | false ↦ elim (is_node_of (at_item (start_of l)) es) [
-            | false ↦ outcome (Refused 15 0) l scratch buffer
+            | false ↦ outcome (refused 15 0) l scratch buffer
             | true ↦ elim l.is_open [
-              | false ↦ outcome End l scratch buffer
+              | false ↦ outcome (answered End) l scratch buffer
               | true ↦ found_outcome T es l scratch buffer (search (hands T es (set_of l.lookahead)) (trial_limit - l.count) l.count (rest_of l.count scratch (trials (ends_of es) (at_item (start_of l)))))
             ]
           ]
@@ -82,7 +81,7 @@ advance_in g l scratch buffer T =
     ]
 
 unfoldable pub advance_by : List ℕ → Listing → List ℕ → List ℕ → List ℕ → Checked → Outcome
-advance_by t l g scratch buffer (NotAccepted n r) = outcome (Refused n r) l scratch buffer
+advance_by t l g scratch buffer (NotAccepted n r) = outcome (refused n r) l scratch buffer
 advance_by t l g scratch buffer Accepted = advance_in g l scratch buffer (meaning t)
 
 -- `advance`: listing, table, graph, scratch, buffer
@@ -90,22 +89,22 @@ unfoldable pub advance_of : Listing → List ℕ → List ℕ → List ℕ → L
 advance_of l t g scratch buffer = advance_by t l g scratch buffer (check_of t)
 
 -- opening: a fresh listing has count 0 and is open
-unfoldable pub open_in : Item → Lookahead → List ℕ → Table → Opened
+unfoldable pub open_in : Item → Lookahead → List ℕ → Table → Reply Listing
 open_in i ahead g T = elim (asked T i (set_of ahead) g) [
-  | false ↦ NotOpened 9 0
+  | false ↦ refused 9 0
   | true ↦ elim (nat_le graph_room (length g)) [
-    | false ↦ NotOpened 11 0
+    | false ↦ refused 11 0
     | true ↦ elim (is_node_of (at_item i) (edges_in g)) [
-      | false ↦ NotOpened 15 0
-      | true ↦ Opens (record { production = record { 0 = i.production }; index = i.index; lookahead = ahead; count = 0; is_open = true })
+      | false ↦ refused 15 0
+      | true ↦ answered (record { production = record { 0 = i.production }; index = i.index; lookahead = ahead; count = 0; is_open = true })
     ]
   ]
 ]
 
-unfoldable pub open_by : List ℕ → Item → Lookahead → List ℕ → Checked → Opened
-open_by t i ahead g (NotAccepted n r) = NotOpened n r
+unfoldable pub open_by : List ℕ → Item → Lookahead → List ℕ → Checked → Reply Listing
+open_by t i ahead g (NotAccepted n r) = refused n r
 open_by t i ahead g Accepted = open_in i ahead g (meaning t)
 
 -- `lr0_examples` with `None`, `lr1_examples` with a set
-unfoldable pub open_of : List ℕ → Item → Lookahead → List ℕ → Opened
+unfoldable pub open_of : List ℕ → Item → Lookahead → List ℕ → Reply Listing
 open_of t i ahead g = open_by t i ahead g (check_of t)

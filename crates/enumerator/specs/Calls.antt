@@ -1,11 +1,12 @@
 -- A list of calls over one table, graph, listing and scratch: each call is lent the graph and the scratch whole or only a beginning of them, and a buffer of its own. Assumes nothing: these are definitions.
 use Rattle.std.specs.Prelude.{ℕ, min, List, [], ◌∷◌, ◌++◌, length, take, drop}
+use Rattle.repr.specs.Reply.{Reply, answered, refused as declined}
 use Rattle.slices.specs.Lent.{in_front}
 use Rattle.enumerator.specs.Lister.{Call, example, end, refused, Out}
 use Rattle.enumerator.specs.Advance.{Outcome, outcome, advance_of}
 use Rattle.enumerator.specs.declared.Listing.{Listing}
 use Rattle.enumerator.specs.declared.Advanced.{Advanced}
-use Rattle.enumerator.specs.declared.Advanced.TheVariants.{Example, End, Refused}
+use Rattle.enumerator.specs.declared.Advanced.TheVariants.{Example, End}
 
 pub record Lent : Type 0 where
   pub graph : ℕ
@@ -14,7 +15,7 @@ pub record Lent : Type 0 where
 
 -- what one call leaves: its answer, the count after it, its buffer
 pub record Left : Type 0 where
-  pub answer : Advanced
+  pub answer : Reply Advanced
   pub count : ℕ
   pub buffer : List ℕ
 
@@ -52,9 +53,9 @@ lengths g scratch c = record { graph = min c.graph (length g); scratch = min c.s
 
 unfoldable pub left_of : Lent → Out → Left
 left_of c o = elim o.answer [
-  | example ws ↦ record { answer = Example; count = o.count; buffer = in_front ws c.buffer }
-  | end ↦ record { answer = End; count = o.count; buffer = c.buffer }
-  | refused n ↦ record { answer = Refused n 0; count = o.count; buffer = c.buffer }
+  | example ws ↦ record { answer = answered Example; count = o.count; buffer = in_front ws c.buffer }
+  | end ↦ record { answer = answered End; count = o.count; buffer = c.buffer }
+  | refused n ↦ record { answer = declined n 0; count = o.count; buffer = c.buffer }
 ]
 
 unfoldable pub left_all : List Lent → List Out → List Left

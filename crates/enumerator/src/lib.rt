@@ -7,7 +7,7 @@ use repr::ProductionIndex;
 
 pub mod machine;
 
-// A listing: its start item, any lookahead, its count and whether it is open. What it has come to stands in the lent words.
+// A listing: its start item, any lookahead, its count and whether it is open. What it has come to stands in the lent words. The count is asked after the end too, and C has the two apart, so they are no Option.
 #[derive(Clone, Copy)]
 pub struct Listing {
     pub production: ProductionIndex,
@@ -17,17 +17,9 @@ pub struct Listing {
     pub is_open: bool,
 }
 
-// What a call of `advance` answers: an example is in its buffer and its number is the listing's count; the end; a refusal and its place.
+// What a call of `advance` that is not refused answers: an example is in its buffer and its number is the listing's count; or the end.
 #[derive(Clone, Copy)]
 pub enum Advanced {
     Example,
     End,
-    Refused(u16, u16),
-}
-
-// What opening answers.
-#[derive(Clone, Copy)]
-pub enum Opened {
-    Listing(Listing),
-    Refused(u16, u16),
 }

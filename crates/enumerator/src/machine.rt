@@ -12,6 +12,7 @@ ghost use Rattle.enumerator.specs.Machine.{used_of, trial_from?};
 ghost use Rattle.enumerator.specs.Stacks.{Ground, Started, Roomy, Within, Stacked, stack_in};
 
 use example::Example;
+use lr1_core::Item;
 use repr::word;
 use trace_graph::{Node, TraceGraph, read_node};
 
@@ -85,15 +86,15 @@ fn enters(graph: &[u16], edge: usize, node: Node) -> bool
 }
 
 // Whether the first edges are a trial from the start item: each enters the node that the one before it comes from, a nonterminal that none before comes from.
-fn is_trial(graph: &[u16], words: &[u16], depth: usize, production: usize, index: usize) -> bool
-    requires started { Started graph.now production index }
+fn is_trial(graph: &[u16], words: &[u16], depth: usize, start: Item) -> bool
+    requires started { Started graph.now start.production start.index }
     requires depth_nonzero { (0 < depth) × (depth < length words.now) }
-    ensures { result ≡ trial_from? (ends_of (edges_in graph.now)) [] (at_item (record { production = production; index = index })) (take depth (drop 1 words.now)) }
+    ensures { result ≡ trial_from? (ends_of (edges_in graph.now)) [] (at_item (record { production = start.production; index = start.index })) (take depth (drop 1 words.now)) }
 {
     let mut node = Node {
         kind: 1,
-        number: production,
-        index: index,
+        number: start.production,
+        index: start.index,
     };
     for at in 0..depth - 1 {
         let edge = word(words, at + 1);
@@ -114,14 +115,14 @@ fn is_trial(graph: &[u16], words: &[u16], depth: usize, production: usize, index
 }
 
 // Whether the words are those of a trial that is an example (refusal 9): no trial has more than 33 edges.
-pub fn holds_trial(graph: &[u16], words: &[u16], production: usize, index: usize) -> bool
-    requires started { Started graph.now production index }
+pub fn holds_trial(graph: &[u16], words: &[u16], start: Item) -> bool
+    requires started { Started graph.now start.production start.index }
     requires scratch_words_in_bounds { scratch_words ≤ length words.now }
-    ensures { result ≡ has_trial (ends_of (edges_in graph.now)) (at_item (record { production = production; index = index })) words.now }
+    ensures { result ≡ has_trial (ends_of (edges_in graph.now)) (at_item (record { production = start.production; index = start.index })) words.now }
 {
     let depth = word(words, 0);
     if depth == 0 || depth > Example::REDUCTIONS || !only_zeros(words, depth + 1) {
         return false;
     }
-    is_trial(graph, words, depth, production, index) && is_example(graph, words)
+    is_trial(graph, words, depth, start) && is_example(graph, words)
 }

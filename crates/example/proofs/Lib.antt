@@ -1,5 +1,5 @@
 pub mod Sizes
-pub mod Labels
+pub mod LabelList
 pub mod Put
 pub mod Parts
 pub mod Reductions

@@ -17,7 +17,7 @@ use Rattle.example.specs.Example.{symbol, symbol_words, sets_of, cursor_of}
 use Rattle.example.specs.Labels.{labels_in, LabelsFit}
 use Rattle.example.specs.Written.{label_at, words_of, Part}
 use Rattle.example.proofs.Sizes.{twos}
-use Rattle.example.proofs.Labels.{labels_step, item-production, item-sets}
+use Rattle.example.proofs.LabelList.{labels_step, item-production, item-sets}
 
 pub words_append : (xs ys : List Symbol) → words_of (xs ++ ys) ≡ words_of xs ++ words_of ys
 unfolding words_of

@@ -11,7 +11,7 @@ use Rattle.example.specs.Example.{Label, sets_of, symbol, epsilon, prefixes, suf
 use Rattle.example.specs.Labels.{labels_in, LabelsFit}
 use Rattle.example.specs.Written.{label_at, words_of, Part, around_words}
 use Rattle.example.proofs.Sizes.{Short, prefixes-cons, suffixes-cons, around, length_symbols, at_most_528, at_most_1158}
-use Rattle.example.proofs.Labels.{labels_step, labels_back, few_labels, short_in}
+use Rattle.example.proofs.LabelList.{labels_step, labels_back, few_labels, short_in}
 use Rattle.example.proofs.Parts.{words_append, part_length, list_of, first_cursor}
 use Rattle.example.proofs.Reductions.{reductions-around, around-nil, around-cons}
 

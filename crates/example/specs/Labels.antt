@@ -1,6 +1,6 @@
 -- Labels in words, as the code hands them on: nonterminal, production, index each, innermost first. Assumes nothing: these are definitions.
-use Rattle.std.specs.Prelude.{◌≡◌, ℕ, ◌+◌, ◌<◌, ◌≤◌, List, [], ◌∷◌, length, slice_index_or}
-use Rattle.repr.specs.Sizes.{labels_room}
+use Rattle.std.specs.Prelude.{◌≡◌, ℕ, ◌*◌, ◌<◌, ◌≤◌, List, [], ◌∷◌, length, slice_index_or}
+use Rattle.repr.specs.Sizes.{label_room, labels_room}
 use Rattle.repr.specs.Meaning.{Production, no_production, All}
 use Rattle.example.specs.Example.{Label}
 
@@ -20,5 +20,5 @@ pub record LabelFits (ps : List Production) (l : Label) : Type 0 where
 pub record LabelsFit (ps : List Production) (ws : List ℕ) : Type 0 where
   pub some_label : 3 ≤ length ws
   pub few : length ws ≤ labels_room
-  pub whole : (k : ℕ) × (length ws ≡ k + (k + k))
+  pub whole : length ws ≡ label_room * length (labels_in ws)
   pub each : All (LabelFits ps) (labels_in ws)

@@ -1,3 +1,4 @@
 pub mod Example
 pub mod Labels
 pub mod Written
+pub mod Props

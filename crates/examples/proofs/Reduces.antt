@@ -14,7 +14,7 @@ use Rattle.state_graph.specs.declared.StateIndex.{StateIndex}
 use Rattle.trace_graph.specs.Fits.{item_is_fit}
 use Rattle.trace.proofs.Traced.{item_fits}
 use Rattle.tracer.specs.Built.{edges_by}
-use Rattle.example.proofs.Labels.{production-symbols}
+use Rattle.example.proofs.LabelList.{production-symbols}
 use Rattle.enumerator.specs.Advance.{set_of}
 use Rattle.std.specs.Prelude.{Some}
 use Rattle.error.specs.Sides.{Side, listing_side, item_of_reduce, reduce_side}

@@ -1,6 +1,6 @@
 -- The accuracy rule: accepted tables with the same counts, productions, spans, items in order and edges in order get the same answers, whatever their words. Assumes nothing.
 use Rattle.std.proofs.Common.{◌≡◌, ℕ, zero, suc, ◌*◌, List, [], ◌∷◌, ◌++◌, length, take, sym, refl, ap, ◌∙◌}
-use Rattle.repr.specs.Reply.{answered}
+use Rattle.repr.specs.Reply.{answered, Reply, refused}
 use Rattle.repr.specs.Meaning.{Item, Table}
 use Rattle.table.specs.Checked.{Accepted}
 use Rattle.table.specs.Decoded.{meaning}
@@ -22,8 +22,6 @@ use Rattle.enumerator.specs.Advance.{open_by, open_of, advance_by, advance_of}
 use Rattle.enumerator.specs.Calls.{Lent, listing_by, scratch_by, called, scratch_after}
 use Rattle.enumerator.specs.Lookahead.{Lookahead}
 use Rattle.enumerator.specs.declared.Listing.{Listing}
-use Rattle.enumerator.specs.declared.Opened.{Opened}
-use Rattle.enumerator.specs.declared.Opened.TheVariants.{Listing as Opens, Refused as NotOpened}
 use Rattle.listing.specs.CallList.{lents_in, refusal_of_calls, list_by, list_of}
 use Rattle.error.specs.declared.Conflict.{Conflict}
 use Rattle.error.specs.Outcome.{classify_by_with, classify_of, classify_with}
@@ -93,12 +91,12 @@ module _ (t u : List ℕ) (a : check_of t ≡ Accepted) (b : check_of u ≡ Acce
   scratch_same graph l scratch (c ∷ cs) =
       rw (called_same graph l scratch c) (scratch_same graph (listing_by (called u graph l scratch c)) (scratch_by c.scratch scratch (called u graph l scratch c)) cs)
 
-  list_by_lem : (i : Item) (ahead : Lookahead) (calls graph scratch out : List ℕ) (k : ℕ) (o : Opened) → list_by t i ahead calls graph scratch out k o ≡ list_by u i ahead calls graph scratch out k o
+  list_by_lem : (i : Item) (ahead : Lookahead) (calls graph scratch out : List ℕ) (k : ℕ) (o : Reply Listing) → list_by t i ahead calls graph scratch out k o ≡ list_by u i ahead calls graph scratch out k o
   unfolding list_by
-  list_by_lem i ahead calls graph scratch out zero (NotOpened n r) = refl
-  list_by_lem i ahead calls graph scratch out (suc k) (NotOpened n r) = refl
-  list_by_lem i ahead calls graph scratch out (suc k) (Opens l) = refl
-  list_by_lem i ahead calls graph scratch out zero (Opens l) = rw (scratch_same graph l scratch (lents_in calls out), m)
+  list_by_lem i ahead calls graph scratch out zero (refused n r) = refl
+  list_by_lem i ahead calls graph scratch out (suc k) (refused n r) = refl
+  list_by_lem i ahead calls graph scratch out (suc k) (answered l) = refl
+  list_by_lem i ahead calls graph scratch out zero (answered l) = rw (scratch_same graph l scratch (lents_in calls out), m)
 
   examples_same : (i : Item) (ahead : Lookahead) (calls graph scratch out : List ℕ) → list_of t i ahead calls graph scratch out ≡ list_of u i ahead calls graph scratch out
   unfolding list_of

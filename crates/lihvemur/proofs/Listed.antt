@@ -1,5 +1,6 @@
 -- The ways through the exported functions of a listing, one law each. Assumes nothing.
 use Rattle.std.proofs.Common.{◌≡◌, ℕ, Bool, true, false, List, sym, ap, ◌∙◌}
+use Rattle.repr.specs.Reply.{Reply, answered, refused}
 use Rattle.repr.specs.Meaning.{Item}
 use Rattle.repr.specs.declared.ProductionIndex.{ProductionIndex}
 use Rattle.enumerator.specs.Advance.{outcome, advance_of}
@@ -7,12 +8,8 @@ use Rattle.enumerator.specs.Lookahead.{Lookahead}
 use Rattle.std.specs.Prelude.{None, Some}
 use Rattle.enumerator.specs.declared.Listing.{Listing}
 use Rattle.enumerator.specs.declared.Advanced.{Advanced}
-use Rattle.enumerator.specs.declared.Advanced.TheVariants.{Example, End, Refused}
-use Rattle.enumerator.specs.declared.Opened.{Opened}
-use Rattle.enumerator.specs.declared.Opened.TheVariants.{Listing as Opens, Refused as NotOpened}
+use Rattle.enumerator.specs.declared.Advanced.TheVariants.{Example, End}
 use Rattle.listing.specs.CallList.{listed, list_of}
-use Rattle.listing.specs.declared.Listed.{Listed}
-use Rattle.listing.specs.declared.Listed.TheVariants.{Calls, Refused as NotListed}
 use Rattle.lihvemur.specs.Exported.{numbers}
 use Rattle.lihvemur.specs.Listings.{ahead_of, open_numbers, advance_numbers, advanced_numbers, list_numbers, listed_numbers}
 
@@ -25,40 +22,40 @@ unfolding ahead_of
 ahead-any f s h = rw h
 
 -- c: what the entry answers, d: what its contract says it is
-module _ (c d : Opened) (e : c ≡ d) where
-  pub opened : (l : Listing) → c ≡ Opens l → numbers 0 0 ≡ open_numbers d
+module _ (c d : Reply Listing) (e : c ≡ d) where
+  pub opened : (l : Listing) → c ≡ answered l → numbers 0 0 ≡ open_numbers d
   unfolding open_numbers
   opened l h = rw (sym e ∙ h)
 
-  pub open_refused : (n r : ℕ) → c ≡ NotOpened n r → numbers n r ≡ open_numbers d
+  pub open_refused : (n r : ℕ) → c ≡ refused n r → numbers n r ≡ open_numbers d
   unfolding open_numbers
   open_refused n r h = rw (sym e ∙ h)
 
 -- ahead: what `lookahead_of` answers, ahead': what its contract says it is
-module _ (p : ProductionIndex) (i n : ℕ) (o : Bool) (t g scratch₀ buffer₀ : List ℕ) (ahead ahead' : Lookahead) (ea : ahead ≡ ahead') (a : Advanced) (next : Listing) (scratch buffer : List ℕ) (e : outcome a next scratch buffer ≡ advance_of (record { production = p; index = i; lookahead = ahead; count = n; is_open = o }) t g scratch₀ buffer₀) where
-  answered : (b : Advanced) → a ≡ b → advanced_numbers (outcome b next scratch buffer) ≡ advanced_numbers (advance_of (record { production = p; index = i; lookahead = ahead'; count = n; is_open = o }) t g scratch₀ buffer₀)
-  answered b h = ap (λ (b : Advanced). advanced_numbers (outcome b next scratch buffer)) (sym h) ∙ ap advanced_numbers (e ∙ ap (λ (x : Lookahead). advance_of (record { production = p; index = i; lookahead = x; count = n; is_open = o }) t g scratch₀ buffer₀) ea)
+module _ (p : ProductionIndex) (i n : ℕ) (o : Bool) (t g scratch₀ buffer₀ : List ℕ) (ahead ahead' : Lookahead) (ea : ahead ≡ ahead') (a : Reply Advanced) (next : Listing) (scratch buffer : List ℕ) (e : outcome a next scratch buffer ≡ advance_of (record { production = p; index = i; lookahead = ahead; count = n; is_open = o }) t g scratch₀ buffer₀) where
+  answered : (b : Reply Advanced) → a ≡ b → advanced_numbers (outcome b next scratch buffer) ≡ advanced_numbers (advance_of (record { production = p; index = i; lookahead = ahead'; count = n; is_open = o }) t g scratch₀ buffer₀)
+  answered b h = ap (λ (b : Reply Advanced). advanced_numbers (outcome b next scratch buffer)) (sym h) ∙ ap advanced_numbers (e ∙ ap (λ (x : Lookahead). advance_of (record { production = p; index = i; lookahead = x; count = n; is_open = o }) t g scratch₀ buffer₀) ea)
 
-  pub advance_example : a ≡ Example → advance_numbers 0 0 next.count next.is_open scratch buffer ≡ advanced_numbers (advance_of (record { production = p; index = i; lookahead = ahead'; count = n; is_open = o }) t g scratch₀ buffer₀)
+  pub advance_example : a ≡ (answered Example) → advance_numbers 0 0 next.count next.is_open scratch buffer ≡ advanced_numbers (advance_of (record { production = p; index = i; lookahead = ahead'; count = n; is_open = o }) t g scratch₀ buffer₀)
   unfolding advanced_numbers
-  advance_example h = answered Example h
+  advance_example h = answered (answered Example) h
 
-  pub advance_end : a ≡ End → advance_numbers 16 0 next.count next.is_open scratch buffer ≡ advanced_numbers (advance_of (record { production = p; index = i; lookahead = ahead'; count = n; is_open = o }) t g scratch₀ buffer₀)
+  pub advance_end : a ≡ (answered End) → advance_numbers 16 0 next.count next.is_open scratch buffer ≡ advanced_numbers (advance_of (record { production = p; index = i; lookahead = ahead'; count = n; is_open = o }) t g scratch₀ buffer₀)
   unfolding advanced_numbers
-  advance_end h = answered End h
+  advance_end h = answered (answered End) h
 
-  pub advance_refused : (m r : ℕ) → a ≡ Refused m r → advance_numbers m r next.count next.is_open scratch buffer ≡ advanced_numbers (advance_of (record { production = p; index = i; lookahead = ahead'; count = n; is_open = o }) t g scratch₀ buffer₀)
+  pub advance_refused : (m r : ℕ) → a ≡ refused m r → advance_numbers m r next.count next.is_open scratch buffer ≡ advanced_numbers (advance_of (record { production = p; index = i; lookahead = ahead'; count = n; is_open = o }) t g scratch₀ buffer₀)
   unfolding advanced_numbers
-  advance_refused m r h = answered (Refused m r) h
+  advance_refused m r h = answered (refused m r) h
 
-module _ (old : ℕ) (t : List ℕ) (i : Item) (calls g scratch₀ output₀ : List ℕ) (ahead ahead' : Lookahead) (ea : ahead ≡ ahead') (c : Listed) (scratch output : List ℕ) (e : listed c scratch output ≡ list_of t i ahead calls g scratch₀ output₀) where
-  run : (b : Listed) → c ≡ b → listed_numbers old (listed b scratch output) ≡ listed_numbers old (list_of t i ahead' calls g scratch₀ output₀)
-  run b h = ap (λ (b : Listed). listed_numbers old (listed b scratch output)) (sym h) ∙ ap (listed_numbers old) (e ∙ ap (λ (x : Lookahead). list_of t i x calls g scratch₀ output₀) ea)
+module _ (old : ℕ) (t : List ℕ) (i : Item) (calls g scratch₀ output₀ : List ℕ) (ahead ahead' : Lookahead) (ea : ahead ≡ ahead') (c : Reply ℕ) (scratch output : List ℕ) (e : listed c scratch output ≡ list_of t i ahead calls g scratch₀ output₀) where
+  run : (b : Reply ℕ) → c ≡ b → listed_numbers old (listed b scratch output) ≡ listed_numbers old (list_of t i ahead' calls g scratch₀ output₀)
+  run b h = ap (λ (b : Reply ℕ). listed_numbers old (listed b scratch output)) (sym h) ∙ ap (listed_numbers old) (e ∙ ap (λ (x : Lookahead). list_of t i x calls g scratch₀ output₀) ea)
 
-  pub list_made : (n : ℕ) → c ≡ Calls n → list_numbers 0 0 n scratch output ≡ listed_numbers old (list_of t i ahead' calls g scratch₀ output₀)
+  pub list_made : (n : ℕ) → c ≡ answered n → list_numbers 0 0 n scratch output ≡ listed_numbers old (list_of t i ahead' calls g scratch₀ output₀)
   unfolding listed_numbers
-  list_made n h = run (Calls n) h
+  list_made n h = run (answered n) h
 
-  pub list_refused : (n r : ℕ) → c ≡ NotListed n r → list_numbers n r old scratch output ≡ listed_numbers old (list_of t i ahead' calls g scratch₀ output₀)
+  pub list_refused : (n r : ℕ) → c ≡ refused n r → list_numbers n r old scratch output ≡ listed_numbers old (list_of t i ahead' calls g scratch₀ output₀)
   unfolding listed_numbers
-  list_refused n r h = run (NotListed n r) h
+  list_refused n r h = run (refused n r) h

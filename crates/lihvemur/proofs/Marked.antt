@@ -34,7 +34,6 @@ use Rattle.enumerator.specs.Advance.{set_of, start_of, ahead_fits, lent_graph_fi
 use Rattle.enumerator.specs.Calls.{left_by, listing_by, scratch_by, called, scratch_after, lengths, left_of, left_all}
 use Rattle.enumerator.specs.Lookahead.{Lookahead}
 use Rattle.std.specs.Prelude.{None, Some}
-use Rattle.listing.specs.declared.Listed.TheVariants.{Calls}
 use Rattle.listing.specs.CallList.{lents_in, output_words, number_of_answer, record_of, records_of, refusal_by, refusal_of_calls, Ran, listed, list_by, list_of}
 use Rattle.lihvemur.specs.TableC.{table_c}
 
@@ -122,7 +121,7 @@ lists p ahead ws = list_of table_c (item p 0) ahead calls ws scratch output
 
 -- an answer with its count, and words at the front of its buffer; then the end with the count of all trials; the last word of the output as it was
 abbrev told : ℕ → List ℕ → List ℕ → Ran
-told answer ws rest = listed (Calls 2) (replicate scratch_words 0 ++ 7 ∷ []) (answer ∷ 3 ∷ 0 ∷ ws ++ (rest ++ (16 ∷ 3 ∷ 0 ∷ replicate 1159 7)))
+told answer ws rest = listed (answered 2) (replicate scratch_words 0 ++ 7 ∷ []) (answer ∷ 3 ∷ 0 ∷ ws ++ (rest ++ (16 ∷ 3 ∷ 0 ∷ replicate 1159 7)))
 
 abbrev example : List ℕ → Ran
 example ws = told 0 ws (replicate 1138 7)

@@ -8,6 +8,7 @@ use mathlib.Core.Option.{Option, none, some}
 use lib.ListN.{length, drop, replicate}
 use lib.Dec.{eqb}
 use borrow.Author.Tests.{eq-eqb, ne_eqb}
+use Rattle.repr.specs.Reply.{answered, refused}
 use Rattle.repr.specs.Sizes.{scratch_words, trial_limit, reduction_limit}
 use Rattle.slices.specs.Lent.{in_front, zeroed}
 use Rattle.repr.specs.Meaning.{Item, Production, Table}
@@ -20,7 +21,7 @@ use Rattle.enumerator.specs.Lister.{labels_of, hands, says, Found, hit, out, ove
 use Rattle.enumerator.specs.Words.{words_of, path_in, has_trial}
 use Rattle.enumerator.specs.Advance.{outcome, start_of, moved, found_outcome, rest_of, lost}
 use Rattle.enumerator.specs.declared.Listing.{Listing}
-use Rattle.enumerator.specs.declared.Advanced.TheVariants.{Example, End, Refused}
+use Rattle.enumerator.specs.declared.Advanced.TheVariants.{Example, End}
 use Rattle.enumerator.proofs.Short.{short_trial}
 use Rattle.enumerator.proofs.WordsOf.{words_long, held_trial}
 use Rattle.view.specs.View.{View, Labelled}
@@ -174,7 +175,7 @@ module _ {ps : List Production} {es : List TraceEdge} {owners codes : List ℕ} 
 
     pub found-hit : (n : ℕ) → r ≡ Hit n → (x : Listing) (o : Bool) → x ≡ moved l n o → o ≡ true → (b : List ℕ)
         → (Tried ps es owners codes ws'' → (q rest : List ℕ) → ws'' ≡ trial_words q ++ rest → b ≡ in_front (example_words ps (labels_of ps es q)) buffer)
-        → outcome Example x ws'' b ≡ found_outcome T es l ws buffer whole
+        → outcome (answered Example) x ws'' b ≡ found_outcome T es l ws buffer whole
     unfolding found_outcome
     found-hit n er x o ex eo b w =
         let q = (hits n er).0 in
@@ -182,20 +183,20 @@ module _ {ps : List Production} {es : List TraceEdge} {owners codes : List ℕ} 
         let h = short_trial (ends_of es) (at_item start) q (hit_in n er) in
         let s : ws'' ≡ in_front (words_of q) ws = (hits n er).2 ∙ sym (trial_behind q ws h) ∙ path_front q ws h in
         let d : b ≡ in_front (says T es q) buffer = w (hit-tried n er) q (behind ws) (hits n er).2 ∙ ap (λ (y : List ℕ). in_front y buffer) (says_is q) in
-        (λ j. outcome Example ((ex ∙ ap (moved l n) eo) j) (s j) (d j)) ∙ ap (found_outcome T es l ws buffer) (sym f)
+        (λ j. outcome (answered Example) ((ex ∙ ap (moved l n) eo) j) (s j) (d j)) ∙ ap (found_outcome T es l ws buffer) (sym f)
 
-    pub found_out_lem : (n : ℕ) → r ≡ Out n → (x : Listing) (u : Bool) → x ≡ moved l n u → u ≡ false → outcome End x ws'' buffer ≡ found_outcome T es l ws buffer whole
+    pub found_out_lem : (n : ℕ) → r ≡ Out n → (x : Listing) (u : Bool) → x ≡ moved l n u → u ≡ false → outcome (answered End) x ws'' buffer ≡ found_outcome T es l ws buffer whole
     unfolding found_outcome
     found_out_lem n er x u ex eu =
         let o = searched-out n ws'' (behind ws) finds (ap (λ (y : Searched). searched y ws'') (sym er) ∙ answers) in
         let f : whole ≡ out n = sym whole_is ∙ o.0 in
         let s : ws'' ≡ zeroed scratch_words ws = o.1 ∙ sym (trial_behind [] ws (omega arith)) ∙ none-zeroed ws in
-        (λ j. outcome End ((ex ∙ ap (moved l n) eu) j) (s j) buffer) ∙ ap (found_outcome T es l ws buffer) (sym f)
+        (λ j. outcome (answered End) ((ex ∙ ap (moved l n) eu) j) (s j) buffer) ∙ ap (found_outcome T es l ws buffer) (sym f)
 
-    pub found-over : r ≡ Over → (x : Listing) (n : ℕ) (u : Bool) → x ≡ moved l n u → n ≡ trial_limit → u ≡ false → outcome (Refused 13 0) x ws'' buffer ≡ found_outcome T es l ws buffer whole
+    pub found-over : r ≡ Over → (x : Listing) (n : ℕ) (u : Bool) → x ≡ moved l n u → n ≡ trial_limit → u ≡ false → outcome (refused 13 0) x ws'' buffer ≡ found_outcome T es l ws buffer whole
     unfolding found_outcome
     found-over er x n u ex en eu =
         let o = searched-over ws'' (behind ws) finds (ap (λ (y : Searched). searched y ws'') (sym er) ∙ answers) in
         let f : whole ≡ over = sym whole_is ∙ o.0 in
         let s : ws'' ≡ zeroed scratch_words ws = o.1 ∙ sym (trial_behind [] ws (omega arith)) ∙ none-zeroed ws in
-        (λ j. outcome (Refused 13 0) ((ex ∙ (λ k. moved l (en k) (eu k))) j) (s j) buffer) ∙ ap (found_outcome T es l ws buffer) (sym f)
+        (λ j. outcome (refused 13 0) ((ex ∙ (λ k. moved l (en k) (eu k))) j) (s j) buffer) ∙ ap (found_outcome T es l ws buffer) (sym f)

@@ -6,6 +6,7 @@ use mathlib.Core.List.{List}
 use lib.ListN.{length}
 use lib.Dec.{leb}
 use borrow.Author.Tests.{le-leb, lt-leb}
+use Rattle.repr.specs.Reply.{Reply, answered, refused}
 use Rattle.repr.specs.Sizes.{graph_room, scratch_words, trial_limit, example_room}
 use Rattle.repr.specs.Meaning.{Production, Table}
 use Rattle.repr.specs.Packed.{Packed, productions_in}
@@ -19,8 +20,7 @@ use Rattle.enumerator.specs.Advance.{Outcome, outcome, set_of, start_of, asked, 
 use Rattle.enumerator.specs.Lookahead.{Lookahead}
 use Rattle.enumerator.specs.declared.Listing.{Listing}
 use Rattle.enumerator.specs.declared.Advanced.{Advanced}
-use Rattle.enumerator.specs.declared.Advanced.TheVariants.{End, Refused}
-use Rattle.enumerator.specs.declared.Opened.TheVariants.{Listing as Opens, Refused as NotOpened}
+use Rattle.enumerator.specs.declared.Advanced.TheVariants.{End}
 use Rattle.enumerator.proofs.Outcomes.{advance_short, advance_ended, advance_open}
 use Rattle.lister.specs.Context.{Read, Listable}
 
@@ -49,21 +49,21 @@ started {ps} L = record { ground = record { productions = ps; ranged = L.ranged 
 
 -- opening
 module _ (T : Table) (p i : ℕ) (a : Lookahead) (g : List ℕ) (b : Bool) (eb : b ≡ asked T (record { production = p; index = i }) (set_of a) g) where
-  pub open_refused : b ≡ false → NotOpened 9 0 ≡ open_in (record { production = p; index = i }) a g T
+  pub open_refused : b ≡ false → refused 9 0 ≡ open_in (record { production = p; index = i }) a g T
   unfolding open_in
   open_refused f = rw (sym eb ∙ f, open_in)
 
   module _ (t : b ≡ true) where
-    pub open_short : length g < graph_room → NotOpened 11 0 ≡ open_in (record { production = p; index = i }) a g T
+    pub open_short : length g < graph_room → refused 11 0 ≡ open_in (record { production = p; index = i }) a g T
     unfolding open_in
     open_short h = rw (sym eb ∙ t, lt-leb graph_room (length g) h, open_in)
 
     module _ (h : graph_room ≤ length g) (c : Bool) (ec : c ≡ is_node_of (at_item (record { production = p; index = i })) (edges_in g)) where
-      pub open_stray : c ≡ false → NotOpened 15 0 ≡ open_in (record { production = p; index = i }) a g T
+      pub open_stray : c ≡ false → refused 15 0 ≡ open_in (record { production = p; index = i }) a g T
       unfolding open_in
       open_stray f = rw (sym eb ∙ t, le-leb graph_room (length g) h, sym ec ∙ f, open_in)
 
-      pub open_fresh : c ≡ true → (o : Bool) → o ≡ true → Opens (record { production = record { 0 = p }; index = i; lookahead = a; count = 0; is_open = o }) ≡ open_in (record { production = p; index = i }) a g T
+      pub open_fresh : c ≡ true → (o : Bool) → o ≡ true → answered (record { production = record { 0 = p }; index = i; lookahead = a; count = 0; is_open = o }) ≡ open_in (record { production = p; index = i }) a g T
       unfolding open_in
       open_fresh u o eo = rw (sym eb ∙ t, le-leb graph_room (length g) h, sym ec ∙ u, open_in, eo)
 
@@ -86,30 +86,30 @@ enough-all m s b h k j = rw (le-leb graph_room m h, le-leb scratch_words s k, le
 
 module _ (g : List ℕ) (l : Listing) (scratch buffer : List ℕ) (T : Table) where
   -- an answer that leaves the listing
-  leaves : (x : Listing) (a b : Advanced) → (x ≡ l) × (a ≡ b) → outcome a x scratch buffer ≡ outcome b l scratch buffer
+  leaves : (x : Listing) (a b : Reply Advanced) → (x ≡ l) × (a ≡ b) → outcome a x scratch buffer ≡ outcome b l scratch buffer
   leaves x a b e = λ j. outcome (e.1 j) (e.0 j) scratch buffer
 
-  advance_refused : asked T (start_of l) (set_of l.lookahead) g ≡ false → advance_in g l scratch buffer T ≡ outcome (Refused 9 0) l scratch buffer
+  advance_refused : asked T (start_of l) (set_of l.lookahead) g ≡ false → advance_in g l scratch buffer T ≡ outcome (refused 9 0) l scratch buffer
   unfolding advance_in
   advance_refused e = rw (e, advance_in)
 
-  module _ (b : Bool) (eb : b ≡ asked T (record { production = l.production.0; index = l.index }) (set_of l.lookahead) g) (x : Listing) (a : Advanced) where
-    pub step-refused : b ≡ false → (x ≡ l) × (a ≡ Refused 9 0) → outcome a x scratch buffer ≡ advance_in g l scratch buffer T
+  module _ (b : Bool) (eb : b ≡ asked T (record { production = l.production.0; index = l.index }) (set_of l.lookahead) g) (x : Listing) (a : Reply Advanced) where
+    pub step-refused : b ≡ false → (x ≡ l) × (a ≡ refused 9 0) → outcome a x scratch buffer ≡ advance_in g l scratch buffer T
     unfolding start_of
-    step-refused f e = leaves x a (Refused 9 0) e ∙ sym (advance_refused (sym eb ∙ f))
+    step-refused f e = leaves x a (refused 9 0) e ∙ sym (advance_refused (sym eb ∙ f))
 
-    module _ (t : b ≡ true) (e : (x ≡ l) × (a ≡ Refused 11 0)) where
+    module _ (t : b ≡ true) (e : (x ≡ l) × (a ≡ refused 11 0)) where
       pub step_graph : length g < graph_room → outcome a x scratch buffer ≡ advance_in g l scratch buffer T
       unfolding start_of
-      step_graph h = leaves x a (Refused 11 0) e ∙ sym (advance_short g l scratch buffer T (sym eb ∙ t) (enough_graph (length g) (length scratch) (length buffer) h))
+      step_graph h = leaves x a (refused 11 0) e ∙ sym (advance_short g l scratch buffer T (sym eb ∙ t) (enough_graph (length g) (length scratch) (length buffer) h))
 
       pub step_scratch : length scratch < scratch_words → outcome a x scratch buffer ≡ advance_in g l scratch buffer T
       unfolding start_of
-      step_scratch h = leaves x a (Refused 11 0) e ∙ sym (advance_short g l scratch buffer T (sym eb ∙ t) (enough_scratch (length g) (length scratch) (length buffer) h))
+      step_scratch h = leaves x a (refused 11 0) e ∙ sym (advance_short g l scratch buffer T (sym eb ∙ t) (enough_scratch (length g) (length scratch) (length buffer) h))
 
       pub step_buffer : length buffer < example_room → outcome a x scratch buffer ≡ advance_in g l scratch buffer T
       unfolding start_of
-      step_buffer h = leaves x a (Refused 11 0) e ∙ sym (advance_short g l scratch buffer T (sym eb ∙ t) (enough_buffer (length g) (length scratch) (length buffer) h))
+      step_buffer h = leaves x a (refused 11 0) e ∙ sym (advance_short g l scratch buffer T (sym eb ∙ t) (enough_buffer (length g) (length scratch) (length buffer) h))
 
   -- past 11
   module _ (q : asked T (start_of l) (set_of l.lookahead) g ≡ true) (lg : graph_room ≤ length g) (ls : scratch_words ≤ length scratch) (lb : example_room ≤ length buffer)
@@ -117,25 +117,25 @@ module _ (g : List ℕ) (l : Listing) (scratch buffer : List ℕ) (T : Table) wh
     all : enough (record { graph = length g; scratch = length scratch; buffer = length buffer }) ≡ true
     all = enough-all (length g) (length scratch) (length buffer) lg ls lb
 
-    advance_lost : lost (edges_in g) l scratch ≡ true → advance_in g l scratch buffer T ≡ outcome (Refused 9 0) l scratch buffer
+    advance_lost : lost (edges_in g) l scratch ≡ true → advance_in g l scratch buffer T ≡ outcome (refused 9 0) l scratch buffer
     unfolding advance_in
     advance_lost e = rw (q, all, e, advance_in)
 
-    advance_stray : lost (edges_in g) l scratch ≡ false → is_node_of (at_item (start_of l)) (edges_in g) ≡ false → advance_in g l scratch buffer T ≡ outcome (Refused 15 0) l scratch buffer
+    advance_stray : lost (edges_in g) l scratch ≡ false → is_node_of (at_item (start_of l)) (edges_in g) ≡ false → advance_in g l scratch buffer T ≡ outcome (refused 15 0) l scratch buffer
     unfolding advance_in
     advance_stray e n = rw (q, all, e, n, advance_in)
 
-    pub go_lost : k ≡ true → (x : Listing) (a : Advanced) → (x ≡ l) × (a ≡ Refused 9 0) → outcome a x scratch buffer ≡ advance_in g l scratch buffer T
-    go_lost t x a e = leaves x a (Refused 9 0) e ∙ sym (advance_lost (sym ek ∙ t))
+    pub go_lost : k ≡ true → (x : Listing) (a : Reply Advanced) → (x ≡ l) × (a ≡ refused 9 0) → outcome a x scratch buffer ≡ advance_in g l scratch buffer T
+    go_lost t x a e = leaves x a (refused 9 0) e ∙ sym (advance_lost (sym ek ∙ t))
 
     module _ (f : k ≡ false) (m : Bool) (em : m ≡ is_node_of (at_item (record { production = l.production.0; index = l.index })) (edges_in g)) where
-      pub go_stray : m ≡ false → (x : Listing) (a : Advanced) → (x ≡ l) × (a ≡ Refused 15 0) → outcome a x scratch buffer ≡ advance_in g l scratch buffer T
+      pub go_stray : m ≡ false → (x : Listing) (a : Reply Advanced) → (x ≡ l) × (a ≡ refused 15 0) → outcome a x scratch buffer ≡ advance_in g l scratch buffer T
       unfolding start_of
-      go_stray n x a e = leaves x a (Refused 15 0) e ∙ sym (advance_stray (sym ek ∙ f) (sym em ∙ n))
+      go_stray n x a e = leaves x a (refused 15 0) e ∙ sym (advance_stray (sym ek ∙ f) (sym em ∙ n))
 
-      pub go_ended : m ≡ true → l.is_open ≡ false → (x : Listing) (a : Advanced) → (x ≡ l) × (a ≡ End) → outcome a x scratch buffer ≡ advance_in g l scratch buffer T
+      pub go_ended : m ≡ true → l.is_open ≡ false → (x : Listing) (a : Reply Advanced) → (x ≡ l) × (a ≡ (answered End)) → outcome a x scratch buffer ≡ advance_in g l scratch buffer T
       unfolding start_of
-      go_ended y o x a e = leaves x a End e ∙ sym (advance_ended g l scratch buffer T q all (sym ek ∙ f) (sym em ∙ y) o)
+      go_ended y o x a e = leaves x a (answered End) e ∙ sym (advance_ended g l scratch buffer T q all (sym ek ∙ f) (sym em ∙ y) o)
 
       pub go_found : m ≡ true → l.is_open ≡ true → (o : Outcome)
           → o

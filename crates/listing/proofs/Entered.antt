@@ -2,6 +2,7 @@
 use Prim.Native.Nat.{ℕ}
 use mathlib.Core.Path.{◌≡◌}
 use mathlib.Core.List.{List}
+use Rattle.repr.specs.Reply.{Reply, refused}
 use Rattle.repr.specs.Meaning.{Item}
 use Rattle.table.specs.Checked.{Checked, Accepted, Refused as NotAccepted}
 use Rattle.table.specs.Decoded.{meaning}
@@ -9,21 +10,18 @@ use Rattle.table.specs.Refusals.{check_of}
 use Rattle.enumerator.specs.Advance.{Outcome, outcome, open_by, open_in, open_of, advance_by, advance_in, advance_of}
 use Rattle.enumerator.specs.Lookahead.{Lookahead}
 use Rattle.enumerator.specs.declared.Listing.{Listing}
-use Rattle.enumerator.specs.declared.Advanced.TheVariants.{Refused}
-use Rattle.enumerator.specs.declared.Opened.{Opened}
-use Rattle.enumerator.specs.declared.Opened.TheVariants.{Refused as NotOpened}
 
 module _ (t : List ℕ) (i : Item) (ahead : Lookahead) (g : List ℕ) where
-  pub open_refused : (n r : ℕ) → check_of t ≡ NotAccepted n r → NotOpened n r ≡ open_of t i ahead g
+  pub open_refused : (n r : ℕ) → check_of t ≡ NotAccepted n r → refused n r ≡ open_of t i ahead g
   unfolding open_of open_by
   open_refused n r e = rw e
 
-  pub open_accepted : check_of t ≡ Accepted → (o : Opened) → o ≡ open_in i ahead g (meaning t) → o ≡ open_of t i ahead g
+  pub open_accepted : check_of t ≡ Accepted → (o : Reply Listing) → o ≡ open_in i ahead g (meaning t) → o ≡ open_of t i ahead g
   unfolding open_of open_by
   open_accepted e o h = rw e h
 
 module _ (l : Listing) (t g scratch buffer : List ℕ) where
-  pub step-refused : (n r : ℕ) → check_of t ≡ NotAccepted n r → outcome (Refused n r) l scratch buffer ≡ advance_of l t g scratch buffer
+  pub step-refused : (n r : ℕ) → check_of t ≡ NotAccepted n r → outcome (refused n r) l scratch buffer ≡ advance_of l t g scratch buffer
   unfolding advance_of advance_by
   step-refused n r e = rw e
 

@@ -9,6 +9,7 @@ use lib.Dec.{leb}
 use lib.Seq.{take_all, take-length, drop-length, drop-drop, take_at, take-nil, length-take-le}
 use borrow.Author.Tests.{leb-true, leb-false}
 use borrow.Rule.Slice.PartMut.{put_mid, drop_put}
+use Rattle.repr.specs.Reply.{Reply}
 use Rattle.enumerator.specs.Advance.{outcome, advance_of}
 use Rattle.enumerator.specs.Calls.{Lent, left_by, listing_by, scratch_by, called, calls, scratch_after}
 use Rattle.enumerator.specs.declared.Listing.{Listing}
@@ -53,7 +54,7 @@ buffer_back (p ∷ q ∷ r ∷ part) b h = ap (λ (x : List ℕ). b ++ x) (drop_
 
 module _ (t g : List ℕ) (l : Listing) (scratch : List ℕ) where
   pub made_is : (n m n' m' : ℕ) (part : List ℕ) → 3 ≤ length part → n' ≡ min n (length g) → m' ≡ min m (length scratch)
-      → (a : Advanced) (l' : Listing) (s b : List ℕ) → outcome a l' s b ≡ advance_of l t (take n' g) (take m' scratch) (take (length part - 3) (drop 3 part))
+      → (a : Reply Advanced) (l' : Listing) (s b : List ℕ) → outcome a l' s b ≡ advance_of l t (take n' g) (take m' scratch) (take (length part - 3) (drop 3 part))
       → (x : ℕ) → x ≡ number_of_answer a → (p : List ℕ) → p ≡ x ∷ l'.count % 65536 ∷ l'.count / 65536 ∷ drop 3 (put_mid 3 (length part - 3) part b)
       → made l' (s ++ drop m' scratch) p ≡ made_of t g l n m scratch part
   unfolding made_of made_by called listing_by scratch_by left_by record_of

@@ -1,5 +1,6 @@
 -- A list of calls in lent words, and what making them leaves: demand 3 of document 01, in code. Assumes nothing: these are definitions.
 use Rattle.std.specs.Prelude.{ℕ, zero, suc, ◌+◌, ◌%◌, ◌/◌, Bool, true, false, List, [], ◌∷◌, ◌++◌, map, length, take, drop, leb, ltb, eqb}
+use Rattle.repr.specs.Reply.{Reply, answered, refused}
 use Rattle.repr.specs.Meaning.{Item}
 use Rattle.table.specs.Decoded.{meaning}
 use Rattle.trace_graph.specs.Words.{edges_in}
@@ -9,11 +10,7 @@ use Rattle.enumerator.specs.Calls.{Lent, Left, left_by, listing_by, scratch_by, 
 use Rattle.enumerator.specs.Lookahead.{Lookahead}
 use Rattle.enumerator.specs.declared.Listing.{Listing}
 use Rattle.enumerator.specs.declared.Advanced.{Advanced}
-use Rattle.enumerator.specs.declared.Advanced.TheVariants.{Example, End, Refused}
-use Rattle.enumerator.specs.declared.Opened.{Opened}
-use Rattle.enumerator.specs.declared.Opened.TheVariants.{Listing as Opens, Refused as NotOpened}
-use Rattle.listing.specs.declared.Listed.{Listed}
-use Rattle.listing.specs.declared.Listed.TheVariants.{Calls, Refused as NotListed}
+use Rattle.enumerator.specs.declared.Advanced.TheVariants.{Example, End}
 
 -- three numbers a call: how much of the graph and of the scratch it is lent, and the length of its buffer. Its part of the output is three words and the buffer
 unfoldable pub lents_in : List ℕ → List ℕ → List Lent
@@ -30,10 +27,10 @@ output_words (g ∷ s ∷ []) = 0
 output_words (g ∷ s ∷ b ∷ cs) = 3 + b + output_words cs
 
 -- 0 for an example, 16 for the end, else the refusal
-unfoldable pub number_of_answer : Advanced → ℕ
-number_of_answer Example = 0
-number_of_answer End = 16
-number_of_answer (Refused n r) = n
+unfoldable pub number_of_answer : Reply Advanced → ℕ
+number_of_answer (answered Example) = 0
+number_of_answer (answered End) = 16
+number_of_answer (refused n r) = n
 
 -- what is recorded of a call: its answer's number, its count in two words, its buffer
 unfoldable pub record_of : Left → List ℕ
@@ -64,16 +61,16 @@ refusal_of_calls cs n = refusal_by (eqb (length cs % 3) 0) (leb (output_words cs
 
 -- answer, scratch and output
 pub data Ran : Type 0 where
-  listed : Listed → List ℕ → List ℕ → Ran
+  listed : Reply ℕ → List ℕ → List ℕ → Ran
 
 -- the lowest refusal that applies, of the list's and of opening's; else the number of calls, and of each what the plain lister says
-unfoldable pub list_by : List ℕ → Item → Lookahead → List ℕ → List ℕ → List ℕ → List ℕ → ℕ → Opened → Ran
-list_by t i ahead cs g scratch out zero (NotOpened n r) = listed (NotListed n r) scratch out
-list_by t i ahead cs g scratch out (suc k) (NotOpened n r) = elim (ltb (suc k) n) [ true ↦ listed (NotListed (suc k) 0) scratch out | false ↦ listed (NotListed n r) scratch out ]
-list_by t i ahead cs g scratch out (suc k) (Opens l) = listed (NotListed (suc k) 0) scratch out
-list_by t i ahead cs g scratch out zero (Opens l) =
+unfoldable pub list_by : List ℕ → Item → Lookahead → List ℕ → List ℕ → List ℕ → List ℕ → ℕ → Reply Listing → Ran
+list_by t i ahead cs g scratch out zero (refused n r) = listed (refused n r) scratch out
+list_by t i ahead cs g scratch out (suc k) (refused n r) = elim (ltb (suc k) n) [ true ↦ listed (refused (suc k) 0) scratch out | false ↦ listed (refused n r) scratch out ]
+list_by t i ahead cs g scratch out (suc k) (answered l) = listed (refused (suc k) 0) scratch out
+list_by t i ahead cs g scratch out zero (answered l) =
     let ks = lents_in cs out in
-    listed (Calls (length cs / 3)) (scratch_after t g l scratch ks)
+    listed (answered (length cs / 3)) (scratch_after t g l scratch ks)
     (records_of (left_all ks (plain_lister (meaning t) (edges_in g) i (set_of ahead) (map (lengths g scratch) ks))) ++ drop (output_words cs) out)
 
 -- `examples`: table, start item, any lookahead, calls, graph, scratch, output

@@ -12,7 +12,7 @@ use Rattle.lr1_core.specs.Items.{symbol_sets}
 use Rattle.example.specs.Example.{Label, sets_of}
 use Rattle.example.specs.Labels.{labels_in, LabelsFit}
 use Rattle.example.specs.Written.{label_at, Part}
-use Rattle.example.proofs.Labels.{item-production, item_index}
+use Rattle.example.proofs.LabelList.{item-production, item_index}
 use Rattle.example.proofs.Parts.{part_listed, suffix_is}
 use Rattle.first.specs.First.{first0, disjoint}
 use Rattle.outline.specs.Inline.{symbols_at, suffix_at, apart, diverge_by, codes_inline, CodeFits}
@@ -123,7 +123,7 @@ module _ (g : List ℕ) (n : ℕ) (P : Packed g n) (code : ℕ) (F : CodeFits (p
       let a = F.production in
       let b = F.index in
       let c = ap length own_symbols in
-      record { some_label = omega arith; few = omega arith; whole = (1, refl); each = (record { nonterminal = omega arith; production = omega arith; index = omega arith }, tt) }
+      record { some_label = omega arith; few = omega arith; whole = refl; each = (record { nonterminal = omega arith; production = omega arith; index = omega arith }, tt) }
 
   at_first : (0 < length (labels_in alone)) × (label_at alone 0 ≡ record { nonterminal = 0; production = p; index = i })
   unfolding labels_in label_at

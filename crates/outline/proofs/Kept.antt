@@ -10,7 +10,7 @@ use Rattle.lr1_core.specs.Items.{symbol_sets}
 use Rattle.example.specs.Example.{Label, sets_of, symbols}
 use Rattle.example.specs.Labels.{labels_in, LabelFits, LabelsFit}
 use Rattle.example.specs.Written.{no_label, label_at}
-use Rattle.example.proofs.Labels.{label_count, label_nonterminal, label_production, label_index, labels_step, some_label, few_labels, short_in, production-symbols}
+use Rattle.example.proofs.LabelList.{label_count, label_nonterminal, label_production, label_index, labels_step, some_label, few_labels, short_in, production-symbols}
 use Rattle.example.proofs.Sizes.{at_most_528}
 use Rattle.error.specs.Judge.{symbol_count, reduction_at}
 use Rattle.outline.specs.Outline.{print_of, item_code, next_item, label_of, outline_from, OutlineFits}

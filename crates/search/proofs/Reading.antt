@@ -134,10 +134,11 @@ module _ {ps : List Production} {es : List TraceEdge} {owners codes ws labels₀
         let T = R.tried in
         let ls = labels_of ps es T.path in
         let c : length ls ≡ length T.path = length_mapped (label_at ps es) T.path in
+        let e : labels_in (take (label_room * count) labels) ≡ ls = ap labels_in whole ∙ labels_read ls in
         let s : length (take (label_room * count) labels) ≡ length ls + (length ls + length ls) = ap length whole ∙ words_count ls in
         record {
           some_label = omega (arith, T.some_edge);
           few = omega (arith, T.few);
-          whole = (length ls, s);
-          each = rw (ap labels_in whole ∙ labels_read ls) (labels_each T.labelled T.path T.edges);
+          whole = rw e (omega (arith, s));
+          each = rw e (labels_each T.labelled T.path T.edges);
         }

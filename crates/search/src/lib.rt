@@ -21,11 +21,13 @@ ghost use Rattle.search.specs.Filter.{passes_by, hands_by};
 ghost use Rattle.search.specs.Given.{Searching, Tried};
 ghost use Rattle.search.specs.Found.{searched, searched_of, later_than};
 
-use example::{Example, first0, write_example};
+use example::{Example, Labels};
+use first::FirstSets;
 use lookahead::TokenSet;
 use lr1_core::Item;
 use repr::{Grammar, NonterminalString, ProductionIndex, word};
-use view::machine::{clear, count_walk, is_example, next};
+use view::View;
+use view::machine::clear;
 
 // What a search finds: an example with its number, the end with the number of all trials, or a trial past the 100,000th (refusal 13).
 // Three ends, and a count at the second too: as a Result of an Option it would be no plainer.
@@ -42,18 +44,18 @@ impl Searched {
 }
 
 // Writes the labels of the trial that the words hold, three words each: the nonterminal that the edge comes from, the production and the index of its label; the edge into the start item first. Answers how many words.
-pub fn read_labels(owners: &[u8], codes: &[u16], words: &[u16], labels: &mut [u16]) -> usize
-    requires tried { (ps : List Production) × ((es : List TraceEdge) × Tried ps es owners.now codes.now words.now) }
+pub fn read_labels(view: View, words: &[u16], labels: &mut [u16]) -> usize
+    requires tried { (ps : List Production) × ((es : List TraceEdge) × Tried ps es view.owners.now view.codes.now words.now) }
     requires labels_room_in_bounds { labels_room ≤ length labels.old }
-    ensures upper_bound { (result ≤ labels_room) × ((ps : List Production) (es : List TraceEdge) → Tried ps es owners.now codes.now words.now → LabelsFit ps (take result labels.new)) }
-    ensures labels_after { (ps : List Production) (es : List TraceEdge) → Tried ps es owners.now codes.now words.now → (p rest : List ℕ) → words.now ≡ trial_words p ++ rest → labels_in (take result labels.new) ≡ labels_of ps es p }
+    ensures upper_bound { (result ≤ labels_room) × ((ps : List Production) (es : List TraceEdge) → Tried ps es view.entry.owners.now view.entry.codes.now words.now → LabelsFit ps (take result labels.new)) }
+    ensures labels_after { (ps : List Production) (es : List TraceEdge) → Tried ps es view.entry.owners.now view.entry.codes.now words.now → (p rest : List ℕ) → words.now ≡ trial_words p ++ rest → labels_in (take result labels.new) ≡ labels_of ps es p }
 {
     let count = word(words, 0);
     for at in 0..count {
         let edge = word(words, at + 1);
-        let code = word(codes, edge) % Item::LIMIT;
+        let code = word(view.codes, edge) % Item::LIMIT;
         let place = Example::LABEL_WORDS * at;
-        labels[place] = owners[edge] as u16;
+        labels[place] = view.owners[edge] as u16;
         labels[place + 1] = (code / ProductionIndex::INDEXES) as u16;
         labels[place + 2] = (code % ProductionIndex::INDEXES) as u16;
     }
@@ -61,37 +63,32 @@ pub fn read_labels(owners: &[u8], codes: &[u16], words: &[u16], labels: &mut [u1
 }
 
 // The example of the trial that the words hold, at the front of the buffer.
-pub fn write_trial(
-    grammar: Grammar,
-    owners: &[u8],
-    codes: &[u16],
-    words: &[u16],
-    buffer: &mut [u16],
-)
-    requires tried { (es : List TraceEdge) × Tried (productions_in grammar.words.now grammar.productions) es owners.now codes.now words.now }
+pub fn write_trial(grammar: Grammar, view: View, words: &[u16], buffer: &mut [u16])
+    requires tried { (es : List TraceEdge) × Tried (productions_in grammar.words.now grammar.productions) es view.owners.now view.codes.now words.now }
     requires example_room_in_bounds { example_room ≤ length buffer.old }
-    ensures { (es : List TraceEdge) → Tried (productions_in grammar.entry.words.now grammar.entry.productions) es owners.now codes.now words.now → (p rest : List ℕ) → words.now ≡ trial_words p ++ rest → buffer.new ≡ in_front (example_words (productions_in grammar.entry.words.now grammar.entry.productions) (labels_of (productions_in grammar.entry.words.now grammar.entry.productions) es p)) buffer.old }
+    ensures { (es : List TraceEdge) → Tried (productions_in grammar.entry.words.now grammar.entry.productions) es view.entry.owners.now view.entry.codes.now words.now → (p rest : List ℕ) → words.now ≡ trial_words p ++ rest → buffer.new ≡ in_front (example_words (productions_in grammar.entry.words.now grammar.entry.productions) (labels_of (productions_in grammar.entry.words.now grammar.entry.productions) es p)) buffer.old }
 {
-    let mut labels = [0u16; Example::ALL_LABEL_WORDS];
-    let size = read_labels(owners, codes, words, &mut labels);
-    write_example(grammar, &labels[..size], buffer);
+    let mut room = [0u16; Example::ALL_LABEL_WORDS];
+    let size = read_labels(view, words, &mut room);
+    let labels = Labels {
+        grammar,
+        words: &room[..size],
+    };
+    labels.write_example(buffer);
 }
 
 // Whether what the trial's example expects next meets a set.
-fn meets(
-    grammar: Grammar,
-    sets: &FirstSets,
-    set: TokenSet,
-    owners: &[u8],
-    codes: &[u16],
-    words: &[u16],
-) -> bool
-    requires tried { (es : List TraceEdge) × Tried (productions_in grammar.words.now grammar.productions) es owners.now codes.now words.now }
-    ensures { (es : List TraceEdge) → Tried (productions_in grammar.entry.words.now grammar.entry.productions) es owners.now codes.now words.now → (p rest : List ℕ) → words.now ≡ trial_words p ++ rest → result ≡ passes_by sets.now.terminals sets.now.map (productions_in grammar.entry.words.now grammar.entry.productions) es (some set.0) p }
+fn meets(grammar: Grammar, sets: &FirstSets, set: TokenSet, view: View, words: &[u16]) -> bool
+    requires tried { (es : List TraceEdge) × Tried (productions_in grammar.words.now grammar.productions) es view.owners.now view.codes.now words.now }
+    ensures { (es : List TraceEdge) → Tried (productions_in grammar.entry.words.now grammar.entry.productions) es view.entry.owners.now view.entry.codes.now words.now → (p rest : List ℕ) → words.now ≡ trial_words p ++ rest → result ≡ passes_by sets.now.terminals sets.now.map (productions_in grammar.entry.words.now grammar.entry.productions) es (some set.0) p }
 {
-    let mut labels = [0u16; Example::ALL_LABEL_WORDS];
-    let size = read_labels(owners, codes, words, &mut labels);
-    let expected = first0(sets, grammar, &labels[..size]);
+    let mut room = [0u16; Example::ALL_LABEL_WORDS];
+    let size = read_labels(view, words, &mut room);
+    let labels = Labels {
+        grammar,
+        words: &room[..size],
+    };
+    let expected = labels.first0(sets);
     let answer = expected.answer;
     answer.meets(sets.terminals, set)
 }
@@ -101,23 +98,15 @@ pub fn passes(
     grammar: Grammar,
     sets: &FirstSets,
     lookahead: Option<TokenSet>,
-    owners: &[u8],
-    codes: &[u16],
+    view: View,
     words: &[u16],
 ) -> bool
-    requires tried { (es : List TraceEdge) × Tried (productions_in grammar.words.now grammar.productions) es owners.now codes.now words.now }
-    ensures { (es : List TraceEdge) → Tried (productions_in grammar.entry.words.now grammar.entry.productions) es owners.now codes.now words.now → (p rest : List ℕ) → words.now ≡ trial_words p ++ rest → result ≡ passes_by sets.now.terminals sets.now.map (productions_in grammar.entry.words.now grammar.entry.productions) es (set_of lookahead) p }
+    requires tried { (es : List TraceEdge) × Tried (productions_in grammar.words.now grammar.productions) es view.owners.now view.codes.now words.now }
+    ensures { (es : List TraceEdge) → Tried (productions_in grammar.entry.words.now grammar.entry.productions) es view.entry.owners.now view.entry.codes.now words.now → (p rest : List ℕ) → words.now ≡ trial_words p ++ rest → result ≡ passes_by sets.now.terminals sets.now.map (productions_in grammar.entry.words.now grammar.entry.productions) es (set_of lookahead) p }
 {
     match lookahead {
         None => true,
-        Some(set) => meets(
-            grammar,
-            sets,
-            set,
-            owners,
-            codes,
-            words,
-        ),
+        Some(set) => meets(grammar, sets, set, view, words),
     }
 }
 
@@ -126,23 +115,14 @@ fn hands(
     grammar: Grammar,
     sets: &FirstSets,
     ahead: Option<TokenSet>,
-    owners: &[u8],
-    codes: &[u16],
-    sources: &[u8],
+    view: View,
     words: &[u16],
 ) -> bool
-    requires tried { (es : List TraceEdge) × (Tried (productions_in grammar.words.now grammar.productions) es owners.now codes.now words.now × Sourced es sources.now) }
-    ensures { (es : List TraceEdge) → Tried (productions_in grammar.entry.words.now grammar.entry.productions) es owners.now codes.now words.now → Sourced es sources.now → (p rest : List ℕ) → words.now ≡ trial_words p ++ rest → result ≡ hands_by sets.now.terminals sets.now.map (productions_in grammar.entry.words.now grammar.entry.productions) es (set_of ahead) p }
+    requires tried { (es : List TraceEdge) × (Tried (productions_in grammar.words.now grammar.productions) es view.owners.now view.codes.now words.now × Sourced es view.sources.now) }
+    ensures { (es : List TraceEdge) → Tried (productions_in grammar.entry.words.now grammar.entry.productions) es view.entry.owners.now view.entry.codes.now words.now → Sourced es view.entry.sources.now → (p rest : List ℕ) → words.now ≡ trial_words p ++ rest → result ≡ hands_by sets.now.terminals sets.now.map (productions_in grammar.entry.words.now grammar.entry.productions) es (set_of ahead) p }
 {
-    if is_example(sources, words) {
-        return passes(
-            grammar,
-            sets,
-            ahead,
-            owners,
-            codes,
-            words,
-        );
+    if view.is_example(words) {
+        return passes(grammar, sets, ahead, view, words);
     }
     false
 }
@@ -161,34 +141,22 @@ pub fn search(
     grammar: Grammar,
     sets: &FirstSets,
     lookahead: Option<TokenSet>,
-    owners: &[u8],
-    codes: &[u16],
-    sources: &[u8],
-    older: &[u16],
-    latest: &[u16],
+    view: View,
     words: &mut [u16],
     count: u32,
 ) -> Searched
-    requires searching { (es : List TraceEdge) × ((start : ItemOf) × Searching (productions_in grammar.words.now grammar.productions) es owners.now codes.now sources.now older.now latest.now words.old start) }
-    ensures { (es : List TraceEdge) (start : ItemOf) → Searching (productions_in grammar.entry.words.now grammar.entry.productions) es owners.now codes.now sources.now older.now latest.now words.old start → (p rest : List ℕ) → words.old ≡ trial_words p ++ rest → searched result words.new ≡ searched_of rest (search (hands_by sets.now.terminals sets.now.map (productions_in grammar.entry.words.now grammar.entry.productions) es (set_of lookahead)) (trial_limit - count) count (later_than p (trials (ends_of es) (at_item start)))) }
+    requires searching { (es : List TraceEdge) × ((start : ItemOf) × Searching (productions_in grammar.words.now grammar.productions) es view.owners.now view.codes.now view.sources.now view.older.now view.latest.now words.old start) }
+    ensures { (es : List TraceEdge) (start : ItemOf) → Searching (productions_in grammar.entry.words.now grammar.entry.productions) es view.entry.owners.now view.entry.codes.now view.entry.sources.now view.entry.older.now view.entry.latest.now words.old start → (p rest : List ℕ) → words.old ≡ trial_words p ++ rest → searched result words.new ≡ searched_of rest (search (hands_by sets.now.terminals sets.now.map (productions_in grammar.entry.words.now grammar.entry.productions) es (set_of lookahead)) (trial_limit - count) count (later_than p (trials (ends_of es) (at_item start)))) }
 {
     let mut counts = [0u8; NonterminalString::LIMIT];
-    count_walk(sources, words, &mut counts);
+    view.count_walk(words, &mut counts);
     let mut made = count;
-    while next(sources, older, latest, words, &mut counts) {
+    while view.next(words, &mut counts) {
         if made >= Searched::TRIALS {
             return overrun(words);
         }
         made += 1;
-        if hands(
-            grammar,
-            sets,
-            lookahead,
-            owners,
-            codes,
-            sources,
-            words,
-        ) {
+        if hands(grammar, sets, lookahead, view, words) {
             return Searched::Hit(made);
         }
     }

@@ -29,7 +29,7 @@ use Rattle.table.proofs.Chains.{chain_end}
 use Rattle.state_graph.proofs.Steps.{stepped}
 use Rattle.bits.specs.Bits.{bit_at, bit_put}
 use Rattle.bits.proofs.Laws.{put-length, put_here, put_other, zeros_none}
-use Rattle.state_graph.specs.Hits.{hit_words, has_end_in, is_hit_now, meets, Hits}
+use Rattle.state_graph.specs.Hits.{hit_words, goes_in, has_end_in, is_hit_now, meets, Hits}
 
 -- an edge index that is not 0 is a record of the table
 pub index_inside : (t : List ℕ) (r : ℕ) → (r ≡ 0 → ⊥) → EdgeIndex t r → r < records t
@@ -38,36 +38,6 @@ index_inside t r ne i = (edge_inside t r (i.reached ne)).1
 pub edges_none : (t : List ℕ) → edges_from t 0 ≡ []
 unfolding edges_from
 edges_none t = rw (chain_end t (loose_records t) 0)
-
--- as the code tests them
-
-pub ends_kind : (t : List ℕ) (k x l h r : ℕ) → (word_at t r 1 ≡ k → ⊥) → false ≡ has_end_in t k x l h r
-unfolding has_end_in
-ends_kind t k x l h r ne = rw (ne_eqb (word_at t r 1) k ne)
-
-pub ends-number : (t : List ℕ) (k x l h r : ℕ) → (word_at t r 2 ≡ x → ⊥) → false ≡ has_end_in t k x l h r
-unfolding has_end_in
-ends-number t k x l h r ne = rw (ne_eqb (word_at t r 2) x ne) (sym (and-false (eqb (word_at t r 1) k)))
-
-pub ends_target : (t : List ℕ) (k x l h r : ℕ) → word_at t r 1 ≡ k → word_at t r 2 ≡ x → has_state l h (word_at t r 3) ≡ has_end_in t k x l h r
-unfolding has_end_in
-ends_target t k x l h r a b = rw (eq-eqb (word_at t r 1) k a, eq-eqb (word_at t r 2) x b)
-
-pub now_own : (t hs : List ℕ) (k x l h r : ℕ) → has_end_in t k x l h r ≡ true → true ≡ is_hit_now t hs k x l h r
-unfolding is_hit_now
-now_own t hs k x l h r e = rw e
-
-pub now_back : (t hs : List ℕ) (k x l h r : ℕ) → has_end_in t k x l h r ≡ false → word_at t r 0 ≤ r → false ≡ is_hit_now t hs k x l h r
-unfolding is_hit_now
-now_back t hs k x l h r e b = rw (e, le-ltb r (word_at t r 0) b)
-
-pub now_past : (t hs : List ℕ) (k x l h r : ℕ) → has_end_in t k x l h r ≡ false → records t ≤ word_at t r 0 → false ≡ is_hit_now t hs k x l h r
-unfolding is_hit_now
-now_past t hs k x l h r e b = rw (e, le-ltb (word_at t r 0) (records t) b) (sym (and-false (ltb r (word_at t r 0))))
-
-pub now_next : (t hs : List ℕ) (k x l h r : ℕ) → has_end_in t k x l h r ≡ false → r < word_at t r 0 → word_at t r 0 < records t → bit_at hs (word_at t r 0) ≡ is_hit_now t hs k x l h r
-unfolding is_hit_now
-now_next t hs k x l h r e a b = rw (e, lt-ltb r (word_at t r 0) a, lt-ltb (word_at t r 0) (records t) b)
 
 -- an edge
 
@@ -104,7 +74,7 @@ module _ (t : List ℕ) (ok : check_of t ≡ Accepted) (k x l h : ℕ) (f : symb
   record_read = edge_read_lem t (accepts t ok) r (word_at t r 0) (word_at t r 1) (word_at t r 2) (word_at t r 3) ne I refl refl refl refl
 
   pub edges_say : some? (meets (symbol_of_kind k x) (states_in l h)) (edges_from t r) ≡ (has_end_in t k x l h r || some? (meets (symbol_of_kind k x) (states_in l h)) (edges_from t (word_at t r 0)))
-  unfolding has_end_in
+  unfolding has_end_in goes_in
   edges_say =
       let R = record_read in
       let e : Edge = record { symbol = symbol_of_kind (word_at t r 1) (word_at t r 2); target = word_at t r 3 } in
@@ -216,18 +186,24 @@ module _ (t : List ℕ) (ok : check_of t ≡ Accepted) (k x l h : ℕ) where
     stays : (v : Bool) → v ≡ false → (p : ℕ) → p < 128 → has_state a b p ≡ (has_state a b p || (eqb p s && v))
     stays v e p lp = rw (e, and-false (eqb p s)) (sym (or-false (has_state a b p)))
 
+    pub finding_not : leads (meaning t) (symbol_of_kind k x) (states_in l h) s ≡ false → Finding t k x l h a b (s + 1)
+    finding_not m = more a b false (sym m) (stays false refl)
+
+    pub finding_led : leads (meaning t) (symbol_of_kind k x) (states_in l h) s ≡ true → (c d : ℕ) → ((p : ℕ) → has_state c d p ≡ (has_state a b p || (ltb p 128 && eqb p s))) → Finding t k x l h c d (s + 1)
+    finding_led m c d f = more c d true (sym m) (λ p lp. f p ∙ rw (lt-ltb p 128 lp) (ap (λ (y : Bool). has_state a b p || y) (sym (and-true (eqb p s)))))
+
     module _ (head : ℕ) (e : edges_from t head ≡ (state_at (meaning t) s).edges) where
       head-leads : some? (meets (symbol_of_kind k x) (states_in l h)) (edges_from t head) ≡ leads (meaning t) (symbol_of_kind k x) (states_in l h) s
       head-leads = ap (some? (meets (symbol_of_kind k x) (states_in l h))) e ∙ sym (leads-meets (meaning t) (symbol_of_kind k x) (states_in l h) s)
 
       pub finding_miss : some? (meets (symbol_of_kind k x) (states_in l h)) (edges_from t head) ≡ false → Finding t k x l h a b (s + 1)
-      finding_miss m = more a b false (sym m ∙ head-leads) (stays false refl)
+      finding_miss m = finding_not (sym head-leads ∙ m)
 
       pub finding_none : head ≡ 0 → Finding t k x l h a b (s + 1)
       finding_none z = finding_miss (rw (z, edges_none t) (some?-nil (meets (symbol_of_kind k x) (states_in l h))))
 
       pub finding_hit : some? (meets (symbol_of_kind k x) (states_in l h)) (edges_from t head) ≡ true → (c d : ℕ) → ((p : ℕ) → has_state c d p ≡ (has_state a b p || (ltb p 128 && eqb p s))) → Finding t k x l h c d (s + 1)
-      finding_hit m c d f = more c d true (sym m ∙ head-leads) (λ p lp. f p ∙ rw (lt-ltb p 128 lp) (ap (λ (y : Bool). has_state a b p || y) (sym (and-true (eqb p s)))))
+      finding_hit m = finding_led (sym head-leads ∙ m)
 
   pub finding_done : TableFits (meaning t) → (a b s : ℕ) → Finding t k x l h a b s → s ≡ length (meaning t).states → states_in a b ≡ predecessors (meaning t) (symbol_of_kind k x) (states_in l h)
   finding_done fits a b s F e =

@@ -14,10 +14,9 @@ use Rattle.lookahead.specs.Tokens.{has, single, union, without, members}
 use Rattle.lookahead.proofs.Laws.{has-none, has-below, has-union, has-single}
 use Rattle.lookahead.proofs.Members.{members-none, members_step}
 use Rattle.lookahead.proofs.Words.{shifted, contained}
-use Rattle.state_graph.specs.States.{has_state, states_in, NextIs}
+use Rattle.state_graph.specs.States.{has_state, states_in}
 use Rattle.state_graph.specs.declared.StateIndex.{StateIndex}
 use Rattle.state_graph.specs.declared.StateSet.{StateSet}
-use Rattle.state_graph.specs.declared.NextState.TheVariants as next
 
 -- which word holds a state
 
@@ -203,18 +202,6 @@ next_high l h k r d e = rw (states-words l h, states-words 0 r, d, members-none,
 
 pub next-done : (l h : ℕ) → members l ≡ [] → members h ≡ [] → states_in l h ≡ []
 next-done l h d e = rw (states-words l h, d, e)
-
--- what a caller reads of it
-pub next-states : (l h : ℕ) (s : StateIndex) (r : StateSet) → NextIs l h (next.State s r) → states_in l h ≡ s.0 ∷ states_in r.low r.high
-unfolding NextIs
-next-states l h s r e = e
-
-pub next-none : (l h : ℕ) → NextIs l h next.Done → states_in l h ≡ []
-unfolding NextIs
-next-none l h e = e
-
-pub next_less : (l h : ℕ) (s : StateIndex) (r : StateSet) → NextIs l h (next.State s r) → length (states_in r.low r.high) < length (states_in l h)
-next_less l h s r e = omega (arith, ap length (next-states l h s r e))
 
 -- membership as the code tests it
 pub tested_low : (l h s : ℕ) → s < 64 → eqb (bit_and (l / 2 ^ s) 1) 1 ≡ has_state l h s

@@ -14,9 +14,13 @@ use Rattle.bits.specs.Bits.{bit_at}
 abbrev pub hit_words : ℕ
 hit_words = 128
 
--- record r, read as an edge, goes by the symbol into the set of states
+-- an edge by j y to state z goes by the symbol k x into the set of states
+unfoldable pub goes_in : ℕ → ℕ → ℕ → ℕ → ℕ → ℕ → ℕ → Bool
+goes_in k x low high j y z = eqb j k && (eqb y x && has_state low high z)
+
+-- record r does, read as an edge
 unfoldable pub has_end_in : List ℕ → ℕ → ℕ → ℕ → ℕ → ℕ → Bool
-has_end_in t k x low high r = eqb (word_at t r 1) k && (eqb (word_at t r 2) x && has_state low high (word_at t r 3))
+has_end_in t k x low high r = goes_in k x low high (word_at t r 1) (word_at t r 2) (word_at t r 3)
 
 -- or the next record, if it keeps the rule, is hit
 unfoldable pub is_hit_now : List ℕ → List ℕ → ℕ → ℕ → ℕ → ℕ → ℕ → Bool

@@ -13,15 +13,15 @@ ghost use Rattle.table.specs.Index.{EdgeIndex};
 ghost use Rattle.table.specs.Checked.{Accepted};
 ghost use Rattle.table.specs.Refusals.{check_of};
 ghost use Rattle.std.specs.Iterator.{YieldsFirstBy, item_count};
-ghost use Rattle.state_graph.specs.Walk.{predecessors, walked_back, traced_back};
-ghost use Rattle.state_graph.specs.States.{has_state, states_in, NextIs};
-ghost use Rattle.state_graph.specs.Hits.{hit_words, has_end_in, is_hit_now, meets, Hits, SteppedTo};
+ghost use Rattle.state_graph.specs.Walk.{leads, predecessors, walked_back, traced_back};
+ghost use Rattle.state_graph.specs.States.{has_state, states_in};
+ghost use Rattle.state_graph.specs.Hits.{hit_words, goes_in, has_end_in, is_hit_now, Hits, SteppedTo};
 ghost use Rattle.state_graph.specs.Remembered.{step_rows, step_places, step_words, symbol_place, Remembered};
 
 use bits::{is_set, put};
 use lookahead::TokenSet;
 use repr::NonterminalString;
-use table::{first_edge, read_counts, word};
+use table::{AcceptedTable, word};
 
 // The number of a state.
 #[derive(Clone, Copy)]
@@ -36,13 +36,6 @@ impl StateIndex {
 pub struct StateSet {
     pub low: u64,
     pub high: u64,
-}
-
-// The least state of a set, and the others.
-#[derive(Clone, Copy)]
-pub enum NextState {
-    State(StateIndex, StateSet),
-    Done,
 }
 
 impl StateSet {
@@ -123,17 +116,6 @@ impl StateSet {
     {
         StateSetIter(self)
     }
-
-    // The least state, and the others.
-    pub fn next(self) -> NextState
-        ensures { NextIs self.low self.high result }
-    {
-        let mut rest = self.iter();
-        match rest.next() {
-            Some(state) => NextState::State(state, rest.0),
-            None => NextState::Done,
-        }
-    }
 }
 
 // What is left of a set that is gone through in order.
@@ -172,45 +154,52 @@ impl Iterator for StateSetIter {
 // A step back in an accepted table: over edges by one symbol, into a set of states.
 #[derive(Clone, Copy)]
 struct Step<'a> {
-    table: &'a [u16],
+    table: AcceptedTable<'a>,
+    // As in the words of a record, which may be none of an edge.
     kind: usize,
     number: usize,
     set: StateSet,
-    ghost accepted: { check_of table.now ≡ Accepted },
-    ghost symbol: { symbol_is_fit (length (meaning table.now).nonterminals) (meaning table.now).terminals kind number ≡ true },
+    ghost symbol: { symbol_is_fit (length (meaning table.words.now).nonterminals) (meaning table.words.now).terminals kind number ≡ true },
 }
 
 impl Step<'_> {
-    // Whether a record, read as an edge, goes by the symbol into the set.
+    // Whether an edge by a symbol to a state goes by the symbol into the set.
+    #[tactic(auto, unfolding(crate::specs::Hits::goes_in))]
+    fn goes(self, kind: usize, number: usize, target: usize) -> bool
+        ensures { result ≡ goes_in self.entry.kind self.entry.number self.entry.set.low self.entry.set.high kind number target }
+    {
+        kind == self.kind && number == self.number && self.set.contains(target)
+    }
+
+    // Whether a record does, read as an edge.
     #[tactic(auto, unfolding(crate::specs::Hits::has_end_in))]
     fn ends_in(self, r: usize) -> bool
-        requires { (r < record_limit) × (r * 4 + 3 < length self.table.now) }
-        ensures { result ≡ has_end_in self.entry.table.now self.entry.kind self.entry.number self.entry.set.low self.entry.set.high r }
+        requires { (r < record_limit) × (r * 4 + 3 < length self.table.words.now) }
+        ensures { result ≡ has_end_in self.entry.table.words.now self.entry.kind self.entry.number self.entry.set.low self.entry.set.high r }
     {
-        word(self.table, r, 1) == self.kind
-            && word(self.table, r, 2) == self.number
-            && self.set.contains(word(self.table, r, 3))
+        let words = self.table.words;
+        self.goes(word(words, r, 1), word(words, r, 2), word(words, r, 3))
     }
 
     // Whether it does, or the record after it is hit. A record that no chain reaches may hold anything, so its next index is looked at only where it keeps the rule.
     #[tactic(auto, unfolding(crate::specs::Hits::is_hit_now))]
     fn hit_now(self, hits: &[u64], r: usize) -> bool
-        requires { (records self.table.now ≤ record_limit) × (length self.table.now ≡ 4 * records self.table.now) × (r < records self.table.now) × (length hits.now ≡ hit_words) }
-        ensures { result ≡ is_hit_now self.entry.table.now hits.now self.entry.kind self.entry.number self.entry.set.low self.entry.set.high r }
+        requires { (records self.table.words.now ≤ record_limit) × (length self.table.words.now ≡ 4 * records self.table.words.now) × (r < records self.table.words.now) × (length hits.now ≡ hit_words) }
+        ensures { result ≡ is_hit_now self.entry.table.words.now hits.now self.entry.kind self.entry.number self.entry.set.low self.entry.set.high r }
     {
         if self.ends_in(r) {
             return true;
         }
-        let next = word(self.table, r, 0);
-        next > r && next < self.table.len() / 4 && is_set(hits, next)
+        let next = word(self.table.words, r, 0);
+        next > r && next < self.table.words.len() / 4 && is_set(hits, next)
     }
 
     // The records from the last down: a next index is larger than its record's number, so what follows a record is known when it is read.
     fn sweep(self, hits: &mut [u64])
         requires { hits.old ≡ replicate hit_words 0 }
-        ensures { Hits self.entry.table.now self.entry.kind self.entry.number self.entry.set.low self.entry.set.high hits.new }
+        ensures { Hits self.entry.table.words.now self.entry.kind self.entry.number self.entry.set.low self.entry.set.high hits.new }
     {
-        for r in (0..self.table.len() / 4).rev() {
+        for r in (0..self.table.words.len() / 4).rev() {
             if self.hit_now(hits, r) {
                 put(hits, r);
             }
@@ -220,13 +209,13 @@ impl Step<'_> {
     // With the hits in words that are lent.
     fn states_over(self, hits: &mut [u64]) -> StateSet
         requires { hits.old ≡ replicate hit_words 0 }
-        ensures { states_in result.low result.high ≡ predecessors (meaning self.entry.table.now) (symbol_of_kind self.entry.kind self.entry.number) (states_in self.entry.set.low self.entry.set.high) }
+        ensures { states_in result.low result.high ≡ predecessors (meaning self.entry.table.words.now) (symbol_of_kind self.entry.kind self.entry.number) (states_in self.entry.set.low self.entry.set.high) }
     {
         self.sweep(hits);
-        let states = read_counts(self.table).states;
+        let states = self.table.counts().states;
         let mut found = StateSet::new();
         for s in 0..states {
-            let head = first_edge(self.table, s);
+            let head = self.table.first_edge(s);
             if head != 0 && is_set(hits, head) {
                 found = found.insert(s);
             }
@@ -234,35 +223,32 @@ impl Step<'_> {
         found
     }
 
-    // Whether a chain of edges has one by the symbol into the set; none where it takes more edges than may still be read, as chains may be shared.
-    fn leads(self, first: usize, left: &mut usize) -> Option<bool>
-        requires { EdgeIndex self.table.now first }
-        ensures { MatchOption result (Unit {0}) (λ led. led ≡ some? (meets (symbol_of_kind self.entry.kind self.entry.number) (states_in self.entry.set.low self.entry.set.high)) (edges_from self.entry.table.now first)) }
+    // Whether a state has an edge by the symbol into the set; none where that takes more edges than may still be read, as chains may be shared.
+    fn leads(self, state: usize, left: &mut usize) -> Option<bool>
+        requires { state < length (meaning self.table.words.now).states }
+        ensures { MatchOption result (Unit {0}) (λ led. led ≡ leads (meaning self.entry.table.words.now) (symbol_of_kind self.entry.kind self.entry.number) (states_in self.entry.set.low self.entry.set.high) state) }
     {
-        let mut at = first;
-        while at != 0 {
+        for edge in self.table.edges(state) {
             if *left == 0 {
                 return None;
             }
             *left -= 1;
-            if self.ends_in(at) {
+            if self.goes(edge.kind, edge.number, edge.target) {
                 return Some(true);
             }
-            at = word(self.table, at, 0);
         }
         Some(false)
     }
 
     // Along the chains of all states: the states found, or none where more edges would be read than the table has records.
     fn states_along(self) -> Option<StateSet>
-        ensures { SteppedTo (predecessors (meaning self.entry.table.now) (symbol_of_kind self.entry.kind self.entry.number) (states_in self.entry.set.low self.entry.set.high)) result }
+        ensures { SteppedTo (predecessors (meaning self.entry.table.words.now) (symbol_of_kind self.entry.kind self.entry.number) (states_in self.entry.set.low self.entry.set.high)) result }
     {
-        let states = read_counts(self.table).states;
-        let mut left = self.table.len() / 4;
+        let states = self.table.counts().states;
+        let mut left = self.table.words.len() / 4;
         let mut found = StateSet::new();
         for s in 0..states {
-            let head = first_edge(self.table, s);
-            if self.leads(head, &mut left)? {
+            if self.leads(s, &mut left)? {
                 found = found.insert(s);
             }
         }
@@ -271,7 +257,7 @@ impl Step<'_> {
 
     // The states with an edge by the symbol into the set: along the chains, or where they are shared by a sweep over all records.
     fn states(self) -> StateSet
-        ensures { states_in result.low result.high ≡ predecessors (meaning self.entry.table.now) (symbol_of_kind self.entry.kind self.entry.number) (states_in self.entry.set.low self.entry.set.high) }
+        ensures { states_in result.low result.high ≡ predecessors (meaning self.entry.table.words.now) (symbol_of_kind self.entry.kind self.entry.number) (states_in self.entry.set.low self.entry.set.high) }
     {
         match self.states_along() {
             Some(found) => found,
@@ -333,17 +319,16 @@ fn note(steps: &mut [u64], place: usize, row: usize)
 
 // The states with an edge by one symbol into the set; where that step is remembered, what it found.
 fn step_back(
-    table: &[u16],
+    table: AcceptedTable,
     steps: &mut [u64],
     kind: usize,
     number: usize,
     set: StateSet,
 ) -> StateSet
-    requires table_value { check_of table.now ≡ Accepted }
-    requires number_value { symbol_is_fit (length (meaning table.now).nonterminals) (meaning table.now).terminals kind number ≡ true }
-    requires remembered { Remembered (meaning table.now) steps.old }
-    ensures high_value { states_in result.low result.high ≡ predecessors (meaning table.now) (symbol_of_kind kind number) (states_in set.low set.high) }
-    ensures remembered_2 { Remembered (meaning table.now) steps.new }
+    requires number_value { symbol_is_fit (length (meaning table.words.now).nonterminals) (meaning table.words.now).terminals kind number ≡ true }
+    requires remembered { Remembered (meaning table.words.now) steps.old }
+    ensures high_value { states_in result.low result.high ≡ predecessors (meaning table.entry.words.now) (symbol_of_kind kind number) (states_in set.low set.high) }
+    ensures remembered_2 { Remembered (meaning table.entry.words.now) steps.new }
 {
     let row = kind * NonterminalString::LIMIT + number;
     let place = place_of(row, set);
@@ -363,12 +348,11 @@ fn step_back(
 }
 
 // The states from which a path spells the symbols and ends in the set.
-pub fn walk_back(table: &[u16], steps: &mut [u64], set: StateSet, symbols: &[u16]) -> StateSet
-    requires table_value { check_of table.now ≡ Accepted }
-    requires symbols_value { list_is_fit (length (meaning table.now).nonterminals) (meaning table.now).terminals symbols.now ≡ true }
-    requires remembered { Remembered (meaning table.now) steps.old }
-    ensures high_value { states_in result.low result.high ≡ walked_back (meaning table.now) (states_in set.low set.high) (listed symbols.now) }
-    ensures remembered_2 { Remembered (meaning table.now) steps.new }
+pub fn walk_back(table: AcceptedTable, steps: &mut [u64], set: StateSet, symbols: &[u16]) -> StateSet
+    requires symbols_value { list_is_fit (length (meaning table.words.now).nonterminals) (meaning table.words.now).terminals symbols.now ≡ true }
+    requires remembered { Remembered (meaning table.words.now) steps.old }
+    ensures high_value { states_in result.low result.high ≡ walked_back (meaning table.entry.words.now) (states_in set.low set.high) (listed symbols.now) }
+    ensures remembered_2 { Remembered (meaning table.entry.words.now) steps.new }
 {
     let mut found = set;
     for i in (0..symbols.len() / 2).rev() {
@@ -380,11 +364,10 @@ pub fn walk_back(table: &[u16], steps: &mut [u64], set: StateSet, symbols: &[u16
 }
 
 // Back over two lists joined: over the second and, from the states found, over the first. Where the first is odd, a symbol begins with its last word and ends with the other's first.
-fn walk_joined(table: &[u16], steps: &mut [u64], set: StateSet, xs: &[u16], ys: &[u16]) -> StateSet
-    requires table_value { check_of table.now ≡ Accepted }
-    requires ys_value { list_is_fit (length (meaning table.now).nonterminals) (meaning table.now).terminals (xs.now ++ ys.now) ≡ true }
-    requires remembered { Remembered (meaning table.now) steps.old }
-    ensures { states_in result.low result.high ≡ walked_back (meaning table.now) (states_in set.low set.high) (listed (xs.now ++ ys.now)) }
+fn walk_joined(table: AcceptedTable, steps: &mut [u64], set: StateSet, xs: &[u16], ys: &[u16]) -> StateSet
+    requires ys_value { list_is_fit (length (meaning table.words.now).nonterminals) (meaning table.words.now).terminals (xs.now ++ ys.now) ≡ true }
+    requires remembered { Remembered (meaning table.words.now) steps.old }
+    ensures { states_in result.low result.high ≡ walked_back (meaning table.entry.words.now) (states_in set.low set.high) (listed (xs.now ++ ys.now)) }
 {
     if xs.len() % 2 == 0 {
         let found = walk_back(table, steps, set, ys);
@@ -398,20 +381,18 @@ fn walk_joined(table: &[u16], steps: &mut [u64], set: StateSet, xs: &[u16], ys: 
 }
 
 // `trace_back` of one state, over two lists joined.
-pub fn trace_back_joined(table: &[u16], state: usize, xs: &[u16], ys: &[u16]) -> StateSet
-    requires table_value { check_of table.now ≡ Accepted }
-    requires state_in_bounds { (state < length (meaning table.now).states) × (list_is_fit (length (meaning table.now).nonterminals) (meaning table.now).terminals (xs.now ++ ys.now) ≡ true) }
-    ensures { states_in result.low result.high ≡ traced_back (meaning table.now) state (listed (xs.now ++ ys.now)) }
+pub fn trace_back_joined(table: AcceptedTable, state: usize, xs: &[u16], ys: &[u16]) -> StateSet
+    requires state_in_bounds { (state < length (meaning table.words.now).states) × (list_is_fit (length (meaning table.words.now).nonterminals) (meaning table.words.now).terminals (xs.now ++ ys.now) ≡ true) }
+    ensures { states_in result.low result.high ≡ traced_back (meaning table.entry.words.now) state (listed (xs.now ++ ys.now)) }
 {
     let mut steps = [0u64; StateSet::STEP_WORDS];
     walk_joined(table, &mut steps, StateSet::of(state), xs, ys)
 }
 
 // `trace_back` of one state. The last step alone is remembered, by a row that no symbol has before the first: a run of one symbol over a set that stays costs one step.
-pub fn trace_back(table: &[u16], state: usize, symbols: &[u16]) -> StateSet
-    requires table_value { check_of table.now ≡ Accepted }
-    requires state_in_bounds { (state < length (meaning table.now).states) × (list_is_fit (length (meaning table.now).nonterminals) (meaning table.now).terminals symbols.now ≡ true) }
-    ensures { states_in result.low result.high ≡ traced_back (meaning table.now) state (listed symbols.now) }
+pub fn trace_back(table: AcceptedTable, state: usize, symbols: &[u16]) -> StateSet
+    requires state_in_bounds { (state < length (meaning table.words.now).states) × (list_is_fit (length (meaning table.words.now).nonterminals) (meaning table.words.now).terminals symbols.now ≡ true) }
+    ensures { states_in result.low result.high ≡ traced_back (meaning table.entry.words.now) state (listed symbols.now) }
 {
     let mut found = StateSet::of(state);
     let mut last = found;

@@ -7,3 +7,4 @@ pub mod Index
 pub mod Written
 pub mod TableB
 pub mod Quads
+pub mod Steps

@@ -1,13 +1,27 @@
 // An accepted table: what the check answered is kept in the type, and reading it asks for nothing more.
 
 ghost use Rattle.std.specs.Prelude.{◌≡◌, [], ◌<◌, length, get_or};
-ghost use Rattle.repr.specs.Meaning.{state_at};
+ghost use Rattle.repr.specs.Sizes.{grammar_room};
+ghost use Rattle.repr.specs.Meaning.{state_at, production_at};
+ghost use Rattle.repr.specs.Packed.{Packed, productions_in};
 ghost use Rattle.table.specs.Checked.{Accepted};
 ghost use Rattle.table.specs.Decoded.{meaning, items_from, edges_from, productions_from};
 ghost use Rattle.table.specs.Refusals.{check_of};
 ghost use Rattle.table.specs.Index.{CountsOf, ItemIndex, EdgeIndex, ProductionHead, ItemRead, EdgeRead, ProductionRead};
+ghost use Rattle.table.specs.Written.{symbols_from, SymbolIndex, SymbolRead, OwnerStored, OwnersIn, SymbolsStored, ProductionStored};
 
-use crate::{Counts, EdgeRecord, ItemRecord, ProductionRecord};
+use crate::{
+    Counts, EdgeIter, EdgeRecord, ItemIter, ItemRecord, ProductionIter, ProductionRecord, word,
+};
+use repr::ProductionIndex;
+
+// A symbol, and the index of the next.
+#[derive(Clone, Copy)]
+struct SymbolRecord {
+    next: usize,
+    kind: usize,
+    number: usize,
+}
 
 // The words of a table that rows 1 to 8 let through.
 #[derive(Clone, Copy)]
@@ -20,7 +34,12 @@ impl<'a> AcceptedTable<'a> {
     pub fn counts(self) -> Counts
         ensures { CountsOf (meaning self.entry.words.now) result.nonterminals result.terminals result.states result.productions }
     {
-        crate::read_counts(self.words)
+        Counts {
+            nonterminals: word(self.words, 0, 0),
+            terminals: word(self.words, 0, 1),
+            states: word(self.words, 0, 2),
+            productions: word(self.words, 0, 3),
+        }
     }
 
     // The index of a state's first item.
@@ -29,15 +48,33 @@ impl<'a> AcceptedTable<'a> {
         ensures items { items_from self.entry.words.now result ≡ (state_at (meaning self.entry.words.now) state).items }
         ensures on { ItemIndex self.entry.words.now result }
     {
-        crate::first_item(self.words, state)
+        let nonterminals = word(self.words, 0, 0);
+        word(self.words, 1 + nonterminals + state, 0)
     }
 
     pub fn item(self, at: usize) -> ItemRecord
         requires some { at ≡ 0 → ⊥ }
         requires on { ItemIndex self.words.now at }
-        ensures { ItemRead self.entry.words.now at result.next result.production result.index }
+        ensures read { ItemRead self.entry.words.now at result.next result.production result.index }
+        ensures at { result.at ≡ at }
     {
-        crate::item(self.words, at)
+        ItemRecord {
+            at,
+            next: word(self.words, at, 0),
+            production: word(self.words, at, 1),
+            index: word(self.words, at, 2),
+        }
+    }
+
+    // A state's items.
+    pub fn items(self, state: usize) -> ItemIter<'a>
+        requires { state < length (meaning self.words.now).states }
+        ensures { (result.table.words.now ≡ self.entry.words.now) × (items_from self.entry.words.now result.at ≡ (state_at (meaning self.entry.words.now) state).items) }
+    {
+        ItemIter {
+            table: self,
+            at: self.first_item(state),
+        }
     }
 
     // The index of a state's first edge.
@@ -46,7 +83,8 @@ impl<'a> AcceptedTable<'a> {
         ensures edges { edges_from self.entry.words.now result ≡ (state_at (meaning self.entry.words.now) state).edges }
         ensures on { EdgeIndex self.entry.words.now result }
     {
-        crate::first_edge(self.words, state)
+        let nonterminals = word(self.words, 0, 0);
+        word(self.words, 1 + nonterminals + state, 1)
     }
 
     pub fn edge(self, at: usize) -> EdgeRecord
@@ -54,7 +92,23 @@ impl<'a> AcceptedTable<'a> {
         requires on { EdgeIndex self.words.now at }
         ensures { EdgeRead self.entry.words.now at result.next result.kind result.number result.target }
     {
-        crate::edge(self.words, at)
+        EdgeRecord {
+            next: word(self.words, at, 0),
+            kind: word(self.words, at, 1),
+            number: word(self.words, at, 2),
+            target: word(self.words, at, 3),
+        }
+    }
+
+    // A state's edges.
+    pub fn edges(self, state: usize) -> EdgeIter<'a>
+        requires { state < length (meaning self.words.now).states }
+        ensures { (result.table.words.now ≡ self.entry.words.now) × (edges_from self.entry.words.now result.at ≡ (state_at (meaning self.entry.words.now) state).edges) }
+    {
+        EdgeIter {
+            table: self,
+            at: self.first_edge(state),
+        }
     }
 
     // The index of a nonterminal's first production.
@@ -63,7 +117,7 @@ impl<'a> AcceptedTable<'a> {
         ensures productions { productions_from self.entry.words.now result ≡ get_or (meaning self.entry.words.now).nonterminals nonterminal [] }
         ensures on { ProductionHead self.entry.words.now result }
     {
-        crate::first_production(self.words, nonterminal)
+        word(self.words, 1 + nonterminal, 0)
     }
 
     pub fn production(self, at: usize) -> ProductionRecord
@@ -71,6 +125,122 @@ impl<'a> AcceptedTable<'a> {
         requires on { ProductionHead self.words.now at }
         ensures { ProductionRead self.entry.words.now at result.next result.production }
     {
-        crate::production(self.words, at)
+        let nonterminals = word(self.words, 0, 0);
+        let states = word(self.words, 0, 2);
+        ProductionRecord {
+            next: word(self.words, at, 0),
+            production: at - (1 + nonterminals + states),
+        }
+    }
+
+    // A nonterminal's productions.
+    pub fn productions(self, nonterminal: usize) -> ProductionIter<'a>
+        requires { nonterminal < length (meaning self.words.now).nonterminals }
+        ensures { (result.table.words.now ≡ self.entry.words.now) × (productions_from self.entry.words.now result.at ≡ get_or (meaning self.entry.words.now).nonterminals nonterminal []) }
+    {
+        ProductionIter {
+            table: self,
+            at: self.first_production(nonterminal),
+        }
+    }
+
+    // The index of a production's first symbol.
+    fn first_symbol(self, production: usize) -> usize
+        requires { production < length (meaning self.words.now).productions }
+        ensures { (symbols_from self.entry.words.now result ≡ (production_at (meaning self.entry.words.now) production).symbols) × SymbolIndex self.entry.words.now result }
+    {
+        let nonterminals = word(self.words, 0, 0);
+        let states = word(self.words, 0, 2);
+        word(self.words, 1 + nonterminals + states + production, 1)
+    }
+
+    fn symbol(self, at: usize) -> SymbolRecord
+        requires { (at ≡ 0 → ⊥) × SymbolIndex self.words.now at }
+        ensures { SymbolRead self.entry.words.now at result.next result.kind result.number }
+    {
+        SymbolRecord {
+            next: word(self.words, at, 0),
+            kind: word(self.words, at, 1),
+            number: word(self.words, at, 2),
+        }
+    }
+
+    // Stores a nonterminal's number in each of its productions.
+    fn read_owner(self, grammar: &mut [u16], nonterminal: usize)
+        requires { (length grammar.old ≡ grammar_room) × (nonterminal < length (meaning self.words.now).nonterminals) }
+        ensures { OwnerStored self.entry.words.now grammar.old grammar.new nonterminal }
+    {
+        for read in self.productions(nonterminal) {
+            let owned = read.production;
+            grammar[owned * ProductionIndex::WORDS] = nonterminal as u16;
+        }
+    }
+
+    // Stores in each production its nonterminal's number.
+    fn read_owners(self, grammar: &mut [u16])
+        requires { length grammar.old ≡ grammar_room }
+        ensures { OwnersIn (meaning self.entry.words.now) grammar.new }
+    {
+        let counts = self.counts();
+        let nonterminals = counts.nonterminals;
+        for n in 0..nonterminals {
+            self.read_owner(grammar, n);
+        }
+    }
+
+    // Stores a production's symbols, and returns how many they are.
+    fn store_symbols(self, grammar: &mut [u16], production: usize) -> usize
+        requires { (length grammar.old ≡ grammar_room) × (production < length (meaning self.words.now).productions) }
+        ensures { SymbolsStored self.entry.words.now grammar.old grammar.new production result }
+    {
+        let mut at = self.first_symbol(production);
+        let mut count: usize = 0;
+        while at != 0 {
+            let read = self.symbol(at);
+            let put = production * ProductionIndex::WORDS + 4 + 2 * count;
+            grammar[put] = read.kind as u16;
+            grammar[put + 1] = read.number as u16;
+            count += 1;
+            at = read.next;
+        }
+        count
+    }
+
+    // Stores a production's symbols, their number and its span.
+    fn read_symbols_of(self, grammar: &mut [u16], production: usize)
+        requires { (length grammar.old ≡ grammar_room) × (production < length (meaning self.words.now).productions) }
+        ensures { ProductionStored self.entry.words.now grammar.old grammar.new production }
+    {
+        let count = self.store_symbols(grammar, production);
+        let nonterminals = word(self.words, 0, 0);
+        let states = word(self.words, 0, 2);
+        let record = 1 + nonterminals + states + production;
+        let start = word(self.words, record, 2);
+        let end = word(self.words, record, 3);
+        let base = production * ProductionIndex::WORDS;
+        grammar[base + 1] = count as u16;
+        grammar[base + 2] = start as u16;
+        grammar[base + 3] = end as u16;
+    }
+
+    // Stores each production's symbols and span.
+    fn read_symbols(self, grammar: &mut [u16])
+        requires { OwnersIn (meaning self.words.now) grammar.old }
+        ensures { Packed grammar.new (length (meaning self.entry.words.now).productions) × (productions_in grammar.new (length (meaning self.entry.words.now).productions) ≡ (meaning self.entry.words.now).productions) }
+    {
+        let counts = self.counts();
+        let productions = counts.productions;
+        for p in 0..productions {
+            self.read_symbols_of(grammar, p);
+        }
+    }
+
+    // Writes the productions into words, as specs/Packed of repr has them.
+    pub fn read_productions(self, grammar: &mut [u16])
+        requires { length grammar.old ≡ grammar_room }
+        ensures { Packed grammar.new (length (meaning self.entry.words.now).productions) × (productions_in grammar.new (length (meaning self.entry.words.now).productions) ≡ (meaning self.entry.words.now).productions) }
+    {
+        self.read_owners(grammar);
+        self.read_symbols(grammar);
     }
 }

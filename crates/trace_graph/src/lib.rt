@@ -184,13 +184,7 @@ pub fn write_edge(graph: &mut [u16], k: usize, edge: TraceEdge)
 }
 
 // Whether the labels of item i of production p and item j of production q are equal: by their symbols, and not by production.
-pub fn same_label(
-    grammar: Grammar,
-    p: usize,
-    i: usize,
-    q: usize,
-    j: usize,
-) -> bool
+pub fn same_label(grammar: Grammar, p: usize, i: usize, q: usize, j: usize) -> bool
     requires i_value { (item_is_fit (productions_in grammar.words.now grammar.productions) p i ≡ true) × (item_is_fit (productions_in grammar.words.now grammar.productions) q j ≡ true) }
     ensures { result ≡ same_sets (label_of (productions_in grammar.entry.words.now grammar.entry.productions) (record { production = p; index = i })) (label_of (productions_in grammar.entry.words.now grammar.entry.productions) (record { production = q; index = j })) }
 {
@@ -201,13 +195,7 @@ pub fn same_label(
 }
 
 // Whether edge k is equal to the edge.
-fn same_edge(
-    grammar: Grammar,
-    n: usize,
-    graph: &[u16],
-    k: usize,
-    edge: TraceEdge,
-) -> bool
+fn same_edge(grammar: Grammar, n: usize, graph: &[u16], k: usize, edge: TraceEdge) -> bool
     requires k_lt_edge_limit { (k < edge_limit) × (graph_room ≤ length graph.now) }
     requires k_value { (edge_is_fit n (productions_in grammar.words.now grammar.productions) graph.now k ≡ true) × (value_fits n (productions_in grammar.words.now grammar.productions) edge ≡ true) }
     ensures { result ≡ is_same_edge (productions_in grammar.entry.words.now grammar.entry.productions) (edge_is edge) (edge_at graph.now k) }
@@ -350,13 +338,7 @@ pub fn edge_fits(grammar: Grammar, n: usize, edge: TraceEdge) -> bool
 }
 
 // Whether edge k is in range and equals none before it; if so the index is brought up to it.
-pub fn check_edge(
-    grammar: Grammar,
-    n: usize,
-    graph: &[u16],
-    ix: &mut [u16],
-    k: usize,
-) -> bool
+pub fn check_edge(grammar: Grammar, n: usize, graph: &[u16], ix: &mut [u16], k: usize) -> bool
     requires graphed { Graphed n (productions_in grammar.words.now grammar.productions) graph.now ix.old k }
     requires k_lt_edge_limit { k < edge_limit }
     ensures value { result ≡ edge_is_fit n (productions_in grammar.entry.words.now grammar.entry.productions) graph.now k && fresh (productions_in grammar.entry.words.now grammar.entry.productions) graph.now k }
@@ -375,12 +357,7 @@ pub fn check_edge(
 }
 
 // Whether a lent graph is one (refusal 9): a count within the limit, every number in range, no edge twice. Makes its index in zeroed words.
-pub fn check_graph(
-    grammar: Grammar,
-    n: usize,
-    graph: &[u16],
-    ix: &mut [u16],
-) -> bool
+pub fn check_graph(grammar: Grammar, n: usize, graph: &[u16], ix: &mut [u16]) -> bool
     requires n_bound { (n ≤ 32) × (graph_room ≤ length graph.now) }
     requires ix_value { ix.old ≡ replicate index_room 0 }
     ensures value { result ≡ graph_fits n (productions_in grammar.entry.words.now grammar.entry.productions) graph.now }

@@ -3,6 +3,7 @@
 #![tactic(auto)]
 
 ghost use Rattle.std.specs.Prelude.{◌≡◌, ◌<◌, length, get_or};
+ghost use Rattle.view.specs.View.{Tidy};
 
 use example::Example;
 use repr::NonterminalString;
@@ -11,13 +12,19 @@ use trace_graph::TraceGraph;
 pub mod machine;
 pub mod making;
 
-// A view's sizes: edges, and nodes (the nonterminals, the start item, one word for all other items).
+// A view's lists. By edge: where it comes from (one more than the nonterminal, or 0 for an item) and the next older edge into the same node; by node (the nonterminals, the start item, one word for
+// all other items) the latest edge into it; by edge, for the labels, the nonterminal that it comes from and its item in one word. Its numbers are in range, whatever graph it is of.
 #[derive(Clone, Copy)]
-pub struct View {
-    pub edges: usize,
+pub struct View<'a> {
+    pub sources: &'a [u8],
+    pub older: &'a [u16],
+    pub latest: &'a [u16],
+    pub owners: &'a [u8],
+    pub codes: &'a [u16],
+    pub ghost tidy: { Tidy sources.now older.now latest.now },
 }
 
-impl View {
+impl<'a> View<'a> {
     pub const EDGES: usize = TraceGraph::EDGES;
 
     pub const START: usize = NonterminalString::LIMIT;

@@ -39,143 +39,132 @@ fn pop(words: &mut [u16])
     words[0] = (depth - 1) as u16;
 }
 
-// An edge joins the walk: the nonterminal that it comes from counts one more. A walk has at most 33 edges, so a byte holds a count.
-fn join(sources: &[u8], edge: usize, counts: &mut [u8])
-    requires bounded { Bounded edge_limit nonterminal_limit sources.now }
-    requires edge_lt_edge_limit { edge < edge_limit }
-    requires by_index { (us : List ℕ) × (length us ≤ reduction_limit) × Counted us counts.old }
-    ensures { (us : List ℕ) → Counted us counts.old → Counted (joined_by (get_or sources.now edge 0) us) counts.new }
-{
-    let source = byte(sources, edge);
-    if source == 0 {
-        return;
-    }
-    let nonterminal = source - 1;
-    counts[nonterminal] = counts[nonterminal] + 1;
-}
-
-// The last edge leaves the walk: the nonterminal that it comes from counts one fewer.
-fn leave(sources: &[u8], words: &[u16], counts: &mut [u8])
-    requires bounded { Bounded edge_limit nonterminal_limit sources.now }
-    requires held { Held words.now }
-    requires counted_edges { CountedEdges sources.now words.now counts.old }
-    ensures { CountedWalk sources.now words.now counts.new }
-{
-    let depth = word(words, 0);
-    if depth == 0 {
-        return;
-    }
-    let edge = word(words, depth);
-    let source = byte(sources, edge);
-    if source == 0 {
-        return;
-    }
-    let nonterminal = source - 1;
-    counts[nonterminal] = counts[nonterminal] - 1;
-}
-
-// The counts of the walk that the words hold, from none counted.
-pub fn count_walk(sources: &[u8], words: &[u16], counts: &mut [u8])
-    requires bounded { Bounded edge_limit nonterminal_limit sources.now }
-    requires held { Held words.now }
-    requires counted { Counted [] counts.old }
-    ensures { CountedWalk sources.now words.now counts.new }
-{
-    let depth = word(words, 0);
-    for at in 1..depth {
-        join(sources, word(words, at), counts);
-    }
-}
-
-// The last edge gives way to the next older one into the same node; where there is none it is taken off, the edge before it leaves the walk, and gives way.
-fn back(sources: &[u8], older: &[u16], words: &mut [u16], counts: &mut [u8]) -> bool
-    requires bounded { Bounded edge_limit nonterminal_limit sources.now × Bounded edge_limit edge_limit older.now }
-    requires held { Held words.old }
-    requires counted_walk { CountedWalk sources.now words.old counts.old }
-    ensures by_index { (st rest : List ℕ) → words.old ≡ trial_words (reverse st) ++ rest → stepped result words.new ≡ step_words (back_by older.now st) rest }
-    ensures counted_walk_2 { CountedWalk sources.now words.new counts.new }
-{
-    for depth in (1..=word(words, 0)).rev() {
-        let edge = word(words, depth);
-        let link = word(older, edge);
-        if link != 0 {
-            replace(words, link - 1);
-            return true;
-        }
-        pop(words);
-        leave(sources, words, counts);
-    }
-    false
-}
-
-// One edge more, that which a word links, where the edges before it are counted; where there is none, back.
-fn seek(sources: &[u8], older: &[u16], words: &mut [u16], link: usize, counts: &mut [u8]) -> bool
-    requires bounded { Bounded edge_limit nonterminal_limit sources.now × Bounded edge_limit edge_limit older.now }
-    requires link_le_edge_limit { link ≤ edge_limit }
-    requires held { Held words.old × ((link ≡ 0 → ⊥) → get_or words.old 0 0 < reduction_limit) }
-    requires counted_edges { CountedEdges sources.now words.old counts.old }
-    ensures by_index { (st rest : List ℕ) → words.old ≡ trial_words (reverse st) ++ rest → stepped result words.new ≡ step_words (seek_by older.now link st) rest }
-    ensures counted_walk { CountedWalk sources.now words.new counts.new }
-{
-    if link == 0 {
-        leave(sources, words, counts);
-        return back(sources, older, words, counts);
-    }
-    push(words, link - 1);
-    true
-}
-
-// The trial after the one that the words hold; after the empty words, the first from the start item.
-pub fn next(
-    sources: &[u8],
-    older: &[u16],
-    latest: &[u16],
-    words: &mut [u16],
-    counts: &mut [u8],
-) -> bool
-    requires tidy { Tidy sources.now older.now latest.now }
-    requires held { Held words.old × Fitting (next_by sources.now older.now latest.now) words.old }
-    requires counted_walk { CountedWalk sources.now words.old counts.old }
-    ensures by_index { (st rest : List ℕ) → words.old ≡ trial_words (reverse st) ++ rest → stepped result words.new ≡ step_words (next_by sources.now older.now latest.now st) rest }
-    ensures counted_walk_2 { CountedWalk sources.now words.new counts.new }
-{
-    let depth = word(words, 0);
-    if depth == 0 {
-        let first = word(latest, View::START);
-        return seek(sources, older, words, first, counts);
-    }
-    let edge = word(words, depth);
-    let source = byte(sources, edge);
-    if source == 0 {
-        return back(sources, older, words, counts);
-    }
-    let nonterminal = source - 1;
-    if counts[nonterminal] != 0 {
-        return back(sources, older, words, counts);
-    }
-    join(sources, edge, counts);
-    let link = word(latest, nonterminal);
-    seek(sources, older, words, link, counts)
-}
-
-// Whether the trial is an example: its last edge comes from an item.
-pub fn is_example(sources: &[u8], words: &[u16]) -> bool
-    requires bounded { Bounded edge_limit nonterminal_limit sources.now }
-    requires held { Held words.now }
-    ensures { (st rest : List ℕ) → words.now ≡ trial_words (reverse st) ++ rest → result ≡ example_by sources.now st }
-{
-    let depth = word(words, 0);
-    if depth == 0 {
-        return false;
-    }
-    let edge = word(words, depth);
-    byte(sources, edge) == 0
-}
-
 // The words of no edge.
 pub fn clear(words: &mut [u16])
     requires { trial_room ≤ length words.old }
     ensures { words.new ≡ trial_words [] ++ drop trial_room words.old }
 {
     words[..View::TRIAL].fill(0);
+}
+
+impl<'a> View<'a> {
+    // An edge joins the walk: the nonterminal that it comes from counts one more. A walk has at most 33 edges, so a byte holds a count.
+    fn join(self, edge: usize, counts: &mut [u8])
+        requires edge_lt_edge_limit { edge < edge_limit }
+        requires by_index { (us : List ℕ) × (length us ≤ reduction_limit) × Counted us counts.old }
+        ensures { (us : List ℕ) → Counted us counts.old → Counted (joined_by (get_or self.entry.sources.now edge 0) us) counts.new }
+    {
+        let source = byte(self.sources, edge);
+        if source == 0 {
+            return;
+        }
+        let nonterminal = source - 1;
+        counts[nonterminal] = counts[nonterminal] + 1;
+    }
+
+    // The last edge leaves the walk: the nonterminal that it comes from counts one fewer.
+    fn leave(self, words: &[u16], counts: &mut [u8])
+        requires held { Held words.now }
+        requires counted_edges { CountedEdges self.sources.now words.now counts.old }
+        ensures { CountedWalk self.entry.sources.now words.now counts.new }
+    {
+        let depth = word(words, 0);
+        if depth == 0 {
+            return;
+        }
+        let edge = word(words, depth);
+        let source = byte(self.sources, edge);
+        if source == 0 {
+            return;
+        }
+        let nonterminal = source - 1;
+        counts[nonterminal] = counts[nonterminal] - 1;
+    }
+
+    // The counts of the walk that the words hold, from none counted.
+    pub fn count_walk(self, words: &[u16], counts: &mut [u8])
+        requires held { Held words.now }
+        requires counted { Counted [] counts.old }
+        ensures { CountedWalk self.entry.sources.now words.now counts.new }
+    {
+        let depth = word(words, 0);
+        for at in 1..depth {
+            self.join(word(words, at), counts);
+        }
+    }
+
+    // The last edge gives way to the next older one into the same node; where there is none it is taken off, the edge before it leaves the walk, and gives way.
+    fn back(self, words: &mut [u16], counts: &mut [u8]) -> bool
+        requires held { Held words.old }
+        requires counted_walk { CountedWalk self.sources.now words.old counts.old }
+        ensures by_index { (st rest : List ℕ) → words.old ≡ trial_words (reverse st) ++ rest → stepped result words.new ≡ step_words (back_by self.entry.older.now st) rest }
+        ensures counted_walk_2 { CountedWalk self.entry.sources.now words.new counts.new }
+    {
+        for depth in (1..=word(words, 0)).rev() {
+            let edge = word(words, depth);
+            let link = word(self.older, edge);
+            if link != 0 {
+                replace(words, link - 1);
+                return true;
+            }
+            pop(words);
+            self.leave(words, counts);
+        }
+        false
+    }
+
+    // One edge more, that which a word links, where the edges before it are counted; where there is none, back.
+    fn seek(self, words: &mut [u16], link: usize, counts: &mut [u8]) -> bool
+        requires link_le_edge_limit { link ≤ edge_limit }
+        requires held { Held words.old × ((link ≡ 0 → ⊥) → get_or words.old 0 0 < reduction_limit) }
+        requires counted_edges { CountedEdges self.sources.now words.old counts.old }
+        ensures by_index { (st rest : List ℕ) → words.old ≡ trial_words (reverse st) ++ rest → stepped result words.new ≡ step_words (seek_by self.entry.older.now link st) rest }
+        ensures counted_walk { CountedWalk self.entry.sources.now words.new counts.new }
+    {
+        if link == 0 {
+            self.leave(words, counts);
+            return self.back(words, counts);
+        }
+        push(words, link - 1);
+        true
+    }
+
+    // The trial after the one that the words hold; after the empty words, the first from the start item.
+    pub fn next(self, words: &mut [u16], counts: &mut [u8]) -> bool
+        requires held { Held words.old × Fitting (next_by self.sources.now self.older.now self.latest.now) words.old }
+        requires counted_walk { CountedWalk self.sources.now words.old counts.old }
+        ensures by_index { (st rest : List ℕ) → words.old ≡ trial_words (reverse st) ++ rest → stepped result words.new ≡ step_words (next_by self.entry.sources.now self.entry.older.now self.entry.latest.now st) rest }
+        ensures counted_walk_2 { CountedWalk self.entry.sources.now words.new counts.new }
+    {
+        let depth = word(words, 0);
+        if depth == 0 {
+            let first = word(self.latest, View::START);
+            return self.seek(words, first, counts);
+        }
+        let edge = word(words, depth);
+        let source = byte(self.sources, edge);
+        if source == 0 {
+            return self.back(words, counts);
+        }
+        let nonterminal = source - 1;
+        if counts[nonterminal] != 0 {
+            return self.back(words, counts);
+        }
+        self.join(edge, counts);
+        let link = word(self.latest, nonterminal);
+        self.seek(words, link, counts)
+    }
+
+    // Whether the trial is an example: its last edge comes from an item.
+    pub fn is_example(self, words: &[u16]) -> bool
+        requires held { Held words.now }
+        ensures { (st rest : List ℕ) → words.now ≡ trial_words (reverse st) ++ rest → result ≡ example_by self.entry.sources.now st }
+    {
+        let depth = word(words, 0);
+        if depth == 0 {
+            return false;
+        }
+        let edge = word(words, depth);
+        byte(self.sources, edge) == 0
+    }
 }

@@ -67,7 +67,7 @@ fn node_owner(grammar: Grammar, node: Node) -> usize
     if node.kind == 0 {
         return number;
     }
-    word(grammar.words, number * ProductionIndex::WORDS)
+    grammar.owner(number)
 }
 
 // Edge k of a graph, which is in range: its label, as the nonterminal that the edge comes from and the item in one word, and itself put into the view from an item.

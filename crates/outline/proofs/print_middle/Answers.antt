@@ -1,6 +1,6 @@
 use Rattle.std.proofs.Common.{sym, ap, ◌∙◌, arith}
 use Rattle.repr.specs.Packed.{productions_in}
-use Rattle.example.proofs.Labels.{some_label}
+use Rattle.example.proofs.LabelList.{some_label}
 use Rattle.example.proofs.Walk.{middle-words, none-words, mark-words}
 use Rattle.outline.specs.Outline.{print_words}
 use Rattle.outline.proofs.Prints.{words-none, words-mark}

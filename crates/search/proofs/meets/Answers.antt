@@ -10,11 +10,11 @@ use Rattle.search.proofs.meets.Goals as goal
 pub read_labels-size-requires : goal.read_labels-size-requires
 read_labels-size-requires c = record { tried = (_, c.requires.tried); labels_room_in_bounds = omega arith }
 
-pub slice_bounds-first0-end : goal.slice_bounds-first0-end
-slice_bounds-first0-end c = sym (length-take-le _ c.read_labels-size.new.labels (omega (arith, c.read_labels-size.ensures.upper_bound.0, c.read_labels-size.auto.labels)))
+pub slice_bounds-labels-end : goal.slice_bounds-labels-end
+slice_bounds-labels-end c = sym (length-take-le _ c.read_labels-size.new.labels (omega (arith, c.read_labels-size.ensures.upper_bound.0, c.read_labels-size.auto.labels)))
 
-pub first0-expected-requires : goal.first0-expected-requires
-first0-expected-requires c = record { packed = c.args.sets.now.few; labels_fit = c.read_labels-size.ensures.upper_bound.1 _ _ c.requires.tried.1 }
+pub invariant_of-labels : goal.invariant_of-labels
+invariant_of-labels c = record { fit = c.read_labels-size.ensures.upper_bound.1 _ _ c.requires.tried.1 }
 
 pub returns : goal.returns
 returns c = λ es T p rest w.

@@ -24,11 +24,8 @@ word-code-requires c = let R = c.loop-at.invariant _ _ c.requires.tried.1.1 in (
 pub overflow_mul-place : goal.overflow_mul-place
 overflow_mul-place c = let R = c.loop-at.invariant _ _ c.requires.tried.1.1 in omega (arith, (reading_room R c.loop-at-test.true).0)
 
-pub bounds-owners-edge : goal.bounds-owners-edge
-bounds-owners-edge c = let R = c.loop-at.invariant _ _ c.requires.tried.1.1 in (reading_low R c.loop-at-test.true c.word-edge.ensures.0).0
-
-pub overflow_cast-labels : goal.overflow_cast-labels
-overflow_cast-labels c = omega (arith, c.type_inv.owners c.word-edge.result)
+pub bounds-view-edge : goal.bounds-view-edge
+bounds-view-edge c = let R = c.loop-at.invariant _ _ c.requires.tried.1.1 in (reading_low R c.loop-at-test.true c.word-edge.ensures.0).0
 
 pub offset_bounds-labels-place : goal.offset_bounds-labels-place
 offset_bounds-labels-place c = let R = c.loop-at.invariant _ _ c.requires.tried.1.1 in omega (arith, (reading_room R c.loop-at-test.true).0)

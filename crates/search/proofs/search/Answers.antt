@@ -6,7 +6,7 @@ use native.Mathlib.Omega.{arith}
 use Rattle.search.proofs.search.Goals as goal
 
 pub count_walk-requires : goal.count_walk-requires
-count_walk-requires c = let S = c.requires.searching.1.1 in record { bounded = S.view.viewed.tidy.by_source; held = searching_held S; counted = counted_none }
+count_walk-requires c = let S = c.requires.searching.1.1 in record { held = searching_held S; counted = counted_none }
 
 pub loop-lookahead-init : goal.loop-lookahead-init
 loop-lookahead-init c = ((λ es start S. turn_first S (omega arith)), c.count_walk.auto.counts, c.count_walk.ensures)
@@ -16,7 +16,7 @@ slice_bounds-next-end c = sym c.loop-lookahead.invariant.1
 
 pub next-requires : goal.next-requires
 next-requires c = let S = c.requires.searching.1.1 in
-    let U = c.loop-lookahead.invariant.0 _ _ S in record { tidy = S.view.viewed.tidy; held = (searching_held U.held, searching_fitting U.held); counted_walk = c.loop-lookahead.invariant.2 }
+    let U = c.loop-lookahead.invariant.0 _ _ S in record { held = (searching_held U.held, searching_fitting U.held); counted_walk = c.loop-lookahead.invariant.2 }
 
 pub overrun-requires : goal.overrun-requires
 overrun-requires c = turn_long (c.loop-lookahead.invariant.0 _ _ c.requires.searching.1.1) c.next.ensures.by_index c.loop-lookahead-test.true
@@ -31,7 +31,7 @@ pub overflow_add-made : goal.overflow_add-made
 overflow_add-made c = omega (arith, c.if-made-ge-TRIALS.false)
 
 pub hands-requires : goal.hands-requires
-hands-requires c = record { packed = c.args.sets.now.few; tried = (c.requires.searching.0, (turn_tried (c.loop-lookahead.invariant.0 _ _ c.requires.searching.1.1) c.next.ensures.by_index c.loop-lookahead-test.true, view_sourced c.requires.searching.1.1.view)) }
+hands-requires c = record { tried = (c.requires.searching.0, (turn_tried (c.loop-lookahead.invariant.0 _ _ c.requires.searching.1.1) c.next.ensures.by_index c.loop-lookahead-test.true, view_sourced c.requires.searching.1.1.view)) }
 
 pub shape_of-words-then-hands : goal.shape_of-words-then-hands
 shape_of-words-then-hands c = c.next.auto.words ∙ (c.loop-lookahead.invariant.0 _ _ c.requires.searching.1.1).size

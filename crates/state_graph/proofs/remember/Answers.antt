@@ -4,15 +4,12 @@ use Rattle.table.specs.Quads.{put_quad}
 use borrow.Author.Rules.{rules}
 use Rattle.state_graph.proofs.remember.Goals as goal
 
--- src/lib.rt:230:5
 pub bounds-steps-row-2 : goal.bounds-steps-row-2
 bounds-steps-row-2 c = simp length-set (omega arith)
 
--- src/lib.rt:231:5
 pub bounds-steps-row-3 : goal.bounds-steps-row-3
 bounds-steps-row-3 c = simp length-set (omega arith)
 
--- src/lib.rt:225:1
 pub returns : goal.returns
 unfolding put_quad
 returns c = search rules

@@ -10,28 +10,28 @@ use native.Mathlib.Omega.{arith}
 use Rattle.state_graph.proofs.step_back.Goals as goal
 
 pub overflow_mul-row : goal.overflow_mul-row
-overflow_mul-row c = omega (arith, row_inside (meaning c.args.table.now) (fits c.args.table.now c.requires.table_value) c.args.kind c.args.number c.requires.number_value)
+overflow_mul-row c = omega (arith, row_inside (meaning c.args.table.words.now) (fits c.args.table.words.now c.args.table.accepted) c.args.kind c.args.number c.requires.number_value)
 
 pub overflow_add-row : goal.overflow_add-row
-overflow_add-row c = omega (arith, row_inside (meaning c.args.table.now) (fits c.args.table.now c.requires.table_value) c.args.kind c.args.number c.requires.number_value)
+overflow_add-row c = omega (arith, row_inside (meaning c.args.table.words.now) (fits c.args.table.words.now c.args.table.accepted) c.args.kind c.args.number c.requires.number_value)
 
 pub place_of-place-requires : goal.place_of-place-requires
-place_of-place-requires c = row_inside (meaning c.args.table.now) (fits c.args.table.now c.requires.table_value) c.args.kind c.args.number c.requires.number_value
+place_of-place-requires c = row_inside (meaning c.args.table.words.now) (fits c.args.table.words.now c.args.table.accepted) c.args.kind c.args.number c.requires.number_value
 
 pub recalls-requires : goal.recalls-requires
-recalls-requires c = (c.place_of-place.ensures, row_inside (meaning c.args.table.now) (fits c.args.table.now c.requires.table_value) c.args.kind c.args.number c.requires.number_value, c.requires.remembered.long)
+recalls-requires c = (c.place_of-place.ensures, row_inside (meaning c.args.table.words.now) (fits c.args.table.words.now c.args.table.accepted) c.args.kind c.args.number c.requires.number_value, c.requires.remembered.long)
 
 pub set_at-requires : goal.set_at-requires
 set_at-requires c = let p = c.place_of-place.ensures in let n = c.requires.remembered.long in omega (arith, p, n)
 
 pub returns-then-recalls : goal.returns-then-recalls
-returns-then-recalls c = let E = c.recalls.ensures c.if-recalls.true in record { high_value = recalled (meaning c.args.table.now) (fits c.args.table.now c.requires.table_value) c.args.steps.now c.requires.remembered c.args.kind c.args.number c.requires.number_value _ c.place_of-place.ensures E.0 _ _ _ _ E.1 E.2 c.set_at.ensures.0 c.set_at.ensures.1; remembered_2 = c.requires.remembered }
+returns-then-recalls c = let E = c.recalls.ensures c.if-recalls.true in record { high_value = recalled (meaning c.args.table.words.now) (fits c.args.table.words.now c.args.table.accepted) c.args.steps.now c.requires.remembered c.args.kind c.args.number c.requires.number_value _ c.place_of-place.ensures E.0 _ _ _ _ E.1 E.2 c.set_at.ensures.0 c.set_at.ensures.1; remembered_2 = c.requires.remembered }
 
 pub remember-requires : goal.remember-requires
 remember-requires c = let p = c.place_of-place.ensures in let n = c.requires.remembered.long in (omega (arith, p, n), omega (arith, p))
 
 pub note-requires : goal.note-requires
-note-requires c = let n = c.requires.remembered.long in (c.place_of-place.ensures, row_inside (meaning c.args.table.now) (fits c.args.table.now c.requires.table_value) c.args.kind c.args.number c.requires.number_value, omega (arith, n, c.remember.auto.steps))
+note-requires c = let n = c.requires.remembered.long in (c.place_of-place.ensures, row_inside (meaning c.args.table.words.now) (fits c.args.table.words.now c.args.table.accepted) c.args.kind c.args.number c.requires.number_value, omega (arith, n, c.remember.auto.steps))
 
 pub returns : goal.returns
-returns c = let P = c.place_of-place in record { high_value = c.states-found.ensures; remembered_2 = subst (Remembered (meaning c.args.table.now)) (sym (c.note.ensures ∙ ap (λ (g : List ℕ). set g (symbol_place P.result) (step_row c.args.kind c.args.number + 1)) c.remember.ensures)) (remembered (meaning c.args.table.now) (fits c.args.table.now c.requires.table_value) c.args.steps.now c.requires.remembered c.args.kind c.args.number c.requires.number_value P.result P.ensures _ _ _ _ c.states-found.ensures) }
+returns c = let P = c.place_of-place in record { high_value = c.states-found.ensures; remembered_2 = subst (Remembered (meaning c.args.table.words.now)) (sym (c.note.ensures ∙ ap (λ (g : List ℕ). set g (symbol_place P.result) (step_row c.args.kind c.args.number + 1)) c.remember.ensures)) (remembered (meaning c.args.table.words.now) (fits c.args.table.words.now c.args.table.accepted) c.args.steps.now c.requires.remembered c.args.kind c.args.number c.requires.number_value P.result P.ensures _ _ _ _ c.states-found.ensures) }

@@ -4,46 +4,32 @@ use Rattle.state_graph.proofs.Steps.{walking_start, walking_at, walking_symbol, 
 use native.Mathlib.Omega.{arith}
 use Rattle.state_graph.proofs.walk_back.Goals as goal
 
--- src/lib.rt:277:5
 pub loop-i-init : goal.loop-i-init
-loop-i-init c = (walking_start (meaning c.args.table.now) c.args.symbols.now c.requires.symbols_value c.args.set.low c.args.set.high _ refl, c.requires.remembered)
+loop-i-init c = (walking_start (meaning c.args.table.words.now) c.args.symbols.now c.requires.symbols_value c.args.set.low c.args.set.high _ refl, c.requires.remembered)
 
--- src/lib.rt:279:40
 pub overflow_mul-i : goal.overflow_mul-i
-overflow_mul-i c = omega (arith, c.well_formed, (walking_at (meaning c.args.table.now) c.args.symbols.now c.requires.symbols_value _ _ _ _ c.loop-i.i c.loop-i.invariant.0 c.loop-i-test.true).0)
+overflow_mul-i c = omega (arith, c.well_formed, (walking_at (meaning c.args.table.words.now) c.args.symbols.now c.requires.symbols_value _ _ _ _ c.loop-i.i c.loop-i.invariant.0 c.loop-i-test.true).0)
 
--- src/lib.rt:279:13
 pub word-kind-requires : goal.word-kind-requires
-word-kind-requires c = omega (arith, (walking_at (meaning c.args.table.now) c.args.symbols.now c.requires.symbols_value _ _ _ _ c.loop-i.i c.loop-i.invariant.0 c.loop-i-test.true).0)
+word-kind-requires c = omega (arith, (walking_at (meaning c.args.table.words.now) c.args.symbols.now c.requires.symbols_value _ _ _ _ c.loop-i.i c.loop-i.invariant.0 c.loop-i-test.true).0)
 
--- src/lib.rt:280:42
 pub overflow_mul-i-in-loop-i : goal.overflow_mul-i-in-loop-i
-overflow_mul-i-in-loop-i c = omega (arith, c.well_formed, (walking_at (meaning c.args.table.now) c.args.symbols.now c.requires.symbols_value _ _ _ _ c.loop-i.i c.loop-i.invariant.0 c.loop-i-test.true).0)
+overflow_mul-i-in-loop-i c = omega (arith, c.well_formed, (walking_at (meaning c.args.table.words.now) c.args.symbols.now c.requires.symbols_value _ _ _ _ c.loop-i.i c.loop-i.invariant.0 c.loop-i-test.true).0)
 
--- src/lib.rt:280:42
 pub overflow_add-i : goal.overflow_add-i
-overflow_add-i c = omega (arith, c.well_formed, (walking_at (meaning c.args.table.now) c.args.symbols.now c.requires.symbols_value _ _ _ _ c.loop-i.i c.loop-i.invariant.0 c.loop-i-test.true).0)
+overflow_add-i c = omega (arith, c.well_formed, (walking_at (meaning c.args.table.words.now) c.args.symbols.now c.requires.symbols_value _ _ _ _ c.loop-i.i c.loop-i.invariant.0 c.loop-i-test.true).0)
 
--- src/lib.rt:280:13
 pub word-number-requires : goal.word-number-requires
-word-number-requires c = (walking_at (meaning c.args.table.now) c.args.symbols.now c.requires.symbols_value _ _ _ _ c.loop-i.i c.loop-i.invariant.0 c.loop-i-test.true).0
+word-number-requires c = (walking_at (meaning c.args.table.words.now) c.args.symbols.now c.requires.symbols_value _ _ _ _ c.loop-i.i c.loop-i.invariant.0 c.loop-i-test.true).0
 
--- src/lib.rt:281:9
 pub step_back-found-requires : goal.step_back-found-requires
-step_back-found-requires c = record { table_value = c.requires.table_value; number_value = walking_symbol (meaning c.args.table.now) c.args.symbols.now c.requires.symbols_value _ _ _ _ c.loop-i.i c.loop-i.invariant.0 c.loop-i-test.true _ _ c.word-kind.ensures.0 c.word-number.ensures.0; remembered = c.loop-i.invariant.1 }
+step_back-found-requires c = record { number_value = walking_symbol (meaning c.args.table.words.now) c.args.symbols.now c.requires.symbols_value _ _ _ _ c.loop-i.i c.loop-i.invariant.0 c.loop-i-test.true _ _ c.word-kind.ensures.0 c.word-number.ensures.0; remembered = c.loop-i.invariant.1 }
 
--- src/lib.rt:277:5
-pub loop-i-smaller : goal.loop-i-smaller
-loop-i-smaller c = omega (arith, c.loop-i-test.true)
-
--- src/lib.rt:277:5
 pub loop-i-preserved : goal.loop-i-preserved
-loop-i-preserved c = (walking_more (meaning c.args.table.now) c.args.symbols.now c.requires.symbols_value _ _ _ _ c.loop-i.i c.loop-i.invariant.0 c.loop-i-test.true _ _ _ _ c.word-kind.ensures.0 c.word-number.ensures.0 c.step_back-found.ensures.high_value, c.step_back-found.ensures.remembered_2)
+loop-i-preserved c = (walking_more (meaning c.args.table.words.now) c.args.symbols.now c.requires.symbols_value _ _ _ _ c.loop-i.i c.loop-i.invariant.0 c.loop-i-test.true _ _ _ _ c.word-kind.ensures.0 c.word-number.ensures.0 c.step_back-found.ensures.high_value, c.step_back-found.ensures.remembered_2)
 
--- src/lib.rt:263:1
 pub shape_of-steps : goal.shape_of-steps
 shape_of-steps c = c.loop-i.invariant.1.long ∙ sym c.requires.remembered.long
 
--- src/lib.rt:263:1
 pub returns : goal.returns
-returns c = record { high_value = walking_done (meaning c.args.table.now) c.args.symbols.now c.requires.symbols_value _ _ _ _ c.loop-i.i c.loop-i.invariant.0 (omega (arith, c.loop-i-test.false)); remembered_2 = c.loop-i.invariant.1 }
+returns c = record { high_value = walking_done (meaning c.args.table.words.now) c.args.symbols.now c.requires.symbols_value _ _ _ _ c.loop-i.i c.loop-i.invariant.0 (omega (arith, c.loop-i-test.false)); remembered_2 = c.loop-i.invariant.1 }

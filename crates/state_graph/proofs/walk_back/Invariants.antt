@@ -4,7 +4,4 @@ use Rattle.state_graph.proofs.Steps.{Walking}
 use Rattle.state_graph.proofs.walk_back.Given as goal
 
 abbrev pub invariant-loop-i : goal.invariant-loop-i
-invariant-loop-i l = Walking (meaning l.table) l.symbols l.initial.found.low l.initial.found.high l.found.low l.found.high l.i × Remembered (meaning l.table) l.steps
-
-abbrev pub decreases-loop-i : goal.decreases-loop-i
-decreases-loop-i l = l.i
+invariant-loop-i l = Walking (meaning l.table.words.now) l.symbols l.initial.found.low l.initial.found.high l.found.low l.found.high l.i × Remembered (meaning l.table.words.now) l.steps

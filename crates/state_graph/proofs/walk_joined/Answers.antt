@@ -7,16 +7,16 @@ use native.Mathlib.Omega.{arith}
 use Rattle.state_graph.proofs.walk_joined.Goals as goal
 
 pub walk_back-found-requires : goal.walk_back-found-requires
-walk_back-found-requires c = record { table_value = c.requires.table_value; symbols_value = (even_parts _ _ c.args.xs.now c.args.ys.now c.requires.ys_value c.if-xs-eq0.true).1; remembered = c.requires.remembered }
+walk_back-found-requires c = record { symbols_value = (even_parts _ _ c.args.xs.now c.args.ys.now c.requires.ys_value c.if-xs-eq0.true).1; remembered = c.requires.remembered }
 
 pub walk_back-requires : goal.walk_back-requires
-walk_back-requires c = record { table_value = c.requires.table_value; symbols_value = (even_parts _ _ c.args.xs.now c.args.ys.now c.requires.ys_value c.if-xs-eq0.true).0; remembered = c.walk_back-found.ensures.remembered_2 }
+walk_back-requires c = record { symbols_value = (even_parts _ _ c.args.xs.now c.args.ys.now c.requires.ys_value c.if-xs-eq0.true).0; remembered = c.walk_back-found.ensures.remembered_2 }
 
 pub shape_of-steps-then-xs-eq0 : goal.shape_of-steps-then-xs-eq0
 shape_of-steps-then-xs-eq0 c = c.walk_back.ensures.remembered_2.long ∙ sym c.requires.remembered.long
 
 pub returns-then-xs-eq0 : goal.returns-then-xs-eq0
-returns-then-xs-eq0 c = joined_even (meaning c.args.table.now) _ c.args.xs.now c.args.ys.now c.if-xs-eq0.true _ _ c.walk_back-found.ensures.high_value c.walk_back.ensures.high_value
+returns-then-xs-eq0 c = joined_even (meaning c.args.table.words.now) _ c.args.xs.now c.args.ys.now c.if-xs-eq0.true _ _ c.walk_back-found.ensures.high_value c.walk_back.ensures.high_value
 
 pub bounds-ys-0 : goal.bounds-ys-0
 bounds-ys-0 c = odd_more _ _ c.args.xs.now c.args.ys.now c.requires.ys_value c.if-xs-eq0.false
@@ -28,19 +28,19 @@ pub slice_bounds-walk_back-start : goal.slice_bounds-walk_back-start
 slice_bounds-walk_back-start c = let h = odd_more _ _ c.args.xs.now c.args.ys.now c.requires.ys_value c.if-xs-eq0.false in omega arith
 
 pub walk_back-behind-requires : goal.walk_back-behind-requires
-walk_back-behind-requires c = record { table_value = c.requires.table_value; symbols_value = (odd_parts _ _ c.args.xs.now c.args.ys.now c.requires.ys_value c.if-xs-eq0.false).2; remembered = c.requires.remembered }
+walk_back-behind-requires c = record { symbols_value = (odd_parts _ _ c.args.xs.now c.args.ys.now c.requires.ys_value c.if-xs-eq0.false).2; remembered = c.requires.remembered }
 
 pub walk_back-found-requires-2 : goal.walk_back-found-requires-2
-walk_back-found-requires-2 c = record { table_value = c.requires.table_value; symbols_value = (odd_parts _ _ c.args.xs.now c.args.ys.now c.requires.ys_value c.if-xs-eq0.false).1; remembered = c.walk_back-behind.ensures.remembered_2 }
+walk_back-found-requires-2 c = record { symbols_value = (odd_parts _ _ c.args.xs.now c.args.ys.now c.requires.ys_value c.if-xs-eq0.false).1; remembered = c.walk_back-behind.ensures.remembered_2 }
 
 pub slice_bounds-walk_back-end-3 : goal.slice_bounds-walk_back-end-3
 slice_bounds-walk_back-end-3 c = sym (length-take-le _ _ (omega arith))
 
 pub walk_back-requires-2 : goal.walk_back-requires-2
-walk_back-requires-2 c = record { table_value = c.requires.table_value; symbols_value = (odd_parts _ _ c.args.xs.now c.args.ys.now c.requires.ys_value c.if-xs-eq0.false).0; remembered = c.walk_back-found-2.ensures.remembered_2 }
+walk_back-requires-2 c = record { symbols_value = (odd_parts _ _ c.args.xs.now c.args.ys.now c.requires.ys_value c.if-xs-eq0.false).0; remembered = c.walk_back-found-2.ensures.remembered_2 }
 
 pub shape_of-steps : goal.shape_of-steps
 shape_of-steps c = c.walk_back-2.ensures.remembered_2.long ∙ sym c.requires.remembered.long
 
 pub returns : goal.returns
-returns c = joined_odd (meaning c.args.table.now) _ c.args.xs.now c.args.ys.now c.if-xs-eq0.false (odd_more _ _ c.args.xs.now c.args.ys.now c.requires.ys_value c.if-xs-eq0.false) _ _ _ c.walk_back-behind.ensures.high_value c.walk_back-found-2.ensures.high_value c.walk_back-2.ensures.high_value
+returns c = joined_odd (meaning c.args.table.words.now) _ c.args.xs.now c.args.ys.now c.if-xs-eq0.false (odd_more _ _ c.args.xs.now c.args.ys.now c.requires.ys_value c.if-xs-eq0.false) _ _ _ c.walk_back-behind.ensures.high_value c.walk_back-found-2.ensures.high_value c.walk_back-2.ensures.high_value

@@ -4,7 +4,7 @@ use Rattle.trace_graph.proofs.check_edge.Goals as goal
 use Rattle.trace_graph.proofs.check_edge.Goals.{After-edge_fits}
 
 looked : (c : After-edge_fits) → Looked c.args.grammar.words.now c.args.grammar.productions c.args.n c.args.graph.now c.args.ix.now c.args.k c.read_edge-edge.result c.edge_fits.result
-looked c = record { graph = c.requires.graphed; low = c.requires.k_lt_edge_limit; read = c.read_edge-edge.ensures.1; fits = c.edge_fits.ensures }
+looked c = record { packed = c.args.grammar.packed; graph = c.requires.graphed; low = c.requires.k_lt_edge_limit; read = c.read_edge-edge.ensures.1; fits = c.edge_fits.ensures }
 
 pub bucket_of-bucket-requires : goal.bucket_of-bucket-requires
 bucket_of-bucket-requires c = record { small_edge = check_small (looked (goal.at.bucket_of-bucket-requires c).After-edge_fits) c.if-not-edge_fits.false }

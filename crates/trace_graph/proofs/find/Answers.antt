@@ -4,8 +4,8 @@ use Rattle.trace_graph.proofs.find.Goals as goal
 use Rattle.trace_graph.proofs.find.Goals.{Start}
 
 -- what the function is given
-sought : (S : Start) → Sought S.args.grammar.now S.args.productions S.args.n S.args.graph.now S.args.ix.now S.args.k S.args.edge S.args.bucket
-sought S = record { packed = S.requires.packed; graph = S.requires.graphed; fits = S.requires.edge_value; bucket = S.requires.bucket_value.0; low = S.requires.bucket_value.1 }
+sought : (S : Start) → Sought S.args.grammar.words.now S.args.grammar.productions S.args.n S.args.graph.now S.args.ix.now S.args.k S.args.edge S.args.bucket
+sought S = record { packed = S.args.grammar.packed; graph = S.requires.graphed; fits = S.requires.edge_value; bucket = S.requires.bucket_value.0; low = S.requires.bucket_value.1 }
 
 pub word-next-requires : goal.word-next-requires
 word-next-requires c = omega (arith, c.requires.graphed.index.long, c.requires.bucket_value.1)

@@ -6,13 +6,13 @@ use Rattle.trace_graph.proofs.insert.Goals as goal
 use Rattle.trace_graph.proofs.insert.Goals.{After-find}
 
 adding : (c : After-find) → Adding c.args.grammar.words.now c.args.grammar.productions c.args.n c.args.graph.now c.args.ix.now c.args.edge c.word-count.result c.find.result
-adding c = record { graph = c.requires.graphed; fits = c.requires.edge_value; count = c.word-count.ensures.0; found = c.find.ensures }
+adding c = record { packed = c.args.grammar.packed; graph = c.requires.graphed; fits = c.requires.edge_value; count = c.word-count.ensures.0; found = c.find.ensures }
 
 pub bucket_of-bucket-requires : goal.bucket_of-bucket-requires
-bucket_of-bucket-requires c = let A = c.args in record { small_edge = value_small A.grammar.now A.productions c.args.grammar.packed A.n c.requires.graphed.nonterminals A.edge c.requires.edge_value }
+bucket_of-bucket-requires c = let A = c.args in record { small_edge = value_small A.grammar.words.now A.grammar.productions c.args.grammar.packed A.n c.requires.graphed.nonterminals A.edge c.requires.edge_value }
 
 pub find-requires : goal.find-requires
-find-requires c = let A = c.args in record { graphed = graphed_count A.n (productions_in A.grammar.now A.productions) A.graph.now A.ix.now c.word-count.result (get_or A.graph.now 0 0) c.word-count.ensures.0 c.requires.graphed; edge_value = c.requires.edge_value; bucket_value = c.bucket_of-bucket.ensures }
+find-requires c = let A = c.args in record { graphed = graphed_count A.n (productions_in A.grammar.words.now A.grammar.productions) A.graph.now A.ix.now c.word-count.result (get_or A.graph.now 0 0) c.word-count.ensures.0 c.requires.graphed; edge_value = c.requires.edge_value; bucket_value = c.bucket_of-bucket.ensures }
 
 pub returns-then-find : goal.returns-then-find
 returns-then-find c = record { added = insert_there (adding (goal.at.returns-then-find c).After-find) c.if-find.true; overfull = tt }

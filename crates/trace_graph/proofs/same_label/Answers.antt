@@ -4,17 +4,17 @@ use Rattle.trace_graph.proofs.Fits.{Labels, left_below, right_below, label_one, 
 use Rattle.trace_graph.proofs.same_label.Goals as goal
 use Rattle.trace_graph.proofs.same_label.Goals.{Start}
 
-labels : (S : Start) → Labels S.args.grammar.now S.args.productions S.args.p S.args.i S.args.q S.args.j
-labels S = record { packed = S.requires.packed; left = S.requires.i_value.0; right = S.requires.i_value.1 }
+labels : (S : Start) → Labels S.args.grammar.words.now S.args.grammar.productions S.args.p S.args.i S.args.q S.args.j
+labels S = record { packed = S.args.grammar.packed; left = S.requires.i_value.0; right = S.requires.i_value.1 }
 
 pub returns-then-p-q : goal.returns-then-p-q
 returns-then-p-q c = label_one (labels (goal.at.returns-then-p-q c).Start) c.if-p-q.true
 
 pub symbols-requires : goal.symbols-requires
-symbols-requires c = record { production_lt_productions = left_below (labels (goal.at.symbols-requires c).Start) }
+symbols-requires c = left_below (labels (goal.at.symbols-requires c).Start)
 
 pub symbols-requires-then-i-j : goal.symbols-requires-then-i-j
-symbols-requires-then-i-j c = record { production_lt_productions = right_below (labels (goal.at.symbols-requires-then-i-j c).Start) }
+symbols-requires-then-i-j c = right_below (labels (goal.at.symbols-requires-then-i-j c).Start)
 
 pub returns-then-i-j : goal.returns-then-i-j
 returns-then-i-j c = label_words_lem (labels (goal.at.returns-then-i-j c).Start) c.if-i-j.true c.symbols.ensures c.symbols-then-i-j.ensures (c.eq.ensures ∙ words_pointwise c.symbols.result.now c.symbols-then-i-j.result.now)

@@ -1,22 +1,16 @@
 use mathlib.Core.Path.{sym, ◌∙◌}
-use Rattle.state_graph.proofs.Along.{along-start, along-inside, along-hit, along-more, along-done}
+use Rattle.state_graph.proofs.Along.{along-start, along-hit, along-more, along-done}
 use native.Mathlib.Omega.{arith}
 use Rattle.state_graph.proofs.Step.leads.Goals as goal
 
-pub loop-at-init : goal.loop-at-init
-loop-at-init c = along-start c.args.self.table.now c.args.self.accepted _ _ _ _ _ c.requires
+pub loop-edge-init : goal.loop-edge-init
+loop-edge-init c = rw c.into_iter-edge-iterator.ensures.into_iter_gives (c.edges-edge-items.ensures.0, along-start c.args.self.table.words.now _ _ _ _ _ _ c.edges-edge-items.ensures.1)
 
-pub ends_in-requires : goal.ends_in-requires
-ends_in-requires c = along-inside c.args.self.table.now c.args.self.accepted _ _ _ _ _ _ c.loop-at.invariant c.loop-at-test.true
+pub returns-then-goes : goal.returns-then-goes
+returns-then-goes c = along-hit c.args.self.table.words.now _ _ _ _ _ _ c.loop-edge.invariant.1 c.args.self.symbol (omega (arith, c.well_formed)) _ _ _ _ (rw c.loop-edge.invariant.0 at c.in-Some.ensures.steps.1.1) (sym c.goes.ensures ∙ c.if-goes.true)
 
-pub returns-then-ends_in : goal.returns-then-ends_in
-returns-then-ends_in c = along-hit c.args.self.table.now c.args.self.accepted _ _ _ _ c.args.self.symbol (omega (arith, c.well_formed)) _ _ c.loop-at.invariant c.loop-at-test.true (sym c.ends_in.ensures ∙ c.if-ends_in.true)
-
-pub word-at-requires : goal.word-at-requires
-word-at-requires c = let i = along-inside c.args.self.table.now c.args.self.accepted _ _ _ _ _ _ c.loop-at.invariant c.loop-at-test.true in (i.0, (omega arith, omega (arith, i.1)))
-
-pub loop-at-preserved : goal.loop-at-preserved
-loop-at-preserved c = along-more c.args.self.table.now c.args.self.accepted _ _ _ _ c.args.self.symbol (omega (arith, c.well_formed)) _ _ c.loop-at.invariant c.loop-at-test.true (sym c.ends_in.ensures ∙ c.if-ends_in.false) _ c.word-at.ensures.0
+pub loop-edge-preserved : goal.loop-edge-preserved
+loop-edge-preserved c = (c.in-Some.ensures.steps.0 ∙ c.loop-edge.invariant.0, along-more c.args.self.table.words.now _ _ _ _ _ _ c.loop-edge.invariant.1 c.args.self.symbol (omega (arith, c.well_formed)) _ _ _ _ (rw c.loop-edge.invariant.0 at c.in-Some.ensures.steps.1.1) (sym c.goes.ensures ∙ c.if-goes.false))
 
 pub returns : goal.returns
-returns c = along-done c.args.self.table.now c.args.self.accepted _ _ _ _ _ _ c.loop-at.invariant c.loop-at-test.false
+returns c = along-done c.args.self.table.words.now _ _ _ _ _ _ c.loop-edge.invariant.1 c.in-None.ensures.steps.1

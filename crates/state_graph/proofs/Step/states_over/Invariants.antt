@@ -4,7 +4,4 @@ use Rattle.state_graph.proofs.Hits.{Finding}
 use Rattle.state_graph.proofs.Step.states_over.Given as goal
 
 abbrev pub invariant-loop-s : goal.invariant-loop-s
-invariant-loop-s live = (live.s ≤ live.states) × ((l h : ℕ) → Hits live.self.table.now live.self.kind live.self.number l h live.hits → Finding live.self.table.now live.self.kind live.self.number l h live.found.low live.found.high live.s)
-
-abbrev pub decreases-loop-s : goal.decreases-loop-s
-decreases-loop-s l = l.states - l.s
+invariant-loop-s live = (live.s ≤ live.states) × ((l h : ℕ) → Hits live.self.table.words.now live.self.kind live.self.number l h live.hits → Finding live.self.table.words.now live.self.kind live.self.number l h live.found.low live.found.high live.s)

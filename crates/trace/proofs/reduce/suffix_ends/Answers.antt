@@ -8,7 +8,7 @@ pub loop-production-init : goal.loop-production-init
 loop-production-init c = (ap length c.requires.ends_value ∙ length-replicate {A = ℕ} item_flags 0, omega arith, λ T ep et. ends-none T _ c.requires.ends_value)
 
 pub production_ends-requires : goal.production_ends-requires
-production_ends-requires c = record { packed = c.args.sets.now.few; map_value = c.requires.map_value; production_lt_productions = (c.loop-production-test.true, c.loop-production.invariant.0) }
+production_ends-requires c = record { map_value = c.requires.map_value; production_lt_productions = (c.loop-production-test.true, c.loop-production.invariant.0) }
 
 pub loop-production-preserved : goal.loop-production-preserved
 loop-production-preserved c = (c.production_ends.auto.ends ∙ c.loop-production.invariant.0, omega arith, λ T ep et. c.production_ends.ensures T ep et (c.loop-production.invariant.2 T ep et))

@@ -15,11 +15,11 @@ pub word-count-requires : goal.word-count-requires
 word-count-requires c = omega (arith, c.requires.n_bound.1)
 
 pub returns-then-count-gt-EDGES : goal.returns-then-count-gt-EDGES
-returns-then-count-gt-EDGES c = let A = c.args in record { value = graph_many A.n (productions_in A.grammar.now A.productions) A.graph.now (omega (arith, c.if-count-gt-EDGES.true, c.word-count.ensures.0)); viewing = λ z. absurd (true≢false (sym z)) }
+returns-then-count-gt-EDGES c = let A = c.args in record { value = graph_many A.n (productions_in A.grammar.words.now A.grammar.productions) A.graph.now (omega (arith, c.if-count-gt-EDGES.true, c.word-count.ensures.0)); viewing = λ z. absurd (true≢false (sym z)) }
 
 pub loop-k-init : goal.loop-k-init
 loop-k-init c = let A = c.args in
-    (checked_first (productions_in A.grammar.now A.productions) A.n A.graph.now A.ix.now c.requires.n_bound.0 c.requires.n_bound.1 c.requires.ix_value, (omega arith, (labelling_first c.requires.owners_len.0 c.requires.owners_len.1, viewed_first c.requires.sources_value.0 c.requires.sources_value.1.0 c.requires.sources_value.1.1)))
+    (checked_first (productions_in A.grammar.words.now A.grammar.productions) A.n A.graph.now A.ix.now c.requires.n_bound.0 c.requires.n_bound.1 c.requires.ix_value, (omega arith, (labelling_first c.requires.owners_len.0 c.requires.owners_len.1, viewed_first c.requires.sources_value.0 c.requires.sources_value.1.0 c.requires.sources_value.1.1)))
 
 pub check_edge-requires : goal.check_edge-requires
 check_edge-requires c = record { graphed = c.loop-k.invariant.0.good; k_lt_edge_limit = omega (arith, c.loop-k-test.true, c.if-count-gt-EDGES.false) }
@@ -35,8 +35,8 @@ loop-k-preserved c = let A = c.args in
     let k = c.loop-k.k in
     let I = c.loop-k.invariant in
     let G = c.check_edge.ensures.graphed_2 c.if-not-check_edge.false in
-    let E : EdgeRanged (productions_in A.grammar.now A.productions) A.graph.now k = record { nonterminals = A.n; few = c.requires.n_bound.0; fits = G.fits k (omega arith) } in (
-      checked_more A.n (productions_in A.grammar.now A.productions) A.graph.now c.loop-k.ix c.check_edge.new.ix k I.0 G c.check_edge.result c.check_edge.ensures.value c.if-not-check_edge.false,
+    let E : EdgeRanged (productions_in A.grammar.words.now A.grammar.productions) A.graph.now k = record { nonterminals = A.n; few = c.requires.n_bound.0; fits = G.fits k (omega arith) } in (
+      checked_more A.n (productions_in A.grammar.words.now A.grammar.productions) A.graph.now c.loop-k.ix c.check_edge.new.ix k I.0 G c.check_edge.result c.check_edge.ensures.value c.if-not-check_edge.false,
       (
         omega (arith, c.loop-k-test.true),
         (
@@ -65,7 +65,7 @@ pub shape_of-latest-then-not-check_edge : goal.shape_of-latest-then-not-check_ed
 shape_of-latest-then-not-check_edge c = kept_long c.loop-k.invariant.1.1.1.tidy.by_latest c.requires.sources_value.1.1
 
 pub returns-then-not-check_edge : goal.returns-then-not-check_edge
-returns-then-not-check_edge c = let A = c.args in record { value = graph_bad A.n (productions_in A.grammar.now A.productions) A.graph.now c.loop-k.k (omega (arith, c.loop-k-test.true, c.word-count.ensures.0)) c.check_edge.result c.check_edge.ensures.value c.if-not-check_edge.true; viewing = λ z. absurd (true≢false (sym z)) }
+returns-then-not-check_edge c = let A = c.args in record { value = graph_bad A.n (productions_in A.grammar.words.now A.grammar.productions) A.graph.now c.loop-k.k (omega (arith, c.loop-k-test.true, c.word-count.ensures.0)) c.check_edge.result c.check_edge.ensures.value c.if-not-check_edge.true; viewing = λ z. absurd (true≢false (sym z)) }
 
 pub shape_of-ix : goal.shape_of-ix
 shape_of-ix c = c.loop-k.invariant.0.good.index.long ∙ sym (ap length c.requires.ix_value ∙ length-replicate {A = ℕ} index_room 0)
@@ -88,4 +88,4 @@ shape_of-latest c = kept_long c.loop-k.invariant.1.1.1.tidy.by_latest c.requires
 pub returns : goal.returns
 returns c = let A = c.args in
     let I = c.loop-k.invariant in
-    let w = checked_all A.n (productions_in A.grammar.now A.productions) A.graph.now c.loop-k.ix c.loop-k.k I.0 (omega (arith, I.1.0, c.loop-k-test.false, c.word-count.ensures.0)) in record { value = w.0; viewing = λ _. (view_made (ranged_of w.1) (omega (arith, I.1.0, c.loop-k-test.false, c.word-count.ensures.0)) I.1.1.1, labelling_made (ranged_of w.1) (omega (arith, I.1.0, c.loop-k-test.false, c.word-count.ensures.0)) I.1.1.0) }
+    let w = checked_all A.n (productions_in A.grammar.words.now A.grammar.productions) A.graph.now c.loop-k.ix c.loop-k.k I.0 (omega (arith, I.1.0, c.loop-k-test.false, c.word-count.ensures.0)) in record { value = w.0; viewing = λ _. (view_made (ranged_of w.1) (omega (arith, I.1.0, c.loop-k-test.false, c.word-count.ensures.0)) I.1.1.1, labelling_made (ranged_of w.1) (omega (arith, I.1.0, c.loop-k-test.false, c.word-count.ensures.0)) I.1.1.0) }

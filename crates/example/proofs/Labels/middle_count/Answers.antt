@@ -1,0 +1,33 @@
+use Rattle.repr.specs.Packed.{productions_in}
+use Rattle.example.proofs.LabelList.{some_label, item-production, item_index}
+use Rattle.example.proofs.Parts.{sets-counted}
+use Rattle.example.proofs.Walk.{counted_one, counted_none, counted-mark}
+use Rattle.example.proofs.Labels.middle_count.Goals as goal
+
+pub item-item-requires : goal.item-item-requires
+item-item-requires c = some_label _ c.args.self.fit
+
+pub symbol_sets-sets-requires : goal.symbol_sets-sets-requires
+symbol_sets-sets-requires c = let h = some_label _ c.args.self.fit in
+    let e = c.item-item.ensures in record { within = (item-production c.args.self.grammar.words.now c.args.self.grammar.productions c.args.self.words.now c.args.self.fit 0 h _ _ e.0 e.1); index_in_bounds = item_index c.args.self.grammar.words.now c.args.self.grammar.productions c.args.self.words.now c.args.self.fit 0 h _ _ e.0 e.1 }
+
+pub returns-then-sets-gt0 : goal.returns-then-sets-gt0
+returns-then-sets-gt0 c = let h = some_label _ c.args.self.fit in
+    let e = c.item-item.ensures in
+    counted_one (productions_in c.args.self.grammar.words.now c.args.self.grammar.productions) c.args.self.words.now h _ _ _
+    (sets-counted c.args.self.grammar.words.now c.args.self.grammar.productions c.args.self.grammar.packed c.args.self.words.now c.args.self.fit 0 h _ _ e.0 e.1 _ c.symbol_sets-sets.ensures.suffix_value_2)
+    c.if-sets-gt0.true
+
+pub returns-then-sets-gt0-2 : goal.returns-then-sets-gt0-2
+returns-then-sets-gt0-2 c = let h = some_label _ c.args.self.fit in
+    let e = c.item-item.ensures in
+    counted_none (productions_in c.args.self.grammar.words.now c.args.self.grammar.productions) c.args.self.words.now h _ _ _
+    (sets-counted c.args.self.grammar.words.now c.args.self.grammar.productions c.args.self.grammar.packed c.args.self.words.now c.args.self.fit 0 h _ _ e.0 e.1 _ c.symbol_sets-sets.ensures.suffix_value_2)
+    c.if-sets-gt0.false c.if-sets-gt0-2.true
+
+pub returns : goal.returns
+returns c = let h = some_label _ c.args.self.fit in
+    let e = c.item-item.ensures in
+    counted-mark (productions_in c.args.self.grammar.words.now c.args.self.grammar.productions) c.args.self.words.now h _ _ _
+    (sets-counted c.args.self.grammar.words.now c.args.self.grammar.productions c.args.self.grammar.packed c.args.self.words.now c.args.self.fit 0 h _ _ e.0 e.1 _ c.symbol_sets-sets.ensures.suffix_value_2)
+    c.if-sets-gt0.false c.if-sets-gt0-2.false

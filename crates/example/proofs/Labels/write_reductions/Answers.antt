@@ -1,0 +1,90 @@
+use Rattle.std.proofs.Common.{◌<◌, [], ◌∷◌, length, refl, arith}
+use Rattle.repr.specs.Packed.{productions_in}
+use Rattle.example.specs.Labels.{labels_in}
+use Rattle.example.proofs.Sizes.{length_symbols}
+use Rattle.example.proofs.Put.{turn_start, turn_room, turn_more, turn_end}
+use Rattle.example.proofs.Reductions.{around-length}
+use Rattle.example.proofs.Walk.{around_few, prefix-step, prefix-left, around-next, around_turn, around-done}
+use Rattle.example.proofs.Labels.write_reductions.Goals as goal
+
+pub overflow_sub-end : goal.overflow_sub-end
+overflow_sub-end c = let ps = productions_in c.args.self.grammar.words.now c.args.self.grammar.productions in
+    let ws = c.args.self.words.now in
+    omega (arith, length_symbols ps (labels_in ws), c.totals-totals.ensures.1, c.requires.places_value.0)
+
+pub loop-label-init : goal.loop-label-init
+loop-label-init c = let ps = productions_in c.args.self.grammar.words.now c.args.self.grammar.productions in
+    let ws = c.args.self.words.now in
+    let r = around-length ps c.args.places (labels_in ws) in (
+      turn_start _ _ _ _ refl (omega (arith, r, c.requires.labels_in_bounds)),
+      c.totals-totals.ensures.0,
+      omega (arith, length_symbols ps (labels_in ws), c.totals-totals.ensures.1, c.requires.places_value.0),
+      omega arith,
+    )
+
+pub prefix-requires : goal.prefix-requires
+prefix-requires c = omega (arith, c.count-count.ensures.0, c.loop-label-test.true)
+
+pub overflow_sub-start : goal.overflow_sub-start
+overflow_sub-start c = let ps = productions_in c.args.self.grammar.words.now c.args.self.grammar.productions in
+    let ws = c.args.self.words.now in
+    let I = c.loop-label.invariant in
+    let l : c.loop-label.label < length (labels_in ws) = omega (arith, c.count-count.ensures.0, c.loop-label-test.true) in
+    let q = prefix-step ps ws c.loop-label.label l _ c.prefix.ensures in
+    omega (arith, q, I.1)
+
+pub suffix-requires : goal.suffix-requires
+suffix-requires c = omega (arith, c.count-count.ensures.0, c.loop-label-test.true)
+
+pub overflow_add-end : goal.overflow_add-end
+overflow_add-end c = let ps = productions_in c.args.self.grammar.words.now c.args.self.grammar.productions in
+    let ws = c.args.self.words.now in
+    let I = c.loop-label.invariant in
+    let l : c.loop-label.label < length (labels_in ws) = omega (arith, c.count-count.ensures.0, c.loop-label-test.true) in
+    let q = around-next ps ws c.args.places c.loop-label.label l _ _ I.1 I.2 _ _ c.prefix.ensures c.suffix.ensures in
+    omega (arith, q, c.requires.places_value.1)
+
+pub nonterminal-requires : goal.nonterminal-requires
+nonterminal-requires c = omega (arith, c.count-count.ensures.0, c.loop-label-test.true)
+
+pub put_three-requires : goal.put_three-requires
+put_three-requires c = let ps = productions_in c.args.self.grammar.words.now c.args.self.grammar.productions in
+    let ws = c.args.self.words.now in
+    let I = c.loop-label.invariant in
+    let l : c.loop-label.label < length (labels_in ws) = omega (arith, c.count-count.ensures.0, c.loop-label-test.true) in
+    let q = around-next ps ws c.args.places c.loop-label.label l _ _ I.1 I.2 _ _ c.prefix.ensures c.suffix.ensures in
+    let few = around_few c.args.self.grammar.words.now c.args.self.grammar.productions c.args.self.grammar.packed ws c.args.self.fit in (
+      turn_room I.0 (_ ∷ _ ∷ _ ∷ []) _ (around_turn ps ws c.args.places c.loop-label.label l _ _ _ q.0 q.1 c.nonterminal.ensures.0),
+      omega (arith, I.1, prefix-left ps ws c.loop-label.label, few),
+      omega (arith, q.1, c.requires.places_value.1),
+      c.nonterminal.ensures.1,
+    )
+
+pub overflow_add-place : goal.overflow_add-place
+overflow_add-place c = let ps = productions_in c.args.self.grammar.words.now c.args.self.grammar.productions in
+    let ws = c.args.self.words.now in
+    let I = c.loop-label.invariant in
+    let l : c.loop-label.label < length (labels_in ws) = omega (arith, c.count-count.ensures.0, c.loop-label-test.true) in
+    let q = around-next ps ws c.args.places c.loop-label.label l _ _ I.1 I.2 _ _ c.prefix.ensures c.suffix.ensures in
+    let r = turn_room I.0 (_ ∷ _ ∷ _ ∷ []) _ (around_turn ps ws c.args.places c.loop-label.label l _ _ _ q.0 q.1 c.nonterminal.ensures.0) in
+    omega (arith, r)
+
+pub loop-label-preserved : goal.loop-label-preserved
+loop-label-preserved c = let ps = productions_in c.args.self.grammar.words.now c.args.self.grammar.productions in
+    let ws = c.args.self.words.now in
+    let I = c.loop-label.invariant in
+    let l : c.loop-label.label < length (labels_in ws) = omega (arith, c.count-count.ensures.0, c.loop-label-test.true) in
+    let q = around-next ps ws c.args.places c.loop-label.label l _ _ I.1 I.2 _ _ c.prefix.ensures c.suffix.ensures in (
+      turn_more I.0 _ _ (around_turn ps ws c.args.places c.loop-label.label l _ _ _ q.0 q.1 c.nonterminal.ensures.0) _ c.put_three.ensures,
+      q.0,
+      q.1,
+      omega (arith, c.loop-label-test.true),
+    )
+
+pub shape_of-buffer : goal.shape_of-buffer
+shape_of-buffer c = c.loop-label.invariant.0.size
+
+pub returns : goal.returns
+returns c = let ps = productions_in c.args.self.grammar.words.now c.args.self.grammar.productions in
+    let ws = c.args.self.words.now in
+    (turn_end c.loop-label.invariant.0 (around-done ps ws _ c.loop-label.label (omega (arith, c.count-count.ensures.0, c.loop-label-test.false)))).0

@@ -1,0 +1,10 @@
+use Rattle.std.proofs.Common.{◌≡◌, ◌+◌, ◌≤◌, length, drop}
+use Rattle.repr.specs.Packed.{productions_in}
+use Rattle.example.specs.Example.{prefixes, suffixes}
+use Rattle.example.specs.Labels.{labels_in}
+use Rattle.example.specs.Written.{around_words}
+use Rattle.example.proofs.Put.{Turn}
+use Rattle.example.proofs.Labels.write_reductions.Given as goal
+
+abbrev pub invariant-loop-label : goal.invariant-loop-label
+invariant-loop-label l = Turn l.at (around_words (productions_in l.self.grammar.words.now l.self.grammar.productions) l.places (labels_in l.self.words.now)) l.initial.buffer l.place (around_words (productions_in l.self.grammar.words.now l.self.grammar.productions) l.places (drop l.label (labels_in l.self.words.now))) l.buffer × (l.start ≡ length (prefixes (productions_in l.self.grammar.words.now l.self.grammar.productions) (drop l.label (labels_in l.self.words.now)))) × (l.end + length (suffixes (productions_in l.self.grammar.words.now l.self.grammar.productions) (drop l.label (labels_in l.self.words.now))) ≡ l.places) × (l.label ≤ l.count)
