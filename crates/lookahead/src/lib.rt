@@ -37,13 +37,6 @@ impl TokenSet {
         TokenSet::from(terminals)
     }
 
-    // The set of one token.
-    pub fn from(token: u16) -> TokenSet
-        ensures { (result.0 ≡ with 0 token) × ((k : ℕ) → has result.0 k ≡ ltb k 64 && eqb k token) }
-    {
-        TokenSet::new().with(token)
-    }
-
     pub fn len(self) -> usize
         ensures { result ≡ length (members self.0) }
     {
@@ -162,6 +155,15 @@ impl TokenSet {
         ensures { result.0 ≡ self.0 }
     {
         TokenSetIter(self.0)
+    }
+}
+
+// The set of one token.
+impl From<u16> for TokenSet {
+    ghost from_gives = { λ token set. (set.0 ≡ with 0 token) × ((k : ℕ) → has set.0 k ≡ ltb k 64 && eqb k token) };
+
+    fn from(token: u16) -> TokenSet {
+        TokenSet::new().with(token)
     }
 }
 

@@ -101,23 +101,25 @@ pub fn first0_joined(table: &[u16], xs: &[u16], ys: &[u16]) -> Result<Answer, Re
 
 // FIRST of every nonterminal.
 fn first_sets(table: AcceptedTable) -> FirstSets
-    ensures { result.map ≡ sets_of_first (meaning table.entry.words.now).terminals (meaning table.entry.words.now).productions }
+    ensures is { result.map ≡ sets_of_first (meaning table.entry.words.now).terminals (meaning table.entry.words.now).productions }
+    ensures terminals { result.terminals ≡ (meaning table.entry.words.now).terminals }
 {
     let counts = table.counts();
     let mut grammar = [0u16; ProductionIndex::ALL_WORDS];
-    read_productions(table.words, &mut grammar);
-    FirstSets::new(Grammar { words: &grammar, productions: counts.productions }, counts.terminals as u16)
+    table.read_productions(&mut grammar);
+    let grammar = Grammar {
+        words: &grammar,
+        productions: counts.productions,
+    };
+    FirstSets::new(grammar, counts.terminals as u16)
 }
 
 fn first0_in(table: AcceptedTable, xs: &[u16], ys: &[u16]) -> Result<Answer, Refusal>
     ensures { reply_of result ≡ first0_answer (xs.now ++ ys.now) (meaning table.entry.words.now) }
 {
     let counts = table.counts();
-    let terminals = counts.terminals;
-    if joined_fits(counts.nonterminals, terminals, xs, ys) {
-        let sets = first_sets(table);
-        let map = sets.map;
-        Ok(first::first0_joined(&map, terminals as u16, xs, ys))
+    if joined_fits(counts.nonterminals, counts.terminals, xs, ys) {
+        Ok(first_sets(table).first0_joined(xs, ys))
     } else {
         Err(Refusal::OutOfRange)
     }
@@ -143,9 +145,7 @@ fn first1_in(
     let terminals = counts.terminals;
     if list_fits(n, terminals, symbols) {
         if lookahead.fits(terminals) {
-            let sets = first_sets(table);
-            let map = sets.map;
-            return Ok(first::first1(&map, terminals as u16, symbols, lookahead));
+            return Ok(first_sets(table).first1(symbols, lookahead));
         }
     }
     Err(Refusal::OutOfRange)

@@ -1,5 +1,5 @@
 -- Laws of the sets of states of specs/States: what each operation has, the states in order, the least and the others. Assumes nothing.
-use mathlib.Core.Path.{◌≡◌, refl, sym, ap, ◌∙◌}
+use mathlib.Core.Path.{◌≡◌, sym, ap, ◌∙◌}
 use mathlib.Core.Bool.{Bool, true, false, ◌&&◌, ◌||◌, and-false, or-false}
 use mathlib.Core.List.{List, [], ◌∷◌, ◌++◌, map}
 use Prim.Native.Nat.{ℕ, zero, suc, ◌+◌, ◌-◌, ◌*◌, ◌/◌, ◌%◌, ◌^◌, ◌≤◌, ◌<◌}
@@ -10,13 +10,11 @@ use lib.ListN.{length, get_or, length-append}
 use borrow.Author.Tests.{eqb-true, eqb-false, eq-eqb, ne_eqb, ltb-true, ltb-false, lt-ltb, le-ltb}
 use Rattle.repr.specs.Lists.{up_from, below, mem, keep}
 use Rattle.repr.proofs.Lists.{cases, clash, length-below, length-up_from, get_d_up_from, mem-keep, mem_below, keep-nil, keep-yes, keep_no, keep_append, keep_agree, keep-none, length-keep, length_mapped}
-use Rattle.lookahead.specs.Tokens.{has, single, union, without, members}
+use Rattle.lookahead.specs.Tokens.{has, single, union, members}
 use Rattle.lookahead.proofs.Laws.{has-none, has-below, has-union, has-single}
 use Rattle.lookahead.proofs.Members.{members-none, members_step}
 use Rattle.lookahead.proofs.Words.{shifted, contained}
 use Rattle.state_graph.specs.States.{has_state, states_in}
-use Rattle.state_graph.specs.declared.StateIndex.{StateIndex}
-use Rattle.state_graph.specs.declared.StateSet.{StateSet}
 
 -- which word holds a state
 

@@ -1,5 +1,5 @@
 -- A set of states in two words. Assumes nothing: these are definitions.
-use Rattle.std.specs.Prelude.{ℕ, ◌-◌, ◌≡◌, Bool, true, false, List, [], ◌∷◌, ltb}
+use Rattle.std.specs.Prelude.{ℕ, ◌-◌, Bool, true, false, List, ltb}
 use Rattle.repr.specs.Lists.{below, keep}
 use Rattle.lookahead.specs.Tokens.{has}
 

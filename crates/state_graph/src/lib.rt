@@ -280,7 +280,7 @@ fn set_at(words: &[u64], at: usize) -> StateSet
     }
 }
 
-// A place for what a step finds, by its symbol and its set: steps from different sets over one symbol have different places as far as may be, and a place says what it holds.
+// A place for what a step finds, by its symbol (a row: its number among all of StateSet::ROWS) and its set: steps from different sets over one symbol have different places as far as may be, and a place says what it holds.
 fn place_of(row: usize, set: StateSet) -> usize
     requires { row < step_rows }
     ensures { result < step_places }
@@ -317,67 +317,77 @@ fn note(steps: &mut [u64], place: usize, row: usize)
     steps[StateSet::STEP_SYMBOLS + place] = (row + 1) as u64;
 }
 
-// The states with an edge by one symbol into the set; where that step is remembered, what it found.
-fn step_back(
-    table: AcceptedTable,
-    steps: &mut [u64],
-    kind: usize,
-    number: usize,
-    set: StateSet,
-) -> StateSet
-    requires number_value { symbol_is_fit (length (meaning table.words.now).nonterminals) (meaning table.words.now).terminals kind number ≡ true }
-    requires remembered { Remembered (meaning table.words.now) steps.old }
-    ensures high_value { states_in result.low result.high ≡ predecessors (meaning table.entry.words.now) (symbol_of_kind kind number) (states_in set.low set.high) }
-    ensures remembered_2 { Remembered (meaning table.entry.words.now) steps.new }
-{
-    let row = kind * NonterminalString::LIMIT + number;
-    let place = place_of(row, set);
-    if recalls(steps, place, row, set) {
-        return set_at(steps, place * 4 + 2);
-    }
-    let step = Step {
-        table: table,
-        kind: kind,
-        number: number,
-        set: set,
-    };
-    let found = step.states();
-    remember(steps, place, set, found);
-    note(steps, place, row);
-    found
+// A walk back over an accepted table: each step is remembered until another takes its place.
+#[derive(Drop)]
+pub struct StateWalk<'a> {
+    pub table: AcceptedTable<'a>,
+    pub steps: [u64; StateSet::STEP_WORDS],
+    pub ghost remembered: { Remembered (meaning table.words.now) steps },
 }
 
-// The states from which a path spells the symbols and ends in the set.
-pub fn walk_back(table: AcceptedTable, steps: &mut [u64], set: StateSet, symbols: &[u16]) -> StateSet
-    requires symbols_value { list_is_fit (length (meaning table.words.now).nonterminals) (meaning table.words.now).terminals symbols.now ≡ true }
-    requires remembered { Remembered (meaning table.words.now) steps.old }
-    ensures high_value { states_in result.low result.high ≡ walked_back (meaning table.entry.words.now) (states_in set.low set.high) (listed symbols.now) }
-    ensures remembered_2 { Remembered (meaning table.entry.words.now) steps.new }
-{
-    let mut found = set;
-    for i in (0..symbols.len() / 2).rev() {
-        let kind = repr::word(symbols, 2 * i);
-        let number = repr::word(symbols, 2 * i + 1);
-        found = step_back(table, steps, kind, number, found);
+impl<'a> StateWalk<'a> {
+    pub fn new(table: AcceptedTable<'a>) -> StateWalk<'a>
+        ensures { result.table.words.now ≡ table.entry.words.now }
+    {
+        StateWalk {
+            table,
+            steps: [0u64; StateSet::STEP_WORDS],
+        }
     }
-    found
-}
 
-// Back over two lists joined: over the second and, from the states found, over the first. Where the first is odd, a symbol begins with its last word and ends with the other's first.
-fn walk_joined(table: AcceptedTable, steps: &mut [u64], set: StateSet, xs: &[u16], ys: &[u16]) -> StateSet
-    requires ys_value { list_is_fit (length (meaning table.words.now).nonterminals) (meaning table.words.now).terminals (xs.now ++ ys.now) ≡ true }
-    requires remembered { Remembered (meaning table.words.now) steps.old }
-    ensures { states_in result.low result.high ≡ walked_back (meaning table.entry.words.now) (states_in set.low set.high) (listed (xs.now ++ ys.now)) }
-{
-    if xs.len() % 2 == 0 {
-        let found = walk_back(table, steps, set, ys);
-        return walk_back(table, steps, found, xs);
+    // The states with an edge by one symbol into the set; where that step is remembered, what it found.
+    fn step_back(&mut self, kind: usize, number: usize, set: StateSet) -> StateSet
+        requires { symbol_is_fit (length (meaning self.old.table.words.now).nonterminals) (meaning self.old.table.words.now).terminals kind number ≡ true }
+        ensures found { states_in result.low result.high ≡ predecessors (meaning self.old.table.words.now) (symbol_of_kind kind number) (states_in set.low set.high) }
+        ensures table { self.new.table.words.now ≡ self.old.table.words.now }
+    {
+        let row = kind * NonterminalString::LIMIT + number;
+        let place = place_of(row, set);
+        if recalls(&self.steps, place, row, set) {
+            return set_at(&self.steps, place * 4 + 2);
+        }
+        let step = Step {
+            table: self.table,
+            kind: kind,
+            number: number,
+            set: set,
+        };
+        let found = step.states();
+        remember(&mut self.steps, place, set, found);
+        note(&mut self.steps, place, row);
+        found
     }
-    let last = xs.len() - 1;
-    let straddling = [xs[last], ys[0]];
-    let behind = walk_back(table, steps, set, &ys[1..]);
-    let found = walk_back(table, steps, behind, &straddling);
-    walk_back(table, steps, found, &xs[..last])
+
+    // The states from which a path spells the symbols and ends in the set.
+    pub fn walk_back(&mut self, set: StateSet, symbols: &[u16]) -> StateSet
+        requires { list_is_fit (length (meaning self.old.table.words.now).nonterminals) (meaning self.old.table.words.now).terminals symbols.now ≡ true }
+        ensures found { states_in result.low result.high ≡ walked_back (meaning self.old.table.words.now) (states_in set.low set.high) (listed symbols.now) }
+        ensures table { self.new.table.words.now ≡ self.old.table.words.now }
+    {
+        let mut found = set;
+        for i in (0..symbols.len() / 2).rev() {
+            let kind = repr::word(symbols, 2 * i);
+            let number = repr::word(symbols, 2 * i + 1);
+            found = self.step_back(kind, number, found);
+        }
+        found
+    }
+
+    // Back over two lists joined: over the second and, from the states found, over the first. Where the first is odd, a symbol begins with its last word and ends with the other's first.
+    fn walk_joined(&mut self, set: StateSet, xs: &[u16], ys: &[u16]) -> StateSet
+        requires { list_is_fit (length (meaning self.old.table.words.now).nonterminals) (meaning self.old.table.words.now).terminals (xs.now ++ ys.now) ≡ true }
+        ensures { states_in result.low result.high ≡ walked_back (meaning self.old.table.words.now) (states_in set.low set.high) (listed (xs.now ++ ys.now)) }
+    {
+        if xs.len() % 2 == 0 {
+            let found = self.walk_back(set, ys);
+            return self.walk_back(found, xs);
+        }
+        let last = xs.len() - 1;
+        let straddling = [xs[last], ys[0]];
+        let behind = self.walk_back(set, &ys[1..]);
+        let found = self.walk_back(behind, &straddling);
+        self.walk_back(found, &xs[..last])
+    }
 }
 
 // `trace_back` of one state, over two lists joined.
@@ -385,8 +395,7 @@ pub fn trace_back_joined(table: AcceptedTable, state: usize, xs: &[u16], ys: &[u
     requires state_in_bounds { (state < length (meaning table.words.now).states) × (list_is_fit (length (meaning table.words.now).nonterminals) (meaning table.words.now).terminals (xs.now ++ ys.now) ≡ true) }
     ensures { states_in result.low result.high ≡ traced_back (meaning table.entry.words.now) state (listed (xs.now ++ ys.now)) }
 {
-    let mut steps = [0u64; StateSet::STEP_WORDS];
-    walk_joined(table, &mut steps, StateSet::of(state), xs, ys)
+    StateWalk::new(table).walk_joined(StateSet::of(state), xs, ys)
 }
 
 // `trace_back` of one state. The last step alone is remembered, by a row that no symbol has before the first: a run of one symbol over a set that stays costs one step.

@@ -85,7 +85,6 @@ unfolding Left up_from bump joined
 none_left t n count hs hs₀ h l = let z : count - n ≡ 0 = omega arith in rw z at l
 
 pub left-held : (t : List ℕ) (n count : ℕ) (hs hs₀ : List ℕ) → count ≡ nonterminals t → count ≤ n → productions t ≤ 128 → hs₀ ≡ replicate 128 0 → Left t n count hs hs₀ → Held t hs
-unfolding Held
 left-held t n count hs hs₀ e h few z l p lp =
     let zeroes : get_or hs₀ p 0 ≡ 0 = ap (λ (x : List ℕ). get_or x p 0) z ∙ get_or-replicate 128 p 0 0 (omega arith) in
     let long : length hs₀ ≡ 128 = ap length z ∙ length-replicate {A = ℕ} 128 0 in

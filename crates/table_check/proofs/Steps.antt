@@ -67,5 +67,4 @@ lengths-more t ls p v h e f q l = go (ℕ_discrete q p)
     go (no ne) = get_or-set_other ls p q v 0 ne ∙ f q (omega arith)
 
 pub lengths-all : (t ls : List ℕ) (k p : ℕ) → k ≡ word_at t 0 3 → k ≤ p → ((q : ℕ) → q < p → get_or ls q 0 ≡ min index_limit (length (symbol_chain t q))) → Lengths t ls
-unfolding Lengths
 lengths-all t ls k p e h f q l = f q (omega arith)

@@ -101,7 +101,6 @@ module _ (t : List ℕ) (r : ℕ) where
 
     module _ (j : against (loose_records t) r (word_at t r 1) ≡ false) (p : ℕ) (low : production_area t + p ≡ r) (high : p < productions t) (hs : List ℕ) (H : Held t hs) where
       held_is : get_or hs p 0 ≡ min 2 (occurrences r (joined (production_chain t) (below (word_at t 0 0))))
-      unfolding Held
       held_is = rw low at (H p high)
 
       pub production_3 : (get_or hs p 0 ≡ 1 → ⊥) → 4 ≡ fault_of_production t r
@@ -111,7 +110,7 @@ module _ (t : List ℕ) (r : ℕ) where
           rw (i, j, ne_eqb _ _ h)
 
       pub production_4 : get_or hs p 0 ≡ 1 → (ls : List ℕ) → Lengths t ls → 16 < get_or ls p 0 → 5 ≡ fault_of_production t r
-      unfolding fault_of_production choose Lengths
+      unfolding fault_of_production choose
       production_4 e ls L l =
           let o = held-once _ (sym held_is ∙ e) in
           let q = L p high in
@@ -120,7 +119,7 @@ module _ (t : List ℕ) (r : ℕ) where
           rw (i, j, eq-eqb _ _ o, ← d, lt-ltb _ _ n)
 
       pub production_5 : get_or hs p 0 ≡ 1 → (ls : List ℕ) → Lengths t ls → get_or ls p 0 ≤ 16 → 0 ≡ fault_of_production t r
-      unfolding fault_of_production choose Lengths
+      unfolding fault_of_production choose
       production_5 e ls L l =
           let o = held-once _ (sym held_is ∙ e) in
           let q = L p high in
@@ -179,7 +178,7 @@ module _ (t : List ℕ) (r production index k : ℕ) (i : Bool) (ep : production
   item_past h = rw (← ep, ← ei, ← ek, ii, le-leb _ _ h)
 
   pub item_index : production < k → (ls : List ℕ) → Lengths t ls → ltb (get_or ls production 0) index ≡ i && item_bad t r
-  unfolding item_bad Lengths
+  unfolding item_bad
   item_index h ls L = rw (← ep, ← ei, ← ek, ii, lt-leb _ _ h, L production (rw ek at h))
 
 pub item-none : (t : List ℕ) (r : ℕ) (i : Bool) → i ≡ false → false ≡ i && item_bad t r

@@ -12,9 +12,9 @@ pub record Sized (t : List ℕ) : Type 0 where
   pub counts : row2 t ≡ false
 
 -- how many of the nonterminals' chains hold each production, as far as two
-unfoldable pub Held : List ℕ → List ℕ → Type 0
+abbrev pub Held : List ℕ → List ℕ → Type 0
 Held t hs = (p : ℕ) → p < productions t → get_or hs p 0 ≡ min 2 (occurrences (production_area t + p) (joined (production_chain t) (below (nonterminals t))))
 
 -- how many symbols each production has, as far as seventeen
-unfoldable pub Lengths : List ℕ → List ℕ → Type 0
+abbrev pub Lengths : List ℕ → List ℕ → Type 0
 Lengths t ls = (p : ℕ) → p < productions t → get_or ls p 0 ≡ min index_limit (length (symbol_chain t p))

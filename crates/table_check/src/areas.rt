@@ -3,7 +3,7 @@ ghost use Rattle.std.specs.Prelude.{false, ◌≡◌, ◌<◌};
 ghost use Rattle.table.specs.Refusals.{row1, row2};
 ghost use Rattle.table.specs.Words.{word_at, production_records, loose_records, names, against};
 ghost use Rattle.table_check.specs.Marks.{Sized};
-ghost use Rattle.table_check.specs.Known.{AreasOf, area};
+ghost use Rattle.table_check.specs.Known.{AreasOf, Known, area};
 
 use repr::{NonterminalString, ProductionIndex};
 use table::word;
@@ -27,6 +27,15 @@ pub struct Surveyed<'a> {
     pub words: &'a [u16],
     pub areas: Areas,
     pub ghost of: { AreasOf words.now areas },
+}
+
+// What is gathered of its productions too: how many chains hold each, as far as two, and how many symbols it has, as far as seventeen.
+#[derive(Clone, Copy)]
+pub struct Gathered<'a> {
+    pub s: Surveyed<'a>,
+    pub held: &'a [u8],
+    pub lengths: &'a [u8],
+    pub ghost known: { Known s.words.now s.areas held.now lengths.now },
 }
 
 // Row 1: no words, a part of a record, or above 32,768 words.

@@ -1,12 +1,10 @@
 // The lowest of rows 3 to 8 against which one record offends, by what the record is.
-ghost use Rattle.std.specs.Prelude.{Bool, ◌≡◌, ℕ, ◌<◌, ◌≤◌, length};
+ghost use Rattle.std.specs.Prelude.{Bool, ◌≡◌, ℕ, ◌<◌, ◌≤◌};
 ghost use Rattle.table.specs.Words.{word_at, loose_records, against};
-ghost use Rattle.table_check.specs.Marks.{Held, Lengths};
-ghost use Rattle.table_check.specs.Known.{Known};
 ghost use Rattle.table_check.specs.Rows.{number_of_fault};
 ghost use Rattle.table_check.specs.Faults.{fault_at, fault_of_nonterminal, fault_of_state, fault_of_production, fault_of_loose};
 
-use crate::areas::Surveyed;
+use crate::areas::{Gathered, Surveyed};
 use crate::{areas, loose};
 
 // The rows of document 01's table that speak of one record, in their order.
@@ -61,12 +59,11 @@ fn state_fault(s: Surveyed, r: usize) -> Option<Row>
 }
 
 // Rows 3, 4 and 5: next production and first symbol, the chains that hold it, its length. Spans are free.
-fn production_fault(s: Surveyed, held: &[u8], lengths: &[u8], r: usize) -> Option<Row>
-    requires productions_at_bound { (s.areas.productions_at ≤ r) × (r < s.areas.loose_at) }
-    requires held_len { (length held.now ≡ 128) × Held s.words.now held.now }
-    requires lengths_len { (length lengths.now ≡ 128) × Lengths s.words.now lengths.now }
-    ensures { number_of_fault result ≡ fault_of_production s.entry.words.now r }
+fn production_fault(g: Gathered, r: usize) -> Option<Row>
+    requires { (g.s.areas.productions_at ≤ r) × (r < g.s.areas.loose_at) }
+    ensures { number_of_fault result ≡ fault_of_production g.entry.s.words.now r }
 {
+    let s = g.s;
     if areas::bad_production_index(s, r, 0) {
         return Some(Row::Chain);
     }
@@ -74,10 +71,10 @@ fn production_fault(s: Surveyed, held: &[u8], lengths: &[u8], r: usize) -> Optio
         return Some(Row::Chain);
     }
     let p = r - s.areas.productions_at;
-    if held[p] != 1 {
+    if g.held[p] != 1 {
         return Some(Row::Owner);
     }
-    if lengths[p] > 16 {
+    if g.lengths[p] > 16 {
         return Some(Row::TooLong);
     }
     None
@@ -85,25 +82,25 @@ fn production_fault(s: Surveyed, held: &[u8], lengths: &[u8], r: usize) -> Optio
 
 // Rows 3, 6, 7 and 8, by what the record is reached as; reached as nothing, it offends against none. `bad`: its next index is against the rule.
 pub fn loose_fault(
-    s: Surveyed,
-    lengths: &[u8],
+    g: Gathered,
     r: usize,
     bad: bool,
     symbol: bool,
     item: bool,
     edge: bool,
 ) -> Option<Row>
-    requires r_lt_records { (r < s.areas.records) × ((length lengths.now ≡ 128) × Lengths s.words.now lengths.now) }
-    requires bad_value { bad ≡ against (loose_records s.words.now) r (word_at s.words.now r 0) }
-    ensures { number_of_fault result ≡ fault_of_loose s.entry.words.now r symbol item edge }
+    requires r_lt_records { r < g.s.areas.records }
+    requires bad_value { bad ≡ against (loose_records g.s.words.now) r (word_at g.s.words.now r 0) }
+    ensures { number_of_fault result ≡ fault_of_loose g.entry.s.words.now r symbol item edge }
 {
+    let s = g.s;
     if loose::index_fault(bad, symbol, item, edge) {
         return Some(Row::Chain);
     }
     if loose::symbol_fault(s, r, symbol, edge) {
         return Some(Row::Symbol);
     }
-    if loose::range_fault(s, lengths, r, item, edge) {
+    if loose::range_fault(g, r, item, edge) {
         return Some(Row::Target);
     }
     if loose::spare_fault(s, r, symbol, item) {
@@ -113,11 +110,11 @@ pub fn loose_fault(
 }
 
 // The lowest row that a record before the loose ones meets.
-pub fn area_fault(s: Surveyed, held: &[u8], lengths: &[u8], r: usize) -> Option<Row>
-    requires known { Known s.words.now s.areas held.now lengths.now }
-    requires r_bound { r < s.areas.loose_at }
-    ensures { number_of_fault result ≡ fault_at s.entry.words.now r }
+pub fn area_fault(g: Gathered, r: usize) -> Option<Row>
+    requires { r < g.s.areas.loose_at }
+    ensures { number_of_fault result ≡ fault_at g.entry.s.words.now r }
 {
+    let s = g.s;
     if r == 0 {
         return None;
     }
@@ -127,5 +124,5 @@ pub fn area_fault(s: Surveyed, held: &[u8], lengths: &[u8], r: usize) -> Option<
     if r < s.areas.productions_at {
         return state_fault(s, r);
     }
-    production_fault(s, held, lengths, r)
+    production_fault(g, r)
 }

@@ -1,10 +1,9 @@
 // Rows 3, 6, 7 and 8 of a loose record, by what it is reached as: symbol, item, edge.
-ghost use Rattle.std.specs.Prelude.{Bool, ◌&&◌, ◌||◌, ◌≡◌, ℕ, ◌<◌, length};
+ghost use Rattle.std.specs.Prelude.{Bool, ◌&&◌, ◌||◌, ◌≡◌, ℕ, ◌<◌};
 ghost use Rattle.table.specs.Refusals.{used};
-ghost use Rattle.table_check.specs.Marks.{Lengths};
 ghost use Rattle.table_check.specs.Faults.{symbol_bad, item_bad, range_bad, spare_bad};
 
-use crate::areas::Surveyed;
+use crate::areas::{Gathered, Surveyed};
 use repr::symbol_fits;
 use table::word;
 
@@ -52,31 +51,32 @@ pub fn symbol_fault(s: Surveyed, r: usize, symbol: bool, edge: bool) -> bool
 }
 
 // Row 7 of an item: its production, and its index against the production's length.
-fn item_fault(s: Surveyed, lengths: &[u8], r: usize, item: bool) -> bool
-    requires r_lt_records { (r < s.areas.records) × ((length lengths.now ≡ 128) × Lengths s.words.now lengths.now) }
-    ensures { result ≡ item && item_bad s.entry.words.now r }
+fn item_fault(g: Gathered, r: usize, item: bool) -> bool
+    requires { r < g.s.areas.records }
+    ensures { result ≡ item && item_bad g.entry.s.words.now r }
 {
+    let s = g.s;
     let production = word(s.words, r, 1);
     let index = word(s.words, r, 2);
     if item {
         if production >= s.areas.productions {
             return true;
         }
-        return (lengths[production] as usize) < index;
+        return (g.lengths[production] as usize) < index;
     }
     false
 }
 
 // Row 7: also the target of an edge.
-pub fn range_fault(s: Surveyed, lengths: &[u8], r: usize, item: bool, edge: bool) -> bool
-    requires r_lt_records { (r < s.areas.records) × ((length lengths.now ≡ 128) × Lengths s.words.now lengths.now) }
-    ensures { result ≡ range_bad s.entry.words.now r item edge }
+pub fn range_fault(g: Gathered, r: usize, item: bool, edge: bool) -> bool
+    requires { r < g.s.areas.records }
+    ensures { result ≡ range_bad g.entry.s.words.now r item edge }
 {
-    if item_fault(s, lengths, r, item) {
+    if item_fault(g, r, item) {
         return true;
     }
     if edge {
-        return s.areas.states <= word(s.words, r, 3);
+        return g.s.areas.states <= word(g.s.words, r, 3);
     }
     false
 }

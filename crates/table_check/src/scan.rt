@@ -3,14 +3,13 @@ ghost use Rattle.std.specs.Prelude.{◌≡◌, List, [], ◌∷◌, ℕ, ◌+◌
 ghost use Rattle.table.specs.Words.{records, loose};
 ghost use Rattle.table.specs.Checked.{checked_of};
 ghost use Rattle.table.specs.Refusals.{first_row};
-ghost use Rattle.table_check.specs.Marks.{Lengths};
 ghost use Rattle.table_check.specs.Passed.{Reaching};
 ghost use Rattle.table_check.specs.Known.{Known};
 ghost use Rattle.table_check.specs.Rows.{number_of_row, number_of_fault};
 ghost use Rattle.table_check.specs.Offences.{row_of, place_of};
 ghost use Rattle.table_check.specs.Faults.{fault_at, Best};
 
-use crate::areas::Surveyed;
+use crate::areas::{Gathered, Surveyed};
 use crate::fault::Row;
 use crate::{areas, fault, mark};
 use bits::is_set;
@@ -56,14 +55,12 @@ fn lower(best: Option<Offence>, fault: Option<Row>, r: usize) -> Option<Offence>
 }
 
 // The records before the loose ones.
-fn scan_areas(s: Surveyed, held: &[u8], lengths: &[u8]) -> Option<Offence>
-    requires { Known s.words.now s.areas held.now lengths.now }
-    ensures { Best (fault_at s.entry.words.now) (loose s.entry.words.now) (row_of result) (place_of result) }
+fn scan_areas(g: Gathered) -> Option<Offence>
+    ensures { Best (fault_at g.entry.s.words.now) (loose g.entry.s.words.now) (row_of result) (place_of result) }
 {
-    let past = s.areas.loose_at;
     let mut best = None;
-    for r in 0..past {
-        let m = fault::area_fault(s, held, lengths, r);
+    for r in 0..g.s.areas.loose_at {
+        let m = fault::area_fault(g, r);
         best = lower(best, m, r);
     }
     best
@@ -71,72 +68,67 @@ fn scan_areas(s: Surveyed, held: &[u8], lengths: &[u8]) -> Option<Offence>
 
 // Loose record r, all records before it passed: the lowest row that it meets, and its next is marked as what it is marked as.
 fn pass(
-    s: Surveyed,
+    g: Gathered,
     symbols: &mut [u64],
     items: &mut [u64],
     edges: &mut [u64],
-    lengths: &[u8],
     r: usize,
 ) -> Option<Row>
-    requires lengths_len { (length lengths.now ≡ 128) × Lengths s.words.now lengths.now }
-    requires loose_at_bound { (s.areas.loose_at ≤ r) × ((r < s.areas.records) × Reaching s.words.now r symbols.old items.old edges.old) }
-    ensures value { number_of_fault result ≡ fault_at s.entry.words.now r }
-    ensures reaching { Reaching s.entry.words.now (r + 1) symbols.new items.new edges.new }
+    requires { (g.s.areas.loose_at ≤ r) × ((r < g.s.areas.records) × Reaching g.s.words.now r symbols.old items.old edges.old) }
+    ensures value { number_of_fault result ≡ fault_at g.entry.s.words.now r }
+    ensures reaching { Reaching g.entry.s.words.now (r + 1) symbols.new items.new edges.new }
 {
+    let s = g.s;
     let x = word(s.words, r, 0);
     if areas::names(s.areas.loose_at, s.areas.records, r, x) {
         let symbol = mark::mark_next(symbols, r, x);
         let item = mark::mark_next(items, r, x);
         let edge = mark::mark_next(edges, r, x);
-        return fault::loose_fault(s, lengths, r, false, symbol, item, edge);
+        return fault::loose_fault(g, r, false, symbol, item, edge);
     }
     let bad = areas::bad_loose_index(s, r, 0);
     let symbol = is_set(symbols, r);
     let item = is_set(items, r);
     let edge = is_set(edges, r);
-    fault::loose_fault(s, lengths, r, bad, symbol, item, edge)
+    fault::loose_fault(g, r, bad, symbol, item, edge)
 }
 
 // The loose records, after the others. Each is marked by then as all that it is reached as.
 fn scan_loose(
-    s: Surveyed,
+    g: Gathered,
     symbols: &mut [u64],
     items: &mut [u64],
     edges: &mut [u64],
-    lengths: &[u8],
     first: Option<Offence>,
 ) -> Option<Offence>
-    requires lengths_len { (length lengths.now ≡ 128) × Lengths s.words.now lengths.now }
-    requires reaching { Reaching s.words.now (loose s.words.now) symbols.old items.old edges.old }
-    requires best { Best (fault_at s.words.now) (loose s.words.now) (row_of first) (place_of first) }
-    ensures { Best (fault_at s.entry.words.now) (records s.entry.words.now) (row_of result) (place_of result) }
+    requires reaching { Reaching g.s.words.now (loose g.s.words.now) symbols.old items.old edges.old }
+    requires best { Best (fault_at g.s.words.now) (loose g.s.words.now) (row_of first) (place_of first) }
+    ensures { Best (fault_at g.entry.s.words.now) (records g.entry.s.words.now) (row_of result) (place_of result) }
 {
-    let from = s.areas.loose_at;
-    let past = s.areas.records;
     let mut best = first;
-    for r in from..past {
-        let m = pass(s, symbols, items, edges, lengths, r);
+    for r in g.s.areas.loose_at..g.s.areas.records {
+        let m = pass(g, symbols, items, edges, r);
         best = lower(best, m, r);
     }
     best
 }
 
 // The first row that has an offending record, and its least such record. All heads are marked.
-pub fn scan(
-    s: Surveyed,
+pub fn scan<'a>(
+    s: Surveyed<'a>,
     symbols: &mut [u64],
     items: &mut [u64],
     edges: &mut [u64],
-    held: &[u8],
-    lengths: &[u8],
+    held: &'a [u8],
+    lengths: &'a [u8],
 ) -> Result<(), Refusal>
     requires known { Known s.words.now s.areas held.now lengths.now }
     requires reaching { Reaching s.words.now (loose s.words.now) symbols.old items.old edges.old }
     ensures { checked_of result ≡ first_row s.entry.words.now (3 ∷ 4 ∷ 5 ∷ 6 ∷ 7 ∷ 8 ∷ []) }
 {
-    let first = scan_areas(s, held, lengths);
-    let best = scan_loose(s, symbols, items, edges, lengths, first);
-    match best {
+    let g = Gathered { s, held, lengths };
+    let first = scan_areas(g);
+    match scan_loose(g, symbols, items, edges, first) {
         None => Ok(()),
         Some(offence) => Err(offence.refusal()),
     }

@@ -1,4 +1,4 @@
-use Prim.Native.Nat.{◌-◌, ◌≤◌}
+use Prim.Native.Nat.{◌≤◌}
 use Rattle.state_graph.proofs.Hits.{Finding}
 use Rattle.state_graph.proofs.Step.states_along.Given as goal
 

@@ -1,4 +1,4 @@
-use Prim.Native.Nat.{ℕ, ◌-◌, ◌≤◌}
+use Prim.Native.Nat.{ℕ, ◌≤◌}
 use Rattle.state_graph.specs.Hits.{Hits}
 use Rattle.state_graph.proofs.Hits.{Finding}
 use Rattle.state_graph.proofs.Step.states_over.Given as goal

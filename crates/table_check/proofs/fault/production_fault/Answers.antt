@@ -10,14 +10,14 @@ pub returns-then-bad_loose_index : goal.returns-then-bad_loose_index
 returns-then-bad_loose_index c = production_2 _ _ (sym c.bad_production_index.ensures ∙ c.if-bad_production_index.false)
     (sym c.bad_loose_index.ensures ∙ c.if-bad_loose_index.true)
 
-pub returns-then-held-p-ne1 : goal.returns-then-held-p-ne1
-returns-then-held-p-ne1 c = let A = c.args.s.of in
-    production_3 _ _ (sym c.bad_production_index.ensures ∙ c.if-bad_production_index.false) (sym c.bad_loose_index.ensures ∙ c.if-bad_loose_index.false) _ (omega arith) (omega arith) _ c.requires.held_len.1 c.if-held-p-ne1.true
+pub returns-then-g-p-ne1 : goal.returns-then-g-p-ne1
+returns-then-g-p-ne1 c = let A = c.args.g.s.of in
+    production_3 _ _ (sym c.bad_production_index.ensures ∙ c.if-bad_production_index.false) (sym c.bad_loose_index.ensures ∙ c.if-bad_loose_index.false) _ (omega arith) (omega arith) _ c.args.g.known.held c.if-g-p-ne1.true
 
-pub returns-then-lengths-p-gt16 : goal.returns-then-lengths-p-gt16
-returns-then-lengths-p-gt16 c = let A = c.args.s.of in
-    production_4 _ _ (sym c.bad_production_index.ensures ∙ c.if-bad_production_index.false) (sym c.bad_loose_index.ensures ∙ c.if-bad_loose_index.false) _ (omega arith) (omega arith) _ c.requires.held_len.1 c.if-held-p-ne1.false _ c.requires.lengths_len.1 c.if-lengths-p-gt16.true
+pub returns-then-g-p-gt16 : goal.returns-then-g-p-gt16
+returns-then-g-p-gt16 c = let A = c.args.g.s.of in
+    production_4 _ _ (sym c.bad_production_index.ensures ∙ c.if-bad_production_index.false) (sym c.bad_loose_index.ensures ∙ c.if-bad_loose_index.false) _ (omega arith) (omega arith) _ c.args.g.known.held c.if-g-p-ne1.false _ c.args.g.known.lengths c.if-g-p-gt16.true
 
 pub returns : goal.returns
-returns c = let A = c.args.s.of in
-    production_5 _ _ (sym c.bad_production_index.ensures ∙ c.if-bad_production_index.false) (sym c.bad_loose_index.ensures ∙ c.if-bad_loose_index.false) _ (omega arith) (omega arith) _ c.requires.held_len.1 c.if-held-p-ne1.false _ c.requires.lengths_len.1 c.if-lengths-p-gt16.false
+returns c = let A = c.args.g.s.of in
+    production_5 _ _ (sym c.bad_production_index.ensures ∙ c.if-bad_production_index.false) (sym c.bad_loose_index.ensures ∙ c.if-bad_loose_index.false) _ (omega arith) (omega arith) _ c.args.g.known.held c.if-g-p-ne1.false _ c.args.g.known.lengths c.if-g-p-gt16.false

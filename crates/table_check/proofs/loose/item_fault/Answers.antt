@@ -1,18 +1,14 @@
 use Rattle.table_check.proofs.Ways.{item_past, item_index, item-none}
-use native.Mathlib.Omega.{arith}
 use Rattle.table_check.proofs.loose.item_fault.Goals as goal
 
 pub returns-then-production-s : goal.returns-then-production-s
 returns-then-production-s c = item_past _ _ _ _ _ _ c.word-production.ensures.0 c.word-index.ensures.0
-    c.args.s.of.productions c.if-item.true c.if-production-s.true
-
-pub overflow_cast-result : goal.overflow_cast-result
-overflow_cast-result c = omega (arith, c.type_inv.lengths c.word-production.result)
+    c.args.g.s.of.productions c.if-item.true c.if-production-s.true
 
 pub returns-then-item : goal.returns-then-item
 returns-then-item c = item_index _ _ _ _ _ _ c.word-production.ensures.0 c.word-index.ensures.0
-    c.args.s.of.productions c.if-item.true
-    c.if-production-s.false _ c.requires.r_lt_records.1.1
+    c.args.g.s.of.productions c.if-item.true
+    c.if-production-s.false _ c.args.g.known.lengths
 
 pub returns : goal.returns
 returns c = item-none _ _ _ c.if-item.false

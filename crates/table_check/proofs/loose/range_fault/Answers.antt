@@ -7,7 +7,7 @@ returns-then-item_fault c = range_item _ _ _ _ (sym c.item_fault.ensures ∙ c.i
 
 pub returns-then-edge : goal.returns-then-edge
 returns-then-edge c = range_edge _ _ _ _ (sym c.item_fault.ensures ∙ c.if-item_fault.false) _ _
-    c.args.s.of.states c.word.ensures.0 c.if-edge.true
+    c.args.g.s.of.states c.word.ensures.0 c.if-edge.true
 
 pub returns : goal.returns
 returns c = range_none _ _ _ _ (sym c.item_fault.ensures ∙ c.if-item_fault.false) c.if-edge.false

@@ -1,7 +1,0 @@
-use Rattle.table.specs.Decoded.{meaning}
-use Rattle.state_graph.specs.Remembered.{Remembered}
-use Rattle.state_graph.proofs.Steps.{Walking}
-use Rattle.state_graph.proofs.walk_back.Given as goal
-
-abbrev pub invariant-loop-i : goal.invariant-loop-i
-invariant-loop-i l = Walking (meaning l.table.words.now) l.symbols l.initial.found.low l.initial.found.high l.found.low l.found.high l.i × Remembered (meaning l.table.words.now) l.steps
