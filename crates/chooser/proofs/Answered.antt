@@ -1,4 +1,4 @@
--- Every field of an answer, and the entries read back from its words (specs/Choosing). Assumes nothing.
+-- The words of an answer, and the entries read back from them (specs/Words). Assumes nothing.
 use mathlib.Core.Path.{◌≡◌, refl, sym, ap, subst, ◌∙◌}
 use mathlib.Core.List.{List, [], ◌∷◌, ◌++◌, map}
 use Prim.Native.Nat.{ℕ, zero, suc, ◌+◌, ◌*◌, ◌-◌, ◌≤◌, ◌<◌}
@@ -8,27 +8,10 @@ use lib.Seq.{length-take-le, get_or-drop, drop-drop, ext_get_or}
 use Rattle.repr.specs.Sizes.{entry_room, entry_place, entry_limit, entries_room}
 use Rattle.repr.specs.Lists.{below, joined}
 use Rattle.repr.proofs.Lists.{length-map-below, get_d_map-below, joined_cons}
-use Rattle.error.specs.Choose.{Entry, Choice, chosen, refused}
+use Rattle.error.specs.Choose.{Entry}
 use Rattle.entries.specs.Entries.{count_of_values, entry_in, entries_in, entry_words}
 use Rattle.entries.proofs.Laws.{few_values, no_entry, entries_long}
-use Rattle.chooser.specs.declared.Chosen.{Chosen}
-use Rattle.chooser.specs.Choosing.{choice_by, choice_in, choice_words, chosen_of}
-
--- a refusal
-pub refused_fields : (n r : ℕ) → record { refusal = n; place = r; count = 0; entries = replicate entries_room 0 } ≡ chosen_of (refused n r)
-unfolding chosen_of choice_words joined
-refused_fields n r = refl
-
-pub refused_choice : (n r : ℕ) (x : Chosen) → (n ≡ 0 → ⊥) → x ≡ chosen_of (refused n r) → choice_in x ≡ refused n r
-unfolding choice_in choice_by chosen_of
-refused_choice zero r x ne e = absurd (ne refl)
-refused_choice (suc n) r x ne e = ap choice_in e
-
-pub fields_of : (k : Choice) (x : Chosen) → choice_in x ≡ k → x ≡ chosen_of k → x ≡ chosen_of (choice_in x)
-fields_of k x c e = e ∙ ap chosen_of (sym c)
-
-pub refused-whole : (n r : ℕ) (x : Chosen) → (n ≡ 0 → ⊥) → x ≡ chosen_of (refused n r) → x ≡ chosen_of (choice_in x)
-refused-whole n r x ne e = fields_of (refused n r) x (refused_choice n r x ne e) e
+use Rattle.chooser.specs.Words.{choice_words}
 
 -- an entry's words, read back
 values_back : (v more : List ℕ) → length v ≤ 4 → take (length v) (get_or v 0 0 ∷ get_or v 1 0 ∷ get_or v 2 0 ∷ get_or v 3 0 ∷ more) ≡ v
@@ -100,17 +83,13 @@ module _ (ws : List ℕ) (n : ℕ) (long : length ws ≡ entries_room) (few : n 
 
   -- the answer with so many entries
   module _ (out : List ℕ) (e : out ≡ joined entry_words (entries_in ws n) ++ drop (entry_room * n) (replicate entries_room 0)) where
-    abbrev given : Chosen
-    given = record { refusal = 0; place = 0; count = n; entries = out }
+    pub answer_choice : entries_in out n ≡ entries_in ws n
+    answer_choice = ap (λ (l : List ℕ). entries_in l n) e ∙ entries-back (drop (entry_room * n) (replicate entries_room 0))
 
-    pub answer_choice : choice_in given ≡ chosen (entries_in ws n)
-    unfolding choice_in choice_by
-    answer_choice = ap chosen (ap (λ (l : List ℕ). entries_in l n) e ∙ entries-back (drop (entry_room * n) (replicate entries_room 0)))
-
-    pub answer-whole : given ≡ chosen_of (choice_in given)
-    unfolding chosen_of choice_words
+    pub answer-whole : out ≡ choice_words (entries_in out n)
+    unfolding choice_words
     answer-whole =
         let l = sym (entries_long ws n) in
         let w : out ≡ joined entry_words (entries_in ws n) ++ replicate (entries_room - entry_room * length (entries_in ws n)) 0 =
         e ∙ ap (λ (x : List ℕ). joined entry_words (entries_in ws n) ++ x) (drop_zeros (entry_room * n) entries_room ∙ ap (λ (i : ℕ). replicate (entries_room - entry_room * i) 0) l) in
-        fields_of (chosen (entries_in ws n)) given answer_choice (λ j. record { refusal = 0; place = 0; count = l j; entries = w j })
+        w ∙ ap choice_words (sym answer_choice)

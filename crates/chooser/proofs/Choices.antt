@@ -9,7 +9,10 @@ use lib.Dec.{eqb, ltb}
 use borrow.Author.Tests.{le-leb, lt-leb, eq-eqb, ne_eqb}
 use Rattle.std.specs.Prelude.{Result, Ok, Err}
 use Rattle.std.specs.Prelude.{min}
-use Rattle.repr.specs.Sizes.{classify_scratch}
+use Rattle.repr.specs.Sizes.{classify_scratch, entry_limit}
+use Rattle.repr.specs.declared.refusals.Refusal.{Refusal}
+use Rattle.repr.specs.declared.refusals.Refusal.TheVariants.{OutOfRange, EndShifted, TooShort}
+use Rattle.repr.specs.Reply.{number_of, place_of}
 use Rattle.slices.specs.Lent.{zeroed}
 use Rattle.slices.proofs.Lent.{zeroed_lent}
 use Rattle.repr.specs.Lists.{keep, below, up_from}
@@ -19,15 +22,11 @@ use Rattle.lookahead.specs.Tokens.{has, members}
 use Rattle.error.specs.declared.Conflict.{Conflict}
 use Rattle.error.specs.Outcome.{place_is_fit}
 use Rattle.error.specs.Choose.{Entry, Choice, chosen, refused, Outcome, outcome, Entries, entries, halts, is_better, classes_of, naive_ones, choice_from, choice_of, set_fits, set_shifts_end, chosen_in, choose_in_with}
-use Rattle.error.proofs.Late.{LateHalts, classes_late}
 use Rattle.entries.specs.Entries.{entries_in}
 use Rattle.entries.proofs.Laws.{entries_long}
-use Rattle.examples.specs.declared.Refusal.{Refusal}
-use Rattle.examples.specs.Refusals.{number_of}
 use Rattle.chooser.specs.declared.Written.{Written}
-use Rattle.chooser.specs.declared.Chosen.{Chosen}
-use Rattle.chooser.specs.Choosing.{choice_in, chosen_of, sorted, stopped, sorted_in, CountsWithin, is_naive, added_to, count_of_naive}
-use Rattle.chooser.proofs.Answered.{refused_choice, refused-whole}
+use Rattle.chooser.specs.declared.chosen.Chosen.{Chosen}
+use Rattle.chooser.specs.Choosing.{choice_in, sorted, stopped, sorted_in, CountsWithin, is_naive, added_to, count_of_naive}
 
 -- how many naive ones
 
@@ -89,10 +88,10 @@ unfolding entries_in below up_from
 no_entries ws = refl
 
 -- by what all tokens came to
-halt_choice : (action x : ℕ) (E : Entries) → LateHalts E → stopped x ≡ added_to [] [] E → (x ≡ 0 → ⊥) × (refused x 0 ≡ choice_of action E)
+halt_choice : (action x : ℕ) (E : Entries) → stopped x ≡ added_to [] [] E → refused x 0 ≡ choice_of action E
 unfolding added_to choice_of
-halt_choice action x (halts n) h e = let z : x ≡ n = cc in ((λ q. absurd (omega (arith, h))), ap (λ (y : ℕ). refused y 0) z)
-halt_choice action x (entries es) h e = let z : ◌≡◌ {A = ℕ} 0 1 = cc in absurd (omega arith)
+halt_choice action x (halts n) e = let z : x ≡ n = cc in ap (λ (y : ℕ). refused y 0) z
+halt_choice action x (entries es) e = let z : ◌≡◌ {A = ℕ} 0 1 = cc in absurd (omega arith)
 
 better_choice : (action b a : ℕ) (better naive : List ℕ) (E : Entries) → (b ≡ 0 → ⊥) → sorted (entries_in better b) (entries_in naive a) ≡ added_to [] [] E → chosen (entries_in better b) ≡ choice_of action E
 unfolding added_to choice_of
@@ -112,26 +111,28 @@ naive_choice action b a better naive (entries es) h e =
     ap chosen (naive_entries action a naive ∙ ap (naive_ones action) (y ∙ all_naive es o) ∙ ap (choice_from action es) (sym o))
 
 module _ (T : Table) (c : Conflict) (set : ℕ) (better naive : List ℕ) (r : Result Written Refusal) (e : sorted_in r better naive ≡ added_to [] [] (classes_of T c (members set))) where
-  abbrev Chooses : Chosen → Type 0
+  abbrev Chooses : Result Chosen Refusal → Type 0
   Chooses x = choice_in x ≡ choice_of c.action (classes_of T c (members set))
 
-  pub chosen-halts : (n : Refusal) → r ≡ Err n → (x : Chosen) → x ≡ chosen_of (refused (number_of n) 0) → Chooses x × (x ≡ chosen_of (choice_in x))
-  unfolding sorted_in
-  chosen-halts n er x q =
-      let p = halt_choice c.action (number_of n) (classes_of T c (members set)) (classes_late T c (members set)) (ap (λ (y : Result Written Refusal). sorted_in y better naive) (sym er) ∙ e) in
-      (refused_choice (number_of n) 0 x p.0 q ∙ p.1, refused-whole (number_of n) 0 x p.0 q)
+  pub chosen-halts : (n : Refusal) → r ≡ Err n → CountsWithin entry_limit r → Chooses (Err n)
+  unfolding sorted_in choice_in CountsWithin
+  chosen-halts n er h =
+      let p = halt_choice c.action (number_of n) (classes_of T c (members set)) (ap (λ (y : Result Written Refusal). sorted_in y better naive) (sym er) ∙ e) in
+      ap (refused (number_of n)) (subst (CountsWithin entry_limit) er h) ∙ p
 
   module _ (s : Written) (er : r ≡ Ok s) where
     sorted_all : sorted (entries_in better s.better) (entries_in naive s.naive) ≡ added_to [] [] (classes_of T c (members set))
     unfolding sorted_in
     sorted_all = ap (λ (y : Result Written Refusal). sorted_in y better naive) (sym er) ∙ e
 
-    pub chosen-better : (s.better ≡ 0 → ⊥) → (x : Chosen) → choice_in x ≡ chosen (entries_in better s.better) → Chooses x
-    chosen-better h x q = q ∙ better_choice c.action s.better s.naive better naive (classes_of T c (members set)) h sorted_all
+    pub chosen-better : (s.better ≡ 0 → ⊥) → (x : Chosen) → entries_in x.entries x.count ≡ entries_in better s.better → Chooses (Ok x)
+    unfolding choice_in
+    chosen-better h x q = ap chosen q ∙ better_choice c.action s.better s.naive better naive (classes_of T c (members set)) h sorted_all
 
-    pub chosen_naive : s.better ≡ 0 → (n : ℕ) → n ≡ count_of_naive c.action s.naive → (x : Chosen) → choice_in x ≡ chosen (entries_in naive n) → Chooses x
+    pub chosen_naive : s.better ≡ 0 → (n : ℕ) → n ≡ count_of_naive c.action s.naive → (x : Chosen) → entries_in x.entries x.count ≡ entries_in naive n → Chooses (Ok x)
+    unfolding choice_in
     chosen_naive h n en x q =
-        q ∙ ap (λ (k : ℕ). chosen (entries_in naive k)) en ∙ naive_choice c.action s.better s.naive better naive (classes_of T c (members set)) h sorted_all
+        ap chosen q ∙ ap (λ (k : ℕ). chosen (entries_in naive k)) en ∙ naive_choice c.action s.better s.naive better naive (classes_of T c (members set)) h sorted_all
 
 -- the words lent on for the productions are zeroed with the rest
 pub chosen-zeroed : (k l : Choice) (w w' front : List ℕ) (m : ℕ) → k ≡ l → length front ≡ m → m ≤ classify_scratch → w' ≡ zeroed classify_scratch (front ++ drop m w) → outcome k w' ≡ outcome l (zeroed classify_scratch w)
@@ -147,24 +148,18 @@ end_shift a s t r e q = rw (eq-eqb a 0 e) q
 pub end_other : (a s t : ℕ) → (a ≡ 0 → ⊥) → false ≡ (eqb a 0 && has s t)
 end_other a s t e = rw (ne_eqb a 0 e)
 
-abbrev Refuses : ℕ → Chosen → Type 0
-Refuses n r = r ≡ chosen_of (refused n 0)
-
-refusal_is : (n : ℕ) (r : Chosen) → Refuses (suc n) r → choice_in r ≡ refused (suc n) 0
-refusal_is n r e = refused_choice (suc n) 0 r (λ z. absurd (omega arith)) e
-
 module _ (T : Table) (c : Conflict) (set : ℕ) (w : List ℕ) where
-  pub not-placed : place_is_fit T c ≡ false → (r : Chosen) → Refuses 9 r → outcome (choice_in r) w ≡ chosen_in c set w T
-  unfolding choose_in_with set_fits
-  not-placed p r e = ap (λ (l : Choice). outcome l w) (refusal_is 8 r e) ∙ rw (p, choose_in_with)
+  pub not-placed : place_is_fit T c ≡ false → outcome (choice_in (Err OutOfRange)) w ≡ chosen_in c set w T
+  unfolding choice_in choose_in_with set_fits
+  not-placed p = rw (p, choose_in_with)
 
   module _ (p : place_is_fit T c ≡ true) (t : ℕ) (et : t ≡ T.terminals) (v : Bool) (ev : v ≡ ltb set (2 ^ suc t)) where
     within-T : v ≡ ltb set (2 ^ suc T.terminals)
     within-T = ev ∙ ap (λ (k : ℕ). ltb set (2 ^ suc k)) et
 
-    pub set_past : v ≡ false → (r : Chosen) → Refuses 9 r → outcome (choice_in r) w ≡ chosen_in c set w T
-    unfolding choose_in_with set_fits
-    set_past q r e = let f : ltb set (2 ^ suc T.terminals) ≡ false = sym within-T ∙ q in ap (λ (l : Choice). outcome l w) (refusal_is 8 r e) ∙ rw (p, f, choose_in_with)
+    pub set_past : v ≡ false → outcome (choice_in (Err OutOfRange)) w ≡ chosen_in c set w T
+    unfolding choice_in choose_in_with set_fits
+    set_past q = let f : ltb set (2 ^ suc T.terminals) ≡ false = sym within-T ∙ q in rw (p, f, choose_in_with)
 
     module _ (q : v ≡ true) where
       pub set_fits_lem : set_fits T c set ≡ true
@@ -176,13 +171,13 @@ module _ (T : Table) (c : Conflict) (set : ℕ) (w : List ℕ) where
         unfolding set_shifts_end
         end_T = ap (λ (k : ℕ). eqb c.action 0 && has set k) (sym et) ∙ sym eu
 
-        pub shift_end : u ≡ true → (r : Chosen) → Refuses 10 r → outcome (choice_in r) w ≡ chosen_in c set w T
-        unfolding choose_in_with
-        shift_end s r e = let f : set_shifts_end T c set ≡ true = end_T ∙ s in ap (λ (l : Choice). outcome l w) (refusal_is 9 r e) ∙ rw (set_fits_lem, f, choose_in_with)
+        pub shift_end : u ≡ true → outcome (choice_in (Err EndShifted)) w ≡ chosen_in c set w T
+        unfolding choice_in choose_in_with
+        shift_end s = let f : set_shifts_end T c set ≡ true = end_T ∙ s in rw (set_fits_lem, f, choose_in_with)
 
-        pub short_scratch : u ≡ false → length w < classify_scratch → (r : Chosen) → Refuses 11 r → outcome (choice_in r) w ≡ chosen_in c set w T
-        unfolding choose_in_with
-        short_scratch s l r e = let f : set_shifts_end T c set ≡ false = end_T ∙ s in ap (λ (l : Choice). outcome l w) (refusal_is 10 r e) ∙ rw (set_fits_lem, f, lt-leb classify_scratch (length w) l, choose_in_with)
+        pub short_scratch : u ≡ false → length w < classify_scratch → outcome (choice_in (Err TooShort)) w ≡ chosen_in c set w T
+        unfolding choice_in choose_in_with
+        short_scratch s l = let f : set_shifts_end T c set ≡ false = end_T ∙ s in rw (set_fits_lem, f, lt-leb classify_scratch (length w) l, choose_in_with)
 
         pub chosen-whole : u ≡ false → classify_scratch ≤ length w → (o : Outcome) → o ≡ outcome (choice_of c.action (classes_of T c (members set))) (zeroed classify_scratch w) → o ≡ chosen_in c set w T
         unfolding choose_in_with

@@ -1,5 +1,5 @@
 -- One token of the set, and the tokens from one on (specs/Choosing). Assumes nothing.
-use mathlib.Core.Path.{◌≡◌, refl, sym, ap, ◌∙◌}
+use mathlib.Core.Path.{◌≡◌, refl, sym, ap, subst, ◌∙◌}
 use mathlib.Core.Bool.{Bool, true, false}
 use mathlib.Core.List.{List, [], ◌∷◌, ◌++◌, append_assoc, append-nil}
 use Prim.Native.Nat.{ℕ, suc, ◌+◌, ◌-◌, ◌^◌, ◌≤◌, ◌<◌}
@@ -10,6 +10,8 @@ use borrow.Author.Tests.{ltb-true, le-leb}
 use Rattle.std.specs.Prelude.{Result, Ok, Err}
 use Rattle.repr.specs.Sizes.{classify_scratch, entry_limit, entries_room}
 use Rattle.slices.specs.Lent.{zeroed}
+use Rattle.repr.specs.declared.refusals.Refusal.{Refusal}
+use Rattle.repr.specs.Reply.{number_of, place_of}
 use Rattle.repr.specs.Lists.{keep, below, up_from}
 use Rattle.repr.specs.Meaning.{Table}
 use Rattle.repr.proofs.Lists.{keep-yes, keep_no, keep_append, cases}
@@ -18,8 +20,7 @@ use Rattle.lookahead.proofs.Laws.{has-below}
 use Rattle.trace_graph.proofs.Bools.{and_left, and_right}
 use Rattle.error.specs.declared.Conflict.{Conflict}
 use Rattle.error.specs.declared.Class.{Class}
-use Rattle.error.specs.declared.Classified.{Classified}
-use Rattle.error.specs.declared.Classified.TheVariants.{Class as IsClass, Refused}
+use Rattle.error.specs.declared.Classification.{Classification}
 use Rattle.error.specs.Numbers.{number_of_class, values_of_class, classed, refused, reading_of}
 use Rattle.error.specs.Sides.{Gathered, sides, halted, gather}
 use Rattle.error.specs.Judge.{judged}
@@ -27,8 +28,6 @@ use Rattle.error.specs.Outcome.{outcome, place_is_fit, conflict_fits, shown, jud
 use Rattle.error.specs.Choose.{Entry, Entries, entries, halts, then, at_token, entry_of, is_better, classes_of, set_fits}
 use Rattle.entries.specs.Entries.{entries_in, with_entry}
 use Rattle.entries.proofs.Laws.{entries-more}
-use Rattle.examples.specs.declared.Refusal.{Refusal}
-use Rattle.examples.specs.Refusals.{number_of}
 use Rattle.chooser.specs.declared.Written.{Written}
 use Rattle.chooser.specs.Choosing.{sorted, stopped, sorted_in, CountsWithin, token_entries, is_naive, added_to}
 
@@ -50,29 +49,30 @@ abbrev entry_by : ℕ → Class → Entry
 entry_by k class = record { token = k; class = number_of_class class; values = values_of_class class }
 
 -- what one classification says of its token
-module _ (T : Table) (c : Conflict) (k : ℕ) (w w' a a' b b' : List ℕ) (r : Classified) where
-  refused_by : (G : Gathered) (x p : ℕ) → r ≡ Refused x p → outcome (reading_of r) w' a' b' ≡ gathered_outcome T (at_token c k) w a b G
-      → then T c k G (entries []) ≡ halts x
+module _ (T : Table) (c : Conflict) (k : ℕ) (w w' a a' b b' : List ℕ) (r : Result Classification Refusal) where
+  refused_by : (G : Gathered) (x : Refusal) → r ≡ Err x → outcome (reading_of r) w' a' b' ≡ gathered_outcome T (at_token c k) w a b G
+      → (then T c k G (entries []) ≡ halts (number_of x)) × (place_of x ≡ 0)
   unfolding reading_of gathered_with judged_with then
-  refused_by (halted n) x p er e =
-      let f : outcome (refused x p) w' a' b' ≡ outcome (refused n 0) (zeroed classify_scratch w) a b = ap (λ (y : Classified). outcome (reading_of y) w' a' b') (sym er) ∙ e in
-      let z : n ≡ x = cc in
-      ap halts z
-  refused_by (sides xs m ys n) x p er e =
-      let f : outcome (refused x p) w' a' b' ≡ judged_outcome T.productions m n w a b (judged T (at_token c k) xs ys) = ap (λ (y : Classified). outcome (reading_of y) w' a' b') (sym er) ∙ e in
+  refused_by (halted n) x er e =
+      let f : outcome (refused (number_of x) (place_of x)) w' a' b' ≡ outcome (refused n 0) (zeroed classify_scratch w) a b = ap (λ (y : Result Classification Refusal). outcome (reading_of y) w' a' b') (sym er) ∙ e in
+      let z : n ≡ number_of x = cc in
+      let o : place_of x ≡ 0 = cc in
+      (ap halts z, o)
+  refused_by (sides xs m ys n) x er e =
+      let f : outcome (refused (number_of x) (place_of x)) w' a' b' ≡ judged_outcome T.productions m n w a b (judged T (at_token c k) xs ys) = ap (λ (y : Result Classification Refusal). outcome (reading_of y) w' a' b') (sym er) ∙ e in
       let z : ◌≡◌ {A = ℕ} 0 1 = cc in absurd (omega arith)
 
-  classed_by : (G : Gathered) (class : Class) (i j : ℕ) → r ≡ IsClass class i j → outcome (reading_of r) w' a' b' ≡ gathered_outcome T (at_token c k) w a b G
-      → then T c k G (entries []) ≡ entries (entry_by k class ∷ [])
+  classed_by : (G : Gathered) (k' : Classification) → r ≡ Ok k' → outcome (reading_of r) w' a' b' ≡ gathered_outcome T (at_token c k) w a b G
+      → then T c k G (entries []) ≡ entries (entry_by k k'.class ∷ [])
   unfolding reading_of gathered_with judged_with then entry_of
-  classed_by (halted n) class i j er e =
-      let f : outcome (classed (number_of_class class) (values_of_class class) i j) w' a' b' ≡ outcome (refused n 0) (zeroed classify_scratch w) a b = ap (λ (y : Classified). outcome (reading_of y) w' a' b') (sym er) ∙ e in
+  classed_by (halted n) k' er e =
+      let f : outcome (classed (number_of_class k'.class) (values_of_class k'.class) k'.action_trials k'.reduce_trials) w' a' b' ≡ outcome (refused n 0) (zeroed classify_scratch w) a b = ap (λ (y : Result Classification Refusal). outcome (reading_of y) w' a' b') (sym er) ∙ e in
       let z : ◌≡◌ {A = ℕ} 0 1 = cc in absurd (omega arith)
-  classed_by (sides xs m ys n) class i j er e =
+  classed_by (sides xs m ys n) k' er e =
       let J = judged T (at_token c k) xs ys in
-      let f : outcome (classed (number_of_class class) (values_of_class class) i j) w' a' b' ≡ outcome (classed (number_of_class J.class) (values_of_class J.class) m n) (zeroed classify_scratch w) (shown T.productions J.action a) (shown T.productions J.reduce b) = ap (λ (y : Classified). outcome (reading_of y) w' a' b') (sym er) ∙ e in
-      let x : number_of_class J.class ≡ number_of_class class = cc in
-      let y : values_of_class J.class ≡ values_of_class class = cc in
+      let f : outcome (classed (number_of_class k'.class) (values_of_class k'.class) k'.action_trials k'.reduce_trials) w' a' b' ≡ outcome (classed (number_of_class J.class) (values_of_class J.class) m n) (zeroed classify_scratch w) (shown T.productions J.action a) (shown T.productions J.reduce b) = ap (λ (y : Result Classification Refusal). outcome (reading_of y) w' a' b') (sym er) ∙ e in
+      let x : number_of_class J.class ≡ number_of_class k'.class = cc in
+      let y : values_of_class J.class ≡ values_of_class k'.class = cc in
       λ l. entries (record { token = k; class = x l; values = y l } ∷ [])
 
 token_entries_in : (T : Table) (c : Conflict) (set k : ℕ) → has set k ≡ true → token_entries T c set k ≡ then T c k (gather T (at_token c k)) (entries [])
@@ -97,24 +97,27 @@ module _ (T : Table) (c : Conflict) (set k : ℕ) (better naive : List ℕ) (b a
   token-out h = (sym (added_none (entries_in better b) (entries_in naive a)) ∙ ap (added_to (entries_in better b) (entries_in naive a)) (sym (token_entries-out T c set k h)), omega arith)
 
   -- whatever scratch words the classification is said of
-  module _ (h : has set k ≡ true) (x x' y y' : List ℕ) (r : Classified) (e : (w : List ℕ) → outcome (reading_of r) (zeroed classify_scratch w) x' y' ≡ gathered_outcome T (one_at c k) w x y (gather T (one_at c k))) where
+  module _ (h : has set k ≡ true) (x x' y y' : List ℕ) (r : Result Classification Refusal) (e : (w : List ℕ) → outcome (reading_of r) (zeroed classify_scratch w) x' y' ≡ gathered_outcome T (one_at c k) w x y (gather T (one_at c k))) where
     token_in : token_entries T c set k ≡ then T c k (gather T (at_token c k)) (entries [])
     token_in = token_entries_in T c set k h
 
-    pub token-refused : (n : Refusal) → r ≡ Refused (number_of n) 0 → Goal (Err n) better naive
+    pub token-refused : (n : Refusal) → r ≡ Err n → Goal (Err n) better naive
     unfolding sorted_in added_to CountsWithin at_token
     token-refused n er =
-        let R = refused_by T c k x (zeroed classify_scratch x) x x' y y' r (gather T (at_token c k)) (number_of n) 0 er (e x) in
-        (ap (added_to (entries_in better b) (entries_in naive a)) (sym (token_in ∙ R)), tt)
+        let R = refused_by T c k x (zeroed classify_scratch x) x x' y y' r (gather T (at_token c k)) n er (e x) in
+        (ap (added_to (entries_in better b) (entries_in naive a)) (sym (token_in ∙ R.0)), R.1)
 
-    module _ (class : Class) (i j : ℕ) (er : r ≡ IsClass class i j) where
+    module _ (found : Classification) (er : r ≡ Ok found) where
+      abbrev class : Class
+      class = found.class
+
       abbrev E : Entry
       E = entry_by k class
 
       added : sorted (entries_in better b ++ keep is_better (E ∷ [])) (entries_in naive a ++ keep is_naive (E ∷ [])) ≡ added_to (entries_in better b) (entries_in naive a) (token_entries T c set k)
       unfolding added_to at_token
       added =
-          let R = classed_by T c k x (zeroed classify_scratch x) x x' y y' r (gather T (at_token c k)) class i j er (e x) in
+          let R = classed_by T c k x (zeroed classify_scratch x) x x' y y' r (gather T (at_token c k)) found er (e x) in
           ap (added_to (entries_in better b) (entries_in naive a)) (sym (token_in ∙ R))
 
       pub token_naive : (t : Bool) → t ≡ eqb (number_of_class class) 0 → t ≡ true → (naive' : List ℕ) → length naive ≡ entries_room → k < 64 → naive' ≡ with_entry naive a k class → Goal (Ok (record { better = b; naive = a + 1 })) better naive'
@@ -212,9 +215,9 @@ pub counts_few : (b a k : ℕ) → b + a ≤ k → k ≤ 64 → CountsWithin ent
 unfolding CountsWithin
 counts_few b a k h l = omega arith
 
-pub halted_few : (n : Refusal) → CountsWithin entry_limit (Err n)
+pub halted_few : (k : ℕ) (r : Result Written Refusal) (n : Refusal) → r ≡ Err n → CountsWithin k r → CountsWithin entry_limit (Err n)
 unfolding CountsWithin
-halted_few n = tt
+halted_few k r n e h = subst (CountsWithin k) e h
 
 module _ (T : Table) (c : Conflict) (set : ℕ) (better₀ naive₀ : List ℕ) where
   pub turn_first : Turn T c set better₀ naive₀ better₀ naive₀ 0 0 0

@@ -1,33 +1,20 @@
 -- What choosing answers by value, and one token of the set after another: better classes and naive ones apart. Assumes nothing: these are definitions.
-use Rattle.std.specs.Prelude.{Result, Ok, Err, ℕ, zero, suc, ◌+◌, ◌*◌, ◌-◌, ◌≤◌, Bool, true, false, not, List, [], ◌++◌, length, replicate}
-use Rattle.repr.specs.Sizes.{entry_room, entries_room}
-use Rattle.repr.specs.Lists.{keep, joined}
+use Rattle.std.specs.Prelude.{Result, Ok, Err, ℕ, zero, suc, ◌+◌, ◌≤◌, ◌≡◌, Bool, true, false, not, List, [], ◌++◌}
+use Rattle.repr.specs.declared.refusals.Refusal.{Refusal}
+use Rattle.repr.specs.Reply.{number_of, place_of}
+use Rattle.repr.specs.Lists.{keep}
 use Rattle.repr.specs.Meaning.{Table}
 use Rattle.lookahead.specs.Tokens.{has}
 use Rattle.error.specs.declared.Conflict.{Conflict}
 use Rattle.error.specs.Sides.{gather}
 use Rattle.error.specs.Choose.{Entry, Choice, chosen, refused, Entries, entries, halts, then, at_token, is_better}
-use Rattle.entries.specs.Entries.{entries_in, entry_words}
-use Rattle.chooser.specs.declared.Chosen.{Chosen}
-use Rattle.examples.specs.declared.Refusal.{Refusal}
-use Rattle.examples.specs.Refusals.{number_of}
+use Rattle.entries.specs.Entries.{entries_in}
+use Rattle.chooser.specs.declared.chosen.Chosen.{Chosen}
 use Rattle.chooser.specs.declared.Written.{Written}
 
-unfoldable pub choice_by : ℕ → ℕ → ℕ → List ℕ → Choice
-choice_by zero place count ws = chosen (entries_in ws count)
-choice_by (suc n) place count ws = refused (suc n) place
-
-unfoldable pub choice_in : Chosen → Choice
-choice_in c = choice_by c.refusal c.place c.count c.entries
-
--- all the words of an answer: the chosen entries', then zeros
-unfoldable pub choice_words : List Entry → List ℕ
-choice_words es = joined entry_words es ++ replicate (entries_room - entry_room * length es) 0
-
--- every field of an answer by the choice; a refusal has no entries
-unfoldable pub chosen_of : Choice → Chosen
-chosen_of (chosen es) = record { refusal = 0; place = 0; count = length es; entries = choice_words es }
-chosen_of (refused n r) = record { refusal = n; place = r; count = 0; entries = choice_words [] }
+unfoldable pub choice_in : Result Chosen Refusal → Choice
+choice_in (Ok c) = chosen (entries_in c.entries c.count)
+choice_in (Err e) = refused (number_of e) (place_of e)
 
 -- the better classes and the naive ones so far, or the refusal
 pub data Sorted : Type 0 where
@@ -38,9 +25,10 @@ unfoldable pub sorted_in : Result Written Refusal → List ℕ → List ℕ → 
 sorted_in (Ok w) better naive = sorted (entries_in better w.better) (entries_in naive w.naive)
 sorted_in (Err n) better naive = stopped (number_of n)
 
+-- how many are written; a refusal, 12 to 14, has no place
 unfoldable pub CountsWithin : ℕ → Result Written Refusal → Type 0
 CountsWithin k (Ok w) = w.better + w.naive ≤ k
-CountsWithin k (Err n) = Unit {0}
+CountsWithin k (Err n) = place_of n ≡ 0
 
 -- one token of the set, or none
 unfoldable pub token_entries : Table → Conflict → ℕ → ℕ → Entries

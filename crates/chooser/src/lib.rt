@@ -2,35 +2,27 @@
 
 #![tactic(auto)]
 
+mod chosen;
+
 ghost use Rattle.std.specs.Prelude.{◌≡◌, true, false, ◌&&◌, [], ◌+◌, ◌≤◌, ◌<◌, length, eqb};
 ghost use Rattle.repr.specs.Sizes.{classify_scratch, entry_limit, entries_room};
 ghost use Rattle.slices.specs.Lent.{zeroed};
 ghost use Rattle.lookahead.specs.Tokens.{has, members};
 ghost use Rattle.table.specs.Decoded.{meaning};
-ghost use Rattle.table.specs.Checked.{Accepted};
-ghost use Rattle.table.specs.Refusals.{check_of};
-ghost use Rattle.error.specs.Choose.{chosen, refused, outcome, set_fits, classes_of, choice_of, chosen_in};
+ghost use Rattle.error.specs.Choose.{outcome, set_fits, classes_of, choice_of, chosen_in};
 ghost use Rattle.entries.specs.Entries.{entries_in};
-ghost use Rattle.chooser.specs.Choosing.{choice_in, chosen_of, sorted_in, CountsWithin, token_entries, added_to, count_of_naive};
+ghost use Rattle.chooser.specs.Choosing.{choice_in, sorted_in, CountsWithin, token_entries, added_to, count_of_naive};
 
+pub use chosen::Chosen;
 use classifier::{classify, place_fits};
 use entries::{copy_entries, is_naive, write_entry};
 use error::{Class, Conflict};
 use example::Example;
-use examples::{Given, Refusal, prepare};
+use examples::{Given, prepare};
 use lookahead::TokenSet;
-use repr::ProductionIndex;
+use repr::{ProductionIndex, Refusal};
 use slices::zero;
-use table::read_counts;
-
-// What choosing answers: the refusal, 0 if there is none, and its place; the number of tokens chosen; for each six words, its token, the number of its class, the class's own values, zeros; zeros behind the last.
-#[derive(Clone, Copy)]
-pub struct Chosen {
-    pub refusal: u16,
-    pub place: u16,
-    pub count: usize,
-    pub entries: [u16; Class::ALL_WORDS],
-}
+use table::AcceptedTable;
 
 // How many better and how many naive classes are written.
 #[derive(Clone, Copy)]
@@ -100,70 +92,54 @@ fn choose_tokens(
 }
 
 // How many naive ones are chosen: of a reduce/reduce only the first.
-fn naive_chosen(action: u16, count: usize) -> usize
-    ensures { result ≡ count_of_naive action count }
+fn naive_chosen(conflict: Conflict, count: usize) -> usize
+    ensures { result ≡ count_of_naive conflict.action count }
 {
-    if action == 0 { count } else { count.min(1) }
-}
-
-fn refuse(refusal: u16) -> Chosen
-    ensures { result ≡ chosen_of (refused refusal 0) }
-{
-    Chosen {
-        refusal,
-        place: 0,
-        count: 0,
-        entries: [0; Class::ALL_WORDS],
-    }
+    if conflict.action == 0 { count } else { count.min(1) }
 }
 
 // So many entries chosen: no word of another stays behind them.
 fn answer(entries: &[u16], count: usize) -> Chosen
     requires { (count ≤ entry_limit) × (length entries.now ≡ entries_room) }
-    ensures result_value { choice_in result ≡ chosen (entries_in entries.now count) }
-    ensures value { result ≡ chosen_of (choice_in result) }
+    ensures { entries_in result.entries result.count ≡ entries_in entries.now count }
 {
     let mut words = [0u16; Class::ALL_WORDS];
     copy_entries(entries, &mut words, count);
     Chosen {
-        refusal: 0,
-        place: 0,
         count,
         entries: words,
     }
 }
 
 // The better classes if there are any, else the naive ones.
-fn choose_gathered(given: Given, conflict: Conflict, tokens: TokenSet) -> Chosen
+fn choose_gathered(given: Given, conflict: Conflict, tokens: TokenSet) -> Result<Chosen, Refusal>
     requires tokens_value { set_fits (meaning given.table.now) conflict tokens.0 ≡ true }
-    ensures result_value { choice_in result ≡ choice_of conflict.action (classes_of (meaning given.entry.table.now) conflict (members tokens.0)) }
-    ensures value { result ≡ chosen_of (choice_in result) }
+    ensures { choice_in result ≡ choice_of conflict.action (classes_of (meaning given.entry.table.now) conflict (members tokens.0)) }
 {
     let mut better = [0u16; Class::ALL_WORDS];
     let mut naive = [0u16; Class::ALL_WORDS];
-    match choose_tokens(given, conflict, tokens, &mut better, &mut naive) {
-        Err(refusal) => refuse(refusal.number()),
-        Ok(written) => {
-            if written.better != 0 {
-                return answer(&better, written.better);
-            }
-            let count = naive_chosen(conflict.action, written.naive);
-            answer(&naive, count)
-        }
+    let written = choose_tokens(given, conflict, tokens, &mut better, &mut naive)?;
+    if written.better != 0 {
+        return Ok(answer(&better, written.better));
     }
+    let count = naive_chosen(conflict, written.naive);
+    Ok(answer(&naive, count))
 }
 
 // The table's productions are packed into the front of the scratch words, as classifying does; all are zero at the end.
-fn choose_read(table: &[u16], conflict: Conflict, tokens: TokenSet, scratch: &mut [u16]) -> Chosen
-    requires table_value { check_of table.now ≡ Accepted }
-    requires tokens_value { set_fits (meaning table.now) conflict tokens.0 ≡ true }
+fn choose_read(
+    table: AcceptedTable,
+    conflict: Conflict,
+    tokens: TokenSet,
+    scratch: &mut [u16],
+) -> Result<Chosen, Refusal>
+    requires tokens_value { set_fits (meaning table.words.now) conflict tokens.0 ≡ true }
     requires classify_scratch_in_bounds { classify_scratch ≤ length scratch.old }
-    ensures scratch_after { outcome (choice_in result) scratch.new ≡ outcome (choice_of conflict.action (classes_of (meaning table.now) conflict (members tokens.0))) (zeroed classify_scratch scratch.old) }
-    ensures value { result ≡ chosen_of (choice_in result) }
+    ensures { outcome (choice_in result) scratch.new ≡ outcome (choice_of conflict.action (classes_of (meaning table.entry.words.now) conflict (members tokens.0))) (zeroed classify_scratch scratch.old) }
 {
     let past = ProductionIndex::ALL_WORDS;
-    let prepared = prepare(table, &mut scratch[..past]);
-    let given = prepared.given(table, &scratch[..past]);
+    let prepared = prepare(table.words, &mut scratch[..past]);
+    let given = prepared.given(table.words, &scratch[..past]);
     let chosen = choose_gathered(given, conflict, tokens);
     zero(scratch, Conflict::SCRATCH);
     chosen
@@ -180,24 +156,26 @@ fn set_shifts_end(conflict: Conflict, tokens: TokenSet, terminals: u16) -> bool
 }
 
 // `choose` over an accepted table: refusals 9 to 11 change nothing.
-pub fn choose_in(table: &[u16], conflict: Conflict, tokens: TokenSet, scratch: &mut [u16]) -> Chosen
-    requires { check_of table.now ≡ Accepted }
-    ensures scratch_after { outcome (choice_in result) scratch.new ≡ chosen_in conflict tokens.0 scratch.old (meaning table.now) }
-    ensures value { result ≡ chosen_of (choice_in result) }
+pub fn choose_in(
+    table: AcceptedTable,
+    conflict: Conflict,
+    tokens: TokenSet,
+    scratch: &mut [u16],
+) -> Result<Chosen, Refusal>
+    ensures { outcome (choice_in result) scratch.new ≡ chosen_in conflict tokens.0 scratch.old (meaning table.entry.words.now) }
 {
-    let counts = read_counts(table);
-    let terminals = counts.terminals as u16;
-    if place_fits(table, conflict) {
-        if tokens.fits(counts.terminals) {
-            if set_shifts_end(conflict, tokens, terminals) {
-                return refuse(10);
-            }
-            if scratch.len() < Conflict::SCRATCH {
-                return refuse(11);
-            }
-            return choose_read(table, conflict, tokens, scratch);
-        }
-        return refuse(9);
+    let counts = table.counts();
+    if !place_fits(table, conflict) {
+        return Err(Refusal::OutOfRange);
     }
-    refuse(9)
+    if !tokens.fits(counts.terminals) {
+        return Err(Refusal::OutOfRange);
+    }
+    if set_shifts_end(conflict, tokens, counts.terminals as u16) {
+        return Err(Refusal::EndShifted);
+    }
+    if scratch.len() < Conflict::SCRATCH {
+        return Err(Refusal::TooShort);
+    }
+    choose_read(table, conflict, tokens, scratch)
 }

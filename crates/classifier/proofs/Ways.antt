@@ -11,6 +11,9 @@ use lib.Dec.{eqb, ltb, leb}
 use borrow.Author.Tests.{ltb-true, leb-true, lt-ltb, le-ltb, le-leb, lt-leb, eq-eqb, ne_eqb}
 use Rattle.std.specs.Prelude.{Option as OptionOf, Some, None, Result, Ok, Err}
 use Rattle.repr.specs.Sizes.{classify_scratch, example_room, example_limit}
+use Rattle.repr.specs.declared.refusals.Refusal.{Refusal}
+use Rattle.repr.specs.declared.refusals.Refusal.TheVariants.{OutOfRange, EndShifted, TooShort}
+use Rattle.repr.specs.Reply.{number_of}
 use Rattle.repr.specs.Lists.{below}
 use Rattle.repr.specs.Meaning.{Production, Table, All}
 use Rattle.slices.specs.Lent.{in_front, zeroed}
@@ -22,8 +25,7 @@ use Rattle.example.specs.Example.{example_words}
 use Rattle.error.specs.declared.Conflict.{Conflict}
 use Rattle.error.specs.declared.Class.{Class}
 use Rattle.error.specs.declared.Class.TheVariants.{Naive}
-use Rattle.error.specs.declared.Classified.TheVariants.{Class as IsClass, Refused}
-use Rattle.error.specs.Numbers.{number_of_class, values_of_class, Reading, classed, reading_of}
+use Rattle.error.specs.Numbers.{number_of_class, values_of_class, Reading, classed, refused, reading_of}
 use Rattle.error.specs.Sides.{Side, gathered, stopped, reduce_side, action_side_of, both_sides, gather}
 use Rattle.error.specs.Sorted.{sorted_from, sorted_by}
 use Rattle.error.specs.Judge.{Example, symbol_count, judge, judged}
@@ -33,38 +35,30 @@ use Rattle.pairs.specs.Order.{places_in}
 use Rattle.pairs.proofs.Order.{order_sorted}
 use Rattle.examples.specs.Reads.{Reads}
 use Rattle.examples.specs.declared.Gathered.{Gathered}
-use Rattle.examples.specs.declared.Refusal.{Refusal}
-use Rattle.examples.specs.Refusals.{number_of}
-use Rattle.examples.specs.Gathers.{SideKept, Gathers, Sided}
+use Rattle.examples.specs.Gathers.{SideKept, Stops, Gathers, Sided}
 use Rattle.judge.specs.declared.Judged.{Judged as JudgedValue}
 use Rattle.judge.specs.Judging.{Ordered, picked, shown_in, judged_in, ShownFits, Judges}
-use Rattle.classifier.specs.Ranges.{operand_in}
 use Rattle.classifier.specs.Shown.{judged_words, shown_of}
 
 -- refusal 9
 
-pub operand_shift : (t p a o : ℕ) → a ≡ 0 → ltb o t ≡ operand_in t p a o
-unfolding operand_in
-operand_shift t p zero o e = refl
-operand_shift t p (suc a) o e = absurd (omega arith)
+module _ (T : Table) (a o : ℕ) where
+  operand_shift : a ≡ 0 → operand_fits T a o ≡ ltb o T.terminals
+  unfolding operand_fits
+  operand_shift e = rw e
 
-pub operand_reduce : (t p a o : ℕ) → a ≡ 1 → ltb o p ≡ operand_in t p a o
-unfolding operand_in
-operand_reduce t p zero o e = absurd (omega arith)
-operand_reduce t p (suc zero) o e = refl
-operand_reduce t p (suc (suc a)) o e = absurd (omega arith)
+  operand_reduce : a ≡ 1 → operand_fits T a o ≡ ltb o (length T.productions)
+  unfolding operand_fits
+  operand_reduce e = rw e
 
-pub operand_other : (t p a o : ℕ) → (a ≡ 0 → ⊥) → (a ≡ 1 → ⊥) → false ≡ operand_in t p a o
-unfolding operand_in
-operand_other t p zero o e f = absurd (e refl)
-operand_other t p (suc zero) o e f = absurd (f refl)
-operand_other t p (suc (suc a)) o e f = refl
-
-operand_same : (T : Table) (a o : ℕ) → operand_in T.terminals (length T.productions) a o ≡ operand_fits T a o
-unfolding operand_in operand_fits
-operand_same T zero o = refl
-operand_same T (suc zero) o = refl
-operand_same T (suc (suc a)) o = refl
+  operand_other : (a ≡ 0 → ⊥) → (a ≡ 1 → ⊥) → operand_fits T a o ≡ false
+  unfolding operand_fits
+  operand_other f g = other a f g
+    where
+      other : (b : ℕ) → (b ≡ 0 → ⊥) → (b ≡ 1 → ⊥) → operand_fits T b o ≡ false
+      other zero f g = absurd (f refl)
+      other (suc zero) f g = absurd (g refl)
+      other (suc (suc b)) f g = refl
 
 module _ (T : Table) (n t s p : ℕ) (C : CountsOf T n t s p) (c : Conflict) where
   pub place_state : s ≤ c.state.0 → false ≡ place_is_fit T c
@@ -78,12 +72,22 @@ module _ (T : Table) (n t s p : ℕ) (C : CountsOf T n t s p) (c : Conflict) whe
       let f = C.productions in
       rw (lt-ltb c.state.0 (length T.states) (omega arith), le-ltb c.production.0 (length T.productions) (omega arith))
 
-  pub place_operand : c.state.0 < s → c.production.0 < p → (r : Bool) → r ≡ operand_in t p c.action c.operand → r ≡ place_is_fit T c
-  unfolding place_is_fit
-  place_operand h k r q =
-      let e = C.states in
-      let f = C.productions in
-      rw (lt-ltb c.state.0 (length T.states) (omega arith), lt-ltb c.production.0 (length T.productions) (omega arith)) (rw (C.terminals, C.productions) at q ∙ operand_same T c.action c.operand)
+  module _ (h : c.state.0 < s) (k : c.production.0 < p) where
+    place_operand : place_is_fit T c ≡ operand_fits T c.action c.operand
+    unfolding place_is_fit
+    place_operand =
+        let e = C.states in
+        let f = C.productions in
+        rw (lt-ltb c.state.0 (length T.states) (omega arith), lt-ltb c.production.0 (length T.productions) (omega arith))
+
+    pub place-shift : c.action ≡ 0 → ltb c.operand t ≡ place_is_fit T c
+    place-shift e = rw C.terminals (sym (place_operand ∙ operand_shift T c.action c.operand e))
+
+    pub place-reduce : c.action ≡ 1 → ltb c.operand p ≡ place_is_fit T c
+    place-reduce e = rw C.productions (sym (place_operand ∙ operand_reduce T c.action c.operand e))
+
+    pub place-other : (c.action ≡ 0 → ⊥) → (c.action ≡ 1 → ⊥) → false ≡ place_is_fit T c
+    place-other e f = sym (place_operand ∙ operand_other T c.action c.operand e f)
 
 -- refusal 10
 
@@ -173,7 +177,7 @@ kept-judged T c xs ys as' rs v action reduce action' reduce' J ea er a r =
 -- what was gathered
 
 module _ (T : Table) (shift : Bool) (made : ℕ → ℕ → Example → Type 0) (r : Result Gathered Refusal) (kept prints : List ℕ) (side : Side) (S : Sided T shift made r kept prints side) where
-  pub side_stops : (x : Refusal) → r ≡ Err x → side ≡ stopped (number_of x)
+  pub side_stops : (x : Refusal) → r ≡ Err x → Stops x side
   unfolding Sided
   side_stops x e = subst (λ (s : Result Gathered Refusal). Sided T shift made s kept prints side) e S
 
@@ -188,20 +192,22 @@ module _ (T : Table) (c : Conflict) (w action reduce : List ℕ) where
   abbrev Reduce : Side
   Reduce = reduce_side T c.state.0 c.production.0 c.token
 
-  pub action_stops : (x : ℕ) → Action ≡ stopped x → outcome (reading_of (Refused x 0)) (zeroed classify_scratch w) action reduce ≡ gathered_outcome T c w action reduce (gather T c)
+  pub action_stops : (x : Refusal) → Stops x Action → outcome (reading_of (Err x)) (zeroed classify_scratch w) action reduce ≡ gathered_outcome T c w action reduce (gather T c)
   unfolding reading_of gathered_with gather both_sides
-  action_stops x e = ap (λ (s : Side). gathered_outcome T c w action reduce (both_sides s Reduce)) (sym e)
+  action_stops x h =
+      let a = sym h.0 in
+      (λ j. outcome (refused (number_of x) (h.1 j)) (zeroed classify_scratch w) action reduce) ∙ (λ j. gathered_outcome T c w action reduce (both_sides (a j) Reduce))
 
-  pub reduce_stops : (xs : List Example) (m x : ℕ) → Action ≡ gathered xs m → Reduce ≡ stopped x → outcome (reading_of (Refused x 0)) (zeroed classify_scratch w) action reduce ≡ gathered_outcome T c w action reduce (gather T c)
+  pub reduce_stops : (xs : List Example) (m : ℕ) (x : Refusal) → Action ≡ gathered xs m → Stops x Reduce → outcome (reading_of (Err x)) (zeroed classify_scratch w) action reduce ≡ gathered_outcome T c w action reduce (gather T c)
   unfolding reading_of gathered_with gather both_sides
-  reduce_stops xs m x ea er =
+  reduce_stops xs m x ea h =
       let a = sym ea in
-      let r = sym er in
-      λ j. gathered_outcome T c w action reduce (both_sides (a j) (r j))
+      let r = sym h.0 in
+      (λ j. outcome (refused (number_of x) (h.1 j)) (zeroed classify_scratch w) action reduce) ∙ (λ j. gathered_outcome T c w action reduce (both_sides (a j) (r j)))
 
   pub both-judged : (xs ys : List Example) (m n : ℕ) → Action ≡ gathered xs m → Reduce ≡ gathered ys n → (class : Class) (action' reduce' : List ℕ)
       → judged_words class action' reduce' ≡ shown_of T.productions action reduce (judged T c xs ys)
-      → outcome (reading_of (IsClass class m n)) (zeroed classify_scratch w) action' reduce' ≡ gathered_outcome T c w action reduce (gather T c)
+      → outcome (reading_of (Ok (record { class = class; action_trials = m; reduce_trials = n }))) (zeroed classify_scratch w) action' reduce' ≡ gathered_outcome T c w action reduce (gather T c)
   unfolding reading_of gathered_with judged_with gather both_sides shown_of
   both-judged xs ys m n ea er class action' reduce' e =
       let J = judged T c xs ys in
@@ -226,12 +232,12 @@ reads-front t front back counts sets least ends m long R = subst (λ (g : List �
 -- the whole
 
 module _ (T : Table) (c : Conflict) (scratch action reduce : List ℕ) where
-  pub not-placed : place_is_fit T c ≡ false → outcome (reading_of (Refused 9 0)) scratch action reduce ≡ classified_in c scratch action reduce T
+  pub not-placed : place_is_fit T c ≡ false → outcome (reading_of (Err OutOfRange)) scratch action reduce ≡ classified_in c scratch action reduce T
   unfolding reading_of classify_in_with conflict_fits
   not-placed e = rw (e, classify_in_with)
 
   module _ (p : place_is_fit T c ≡ true) (n t s q : ℕ) (C : CountsOf T n t s q) where
-    pub token_past : t < c.token → outcome (reading_of (Refused 9 0)) scratch action reduce ≡ classified_in c scratch action reduce T
+    pub token_past : t < c.token → outcome (reading_of (Err OutOfRange)) scratch action reduce ≡ classified_in c scratch action reduce T
     unfolding reading_of classify_in_with conflict_fits
     token_past h = let e = C.terminals in rw (p, lt-leb c.token T.terminals (omega arith), classify_in_with)
 
@@ -240,7 +246,7 @@ module _ (T : Table) (c : Conflict) (scratch action reduce : List ℕ) where
       unfolding conflict_fits
       conflict_fits_lem = let e = C.terminals in rw (p, le-leb c.token T.terminals (omega arith))
 
-      pub shift_end : (b : Bool) → b ≡ (eqb c.action 0 && eqb c.token t) → b ≡ true → outcome (reading_of (Refused 10 0)) scratch action reduce ≡ classified_in c scratch action reduce T
+      pub shift_end : (b : Bool) → b ≡ (eqb c.action 0 && eqb c.token t) → b ≡ true → outcome (reading_of (Err EndShifted)) scratch action reduce ≡ classified_in c scratch action reduce T
       unfolding reading_of classify_in_with shifts_end
       shift_end b e i =
           let f : eqb c.action 0 && eqb c.token T.terminals ≡ true = ap (λ (x : ℕ). eqb c.action 0 && eqb c.token x) (sym C.terminals) ∙ sym e ∙ i in
@@ -250,15 +256,15 @@ module _ (T : Table) (c : Conflict) (scratch action reduce : List ℕ) where
         no_end : eqb c.action 0 && eqb c.token T.terminals ≡ false
         no_end = ap (λ (x : ℕ). eqb c.action 0 && eqb c.token x) (sym C.terminals) ∙ sym e ∙ i
 
-        pub short_scratch : length scratch < classify_scratch → outcome (reading_of (Refused 11 0)) scratch action reduce ≡ classified_in c scratch action reduce T
+        pub short_scratch : length scratch < classify_scratch → outcome (reading_of (Err TooShort)) scratch action reduce ≡ classified_in c scratch action reduce T
         unfolding reading_of classify_in_with shifts_end
         short_scratch l = rw (conflict_fits_lem, no_end, lt-leb classify_scratch (length scratch) l, classify_in_with)
 
-        pub short_action : classify_scratch ≤ length scratch → length action < example_room → outcome (reading_of (Refused 11 0)) scratch action reduce ≡ classified_in c scratch action reduce T
+        pub short_action : classify_scratch ≤ length scratch → length action < example_room → outcome (reading_of (Err TooShort)) scratch action reduce ≡ classified_in c scratch action reduce T
         unfolding reading_of classify_in_with shifts_end
         short_action k l = rw (conflict_fits_lem, no_end, le-leb classify_scratch (length scratch) k, lt-leb example_room (length action) l, classify_in_with)
 
-        pub short_reduce : classify_scratch ≤ length scratch → example_room ≤ length action → length reduce < example_room → outcome (reading_of (Refused 11 0)) scratch action reduce ≡ classified_in c scratch action reduce T
+        pub short_reduce : classify_scratch ≤ length scratch → example_room ≤ length action → length reduce < example_room → outcome (reading_of (Err TooShort)) scratch action reduce ≡ classified_in c scratch action reduce T
         unfolding reading_of classify_in_with shifts_end
         short_reduce k m l = rw (conflict_fits_lem, no_end, le-leb classify_scratch (length scratch) k, le-leb example_room (length action) m, lt-leb example_room (length reduce) l, classify_in_with)
 

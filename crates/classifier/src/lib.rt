@@ -6,61 +6,43 @@ ghost use Rattle.std.specs.Prelude.{◌≡◌, true, false, ◌&&◌, List, ℕ,
 ghost use Rattle.repr.specs.Sizes.{classify_scratch, example_room};
 ghost use Rattle.slices.specs.Lent.{zeroed};
 ghost use Rattle.table.specs.Decoded.{meaning};
-ghost use Rattle.table.specs.Checked.{Accepted};
-ghost use Rattle.table.specs.Refusals.{check_of};
 ghost use Rattle.error.specs.Numbers.{reading_of};
 ghost use Rattle.error.specs.Sides.{gather};
 ghost use Rattle.error.specs.Judge.{Example, judged};
 ghost use Rattle.error.specs.Outcome.{outcome, place_is_fit, conflict_fits, gathered_outcome, classified_in, shown as shown_words};
 ghost use Rattle.examples.specs.Gathers.{SideKept, is_shift, action_made, reduce_made};
 ghost use Rattle.judge.specs.Judging.{Sides, ShownFits, shown_in};
-ghost use Rattle.classifier.specs.Ranges.{operand_in};
 ghost use Rattle.classifier.specs.Shown.{judged_words, shown_of};
-ghost use Rattle.classifier.specs.Answered.{answered};
 
-use error::{Class, Classified, Conflict};
+use error::{Class, Classification, Conflict};
 use example::Example as ExampleBuffer;
-use examples::{Given, Refusal, action_examples, prepare, reduced};
+use examples::{Given, action_examples, prepare, reduced};
 use judge::{judge, write_example};
 use outline::Side;
 use pairs::sort_side;
-use repr::ProductionIndex;
+use repr::{ProductionIndex, Refusal};
 use slices::zero;
-use table::read_counts;
-
-// The action's terminal or production in range: part of refusal 9.
-fn operand_fits(terminals: usize, productions: usize, action: usize, operand: usize) -> bool
-    ensures { result ≡ operand_in terminals productions action operand }
-{
-    if action == 0 {
-        return operand < terminals;
-    }
-    if action == 1 {
-        return operand < productions;
-    }
-    false
-}
+use table::AcceptedTable;
 
 // Refusal 9 for all of a conflict but its token.
-pub fn place_fits(table: &[u16], conflict: Conflict) -> bool
-    requires { check_of table.now ≡ Accepted }
-    ensures { result ≡ place_is_fit (meaning table.now) conflict }
+pub fn place_fits(table: AcceptedTable, conflict: Conflict) -> bool
+    ensures { result ≡ place_is_fit (meaning table.entry.words.now) conflict }
 {
-    let counts = read_counts(table);
-    let states = counts.states;
-    let productions = counts.productions;
-    let terminals = counts.terminals;
-    let state = conflict.state.0 as usize;
-    let production = conflict.production.0 as usize;
-    let action = conflict.action as usize;
+    let counts = table.counts();
+    if conflict.state.0 as usize >= counts.states {
+        return false;
+    }
+    if conflict.production.0 as usize >= counts.productions {
+        return false;
+    }
     let operand = conflict.operand as usize;
-    if state >= states {
-        return false;
+    if conflict.action == 0 {
+        return operand < counts.terminals;
     }
-    if production >= productions {
-        return false;
+    if conflict.action == 1 {
+        return operand < counts.productions;
     }
-    operand_fits(terminals, productions, action, operand)
+    false
 }
 
 // Refusal 10: a shift with the end token, at which the Rust panics.
@@ -125,14 +107,6 @@ fn classify_kept(
     judged.class
 }
 
-// A class, and the trials of the action side and of the reduce side.
-#[derive(Clone, Copy)]
-pub struct Classification {
-    pub class: Class,
-    pub action_trials: u32,
-    pub reduce_trials: u32,
-}
-
 // `classify`: the action's side is worked first, the reduce's even if the first is empty; 12 to 14 leave the example buffers. No scratch is used: what is written stands in small arrays.
 pub fn classify(
     given: Given,
@@ -142,7 +116,7 @@ pub fn classify(
 ) -> Result<Classification, Refusal>
     requires conflict_value { conflict_fits (meaning given.table.now) conflict ≡ true }
     requires example_room_in_bounds { (example_room ≤ length action.old) × (example_room ≤ length reduce.old) }
-    ensures { (scratch : List ℕ) → outcome (reading_of (answered result)) (zeroed classify_scratch scratch) action.new reduce.new ≡ gathered_outcome (meaning given.entry.table.now) conflict scratch action.old reduce.old (gather (meaning given.entry.table.now) conflict) }
+    ensures { (scratch : List ℕ) → outcome (reading_of result) (zeroed classify_scratch scratch) action.new reduce.new ≡ gathered_outcome (meaning given.entry.table.now) conflict scratch action.old reduce.old (gather (meaning given.entry.table.now) conflict) }
 {
     let mut actions = Side::new();
     let mut reduces = Side::new();
@@ -165,68 +139,54 @@ pub fn classify(
     })
 }
 
-// The answer by value.
-fn classified(answer: Result<Classification, Refusal>) -> Classified
-    ensures { result ≡ answered answer }
-{
-    match answer {
-        Ok(found) => Classified::Class(found.class, found.action_trials, found.reduce_trials),
-        Err(refusal) => Classified::Refused(refusal.number(), 0),
-    }
-}
-
 // The table's productions are packed into the front of the scratch words, which are read only while sides are gathered and judged; all are zero at the end.
 fn classify_read(
-    table: &[u16],
+    table: AcceptedTable,
     conflict: Conflict,
     scratch: &mut [u16],
     action: &mut [u16],
     reduce: &mut [u16],
-) -> Classified
-    requires table_value { check_of table.now ≡ Accepted }
-    requires conflict_value { conflict_fits (meaning table.now) conflict ≡ true }
+) -> Result<Classification, Refusal>
+    requires conflict_value { conflict_fits (meaning table.words.now) conflict ≡ true }
     requires classify_scratch_in_bounds { (classify_scratch ≤ length scratch.old) × ((example_room ≤ length action.old) × (example_room ≤ length reduce.old)) }
-    ensures { outcome (reading_of result) scratch.new action.new reduce.new ≡ gathered_outcome (meaning table.now) conflict scratch.old action.old reduce.old (gather (meaning table.now) conflict) }
+    ensures { outcome (reading_of result) scratch.new action.new reduce.new ≡ gathered_outcome (meaning table.entry.words.now) conflict scratch.old action.old reduce.old (gather (meaning table.entry.words.now) conflict) }
 {
     let past = ProductionIndex::ALL_WORDS;
-    let prepared = prepare(table, &mut scratch[..past]);
-    let given = prepared.given(table, &scratch[..past]);
-    let answer = classify(given, conflict, action, reduce);
+    let prepared = prepare(table.words, &mut scratch[..past]);
+    let given = prepared.given(table.words, &scratch[..past]);
+    let classified = classify(given, conflict, action, reduce);
     zero(scratch, Conflict::SCRATCH);
-    classified(answer)
+    classified
 }
 
 // `classify` over an accepted table: refusals 9 to 11 change nothing.
 pub fn classify_in(
-    table: &[u16],
+    table: AcceptedTable,
     conflict: Conflict,
     scratch: &mut [u16],
     action: &mut [u16],
     reduce: &mut [u16],
-) -> Classified
-    requires { check_of table.now ≡ Accepted }
-    ensures { outcome (reading_of result) scratch.new action.new reduce.new ≡ classified_in conflict scratch.old action.old reduce.old (meaning table.now) }
+) -> Result<Classification, Refusal>
+    ensures { outcome (reading_of result) scratch.new action.new reduce.new ≡ classified_in conflict scratch.old action.old reduce.old (meaning table.entry.words.now) }
 {
-    let counts = read_counts(table);
-    let terminals = counts.terminals;
-    let token = conflict.token as usize;
-    if place_fits(table, conflict) {
-        if token > terminals {
-            return Classified::Refused(9, 0);
-        }
-        if shifts_end(conflict, terminals) {
-            return Classified::Refused(10, 0);
-        }
-        if scratch.len() < Conflict::SCRATCH {
-            return Classified::Refused(11, 0);
-        }
-        if action.len() < ExampleBuffer::WORDS {
-            return Classified::Refused(11, 0);
-        }
-        if reduce.len() < ExampleBuffer::WORDS {
-            return Classified::Refused(11, 0);
-        }
-        return classify_read(table, conflict, scratch, action, reduce);
+    let terminals = table.counts().terminals;
+    if !place_fits(table, conflict) {
+        return Err(Refusal::OutOfRange);
     }
-    Classified::Refused(9, 0)
+    if conflict.token as usize > terminals {
+        return Err(Refusal::OutOfRange);
+    }
+    if shifts_end(conflict, terminals) {
+        return Err(Refusal::EndShifted);
+    }
+    if scratch.len() < Conflict::SCRATCH {
+        return Err(Refusal::TooShort);
+    }
+    if action.len() < ExampleBuffer::WORDS {
+        return Err(Refusal::TooShort);
+    }
+    if reduce.len() < ExampleBuffer::WORDS {
+        return Err(Refusal::TooShort);
+    }
+    classify_read(table, conflict, scratch, action, reduce)
 }

@@ -1,9 +1,10 @@
 -- Document 01's number of a class, and the class's own values in the order that it prints them. Assumes nothing: these are definitions.
-use Rattle.std.specs.Prelude.{ℕ, List, [], ◌∷◌}
+use Rattle.std.specs.Prelude.{ℕ, List, [], ◌∷◌, Result, Ok, Err}
+use Rattle.repr.specs.declared.refusals.Refusal.{Refusal}
+use Rattle.repr.specs.Reply.{number_of, place_of}
 use Rattle.error.specs.declared.Class.{Class}
 use Rattle.error.specs.declared.Class.TheVariants.{Naive, Ambiguity, Precedence, SuggestInline, SuggestQuestion, AmbiguousReduction, InsufficientLookahead}
-use Rattle.error.specs.declared.Classified.{Classified}
-use Rattle.error.specs.declared.Classified.TheVariants.{Class as IsClass, Refused}
+use Rattle.error.specs.declared.Classification.{Classification}
 
 unfoldable pub number_of_class : Class → ℕ
 number_of_class Naive = 0
@@ -29,6 +30,6 @@ pub data Reading : Type 0 where
   classed : ℕ → List ℕ → ℕ → ℕ → Reading
   refused : ℕ → ℕ → Reading
 
-unfoldable pub reading_of : Classified → Reading
-reading_of (IsClass k a r) = classed (number_of_class k) (values_of_class k) a r
-reading_of (Refused n p) = refused n p
+unfoldable pub reading_of : Result Classification Refusal → Reading
+reading_of (Ok k) = classed (number_of_class k.class) (values_of_class k.class) k.action_trials k.reduce_trials
+reading_of (Err e) = refused (number_of e) (place_of e)

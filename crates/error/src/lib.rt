@@ -6,7 +6,7 @@ use lookahead::TokenSet;
 use repr::{NonterminalString, ProductionIndex};
 use state_graph::StateIndex;
 
-// A conflict as document 01 has it, five words: the action is 0 for a shift, its operand a terminal, or 1 for a reduce, its operand a production.
+// A conflict as document 01 has it, five words: the action is 0 for a shift, its operand a terminal, or 1 for a reduce, its operand a production. No enum, as any number can be asked and is refused only behind what is wrong with the table.
 #[derive(Clone, Copy)]
 pub struct Conflict {
     pub state: StateIndex,
@@ -43,9 +43,10 @@ impl Class {
     pub const ALL_WORDS: usize = TokenSet::LIMIT as usize * Class::ENTRY_WORDS;
 }
 
-// What classifying answers: the class with the trials of the action side and of the reduce side; else the refusal and its place.
+// What classifying answers: the class, and the trials of the action side and of the reduce side.
 #[derive(Clone, Copy)]
-pub enum Classified {
-    Class(Class, u32, u32),
-    Refused(u16, u16),
+pub struct Classification {
+    pub class: Class,
+    pub action_trials: u32,
+    pub reduce_trials: u32,
 }

@@ -10,7 +10,7 @@ use Rattle.error.specs.Judge.{Example}
 use Rattle.error.specs.Outcome.{operand_fits, place_is_fit, conflict_fits}
 use Rattle.error.specs.Sides.{shift_side, reduce_side, action_side_of}
 use Rattle.examples.specs.declared.Gathered.{Gathered}
-use Rattle.examples.specs.declared.Refusal.{Refusal}
+use Rattle.repr.specs.declared.refusals.Refusal.{Refusal}
 use Rattle.examples.specs.Gathers.{shift_made, reduce_made, made_by, action_made, is_shift, reduced, SideKept, Sided}
 
 module _ (T : Table) (s o token : ℕ) (r : Result Gathered Refusal) (kept prints : List ℕ) where

@@ -1,7 +1,7 @@
 -- The ways through `open_view` and `list_item`: the trace's edges have a view, and their listing is that of error/specs/Sides. Assumes nothing.
 use Rattle.std.specs.Prelude.{Result, Err, ◌≡◌, ℕ, ◌<◌, ◌≤◌, Bool, List, length, take}
 use native.Mathlib.Omega.{arith}
-use mathlib.Core.Path.{subst}
+use mathlib.Core.Path.{subst, refl}
 use mathlib.Core.Option.{Option}
 use lib.Seq.{take_all}
 use Rattle.repr.specs.Sizes.{edge_limit, example_limit}
@@ -17,8 +17,8 @@ use Rattle.tracer.specs.Held.{Working}
 use Rattle.view.specs.View.{View, Labelled}
 use Rattle.error.specs.Sides.{Side, listing_side}
 use Rattle.examples.specs.declared.Gathered.{Gathered}
-use Rattle.examples.specs.declared.Refusal.{Refusal}
-use Rattle.examples.specs.declared.Refusal.TheVariants.{TooManyEdges}
+use Rattle.repr.specs.declared.refusals.Refusal.{Refusal}
+use Rattle.repr.specs.declared.refusals.Refusal.TheVariants.{TooManyEdges}
 use Rattle.examples.specs.Reads.{Reads}
 use Rattle.examples.specs.Listing.{listed_by, Listable}
 use Rattle.examples.specs.Gathers.{ListedOn}
@@ -65,4 +65,4 @@ module _ (t g : List ℕ) (counts : Counts) (sets least ends : List ℕ) (R : Re
       -- 12
       pub item-full : edge_limit < length es → ListedOn (meaning t).productions shift (Err TooManyEdges) count kept prints kept' prints' (listing_side (meaning t) es i ahead count)
       unfolding ListedOn
-      item-full h = listing-over (meaning t) es i ahead count h
+      item-full h = (listing-over (meaning t) es i ahead count h, refl)

@@ -21,7 +21,7 @@ use Rattle.error.specs.Sides.{Side, listing_side, item_of_reduce, reduce_side}
 use Rattle.outline.specs.Kept.{Room}
 use Rattle.examples.specs.declared.Traced.{Traced}
 use Rattle.examples.specs.declared.Gathered.{Gathered}
-use Rattle.examples.specs.declared.Refusal.{Refusal}
+use Rattle.repr.specs.declared.refusals.Refusal.{Refusal}
 use Rattle.examples.specs.Reads.{Reads}
 use Rattle.examples.specs.Gathers.{ListedOn, reduce_made, Sided}
 use Rattle.examples.proofs.Both.{reduce_is}

@@ -28,9 +28,9 @@ use Rattle.shift_items.specs.Left.{Marked, is_shift_item, place_item, items_left
 use Rattle.shift_items.proofs.Left.{left_all_lem}
 use Rattle.outline.specs.Kept.{Room}
 use Rattle.examples.specs.declared.Gathered.{Gathered}
-use Rattle.examples.specs.declared.Refusal.{Refusal}
-use Rattle.examples.specs.Refusals.{number_of}
-use Rattle.examples.specs.Gathers.{ListedBehind, ListedOn, TrialsIn, shift_made, SideKept, Sided}
+use Rattle.repr.specs.declared.refusals.Refusal.{Refusal}
+use Rattle.repr.specs.Reply.{number_of}
+use Rattle.examples.specs.Gathers.{Stops, ListedBehind, ListedOn, TrialsIn, shift_made, SideKept, Sided}
 use Rattle.examples.proofs.Sides.{none_kept, shift_kept}
 
 -- n productions in their order
@@ -192,14 +192,15 @@ module _ (T : Table) (F : TableFits T) (s token : ℕ) (hs : s < length T.states
             same = step (gathered (U.examples ++ G.examples) (trials + g.trials)) (ap (with_more (gathered U.examples trials)) G.is ∙ with_gathered U.examples G.examples trials g.trials);
           })
 
-      stopped_at : (x : Refusal) → r ≡ Err x → listing ≡ stopped (number_of x)
+      stopped_at : (x : Refusal) → r ≡ Err x → Stops x listing
       unfolding ListedOn
       stopped_at x er = rw er at answer
 
       pub turn_stop : (x : Refusal) → r ≡ Err x → Sided T true (shift_made T s) (Err x) kept' prints' (shift_side T s token)
       unfolding Sided
       turn_stop x er =
-          sym (step (stopped (number_of x)) (ap (with_more (gathered U.examples trials)) (stopped_at x er) ∙ with_stopped U.examples trials (number_of x))) ∙ from-stopped T s (number_of x) (items_left T s token order n (suc place))
+          let h = stopped_at x er in
+          (sym (step (stopped (number_of x)) (ap (with_more (gathered U.examples trials)) h.0 ∙ with_stopped U.examples trials (number_of x))) ∙ from-stopped T s (number_of x) (items_left T s token order n (suc place)), h.1)
 
 pub turn_end : (T : Table) (s token : ℕ) (order : List ℕ) (n : ℕ) (kept prints : List ℕ) (total trials from : ℕ) → Turn T s token order n kept prints total trials from
     → (r : Option (ℕ × ℕ)) → r ≡ None → NextIs T s token order n from r → Sided T true (shift_made T s) (Ok (record { examples = total; trials = trials })) kept prints (shift_side T s token)

@@ -20,7 +20,7 @@ use Rattle.outline.specs.Outline.{outline_from}
 use Rattle.outline.specs.Inline.{Shifts}
 use Rattle.outline.specs.Kept.{nth, outline_in, turn_in, labelled_limit, KeptLabels, Room}
 use Rattle.examples.specs.declared.Gathered.{Gathered}
-use Rattle.examples.specs.declared.Refusal.{Refusal}
+use Rattle.repr.specs.declared.refusals.Refusal.{Refusal}
 use Rattle.examples.specs.Gathers.{Behind, ListedOn, shift_made, reduce_made, ExampleFits, SideKept, Sided}
 use Rattle.examples.proofs.Listed.{listed-fits, listed-first, listed-shifts}
 

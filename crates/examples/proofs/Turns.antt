@@ -25,8 +25,8 @@ use Rattle.outline.specs.Outline.{outline_from}
 use Rattle.outline.specs.Kept.{outline_in, turn_in, kept_with, labelled_limit, kept_room, KeptLabels, LabelsPut, Room}
 use Rattle.outline.proofs.Keeping.{keep-length, keep_here, keep_turn, keep_there, keep_turn_there}
 use Rattle.outline.proofs.Labelled.{put_outline, put_turn, put_labels, put_others, outlined_labels}
-use Rattle.examples.specs.declared.Refusal.{Refusal}
-use Rattle.examples.specs.declared.Refusal.TheVariants.{TooManyTrials, TooManyExamples}
+use Rattle.repr.specs.declared.refusals.Refusal.{Refusal}
+use Rattle.repr.specs.declared.refusals.Refusal.TheVariants.{TooManyTrials, TooManyExamples}
 use Rattle.examples.specs.Listing.{more, onto, next_example, listed_by}
 use Rattle.examples.specs.Gathers.{PutBehind, Behind, ListedOn, TrialsIn}
 use Rattle.examples.proofs.Walking.{next-room, next-none, walk-out}
@@ -130,7 +130,7 @@ module _ (e : ℕ) (sets : List ℕ) (ps : List Production) (ahead : Option ℕ)
     pub turn_full : (x : Example) (s : Side) → left c (count + turn) ≡ next_example (count + turn) x s → example_limit ≤ count + turn
         → ListedOn ps shift (Err TooManyExamples) count kept₀ prints₀ kept prints (listed_by e sets ps es ahead start count)
     unfolding ListedOn
-    turn_full x s h f = sym U.same ∙ ap (onto U.examples) (h ∙ next-none (count + turn) x s f) ∙ onto-stopped U.examples 14
+    turn_full x s h f = (sym U.same ∙ ap (onto U.examples) (h ∙ next-none (count + turn) x s f) ∙ onto-stopped U.examples 14, refl)
 
     pub turn_more : (x : Example) (n : ℕ) → left c (count + turn) ≡ next_example (count + turn) x (left n (suc (count + turn))) → count + turn < example_limit → (kept' prints' : List ℕ)
         → PutBehind ps shift x turn (count + turn) kept prints kept' prints' → Turn shift count kept₀ prints₀ kept' prints' (turn + 1) n
@@ -155,7 +155,7 @@ module _ (e : ℕ) (sets : List ℕ) (ps : List Production) (ahead : Option ℕ)
     -- 13
     pub turn_over : left c (count + turn) ≡ stopped 13 → ListedOn ps shift (Err TooManyTrials) count kept₀ prints₀ kept prints (listed_by e sets ps es ahead start count)
     unfolding ListedOn
-    turn_over h = sym U.same ∙ ap (onto U.examples) h ∙ onto-stopped U.examples 13
+    turn_over h = (sym U.same ∙ ap (onto U.examples) h ∙ onto-stopped U.examples 13, refl)
 
 -- what a listing says of its trials
 pub trials-told : (k n : ℕ) → n ≤ trial_limit → TrialsIn trial_limit (Ok (record { examples = k; trials = n }))

@@ -2,6 +2,8 @@
 use Rattle.std.specs.Prelude.{◌≡◌, ℕ, zero, suc, ◌+◌, ◌<◌, ◌≤◌, Bool, true, List, length, ◌==◌, ◌≢◌, Result, Ok, Err}
 use Rattle.std.proofs.Math.Option.{none}
 use Rattle.repr.specs.Sizes.{reduction_limit, example_limit}
+use Rattle.repr.specs.declared.refusals.Refusal.{Refusal}
+use Rattle.repr.specs.Reply.{number_of, place_of}
 use Rattle.repr.specs.Meaning.{Production, Table, All}
 use Rattle.trace.specs.Shift.{shift_edges}
 use Rattle.trace.specs.Shifting.{item_of}
@@ -13,8 +15,6 @@ use Rattle.outline.specs.Outline.{outline_from}
 use Rattle.outline.specs.Kept.{nth, outline_in, turn_in, labelled_limit, KeptLabels, Outlined}
 use Rattle.outline.specs.Inline.{Shifts}
 use Rattle.examples.specs.declared.Gathered.{Gathered}
-use Rattle.examples.specs.declared.Refusal.{Refusal}
-use Rattle.examples.specs.Refusals.{number_of}
 use Rattle.examples.specs.Again.{Listed}
 
 -- example x put as number k of its side, number `turn` of its listing: its outline, and its labels where they are kept; nothing changes of the others
@@ -43,9 +43,13 @@ pub record ListedBehind (ps : List Production) (shift : Bool) (count n m : ℕ) 
   pub is : listing ≡ gathered examples m
   pub behind : Behind ps shift count n examples kept prints kept' prints'
 
+-- what a side refuses, 12 to 14, has no place
+abbrev pub Stops : Refusal → Side → Type 0
+Stops x side = (side ≡ stopped (number_of x)) × (place_of x ≡ 0)
+
 unfoldable pub ListedOn : List Production → Bool → Result Gathered Refusal → ℕ → List ℕ → List ℕ → List ℕ → List ℕ → Side → Type 0
 ListedOn ps shift (Ok g) count kept prints kept' prints' listing = ListedBehind ps shift count g.examples g.trials kept prints kept' prints' listing
-ListedOn ps shift (Err x) count kept prints kept' prints' listing = listing ≡ stopped (number_of x)
+ListedOn ps shift (Err x) count kept prints kept' prints' listing = Stops x listing
 
 -- a listing makes at most 100,000 trials
 unfoldable pub TrialsIn : ℕ → Result Gathered Refusal → Type 0
@@ -103,4 +107,4 @@ pub record Gathers (T : Table) (shift : Bool) (made : ℕ → ℕ → Example �
 -- the answer is the side's
 unfoldable pub Sided : Table → Bool → (ℕ → ℕ → Example → Type 0) → Result Gathered Refusal → List ℕ → List ℕ → Side → Type 0
 Sided T shift made (Ok g) kept prints side = Gathers T shift made g.examples g.trials kept prints side
-Sided T shift made (Err x) kept prints side = side ≡ stopped (number_of x)
+Sided T shift made (Err x) kept prints side = Stops x side

@@ -2,4 +2,3 @@ pub mod Reads
 pub mod Listing
 pub mod Again
 pub mod Gathers
-pub mod Refusals

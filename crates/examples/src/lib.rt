@@ -25,7 +25,6 @@ ghost use Rattle.error.specs.Sides.{listing_side, shift_side, reduce_side, actio
 ghost use Rattle.error.specs.Outcome.{conflict_fits};
 ghost use Rattle.outline.specs.Inline.{CodeFits};
 ghost use Rattle.examples.specs.Reads.{Reads};
-ghost use Rattle.examples.specs.Refusals.{number_of};
 ghost use Rattle.examples.specs.Listing.{listed_by, Listable};
 ghost use Rattle.examples.specs.Gathers.{ListedOn, Sided, shift_made, reduce_made, action_made, is_shift, reduced, TrialsIn, PutBehind};
 ghost use Rattle.examples.specs.Again.{Listed, Finds};
@@ -38,7 +37,7 @@ use first::FirstSets;
 use lookahead::TokenSet;
 use lr1_core::Item;
 use outline::{Outline, Side, outline_of};
-use repr::{Grammar, NonterminalString, ProductionIndex};
+use repr::{Grammar, NonterminalString, ProductionIndex, Refusal};
 use search::{Searched, read_labels, search, write_trial};
 use shift_items::{conflicting_shift_items, next_shift_item};
 use state_graph::StateIndex;
@@ -109,27 +108,6 @@ pub struct Given<'a> {
     pub least: &'a [u8],
     pub ends: &'a [u64],
     pub ghost reads: { Reads table.now grammar.now counts map.now least.now ends.now },
-}
-
-// Why a side's examples are not gathered.
-#[derive(Clone, Copy, PartialEq, Eq)]
-pub enum Refusal {
-    TooManyEdges,
-    TooManyTrials,
-    TooManyExamples,
-}
-
-impl Refusal {
-    // Document 01's number: 12 to 14.
-    pub fn number(self) -> u16
-        ensures { result ≡ number_of self }
-    {
-        match self {
-            Refusal::TooManyEdges => 12,
-            Refusal::TooManyTrials => 13,
-            Refusal::TooManyExamples => 14,
-        }
-    }
 }
 
 // How many examples are kept of a side, and how many trials were made.

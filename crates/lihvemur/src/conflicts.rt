@@ -6,10 +6,11 @@ ghost use Rattle.lihvemur.specs.Reports.{packed, class_numbers, classified_numbe
 ghost use Rattle.report.specs.Part.{part_observed};
 
 use entries::{class_number, copy_entries};
-use error::{Class, Classified, Conflict};
+use crate::refuse;
+use error::{Class, Conflict};
 use lookahead::TokenSet;
 use report::{Part, choose, classify, observed_part};
-use repr::ProductionIndex;
+use repr::{ProductionIndex, Refusal};
 use state_graph::StateIndex;
 
 // Four values in one word, the first lowest.
@@ -61,18 +62,15 @@ pub fn lihvemur_classify(
         token: token,
     };
     match classify(table, conflict, scratch, action_example, reduce_example) {
-        Classified::Class(k, m, n) => {
+        Ok(found) => {
             *place = 0;
-            *class = class_number(k);
-            *values = class_values(k);
-            *action_trials = m;
-            *reduce_trials = n;
+            *class = class_number(found.class);
+            *values = class_values(found.class);
+            *action_trials = found.action_trials;
+            *reduce_trials = found.reduce_trials;
             0
         }
-        Classified::Refused(refusal, at) => {
-            *place = at;
-            refusal
-        }
+        Err(refusal) => refuse(refusal, place),
     }
 }
 
@@ -99,22 +97,20 @@ pub fn lihvemur_choose(
         token: 0,
     };
     if entries.len() < Class::ALL_WORDS {
-        let none = choose(table, conflict, TokenSet(tokens), &mut scratch[..0]);
-        *place = none.place;
-        return none.refusal;
+        return match choose(table, conflict, TokenSet(tokens), &mut scratch[..0]) {
+            Ok(_) => refuse(Refusal::TooShort, place),
+            Err(refusal) => refuse(refusal, place),
+        };
     }
-    let chosen = choose(table, conflict, TokenSet(tokens), scratch);
-    let refusal = chosen.refusal;
-    if refusal != 0 {
-        *place = chosen.place;
-        return refusal;
+    match choose(table, conflict, TokenSet(tokens), scratch) {
+        Ok(chosen) => {
+            copy_entries(&chosen.entries, entries, chosen.count);
+            *count = chosen.count;
+            *place = 0;
+            0
+        }
+        Err(refusal) => refuse(refusal, place),
     }
-    let words = chosen.entries;
-    let n = chosen.count;
-    copy_entries(&words, entries, n);
-    *count = n;
-    *place = 0;
-    0
 }
 
 // In which buffer the observed symbols lie, 0 the action's, 1 the reduce's, and behind `words` how many words they have there from word 3 on.

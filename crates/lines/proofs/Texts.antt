@@ -5,14 +5,16 @@ use mathlib.Core.Path.{◌≡◌, refl, sym, ap, ◌∙◌, subst}
 use mathlib.Core.List.{List, [], ◌∷◌, ◌++◌, append_assoc, append-nil}
 use lib.ListN.{length, get_or, take, drop}
 use borrow.Author.Tests.{eq-eqb, ne_eqb}
+use Rattle.std.specs.Prelude.{Result, Ok, Err}
 use Rattle.repr.specs.Sizes.{reduction_room}
+use Rattle.repr.specs.Reply.{number_of, place_of}
+use Rattle.repr.specs.declared.refusals.Refusal.{Refusal}
 use Rattle.repr.specs.Lists.{joined}
 use Rattle.error.specs.Numbers.{number_of_class, values_of_class, reading_of}
 use Rattle.repr.specs.declared.NonterminalString.{NonterminalString}
 use Rattle.error.specs.declared.Class.{Class}
 use Rattle.error.specs.declared.Class.TheVariants.{Naive, Ambiguity, Precedence, SuggestInline, SuggestQuestion, AmbiguousReduction, InsufficientLookahead}
-use Rattle.error.specs.declared.Classified.{Classified}
-use Rattle.error.specs.declared.Classified.TheVariants.{Class as IsClass, Refused}
+use Rattle.error.specs.declared.Classification.{Classification}
 use Rattle.numerals.specs.Numeral.{numeral}
 use Rattle.lines.specs.Lines.{Put, Shown, ReadingShown, spaced, symbol_text, reduction_text, symbol_texts, reduction_texts, counted, total_of_symbols, printed_length, example_line, own_text, class_line, refused_text, line_of_refusal, example_lines, lines_of}
 use Rattle.lines.proofs.Laws.{put-nothing, put_then, put_as, put_all, put-within}
@@ -226,17 +228,17 @@ unfolding example_lines
 examples_both k x y n e P Q = rw (ne_eqb k 0 n, ne_eqb k 5 e, example_lines) (put_then P Q)
 
 -- the lines of a conflict
-pub lines-refused : {k : Classified} {a b : List ℕ} {r i p : ℕ} (n : ℕ) (x y : List ℕ) → k ≡ Refused i p → Put a 0 (line_of_refusal n i p) b r → (take r b ≡ lines_of n (reading_of k) x y) × (r ≤ length b)
+pub lines-refused : {k : Result Classification Refusal} {a b : List ℕ} {r : ℕ} {e : Refusal} (n : ℕ) (x y : List ℕ) → k ≡ Err e → Put a 0 (line_of_refusal n (number_of e) (place_of e)) b r → (take r b ≡ lines_of n (reading_of k) x y) × (r ≤ length b)
 unfolding lines_of reading_of
 lines-refused n x y e P = (rw e (put_all P), put-within P)
 
-pub lines_class : {k : Classified} {a b c : List ℕ} {m r i j v : ℕ} (n : ℕ) (x y : List ℕ) {q : Class} → k ≡ IsClass q i j → v ≡ number_of_class q → Put a 0 (class_line n (number_of_class q) (values_of_class q) i j) b m → Put b m (example_lines v x y) c r
+pub lines_class : {k : Result Classification Refusal} {a b c : List ℕ} {m r v : ℕ} (n : ℕ) (x y : List ℕ) {q : Classification} → k ≡ Ok q → v ≡ number_of_class q.class → Put a 0 (class_line n (number_of_class q.class) (values_of_class q.class) q.action_trials q.reduce_trials) b m → Put b m (example_lines v x y) c r
     → (take r c ≡ lines_of n (reading_of k) x y) × (r ≤ length c)
 unfolding lines_of reading_of
 lines_class n x y e f P Q =
     let W = put_then P (put_as Q (ap (λ (z : ℕ). example_lines z x y) f)) in
     (rw e (put_all W), put-within W)
 
-pub class_shown : {k : Classified} {i j v : ℕ} {x y : List ℕ} {q : Class} → k ≡ IsClass q i j → v ≡ number_of_class q → ReadingShown (reading_of k) x y → Shown v x y
+pub class_shown : {k : Result Classification Refusal} {v : ℕ} {x y : List ℕ} {q : Classification} → k ≡ Ok q → v ≡ number_of_class q.class → ReadingShown (reading_of k) x y → Shown v x y
 unfolding ReadingShown reading_of
 class_shown {x = x} {y} e f S = subst (λ (n : ℕ). Shown n x y) (sym f) (rw e at S)

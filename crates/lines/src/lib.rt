@@ -8,9 +8,9 @@ ghost use Rattle.error.specs.Numbers.{number_of_class, values_of_class, reading_
 ghost use Rattle.lines.specs.Lines.{Put, Whole, Shown, ReadingShown, symbol_text, reduction_text, symbol_texts, reduction_texts, counted, total_of_symbols, printed_length, example_line, own_text, refused_text, line_of_refusal, class_line, example_lines, lines_of};
 
 use entries::class_number;
-use error::{Class, Classified};
+use error::{Class, Classification};
 use example::Example;
-use repr::word;
+use repr::{Refusal, word};
 
 // A byte; the place after it.
 pub fn put(out: &mut [u8], at: usize, byte: u8) -> usize
@@ -230,7 +230,7 @@ fn put_examples(out: &mut [u8], at: usize, class: u16, action: &[u16], reduce: &
 pub fn lines(
     out: &mut [u8],
     number: u64,
-    classified: Classified,
+    classified: Result<Classification, Refusal>,
     action: &[u16],
     reduce: &[u16],
 ) -> usize
@@ -239,10 +239,10 @@ pub fn lines(
     ensures { (take result out.new ≡ lines_of number (reading_of classified) action.now reduce.now) × (result ≤ length out.new) }
 {
     match classified {
-        Classified::Refused(refusal, place) => refused_line(out, number, refusal, place),
-        Classified::Class(class, action_trials, reduce_trials) => {
-            let next = put_class(out, number, class, action_trials, reduce_trials);
-            put_examples(out, next, class_number(class), action, reduce)
+        Ok(found) => {
+            let next = put_class(out, number, found.class, found.action_trials, found.reduce_trials);
+            put_examples(out, next, class_number(found.class), action, reduce)
         }
+        Err(refusal) => refused_line(out, number, refusal.number(), refusal.place()),
     }
 }

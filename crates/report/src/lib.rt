@@ -7,46 +7,40 @@ ghost use Rattle.error.specs.Numbers.{reading_of};
 ghost use Rattle.error.specs.Outcome.{outcome as classification, classify_of};
 ghost use Rattle.error.specs.Choose.{outcome as choosing, choose_of};
 ghost use Rattle.error.specs.Observed.{is_whole_example, observed_of};
-ghost use Rattle.chooser.specs.Choosing.{choice_in, chosen_of};
+ghost use Rattle.chooser.specs.Choosing.{choice_in};
 ghost use Rattle.report.specs.Part.{part_observed, part_words};
 
 use chooser::{Chosen, choose_in};
 use classifier::classify_in;
-use error::{Class, Classified, Conflict};
+use error::{Classification, Conflict};
 use example::Example;
 use lookahead::TokenSet;
-use repr::word;
+use repr::{Refusal, word};
+use table_check::check;
 
-// The class of a conflict, its examples at the front of the two buffers; else the refusal and its place.
+// The class of a conflict, its examples at the front of the two buffers.
 pub fn classify(
     table: &[u16],
     conflict: Conflict,
     scratch: &mut [u16],
     action: &mut [u16],
     reduce: &mut [u16],
-) -> Classified
+) -> Result<Classification, Refusal>
     ensures { classification (reading_of result) scratch.new action.new reduce.new ≡ classify_of table.now conflict scratch.old action.old reduce.old }
 {
-    match table_check::check(table) {
-        Err(refusal) => Classified::Refused(refusal.number(), refusal.place()),
-        Ok(_) => classify_in(table, conflict, scratch, action, reduce),
-    }
+    classify_in(check(table)?, conflict, scratch, action, reduce)
 }
 
-// The tokens of a conflict that are reported, with their classes; the set stands for the conflict's token. The choice says every field: zeros behind the chosen entries, and in a refusal no entries.
-pub fn choose(table: &[u16], conflict: Conflict, tokens: TokenSet, scratch: &mut [u16]) -> Chosen
-    ensures scratch_after { choosing (choice_in result) scratch.new ≡ choose_of table.now conflict tokens.0 scratch.old }
-    ensures value { result ≡ chosen_of (choice_in result) }
+// The tokens of a conflict that are reported, with their classes; the set stands for the conflict's token.
+pub fn choose(
+    table: &[u16],
+    conflict: Conflict,
+    tokens: TokenSet,
+    scratch: &mut [u16],
+) -> Result<Chosen, Refusal>
+    ensures { choosing (choice_in result) scratch.new ≡ choose_of table.now conflict tokens.0 scratch.old }
 {
-    match table_check::check(table) {
-        Err(refusal) => Chosen {
-            refusal: refusal.number(),
-            place: refusal.place(),
-            count: 0,
-            entries: [0; Class::ALL_WORDS],
-        },
-        Ok(_) => choose_in(table, conflict, tokens, scratch),
-    }
+    choose_in(check(table)?, conflict, tokens, scratch)
 }
 
 // Whether a buffer holds all that its three counts say, with the cursor within the symbols.

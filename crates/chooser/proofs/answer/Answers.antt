@@ -1,5 +1,8 @@
 use Rattle.chooser.proofs.Answered.{answer_choice, answer-whole}
 use Rattle.chooser.proofs.answer.Goals as goal
 
+pub invariant_of-result : goal.invariant_of-result
+invariant_of-result c = record { few = c.requires.0; whole = answer-whole _ _ c.requires.1 c.requires.0 _ c.copy_entries.ensures }
+
 pub returns : goal.returns
-returns c = record { result_value = answer_choice _ _ c.requires.1 c.requires.0 _ c.copy_entries.ensures; value = answer-whole _ _ c.requires.1 c.requires.0 _ c.copy_entries.ensures }
+returns c = answer_choice _ _ c.requires.1 c.requires.0 _ c.copy_entries.ensures

@@ -16,7 +16,7 @@ pub slice_bounds-prepare-end-2 : goal.slice_bounds-prepare-end-2
 slice_bounds-prepare-end-2 c = sym (length-take-le grammar_room c.args.scratch.now (omega (arith, c.requires.classify_scratch_in_bounds)))
 
 pub prepare-prepared-requires : goal.prepare-prepared-requires
-prepare-prepared-requires c = record { table_value = c.requires.table_value; grammar_len = length-take-le grammar_room c.args.scratch.now (omega (arith, c.requires.classify_scratch_in_bounds)) }
+prepare-prepared-requires c = record { table_value = c.args.table.accepted; grammar_len = length-take-le grammar_room c.args.scratch.now (omega (arith, c.requires.classify_scratch_in_bounds)) }
 
 pub slice_bounds-given-end : goal.slice_bounds-given-end
 slice_bounds-given-end c = let l = length_front {A = ℕ} c.args.scratch.now c.prepare-prepared.new.grammar grammar_room c.prepare-prepared.auto.grammar in omega (arith, l, c.requires.classify_scratch_in_bounds)
@@ -37,4 +37,4 @@ pub shape_of-scratch : goal.shape_of-scratch
 shape_of-scratch c = c.zero.auto.words ∙ length_front {A = ℕ} c.args.scratch.now c.prepare-prepared.new.grammar grammar_room c.prepare-prepared.auto.grammar
 
 pub returns : goal.returns
-returns c = record { scratch_after = chosen-zeroed _ _ c.args.scratch.now _ c.prepare-prepared.new.grammar grammar_room (rw c.given-given.ensures.tables.0 at c.choose_gathered-chosen.ensures.result_value) (c.prepare-prepared.auto.grammar ∙ length-take-le grammar_room c.args.scratch.now (omega (arith, c.requires.classify_scratch_in_bounds))) (omega arith) c.zero.ensures; value = c.choose_gathered-chosen.ensures.value }
+returns c = chosen-zeroed _ _ c.args.scratch.now _ c.prepare-prepared.new.grammar grammar_room (rw c.given-given.ensures.tables.0 at c.choose_gathered-chosen.ensures) (c.prepare-prepared.auto.grammar ∙ length-take-le grammar_room c.args.scratch.now (omega (arith, c.requires.classify_scratch_in_bounds))) (omega arith) c.zero.ensures

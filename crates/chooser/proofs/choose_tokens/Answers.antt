@@ -19,7 +19,7 @@ pub shape_of-naive-in_err-written : goal.shape_of-naive-in_err-written
 shape_of-naive-in_err-written c = c.choose_token.auto.naive ∙ c.loop-token.invariant.naive_long
 
 pub returns-in_err-written : goal.returns-in_err-written
-returns-in_err-written c = let p = err_from_is_err_and c.from_residual.result c.from_residual.ensures.1 in rw (p.1, p.2) (record { naive_after = turn_halts _ c.args.conflict c.args.tokens.0 _ _ _ _ _ _ _ c.loop-token.invariant c.loop-token-test.true _ _ _ c.choose_token.ensures.naive_after _ c.in_err-written.was; counts_within = halted_few _ })
+returns-in_err-written c = let p = err_from_is_err_and c.from_residual.result c.from_residual.ensures.1 in rw (p.1, p.2) (record { naive_after = turn_halts _ c.args.conflict c.args.tokens.0 _ _ _ _ _ _ _ c.loop-token.invariant c.loop-token-test.true _ _ _ c.choose_token.ensures.naive_after _ c.in_err-written.was; counts_within = halted_few _ _ _ c.in_err-written.was c.choose_token.ensures.counts_within })
 
 pub shape_of-better : goal.shape_of-better
 shape_of-better c = c.loop-token.invariant.better_long

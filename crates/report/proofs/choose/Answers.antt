@@ -1,13 +1,12 @@
-use mathlib.Core.Path.{refl, sym, ◌∙◌}
+use mathlib.Core.Path.{sym}
+use Rattle.std.proofs.lemmas.Result.{err_from_is_err_and}
 use Rattle.report.proofs.Entered.{choose-refused, choose_accepted}
 use Rattle.report.proofs.choose.Goals as goal
 
-pub choose_in-requires : goal.choose_in-requires
-choose_in-requires c = sym c.in-Ok.ensures.answer
+pub returns-in_err-check : goal.returns-in_err-check
+returns-in_err-check c =
+    let p = err_from_is_err_and c.from_residual.result c.from_residual.ensures.1 in
+    rw (p.1, p.2) (choose-refused _ _ _ _ _ (sym c.in_err-check.ensures.answer))
 
-pub returns-in-Err : goal.returns-in-Err
-returns-in-Err c = let whole = choose-refused _ _ _ _ _ _ _ _ (sym c.in-Err.ensures.answer) c.number.ensures c.place.ensures in
-    record { scratch_after = whole.0; value = whole.1 }
-
-pub returns-in-Ok : goal.returns-in-Ok
-returns-in-Ok c = record { scratch_after = choose_accepted _ _ _ _ (sym c.in-Ok.ensures.answer) _ c.choose_in.ensures.scratch_after; value = c.choose_in.ensures.value }
+pub returns : goal.returns
+returns c = choose_accepted _ _ _ _ _ c.in_ok-check.ensures.same (sym c.in_ok-check.ensures.answer) _ c.choose_in.ensures

@@ -1,12 +1,12 @@
-use mathlib.Core.Path.{refl, sym, ◌∙◌}
+use mathlib.Core.Path.{sym}
+use Rattle.std.proofs.lemmas.Result.{err_from_is_err_and}
 use Rattle.report.proofs.Entered.{classify-refused, classify_accepted}
 use Rattle.report.proofs.classify.Goals as goal
 
-pub classify_in-requires : goal.classify_in-requires
-classify_in-requires c = sym c.in-Ok.ensures.answer
+pub returns-in_err-check : goal.returns-in_err-check
+returns-in_err-check c =
+    let p = err_from_is_err_and c.from_residual.result c.from_residual.ensures.1 in
+    rw (p.1, p.2) (classify-refused _ _ _ _ _ _ (sym c.in_err-check.ensures.answer))
 
-pub returns-in-Err : goal.returns-in-Err
-returns-in-Err c = classify-refused _ _ _ _ _ _ _ _ _ (sym c.in-Err.ensures.answer) c.number.ensures c.place.ensures
-
-pub returns-in-Ok : goal.returns-in-Ok
-returns-in-Ok c = classify_accepted _ _ _ _ _ (sym c.in-Ok.ensures.answer) _ c.classify_in.ensures
+pub returns : goal.returns
+returns c = classify_accepted _ _ _ _ _ _ c.in_ok-check.ensures.same (sym c.in_ok-check.ensures.answer) _ c.classify_in.ensures

@@ -1,0 +1,17 @@
+// What choosing answers.
+
+ghost use Rattle.std.specs.Prelude.{◌≡◌, ◌≤◌};
+ghost use Rattle.repr.specs.Sizes.{entry_limit};
+ghost use Rattle.entries.specs.Entries.{entries_in};
+ghost use Rattle.chooser.specs.Words.{choice_words};
+
+use error::Class;
+
+// How many tokens are chosen, and six words of each: its token, the number of its class, the class's own values, zeros; zeros behind the last.
+#[derive(Clone, Copy)]
+pub struct Chosen {
+    pub count: usize,
+    pub entries: [u16; Class::ALL_WORDS],
+    pub ghost few: { count ≤ entry_limit },
+    pub ghost whole: { entries ≡ choice_words (entries_in entries count) },
+}
