@@ -33,7 +33,7 @@ use Rattle.augment.proofs.Augmented.{production_old, production_new, list_old, s
 apart : (r k m : ℕ) (p : ProductionIndex) → refused k m ≡ started_as r p → ⊥
 apart r k m p e = let z : ◌≡◌ {A = ℕ} 0 1 = cc in omega arith
 
-same_started : (a b : Started) → answered a ≡ answered b → a ≡ b
+pub same_started : (a b : Started) → answered a ≡ answered b → a ≡ b
 same_started a b e = cc
 
 module _ (U : Table) (q r p : ℕ) (out ws : List ℕ) (e : started_in U q out ≡ record { answer = started_as r (record { 0 = p }); out = ws }) where
