@@ -18,7 +18,7 @@ use augment::write_started;
 use repr::{NonterminalString, ProductionIndex, Refusal};
 use table::Counts;
 use yacc_count::count;
-use yacc_enter::{Ids, SymbolTable, enter_all};
+use yacc_enter::{Ids, SymbolTable, Words};
 use yacc_limits::check_counts;
 use yacc_misnamed::{fault_place, is_misnamed};
 use yacc_places::{start_of, write_places};
@@ -87,7 +87,56 @@ fn read_named(
     read_counted(symbols, table, places)
 }
 
-// Reads a text of the grammar: a word of each array is room for a name, of which there are fewer than bytes.
+// Words for the ids of any text: it has fewer names than bytes.
+#[derive(Drop)]
+struct Room {
+    starts: [u16; Ids::NAMES],
+    pasts: [u16; Ids::NAMES],
+    ix: [u16; Ids::INDEX_WORDS],
+    lefts: [u16; Ids::NAMES],
+    tokens: [u16; Ids::TOKEN_WORDS],
+}
+
+impl Room {
+    ghost use Rattle.yacc_reader.specs.Room.{IsFresh};
+
+    fn new() -> Room
+        ensures { IsFresh result }
+    {
+        Room {
+            starts: [0; Ids::NAMES],
+            pasts: [0; Ids::NAMES],
+            ix: [0; Ids::INDEX_WORDS],
+            lefts: [0; Ids::NAMES],
+            tokens: [0; Ids::TOKEN_WORDS],
+        }
+    }
+
+    // The ids of a text of the grammar, entered.
+    fn enter<'a>(&'a mut self, text: &'a [u8]) -> SymbolTable<'a>
+        requires fresh { IsFresh self.old }
+        requires text { (length text.now ≤ text_limit) × (is_grammar_text text.now ≡ true) }
+        ensures { result.text.now ≡ text.now }
+    {
+        let Room {
+            starts,
+            pasts,
+            ix,
+            lefts,
+            tokens,
+        } = self;
+        let words = Words {
+            starts: starts,
+            pasts: pasts,
+            ix: ix,
+            lefts: lefts,
+            tokens: tokens,
+        };
+        SymbolTable::enter(text, words)
+    }
+}
+
+// Reads a text of the grammar.
 fn read_in(
     text: &[u8],
     table: &mut [u16],
@@ -96,28 +145,8 @@ fn read_in(
     requires { (length text.now ≤ text_limit) × (is_grammar_text text.now ≡ true) }
     ensures { (l : Layout) → parse text.now ≡ some l → record { answer = reply_of result; table = table.new; places = places.new } ≡ named_of (source_in l.pieces) table.old places.old }
 {
-    let mut starts = [0u16; Ids::NAMES];
-    let mut pasts = [0u16; Ids::NAMES];
-    let mut ix = [0u16; Ids::INDEX_WORDS];
-    let mut lefts = [0u16; Ids::NAMES];
-    let mut tokens = [0u16; Ids::TOKEN_WORDS];
-    let counts = enter_all(
-        text,
-        &mut starts,
-        &mut pasts,
-        &mut ix,
-        &mut lefts,
-        &mut tokens,
-    );
-    let symbols = SymbolTable {
-        text: text,
-        starts: &starts,
-        pasts: &pasts,
-        ix: &ix,
-        lefts: &lefts,
-        tokens: &tokens,
-        counts: counts,
-    };
+    let mut room = Room::new();
+    let symbols = room.enter(text);
     read_named(&symbols, table, places)
 }
 
@@ -143,28 +172,8 @@ fn fault_in(text: &[u8]) -> usize
     requires { (length text.now ≤ text_limit) × (is_grammar_text text.now ≡ true) }
     ensures { (result ≤ length text.now) × ((l : Layout) → parse text.now ≡ some l → misnamed (source_in l.pieces) ≡ true → fault_from (source_in l.pieces) (top false) (placed 0 l.pieces) ≡ some result) }
 {
-    let mut starts = [0u16; Ids::NAMES];
-    let mut pasts = [0u16; Ids::NAMES];
-    let mut ix = [0u16; Ids::INDEX_WORDS];
-    let mut lefts = [0u16; Ids::NAMES];
-    let mut tokens = [0u16; Ids::TOKEN_WORDS];
-    let counts = enter_all(
-        text,
-        &mut starts,
-        &mut pasts,
-        &mut ix,
-        &mut lefts,
-        &mut tokens,
-    );
-    let symbols = SymbolTable {
-        text: text,
-        starts: &starts,
-        pasts: &pasts,
-        ix: &ix,
-        lefts: &lefts,
-        tokens: &tokens,
-        counts: counts,
-    };
+    let mut room = Room::new();
+    let symbols = room.enter(text);
     fault_place(&symbols)
 }
 
