@@ -9,6 +9,7 @@ use lib.ListN.{length, get_or}
 use lib.Dec.{eqb, leb}
 use borrow.Author.Tests.{ltb-true, eqb-true, eqb-false, not-false}
 use Rattle.slices.specs.Lent.{in_front}
+use Rattle.repr.specs.Reply.{answered, refused}
 use Rattle.repr.specs.Sizes.{nonterminal_limit, production_limit}
 use Rattle.repr.specs.Lists.{below, mem}
 use Rattle.repr.specs.Meaning.{Table, TableFits, production_at}
@@ -23,27 +24,24 @@ use Rattle.spelling.specs.Spelled.{owns, records_of, spell, Ordered}
 use Rattle.spelling.proofs.Accepted.{spell_accepted}
 use Rattle.spelling.proofs.Meaning.{spell-meaning}
 use Rattle.spelling.proofs.Rising.{meaning_ordered}
-use Rattle.augment.specs.Started.{stands_in, owned_by, is_start_needed, augmented, full, Outcome, started_in, started_of, Startable, StartOf, Written}
-use Rattle.augment.specs.declared.Started.TheVariants.{Production as From, Refused}
+use Rattle.augment.specs.declared.Started.{Started}
+use Rattle.augment.specs.Started.{stands_in, owned_by, is_start_needed, augmented, full, Outcome, started_as, started_in, started_of, Startable, StartOf, Written}
 use Rattle.augment.proofs.Written.{few_records}
 use Rattle.augment.proofs.Augmented.{production_old, production_new, list_old, same_states, same_terminals, fits_more, ordered_more, start_new}
 
 -- the answer says what was written
-apart : (r k m : ℕ) (p : ProductionIndex) → Refused k m ≡ From r p → ⊥
+apart : (r k m : ℕ) (p : ProductionIndex) → refused k m ≡ started_as r p → ⊥
 apart r k m p e = let z : ◌≡◌ {A = ℕ} 0 1 = cc in omega arith
 
-same_records : (r m : ℕ) (p q : ProductionIndex) → From r p ≡ From m q → r ≡ m
-same_records r m p q e = cc
+pub same_started : (a b : Started) → answered a ≡ answered b → a ≡ b
+same_started a b e = cc
 
-same_start : (r m : ℕ) (p q : ProductionIndex) → From r p ≡ From m q → p ≡ q
-same_start r m p q e = cc
-
-module _ (U : Table) (q r p : ℕ) (out ws : List ℕ) (e : started_in U q out ≡ record { answer = From r (record { 0 = p }); out = ws }) where
-  in_room : leb (records_of U) (length out / 4) ≡ true → started_in U q out ≡ record { answer = From (records_of U) (record { 0 = q }); out = in_front (spell U) out }
+module _ (U : Table) (q r p : ℕ) (out ws : List ℕ) (e : started_in U q out ≡ record { answer = started_as r (record { 0 = p }); out = ws }) where
+  in_room : leb (records_of U) (length out / 4) ≡ true → started_in U q out ≡ record { answer = started_as (records_of U) (record { 0 = q }); out = in_front (spell U) out }
   unfolding started_in
   in_room f = rw (f, started_in)
 
-  in_none : leb (records_of U) (length out / 4) ≡ false → started_in U q out ≡ record { answer = Refused 17 0; out = out }
+  in_none : leb (records_of U) (length out / 4) ≡ false → started_in U q out ≡ record { answer = refused 17 0; out = out }
   unfolding started_in
   in_none f = rw (f, started_in)
 
@@ -53,7 +51,7 @@ module _ (U : Table) (q r p : ℕ) (out ws : List ℕ) (e : started_in U q out �
       (λ f.
       let z = sym e ∙ in_room f in
       let a = ap (λ (o : Outcome). o.answer) z in
-      (same_records _ _ _ _ a, (ap (λ (k : ProductionIndex). k.0) (same_start _ _ _ _ a), ap (λ (o : Outcome). o.out) z)))
+      (ap (λ (s : Started). s.records) (same_started _ _ a), (ap (λ (s : Started). s.production.0) (same_started _ _ a), ap (λ (o : Outcome). o.out) z)))
       (λ f. absurd (apart _ _ _ _ (ap (λ (o : Outcome). o.answer) (sym (in_none f) ∙ e))))
 
 or-false : (a b : Bool) → (a || b) ≡ false → (a ≡ false) × (b ≡ false)
@@ -98,7 +96,7 @@ module _ (T : Table) (n : ℕ) (F : TableFits T) (O : Ordered T) (R : Startable 
 
   -- the two ways that write
   module _ (out ws : List ℕ) (r p : ℕ) where
-    own_written : is_start_needed T n ≡ false → started_in T (get_or (owned_by T n) 0 0) out ≡ record { answer = From r (record { 0 = p }); out = ws } → Written T n r p out ws
+    own_written : is_start_needed T n ≡ false → started_in T (get_or (owned_by T n) 0 0) out ≡ record { answer = started_as r (record { 0 = p }); out = ws } → Written T n r p out ws
     own_written e w =
         let z = in_written T (get_or (owned_by T n) 0 0) r p out ws w in
         let m = spell-meaning T F O in
@@ -119,7 +117,7 @@ module _ (T : Table) (n : ℕ) (F : TableFits T) (O : Ordered T) (R : Startable 
         }
 
     more-written : length T.nonterminals < nonterminal_limit → length T.productions < production_limit
-        → started_in (augmented T n) (length T.productions) out ≡ record { answer = From r (record { 0 = p }); out = ws } → Written T n r p out ws
+        → started_in (augmented T n) (length T.productions) out ≡ record { answer = started_as r (record { 0 = p }); out = ws } → Written T n r p out ws
     more-written hn hp w =
         let z = in_written (augmented T n) (length T.productions) r p out ws w in
         let G = fits_more T n F R hn hp in
@@ -156,11 +154,11 @@ module _ (T : Table) (n : ℕ) (F : TableFits T) (O : Ordered T) (R : Startable 
     unfolding started_of
     way_more e f = rw (e, started_of, f)
 
-    way_none : is_start_needed T n ≡ true → full T ≡ true → started_of T n out ≡ record { answer = Refused 2 0; out = out }
+    way_none : is_start_needed T n ≡ true → full T ≡ true → started_of T n out ≡ record { answer = refused 2 0; out = out }
     unfolding started_of
     way_none e f = rw (e, started_of, f)
 
-    fits-written : started_of T n out ≡ record { answer = From r (record { 0 = p }); out = ws } → Written T n r p out ws
+    fits-written : started_of T n out ≡ record { answer = started_as r (record { 0 = p }); out = ws } → Written T n r p out ws
     fits-written w =
         cases (is_start_needed T n)
         (λ e.
@@ -170,5 +168,5 @@ module _ (T : Table) (n : ℕ) (F : TableFits T) (O : Ordered T) (R : Startable 
         (λ e. own_written e (sym (way_own e) ∙ w))
 
 -- of a table that is accepted
-pub start-written : (t out ws : List ℕ) (n r p : ℕ) → check_of t ≡ Accepted → Startable (meaning t) n → started_of (meaning t) n out ≡ record { answer = From r (record { 0 = p }); out = ws } → Written (meaning t) n r p out ws
+pub start-written : (t out ws : List ℕ) (n r p : ℕ) → check_of t ≡ Accepted → Startable (meaning t) n → started_of (meaning t) n out ≡ record { answer = started_as r (record { 0 = p }); out = ws } → Written (meaning t) n r p out ws
 start-written t out ws n r p a R w = fits-written (meaning t) n (fits t a) (meaning_ordered t a) R out ws r p w

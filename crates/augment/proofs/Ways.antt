@@ -7,6 +7,7 @@ use native.Mathlib.Omega.{arith}
 use lib.ListN.{length, get_or}
 use lib.Dec.{eqb, ltb}
 use borrow.Author.Tests.{ltb-true, ltb-false, eq-eqb, ne_eqb}
+use Rattle.repr.specs.Reply.{refused}
 use Rattle.repr.specs.Sizes.{nonterminal_limit, production_limit}
 use Rattle.repr.specs.Meaning.{nonterminal, Production, Table}
 use Rattle.repr.specs.Packed.{Packed, productions_in}
@@ -14,7 +15,6 @@ use Rattle.repr.proofs.Lists.{cases, clash}
 use Rattle.table.specs.Index.{CountsOf}
 use Rattle.grammar_records.specs.Target.{PackedAs, owned_from}
 use Rattle.augment.specs.Started.{is_start_needed, augmented, full, Outcome, started_in, started_of, Startable, GrammarOf}
-use Rattle.augment.specs.declared.Started.TheVariants.{Refused}
 use Rattle.augment.proofs.Wanted.{wanted-none, from_first}
 use Rattle.augment.proofs.Augmented.{nonterminals_long, productions_long, same_states, same_terminals, all-productions, fits_more}
 
@@ -79,16 +79,16 @@ module _ (T : Table) (n a b s p : ℕ) (C : CountsOf T a b s p) (R : Startable T
     room-left = rw (ne_eqb (length T.nonterminals) nonterminal_limit (λ z. ha (C.nonterminals ∙ z)), ne_eqb (length T.productions) production_limit (λ z. hp (C.productions ∙ z)))
 
   module _ (e : true ≡ is_start_needed T n) (out : List ℕ) where
-    refused : full T ≡ true → record { answer = Refused 2 0; out = out } ≡ started_of T n out
+    too_full : full T ≡ true → record { answer = refused 2 0; out = out } ≡ started_of T n out
     unfolding started_of
-    refused f = rw (← e, started_of, f)
+    too_full f = rw (← e, started_of, f)
 
-    pub many_nonterminals : a ≡ nonterminal_limit → record { answer = Refused 2 0; out = out } ≡ started_of T n out
+    pub many_nonterminals : a ≡ nonterminal_limit → record { answer = refused 2 0; out = out } ≡ started_of T n out
     unfolding full
-    many_nonterminals h = refused (rw (eq-eqb (length T.nonterminals) nonterminal_limit (sym C.nonterminals ∙ h)))
+    many_nonterminals h = too_full (rw (eq-eqb (length T.nonterminals) nonterminal_limit (sym C.nonterminals ∙ h)))
 
-    pub many_productions : p ≡ production_limit → record { answer = Refused 2 0; out = out } ≡ started_of T n out
-    many_productions h = refused (full-productions T (sym C.productions ∙ h))
+    pub many_productions : p ≡ production_limit → record { answer = refused 2 0; out = out } ≡ started_of T n out
+    many_productions h = too_full (full-productions T (sym C.productions ∙ h))
 
     pub more_way : (ha : a ≡ nonterminal_limit → ⊥) (hp : p ≡ production_limit → ⊥) (o : Outcome) → o ≡ started_in (augmented T n) p out → o ≡ started_of T n out
     unfolding started_of

@@ -5,6 +5,7 @@ use Prim.Native.Nat.{ℕ, ◌+◌, ◌*◌, ◌/◌, ◌≤◌, ◌<◌}
 use native.Mathlib.Omega.{arith}
 use lib.ListN.{length, get_or}
 use borrow.Author.Tests.{le-leb, lt-leb}
+use Rattle.repr.specs.Reply.{refused}
 use Rattle.repr.specs.Sizes.{symbol_limit}
 use Rattle.repr.specs.Meaning.{State, Production, Table, All, ProductionFits, TableFits, no_state, state_at}
 use Rattle.repr.specs.Packed.{productions_in}
@@ -15,8 +16,7 @@ use Rattle.spelling.proofs.Places.{begins, state_at_lem, spell_next, spell_one, 
 use Rattle.spelling.proofs.Grown.{grown-join, grown-put, grown-all, head-none}
 use Rattle.spelling.proofs.Wrote.{front_is}
 use Rattle.grammar_records.specs.Target.{Target}
-use Rattle.augment.specs.Started.{started_in, GrammarOf}
-use Rattle.augment.specs.declared.Started.TheVariants.{Production as From, Refused}
+use Rattle.augment.specs.Started.{started_as, started_in, GrammarOf}
 
 sizes_small : (U : Table) (ps : List Production) → All (ProductionFits U) ps → size_of (map (λ (p : Production). p.symbols) ps) ≤ symbol_limit * length ps
 unfolding All size_of
@@ -78,7 +78,7 @@ module _ (U : Table) (n t s p : ℕ) (grammar : List ℕ) (G : GrammarOf U n t s
         let m = extent.many in
         omega arith
 
-    pub started_short : (production : ℕ) (out : List ℕ) → length out / 4 < r → record { answer = Refused 17 0; out = out } ≡ started_in U production out
+    pub started_short : (production : ℕ) (out : List ℕ) → length out / 4 < r → record { answer = refused 17 0; out = out } ≡ started_in U production out
     unfolding started_in
     started_short production out h = let k = counted in rw (lt-leb (records_of U) (length out / 4) (omega arith), started_in)
 
@@ -116,7 +116,7 @@ module _ (U : Table) (n t s p : ℕ) (grammar : List ℕ) (G : GrammarOf U n t s
 
       pub started_written : (production : ℕ) (g₁ g₂ g₃ g₄ : List ℕ) → length g₁ ≡ length out → Grown U out g₁ 0 (states_at U) → g₂ ≡ put_quad g₁ (1 + n) 0 0 0 0
           → Grown U g₂ g₃ (productions_at U) (symbols_at U) → Grown U g₃ g₄ (symbols_at U) (items_place U)
-          → record { answer = From r (record { 0 = production }); out = g₄ } ≡ started_in U production out
+          → record { answer = started_as r (record { 0 = production }); out = g₄ } ≡ started_in U production out
       unfolding started_in
       started_written production g₁ g₂ g₃ g₄ e A eb C D =
           let B = state_put g₁ g₂ e eb in

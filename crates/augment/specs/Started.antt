@@ -3,6 +3,8 @@
 -- Assumes nothing: these are definitions.
 use Rattle.std.specs.Prelude.{ℕ, ◌/◌, ◌<◌, Bool, true, false, not, ◌||◌, ◌≡◌, ◌⊎◌, List, [], ◌∷◌, ◌++◌, length, get_or, eqb, leb}
 use Rattle.slices.specs.Lent.{in_front}
+use Rattle.repr.specs.Reply.{Reply, answered, refused}
+use Rattle.repr.specs.declared.ProductionIndex.{ProductionIndex}
 use Rattle.repr.specs.Sizes.{nonterminal_limit, production_limit}
 use Rattle.repr.specs.Lists.{below, keep, some?}
 use Rattle.repr.specs.Meaning.{nonterminal, is_same_symbol, Production, Table, no_state, production_at}
@@ -13,7 +15,6 @@ use Rattle.table.specs.Index.{CountsOf}
 use Rattle.spelling.specs.Spelled.{owns, records_of, spell}
 use Rattle.grammar_records.specs.Target.{PackedAs}
 use Rattle.augment.specs.declared.Started.{Started}
-use Rattle.augment.specs.declared.Started.TheVariants.{Production as From, Refused}
 
 -- does nonterminal n stand in a right side
 unfoldable pub uses : ℕ → Production → Bool
@@ -46,23 +47,27 @@ augmented T n = record {
 unfoldable pub full : Table → Bool
 full T = eqb (length T.nonterminals) nonterminal_limit || eqb (length T.productions) production_limit
 
+-- records and start production
+abbrev pub started_as : ℕ → ProductionIndex → Reply Started
+started_as n p = answered (record { records = n; production = p })
+
 -- the answer, and the output's words after the call
 pub record Outcome : Type 0 where
-  pub answer : Started
+  pub answer : Reply Started
   pub out : List ℕ
 
 -- the table that is written, at the front of the output, and its start production; 17 without room: a part of a record is no room
 unfoldable pub started_in : Table → ℕ → List ℕ → Outcome
 started_in U p out = elim (leb (records_of U) (length out / 4)) [
-  | true ↦ record { answer = From (records_of U) (record { 0 = p }); out = in_front (spell U) out }
-  | false ↦ record { answer = Refused 17 0; out = out }
+  | true ↦ record { answer = started_as (records_of U) (record { 0 = p }); out = in_front (spell U) out }
+  | false ↦ record { answer = refused 17 0; out = out }
 ]
 
 unfoldable pub started_of : Table → ℕ → List ℕ → Outcome
 started_of T n out = elim (is_start_needed T n) [
   | false ↦ started_in T (get_or (owned_by T n) 0 0) out
   | true ↦ elim (full T) [
-    | true ↦ record { answer = Refused 2 0; out = out }
+    | true ↦ record { answer = refused 2 0; out = out }
     | false ↦ started_in (augmented T n) (length T.productions) out
   ]
 ]

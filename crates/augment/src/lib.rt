@@ -3,6 +3,7 @@
 #![tactic(auto)]
 
 ghost use Rattle.std.specs.Prelude.{◌≡◌, true, false, [], MatchOption, ◌∷◌, ◌++◌, ◌+◌, ◌<◌};
+ghost use Rattle.repr.specs.Reply.{reply_of};
 ghost use Rattle.repr.specs.Sizes.{nonterminal_limit, terminal_limit, production_limit};
 ghost use Rattle.repr.specs.Lists.{some?};
 ghost use Rattle.repr.specs.Meaning.{nonterminal, is_same_symbol, Table};
@@ -15,14 +16,14 @@ ghost use Rattle.grammar_records.specs.Target.{PackedAs, owned_from};
 ghost use Rattle.augment.specs.Started.{uses, is_start_needed, started_in, started_of, Startable, GrammarOf};
 
 use grammar_records::{count_symbols, next_owned, write_front, write_productions, write_symbols};
-use repr::{Grammar, NonterminalString, ProductionIndex};
+use repr::{Grammar, NonterminalString, ProductionIndex, Refusal};
 use table::{Counts, put, read_counts, read_productions};
 
-// Records written and the start production; or the refusal and its place.
+// Records written and the start production.
 #[derive(Clone, Copy)]
-pub enum Started {
-    Production(u16, ProductionIndex),
-    Refused(u16, u16),
+pub struct Started {
+    pub records: u16,
+    pub production: ProductionIndex,
 }
 
 // Whether a symbol is a nonterminal.
@@ -90,10 +91,15 @@ fn append(grammar: &mut [u16], productions: usize, owner: usize, n: usize)
 }
 
 // Writes a grammar alone, if there is room.
-pub fn write_started(grammar: &[u16], counts: Counts, production: usize, out: &mut [u16]) -> Started
+pub fn write_started(
+    grammar: &[u16],
+    counts: Counts,
+    production: usize,
+    out: &mut [u16],
+) -> Result<Started, Refusal>
     requires grammar_of { (U : Table) × GrammarOf U counts.nonterminals counts.terminals counts.states counts.productions grammar.now }
     requires production_lt_production_limit { production < production_limit }
-    ensures { (U : Table) → GrammarOf U counts.nonterminals counts.terminals counts.states counts.productions grammar.now → record { answer = result; out = out.new } ≡ started_in U production out.old }
+    ensures { (U : Table) → GrammarOf U counts.nonterminals counts.terminals counts.states counts.productions grammar.now → record { answer = reply_of result; out = out.new } ≡ started_in U production out.old }
 {
     let nonterminals = counts.nonterminals;
     let productions = counts.productions;
@@ -104,20 +110,27 @@ pub fn write_started(grammar: &[u16], counts: Counts, production: usize, out: &m
     let begin = 2 + nonterminals + productions;
     let records = begin + count_symbols(packed);
     if records > out.len() / 4 {
-        return Started::Refused(17, 0);
+        return Err(Refusal::NoRoom);
     }
     write_front(packed, counts, out);
     put(out, 1 + nonterminals, 0, 0, 0, 0);
     write_productions(packed, counts, out);
     write_symbols(packed, begin, out);
-    Started::Production(records as u16, ProductionIndex(production as u16))
+    Ok(Started {
+        records: records as u16,
+        production: ProductionIndex(production as u16),
+    })
 }
 
 // The grammar with a start production, at the front of `out`: its own, or one that is added. Refusals 2, then 17; they change nothing.
-pub fn with_start(table: &[u16], start: NonterminalString, out: &mut [u16]) -> Started
+pub fn with_start(
+    table: &[u16],
+    start: NonterminalString,
+    out: &mut [u16],
+) -> Result<Started, Refusal>
     requires table_value { check_of table.now ≡ Accepted }
     requires startable { Startable (meaning table.now) start.0 }
-    ensures { record { answer = result; out = out.new } ≡ started_of (meaning table.now) start.0 out.old }
+    ensures { record { answer = reply_of result; out = out.new } ≡ started_of (meaning table.now) start.0 out.old }
 {
     let mut grammar = [0u16; ProductionIndex::ALL_WORDS];
     read_productions(table, &mut grammar);
@@ -135,10 +148,10 @@ pub fn with_start(table: &[u16], start: NonterminalString, out: &mut [u16]) -> S
         return write_started(&grammar, counts, first, out);
     }
     if nonterminals == NonterminalString::LIMIT {
-        return Started::Refused(2, 0);
+        return Err(Refusal::Counts);
     }
     if productions == ProductionIndex::LIMIT {
-        return Started::Refused(2, 0);
+        return Err(Refusal::Counts);
     }
     append(&mut grammar, productions, nonterminals, n);
     let more = Counts {

@@ -10,10 +10,7 @@ use Rattle.builder.specs.declared.Built.{Built}
 use Rattle.repr.specs.declared.NonterminalString.{NonterminalString}
 use Rattle.yacc_read.specs.Outcome.{Outcome as ReadOutcome}
 use Rattle.yacc_read.specs.declared.Reading.{Reading}
-use Rattle.yacc_read.specs.declared.Reading.TheVariants.{Read, Refused as NotRead}
 use Rattle.yacc_write.specs.Outcome.{Outcome as WriteOutcome}
-use Rattle.yacc_write.specs.declared.Writing.{Writing}
-use Rattle.yacc_write.specs.declared.Writing.TheVariants.{Bytes, Refused as NotWritten}
 use Rattle.lookahead.specs.declared.TokenSet.{TokenSet}
 use Rattle.state_graph.specs.declared.StateSet.{StateSet}
 use Rattle.state_graph.specs.States.{states_in}
@@ -63,21 +60,21 @@ module _ (records count : ℕ) (c : Reply Built) (ss os cs : List ℕ) (d : Buil
   unfolding built_numbers
   build-refused n r h = rw (← e, h)
 
-module _ (records count start : ℕ) (c : Reading) (ws vs : List ℕ) (d : ReadOutcome) (e : record { answer = c; table = ws; places = vs } ≡ d) where
-  pub read_made : (written listed : ℕ) (first : NonterminalString) → c ≡ Read written listed first → read_numbers 0 0 written listed first.0 ws vs ≡ reading_numbers records count start d
+module _ (records count start : ℕ) (c : Reply Reading) (ws vs : List ℕ) (d : ReadOutcome) (e : record { answer = c; table = ws; places = vs } ≡ d) where
+  pub read_made : (r : Reading) → c ≡ answered r → read_numbers 0 0 r.records r.places r.start.0 ws vs ≡ reading_numbers records count start d
   unfolding reading_numbers
-  read_made written listed first h = rw (← e, h)
+  read_made r h = rw (← e, h)
 
-  pub read-refused : (n r : ℕ) → c ≡ NotRead n r → read_numbers n r records count start ws vs ≡ reading_numbers records count start d
+  pub read-refused : (n r : ℕ) → c ≡ refused n r → read_numbers n r records count start ws vs ≡ reading_numbers records count start d
   unfolding reading_numbers
   read-refused n r h = rw (← e, h)
 
-module _ (old : ℕ) (c : Writing) (text : List ℕ) (d : WriteOutcome) (e : record { answer = c; text = text } ≡ d) where
-  pub write-made : (written : ℕ) → c ≡ Bytes written → write_numbers 0 0 written text ≡ writing_numbers old d
+module _ (old : ℕ) (c : Reply ℕ) (text : List ℕ) (d : WriteOutcome) (e : record { answer = c; text = text } ≡ d) where
+  pub write-made : (written : ℕ) → c ≡ answered written → write_numbers 0 0 written text ≡ writing_numbers old d
   unfolding writing_numbers
   write-made written h = rw (← e, h)
 
-  pub write-refused : (n r : ℕ) → c ≡ NotWritten n r → write_numbers n r old text ≡ writing_numbers old d
+  pub write-refused : (n r : ℕ) → c ≡ refused n r → write_numbers n r old text ≡ writing_numbers old d
   unfolding writing_numbers
   write-refused n r h = rw (← e, h)
 

@@ -6,9 +6,7 @@ use Rattle.spelling.specs.Outcome.{Outcome as Spelling}
 use Rattle.compaction.specs.Outcome.{Outcome as Compaction}
 use Rattle.builder.specs.Outcome.{Left as Building}
 use Rattle.yacc_read.specs.Outcome.{Outcome as ReadOutcome}
-use Rattle.yacc_read.specs.declared.Reading.TheVariants.{Read, Refused as NotRead}
 use Rattle.yacc_write.specs.Outcome.{Outcome as WriteOutcome}
-use Rattle.yacc_write.specs.declared.Writing.TheVariants.{Bytes, Refused as NotWritten}
 use Rattle.lookahead.specs.declared.TokenSet.{TokenSet}
 use Rattle.first.specs.declared.Answer.{Answer}
 use Rattle.lr1.specs.Edges.{EdgeOutcome, edge_outcome}
@@ -50,8 +48,8 @@ pub data ReadNumbers : Type 0 where
 
 unfoldable pub reading_numbers : ℕ → ℕ → ℕ → ReadOutcome → ReadNumbers
 reading_numbers records count start o = elim o.answer [
-  | Read written listed first ↦ read_numbers 0 0 written listed first.0 o.table o.places
-  | NotRead n r ↦ read_numbers n r records count start o.table o.places
+  | answered r ↦ read_numbers 0 0 r.records r.places r.start.0 o.table o.places
+  | refused n r ↦ read_numbers n r records count start o.table o.places
 ]
 
 -- refusal, place, number of bytes and the text
@@ -59,7 +57,7 @@ pub data WriteNumbers : Type 0 where
   write_numbers : ℕ → ℕ → ℕ → List ℕ → WriteNumbers
 
 unfoldable pub writing_numbers : ℕ → WriteOutcome → WriteNumbers
-writing_numbers old o = elim o.answer [ Bytes written ↦ write_numbers 0 0 written o.text | NotWritten n r ↦ write_numbers n r old o.text ]
+writing_numbers old o = elim o.answer [ answered written ↦ write_numbers 0 0 written o.text | refused n r ↦ write_numbers n r old o.text ]
 
 -- refusal, place and set; the set as it was where the call is refused
 pub data SetNumbers : Type 0 where

@@ -25,8 +25,6 @@ use repr::{ProductionIndex, Refusal};
 use state_graph::StateIndex;
 use trace_graph::TraceGraphNode;
 use tracer::Backtrace;
-use yacc_read::Reading;
-use yacc_write::Writing;
 
 // A refusal in numbers.
 fn refuse(refusal: Refusal, place: &mut u16) -> u16
@@ -111,17 +109,14 @@ pub fn lihvemur_read_yacc(
     ensures { read_numbers result place.new records.new count.new start.new table.new places.new ≡ reading_numbers records.old count.old start.old (read_of text.now table.old places.old) }
 {
     match lr1::read_yacc(text, table, places) {
-        Reading::Read(written, listed, first) => {
+        Ok(read) => {
             *place = 0;
-            *records = written;
-            *count = listed;
-            *start = first.0;
+            *records = read.records;
+            *count = read.places;
+            *start = read.start.0;
             0
         }
-        Reading::Refused(refusal, at) => {
-            *place = at;
-            refusal
-        }
+        Err(refusal) => refuse(refusal, place),
     }
 }
 
@@ -129,15 +124,12 @@ pub fn lihvemur_write_yacc(table: &[u16], text: &mut [u8], bytes: &mut u16, plac
     ensures { write_numbers result place.new bytes.new text.new ≡ writing_numbers bytes.old (write_of table.now text.old) }
 {
     match lr1::write_yacc(table, text) {
-        Writing::Bytes(written) => {
+        Ok(written) => {
             *place = 0;
             *bytes = written;
             0
         }
-        Writing::Refused(refusal, at) => {
-            *place = at;
-            refusal
-        }
+        Err(refusal) => refuse(refusal, place),
     }
 }
 

@@ -28,7 +28,6 @@ use table::{AcceptedTable, read_productions};
 use trace_graph::{Full, TraceEdge, TraceGraph, TraceGraphNode, check_graph, edge_fits, insert};
 use tracer::Backtrace;
 use yacc_read::Reading;
-use yacc_write::Writing;
 
 // Whether a table is accepted; else the refusal, 1 to 8, and its place.
 pub fn check(table: &[u16]) -> Result<AcceptedTable, Refusal>
@@ -70,16 +69,20 @@ pub fn build_states(
 
 // Reads the rules of a yacc text (docs/YACC.md) into a grammar, a table of one state without items and edges, at the front of `table` (Req 09), and where each nonterminal and each terminal got its number
 // to the front of `places`; answers how many records, how many places, and the start nonterminal. Refusals 20, 21, 2, 5, 17 in this order; they change no word.
-pub fn read_yacc(text: &[u8], table: &mut [u16], places: &mut [u16]) -> Reading
-    ensures { record { answer = result; table = table.new; places = places.new } ≡ read_of text.now table.old places.old }
+pub fn read_yacc(
+    text: &[u8],
+    table: &mut [u16],
+    places: &mut [u16],
+) -> Result<Reading, Refusal>
+    ensures { record { answer = reply_of result; table = table.new; places = places.new } ≡ read_of text.now table.old places.old }
 {
     yacc_reader::read_yacc(text, table, places)
 }
 
 // Writes the grammar of a table as a yacc text at the front of `text` (Req 09), and answers how many bytes that are. Refusals 1 to 8, then 23 where a nonterminal has no production or the first ones do
 // not ascend, then 17; they change no byte.
-pub fn write_yacc(table: &[u16], text: &mut [u8]) -> Writing
-    ensures { record { answer = result; text = text.new } ≡ write_of table.now text.old }
+pub fn write_yacc(table: &[u16], text: &mut [u8]) -> Result<u16, Refusal>
+    ensures { record { answer = reply_of result; text = text.new } ≡ write_of table.now text.old }
 {
     yacc_writer::write_yacc(table, text)
 }

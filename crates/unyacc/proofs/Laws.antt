@@ -5,6 +5,7 @@ use Prim.Native.Nat.{ℕ, ◌≤◌}
 use lib.Dec.{leb}
 use lib.ListN.{length}
 use borrow.Author.Tests.{leb-true}
+use Rattle.repr.specs.Reply.{Reply, answered, refused}
 use Rattle.repr.specs.Meaning.{Table}
 use Rattle.repr.proofs.Lists.{cases}
 use Rattle.table.specs.Checked.{Checked, Accepted, Refused as NotAccepted}
@@ -12,12 +13,10 @@ use Rattle.table.specs.Decoded.{meaning}
 use Rattle.table.specs.Refusals.{check_of}
 use Rattle.yacc_write.specs.Text.{ascending, text_of}
 use Rattle.yacc_write.specs.Outcome.{Outcome, written_of, write_of}
-use Rattle.yacc_write.specs.declared.Writing.{Writing}
-use Rattle.yacc_write.specs.declared.Writing.TheVariants.{Bytes, Refused}
 
-unfoldable Fits : ℕ → Writing → Type 0
-Fits room (Bytes n) = n ≤ room
-Fits room (Refused n r) = Unit {0}
+unfoldable Fits : ℕ → Reply ℕ → Type 0
+Fits room (answered n) = n ≤ room
+Fits room (refused n r) = Unit {0}
 
 module _ (text : List ℕ) where
   abbrev FitsIn : Outcome → Type 0
@@ -34,6 +33,6 @@ module _ (text : List ℕ) where
   wrote t Accepted e = rw (e, write_of) (written (meaning t))
   wrote t (NotAccepted n r) e = rw (e, write_of) tt
 
-  pub bytes_fit : (t new : List ℕ) (r : Writing) (n : ℕ) → record { answer = r; text = new } ≡ write_of t text → r ≡ Bytes n → n ≤ length text
+  pub bytes_fit : (t new : List ℕ) (r : Reply ℕ) (n : ℕ) → record { answer = r; text = new } ≡ write_of t text → r ≡ answered n → n ≤ length text
   unfolding Fits
   bytes_fit t new r n e h = subst (Fits (length text)) (ap (λ (o : Outcome). o.answer) (sym e) ∙ h) (wrote t (check_of t) refl)

@@ -5,17 +5,17 @@
 use pipe::{Stop, read_table, say_end};
 use std::io;
 use streams::write;
-use yacc_write::Writing;
+use yacc_write::TEXT_BYTES;
 use yacc_writer::write_yacc;
 
 fn write_text<R: io::Input + Print + Eprint>(rt: &R) -> Result<(), Stop> {
     let mut bytes = [0u8; 65536];
     let mut table = [0u16; 32768];
-    let mut text = [0u8; Writing::MOST];
+    let mut text = [0u8; TEXT_BYTES];
     let words = read_table(rt, &mut bytes, &mut table)? * 4;
     match write_yacc(&table[..words], &mut text) {
-        Writing::Refused(refusal, place) => Err(Stop::Refused(refusal, place)),
-        Writing::Bytes(many) => {
+        Err(refusal) => Err(Stop::Refused(refusal.number(), refusal.place())),
+        Ok(many) => {
             let size = many as usize;
             Ok(write(rt, &text[..size])?)
         }

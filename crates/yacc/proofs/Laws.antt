@@ -6,9 +6,8 @@ use native.Mathlib.Omega.{arith}
 use lib.Dec.{leb}
 use lib.ListN.{length, take}
 use borrow.Author.Tests.{leb-true}
+use Rattle.repr.specs.Reply.{Reply, answered, refused}
 use Rattle.repr.specs.Meaning.{Table}
-use Rattle.repr.specs.declared.NonterminalString.{NonterminalString}
-use Rattle.repr.specs.declared.ProductionIndex.{ProductionIndex}
 use Rattle.repr.proofs.Lists.{cases}
 use Rattle.table.specs.Checked.{Accepted}
 use Rattle.table.specs.Decoded.{meaning}
@@ -16,16 +15,14 @@ use Rattle.table.specs.Refusals.{check_of}
 use Rattle.spelling.specs.Spelled.{records_of}
 use Rattle.augment.specs.Started.{Outcome as Started, Startable, is_start_needed, full, started_in, started_of}
 use Rattle.augment.specs.declared.Started.{Started as Start}
-use Rattle.augment.specs.declared.Started.TheVariants.{Production, Refused}
-use Rattle.yacc_read.specs.Outcome.{read_of}
+use Rattle.yacc_read.specs.Outcome.{read_as, read_of}
 use Rattle.yacc_read.specs.declared.Reading.{Reading}
-use Rattle.yacc_read.specs.declared.Reading.TheVariants.{Read}
 use Rattle.yacc_read.proofs.Read.{front_accepted}
 use Rattle.yacc_reader.proofs.Startable.{read_startable, read_fits}
 
-unfoldable Few : ℕ → Start → Type 0
-Few room (Production n p) = n ≤ room
-Few room (Refused n r) = Unit {0}
+unfoldable Few : ℕ → Reply Start → Type 0
+Few room (answered s) = s.records ≤ room
+Few room (refused n r) = Unit {0}
 
 module _ (out : List ℕ) where
   abbrev FewIn : Started → Type 0
@@ -41,20 +38,20 @@ module _ (out : List ℕ) where
       (λ s. cases (full T) (λ f. rw (s, f, started_of) tt) (λ f. rw (s, f, started_of) (in_room _ _)))
       (λ s. rw (s, started_of) (in_room _ _))
 
-  pub few_started : (T : Table) (n : ℕ) (ws : List ℕ) (a : Start) (k : ℕ) (p : ProductionIndex) → record { answer = a; out = ws } ≡ started_of T n out → a ≡ Production k p → k * 4 ≤ length out
+  pub few_started : (T : Table) (n : ℕ) (ws : List ℕ) (a : Reply Start) (s : Start) → record { answer = a; out = ws } ≡ started_of T n out → a ≡ answered s → s.records * 4 ≤ length out
   unfolding Few
-  few_started T n ws a k p e h = let f = subst (Few (length out / 4)) (ap (λ (o : Started). o.answer) (sym e) ∙ h) (few T n) in omega (arith, f)
+  few_started T n ws a s e h = let f = subst (Few (length out / 4)) (ap (λ (o : Started). o.answer) (sym e) ∙ h) (few T n) in omega (arith, f)
 
 -- a text that was read
-module _ (text table places ws vs : List ℕ) (a : Reading) (k m : ℕ) (s : NonterminalString) (e : record { answer = a; table = ws; places = vs } ≡ read_of text table places) (h : a ≡ Read k m s) where
-  was : read_of text table places ≡ record { answer = Read k m s; table = ws; places = vs }
-  was = sym e ∙ ap (λ (b : Reading). record { answer = b; table = ws; places = vs }) h
+module _ (text table places ws vs : List ℕ) (a : Reply Reading) (r : Reading) (e : record { answer = a; table = ws; places = vs } ≡ read_of text table places) (h : a ≡ answered r) where
+  was : read_of text table places ≡ record { answer = read_as r.records r.places r.start; table = ws; places = vs }
+  was = sym e ∙ ap (λ (b : Reply Reading). record { answer = b; table = ws; places = vs }) h
 
-  pub few_read : k * 4 ≤ length table
-  few_read = read_fits text table places ws vs k m s was
+  pub few_read : r.records * 4 ≤ length table
+  few_read = read_fits text table places ws vs r.records r.places r.start was
 
-  pub accepted : check_of (take (k * 4) ws) ≡ Accepted
-  accepted = front_accepted text table places ws vs k m s was
+  pub accepted : check_of (take (r.records * 4) ws) ≡ Accepted
+  accepted = front_accepted text table places ws vs r.records r.places r.start was
 
-  pub startable : Startable (meaning (take (k * 4) ws)) s.0
-  startable = read_startable text table places ws vs k m s was
+  pub startable : Startable (meaning (take (r.records * 4) ws)) r.start.0
+  startable = read_startable text table places ws vs r.records r.places r.start was

@@ -9,11 +9,10 @@ ghost use Rattle.table.specs.Checked.{Accepted};
 ghost use Rattle.table.specs.Refusals.{check_of};
 ghost use Rattle.augment.specs.Started.{Startable};
 
-use augment::{Started, with_start};
+use augment::with_start;
 use pipe::{Stop, say_end, write_records};
 use repr::NonterminalString;
 use streams::{read, write};
-use yacc_read::Reading;
 use yacc_reader::{misnamed_at, read_yacc};
 use yacc_stray::{place_of, stray};
 
@@ -62,11 +61,11 @@ fn write_grammar<R: Print + Eprint>(
 {
     let mut out = [0u16; 8848];
     match with_start(table, start, &mut out) {
-        Started::Refused(refusal, place) => Err(Stop::Refused(refusal, place)),
-        Started::Production(records, production) => {
-            let past = records as usize * 4;
+        Err(refusal) => Err(Stop::Refused(refusal.number(), refusal.place())),
+        Ok(started) => {
+            let past = started.records as usize * 4;
             write_records(rt, &out[..past], bytes)?;
-            Ok(write(rt, &production.0.to_le_bytes())?)
+            Ok(write(rt, &started.production.0.to_le_bytes())?)
         }
     }
 }
@@ -78,10 +77,10 @@ fn read_text<R: Print + Eprint>(rt: &R, text: &[u8], bytes: &mut [u8]) -> Result
     let mut table = [0u16; 8840];
     let mut places = [0u16; 95];
     match read_yacc(text, &mut table, &mut places) {
-        Reading::Refused(refusal, place) => Err(Stop::Refused(refusal, place)),
-        Reading::Read(records, _places, start) => {
-            let words = records as usize * 4;
-            write_grammar(rt, &table[..words], start, bytes)
+        Err(refusal) => Err(Stop::Refused(refusal.number(), refusal.place())),
+        Ok(read) => {
+            let words = read.records as usize * 4;
+            write_grammar(rt, &table[..words], read.start, bytes)
         }
     }
 }

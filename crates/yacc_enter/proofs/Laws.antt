@@ -34,7 +34,7 @@ use Rattle.yacc_read.proofs.Known.{same_id_lem, same_id_eq, known_none, enter_is
 use Rattle.yacc_said.specs.Said.{id_said, end_said, said_in, id_at, events_of, of_said}
 use Rattle.yacc_said.specs.declared.Saying.{Saying}
 use Rattle.yacc_said.specs.declared.Saying.TheVariants.{Lists, Opens, Defines, Uses, Shuts, Nothing}
-use Rattle.yacc_said.proofs.Laws.{said_turn, said-ends, said-whole}
+use Rattle.yacc_said.proofs.Laws.{said_turn, said_ends, said-whole}
 use Rattle.yacc_said.proofs.Ids.{id_bytes}
 use Rattle.yacc_names.specs.declared.Placed.{Placed}
 use Rattle.yacc_names.specs.Names.{bucket_limit, bucket_number, name_in, is_name, latest, Entered, Left, left, placed_by, placing}
@@ -339,9 +339,9 @@ module _ (t starts pasts ix lefts tokens : List ℕ) (ids : Ids) (from past : �
   still_word m Semi n l = still_end (id_at t Semi from past) m
 
 -- literals
-module _ (t starts pasts ix lefts tokens tokens' : List ℕ) (ids r : Ids) (from past : ℕ) (s : Saying) (M : Moves t starts pasts ix lefts tokens ids starts pasts ix lefts tokens' r [] (record { id = quoted (get_or t (from + 1) 0); at = from } ∷ [])) where
+module _ (t starts pasts ix lefts tokens starts' pasts' ix' lefts' tokens' : List ℕ) (ids r : Ids) (from past : ℕ) (s : Saying) (M : Moves t starts pasts ix lefts tokens ids starts' pasts' ix' lefts' tokens' r [] (record { id = quoted (get_or t (from + 1) 0); at = from } ∷ [])) where
   abbrev Quoted : Saying → Type 0
-  Quoted k = Moves t starts pasts ix lefts tokens ids starts pasts ix lefts tokens' r (joined left_side (events_of k (id_at t Literal from past) from past)) (joined token_use (events_of k (id_at t Literal from past) from past))
+  Quoted k = Moves t starts pasts ix lefts tokens ids starts' pasts' ix' lefts' tokens' r (joined left_side (events_of k (id_at t Literal from past) from past)) (joined token_use (events_of k (id_at t Literal from past) from past))
 
   pub literal_lists : s ≡ Lists → Quoted s
   unfolding joined left_side token_use events_of id_at
@@ -356,14 +356,12 @@ module _ (t starts pasts ix lefts tokens tokens' : List ℕ) (ids r : Ids) (from
   literal_said (inr e) = literal_uses e
 
 -- by the word
-module _ (t starts pasts ix lefts tokens starts' pasts' ix' lefts' tokens' : List ℕ) (ids r : Ids) (from past : ℕ) (m : Mode) (w : Word) (s : Saying) (e : s ≡ said_in m w) where
-  pub word_name : w ≡ Name → Moves t starts pasts ix lefts tokens ids starts' pasts' ix' lefts' tokens' r (joined left_side (events_of s (id_at t Name from past) from past)) (joined token_use (events_of s (id_at t Name from past) from past))
-      → Moves t starts pasts ix lefts tokens ids starts' pasts' ix' lefts' tokens' r (joined left_side (events_of (said_in m w) (id_at t w from past) from past)) (joined token_use (events_of (said_in m w) (id_at t w from past) from past))
-  word_name q M = rw (← e, q) M
+module _ (t starts pasts ix lefts tokens starts' pasts' ix' lefts' tokens' : List ℕ) (ids r : Ids) (from past : ℕ) (w : Word) (s : Saying) where
+  abbrev WordSaid : Word → Type 0
+  WordSaid v = Moves t starts pasts ix lefts tokens ids starts' pasts' ix' lefts' tokens' r (joined left_side (events_of s (id_at t v from past) from past)) (joined token_use (events_of s (id_at t v from past) from past))
 
-  pub word_literal : w ≡ Literal → Moves t starts pasts ix lefts tokens ids starts' pasts' ix' lefts' tokens' r (joined left_side (events_of s (id_at t Literal from past) from past)) (joined token_use (events_of s (id_at t Literal from past) from past))
-      → Moves t starts pasts ix lefts tokens ids starts' pasts' ix' lefts' tokens' r (joined left_side (events_of (said_in m w) (id_at t w from past) from past)) (joined token_use (events_of (said_in m w) (id_at t w from past) from past))
-  word_literal q M = rw (← e, q) M
+  pub word_is : (v : Word) → w ≡ v → WordSaid v → WordSaid w
+  word_is v q M = subst WordSaid (sym q) M
 
 pub word_undefining : (m : Mode) (w : Word) (s : Saying) → s ≡ said_in m w → w ≡ Literal → NoQuote m w → Undefining s
 unfolding said_in
@@ -525,10 +523,10 @@ module _ (t starts pasts ix lefts tokens : List ℕ) (ids : Ids) (mode : Mode) (
         same = said_turn no_both t at mode (behind T.ns T.ts) (both_in t) T.same (behind (entered T.ns (joined left_side (events_of s x from past))) (entered T.ts (joined token_use (events_of s x from past)))) w from past n L e (behind-said s T.ns T.ts x from past);
       }
 
-  module _ (x : Next) (e : x ≡ Ends) (D : Told t at x) (l : Layout) (p : parse t ≡ some l) where
+  module _ (D : placed_from t at ≡ some []) (l : Layout) (p : parse t ≡ some l) where
     all : behind T.ns T.ts [] ≡ behind [] [] (events (top false) (placed 0 l.pieces))
     unfolding both_in
-    all = said-ends no_both t at mode (behind T.ns T.ts) (both_in t) T.same x e D ∙ said-whole no_both (behind [] []) t l p
+    all = said_ends no_both t at mode (behind T.ns T.ts) (both_in t) T.same D ∙ said-whole no_both (behind [] []) t l p
 
     last-left : T.ns ≡ (source_in l.pieces).nonterminals
     unfolding behind joined entered source_in source_of
@@ -541,5 +539,5 @@ module _ (t starts pasts ix lefts tokens : List ℕ) (ids : Ids) (mode : Mode) (
     last-held : Held t starts pasts ix lefts tokens ids (source_in l.pieces).nonterminals (source_in l.pieces).terminals
     last-held = rw (← last-left, ← last-token) T.held
 
-  pub turn_last : (x : Next) → x ≡ Ends → Told t at x → Named t starts pasts ix lefts tokens ids
-  turn_last x e D = record { held = λ l p. last-held x e D l p }
+  pub turn_last : placed_from t at ≡ some [] → Named t starts pasts ix lefts tokens ids
+  turn_last D = record { held = λ l p. last-held D l p }

@@ -2,3 +2,4 @@
 pub mod Ids
 pub mod Props
 pub mod Table
+pub mod Words

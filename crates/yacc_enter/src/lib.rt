@@ -7,17 +7,18 @@ ghost use Rattle.repr.specs.Lists.{joined};
 ghost use Rattle.yacc_text.specs.Grammar.{byte_limit, quoted};
 ghost use Rattle.yacc_tokens.specs.Accepted.{mode_of, is_grammar_text};
 ghost use Rattle.yacc_read.specs.Source.{Known, left_side, token_use};
-ghost use Rattle.yacc_said.specs.Said.{said_in, id_at, events_of};
-ghost use Rattle.yacc_names.specs.Names.{held};
+ghost use Rattle.yacc_said.specs.Said.{id_at, events_of};
+ghost use Rattle.std.proofs.Math.Seq.{slice};
+ghost use Rattle.yacc_names.specs.Names.{held, is_name, latest};
 ghost use Rattle.yacc_numbers.specs.Numbers.{place_in};
 ghost use Rattle.yacc_enter.specs.Props.{Kept-prop, Named-prop};
-ghost use Rattle.yacc_enter.specs.Ids.{Kept, is_id, Open, Within, Grows, Moves, Fresh, Undefining, NoQuote, name_at, Named};
+ghost use Rattle.yacc_enter.specs.Ids.{Kept, is_id, Within, Grows, Fresh, NoQuote, name_at, Named};
+ghost use Rattle.yacc_enter.specs.Words.{Ready, SameRoom, MovesTo};
 
-use yacc_lex::{Next, Word, next_token};
+use yacc_lex::Word;
 use yacc_names::{find, place};
 use yacc_numbers::number;
-use yacc_said::{Saying, said};
-use yacc_tokens::{Mode, moved};
+use yacc_said::{Saying, Token, TokenIter};
 
 // How many names are entered, and how many nonterminals and terminals there are.
 #[derive(Clone, Copy)]
@@ -48,6 +49,16 @@ pub fn byte(text: &[u8], at: usize) -> usize
     }
 }
 
+// The words that the ids of a text are entered in, as those of a `SymbolTable`.
+#[derive(Drop)]
+pub struct Words<'a> {
+    pub starts: &'a mut [u16],
+    pub pasts: &'a mut [u16],
+    pub ix: &'a mut [u16],
+    pub lefts: &'a mut [u16],
+    pub tokens: &'a mut [u16],
+}
+
 // The ids of a text of the grammar, entered: its names by their places with their index, the numbers of those that are left sides, of the literals and of the names that are tokens.
 #[derive(Clone, Copy)]
 pub struct SymbolTable<'a> {
@@ -74,24 +85,53 @@ fn number_at(words: &[u16], i: usize) -> Option<u16>
 impl<'a> SymbolTable<'a> {
     ghost use Rattle.yacc_enter.specs.Table.{Holds};
 
+    // Those of a text of the grammar.
+    pub fn enter(text: &'a [u8], mut words: Words<'a>) -> SymbolTable<'a>
+        requires { Fresh text.now words.starts.now words.pasts.now words.ix.now words.lefts.now words.tokens.now × (is_grammar_text text.now ≡ true) }
+        ensures { result.text.now ≡ text.now }
+    {
+        let counts = enter_all(text, &mut words);
+        let Words {
+            starts,
+            pasts,
+            ix,
+            lefts,
+            tokens,
+        } = words;
+        SymbolTable {
+            text: text,
+            starts: starts,
+            pasts: pasts,
+            ix: ix,
+            lefts: lefts,
+            tokens: tokens,
+            counts: counts,
+        }
+    }
+
+    // The number of the name that stands from a place up to another, as the names were entered.
+    fn find(&self, from: usize, past: usize) -> Option<usize>
+        requires { (from < past) × (past ≤ length self.now.text.now) }
+        ensures { held result ≡ latest (is_name self.now.text.now self.now.starts.now self.now.pasts.now (slice from past self.now.text.now)) self.now.counts.names }
+    {
+        find(
+            self.text,
+            self.starts,
+            self.pasts,
+            self.ix,
+            self.counts.names,
+            from,
+            past,
+        )
+    }
+
     // The number among the nonterminals of the id that stands from a place up to another: a literal has none.
     pub fn left(&self, kind: Word, from: usize, past: usize) -> Option<u16>
         requires { (from < past) × (past ≤ length self.now.text.now) }
         ensures { is_id kind ≡ true → (ns ts : List Known) → Holds self.now ns ts → held result ≡ place_in ns (id_at self.now.text.now kind from past) }
     {
         match kind {
-            Word::Name => {
-                let j = find(
-                    self.text,
-                    self.starts,
-                    self.pasts,
-                    self.ix,
-                    self.counts.names,
-                    from,
-                    past,
-                )?;
-                number_at(self.lefts, j)
-            }
+            Word::Name => number_at(self.lefts, self.find(from, past)?),
             _ => None,
         }
     }
@@ -102,18 +142,7 @@ impl<'a> SymbolTable<'a> {
         ensures { is_id kind ≡ true → (ns ts : List Known) → Holds self.now ns ts → held result ≡ place_in ts (id_at self.now.text.now kind from past) }
     {
         match kind {
-            Word::Name => {
-                let j = find(
-                    self.text,
-                    self.starts,
-                    self.pasts,
-                    self.ix,
-                    self.counts.names,
-                    from,
-                    past,
-                )?;
-                number_at(self.tokens, 256 + j)
-            }
+            Word::Name => number_at(self.tokens, 256 + self.find(from, past)?),
             Word::Literal => number_at(self.tokens, byte(self.text, from + 1)),
             _ => None,
         }
@@ -121,23 +150,15 @@ impl<'a> SymbolTable<'a> {
 }
 
 // A name that is a left side.
-fn define(
-    text: &[u8],
-    starts: &mut [u16],
-    pasts: &mut [u16],
-    ix: &mut [u16],
-    lefts: &mut [u16],
-    ids: Ids,
-    from: usize,
-    past: usize,
-) -> Ids
-    requires fact { Open text.now starts.old pasts.old ix.old ids × (ids.names < length lefts.old) }
+fn define(text: &[u8], words: &mut Words, ids: Ids, from: usize, past: usize) -> Ids
+    requires ready { Ready text.now words.old ids }
     requires within { Within text.now from past }
     ensures grows { Grows ids result }
-    ensures by_index { (tokens : List ℕ) → byte_limit + ids.names < length tokens → Moves text.now starts.old pasts.old ix.old lefts.old tokens ids starts.new pasts.new ix.new lefts.new tokens result (name_at text.now from past ∷ []) [] }
+    ensures room { SameRoom words.old words.new }
+    ensures moves { MovesTo text.now words.old ids words.new result (name_at text.now from past ∷ []) [] }
 {
-    let placed = place(text, starts, pasts, ix, ids.names, from, past);
-    let nonterminals = number(lefts, placed.number, ids.nonterminals);
+    let placed = place(text, words.starts, words.pasts, words.ix, ids.names, from, past);
+    let nonterminals = number(words.lefts, placed.number, ids.nonterminals);
     Ids {
         names: placed.names,
         nonterminals: nonterminals,
@@ -146,23 +167,15 @@ fn define(
 }
 
 // A name of a TOKEN list.
-fn declare(
-    text: &[u8],
-    starts: &mut [u16],
-    pasts: &mut [u16],
-    ix: &mut [u16],
-    tokens: &mut [u16],
-    ids: Ids,
-    from: usize,
-    past: usize,
-) -> Ids
-    requires fact { Open text.now starts.old pasts.old ix.old ids × (byte_limit + ids.names < length tokens.old) }
+fn declare(text: &[u8], words: &mut Words, ids: Ids, from: usize, past: usize) -> Ids
+    requires ready { Ready text.now words.old ids }
     requires within { Within text.now from past }
     ensures grows { Grows ids result }
-    ensures by_index { (lefts : List ℕ) → ids.names < length lefts → Moves text.now starts.old pasts.old ix.old lefts tokens.old ids starts.new pasts.new ix.new lefts tokens.new result [] (name_at text.now from past ∷ []) }
+    ensures room { SameRoom words.old words.new }
+    ensures moves { MovesTo text.now words.old ids words.new result [] (name_at text.now from past ∷ []) }
 {
-    let placed = place(text, starts, pasts, ix, ids.names, from, past);
-    let terminals = number(tokens, 256 + placed.number, ids.terminals);
+    let placed = place(text, words.starts, words.pasts, words.ix, ids.names, from, past);
+    let terminals = number(words.tokens, 256 + placed.number, ids.terminals);
     Ids {
         names: placed.names,
         nonterminals: ids.nonterminals,
@@ -171,13 +184,15 @@ fn declare(
 }
 
 // A literal of a TOKEN list or of a body.
-fn quote(text: &[u8], tokens: &mut [u16], ids: Ids, from: usize) -> Ids
-    requires { (byte_limit ≤ length tokens.old) × (ids.terminals < 65535) × (from < length text.now) }
+fn quote(text: &[u8], words: &mut Words, ids: Ids, from: usize, past: usize) -> Ids
+    requires ready { Ready text.now words.old ids }
+    requires within { Within text.now from past }
     ensures grows { Grows ids result }
-    ensures moves { (starts pasts ix lefts : List ℕ) → Moves text.now starts pasts ix lefts tokens.old ids starts pasts ix lefts tokens.new result [] (record { id = quoted (get_or text.now (from + 1) 0); at = from } ∷ []) }
+    ensures room { SameRoom words.old words.new }
+    ensures moves { MovesTo text.now words.old ids words.new result [] (record { id = quoted (get_or text.now (from + 1) 0); at = from } ∷ []) }
 {
     let b = byte(text, from + 1);
-    let terminals = number(tokens, b, ids.terminals);
+    let terminals = number(words.tokens, b, ids.terminals);
     Ids {
         names: ids.names,
         nonterminals: ids.nonterminals,
@@ -185,115 +200,41 @@ fn quote(text: &[u8], tokens: &mut [u16], ids: Ids, from: usize) -> Ids
     }
 }
 
-// What a name says is entered.
-fn enter_name(
-    text: &[u8],
-    starts: &mut [u16],
-    pasts: &mut [u16],
-    ix: &mut [u16],
-    lefts: &mut [u16],
-    tokens: &mut [u16],
-    ids: Ids,
-    what: Saying,
-    from: usize,
-    past: usize,
-) -> Ids
-    requires fact { Open text.now starts.old pasts.old ix.old ids × (ids.names < length lefts.old) × (byte_limit + ids.names < length tokens.old) }
-    requires within { Within text.now from past }
+// What a word says is entered.
+fn enter(text: &[u8], words: &mut Words, ids: Ids, token: Token) -> Ids
+    requires ready { Ready text.now words.old ids }
+    requires within { Within text.now token.from token.past }
+    requires no_quote { NoQuote (mode_of token.mode) token.word }
     ensures grows { Grows ids result }
-    ensures moves { Moves text.now starts.old pasts.old ix.old lefts.old tokens.old ids starts.new pasts.new ix.new lefts.new tokens.new result (joined left_side (events_of what (id_at text.now Word.Name from past) from past)) (joined token_use (events_of what (id_at text.now Word.Name from past) from past)) }
+    ensures room { SameRoom words.old words.new }
+    ensures moves { MovesTo text.now words.old ids words.new result (joined left_side (events_of token.what (id_at text.now token.word token.from token.past) token.from token.past)) (joined token_use (events_of token.what (id_at text.now token.word token.from token.past) token.from token.past)) }
 {
-    match what {
-        Saying::Lists => declare(text, starts, pasts, ix, tokens, ids, from, past),
-        Saying::Defines => define(text, starts, pasts, ix, lefts, ids, from, past),
-        _ => ids,
-    }
-}
-
-// What a literal says is entered.
-fn enter_literal(
-    text: &[u8],
-    tokens: &mut [u16],
-    ids: Ids,
-    what: Saying,
-    from: usize,
-    past: usize,
-) -> Ids
-    requires byte_limit_in_bounds { (byte_limit ≤ length tokens.old) × (ids.terminals < 65535) × (from < length text.now) }
-    requires undefining { Undefining what }
-    ensures grows { Grows ids result }
-    ensures moves { (starts pasts ix lefts : List ℕ) → Moves text.now starts pasts ix lefts tokens.old ids starts pasts ix lefts tokens.new result (joined left_side (events_of what (id_at text.now Word.Literal from past) from past)) (joined token_use (events_of what (id_at text.now Word.Literal from past) from past)) }
-{
-    match what {
-        Saying::Lists | Saying::Uses => quote(text, tokens, ids, from),
-        _ => ids,
-    }
-}
-
-// What a word says in a mode is entered.
-fn enter_word(
-    text: &[u8],
-    starts: &mut [u16],
-    pasts: &mut [u16],
-    ix: &mut [u16],
-    lefts: &mut [u16],
-    tokens: &mut [u16],
-    ids: Ids,
-    mode: Mode,
-    word: Word,
-    from: usize,
-    past: usize,
-) -> Ids
-    requires fact { Open text.now starts.old pasts.old ix.old ids × (ids.names < length lefts.old) × (byte_limit + ids.names < length tokens.old) }
-    requires within { Within text.now from past }
-    requires no_quote { NoQuote (mode_of mode) word }
-    ensures grows { Grows ids result }
-    ensures moves { Moves text.now starts.old pasts.old ix.old lefts.old tokens.old ids starts.new pasts.new ix.new lefts.new tokens.new result (joined left_side (events_of (said_in (mode_of mode) word) (id_at text.now word from past) from past)) (joined token_use (events_of (said_in (mode_of mode) word) (id_at text.now word from past) from past)) }
-{
-    let what = said(mode, word);
-    match word {
-        Word::Name => enter_name(
-            text, starts, pasts, ix, lefts, tokens, ids, what, from, past,
-        ),
-        Word::Literal => enter_literal(text, tokens, ids, what, from, past),
+    match token.word {
+        Word::Name => match token.what {
+            Saying::Lists => declare(text, words, ids, token.from, token.past),
+            Saying::Defines => define(text, words, ids, token.from, token.past),
+            _ => ids,
+        },
+        Word::Literal => match token.what {
+            Saying::Lists | Saying::Uses => quote(text, words, ids, token.from, token.past),
+            _ => ids,
+        },
         _ => ids,
     }
 }
 
 // The ids of a text of the grammar: the names by their places and their index, the numbers of the nonterminals and of the terminals.
-pub fn enter_all(
-    text: &[u8],
-    starts: &mut [u16],
-    pasts: &mut [u16],
-    ix: &mut [u16],
-    lefts: &mut [u16],
-    tokens: &mut [u16],
-) -> Ids
-    requires { Fresh text.now starts.old pasts.old ix.old lefts.old tokens.old × (is_grammar_text text.now ≡ true) }
-    ensures { Named text.now starts.new pasts.new ix.new lefts.new tokens.new result }
+fn enter_all(text: &[u8], words: &mut Words) -> Ids
+    requires { Fresh text.now words.old.starts.now words.old.pasts.now words.old.ix.now words.old.lefts.now words.old.tokens.now × (is_grammar_text text.now ≡ true) }
+    ensures { Named text.now words.new.starts.now words.new.pasts.now words.new.ix.now words.new.lefts.now words.new.tokens.now result }
 {
     let mut ids = Ids {
         names: 0,
         nonterminals: 0,
         terminals: 0,
     };
-    let mut mode = Mode::Top(false);
-    let mut at: usize = 0;
-    loop {
-        match next_token(text, at) {
-            Next::Token(word, from, past) => {
-                ids = enter_word(
-                    text, starts, pasts, ix, lefts, tokens, ids, mode, word, from, past,
-                );
-                mode = moved(mode, word);
-                at = past;
-            }
-            Next::End => {
-                return ids;
-            }
-            Next::Outside => {
-                return ids;
-            }
-        }
+    for token in TokenIter::new(text) {
+        ids = enter(text, words, ids, token);
     }
+    ids
 }

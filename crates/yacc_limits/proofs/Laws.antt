@@ -1,4 +1,4 @@
--- The ways through `refusal`. Assumes nothing.
+-- The ways through `check_counts`. Assumes nothing.
 use Prim.Native.Nat.{ℕ, ◌+◌, ◌*◌, ◌/◌, ◌≤◌, ◌<◌}
 use native.Mathlib.Omega.{arith}
 use mathlib.Core.Bool.{true, false}
@@ -6,12 +6,12 @@ use mathlib.Core.Path.{◌≡◌, ap, ◌∙◌}
 use mathlib.Core.List.{List, map}
 use lib.ListN.{length}
 use Rattle.repr.specs.Sizes.{nonterminal_limit, terminal_limit, production_limit, symbol_limit}
+use Rattle.repr.specs.Reply.{answered, refused}
 use Rattle.spelling.specs.Spelled.{size_of}
 use Rattle.yacc_read.specs.Outcome.{unchanged, too_many, room, counted_of}
 use Rattle.yacc_count.specs.Counted.{short_of, counts_of}
 use Rattle.yacc_count.specs.declared.Counts.{Counts}
 use Rattle.yacc_count.proofs.Limits.{many_nonterminals, many_terminals, many_productions, few, few_symbols, table_narrow, places_narrow, roomy_both, counted_many, counted_long, counted_narrow, counted-written}
-use Rattle.std.proofs.Common.{Some, None}
 use Rattle.yacc_limits.specs.Limited.{Meant, limited_of}
 
 module _ (n m : ℕ) (c : Counts) (w : Meant n m c) where
@@ -37,32 +37,32 @@ module _ (n m : ℕ) (c : Counts) (w : Meant n m c) where
       omega (arith, a, b, f, h)
 
   module _ (table places : List ℕ) where
-    refused_many : too_many w.source ≡ true → counted_of w.source table places ≡ limited_of w.source (Some (record { number = 2; place = 0 })) table places
+    refused_many : too_many w.source ≡ true → counted_of w.source table places ≡ limited_of w.source (refused 2 0) table places
     unfolding limited_of
     refused_many e = counted_many w.source table places e
 
-    pub limit_nonterminals : nonterminal_limit < n → counted_of w.source table places ≡ limited_of w.source (Some (record { number = 2; place = 0 })) table places
+    pub limit_nonterminals : nonterminal_limit < n → counted_of w.source table places ≡ limited_of w.source (refused 2 0) table places
     limit_nonterminals h = let a = w.nonterminals in refused_many (many_nonterminals w.source (omega (arith, a, h)))
 
     module _ (n₁ : n ≤ nonterminal_limit) where
       few_left : length w.source.nonterminals ≤ nonterminal_limit
       few_left = let a = w.nonterminals in omega (arith, a, n₁)
 
-      pub limit_terminals : terminal_limit < m → counted_of w.source table places ≡ limited_of w.source (Some (record { number = 2; place = 0 })) table places
+      pub limit_terminals : terminal_limit < m → counted_of w.source table places ≡ limited_of w.source (refused 2 0) table places
       limit_terminals h = let a = w.terminals in refused_many (many_terminals w.source few_left (omega (arith, a, h)))
 
       module _ (m₁ : m ≤ terminal_limit) where
         few_tokens : length w.source.terminals ≤ terminal_limit
         few_tokens = let a = w.terminals in omega (arith, a, m₁)
 
-        pub limit_productions : production_limit < c.alternatives → counted_of w.source table places ≡ limited_of w.source (Some (record { number = 2; place = 0 })) table places
+        pub limit_productions : production_limit < c.alternatives → counted_of w.source table places ≡ limited_of w.source (refused 2 0) table places
         limit_productions h = let a = all_is in refused_many (many_productions w.source few_left few_tokens (omega (arith, a, h)))
 
         module _ (p₁ : c.alternatives ≤ production_limit) where
           few_all : too_many w.source ≡ false
           few_all = let a = all_is in few w.source few_left few_tokens (omega (arith, a, p₁))
 
-          pub limit_long : c.short < c.alternatives → counted_of w.source table places ≡ limited_of w.source (Some (record { number = 5; place = 2 + n + c.short })) table places
+          pub limit_long : c.short < c.alternatives → counted_of w.source table places ≡ limited_of w.source (refused 5 (2 + n + c.short)) table places
           unfolding limited_of
           limit_long h =
               let a = all_is in
@@ -75,11 +75,11 @@ module _ (n m : ℕ) (c : Counts) (w : Meant n m c) where
             none_long : length w.source.alternatives ≤ short_of w.source.alternatives
             none_long = let a = all_is in let s = short_is in omega (arith, a, s, s₁)
 
-            refused_narrow : room w.source table places ≡ false → counted_of w.source table places ≡ limited_of w.source (Some (record { number = 17; place = 0 })) table places
+            refused_narrow : room w.source table places ≡ false → counted_of w.source table places ≡ limited_of w.source (refused 17 0) table places
             unfolding limited_of
             refused_narrow e = counted_narrow w.source table places few_all none_long e
 
-            pub limit_table : length table / 4 < 2 + n + c.alternatives + c.symbols → counted_of w.source table places ≡ limited_of w.source (Some (record { number = 17; place = 0 })) table places
+            pub limit_table : length table / 4 < 2 + n + c.alternatives + c.symbols → counted_of w.source table places ≡ limited_of w.source (refused 17 0) table places
             limit_table h =
                 let a = all_is in
                 let b = size_is in
@@ -90,13 +90,13 @@ module _ (n m : ℕ) (c : Counts) (w : Meant n m c) where
               long_table : 2 + length w.source.nonterminals + length w.source.alternatives + size_of (map (λ a. a.ids) w.source.alternatives) ≤ length table / 4
               long_table = let a = all_is in let b = size_is in let d = w.nonterminals in omega (arith, a, b, d, t₁)
 
-              pub limit_places : length places < n + m → counted_of w.source table places ≡ limited_of w.source (Some (record { number = 17; place = 0 })) table places
+              pub limit_places : length places < n + m → counted_of w.source table places ≡ limited_of w.source (refused 17 0) table places
               limit_places h =
                   let a = w.nonterminals in
                   let b = w.terminals in
                   refused_narrow (places_narrow w.source table places long_table (omega (arith, a, b, h)))
 
-              pub limit_none : n + m ≤ length places → counted_of w.source table places ≡ limited_of w.source None table places
+              pub limit_none : n + m ≤ length places → counted_of w.source table places ≡ limited_of w.source (answered tt) table places
               unfolding limited_of
               limit_none h =
                   let a = w.nonterminals in

@@ -1,13 +1,13 @@
 -- What a limit means: the refusal, or the table and the places written. Assumes nothing: these are definitions.
-use Rattle.std.specs.Prelude.{ℕ, ◌≡◌, List, Option, Some, None, length}
+use Rattle.std.specs.Prelude.{ℕ, ◌≡◌, List, length}
 use Rattle.slices.specs.Lent.{in_front}
+use Rattle.repr.specs.Reply.{Reply, answered, refused}
 use Rattle.spelling.specs.Spelled.{spell}
 use Rattle.yacc_read.specs.Source.{Source}
 use Rattle.yacc_read.specs.Meaning.{table_of, places_of}
 use Rattle.yacc_read.specs.Outcome.{Outcome, unchanged, answer_of}
 use Rattle.yacc_count.specs.Counted.{counts_of}
 use Rattle.yacc_count.specs.declared.Counts.{Counts}
-use Rattle.yacc_limits.specs.declared.Limit.{Limit}
 
 -- the numbers of a source
 pub record Meant (n m : ℕ) (c : Counts) : Type 0 where
@@ -16,6 +16,6 @@ pub record Meant (n m : ℕ) (c : Counts) : Type 0 where
   pub terminals : m ≡ length source.terminals
   pub counts : c ≡ counts_of source.alternatives
 
-unfoldable pub limited_of : Source → Option Limit → List ℕ → List ℕ → Outcome
-limited_of S None table places = record { answer = answer_of S; table = in_front (spell (table_of S)) table; places = in_front (places_of S) places }
-limited_of S (Some r) table places = unchanged r.number r.place table places
+unfoldable pub limited_of : Source → Reply (Unit {0}) → List ℕ → List ℕ → Outcome
+limited_of S (answered tt) table places = record { answer = answer_of S; table = in_front (spell (table_of S)) table; places = in_front (places_of S) places }
+limited_of S (refused n r) table places = unchanged n r table places

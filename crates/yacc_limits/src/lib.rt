@@ -3,63 +3,43 @@
 #![tactic(auto)]
 
 ghost use Rattle.std.specs.Prelude.{◌≡◌};
+ghost use Rattle.repr.specs.Reply.{reply_of};
 ghost use Rattle.yacc_read.specs.Outcome.{counted_of};
 ghost use Rattle.yacc_limits.specs.Limited.{Meant, limited_of};
 
-use repr::{NonterminalString, ProductionIndex};
+use repr::{NonterminalString, ProductionIndex, Refusal};
 use yacc_count::Counts;
 
-// A refusal and its place.
-#[derive(Clone, Copy)]
-pub struct Limit {
-    pub number: u16,
-    pub place: u16,
-}
+const TERMINALS: usize = 63;
 
-impl Limit {
-    pub const TERMINALS: usize = 63;
-}
-
-// What refuses a text of n nonterminals and m terminals that is named well, by its counts and the room there is; None where nothing does.
-pub fn refusal(n: usize, m: usize, counts: Counts, table: &[u16], places: &[u16]) -> Option<Limit>
+// What refuses a text of n nonterminals and m terminals that is named well, by its counts and the room there is.
+pub fn check_counts(
+    n: usize,
+    m: usize,
+    counts: Counts,
+    table: &[u16],
+    places: &[u16],
+) -> Result<(), Refusal>
     requires { Meant n m counts }
-    ensures { (w : Meant n m counts) → counted_of w.source table.now places.now ≡ limited_of w.source result table.now places.now }
+    ensures { (w : Meant n m counts) → counted_of w.source table.now places.now ≡ limited_of w.source (reply_of result) table.now places.now }
 {
     if NonterminalString::LIMIT < n {
-        return Some(Limit {
-            number: 2,
-            place: 0,
-        });
+        return Err(Refusal::Counts);
     }
-    if Limit::TERMINALS < m {
-        return Some(Limit {
-            number: 2,
-            place: 0,
-        });
+    if TERMINALS < m {
+        return Err(Refusal::Counts);
     }
     if ProductionIndex::LIMIT < counts.alternatives {
-        return Some(Limit {
-            number: 2,
-            place: 0,
-        });
+        return Err(Refusal::Counts);
     }
     if counts.short < counts.alternatives {
-        return Some(Limit {
-            number: 5,
-            place: (2 + n + counts.short) as u16,
-        });
+        return Err(Refusal::TooLong((2 + n + counts.short) as u16));
     }
     if table.len() / 4 < 2 + n + counts.alternatives + counts.symbols {
-        return Some(Limit {
-            number: 17,
-            place: 0,
-        });
+        return Err(Refusal::NoRoom);
     }
     if places.len() < n + m {
-        return Some(Limit {
-            number: 17,
-            place: 0,
-        });
+        return Err(Refusal::NoRoom);
     }
-    None
+    Ok(())
 }

@@ -203,17 +203,12 @@ module _ (S : Source) (t : List ℕ) (at : ℕ) (m : Mode) (F : Option ℕ) (R :
         ∙ ap (fault_from S m) rests_front.2
         ∙ fault_here S m (record { token = token_at t w from past; from = from; past = past }) rests_front.0 (sym q ∙ y)
 
-  pub rests_ends : (x : Next) → x ≡ Ends → Told t at x → F ≡ none
-  unfolding Told fault_from
-  rests_ends x e T =
-      let p : placed_from t at ≡ some [] = rw e at T in
+  pub rests_ends : placed_from t at ≡ some [] → F ≡ none
+  unfolding fault_from
+  rests_ends p =
       let i : some [] ≡ some R.0 = sym p ∙ R.1 in
       let j : [] ≡ R.0 = cc in
       sym R.2 ∙ ap (fault_from S m) (sym j)
-
-  pub rests_outside : (x : Next) → x ≡ NoToken → Told t at x → F ≡ none
-  unfolding Told
-  rests_outside x e T = let p : placed_from t at ≡ none = rw e at T in never R.0 (sym p ∙ R.1)
 
 -- a text that is misnamed does not end so
 pub not_absent : (l : Layout) (r : ℕ) → fault_from (source_in l.pieces) (top false) (placed 0 l.pieces) ≡ none → misnamed (source_in l.pieces) ≡ true → fault_from (source_in l.pieces) (top false) (placed 0 l.pieces) ≡ some r

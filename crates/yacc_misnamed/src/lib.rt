@@ -22,26 +22,25 @@ ghost use Rattle.yacc_misnamed.specs.Fault.{faulty, fault_from};
 
 use repr::word;
 use yacc_enter::SymbolTable;
-use yacc_lex::{Next, Word, next_token};
-use yacc_said::{Saying, said};
-use yacc_tokens::{Mode, moved};
+use yacc_said::{Saying, Token, TokenIter};
 use yacc_uses::{Verdict, judge};
 
-// Is the id that stands from a place up to another on no left side and no token.
-fn is_nowhere(symbols: &SymbolTable, kind: Word, from: usize, past: usize) -> bool
-    requires { (from < past) × (past ≤ length symbols.now.text.now) }
-    ensures { is_id kind ≡ true → (ns ts : List Known) → Holds symbols.now ns ts → result ≡ nowhere_of ns ts (id_at symbols.now.text.now kind from past) }
+// Is a word's id on no left side and no token.
+fn is_nowhere(symbols: &SymbolTable, token: Token) -> bool
+    requires { token.past ≤ length symbols.now.text.now }
+    ensures { is_id token.word ≡ true → (ns ts : List Known) → Holds symbols.now ns ts → result ≡ nowhere_of ns ts (id_at symbols.now.text.now token.word token.from token.past) }
 {
-    symbols.left(kind, from, past).is_none() && symbols.token(kind, from, past).is_none()
+    symbols.left(token.word, token.from, token.past).is_none()
+        && symbols.token(token.word, token.from, token.past).is_none()
 }
 
 // Is the START id, where a word says it, on no left side.
-fn is_lost(symbols: &SymbolTable, what: Saying, kind: Word, from: usize, past: usize) -> bool
-    requires { (from < past) × (past ≤ length symbols.now.text.now) }
-    ensures { (what ≡ Saying.Opens → is_id kind ≡ true) → (ns ts : List Known) → Holds symbols.now ns ts → result ≡ lost_of ns (events_of what (id_at symbols.now.text.now kind from past) from past) }
+fn is_lost(symbols: &SymbolTable, token: Token) -> bool
+    requires { token.past ≤ length symbols.now.text.now }
+    ensures { (ns ts : List Known) → Holds symbols.now ns ts → result ≡ lost_of ns (events_of token.what (id_at symbols.now.text.now token.word token.from token.past) token.from token.past) }
 {
-    match what {
-        Saying::Opens => symbols.left(kind, from, past).is_none(),
+    match token.what {
+        Saying::Opens => symbols.left(token.word, token.from, token.past).is_none(),
         _ => false,
     }
 }
@@ -54,51 +53,23 @@ fn uses_nowhere(symbols: &SymbolTable) -> bool
         bad: false,
         body: false,
     };
-    let mut mode = Mode::Top(false);
-    let mut at: usize = 0;
-    loop {
-        match next_token(symbols.text, at) {
-            Next::Token(kind, from, past) => {
-                let what = said(mode, kind);
-                let wrong = is_nowhere(symbols, kind, from, past);
-                verdict = judge(verdict, what, wrong);
-                mode = moved(mode, kind);
-                at = past;
-            }
-            Next::End => {
-                return verdict.bad;
-            }
-            Next::Outside => {
-                return false;
-            }
-        }
+    for token in TokenIter::new(symbols.text) {
+        let wrong = is_nowhere(symbols, token);
+        verdict = judge(verdict, token.what, wrong);
     }
+    verdict.bad
 }
 
 // Is the START id on no left side.
 fn start_nowhere(symbols: &SymbolTable) -> bool
     ensures { (l : Layout) → parse symbols.now.text.now ≡ some l → result ≡ undefined_start (source_in l.pieces) }
 {
-    let mut mode = Mode::Top(false);
-    let mut at: usize = 0;
-    loop {
-        match next_token(symbols.text, at) {
-            Next::Token(kind, from, past) => {
-                let what = said(mode, kind);
-                if is_lost(symbols, what, kind, from, past) {
-                    return true;
-                }
-                mode = moved(mode, kind);
-                at = past;
-            }
-            Next::End => {
-                return false;
-            }
-            Next::Outside => {
-                return true;
-            }
+    for token in TokenIter::new(symbols.text) {
+        if is_lost(symbols, token) {
+            return true;
         }
     }
+    false
 }
 
 // Is a name both a left side and a token.
@@ -135,15 +106,15 @@ pub fn is_misnamed(symbols: &SymbolTable) -> bool
     start_nowhere(symbols)
 }
 
-// Is the token that stands from a place up to another at fault.
-fn is_fault(symbols: &SymbolTable, mode: Mode, kind: Word, from: usize, past: usize) -> bool
-    requires { (from < past) × (past ≤ length symbols.now.text.now) }
-    ensures { (S : Source) → Holds symbols.now S.nonterminals S.terminals → result ≡ some? (faulty S) (event_of (mode_of mode) (token_at symbols.now.text.now kind from past) from past) }
+// Is a word at fault.
+fn is_fault(symbols: &SymbolTable, token: Token) -> bool
+    requires { token.past ≤ length symbols.now.text.now }
+    ensures { (S : Source) → Holds symbols.now S.nonterminals S.terminals → result ≡ some? (faulty S) (event_of (mode_of token.mode) (token_at symbols.now.text.now token.word token.from token.past) token.from token.past) }
 {
-    match said(mode, kind) {
-        Saying::Opens => symbols.left(kind, from, past).is_none(),
-        Saying::Defines => symbols.token(kind, from, past).is_some(),
-        Saying::Uses => is_nowhere(symbols, kind, from, past),
+    match token.what {
+        Saying::Opens => symbols.left(token.word, token.from, token.past).is_none(),
+        Saying::Defines => symbols.token(token.word, token.from, token.past).is_some(),
+        Saying::Uses => is_nowhere(symbols, token),
         _ => false,
     }
 }
@@ -152,23 +123,12 @@ fn is_fault(symbols: &SymbolTable, mode: Mode, kind: Word, from: usize, past: us
 pub fn fault_place(symbols: &SymbolTable) -> usize
     ensures { (result ≤ length symbols.now.text.now) × ((l : Layout) → parse symbols.now.text.now ≡ some l → misnamed (source_in l.pieces) ≡ true → fault_from (source_in l.pieces) (top false) (placed 0 l.pieces) ≡ some result) }
 {
-    let mut mode = Mode::Top(false);
-    let mut at: usize = 0;
-    loop {
-        match next_token(symbols.text, at) {
-            Next::Token(kind, from, past) => {
-                if is_fault(symbols, mode, kind, from, past) {
-                    return from;
-                }
-                mode = moved(mode, kind);
-                at = past;
-            }
-            Next::End => {
-                return at;
-            }
-            Next::Outside => {
-                return at;
-            }
+    let mut end: usize = 0;
+    for token in TokenIter::new(symbols.text) {
+        if is_fault(symbols, token) {
+            return token.from;
         }
+        end = token.past;
     }
+    end
 }

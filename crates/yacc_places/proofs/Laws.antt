@@ -30,7 +30,7 @@ use Rattle.yacc_read.proofs.Known.{same_id_lem, enter_old, enter_new, enter_is, 
 use Rattle.yacc_said.specs.Said.{said_in, id_at, events_of, of_said}
 use Rattle.yacc_said.specs.declared.Saying.{Saying}
 use Rattle.yacc_said.specs.declared.Saying.TheVariants.{Lists, Opens, Defines, Uses, Shuts, Nothing}
-use Rattle.yacc_said.proofs.Laws.{said_turn, said-ends, said-outside, said-whole}
+use Rattle.yacc_said.proofs.Laws.{said_turn, said_ends, said-whole}
 use Rattle.yacc_numbers.specs.Numbers.{place_in}
 use Rattle.yacc_numbers.proofs.Laws.{number-front, number_behind, place-yes, place_no}
 use Rattle.yacc_enter.specs.Ids.{is_id}
@@ -296,17 +296,14 @@ module _ (t : List ℕ) (S : Source) (base : ℕ) (p₀ p : List ℕ) (n m : ℕ
         rest = λ i l. ap (λ (q : List ℕ). get_or q i 0) e₂ ∙ rest-other p₀ p₁ (length S.nonterminals + length S.terminals) R₁ base m token from (λ q. let z = d (q ∙ ap (λ (j : ℕ). j + 1) cm) in omega (arith, z, cm, b)) i l;
       }
 
-module _ (t : List ℕ) (S : Source) (base : ℕ) (p₀ p : List ℕ) (n m : ℕ) (mode : Mode) (at : ℕ) (P : Placing t S base p₀ p n m mode at) (x : Next) (T : Told t at x) where
-  pub placing-last : x ≡ Ends → base ≡ length S.nonterminals → length p ≡ length p₀ → length S.nonterminals + length S.terminals ≤ length p₀ → p ≡ in_front (places_of S) p₀
+module _ (t : List ℕ) (S : Source) (base : ℕ) (p₀ p : List ℕ) (n m : ℕ) (mode : Mode) (at : ℕ) (P : Placing t S base p₀ p n m mode at) (D : placed_from t at ≡ some []) where
+  pub placing-last : base ≡ length S.nonterminals → length p ≡ length p₀ → length S.nonterminals + length S.terminals ≤ length p₀ → p ≡ in_front (places_of S) p₀
   unfolding behind joined entered
-  placing-last e b l room =
-      let q : behind P.ns P.ts [] ≡ both_of S = said-ends (both_of S) t at mode (behind P.ns P.ts) (both_of S) (P.same (both_of S)) x e T in
+  placing-last b l room =
+      let q : behind P.ns P.ts [] ≡ both_of S = said_ends (both_of S) t at mode (behind P.ns P.ts) (both_of S) (P.same (both_of S)) D in
       let u : P.ns ≡ S.nonterminals = ap (λ (k : Both). k.nonterminals) q in
       let v : P.ts ≡ S.terminals = ap (λ (k : Both). k.terminals) q in
       places-all S base n m p₀ p b (rw u at P.lefts) (rw v at P.tokens) P.rest l room
-
-  pub placing-outside {ℓ} : {Q : Type ℓ} → x ≡ NoToken → Q
-  placing-outside e = absurd (not-all (both_of S) (λ z. said-outside z t at mode (behind P.ns P.ts) (both_of S) (P.same z) x e T))
 
 -- what a word enters, by what it says
 pub said_enters : (f : Event → List Known) (ks os : List Known) (x : Id) (from past p : ℕ) (s v : Saying) → s ≡ v → joined f (events_of v x from past) ≡ os → p ≡ entered_place ks os → p ≡ entered_place ks (joined f (events_of s x from past))

@@ -2,7 +2,7 @@
 
 #![tactic(auto)]
 
-ghost use Rattle.std.specs.Prelude.{true, ◌≡◌, List, ◌+◌, ◌≤◌, ◌<◌, length, set};
+ghost use Rattle.std.specs.Prelude.{◌≡◌, List, ◌+◌, ◌≤◌, ◌<◌, length, set};
 ghost use Rattle.std.proofs.Math.Option.{some};
 ghost use Rattle.slices.specs.Lent.{in_front};
 ghost use Rattle.repr.specs.Lists.{joined};
@@ -13,47 +13,33 @@ ghost use Rattle.yacc_read.specs.Meaning.{places_of, start_of};
 ghost use Rattle.yacc_read.specs.Outcome.{source_in};
 ghost use Rattle.yacc_said.specs.Said.{id_at, events_of};
 ghost use Rattle.yacc_names.specs.Names.{held};
-ghost use Rattle.yacc_enter.specs.Ids.{is_id};
 ghost use Rattle.yacc_enter.specs.Table.{Holds};
 ghost use Rattle.yacc_places.specs.Placed.{entered_place, written_to, written_in};
 
 use yacc_enter::SymbolTable;
-use yacc_lex::{Next, Word, next_token};
-use yacc_said::{Saying, said};
-use yacc_tokens::{Mode, moved};
+use yacc_lex::Word;
+use yacc_said::{Saying, Token, TokenIter};
 
 // The number of the nonterminal that a word enters.
-fn left_said(
-    symbols: &SymbolTable,
-    what: Saying,
-    kind: Word,
-    from: usize,
-    past: usize,
-) -> Option<u16>
-    requires { (from < past) × (past ≤ length symbols.now.text.now) }
-    ensures { (what ≡ Saying.Defines → is_id kind ≡ true) → (ns ts : List Known) → Holds symbols.now ns ts → held result ≡ entered_place ns (joined left_side (events_of what (id_at symbols.now.text.now kind from past) from past)) }
+fn left_said(symbols: &SymbolTable, token: Token) -> Option<u16>
+    requires { token.past ≤ length symbols.now.text.now }
+    ensures { (ns ts : List Known) → Holds symbols.now ns ts → held result ≡ entered_place ns (joined left_side (events_of token.what (id_at symbols.now.text.now token.word token.from token.past) token.from token.past)) }
 {
-    match what {
-        Saying::Defines => symbols.left(kind, from, past),
+    match token.what {
+        Saying::Defines => symbols.left(token.word, token.from, token.past),
         _ => None,
     }
 }
 
 // The number of the terminal that a word enters: in a body a literal enters one, and a name none.
-fn token_said(
-    symbols: &SymbolTable,
-    what: Saying,
-    kind: Word,
-    from: usize,
-    past: usize,
-) -> Option<u16>
-    requires { (from < past) × (past ≤ length symbols.now.text.now) }
-    ensures { (what ≡ Saying.Lists → is_id kind ≡ true) → (what ≡ Saying.Uses → is_id kind ≡ true) → (ns ts : List Known) → Holds symbols.now ns ts → held result ≡ entered_place ts (joined token_use (events_of what (id_at symbols.now.text.now kind from past) from past)) }
+fn token_said(symbols: &SymbolTable, token: Token) -> Option<u16>
+    requires { token.past ≤ length symbols.now.text.now }
+    ensures { (ns ts : List Known) → Holds symbols.now ns ts → held result ≡ entered_place ts (joined token_use (events_of token.what (id_at symbols.now.text.now token.word token.from token.past) token.from token.past)) }
 {
-    match what {
-        Saying::Lists => symbols.token(kind, from, past),
-        Saying::Uses => match kind {
-            Word::Literal => symbols.token(kind, from, past),
+    match token.what {
+        Saying::Lists => symbols.token(token.word, token.from, token.past),
+        Saying::Uses => match token.word {
+            Word::Literal => symbols.token(token.word, token.from, token.past),
             _ => None,
         },
         _ => None,
@@ -101,26 +87,11 @@ pub fn write_places(symbols: &SymbolTable, places: &mut [u16])
     let base = symbols.counts.nonterminals;
     let mut n: usize = 0;
     let mut m: usize = 0;
-    let mut mode = Mode::Top(false);
-    let mut at: usize = 0;
-    loop {
-        match next_token(symbols.text, at) {
-            Next::Token(kind, from, past) => {
-                let what = said(mode, kind);
-                let left = left_said(symbols, what, kind, from, past);
-                let token = token_said(symbols, what, kind, from, past);
-                n = write_place(places, 0, n, left, from);
-                m = write_place(places, base, m, token, from);
-                mode = moved(mode, kind);
-                at = past;
-            }
-            Next::End => {
-                return;
-            }
-            Next::Outside => {
-                return;
-            }
-        }
+    for token in TokenIter::new(symbols.text) {
+        let left = left_said(symbols, token);
+        let right = token_said(symbols, token);
+        n = write_place(places, 0, n, left, token.from);
+        m = write_place(places, base, m, right, token.from);
     }
 }
 
@@ -128,26 +99,13 @@ pub fn write_places(symbols: &SymbolTable, places: &mut [u16])
 pub fn start_of(symbols: &SymbolTable) -> usize
     ensures { (l : Layout) → parse symbols.now.text.now ≡ some l → result ≡ start_of (source_in l.pieces).nonterminals (source_in l.pieces).starts }
 {
-    let mut mode = Mode::Top(false);
-    let mut at: usize = 0;
-    loop {
-        match next_token(symbols.text, at) {
-            Next::Token(kind, from, past) => {
-                if let Saying::Opens = said(mode, kind) {
-                    return match symbols.left(kind, from, past) {
-                        Some(number) => usize::from(number),
-                        None => symbols.counts.nonterminals,
-                    };
-                }
-                mode = moved(mode, kind);
-                at = past;
-            }
-            Next::End => {
-                return 0;
-            }
-            Next::Outside => {
-                return 0;
-            }
+    for token in TokenIter::new(symbols.text) {
+        if let Saying::Opens = token.what {
+            return match symbols.left(token.word, token.from, token.past) {
+                Some(number) => usize::from(number),
+                None => symbols.counts.nonterminals,
+            };
         }
     }
+    0
 }

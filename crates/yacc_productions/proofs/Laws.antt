@@ -40,13 +40,14 @@ use Rattle.yacc_read.proofs.Fits.{Good, count_nonterminals, table_fits}
 use Rattle.yacc_said.specs.Said.{id_said, end_said, said_in, id_at, events_of, of_said}
 use Rattle.yacc_said.specs.declared.Saying.{Saying}
 use Rattle.yacc_said.specs.declared.Saying.TheVariants.{Lists, Opens, Defines, Uses, Shuts, Nothing}
-use Rattle.yacc_said.proofs.Laws.{said_turn, said-ends, said-outside, said-whole}
+use Rattle.yacc_said.proofs.Laws.{said_turn, said_ends, said-whole}
 use Rattle.yacc_numbers.specs.Numbers.{place_in}
 use Rattle.std.proofs.Common.{Option as Answer, Some, None}
 use Rattle.std.specs.Option.{unwrap_or}
 use Rattle.yacc_names.specs.Names.{held}
 use Rattle.yacc_symbols.specs.Symbols.{IsSymbol}
-use Rattle.yacc_symbols.specs.declared.Numbered.{Numbered}
+use Rattle.repr.specs.declared.Symbol.{Symbol as Symbol'}
+use Rattle.repr.specs.Symbols.{meant}
 use Rattle.yacc_productions.specs.Readable.{Readable, Whole}
 use Rattle.yacc_productions.specs.Turn.{in_rule, pairs, place_or_else, begun_at, ended_at, ids_of, symbol_place, Added, Closed, Stored, Opened, Turn}
 use Rattle.yacc_productions.specs.declared.Body.{Body}
@@ -346,7 +347,7 @@ module _ (S : Source) (t g : List ℕ) (b : Body) (m : Mode) (at : ℕ) (T : Tur
     body = λ F. opened-none S g b.production o;
   }
 
-  pub turn_uses : s ≡ Uses → Whole S → length g ≡ grammar_room → (z : Numbered) → IsSymbol S (id_at t w from past) z → (g' : List ℕ) (r : Body) → Added g g' b r z.kind z.number from past → Turn S t g' r n past
+  pub turn_uses : s ≡ Uses → Whole S → length g ≡ grammar_room → (z : Symbol') → IsSymbol S (id_at t w from past) z → (g' : List ℕ) (r : Body) → Added g g' b r (kind_of (meant z)) (number_of (meant z)) from past → Turn S t g' r n past
   unfolding rule_from
   turn_uses d W long z I g' r A =
       let x = id_at t w from past in
@@ -370,10 +371,11 @@ module _ (S : Source) (t g : List ℕ) (b : Body) (m : Mode) (at : ℕ) (T : Tur
             let O = T.body (record { few = few'; short = omega (arith, a, short); named = o.0 }) in
             let c = O.many in
             let named : nowhere S x ≡ false = none-one (nowhere S) x o.1 in
-            let i = I.is named in
+            let e = I.is named in
+            let i : (kind_of (meant z) ≡ kind_of (symbol_of S x)) × (number_of (meant z) ≡ number_of (symbol_of S x)) = (ap kind_of e, ap number_of e) in
             let y = symbol_small S W x named in
             let M = A.more few' (omega (arith, a, short, c)) (rw i.0 y.0) (rw i.1 y.1) in
-            rw (M.0, M.1) (opened-more S g b T.us O (omega (arith, a, short, c, few', long)) x z.kind z.number from past i.0 i.1);
+            rw (M.0, M.1) (opened-more S g b T.us O (omega (arith, a, short, c, few', long)) x (kind_of (meant z)) (number_of (meant z)) from past i.0 i.1);
       }
 
   pub turn_shuts : s ≡ Shuts → Whole S → length g ≡ grammar_room → (g' : List ℕ) (r : Body) → Closed g g' b r from → Turn S t g' r n past
@@ -420,23 +422,17 @@ module _ (S : Source) (t g : List ℕ) (b : Body) (m : Mode) (at : ℕ) (T : Tur
       })
 
 -- in the end
-module _ (S : Source) (t g : List ℕ) (b : Body) (m : Mode) (at : ℕ) (T : Turn S t g b m at) (x : Next) (D : Told t at x) where
-  pub turn_outside {ℓ} : {P : Type ℓ} → x ≡ NoToken → P
-  turn_outside e =
-      let q : none ≡ some S.alternatives = said-outside none t at m (λ es. some (T.closed ++ alternatives_from T.left T.us es)) (some S.alternatives) T.rest x e D in
-      let z : ◌≡◌ {A = ℕ} 0 1 = cc in
-      absurd (omega (arith, z))
-
-  turn_all : x ≡ Ends → T.closed ≡ S.alternatives
+module _ (S : Source) (t g : List ℕ) (b : Body) (m : Mode) (at : ℕ) (T : Turn S t g b m at) (D : placed_from t at ≡ some []) where
+  turn_all : T.closed ≡ S.alternatives
   unfolding alternatives_from
-  turn_all e =
-      let q : some (T.closed ++ []) ≡ some S.alternatives = said-ends none t at m (λ es. some (T.closed ++ alternatives_from T.left T.us es)) (some S.alternatives) T.rest x e D in
+  turn_all =
+      let q : some (T.closed ++ []) ≡ some S.alternatives = said_ends none t at m (λ es. some (T.closed ++ alternatives_from T.left T.us es)) (some S.alternatives) T.rest D in
       sym (append-nil T.closed) ∙ cc
 
-  pub turn_last : x ≡ Ends → Whole S → length g ≡ grammar_room → (b.production ≡ length S.alternatives) × PackedAs (table_of S) g b.production
+  pub turn_last : Whole S → length g ≡ grammar_room → (b.production ≡ length S.alternatives) × PackedAs (table_of S) g b.production
   unfolding table_of productions_of productions_in production_in
-  turn_last e W long =
-      let many : b.production ≡ length S.alternatives = T.many ∙ ap length (turn_all e) in
+  turn_last W long =
+      let many : b.production ≡ length S.alternatives = T.many ∙ ap length turn_all in
       let F = in_range S W in
       let l = length_mapped (production_of S) S.alternatives in (
         many,

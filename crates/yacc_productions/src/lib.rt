@@ -5,6 +5,8 @@
 ghost use Rattle.std.specs.Prelude.{true, ◌≡◌, List, ℕ, ◌+◌, ◌≤◌, ◌<◌, length};
 ghost use Rattle.std.proofs.Math.Option.{some};
 ghost use Rattle.repr.specs.Sizes.{grammar_room};
+ghost use Rattle.repr.specs.Symbols.{meant};
+ghost use Rattle.spelling.specs.Spelled.{kind_of, number_of};
 ghost use Rattle.grammar_records.specs.Target.{PackedAs};
 ghost use Rattle.yacc_text.specs.Grammar.{text_limit, Layout};
 ghost use Rattle.yacc_text.specs.Parse.{parse};
@@ -18,13 +20,12 @@ ghost use Rattle.yacc_enter.specs.Table.{Holds};
 ghost use Rattle.yacc_productions.specs.Readable.{Readable, Whole};
 ghost use Rattle.yacc_productions.specs.Turn.{Small, place_or_else, Added, Closed, Turn};
 
-use repr::ProductionIndex;
+use repr::{ProductionIndex, Symbol};
 use table::put;
 use yacc_enter::SymbolTable;
-use yacc_lex::{Next, Word, next_token};
-use yacc_said::{Saying, said};
-use yacc_symbols::{Numbered, symbol};
-use yacc_tokens::{Mode, moved};
+use yacc_lex::Word;
+use yacc_said::{Saying, Token, TokenIter};
+use yacc_symbols::symbol;
 
 // The production that is open: its number, its nonterminal's, its symbols so far and their span.
 #[derive(Clone, Copy)]
@@ -54,11 +55,22 @@ fn place_or(symbols: usize, at: usize, x: usize) -> usize
     x
 }
 
+// A symbol as words hold it: kind and number.
+#[tactic(auto, unfolding(spelling::specs::Spelled::kind_of, spelling::specs::Spelled::number_of))]
+fn words_of(symbol: Symbol) -> (u16, u16)
+    ensures { (result.0 ≡ kind_of (meant symbol)) × (result.1 ≡ number_of (meant symbol)) }
+{
+    match symbol {
+        Symbol::Nonterminal(nonterminal) => (0, nonterminal.0),
+        Symbol::Terminal(terminal) => (1, terminal),
+    }
+}
+
 // Puts a symbol behind those of the body, if there is room.
-fn add(grammar: &mut [u16], body: Body, read: Numbered, from: usize, past: usize) -> Body
+fn add(grammar: &mut [u16], body: Body, read: Symbol, from: usize, past: usize) -> Body
     requires grammar_len { (length grammar.old ≡ grammar_room) × Small body }
     requires from_bound { (from < 65536) × (past < 65536) }
-    ensures { Small result × Added grammar.old grammar.new body result read.kind read.number from past }
+    ensures { Small result × Added grammar.old grammar.new body result (kind_of (meant read)) (number_of (meant read)) from past }
 {
     let production = body.production;
     let symbols = body.symbols;
@@ -70,8 +82,9 @@ fn add(grammar: &mut [u16], body: Body, read: Numbered, from: usize, past: usize
     }
     let start = place_or(symbols, from, body.start);
     let at = production * ProductionIndex::WORDS + 4 + 2 * symbols;
-    grammar[at] = read.kind;
-    grammar[at + 1] = read.number;
+    let (kind, number) = words_of(read);
+    grammar[at] = kind;
+    grammar[at + 1] = number;
     Body {
         production: production,
         owner: body.owner,
@@ -105,23 +118,15 @@ fn close(grammar: &mut [u16], body: Body, at: usize) -> Body
 }
 
 // What a word says is packed.
-fn step(
-    symbols: &SymbolTable,
-    grammar: &mut [u16],
-    body: Body,
-    what: Saying,
-    kind: Word,
-    from: usize,
-    past: usize,
-) -> Body
-    requires from_lt_past { (from < past) × (past ≤ length symbols.now.text.now) × (length symbols.now.text.now ≤ text_limit) }
+fn step(symbols: &SymbolTable, grammar: &mut [u16], body: Body, token: Token) -> Body
+    requires inside { (token.past ≤ length symbols.now.text.now) × (length symbols.now.text.now ≤ text_limit) }
     requires grammar_len { (length grammar.old ≡ grammar_room) × Small body }
     ensures small { Small result }
-    ensures turn { (S : Source) → Holds symbols.now S.nonterminals S.terminals → Whole S → (mode : TextMode) (at : ℕ) (n : TextMode) → Leads symbols.now.text.now at kind from past → what ≡ said_in mode kind → n ≡ move mode (token_at symbols.now.text.now kind from past) → Turn S symbols.now.text.now grammar.old body mode at → Turn S symbols.now.text.now grammar.new result n past }
+    ensures turn { (S : Source) → Holds symbols.now S.nonterminals S.terminals → Whole S → (mode : TextMode) (at : ℕ) (n : TextMode) → Leads symbols.now.text.now at token.word token.from token.past → token.what ≡ said_in mode token.word → n ≡ move mode (token_at symbols.now.text.now token.word token.from token.past) → Turn S symbols.now.text.now grammar.old body mode at → Turn S symbols.now.text.now grammar.new result n token.past }
 {
-    match what {
+    match token.what {
         Saying::Defines => {
-            let owner = left_number(symbols, from, past);
+            let owner = left_number(symbols, token.from, token.past);
             Body {
                 production: body.production,
                 owner: owner,
@@ -131,10 +136,10 @@ fn step(
             }
         }
         Saying::Uses => {
-            let read = symbol(symbols, kind, from, past);
-            add(grammar, body, read, from, past)
+            let read = symbol(symbols, token.word, token.from, token.past);
+            add(grammar, body, read, token.from, token.past)
         }
-        Saying::Shuts => close(grammar, body, from),
+        Saying::Shuts => close(grammar, body, token.from),
         _ => body,
     }
 }
@@ -152,22 +157,8 @@ pub fn pack(symbols: &SymbolTable, grammar: &mut [u16]) -> usize
         start: 0,
         end: 0,
     };
-    let mut mode = Mode::Top(false);
-    let mut at: usize = 0;
-    loop {
-        match next_token(symbols.text, at) {
-            Next::Token(kind, from, past) => {
-                let what = said(mode, kind);
-                body = step(symbols, grammar, body, what, kind, from, past);
-                mode = moved(mode, kind);
-                at = past;
-            }
-            Next::End => {
-                return body.production;
-            }
-            Next::Outside => {
-                return body.production;
-            }
-        }
+    for token in TokenIter::new(symbols.text) {
+        body = step(symbols, grammar, body, token);
     }
+    body.production
 }

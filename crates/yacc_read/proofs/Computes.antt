@@ -2,6 +2,7 @@
 use mathlib.Core.Path.{◌≡◌, refl}
 use Prim.Native.Nat.{ℕ}
 use mathlib.Core.List.{List, [], ◌∷◌, map}
+use Rattle.repr.specs.Reply.{refused}
 use Rattle.slices.specs.Same.{same_words}
 use Rattle.slices.specs.Lent.{in_front}
 use Rattle.repr.specs.Lists.{up_from, below, first?, keep, some?, joined}
@@ -15,8 +16,7 @@ use Rattle.yacc_text.specs.Forward.{begins, sides, move}
 use Rattle.yacc_read.specs.Events.{event_of, events}
 use Rattle.yacc_read.specs.Source.{same_id, is_known, number_in, enter, entered, left_side, literal_use, token_use, start_use, span_start, span_end, alternative, alternatives_from, source_of}
 use Rattle.yacc_read.specs.Meaning.{symbol_of, production_of, productions_of, owned, table_of, places_of, start_of}
-use Rattle.yacc_read.specs.Outcome.{unchanged, nowhere, undefined_use, named_both_ways, undefined_start, misnamed, too_many, too_long, room, answer_of, fitted_of, counted_of, named_of, source_in, parsed_of, read_of}
-use Rattle.yacc_read.specs.declared.Reading.TheVariants.{Read, Refused}
+use Rattle.yacc_read.specs.Outcome.{unchanged, nowhere, undefined_use, named_both_ways, undefined_start, misnamed, too_many, too_long, room, answer_of, fitted_of, counted_of, named_of, source_in, parsed_of, read_of, read_as}
 
 pub record Call : Type 0 where
   pub text : List ℕ
@@ -31,9 +31,9 @@ pub texts_read : map (λ (c : Call). read_of c.text c.table c.places) (
     record { text = (37 ∷ 115 ∷ 116 ∷ 97 ∷ 114 ∷ 116 ∷ 32 ∷ 98 ∷ 32 ∷ 37 ∷ 116 ∷ 111 ∷ 107 ∷ 101 ∷ 110 ∷ 32 ∷ 97 ∷ 32 ∷ 97 ∷ 10 ∷ 37 ∷ 37 ∷ 10 ∷ 99 ∷ 32 ∷ 58 ∷ 32 ∷ 98 ∷ 32 ∷ 39 ∷ 97 ∷ 39 ∷ 32 ∷ 124 ∷ 32 ∷ 59 ∷ 10 ∷ 98 ∷ 32 ∷ 58 ∷ 32 ∷ 97 ∷ 32 ∷ 59 ∷ 10 ∷ 99 ∷ 32 ∷ 58 ∷ 32 ∷ 39 ∷ 97 ∷ 39 ∷ 32 ∷ 47 ∷ 42 ∷ 32 ∷ 116 ∷ 119 ∷ 105 ∷ 99 ∷ 101 ∷ 32 ∷ 42 ∷ 47 ∷ 32 ∷ 39 ∷ 97 ∷ 39 ∷ 32 ∷ 59 ∷ []); table = (7 ∷ 7 ∷ 7 ∷ 7 ∷ 7 ∷ 7 ∷ 7 ∷ 7 ∷ 7 ∷ 7 ∷ 7 ∷ 7 ∷ 7 ∷ 7 ∷ 7 ∷ 7 ∷ 7 ∷ 7 ∷ 7 ∷ 7 ∷ 7 ∷ 7 ∷ 7 ∷ 7 ∷ 7 ∷ 7 ∷ 7 ∷ 7 ∷ 7 ∷ 7 ∷ 7 ∷ 7 ∷ 7 ∷ 7 ∷ 7 ∷ 7 ∷ 7 ∷ 7 ∷ 7 ∷ 7 ∷ 7 ∷ 7 ∷ 7 ∷ 7 ∷ 7 ∷ 7 ∷ 7 ∷ 7 ∷ 7 ∷ 7 ∷ 7 ∷ 7 ∷ 7 ∷ 7 ∷ 7 ∷ 7 ∷ 7 ∷ 7 ∷ 7 ∷ 7 ∷ 7 ∷ 7 ∷ 7 ∷ 7 ∷ 7 ∷ 7 ∷ 7 ∷ 7 ∷ 7 ∷ 7 ∷ 7 ∷ 7 ∷ 7 ∷ 7 ∷ 7 ∷ 7 ∷ 7 ∷ 7 ∷ 7 ∷ 7 ∷ []); places = (9 ∷ 9 ∷ 9 ∷ 9 ∷ 9 ∷ []) } ∷
     record { text = (37 ∷ 37 ∷ 120 ∷ 58 ∷ 59 ∷ []); table = (7 ∷ 7 ∷ 7 ∷ 7 ∷ 7 ∷ 7 ∷ 7 ∷ 7 ∷ 7 ∷ 7 ∷ 7 ∷ 7 ∷ 7 ∷ 7 ∷ 7 ∷ 7 ∷ []); places = (9 ∷ []) } ∷
     []) ≡ (
-    record { answer = Read 17 6 (record { 0 = 0 }); table = (1 ∷ 5 ∷ 1 ∷ 3 ∷ 3 ∷ 0 ∷ 0 ∷ 0 ∷ 0 ∷ 0 ∷ 0 ∷ 0 ∷ 4 ∷ 6 ∷ 31 ∷ 42 ∷ 5 ∷ 10 ∷ 47 ∷ 65 ∷ 0 ∷ 16 ∷ 70 ∷ 71 ∷ 7 ∷ 1 ∷ 0 ∷ 0 ∷ 8 ∷ 1 ∷ 3 ∷ 0 ∷ 9 ∷ 1 ∷ 1 ∷ 0 ∷ 0 ∷ 0 ∷ 0 ∷ 0 ∷ 11 ∷ 1 ∷ 0 ∷ 0 ∷ 12 ∷ 1 ∷ 3 ∷ 0 ∷ 13 ∷ 1 ∷ 1 ∷ 0 ∷ 14 ∷ 0 ∷ 0 ∷ 0 ∷ 15 ∷ 1 ∷ 2 ∷ 0 ∷ 0 ∷ 0 ∷ 0 ∷ 0 ∷ 0 ∷ 1 ∷ 4 ∷ 0 ∷ 7 ∷ 7 ∷ []); places = (27 ∷ 7 ∷ 10 ∷ 15 ∷ 20 ∷ 22 ∷ 9 ∷ []) } ∷
-    record { answer = Read 13 4 (record { 0 = 1 }); table = (2 ∷ 2 ∷ 1 ∷ 4 ∷ 4 ∷ 0 ∷ 0 ∷ 0 ∷ 6 ∷ 0 ∷ 0 ∷ 0 ∷ 0 ∷ 0 ∷ 0 ∷ 0 ∷ 5 ∷ 8 ∷ 27 ∷ 32 ∷ 7 ∷ 0 ∷ 35 ∷ 35 ∷ 0 ∷ 10 ∷ 41 ∷ 42 ∷ 0 ∷ 11 ∷ 49 ∷ 68 ∷ 9 ∷ 0 ∷ 1 ∷ 0 ∷ 0 ∷ 1 ∷ 1 ∷ 0 ∷ 0 ∷ 1 ∷ 0 ∷ 0 ∷ 12 ∷ 1 ∷ 1 ∷ 0 ∷ 0 ∷ 1 ∷ 1 ∷ 0 ∷ 7 ∷ 7 ∷ 7 ∷ 7 ∷ 7 ∷ 7 ∷ 7 ∷ 7 ∷ 7 ∷ 7 ∷ 7 ∷ 7 ∷ 7 ∷ 7 ∷ 7 ∷ 7 ∷ 7 ∷ 7 ∷ 7 ∷ 7 ∷ 7 ∷ 7 ∷ 7 ∷ 7 ∷ 7 ∷ 7 ∷ 7 ∷ 7 ∷ []); places = (23 ∷ 37 ∷ 16 ∷ 29 ∷ 9 ∷ []) } ∷
-    record { answer = Read 4 1 (record { 0 = 0 }); table = (1 ∷ 0 ∷ 1 ∷ 1 ∷ 3 ∷ 0 ∷ 0 ∷ 0 ∷ 0 ∷ 0 ∷ 0 ∷ 0 ∷ 0 ∷ 0 ∷ 4 ∷ 4 ∷ []); places = (2 ∷ []) } ∷
+    record { answer = read_as 17 6 (record { 0 = 0 }); table = (1 ∷ 5 ∷ 1 ∷ 3 ∷ 3 ∷ 0 ∷ 0 ∷ 0 ∷ 0 ∷ 0 ∷ 0 ∷ 0 ∷ 4 ∷ 6 ∷ 31 ∷ 42 ∷ 5 ∷ 10 ∷ 47 ∷ 65 ∷ 0 ∷ 16 ∷ 70 ∷ 71 ∷ 7 ∷ 1 ∷ 0 ∷ 0 ∷ 8 ∷ 1 ∷ 3 ∷ 0 ∷ 9 ∷ 1 ∷ 1 ∷ 0 ∷ 0 ∷ 0 ∷ 0 ∷ 0 ∷ 11 ∷ 1 ∷ 0 ∷ 0 ∷ 12 ∷ 1 ∷ 3 ∷ 0 ∷ 13 ∷ 1 ∷ 1 ∷ 0 ∷ 14 ∷ 0 ∷ 0 ∷ 0 ∷ 15 ∷ 1 ∷ 2 ∷ 0 ∷ 0 ∷ 0 ∷ 0 ∷ 0 ∷ 0 ∷ 1 ∷ 4 ∷ 0 ∷ 7 ∷ 7 ∷ []); places = (27 ∷ 7 ∷ 10 ∷ 15 ∷ 20 ∷ 22 ∷ 9 ∷ []) } ∷
+    record { answer = read_as 13 4 (record { 0 = 1 }); table = (2 ∷ 2 ∷ 1 ∷ 4 ∷ 4 ∷ 0 ∷ 0 ∷ 0 ∷ 6 ∷ 0 ∷ 0 ∷ 0 ∷ 0 ∷ 0 ∷ 0 ∷ 0 ∷ 5 ∷ 8 ∷ 27 ∷ 32 ∷ 7 ∷ 0 ∷ 35 ∷ 35 ∷ 0 ∷ 10 ∷ 41 ∷ 42 ∷ 0 ∷ 11 ∷ 49 ∷ 68 ∷ 9 ∷ 0 ∷ 1 ∷ 0 ∷ 0 ∷ 1 ∷ 1 ∷ 0 ∷ 0 ∷ 1 ∷ 0 ∷ 0 ∷ 12 ∷ 1 ∷ 1 ∷ 0 ∷ 0 ∷ 1 ∷ 1 ∷ 0 ∷ 7 ∷ 7 ∷ 7 ∷ 7 ∷ 7 ∷ 7 ∷ 7 ∷ 7 ∷ 7 ∷ 7 ∷ 7 ∷ 7 ∷ 7 ∷ 7 ∷ 7 ∷ 7 ∷ 7 ∷ 7 ∷ 7 ∷ 7 ∷ 7 ∷ 7 ∷ 7 ∷ 7 ∷ 7 ∷ 7 ∷ 7 ∷ 7 ∷ []); places = (23 ∷ 37 ∷ 16 ∷ 29 ∷ 9 ∷ []) } ∷
+    record { answer = read_as 4 1 (record { 0 = 0 }); table = (1 ∷ 0 ∷ 1 ∷ 1 ∷ 3 ∷ 0 ∷ 0 ∷ 0 ∷ 0 ∷ 0 ∷ 0 ∷ 0 ∷ 0 ∷ 0 ∷ 4 ∷ 4 ∷ []); places = (2 ∷ []) } ∷
     [])
 unfolding same_words in_front up_from below first? keep some? joined words head_of chain_from chains_from place_of size_of kind_of_symbol number_of states_at productions_at symbols_at items_place edges_at records_of owns record_or next_owned_from nonterminal_quad state_quad production_quad count_quad nonterminal_quads state_quads production_quads symbol_quads item_quads edge_quads quads spell is_white_byte is_letter_byte is_digit_byte kind_of goes_on_byte no_start one_start spell_id spell_token spell_piece tokens_in slash_next closes literal_byte stops rest run_of past_run strip literal_if next_literal word_if start_or token_or mark_or longer in_comment comment_or next_of next before after lex_steps lex left_side_of marked declared begun step run whole file_of laid parsed parse begins sides move width_of placed event_of events same_id is_known number_in enter entered left_side literal_use token_use start_use span_start span_end alternative alternatives_from source_of symbol_of production_of productions_of owned table_of places_of start_of unchanged nowhere undefined_use named_both_ways undefined_start misnamed too_many too_long room answer_of fitted_of counted_of named_of source_in parsed_of read_of
 texts_read = refl
@@ -60,16 +60,16 @@ pub texts_refused : map (λ (c : Call). read_of c.text c.table c.places) (
     record { text = (37 ∷ 37 ∷ 120 ∷ 58 ∷ 39 ∷ 97 ∷ 39 ∷ 59 ∷ []); table = (7 ∷ 7 ∷ 7 ∷ 7 ∷ 7 ∷ 7 ∷ 7 ∷ 7 ∷ 7 ∷ 7 ∷ 7 ∷ 7 ∷ 7 ∷ 7 ∷ 7 ∷ 7 ∷ 7 ∷ 7 ∷ 7 ∷ []); places = (9 ∷ 9 ∷ []) } ∷
     record { text = (37 ∷ 37 ∷ 120 ∷ 58 ∷ 39 ∷ 97 ∷ 39 ∷ 59 ∷ []); table = (7 ∷ 7 ∷ 7 ∷ 7 ∷ 7 ∷ 7 ∷ 7 ∷ 7 ∷ 7 ∷ 7 ∷ 7 ∷ 7 ∷ 7 ∷ 7 ∷ 7 ∷ 7 ∷ 7 ∷ 7 ∷ 7 ∷ 7 ∷ []); places = (9 ∷ []) } ∷
     []) ≡ (
-    record { answer = Refused 20 0; table = (7 ∷ 7 ∷ 7 ∷ 7 ∷ 7 ∷ 7 ∷ 7 ∷ 7 ∷ 7 ∷ 7 ∷ 7 ∷ 7 ∷ 7 ∷ 7 ∷ 7 ∷ 7 ∷ []); places = (9 ∷ 9 ∷ []) } ∷
-    record { answer = Refused 21 0; table = (7 ∷ 7 ∷ 7 ∷ 7 ∷ 7 ∷ 7 ∷ 7 ∷ 7 ∷ 7 ∷ 7 ∷ 7 ∷ 7 ∷ 7 ∷ 7 ∷ 7 ∷ 7 ∷ []); places = (9 ∷ 9 ∷ []) } ∷
-    record { answer = Refused 21 0; table = (7 ∷ 7 ∷ 7 ∷ 7 ∷ 7 ∷ 7 ∷ 7 ∷ 7 ∷ 7 ∷ 7 ∷ 7 ∷ 7 ∷ 7 ∷ 7 ∷ 7 ∷ 7 ∷ []); places = (9 ∷ 9 ∷ []) } ∷
-    record { answer = Refused 21 0; table = (7 ∷ 7 ∷ 7 ∷ 7 ∷ 7 ∷ 7 ∷ 7 ∷ 7 ∷ 7 ∷ 7 ∷ 7 ∷ 7 ∷ 7 ∷ 7 ∷ 7 ∷ 7 ∷ []); places = (9 ∷ 9 ∷ []) } ∷
-    record { answer = Refused 21 0; table = (7 ∷ 7 ∷ 7 ∷ 7 ∷ 7 ∷ 7 ∷ 7 ∷ 7 ∷ 7 ∷ 7 ∷ 7 ∷ 7 ∷ 7 ∷ 7 ∷ 7 ∷ 7 ∷ []); places = (9 ∷ 9 ∷ []) } ∷
-    record { answer = Refused 21 0; table = (7 ∷ 7 ∷ 7 ∷ 7 ∷ 7 ∷ 7 ∷ 7 ∷ 7 ∷ 7 ∷ 7 ∷ 7 ∷ 7 ∷ 7 ∷ 7 ∷ 7 ∷ 7 ∷ []); places = (9 ∷ 9 ∷ []) } ∷
-    record { answer = Refused 2 0; table = (7 ∷ 7 ∷ 7 ∷ 7 ∷ 7 ∷ 7 ∷ 7 ∷ 7 ∷ 7 ∷ 7 ∷ 7 ∷ 7 ∷ 7 ∷ 7 ∷ 7 ∷ 7 ∷ []); places = (9 ∷ 9 ∷ []) } ∷
-    record { answer = Refused 5 4; table = (7 ∷ 7 ∷ 7 ∷ 7 ∷ 7 ∷ 7 ∷ 7 ∷ 7 ∷ 7 ∷ 7 ∷ 7 ∷ 7 ∷ 7 ∷ 7 ∷ 7 ∷ 7 ∷ []); places = (9 ∷ 9 ∷ []) } ∷
-    record { answer = Refused 17 0; table = (7 ∷ 7 ∷ 7 ∷ 7 ∷ 7 ∷ 7 ∷ 7 ∷ 7 ∷ 7 ∷ 7 ∷ 7 ∷ 7 ∷ 7 ∷ 7 ∷ 7 ∷ 7 ∷ 7 ∷ 7 ∷ 7 ∷ []); places = (9 ∷ 9 ∷ []) } ∷
-    record { answer = Refused 17 0; table = (7 ∷ 7 ∷ 7 ∷ 7 ∷ 7 ∷ 7 ∷ 7 ∷ 7 ∷ 7 ∷ 7 ∷ 7 ∷ 7 ∷ 7 ∷ 7 ∷ 7 ∷ 7 ∷ 7 ∷ 7 ∷ 7 ∷ 7 ∷ []); places = (9 ∷ []) } ∷
+    record { answer = refused 20 0; table = (7 ∷ 7 ∷ 7 ∷ 7 ∷ 7 ∷ 7 ∷ 7 ∷ 7 ∷ 7 ∷ 7 ∷ 7 ∷ 7 ∷ 7 ∷ 7 ∷ 7 ∷ 7 ∷ []); places = (9 ∷ 9 ∷ []) } ∷
+    record { answer = refused 21 0; table = (7 ∷ 7 ∷ 7 ∷ 7 ∷ 7 ∷ 7 ∷ 7 ∷ 7 ∷ 7 ∷ 7 ∷ 7 ∷ 7 ∷ 7 ∷ 7 ∷ 7 ∷ 7 ∷ []); places = (9 ∷ 9 ∷ []) } ∷
+    record { answer = refused 21 0; table = (7 ∷ 7 ∷ 7 ∷ 7 ∷ 7 ∷ 7 ∷ 7 ∷ 7 ∷ 7 ∷ 7 ∷ 7 ∷ 7 ∷ 7 ∷ 7 ∷ 7 ∷ 7 ∷ []); places = (9 ∷ 9 ∷ []) } ∷
+    record { answer = refused 21 0; table = (7 ∷ 7 ∷ 7 ∷ 7 ∷ 7 ∷ 7 ∷ 7 ∷ 7 ∷ 7 ∷ 7 ∷ 7 ∷ 7 ∷ 7 ∷ 7 ∷ 7 ∷ 7 ∷ []); places = (9 ∷ 9 ∷ []) } ∷
+    record { answer = refused 21 0; table = (7 ∷ 7 ∷ 7 ∷ 7 ∷ 7 ∷ 7 ∷ 7 ∷ 7 ∷ 7 ∷ 7 ∷ 7 ∷ 7 ∷ 7 ∷ 7 ∷ 7 ∷ 7 ∷ []); places = (9 ∷ 9 ∷ []) } ∷
+    record { answer = refused 21 0; table = (7 ∷ 7 ∷ 7 ∷ 7 ∷ 7 ∷ 7 ∷ 7 ∷ 7 ∷ 7 ∷ 7 ∷ 7 ∷ 7 ∷ 7 ∷ 7 ∷ 7 ∷ 7 ∷ []); places = (9 ∷ 9 ∷ []) } ∷
+    record { answer = refused 2 0; table = (7 ∷ 7 ∷ 7 ∷ 7 ∷ 7 ∷ 7 ∷ 7 ∷ 7 ∷ 7 ∷ 7 ∷ 7 ∷ 7 ∷ 7 ∷ 7 ∷ 7 ∷ 7 ∷ []); places = (9 ∷ 9 ∷ []) } ∷
+    record { answer = refused 5 4; table = (7 ∷ 7 ∷ 7 ∷ 7 ∷ 7 ∷ 7 ∷ 7 ∷ 7 ∷ 7 ∷ 7 ∷ 7 ∷ 7 ∷ 7 ∷ 7 ∷ 7 ∷ 7 ∷ []); places = (9 ∷ 9 ∷ []) } ∷
+    record { answer = refused 17 0; table = (7 ∷ 7 ∷ 7 ∷ 7 ∷ 7 ∷ 7 ∷ 7 ∷ 7 ∷ 7 ∷ 7 ∷ 7 ∷ 7 ∷ 7 ∷ 7 ∷ 7 ∷ 7 ∷ 7 ∷ 7 ∷ 7 ∷ []); places = (9 ∷ 9 ∷ []) } ∷
+    record { answer = refused 17 0; table = (7 ∷ 7 ∷ 7 ∷ 7 ∷ 7 ∷ 7 ∷ 7 ∷ 7 ∷ 7 ∷ 7 ∷ 7 ∷ 7 ∷ 7 ∷ 7 ∷ 7 ∷ 7 ∷ 7 ∷ 7 ∷ 7 ∷ 7 ∷ []); places = (9 ∷ []) } ∷
     [])
 unfolding same_words in_front up_from below first? keep some? joined words head_of chain_from chains_from place_of size_of kind_of_symbol number_of states_at productions_at symbols_at items_place edges_at records_of owns record_or next_owned_from nonterminal_quad state_quad production_quad count_quad nonterminal_quads state_quads production_quads symbol_quads item_quads edge_quads quads spell is_white_byte is_letter_byte is_digit_byte kind_of goes_on_byte no_start one_start spell_id spell_token spell_piece tokens_in slash_next closes literal_byte stops rest run_of past_run strip literal_if next_literal word_if start_or token_or mark_or longer in_comment comment_or next_of next before after lex_steps lex left_side_of marked declared begun step run whole file_of laid parsed parse begins sides move width_of placed event_of events same_id is_known number_in enter entered left_side literal_use token_use start_use span_start span_end alternative alternatives_from source_of symbol_of production_of productions_of owned table_of places_of start_of unchanged nowhere undefined_use named_both_ways undefined_start misnamed too_many too_long room answer_of fitted_of counted_of named_of source_in parsed_of read_of
 texts_refused = refl

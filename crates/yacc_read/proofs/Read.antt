@@ -10,6 +10,7 @@ use lib.ListN.{length, take, drop}
 use lib.Seq.{take-append_seam}
 use borrow.Author.Tests.{leb-true}
 use Rattle.slices.specs.Lent.{in_front}
+use Rattle.repr.specs.Reply.{answered, refused}
 use Rattle.repr.specs.declared.NonterminalString.{NonterminalString}
 use Rattle.repr.proofs.Lists.{cases}
 use Rattle.table.specs.Checked.{Accepted}
@@ -23,10 +24,13 @@ use Rattle.yacc_text.proofs.Exact.{parse_sound}
 use Rattle.yacc_read.specs.Source.{Source}
 use Rattle.yacc_read.specs.Files.{bare_of, file_bares}
 use Rattle.yacc_read.specs.Meaning.{table_of, places_of}
-use Rattle.yacc_read.specs.Outcome.{Outcome, unchanged, misnamed, too_many, too_long, room, answer_of, fitted_of, counted_of, named_of, source_in, parsed_of, read_of}
-use Rattle.yacc_read.specs.declared.Reading.TheVariants.{Read, Refused}
+use Rattle.yacc_read.specs.Outcome.{Outcome, unchanged, misnamed, too_many, too_long, room, answer_of, fitted_of, counted_of, named_of, source_in, parsed_of, read_of, read_as}
+use Rattle.yacc_read.specs.declared.Reading.{Reading}
 use Rattle.yacc_read.proofs.Said.{read_alternatives, lefts_known, some-alternative}
 use Rattle.yacc_read.proofs.Fits.{Good, read_accepted, read-meaning}
+
+pub same_reading : (a b : Reading) → answered a ≡ answered b → a ≡ b
+same_reading a b e = cc
 
 -- a text that is read, and what is left
 pub record Reads (text table places ws vs : List ℕ) (n m : ℕ) (s : NonterminalString) : Type 0 where
@@ -35,18 +39,18 @@ pub record Reads (text table places ws vs : List ℕ) (n m : ℕ) (s : Nontermin
   pub parsed : parse text ≡ some layout
   pub good : Good (source_in layout.pieces)
   pub roomy : room (source_in layout.pieces) table places ≡ true
-  pub answered : answer_of (source_in layout.pieces) ≡ Read n m s
+  pub answered : answer_of (source_in layout.pieces) ≡ read_as n m s
   pub words : in_front (spell (table_of (source_in layout.pieces))) table ≡ ws
   pub listed : in_front (places_of (source_in layout.pieces)) places ≡ vs
 
 module _ (table places ws vs : List ℕ) (n m : ℕ) (s : NonterminalString) where
   abbrev Was : Outcome → Type 0
-  Was o = o ≡ record { answer = Read n m s; table = ws; places = vs }
+  Was o = o ≡ record { answer = read_as n m s; table = ws; places = vs }
 
   refusing : (k r : ℕ) → Was (unchanged k r table places) → ⊥
   unfolding unchanged
   refusing k r e =
-      let a : Refused k r ≡ Read n m s = ap (λ (o : Outcome). o.answer) e in
+      let a : refused k r ≡ read_as n m s = ap (λ (o : Outcome). o.answer) e in
       let z : ◌≡◌ {A = ℕ} 0 1 = cc in
       omega arith
 
@@ -103,12 +107,11 @@ pub read-front : (text table places ws vs : List ℕ) (n m : ℕ) (s : Nontermin
 unfolding in_front answer_of
 read-front text table places ws vs n m s R =
     let T = table_of (source_in R.layout.pieces) in
-    let a = R.answered in
-    let q : records_of T ≡ n = cc in
+    let q : records_of T ≡ n = ap (λ (a : Reading). a.records) (same_reading _ _ R.answered) in
     let l : length (spell T) ≡ n * 4 = spell-length T ∙ (let c : 4 * records_of T ≡ n * 4 = omega arith in c) in
     ap (take (n * 4)) (sym R.words) ∙ ap (λ (k : ℕ). take k (spell T ++ drop (length (spell T)) table)) (sym l) ∙ take-append_seam (spell T) (drop (length (spell T)) table)
 
-module _ (text table places ws vs : List ℕ) (n m : ℕ) (s : NonterminalString) (e : read_of text table places ≡ record { answer = Read n m s; table = ws; places = vs }) where
+module _ (text table places ws vs : List ℕ) (n m : ℕ) (s : NonterminalString) (e : read_of text table places ≡ record { answer = read_as n m s; table = ws; places = vs }) where
   pub was_read : Reads text table places ws vs n m s
   was_read = reads table places ws vs n m s text e
 

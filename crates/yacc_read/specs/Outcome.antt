@@ -3,6 +3,8 @@
 use Rattle.std.specs.Prelude.{ℕ, suc, ◌+◌, ◌/◌, Bool, true, false, ◌&&◌, ◌||◌, not, List, [], ◌∷◌, length, leb, ltb}
 use Rattle.std.proofs.Math.Option.{Option, none, some}
 use Rattle.slices.specs.Lent.{in_front}
+use Rattle.repr.specs.Reply.{Reply, answered, refused}
+use Rattle.repr.specs.declared.NonterminalString.{NonterminalString}
 use Rattle.repr.specs.Sizes.{nonterminal_limit, terminal_limit, production_limit, symbol_limit}
 use Rattle.repr.specs.Lists.{some?}
 use Rattle.spelling.specs.Spelled.{productions_at, records_of, spell}
@@ -14,17 +16,20 @@ use Rattle.yacc_read.specs.Events.{events}
 use Rattle.yacc_read.specs.Source.{is_known, Alternative, Source, source_of}
 use Rattle.yacc_read.specs.Meaning.{table_of, places_of, start_of}
 use Rattle.yacc_read.specs.declared.Reading.{Reading}
-use Rattle.yacc_read.specs.declared.Reading.TheVariants.{Read, Refused}
+
+-- records, places, start nonterminal
+abbrev pub read_as : ℕ → ℕ → NonterminalString → Reply Reading
+read_as n m s = answered (record { records = n; places = m; start = s })
 
 -- the answer, and every lent word after the call
 pub record Outcome : Type 0 where
-  pub answer : Reading
+  pub answer : Reply Reading
   pub table : List ℕ
   pub places : List ℕ
 
 -- a refusal and its place: nothing changes
 unfoldable pub unchanged : ℕ → ℕ → List ℕ → List ℕ → Outcome
-unchanged n r table places = record { answer = Refused n r; table = table; places = places }
+unchanged n r table places = record { answer = refused n r; table = table; places = places }
 
 -- 21: an id of a body that is on no left side and no token; a left side that is a token; a START id on no left side
 unfoldable pub nowhere : Source → Id → Bool
@@ -55,8 +60,8 @@ too_long p (a ∷ xs) = elim (ltb symbol_limit (length a.ids)) [ true ↦ some p
 unfoldable pub room : Source → List ℕ → List ℕ → Bool
 room S table places = leb (records_of (table_of S)) (length table / 4) && leb (length (places_of S)) (length places)
 
-unfoldable pub answer_of : Source → Reading
-answer_of S = Read (records_of (table_of S)) (length (places_of S)) (record { 0 = start_of S.nonterminals S.starts })
+unfoldable pub answer_of : Source → Reply Reading
+answer_of S = read_as (records_of (table_of S)) (length (places_of S)) (record { 0 = start_of S.nonterminals S.starts })
 
 unfoldable pub fitted_of : Source → List ℕ → List ℕ → Option ℕ → Outcome
 fitted_of S table places (some p) = unchanged 5 (productions_at (table_of S) + p) table places

@@ -4,9 +4,10 @@
 
 use repr::NonterminalString;
 
-// Records written, places written, the start nonterminal; or the refusal and its place.
+// Records written, places written, the start nonterminal.
 #[derive(Clone, Copy)]
-pub enum Reading {
-    Read(u16, u16, NonterminalString),
-    Refused(u16, u16),
+pub struct Reading {
+    pub records: u16,
+    pub places: u16,
+    pub start: NonterminalString,
 }

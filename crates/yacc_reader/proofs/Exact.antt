@@ -6,6 +6,7 @@ use mathlib.Core.List.{List}
 use mathlib.Core.Option.{Option, none, some}
 use lib.ListN.{length}
 use lib.Dec.{leb}
+use Rattle.repr.specs.Reply.{Reply, answered, refused}
 use Rattle.repr.specs.declared.NonterminalString.{NonterminalString}
 use Rattle.repr.proofs.Lists.{cases, clash}
 use Rattle.spelling.specs.Spelled.{productions_at}
@@ -14,9 +15,8 @@ use Rattle.yacc_text.specs.Parse.{parse}
 use Rattle.yacc_text.proofs.Exact.{parse_sound, text_parsed}
 use Rattle.yacc_read.specs.Source.{Source}
 use Rattle.yacc_read.specs.Meaning.{table_of}
-use Rattle.yacc_read.specs.Outcome.{Outcome, unchanged, misnamed, too_many, too_long, room, answer_of, fitted_of, counted_of, named_of, source_in, parsed_of, read_of}
+use Rattle.yacc_read.specs.Outcome.{Outcome, unchanged, misnamed, too_many, too_long, room, answer_of, fitted_of, counted_of, named_of, source_in, parsed_of, read_of, read_as}
 use Rattle.yacc_read.specs.declared.Reading.{Reading}
-use Rattle.yacc_read.specs.declared.Reading.TheVariants.{Read, Refused}
 use Rattle.yacc_read.proofs.Said.{read_alternatives}
 use Rattle.yacc_read.proofs.Fits.{read_accepted, read-meaning, read_spelling}
 use Rattle.yacc_read.proofs.Read.{was_read}
@@ -56,7 +56,7 @@ module _ (table places : List ℕ) where
   read_quiet t = cases (leb (length t) text_limit) (λ y. rw (y, read_of) (parsed_quiet (parse t))) (λ n. rw (n, read_of) (quiet 20 0))
 
 module _ (t table places : List ℕ) (b : Bytes t) where
-  read_legible : (n m : ℕ) (s : NonterminalString) (ws vs : List ℕ) → read_of t table places ≡ record { answer = Read n m s; table = ws; places = vs } → Legible t table places
+  read_legible : (n m : ℕ) (s : NonterminalString) (ws vs : List ℕ) → read_of t table places ≡ record { answer = read_as n m s; table = ws; places = vs } → Legible t table places
   read_legible n m s ws vs e =
       let R = was_read t table places ws vs n m s e in
       let P = parse_sound t R.layout R.parsed in
@@ -65,10 +65,10 @@ module _ (t table places : List ℕ) (b : Bytes t) where
         passes = record { named = R.good.named; few = R.good.few; short = R.good.short; roomy = R.roomy };
       }
 
-  only_legible : (a : Reading) → (read_of t table places).answer ≡ a → is_read a ≡ true → Legible t table places
+  only_legible : (a : Reply Reading) → (read_of t table places).answer ≡ a → is_read a ≡ true → Legible t table places
   unfolding is_read
-  only_legible (Read n m s) e y = read_legible n m s (read_of t table places).table (read_of t table places).places (ap (λ (a : Reading). record { answer = a; table = (read_of t table places).table; places = (read_of t table places).places }) e)
-  only_legible (Refused n r) e y = clash false y refl
+  only_legible (answered r) e y = read_legible r.records r.places r.start (read_of t table places).table (read_of t table places).places (ap (λ (a : Reply Reading). record { answer = a; table = (read_of t table places).table; places = (read_of t table places).places }) e)
+  only_legible (refused n r) e y = clash false y refl
 
   all_leave : (G : Legible t table places) → Leaves t table places G (read_of t table places)
   all_leave G =

@@ -9,23 +9,24 @@ use lib.ListN.{length, get_or, replicate, length-replicate}
 use lib.Dec.{leb}
 use borrow.Author.Tests.{leb-true, le-leb, lt-leb}
 use Rattle.slices.specs.Lent.{in_front}
+use Rattle.repr.specs.declared.refusals.Refusal.{Refusal}
+use Rattle.repr.specs.Reply.{Reply, answered, refused, reply_of, number_of, place_of}
 use Rattle.repr.specs.Meaning.{no_state, TableFits}
 use Rattle.repr.specs.declared.ProductionIndex.{ProductionIndex}
 use Rattle.repr.proofs.Lists.{cases, clash, length_mapped}
 use Rattle.repr.proofs.Listed.{and_left, and_right}
 use Rattle.spelling.specs.Spelled.{records_of, spell}
 use Rattle.grammar_records.specs.Target.{PackedAs}
-use Rattle.augment.specs.Started.{started_in, GrammarOf, Outcome as Alone}
+use Rattle.augment.specs.Started.{started_as, started_in, GrammarOf, Outcome as Alone}
 use Rattle.augment.specs.declared.Started.{Started}
-use Rattle.augment.specs.declared.Started.TheVariants.{Production, Refused as Unwritten}
+use Rattle.augment.proofs.Exact.{same_started}
 use Rattle.yacc_text.specs.Grammar.{Id, Layout, text_limit, byte_limit}
 use Rattle.yacc_text.specs.Parse.{parse}
 use Rattle.yacc_text.proofs.Exact.{parse_sound}
 use Rattle.yacc_tokens.specs.Accepted.{is_grammar_text}
 use Rattle.yacc_read.specs.Source.{same_id, Known, number_in, Source}
 use Rattle.yacc_read.specs.Meaning.{production_of, productions_of, table_of, places_of, start_of}
-use Rattle.yacc_read.specs.Outcome.{Outcome, unchanged, misnamed, room, answer_of, fitted_of, counted_of, named_of, source_in, parsed_of, read_of}
-use Rattle.yacc_read.specs.declared.Reading.TheVariants.{Read, Refused}
+use Rattle.yacc_read.specs.Outcome.{Outcome, unchanged, misnamed, room, answer_of, fitted_of, counted_of, named_of, source_in, parsed_of, read_of, read_as}
 use Rattle.yacc_read.proofs.Known.{number_here, number_there}
 use Rattle.yacc_read.proofs.Said.{lefts_known, some-alternative}
 use Rattle.yacc_read.proofs.Fits.{Good, count_nonterminals, table_fits}
@@ -33,14 +34,13 @@ use Rattle.yacc_read.proofs.Read.{was_read}
 use Rattle.yacc_count.specs.Counted.{counts_in}
 use Rattle.yacc_count.specs.declared.Counts.{Counts}
 use Rattle.yacc_count.proofs.Limits.{counts_whole, places_long, written_of}
-use Rattle.std.proofs.Common.{Option as Answer, Some, None}
+use Rattle.std.specs.Prelude.{Result, Ok, Err}
 use Rattle.yacc_limits.specs.Limited.{Meant, limited_of}
-use Rattle.yacc_limits.specs.declared.Limit.{Limit}
 use Rattle.yacc_names.specs.Names.{bucket_limit}
 use Rattle.yacc_enter.specs.declared.Ids.{Ids}
 use Rattle.yacc_enter.specs.Ids.{Named, Fresh}
 use Rattle.yacc_productions.specs.Readable.{Readable}
-use Rattle.yacc_reader.specs.Passed.{Passes, records_in}
+use Rattle.yacc_reader.specs.Passed.{Passes}
 
 -- a text of the grammar has a layout
 module _ (t : List ℕ) where
@@ -68,7 +68,7 @@ module _ (t : List ℕ) where
 
 -- `read_yacc`
 module _ (t table places : List ℕ) where
-  pub read_long : text_limit < length t → record { answer = Refused 20 0; table = table; places = places } ≡ read_of t table places
+  pub read_long : text_limit < length t → record { answer = refused 20 0; table = table; places = places } ≡ read_of t table places
   unfolding read_of unchanged
   read_long h = sym (rw (lt-leb (length t) text_limit h, read_of))
 
@@ -77,7 +77,7 @@ module _ (t table places : List ℕ) where
     unfolding read_of
     read_short = rw (le-leb (length t) text_limit h, read_of)
 
-    pub read-outside : is_grammar_text t ≡ false → record { answer = Refused 20 0; table = table; places = places } ≡ read_of t table places
+    pub read-outside : is_grammar_text t ≡ false → record { answer = refused 20 0; table = table; places = places } ≡ read_of t table places
     unfolding parsed_of unchanged
     read-outside g = sym (read_short ∙ ap (λ (o : Option Layout). parsed_of o table places) (no_layout t g))
 
@@ -101,7 +101,7 @@ module _ (t table places : List ℕ) where
 
 -- `read_named`
 module _ (S : Source) (table places : List ℕ) where
-  pub named-bad : true ≡ misnamed S → record { answer = Refused 21 0; table = table; places = places } ≡ named_of S table places
+  pub named-bad : true ≡ misnamed S → record { answer = refused 21 0; table = table; places = places } ≡ named_of S table places
   unfolding named_of unchanged
   named-bad e = sym (rw (← e, named_of))
 
@@ -122,16 +122,16 @@ module _ (t starts pasts ix lefts tokens : List ℕ) (ids : Ids) (N : Named t st
   pub meant_some : is_grammar_text t ≡ true → Meant ids.nonterminals ids.terminals c
   meant_some g = let k = layout_of t g in meant_at k.0 k.1
 
-  pub limit_at : (r : Answer Limit) (table places : List ℕ) → ((w : Meant ids.nonterminals ids.terminals c) → counted_of w.source table places ≡ limited_of w.source r table places) → (l : Layout) → parse t ≡ some l → counted_of (source_in l.pieces) table places ≡ limited_of (source_in l.pieces) r table places
+  pub limit_at : (r : Reply (Unit {0})) (table places : List ℕ) → ((w : Meant ids.nonterminals ids.terminals c) → counted_of w.source table places ≡ limited_of w.source r table places) → (l : Layout) → parse t ≡ some l → counted_of (source_in l.pieces) table places ≡ limited_of (source_in l.pieces) r table places
   unfolding meant_at
   limit_at r table places f l p = f (meant_at l p)
 
 module _ (S : Source) (table places : List ℕ) where
-  pub limit_refused : (r : Limit) → record { answer = Refused r.number r.place; table = table; places = places } ≡ limited_of S (Some r) table places
+  pub limit_refused : (n r : ℕ) → record { answer = refused n r; table = table; places = places } ≡ limited_of S (refused n r) table places
   unfolding limited_of unchanged
-  limit_refused r = refl
+  limit_refused n r = refl
 
-  pub limit_written : limited_of S None table places ≡ written_of S table places
+  pub limit_written : limited_of S (answered tt) table places ≡ written_of S table places
   unfolding limited_of
   limit_written = refl
 
@@ -159,15 +159,6 @@ fresh_zeros t h a b c d e ha hb hc hd he =
       no_left = λ i. zero_at d i;
       no_token = λ i. zero_at e i;
     }
-
--- `records_of`
-pub records-written : (s : Started) (n : ℕ) (p : ProductionIndex) → s ≡ Production n p → n ≡ records_in s
-unfolding records_in
-records-written s n p e = sym (ap records_in e)
-
-pub records-none : (s : Started) (n r : ℕ) → s ≡ Unwritten n r → 0 ≡ records_in s
-unfolding records_in
-records-none s n r e = sym (ap records_in e)
 
 -- the number of an id is at most how many are known
 number_most : (ks : List Known) (x : Id) → number_in ks x ≤ length ks
@@ -267,12 +258,24 @@ module _ (t : List ℕ) (l : Layout) (p : parse t ≡ some l) (table places : Li
       let f = fits_in.few_nonterminals in
       omega (arith, e, m, n, f)
 
-  pub written : (records start : ℕ) (g : Started) (table' places' : List ℕ) → record { answer = g; out = table' } ≡ started_in (table_of said) 0 table → records ≡ records_in g → places' ≡ in_front (places_of said) places → start ≡ start_of said.nonterminals said.starts
-      → record { answer = Read records (ids.nonterminals + ids.terminals) (record { 0 = start }); table = table'; places = places' } ≡ counted_of said table places
-  unfolding started_in records_in answer_of
-  written records start g table' places' e er ep es =
-      let w : ◌≡◌ {A = Alone} (record { answer = g; out = table' }) (record { answer = Production (records_of (table_of said)) (record { 0 = 0 }); out = in_front (spell (table_of said)) table }) = e ∙ rw (room_table said table places P, started_in) in
-      let a : records ≡ records_of (table_of said) = er ∙ ap (λ (o : Alone). records_in o.answer) w in
-      let b : table' ≡ in_front (spell (table_of said)) table = ap (λ (o : Alone). o.out) w in
-      let s : ids.nonterminals + ids.terminals ≡ length (places_of said) = (let x = lefts_are in let y = tokens_are in let z = places_long said in omega (arith, x, y, z)) in
-      rw (a, b, s, ep, es) (sym (counted-passes said table places P))
+  -- what was written of it
+  module _ (g : Reply Started) (table' : List ℕ) (e : record { answer = g; out = table' } ≡ started_in (table_of said) 0 table) where
+    whole : ◌≡◌ {A = Alone} (record { answer = g; out = table' }) (record { answer = started_as (records_of (table_of said)) (record { 0 = 0 }); out = in_front (spell (table_of said)) table })
+    unfolding started_in
+    whole = e ∙ rw (room_table said table places P, started_in)
+
+    -- there is room
+    pub has_room : (n r : ℕ) → g ≡ refused n r → ⊥
+    has_room n r h =
+        let a : refused n r ≡ started_as (records_of (table_of said)) (record { 0 = 0 }) = sym h ∙ ap (λ (o : Alone). o.answer) whole in
+        let z : ◌≡◌ {A = ℕ} 0 1 = cc in
+        omega arith
+
+    pub written : (s : Started) (start : ℕ) (places' : List ℕ) → g ≡ answered s → places' ≡ in_front (places_of said) places → start ≡ start_of said.nonterminals said.starts
+        → record { answer = read_as s.records (ids.nonterminals + ids.terminals) (record { 0 = start }); table = table'; places = places' } ≡ counted_of said table places
+    unfolding answer_of
+    written s start places' h ep es =
+        let a : s.records ≡ records_of (table_of said) = ap (λ (k : Started). k.records) (same_started _ _ (sym h ∙ ap (λ (o : Alone). o.answer) whole)) in
+        let b : table' ≡ in_front (spell (table_of said)) table = ap (λ (o : Alone). o.out) whole in
+        let c : ids.nonterminals + ids.terminals ≡ length (places_of said) = (let x = lefts_are in let y = tokens_are in let z = places_long said in omega (arith, x, y, z)) in
+        rw (a, b, c, ep, es) (sym (counted-passes said table places P))

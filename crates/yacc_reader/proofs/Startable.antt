@@ -2,7 +2,7 @@
 use Prim.Native.Nat.{ℕ, ◌*◌, ◌/◌, ◌≤◌, ◌<◌}
 use native.Mathlib.Omega.{arith}
 use mathlib.Core.Bool.{Bool, true, false, ◌||◌, not}
-use mathlib.Core.Path.{◌≡◌, refl, sym, ◌∙◌, subst}
+use mathlib.Core.Path.{◌≡◌, refl, sym, ap, ◌∙◌, subst}
 use mathlib.Core.List.{List, [], ◌∷◌}
 use lib.ListN.{length, take}
 use borrow.Author.Tests.{leb-true}
@@ -17,11 +17,11 @@ use Rattle.augment.specs.Started.{Startable}
 use Rattle.yacc_text.specs.Grammar.{Id}
 use Rattle.yacc_read.specs.Source.{Known, is_known, Alternative, Source}
 use Rattle.yacc_read.specs.Meaning.{table_of, start_of}
-use Rattle.yacc_read.specs.Outcome.{undefined_use, named_both_ways, undefined_start, misnamed, room, answer_of, source_in, read_of}
-use Rattle.yacc_read.specs.declared.Reading.TheVariants.{Read}
+use Rattle.yacc_read.specs.Outcome.{undefined_use, named_both_ways, undefined_start, misnamed, room, answer_of, source_in, read_of, read_as}
+use Rattle.yacc_read.specs.declared.Reading.{Reading}
 use Rattle.yacc_read.proofs.Known.{number-below}
 use Rattle.yacc_read.proofs.Fits.{Good, count_nonterminals}
-use Rattle.yacc_read.proofs.Read.{was_read, front-meaning}
+use Rattle.yacc_read.proofs.Read.{same_reading, was_read, front-meaning}
 
 either : (a b : Bool) → (a || b) ≡ false → (a ≡ false) × (b ≡ false)
 either true b e = let o : ◌≡◌ {A = ℕ} 0 1 = cc in absurd (omega arith)
@@ -45,25 +45,24 @@ start-inside : (S : Source) → Good S → start_of S.nonterminals S.starts < le
 unfolding misnamed undefined_start
 start-inside S G = by_starts S.nonterminals S.starts (some_left S.nonterminals S.alternatives G.some_one G.lefts) (either (named_both_ways S) (undefined_start S) (either (undefined_use S) _ G.named).1).1
 
-startable : (S : Source) → Good S → (n m : ℕ) (s : NonterminalString) → answer_of S ≡ Read n m s → Startable (table_of S) s.0
+startable : (S : Source) → Good S → (n m : ℕ) (s : NonterminalString) → answer_of S ≡ read_as n m s → Startable (table_of S) s.0
 unfolding table_of answer_of
 startable S G n m s e =
-    let q : start_of S.nonterminals S.starts ≡ s.0 = cc in
+    let q : start_of S.nonterminals S.starts ≡ s.0 = ap (λ (a : Reading). a.start.0) (same_reading _ _ e) in
     let i = start-inside S G in
     let c = count_nonterminals S in
     record { alone = refl; inside = omega (arith, q, i, c) }
 
-pub read_startable : (text table places ws vs : List ℕ) (n m : ℕ) (s : NonterminalString) → read_of text table places ≡ record { answer = Read n m s; table = ws; places = vs } → Startable (meaning (take (n * 4) ws)) s.0
+pub read_startable : (text table places ws vs : List ℕ) (n m : ℕ) (s : NonterminalString) → read_of text table places ≡ record { answer = read_as n m s; table = ws; places = vs } → Startable (meaning (take (n * 4) ws)) s.0
 read_startable text table places ws vs n m s e =
     let R = was_read text table places ws vs n m s e in
     subst (λ (T : Table). Startable T s.0) (sym (front-meaning text table places ws vs n m s e)) (startable (source_in R.layout.pieces) R.good n m s R.answered)
 
-pub read_fits : (text table places ws vs : List ℕ) (n m : ℕ) (s : NonterminalString) → read_of text table places ≡ record { answer = Read n m s; table = ws; places = vs } → n * 4 ≤ length table
+pub read_fits : (text table places ws vs : List ℕ) (n m : ℕ) (s : NonterminalString) → read_of text table places ≡ record { answer = read_as n m s; table = ws; places = vs } → n * 4 ≤ length table
 unfolding room answer_of
 read_fits text table places ws vs n m s e =
     let R = was_read text table places ws vs n m s e in
     let T = table_of (source_in R.layout.pieces) in
-    let a = R.answered in
-    let q : records_of T ≡ n = cc in
+    let q : records_of T ≡ n = ap (λ (a : Reading). a.records) (same_reading _ _ R.answered) in
     let l = leb-true (records_of T) (length table / 4) (and-true _ _ R.roomy).0 in
     omega (arith, q, l)

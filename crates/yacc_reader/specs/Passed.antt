@@ -1,8 +1,6 @@
 -- A text that nothing refuses. Assumes nothing: these are definitions.
 use Rattle.std.specs.Prelude.{ℕ, true, false, ◌≡◌, List}
 use Rattle.std.proofs.Math.Option.{none}
-use Rattle.augment.specs.declared.Started.{Started}
-use Rattle.augment.specs.declared.Started.TheVariants.{Production, Refused}
 use Rattle.yacc_read.specs.Source.{Source}
 use Rattle.yacc_read.specs.Outcome.{misnamed, too_many, too_long, room}
 
@@ -12,8 +10,3 @@ pub record Passes (S : Source) (table places : List ℕ) : Type 0 where
   pub few : too_many S ≡ false
   pub short : too_long 0 S.alternatives ≡ none
   pub roomy : room S table places ≡ true
-
--- the records that a grammar alone was written in
-unfoldable pub records_in : Started → ℕ
-records_in (Production n p) = n
-records_in (Refused n r) = 0

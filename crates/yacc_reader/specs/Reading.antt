@@ -1,6 +1,7 @@
 -- Which texts are read, and what is left of them, at the call (Req 09). Assumes nothing: these are definitions.
 use Rattle.std.specs.Prelude.{ℕ, ◌<◌, Bool, true, false, ◌≡◌, List, map, length, get_or}
 use Rattle.slices.specs.Lent.{in_front}
+use Rattle.repr.specs.Reply.{Reply, answered, refused}
 use Rattle.table.specs.Checked.{Accepted}
 use Rattle.table.specs.Decoded.{meaning}
 use Rattle.table.specs.Refusals.{check_of}
@@ -11,12 +12,11 @@ use Rattle.yacc_read.specs.Files.{bare_of, file_bares}
 use Rattle.yacc_read.specs.Meaning.{table_of, places_of}
 use Rattle.yacc_read.specs.Outcome.{Outcome, answer_of, source_in}
 use Rattle.yacc_read.specs.declared.Reading.{Reading}
-use Rattle.yacc_read.specs.declared.Reading.TheVariants.{Read, Refused}
 use Rattle.yacc_reader.specs.Passed.{Passes}
 
-unfoldable pub is_read : Reading → Bool
-is_read (Read n m s) = true
-is_read (Refused n r) = false
+unfoldable pub is_read : Reply Reading → Bool
+is_read (answered r) = true
+is_read (refused n r) = false
 
 -- words that are bytes, as a text's are
 abbrev pub Bytes : List ℕ → Type 0

@@ -4,6 +4,7 @@
 
 ghost use Rattle.std.specs.Prelude.{true, false, ◌≡◌, ◌≤◌, length};
 ghost use Rattle.std.proofs.Math.Option.{some};
+ghost use Rattle.repr.specs.Reply.{reply_of};
 ghost use Rattle.yacc_text.specs.Grammar.{Layout, text_limit};
 ghost use Rattle.yacc_text.specs.Parse.{parse};
 ghost use Rattle.yacc_text.specs.Forward.{top};
@@ -11,35 +12,29 @@ ghost use Rattle.yacc_text.specs.Places.{placed};
 ghost use Rattle.yacc_tokens.specs.Accepted.{is_grammar_text};
 ghost use Rattle.yacc_read.specs.Outcome.{source_in, misnamed, counted_of, named_of, read_of};
 ghost use Rattle.yacc_misnamed.specs.Fault.{fault_from};
-ghost use Rattle.yacc_reader.specs.Passed.{Passes, records_in};
+ghost use Rattle.yacc_reader.specs.Passed.{Passes};
 
-use augment::{Started, write_started};
-use repr::{NonterminalString, ProductionIndex};
+use augment::write_started;
+use repr::{NonterminalString, ProductionIndex, Refusal};
 use table::Counts;
 use yacc_count::count;
-use yacc_enter::{Ids, SymbolTable, enter_all};
-use yacc_limits::refusal;
+use yacc_enter::{Ids, SymbolTable, Words};
+use yacc_limits::check_counts;
 use yacc_misnamed::{fault_place, is_misnamed};
 use yacc_places::{start_of, write_places};
 use yacc_productions::pack;
 use yacc_read::Reading;
 use yacc_tokens::is_grammar;
 
-// The records of a grammar that was written.
-fn records_of(started: Started) -> u16
-    ensures { result ≡ records_in started }
-{
-    match started {
-        Started::Production(records, _production) => records,
-        Started::Refused(_refusal, _place) => 0,
-    }
-}
-
 // Writes the table and the places of a text that nothing refuses, whose ids are entered.
-fn write_read(symbols: &SymbolTable, table: &mut [u16], places: &mut [u16]) -> Reading
+fn write_read(
+    symbols: &SymbolTable,
+    table: &mut [u16],
+    places: &mut [u16],
+) -> Result<Reading, Refusal>
     requires text_len_bound { length symbols.now.text.now ≤ text_limit }
     requires passes { (l : Layout) → parse symbols.now.text.now ≡ some l → Passes (source_in l.pieces) table.old places.old }
-    ensures { (l : Layout) → parse symbols.now.text.now ≡ some l → record { answer = result; table = table.new; places = places.new } ≡ counted_of (source_in l.pieces) table.old places.old }
+    ensures { (l : Layout) → parse symbols.now.text.now ≡ some l → record { answer = reply_of result; table = table.new; places = places.new } ≡ counted_of (source_in l.pieces) table.old places.old }
 {
     let mut grammar = [0u16; ProductionIndex::ALL_WORDS];
     let productions = pack(symbols, &mut grammar);
@@ -49,80 +44,127 @@ fn write_read(symbols: &SymbolTable, table: &mut [u16], places: &mut [u16]) -> R
         states: 1,
         productions: productions,
     };
-    let records = records_of(write_started(&grammar, counts, 0, table));
+    let started = write_started(&grammar, counts, 0, table)?;
     write_places(symbols, places);
     let start = start_of(symbols);
     let listed = symbols.counts.nonterminals + symbols.counts.terminals;
-    Reading::Read(records, listed as u16, NonterminalString(start as u16))
+    Ok(Reading {
+        records: started.records,
+        places: listed as u16,
+        start: NonterminalString(start as u16),
+    })
 }
 
 // Reads a text that is named well, whose ids are entered: 2, 5 and 17.
-fn read_counted(symbols: &SymbolTable, table: &mut [u16], places: &mut [u16]) -> Reading
+fn read_counted(
+    symbols: &SymbolTable,
+    table: &mut [u16],
+    places: &mut [u16],
+) -> Result<Reading, Refusal>
     requires text_len_bound { length symbols.now.text.now ≤ text_limit }
     requires pieces_value { (l : Layout) → parse symbols.now.text.now ≡ some l → misnamed (source_in l.pieces) ≡ false }
-    ensures { (l : Layout) → parse symbols.now.text.now ≡ some l → record { answer = result; table = table.new; places = places.new } ≡ counted_of (source_in l.pieces) table.old places.old }
+    ensures { (l : Layout) → parse symbols.now.text.now ≡ some l → record { answer = reply_of result; table = table.new; places = places.new } ≡ counted_of (source_in l.pieces) table.old places.old }
 {
     let counts = count(symbols.text);
     let nonterminals = symbols.counts.nonterminals;
     let terminals = symbols.counts.terminals;
-    match refusal(nonterminals, terminals, counts, table, places) {
-        Some(limit) => Reading::Refused(limit.number, limit.place),
-        None => write_read(symbols, table, places),
-    }
+    check_counts(nonterminals, terminals, counts, table, places)?;
+    write_read(symbols, table, places)
 }
 
 // Reads a text of the grammar whose ids are entered: 21, then the others.
-fn read_named(symbols: &SymbolTable, table: &mut [u16], places: &mut [u16]) -> Reading
+fn read_named(
+    symbols: &SymbolTable,
+    table: &mut [u16],
+    places: &mut [u16],
+) -> Result<Reading, Refusal>
     requires text_len_bound { length symbols.now.text.now ≤ text_limit }
-    ensures { (l : Layout) → parse symbols.now.text.now ≡ some l → record { answer = result; table = table.new; places = places.new } ≡ named_of (source_in l.pieces) table.old places.old }
+    ensures { (l : Layout) → parse symbols.now.text.now ≡ some l → record { answer = reply_of result; table = table.new; places = places.new } ≡ named_of (source_in l.pieces) table.old places.old }
 {
     if is_misnamed(symbols) {
-        return Reading::Refused(21, 0);
+        return Err(Refusal::Misnamed);
     }
     read_counted(symbols, table, places)
 }
 
-// Reads a text of the grammar: a word of each array is room for a name, of which there are fewer than bytes.
-fn read_in(text: &[u8], table: &mut [u16], places: &mut [u16]) -> Reading
+// Words for the ids of any text: it has fewer names than bytes.
+#[derive(Drop)]
+struct Room {
+    starts: [u16; Ids::NAMES],
+    pasts: [u16; Ids::NAMES],
+    ix: [u16; Ids::INDEX_WORDS],
+    lefts: [u16; Ids::NAMES],
+    tokens: [u16; Ids::TOKEN_WORDS],
+}
+
+impl Room {
+    ghost use Rattle.yacc_reader.specs.Room.{IsFresh};
+
+    fn new() -> Room
+        ensures { IsFresh result }
+    {
+        Room {
+            starts: [0; Ids::NAMES],
+            pasts: [0; Ids::NAMES],
+            ix: [0; Ids::INDEX_WORDS],
+            lefts: [0; Ids::NAMES],
+            tokens: [0; Ids::TOKEN_WORDS],
+        }
+    }
+
+    // The ids of a text of the grammar, entered.
+    fn enter<'a>(&'a mut self, text: &'a [u8]) -> SymbolTable<'a>
+        requires fresh { IsFresh self.old }
+        requires text { (length text.now ≤ text_limit) × (is_grammar_text text.now ≡ true) }
+        ensures { result.text.now ≡ text.now }
+    {
+        let Room {
+            starts,
+            pasts,
+            ix,
+            lefts,
+            tokens,
+        } = self;
+        let words = Words {
+            starts: starts,
+            pasts: pasts,
+            ix: ix,
+            lefts: lefts,
+            tokens: tokens,
+        };
+        SymbolTable::enter(text, words)
+    }
+}
+
+// Reads a text of the grammar.
+fn read_in(
+    text: &[u8],
+    table: &mut [u16],
+    places: &mut [u16],
+) -> Result<Reading, Refusal>
     requires { (length text.now ≤ text_limit) × (is_grammar_text text.now ≡ true) }
-    ensures { (l : Layout) → parse text.now ≡ some l → record { answer = result; table = table.new; places = places.new } ≡ named_of (source_in l.pieces) table.old places.old }
+    ensures { (l : Layout) → parse text.now ≡ some l → record { answer = reply_of result; table = table.new; places = places.new } ≡ named_of (source_in l.pieces) table.old places.old }
 {
-    let mut starts = [0u16; Ids::NAMES];
-    let mut pasts = [0u16; Ids::NAMES];
-    let mut ix = [0u16; Ids::INDEX_WORDS];
-    let mut lefts = [0u16; Ids::NAMES];
-    let mut tokens = [0u16; Ids::TOKEN_WORDS];
-    let counts = enter_all(
-        text,
-        &mut starts,
-        &mut pasts,
-        &mut ix,
-        &mut lefts,
-        &mut tokens,
-    );
-    let symbols = SymbolTable {
-        text: text,
-        starts: &starts,
-        pasts: &pasts,
-        ix: &ix,
-        lefts: &lefts,
-        tokens: &tokens,
-        counts: counts,
-    };
+    let mut room = Room::new();
+    let symbols = room.enter(text);
     read_named(&symbols, table, places)
 }
 
 // Reads a yacc text into a table with one empty state: the table at the front of `table`, the places at the front of `places`. Refusals 20, 21, 2, 5, 17 in this order; they change nothing.
-pub fn read_yacc(text: &[u8], table: &mut [u16], places: &mut [u16]) -> Reading
-    ensures { record { answer = result; table = table.new; places = places.new } ≡ read_of text.now table.old places.old }
+pub fn read_yacc(
+    text: &[u8],
+    table: &mut [u16],
+    places: &mut [u16],
+) -> Result<Reading, Refusal>
+    ensures { record { answer = reply_of result; table = table.new; places = places.new } ≡ read_of text.now table.old places.old }
 {
     if text.len() > 65535 {
-        return Reading::Refused(20, 0);
+        return Err(Refusal::NoText);
     }
     if is_grammar(text) {
         return read_in(text, table, places);
     }
-    Reading::Refused(20, 0)
+    Err(Refusal::NoText)
 }
 
 // Where a text of the grammar is at fault.
@@ -130,28 +172,8 @@ fn fault_in(text: &[u8]) -> usize
     requires { (length text.now ≤ text_limit) × (is_grammar_text text.now ≡ true) }
     ensures { (result ≤ length text.now) × ((l : Layout) → parse text.now ≡ some l → misnamed (source_in l.pieces) ≡ true → fault_from (source_in l.pieces) (top false) (placed 0 l.pieces) ≡ some result) }
 {
-    let mut starts = [0u16; Ids::NAMES];
-    let mut pasts = [0u16; Ids::NAMES];
-    let mut ix = [0u16; Ids::INDEX_WORDS];
-    let mut lefts = [0u16; Ids::NAMES];
-    let mut tokens = [0u16; Ids::TOKEN_WORDS];
-    let counts = enter_all(
-        text,
-        &mut starts,
-        &mut pasts,
-        &mut ix,
-        &mut lefts,
-        &mut tokens,
-    );
-    let symbols = SymbolTable {
-        text: text,
-        starts: &starts,
-        pasts: &pasts,
-        ix: &ix,
-        lefts: &lefts,
-        tokens: &tokens,
-        counts: counts,
-    };
+    let mut room = Room::new();
+    let symbols = room.enter(text);
     fault_place(&symbols)
 }
 

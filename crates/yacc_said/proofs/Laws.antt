@@ -1,7 +1,7 @@
 -- What a word says is its event; the turns of a loop over the tokens; what a text says whole. Assumes nothing.
 use Prim.Native.Nat.{ℕ}
-use mathlib.Core.Bool.{false}
-use mathlib.Core.Path.{◌≡◌, refl, sym, ap, ◌∙◌}
+use mathlib.Core.Bool.{true, false}
+use mathlib.Core.Path.{◌≡◌, refl, sym, ap, ◌∙◌, subst}
 use mathlib.Core.List.{List, [], ◌++◌}
 use mathlib.Core.Option.{Option, none, some}
 use Rattle.yacc_text.specs.Grammar.{Token, Piece, Layout, File, tokens_in}
@@ -14,7 +14,12 @@ use Rattle.yacc_lex.specs.declared.Next.{Next}
 use Rattle.yacc_lex.specs.declared.Next.TheVariants.{End as Ends, Outside as NoToken}
 use Rattle.yacc_lex.specs.declared.Word.{Word}
 use Rattle.yacc_lex.specs.declared.Word.TheVariants.{Name, Literal, Token as TheToken, Start, Mark, Colon, Bar, Semi}
+use Rattle.yacc_tokens.specs.Accepted.{mode_of, judged}
 use Rattle.yacc_read.specs.Events.{Event, event_of, events}
+use Rattle.std.specs.Prelude.{Some, None}
+use Rattle.yacc_said.specs.declared.Token.{Token as Heard}
+use Rattle.yacc_said.specs.declared.TokenIter.{TokenIter}
+use Rattle.yacc_said.specs.Tokens.{Reads, Gives}
 use Rattle.yacc_said.specs.Said.{id_said, end_said, said_in, id_at, events_of, of_said}
 
 -- what a word says is its event
@@ -53,13 +58,33 @@ module _ {ℓ} {A : Type ℓ} (z : A) where
         ∙ sym (ap (of_said z f m) L.is ∙ said-front f m (token_at t w from past) from past (placed_from t past))
         ∙ inv
 
+    pub said_ends : placed_from t at ≡ some [] → f [] ≡ r
+    unfolding of_said events
+    said_ends p = sym (ap (of_said z f m) p) ∙ inv
+
     pub said-ends : (x : Next) → x ≡ Ends → Told t at x → f [] ≡ r
-    unfolding Told of_said events
-    said-ends x e T = let p : placed_from t at ≡ some [] = rw e at T in sym (ap (of_said z f m) p) ∙ inv
+    unfolding Told
+    said-ends x e T = said_ends (rw e at T)
 
     pub said-outside : (x : Next) → x ≡ NoToken → Told t at x → z ≡ r
     unfolding Told of_said
     said-outside x e T = let p : placed_from t at ≡ none = rw e at T in sym (ap (of_said z f m) p) ∙ inv
+
+-- the words of a text t, one after the other
+module _ (t : List ℕ) (s : TokenIter) (e : s.text.now ≡ t) where
+  pub read_in : (k : Heard) (u : TokenIter) → Gives s (Some k) u → Reads t s k u
+  unfolding Gives
+  read_in k u G = subst (λ (x : List ℕ). Reads x s k u) e G
+
+  pub judged_in : judged (mode_of s.mode) (placed_from t s.at) ≡ true
+  judged_in = subst (λ (x : List ℕ). judged (mode_of s.mode) (placed_from x s.at) ≡ true) e s.accepted
+
+  pub says_in : (k : Heard) (u : TokenIter) → Reads t s k u → k.what ≡ said_in (mode_of s.mode) k.word
+  says_in k u R = k.says ∙ ap (λ (m : Mode). said_in m k.word) R.in_mode
+
+  pub ends_in : (u : TokenIter) → Gives s None u → placed_from t s.at ≡ some []
+  unfolding Gives
+  ends_in u G = subst (λ (x : List ℕ). placed_from x s.at ≡ some []) e G
 
 -- what a text of the grammar says
 laid_pieces : (ps : List Piece) (o : Option File) (l : Layout) → laid ps o ≡ some l → ps ≡ l.pieces

@@ -2,12 +2,13 @@
 
 #![tactic(auto)]
 
-ghost use Rattle.std.specs.Prelude.{◌≡◌};
-ghost use Rattle.yacc_tokens.specs.Accepted.{mode_of};
+ghost use Rattle.std.specs.Prelude.{◌≡◌, ◌-◌, ◌≤◌, ◌<◌, true, false, length};
+ghost use Rattle.yacc_text.specs.Places.{placed_from};
+ghost use Rattle.yacc_tokens.specs.Accepted.{mode_of, judged, is_grammar_text};
 ghost use Rattle.yacc_said.specs.Said.{id_said, end_said, said_in};
 
-use yacc_lex::Word;
-use yacc_tokens::Mode;
+use yacc_lex::{Next, Word, next_token};
+use yacc_tokens::{Mode, moved};
 
 // An id of a TOKEN list, the START id, a left side, an id of a body, the end of a body.
 #[derive(Clone, Copy)]
@@ -52,5 +53,72 @@ pub fn said(mode: Mode, word: Word) -> Saying
         Word::Name | Word::Literal => id_says(mode),
         Word::Bar | Word::Semi => end_says(mode),
         Word::Token | Word::Start | Word::Mark | Word::Colon => Saying::Nothing,
+    }
+}
+
+// A word where it stands, and what it says there: in a mode.
+#[derive(Clone, Copy)]
+pub struct Token {
+    pub mode: Mode,
+    pub word: Word,
+    pub what: Saying,
+    pub from: usize,
+    pub past: usize,
+    pub ghost says: { what ≡ said_in (mode_of mode) word },
+    pub ghost wide: { from < past },
+}
+
+// The words of a text of the grammar, one after the other.
+#[derive(Clone, Copy)]
+pub struct TokenIter<'a> {
+    pub text: &'a [u8],
+    pub at: usize,
+    pub mode: Mode,
+    pub ghost inside: { at ≤ length text.now },
+    pub ghost accepted: { judged (mode_of mode) (placed_from text.now at) ≡ true },
+}
+
+impl<'a> TokenIter<'a> {
+    pub fn new(text: &'a [u8]) -> TokenIter<'a>
+        requires { is_grammar_text text.now ≡ true }
+        ensures text { result.text.now ≡ text.now }
+        ensures at { result.at ≡ 0 }
+        ensures mode { result.mode ≡ Mode.Top false }
+    {
+        TokenIter {
+            text: text,
+            at: 0,
+            mode: Mode::Top(false),
+        }
+    }
+}
+
+impl<'a> Iterator for TokenIter<'a> {
+    ghost use Rattle.std.specs.Iterator.{at_most};
+    ghost use Rattle.yacc_said.specs.Tokens.{Gives};
+
+    type Item = Token;
+
+    ghost next_gives = { Gives };
+
+    ghost remaining = { λ s. at_most (length s.text.now - s.at) };
+
+    fn next(&mut self) -> Option<Token> {
+        match next_token(self.text, self.at) {
+            Next::Token(word, from, past) => {
+                let token = Token {
+                    mode: self.mode,
+                    word: word,
+                    what: said(self.mode, word),
+                    from: from,
+                    past: past,
+                };
+                self.mode = moved(self.mode, word);
+                self.at = past;
+                Some(token)
+            }
+            Next::End => None,
+            Next::Outside => None,
+        }
     }
 }

@@ -6,7 +6,7 @@ use mathlib.Core.Path.{◌≡◌, refl, sym, ap, ◌∙◌}
 use mathlib.Core.List.{List}
 use Rattle.repr.specs.Meaning.{nonterminal, terminal}
 use Rattle.repr.proofs.Lists.{cases, clash}
-use Rattle.spelling.specs.Spelled.{kind_of, number_of}
+use Rattle.repr.specs.declared.Symbol.TheVariants.{Nonterminal, Terminal}
 use Rattle.yacc_text.specs.Grammar.{Id}
 use Rattle.yacc_read.specs.Source.{Known, is_known, number_in, Source}
 use Rattle.yacc_read.specs.Meaning.{symbol_of}
@@ -42,24 +42,22 @@ module _ (S : Source) (x : Id) where
   unfolding symbol_of
   token_is f = ap (λ (b : Bool). elim b [ true ↦ nonterminal (number_in S.nonterminals x) | false ↦ terminal (number_in S.terminals x) ]) f
 
-  pub symbol-left : (j : ℕ) → suc j ≡ place_in S.nonterminals x → IsSymbol S x (record { kind = 0; number = j })
-  unfolding kind_of number_of
+  pub symbol-left : (j : ℕ) → suc j ≡ place_in S.nonterminals x → IsSymbol S x (Nonterminal (record { 0 = j }))
   symbol-left j e =
       let k = place_is S.nonterminals x (suc j) e (λ z. omega (arith, z)) in
       let q : suc j ≡ suc (number_in S.nonterminals x) = k.1 in
       let i = left_is k.0 in
       let r : j ≡ number_in S.nonterminals x = omega (arith, q) in
-      record { is = λ f. (sym (ap kind_of i), r ∙ sym (ap number_of i)) }
+      record { is = λ f. ap nonterminal r ∙ sym i }
 
   nowhere-both : is_known S.nonterminals x ≡ false → is_known S.terminals x ≡ false → nowhere S x ≡ true
   unfolding nowhere
   nowhere-both f g = ap (λ (b : Bool). not b && not (is_known S.terminals x)) f ∙ ap not g
 
-  pub symbol-token : 0 ≡ place_in S.nonterminals x → (o : Answer ℕ) → held o ≡ place_in S.terminals x → IsSymbol S x (record { kind = 1; number = unwrap_or o 0 })
-  unfolding kind_of number_of
+  pub symbol-token : 0 ≡ place_in S.nonterminals x → (o : Answer ℕ) → held o ≡ place_in S.terminals x → IsSymbol S x (Terminal (unwrap_or o 0))
   symbol-token z None e = record { is = λ g. clash (nowhere S x) (nowhere-both (place_no S.nonterminals x 0 z refl) (place_no S.terminals x 0 e refl)) g }
   symbol-token z (Some j) e =
       let k = (place_is S.terminals x (suc j) e (λ q. omega (arith, q))).1 in
       let i = token_is (place_no S.nonterminals x 0 z refl) in
       let r : j ≡ number_in S.terminals x = omega (arith, k) in
-      record { is = λ g. (sym (ap kind_of i), r ∙ sym (ap number_of i)) }
+      record { is = λ g. ap terminal r ∙ sym i }

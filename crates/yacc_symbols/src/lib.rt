@@ -9,29 +9,17 @@ ghost use Rattle.yacc_enter.specs.Ids.{is_id};
 ghost use Rattle.yacc_enter.specs.Table.{Holds};
 ghost use Rattle.yacc_symbols.specs.Symbols.{IsSymbol};
 
+use repr::{NonterminalString, Symbol};
 use yacc_enter::SymbolTable;
 use yacc_lex::Word;
 
-// A symbol: kind (0 nonterminal, 1 terminal) and number, as words hold it.
-#[derive(Clone, Copy)]
-pub struct Numbered {
-    pub kind: u16,
-    pub number: u16,
-}
-
 // The symbol of the id that stands from a place up to another.
-pub fn symbol(symbols: &SymbolTable, kind: Word, from: usize, past: usize) -> Numbered
+pub fn symbol(symbols: &SymbolTable, kind: Word, from: usize, past: usize) -> Symbol
     requires { (from < past) × (past ≤ length symbols.now.text.now) }
     ensures { is_id kind ≡ true → (S : Source) → Holds symbols.now S.nonterminals S.terminals → IsSymbol S (id_at symbols.now.text.now kind from past) result }
 {
     match symbols.left(kind, from, past) {
-        Some(number) => Numbered {
-            kind: 0,
-            number: number,
-        },
-        None => Numbered {
-            kind: 1,
-            number: symbols.token(kind, from, past).unwrap_or(0),
-        },
+        Some(number) => Symbol::Nonterminal(NonterminalString(number)),
+        None => Symbol::Terminal(symbols.token(kind, from, past).unwrap_or(0)),
     }
 }

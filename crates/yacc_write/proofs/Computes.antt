@@ -2,6 +2,7 @@
 use mathlib.Core.Path.{◌≡◌, refl}
 use Prim.Native.Nat.{ℕ}
 use mathlib.Core.List.{List, [], ◌∷◌, map}
+use Rattle.repr.specs.Reply.{answered, refused}
 use Rattle.slices.specs.Lent.{in_front}
 use Rattle.repr.specs.Lists.{up_from, below, mem, occurrences, first?, keep, some?, joined}
 use Rattle.repr.specs.Listed.{symbol_of_kind, symbol_is_fit}
@@ -12,7 +13,6 @@ use Rattle.numerals.specs.Numeral.{numeral_by, numeral}
 use Rattle.yacc_text.specs.Grammar.{spell_id, spell_token, spell_piece, spell_all}
 use Rattle.yacc_write.specs.Text.{ascending, name_of, token_line, production_line, lines, spaced, line, pieces_of, text_of}
 use Rattle.yacc_write.specs.Outcome.{written_of, write_of}
-use Rattle.yacc_write.specs.declared.Writing.TheVariants.{Bytes, Refused}
 
 pub record Call : Type 0 where
   pub table : List ℕ
@@ -23,8 +23,8 @@ pub tables-written : map (λ (c : Call). write_of c.table c.text) (
     record { table = (1 ∷ 5 ∷ 1 ∷ 3 ∷ 3 ∷ 0 ∷ 0 ∷ 0 ∷ 0 ∷ 0 ∷ 0 ∷ 0 ∷ 4 ∷ 6 ∷ 31 ∷ 42 ∷ 5 ∷ 10 ∷ 47 ∷ 65 ∷ 0 ∷ 16 ∷ 70 ∷ 71 ∷ 7 ∷ 1 ∷ 0 ∷ 0 ∷ 8 ∷ 1 ∷ 3 ∷ 0 ∷ 9 ∷ 1 ∷ 1 ∷ 0 ∷ 0 ∷ 0 ∷ 0 ∷ 0 ∷ 11 ∷ 1 ∷ 0 ∷ 0 ∷ 12 ∷ 1 ∷ 3 ∷ 0 ∷ 13 ∷ 1 ∷ 1 ∷ 0 ∷ 14 ∷ 0 ∷ 0 ∷ 0 ∷ 15 ∷ 1 ∷ 2 ∷ 0 ∷ 0 ∷ 0 ∷ 0 ∷ 0 ∷ 0 ∷ 1 ∷ 4 ∷ 0 ∷ []); text = (7 ∷ 7 ∷ 7 ∷ 7 ∷ 7 ∷ 7 ∷ 7 ∷ 7 ∷ 7 ∷ 7 ∷ 7 ∷ 7 ∷ 7 ∷ 7 ∷ 7 ∷ 7 ∷ 7 ∷ 7 ∷ 7 ∷ 7 ∷ 7 ∷ 7 ∷ 7 ∷ 7 ∷ 7 ∷ 7 ∷ 7 ∷ 7 ∷ 7 ∷ 7 ∷ 7 ∷ 7 ∷ 7 ∷ 7 ∷ 7 ∷ 7 ∷ 7 ∷ 7 ∷ 7 ∷ 7 ∷ 7 ∷ 7 ∷ 7 ∷ 7 ∷ 7 ∷ 7 ∷ 7 ∷ 7 ∷ 7 ∷ 7 ∷ 7 ∷ 7 ∷ 7 ∷ 7 ∷ 7 ∷ 7 ∷ 7 ∷ 7 ∷ 7 ∷ 7 ∷ 7 ∷ 7 ∷ 7 ∷ 7 ∷ 7 ∷ 7 ∷ 7 ∷ 7 ∷ 7 ∷ 7 ∷ 7 ∷ 7 ∷ 7 ∷ 7 ∷ 7 ∷ 7 ∷ 7 ∷ 7 ∷ 7 ∷ 7 ∷ 7 ∷ 7 ∷ 7 ∷ 7 ∷ 7 ∷ 7 ∷ 7 ∷ 7 ∷ 7 ∷ 7 ∷ []) } ∷
     record { table = (2 ∷ 0 ∷ 1 ∷ 3 ∷ 4 ∷ 0 ∷ 0 ∷ 0 ∷ 5 ∷ 0 ∷ 0 ∷ 0 ∷ 0 ∷ 0 ∷ 0 ∷ 0 ∷ 0 ∷ 7 ∷ 4 ∷ 5 ∷ 6 ∷ 0 ∷ 8 ∷ 8 ∷ 0 ∷ 8 ∷ 9 ∷ 10 ∷ 0 ∷ 0 ∷ 1 ∷ 0 ∷ 0 ∷ 0 ∷ 0 ∷ 0 ∷ []); text = (7 ∷ 7 ∷ 7 ∷ 7 ∷ 7 ∷ 7 ∷ 7 ∷ 7 ∷ 7 ∷ 7 ∷ 7 ∷ 7 ∷ 7 ∷ 7 ∷ 7 ∷ 7 ∷ 7 ∷ 7 ∷ 7 ∷ 7 ∷ 7 ∷ 7 ∷ 7 ∷ 7 ∷ 7 ∷ 7 ∷ 7 ∷ 7 ∷ 7 ∷ 7 ∷ []) } ∷
     []) ≡ (
-    record { answer = Bytes 79; text = (37 ∷ 116 ∷ 111 ∷ 107 ∷ 101 ∷ 110 ∷ 32 ∷ 84 ∷ 48 ∷ 32 ∷ 84 ∷ 49 ∷ 32 ∷ 84 ∷ 50 ∷ 32 ∷ 84 ∷ 51 ∷ 32 ∷ 84 ∷ 52 ∷ 10 ∷ 37 ∷ 37 ∷ 10 ∷ 78 ∷ 48 ∷ 32 ∷ 58 ∷ 32 ∷ 84 ∷ 48 ∷ 32 ∷ 84 ∷ 51 ∷ 32 ∷ 84 ∷ 49 ∷ 32 ∷ 78 ∷ 48 ∷ 32 ∷ 59 ∷ 10 ∷ 78 ∷ 48 ∷ 32 ∷ 58 ∷ 32 ∷ 84 ∷ 48 ∷ 32 ∷ 84 ∷ 51 ∷ 32 ∷ 84 ∷ 49 ∷ 32 ∷ 78 ∷ 48 ∷ 32 ∷ 84 ∷ 50 ∷ 32 ∷ 78 ∷ 48 ∷ 32 ∷ 59 ∷ 10 ∷ 78 ∷ 48 ∷ 32 ∷ 58 ∷ 32 ∷ 84 ∷ 52 ∷ 32 ∷ 59 ∷ 10 ∷ 7 ∷ 7 ∷ 7 ∷ 7 ∷ 7 ∷ 7 ∷ 7 ∷ 7 ∷ 7 ∷ 7 ∷ 7 ∷ []) } ∷
-    record { answer = Bytes 30; text = (37 ∷ 37 ∷ 10 ∷ 78 ∷ 48 ∷ 32 ∷ 58 ∷ 32 ∷ 78 ∷ 49 ∷ 32 ∷ 59 ∷ 10 ∷ 78 ∷ 49 ∷ 32 ∷ 58 ∷ 32 ∷ 59 ∷ 10 ∷ 78 ∷ 49 ∷ 32 ∷ 58 ∷ 32 ∷ 78 ∷ 48 ∷ 32 ∷ 59 ∷ 10 ∷ []) } ∷
+    record { answer = answered 79; text = (37 ∷ 116 ∷ 111 ∷ 107 ∷ 101 ∷ 110 ∷ 32 ∷ 84 ∷ 48 ∷ 32 ∷ 84 ∷ 49 ∷ 32 ∷ 84 ∷ 50 ∷ 32 ∷ 84 ∷ 51 ∷ 32 ∷ 84 ∷ 52 ∷ 10 ∷ 37 ∷ 37 ∷ 10 ∷ 78 ∷ 48 ∷ 32 ∷ 58 ∷ 32 ∷ 84 ∷ 48 ∷ 32 ∷ 84 ∷ 51 ∷ 32 ∷ 84 ∷ 49 ∷ 32 ∷ 78 ∷ 48 ∷ 32 ∷ 59 ∷ 10 ∷ 78 ∷ 48 ∷ 32 ∷ 58 ∷ 32 ∷ 84 ∷ 48 ∷ 32 ∷ 84 ∷ 51 ∷ 32 ∷ 84 ∷ 49 ∷ 32 ∷ 78 ∷ 48 ∷ 32 ∷ 84 ∷ 50 ∷ 32 ∷ 78 ∷ 48 ∷ 32 ∷ 59 ∷ 10 ∷ 78 ∷ 48 ∷ 32 ∷ 58 ∷ 32 ∷ 84 ∷ 52 ∷ 32 ∷ 59 ∷ 10 ∷ 7 ∷ 7 ∷ 7 ∷ 7 ∷ 7 ∷ 7 ∷ 7 ∷ 7 ∷ 7 ∷ 7 ∷ 7 ∷ []) } ∷
+    record { answer = answered 30; text = (37 ∷ 37 ∷ 10 ∷ 78 ∷ 48 ∷ 32 ∷ 58 ∷ 32 ∷ 78 ∷ 49 ∷ 32 ∷ 59 ∷ 10 ∷ 78 ∷ 49 ∷ 32 ∷ 58 ∷ 32 ∷ 59 ∷ 10 ∷ 78 ∷ 49 ∷ 32 ∷ 58 ∷ 32 ∷ 78 ∷ 48 ∷ 32 ∷ 59 ∷ 10 ∷ []) } ∷
     [])
 unfolding in_front up_from below mem occurrences first? keep some? joined symbol_of_kind symbol_is_fit word_at records state_area production_area loose production_records loose_records names against chain_by chain production_chain symbol_chain item_chain edge_chain symbol_at item_at edge_at or_zero owner_of production_of state_of productions_of meaning row1 row2 is_nonterminal is_state is_production as_symbol as_item as_edge row3 row4 row5 row6 row7 used row8 offends first_row check_of numeral_by numeral spell_id spell_token spell_piece spell_all ascending name_of token_line production_line lines spaced line pieces_of text_of written_of write_of
 tables-written = refl
@@ -35,9 +35,9 @@ pub tables-refused : map (λ (c : Call). write_of c.table c.text) (
     record { table = (1 ∷ 0 ∷ 1 ∷ 0 ∷ 0 ∷ 0 ∷ 0 ∷ 0 ∷ 0 ∷ 0 ∷ 0 ∷ 0 ∷ []); text = (7 ∷ 7 ∷ 7 ∷ 7 ∷ 7 ∷ 7 ∷ 7 ∷ 7 ∷ 7 ∷ []) } ∷
     record { table = (2 ∷ 0 ∷ 1 ∷ 2 ∷ 5 ∷ 0 ∷ 0 ∷ 0 ∷ 4 ∷ 0 ∷ 0 ∷ 0 ∷ 0 ∷ 0 ∷ 0 ∷ 0 ∷ 0 ∷ 0 ∷ 0 ∷ 0 ∷ 0 ∷ 0 ∷ 0 ∷ 0 ∷ []); text = (7 ∷ 7 ∷ 7 ∷ 7 ∷ 7 ∷ 7 ∷ 7 ∷ 7 ∷ 7 ∷ 7 ∷ 7 ∷ 7 ∷ 7 ∷ 7 ∷ 7 ∷ 7 ∷ 7 ∷ 7 ∷ 7 ∷ 7 ∷ 7 ∷ 7 ∷ 7 ∷ 7 ∷ 7 ∷ 7 ∷ 7 ∷ 7 ∷ 7 ∷ 7 ∷ 7 ∷ 7 ∷ 7 ∷ 7 ∷ 7 ∷ 7 ∷ 7 ∷ 7 ∷ 7 ∷ 7 ∷ []) } ∷
     []) ≡ (
-    record { answer = Refused 17 0; text = (7 ∷ 7 ∷ 7 ∷ 7 ∷ 7 ∷ 7 ∷ 7 ∷ 7 ∷ 7 ∷ 7 ∷ 7 ∷ 7 ∷ 7 ∷ 7 ∷ 7 ∷ 7 ∷ 7 ∷ 7 ∷ 7 ∷ 7 ∷ 7 ∷ 7 ∷ 7 ∷ 7 ∷ 7 ∷ 7 ∷ 7 ∷ 7 ∷ 7 ∷ []) } ∷
-    record { answer = Refused 23 0; text = (7 ∷ 7 ∷ 7 ∷ 7 ∷ 7 ∷ 7 ∷ 7 ∷ 7 ∷ 7 ∷ []) } ∷
-    record { answer = Refused 23 0; text = (7 ∷ 7 ∷ 7 ∷ 7 ∷ 7 ∷ 7 ∷ 7 ∷ 7 ∷ 7 ∷ 7 ∷ 7 ∷ 7 ∷ 7 ∷ 7 ∷ 7 ∷ 7 ∷ 7 ∷ 7 ∷ 7 ∷ 7 ∷ 7 ∷ 7 ∷ 7 ∷ 7 ∷ 7 ∷ 7 ∷ 7 ∷ 7 ∷ 7 ∷ 7 ∷ 7 ∷ 7 ∷ 7 ∷ 7 ∷ 7 ∷ 7 ∷ 7 ∷ 7 ∷ 7 ∷ 7 ∷ []) } ∷
+    record { answer = refused 17 0; text = (7 ∷ 7 ∷ 7 ∷ 7 ∷ 7 ∷ 7 ∷ 7 ∷ 7 ∷ 7 ∷ 7 ∷ 7 ∷ 7 ∷ 7 ∷ 7 ∷ 7 ∷ 7 ∷ 7 ∷ 7 ∷ 7 ∷ 7 ∷ 7 ∷ 7 ∷ 7 ∷ 7 ∷ 7 ∷ 7 ∷ 7 ∷ 7 ∷ 7 ∷ []) } ∷
+    record { answer = refused 23 0; text = (7 ∷ 7 ∷ 7 ∷ 7 ∷ 7 ∷ 7 ∷ 7 ∷ 7 ∷ 7 ∷ []) } ∷
+    record { answer = refused 23 0; text = (7 ∷ 7 ∷ 7 ∷ 7 ∷ 7 ∷ 7 ∷ 7 ∷ 7 ∷ 7 ∷ 7 ∷ 7 ∷ 7 ∷ 7 ∷ 7 ∷ 7 ∷ 7 ∷ 7 ∷ 7 ∷ 7 ∷ 7 ∷ 7 ∷ 7 ∷ 7 ∷ 7 ∷ 7 ∷ 7 ∷ 7 ∷ 7 ∷ 7 ∷ 7 ∷ 7 ∷ 7 ∷ 7 ∷ 7 ∷ 7 ∷ 7 ∷ 7 ∷ 7 ∷ 7 ∷ 7 ∷ []) } ∷
     [])
 unfolding in_front up_from below mem occurrences first? keep some? joined symbol_of_kind symbol_is_fit word_at records state_area production_area loose production_records loose_records names against chain_by chain production_chain symbol_chain item_chain edge_chain symbol_at item_at edge_at or_zero owner_of production_of state_of productions_of meaning row1 row2 is_nonterminal is_state is_production as_symbol as_item as_edge row3 row4 row5 row6 row7 used row8 offends first_row check_of numeral_by numeral spell_id spell_token spell_piece spell_all ascending name_of token_line production_line lines spaced line pieces_of text_of written_of write_of
 tables-refused = refl

@@ -2,14 +2,5 @@
 
 #![tactic(auto)]
 
-// Bytes written; or the refusal and its place.
-#[derive(Clone, Copy)]
-pub enum Writing {
-    Bytes(u16),
-    Refused(u16, u16),
-}
-
-impl Writing {
-    // No text that is written has more bytes (`text_size`, proofs/Layouts).
-    pub const MOST: usize = 9468;
-}
+// No text that is written has more bytes (`text_size`, proofs/Layouts).
+pub const TEXT_BYTES: usize = 9468;

@@ -10,6 +10,7 @@ use lib.Seq.{take_at}
 use borrow.Author.Tests.{le-leb}
 use Rattle.slices.specs.Lent.{in_front}
 use Rattle.repr.specs.Lists.{up_from, below, keep}
+use Rattle.repr.specs.Reply.{Reply, answered, refused}
 use Rattle.repr.specs.Meaning.{Production, Table, TableFits}
 use Rattle.repr.proofs.Lists.{cases, clash, length_mapped}
 use Rattle.table.specs.Checked.{Checked, Accepted, Refused as No}
@@ -21,14 +22,11 @@ use Rattle.spelling.proofs.Places.{spell-length}
 use Rattle.spelling.proofs.Rising.{meaning_ordered}
 use Rattle.yacc_read.specs.Source.{Known, Source}
 use Rattle.yacc_read.specs.Meaning.{table_of, places_of, start_of}
-use Rattle.yacc_read.specs.Outcome.{room, answer_of, read_of, source_in}
+use Rattle.yacc_read.specs.Outcome.{room, answer_of, read_as, read_of, source_in}
 use Rattle.yacc_read.specs.declared.Reading.{Reading}
-use Rattle.yacc_read.specs.declared.Reading.TheVariants.{Read}
 use Rattle.yacc_read.proofs.Fits.{Good, read_accepted, read-meaning}
 use Rattle.yacc_write.specs.Text.{ascending, pieces_of, text_of}
 use Rattle.yacc_write.specs.Outcome.{Outcome, written_of, write_of}
-use Rattle.yacc_write.specs.declared.Writing.{Writing}
-use Rattle.yacc_write.specs.declared.Writing.TheVariants.{Bytes, Refused}
 use Rattle.yacc_write.proofs.Again.{nonterminals-back, terminals-back, owners_back, symbols-back, start_back, written_again}
 use Rattle.yacc_write.proofs.Back.{chains_back}
 use Rattle.yacc_write.proofs.Reread.{reread_good, written_read}
@@ -36,13 +34,13 @@ use Rattle.yacc_writer.specs.Round.{records_again, places_again, RoundTrip}
 use Rattle.yacc_writer.proofs.Turns.{write-refused, write_accepted, written_disordered, written-full, written_roomy}
 
 -- an answer of bytes is no refusal
-unfoldable bytes? : Writing → ℕ
-bytes? (Bytes n) = 1
-bytes? (Refused n r) = 0
+unfoldable bytes? : Reply ℕ → ℕ
+bytes? (answered n) = 1
+bytes? (refused n r) = 0
 
-unfoldable size : Writing → ℕ
-size (Bytes n) = n
-size (Refused n r) = 0
+unfoldable size : Reply ℕ → ℕ
+size (answered n) = n
+size (refused n r) = 0
 
 -- what is known where bytes were answered
 pub record Done (t text bs : List ℕ) (n : ℕ) : Type 0 where
@@ -51,13 +49,13 @@ pub record Done (t text bs : List ℕ) (n : ℕ) : Type 0 where
   pub many : n ≡ length (text_of (meaning t))
   pub is : bs ≡ in_front (text_of (meaning t)) text
 
-module _ (t text bs : List ℕ) (n : ℕ) (w : write_of t text ≡ record { answer = Bytes n; text = bs }) where
+module _ (t text bs : List ℕ) (n : ℕ) (w : write_of t text ≡ record { answer = answered n; text = bs }) where
   abbrev T : Table
   T = meaning t
 
-  refused : (x y : ℕ) → record { answer = Refused x y; text = text } ≡ write_of t text → ⊥
+  none_refused : (x y : ℕ) → record { answer = refused x y; text = text } ≡ write_of t text → ⊥
   unfolding bytes?
-  refused x y e =
+  none_refused x y e =
       let z : ◌≡◌ {A = ℕ} 0 1 = ap (λ (o : Outcome). bytes? o.answer) (e ∙ w) in
       omega arith
 
@@ -68,11 +66,11 @@ module _ (t text bs : List ℕ) (n : ℕ) (w : write_of t text ≡ record { answ
       record { accepted = a; ordered = o; many = sym (ap (λ (x : Outcome). size x.answer) e); is = sym (ap (λ (x : Outcome). x.text) e) }
 
   by_check : (c : Checked) → check_of t ≡ c → Done t text bs n
-  by_check (No x y) a = absurd (refused x y (write-refused t text x y a))
+  by_check (No x y) a = absurd (none_refused x y (write-refused t text x y a))
   by_check Accepted a =
       cases (ascending 0 T.nonterminals)
-      (λ o. cases (leb (length (text_of T)) (length text)) (fitted a o) (λ l. absurd (refused 17 0 (written-full T text o l ∙ write_accepted t text a))))
-      (λ o. absurd (refused 23 0 (written_disordered T text o ∙ write_accepted t text a)))
+      (λ o. cases (leb (length (text_of T)) (length text)) (fitted a o) (λ l. absurd (none_refused 17 0 (written-full T text o l ∙ write_accepted t text a))))
+      (λ o. absurd (none_refused 23 0 (written_disordered T text o ∙ write_accepted t text a)))
 
   done : Done t text bs n
   done = by_check (check_of t) refl
@@ -104,7 +102,7 @@ written_same U T text a b =
     cases (leb (length (text_of T)) (length text))
     (λ l.
     sym (written_roomy U text (ap (ascending 0) a ∙ o) (ap (λ (w : List ℕ). leb (length w) (length text)) b ∙ l))
-    ∙ ap (λ (w : List ℕ). record { answer = Bytes (length w); text = in_front w text }) b
+    ∙ ap (λ (w : List ℕ). record { answer = answered (length w); text = in_front w text }) b
     ∙ written_roomy T text o l)
     (λ l. sym (written-full U text (ap (ascending 0) a ∙ o) (ap (λ (w : List ℕ). leb (length w) (length text)) b ∙ l)) ∙ written-full T text o l))
     (λ o. sym (written_disordered U text (ap (ascending 0) a ∙ o)) ∙ written_disordered T text o)
@@ -158,12 +156,12 @@ module _ (t text bs : List ℕ) (n : ℕ) (table places : List ℕ) (D : Done t 
         let b = places_are in
         rw (le-leb (records_of U) (length table / 4) (omega arith), le-leb (length (places_of Q)) (length places) (omega arith))
 
-    answered : answer_of Q ≡ Read (records_again K) (places_again K) (record { 0 = 0 })
+    answer_is : answer_of Q ≡ read_as (records_again K) (places_again K) (record { 0 = 0 })
     unfolding answer_of
-    answered =
-        ap (λ (k : ℕ). Read k (length (places_of Q)) (record { 0 = start_of Q.nonterminals Q.starts })) records_are
-        ∙ ap (λ (k : ℕ). Read (records_again K) k (record { 0 = start_of Q.nonterminals Q.starts })) places_are
-        ∙ ap (λ (k : ℕ). Read (records_again K) (places_again K) (record { 0 = k })) (start_back K p ps F e O A)
+    answer_is =
+        ap (λ (k : ℕ). read_as k (length (places_of Q)) (record { 0 = start_of Q.nonterminals Q.starts })) records_are
+        ∙ ap (λ (k : ℕ). read_as (records_again K) k (record { 0 = start_of Q.nonterminals Q.starts })) places_are
+        ∙ ap (λ (k : ℕ). read_as (records_again K) (places_again K) (record { 0 = k })) (start_back K p ps F e O A)
 
     bytes_are : take n bs ≡ text_of K
     unfolding in_front
@@ -183,7 +181,7 @@ module _ (t text bs : List ℕ) (n : ℕ) (table places : List ℕ) (D : Done t 
       read =
           ap (λ (b : List ℕ). read_of b table places) bytes_are
           ∙ written_read K p ps F e O A table places roomy
-          ∙ ap (λ (a : Reading). record { answer = a; table = in_front (spell U) table; places = in_front (places_of Q) places }) answered;
+          ∙ ap (λ (a : Reply Reading). record { answer = a; table = in_front (spell U) table; places = in_front (places_of Q) places }) answer_is;
       accepted = read_accepted Q good;
       terminals = ap (λ (X : Table). X.terminals) meant ∙ tokens-back Q ∙ terminals-back K p ps F e O A;
       chains = ap (λ (X : Table). X.nonterminals) meant ∙ chains;
@@ -197,7 +195,7 @@ module _ (t text bs : List ℕ) (n : ℕ) (table places : List ℕ) (D : Done t 
     }
 
 -- where bytes are answered, they are read back
-pub round_trip : (t text bs : List ℕ) (n : ℕ) → write_of t text ≡ record { answer = Bytes n; text = bs } → (table places : List ℕ)
+pub round_trip : (t text bs : List ℕ) (n : ℕ) → write_of t text ≡ record { answer = answered n; text = bs } → (table places : List ℕ)
     → records_again (meaning t) ≤ length table / 4 → places_again (meaning t) ≤ length places → RoundTrip t text (take n bs) table places
 round_trip t text bs n w table places r m = go (meaning t).productions refl
   where

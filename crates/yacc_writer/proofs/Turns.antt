@@ -11,6 +11,7 @@ use lib.ListN.{length, get_or, drop, drop_of_length-le}
 use lib.Seq.{drop-cons, length-sets}
 use borrow.Author.Tests.{le-leb, lt-leb, ltb-true, ltb-false}
 use Rattle.slices.specs.Lent.{in_front}
+use Rattle.repr.specs.Reply.{answered, refused}
 use Rattle.repr.specs.Sizes.{nonterminal_limit, terminal_limit, symbol_limit, production_place}
 use Rattle.repr.specs.Lists.{up_from, below, joined}
 use Rattle.repr.specs.Meaning.{Symbol, terminal, Production, Table}
@@ -25,7 +26,6 @@ use Rattle.table.specs.Refusals.{check_of}
 use Rattle.table.proofs.Written.{productions_end as no-productions}
 use Rattle.yacc_write.specs.Text.{ascending, text_of}
 use Rattle.yacc_write.specs.Outcome.{written_of, write_of}
-use Rattle.yacc_write.specs.declared.Writing.TheVariants.{Bytes, Refused}
 use Rattle.yacc_writer.specs.Wrote.{Wrote, name_bytes, terminal_bytes, production_bytes, file_bytes}
 use Rattle.yacc_writer.proofs.Laws.{Left, left_all_lem, left_less, left-none, wrote_as, wrote-front}
 use Rattle.yacc_writer.proofs.Texts.{text_bytes}
@@ -217,42 +217,42 @@ file_is T t n g et en ep =
     ∙ text_bytes T
 
 module _ (T : Table) (text : List ℕ) where
-  pub written_disordered : ascending 0 T.nonterminals ≡ false → record { answer = Refused 23 0; text = text } ≡ written_of T text
+  pub written_disordered : ascending 0 T.nonterminals ≡ false → record { answer = refused 23 0; text = text } ≡ written_of T text
   unfolding written_of
   written_disordered e = sym (rw (e, written_of))
 
   module _ (e : ascending 0 T.nonterminals ≡ true) where
-    pub written-full : leb (length (text_of T)) (length text) ≡ false → record { answer = Refused 17 0; text = text } ≡ written_of T text
+    pub written-full : leb (length (text_of T)) (length text) ≡ false → record { answer = refused 17 0; text = text } ≡ written_of T text
     unfolding written_of
     written-full l = sym (rw (e, l, written_of))
 
-    pub written_roomy : leb (length (text_of T)) (length text) ≡ true → record { answer = Bytes (length (text_of T)); text = in_front (text_of T) text } ≡ written_of T text
+    pub written_roomy : leb (length (text_of T)) (length text) ≡ true → record { answer = answered (length (text_of T)); text = in_front (text_of T) text } ≡ written_of T text
     unfolding written_of
     written_roomy l = sym (rw (e, l, written_of))
 
     module _ (size : ℕ) (s : size ≡ length (text_of T)) where
-      pub written_short : length text < size → record { answer = Refused 17 0; text = text } ≡ written_of T text
+      pub written_short : length text < size → record { answer = refused 17 0; text = text } ≡ written_of T text
       written_short h = written-full (lt-leb (length (text_of T)) (length text) (omega arith))
 
-      pub written-done : size ≤ length text → (after : List ℕ) → after ≡ in_front (text_of T) text → record { answer = Bytes size; text = after } ≡ written_of T text
+      pub written-done : size ≤ length text → (after : List ℕ) → after ≡ in_front (text_of T) text → record { answer = answered size; text = after } ≡ written_of T text
       written-done h after a =
-          ap (λ (k : ℕ). record { answer = Bytes k; text = after }) s
-          ∙ ap (λ (l : List ℕ). record { answer = Bytes (length (text_of T)); text = l }) a
+          ap (λ (k : ℕ). record { answer = answered k; text = after }) s
+          ∙ ap (λ (l : List ℕ). record { answer = answered (length (text_of T)); text = l }) a
           ∙ written_roomy (le-leb (length (text_of T)) (length text) (omega arith))
 
 module _ (T : Table) (text g : List ℕ) (t n size : ℕ) (A : ascending 0 T.nonterminals ≡ true) (et : t ≡ T.terminals) (en : n ≡ length T.productions) (ep : productions_in g (length T.productions) ≡ T.productions) (s : size ≡ 0 + length (file_bytes t (productions_in g n))) where
   counted : size ≡ length (text_of T)
   counted = let e = ap length (file_is T t n g et en ep) in omega arith
 
-  pub ordered_short : length text < size → record { answer = Refused 17 0; text = text } ≡ written_of T text
+  pub ordered_short : length text < size → record { answer = refused 17 0; text = text } ≡ written_of T text
   ordered_short h = written_short T text A size counted h
 
-  pub ordered_done : size ≤ length text → (after : List ℕ) (r : ℕ) → Wrote text 0 (file_bytes t (productions_in g n)) after r → record { answer = Bytes size; text = after } ≡ written_of T text
+  pub ordered_done : size ≤ length text → (after : List ℕ) (r : ℕ) → Wrote text 0 (file_bytes t (productions_in g n)) after r → record { answer = answered size; text = after } ≡ written_of T text
   ordered_done h after r W = let k = counted in written-done T text A size counted h after (wrote-front (wrote_as W (file_is T t n g et en ep)) (omega arith))
 
 -- `write_yacc`
 module _ (t text : List ℕ) where
-  pub write-refused : (n r : ℕ) → check_of t ≡ No n r → record { answer = Refused n r; text = text } ≡ write_of t text
+  pub write-refused : (n r : ℕ) → check_of t ≡ No n r → record { answer = refused n r; text = text } ≡ write_of t text
   unfolding write_of
   write-refused n r e = sym (rw (e, write_of))
 

@@ -6,8 +6,7 @@ use Rattle.table.specs.Checked.{Accepted}
 use Rattle.table.specs.Decoded.{meaning}
 use Rattle.table.specs.Refusals.{check_of}
 use Rattle.spelling.specs.Spelled.{size_of, symbol_lists}
-use Rattle.yacc_read.specs.Outcome.{read_of}
-use Rattle.yacc_read.specs.declared.Reading.TheVariants.{Read}
+use Rattle.yacc_read.specs.Outcome.{read_as, read_of}
 use Rattle.yacc_write.specs.Outcome.{write_of}
 
 -- the records and the places that are left when the text of a table is read
@@ -22,7 +21,7 @@ pub record RoundTrip (t text bytes table places : List ℕ) : Type 0 where
   pub words : List ℕ
   pub listed : List ℕ
   pub long : length words ≡ 4 * records_again (meaning t)
-  pub read : read_of bytes table places ≡ record { answer = Read (records_again (meaning t)) (places_again (meaning t)) (record { 0 = 0 }); table = in_front words table; places = in_front listed places }
+  pub read : read_of bytes table places ≡ record { answer = read_as (records_again (meaning t)) (places_again (meaning t)) (record { 0 = 0 }); table = in_front words table; places = in_front listed places }
   pub accepted : check_of words ≡ Accepted
   pub terminals : (meaning words).terminals ≡ (meaning t).terminals
   pub chains : (meaning words).nonterminals ≡ (meaning t).nonterminals

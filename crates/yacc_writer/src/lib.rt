@@ -4,6 +4,7 @@
 
 ghost use Rattle.std.specs.Prelude.{◌≡◌, true, ◌∷◌, [], ◌+◌, ◌*◌, ◌≤◌, ◌<◌, length};
 ghost use Rattle.numerals.specs.Numeral.{numeral};
+ghost use Rattle.repr.specs.Reply.{reply_of};
 ghost use Rattle.repr.specs.Sizes.{nonterminal_limit, terminal_limit, symbol_limit};
 ghost use Rattle.repr.specs.Lists.{joined};
 ghost use Rattle.repr.specs.Listed.{symbol_of_kind, listed, list_is_fit};
@@ -15,9 +16,8 @@ ghost use Rattle.yacc_write.specs.Text.{ascending};
 ghost use Rattle.yacc_write.specs.Outcome.{written_of, write_of};
 ghost use Rattle.yacc_writer.specs.Wrote.{place_limit, Wrote, name_bytes, token_bytes, production_bytes, file_bytes, terminal_bytes};
 
-use repr::{Grammar, ProductionIndex, symbols, word};
+use repr::{Grammar, ProductionIndex, Refusal, symbols, word};
 use table::{first_production, production, read_counts, read_productions};
-use yacc_write::Writing;
 
 // A byte; the place behind it.
 fn put(text: &mut [u8], at: usize, byte: u8) -> usize
@@ -189,10 +189,10 @@ fn ascends(table: &[u16]) -> bool
 }
 
 // Writes an accepted table whose first productions ascend, if there is room: the bytes are counted first.
-fn write_ordered(table: &[u16], text: &mut [u8]) -> Writing
+fn write_ordered(table: &[u16], text: &mut [u8]) -> Result<u16, Refusal>
     requires table_value { check_of table.now ≡ Accepted }
     requires table_value_2 { ascending 0 (meaning table.now).nonterminals ≡ true }
-    ensures { record { answer = result; text = text.new } ≡ written_of (meaning table.now) text.old }
+    ensures { record { answer = reply_of result; text = text.new } ≡ written_of (meaning table.now) text.old }
 {
     let counts = read_counts(table);
     let terminals = counts.terminals;
@@ -202,30 +202,27 @@ fn write_ordered(table: &[u16], text: &mut [u8]) -> Writing
     let mut nothing = [0u8; 1];
     let size = put_file(&mut nothing, &grammar, terminals, productions);
     if size > text.len() {
-        return Writing::Refused(17, 0);
+        return Err(Refusal::NoRoom);
     }
     let _size = put_file(text, &grammar, terminals, productions);
-    let written = size as u16;
-    Writing::Bytes(written)
+    Ok(size as u16)
 }
 
 // Writes an accepted table.
-fn write_in(table: &[u16], text: &mut [u8]) -> Writing
+fn write_in(table: &[u16], text: &mut [u8]) -> Result<u16, Refusal>
     requires { check_of table.now ≡ Accepted }
-    ensures { record { answer = result; text = text.new } ≡ written_of (meaning table.now) text.old }
+    ensures { record { answer = reply_of result; text = text.new } ≡ written_of (meaning table.now) text.old }
 {
     if ascends(table) {
         return write_ordered(table, text);
     }
-    Writing::Refused(23, 0)
+    Err(Refusal::Unordered)
 }
 
 // Writes the grammar of a table as a yacc text at the front of `text`, and answers how many bytes that are. Refusals 1 to 8, then 23, then 17; they change nothing.
-pub fn write_yacc(table: &[u16], text: &mut [u8]) -> Writing
-    ensures { record { answer = result; text = text.new } ≡ write_of table.now text.old }
+pub fn write_yacc(table: &[u16], text: &mut [u8]) -> Result<u16, Refusal>
+    ensures { record { answer = reply_of result; text = text.new } ≡ write_of table.now text.old }
 {
-    match table_check::check(table) {
-        Err(refusal) => Writing::Refused(refusal.number(), refusal.place()),
-        Ok(_) => write_in(table, text),
-    }
+    table_check::check(table)?;
+    write_in(table, text)
 }

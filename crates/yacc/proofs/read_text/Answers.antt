@@ -1,14 +1,15 @@
 use native.Mathlib.Omega.{arith}
-use mathlib.Core.Path.{sym}
+use mathlib.Core.Path.{sym, ap}
 use lib.Seq.{length-take-le}
+use Rattle.repr.specs.Reply.{reply_of}
 use Rattle.yacc.proofs.Laws.{few_read, accepted, startable}
 use Rattle.yacc.proofs.read_text.Goals as goal
 
 pub slice_bounds-table-end : goal.slice_bounds-table-end
-slice_bounds-table-end g c = let f = few_read _ _ _ _ _ _ _ _ _ c.read_yacc.ensures c.in-Read.is in omega (arith, f, c.read_yacc.auto.table)
+slice_bounds-table-end g c = let f = few_read _ _ _ _ _ _ _ c.read_yacc.ensures (ap reply_of c.in-Ok.is) in omega (arith, f, c.read_yacc.auto.table)
 
 pub slice_bounds-write_grammar-end : goal.slice_bounds-write_grammar-end
-slice_bounds-write_grammar-end g c = let f = few_read _ _ _ _ _ _ _ _ _ c.read_yacc.ensures c.in-Read.is in sym (length-take-le _ _ (omega (arith, f, c.read_yacc.auto.table)))
+slice_bounds-write_grammar-end g c = let f = few_read _ _ _ _ _ _ _ c.read_yacc.ensures (ap reply_of c.in-Ok.is) in sym (length-take-le _ _ (omega (arith, f, c.read_yacc.auto.table)))
 
 pub write_grammar-requires : goal.write_grammar-requires
-write_grammar-requires g c = record { table_value = accepted _ _ _ _ _ _ _ _ _ c.read_yacc.ensures c.in-Read.is; startable = startable _ _ _ _ _ _ _ _ _ c.read_yacc.ensures c.in-Read.is; in_bounds = c.requires }
+write_grammar-requires g c = record { table_value = accepted _ _ _ _ _ _ _ c.read_yacc.ensures (ap reply_of c.in-Ok.is); startable = startable _ _ _ _ _ _ _ c.read_yacc.ensures (ap reply_of c.in-Ok.is); in_bounds = c.requires }

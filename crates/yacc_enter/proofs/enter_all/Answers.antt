@@ -1,58 +1,38 @@
-use mathlib.Core.Bool.{true≢false}
-use mathlib.Core.Path.{refl, sym, ◌∙◌}
-use Rattle.yacc_tokens.proofs.Laws.{token-told, turn, turn_outside, judged-whole}
+use Rattle.std.proofs.Common.{refl, ◌∙◌}
+use Rattle.yacc_said.proofs.Laws.{read_in, judged_in, says_in, ends_in}
 use Rattle.yacc_enter.proofs.Laws.{turn_first, turn_within, turn_open, turn_lefts, turn_tokens, no_quote, turn_next, turn_last}
-use borrow.Author.Rules.{rules}
-use native.Mathlib.Omega.{arith}
 use Rattle.yacc_enter.proofs.enter_all.Goals as goal
 
-pub loop-word-init : goal.loop-word-init
-loop-word-init c = (refl, refl, refl, refl, refl, omega arith, judged-whole c.args.text.now ∙ c.requires.1, turn_first _ _ _ _ _ _ c.requires.0)
+pub loop-token-init : goal.loop-token-init
+loop-token-init c =
+    let n = c.new-token-items.ensures in
+    rw (c.into_iter-token-iterator.ensures.into_iter_gives, n.mode, n.at)
+    (n.text, record { starts = refl; pasts = refl; ix = refl; lefts = refl; tokens = refl }, turn_first _ _ _ _ _ _ c.requires.0)
 
-pub next_token-requires : goal.next_token-requires
-next_token-requires c = c.loop-word.invariant.5
+pub enter-ids-requires : goal.enter-ids-requires
+enter-ids-requires c =
+    let i = c.loop-token.invariant in
+    let R = read_in _ _ i.0 _ _ c.in-Some.ensures.steps in
+    record {
+      ready = record {
+        names = turn_open _ _ _ _ _ _ _ _ _ i.2 _ _ _ _ _ c.requires.0 _ _ _ R.leads i.1.starts i.1.pasts i.1.ix;
+        left = turn_lefts _ _ _ _ _ _ _ _ _ i.2 _ _ _ _ _ c.requires.0 _ _ _ R.leads i.1.lefts;
+        token = turn_tokens _ _ _ _ _ _ _ _ _ i.2 _ _ _ _ _ c.requires.0 _ _ _ R.leads i.1.tokens;
+      };
+      within = turn_within _ _ _ _ _ _ _ _ _ i.2 _ _ _ c.requires.0.short R.leads;
+      no_quote = rw R.in_mode (no_quote _ _ _ (judged_in _ c.loop-token.token-iterator i.0) _ _ _ R.leads);
+    }
 
-pub enter_word-ids-requires : goal.enter_word-ids-requires
-enter_word-ids-requires c = let L = token-told c.args.text.now c.loop-word.at _ _ _ _ c.in-Token.is c.next_token.ensures in let i = c.loop-word.invariant in record { fact = (turn_open _ _ _ _ _ _ _ _ _ i.7 _ _ _ _ _ c.requires.0 _ _ _ L i.0 i.1 i.2, turn_lefts _ _ _ _ _ _ _ _ _ i.7 _ _ _ _ _ c.requires.0 _ _ _ L i.3, turn_tokens _ _ _ _ _ _ _ _ _ i.7 _ _ _ _ _ c.requires.0 _ _ _ L i.4); within = turn_within _ _ _ _ _ _ _ _ _ i.7 _ _ _ c.requires.0.short L; no_quote = no_quote _ _ _ i.6 _ _ _ L }
+pub loop-token-preserved : goal.loop-token-preserved
+loop-token-preserved c =
+    let i = c.loop-token.invariant in
+    let R = read_in _ _ i.0 _ _ c.in-Some.ensures.steps in
+    let m = c.enter-ids.ensures.room in
+    (
+      R.text,
+      record { starts = m.starts ∙ i.1.starts; pasts = m.pasts ∙ i.1.pasts; ix = m.ix ∙ i.1.ix; lefts = m.lefts ∙ i.1.lefts; tokens = m.tokens ∙ i.1.tokens },
+      rw R.at (turn_next _ _ _ _ _ _ _ _ _ i.2 _ _ _ _ _ _ _ _ _ _ R.leads c.enter-ids.ensures.grows (rw (says_in _ _ i.0 _ _ R) at c.enter-ids.ensures.moves) R.mode),
+    )
 
-pub loop-word-smaller : goal.loop-word-smaller
-loop-word-smaller c = let L = token-told c.args.text.now c.loop-word.at _ _ _ _ c.in-Token.is c.next_token.ensures in let o = L.order in let w = L.wide in let i = L.inside in omega (arith, o, w, i)
-
-pub loop-word-preserved : goal.loop-word-preserved
-loop-word-preserved c = let L = token-told c.args.text.now c.loop-word.at _ _ _ _ c.in-Token.is c.next_token.ensures in let i = c.loop-word.invariant in (search rules, search rules, search rules, search rules, search rules, L.inside, turn _ _ _ _ i.6 _ _ _ _ L (c.moved-mode.ensures c.args.text.now c.in-Token.from c.in-Token.past), turn_next _ _ _ _ _ _ _ _ _ i.7 _ _ _ _ _ _ _ _ _ _ L c.enter_word-ids.ensures.grows c.enter_word-ids.ensures.moves (c.moved-mode.ensures c.args.text.now c.in-Token.from c.in-Token.past))
-
-pub shape_of-starts-in-End : goal.shape_of-starts-in-End
-shape_of-starts-in-End c = c.loop-word.invariant.0
-
-pub shape_of-pasts-in-End : goal.shape_of-pasts-in-End
-shape_of-pasts-in-End c = c.loop-word.invariant.1
-
-pub shape_of-ix-in-End : goal.shape_of-ix-in-End
-shape_of-ix-in-End c = c.loop-word.invariant.2
-
-pub shape_of-lefts-in-End : goal.shape_of-lefts-in-End
-shape_of-lefts-in-End c = c.loop-word.invariant.3
-
-pub shape_of-tokens-in-End : goal.shape_of-tokens-in-End
-shape_of-tokens-in-End c = c.loop-word.invariant.4
-
-pub returns-in-End : goal.returns-in-End
-returns-in-End c = turn_last _ _ _ _ _ _ _ _ _ c.loop-word.invariant.7 _ c.in-End.is c.next_token.ensures
-
-pub shape_of-starts-in-Outside : goal.shape_of-starts-in-Outside
-shape_of-starts-in-Outside c = c.loop-word.invariant.0
-
-pub shape_of-pasts-in-Outside : goal.shape_of-pasts-in-Outside
-shape_of-pasts-in-Outside c = c.loop-word.invariant.1
-
-pub shape_of-ix-in-Outside : goal.shape_of-ix-in-Outside
-shape_of-ix-in-Outside c = c.loop-word.invariant.2
-
-pub shape_of-lefts-in-Outside : goal.shape_of-lefts-in-Outside
-shape_of-lefts-in-Outside c = c.loop-word.invariant.3
-
-pub shape_of-tokens-in-Outside : goal.shape_of-tokens-in-Outside
-shape_of-tokens-in-Outside c = c.loop-word.invariant.4
-
-pub returns-in-Outside : goal.returns-in-Outside
-returns-in-Outside c = absurd (true≢false (sym (turn_outside _ _ _ _ c.loop-word.invariant.6 _ c.in-Outside.is c.next_token.ensures)))
+pub returns : goal.returns
+returns c = let i = c.loop-token.invariant in turn_last _ _ _ _ _ _ _ _ _ i.2 (ends_in _ _ i.0 _ c.in-None.ensures.steps)

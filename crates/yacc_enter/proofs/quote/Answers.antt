@@ -3,7 +3,10 @@ use native.Mathlib.Omega.{arith}
 use Rattle.yacc_enter.proofs.quote.Goals as goal
 
 pub number-terminals-requires : goal.number-terminals-requires
-number-terminals-requires c = let b = c.byte-b.ensures.1 in let h = c.requires.0 in (omega (arith, b, h), c.requires.1)
+number-terminals-requires c = let b = c.byte-b.ensures.1 in let h = c.requires.ready.token in (omega (arith, b, h), c.requires.ready.names.terminals)
 
-pub returns : goal.returns
-returns c = record { grows = record { names = omega arith; nonterminals = omega arith; terminals = numbered_most _ _ _ _ c.number-terminals.ensures.value }; moves = λ starts pasts ix lefts. quote-moves _ _ _ _ _ _ c.args.from c.byte-b.ensures c.number-terminals.ensures.numbers_after c.number-terminals.ensures.value starts pasts ix lefts }
+pub returns-clause-grows : goal.returns-clause-grows
+returns-clause-grows c = record { names = omega arith; nonterminals = omega arith; terminals = numbered_most _ _ _ _ c.number-terminals.ensures.value }
+
+pub returns-clause-moves : goal.returns-clause-moves
+returns-clause-moves c = quote-moves _ _ _ _ _ _ c.args.from c.byte-b.ensures c.number-terminals.ensures.numbers_after c.number-terminals.ensures.value _ _ _ _

@@ -1,7 +1,6 @@
-use Prim.Native.Nat.{ℕ, ◌-◌, ◌≤◌}
+use Prim.Native.Nat.{ℕ}
 use mathlib.Core.Path.{◌≡◌}
 use mathlib.Core.Option.{some}
-use lib.ListN.{length}
 use Rattle.yacc_text.specs.Grammar.{Layout}
 use Rattle.yacc_text.specs.Places.{placed_from}
 use Rattle.yacc_text.specs.Parse.{parse}
@@ -12,8 +11,5 @@ use Rattle.yacc_said.specs.Said.{of_said}
 use Rattle.yacc_places.proofs.Laws.{start_in}
 use Rattle.yacc_places.proofs.start_of.Given as goal
 
-abbrev pub invariant-loop-kind : goal.invariant-loop-kind
-invariant-loop-kind live = (live.at ≤ length live.symbols.text.now) × ((l : Layout) → parse live.symbols.text.now ≡ some l → (z : ℕ) → of_said z (start_in (source_in l.pieces).nonterminals) (mode_of live.mode) (placed_from live.symbols.text.now live.at) ≡ start_of (source_in l.pieces).nonterminals (source_in l.pieces).starts)
-
-abbrev pub decreases-loop-kind : goal.decreases-loop-kind
-decreases-loop-kind l = length l.symbols.text.now - l.at
+abbrev pub invariant-loop-token : goal.invariant-loop-token
+invariant-loop-token live = (live.token-iterator.text.now ≡ live.symbols.text.now) × ((l : Layout) → parse live.symbols.text.now ≡ some l → (z : ℕ) → of_said z (start_in (source_in l.pieces).nonterminals) (mode_of live.token-iterator.mode) (placed_from live.symbols.text.now live.token-iterator.at) ≡ start_of (source_in l.pieces).nonterminals (source_in l.pieces).starts)

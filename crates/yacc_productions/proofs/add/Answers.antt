@@ -20,5 +20,5 @@ pub returns : goal.returns
 returns c = let B = c.requires.grammar_len.1 in
     let k = c.if-symbols-ge-SYMBOLS.false in (
       record { production = B.production; owner = B.owner; symbols = omega (arith, k); start = rw c.place_or-start.ensures (place_small _ _ _ c.requires.from_bound.0 B.start); end = c.requires.from_bound.1 },
-      added_is _ _ _ _ _ _ _ _ _ (λ h. refl) (λ h. refl) c.place_or-start.ensures,
+      added_is _ _ _ _ _ _ _ _ _ (λ h. c.words_of-kind.ensures.0) (λ h. c.words_of-kind.ensures.1) c.place_or-start.ensures,
     )

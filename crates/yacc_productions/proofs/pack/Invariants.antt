@@ -1,7 +1,5 @@
-use Prim.Native.Nat.{◌-◌, ◌≤◌}
-use mathlib.Core.Path.{◌≡◌}
+use Rattle.std.proofs.Common.{◌≡◌}
 use mathlib.Core.Option.{some}
-use lib.ListN.{length}
 use Rattle.yacc_text.specs.Grammar.{Layout}
 use Rattle.yacc_text.specs.Parse.{parse}
 use Rattle.yacc_tokens.specs.Accepted.{mode_of}
@@ -9,8 +7,5 @@ use Rattle.yacc_read.specs.Outcome.{source_in}
 use Rattle.yacc_productions.specs.Turn.{Small, Turn}
 use Rattle.yacc_productions.proofs.pack.Given as goal
 
-abbrev pub invariant-loop-kind : goal.invariant-loop-kind
-invariant-loop-kind live = (length live.grammar ≡ length live.initial.grammar) × (live.at ≤ length live.symbols.text.now) × Small live.body × ((l : Layout) → parse live.symbols.text.now ≡ some l → Turn (source_in l.pieces) live.symbols.text.now live.grammar live.body (mode_of live.mode) live.at)
-
-abbrev pub decreases-loop-kind : goal.decreases-loop-kind
-decreases-loop-kind l = length l.symbols.text.now - l.at
+abbrev pub invariant-loop-token : goal.invariant-loop-token
+invariant-loop-token live = (live.token-iterator.text.now ≡ live.symbols.text.now) × Small live.body × ((l : Layout) → parse live.symbols.text.now ≡ some l → Turn (source_in l.pieces) live.symbols.text.now live.grammar live.body (mode_of live.token-iterator.mode) live.token-iterator.at)

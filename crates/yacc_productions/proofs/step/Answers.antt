@@ -4,20 +4,20 @@ use native.Mathlib.Omega.{arith}
 use Rattle.yacc_productions.proofs.step.Goals as goal
 
 pub left_number-owner-requires : goal.left_number-owner-requires
-left_number-owner-requires c = (c.requires.from_lt_past.0, c.requires.from_lt_past.1)
+left_number-owner-requires c = (c.args.token.wide, c.requires.inside.0)
 
 pub symbol-read-requires : goal.symbol-read-requires
-symbol-read-requires c = (c.requires.from_lt_past.0, c.requires.from_lt_past.1)
+symbol-read-requires c = (c.args.token.wide, c.requires.inside.0)
 
 pub add-requires : goal.add-requires
-add-requires c = let w = c.requires.from_lt_past.0 in
-    let i = c.requires.from_lt_past.1 in
-    let l = c.requires.from_lt_past.2 in record { grammar_len = c.requires.grammar_len; from_bound = (omega (arith, w, i, l), omega (arith, i, l)) }
+add-requires c = let w = c.args.token.wide in
+    let i = c.requires.inside.0 in
+    let l = c.requires.inside.1 in record { grammar_len = c.requires.grammar_len; from_bound = (omega (arith, w, i, l), omega (arith, i, l)) }
 
 pub close-requires : goal.close-requires
-close-requires c = let w = c.requires.from_lt_past.0 in
-    let i = c.requires.from_lt_past.1 in
-    let l = c.requires.from_lt_past.2 in record { grammar_len = c.requires.grammar_len; at_bound = omega (arith, w, i, l) }
+close-requires c = let w = c.args.token.wide in
+    let i = c.requires.inside.0 in
+    let l = c.requires.inside.1 in record { grammar_len = c.requires.grammar_len; at_bound = omega (arith, w, i, l) }
 
 pub returns-in-Defines : goal.returns-in-Defines
 returns-in-Defines c = let B = c.requires.grammar_len.1 in record { small = record { production = B.production; owner = c.left_number-owner.ensures.0; symbols = omega arith; start = omega arith; end = omega arith }; turn = λ S H W m at n L e q T. turn_defines S _ _ _ m at T _ _ _ _ n L e q c.in-Defines.is W _ (c.left_number-owner.ensures.1 _ _ H) }

@@ -1,6 +1,7 @@
 use Prim.Native.Nat.{ℕ}
+use mathlib.Core.Path.{refl}
 use lib.ListN.{length-replicate}
-use Rattle.yacc_reader.proofs.Laws.{layout_of, readable, grammar_of, listed-room, listed_small, start_small, written}
+use Rattle.yacc_reader.proofs.Laws.{layout_of, readable, grammar_of, listed-room, listed_small, start_small, has_room, written}
 use native.Mathlib.Omega.{arith}
 use Rattle.yacc_reader.proofs.write_read.Goals as goal
 
@@ -22,5 +23,8 @@ overflow_cast-result c = let k = layout_of c.args.symbols.now.text.now c.args.sy
 pub overflow_cast-result-2 : goal.overflow_cast-result-2
 overflow_cast-result-2 c = let k = layout_of c.args.symbols.now.text.now c.args.symbols.now.grammar in let s = start_small c.args.symbols.now.text.now k.0 k.1 _ _ (c.requires.passes k.0 k.1) _ _ _ _ _ _ c.args.symbols.now.named _ (c.start_of-start.ensures k.0 k.1) in omega (arith, s)
 
+pub returns-in_err-started : goal.returns-in_err-started
+returns-in_err-started c = λ l p. absurd (has_room c.args.symbols.now.text.now l p _ _ (c.requires.passes l p) _ _ _ _ _ _ c.args.symbols.now.named _ _ (c.in_err-started.ensures _ (grammar_of c.args.symbols.now.text.now l p _ _ (c.requires.passes l p) _ _ _ _ _ _ c.args.symbols.now.named _ _ (c.pack-productions.ensures l p))) _ _ refl)
+
 pub returns : goal.returns
-returns c = λ l p. written c.args.symbols.now.text.now l p _ _ (c.requires.passes l p) _ _ _ _ _ _ c.args.symbols.now.named _ _ _ _ _ (c.write_started.ensures _ (grammar_of c.args.symbols.now.text.now l p _ _ (c.requires.passes l p) _ _ _ _ _ _ c.args.symbols.now.named _ _ (c.pack-productions.ensures l p))) c.records_of-records.ensures (c.write_places.ensures l p) (c.start_of-start.ensures l p)
+returns c = λ l p. written c.args.symbols.now.text.now l p _ _ (c.requires.passes l p) _ _ _ _ _ _ c.args.symbols.now.named _ _ (c.in_ok-started.ensures _ (grammar_of c.args.symbols.now.text.now l p _ _ (c.requires.passes l p) _ _ _ _ _ _ c.args.symbols.now.named _ _ (c.pack-productions.ensures l p))) _ _ _ refl (c.write_places.ensures l p) (c.start_of-start.ensures l p)

@@ -14,8 +14,8 @@ returns-then-size-text c = ordered_short _ _ _ _ _ _ c.requires.table_value_2 c.
 pub put_file-size-requires-2 : goal.put_file-size-requires-2
 put_file-size-requires-2 c = (rw c.read_counts-counts.ensures.terminals c.read_counts-counts.ensures.fits.few_terminals, rw c.read_counts-counts.ensures.productions c.read_productions.ensures.0)
 
-pub overflow_cast-written : goal.overflow_cast-written
-overflow_cast-written c = omega (arith, c.put_file-size.ensures.1)
+pub overflow_cast-result : goal.overflow_cast-result
+overflow_cast-result c = omega (arith, c.put_file-size.ensures.1)
 
 pub returns : goal.returns
 returns c = ordered_done _ _ _ _ _ _ c.requires.table_value_2 c.read_counts-counts.ensures.terminals c.read_counts-counts.ensures.productions c.read_productions.ensures.1 c.put_file-size.ensures.0.place c.if-size-text.false _ _ c.put_file-size-2.ensures.0

@@ -1,6 +1,6 @@
 use Rattle.yacc_limits.proofs.Laws.{small, limit_nonterminals, limit_terminals, limit_productions, limit_long, limit_table, limit_places, limit_none}
 use native.Mathlib.Omega.{arith}
-use Rattle.yacc_limits.proofs.refusal.Goals as goal
+use Rattle.yacc_limits.proofs.check_counts.Goals as goal
 
 pub returns-then-n-gt-LIMIT : goal.returns-then-n-gt-LIMIT
 returns-then-n-gt-LIMIT c = λ w. limit_nonterminals _ _ _ w _ _ c.if-n-gt-LIMIT.true

@@ -1,0 +1,24 @@
+-- What entering ids asks and leaves of the words they are entered in. Assumes nothing: these are definitions.
+use Rattle.std.specs.Prelude.{ℕ, ◌+◌, ◌<◌, ◌≡◌, List, length}
+use Rattle.yacc_text.specs.Grammar.{byte_limit}
+use Rattle.yacc_read.specs.Source.{Known}
+use Rattle.yacc_enter.specs.declared.Ids.{Ids}
+use Rattle.yacc_enter.specs.declared.Words.{Words}
+use Rattle.yacc_enter.specs.Ids.{Open, Moves}
+
+-- room for one name and one number more
+pub record Ready (t : List ℕ) (w : Words) (ids : Ids) : Type 0 where
+  pub names : Open t w.starts.now w.pasts.now w.ix.now ids
+  pub left : ids.names < length w.lefts.now
+  pub token : byte_limit + ids.names < length w.tokens.now
+
+pub record SameRoom (w v : Words) : Type 0 where
+  pub starts : length v.starts.now ≡ length w.starts.now
+  pub pasts : length v.pasts.now ≡ length w.pasts.now
+  pub ix : length v.ix.now ≡ length w.ix.now
+  pub lefts : length v.lefts.now ≡ length w.lefts.now
+  pub tokens : length v.tokens.now ≡ length w.tokens.now
+
+-- what was held is held with the left sides os and the tokens ps entered
+abbrev pub MovesTo : List ℕ → Words → Ids → Words → Ids → List Known → List Known → Type 0
+MovesTo t w ids v r os ps = Moves t w.starts.now w.pasts.now w.ix.now w.lefts.now w.tokens.now ids v.starts.now v.pasts.now v.ix.now v.lefts.now v.tokens.now r os ps

@@ -1,0 +1,9 @@
+-- Words in which no ids are entered yet. Assumes nothing: these are definitions.
+use Rattle.std.specs.Prelude.{ℕ, ◌≤◌, List, length}
+use Rattle.yacc_text.specs.Grammar.{text_limit}
+use Rattle.yacc_enter.specs.Ids.{Fresh}
+use Rattle.yacc_reader.specs.declared.Room.{Room}
+
+-- of any text
+abbrev pub IsFresh : Room → Type 0
+IsFresh r = (t : List ℕ) → length t ≤ text_limit → Fresh t r.starts r.pasts r.ix r.lefts r.tokens

@@ -1,0 +1,37 @@
+use Rattle.std.proofs.Common.{arith, refl, sym}
+use mathlib.Core.Bool.{true≢false}
+use Rattle.yacc_lex.specs.Steps.{Told}
+use Rattle.yacc_tokens.proofs.Laws.{turn, turn_outside}
+use Rattle.yacc_said.specs.Tokens.{Gives}
+use Rattle.yacc_said.proofs.TokenIterIterator.next.Goals as goal
+
+pub invariant_of-token : goal.invariant_of-token
+unfolding Told
+invariant_of-token c = record { says = c.said.ensures; wide = c.in-Token.ensures.wide }
+
+pub invariant_of-self : goal.invariant_of-self
+unfolding Told
+invariant_of-self c = record {
+    inside = c.in-Token.ensures.inside;
+    accepted = turn _ _ _ _ c.args.self.now.accepted _ _ _ _ c.in-Token.ensures (c.moved-self.ensures _ _ _);
+  }
+
+pub returns-in-Token-clause-steps : goal.returns-in-Token-clause-steps
+unfolding Told Gives
+returns-in-Token-clause-steps c = record { leads = c.in-Token.ensures; in_mode = refl; text = refl; at = refl; mode = c.moved-self.ensures _ _ _ }
+
+pub returns-in-Token-clause-goes : goal.returns-in-Token-clause-goes
+unfolding Told
+returns-in-Token-clause-goes c =
+    let L = c.in-Token.ensures in
+    let o = L.order in
+    let w = L.wide in
+    let i = L.inside in
+    record { on = λ f. (tt, tt, omega (arith, o, w, i)); keeps = tt; rests = λ f. tt }
+
+pub returns-in-End-clause-steps : goal.returns-in-End-clause-steps
+unfolding Told Gives
+returns-in-End-clause-steps c = c.in-End.ensures
+
+pub returns-in-Outside : goal.returns-in-Outside
+returns-in-Outside c = absurd (true≢false (sym (turn_outside _ _ _ _ c.args.self.now.accepted _ c.in-Outside.is c.next_token.ensures)))

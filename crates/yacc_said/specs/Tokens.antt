@@ -1,0 +1,21 @@
+-- What going through the words of a text gives. Assumes nothing: these are definitions.
+use Rattle.std.specs.Prelude.{ℕ, ◌≡◌, List, [], Option as Answered, Some, None}
+use Rattle.std.proofs.Math.Option.{some}
+use Rattle.yacc_text.specs.Forward.{move}
+use Rattle.yacc_text.specs.Places.{placed_from}
+use Rattle.yacc_lex.specs.Steps.{token_at, Leads}
+use Rattle.yacc_tokens.specs.Accepted.{mode_of}
+use Rattle.yacc_said.specs.declared.Token.{Token}
+use Rattle.yacc_said.specs.declared.TokenIter.{TokenIter}
+
+-- of a text t: the first word from the place on, and where the others follow
+pub record Reads (t : List ℕ) (s : TokenIter) (k : Token) (u : TokenIter) : Type 0 where
+  pub leads : Leads t s.at k.word k.from k.past
+  pub in_mode : mode_of k.mode ≡ mode_of s.mode
+  pub text : u.text.now ≡ t
+  pub at : u.at ≡ k.past
+  pub mode : mode_of u.mode ≡ move (mode_of s.mode) (token_at t k.word k.from k.past)
+
+unfoldable pub Gives : TokenIter → Answered Token → TokenIter → Type 0
+Gives s (Some k) u = Reads s.text.now s k u
+Gives s None u = placed_from s.text.now s.at ≡ some []
