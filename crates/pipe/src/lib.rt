@@ -11,13 +11,13 @@ use std::io;
 use streams::{Failed, read, read_some, write};
 
 // The most records of a table, its words and their bytes.
-const RECORDS: usize = 8192;
+pub const RECORDS: usize = 8192;
 
 pub const WORDS: usize = RECORDS * 4;
 
 pub const BYTES: usize = WORDS * 2;
 
-// What ends a program's run: a refusal; or a read or a write failed, which standard error says already.
+// What ends a program's run, an error that `?` takes: a refusal; or a read or a write failed, which standard error says already.
 #[derive(Clone, Copy)]
 pub enum Stop {
     Refused(Refusal),

@@ -44,6 +44,7 @@ pub fn put_named(out: &mut [u8], at: usize, name: &[u8], n: usize) -> usize
     put_after(out, next, b' ', n as u64)
 }
 
+// Here and below the words of any record are put as they stand, so that a symbol's kind is a number.
 fn put_symbol_part(out: &mut [u8], at: usize, kind: usize, number: usize) -> usize
     requires { at + 50 ≤ length out.old }
     ensures { Put out.old at (symbol_part true kind number) out.new result × (result ≤ at + 50) }
@@ -82,7 +83,6 @@ fn put_item_part(
     put_rule(out, at, nonterminal, symbols(grammar, p, productions), i)
 }
 
-// In words of any record, so that the kind is a number.
 fn put_by(out: &mut [u8], at: usize, kind: usize, number: usize) -> usize
     requires { at + 85 ≤ length out.old }
     ensures { Put out.old at (named (by_text kind) number) out.new result × (result ≤ at + 85) }

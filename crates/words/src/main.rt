@@ -7,7 +7,7 @@ ghost use Rattle.words.specs.Text.{digit, line_begun, step, scan};
 ghost use Rattle.words.specs.Bytes.{Below, Near, word_of, in_comment_of, reader_of, fed_of, written_of, tell, in_bytes};
 
 use std::io;
-use streams::{Failed, read, write};
+use streams::{Failed, PIECES, read, write};
 
 // What a reader stands in; a number may go on.
 #[derive(Clone, Copy)]
@@ -189,12 +189,11 @@ fn read_piece<R: io::Input + Print + Eprint>(
     Ok(None)
 }
 
-// A loop has to end, so this one counts its pieces up to a number that no run comes to.
 fn main(rt: HostRuntime) {
     let mut bytes = [0u8; 65536];
     let mut out = [0u8; 131072];
     let mut reader = Reader::START;
-    for _piece in 0..1099511627776u64 {
+    for _piece in 0..PIECES {
         let Ok(Some(next)) = read_piece(&rt, reader, &mut bytes, &mut out) else {
             return;
         };
