@@ -3,20 +3,15 @@
 #![tactic(auto)]
 
 use compaction::compact;
-use pipe::{Stop, read_table, say_end, write_table};
+use pipe::{BYTES, Stop, WORDS, read_table, say_end, write_table};
 use std::io;
 
 fn compact_input<R: io::Input + Print + Eprint>(rt: &R) -> Result<(), Stop> {
-    let mut bytes = [0u8; 65536];
-    let mut table = [0u16; 32768];
+    let mut bytes = [0u8; BYTES];
+    let mut table = [0u16; WORDS];
     let words = read_table(rt, &mut bytes, &mut table)? * 4;
-    match compact(&mut table[..words]) {
-        Err(refusal) => Err(Stop::Refused(refusal.number(), refusal.place())),
-        Ok(left) => {
-            let past = left as usize * 4;
-            Ok(write_table(rt, &table[..past], &mut bytes)?)
-        }
-    }
+    let past = compact(&mut table[..words])? as usize * 4;
+    Ok(write_table(rt, &table[..past], &mut bytes)?)
 }
 
 fn main(rt: HostRuntime) {

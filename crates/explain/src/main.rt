@@ -10,23 +10,18 @@ use error::Conflict;
 use example::Example;
 use lines::{lines, refused_line};
 use little::decode;
-use pipe::{Stop, read_table};
+use pipe::{BYTES, Stop, WORDS, read_table};
 use report::classify;
-use repr::ProductionIndex;
+use repr::{ProductionIndex, Refusal};
 use state_graph::StateIndex;
 use std::io;
-use streams::{Failed, read, write};
+use streams::{Failed, PIECES, read, write};
 use table_check::check;
 
 // One line for a refusal of the table (number 0) or of a conflict.
-fn say_refused<R: Print + Eprint>(
-    rt: &R,
-    number: u64,
-    refusal: u16,
-    place: u16,
-) -> Result<(), Failed> {
+fn say_refused<R: Print + Eprint>(rt: &R, number: u64, refusal: Refusal) -> Result<(), Failed> {
     let mut out = [0u8; 200];
-    let n = refused_line(&mut out, number, refusal, place);
+    let n = refused_line(&mut out, number, refusal.number(), refusal.place());
     write(rt, &out[..n])
 }
 
@@ -105,12 +100,12 @@ fn explain_piece<R: io::Input + Print + Eprint>(
     let n = decode(&bytes[..got], words);
     explain_some(rt, table, &words[..n], first, out)?;
     if got % 10 != 0 {
-        say_refused(rt, first + got as u64 / 10, 9, 0)?;
+        say_refused(rt, first + got as u64 / 10, Refusal::OutOfRange)?;
     }
     Ok(got == bytes.len())
 }
 
-// All conflicts, piece by piece: 40,960 bytes are 4,096 conflicts. A loop has to end, so it counts its pieces up to a number that no run comes to.
+// All conflicts, piece by piece: 40,960 bytes are 4,096 conflicts.
 fn explain_conflicts<R: io::Input + Print + Eprint>(
     rt: &R,
     table: &[u16],
@@ -120,7 +115,7 @@ fn explain_conflicts<R: io::Input + Print + Eprint>(
 {
     let mut words = [0u16; 20480];
     let mut out = [0u8; 65536];
-    for piece in 0..1099511627776u64 {
+    for piece in 0..PIECES {
         if !explain_piece(rt, table, 1 + piece * 4096, bytes, &mut words, &mut out)? {
             break;
         }
@@ -129,18 +124,16 @@ fn explain_conflicts<R: io::Input + Print + Eprint>(
 }
 
 fn explain_input<R: io::Input + Print + Eprint>(rt: &R) -> Result<(), Stop> {
-    let mut bytes = [0u8; 65536];
-    let mut table = [0u16; 32768];
+    let mut bytes = [0u8; BYTES];
+    let mut table = [0u16; WORDS];
     let words = read_table(rt, &mut bytes, &mut table)? * 4;
     let table = &table[..words];
-    match check(table) {
-        Err(refusal) => Err(Stop::Refused(refusal.number(), refusal.place())),
-        Ok(_) => Ok(explain_conflicts(rt, table, &mut bytes[..40960])?),
-    }
+    check(table)?;
+    Ok(explain_conflicts(rt, table, &mut bytes[..40960])?)
 }
 
 fn main(rt: HostRuntime) {
-    if let Err(Stop::Refused(refusal, place)) = explain_input(&rt) {
-        let _ = say_refused(&rt, 0, refusal, place);
+    if let Err(Stop::Refused(refusal)) = explain_input(&rt) {
+        let _ = say_refused(&rt, 0, refusal);
     }
 }

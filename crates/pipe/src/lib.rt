@@ -6,14 +6,28 @@ ghost use Rattle.repr.specs.Sizes.{record_limit};
 ghost use Rattle.pipe.specs.Given.{Holds};
 
 use little::{decode, encode};
+use repr::Refusal;
 use std::io;
 use streams::{Failed, read, read_some, write};
 
-// What ends a program's run: a refusal, its number and its place; or a read or a write failed, which standard error says already.
+// The most records of a table, its words and their bytes.
+pub const RECORDS: usize = 8192;
+
+pub const WORDS: usize = RECORDS * 4;
+
+pub const BYTES: usize = WORDS * 2;
+
+// What ends a program's run, an error that `?` takes: a refusal; or a read or a write failed, which standard error says already.
 #[derive(Clone, Copy)]
 pub enum Stop {
-    Refused(u16, u16),
+    Refused(Refusal),
     Failed,
+}
+
+impl From<Refusal> for Stop {
+    fn from(refusal: Refusal) -> Stop {
+        Stop::Refused(refusal)
+    }
 }
 
 impl From<Failed> for Stop {
@@ -22,7 +36,16 @@ impl From<Failed> for Stop {
     }
 }
 
+// All of the bytes; where the stream ends before, that is refusal 1.
+fn read_whole<R: io::Input + Eprint>(rt: &R, bytes: &mut [u8]) -> Result<(), Stop> {
+    if read(rt, bytes)? < bytes.len() {
+        return Err(Refusal::Words.into());
+    }
+    Ok(())
+}
+
 // The number of the table's records, its words at the front of `table`. A stream that ends before its table does, or has a number of records that no table has, is refusal 1.
+// The buffers are slices here and below, since arrays of their sizes would ask more of callers.
 #[tactic(auto, unfolding(crate::specs::Given::Holds))]
 pub fn read_table<R: io::Input + Eprint>(
     rt: &R,
@@ -34,30 +57,21 @@ pub fn read_table<R: io::Input + Eprint>(
     ensures few { IfOk result (λ records. records ≤ record_limit) }
 {
     let mut first = [0u8; 2];
-    if read(rt, &mut first)? < 2 {
-        return Err(Stop::Refused(1, 0));
-    }
+    read_whole(rt, &mut first)?;
     let records = u16::from_le_bytes(first) as usize;
-    if records > 8192 {
-        return Err(Stop::Refused(1, 0));
+    if records > RECORDS {
+        return Err(Refusal::Words.into());
     }
     let size = records * 8;
-    if read(rt, &mut bytes[..size])? < size {
-        return Err(Stop::Refused(1, 0));
-    }
+    read_whole(rt, &mut bytes[..size])?;
     decode(&bytes[..size], table);
     Ok(records)
 }
 
-// A refusal, in one line on standard error.
-pub fn say_refused<R: Eprint>(rt: &R, refusal: u16, place: u16) {
-    let _ = eprintln!(rt; "refused {refusal} {place}");
-}
-
-// How a run ended: a refusal is said.
+// How a run ended: a refusal is said, in one line on standard error.
 pub fn say_end<R: Eprint>(rt: &R, run: Result<(), Stop>) {
-    if let Err(Stop::Refused(refusal, place)) = run {
-        say_refused(rt, refusal, place);
+    if let Err(Stop::Refused(refusal)) = run {
+        let _ = eprintln!(rt; "refused {} {}", refusal.number(), refusal.place());
     }
 }
 
@@ -73,11 +87,11 @@ pub fn pass_on<R: io::Input + Print + Eprint>(rt: &R, bytes: &mut [u8]) -> Resul
     Ok(())
 }
 
-// Words as bytes, 32,768 at a time.
+// Words as bytes, a table's most at a time.
 pub fn write_words<R: Print + Eprint>(rt: &R, words: &[u16], bytes: &mut [u8]) -> Result<(), Failed>
     requires { 65536 ≤ length bytes.old }
 {
-    for piece in words.chunks(32768) {
+    for piece in words.chunks(WORDS) {
         let size = piece.len() * 2;
         encode(piece, bytes);
         write(rt, &bytes[..size])?;

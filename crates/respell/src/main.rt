@@ -2,22 +2,17 @@
 // A refusal is said in one line on standard error, and nothing is written. A read or a write that fails is said there too and ends the run.
 #![tactic(auto)]
 
-use pipe::{Stop, read_table, say_end, write_table};
+use pipe::{BYTES, Stop, WORDS, read_table, say_end, write_table};
 use spelling::respell;
 use std::io;
 
 fn respell_input<R: io::Input + Print + Eprint>(rt: &R) -> Result<(), Stop> {
-    let mut bytes = [0u8; 65536];
-    let mut table = [0u16; 32768];
-    let mut out = [0u16; 32768];
+    let mut bytes = [0u8; BYTES];
+    let mut table = [0u16; WORDS];
+    let mut out = [0u16; WORDS];
     let words = read_table(rt, &mut bytes, &mut table)? * 4;
-    match respell(&table[..words], &mut out) {
-        Err(refusal) => Err(Stop::Refused(refusal.number(), refusal.place())),
-        Ok(count) => {
-            let past = count as usize * 4;
-            Ok(write_table(rt, &out[..past], &mut bytes)?)
-        }
-    }
+    let past = respell(&table[..words], &mut out)? as usize * 4;
+    Ok(write_table(rt, &out[..past], &mut bytes)?)
 }
 
 fn main(rt: HostRuntime) {

@@ -7,7 +7,7 @@ ghost use Rattle.std.specs.Prelude.{◌*◌, ◌≤◌, length};
 ghost use Rattle.repr.specs.Sizes.{record_limit};
 
 use builder::{Built, build_states};
-use pipe::{Stop, pass_on, read_table, say_end, write_records, write_words};
+use pipe::{BYTES, Stop, WORDS, pass_on, read_table, say_end, write_records, write_words};
 use repr::ProductionIndex;
 use std::io;
 use streams::{Failed, read};
@@ -15,11 +15,9 @@ use streams::{Failed, read};
 // The start production behind the table; where there is none, a number that no production has.
 fn read_start<R: io::Input + Eprint>(rt: &R) -> Result<ProductionIndex, Failed> {
     let mut bytes = [0u8; 2];
-    let got = read(rt, &mut bytes)?;
-    let start = if got == 2 {
-        u16::from_le_bytes(bytes)
-    } else {
-        u16::MAX
+    let start = match read(rt, &mut bytes)? {
+        2 => u16::from_le_bytes(bytes),
+        _ => u16::MAX,
     };
     Ok(ProductionIndex(start))
 }
@@ -40,12 +38,12 @@ fn write_states<R: io::Input + Print + Eprint>(
 }
 
 fn build_input<R: io::Input + Print + Eprint>(rt: &R) -> Result<(), Stop> {
-    let mut bytes = [0u8; 65536];
-    let mut table = [0u16; 32768];
+    let mut bytes = [0u8; BYTES];
+    let mut table = [0u16; WORDS];
     let words = read_table(rt, &mut bytes, &mut table)? * 4;
     let start = read_start(rt)?;
     let mut scratch = [0u16; Built::SCRATCH];
-    let mut out = [0u16; 32768];
+    let mut out = [0u16; WORDS];
     let mut conflicts = [0u16; 327675];
     match build_states(
         &table[..words],
@@ -54,7 +52,7 @@ fn build_input<R: io::Input + Print + Eprint>(rt: &R) -> Result<(), Stop> {
         &mut out,
         &mut conflicts,
     ) {
-        Err(refusal) => Err(Stop::Refused(refusal.number(), refusal.place())),
+        Err(refusal) => Err(Stop::Refused(refusal)),
         Ok(built) => {
             let past = built.records as usize * 4;
             let end = built.conflicts as usize * 5;

@@ -7,6 +7,9 @@ ghost use Rattle.streams.specs.Counts.{IsPrefixLen};
 use std::io;
 use std::io::{Read, Write};
 
+// More pieces than any run reads: a loop over a stream has to end, so it counts up to here.
+pub const PIECES: u64 = 1099511627776;
+
 // A read or a write failed, and standard error says why.
 #[derive(Clone, Copy)]
 pub struct Failed;
@@ -47,7 +50,7 @@ pub fn read_some<R: io::Input + Eprint>(rt: &R, bytes: &mut [u8]) -> Result<usiz
         .map_err(|error| say_failed(rt, "standard input", error))
 }
 
-// Bytes until the buffer is full or the input ends; how many.
+// Bytes until the buffer is full or the input ends; how many. It counts what each read gives, which no range does; where the input ends before, `read_exact` does not say how many.
 pub fn read<R: io::Input + Eprint>(rt: &R, bytes: &mut [u8]) -> Result<usize, Failed>
     ensures { IfOk result (λ got. IsPrefixLen got bytes.new) }
 {

@@ -12,10 +12,10 @@ ghost use Rattle.table_check.specs.Known.{AreasOf};
 ghost use Rattle.typed.specs.Typed.{IsItem};
 
 use little::decode;
-use pipe::{Stop, read_table, say_end};
+use pipe::{BYTES, RECORDS, Stop, WORDS, read_table, say_end};
 use repr::{Grammar, ProductionIndex};
 use std::io;
-use streams::{Failed, read, write};
+use streams::{Failed, PIECES, read, write};
 use table::read_productions;
 use table_check::areas::{Areas, survey};
 use table_check::check;
@@ -24,9 +24,9 @@ use typed::{Roles, numbers_line, record_line};
 // Which records the chains of each sort reach, as far as these were followed.
 #[derive(Drop)]
 struct Marks {
-    symbols: [bool; 8192],
-    items: [bool; 8192],
-    edges: [bool; 8192],
+    symbols: [bool; RECORDS],
+    items: [bool; RECORDS],
+    edges: [bool; RECORDS],
 }
 
 // Numbers, a name and another number.
@@ -45,8 +45,8 @@ fn write_numbers<R: Print + Eprint>(
 
 // Marks the record that an index names.
 fn mark(marks: &mut [bool], x: usize) {
-    if x < marks.len() {
-        marks[x] = true;
+    if let Some(marked) = marks.get_mut(x) {
+        *marked = true;
     }
 }
 
@@ -61,7 +61,7 @@ fn mark_heads(table: &[u16], first: usize, past: usize, k: usize, marks: &mut [b
 
 // Whether record r is marked; if so, its next is marked too.
 fn follow(marks: &mut [bool], r: usize, next: usize) -> bool {
-    let marked = r < marks.len() && marks[r];
+    let marked = marks.get(r) == Some(&true);
     if marked {
         mark(marks, next);
     }
@@ -114,10 +114,9 @@ fn write_table<R: Print + Eprint>(rt: &R, table: &[u16], out: &mut [u8]) -> Resu
     requires { (check_of table.now ≡ Accepted) × (2048 ≤ length out.old) }
 {
     let a = survey(table);
-    let count = [a.records as u16; 1];
     write_numbers(
         rt,
-        &count,
+        &[a.records as u16],
         b" # records of the table, the last with the number",
         a.records - 1,
         out,
@@ -125,9 +124,9 @@ fn write_table<R: Print + Eprint>(rt: &R, table: &[u16], out: &mut [u8]) -> Resu
     let mut grammar = [0u16; ProductionIndex::ALL_WORDS];
     read_productions(table, &mut grammar);
     let mut marks = Marks {
-        symbols: [false; 8192],
-        items: [false; 8192],
-        edges: [false; 8192],
+        symbols: [false; RECORDS],
+        items: [false; RECORDS],
+        edges: [false; RECORDS],
     };
     mark_heads(table, a.productions_at, a.loose_at, 1, &mut marks.symbols);
     mark_heads(table, a.states_at, a.productions_at, 0, &mut marks.items);
@@ -185,13 +184,13 @@ fn text_piece<R: io::Input + Print + Eprint>(
     Ok(got == bytes.len())
 }
 
-// The rest, piece by piece: 40,960 bytes are 4,096 conflicts. A loop has to end, so it counts its pieces up to a number that no run comes to.
+// The rest, piece by piece: 40,960 bytes are 4,096 conflicts.
 fn text_rest<R: io::Input + Print + Eprint>(rt: &R, out: &mut [u8]) -> Result<(), Failed>
     requires { 2048 ≤ length out.old }
 {
     let mut bytes = [0u8; 40960];
     let mut words = [0u16; 20480];
-    for piece in 0..1099511627776usize {
+    for piece in 0..PIECES as usize {
         if !text_piece(rt, 1 + piece * 4096, &mut bytes, &mut words, out)? {
             break;
         }
@@ -200,18 +199,14 @@ fn text_rest<R: io::Input + Print + Eprint>(rt: &R, out: &mut [u8]) -> Result<()
 }
 
 fn text_input<R: io::Input + Print + Eprint>(rt: &R) -> Result<(), Stop> {
-    let mut bytes = [0u8; 65536];
-    let mut table = [0u16; 32768];
+    let mut bytes = [0u8; BYTES];
+    let mut table = [0u16; WORDS];
     let mut out = [0u8; 2048];
     let words = read_table(rt, &mut bytes, &mut table)? * 4;
     let table = &table[..words];
-    match check(table) {
-        Err(refusal) => Err(Stop::Refused(refusal.number(), refusal.place())),
-        Ok(_) => {
-            write_table(rt, table, &mut out)?;
-            Ok(text_rest(rt, &mut out)?)
-        }
-    }
+    check(table)?;
+    write_table(rt, table, &mut out)?;
+    Ok(text_rest(rt, &mut out)?)
 }
 
 fn main(rt: HostRuntime) {

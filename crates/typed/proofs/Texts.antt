@@ -57,26 +57,32 @@ pub named_put : {a b c : List ℕ} {at m r : ℕ} (name : List ℕ) (n : ℕ) �
 unfolding named spaced
 named_put name n P Q = put_then P Q
 
-pub symbol-yes : {shown : Bool} {a b c : List ℕ} {at m r : ℕ} (k n : ℕ) → shown ≡ true → Put a at symbol_place b m → Put b m (symbol_text k n) c r → Put a at (symbol_part shown k n) c r
+pub symbol-put : {a b c : List ℕ} {at m r : ℕ} (k n : ℕ) → Put a at symbol_place b m → Put b m (symbol_text k n) c r → Put a at (symbol_part true k n) c r
 unfolding symbol_part
-symbol-yes k n e P Q = rw e (put_then P Q)
+symbol-put k n P Q = put_then P Q
 
-pub symbol_no : {shown : Bool} (a : List ℕ) (at k n : ℕ) → shown ≡ false → Put a at (symbol_part shown k n) a at
+pub symbol-yes : {shown : Bool} {a b : List ℕ} {at r : ℕ} (k n : ℕ) → shown ≡ true → Put a at (symbol_part true k n) b r → Put a at (symbol_part shown k n) b r
+symbol-yes k n e P = rw e P
+
+pub symbol_no : {shown : Bool} {a b : List ℕ} {at r : ℕ} (k n : ℕ) → shown ≡ false → b ≡ a → r ≡ at → Put a at (symbol_part shown k n) b r
 unfolding symbol_part
-symbol_no a at k n e = rw e (put-nothing a at)
+symbol_no {a = a} {at = at} k n e f g = rw (e, f, g) (put-nothing a at)
 
 pub rule-put : {a b c d e f front back : List ℕ} {at m₁ m₂ m₃ m₄ r : ℕ} (n : ℕ) (ws : List ℕ) (i : ℕ) → front ≡ take (2 * i) ws → back ≡ drop (2 * i) ws
     → Put a at (named item_place n) b m₁ → Put b m₁ equals_text c m₂ → Put c m₂ (symbol_texts front) d m₃ → Put d m₃ dot_text e m₄ → Put e m₄ (symbol_texts back) f r → Put a at (rule_text n ws i) f r
 unfolding rule_text
 rule-put n ws i ef eb P Q R S T = put_then P (put_then Q (put_then (put_as R (ap symbol_texts ef)) (put_then S (put_as T (ap symbol_texts eb)))))
 
-pub item-yes : {shown : Bool} {a b ws : List ℕ} {at r n : ℕ} (g : List ℕ) (p i : ℕ) → shown ≡ true → n ≡ get_or g (production_place p) 0 → ws ≡ symbol_words g p → Put a at (rule_text n ws i) b r → Put a at (item_part shown g p i) b r
+pub item-put : {a b ws : List ℕ} {at r n : ℕ} (g : List ℕ) (p i : ℕ) → n ≡ get_or g (production_place p) 0 → ws ≡ symbol_words g p → Put a at (rule_text n ws i) b r → Put a at (item_part true g p i) b r
 unfolding item_part
-item-yes {ws = ws} g p i e f h P = rw e (put_as P (ap (λ (k : ℕ). rule_text k ws i) f ∙ ap (λ (l : List ℕ). rule_text (get_or g (production_place p) 0) l i) h))
+item-put {ws = ws} g p i f h P = put_as P (ap (λ (k : ℕ). rule_text k ws i) f ∙ ap (λ (l : List ℕ). rule_text (get_or g (production_place p) 0) l i) h)
 
-pub item_no : {shown : Bool} (a : List ℕ) (at : ℕ) (g : List ℕ) (p i : ℕ) → shown ≡ false → Put a at (item_part shown g p i) a at
+pub item-yes : {shown : Bool} {a b : List ℕ} {at r : ℕ} (g : List ℕ) (p i : ℕ) → shown ≡ true → Put a at (item_part true g p i) b r → Put a at (item_part shown g p i) b r
+item-yes g p i e P = rw e P
+
+pub item_no : {shown : Bool} {a b : List ℕ} {at r : ℕ} (g : List ℕ) (p i : ℕ) → shown ≡ false → b ≡ a → r ≡ at → Put a at (item_part shown g p i) b r
 unfolding item_part
-item_no a at g p i e = rw e (put-nothing a at)
+item_no {a = a} {at = at} g p i e f h = rw (e, f, h) (put-nothing a at)
 
 pub by_nonterminal_lem : {a b : List ℕ} {at r : ℕ} (kind n : ℕ) → kind ≡ 0 → Put a at (named by_nonterminal n) b r → Put a at (named (by_text kind) n) b r
 unfolding by_text
@@ -86,13 +92,16 @@ pub by_terminal_lem : {a b : List ℕ} {at r : ℕ} (kind n : ℕ) → (kind ≡
 unfolding by_text
 by_terminal_lem kind n e P = rw (ne_eqb kind 0 e, by_text) P
 
-pub edge_yes : {shown : Bool} {a b c : List ℕ} {at m r : ℕ} (k n t : ℕ) → shown ≡ true → Put a at (named (by_text k) n) b m → Put b m (named to_state t) c r → Put a at (edge_part shown k n t) c r
+pub edge_put : {a b c : List ℕ} {at m r : ℕ} (k n t : ℕ) → Put a at (named (by_text k) n) b m → Put b m (named to_state t) c r → Put a at (edge_part true k n t) c r
 unfolding edge_part
-edge_yes k n t e P Q = rw e (put_then P Q)
+edge_put k n t P Q = put_then P Q
 
-pub edge_no : {shown : Bool} (a : List ℕ) (at k n t : ℕ) → shown ≡ false → Put a at (edge_part shown k n t) a at
+pub edge_yes : {shown : Bool} {a b : List ℕ} {at r : ℕ} (k n t : ℕ) → shown ≡ true → Put a at (edge_part true k n t) b r → Put a at (edge_part shown k n t) b r
+edge_yes k n t e P = rw e P
+
+pub edge_no : {shown : Bool} {a b : List ℕ} {at r : ℕ} (k n t : ℕ) → shown ≡ false → b ≡ a → r ≡ at → Put a at (edge_part shown k n t) b r
 unfolding edge_part
-edge_no a at k n t e = rw e (put-nothing a at)
+edge_no {a = a} {at = at} k n t e f g = rw (e, f, g) (put-nothing a at)
 
 pub used-symbol : (R : Roles) (a : List ℕ) (at : ℕ) → R.symbol ≡ true → Put a at (unused_part R) a at
 unfolding unused_part

@@ -15,7 +15,7 @@ use lines::{put, put_after, put_symbol, put_symbols, put_text};
 use repr::{Grammar, ProductionIndex, word};
 use table_check::areas::Areas;
 
-// The sorts of chains that reach a loose record.
+// The sorts of chains that reach a loose record: a set, since chains may share it.
 #[derive(Clone, Copy)]
 pub struct Roles {
     pub symbol: bool,
@@ -44,16 +44,13 @@ pub fn put_named(out: &mut [u8], at: usize, name: &[u8], n: usize) -> usize
     put_after(out, next, b' ', n as u64)
 }
 
-// Whether a part is shown is an argument of what puts it, as in specs/Typed, so that `put_loose` has no branch.
-fn put_symbol_part(out: &mut [u8], at: usize, shown: bool, kind: usize, number: usize) -> usize
+// Here and below the words of any record are put as they stand, so that a symbol's kind is a number.
+fn put_symbol_part(out: &mut [u8], at: usize, kind: usize, number: usize) -> usize
     requires { at + 50 ≤ length out.old }
-    ensures { Put out.old at (symbol_part shown kind number) out.new result × (result ≤ at + 50) }
+    ensures { Put out.old at (symbol_part true kind number) out.new result × (result ≤ at + 50) }
 {
-    if shown {
-        let next = put_text(out, at, b": symbol");
-        return put_symbol(out, next, kind, number);
-    }
-    at
+    let next = put_text(out, at, b": symbol");
+    put_symbol(out, next, kind, number)
 }
 
 // A production of these symbols with the cursor behind i of them.
@@ -73,48 +70,34 @@ fn put_rule(out: &mut [u8], at: usize, nonterminal: usize, words: &[u16], i: usi
 fn put_item_part(
     out: &mut [u8],
     at: usize,
-    shown: bool,
     grammar: Grammar,
     p: usize,
     i: usize,
 ) -> usize
-    requires within { shown ≡ true → IsItem grammar.words.now grammar.productions p i }
+    requires item { IsItem grammar.words.now grammar.productions p i }
     requires at_in_bounds { at + 800 ≤ length out.old }
-    ensures { Put out.old at (item_part shown grammar.entry.words.now p i) out.new result × (result ≤ at + 800) }
+    ensures { Put out.old at (item_part true grammar.entry.words.now p i) out.new result × (result ≤ at + 800) }
 {
-    if shown {
-        let nonterminal = word(grammar.words, p * ProductionIndex::WORDS);
-        return put_rule(out, at, nonterminal, grammar.symbols(p), i);
-    }
-    at
+    let nonterminal = word(grammar.words, p * ProductionIndex::WORDS);
+    put_rule(out, at, nonterminal, grammar.symbols(p), i)
 }
 
 fn put_by(out: &mut [u8], at: usize, kind: usize, number: usize) -> usize
     requires { at + 85 ≤ length out.old }
     ensures { Put out.old at (named (by_text kind) number) out.new result × (result ≤ at + 85) }
 {
-    if kind == 0 {
-        return put_named(out, at, b": edge by nonterminal", number);
+    match kind {
+        0 => put_named(out, at, b": edge by nonterminal", number),
+        _ => put_named(out, at, b": edge by terminal", number),
     }
-    put_named(out, at, b": edge by terminal", number)
 }
 
-fn put_edge_part(
-    out: &mut [u8],
-    at: usize,
-    shown: bool,
-    kind: usize,
-    number: usize,
-    target: usize,
-) -> usize
+fn put_edge_part(out: &mut [u8], at: usize, kind: usize, number: usize, target: usize) -> usize
     requires { at + 170 ≤ length out.old }
-    ensures { Put out.old at (edge_part shown kind number target) out.new result × (result ≤ at + 170) }
+    ensures { Put out.old at (edge_part true kind number target) out.new result × (result ≤ at + 170) }
 {
-    if shown {
-        let next = put_by(out, at, kind, number);
-        return put_named(out, next, b" to state", target);
-    }
-    at
+    let next = put_by(out, at, kind, number);
+    put_named(out, next, b" to state", target)
 }
 
 fn put_unused_part(out: &mut [u8], at: usize, roles: Roles) -> usize
@@ -144,10 +127,17 @@ fn put_loose(
     let one = table::word(table, r, 1);
     let two = table::word(table, r, 2);
     let three = table::word(table, r, 3);
-    let first = put_symbol_part(out, at, roles.symbol, one, two);
-    let second = put_item_part(out, first, roles.item, grammar, one, two);
-    let third = put_edge_part(out, second, roles.edge, one, two, three);
-    put_unused_part(out, third, roles)
+    let mut place = at;
+    if roles.symbol {
+        place = put_symbol_part(out, place, one, two);
+    }
+    if roles.item {
+        place = put_item_part(out, place, grammar, one, two);
+    }
+    if roles.edge {
+        place = put_edge_part(out, place, one, two, three);
+    }
+    put_unused_part(out, place, roles)
 }
 
 // What a record of the areas is.
@@ -155,16 +145,12 @@ fn put_area(out: &mut [u8], at: usize, table: &[u16], a: Areas, r: usize) -> usi
     requires { AreasOf table.now a × (at + 1028 ≤ length out.old) }
     ensures { Put out.old at (area_text table.now r) out.new result × (result ≤ at + 1028) }
 {
-    if r == 0 {
-        return put_text(out, at, b": nonterminals, terminals, states, productions");
+    match r {
+        0 => put_text(out, at, b": nonterminals, terminals, states, productions"),
+        _ if r < a.states_at => put_named(out, at, b": nonterminal", r - 1),
+        _ if r < a.productions_at => put_named(out, at, b": state", r - a.states_at),
+        _ => put_named(out, at, b": production", r - a.productions_at),
     }
-    if r < a.states_at {
-        return put_named(out, at, b": nonterminal", r - 1);
-    }
-    if r < a.productions_at {
-        return put_named(out, at, b": state", r - a.states_at);
-    }
-    put_named(out, at, b": production", r - a.productions_at)
 }
 
 // What a record is.

@@ -3,17 +3,12 @@ use Prim.Native.Nat.{ℕ, suc, ◌+◌, ◌*◌, ◌/◌, ◌%◌, ◌≤◌, �
 use native.Mathlib.Nat.{add-zero}
 use native.Mathlib.Omega.{arith}
 use mathlib.Core.Path.{◌≡◌, refl, sym, ap, ◌∙◌, subst}
-use mathlib.Core.Bool.{true, false}
 use mathlib.Core.List.{List, [], ◌∷◌, ◌++◌, append_assoc, append-nil}
 use lib.ListN.{length, get_or, take, drop, set, length-set, drop_of_length-le}
 use lib.Seq.{drop-cons, take-suc-set}
 use Rattle.words.specs.Text.{Reader, Step, goes, fails, step, Scan, reads, stops, with_words, scan}
 use Rattle.little.specs.Little.{encoded}
-use Rattle.words.specs.Bytes.{reader_of, fed_of, Near, in_bytes, wrote, stopped, written_of, tell, put_words, step_into, scan_into}
-use Rattle.words.specs.declared.Reader.{Reader as Held}
-use Rattle.words.specs.declared.Turn.{Turn}
-use Rattle.words.specs.declared.Fed.{Fed}
-use Rattle.words.specs.declared.Fed.TheVariants.{Goes, Ends, Fails}
+use Rattle.words.specs.Bytes.{Near, in_bytes, wrote, stopped, tell, put_words, step_into, scan_into}
 use Rattle.words.proofs.Steps.{Short, short}
 
 -- words as bytes
@@ -71,7 +66,7 @@ into_goes : (r : Reader) (out : List ℕ) (n b : ℕ) (bs ws : List ℕ) (q : Re
 unfolding scan_into step_into
 into_goes r out n b bs ws q e = rw (e, scan_into)
 
-into_fails : (r : Reader) (out : List ℕ) (n b : ℕ) (bs : List ℕ) → step r b ≡ fails → scan_into r out n (b ∷ bs) ≡ stopped out n r
+into_fails : (r : Reader) (out : List ℕ) (n b : ℕ) (bs : List ℕ) → step r b ≡ fails → scan_into r out n (b ∷ bs) ≡ stopped out n r.line r.column
 unfolding scan_into step_into
 into_fails r out n b bs e = rw (e, scan_into)
 
@@ -83,7 +78,7 @@ scan-fails : (r : Reader) (b : ℕ) (bs : List ℕ) → step r b ≡ fails → s
 unfolding scan
 scan-fails r b bs e = rw (e, scan)
 
-stops-none : (out : List ℕ) (n : ℕ) (r : Reader) → tell (stopped out n r) ≡ with_words (take n out) (in_bytes (stops [] r.line r.column))
+stops-none : (out : List ℕ) (n : ℕ) (r : Reader) → tell (stopped out n r.line r.column) ≡ with_words (take n out) (in_bytes (stops [] r.line r.column))
 unfolding tell with_words in_bytes encoded
 stops-none out n r = ap (λ (l : List ℕ). stops l r.line r.column) (sym (append-nil (take n out)))
 
@@ -119,29 +114,6 @@ told (b ∷ bs) r out n h = go (step r b) refl (λ q o m k. told bs q o m k)
 pub scan-told : (r : Reader) (out bs : List ℕ) → 2 * length bs ≤ length out → tell (scan_into r out 0 bs) ≡ in_bytes (scan r bs)
 scan-told r out bs h = told bs r out 0 (omega arith) ∙ with_none (in_bytes (scan r bs))
 
--- `take_byte`
-abbrev Took : Reader → ℕ → List ℕ → ℕ → List ℕ → Turn → Type 0
-Took r b out n out' t = (written_of out' t ≡ step_into r out n (step r b)) × ((t.place ≤ n + 2) × Near r (reader_of t.reader) 1)
-
-pub took_goes : (r : Held) (b : ℕ) (out : List ℕ) (n : ℕ) (k : Fed) (q : Held) → k ≡ Goes q → fed_of k ≡ step (reader_of r) b → Took (reader_of r) b out n out (record { readable = true; place = n; reader = q })
-unfolding written_of step_into put_words fed_of
-took_goes r b out n k q e f =
-    let g : goes [] (reader_of q) ≡ step (reader_of r) b = ap fed_of (sym e) ∙ f in
-    let s : Short (reader_of r) (goes [] (reader_of q)) = subst (Short (reader_of r)) (sym g) (short (reader_of r) b) in
-    (ap (λ (m : ℕ). wrote out m (reader_of q)) (sym (add-zero n)) ∙ ap (step_into (reader_of r) out n) g, (omega arith, s.1))
-
-pub took_ends : (r : Held) (b : ℕ) (out : List ℕ) (n : ℕ) (k : Fed) (w : ℕ) (q : Held) → k ≡ Ends w q → fed_of k ≡ step (reader_of r) b
-    → Took (reader_of r) b out n (set (set out n (w % 256)) (n + 1) (w / 256)) (record { readable = true; place = n + 2; reader = q })
-unfolding written_of step_into put_words fed_of
-took_ends r b out n k w q e f =
-    let g : goes (w ∷ []) (reader_of q) ≡ step (reader_of r) b = ap fed_of (sym e) ∙ f in
-    let s : Short (reader_of r) (goes (w ∷ []) (reader_of q)) = subst (Short (reader_of r)) (sym g) (short (reader_of r) b) in
-    (ap (step_into (reader_of r) out n) g, (omega arith, s.1))
-
-pub took_fails : (r : Held) (b : ℕ) (out : List ℕ) (n : ℕ) (k : Fed) → k ≡ Fails → fed_of k ≡ step (reader_of r) b → Took (reader_of r) b out n out (record { readable = false; place = n; reader = r })
-unfolding written_of step_into fed_of
-took_fails r b out n k e f = (ap (step_into (reader_of r) out n) (ap fed_of (sym e) ∙ f), (omega arith, record { line_near = omega arith; column_near = omega arith }))
-
 -- `words_of`
 pub record Scanning (r₀ : Reader) (bytes out₀ out : List ℕ) (r : Reader) (n i : ℕ) : Type 0 where
   pub within : i ≤ length bytes
@@ -153,65 +125,38 @@ pub record Scanning (r₀ : Reader) (bytes out₀ out : List ℕ) (r : Reader) (
 pub scanning_first : (r : Reader) (bytes out : List ℕ) → Scanning r bytes out out r 0 0
 scanning_first r bytes out = record { within = omega arith; same = refl; small = omega arith; long = refl; near = record { line_near = omega arith; column_near = omega arith } }
 
-written-true : (out : List ℕ) (t : Turn) → t.readable ≡ true → written_of out t ≡ wrote out t.place (reader_of t.reader)
-unfolding written_of
-written-true out t e = rw (e, written_of)
-
-written-false : (out : List ℕ) (t : Turn) → t.readable ≡ false → written_of out t ≡ stopped out t.place (reader_of t.reader)
-unfolding written_of
-written-false out t e = rw (e, written_of)
-
-into_wrote : (r : Reader) (out : List ℕ) (n b : ℕ) (bs o : List ℕ) (m : ℕ) (q : Reader) → wrote o m q ≡ step_into r out n (step r b) → scan_into r out n (b ∷ bs) ≡ scan_into q o m bs
-unfolding scan_into
-into_wrote r out n b bs o m q e = rw (sym e, scan_into)
-
-into_stopped : (r : Reader) (out : List ℕ) (n b : ℕ) (bs o : List ℕ) (m : ℕ) (q : Reader) → stopped o m q ≡ step_into r out n (step r b) → scan_into r out n (b ∷ bs) ≡ stopped o m q
-unfolding scan_into
-into_stopped r out n b bs o m q e = rw (sym e, scan_into)
-
 module _ {r₀ : Reader} {bytes out₀ out : List ℕ} {r : Reader} {n i : ℕ} (S : Scanning r₀ bytes out₀ out r n i) (h : i < length bytes) where
   opened : scan_into r out n (get_or bytes i 0 ∷ drop (i + 1) bytes) ≡ scan_into r₀ out₀ 0 bytes
   opened =
       let e : suc i ≡ i + 1 = omega arith in
       sym (ap (scan_into r out n) (drop-cons bytes i 0 h ∙ ap (λ (k : ℕ). get_or bytes i 0 ∷ drop k bytes) e)) ∙ S.same
 
-  pub scanning_more : (out' : List ℕ) (t : Turn) → t.readable ≡ true → written_of out' t ≡ step_into r out n (step r (get_or bytes i 0)) → t.place ≤ n + 2 → Near r (reader_of t.reader) 1 → length out' ≡ length out
-      → Scanning r₀ bytes out₀ out' (reader_of t.reader) t.place (i + 1)
-  scanning_more out' t y e p N l =
+  pub scanning_more : (ws : List ℕ) (q : Reader) {out' : List ℕ} {m : ℕ} → goes ws q ≡ step r (get_or bytes i 0) → put_words out n ws ≡ out' → n + 2 * length ws ≡ m → Scanning r₀ bytes out₀ out' q m (i + 1)
+  scanning_more ws q {out'} {m} e eo em =
       let s = S.small in
       let a = S.near.line_near in
       let b = S.near.column_near in
-      let c = N.line_near in
-      let d = N.column_near in
+      let N : Short r (goes ws q) = subst (Short r) (sym e) (short r (get_or bytes i 0)) in
+      let w : length ws ≤ 1 = N.0 in
+      let c = N.1.line_near in
+      let d = N.1.column_near in
       record {
         within = omega arith;
-        same = sym (into_wrote r out n (get_or bytes i 0) (drop (i + 1) bytes) out' t.place (reader_of t.reader) (sym (written-true out' t y) ∙ e)) ∙ opened;
-        small = omega arith;
-        long = l ∙ S.long;
+        same = ap (λ (o : List ℕ). scan_into q o m (drop (i + 1) bytes)) (sym eo) ∙ ap (λ (k : ℕ). scan_into q (put_words out n ws) k (drop (i + 1) bytes)) (sym em) ∙ sym (into_goes r out n (get_or bytes i 0) (drop (i + 1) bytes) ws q (sym e)) ∙ opened;
+        small = omega (arith, w);
+        long = ap length (sym eo) ∙ put_long ws out n ∙ S.long;
         near = record { line_near = omega arith; column_near = omega arith };
       }
 
-  pub scanning_stops : (out' : List ℕ) (t : Turn) → t.readable ≡ false → written_of out' t ≡ step_into r out n (step r (get_or bytes i 0)) → t.place ≤ n + 2 → Near r (reader_of t.reader) 1 → length out' ≡ length out → 2 * length bytes ≤ length out₀
-      → (tell (written_of out' t) ≡ in_bytes (scan r₀ bytes)) × ((t.place ≤ length out') × Near r₀ (reader_of t.reader) (length bytes))
-  scanning_stops out' t y e p N l w =
-      let s = S.small in
-      let k = S.long in
-      let a = S.near.line_near in
-      let b = S.near.column_near in
-      let c = N.line_near in
-      let d = N.column_near in
-      let g = written-false out' t y in
-      let f : written_of out' t ≡ scan_into r₀ out₀ 0 bytes = g ∙ sym (into_stopped r out n (get_or bytes i 0) (drop (i + 1) bytes) out' t.place (reader_of t.reader) (sym g ∙ e)) ∙ opened in
-      (ap tell f ∙ scan-told r₀ out₀ bytes w, (omega arith, record { line_near = omega arith; column_near = omega arith }))
+  pub scanning_stops : fails ≡ step r (get_or bytes i 0) → 2 * length bytes ≤ length out₀ → tell (stopped out n r.line r.column) ≡ in_bytes (scan r₀ bytes)
+  scanning_stops e w = ap tell (sym (into_fails r out n (get_or bytes i 0) (drop (i + 1) bytes) (sym e)) ∙ opened) ∙ scan-told r₀ out₀ bytes w
 
-pub scanning_end : {r₀ : Reader} {bytes out₀ out : List ℕ} (q : Held) {n i : ℕ} → Scanning r₀ bytes out₀ out (reader_of q) n i → length bytes ≤ i → 2 * length bytes ≤ length out₀
-    → (tell (written_of out (record { readable = true; place = n; reader = q })) ≡ in_bytes (scan r₀ bytes)) × ((n ≤ length out) × Near r₀ (reader_of q) (length bytes))
-unfolding written_of scan_into
-scanning_end {r₀} {bytes} {out₀} {out} q {n} {i} S h w =
-    let s = S.small in
-    let k = S.long in
+pub scanning_end : {r₀ : Reader} {bytes out₀ out : List ℕ} {q : Reader} {n i : ℕ} → Scanning r₀ bytes out₀ out q n i → length bytes ≤ i → 2 * length bytes ≤ length out₀
+    → (tell (wrote out n q) ≡ in_bytes (scan r₀ bytes)) × Near r₀ q (length bytes)
+unfolding scan_into
+scanning_end {r₀} {bytes} {out₀} {out} {q} {n} {i} S h w =
     let v = S.within in
     let a = S.near.line_near in
     let b = S.near.column_near in
-    let e : wrote out n (reader_of q) ≡ scan_into r₀ out₀ 0 bytes = sym (ap (scan_into (reader_of q) out n) (drop_of_length-le bytes h)) ∙ S.same in
-    (ap tell e ∙ scan-told r₀ out₀ bytes w, (omega arith, record { line_near = omega arith; column_near = omega arith }))
+    let e : wrote out n q ≡ scan_into r₀ out₀ 0 bytes = sym (ap (scan_into q out n) (drop_of_length-le bytes h)) ∙ S.same in
+    (ap tell e ∙ scan-told r₀ out₀ bytes w, record { line_near = omega arith; column_near = omega arith })

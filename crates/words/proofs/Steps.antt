@@ -1,35 +1,19 @@
 -- One byte: a law of `step` for each way through the code, and how far a step goes. Assumes nothing.
 use Prim.Native.Nat.{ℕ, ◌+◌, ◌-◌, ◌*◌, ◌≤◌, ◌<◌}
 use native.Mathlib.Omega.{arith}
-use mathlib.Core.Path.{◌≡◌, refl, ap, ◌∙◌}
+use Rattle.std.specs.Option.{unwrap_or}
+use Rattle.std.proofs.lemmas.Bool.Decides.{nat_tests}
+use mathlib.Core.Path.{◌≡◌, refl, sym, ap, ◌∙◌}
 use mathlib.Core.Bool.{Bool, true, false}
 use mathlib.Core.List.{[], ◌∷◌}
 use lib.Dec.{eqb, leb}
 use lib.ListN.{length}
 use borrow.Author.Tests.{le-leb, lt-leb, eq-eqb, ne_eqb}
 use Rattle.words.specs.Text.{Reader, Step, goes, fails, ended, line_begun, line_continued, is_space_byte, is_digit_byte, digit, step}
-use Rattle.words.specs.Bytes.{Near}
-
--- a number's end and its digits
-pub ended-word : (r : Reader) → r.in_number ≡ true → ended r ≡ r.number ∷ []
-unfolding ended
-ended-word r e = rw (e, ended)
-
-pub ended-none : (r : Reader) → r.in_number ≡ false → ended r ≡ []
-unfolding ended
-ended-none r e = rw (e, ended)
-
-pub digit_large : (r : Reader) (d : ℕ) → 65535 < r.number * 10 + d → digit r d ≡ fails
-unfolding digit
-digit_large r d h = rw (lt-leb (r.number * 10 + d) 65535 h, digit)
-
-pub digit-more : (r : Reader) (d : ℕ) → r.number * 10 + d ≤ 65535 → digit r d ≡ goes [] (record { line = r.line; column = r.column + 1; number = r.number * 10 + d; in_number = true; in_comment = false })
-unfolding digit
-digit-more r d h = rw (le-leb (r.number * 10 + d) 65535 h, digit)
-
-is_digit : (b : ℕ) → 48 ≤ b → b ≤ 57 → is_digit_byte b ≡ true
-unfolding is_digit_byte
-is_digit b l h = rw (le-leb 48 b l, le-leb b 57 h)
+use Rattle.words.specs.declared.Within.{Within}
+use Rattle.words.specs.declared.Within.TheVariants.{Space, Number, Comment}
+use Rattle.words.specs.declared.Reader.{Reader as Held}
+use Rattle.words.specs.Bytes.{word_of, number_in, in_number_of, in_comment_of, reader_of, words_in, Near}
 
 if_so : (t : Bool) (x y : Step) → t ≡ true → elim t [ true ↦ x | false ↦ y ] ≡ x
 if_so t x y e = ap (λ (s : Bool). elim s [ true ↦ x | false ↦ y ]) e
@@ -37,35 +21,83 @@ if_so t x y e = ap (λ (s : Bool). elim s [ true ↦ x | false ↦ y ]) e
 if_not : (t : Bool) (x y : Step) → t ≡ false → elim t [ true ↦ x | false ↦ y ] ≡ y
 if_not t x y e = ap (λ (s : Bool). elim s [ true ↦ x | false ↦ y ]) e
 
--- the ways of a byte
-module _ (r : Reader) (b : ℕ) where
-  pub step_line : b ≡ 10 → step r b ≡ goes (ended r) (line_begun r)
+some_space : (b : ℕ) → ((b ≡ 32 → ⊥) → 9 ≤ b) → ((b ≡ 32 → ⊥) → b ≤ 13) → is_space_byte b ≡ true
+unfolding is_space_byte
+some_space b l u = grind (arith, nat_tests)
+
+no_space : (b : ℕ) → (b ≡ 32 → ⊥) → (9 ≤ b → 13 < b) → is_space_byte b ≡ false
+unfolding is_space_byte
+no_space b s t = grind (arith, nat_tests)
+
+some_digit : (b : ℕ) → 48 ≤ b → b ≤ 57 → is_digit_byte b ≡ true
+unfolding is_digit_byte
+some_digit b l h = rw (le-leb 48 b l, le-leb b 57 h)
+
+no_digit : (b : ℕ) → (48 ≤ b → 57 < b) → is_digit_byte b ≡ false
+unfolding is_digit_byte
+no_digit b d = grind (arith, nat_tests)
+
+-- what a reader stands in
+number_so_far : (w : Within) → number_in w ≡ unwrap_or (word_of w) 0
+number_so_far Space = refl
+number_so_far (Number n) = refl
+number_so_far Comment = refl
+
+-- a digit of a number that stays a word, or no longer is one
+module _ (r : Held) (d : ℕ) {n : ℕ} (e : n ≡ unwrap_or (word_of r.within) 0) where
+  pub digit_large : 65536 ≤ n * 10 + d → fails ≡ digit (reader_of r) d
+  unfolding digit
+  digit_large h = let f = number_so_far r.within in sym (if_not (leb ((reader_of r).number * 10 + d) 65535) _ _ (lt-leb _ 65535 (omega (arith, f))))
+
+  pub digit-more : (m : ℕ) (q : Held) → m ≡ n * 10 + d → m < 65536 → q ≡ record { line = r.line; column = r.column + 1; within = Number m } → goes [] (reader_of q) ≡ digit (reader_of r) d
+  unfolding digit
+  digit-more m q f h k =
+      let t : (reader_of r).number * 10 + d ≡ m = let g = number_so_far r.within in omega (arith, g, e) in
+      rw (k, ← t) (sym (if_so (leb ((reader_of r).number * 10 + d) 65535) _ _ (le-leb _ 65535 (omega (arith, h, t)))))
+
+ended_words : (w : Within) → words_in (word_of w) ≡ elim (in_number_of w) [ true ↦ number_in w ∷ [] | false ↦ [] ]
+ended_words Space = refl
+ended_words (Number n) = refl
+ended_words Comment = refl
+
+words_ended : (r : Held) → words_in (word_of r.within) ≡ ended (reader_of r)
+unfolding ended
+words_ended r = ended_words r.within
+
+no_words : (w : Within) → in_comment_of w ≡ true → words_in (word_of w) ≡ []
+no_words Space e = refl
+no_words (Number n) e = cc
+no_words Comment e = refl
+
+-- the ways of a byte, the reader after it given as q
+module _ (r : Held) (b : ℕ) where
+  pub step_line : (q : Reader) → b ≡ 10 → q ≡ line_begun (reader_of r) → goes (words_in (word_of r.within)) q ≡ step (reader_of r) b
   unfolding step
-  step_line e = rw (eq-eqb b 10 e, step)
+  step_line q e f = rw (eq-eqb b 10 e, f, words_ended r, step)
 
-  pub step-comment : (b ≡ 10 → ⊥) → r.in_comment ≡ true → step r b ≡ goes [] (line_continued r true)
-  unfolding step
-  step-comment n c = if_not (eqb b 10) _ _ (ne_eqb b 10 n) ∙ if_so r.in_comment _ _ c
+  module _ (n : b ≡ 10 → ⊥) where
+    pub step-comment : (q : Reader) → in_comment_of r.within ≡ true → q ≡ line_continued (reader_of r) true → goes (words_in (word_of r.within)) q ≡ step (reader_of r) b
+    unfolding step
+    step-comment q c f = rw (f, no_words r.within c) (sym (if_not (eqb b 10) _ _ (ne_eqb b 10 n) ∙ if_so (reader_of r).in_comment _ _ c))
 
-  pub step_space : (b ≡ 10 → ⊥) → r.in_comment ≡ false → is_space_byte b ≡ true → step r b ≡ goes (ended r) (line_continued r false)
-  unfolding step
-  step_space n c s = if_not (eqb b 10) _ _ (ne_eqb b 10 n) ∙ if_not r.in_comment _ _ c ∙ if_so (is_space_byte b) _ _ s
+    module _ (c : in_comment_of r.within ≡ false) where
+      pub step_space : (q : Reader) → ((b ≡ 32 → ⊥) → 9 ≤ b) → ((b ≡ 32 → ⊥) → b ≤ 13) → q ≡ line_continued (reader_of r) false → goes (words_in (word_of r.within)) q ≡ step (reader_of r) b
+      unfolding step
+      step_space q l u f = rw (f, words_ended r) (sym (if_not (eqb b 10) _ _ (ne_eqb b 10 n) ∙ if_not (reader_of r).in_comment _ _ c ∙ if_so (is_space_byte b) _ _ (some_space b l u)))
 
-  pub step_hash : (b ≡ 10 → ⊥) → r.in_comment ≡ false → is_space_byte b ≡ false → b ≡ 35 → step r b ≡ goes (ended r) (line_continued r true)
-  unfolding step
-  step_hash n c s e = if_not (eqb b 10) _ _ (ne_eqb b 10 n) ∙ if_not r.in_comment _ _ c ∙ if_not (is_space_byte b) _ _ s ∙ if_so (eqb b 35) _ _ (eq-eqb b 35 e)
+      module _ (s : b ≡ 32 → ⊥) (t : 9 ≤ b → 13 < b) where
+        pub step_hash : (q : Reader) → b ≡ 35 → q ≡ line_continued (reader_of r) true → goes (words_in (word_of r.within)) q ≡ step (reader_of r) b
+        unfolding step
+        step_hash q e f = rw (f, words_ended r) (sym (if_not (eqb b 10) _ _ (ne_eqb b 10 n) ∙ if_not (reader_of r).in_comment _ _ c ∙ if_not (is_space_byte b) _ _ (no_space b s t) ∙ if_so (eqb b 35) _ _ (eq-eqb b 35 e)))
 
-  pub step_low : (b ≡ 10 → ⊥) → r.in_comment ≡ false → is_space_byte b ≡ false → (b ≡ 35 → ⊥) → b < 48 → step r b ≡ fails
-  unfolding step is_digit_byte
-  step_low n c s m h = rw (ne_eqb b 10 n, c, s, ne_eqb b 35 m, lt-leb 48 b h, step)
+        module _ (h : b ≡ 35 → ⊥) where
+          pub step-digit : 48 ≤ b → b ≤ 57 → digit (reader_of r) (b - 48) ≡ step (reader_of r) b
+          unfolding step
+          step-digit l u = sym (if_not (eqb b 10) _ _ (ne_eqb b 10 n) ∙ if_not (reader_of r).in_comment _ _ c ∙ if_not (is_space_byte b) _ _ (no_space b s t) ∙ if_not (eqb b 35) _ _ (ne_eqb b 35 h) ∙ if_so (is_digit_byte b) _ _ (some_digit b l u))
 
-  pub step_high : (b ≡ 10 → ⊥) → r.in_comment ≡ false → is_space_byte b ≡ false → (b ≡ 35 → ⊥) → 48 ≤ b → 57 < b → step r b ≡ fails
-  unfolding step is_digit_byte
-  step_high n c s m l h = rw (ne_eqb b 10 n, c, s, ne_eqb b 35 m, le-leb 48 b l, lt-leb b 57 h, step)
-
-  pub step-digit : (b ≡ 10 → ⊥) → r.in_comment ≡ false → is_space_byte b ≡ false → (b ≡ 35 → ⊥) → 48 ≤ b → b ≤ 57 → step r b ≡ digit r (b - 48)
-  unfolding step is_digit_byte
-  step-digit n c s m l h = if_not (eqb b 10) _ _ (ne_eqb b 10 n) ∙ if_not r.in_comment _ _ c ∙ if_not (is_space_byte b) _ _ s ∙ if_not (eqb b 35) _ _ (ne_eqb b 35 m) ∙ if_so (is_digit_byte b) _ _ (is_digit b l h)
+          pub step_none : (48 ≤ b → 57 < b) → fails ≡ step (reader_of r) b
+          unfolding step
+          step_none d = sym (if_not (eqb b 10) _ _ (ne_eqb b 10 n) ∙ if_not (reader_of r).in_comment _ _ c ∙ if_not (is_space_byte b) _ _ (no_space b s t) ∙ if_not (eqb b 35) _ _ (ne_eqb b 35 h) ∙ if_not (is_digit_byte b) _ _ (no_digit b d))
 
 -- a step ends at most one word, and moves by at most one line and one column
 abbrev pub Short : Reader → Step → Type 0
@@ -78,11 +110,11 @@ either P false x y p q = q
 
 one_ended : (r : Reader) → length (ended r) ≤ 1
 unfolding ended
-one_ended r = go r.in_number refl
+one_ended r = go r.in_number
   where
-    go : (t : Bool) → r.in_number ≡ t → length (ended r) ≤ 1
-    go true e = let l = ap length (ended-word r e) in omega (arith, l)
-    go false e = let l = ap length (ended-none r e) in omega (arith, l)
+    go : (t : Bool) → length {A = ℕ} (elim t [ true ↦ r.number ∷ [] | false ↦ [] ]) ≤ 1
+    go true = omega arith
+    go false = omega arith
 
 near_line : (r : Reader) → Near r (line_begun r) 1
 unfolding line_begun

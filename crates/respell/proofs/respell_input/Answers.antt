@@ -7,7 +7,7 @@ use Rattle.respell.proofs.Laws.{few_records}
 use Rattle.respell.proofs.respell_input.Goals as goal
 
 pub slice_bounds-out-end : goal.slice_bounds-out-end
-slice_bounds-out-end g c = let f = few_records _ _ _ _ _ c.respell.ensures (ap reply_of c.in-Ok.is) in omega arith
+slice_bounds-out-end g c = let f = few_records _ _ _ _ _ c.respell.ensures (ap reply_of c.in_ok-past.was) in omega arith
 
 pub slice_bounds-write_table-end : goal.slice_bounds-write_table-end
-slice_bounds-write_table-end g c = let f = few_records _ _ _ _ _ c.respell.ensures (ap reply_of c.in-Ok.is) in sym (length-take-le _ _ (omega arith))
+slice_bounds-write_table-end g c = let f = few_records _ _ _ _ _ c.respell.ensures (ap reply_of c.in_ok-past.was) in sym (length-take-le _ _ (omega arith))

@@ -2,18 +2,15 @@ use mathlib.Core.Path.{ap, ◌∙◌}
 use lib.ListN.{length}
 use native.Mathlib.Omega.{arith}
 use Rattle.repr.proofs.Packed.{words_long}
-use Rattle.typed.proofs.Texts.{item-yes, item_no}
+use Rattle.typed.proofs.Texts.{item-put}
 use Rattle.typed.proofs.put_item_part.Goals as goal
 
 pub put_rule-requires-clause-i_in_bounds : goal.put_rule-requires-clause-i_in_bounds
 put_rule-requires-clause-i_in_bounds c =
-    let I = c.requires.within c.if-shown.true in
+    let I = c.requires.item in
     let s = c.args.grammar.packed.short _ I.production in
     let l = ap length c.symbols.ensures ∙ words_long _ _ _ c.args.grammar.packed I.production in
     (omega (arith, l, I.index), omega (arith, s, l))
 
-pub returns-then-shown : goal.returns-then-shown
-returns-then-shown c = (item-yes _ _ _ c.if-shown.true c.word-nonterminal.ensures.0 c.symbols.ensures c.put_rule.ensures.0, c.put_rule.ensures.1)
-
 pub returns : goal.returns
-returns c = (item_no _ _ _ _ _ c.if-shown.false, omega arith)
+returns c = (item-put _ _ _ c.word-nonterminal.ensures.0 c.symbols.ensures c.put_rule.ensures.0, c.put_rule.ensures.1)

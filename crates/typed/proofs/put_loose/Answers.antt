@@ -1,9 +1,25 @@
-use native.Mathlib.Omega.{arith}
-use Rattle.typed.proofs.Texts.{loose-put}
+use Rattle.std.proofs.Common.{◌+◌, ◌≤◌, arith}
+use Rattle.lines.specs.Lines.{Put}
+use Rattle.typed.specs.Typed.{symbol_part, item_part, edge_part}
+use Rattle.typed.proofs.Texts.{symbol-yes, symbol_no, item-yes, item_no, edge_yes, edge_no, loose-put}
 use Rattle.typed.proofs.put_loose.Goals as goal
-
-pub put_item_part-second-requires : goal.put_item_part-second-requires
-put_item_part-second-requires c = record { within = (λ h. rw (c.word-one.ensures.0, c.word-two.ensures.0) (c.requires.within h)); at_in_bounds = omega (arith, c.put_symbol_part-first.ensures.1, c.put_symbol_part-first.ensures.0.long, c.requires.at_in_bounds) }
+use Rattle.typed.proofs.put_loose.Goals.{then-roles, else-roles, then-roles-2, else-roles-2, then-roles-3, else-roles-3}
 
 pub returns : goal.returns
-returns c = (loose-put _ _ _ _ c.word-one.ensures.0 c.word-two.ensures.0 c.word-three.ensures.0 c.put_symbol_part-first.ensures.0 c.put_item_part-second.ensures.0 c.put_edge_part-third.ensures.0 c.put_unused_part.ensures.0, omega (arith, c.put_symbol_part-first.ensures.1, c.put_item_part-second.ensures.1, c.put_edge_part-third.ensures.1, c.put_unused_part.ensures.1))
+returns c =
+    let symbol : Put c.args.out.now c.args.at (symbol_part c.args.roles.symbol c.word-one.result c.word-two.result) c.if-roles.out c.if-roles.place × (c.if-roles.place ≤ c.args.at + 50) =
+    elim c.if-roles.branch [
+      | then-roles w ↦ rw (w.out-is, w.place-is) (symbol-yes _ _ w.if-roles.true w.put_symbol_part-place.ensures.0, w.put_symbol_part-place.ensures.1)
+      | else-roles w ↦ (symbol_no _ _ w.if-roles.false w.out-is w.place-is, omega arith)
+    ] in
+    let item : Put c.if-roles.out c.if-roles.place (item_part c.args.roles.item c.args.grammar.words.now c.word-one.result c.word-two.result) c.if-roles-2.out c.if-roles-2.place × (c.if-roles-2.place ≤ c.if-roles.place + 800) =
+    elim c.if-roles-2.branch [
+      | then-roles-2 w ↦ rw (w.out-is, w.place-is) (item-yes _ _ _ w.if-roles-2.true w.put_item_part-place.ensures.0, w.put_item_part-place.ensures.1)
+      | else-roles-2 w ↦ (item_no _ _ _ w.if-roles-2.false w.out-is w.place-is, omega arith)
+    ] in
+    let edge : Put c.if-roles-2.out c.if-roles-2.place (edge_part c.args.roles.edge c.word-one.result c.word-two.result c.word-three.result) c.if-roles-3.out c.if-roles-3.place × (c.if-roles-3.place ≤ c.if-roles-2.place + 170) =
+    elim c.if-roles-3.branch [
+      | then-roles-3 w ↦ rw (w.out-is, w.place-is) (edge_yes _ _ _ w.if-roles-3.true w.put_edge_part-place.ensures.0, w.put_edge_part-place.ensures.1)
+      | else-roles-3 w ↦ (edge_no _ _ _ w.if-roles-3.false w.out-is w.place-is, omega arith)
+    ] in
+    (loose-put _ _ _ _ c.word-one.ensures.0 c.word-two.ensures.0 c.word-three.ensures.0 symbol.0 item.0 edge.0 c.put_unused_part.ensures.0, omega (arith, symbol.1, item.1, edge.1, c.put_unused_part.ensures.1))

@@ -1,21 +1,22 @@
-use Rattle.words.proofs.Scans.{scanning_first, scanning_more, scanning_stops, scanning_end}
-use native.Mathlib.Omega.{arith}
-use Rattle.std.proofs.lemmas.Bool.{not-false, not-true}
+use Rattle.std.proofs.Common.{◌≡◌, ◌/◌, ◌%◌, get_or, [], ◌∷◌, Some, ap, sym, ◌∙◌, arith, rules}
+use Rattle.words.specs.Text.{goes, step}
+use Rattle.words.specs.Bytes.{words_in, reader_of, fed_of, put_words}
+use Rattle.words.proofs.Scans.{scanning_more, scanning_stops, scanning_end}
 use Rattle.words.proofs.words_of.Goals as goal
+use Rattle.words.proofs.words_of.Goals.{in-Some-word, in_default-word}
 
-pub loop-byte-init : goal.loop-byte-init
-loop-byte-init c = scanning_first _ _ _
-
-pub take_byte-turn-requires : goal.take_byte-turn-requires
-take_byte-turn-requires c = let S = c.loop-byte.invariant in let a = S.near.line_near in let b = S.near.column_near in let l = S.long in let s = S.small in let x = c.requires.below.line-below in let y = c.requires.below.column_below in record { below = record { line-below = omega arith; column_below = omega arith }; place_in_bounds = omega arith }
+pub returns-in_default-clause-result_after : goal.returns-in_default-clause-result_after
+returns-in_default-clause-result_after c = scanning_stops c.loop-byte.invariant (omega arith) (ap fed_of (sym c.in_default.is) ∙ c.feed.ensures) c.requires.bytes_len_bound.1
 
 pub loop-byte-preserved : goal.loop-byte-preserved
-loop-byte-preserved c = scanning_more c.loop-byte.invariant (omega arith) _ c.take_byte-turn.result (not-false _ c.if-not-turn.false) c.take_byte-turn.ensures.result_after c.take_byte-turn.ensures.place_bound.0 c.take_byte-turn.ensures.place_bound.1 c.take_byte-turn.auto.out
+unfolding put_words
+loop-byte-preserved c =
+    let q = reader_of c.in-Some.fed.reader in
+    let fed : fed_of (Some c.in-Some.fed) ≡ step (reader_of c.loop-byte.reader) (get_or c.args.bytes.now c.loop-byte.byte-index 0) = ap fed_of (sym c.in-Some.is) ∙ c.feed.ensures in
+    elim c.match-fed.branch [
+      | in-Some-word w ↦ scanning_more c.loop-byte.invariant (omega arith) (w.in-Some-word.word ∷ []) q (ap (λ o. goes (words_in o) q) (sym w.in-Some-word.is) ∙ fed) (let e : w.in-Some-word.word / 256 % 256 ≡ w.in-Some-word.word / 256 = search rules in rw (w.out-is, w.to_le_bytes.ensures) (rw e)) (omega arith)
+      | in_default-word w ↦ scanning_more c.loop-byte.invariant (omega arith) [] q (ap (λ o. goes (words_in o) q) (sym w.in_default-word.is) ∙ fed) (sym w.out-is) (omega arith)
+    ]
 
-pub returns-then-not-turn : goal.returns-then-not-turn
-returns-then-not-turn c = let whole = scanning_stops c.loop-byte.invariant (omega arith) _ c.take_byte-turn.result (not-true _ c.if-not-turn.true) c.take_byte-turn.ensures.result_after c.take_byte-turn.ensures.place_bound.0 c.take_byte-turn.ensures.place_bound.1 c.take_byte-turn.auto.out c.requires.bytes_len_bound.1 in
-    record { result_after = whole.0; place_in_bounds = whole.1 }
-
-pub returns : goal.returns
-returns c = let whole = scanning_end c.loop-byte.reader c.loop-byte.invariant (omega arith) c.requires.bytes_len_bound.1 in
-    record { result_after = whole.0; place_in_bounds = whole.1 }
+pub returns-clause-result_after : goal.returns-clause-result_after
+returns-clause-result_after c = (scanning_end c.loop-byte.invariant (omega arith) c.requires.bytes_len_bound.1).0
