@@ -45,20 +45,16 @@ fn build_input<R: io::Input + Print + Eprint>(rt: &R) -> Result<(), Stop> {
     let mut scratch = [0u16; Built::SCRATCH];
     let mut out = [0u16; WORDS];
     let mut conflicts = [0u16; 327675];
-    match build_states(
+    let built = build_states(
         &table[..words],
         start,
         &mut scratch,
         &mut out,
         &mut conflicts,
-    ) {
-        Err(refusal) => Err(Stop::Refused(refusal)),
-        Ok(built) => {
-            let past = built.records as usize * 4;
-            let end = built.conflicts as usize * 5;
-            Ok(write_states(rt, &out[..past], &conflicts[..end], &mut bytes)?)
-        }
-    }
+    )?;
+    let past = built.records as usize * 4;
+    let end = built.conflicts as usize * 5;
+    Ok(write_states(rt, &out[..past], &conflicts[..end], &mut bytes)?)
 }
 
 fn main(rt: HostRuntime) {
