@@ -24,7 +24,7 @@ use Rattle.build.specs.Outcome.{sum, records, stops_at}
 use Rattle.build.proofs.Refusals.{stops-other}
 use Rattle.closing.specs.Grammar.{OfTable}
 use Rattle.stored.specs.Stored.{Entry, entries, put_entry, held, packed}
-use Rattle.stored.proofs.Stored.{entries-put, length-put}
+use Rattle.stored.proofs.Stored.{entries-put}
 use Rattle.stored.proofs.Packed.{held_none, held-some}
 use Rattle.kept_states.specs.Made.{first, Holds}
 use Rattle.kept_states.proofs.Holds.{holds_more, length-packed}
@@ -77,9 +77,6 @@ power_some (suc e) q = power_some e (omega arith)
 single-some : (e : ℕ) → single e ≡ 0 → ⊥
 unfolding single
 single-some e q = power_some e q
-
-pub kernel_long : (ks ks' : List ℕ) (x s : ℕ) → ks' ≡ put_entry ks 0 x s → length ks' ≡ length ks
-kernel_long ks ks' x s q = ap length q ∙ length-put ks 0 x s
 
 -- its kernel in words
 module _ (ks ks' : List ℕ) (P start e s : ℕ) (room : 5 ≤ length ks) (few : e ≤ 63) (h : start < P) (es : s ≡ with 0 e) (put : ks' ≡ put_entry ks 0 (start * index_limit) s) where
