@@ -14,3 +14,27 @@ returns-then-count-lt2 c = label_one _ _ c.args.labels.grammar.packed _ c.args.l
 
 pub returns-then-nonterminal : goal.returns-then-nonterminal
 returns-then-nonterminal c = label_cycle _ _ c.args.labels.grammar.packed _ c.args.labels.fit _ c.if-shift.false (omega (arith, c.count.ensures.0, c.if-count-lt2.false)) _ _ c.nonterminal.ensures.0 c.nonterminal-2.ensures.0 c.if-nonterminal.true
+
+pub overflow_mul-result : goal.overflow_mul-result
+overflow_mul-result c = let l = (code_is _ _ c.args.labels.grammar.packed _ c.args.labels.fit 0 (some_label _ c.args.labels.fit) _ _ c.item-first.ensures.0 c.item-first.ensures.1).1 in omega (arith, l)
+
+pub overflow_add-result : goal.overflow_add-result
+overflow_add-result c = let l = (code_is _ _ c.args.labels.grammar.packed _ c.args.labels.fit 0 (some_label _ c.args.labels.fit) _ _ c.item-first.ensures.0 c.item-first.ensures.1).1 in omega (arith, l)
+
+pub length-requires : goal.length-requires
+length-requires c = next-inside _ _ c.args.labels.grammar.packed _ c.args.labels.fit _ c.if-shift.false (omega (arith, c.count.ensures.0, c.if-count-lt2.false)) _ _ c.nonterminal.ensures.0 c.nonterminal-2.ensures.0 c.if-nonterminal.false _ _ c.item-next.ensures.0 c.item-next.ensures.1
+
+pub overflow_add-next : goal.overflow_add-next
+overflow_add-next c = let l = (code_is _ _ c.args.labels.grammar.packed _ c.args.labels.fit 1 (omega (arith, c.count.ensures.0, c.if-count-lt2.false)) _ _ c.item-next.ensures.0 c.item-next.ensures.1).1 in omega (arith, l)
+
+pub returns-then-length-next : goal.returns-then-length-next
+returns-then-length-next c = label_no_more _ _ c.args.labels.grammar.packed _ c.args.labels.fit _ c.if-shift.false (omega (arith, c.count.ensures.0, c.if-count-lt2.false)) _ _ c.nonterminal.ensures.0 c.nonterminal-2.ensures.0 c.if-nonterminal.false _ _ c.item-next.ensures.0 c.item-next.ensures.1 _ c.length.ensures.0 c.if-length-next.true
+
+pub overflow_mul-result-2 : goal.overflow_mul-result-2
+overflow_mul-result-2 c = let l = (code_is _ _ c.args.labels.grammar.packed _ c.args.labels.fit 1 (omega (arith, c.count.ensures.0, c.if-count-lt2.false)) _ _ c.item-next.ensures.0 c.item-next.ensures.1).1 in omega (arith, l)
+
+pub overflow_add-result-2 : goal.overflow_add-result-2
+overflow_add-result-2 c = let l = (code_is _ _ c.args.labels.grammar.packed _ c.args.labels.fit 1 (omega (arith, c.count.ensures.0, c.if-count-lt2.false)) _ _ c.item-next.ensures.0 c.item-next.ensures.1).1 in omega (arith, l)
+
+pub returns : goal.returns
+returns c = label_more _ _ c.args.labels.grammar.packed _ c.args.labels.fit _ c.if-shift.false (omega (arith, c.count.ensures.0, c.if-count-lt2.false)) _ _ c.nonterminal.ensures.0 c.nonterminal-2.ensures.0 c.if-nonterminal.false _ _ c.item-next.ensures.0 c.item-next.ensures.1 _ c.length.ensures.0 (omega (arith, c.if-length-next.false))
