@@ -8,8 +8,6 @@ ghost use Rattle.slices.specs.Lent.{in_front};
 ghost use Rattle.repr.specs.Meaning.{no_production, Item as ItemOf};
 ghost use Rattle.repr.specs.Packed.{Packed, productions_in};
 ghost use Rattle.table.specs.Decoded.{meaning};
-ghost use Rattle.table.specs.Checked.{Accepted};
-ghost use Rattle.table.specs.Refusals.{check_of};
 ghost use Rattle.trace_graph.specs.Graph.{TraceEdge};
 ghost use Rattle.trace_graph.specs.Fits.{item_is_fit};
 ghost use Rattle.tracer.specs.Built.{edges_by};
@@ -41,7 +39,7 @@ use repr::{Grammar, NonterminalString, ProductionIndex, Refusal};
 use search::{Searched, read_labels, search, write_trial};
 use shift_items::{conflicting_shift_items, next_shift_item};
 use state_graph::StateIndex;
-use table::{Counts, read_counts, read_productions};
+use table::{AcceptedTable, Counts, read_productions};
 use trace::reduce::suffix_ends;
 use trace_graph::Full;
 use tracer::trace_codes;
@@ -57,12 +55,11 @@ pub struct Prepared {
 }
 
 // Packs the productions into the words lent, and makes the rest.
-pub fn prepare(table: &[u16], grammar: &mut [u16]) -> Prepared
-    requires table_value { check_of table.now ≡ Accepted }
-    requires grammar_len { length grammar.old ≡ grammar_room }
-    ensures { Reads table.now grammar.new result.counts result.map result.least result.ends }
+pub fn prepare(table: AcceptedTable, grammar: &mut [u16]) -> Prepared
+    requires { length grammar.old ≡ grammar_room }
+    ensures { Reads table.entry.words.now grammar.new result.counts result.map result.least result.ends }
 {
-    let counts = read_counts(table);
+    let counts = table.counts();
     let productions = counts.productions;
     let terminals = counts.terminals as u16;
     read_productions(table, grammar);
@@ -82,9 +79,9 @@ pub fn prepare(table: &[u16], grammar: &mut [u16]) -> Prepared
 
 impl Prepared {
     // All of it, with the table and its packed productions.
-    pub fn given<'a>(&'a self, table: &'a [u16], grammar: &'a [u16]) -> Given<'a>
-        requires { Reads table.now grammar.now self.now.counts self.now.map self.now.least self.now.ends }
-        ensures tables { (result.table.now ≡ table.now) × (result.grammar.now ≡ grammar.now) × (result.counts ≡ self.now.counts) }
+    pub fn given<'a>(&'a self, table: AcceptedTable<'a>, grammar: &'a [u16]) -> Given<'a>
+        requires { Reads table.words.now grammar.now self.now.counts self.now.map self.now.least self.now.ends }
+        ensures tables { (result.table.words.now ≡ table.entry.words.now) × (result.grammar.now ≡ grammar.now) × (result.counts ≡ self.now.counts) }
         ensures sets { (result.map.now ≡ self.now.map) × (result.least.now ≡ self.now.least) × (result.ends.now ≡ self.now.ends) }
     {
         Given {
@@ -101,13 +98,21 @@ impl Prepared {
 // What gathering and judging are given of a table: the table, its packed productions, and what was prepared.
 #[derive(Clone, Copy)]
 pub struct Given<'a> {
-    pub table: &'a [u16],
+    pub table: AcceptedTable<'a>,
     pub grammar: &'a [u16],
     pub counts: Counts,
     pub map: &'a [u64; NonterminalString::LIMIT],
     pub least: &'a [u8],
     pub ends: &'a [u64],
-    pub ghost reads: { Reads table.now grammar.now counts map.now least.now ends.now },
+    pub ghost reads: { Reads table.words.now grammar.now counts map.now least.now ends.now },
+}
+
+// A conflict of the table, its parts in range.
+#[derive(Clone, Copy)]
+pub struct TableConflict<'a> {
+    pub given: Given<'a>,
+    pub conflict: Conflict,
+    pub ghost fits: { conflict_fits (meaning given.table.words.now) conflict ≡ true },
 }
 
 // How many examples are kept of a side, and how many trials were made.
@@ -230,17 +235,17 @@ fn open_view(
     older: &mut [u16],
     latest: &mut [u16],
 ) -> Result<(), Full>
-    requires state_in_bounds { (traced.state.0 < length (meaning given.table.now).states) × (item_is_fit (meaning given.table.now).productions traced.production traced.index ≡ true) }
+    requires state_in_bounds { (traced.state.0 < length (meaning given.table.words.now).states) × (item_is_fit (meaning given.table.words.now).productions traced.production traced.index ≡ true) }
     requires words_len { (length words.old ≡ codes_room) × (length owners.old ≡ edge_limit) }
     requires sources_value { (sources.old ≡ replicate edge_limit 0) × ((older.old ≡ replicate edge_limit 0) × (latest.old ≡ replicate latest_room 0)) }
-    ensures listable { OnOk result (Listable (meaning given.entry.table.now).productions (edges_by traced.shift (meaning given.entry.table.now) traced.state.0 (record { production = traced.production; index = traced.index })) owners.new (drop 1 words.new) sources.new older.new latest.new (record { production = traced.production; index = traced.index })) }
-    ensures edge_limit_in_bounds { OnErr result (edge_limit < length (edges_by traced.shift (meaning given.entry.table.now) traced.state.0 (record { production = traced.production; index = traced.index }))) }
+    ensures listable { OnOk result (Listable (meaning given.entry.table.words.now).productions (edges_by traced.shift (meaning given.entry.table.words.now) traced.state.0 (record { production = traced.production; index = traced.index })) owners.new (drop 1 words.new) sources.new older.new latest.new (record { production = traced.production; index = traced.index })) }
+    ensures edge_limit_in_bounds { OnErr result (edge_limit < length (edges_by traced.shift (meaning given.entry.table.words.now) traced.state.0 (record { production = traced.production; index = traced.index }))) }
 {
     let state = traced.state.0 as usize;
     let production = traced.production;
     let index = traced.index;
     trace_codes(
-        given.table,
+        given.table.words,
         given.grammar,
         given.counts.productions,
         given.least,
@@ -272,9 +277,9 @@ fn list_item(
     side: &mut Side,
     count: usize,
 ) -> Result<Gathered, Refusal>
-    requires state_in_bounds { (traced.state.0 < length (meaning given.table.now).states) × (item_is_fit (meaning given.table.now).productions traced.production traced.index ≡ true) }
+    requires state_in_bounds { (traced.state.0 < length (meaning given.table.words.now).states) × (item_is_fit (meaning given.table.words.now).productions traced.production traced.index ≡ true) }
     requires count_in_bounds { count ≤ example_limit }
-    ensures listed_on { ListedOn (meaning given.entry.table.now).productions traced.shift result count side.old.kept side.old.prints side.new.kept side.new.prints (listing_side (meaning given.entry.table.now) (edges_by traced.shift (meaning given.entry.table.now) traced.state.0 (record { production = traced.production; index = traced.index })) (record { production = traced.production; index = traced.index }) (set_of lookahead) count) }
+    ensures listed_on { ListedOn (meaning given.entry.table.words.now).productions traced.shift result count side.old.kept side.old.prints side.new.kept side.new.prints (listing_side (meaning given.entry.table.words.now) (edges_by traced.shift (meaning given.entry.table.words.now) traced.state.0 (record { production = traced.production; index = traced.index })) (record { production = traced.production; index = traced.index }) (set_of lookahead) count) }
     ensures trials_in { TrialsIn trial_limit result }
 {
     let mut words = [0u16; EdgeCode::WORDS];
@@ -317,14 +322,14 @@ fn shift_examples(
     token: usize,
     side: &mut Side,
 ) -> Result<Gathered, Refusal>
-    requires state_in_bounds { state.0 < length (meaning given.table.now).states }
-    ensures { Sided (meaning given.entry.table.now) true (shift_made (meaning given.entry.table.now) state.0) result side.new.kept side.new.prints (shift_side (meaning given.entry.table.now) state.0 token) }
+    requires state_in_bounds { state.0 < length (meaning given.table.words.now).states }
+    ensures { Sided (meaning given.entry.table.words.now) true (shift_made (meaning given.entry.table.words.now) state.0) result side.new.kept side.new.prints (shift_side (meaning given.entry.table.words.now) state.0 token) }
 {
     let mut order = [0u16; ProductionIndex::LIMIT];
     let mut marks = [0u64; Item::FLAG_WORDS];
     let productions = given.counts.productions;
     conflicting_shift_items(
-        given.table,
+        given.table.words,
         given.grammar,
         productions,
         state.0 as usize,
@@ -383,8 +388,8 @@ fn reduce_examples(
     token: u16,
     side: &mut Side,
 ) -> Result<Gathered, Refusal>
-    requires state_in_bounds { (state.0 < length (meaning given.table.now).states) × ((production < length (meaning given.table.now).productions) × (token ≤ (meaning given.table.now).terminals)) }
-    ensures { Sided (meaning given.entry.table.now) false (reduce_made (meaning given.entry.table.now) state.0 production token) result side.new.kept side.new.prints (reduce_side (meaning given.entry.table.now) state.0 production token) }
+    requires state_in_bounds { (state.0 < length (meaning given.table.words.now).states) × ((production < length (meaning given.table.words.now).productions) × (token ≤ (meaning given.table.words.now).terminals)) }
+    ensures { Sided (meaning given.entry.table.words.now) false (reduce_made (meaning given.entry.table.words.now) state.0 production token) result side.new.kept side.new.prints (reduce_side (meaning given.entry.table.words.now) state.0 production token) }
 {
     let traced = reduce_item(given.grammar, given.counts.productions, state, production);
     let tokens = TokenSet::from(token);
@@ -404,13 +409,13 @@ pub fn reduced(conflict: Conflict) -> Conflict
 
 // The side of the conflict's action.
 pub fn action_examples(
-    given: Given,
-    conflict: Conflict,
+    case: TableConflict,
     side: &mut Side,
 ) -> Result<Gathered, Refusal>
-    requires conflict_value { conflict_fits (meaning given.table.now) conflict ≡ true }
-    ensures { Sided (meaning given.entry.table.now) (is_shift conflict) (action_made (meaning given.entry.table.now) conflict) result side.new.kept side.new.prints (action_side_of (meaning given.entry.table.now) conflict.state.0 conflict.action conflict.operand conflict.token) }
+    ensures { Sided (meaning case.entry.given.table.words.now) (is_shift case.entry.conflict) (action_made (meaning case.entry.given.table.words.now) case.entry.conflict) result side.new.kept side.new.prints (action_side_of (meaning case.entry.given.table.words.now) case.entry.conflict.state.0 case.entry.conflict.action case.entry.conflict.operand case.entry.conflict.token) }
 {
+    let given = case.given;
+    let conflict = case.conflict;
     let state = conflict.state;
     let operand = conflict.operand as usize;
     let token = conflict.token;
@@ -483,9 +488,9 @@ fn item_again(
     wanted: usize,
     buffer: &mut [u16],
 )
-    requires state_in_bounds { (traced.state.0 < length (meaning given.table.now).states) × (item_is_fit (meaning given.table.now).productions traced.production traced.index ≡ true) }
+    requires state_in_bounds { (traced.state.0 < length (meaning given.table.words.now).states) × (item_is_fit (meaning given.table.words.now).productions traced.production traced.index ≡ true) }
     requires example_room_in_bounds { example_room ≤ length buffer.old }
-    ensures { (k : ℕ) (x : ExampleOf) → k ≤ example_limit → Listed (listing_side (meaning given.entry.table.now) (edges_by traced.shift (meaning given.entry.table.now) traced.state.0 (record { production = traced.production; index = traced.index })) (record { production = traced.production; index = traced.index }) (set_of lookahead) k) wanted x → buffer.new ≡ in_front (example_words (meaning given.entry.table.now).productions x) buffer.old }
+    ensures { (k : ℕ) (x : ExampleOf) → k ≤ example_limit → Listed (listing_side (meaning given.entry.table.words.now) (edges_by traced.shift (meaning given.entry.table.words.now) traced.state.0 (record { production = traced.production; index = traced.index })) (record { production = traced.production; index = traced.index }) (set_of lookahead) k) wanted x → buffer.new ≡ in_front (example_words (meaning given.entry.table.words.now).productions x) buffer.old }
 {
     let mut words = [0u16; EdgeCode::WORDS];
     let mut owners = [0u8; View::EDGES];
@@ -539,9 +544,9 @@ fn reduce_again(
     wanted: usize,
     buffer: &mut [u16],
 )
-    requires state_in_bounds { (state.0 < length (meaning given.table.now).states) × ((production < length (meaning given.table.now).productions) × (token ≤ (meaning given.table.now).terminals)) }
+    requires state_in_bounds { (state.0 < length (meaning given.table.words.now).states) × ((production < length (meaning given.table.words.now).productions) × (token ≤ (meaning given.table.words.now).terminals)) }
     requires example_room_in_bounds { example_room ≤ length buffer.old }
-    ensures { (label : ℕ) (x : ExampleOf) → reduce_made (meaning given.entry.table.now) state.0 production token label wanted x → buffer.new ≡ in_front (example_words (meaning given.entry.table.now).productions x) buffer.old }
+    ensures { (label : ℕ) (x : ExampleOf) → reduce_made (meaning given.entry.table.words.now) state.0 production token label wanted x → buffer.new ≡ in_front (example_words (meaning given.entry.table.words.now).productions x) buffer.old }
 {
     let traced = reduce_item(given.grammar, given.counts.productions, state, production);
     let tokens = TokenSet::from(token);
@@ -550,17 +555,17 @@ fn reduce_again(
 
 // An example of the side of the conflict's action made again: of a shift the item is the label kept.
 pub fn action_again(
-    given: Given,
-    conflict: Conflict,
+    case: TableConflict,
     label: usize,
     wanted: usize,
     buffer: &mut [u16],
 )
-    requires conflict_value { conflict_fits (meaning given.table.now) conflict ≡ true }
-    requires code_fits { is_shift conflict ≡ true → CodeFits (meaning given.table.now).productions label }
+    requires code_fits { is_shift case.conflict ≡ true → CodeFits (meaning case.given.table.words.now).productions label }
     requires example_room_in_bounds { example_room ≤ length buffer.old }
-    ensures { (x : ExampleOf) → action_made (meaning given.entry.table.now) conflict label wanted x → buffer.new ≡ in_front (example_words (meaning given.entry.table.now).productions x) buffer.old }
+    ensures { (x : ExampleOf) → action_made (meaning case.entry.given.table.words.now) case.entry.conflict label wanted x → buffer.new ≡ in_front (example_words (meaning case.entry.given.table.words.now).productions x) buffer.old }
 {
+    let given = case.given;
+    let conflict = case.conflict;
     let state = conflict.state;
     let operand = conflict.operand as usize;
     let token = conflict.token;

@@ -1,4 +1,4 @@
-// The class of a conflict from what is kept of its examples (`classify` and the three `try_classify_` of lr1/error/mod.rs; part 8 of document 01, request 06 of document 02). Of either side the code has what is kept of the examples, and their order: of the action side `actions`, `rows`, of the reduce side `reduces`, `columns`.
+// The class of a conflict from what is kept of its examples (`classify` and the three `try_classify_` of lr1/error/mod.rs; part 8 of document 01, request 06 of document 02). Of either side the code has what is kept of the examples, and their order: of the action side `actions`, of the reduce side `reduces`.
 
 #![tactic(auto)]
 
@@ -25,9 +25,9 @@ ghost use Rattle.judge.specs.Judging.{InBuffer, Sides, Ordered, picked, pair_in,
 
 use error::{Class, Conflict};
 use example::Example as ExampleBuffer;
-use examples::{Given, action_again, reduced};
+use examples::{TableConflict, action_again, reduced};
 use outline::{Outline, Side};
-use pairs::{Test, first_pair};
+use pairs::{SortedSide, Test, first_pair};
 use repr::{Grammar, NonterminalString, ProductionIndex, word};
 use table::{Counts, first_production, production};
 
@@ -40,19 +40,18 @@ pub struct Judged {
 }
 
 // Example k of the side of the conflict's action, written at the front of a buffer: from its labels where they are kept, else made again.
-pub fn write_example(given: Given, conflict: Conflict, side: &Side, k: usize, buffer: &mut [u16])
-    requires conflict_value { conflict_fits (meaning given.table.now) conflict ≡ true }
-    requires side_kept { (xs : List Example) × (SideKept (meaning given.table.now) (is_shift conflict) (action_made (meaning given.table.now) conflict) xs side.now.kept side.now.prints × (k < length xs)) }
+pub fn write_example(case: TableConflict, side: &Side, k: usize, buffer: &mut [u16])
+    requires side_kept { (xs : List Example) × (SideKept (meaning case.given.table.words.now) (is_shift case.conflict) (action_made (meaning case.given.table.words.now) case.conflict) xs side.now.kept side.now.prints × (k < length xs)) }
     requires example_room_in_bounds { example_room ≤ length buffer.old }
-    ensures { (xs : List Example) → SideKept (meaning given.entry.table.now) (is_shift conflict) (action_made (meaning given.entry.table.now) conflict) xs side.now.kept side.now.prints → k < length xs → buffer.new ≡ in_front (example_words (meaning given.entry.table.now).productions (nth xs k)) buffer.old }
+    ensures { (xs : List Example) → SideKept (meaning case.entry.given.table.words.now) (is_shift case.entry.conflict) (action_made (meaning case.entry.given.table.words.now) case.entry.conflict) xs side.now.kept side.now.prints → k < length xs → buffer.new ≡ in_front (example_words (meaning case.entry.given.table.words.now).productions (nth xs k)) buffer.old }
 {
     if k < Outline::LABELLED {
-        side.write_kept(given.grammar, given.counts.productions, k, buffer);
+        side.write_kept(case.given.grammar, case.given.counts.productions, k, buffer);
         return;
     }
     let outline = side.outline(k);
     let turn = side.turn(k);
-    action_again(given, conflict, outline.label, turn, buffer);
+    action_again(case, outline.label, turn, buffer);
 }
 
 // Whether two examples have the same symbols and the same cursor.
@@ -73,56 +72,51 @@ fn same_reading(action: &[u16], reduce: &[u16]) -> bool
 
 // Whether examples x and y, made again, are read alike.
 fn same_again(
-    given: Given,
-    conflict: Conflict,
+    case: TableConflict,
     actions: &Side,
     x: usize,
     reduces: &Side,
     y: usize,
 ) -> bool
-    requires conflict_value { conflict_fits (meaning given.table.now) conflict ≡ true }
-    requires sides { (xs : List Example) × ((ys : List Example) × (Sides (meaning given.table.now) conflict xs ys actions.now.kept actions.now.prints reduces.now.kept reduces.now.prints × ((x < length xs) × (y < length ys)))) }
-    ensures { (xs ys : List Example) → Sides (meaning given.entry.table.now) conflict xs ys actions.now.kept actions.now.prints reduces.now.kept reduces.now.prints → x < length xs → y < length ys → result ≡ is_same_reading (meaning given.entry.table.now).productions (nth xs x) (nth ys y) }
+    requires sides { (xs : List Example) × ((ys : List Example) × (Sides (meaning case.given.table.words.now) case.conflict xs ys actions.now.kept actions.now.prints reduces.now.kept reduces.now.prints × ((x < length xs) × (y < length ys)))) }
+    ensures { (xs ys : List Example) → Sides (meaning case.entry.given.table.words.now) case.entry.conflict xs ys actions.now.kept actions.now.prints reduces.now.kept reduces.now.prints → x < length xs → y < length ys → result ≡ is_same_reading (meaning case.entry.given.table.words.now).productions (nth xs x) (nth ys y) }
 {
     let mut action = [0u16; ExampleBuffer::WORDS];
     let mut reduce = [0u16; ExampleBuffer::WORDS];
-    write_example(given, conflict, actions, x, &mut action);
-    write_example(given, reduced(conflict), reduces, y, &mut reduce);
+    let other = TableConflict {
+        given: case.given,
+        conflict: reduced(case.conflict),
+    };
+    write_example(case, actions, x, &mut action);
+    write_example(other, reduces, y, &mut reduce);
     same_reading(&action, &reduce)
 }
 
 // `try_classify_ambiguity`: the first pair that is read alike, by the numbers of its examples. Prints are equal where two are read alike; where they are equal both are made again and compared, and if they differ the search goes on behind them.
 fn try_classify_ambiguity(
-    given: Given,
-    conflict: Conflict,
-    actions: &Side,
-    rows: &[u16],
-    reduces: &Side,
-    columns: &[u16],
+    case: TableConflict,
+    actions: SortedSide,
+    reduces: SortedSide,
 ) -> Option<(usize, usize)>
-    requires conflict_value { conflict_fits (meaning given.table.now) conflict ≡ true }
-    requires sides { (xs : List Example) × ((ys : List Example) × (Sides (meaning given.table.now) conflict xs ys actions.now.kept actions.now.prints reduces.now.kept reduces.now.prints × (Ordered xs rows.now × Ordered ys columns.now))) }
-    ensures { (xs ys : List Example) → Sides (meaning given.entry.table.now) conflict xs ys actions.now.kept actions.now.prints reduces.now.kept reduces.now.prints → Ordered xs rows.now → Ordered ys columns.now → ReadAlike (meaning given.entry.table.now).productions xs ys rows.now columns.now result }
+    requires sides { (xs : List Example) × ((ys : List Example) × (Sides (meaning case.given.table.words.now) case.conflict xs ys actions.side.now.kept actions.side.now.prints reduces.side.now.kept reduces.side.now.prints × (Ordered xs actions.order.now × Ordered ys reduces.order.now))) }
+    ensures { (xs ys : List Example) → Sides (meaning case.entry.given.table.words.now) case.entry.conflict xs ys actions.entry.side.now.kept actions.entry.side.now.prints reduces.entry.side.now.kept reduces.entry.side.now.prints → Ordered xs actions.entry.order.now → Ordered ys reduces.entry.order.now → ReadAlike (meaning case.entry.given.table.words.now).productions xs ys actions.entry.order.now reduces.entry.order.now result }
 {
     let mut row: usize = 0;
     let mut column: usize = 0;
     loop {
         match first_pair(
-            given.map,
-            given.grammar,
-            given.counts,
+            case.given.map,
+            case.given.grammar,
+            case.given.counts,
             Test::Alike,
             actions,
-            rows,
             reduces,
-            columns,
-            row,
-            column,
+            (row, column),
         ) {
             Some((i, j)) => {
-                let x = word(rows, i);
-                let y = word(columns, j);
-                if same_again(given, conflict, actions, x, reduces, y) {
+                let x = word(actions.order, i);
+                let y = word(reduces.order, j);
+                if same_again(case, actions.side, x, reduces.side, y) {
                     return Some((x, y));
                 }
                 row = i;
@@ -294,117 +288,98 @@ fn try_classify_question(
 
 // `try_classify_inline`: the first pair that inlining would help, else insufficient lookahead with the first of each.
 fn try_classify_inline(
-    given: Given,
-    conflict: Conflict,
-    actions: &Side,
-    rows: &[u16],
-    reduces: &Side,
-    columns: &[u16],
+    case: TableConflict,
+    actions: SortedSide,
+    reduces: SortedSide,
 ) -> Judged
-    requires conflict_value { conflict_fits (meaning given.table.now) conflict ≡ true }
-    requires action_value { conflict.action ≡ 0 }
-    requires sides { (xs : List Example) × ((ys : List Example) × (Sides (meaning given.table.now) conflict xs ys actions.now.kept actions.now.prints reduces.now.kept reduces.now.prints × (Ordered xs rows.now × Ordered ys columns.now))) }
-    ensures { (xs ys : List Example) → Sides (meaning given.entry.table.now) conflict xs ys actions.now.kept actions.now.prints reduces.now.kept reduces.now.prints → Ordered xs rows.now → Ordered ys columns.now → Judges xs ys result (inline_or (meaning given.entry.table.now).productions (heads_in xs ys rows.now columns.now) (first_fit (judging.inlines (meaning given.entry.table.now)) (picked xs rows.now) (picked ys columns.now))) }
+    requires action_value { case.conflict.action ≡ 0 }
+    requires sides { (xs : List Example) × ((ys : List Example) × (Sides (meaning case.given.table.words.now) case.conflict xs ys actions.side.now.kept actions.side.now.prints reduces.side.now.kept reduces.side.now.prints × (Ordered xs actions.order.now × Ordered ys reduces.order.now))) }
+    ensures { (xs ys : List Example) → Sides (meaning case.entry.given.table.words.now) case.entry.conflict xs ys actions.entry.side.now.kept actions.entry.side.now.prints reduces.entry.side.now.kept reduces.entry.side.now.prints → Ordered xs actions.entry.order.now → Ordered ys reduces.entry.order.now → Judges xs ys result (inline_or (meaning case.entry.given.table.words.now).productions (heads_in xs ys actions.entry.order.now reduces.entry.order.now) (first_fit (judging.inlines (meaning case.entry.given.table.words.now)) (picked xs actions.entry.order.now) (picked ys reduces.entry.order.now))) }
 {
     match first_pair(
-        given.map,
-        given.grammar,
-        given.counts,
+        case.given.map,
+        case.given.grammar,
+        case.given.counts,
         Test::Inline,
         actions,
-        rows,
         reduces,
-        columns,
-        0,
-        0,
+        (0, 0),
     ) {
         Some((i, j)) => {
-            let x = word(rows, i);
-            let y = word(columns, j);
-            let reduce = reduces.outline(y);
+            let x = word(actions.order, i);
+            let y = word(reduces.order, j);
+            let reduce = reduces.side.outline(y);
             with_both(
                 Class::SuggestInline(NonterminalString(reduce.first as u16)),
                 x,
                 y,
             )
         }
-        None => with_first(Class::InsufficientLookahead, rows, columns),
+        None => with_first(Class::InsufficientLookahead, actions.order, reduces.order),
     }
 }
 
 // A shift where no pair is ambiguous: question, inline, else insufficient lookahead.
 fn shift_unambiguous(
-    given: Given,
-    conflict: Conflict,
-    actions: &Side,
-    rows: &[u16],
-    reduces: &Side,
-    columns: &[u16],
+    case: TableConflict,
+    actions: SortedSide,
+    reduces: SortedSide,
 ) -> Judged
-    requires conflict_value { conflict_fits (meaning given.table.now) conflict ≡ true }
-    requires action_value { conflict.action ≡ 0 }
-    requires sides { (xs : List Example) × ((ys : List Example) × (Sides (meaning given.table.now) conflict xs ys actions.now.kept actions.now.prints reduces.now.kept reduces.now.prints × (Ordered xs rows.now × Ordered ys columns.now))) }
-    ensures { (xs ys : List Example) → Sides (meaning given.entry.table.now) conflict xs ys actions.now.kept actions.now.prints reduces.now.kept reduces.now.prints → Ordered xs rows.now → Ordered ys columns.now → Judges xs ys result (unambiguous (meaning given.entry.table.now) conflict.production.0 0 (picked xs rows.now) (picked ys columns.now) (heads_in xs ys rows.now columns.now)) }
+    requires action_value { case.conflict.action ≡ 0 }
+    requires sides { (xs : List Example) × ((ys : List Example) × (Sides (meaning case.given.table.words.now) case.conflict xs ys actions.side.now.kept actions.side.now.prints reduces.side.now.kept reduces.side.now.prints × (Ordered xs actions.order.now × Ordered ys reduces.order.now))) }
+    ensures { (xs ys : List Example) → Sides (meaning case.entry.given.table.words.now) case.entry.conflict xs ys actions.entry.side.now.kept actions.entry.side.now.prints reduces.entry.side.now.kept reduces.entry.side.now.prints → Ordered xs actions.entry.order.now → Ordered ys reduces.entry.order.now → Judges xs ys result (unambiguous (meaning case.entry.given.table.words.now) case.entry.conflict.production.0 0 (picked xs actions.entry.order.now) (picked ys reduces.entry.order.now) (heads_in xs ys actions.entry.order.now reduces.entry.order.now)) }
 {
-    let production = conflict.production.0 as usize;
-    let nonterminal = word(given.grammar, production * ProductionIndex::WORDS);
+    let production = case.conflict.production.0 as usize;
+    let nonterminal = word(case.given.grammar, production * ProductionIndex::WORDS);
     match try_classify_question(
-        given.table,
-        given.grammar,
-        given.counts.productions,
+        case.given.table.words,
+        case.given.grammar,
+        case.given.counts.productions,
         nonterminal,
     ) {
         Some((kind, number)) => with_first(
             Class::SuggestQuestion(NonterminalString(nonterminal as u16), kind, number),
-            rows,
-            columns,
+            actions.order,
+            reduces.order,
         ),
-        None => try_classify_inline(given, conflict, actions, rows, reduces, columns),
+        None => try_classify_inline(case, actions, reduces),
     }
 }
 
 // Where no pair is ambiguous: by the action, question and inline being for a shift alone.
 fn unambiguous(
-    given: Given,
-    conflict: Conflict,
-    actions: &Side,
-    rows: &[u16],
-    reduces: &Side,
-    columns: &[u16],
+    case: TableConflict,
+    actions: SortedSide,
+    reduces: SortedSide,
 ) -> Judged
-    requires conflict_value { conflict_fits (meaning given.table.now) conflict ≡ true }
-    requires sides { (xs : List Example) × ((ys : List Example) × (Sides (meaning given.table.now) conflict xs ys actions.now.kept actions.now.prints reduces.now.kept reduces.now.prints × (Ordered xs rows.now × Ordered ys columns.now))) }
-    ensures { (xs ys : List Example) → Sides (meaning given.entry.table.now) conflict xs ys actions.now.kept actions.now.prints reduces.now.kept reduces.now.prints → Ordered xs rows.now → Ordered ys columns.now → Judges xs ys result (judging.unambiguous (meaning given.entry.table.now) conflict.production.0 conflict.action (picked xs rows.now) (picked ys columns.now) (heads_in xs ys rows.now columns.now)) }
+    requires sides { (xs : List Example) × ((ys : List Example) × (Sides (meaning case.given.table.words.now) case.conflict xs ys actions.side.now.kept actions.side.now.prints reduces.side.now.kept reduces.side.now.prints × (Ordered xs actions.order.now × Ordered ys reduces.order.now))) }
+    ensures { (xs ys : List Example) → Sides (meaning case.entry.given.table.words.now) case.entry.conflict xs ys actions.entry.side.now.kept actions.entry.side.now.prints reduces.entry.side.now.kept reduces.entry.side.now.prints → Ordered xs actions.entry.order.now → Ordered ys reduces.entry.order.now → Judges xs ys result (judging.unambiguous (meaning case.entry.given.table.words.now) case.entry.conflict.production.0 case.entry.conflict.action (picked xs actions.entry.order.now) (picked ys reduces.entry.order.now) (heads_in xs ys actions.entry.order.now reduces.entry.order.now)) }
 {
-    if conflict.action == 0 {
-        return shift_unambiguous(given, conflict, actions, rows, reduces, columns);
+    if case.conflict.action == 0 {
+        return shift_unambiguous(case, actions, reduces);
     }
-    with_first(Class::InsufficientLookahead, rows, columns)
+    with_first(Class::InsufficientLookahead, actions.order, reduces.order)
 }
 
 // The class from two sides in their order, neither of them empty: ambiguity first.
 pub fn judge(
-    given: Given,
-    conflict: Conflict,
-    actions: &Side,
-    rows: &[u16],
-    reduces: &Side,
-    columns: &[u16],
+    case: TableConflict,
+    actions: SortedSide,
+    reduces: SortedSide,
 ) -> Judged
-    requires conflict_value { conflict_fits (meaning given.table.now) conflict ≡ true }
-    requires sides { (xs : List Example) × ((ys : List Example) × (Sides (meaning given.table.now) conflict xs ys actions.now.kept actions.now.prints reduces.now.kept reduces.now.prints × (Ordered xs rows.now × Ordered ys columns.now))) }
-    ensures { (xs ys : List Example) → Sides (meaning given.entry.table.now) conflict xs ys actions.now.kept actions.now.prints reduces.now.kept reduces.now.prints → Ordered xs rows.now → Ordered ys columns.now → Judges xs ys result (judge (meaning given.entry.table.now) conflict (picked xs rows.now) (picked ys columns.now)) }
+    requires sides { (xs : List Example) × ((ys : List Example) × (Sides (meaning case.given.table.words.now) case.conflict xs ys actions.side.now.kept actions.side.now.prints reduces.side.now.kept reduces.side.now.prints × (Ordered xs actions.order.now × Ordered ys reduces.order.now))) }
+    ensures { (xs ys : List Example) → Sides (meaning case.entry.given.table.words.now) case.entry.conflict xs ys actions.entry.side.now.kept actions.entry.side.now.prints reduces.entry.side.now.kept reduces.entry.side.now.prints → Ordered xs actions.entry.order.now → Ordered ys reduces.entry.order.now → Judges xs ys result (judge (meaning case.entry.given.table.words.now) case.entry.conflict (picked xs actions.entry.order.now) (picked ys reduces.entry.order.now)) }
 {
-    match try_classify_ambiguity(given, conflict, actions, rows, reduces, columns) {
+    match try_classify_ambiguity(case, actions, reduces) {
         Some((x, y)) => ambiguity(
-            given.grammar,
-            given.counts,
-            conflict,
-            actions,
+            case.given.grammar,
+            case.given.counts,
+            case.conflict,
+            actions.side,
             x,
-            reduces,
+            reduces.side,
             y,
         ),
-        None => unambiguous(given, conflict, actions, rows, reduces, columns),
+        None => unambiguous(case, actions, reduces),
     }
 }
