@@ -6,20 +6,17 @@ ghost use Rattle.std.specs.Prelude.{◌≡◌, true, false, List, ◌+◌, ◌�
 ghost use Rattle.repr.specs.Sizes.{example_room};
 ghost use Rattle.repr.specs.Meaning.{Table, Production, no_production, is_same_symbol};
 ghost use Rattle.repr.specs.Listed.{symbol_of_kind};
-ghost use Rattle.repr.specs.Packed.{Packed, productions_in};
+ghost use Rattle.repr.specs.Packed.{productions_in};
 ghost use Rattle.slices.specs.Same.{same_words};
 ghost use Rattle.slices.specs.Lent.{in_front};
 ghost use Rattle.table.specs.Decoded.{meaning};
-ghost use Rattle.table.specs.Checked.{Accepted};
-ghost use Rattle.table.specs.Refusals.{check_of};
 ghost use Rattle.example.specs.Example.{example_words};
 ghost use Rattle.error.specs.Judge.{Example, is_same_reading, is_operator_of, ambiguity_of_shift, ambiguity_of_reduce, ambiguity_of, question_of, inline_or, unambiguous, judge};
 ghost use Rattle.error.specs.Sorted.{first_fit};
 ghost use Rattle.error.specs.Judge as judging;
 ghost use Rattle.error.specs.Outcome.{conflict_fits};
-ghost use Rattle.shift_items.specs.Codes.{Grammar};
+ghost use Rattle.shift_items.specs.Codes.{Grammar as GrammarOf};
 ghost use Rattle.outline.specs.Kept.{nth};
-ghost use Rattle.examples.specs.Reads.{Reads};
 ghost use Rattle.examples.specs.Gathers.{SideKept, is_shift, action_made, reduce_made};
 ghost use Rattle.judge.specs.Judging.{InBuffer, Sides, Ordered, picked, pair_in, heads_in, both, Judges, ReadAlike, question_in, QuestionFits, optional_one};
 
@@ -29,7 +26,7 @@ use examples::{TableConflict, action_again, reduced};
 use outline::{Outline, Side};
 use pairs::{SortedSide, Test, first_pair};
 use repr::{Grammar, NonterminalString, ProductionIndex, word};
-use table::{Counts, first_production, production};
+use table::AcceptedTable;
 
 // A class and the examples that are shown with it, by their numbers.
 #[derive(Clone, Copy)]
@@ -46,7 +43,7 @@ pub fn write_example(case: TableConflict, side: &Side, k: usize, buffer: &mut [u
     ensures { (xs : List Example) → SideKept (meaning case.entry.given.table.words.now) (is_shift case.entry.conflict) (action_made (meaning case.entry.given.table.words.now) case.entry.conflict) xs side.now.kept side.now.prints → k < length xs → buffer.new ≡ in_front (example_words (meaning case.entry.given.table.words.now).productions (nth xs k)) buffer.old }
 {
     if k < Outline::LABELLED {
-        side.write_kept(case.given.grammar, case.given.counts.productions, k, buffer);
+        side.write_kept(case.given.grammar, k, buffer);
         return;
     }
     let outline = side.outline(k);
@@ -103,11 +100,11 @@ fn try_classify_ambiguity(
 {
     let mut row: usize = 0;
     let mut column: usize = 0;
+    // Each search tells by its answer whether there is another, and from where on.
     loop {
         match first_pair(
-            case.given.map,
+            case.given.sets,
             case.given.grammar,
-            case.given.counts,
             Test::Alike,
             actions,
             reduces,
@@ -155,7 +152,7 @@ fn is_operator(grammar: Grammar, production: usize, terminal: u16) -> bool
     requires { production < grammar.productions }
     ensures { result ≡ is_operator_of (get_or (productions_in grammar.entry.words.now grammar.entry.productions) production no_production) terminal }
 {
-    let nonterminal = grammar[production * ProductionIndex::WORDS];
+    let nonterminal = grammar.words[production * ProductionIndex::WORDS];
     let operator = [0, nonterminal, 1, terminal, 0, nonterminal];
     grammar.symbols(production) == operator.as_slice()
 }
@@ -172,7 +169,7 @@ fn shift_ambiguity(
     ensures { (xs ys : List Example) → x < length xs → y < length ys → Judges xs ys result (ambiguity_of_shift (get_or (productions_in grammar.entry.words.now grammar.entry.productions) production no_production) terminal (pair_in xs ys x y)) }
 {
     let at = production * ProductionIndex::WORDS;
-    let nonterminal = grammar[at];
+    let nonterminal = grammar.words[at];
     if is_operator(grammar, production, terminal) {
         return with_both(Class::Precedence(NonterminalString(nonterminal)), x, y);
     }
@@ -194,11 +191,11 @@ fn reduce_ambiguity(
 {
     if first == second {
         let span = production * ProductionIndex::WORDS + 2;
-        let start = grammar[span];
-        let end = grammar[span + 1];
+        let start = grammar.words[span];
+        let end = grammar.words[span + 1];
         let other_span = other * ProductionIndex::WORDS + 2;
-        let other_start = grammar[other_span];
-        let other_end = grammar[other_span + 1];
+        let other_start = grammar.words[other_span];
+        let other_end = grammar.words[other_span + 1];
         return Judged {
             class: Class::AmbiguousReduction(start, end, other_start, other_end),
             action: Some(x),
@@ -209,29 +206,22 @@ fn reduce_ambiguity(
 }
 
 // A pair that is read alike, by the action.
-fn ambiguity(
-    grammar: &[u16],
-    counts: Counts,
-    conflict: Conflict,
-    actions: &Side,
-    x: usize,
-    reduces: &Side,
-    y: usize,
-) -> Judged
-    requires { (T : Table) × (Grammar T grammar.now counts.productions × ((conflict_fits T conflict ≡ true) × ((xs : List Example) × ((ys : List Example) × (Sides T conflict xs ys actions.now.kept actions.now.prints reduces.now.kept reduces.now.prints × ((x < length xs) × (y < length ys))))))) }
-    ensures { (T : Table) → Grammar T grammar.now counts.productions → conflict_fits T conflict ≡ true → (xs ys : List Example) → Sides T conflict xs ys actions.now.kept actions.now.prints reduces.now.kept reduces.now.prints → x < length xs → y < length ys → Judges xs ys result (ambiguity_of T conflict.production.0 conflict.action conflict.operand (pair_in xs ys x y)) }
+fn ambiguity(case: TableConflict, actions: &Side, x: usize, reduces: &Side, y: usize) -> Judged
+    requires { (xs : List Example) × ((ys : List Example) × (Sides (meaning case.given.table.words.now) case.conflict xs ys actions.now.kept actions.now.prints reduces.now.kept reduces.now.prints × ((x < length xs) × (y < length ys)))) }
+    ensures { (xs ys : List Example) → Sides (meaning case.entry.given.table.words.now) case.entry.conflict xs ys actions.now.kept actions.now.prints reduces.now.kept reduces.now.prints → x < length xs → y < length ys → Judges xs ys result (ambiguity_of (meaning case.entry.given.table.words.now) case.entry.conflict.production.0 case.entry.conflict.action case.entry.conflict.operand (pair_in xs ys x y)) }
 {
+    let grammar = case.given.grammar;
+    let conflict = case.conflict;
     let production = conflict.production.0 as usize;
-    let operand = conflict.operand;
     if conflict.action == 0 {
-        return shift_ambiguity(Grammar { words: grammar, productions: counts.productions }, production, operand, x, y);
+        return shift_ambiguity(grammar, production, conflict.operand, x, y);
     }
     let action = actions.outline(x);
     let reduce = reduces.outline(y);
     reduce_ambiguity(
-        Grammar { words: grammar, productions: counts.productions },
+        grammar,
         production,
-        operand as usize,
+        conflict.operand as usize,
         x,
         action.first,
         y,
@@ -244,44 +234,42 @@ fn optional(grammar: Grammar, none: usize, one: usize) -> Option<(u16, u16)>
     requires { (none < grammar.productions) × (one < grammar.productions) }
     ensures { (question_in result ≡ optional_one (get_or (productions_in grammar.entry.words.now grammar.entry.productions) none no_production).symbols (get_or (productions_in grammar.entry.words.now grammar.entry.productions) one no_production).symbols) × QuestionFits result }
 {
-    if word(grammar.words, none * ProductionIndex::WORDS + 1) != 0 {
+    if grammar.length(none) != 0 {
         return None;
     }
-    if word(grammar.words, one * ProductionIndex::WORDS + 1) != 1 {
+    if grammar.length(one) != 1 {
         return None;
     }
     let at = one * ProductionIndex::WORDS + 4;
-    Some((grammar[at], grammar[at + 1]))
+    Some((grammar.words[at], grammar.words[at + 1]))
 }
 
 // `try_classify_question`: the nonterminal has two productions, one empty and one of one symbol.
 fn try_classify_question(
-    table: &[u16],
-    grammar: &[u16],
-    productions: usize,
+    table: AcceptedTable,
+    grammar: Grammar,
     nonterminal: usize,
 ) -> Option<(u16, u16)>
-    requires table_value { check_of table.now ≡ Accepted }
-    requires grammar { Grammar (meaning table.now) grammar.now productions × (nonterminal < length (meaning table.now).nonterminals) }
-    ensures { (question_in result ≡ question_of (meaning table.now) nonterminal) × QuestionFits result }
+    requires { GrammarOf (meaning table.words.now) grammar.words.now grammar.productions × (nonterminal < length (meaning table.words.now).nonterminals) }
+    ensures { (question_in result ≡ question_of (meaning table.entry.words.now) nonterminal) × QuestionFits result }
 {
-    let head = first_production(table, nonterminal);
+    let head = table.first_production(nonterminal);
     if head == 0 {
         return None;
     }
-    let first = production(table, head);
+    let first = table.production(head);
     let next = first.next;
     if next == 0 {
         return None;
     }
-    let second = production(table, next);
+    let second = table.production(next);
     if second.next != 0 {
         return None;
     }
     let p = first.production;
     let q = second.production;
-    match optional(Grammar { words: grammar, productions }, p, q) {
-        None => optional(Grammar { words: grammar, productions }, q, p),
+    match optional(grammar, p, q) {
+        None => optional(grammar, q, p),
         symbol => symbol,
     }
 }
@@ -297,9 +285,8 @@ fn try_classify_inline(
     ensures { (xs ys : List Example) → Sides (meaning case.entry.given.table.words.now) case.entry.conflict xs ys actions.entry.side.now.kept actions.entry.side.now.prints reduces.entry.side.now.kept reduces.entry.side.now.prints → Ordered xs actions.entry.order.now → Ordered ys reduces.entry.order.now → Judges xs ys result (inline_or (meaning case.entry.given.table.words.now).productions (heads_in xs ys actions.entry.order.now reduces.entry.order.now) (first_fit (judging.inlines (meaning case.entry.given.table.words.now)) (picked xs actions.entry.order.now) (picked ys reduces.entry.order.now))) }
 {
     match first_pair(
-        case.given.map,
+        case.given.sets,
         case.given.grammar,
-        case.given.counts,
         Test::Inline,
         actions,
         reduces,
@@ -330,13 +317,8 @@ fn shift_unambiguous(
     ensures { (xs ys : List Example) → Sides (meaning case.entry.given.table.words.now) case.entry.conflict xs ys actions.entry.side.now.kept actions.entry.side.now.prints reduces.entry.side.now.kept reduces.entry.side.now.prints → Ordered xs actions.entry.order.now → Ordered ys reduces.entry.order.now → Judges xs ys result (unambiguous (meaning case.entry.given.table.words.now) case.entry.conflict.production.0 0 (picked xs actions.entry.order.now) (picked ys reduces.entry.order.now) (heads_in xs ys actions.entry.order.now reduces.entry.order.now)) }
 {
     let production = case.conflict.production.0 as usize;
-    let nonterminal = word(case.given.grammar, production * ProductionIndex::WORDS);
-    match try_classify_question(
-        case.given.table.words,
-        case.given.grammar,
-        case.given.counts.productions,
-        nonterminal,
-    ) {
+    let nonterminal = case.given.grammar.owner(production);
+    match try_classify_question(case.given.table, case.given.grammar, nonterminal) {
         Some((kind, number)) => with_first(
             Class::SuggestQuestion(NonterminalString(nonterminal as u16), kind, number),
             actions.order,
@@ -371,15 +353,7 @@ pub fn judge(
     ensures { (xs ys : List Example) → Sides (meaning case.entry.given.table.words.now) case.entry.conflict xs ys actions.entry.side.now.kept actions.entry.side.now.prints reduces.entry.side.now.kept reduces.entry.side.now.prints → Ordered xs actions.entry.order.now → Ordered ys reduces.entry.order.now → Judges xs ys result (judge (meaning case.entry.given.table.words.now) case.entry.conflict (picked xs actions.entry.order.now) (picked ys reduces.entry.order.now)) }
 {
     match try_classify_ambiguity(case, actions, reduces) {
-        Some((x, y)) => ambiguity(
-            case.given.grammar,
-            case.given.counts,
-            case.conflict,
-            actions.side,
-            x,
-            reduces.side,
-            y,
-        ),
+        Some((x, y)) => ambiguity(case, actions.side, x, reduces.side, y),
         None => unambiguous(case, actions, reduces),
     }
 }

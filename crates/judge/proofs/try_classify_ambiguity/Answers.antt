@@ -1,7 +1,7 @@
 use mathlib.Core.Path.{sym, ◌∙◌}
 use Rattle.repr.specs.Packed.{productions_in}
 use Rattle.pairs.proofs.Product.{found-stop, found_fewer}
-use Rattle.judge.proofs.Sides.{reads_ready, alike_asks, alike-start, alike-none, alike-inside, alike-yes, alike_no}
+use Rattle.judge.proofs.Sides.{alike_asks, alike-start, alike-none, alike-inside, alike-yes, alike_no}
 use native.Mathlib.Omega.{arith}
 use Rattle.judge.proofs.try_classify_ambiguity.Goals as goal
 
@@ -10,8 +10,8 @@ loop-i-init c = λ xs ys K A B. alike-start _ c.args.case.conflict xs ys _ _ _ _
 
 pub first_pair-requires : goal.first_pair-requires
 first_pair-requires c = let P = c.requires in
-    let whole = alike_asks _ c.args.case.conflict P.0 P.1.0 _ _ _ _ P.1.1.0 c.args.actions.order.now c.args.reduces.order.now P.1.1.1.0 P.1.1.1.1 (productions_in c.args.case.given.grammar.now c.args.case.given.counts.productions) in
-    record { packed = reads_ready _ _ _ _ _ _ _ c.args.case.given.reads; all = whole.1.0; all_2 = whole.1.1 }
+    let whole = alike_asks _ c.args.case.conflict P.0 P.1.0 _ _ _ _ P.1.1.0 c.args.actions.order.now c.args.reduces.order.now P.1.1.1.0 P.1.1.1.1 (productions_in c.args.case.given.grammar.words.now c.args.case.given.grammar.productions) in
+    record { all = whole.1.0; all_2 = whole.1.1 }
 
 pub word-x-requires : goal.word-x-requires
 word-x-requires c = (found-stop _ _ _ _ _ _ c.first_pair.ensures _ c.in-Some.is).row

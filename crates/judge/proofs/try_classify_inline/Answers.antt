@@ -1,13 +1,13 @@
 use Rattle.repr.specs.Packed.{productions_in}
 use Rattle.pairs.proofs.Product.{found-stop}
-use Rattle.judge.proofs.Sides.{table_fits, reads_ready, kept-place, inline_asks, inline_none, inline_inside, inline_first, inline_found}
+use Rattle.judge.proofs.Sides.{table_fits, kept-place, inline_asks, inline_none, inline_inside, inline_first, inline_found}
 use native.Mathlib.Omega.{arith}
 use Rattle.judge.proofs.try_classify_inline.Goals as goal
 
 pub first_pair-requires : goal.first_pair-requires
 first_pair-requires c = let R = c.args.case.given.reads in let P = c.requires.sides in
-    let whole = inline_asks _ c.args.case.conflict P.0 P.1.0 _ _ _ _ P.1.1.0 c.args.actions.order.now c.args.reduces.order.now P.1.1.1.0 P.1.1.1.1 (table_fits _ _ _ _ _ _ _ R) c.requires.action_value (productions_in c.args.case.given.grammar.now c.args.case.given.counts.productions) R.same in
-    record { packed = reads_ready _ _ _ _ _ _ _ R; all = whole.1.0; all_2 = whole.1.1 }
+    let whole = inline_asks _ c.args.case.conflict P.0 P.1.0 _ _ _ _ P.1.1.0 c.args.actions.order.now c.args.reduces.order.now P.1.1.1.0 P.1.1.1.1 (table_fits _ _ _ _ _ _ _ R) c.requires.action_value (productions_in c.args.case.given.grammar.words.now c.args.case.given.grammar.productions) R.same in
+    record { all = whole.1.0; all_2 = whole.1.1 }
 
 pub word-x-requires : goal.word-x-requires
 word-x-requires c = (found-stop _ _ _ _ _ _ c.first_pair.ensures _ c.in-Some.is).row

@@ -9,7 +9,7 @@ use Rattle.judge.proofs.Sides.{kept-place, kept_turn, kept_labels, kept-code, ke
 use Rattle.judge.proofs.write_example.Goals as goal
 
 pub write_kept-requires : goal.write_kept-requires
-write_kept-requires c = record { packed = (c.args.case.given.reads.packed, omega arith); example_room_in_bounds = ((_, kept_labels _ _ _ c.requires.side_kept.0 _ _ c.requires.side_kept.1.0 c.args.k c.requires.side_kept.1.1 _ c.args.case.given.reads.same (omega arith)), c.requires.example_room_in_bounds) }
+write_kept-requires c = record { within = omega arith; example_room_in_bounds = ((_, kept_labels _ _ _ c.requires.side_kept.0 _ _ c.requires.side_kept.1.0 c.args.k c.requires.side_kept.1.1 _ c.args.case.given.reads.same (omega arith)), c.requires.example_room_in_bounds) }
 
 pub returns-then-k-lt-LABELLED : goal.returns-then-k-lt-LABELLED
 returns-then-k-lt-LABELLED c = λ xs K h. c.write_kept.ensures (nth xs c.args.k) (kept_labels _ _ _ xs _ _ K c.args.k h _ c.args.case.given.reads.same (omega arith)) ∙ ap (λ (ps : List Production). in_front (example_words ps (nth xs c.args.k)) c.args.buffer.now) c.args.case.given.reads.same
