@@ -117,7 +117,7 @@ pub fn classify(
     action: &mut [u16],
     reduce: &mut [u16],
 ) -> Result<Classification, Refusal>
-    requires example_room_in_bounds { (example_room ≤ length action.old) × (example_room ≤ length reduce.old) }
+    requires { (example_room ≤ length action.old) × (example_room ≤ length reduce.old) }
     ensures { (scratch : List ℕ) → outcome (reading_of result) (zeroed classify_scratch scratch) action.new reduce.new ≡ gathered_outcome (meaning case.entry.given.table.words.now) case.entry.conflict scratch action.old reduce.old (gather (meaning case.entry.given.table.words.now) case.entry.conflict) }
 {
     let mut actions = Side::new();

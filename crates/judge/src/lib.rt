@@ -75,7 +75,7 @@ fn same_again(
     reduces: &Side,
     y: usize,
 ) -> bool
-    requires sides { (xs : List Example) × ((ys : List Example) × (Sides (meaning case.given.table.words.now) case.conflict xs ys actions.now.kept actions.now.prints reduces.now.kept reduces.now.prints × ((x < length xs) × (y < length ys)))) }
+    requires { (xs : List Example) × ((ys : List Example) × (Sides (meaning case.given.table.words.now) case.conflict xs ys actions.now.kept actions.now.prints reduces.now.kept reduces.now.prints × ((x < length xs) × (y < length ys)))) }
     ensures { (xs ys : List Example) → Sides (meaning case.entry.given.table.words.now) case.entry.conflict xs ys actions.now.kept actions.now.prints reduces.now.kept reduces.now.prints → x < length xs → y < length ys → result ≡ is_same_reading (meaning case.entry.given.table.words.now).productions (nth xs x) (nth ys y) }
 {
     let mut action = [0u16; ExampleBuffer::WORDS];
@@ -95,7 +95,7 @@ fn try_classify_ambiguity(
     actions: SortedSide,
     reduces: SortedSide,
 ) -> Option<(usize, usize)>
-    requires sides { (xs : List Example) × ((ys : List Example) × (Sides (meaning case.given.table.words.now) case.conflict xs ys actions.side.now.kept actions.side.now.prints reduces.side.now.kept reduces.side.now.prints × (Ordered xs actions.order.now × Ordered ys reduces.order.now))) }
+    requires { (xs : List Example) × ((ys : List Example) × (Sides (meaning case.given.table.words.now) case.conflict xs ys actions.side.now.kept actions.side.now.prints reduces.side.now.kept reduces.side.now.prints × (Ordered xs actions.order.now × Ordered ys reduces.order.now))) }
     ensures { (xs ys : List Example) → Sides (meaning case.entry.given.table.words.now) case.entry.conflict xs ys actions.entry.side.now.kept actions.entry.side.now.prints reduces.entry.side.now.kept reduces.entry.side.now.prints → Ordered xs actions.entry.order.now → Ordered ys reduces.entry.order.now → ReadAlike (meaning case.entry.given.table.words.now).productions xs ys actions.entry.order.now reduces.entry.order.now result }
 {
     let mut row: usize = 0;
@@ -334,7 +334,7 @@ fn unambiguous(
     actions: SortedSide,
     reduces: SortedSide,
 ) -> Judged
-    requires sides { (xs : List Example) × ((ys : List Example) × (Sides (meaning case.given.table.words.now) case.conflict xs ys actions.side.now.kept actions.side.now.prints reduces.side.now.kept reduces.side.now.prints × (Ordered xs actions.order.now × Ordered ys reduces.order.now))) }
+    requires { (xs : List Example) × ((ys : List Example) × (Sides (meaning case.given.table.words.now) case.conflict xs ys actions.side.now.kept actions.side.now.prints reduces.side.now.kept reduces.side.now.prints × (Ordered xs actions.order.now × Ordered ys reduces.order.now))) }
     ensures { (xs ys : List Example) → Sides (meaning case.entry.given.table.words.now) case.entry.conflict xs ys actions.entry.side.now.kept actions.entry.side.now.prints reduces.entry.side.now.kept reduces.entry.side.now.prints → Ordered xs actions.entry.order.now → Ordered ys reduces.entry.order.now → Judges xs ys result (judging.unambiguous (meaning case.entry.given.table.words.now) case.entry.conflict.production.0 case.entry.conflict.action (picked xs actions.entry.order.now) (picked ys reduces.entry.order.now) (heads_in xs ys actions.entry.order.now reduces.entry.order.now)) }
 {
     if case.conflict.action == 0 {
@@ -349,7 +349,7 @@ pub fn judge(
     actions: SortedSide,
     reduces: SortedSide,
 ) -> Judged
-    requires sides { (xs : List Example) × ((ys : List Example) × (Sides (meaning case.given.table.words.now) case.conflict xs ys actions.side.now.kept actions.side.now.prints reduces.side.now.kept reduces.side.now.prints × (Ordered xs actions.order.now × Ordered ys reduces.order.now))) }
+    requires { (xs : List Example) × ((ys : List Example) × (Sides (meaning case.given.table.words.now) case.conflict xs ys actions.side.now.kept actions.side.now.prints reduces.side.now.kept reduces.side.now.prints × (Ordered xs actions.order.now × Ordered ys reduces.order.now))) }
     ensures { (xs ys : List Example) → Sides (meaning case.entry.given.table.words.now) case.entry.conflict xs ys actions.entry.side.now.kept actions.entry.side.now.prints reduces.entry.side.now.kept reduces.entry.side.now.prints → Ordered xs actions.entry.order.now → Ordered ys reduces.entry.order.now → Judges xs ys result (judge (meaning case.entry.given.table.words.now) case.entry.conflict (picked xs actions.entry.order.now) (picked ys reduces.entry.order.now)) }
 {
     match try_classify_ambiguity(case, actions, reduces) {
