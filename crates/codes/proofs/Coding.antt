@@ -1,5 +1,5 @@
 -- An edge added to a trace's edges in words (specs/Coded). A fact that has to do with `TableFits` takes it first. Assumes nothing.
-use Rattle.std.proofs.Common.{◌≡◌, ℕ, ◌+◌, ◌*◌, ◌/◌, ◌<◌, ◌≤◌, true, false, eqb, ltb, List, [], ◌∷◌, ◌++◌, length, get_or, set, sym, ap, ◌∙◌, arith, length-append, length-set, get_or-set_other, get_or-set_same, get_or-append-add, ltb-false, ltb-true, eqb-true}
+use Rattle.std.proofs.Common.{◌≡◌, ℕ, ◌+◌, ◌*◌, ◌/◌, ◌<◌, ◌≤◌, true, false, eqb, ltb, List, [], ◌∷◌, ◌++◌, length, get_or, set, replicate, sym, refl, ap, ◌∙◌, arith, length-append, length-set, get_or-set_other, get_or-set_same, get_or-append-add, ltb-false, ltb-true, eqb-true}
 use mathlib.Core.Bool.{or-false, or-true}
 use lib.ListN.{get_or-append}
 use borrow.Author.Tests.{eqb-false}
@@ -11,7 +11,7 @@ use Rattle.trace_graph.specs.Graph.{TraceEdge, is_same_edge, add}
 use Rattle.trace.proofs.Once.{add_there, add_new, add-all}
 use Rattle.trace.specs.Sound.{EdgeSound}
 use Rattle.bits.specs.Bits.{bit_at, bit_put}
-use Rattle.bits.proofs.Laws.{put-length, put_here, put_other}
+use Rattle.bits.proofs.Laws.{zeros_none, put-length, put_here, put_other}
 use Rattle.codes.specs.Codes.{item_code, code_of, key_by, key_of}
 use Rattle.codes.specs.Coded.{no_edge, Coded, Leasts}
 use Rattle.codes.proofs.Keys.{same_key, key_one, key-other}
@@ -101,6 +101,18 @@ module _ (T : Table) (fits : TableFits T) where
           })
 
 -- the key as the code makes it
+
+pub coded_none : (T : Table) (ws : List ℕ) → length ws ≡ 1025 → get_or ws 0 0 ≡ 0 → Coded T ws (replicate 102 0) []
+unfolding some? All
+coded_none T ws l z = record {
+  long = l;
+  flags = refl;
+  few = omega arith;
+  count = z;
+  codes = λ j h. absurd (omega arith);
+  keys = λ k h. zeros_none 102 k;
+  traced = tt;
+}
 
 pub key-least : (ps : List Production) (ls : List ℕ) (p x : ℕ) → Leasts ps ls → p < length ps → 2176 + (get_or ls p 0 * 17 + x) ≡ key_by ps 1 (record { production = p; index = x })
 key-least ps ls p x L h = rw (L.exact p h) (sym (key_one ps (record { production = p; index = x })))

@@ -122,12 +122,12 @@ module _ {g : List ℕ} {n : ℕ} {T : Table} {e : TraceEdge} {c : ℕ} (D : Dec
 
 -- as the code has it
 
-module _ (g : List ℕ) (c w : ℕ) (D : (n : ℕ) × ((T : Table) × ((e : TraceEdge) × Decodes g n T e c))) (ew : w ≡ get_or g (c % 2176 / 17 * 36) 0) where
+module _ (g : List ℕ) (n c w : ℕ) (D : (T : Table) × ((e : TraceEdge) × Decodes g n T e c)) (ew : w ≡ get_or g (c % 2176 / 17 * 36) 0) where
   owner_small : w < 128
-  owner_small = let d = D.1.1.1 in let l = d.packed.owner (c % 2176 / 17) (inside d) in omega arith
+  owner_small = let d = D.1.1 in let l = d.packed.owner (c % 2176 / 17) (inside d) in omega arith
 
   pub made-zero : c / 2176 ≡ 0 → (SmallEdge (record { source = record { kind = 0; number = w; index = 0 }; target = record { kind = 1; number = c % 2176 / 17; index = c % 2176 % 17 }; production = c % 2176 / 17; index = c % 2176 % 17 })
-      × ((n : ℕ) (T : Table) (e : TraceEdge) → Decodes g n T e c → value_words (record { source = record { kind = 0; number = w; index = 0 }; target = record { kind = 1; number = c % 2176 / 17; index = c % 2176 % 17 }; production = c % 2176 / 17; index = c % 2176 % 17 }) ≡ edge_words e))
+      × ((T : Table) (e : TraceEdge) → Decodes g n T e c → value_words (record { source = record { kind = 0; number = w; index = 0 }; target = record { kind = 1; number = c % 2176 / 17; index = c % 2176 % 17 }; production = c % 2176 / 17; index = c % 2176 % 17 }) ≡ edge_words e))
   unfolding value_words
   made-zero k =
       let o = owner_small in (
@@ -137,19 +137,19 @@ module _ (g : List ℕ) (c w : ℕ) (D : (n : ℕ) × ((T : Table) × ((e : Trac
           production = omega arith;
           index = omega arith;
         },
-        λ n T e d. rw ew (words-zero d k),
+        λ T e d. rw ew (words-zero d k),
       )
 
   module _ (ne : c / 2176 ≡ 0 → ⊥) where
     pub cursor_inside : c % 2176 / 17 * 36 + 4 + 2 * (c % 2176 % 17) + 1 < length g
-    cursor_inside = let d = D.1.1.1 in let r = cursor_room d ne in let i = inside d in let f = d.packed.few in let l = d.packed.long in omega arith
+    cursor_inside = let d = D.1.1 in let r = cursor_room d ne in let i = inside d in let f = d.packed.few in let l = d.packed.long in omega arith
 
     module _ (v : ℕ) (ev : v ≡ get_or g (c % 2176 / 17 * 36 + 4 + 2 * (c % 2176 % 17) + 1) 0) where
       v_small : v < 128
-      v_small = let q = cursor_small D.1.1.1 ne in omega arith
+      v_small = let q = cursor_small D.1.1 ne in omega arith
 
       pub made_one : c / 2176 ≡ 1 → (SmallEdge (record { source = record { kind = 0; number = w; index = 0 }; target = record { kind = 0; number = v; index = 0 }; production = c % 2176 / 17; index = c % 2176 % 17 })
-          × ((n : ℕ) (T : Table) (e : TraceEdge) → Decodes g n T e c → value_words (record { source = record { kind = 0; number = w; index = 0 }; target = record { kind = 0; number = v; index = 0 }; production = c % 2176 / 17; index = c % 2176 % 17 }) ≡ edge_words e))
+          × ((T : Table) (e : TraceEdge) → Decodes g n T e c → value_words (record { source = record { kind = 0; number = w; index = 0 }; target = record { kind = 0; number = v; index = 0 }; production = c % 2176 / 17; index = c % 2176 % 17 }) ≡ edge_words e))
       unfolding value_words
       made_one k = (
         record {
@@ -158,11 +158,11 @@ module _ (g : List ℕ) (c w : ℕ) (D : (n : ℕ) × ((T : Table) × ((e : Trac
           production = omega arith;
           index = omega arith;
         },
-        λ n T e d. rw (ew, ev) (words_one d ne k),
+        λ T e d. rw (ew, ev) (words_one d ne k),
       )
 
       pub made_two : (c / 2176 ≡ 1 → ⊥) → (SmallEdge (record { source = record { kind = 1; number = c % 2176 / 17; index = c % 2176 % 17 }; target = record { kind = 0; number = v; index = 0 }; production = c % 2176 / 17; index = c % 2176 % 17 })
-          × ((n : ℕ) (T : Table) (e : TraceEdge) → Decodes g n T e c → value_words (record { source = record { kind = 1; number = c % 2176 / 17; index = c % 2176 % 17 }; target = record { kind = 0; number = v; index = 0 }; production = c % 2176 / 17; index = c % 2176 % 17 }) ≡ edge_words e))
+          × ((T : Table) (e : TraceEdge) → Decodes g n T e c → value_words (record { source = record { kind = 1; number = c % 2176 / 17; index = c % 2176 % 17 }; target = record { kind = 0; number = v; index = 0 }; production = c % 2176 / 17; index = c % 2176 % 17 }) ≡ edge_words e))
       unfolding value_words
       made_two k = (
         record {
@@ -171,5 +171,5 @@ module _ (g : List ℕ) (c w : ℕ) (D : (n : ℕ) × ((T : Table) × ((e : Trac
           production = omega arith;
           index = omega arith;
         },
-        λ n T e d. rw ev (words_two d ne k),
+        λ T e d. rw ev (words_two d ne k),
       )

@@ -4,3 +4,4 @@ pub mod Least
 pub mod Decoded
 pub mod Writing
 pub mod Views
+pub mod KindLaws

@@ -32,3 +32,7 @@ pub record Leasts (ps : List Production) (ls : List ℕ) : Type 0 where
   pub long : length ls ≡ production_limit
   pub few : length ps ≤ production_limit
   pub exact : (p : ℕ) → p < length ps → slice_index ls p ≡ least_alike ps p
+
+-- a word for each production, and each of them that of a production
+abbrev pub SmallLeasts : List ℕ → Type 0
+SmallLeasts ls = (length ls ≡ production_limit) × ((p : ℕ) → p < production_limit → slice_index ls p < production_limit)

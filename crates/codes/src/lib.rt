@@ -2,16 +2,18 @@
 
 #![tactic(auto)]
 
-ghost use Rattle.std.specs.Prelude.{OnOk, OnErr, ◌≡◌, ℕ, ◌+◌, ◌*◌, ◌<◌, ◌≤◌, Bool, true, false, List, ◌++◌, length, drop, replicate, slice_index};
+ghost use Rattle.std.specs.Prelude.{OnOk, OnErr, ◌≡◌, ℕ, ◌+◌, ◌*◌, ◌<◌, ◌≤◌, Bool, true, false, List, [], ◌++◌, length, drop, replicate, slice_index};
 ghost use Rattle.repr.specs.Sizes.{production_limit, index_limit, item_limit, edge_limit, edge_place, graph_room};
+ghost use Rattle.repr.specs.Lists.{some?};
 ghost use Rattle.repr.specs.Meaning as meaning-of;
 ghost use Rattle.repr.specs.Packed.{Packed, productions_in};
 ghost use Rattle.trace_graph.specs.Graph as graph-of;
 ghost use Rattle.trace_graph.specs.Words.{edge_words, graph_words};
 ghost use Rattle.trace_graph.specs.Values.{SmallEdge, value_words};
 ghost use Rattle.trace.specs.Sound.{EdgeSound};
-ghost use Rattle.codes.specs.Codes.{code_limit, item_code, code_of, is_same_production, least_alike, key_by, key_of};
-ghost use Rattle.codes.specs.Coded.{codes_room, key_words, Coded, Leasts};
+ghost use Rattle.codes.specs.Codes.{code_limit, item_code, is_same_production, least_alike, key_by};
+ghost use Rattle.codes.specs.Kinds.{kind_number, IsCodeOf};
+ghost use Rattle.codes.specs.Coded.{Coded, Leasts, SmallLeasts};
 ghost use Rattle.codes.specs.Carried.{Decodes, Carried};
 
 use bits::{is_set, put};
@@ -21,60 +23,120 @@ use trace_graph::{Full, Node, TraceEdge, TraceGraph, same_label, write_edge};
 
 pub mod viewing;
 
-// An edge of a trace in one word.
+// The kinds of a trace's edges, by their ends.
 #[derive(Clone, Copy)]
-pub struct EdgeCode(pub u16);
+pub enum EdgeKind {
+    // From a nonterminal into an item.
+    IntoItem,
+    // From a nonterminal into a nonterminal.
+    Between,
+    // From an item into a nonterminal.
+    FromItem,
+}
+
+impl EdgeKind {
+    fn number(self) -> usize
+        ensures { (result ≡ kind_number self) × (result < 3) }
+    {
+        match self {
+            EdgeKind::IntoItem => 0,
+            EdgeKind::Between => 1,
+            EdgeKind::FromItem => 2,
+        }
+    }
+}
+
+// An edge of a trace, by its kind and the item of its label.
+#[derive(Clone, Copy)]
+pub struct EdgeCode {
+    pub kind: EdgeKind,
+    pub item: Item,
+}
 
 impl EdgeCode {
-    // A count and all edges of a trace; a bit for each key.
+    // Its word.
+    fn word(self) -> usize
+        requires { (self.item.production < production_limit) × (self.item.index < index_limit) }
+        ensures { (result ≡ kind_number self.kind * item_limit + item_code (record { production = self.item.production; index = self.item.index })) × (result < code_limit) }
+    {
+        self.kind.number() * Item::LIMIT
+            + (self.item.production * ProductionIndex::INDEXES + self.item.index)
+    }
+
+    // Its key: of an edge between nonterminals the word with the least equal production.
+    fn key(self, least: &[u8]) -> usize
+        requires { (self.item.production < production_limit) × (self.item.index < index_limit) × SmallLeasts least.now }
+        ensures { (result < code_limit) × ((ps : List meaning-of.Production) → Leasts ps least.now → self.item.production < length ps → result ≡ key_by ps (kind_number self.kind) (record { production = self.item.production; index = self.item.index })) }
+    {
+        let item = self.item;
+        match self.kind {
+            EdgeKind::Between => {
+                Item::LIMIT
+                    + (least[item.production] as usize * ProductionIndex::INDEXES + item.index)
+            }
+            EdgeKind::IntoItem => self.word(),
+            EdgeKind::FromItem => self.word(),
+        }
+    }
+}
+
+// A trace's edges, one word each behind their number, and a bit for each key that one of them has.
+#[derive(Drop)]
+pub struct EdgeCodes {
+    pub words: [u16; EdgeCodes::WORDS],
+    pub flags: [u64; EdgeCodes::KEY_WORDS],
+}
+
+impl EdgeCodes {
     pub const WORDS: usize = 1 + TraceGraph::EDGES;
 
     pub const KEY_WORDS: usize = 102;
-    // A bit for each pair of a state and a nonterminal, which tracing enters once.
-    pub const PAIR_WORDS: usize = 64;
-}
 
-// The word of an edge by kind and label.
-pub fn code(kind: usize, production: usize, index: usize) -> usize
-    requires { (kind < 3) × (production < production_limit) × (index < index_limit) }
-    ensures { (result ≡ kind * item_limit + item_code (record { production = production; index = index })) × (result < code_limit) }
-{
-    kind * Item::LIMIT + (production * ProductionIndex::INDEXES + index)
-}
+    // No edges.
+    pub fn new() -> EdgeCodes
+        ensures { (T : meaning-of.Table) → Coded T result.words result.flags [] }
+    {
+        EdgeCodes {
+            words: [0u16; EdgeCodes::WORDS],
+            flags: [0u64; EdgeCodes::KEY_WORDS],
+        }
+    }
 
-// Its key: of an edge between nonterminals the word with the least equal production.
-pub fn key(least: &[u8], kind: usize, production: usize, index: usize) -> usize
-    requires { (kind < 3) × (production < production_limit) × (index < index_limit) × (length least.now ≡ production_limit) × ((p : ℕ) → p < production_limit → slice_index least.now p < production_limit) }
-    ensures { (result < code_limit) × ((ps : List meaning-of.Production) → Leasts ps least.now → production < length ps → result ≡ key_by ps kind (record { production = production; index = index })) }
-{
-    if kind == 1 {
-        return Item::LIMIT + (least[production] as usize * ProductionIndex::INDEXES + index);
+    // Takes all edges away.
+    pub fn clear(&mut self)
+        ensures { (T : meaning-of.Table) → Coded T self.new.words self.new.flags [] }
+    {
+        self.words[0] = 0;
+        self.flags.fill(0);
     }
-    kind * Item::LIMIT + (production * ProductionIndex::INDEXES + index)
-}
 
-// Adds an edge by its word and its key, unless an equal one is there; refusal 12 is one edge too many.
-pub fn insert_code(
-    words: &mut [u16],
-    flags: &mut [u64],
-    code: usize,
-    key: usize,
-) -> Result<(), Full>
-    requires { (length words.old ≡ codes_room) × (length flags.old ≡ key_words) × (code < code_limit) × (key < code_limit) }
-    ensures coded { OnOk result ((T : meaning-of.Table) → meaning-of.TableFits T → (es : List graph-of.TraceEdge) (e : graph-of.TraceEdge) → Coded T words.old flags.old es → EdgeSound T e → code ≡ code_of e → key ≡ key_of T.productions (code_of e) → Coded T words.new flags.new (graph-of.add T.productions e es)) }
-    ensures edge_limit_in_bounds { OnErr result ((T : meaning-of.Table) → meaning-of.TableFits T → (es : List graph-of.TraceEdge) (e : graph-of.TraceEdge) → Coded T words.old flags.old es → EdgeSound T e → code ≡ code_of e → key ≡ key_of T.productions (code_of e) → edge_limit < length (graph-of.add T.productions e es)) }
-{
-    if is_set(flags, key) {
-        return Ok(());
+    // Whether an equal edge is there.
+    pub fn contains(&self, least: &[u8], edge: EdgeCode) -> bool
+        requires { (edge.item.production < production_limit) × (edge.item.index < index_limit) × SmallLeasts least.now }
+        ensures { (T : meaning-of.Table) → meaning-of.TableFits T → Leasts T.productions least.now → edge.item.production < length T.productions → (ws : List ℕ) (es : List graph-of.TraceEdge) (e : graph-of.TraceEdge) → Coded T ws self.now.flags es → EdgeSound T e → IsCodeOf edge e → result ≡ some? (graph-of.is_same_edge T.productions e) es }
+    {
+        is_set(&self.flags, edge.key(least))
     }
-    let count = word(words, 0);
-    if count >= TraceGraph::EDGES {
-        return Err(Full);
+
+    // Adds an edge, unless an equal one is there; refusal 12 is one edge too many.
+    pub fn insert(&mut self, least: &[u8], edge: EdgeCode) -> Result<(), Full>
+        requires { (edge.item.production < production_limit) × (edge.item.index < index_limit) × SmallLeasts least.now }
+        ensures coded { OnOk result ((T : meaning-of.Table) → meaning-of.TableFits T → Leasts T.productions least.now → edge.item.production < length T.productions → (es : List graph-of.TraceEdge) (e : graph-of.TraceEdge) → Coded T self.old.words self.old.flags es → EdgeSound T e → IsCodeOf edge e → Coded T self.new.words self.new.flags (graph-of.add T.productions e es)) }
+        ensures full { OnErr result ((T : meaning-of.Table) → meaning-of.TableFits T → Leasts T.productions least.now → edge.item.production < length T.productions → (es : List graph-of.TraceEdge) (e : graph-of.TraceEdge) → Coded T self.old.words self.old.flags es → EdgeSound T e → IsCodeOf edge e → edge_limit < length (graph-of.add T.productions e es)) }
+    {
+        let key = edge.key(least);
+        if is_set(&self.flags, key) {
+            return Ok(());
+        }
+        let count = word(&self.words, 0);
+        if count >= TraceGraph::EDGES {
+            return Err(Full);
+        }
+        put(&mut self.flags, key);
+        self.words[1 + count] = edge.word() as u16;
+        self.words[0] = (count + 1) as u16;
+        Ok(())
     }
-    put(flags, key);
-    words[1 + count] = code as u16;
-    words[0] = (count + 1) as u16;
-    Ok(())
 }
 
 // Whether two productions have the same nonterminal and symbols.
@@ -109,76 +171,65 @@ pub fn fill_least(grammar: Grammar, least: &mut [u8])
 }
 
 // The edge of a word.
-fn edge_of(grammar: &[u16], code: usize) -> TraceEdge
-    requires { (n : ℕ) × ((T : meaning-of.Table) × ((e : graph-of.TraceEdge) × Decodes grammar.now n T e code)) }
-    ensures { SmallEdge result × ((n : ℕ) (T : meaning-of.Table) (e : graph-of.TraceEdge) → Decodes grammar.now n T e code → value_words result ≡ edge_words e) }
+fn edge_of(grammar: Grammar, code: usize) -> TraceEdge
+    requires { (T : meaning-of.Table) × ((e : graph-of.TraceEdge) × Decodes grammar.words.now grammar.productions T e code) }
+    ensures { SmallEdge result × ((T : meaning-of.Table) (e : graph-of.TraceEdge) → Decodes grammar.entry.words.now grammar.entry.productions T e code → value_words result ≡ edge_words e) }
 {
     let kind = code / Item::LIMIT;
     let production = code % Item::LIMIT / ProductionIndex::INDEXES;
     let index = code % Item::LIMIT % ProductionIndex::INDEXES;
-    let owner = word(grammar, production * ProductionIndex::WORDS);
+    let owner = Node {
+        kind: 0,
+        number: grammar.owner(production),
+        index: 0,
+    };
+    let item = Node {
+        kind: 1,
+        number: production,
+        index,
+    };
     if kind == 0 {
         return TraceEdge {
-            source: Node {
-                kind: 0,
-                number: owner,
-                index: 0,
-            },
-            target: Node {
-                kind: 1,
-                number: production,
-                index: index,
-            },
-            production: production,
-            index: index,
+            source: owner,
+            target: item,
+            production,
+            index,
         };
     }
-    let cursor = word(
-        grammar,
-        production * ProductionIndex::WORDS + 4 + 2 * index + 1,
-    );
+    let cursor = Node {
+        kind: 0,
+        number: word(
+            grammar.words,
+            production * ProductionIndex::WORDS + 4 + 2 * index + 1,
+        ),
+        index: 0,
+    };
     if kind == 1 {
         return TraceEdge {
-            source: Node {
-                kind: 0,
-                number: owner,
-                index: 0,
-            },
-            target: Node {
-                kind: 0,
-                number: cursor,
-                index: 0,
-            },
-            production: production,
-            index: index,
+            source: owner,
+            target: cursor,
+            production,
+            index,
         };
     }
     TraceEdge {
-        source: Node {
-            kind: 1,
-            number: production,
-            index: index,
-        },
-        target: Node {
-            kind: 0,
-            number: cursor,
-            index: 0,
-        },
-        production: production,
-        index: index,
+        source: item,
+        target: cursor,
+        production,
+        index,
     }
 }
 
 // The words of all edges, in front of the graph; what stands behind them is as it was.
-pub fn write_codes(grammar: &[u16], words: &[u16], graph: &mut [u16])
-    requires by_index { (n : ℕ) × ((T : meaning-of.Table) × ((es : List graph-of.TraceEdge) × Carried grammar.now n words.now T es)) }
-    requires graph_room_in_bounds { graph_room ≤ length graph.old }
-    ensures { (n : ℕ) (T : meaning-of.Table) (es : List graph-of.TraceEdge) → Carried grammar.now n words.now T es → graph.new ≡ graph_words es ++ drop (edge_place (length es)) graph.old }
+pub fn write_codes(grammar: Grammar, codes: &EdgeCodes, graph: &mut [u16])
+    requires carried { (T : meaning-of.Table) × ((es : List graph-of.TraceEdge) × Carried grammar.words.now grammar.productions codes.now.words T es) }
+    requires room { graph_room ≤ length graph.old }
+    ensures { (T : meaning-of.Table) (es : List graph-of.TraceEdge) → Carried grammar.entry.words.now grammar.entry.productions codes.now.words T es → graph.new ≡ graph_words es ++ drop (edge_place (length es)) graph.old }
 {
     graph[0] = 0;
-    let count = word(words, 0);
+    let count = word(&codes.words, 0);
     for k in 0..count {
-        let edge = edge_of(grammar, word(words, 1 + k));
+        let edge = edge_of(grammar, word(&codes.words, 1 + k));
         write_edge(graph, k, edge);
         graph[0] = (k + 1) as u16;
     }

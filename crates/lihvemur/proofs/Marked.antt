@@ -22,7 +22,6 @@ use Rattle.trace_graph.specs.Values.{node_is, edge_is, node_value_fits, value_fi
 use Rattle.trace.specs.Traced.{untraced, pair, enter, add_to, owner_of, symbols_of, can_shift, prefix_of, suffix_of, in_turn}
 use Rattle.trace.specs.Shift.{epsilon_item, epsilon, shift_trace, shift_edges}
 use Rattle.trace.specs.Reduce.{reduce_state_item, item_of_reduce, state_of_reduce, reduce_trace, reduce_edges}
-use Rattle.tracer.specs.declared.Backtrace.TheVariants.{Edges as Traced}
 use Rattle.tracer.specs.Outcome.{Outcome, outcome, edges_outcome, traced_in, trace_by, shift_of, reduce_of}
 use Rattle.lr1.specs.Entries.{over_table}
 use Rattle.lr1.specs.Edges.{edge_outcome, added_outcome, added_edge_in, add_edge_of}
@@ -99,7 +98,7 @@ output = replicate 2323 7
 
 -- a trace of item 0 of a production, answered by so many edges
 abbrev leaves : ℕ → List ℕ → Outcome
-leaves n g = outcome (Traced n) g (replicate scratch_words 0 ++ 7 ∷ [])
+leaves n g = outcome (answered n) g (replicate scratch_words 0 ++ 7 ∷ [])
 
 pub marked_traces :
     shift_of table_c 1 (item 2 0) graph scratch

@@ -22,8 +22,6 @@ use Rattle.first.specs.declared.Answer.{Answer}
 use Rattle.lr1.specs.Entries.{walk_of}
 use Rattle.lr1.specs.Edges.{EdgeOutcome, edge_outcome}
 use Rattle.tracer.specs.Outcome.{Outcome, outcome}
-use Rattle.tracer.specs.declared.Backtrace.{Backtrace}
-use Rattle.tracer.specs.declared.Backtrace.TheVariants.{Edges as TraceEdges, Refused as NoTrace}
 use Rattle.lihvemur.specs.Exported.{numbers, check_numbers, spell_numbers, respell_numbers, compact_numbers, build_numbers, built_numbers, read_numbers, reading_numbers, write_numbers, writing_numbers, set_numbers, followed_numbers, answer_numbers, first_numbers, state_numbers, walk_numbers, add_numbers, edge_numbers, trace_numbers, backtrace_numbers}
 use Rattle.table.specs.Checked.{Checked, Accepted, Refused}
 
@@ -118,11 +116,11 @@ module _ (old : ℕ) (c : Reply ℕ) (graph : List ℕ) (d : EdgeOutcome) (e : e
   unfolding edge_numbers
   edge_refused n r h = rw (sym e ∙ ap (λ (a : Reply ℕ). edge_outcome a graph) h)
 
-module _ (old : ℕ) (c : Backtrace) (graph scratch : List ℕ) (d : Outcome) (e : outcome c graph scratch ≡ d) where
-  pub trace_made : (count : ℕ) → c ≡ TraceEdges count → trace_numbers 0 0 count graph scratch ≡ backtrace_numbers old d
+module _ (old : ℕ) (c : Reply ℕ) (graph scratch : List ℕ) (d : Outcome) (e : outcome c graph scratch ≡ d) where
+  pub trace_made : (count : ℕ) → c ≡ answered count → trace_numbers 0 0 count graph scratch ≡ backtrace_numbers old d
   unfolding backtrace_numbers
-  trace_made count h = rw (sym e ∙ ap (λ (a : Backtrace). outcome a graph scratch) h)
+  trace_made count h = rw (sym e ∙ ap (λ (a : Reply ℕ). outcome a graph scratch) h)
 
-  pub trace_refused : (n r : ℕ) → c ≡ NoTrace n r → trace_numbers n r old graph scratch ≡ backtrace_numbers old d
+  pub trace_refused : (n r : ℕ) → c ≡ refused n r → trace_numbers n r old graph scratch ≡ backtrace_numbers old d
   unfolding backtrace_numbers
-  trace_refused n r h = rw (sym e ∙ ap (λ (a : Backtrace). outcome a graph scratch) h)
+  trace_refused n r h = rw (sym e ∙ ap (λ (a : Reply ℕ). outcome a graph scratch) h)

@@ -14,7 +14,6 @@ use Rattle.lookahead.specs.declared.TokenSet.{TokenSet}
 use Rattle.first.specs.declared.Answer.{Answer}
 use Rattle.lr1.specs.Edges.{EdgeOutcome, edge_outcome}
 use Rattle.tracer.specs.Outcome.{Outcome, outcome}
-use Rattle.tracer.specs.declared.Backtrace.TheVariants.{Edges as TraceEdges, Refused as NoTrace}
 use Rattle.table.specs.Checked.{Checked, Accepted, Refused}
 
 -- refusal and place
@@ -99,5 +98,5 @@ pub data TraceNumbers : Type 0 where
   trace_numbers : ℕ → ℕ → ℕ → List ℕ → List ℕ → TraceNumbers
 
 unfoldable pub backtrace_numbers : ℕ → Outcome → TraceNumbers
-backtrace_numbers old (outcome (TraceEdges count) graph scratch) = trace_numbers 0 0 count graph scratch
-backtrace_numbers old (outcome (NoTrace n r) graph scratch) = trace_numbers n r old graph scratch
+backtrace_numbers old (outcome (answered count) graph scratch) = trace_numbers 0 0 count graph scratch
+backtrace_numbers old (outcome (refused n r) graph scratch) = trace_numbers n r old graph scratch

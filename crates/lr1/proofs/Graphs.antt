@@ -25,14 +25,13 @@ use Rattle.trace_graph.specs.Values.{edge_is, value_fits}
 use Rattle.trace_graph.specs.Insert.{Graphed, with_one_more, add_words, Added, Overfull}
 use Rattle.trace_graph.proofs.Inserts.{add_there, add_new, words_there, words_new}
 use Rattle.trace_graph.proofs.Front.{edges_long, overfull_long, more-front}
-use Rattle.tracer.specs.declared.Backtrace.TheVariants.{Refused as NoTrace}
 use Rattle.tracer.specs.Outcome.{Outcome, outcome, traced_in, trace_by}
 use Rattle.tracer.proofs.Words.{built, words_long}
 use Rattle.lr1.specs.Edges.{EdgeOutcome, edge_outcome, added_outcome, added_edge_in, add_edge_of}
 
 -- ---- the traces
 module _ (edges : Table → ℕ → Item → List TraceEdge) (t : List ℕ) (s : ℕ) (i : Item) (graph scratch : List ℕ) where
-  pub trace_refused : (c : Checked) (n r : ℕ) → c ≡ NotAccepted n r → outcome (NoTrace n r) graph scratch ≡ trace_by edges t s i graph scratch c
+  pub trace_refused : (c : Checked) (n r : ℕ) → c ≡ NotAccepted n r → outcome (refused n r) graph scratch ≡ trace_by edges t s i graph scratch c
   unfolding trace_by
   trace_refused c n r e = rw e
 

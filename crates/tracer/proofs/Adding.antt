@@ -9,8 +9,9 @@ use Rattle.trace.specs.Sound.{EdgeSound}
 use Rattle.trace.specs.Edges.{epsilon_edge, source_of, edge_to_nonterminal}
 use Rattle.trace.proofs.Traced.{to_item_sound, from_item_sound, between_sound}
 use Rattle.trace.proofs.Steps.{edge_past, edge_beginning}
-use Rattle.codes.specs.Codes.{kind_of, item_code, code_of, key_by, key_of}
-use Rattle.codes.proofs.Keys.{key_edge}
+use Rattle.codes.specs.declared.EdgeCode.{EdgeCode}
+use Rattle.codes.specs.Codes.{kind_of}
+use Rattle.codes.specs.Kinds.{kind_number, IsCodeOf}
 
 module _ (T : Table) where
   module _ (fits : TableFits T) (i : Item) (n : ℕ) (l : n < length T.nonterminals) (h : ItemFits T i) (c : can_shift T n i ≡ true) where
@@ -36,21 +37,13 @@ module _ (T : Table) (fits : TableFits T) (i : Item) (n : ℕ) (l : n < length T
   way_traced true = traced_beginning T fits i n l h c
   way_traced false = traced_past T fits i n l h c
 
-  pub code_on : (on : Bool) → on ≡ true → 1 * 2176 + item_code i ≡ code_of (edge_to_nonterminal on (owner_of T i) n i)
-  unfolding edge_to_nonterminal source_of code_of kind_of
-  code_on on e = rw e
-
-  pub code_off : (on : Bool) → on ≡ false → 2 * 2176 + item_code i ≡ code_of (edge_to_nonterminal on (owner_of T i) n i)
-  unfolding edge_to_nonterminal source_of code_of kind_of
-  code_off on e = rw e
-
-  pub key_on : (on : Bool) → on ≡ true → key_by T.productions 1 i ≡ key_of T.productions (code_of (edge_to_nonterminal on (owner_of T i) n i))
+  pub code_on : (on : Bool) → on ≡ true → (c : EdgeCode) → kind_number c.kind ≡ 1 → record { production = c.item.production; index = c.item.index } ≡ i → IsCodeOf c (edge_to_nonterminal on (owner_of T i) n i)
   unfolding edge_to_nonterminal source_of kind_of
-  key_on on e = rw e (sym (key_edge T fits (record { source = at_nonterminal (owner_of T i); target = at_nonterminal n; label = i }) (traced_beginning T fits i n l h c)))
+  code_on on e c k l = rw e (record { kind = k; label = l })
 
-  pub key_off : (on : Bool) → on ≡ false → key_by T.productions 2 i ≡ key_of T.productions (code_of (edge_to_nonterminal on (owner_of T i) n i))
+  pub code_off : (on : Bool) → on ≡ false → (c : EdgeCode) → kind_number c.kind ≡ 2 → record { production = c.item.production; index = c.item.index } ≡ i → IsCodeOf c (edge_to_nonterminal on (owner_of T i) n i)
   unfolding edge_to_nonterminal source_of kind_of
-  key_off on e = rw e (sym (key_edge T fits (record { source = at_item i; target = at_nonterminal n; label = i }) (traced_past T fits i n l h c)))
+  code_off on e c k l = rw e (record { kind = k; label = l })
 
 -- the first edge of a trace
 
@@ -58,10 +51,6 @@ module _ (T : Table) (fits : TableFits T) (i : Item) (h : ItemFits T i) where
   pub first_traced : EdgeSound T (record { source = at_nonterminal (owner_of T i); target = at_item i; label = i })
   first_traced = to_item_sound T fits i h
 
-  pub first_code : code_of (record { source = at_nonterminal (owner_of T i); target = at_item i; label = i }) ≡ 0 * 2176 + item_code i
-  unfolding code_of kind_of
-  first_code = refl
-
-  pub first_key : key_of T.productions (code_of (record { source = at_nonterminal (owner_of T i); target = at_item i; label = i })) ≡ key_by T.productions 0 i
+  pub first_code : (c : EdgeCode) → kind_number c.kind ≡ 0 → record { production = c.item.production; index = c.item.index } ≡ i → IsCodeOf c (record { source = at_nonterminal (owner_of T i); target = at_item i; label = i })
   unfolding kind_of
-  first_key = key_edge T fits (record { source = at_nonterminal (owner_of T i); target = at_item i; label = i }) first_traced
+  first_code c k l = record { kind = k; label = l }

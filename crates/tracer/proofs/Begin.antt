@@ -21,28 +21,13 @@ use Rattle.bits.proofs.Laws.{zeros_none}
 use Rattle.codes.specs.Coded.{codes_room, Coded}
 use Rattle.tracer.specs.Held.{Held, Working}
 
-pub coded_none : (T : Table) (ws : List ℕ) → length ws ≡ 1025 → get_or ws 0 0 ≡ 0 → Coded T ws (replicate 102 0) []
-unfolding some? All
-coded_none T ws l z = record {
-  long = l;
-  flags = refl;
-  few = omega arith;
-  count = z;
-  codes = λ j h. absurd (omega arith);
-  keys = λ k h. zeros_none 102 k;
-  traced = tt;
-}
-
 -- edges in words, and no pair entered
 pub held_start : (T : Table) (ws fs vs : List ℕ) (es : List TraceEdge) → Coded T ws fs es → vs ≡ replicate 64 0 → Held T ws fs vs (record { edges = es; seen = [] })
 held_start T ws fs vs es C e = record { edges = C; seen = λ k h. rw e (zeros_none 64 k ∙ sym (mem-nil k)) }
 
-pub held_none : (T : Table) (ws fs vs : List ℕ) → length ws ≡ 1025 → get_or ws 0 0 ≡ 0 → fs ≡ replicate 102 0 → vs ≡ replicate 64 0 → Held T ws fs vs untraced
+pub held_none : (T : Table) (ws fs vs : List ℕ) → Coded T ws fs [] → vs ≡ replicate 64 0 → Held T ws fs vs untraced
 unfolding untraced
-held_none T ws fs vs l z ef ev = held_start T ws fs vs [] (rw ef (coded_none T ws l z)) ev
-
-pub emptied : (ws : List ℕ) (k : ℕ) → k ≡ length empty_graph → length ws ≡ codes_room → get_or (set ws 0 k) 0 0 ≡ 0
-emptied ws k e h = get_or-set_same ws 0 k 0 (omega arith) ∙ e
+held_none T ws fs vs C e = held_start T ws fs vs [] C e
 
 module _ {t g : List ℕ} {productions : ℕ} {ls : List ℕ} (W : Working t g productions ls) {s p i : ℕ} (inside : s < length (meaning t).states) (I : ItemFits (meaning t) (record { production = p; index = i })) where
   item_in_lem : item_is_fit (productions_in g productions) p i ≡ true
@@ -61,9 +46,9 @@ module _ {t g : List ℕ} {productions : ℕ} {ls : List ℕ} (W : Working t g p
   pub found_in_lem : (ss : List ℕ) → ss ≡ traced_back (meaning t) s (prefix_of (meaning t) (record { production = p; index = i })) → (k : ℕ) → mem k ss ≡ true → k < length (meaning t).states
   found_in_lem ss e k h = back_inside (meaning t) (fits t W.accepted) s inside (prefix_of (meaning t) (record { production = p; index = i })) k (rw e at h)
 
-  module _ (ss : List ℕ) (e : ss ≡ traced_back (meaning t) s (prefix_of (meaning t) (record { production = p; index = i }))) (ws : List ℕ) (C : Coded (meaning t) ws (replicate 102 0) []) where
+  module _ (ss : List ℕ) (e : ss ≡ traced_back (meaning t) s (prefix_of (meaning t) (record { production = p; index = i }))) (ws fs : List ℕ) (C : Coded (meaning t) ws fs []) where
     pub shift_from : (P : List TraceEdge → Type 0)
-        → ((es : List TraceEdge) → Coded (meaning t) ws (replicate 102 0) es → P (in_turn (λ q u. epsilon (meaning t) pairs q (owner_of (meaning t) (record { production = p; index = i })) u) ss (add_to (meaning t) (at_nonterminal (owner_of (meaning t) (record { production = p; index = i }))) (at_item (record { production = p; index = i })) (record { production = p; index = i }) (record { edges = es; seen = [] }))).edges)
+        → ((es : List TraceEdge) → Coded (meaning t) ws fs es → P (in_turn (λ q u. epsilon (meaning t) pairs q (owner_of (meaning t) (record { production = p; index = i })) u) ss (add_to (meaning t) (at_nonterminal (owner_of (meaning t) (record { production = p; index = i }))) (at_item (record { production = p; index = i })) (record { production = p; index = i }) (record { edges = es; seen = [] }))).edges)
         → P (shift_edges (meaning t) s (record { production = p; index = i }))
     unfolding shift_edges shift_trace untraced
     shift_from P call = rw e at (call [] C)

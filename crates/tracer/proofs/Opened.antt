@@ -6,7 +6,6 @@ use Rattle.table.specs.Decoded.{meaning}
 use Rattle.trace_graph.specs.Graph.{TraceEdge}
 use Rattle.tracer.specs.Outcome.{outcome, shift_of, reduce_of}
 use Rattle.tracer.specs.Traced.{Traced}
-use Rattle.tracer.specs.declared.Backtrace.TheVariants.{Edges}
 use Rattle.tracer.proofs.Traced.{shift_traced, reduce_traced}
 use Rattle.enumerator.specs.Advance.{set_of, ahead_fits, open_of}
 use Rattle.enumerator.specs.Opening.{listing}
@@ -17,8 +16,8 @@ module _ (t : List ℕ) (s : ℕ) (i : Item) (graph scratch : List ℕ) (n : ℕ
   opens-over : (Step : Table → TraceEdge → Type 0) → Traced Step t i g → open_of t i ahead g ≡ answered (listing i ahead 0 true)
   opens-over Step X = opens t i ahead g (ready t i ahead g X.accepted X.item fit X.long X.passes X.node)
 
-  pub shift_opens : shift_of t s i graph scratch ≡ outcome (Edges n) g w → open_of t i ahead g ≡ answered (listing i ahead 0 true)
+  pub shift_opens : shift_of t s i graph scratch ≡ outcome (answered n) g w → open_of t i ahead g ≡ answered (listing i ahead 0 true)
   shift_opens e = opens-over _ (shift_traced t s i graph scratch n g w e)
 
-  pub reduce_opens : reduce_of t s i graph scratch ≡ outcome (Edges n) g w → open_of t i ahead g ≡ answered (listing i ahead 0 true)
+  pub reduce_opens : reduce_of t s i graph scratch ≡ outcome (answered n) g w → open_of t i ahead g ≡ answered (listing i ahead 0 true)
   reduce_opens e = opens-over _ (reduce_traced t s i graph scratch n g w e)

@@ -24,13 +24,6 @@ use Rattle.tracer.specs.Clear.{Clear}
 use Rattle.tracer.proofs.Adding.{epsilon_way, way_traced}
 use Rattle.tracer.proofs.Turns.{items_none, work_many, work_owner, work_shift}
 
--- a flag that is set: the edge is there
-pub flag_known : (T : Table) → TableFits T → (i : Item) (n : ℕ) → n < length T.nonterminals → ItemFits T i → can_shift T n i ≡ true → (ws fs : List ℕ) (es : List TraceEdge) → Coded T ws fs es
-    → (key : ℕ) → key < 6528 → key ≡ key_of T.productions (code_of (edge_to_nonterminal (eqb i.index 0) (owner_of T i) n i)) → bit_at fs key ≡ true
-    → some? (is_same_edge T.productions (epsilon_edge T.productions i n)) es ≡ true
-flag_known T F i n l h c ws fs es C key small ek b =
-    rw (epsilon_way T i n) at (there T F ws fs es (edge_to_nonterminal (eqb i.index 0) (owner_of T i) n i) C (way_traced T F i n l h c (eqb i.index 0)) _ key refl ek small ∙ b)
-
 -- the item's production is packed, and its nonterminal is in range
 
 module _ (t g : List ℕ) (productions : ℕ) (ls : List ℕ) (W : Working t g productions ls) (p x : ℕ) (I : ItemFits (meaning t) (record { production = p; index = x })) where
@@ -93,21 +86,20 @@ further_more t first at next p x U R = ((suc U.0.0, ap (drop 1) (sym R.list) ∙
 -- the items of a state: where those that are left are passed all are
 
 pub record Passing (t : List ℕ) (s : ℕ) (fs v : List ℕ) (b at : ℕ) : Type 0 where
-  pub on : ItemIndex t at
   pub rest : Clear t fs v b (items_from t at) → Clear t fs v b (state_at (meaning t) s).items
 
 module _ (t : List ℕ) (s : ℕ) (fs v : List ℕ) (b : ℕ) where
   pub clear_further : (first at : ℕ) → items_from t first ≡ (state_at (meaning t) s).items → Clear t fs v b (state_at (meaning t) s).items → Further t first at → Clear t fs v b (items_from t at)
   clear_further first at e a U ws es C = rw (U.0.1, e) (All-drop (ItemPassed (meaning t) (λ n. bit_at v (b * 32 + n)) es) U.0.0 (state_at (meaning t) s).items (a ws es C))
 
-  pub passing_start : (at : ℕ) → items_from t at ≡ (state_at (meaning t) s).items → ItemIndex t at → Passing t s fs v b at
-  passing_start at e i = record { on = i; rest = λ a. rw e at a }
+  pub passing_start : (at : ℕ) → items_from t at ≡ (state_at (meaning t) s).items → Passing t s fs v b at
+  passing_start at e = record { rest = λ a. rw e at a }
 
   module _ (at : ℕ) (U : Passing t s fs v b at) where
     pub passing_more : (next p x : ℕ) → ItemRead t at next p x
         → ((ws : List ℕ) (es : List TraceEdge) → Coded (meaning t) ws fs es → ItemPassed (meaning t) (λ n. bit_at v (b * 32 + n)) es (record { production = p; index = x })) → Passing t s fs v b next
     unfolding All
-    passing_more next p x R q = record { on = R.on; rest = λ a. U.rest (λ ws es C. rw R.list (q ws es C, a ws es C)) }
+    passing_more next p x R q = record { rest = λ a. U.rest (λ ws es C. rw R.list (q ws es C, a ws es C)) }
 
     pub passing_done : (k : ℕ) → at ≡ k → Clear t fs v b (items_from t k) → Clear t fs v b (state_at (meaning t) s).items
     passing_done k z a = U.rest (rw z a)

@@ -26,15 +26,11 @@ Stops T step ws fs v ss = (f : ℕ) → unset v ≤ f → ReduceExceeds T (step 
 -- ws₀, fs₀, v₀, ss₀: the words where the turn begins; ws, fs, v, ss: those where the steps of `rest` are left
 pub record Left (T : Table) {A : Type 0} (step : ℕ → A → Trace → Trace) (all rest : List A) (ws₀ fs₀ v₀ ss₀ ws fs v ss : List ℕ) : Type 0 where
   pub fewer : unset v ≤ unset v₀
-  pub w_len : length ws ≡ 1025
-  pub f_len : length fs ≡ 102
-  pub v_len : length v ≡ 64
-  pub s_len : length ss ≡ 1088
   pub left : (f : ℕ) → unset v₀ ≤ f → (st : Trace) → Reducing T ws₀ fs₀ v₀ ss₀ st → (u : Trace) × Reducing T ws fs v ss u × (in_turn (step f) rest u ≡ in_turn (step f) all st)
 
 module _ (T : Table) {A : Type 0} (step : ℕ → A → Trace → Trace) (all : List A) (ws₀ fs₀ v₀ ss₀ : List ℕ) where
-  pub left-start : (rest : List A) → rest ≡ all → length ws₀ ≡ 1025 → length fs₀ ≡ 102 → length v₀ ≡ 64 → length ss₀ ≡ 1088 → Left T step all rest ws₀ fs₀ v₀ ss₀ ws₀ fs₀ v₀ ss₀
-  left-start rest e a b c d = record { fewer = omega arith; w_len = a; f_len = b; v_len = c; s_len = d; left = λ f h st R. (st, R, ap (λ (l : List A). in_turn (step f) l st) e) }
+  pub left-start : (rest : List A) → rest ≡ all → Left T step all rest ws₀ fs₀ v₀ ss₀ ws₀ fs₀ v₀ ss₀
+  left-start rest e = record { fewer = omega arith; left = λ f h st R. (st, R, ap (λ (l : List A). in_turn (step f) l st) e) }
 
   module _ (here : List A) (ws fs v ss : List ℕ) (L : Left T step all here ws₀ fs₀ v₀ ss₀ ws fs v ss) where
     pub left-done : here ≡ [] → Goes T (λ (f : ℕ) (st : Trace). in_turn (step f) all st) ws₀ fs₀ v₀ ss₀ ws fs v ss
@@ -48,14 +44,9 @@ module _ (T : Table) {A : Type 0} (step : ℕ → A → Trace → Trace) (all : 
           let q = L.left f h st R in
           sym (turn_cons (step f) x rest q.0) ∙ ap (λ (l : List A). in_turn (step f) l q.0) (sym e) ∙ q.2
 
-      pub left-next : (ws' fs' v' ss' : List ℕ) → Goes T (λ (f : ℕ) (st : Trace). step f x st) ws fs v ss ws' fs' v' ss' → unset v' ≤ unset v
-          → length ws' ≡ length ws → length fs' ≡ length fs → length v' ≡ length v → length ss' ≡ length ss → Left T step all rest ws₀ fs₀ v₀ ss₀ ws' fs' v' ss'
-      left-next ws' fs' v' ss' g z a b c d = record {
+      pub left-next : (ws' fs' v' ss' : List ℕ) → Goes T (λ (f : ℕ) (st : Trace). step f x st) ws fs v ss ws' fs' v' ss' → unset v' ≤ unset v → Left T step all rest ws₀ fs₀ v₀ ss₀ ws' fs' v' ss'
+      left-next ws' fs' v' ss' g z = record {
         fewer = let w = L.fewer in omega arith;
-        w_len = a ∙ L.w_len;
-        f_len = b ∙ L.f_len;
-        v_len = c ∙ L.v_len;
-        s_len = d ∙ L.s_len;
         left = λ f h st R. let w = L.fewer in let q = L.left f h st R in (step f x q.0, g f (omega arith) q.0 q.1, opened f h st R);
       }
 

@@ -8,11 +8,9 @@ use Rattle.table.specs.Decoded.{meaning, items_from}
 use Rattle.trace_graph.specs.Graph.{at_nonterminal, at_item, TraceEdge, add}
 use Rattle.codes.specs.Coded.{Coded}
 use Rattle.state_graph.specs.declared.StateSet.{StateSet}
-use Rattle.state_graph.specs.declared.NextState.TheVariants.{State, Done}
-use Rattle.state_graph.specs.States.{has_state, states_in, NextIs}
+use Rattle.state_graph.specs.States.{has_state, states_in}
 use Rattle.state_graph.specs.Walk.{Ascending}
 use Rattle.state_graph.proofs.Exact.{kept-ascending}
-use Rattle.state_graph.proofs.States.{next-states, next-none}
 use Rattle.trace.specs.Traced.{Trace, in_turn, pairs, owner_of, add_to}
 use Rattle.trace.specs.Shift.{epsilon}
 use Rattle.trace.proofs.Grows.{grows_length, turn_nil, turn_cons, turn_grows, epsilon_grows}
@@ -44,9 +42,9 @@ states_ascend : (l h : ℕ) → Ascending (states_in l h)
 unfolding states_in below
 states_ascend l h = kept-ascending (has_state l h) 0 128
 
-next-apart : (l h s : ℕ) (r : StateSet) → NextIs l h (State (record { 0 = s }) r) → mem s (states_in r.low r.high) ≡ false
+next-apart : (l h s : ℕ) (r : StateSet) → states_in l h ≡ s ∷ states_in r.low r.high → mem s (states_in r.low r.high) ≡ false
 next-apart l h s r e =
-    let up : Ascending (s ∷ states_in r.low r.high) = rw (next-states l h (record { 0 = s }) r e) at (states_ascend l h) in
+    let up : Ascending (s ∷ states_in r.low r.high) = rw e at (states_ascend l h) in
     cases (mem s (states_in r.low r.high))
     (λ q.
     let w = mem_index s (states_in r.low r.high) 0 q in
@@ -63,55 +61,46 @@ pub record Round (t : List ℕ) (m l₀ h₀ : ℕ) (es : List TraceEdge) (l h :
 -- b: the state traced last; the items from both records of `known` on are passed
 pub record Rounds (t : List ℕ) (m l₀ h₀ : ℕ) (ws₀ fs₀ : List ℕ) (l h : ℕ) (ws fs v : List ℕ) (b : ℕ) (known : Known) : Type 0 where
   pub inside : (s : ℕ) → mem s (states_in l h) ≡ true → s < length (meaning t).states
-  pub w_len : length ws ≡ 1025
-  pub f_len : length fs ≡ 102
-  pub v_len : length v ≡ 64
   pub same : (es : List TraceEdge) → Coded (meaning t) ws₀ fs₀ es → Round t m l₀ h₀ es l h ws fs v
   pub last : Clear t fs v b (items_from t known.last)
   pub earlier : Clear t fs v b (items_from t known.earlier)
 
 module _ (t : List ℕ) (m : ℕ) where
-  pub rounds-start : (l h : ℕ) (ws fs v : List ℕ) → ((s : ℕ) → mem s (states_in l h) ≡ true → s < length (meaning t).states) → length ws ≡ 1025 → length fs ≡ 102 → v ≡ replicate 64 0
+  pub rounds-start : (l h : ℕ) (ws fs v : List ℕ) → ((s : ℕ) → mem s (states_in l h) ≡ true → s < length (meaning t).states) → v ≡ replicate 64 0
       → (b : ℕ) → Rounds t m l h ws fs l h ws fs v b (record { last = 0; earlier = 0 })
-  rounds-start l h ws fs v inside a f e b = record {
+  rounds-start l h ws fs v inside e b = record {
     inside = inside;
-    w_len = a;
-    f_len = f;
-    v_len = ap length e;
     same = λ es C. record { trace = record { edges = es; seen = [] }; held = held_start (meaning t) ws fs v es C e; edges = refl };
     last = clear_none t fs v b;
     earlier = clear_none t fs v b;
   }
 
   module _ (l₀ h₀ : ℕ) (ws₀ fs₀ : List ℕ) (l h : ℕ) (ws fs v : List ℕ) (b : ℕ) (known : Known) (U : Rounds t m l₀ h₀ ws₀ fs₀ l h ws fs v b known) where
-    pub rounds-done : NextIs l h Done → (es : List TraceEdge) → Coded (meaning t) ws₀ fs₀ es → Coded (meaning t) ws fs (in_turn (state_step (meaning t) m) (states_in l₀ h₀) (record { edges = es; seen = [] })).edges
+    pub rounds-done : states_in l h ≡ [] → (es : List TraceEdge) → Coded (meaning t) ws₀ fs₀ es → Coded (meaning t) ws fs (in_turn (state_step (meaning t) m) (states_in l₀ h₀) (record { edges = es; seen = [] })).edges
     rounds-done e es C =
         let r = U.same es C in
-        rw (← r.edges, next-none l h e, turn_nil (state_step (meaning t) m) r.trace) r.held.edges
+        rw (← r.edges, e, turn_nil (state_step (meaning t) m) r.trace) r.held.edges
 
-    module _ (s : ℕ) (r : StateSet) (e : NextIs l h (State (record { 0 = s }) r)) where
+    module _ (s : ℕ) (r : StateSet) (e : states_in l h ≡ s ∷ states_in r.low r.high) where
       pub rounds-inside : s < length (meaning t).states
-      rounds-inside = U.inside s (rw (next-states l h (record { 0 = s }) r e) (mem-cons_here s (states_in r.low r.high)))
+      rounds-inside = U.inside s (rw e (mem-cons_here s (states_in r.low r.high)))
 
       others_inside : (k : ℕ) → mem k (states_in r.low r.high) ≡ true → k < length (meaning t).states
-      others_inside k hk = U.inside k (rw (next-states l h (record { 0 = s }) r e) (mem-cons_there k s (states_in r.low r.high) hk))
+      others_inside k hk = U.inside k (rw e (mem-cons_there k s (states_in r.low r.high) hk))
 
       opened : (es : List TraceEdge) (C : Coded (meaning t) ws₀ fs₀ es)
           → (in_turn (state_step (meaning t) m) (states_in r.low r.high) (epsilon (meaning t) pairs s m (U.same es C).trace)).edges ≡ (in_turn (state_step (meaning t) m) (states_in l₀ h₀) (record { edges = es; seen = [] })).edges
       opened es C =
           let q = U.same es C in
-          ap (λ (u : Trace). u.edges) (sym (turn_cons (state_step (meaning t) m) s (states_in r.low r.high) q.trace) ∙ ap (λ (ss : List ℕ). in_turn (state_step (meaning t) m) ss q.trace) (sym (next-states l h (record { 0 = s }) r e)))
+          ap (λ (u : Trace). u.edges) (sym (turn_cons (state_step (meaning t) m) s (states_in r.low r.high) q.trace) ∙ ap (λ (ss : List ℕ). in_turn (state_step (meaning t) m) ss q.trace) (sym e))
           ∙ q.edges
 
       -- traced
 
       pub rounds-more : (ws' fs' v' : List ℕ) → ((f : ℕ) → unset v ≤ f → Steps (meaning t) (epsilon (meaning t) f s m) ws fs v ws' fs' v')
-          → length ws' ≡ length ws → length fs' ≡ length fs → length v' ≡ length v → Rounds t m l₀ h₀ ws₀ fs₀ r.low r.high ws' fs' v' s (record { last = 0; earlier = 0 })
-      rounds-more ws' fs' v' call lw lf lv = record {
+          → Rounds t m l₀ h₀ ws₀ fs₀ r.low r.high ws' fs' v' s (record { last = 0; earlier = 0 })
+      rounds-more ws' fs' v' call = record {
         inside = others_inside;
-        w_len = lw ∙ U.w_len;
-        f_len = lf ∙ U.f_len;
-        v_len = lv ∙ U.v_len;
         same = λ es C. let q = U.same es C in record {
           trace = epsilon (meaning t) pairs s m q.trace;
           held = call pairs (enough v) q.trace q.held;
@@ -136,9 +125,6 @@ module _ (t : List ℕ) (m : ℕ) where
           → (both : Known) → (both.last ≡ k) × ((both.earlier ≡ known.last → ⊥) → both.earlier ≡ known.earlier) → Rounds t m l₀ h₀ ws₀ fs₀ r.low r.high ws fs v b both
       rounds-passed F few has call head eh k w both are = record {
         inside = others_inside;
-        w_len = U.w_len;
-        f_len = U.f_len;
-        v_len = U.v_len;
         same = λ es C. let q = U.same es C in record {
           trace = q.trace;
           held = q.held;

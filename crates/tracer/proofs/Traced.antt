@@ -1,5 +1,6 @@
 -- Of every accepted trace, the lent buffer as `shift_of` and `reduce_of` leave it (`Traced` of specs/Traced). Assumes nothing.
 use Rattle.std.proofs.Common.{◌≡◌, ℕ, ◌≤◌, true, ◌&&◌, ltb, leb, List, length, drop, refl, ap, ◌∙◌, arith, length-append, length-drop, leb-true}
+use Rattle.repr.specs.Reply.{answered, refused}
 use Rattle.repr.specs.Sizes.{edge_limit, graph_room, scratch_words}
 use Rattle.slices.specs.Lent.{in_front, zeroed}
 use Rattle.repr.specs.Meaning.{Item, Table, All}
@@ -19,18 +20,17 @@ use Rattle.trace.specs.Reduce.{reduce_edges}
 use Rattle.trace.proofs.Traced.{fits-item, in_range, shift_sound, shift_steps, reduce_sound, reduce_steps}
 use Rattle.tracer.specs.Outcome.{Outcome, outcome, edges_outcome, traced_in, trace_by, shift_of, reduce_of}
 use Rattle.tracer.specs.Traced.{Traced}
-use Rattle.tracer.specs.declared.Backtrace.TheVariants.{Edges, Refused}
 
-edges_in_lem : (graph scratch : List ℕ) (es : List TraceEdge) (n : ℕ) (g w : List ℕ) → edges_outcome graph scratch es ≡ outcome (Edges n) g w
+edges_in_lem : (graph scratch : List ℕ) (es : List TraceEdge) (n : ℕ) (g w : List ℕ) → edges_outcome graph scratch es ≡ outcome (answered n) g w
     → (length es ≤ edge_limit) × (g ≡ in_front (graph_words es) graph)
 unfolding edges_outcome
 edges_in_lem graph scratch es n g w e =
     cases (leb (length es) edge_limit)
     (λ c.
-    let z : ◌≡◌ {A = Outcome} (outcome (Edges (length es)) (in_front (graph_words es) graph) (zeroed scratch_words scratch)) (outcome (Edges n) g w) = rw (c, edges_outcome) at e in
+    let z : ◌≡◌ {A = Outcome} (outcome (answered (length es)) (in_front (graph_words es) graph) (zeroed scratch_words scratch)) (outcome (answered n) g w) = rw (c, edges_outcome) at e in
     (leb-true (length es) edge_limit c, cc))
     (λ c.
-    let z : ◌≡◌ {A = Outcome} (outcome (Refused 12 0) graph (zeroed scratch_words scratch)) (outcome (Edges n) g w) = rw (c, edges_outcome) at e in
+    let z : ◌≡◌ {A = Outcome} (outcome (refused 12 0) graph (zeroed scratch_words scratch)) (outcome (answered n) g w) = rw (c, edges_outcome) at e in
     let y : ◌≡◌ {A = ℕ} 0 1 = cc in absurd (omega arith))
 
 -- what an accepted trace was given and leaves
@@ -41,14 +41,14 @@ record Left (edges : Table → ℕ → Item → List TraceEdge) (T : Table) (s :
   words : g ≡ in_front (graph_words (edges T s i)) graph
 
 trace_in : (edges : Table → ℕ → Item → List TraceEdge) (T : Table) (s : ℕ) (i : Item) (graph scratch : List ℕ) (n : ℕ) (g w : List ℕ)
-    → traced_in edges s i graph scratch T ≡ outcome (Edges n) g w → Left edges T s i graph g
+    → traced_in edges s i graph scratch T ≡ outcome (answered n) g w → Left edges T s i graph g
 unfolding traced_in
 trace_in edges T s i graph scratch n g w e =
     cases (ltb s (length T.states) && item_is_fit T.productions i.production i.index)
     (λ a.
     cases (leb graph_room (length graph) && leb scratch_words (length scratch))
     (λ b.
-    let z : edges_outcome graph scratch (edges T s i) ≡ outcome (Edges n) g w = rw (a, b, traced_in) at e in
+    let z : edges_outcome graph scratch (edges T s i) ≡ outcome (answered n) g w = rw (a, b, traced_in) at e in
     let r = edges_in_lem graph scratch (edges T s i) n g w z in
     record {
       item = (and-true (ltb s (length T.states)) (item_is_fit T.productions i.production i.index) a).1;
@@ -56,18 +56,18 @@ trace_in edges T s i graph scratch n g w e =
       few = r.0;
       words = r.1;
     })
-    (λ b. let z : ◌≡◌ {A = Outcome} (outcome (Refused 11 0) graph scratch) (outcome (Edges n) g w) = rw (a, b, traced_in) at e in let y : ◌≡◌ {A = ℕ} 0 1 = cc in absurd (omega arith)))
-    (λ a. let z : ◌≡◌ {A = Outcome} (outcome (Refused 9 0) graph scratch) (outcome (Edges n) g w) = rw (a, traced_in) at e in let y : ◌≡◌ {A = ℕ} 0 1 = cc in absurd (omega arith))
+    (λ b. let z : ◌≡◌ {A = Outcome} (outcome (refused 11 0) graph scratch) (outcome (answered n) g w) = rw (a, b, traced_in) at e in let y : ◌≡◌ {A = ℕ} 0 1 = cc in absurd (omega arith)))
+    (λ a. let z : ◌≡◌ {A = Outcome} (outcome (refused 9 0) graph scratch) (outcome (answered n) g w) = rw (a, traced_in) at e in let y : ◌≡◌ {A = ℕ} 0 1 = cc in absurd (omega arith))
 
 trace_of : (edges : Table → ℕ → Item → List TraceEdge) (t : List ℕ) (s : ℕ) (i : Item) (graph scratch : List ℕ) (n : ℕ) (g w : List ℕ)
-    → trace_by edges t s i graph scratch (check_of t) ≡ outcome (Edges n) g w → (check_of t ≡ Accepted) × Left edges (meaning t) s i graph g
+    → trace_by edges t s i graph scratch (check_of t) ≡ outcome (answered n) g w → (check_of t ≡ Accepted) × Left edges (meaning t) s i graph g
 unfolding trace_by
 trace_of edges t s i graph scratch n g w e = by (check_of t) refl e
   where
-    by : (k : Checked) → check_of t ≡ k → trace_by edges t s i graph scratch k ≡ outcome (Edges n) g w → (check_of t ≡ Accepted) × Left edges (meaning t) s i graph g
+    by : (k : Checked) → check_of t ≡ k → trace_by edges t s i graph scratch k ≡ outcome (answered n) g w → (check_of t ≡ Accepted) × Left edges (meaning t) s i graph g
     by Accepted a f = (a, trace_in edges (meaning t) s i graph scratch n g w f)
     by (NotAccepted m r) a f =
-        let z : ◌≡◌ {A = Outcome} (outcome (Refused m r) graph scratch) (outcome (Edges n) g w) = f in let y : ◌≡◌ {A = ℕ} 0 1 = cc in absurd (omega arith)
+        let z : ◌≡◌ {A = Outcome} (outcome (refused m r) graph scratch) (outcome (answered n) g w) = f in let y : ◌≡◌ {A = ℕ} 0 1 = cc in absurd (omega arith)
 
 module _ (edges : Table → ℕ → Item → List TraceEdge) (Step : Table → TraceEdge → Type 0) (t : List ℕ) (s : ℕ) (i : Item) (graph g : List ℕ) where
   -- the buffer holds the trace's edges
@@ -105,7 +105,7 @@ module _ (edges : Table → ℕ → Item → List TraceEdge) (Step : Table → T
 
 module _ (t : List ℕ) (s : ℕ) (i : Item) (graph scratch : List ℕ) (n : ℕ) (g w : List ℕ) where
   -- a shift trace: from nonterminal to nonterminal by labels at their beginning
-  pub shift_traced : shift_of t s i graph scratch ≡ outcome (Edges n) g w → Traced ShiftStep t i g
+  pub shift_traced : shift_of t s i graph scratch ≡ outcome (answered n) g w → Traced ShiftStep t i g
   unfolding shift_of
   shift_traced e =
       let r = trace_of shift_edges t s i graph scratch n g w e in
@@ -114,7 +114,7 @@ module _ (t : List ℕ) (s : ℕ) (i : Item) (graph scratch : List ℕ) (n : ℕ
       traced shift_edges ShiftStep t s i graph g r.0 r.1 (shift_sound (meaning t) F s i f) (shift_steps (meaning t) F s i f)
 
   -- a reduce trace: by labels with a nullable suffix
-  pub reduce_traced : reduce_of t s i graph scratch ≡ outcome (Edges n) g w → Traced ReduceStep t i g
+  pub reduce_traced : reduce_of t s i graph scratch ≡ outcome (answered n) g w → Traced ReduceStep t i g
   unfolding reduce_of
   reduce_traced e =
       let r = trace_of reduce_edges t s i graph scratch n g w e in

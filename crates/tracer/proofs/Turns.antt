@@ -20,7 +20,7 @@ use Rattle.trace.specs.Edges.{epsilon_edge}
 use Rattle.trace.proofs.Grows.{grows_length, turn_nil, turn_cons, epsilon_grows, epsilon_cannot, epsilon_past, epsilon_beginning, epsilon-entered, epsilon_new}
 use Rattle.trace.proofs.Steps.{edge_past, edge_beginning, item_step, step_exceeds}
 use Rattle.bits.specs.Bits.{bit_at, bit_put}
-use Rattle.bits.proofs.Laws.{put-length, put_here, put_other}
+use Rattle.bits.proofs.Laws.{put_here, put_other}
 use Rattle.codes.specs.Coded.{Coded}
 use Rattle.tracer.specs.Held.{Held, Steps, Exceeds, open_bits, unset, Working}
 
@@ -100,9 +100,6 @@ module _ (T : Table) (s m : ℕ) (ws fs vs : List ℕ) (small : pair s m < 4096)
 -- the turn over the items
 
 pub record Turning (t : List ℕ) (s m : ℕ) (ws₀ fs₀ v₀ ws fs v : List ℕ) (is : List Item) : Type 0 where
-  pub w_len : length ws ≡ 1025
-  pub f_len : length fs ≡ 102
-  pub v_len : length v ≡ 64
   pub fewer : unset v ≤ unset v₀
   pub same : (f : ℕ) → unset v₀ ≤ f → (st : Trace) → Held (meaning t) ws₀ fs₀ v₀ st
       → (u : Trace) × Held (meaning t) ws fs v u × (in_turn (item_step (meaning t) s m f) is u ≡ in_turn (item_step (meaning t) s m f) (state_at (meaning t) s).items st)
@@ -113,11 +110,8 @@ items_none t = rw (chain_end t (loose_records t) 0)
 
 module _ (t : List ℕ) (s m : ℕ) (ws₀ fs₀ v₀ : List ℕ) where
   pub turning_start : (is : List Item) → ((f : ℕ) (st : Trace) → in_turn (item_step (meaning t) s m f) (state_at (meaning t) s).items st ≡ in_turn (item_step (meaning t) s m f) is st)
-      → length ws₀ ≡ 1025 → length fs₀ ≡ 102 → length v₀ ≡ 64 → Turning t s m ws₀ fs₀ v₀ ws₀ fs₀ v₀ is
-  turning_start is e a b c = record {
-    w_len = a;
-    f_len = b;
-    v_len = c;
+      → Turning t s m ws₀ fs₀ v₀ ws₀ fs₀ v₀ is
+  turning_start is e = record {
     fewer = omega arith;
     same = λ f hf st h. (st, h, sym (e f st));
   }
@@ -133,9 +127,6 @@ module _ (t : List ℕ) (s m : ℕ) (ws₀ fs₀ v₀ : List ℕ) where
     -- other items that make the same turn
     pub turning_move : (js : List Item) → ((f : ℕ) (st : Trace) → in_turn (item_step (meaning t) s m f) is st ≡ in_turn (item_step (meaning t) s m f) js st) → Turning t s m ws₀ fs₀ v₀ ws fs v js
     turning_move js e = record {
-      w_len = U.w_len;
-      f_len = U.f_len;
-      v_len = U.v_len;
       fewer = U.fewer;
       same = λ f hf st h. let r = U.same f hf st h in (r.0, r.1, sym (e f r.0) ∙ r.2);
     }
@@ -149,9 +140,6 @@ module _ (t : List ℕ) (s m : ℕ) (ws₀ fs₀ v₀ : List ℕ) where
 
       pub turning_skip : can_shift (meaning t) m (record { production = p; index = x }) ≡ false → Turning t s m ws₀ fs₀ v₀ ws fs v rest
       turning_skip c = record {
-        w_len = U.w_len;
-        f_len = U.f_len;
-        v_len = U.v_len;
         fewer = U.fewer;
         same = λ f hf st h.
             let r = U.same f hf st h in
@@ -172,11 +160,8 @@ module _ (t : List ℕ) (s m : ℕ) (ws₀ fs₀ v₀ : List ℕ) where
         added_beginning low ws' fs' a u h = record { edges = rw (edge_beginning (meaning t) (record { production = p; index = x }) m low) at (a u.edges h.edges); seen = h.seen }
 
         pub turning_past : 0 < x → (ws' fs' : List ℕ) → ((es : List TraceEdge) → Coded (meaning t) ws fs es → Coded (meaning t) ws' fs' (add (meaning t).productions (epsilon_edge (meaning t).productions (record { production = p; index = x }) m) es))
-            → length ws' ≡ length ws → length fs' ≡ length fs → Turning t s m ws₀ fs₀ v₀ ws' fs' v rest
-        turning_past pos ws' fs' a lw lf = record {
-          w_len = lw ∙ U.w_len;
-          f_len = lf ∙ U.f_len;
-          v_len = U.v_len;
+            → Turning t s m ws₀ fs₀ v₀ ws' fs' v rest
+        turning_past pos ws' fs' a = record {
           fewer = U.fewer;
           same = λ f hf st h.
               let r = U.same f hf st h in
@@ -187,11 +172,8 @@ module _ (t : List ℕ) (s m : ℕ) (ws₀ fs₀ v₀ : List ℕ) where
         pub turning_followed : x ≤ 0 → (o : ℕ) → o ≡ owner_of (meaning t) (record { production = p; index = x }) → (ws' fs' : List ℕ)
             → ((es : List TraceEdge) → Coded (meaning t) ws fs es → Coded (meaning t) ws' fs' (add (meaning t).productions (epsilon_edge (meaning t).productions (record { production = p; index = x }) m) es))
             → (ws'' fs'' v'' : List ℕ) → ((f : ℕ) → unset v ≤ f → Steps (meaning t) (epsilon (meaning t) f s o) ws' fs' v ws'' fs'' v'') → unset v'' ≤ unset v
-            → length ws'' ≡ length ws → length fs'' ≡ length fs → length v'' ≡ length v → Turning t s m ws₀ fs₀ v₀ ws'' fs'' v'' rest
-        turning_followed low o eo ws' fs' a ws'' fs'' v'' call z lw lf lv = record {
-          w_len = lw ∙ U.w_len;
-          f_len = lf ∙ U.f_len;
-          v_len = lv ∙ U.v_len;
+            → Turning t s m ws₀ fs₀ v₀ ws'' fs'' v'' rest
+        turning_followed low o eo ws' fs' a ws'' fs'' v'' call z = record {
           fewer = let w = U.fewer in omega arith;
           same = λ f hf st h.
               let r = U.same f hf st h in
@@ -274,9 +256,6 @@ module _ (T : Table) (s m : ℕ) (ws fs vs : List ℕ) (small : s * 32 + m < 409
   known b = pair_known T s m ws fs vs small b
 
   module _ (long : length vs ≡ 64) (b : bit_at vs (s * 32 + m) ≡ false) (v₁ : List ℕ) (ev : v₁ ≡ bit_put vs (s * 32 + m)) where
-    pub made_long : length v₁ ≡ 64
-    made_long = ap length ev ∙ put-length vs (s * 32 + m) ∙ long
-
     pub made_fewer : suc (unset v₁) ≡ unset vs
     unfolding pair
     made_fewer = rw ev (pair_fewer T s m ws fs vs small long b)
@@ -285,11 +264,3 @@ module _ (T : Table) (s m : ℕ) (ws fs vs : List ℕ) (small : s * 32 + m < 409
         → (f : ℕ) → unset vs ≤ f → (st : Trace) → Held T ws fs vs st → P (epsilon T f s m st)
     unfolding pair
     made P h = pair_made T s m ws fs vs small long b P (rw ev at h)
-
-pub not-true : (b : Bool) → not b ≡ true → b ≡ false
-not-true true e = sym e
-not-true false e = refl
-
-pub not-false : (b : Bool) → not b ≡ false → b ≡ true
-not-false true e = refl
-not-false false e = sym e

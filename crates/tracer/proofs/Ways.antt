@@ -1,6 +1,7 @@
 -- The ways through a trace: refusals 9, 11 and 12, and the graph handed over. Assumes nothing.
 use Rattle.std.proofs.Common.{◌≡◌, ℕ, ◌<◌, ◌≤◌, Bool, true, false, not, ◌&&◌, ltb, leb, List, ◌++◌, length, get_or, drop, sym, refl, ap, ◌∙◌, le-ltb, lt-ltb, le-leb}
 use borrow.Author.Tests.{lt-leb}
+use Rattle.repr.specs.Reply.{answered, refused}
 use Rattle.repr.specs.Sizes.{production_limit, edge_limit, edge_place, graph_room, scratch_words}
 use Rattle.slices.specs.Lent.{in_front, zeroed}
 use Rattle.repr.specs.Meaning.{Item, Table, Production, ItemFits}
@@ -8,7 +9,6 @@ use Rattle.repr.specs.Packed.{Packed, productions_in}
 use Rattle.trace_graph.specs.Graph.{TraceEdge}
 use Rattle.trace_graph.specs.Words.{graph_words}
 use Rattle.trace_graph.specs.Fits.{item_is_fit}
-use Rattle.tracer.specs.declared.Backtrace.TheVariants.{Edges, Refused}
 use Rattle.tracer.specs.Outcome.{Outcome, outcome, edges_outcome, traced_in}
 use Rattle.table.specs.Checked.{Accepted}
 use Rattle.table.specs.Decoded.{meaning}
@@ -60,29 +60,29 @@ either_false : (x y : Outcome) → either false x y ≡ y
 unfolding either
 either_false x y = refl
 
-edges_either : (graph scratch : List ℕ) (es : List TraceEdge) → edges_outcome graph scratch es ≡ either (leb (length es) edge_limit) (outcome (Edges (length es)) (in_front (graph_words es) graph) (zeroed scratch_words scratch)) (outcome (Refused 12 0) graph (zeroed scratch_words scratch))
+edges_either : (graph scratch : List ℕ) (es : List TraceEdge) → edges_outcome graph scratch es ≡ either (leb (length es) edge_limit) (outcome (answered (length es)) (in_front (graph_words es) graph) (zeroed scratch_words scratch)) (outcome (refused 12 0) graph (zeroed scratch_words scratch))
 unfolding edges_outcome either
 edges_either graph scratch es = refl
 
 -- refusals 9 and 11, and the trace
 
 module _ (edges : Table → ℕ → Item → List TraceEdge) (s p i : ℕ) (graph scratch : List ℕ) (T : Table) where
-  trace_ways : traced_in edges s (record { production = p; index = i }) graph scratch T ≡ ways (ltb s (length T.states)) (item_is_fit T.productions p i) (leb graph_room (length graph)) (leb scratch_words (length scratch)) (outcome (Refused 9 0) graph scratch) (outcome (Refused 11 0) graph scratch) (edges_outcome graph scratch (edges T s (record { production = p; index = i })))
+  trace_ways : traced_in edges s (record { production = p; index = i }) graph scratch T ≡ ways (ltb s (length T.states)) (item_is_fit T.productions p i) (leb graph_room (length graph)) (leb scratch_words (length scratch)) (outcome (refused 9 0) graph scratch) (outcome (refused 11 0) graph scratch) (edges_outcome graph scratch (edges T s (record { production = p; index = i })))
   unfolding traced_in ways
   trace_ways = refl
 
-  pub refused_state : length T.states ≤ s → outcome (Refused 9 0) graph scratch ≡ traced_in edges s (record { production = p; index = i }) graph scratch T
+  pub refused_state : length T.states ≤ s → outcome (refused 9 0) graph scratch ≡ traced_in edges s (record { production = p; index = i }) graph scratch T
   refused_state h = sym (trace_ways ∙ rw (le-ltb s (length T.states) h) (ways_state _ _ _ _ _ _))
 
   module _ (h : s < length T.states) where
-    pub refused-item : item_is_fit T.productions p i ≡ false → outcome (Refused 9 0) graph scratch ≡ traced_in edges s (record { production = p; index = i }) graph scratch T
+    pub refused-item : item_is_fit T.productions p i ≡ false → outcome (refused 9 0) graph scratch ≡ traced_in edges s (record { production = p; index = i }) graph scratch T
     refused-item e = sym (trace_ways ∙ rw (lt-ltb s (length T.states) h, e) (ways_item _ _ _ _ _))
 
     module _ (e : item_is_fit T.productions p i ≡ true) where
-      pub refused_graph : length graph < graph_room → outcome (Refused 11 0) graph scratch ≡ traced_in edges s (record { production = p; index = i }) graph scratch T
+      pub refused_graph : length graph < graph_room → outcome (refused 11 0) graph scratch ≡ traced_in edges s (record { production = p; index = i }) graph scratch T
       refused_graph l = sym (trace_ways ∙ rw (lt-ltb s (length T.states) h, e, lt-leb graph_room (length graph) l) (ways_graph _ _ _ _))
 
-      pub refused_scratch : graph_room ≤ length graph → length scratch < scratch_words → outcome (Refused 11 0) graph scratch ≡ traced_in edges s (record { production = p; index = i }) graph scratch T
+      pub refused_scratch : graph_room ≤ length graph → length scratch < scratch_words → outcome (refused 11 0) graph scratch ≡ traced_in edges s (record { production = p; index = i }) graph scratch T
       refused_scratch l m = sym (trace_ways ∙ rw (lt-ltb s (length T.states) h, e, le-leb graph_room (length graph) l, lt-leb scratch_words (length scratch) m) (ways_scratch _ _ _))
 
       pub traced : (o : Outcome) → graph_room ≤ length graph → scratch_words ≤ length scratch → o ≡ edges_outcome graph scratch (edges T s (record { production = p; index = i })) → o ≡ traced_in edges s (record { production = p; index = i }) graph scratch T
@@ -95,51 +95,34 @@ item_tells g ps m p i b c e f q r = ap (λ (l : List Production). item_is_fit l 
 -- the answer is one of the two
 
 module _ (es : List TraceEdge) (graph scratch graph' scratch' : List ℕ) (ez : scratch' ≡ zeroed scratch_words scratch) where
-  pub handed-over : (count : ℕ) → length es ≤ edge_limit → graph' ≡ in_front (graph_words es) graph → count ≡ get_or graph' 0 0 → outcome (Edges count) graph' scratch' ≡ edges_outcome graph scratch es
+  pub handed-over : (count : ℕ) → length es ≤ edge_limit → graph' ≡ in_front (graph_words es) graph → count ≡ get_or graph' 0 0 → outcome (answered count) graph' scratch' ≡ edges_outcome graph scratch es
   unfolding in_front graph_words
   handed-over count few eg ec = make (ec ∙ ap (λ (l : List ℕ). get_or l 0 0) eg) eg ez ∙ sym (edges_either graph scratch es ∙ rw (le-leb (length es) edge_limit few) (either_true _ _))
     where
-      make : {a b : ℕ} {x y u v : List ℕ} → a ≡ b → x ≡ y → u ≡ v → outcome (Edges a) x u ≡ outcome (Edges b) y v
-      make e f g = λ j. outcome (Edges (e j)) (f j) (g j)
+      make : {a b : ℕ} {x y u v : List ℕ} → a ≡ b → x ≡ y → u ≡ v → outcome (answered a) x u ≡ outcome (answered b) y v
+      make e f g = λ j. outcome (answered (e j)) (f j) (g j)
 
-  pub overfull : edge_limit < length es → graph' ≡ graph → outcome (Refused 12 0) graph' scratch' ≡ edges_outcome graph scratch es
+  pub overfull : edge_limit < length es → graph' ≡ graph → outcome (refused 12 0) graph' scratch' ≡ edges_outcome graph scratch es
   overfull h eg = rw (eg, ez) (sym (edges_either graph scratch es ∙ rw (lt-leb (length es) edge_limit h) (either_false _ _)))
 
--- an accepted table, its productions read, a state and an item in range
-pub asked : {t g : List ℕ} {n terminals states productions s p i : ℕ} → check_of t ≡ Accepted → CountsOf (meaning t) n terminals states productions → Packed g (length (meaning t).productions)
-    → productions_in g (length (meaning t).productions) ≡ (meaning t).productions → s < length (meaning t).states → item_is_fit (productions_in g productions) p i ≡ true → Asked t g productions n s p i
-asked {g = g} a C P e h f = record {
-  accepted = a;
-  packed = rw C.productions P;
-  same = ap (productions_in g) C.productions ∙ e;
-  many = C.productions;
-  nonterminals = C.nonterminals;
-  state = h;
-  item = f;
-}
-
--- a test the other way round
-pub told : (b : Bool) → not b ≡ false → b ≡ true
-told true e = refl
-told false e = sym e
-
-pub told-not : (b : Bool) → not b ≡ true → b ≡ false
-told-not true e = sym e
-told-not false e = refl
+-- a table's productions read, a state and an item in range
+pub asked : {t g : List ℕ} {n terminals states productions s p i : ℕ} → CountsOf (meaning t) n terminals states productions
+    → productions_in g (length (meaning t).productions) ≡ (meaning t).productions → s < length (meaning t).states → item_is_fit (productions_in g productions) p i ≡ true → Asked t g productions s p i
+asked {g = g} C e h f = record { same = ap (productions_in g) C.productions ∙ e; state = h; item = f }
 
 -- what a trace works over, and its words
 
-module _ {t g : List ℕ} {productions n s p i : ℕ} (A : Asked t g productions n s p i) where
+module _ {t g : List ℕ} {productions s p i : ℕ} (ok : check_of t ≡ Accepted) (P : Packed g productions) (A : Asked t g productions s p i) where
   pub working : (ls : List ℕ) → Leasts (productions_in g productions) ls → ((j : ℕ) → j < production_limit → get_or ls j 0 < production_limit) → Working t g productions ls
-  working ls L small = record { accepted = A.accepted; packed = A.packed; same = A.same; least = rw A.same at L; small = small }
+  working ls L small = record { accepted = ok; packed = P; same = A.same; least = rw A.same at L; small = small }
 
   pub asked-item : ItemFits (meaning t) (record { production = p; index = i })
   asked-item = fits-item (meaning t) (record { production = p; index = i }) (ap (λ (ps : List Production). item_is_fit ps p i) (sym A.same) ∙ A.item)
 
   pub carried : (ws fs : List ℕ) (es : List TraceEdge) → Coded (meaning t) ws fs es → Carried g productions ws (meaning t) es
   carried ws fs es C = record {
-    fits = fits t A.accepted;
-    packed = A.packed;
+    fits = fits t ok;
+    packed = P;
     same = A.same;
     long = C.long;
     few = C.few;
@@ -151,12 +134,3 @@ module _ {t g : List ℕ} {productions n s p i : ℕ} (A : Asked t g productions
 pub front_is : (es : List TraceEdge) (graph graph' : List ℕ) → graph' ≡ graph_words es ++ drop (edge_place (length es)) graph → graph' ≡ in_front (graph_words es) graph
 unfolding in_front
 front_is es graph graph' e = e ∙ ap (λ (k : ℕ). graph_words es ++ drop k graph) (sym (words_long es))
-
--- the one trace or the other
-pub by_shift : (b : Bool) → b ≡ true → edges_by b ≡ shift_edges
-unfolding edges_by
-by_shift b e = rw e
-
-pub by_reduce : (b : Bool) → b ≡ false → edges_by b ≡ reduce_edges
-unfolding edges_by
-by_reduce b e = rw e

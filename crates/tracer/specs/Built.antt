@@ -1,31 +1,27 @@
 -- What the functions that build a graph are asked and give. Assumes nothing: these are definitions.
-use Rattle.std.specs.Prelude.{◌≡◌, ℕ, ◌<◌, ◌≤◌, Bool, true, false, List, length, take, slice_index_or}
+use Rattle.std.specs.Prelude.{◌≡◌, ℕ, ◌<◌, ◌≤◌, true, List, length, take, slice_index_or}
 use Rattle.repr.specs.Sizes.{edge_limit, edge_place}
 use Rattle.repr.specs.Meaning.{Item, Table}
-use Rattle.repr.specs.Packed.{Packed, productions_in}
-use Rattle.table.specs.Checked.{Accepted}
+use Rattle.repr.specs.Packed.{productions_in}
 use Rattle.table.specs.Decoded.{meaning}
-use Rattle.table.specs.Refusals.{check_of}
 use Rattle.trace_graph.specs.Graph.{TraceEdge}
 use Rattle.trace_graph.specs.Words.{graph_words}
 use Rattle.trace_graph.specs.Fits.{item_is_fit}
 use Rattle.trace.specs.Shift.{shift_edges}
 use Rattle.trace.specs.Reduce.{reduce_edges}
+use Rattle.tracer.specs.declared.Action.{Action}
+use Rattle.tracer.specs.declared.Action.TheVariants.{Shift, Reduce}
 
--- an accepted table t with its productions in words g, and a state and an item of it
-pub record Asked (t g : List ℕ) (productions n s p i : ℕ) : Type 0 where
-  pub accepted : check_of t ≡ Accepted
-  pub packed : Packed g productions
+-- a table t with its productions in words g, and a state and an item of it
+pub record Asked (t g : List ℕ) (productions s p i : ℕ) : Type 0 where
   pub same : productions_in g productions ≡ (meaning t).productions
-  pub many : productions ≡ length (meaning t).productions
-  pub nonterminals : n ≡ length (meaning t).nonterminals
   pub state : s < length (meaning t).states
   pub item : item_is_fit (productions_in g productions) p i ≡ true
 
 -- which of the two traces is made
-unfoldable pub edges_by : Bool → Table → ℕ → Item → List TraceEdge
-edges_by true = shift_edges
-edges_by false = reduce_edges
+abbrev pub edges_by : Action → Table → ℕ → Item → List TraceEdge
+edges_by Shift = shift_edges
+edges_by Reduce = reduce_edges
 
 -- the edges stand at the front of the words, and are not too many for a graph
 pub record Built (es : List TraceEdge) (ws : List ℕ) : Type 0 where

@@ -1,5 +1,6 @@
 -- What `backtrace_shift` and `backtrace_reduce` answer and leave: answer, graph words, scratch words. Assumes nothing: these are definitions.
 use Rattle.std.specs.Prelude.{ℕ, true, false, ◌&&◌, List, length, nat_le, nat_lt}
+use Rattle.repr.specs.Reply.{Reply, answered, refused}
 use Rattle.repr.specs.Sizes.{edge_limit, graph_room, scratch_words}
 use Rattle.slices.specs.Lent.{in_front, zeroed}
 use Rattle.repr.specs.Meaning.{Item, Table}
@@ -11,31 +12,29 @@ use Rattle.trace_graph.specs.Words.{graph_words}
 use Rattle.trace_graph.specs.Fits.{item_is_fit}
 use Rattle.trace.specs.Shift.{shift_edges}
 use Rattle.trace.specs.Reduce.{reduce_edges}
-use Rattle.tracer.specs.declared.Backtrace.{Backtrace}
-use Rattle.tracer.specs.declared.Backtrace.TheVariants.{Edges, Refused}
 
 pub data Outcome : Type 0 where
-  outcome : Backtrace → List ℕ → List ℕ → Outcome
+  outcome : Reply ℕ → List ℕ → List ℕ → Outcome
 
 -- accepted: count and edges at the front of the graph, scratch zeroed; refusal 12: scratch zeroed, the graph as it was
 unfoldable pub edges_outcome : List ℕ → List ℕ → List TraceEdge → Outcome
 edges_outcome graph scratch es = elim (nat_le (length es) edge_limit) [
-  | true ↦ outcome (Edges (length es)) (in_front (graph_words es) graph) (zeroed scratch_words scratch)
-  | false ↦ outcome (Refused 12 0) graph (zeroed scratch_words scratch)
+  | true ↦ outcome (answered (length es)) (in_front (graph_words es) graph) (zeroed scratch_words scratch)
+  | false ↦ outcome (refused 12 0) graph (zeroed scratch_words scratch)
 ]
 
 -- refusals 9 and 11; nothing is changed
 unfoldable pub traced_in : (Table → ℕ → Item → List TraceEdge) → ℕ → Item → List ℕ → List ℕ → Table → Outcome
 traced_in edges s i graph scratch T = elim (nat_lt s (length T.states) && item_is_fit T.productions i.production i.index) [
-  | false ↦ outcome (Refused 9 0) graph scratch
+  | false ↦ outcome (refused 9 0) graph scratch
   | true ↦ elim (nat_le graph_room (length graph) && nat_le scratch_words (length scratch)) [
-    | false ↦ outcome (Refused 11 0) graph scratch
+    | false ↦ outcome (refused 11 0) graph scratch
     | true ↦ edges_outcome graph scratch (edges T s i)
   ]
 ]
 
 unfoldable pub trace_by : (Table → ℕ → Item → List TraceEdge) → List ℕ → ℕ → Item → List ℕ → List ℕ → Checked → Outcome
-trace_by edges t s i graph scratch (NotAccepted n r) = outcome (Refused n r) graph scratch
+trace_by edges t s i graph scratch (NotAccepted n r) = outcome (refused n r) graph scratch
 trace_by edges t s i graph scratch Accepted = traced_in edges s i graph scratch (meaning t)
 
 unfoldable pub shift_of : List ℕ → ℕ → Item → List ℕ → List ℕ → Outcome

@@ -8,238 +8,207 @@ pub mod shift;
 pub mod stamps;
 pub mod tails;
 
-ghost use Rattle.std.specs.Prelude.{OnOk, OnErr, ◌≡◌, ℕ, ◌<◌, ◌≤◌, true, false, List, length, replicate};
+ghost use Rattle.std.specs.Prelude.{OnOk, OnErr, ◌≡◌, ◌<◌, ◌≤◌, [], length, replicate};
 ghost use Rattle.repr.specs.Sizes.{edge_limit, graph_room, scratch_words, item_flags};
-ghost use Rattle.repr.specs.Meaning.{ItemFits};
-ghost use Rattle.repr.specs.Packed.{Packed, productions_in};
+ghost use Rattle.repr.specs.Meaning as meaning-of;
+ghost use Rattle.repr.specs.Reply.{reply_of};
 ghost use Rattle.slices.specs.Lent.{in_front};
 ghost use Rattle.table.specs.Decoded.{meaning};
-ghost use Rattle.table.specs.Checked.{Accepted};
-ghost use Rattle.table.specs.Refusals.{check_of};
 ghost use Rattle.trace_graph.specs.Words.{graph_words};
-ghost use Rattle.trace.specs.Shift.{shift_edges};
-ghost use Rattle.trace.specs.Reduce.{reduce_edges};
 ghost use Rattle.trace.specs.Ends.{Ends};
-ghost use Rattle.codes.specs.Coded.{codes_room, Coded};
-ghost use Rattle.tracer.specs.Held.{Working};
+ghost use Rattle.codes.specs.Coded.{Coded};
+ghost use Rattle.tracer.specs.Held.{pair_words, Working};
 ghost use Rattle.tracer.specs.Outcome.{outcome, edges_outcome, traced_in};
 ghost use Rattle.tracer.specs.Built.{Asked, edges_by};
 
-use crate::reduce::reduce_codes;
+use crate::reduce::{Reduction, reduce_codes};
 use crate::shift::shift_codes;
-use codes::{EdgeCode, fill_least, write_codes};
+use codes::{EdgeCodes, fill_least, write_codes};
 use first::FirstSets;
 use lr1_core::Item;
-use repr::{Grammar, ProductionIndex, word};
-use slices::zero;
-use table::{read_counts, read_productions};
+use repr::{Grammar, ProductionIndex, Refusal, word};
+use table::AcceptedTable;
 use trace::reduce::suffix_ends;
 use trace_graph::{Full, TraceGraph, item_fits};
 
-// What a trace answers: its number of edges, which are in the graph; else the refusal and its place.
+// What a trace works over: an accepted table, its productions packed, and of each production the least equal one.
 #[derive(Clone, Copy)]
-pub enum Backtrace {
-    Edges(u16),
-    Refused(u16, u16),
+pub struct Tracer<'a> {
+    pub table: AcceptedTable<'a>,
+    pub grammar: Grammar<'a>,
+    pub least: &'a [u8],
+    pub ghost working: { Working table.words.now grammar.words.now grammar.productions least.now },
 }
 
-// The one trace or the other, its edges in words of one each; a reduction asks which suffixes are nullable.
+// A trace at work: its edges, and a bit for each pair of a state and a nonterminal that is entered.
+#[derive(Drop)]
+pub struct OpenTrace {
+    pub edges: EdgeCodes,
+    pub entered: [u64; OpenTrace::PAIR_WORDS],
+}
+
+impl OpenTrace {
+    pub const PAIR_WORDS: usize = 64;
+
+    // No edge, and no pair entered.
+    pub fn new() -> OpenTrace
+        ensures edges { (T : meaning-of.Table) → Coded T result.edges.words result.edges.flags [] }
+        ensures entered { result.entered ≡ replicate pair_words 0 }
+    {
+        OpenTrace {
+            edges: EdgeCodes::new(),
+            entered: [0u64; OpenTrace::PAIR_WORDS],
+        }
+    }
+
+    // As `new` makes it.
+    pub fn clear(&mut self)
+        ensures edges { (T : meaning-of.Table) → Coded T self.new.edges.words self.new.edges.flags [] }
+        ensures entered { self.new.entered ≡ replicate pair_words 0 }
+    {
+        self.edges.clear();
+        self.entered.fill(0);
+    }
+}
+
+// Which trace: back from a shift of an item's cursor, or from a reduction by it.
+#[derive(Clone, Copy, PartialEq, Eq)]
+pub enum Action {
+    Shift,
+    Reduce,
+}
+
+// The one trace or the other, where it is known which suffixes are nullable.
 pub fn trace_codes(
-    table: &[u16],
-    grammar: &[u16],
-    productions: usize,
-    least: &[u8],
-    ends: &[u64],
-    words: &mut [u16],
+    over: Reduction,
+    action: Action,
     state: usize,
-    production: usize,
-    index: usize,
-    shift: bool,
+    item: Item,
+    trace: &mut OpenTrace,
 ) -> Result<(), Full>
-    requires working { Working table.now grammar.now productions least.now × (shift ≡ false → Ends (meaning table.now) ends.now) × (length words.old ≡ codes_room) }
-    requires state_in_bounds { (state < length (meaning table.now).states) × ItemFits (meaning table.now) (record { production = production; index = index }) }
-    ensures by_index { OnOk result ((fs : List ℕ) × Coded (meaning table.now) words.new fs (edges_by shift (meaning table.now) state (record { production = production; index = index }))) }
-    ensures edge_limit_in_bounds { OnErr result (edge_limit < length (edges_by shift (meaning table.now) state (record { production = production; index = index }))) }
+    requires within { (state < length (meaning over.tracer.table.words.now).states) × meaning-of.ItemFits (meaning over.tracer.table.words.now) (record { production = item.production; index = item.index }) }
+    ensures coded { OnOk result (Coded (meaning over.entry.tracer.table.words.now) trace.new.edges.words trace.new.edges.flags (edges_by action (meaning over.entry.tracer.table.words.now) state (record { production = item.production; index = item.index }))) }
+    ensures full { OnErr result (edge_limit < length (edges_by action (meaning over.entry.tracer.table.words.now) state (record { production = item.production; index = item.index }))) }
 {
-    if shift {
-        return shift_codes(
-            table,
-            Grammar { words: grammar, productions },
-            least,
-            words,
-            state,
-            production,
-            index,
-        );
+    match action {
+        Action::Shift => shift_codes(over.tracer, state, item, trace),
+        Action::Reduce => reduce_codes(over, state, item, trace),
     }
-    reduce_codes(
-        table,
-        Grammar { words: grammar, productions },
-        least,
-        ends,
-        words,
-        state,
-        production,
-        index,
-    )
 }
 
-// The flags that a reduction asks for; a shift asks for none.
-fn fill_ends(table: &[u16], grammar: Grammar, ends: &mut [u64], shift: bool)
-    requires table_value { (check_of table.now ≡ Accepted) × (productions_in grammar.words.now grammar.productions ≡ (meaning table.now).productions) }
-    requires ends_value { ends.old ≡ replicate item_flags 0 }
-    ensures { shift ≡ false → Ends (meaning table.now) ends.new }
+// The flags of the items whose suffixes are nullable, which a reduction asks for.
+fn fill_ends(tracer: Tracer, ends: &mut [u64])
+    requires { ends.old ≡ replicate item_flags 0 }
+    ensures { Ends (meaning tracer.entry.table.words.now) ends.new }
 {
-    if shift {
-        return;
+    let terminals = tracer.table.counts().terminals as u16;
+    let sets = FirstSets::new(tracer.grammar, terminals);
+    suffix_ends(tracer.grammar, &sets, ends);
+}
+
+// The same where that is not known yet.
+fn trace_item(
+    tracer: Tracer,
+    action: Action,
+    state: usize,
+    item: Item,
+    trace: &mut OpenTrace,
+) -> Result<(), Full>
+    requires within { (state < length (meaning tracer.table.words.now).states) × meaning-of.ItemFits (meaning tracer.table.words.now) (record { production = item.production; index = item.index }) }
+    ensures coded { OnOk result (Coded (meaning tracer.entry.table.words.now) trace.new.edges.words trace.new.edges.flags (edges_by action (meaning tracer.entry.table.words.now) state (record { production = item.production; index = item.index }))) }
+    ensures full { OnErr result (edge_limit < length (edges_by action (meaning tracer.entry.table.words.now) state (record { production = item.production; index = item.index }))) }
+{
+    match action {
+        Action::Shift => shift_codes(tracer, state, item, trace),
+        Action::Reduce => {
+            let mut ends = [0u64; Item::FLAG_WORDS];
+            fill_ends(tracer, &mut ends);
+            let over = Reduction {
+                tracer,
+                ends: &ends,
+            };
+            reduce_codes(over, state, item, trace)
+        }
     }
-    let counts = read_counts(table);
-    let terminals = counts.terminals as u16;
-    let sets = FirstSets::new(grammar, terminals);
-    let map = sets.map;
-    suffix_ends(grammar, terminals, &map, ends);
 }
 
 // The trace, its graph at the front of the words lent; one of too many edges leaves them as they were.
-pub fn build(
-    table: &[u16],
-    grammar: &[u16],
-    productions: usize,
-    n: usize,
-    graph: &mut [u16],
+fn build(
+    table: AcceptedTable,
+    grammar: Grammar,
+    action: Action,
     state: usize,
-    production: usize,
-    index: usize,
-    shift: bool,
+    item: Item,
+    graph: &mut [u16],
 ) -> Result<(), Full>
-    requires asked { Asked table.now grammar.now productions n state production index }
-    requires graph_room_in_bounds { graph_room ≤ length graph.old }
-    ensures index_len_bound { OnOk result ((length (edges_by shift (meaning table.now) state (record { production = production; index = index })) ≤ edge_limit) × (graph.new ≡ in_front (graph_words (edges_by shift (meaning table.now) state (record { production = production; index = index }))) graph.old)) }
-    ensures edge_limit_in_bounds { OnErr result ((edge_limit < length (edges_by shift (meaning table.now) state (record { production = production; index = index }))) × (graph.new ≡ graph.old)) }
+    requires asked { Asked table.words.now grammar.words.now grammar.productions state item.production item.index }
+    requires room { graph_room ≤ length graph.old }
+    ensures built { OnOk result ((length (edges_by action (meaning table.entry.words.now) state (record { production = item.production; index = item.index })) ≤ edge_limit) × (graph.new ≡ in_front (graph_words (edges_by action (meaning table.entry.words.now) state (record { production = item.production; index = item.index }))) graph.old)) }
+    ensures full { OnErr result ((edge_limit < length (edges_by action (meaning table.entry.words.now) state (record { production = item.production; index = item.index }))) × (graph.new ≡ graph.old)) }
 {
     let mut least = [0u8; ProductionIndex::LIMIT];
-    fill_least(Grammar { words: grammar, productions }, &mut least);
-    let mut ends = [0u64; Item::FLAG_WORDS];
-    fill_ends(table, Grammar { words: grammar, productions }, &mut ends, shift);
-    let mut words = [0u16; EdgeCode::WORDS];
-    trace_codes(
+    fill_least(grammar, &mut least);
+    let tracer = Tracer {
         table,
-        Grammar { words: grammar, productions },
-        &least,
-        &ends,
-        &mut words,
-        state,
-        production,
-        index,
-        shift,
-    )?;
-    write_codes(grammar, &words, graph);
+        grammar,
+        least: &least,
+    };
+    let mut trace = OpenTrace::new();
+    trace_item(tracer, action, state, item, &mut trace)?;
+    write_codes(grammar, &trace.edges, graph);
     Ok(())
 }
 
 // A refusal of too many edges leaves the graph as it was; scratch is zero at the end.
 fn work(
-    table: &[u16],
-    grammar: &[u16],
-    productions: usize,
-    n: usize,
-    graph: &mut [u16],
+    table: AcceptedTable,
+    grammar: Grammar,
+    action: Action,
     state: usize,
-    production: usize,
-    index: usize,
-    shift: bool,
+    item: Item,
+    graph: &mut [u16],
     scratch: &mut [u16],
-) -> Backtrace
-    requires asked { Asked table.now grammar.now productions n state production index }
-    requires graph_room_in_bounds { (graph_room ≤ length graph.old) × (scratch_words ≤ length scratch.old) }
-    ensures { outcome result graph.new scratch.new ≡ edges_outcome graph.old scratch.old (edges_by shift (meaning table.now) state (record { production = production; index = index })) }
+) -> Result<u16, Refusal>
+    requires asked { Asked table.words.now grammar.words.now grammar.productions state item.production item.index }
+    requires room { (graph_room ≤ length graph.old) × (scratch_words ≤ length scratch.old) }
+    ensures { outcome (reply_of result) graph.new scratch.new ≡ edges_outcome graph.old scratch.old (edges_by action (meaning table.entry.words.now) state (record { production = item.production; index = item.index })) }
 {
-    zero(scratch, TraceGraph::SCRATCH);
-    match build(
-        table,
-        Grammar { words: grammar, productions },
-        n,
-        graph,
-        state,
-        production,
-        index,
-        shift,
-    ) {
-        Ok(()) => Backtrace::Edges(word(graph, 0) as u16),
-        Err(Full) => Backtrace::Refused(12, 0),
+    scratch[..TraceGraph::SCRATCH].fill(0);
+    match build(table, grammar, action, state, item, graph) {
+        Ok(()) => Ok(word(graph, 0) as u16),
+        Err(Full) => Err(Refusal::TooManyEdges),
     }
 }
 
-// Refusals 9 and 11 change nothing.
-fn trace_in(
-    table: &[u16],
+// `backtrace_shift` or `backtrace_reduce` over an accepted table: the number of edges, which are in the graph. Refusals 9 and 11 change nothing.
+pub fn trace_in(
+    table: AcceptedTable,
+    action: Action,
     state: usize,
-    production: usize,
-    index: usize,
+    item: Item,
     graph: &mut [u16],
     scratch: &mut [u16],
-    shift: bool,
-) -> Backtrace
-    requires { check_of table.now ≡ Accepted }
-    ensures { outcome result graph.new scratch.new ≡ traced_in (edges_by shift) state (record { production = production; index = index }) graph.old scratch.old (meaning table.now) }
+) -> Result<u16, Refusal>
+    ensures { outcome (reply_of result) graph.new scratch.new ≡ traced_in (edges_by action) state (record { production = item.production; index = item.index }) graph.old scratch.old (meaning table.entry.words.now) }
 {
-    let counts = read_counts(table);
-    let states = counts.states;
-    if state >= states {
-        return Backtrace::Refused(9, 0);
+    let counts = table.counts();
+    if state >= counts.states {
+        return Err(Refusal::OutOfRange);
     }
-    let productions = counts.productions;
-    let n = counts.nonterminals;
-    let mut grammar = [0u16; ProductionIndex::ALL_WORDS];
-    read_productions(table, &mut grammar);
-    if !item_fits(Grammar { words: &grammar, productions }, production, index) {
-        return Backtrace::Refused(9, 0);
+    let mut words = [0u16; ProductionIndex::ALL_WORDS];
+    table.read_productions(&mut words);
+    let grammar = Grammar {
+        words: &words,
+        productions: counts.productions,
+    };
+    if !item_fits(grammar, item.production, item.index) {
+        return Err(Refusal::OutOfRange);
     }
     if graph.len() < TraceGraph::WORDS {
-        return Backtrace::Refused(11, 0);
+        return Err(Refusal::TooShort);
     }
     if scratch.len() < TraceGraph::SCRATCH {
-        return Backtrace::Refused(11, 0);
+        return Err(Refusal::TooShort);
     }
-    work(
-        table,
-        Grammar { words: &grammar, productions },
-        n,
-        graph,
-        state,
-        production,
-        index,
-        shift,
-        scratch,
-    )
-}
-
-// `backtrace_shift` over an accepted table.
-pub fn shift_in(
-    table: &[u16],
-    state: usize,
-    production: usize,
-    index: usize,
-    graph: &mut [u16],
-    scratch: &mut [u16],
-) -> Backtrace
-    requires { check_of table.now ≡ Accepted }
-    ensures { outcome result graph.new scratch.new ≡ traced_in shift_edges state (record { production = production; index = index }) graph.old scratch.old (meaning table.now) }
-{
-    trace_in(table, state, production, index, graph, scratch, true)
-}
-
-// `backtrace_reduce` over an accepted table.
-pub fn reduce_in(
-    table: &[u16],
-    state: usize,
-    production: usize,
-    index: usize,
-    graph: &mut [u16],
-    scratch: &mut [u16],
-) -> Backtrace
-    requires { check_of table.now ≡ Accepted }
-    ensures { outcome result graph.new scratch.new ≡ traced_in reduce_edges state (record { production = production; index = index }) graph.old scratch.old (meaning table.now) }
-{
-    trace_in(table, state, production, index, graph, scratch, false)
+    work(table, grammar, action, state, item, graph, scratch)
 }

@@ -1,8 +1,8 @@
 // `backtrace_shift` (lr1/trace/shift), part 5 of document 01, over edges of one word: straight over the chain of a state's items.
-ghost use Rattle.std.specs.Prelude.{OnOk, OnErr, ◌≡◌, ℕ, ◌+◌, ◌*◌, ◌<◌, ◌≤◌, true, List, [], length, replicate, ◌≢◌, slice_index};
-ghost use Rattle.repr.specs.Sizes.{production_limit, index_limit, state_limit, nonterminal_limit, edge_limit};
+ghost use Rattle.std.specs.Prelude.{OnOk, OnErr, ◌≡◌, ℕ, ◌+◌, ◌*◌, ◌<◌, ◌≤◌, true, List, [], length, replicate, ◌≢◌};
+ghost use Rattle.repr.specs.Sizes.{state_limit, nonterminal_limit, edge_limit};
 ghost use Rattle.repr.specs.Lists.{mem, some?};
-ghost use Rattle.repr.specs.Meaning.{Table, TableFits, ItemFits, state_at};
+ghost use Rattle.repr.specs.Meaning.{ItemFits, state_at};
 ghost use Rattle.table.specs.Decoded.{meaning, items_from};
 ghost use Rattle.state_graph.specs.States.{states_in};
 ghost use Rattle.trace_graph.specs.Graph.{TraceEdge, is_same_edge, add, at_nonterminal, at_item};
@@ -11,145 +11,115 @@ ghost use Rattle.trace.specs.Shift.{epsilon, shift_edges};
 ghost use Rattle.trace.specs.Edges.{epsilon_edge};
 ghost use Rattle.trace.specs.Passed.{ItemPassed};
 ghost use Rattle.bits.specs.Bits.{bit_at};
-ghost use Rattle.codes.specs.Coded.{codes_room, key_words, Coded, Leasts};
-ghost use Rattle.tracer.specs.Held.{pair_words, Steps, Exceeds, unset, Working};
+ghost use Rattle.codes.specs.Coded.{Coded};
+ghost use Rattle.tracer.specs.Held.{pair_words, Steps, Exceeds, unset};
 ghost use Rattle.tracer.specs.Tails.{Usable, TwoTails};
 ghost use Rattle.tracer.specs.Clear.{Clear};
 
 use crate::edges::{to_item, to_nonterminal};
-use crate::tails::{TailList, after, ahead, begin, list_tail};
+use crate::tails::{LIST_WORDS, SHORT_TABLE, TAIL_AHEAD, TailList, after, ahead, begin, list_tail};
+use crate::{OpenTrace, Tracer};
 use bits::{is_set, put};
-use codes::{EdgeCode, key};
+use codes::{EdgeCode, EdgeCodes, EdgeKind};
 use lr1_core::{Item, prefix};
-use repr::{Grammar, NonterminalString, ProductionIndex, word};
-use state_graph::{NextState, StateIndex, StateSet, trace_back};
-use table::{first_item, item};
-use trace_graph::{Full, TraceGraph};
+use repr::NonterminalString;
+use state_graph::{StateIndex, StateSet, trace_back};
+use trace_graph::Full;
 
 // The edge of an item that can shift a nonterminal: past its beginning from the item, else from its nonterminal.
-fn epsilon_code(
-    least: &[u8],
-    words: &mut [u16],
-    flags: &mut [u64],
-    production: usize,
-    index: usize,
-) -> Result<(), Full>
-    requires production_lt_production_limit { (production < production_limit) × (index < index_limit) × (length least.now ≡ production_limit) × ((p : ℕ) → p < production_limit → slice_index least.now p < production_limit) }
-    requires words_len { (length words.old ≡ codes_room) × (length flags.old ≡ key_words) }
-    ensures coded { OnOk result ((T : Table) → TableFits T → Leasts T.productions least.now → (n : ℕ) → n < length T.nonterminals → ItemFits T (record { production = production; index = index }) → can_shift T n (record { production = production; index = index }) ≡ true → (es : List TraceEdge) → Coded T words.old flags.old es → Coded T words.new flags.new (add T.productions (epsilon_edge T.productions (record { production = production; index = index }) n) es)) }
-    ensures edge_limit_in_bounds { OnErr result ((T : Table) → TableFits T → Leasts T.productions least.now → (n : ℕ) → n < length T.nonterminals → ItemFits T (record { production = production; index = index }) → can_shift T n (record { production = production; index = index }) ≡ true → (es : List TraceEdge) → Coded T words.old flags.old es → edge_limit < length (add T.productions (epsilon_edge T.productions (record { production = production; index = index }) n) es)) }
+fn epsilon_code(tracer: Tracer, edges: &mut EdgeCodes, item: Item) -> Result<(), Full>
+    requires { ItemFits (meaning tracer.table.words.now) (record { production = item.production; index = item.index }) }
+    ensures coded { OnOk result ((n : ℕ) → n < length (meaning tracer.entry.table.words.now).nonterminals → can_shift (meaning tracer.entry.table.words.now) n (record { production = item.production; index = item.index }) ≡ true → (es : List TraceEdge) → Coded (meaning tracer.entry.table.words.now) edges.old.words edges.old.flags es → Coded (meaning tracer.entry.table.words.now) edges.new.words edges.new.flags (add (meaning tracer.entry.table.words.now).productions (epsilon_edge (meaning tracer.entry.table.words.now).productions (record { production = item.production; index = item.index }) n) es)) }
+    ensures full { OnErr result ((n : ℕ) → n < length (meaning tracer.entry.table.words.now).nonterminals → can_shift (meaning tracer.entry.table.words.now) n (record { production = item.production; index = item.index }) ≡ true → (es : List TraceEdge) → Coded (meaning tracer.entry.table.words.now) edges.old.words edges.old.flags es → edge_limit < length (add (meaning tracer.entry.table.words.now).productions (epsilon_edge (meaning tracer.entry.table.words.now).productions (record { production = item.production; index = item.index }) n) es)) }
 {
-    to_nonterminal(least, words, flags, index == 0, production, index)
+    to_nonterminal(tracer, edges, item.index == 0, item)
 }
 
 // `trace_epsilon_edges`: enters the pair of the state and the nonterminal unless it is entered, and follows each item at its beginning to its own nonterminal, in the same state.
-pub fn trace_epsilon(
-    table: &[u16],
-    grammar: &[u16],
-    productions: usize,
-    least: &[u8],
-    words: &mut [u16],
-    flags: &mut [u64],
-    entered: &mut [u64],
-    state: usize,
-    nonterminal: usize,
+// The items are gone along by places: those of a listed tail stand in its list.
+fn trace_epsilon(
+    tracer: Tracer,
+    trace: &mut OpenTrace,
     records: &[u16],
     links: &[u16],
+    state: usize,
+    nonterminal: usize,
 ) -> Result<(), Full>
-    requires working { Working table.now grammar.now productions least.now }
-    requires words_len { (length words.old ≡ codes_room) × (length flags.old ≡ key_words) × (length entered.old ≡ pair_words) }
-    requires state_in_bounds { (state < length (meaning table.now).states) × (nonterminal < length (meaning table.now).nonterminals) }
-    requires usable { Usable table.now records.now links.now }
-    ensures steps { OnOk result ((f : ℕ) → unset entered.old ≤ f → Steps (meaning table.now) (epsilon (meaning table.now) f state nonterminal) words.old flags.old entered.old words.new flags.new entered.new) }
-    ensures exceeds { OnErr result ((f : ℕ) → unset entered.old ≤ f → Exceeds (meaning table.now) (epsilon (meaning table.now) f state nonterminal) words.old flags.old entered.old) }
-    ensures entered_bound { unset entered.new ≤ unset entered.old }
+    requires within { (state < length (meaning tracer.table.words.now).states) × (nonterminal < length (meaning tracer.table.words.now).nonterminals) }
+    requires usable { Usable tracer.table.words.now records.now links.now }
+    ensures steps { OnOk result ((f : ℕ) → unset trace.old.entered ≤ f → Steps (meaning tracer.entry.table.words.now) (epsilon (meaning tracer.entry.table.words.now) f state nonterminal) trace.old.edges.words trace.old.edges.flags trace.old.entered trace.new.edges.words trace.new.edges.flags trace.new.entered) }
+    ensures exceeds { OnErr result ((f : ℕ) → unset trace.old.entered ≤ f → Exceeds (meaning tracer.entry.table.words.now) (epsilon (meaning tracer.entry.table.words.now) f state nonterminal) trace.old.edges.words trace.old.edges.flags trace.old.entered) }
+    ensures entered_bound { unset trace.new.entered ≤ unset trace.old.entered }
 {
     let pair = state * NonterminalString::LIMIT + nonterminal;
-    if is_set(entered, pair) {
+    if is_set(&trace.entered, pair) {
         return Ok(());
     }
-    put(entered, pair);
-    let mut place = begin(records, links, nonterminal, first_item(table, state));
+    put(&mut trace.entered, pair);
+    let mut place = begin(records, links, nonterminal, tracer.table.first_item(state));
     while place.at != 0 {
-        let read = item(table, place.at);
-        let production = read.production;
-        let index = read.index;
+        let read = tracer.table.item(place.at);
         place = after(records, links, nonterminal, place.slot, read.next);
-        let this = Item {
-            production: production,
-            index: index,
+        let item = Item {
+            production: read.production,
+            index: read.index,
         };
-        let can = this.can_shift_nonterminal(Grammar { words: grammar, productions }, nonterminal);
-        if !can {
+        if !item.can_shift_nonterminal(tracer.grammar, nonterminal) {
             continue;
         }
-        epsilon_code(least, words, flags, production, index)?;
-        if index > 0 {
+        epsilon_code(tracer, &mut trace.edges, item)?;
+        if item.index > 0 {
             continue;
         }
-        let owner = word(grammar, production * ProductionIndex::WORDS);
-        trace_epsilon(
-            table,
-            Grammar { words: grammar, productions },
-            least,
-            words,
-            flags,
-            entered,
-            state,
-            owner,
-            records,
-            links,
-        )?;
+        let owner = tracer.grammar.owner(item.production);
+        trace_epsilon(tracer, trace, records, links, state, owner)?;
     }
     Ok(())
 }
 
 // Whether the edge of an item that can shift a nonterminal is there.
-fn is_known(least: &[u8], flags: &[u64], production: usize, index: usize) -> bool
-    requires production_lt_production_limit { (production < production_limit) × (index < index_limit) × (length least.now ≡ production_limit) × ((p : ℕ) → p < production_limit → slice_index least.now p < production_limit) }
-    requires flags_len { length flags.now ≡ key_words }
-    ensures { result ≡ true → (T : Table) → TableFits T → Leasts T.productions least.now → (n : ℕ) → n < length T.nonterminals → ItemFits T (record { production = production; index = index }) → can_shift T n (record { production = production; index = index }) ≡ true → (ws : List ℕ) (es : List TraceEdge) → Coded T ws flags.now es → some? (is_same_edge T.productions (epsilon_edge T.productions (record { production = production; index = index }) n)) es ≡ true }
+fn is_known(tracer: Tracer, edges: &EdgeCodes, item: Item) -> bool
+    requires { ItemFits (meaning tracer.table.words.now) (record { production = item.production; index = item.index }) }
+    ensures { (n : ℕ) → n < length (meaning tracer.entry.table.words.now).nonterminals → can_shift (meaning tracer.entry.table.words.now) n (record { production = item.production; index = item.index }) ≡ true → (ws : List ℕ) (es : List TraceEdge) → Coded (meaning tracer.entry.table.words.now) ws edges.now.flags es → result ≡ some? (is_same_edge (meaning tracer.entry.table.words.now).productions (epsilon_edge (meaning tracer.entry.table.words.now).productions (record { production = item.production; index = item.index }) n)) es }
 {
-    if index == 0 {
-        return is_set(flags, key(least, 1, production, index));
+    if item.index == 0 {
+        return edges.contains(
+            tracer.least,
+            EdgeCode {
+                kind: EdgeKind::Between,
+                item,
+            },
+        );
     }
-    is_set(flags, key(least, 2, production, index))
+    edges.contains(
+        tracer.least,
+        EdgeCode {
+            kind: EdgeKind::FromItem,
+            item,
+        },
+    )
 }
 
 // Whether an item leads to nothing new from the nonterminals that were entered from the state `before`: it can shift none of them, or its edge is there, and where it is at its beginning its own nonterminal is one of them.
-fn is_passed(
-    grammar: &[u16],
-    productions: usize,
-    least: &[u8],
-    flags: &[u64],
-    entered: &[u64],
-    before: usize,
-    production: usize,
-    index: usize,
-) -> bool
-    requires by_index { (t : List ℕ) × (Working t grammar.now productions least.now × ItemFits (meaning t) (record { production = production; index = index })) }
-    requires flags_len { (length flags.now ≡ key_words) × (length entered.now ≡ pair_words) × (before < state_limit) }
-    ensures { result ≡ true → (t : List ℕ) → Working t grammar.now productions least.now → ItemFits (meaning t) (record { production = production; index = index }) → (ws : List ℕ) (es : List TraceEdge) → Coded (meaning t) ws flags.now es → ItemPassed (meaning t) (λ n. bit_at entered.now (before * nonterminal_limit + n)) es (record { production = production; index = index }) }
+fn is_passed(tracer: Tracer, trace: &OpenTrace, before: usize, item: Item) -> bool
+    requires { ItemFits (meaning tracer.table.words.now) (record { production = item.production; index = item.index }) × (before < state_limit) }
+    ensures { result ≡ true → (ws : List ℕ) (es : List TraceEdge) → Coded (meaning tracer.entry.table.words.now) ws trace.now.edges.flags es → ItemPassed (meaning tracer.entry.table.words.now) (λ n. bit_at trace.now.entered (before * nonterminal_limit + n)) es (record { production = item.production; index = item.index }) }
 {
-    let item = Item {
-        production: production,
-        index: index,
-    };
-    let nonterminal = item.cursor(Grammar { words: grammar, productions });
+    let nonterminal = item.cursor(tracer.grammar);
     if nonterminal >= NonterminalString::LIMIT {
         return true;
     }
-    if !is_set(entered, before * NonterminalString::LIMIT + nonterminal) {
+    if !is_set(&trace.entered, before * NonterminalString::LIMIT + nonterminal) {
         return true;
     }
-    if !is_known(least, flags, production, index) {
+    if !is_known(tracer, &trace.edges, item) {
         return false;
     }
-    if index > 0 {
+    if item.index > 0 {
         return true;
     }
-    let owner = word(grammar, production * ProductionIndex::WORDS);
-    is_set(entered, before * NonterminalString::LIMIT + owner)
+    let owner = tracer.grammar.owner(item.production);
+    is_set(&trace.entered, before * NonterminalString::LIMIT + owner)
 }
 
 // Records from which on the items of a state that was passed over may be those of others too (0: none): of the last such state, and of one before it with another.
@@ -177,41 +147,27 @@ impl Known {
 
 // Whether the items of a state lead to nothing new from the nonterminals that were entered from the state `before`, where those from a known record on do not.
 fn adds_nothing(
-    table: &[u16],
-    grammar: &[u16],
-    productions: usize,
-    least: &[u8],
-    flags: &[u64],
-    entered: &[u64],
+    tracer: Tracer,
+    trace: &OpenTrace,
     before: usize,
     known: Known,
     state: usize,
 ) -> bool
-    requires working { Working table.now grammar.now productions least.now }
-    requires flags_len { (length flags.now ≡ key_words) × (length entered.now ≡ pair_words) × (before < state_limit) × (state < length (meaning table.now).states) }
-    requires clear { Clear table.now flags.now entered.now before (items_from table.now known.last) × Clear table.now flags.now entered.now before (items_from table.now known.earlier) }
-    ensures { result ≡ true → Clear table.now flags.now entered.now before (state_at (meaning table.now) state).items }
+    requires within { (before < state_limit) × (state < length (meaning tracer.table.words.now).states) }
+    requires clear { Clear tracer.table.words.now trace.now.edges.flags trace.now.entered before (items_from tracer.table.words.now known.last) × Clear tracer.table.words.now trace.now.edges.flags trace.now.entered before (items_from tracer.table.words.now known.earlier) }
+    ensures { result ≡ true → Clear tracer.entry.table.words.now trace.now.edges.flags trace.now.entered before (state_at (meaning tracer.entry.table.words.now) state).items }
 {
     let last = known.last;
     let earlier = known.earlier;
-    let mut at = first_item(table, state);
-    while at != 0 {
-        if at == last || at == earlier {
+    for read in tracer.table.items(state) {
+        if read.at == last || read.at == earlier {
             return true;
         }
-        let read = item(table, at);
-        let production = read.production;
-        let index = read.index;
-        at = read.next;
-        if !is_passed(
-            Grammar { words: grammar, productions },
-            least,
-            flags,
-            entered,
-            before,
-            production,
-            index,
-        ) {
+        let item = Item {
+            production: read.production,
+            index: read.index,
+        };
+        if !is_passed(tracer, trace, before, item) {
             return false;
         }
     }
@@ -220,250 +176,136 @@ fn adds_nothing(
 
 // Whether a state can be passed over: the nonterminal was entered from the state `before`, which is StateIndex::LIMIT where none was traced yet, and the items add nothing to what was entered there.
 fn passes_over(
-    table: &[u16],
-    grammar: &[u16],
-    productions: usize,
-    least: &[u8],
-    flags: &[u64],
-    entered: &[u64],
+    tracer: Tracer,
+    trace: &OpenTrace,
     before: usize,
     known: Known,
     state: usize,
     nonterminal: usize,
 ) -> bool
-    requires working { Working table.now grammar.now productions least.now }
-    requires flags_len { (length flags.now ≡ key_words) × (length entered.now ≡ pair_words) }
-    requires state_in_bounds { (state < length (meaning table.now).states) × (nonterminal < length (meaning table.now).nonterminals) }
-    requires clear { Clear table.now flags.now entered.now before (items_from table.now known.last) × Clear table.now flags.now entered.now before (items_from table.now known.earlier) }
-    ensures nonterminal_value { result ≡ true → bit_at entered.now (before * nonterminal_limit + nonterminal) ≡ true }
-    ensures clear_2 { result ≡ true → Clear table.now flags.now entered.now before (state_at (meaning table.now) state).items }
+    requires within { (state < length (meaning tracer.table.words.now).states) × (nonterminal < length (meaning tracer.table.words.now).nonterminals) }
+    requires clear { Clear tracer.table.words.now trace.now.edges.flags trace.now.entered before (items_from tracer.table.words.now known.last) × Clear tracer.table.words.now trace.now.edges.flags trace.now.entered before (items_from tracer.table.words.now known.earlier) }
+    ensures nonterminal_value { result ≡ true → bit_at trace.now.entered (before * nonterminal_limit + nonterminal) ≡ true }
+    ensures clear_2 { result ≡ true → Clear tracer.entry.table.words.now trace.now.edges.flags trace.now.entered before (state_at (meaning tracer.entry.table.words.now) state).items }
 {
     if before >= StateIndex::LIMIT {
         return false;
     }
-    if !is_set(entered, before * NonterminalString::LIMIT + nonterminal) {
+    if !is_set(&trace.entered, before * NonterminalString::LIMIT + nonterminal) {
         return false;
     }
-    adds_nothing(
-        table,
-        Grammar { words: grammar, productions },
-        least,
-        flags,
-        entered,
-        before,
-        known,
-        state,
-    )
+    adds_nothing(tracer, trace, before, known, state)
 }
 
 // Each state of the set in turn, ascending. A state whose items add nothing is passed over: `before` is the state traced last, `known` has records of states passed over since, 64 on from their first, since 128 states cannot have more records of their own each. The lists of two tails are kept from state to state.
-fn trace_each(
-    table: &[u16],
-    grammar: &[u16],
-    productions: usize,
-    least: &[u8],
-    words: &mut [u16],
-    flags: &mut [u64],
-    entered: &mut [u64],
+fn trace_each<const N: usize>(
+    tracer: Tracer,
+    trace: &mut OpenTrace,
     states: StateSet,
     nonterminal: usize,
-    records: &mut [u16],
-    links: &mut [u16],
-    others: &mut [u16],
-    other_links: &mut [u16],
+    tail: &mut TailList<N>,
+    other: &mut TailList<N>,
 ) -> Result<(), Full>
-    requires working { Working table.now grammar.now productions least.now }
-    requires words_len { (length words.old ≡ codes_room) × (length flags.old ≡ key_words) × (entered.old ≡ replicate pair_words 0) }
-    requires by_index { ((s : ℕ) → mem s (states_in states.low states.high) ≡ true → s < length (meaning table.now).states) × (nonterminal < length (meaning table.now).nonterminals) }
-    requires two_tails { TwoTails table.now records.old links.old others.old other_links.old }
-    ensures coded { OnOk result ((es : List TraceEdge) → Coded (meaning table.now) words.old flags.old es → Coded (meaning table.now) words.new flags.new (in_turn (λ p u. epsilon (meaning table.now) pairs p nonterminal u) (states_in states.low states.high) (record { edges = es; seen = [] })).edges) }
-    ensures edge_limit_in_bounds { OnErr result ((es : List TraceEdge) → Coded (meaning table.now) words.old flags.old es → edge_limit < length (in_turn (λ p u. epsilon (meaning table.now) pairs p nonterminal u) (states_in states.low states.high) (record { edges = es; seen = [] })).edges) }
+    requires entered { trace.old.entered ≡ replicate pair_words 0 }
+    requires within { ((s : ℕ) → mem s (states_in states.low states.high) ≡ true → s < length (meaning tracer.table.words.now).states) × (nonterminal < length (meaning tracer.table.words.now).nonterminals) }
+    requires two_tails { TwoTails tracer.table.words.now tail.old.records tail.old.links other.old.records other.old.links }
+    ensures coded { OnOk result ((es : List TraceEdge) → Coded (meaning tracer.entry.table.words.now) trace.old.edges.words trace.old.edges.flags es → Coded (meaning tracer.entry.table.words.now) trace.new.edges.words trace.new.edges.flags (in_turn (λ p u. epsilon (meaning tracer.entry.table.words.now) pairs p nonterminal u) (states_in states.low states.high) (record { edges = es; seen = [] })).edges) }
+    ensures full { OnErr result ((es : List TraceEdge) → Coded (meaning tracer.entry.table.words.now) trace.old.edges.words trace.old.edges.flags es → edge_limit < length (in_turn (λ p u. epsilon (meaning tracer.entry.table.words.now) pairs p nonterminal u) (states_in states.low states.high) (record { edges = es; seen = [] })).edges) }
 {
-    let mut rest = states;
     let mut before = StateIndex::LIMIT;
     let mut known = Known {
         last: 0,
         earlier: 0,
     };
-    loop {
-        match rest.next() {
-            NextState::State(state, left) => {
-                rest = left;
-                let from = state.0 as usize;
-                if passes_over(
-                    table,
-                    Grammar { words: grammar, productions },
-                    least,
-                    flags,
-                    entered,
-                    before,
-                    known,
-                    from,
-                    nonterminal,
-                ) {
-                    known = known.with(ahead(table, first_item(table, from), TailList::AHEAD));
-                    continue;
-                }
-                list_tail(
-                    table,
-                    Grammar { words: grammar, productions },
-                    first_item(table, from),
-                    records,
-                    links,
-                    others,
-                    other_links,
-                );
-                trace_epsilon(
-                    table,
-                    Grammar { words: grammar, productions },
-                    least,
-                    words,
-                    flags,
-                    entered,
-                    from,
-                    nonterminal,
-                    records,
-                    links,
-                )?;
-                before = from;
-                known = Known {
-                    last: 0,
-                    earlier: 0,
-                };
-            }
-            NextState::Done => {
-                return Ok(());
-            }
+    for state in states.iter() {
+        let from = state.0 as usize;
+        let first = tracer.table.first_item(from);
+        if passes_over(tracer, trace, before, known, from, nonterminal) {
+            known = known.with(ahead(tracer.table, first, TAIL_AHEAD));
+            continue;
         }
+        list_tail(
+            tracer,
+            first,
+            &mut tail.records,
+            &mut tail.links,
+            &mut other.records,
+            &mut other.links,
+        );
+        trace_epsilon(tracer, trace, &tail.records, &tail.links, from, nonterminal)?;
+        before = from;
+        known = Known {
+            last: 0,
+            earlier: 0,
+        };
     }
+    Ok(())
 }
 
 // The states of the set in turn. Only a table that is not short has tails that are worth a list.
-pub fn trace_states(
-    table: &[u16],
-    grammar: &[u16],
-    productions: usize,
-    least: &[u8],
-    words: &mut [u16],
-    flags: &mut [u64],
-    entered: &mut [u64],
+fn trace_states(
+    tracer: Tracer,
+    trace: &mut OpenTrace,
     states: StateSet,
     nonterminal: usize,
 ) -> Result<(), Full>
-    requires working { Working table.now grammar.now productions least.now }
-    requires words_len { (length words.old ≡ codes_room) × (length flags.old ≡ key_words) × (entered.old ≡ replicate pair_words 0) }
-    requires by_index { ((s : ℕ) → mem s (states_in states.low states.high) ≡ true → s < length (meaning table.now).states) × (nonterminal < length (meaning table.now).nonterminals) }
-    ensures coded { OnOk result ((es : List TraceEdge) → Coded (meaning table.now) words.old flags.old es → Coded (meaning table.now) words.new flags.new (in_turn (λ p u. epsilon (meaning table.now) pairs p nonterminal u) (states_in states.low states.high) (record { edges = es; seen = [] })).edges) }
-    ensures edge_limit_in_bounds { OnErr result ((es : List TraceEdge) → Coded (meaning table.now) words.old flags.old es → edge_limit < length (in_turn (λ p u. epsilon (meaning table.now) pairs p nonterminal u) (states_in states.low states.high) (record { edges = es; seen = [] })).edges) }
+    requires entered { trace.old.entered ≡ replicate pair_words 0 }
+    requires within { ((s : ℕ) → mem s (states_in states.low states.high) ≡ true → s < length (meaning tracer.table.words.now).states) × (nonterminal < length (meaning tracer.table.words.now).nonterminals) }
+    ensures coded { OnOk result ((es : List TraceEdge) → Coded (meaning tracer.entry.table.words.now) trace.old.edges.words trace.old.edges.flags es → Coded (meaning tracer.entry.table.words.now) trace.new.edges.words trace.new.edges.flags (in_turn (λ p u. epsilon (meaning tracer.entry.table.words.now) pairs p nonterminal u) (states_in states.low states.high) (record { edges = es; seen = [] })).edges) }
+    ensures full { OnErr result ((es : List TraceEdge) → Coded (meaning tracer.entry.table.words.now) trace.old.edges.words trace.old.edges.flags es → edge_limit < length (in_turn (λ p u. epsilon (meaning tracer.entry.table.words.now) pairs p nonterminal u) (states_in states.low states.high) (record { edges = es; seen = [] })).edges) }
 {
-    if table.len() < TailList::SHORT {
-        let mut records = [0u16; 2];
-        let mut links = [0u16; 2];
-        let mut others = [0u16; 2];
-        let mut other_links = [0u16; 2];
-        return trace_each(
-            table,
-            Grammar { words: grammar, productions },
-            least,
-            words,
-            flags,
-            entered,
-            states,
-            nonterminal,
-            &mut records,
-            &mut links,
-            &mut others,
-            &mut other_links,
-        );
+    let table = tracer.table;
+    if table.words.len() < SHORT_TABLE {
+        let mut tail = TailList {
+            records: [0u16; 2],
+            links: [0u16; 2],
+        };
+        let mut other = TailList {
+            records: [0u16; 2],
+            links: [0u16; 2],
+        };
+        return trace_each(tracer, trace, states, nonterminal, &mut tail, &mut other);
     }
-    let mut records = [0u16; TailList::WORDS];
-    let mut links = [0u16; TailList::WORDS];
-    let mut others = [0u16; TailList::WORDS];
-    let mut other_links = [0u16; TailList::WORDS];
-    trace_each(
-        table,
-        Grammar { words: grammar, productions },
-        least,
-        words,
-        flags,
-        entered,
-        states,
-        nonterminal,
-        &mut records,
-        &mut links,
-        &mut others,
-        &mut other_links,
-    )
+    let mut tail = TailList {
+        records: [0u16; LIST_WORDS],
+        links: [0u16; LIST_WORDS],
+    };
+    let mut other = TailList {
+        records: [0u16; LIST_WORDS],
+        links: [0u16; LIST_WORDS],
+    };
+    trace_each(tracer, trace, states, nonterminal, &mut tail, &mut other)
 }
 
 // `trace_shift`: the edge from the item's nonterminal to the item, and then from each state that the walk over its prefix found.
-pub fn shift_over(
-    table: &[u16],
-    grammar: &[u16],
-    productions: usize,
-    least: &[u8],
-    words: &mut [u16],
-    flags: &mut [u64],
-    entered: &mut [u64],
+fn shift_over(
+    tracer: Tracer,
+    trace: &mut OpenTrace,
     states: StateSet,
-    production: usize,
-    index: usize,
+    item: Item,
 ) -> Result<(), Full>
-    requires working { Working table.now grammar.now productions least.now }
-    requires words_len { (length words.old ≡ codes_room) × (length flags.old ≡ key_words) × (entered.old ≡ replicate pair_words 0) }
-    requires by_index { ((s : ℕ) → mem s (states_in states.low states.high) ≡ true → s < length (meaning table.now).states) × ItemFits (meaning table.now) (record { production = production; index = index }) }
-    ensures coded { OnOk result ((es : List TraceEdge) → Coded (meaning table.now) words.old flags.old es → Coded (meaning table.now) words.new flags.new (in_turn (λ p u. epsilon (meaning table.now) pairs p (owner_of (meaning table.now) (record { production = production; index = index })) u) (states_in states.low states.high) (add_to (meaning table.now) (at_nonterminal (owner_of (meaning table.now) (record { production = production; index = index }))) (at_item (record { production = production; index = index })) (record { production = production; index = index }) (record { edges = es; seen = [] }))).edges) }
-    ensures edge_limit_in_bounds { OnErr result ((es : List TraceEdge) → Coded (meaning table.now) words.old flags.old es → edge_limit < length (in_turn (λ p u. epsilon (meaning table.now) pairs p (owner_of (meaning table.now) (record { production = production; index = index })) u) (states_in states.low states.high) (add_to (meaning table.now) (at_nonterminal (owner_of (meaning table.now) (record { production = production; index = index }))) (at_item (record { production = production; index = index })) (record { production = production; index = index }) (record { edges = es; seen = [] }))).edges) }
+    requires entered { trace.old.entered ≡ replicate pair_words 0 }
+    requires within { ((s : ℕ) → mem s (states_in states.low states.high) ≡ true → s < length (meaning tracer.table.words.now).states) × ItemFits (meaning tracer.table.words.now) (record { production = item.production; index = item.index }) }
+    ensures coded { OnOk result ((es : List TraceEdge) → Coded (meaning tracer.entry.table.words.now) trace.old.edges.words trace.old.edges.flags es → Coded (meaning tracer.entry.table.words.now) trace.new.edges.words trace.new.edges.flags (in_turn (λ p u. epsilon (meaning tracer.entry.table.words.now) pairs p (owner_of (meaning tracer.entry.table.words.now) (record { production = item.production; index = item.index })) u) (states_in states.low states.high) (add_to (meaning tracer.entry.table.words.now) (at_nonterminal (owner_of (meaning tracer.entry.table.words.now) (record { production = item.production; index = item.index }))) (at_item (record { production = item.production; index = item.index })) (record { production = item.production; index = item.index }) (record { edges = es; seen = [] }))).edges) }
+    ensures full { OnErr result ((es : List TraceEdge) → Coded (meaning tracer.entry.table.words.now) trace.old.edges.words trace.old.edges.flags es → edge_limit < length (in_turn (λ p u. epsilon (meaning tracer.entry.table.words.now) pairs p (owner_of (meaning tracer.entry.table.words.now) (record { production = item.production; index = item.index })) u) (states_in states.low states.high) (add_to (meaning tracer.entry.table.words.now) (at_nonterminal (owner_of (meaning tracer.entry.table.words.now) (record { production = item.production; index = item.index }))) (at_item (record { production = item.production; index = item.index })) (record { production = item.production; index = item.index }) (record { edges = es; seen = [] }))).edges) }
 {
-    to_item(least, words, flags, production, index)?;
-    let owner = word(grammar, production * ProductionIndex::WORDS);
-    trace_states(
-        table,
-        Grammar { words: grammar, productions },
-        least,
-        words,
-        flags,
-        entered,
-        states,
-        owner,
-    )
+    to_item(tracer, &mut trace.edges, item)?;
+    let owner = tracer.grammar.owner(item.production);
+    trace_states(tracer, trace, states, owner)
 }
 
-// `backtrace_shift`: the words may hold anything before; the flags of keys and of entered pairs are its own.
+// `backtrace_shift`: the trace may hold anything before.
 pub fn shift_codes(
-    table: &[u16],
-    grammar: &[u16],
-    productions: usize,
-    least: &[u8],
-    words: &mut [u16],
+    tracer: Tracer,
     state: usize,
-    production: usize,
-    index: usize,
+    item: Item,
+    trace: &mut OpenTrace,
 ) -> Result<(), Full>
-    requires working { Working table.now grammar.now productions least.now }
-    requires words_len { length words.old ≡ codes_room }
-    requires state_in_bounds { (state < length (meaning table.now).states) × ItemFits (meaning table.now) (record { production = production; index = index }) }
-    ensures by_index { OnOk result ((fs : List ℕ) × Coded (meaning table.now) words.new fs (shift_edges (meaning table.now) state (record { production = production; index = index }))) }
-    ensures edge_limit_in_bounds { OnErr result (edge_limit < length (shift_edges (meaning table.now) state (record { production = production; index = index }))) }
+    requires within { (state < length (meaning tracer.table.words.now).states) × ItemFits (meaning tracer.table.words.now) (record { production = item.production; index = item.index }) }
+    ensures coded { OnOk result (Coded (meaning tracer.entry.table.words.now) trace.new.edges.words trace.new.edges.flags (shift_edges (meaning tracer.entry.table.words.now) state (record { production = item.production; index = item.index }))) }
+    ensures full { OnErr result (edge_limit < length (shift_edges (meaning tracer.entry.table.words.now) state (record { production = item.production; index = item.index }))) }
 {
-    let empty = TraceGraph::new();
-    words[0] = empty.edges as u16;
-    let item = Item {
-        production: production,
-        index: index,
-    };
-    let states = trace_back(table, state, prefix(Grammar { words: grammar, productions }, item));
-    let mut flags = [0u64; EdgeCode::KEY_WORDS];
-    let mut entered = [0u64; EdgeCode::PAIR_WORDS];
-    shift_over(
-        table,
-        Grammar { words: grammar, productions },
-        least,
-        words,
-        &mut flags,
-        &mut entered,
-        states,
-        production,
-        index,
-    )
+    trace.clear();
+    let states = trace_back(tracer.table, state, prefix(tracer.grammar, item));
+    shift_over(tracer, trace, states, item)
 }

@@ -1,41 +1,52 @@
 // Stamps of items: from which state an item was last traced on. The items of a state that many pairs enter are traced on once from it, not once for each pair.
-ghost use Rattle.std.specs.Prelude.{◌≡◌, ℕ, ◌+◌, ◌*◌, ◌<◌, length, ◌≢◌};
+ghost use Rattle.std.specs.Prelude.{◌≡◌, ℕ, ◌+◌, ◌*◌, ◌<◌, replicate, ◌≢◌};
 ghost use Rattle.repr.specs.Sizes.{production_limit, index_limit};
 ghost use Rattle.tracer.specs.Stamps.{stamp_words, stamp_read_at};
 
+use lr1_core::Item;
 use repr::{ProductionIndex, word};
 
-// Two stamps.
-#[derive(Clone, Copy)]
-pub struct Stamps(pub u16);
+// A byte for each item, two to a word.
+#[derive(Drop)]
+pub struct Stamps {
+    pub words: [u16; Stamps::WORDS],
+}
 
 impl Stamps {
     pub const WORDS: usize = 1088;
-}
 
-pub fn stamp_at(stamps: &[u16], production: usize, index: usize) -> usize
-    requires { (production < production_limit) × (index < index_limit) × (length stamps.now ≡ stamp_words) }
-    ensures { result ≡ stamp_read_at stamps.now (production * index_limit + index) }
-{
-    let code = production * ProductionIndex::INDEXES + index;
-    let both = word(stamps, code / 2);
-    if code % 2 == 0 {
-        return both % 256;
+    pub fn new() -> Stamps
+        ensures { result.words ≡ replicate stamp_words 0 }
+    {
+        Stamps {
+            words: [0u16; Stamps::WORDS],
+        }
     }
-    both / 256
-}
 
-pub fn put_stamp(stamps: &mut [u16], production: usize, index: usize, stamp: usize)
-    requires { (production < production_limit) × (index < index_limit) × (length stamps.old ≡ stamp_words) × (stamp < 256) }
-    ensures index_after { stamp_read_at stamps.new (production * index_limit + index) ≡ stamp }
-    ensures by_index { (c : ℕ) → (c ≢ production * index_limit + index) → stamp_read_at stamps.new c ≡ stamp_read_at stamps.old c }
-{
-    let code = production * ProductionIndex::INDEXES + index;
-    let at = code / 2;
-    let both = word(stamps, at);
-    if code % 2 == 0 {
-        stamps[at] = (both / 256 * 256 + stamp) as u16;
-        return;
+    pub fn at(&self, item: Item) -> usize
+        requires { (item.production < production_limit) × (item.index < index_limit) }
+        ensures { result ≡ stamp_read_at self.now.words (item.production * index_limit + item.index) }
+    {
+        let code = item.production * ProductionIndex::INDEXES + item.index;
+        let both = word(&self.words, code / 2);
+        if code % 2 == 0 {
+            return both % 256;
+        }
+        both / 256
     }
-    stamps[at] = (stamp * 256 + both % 256) as u16;
+
+    pub fn put(&mut self, item: Item, stamp: usize)
+        requires { (item.production < production_limit) × (item.index < index_limit) × (stamp < 256) }
+        ensures index_after { stamp_read_at self.new.words (item.production * index_limit + item.index) ≡ stamp }
+        ensures by_index { (c : ℕ) → (c ≢ item.production * index_limit + item.index) → stamp_read_at self.new.words c ≡ stamp_read_at self.old.words c }
+    {
+        let code = item.production * ProductionIndex::INDEXES + item.index;
+        let at = code / 2;
+        let both = word(&self.words, at);
+        if code % 2 == 0 {
+            self.words[at] = (both / 256 * 256 + stamp) as u16;
+            return;
+        }
+        self.words[at] = (stamp * 256 + both % 256) as u16;
+    }
 }

@@ -1,20 +1,18 @@
 // The items of a chain's tail that have a nonterminal at the cursor, each once and by nonterminal: read in the tail's place, which is long where it is listed and may be that of many states.
-// `records`: word 1 is the record that the tail begins with (0: none is listed), and from slot TailList::FIRST on the listed records stand in their order; word 0 is 0, the record of no slot.
+// `records`: word 1 is the record that the tail begins with (0: none is listed), and from slot FIRST_SLOT on the listed records stand in their order; word 0 is 0, the record of no slot.
 // `links`: of each nonterminal the first slot, of each slot the next with the same nonterminal; 0 where there is none.
 // `others`, `other_links`: the same of the tail that was used before, so that two long chains by turns are each listed once.
 ghost use Rattle.std.specs.Prelude.{◌≡◌, ℕ, ◌+◌, ◌*◌, ◌<◌, ◌≤◌, List, length, drop, ◌≢◌, slice_index};
 ghost use Rattle.repr.specs.Sizes.{nonterminal_limit};
-ghost use Rattle.table.specs.Checked.{Accepted};
 ghost use Rattle.table.specs.Decoded.{items_from};
 ghost use Rattle.table.specs.Index.{ItemIndex};
-ghost use Rattle.table.specs.Refusals.{check_of};
-ghost use Rattle.tracer.specs.Held.{Working};
 ghost use Rattle.tracer.specs.Tails.{tail_words, first_slot, Collected, Linked, Usable, TwoTails, Begins, Follows};
 
+use crate::Tracer;
 use bits::{is_set, put};
 use lr1_core::Item;
-use repr::{Grammar, NonterminalString, ProductionIndex, word};
-use table::item;
+use repr::{NonterminalString, ProductionIndex, word};
+use table::{AcceptedTable, ItemIter};
 
 // A slot and its record, or slot 0 and a record of the chain; record 0 is the end.
 // Numbers as the table and the lists have them: an Option would be made of each word that is read.
@@ -24,74 +22,68 @@ pub struct Place {
     pub at: usize,
 }
 
-#[derive(Clone, Copy)]
-pub struct TailList(pub u16);
+// Words of each list.
+pub const LIST_WORDS: usize = 2000;
 
-impl TailList {
-    // Words of each list.
-    pub const WORDS: usize = 2000;
+// The slot of the first record: those before it are nonterminals.
+const FIRST_SLOT: usize = NonterminalString::LIMIT;
 
-    // The slot of the first record: those before it are nonterminals.
-    pub const FIRST: usize = NonterminalString::LIMIT;
+// A tail begins so many records into a chain: 128 states cannot have more records of their own each.
+pub const TAIL_AHEAD: usize = 64;
 
-    // A tail begins so many records into a chain: 128 states cannot have more records of their own each.
-    pub const AHEAD: usize = 64;
+// Words of a table that is too short for tails that are read often to matter.
+pub const SHORT_TABLE: usize = 2560;
 
-    // Words of a table that is too short for tails that are read often to matter.
-    pub const SHORT: usize = 2560;
+// A listed tail in N words each.
+#[derive(Drop)]
+pub struct TailList<const N: usize> {
+    pub records: [u16; N],
+    pub links: [u16; N],
 }
 
-// The record `most` further along a chain of items, its first record where the chain ends before.
-pub fn ahead(table: &[u16], first: usize, most: usize) -> usize
-    requires { (check_of table.now ≡ Accepted) × ItemIndex table.now first }
-    ensures { ((k : ℕ) × (items_from table.now result ≡ drop k (items_from table.now first))) × ItemIndex table.now result }
+// The record `most` further along a chain of items, its first record where the chain ends before. Records are numbers here: one is answered.
+pub fn ahead(table: AcceptedTable, first: usize, most: usize) -> usize
+    requires { ItemIndex table.words.now first }
+    ensures { ((k : ℕ) × (items_from table.entry.words.now result ≡ drop k (items_from table.entry.words.now first))) × ItemIndex table.entry.words.now result }
 {
     let mut at = first;
     for _ in 0..most {
         if at == 0 {
             return first;
         }
-        at = item(table, at).next;
+        at = table.item(at).next;
     }
     at
 }
 
 // Puts each item of the tail that has a nonterminal at the cursor into a slot where it is met first. The answer is the slot behind the last; 0 where there are too many.
-fn collect(
-    table: &[u16],
-    grammar: &[u16],
-    productions: usize,
-    tail: usize,
-    records: &mut [u16],
-) -> usize
-    requires { ((ls : List ℕ) × Working table.now grammar.now productions ls) × ItemIndex table.now tail × (length records.old ≡ tail_words) }
-    ensures { (result ≢ 0) → Collected table.now records.new tail result }
+fn collect(tracer: Tracer, tail: usize, records: &mut [u16]) -> usize
+    requires { ItemIndex tracer.table.words.now tail × (length records.old ≡ tail_words) }
+    ensures { (result ≢ 0) → Collected tracer.entry.table.words.now records.new tail result }
 {
     let mut met = [0u64; Item::FLAG_WORDS];
-    let mut count = TailList::FIRST;
-    let mut at = tail;
-    while at != 0 {
-        let here = at;
-        let read = item(table, here);
-        at = read.next;
-        let production = read.production;
-        let index = read.index;
-        let this = Item {
-            production: production,
-            index: index,
+    let mut count = FIRST_SLOT;
+    let items = ItemIter {
+        table: tracer.table,
+        at: tail,
+    };
+    for read in items {
+        let item = Item {
+            production: read.production,
+            index: read.index,
         };
-        if this.cursor(Grammar { words: grammar, productions }) >= NonterminalString::LIMIT {
+        if item.cursor(tracer.grammar) >= NonterminalString::LIMIT {
             continue;
         }
-        let code = production * ProductionIndex::INDEXES + index;
+        let code = read.production * ProductionIndex::INDEXES + read.index;
         if is_set(&met, code) {
             continue;
         }
-        if count >= TailList::WORDS {
+        if count >= LIST_WORDS {
             return 0;
         }
         put(&mut met, code);
-        records[count] = here as u16;
+        records[count] = read.at as u16;
         count += 1;
     }
     count
@@ -106,25 +98,18 @@ fn unlink(links: &mut [u16])
 }
 
 // Links the slots before `count` from the last on: each to the one that its nonterminal has so far.
-fn link(
-    table: &[u16],
-    grammar: &[u16],
-    productions: usize,
-    records: &[u16],
-    count: usize,
-    links: &mut [u16],
-)
-    requires { ((ls : List ℕ) × Working table.now grammar.now productions ls) × ((tail : ℕ) × Collected table.now records.now tail count) × (length links.old ≡ tail_words) }
-    ensures { Linked table.now records.now links.new count first_slot }
+fn link(tracer: Tracer, records: &[u16], count: usize, links: &mut [u16])
+    requires { ((tail : ℕ) × Collected tracer.table.words.now records.now tail count) × (length links.old ≡ tail_words) }
+    ensures { Linked tracer.entry.table.words.now records.now links.new count first_slot }
 {
     unlink(links);
-    for k in (TailList::FIRST..count).rev() {
-        let read = item(table, word(records, k));
-        let this = Item {
+    for k in (FIRST_SLOT..count).rev() {
+        let read = tracer.table.item(word(records, k));
+        let item = Item {
             production: read.production,
             index: read.index,
         };
-        let nonterminal = this.cursor(Grammar { words: grammar, productions });
+        let nonterminal = item.cursor(tracer.grammar);
         if nonterminal < NonterminalString::LIMIT {
             let next = links[nonterminal];
             links[k] = next;
@@ -134,91 +119,75 @@ fn link(
 }
 
 // Lists a tail; none where it has too many items.
-fn fill(
-    table: &[u16],
-    grammar: &[u16],
-    productions: usize,
-    tail: usize,
-    records: &mut [u16],
-    links: &mut [u16],
-)
-    requires by_index { ((ls : List ℕ) × Working table.now grammar.now productions ls) × ItemIndex table.now tail }
+fn fill(tracer: Tracer, tail: usize, records: &mut [u16], links: &mut [u16])
+    requires on { ItemIndex tracer.table.words.now tail }
     requires records_len { (length records.old ≡ tail_words) × (length links.old ≡ tail_words) }
-    ensures { Usable table.now records.new links.new }
+    ensures { Usable tracer.entry.table.words.now records.new links.new }
 {
-    let count = collect(table, Grammar { words: grammar, productions }, tail, records);
+    let count = collect(tracer, tail, records);
     records[0] = 0;
     records[1] = 0;
     if count == 0 {
         return;
     }
-    link(table, Grammar { words: grammar, productions }, records, count, links);
+    link(tracer, records, count, links);
     records[1] = tail as u16;
 }
 
-// Whether a chain comes to the record `tail` within TailList::AHEAD records. Records follow in ascending order.
-fn meets(table: &[u16], first: usize, tail: usize) -> bool
-    requires { (check_of table.now ≡ Accepted) × ItemIndex table.now first }
+// Whether a chain comes to the record `tail` within TAIL_AHEAD records. Records follow in ascending order.
+fn meets(table: AcceptedTable, first: usize, tail: usize) -> bool
+    requires { ItemIndex table.words.now first }
 {
     let mut at = first;
-    for _ in 0..TailList::AHEAD {
+    for _ in 0..TAIL_AHEAD {
         if at == 0 {
             return false;
         }
         if at >= tail {
             return at == tail;
         }
-        at = item(table, at).next;
+        at = table.item(at).next;
     }
     at == tail
 }
 
 // Lists the tail of a chain over the one that is listed, unless that is it. False: the chain has no tail, and the lists are as they were.
-fn relist(
-    table: &[u16],
-    grammar: &[u16],
-    productions: usize,
-    first: usize,
-    records: &mut [u16],
-    links: &mut [u16],
-) -> bool
-    requires by_index { ((ls : List ℕ) × Working table.now grammar.now productions ls) × ItemIndex table.now first }
-    requires records_len { (length records.old ≡ tail_words) × (length links.old ≡ tail_words) × Usable table.now records.old links.old }
-    ensures { Usable table.now records.new links.new }
+fn relist(tracer: Tracer, first: usize, records: &mut [u16], links: &mut [u16]) -> bool
+    requires on { ItemIndex tracer.table.words.now first }
+    requires records_len { (length records.old ≡ tail_words) × (length links.old ≡ tail_words) × Usable tracer.table.words.now records.old links.old }
+    ensures { Usable tracer.entry.table.words.now records.new links.new }
 {
-    if meets(table, first, word(records, 1)) {
+    if meets(tracer.table, first, word(records, 1)) {
         return true;
     }
-    let tail = ahead(table, first, TailList::AHEAD);
+    let tail = ahead(tracer.table, first, TAIL_AHEAD);
     if tail == first {
         return false;
     }
-    fill(table, Grammar { words: grammar, productions }, tail, records, links);
+    fill(tracer, tail, records, links);
     true
 }
 
 // Sees to it that the tail of a long chain is listed in `records` and `links`, where there is room for lists. The tail that was listed there goes to `others` and `other_links`; a tail that neither has is listed over the older one.
 pub fn list_tail(
-    table: &[u16],
-    grammar: &[u16],
-    productions: usize,
+    tracer: Tracer,
     first: usize,
     records: &mut [u16],
     links: &mut [u16],
     others: &mut [u16],
     other_links: &mut [u16],
 )
-    requires by_index { ((ls : List ℕ) × Working table.now grammar.now productions ls) × ItemIndex table.now first }
-    requires two_tails { TwoTails table.now records.old links.old others.old other_links.old }
-    ensures { TwoTails table.now records.new links.new others.new other_links.new }
+    requires on { ItemIndex tracer.table.words.now first }
+    requires two_tails { TwoTails tracer.table.words.now records.old links.old others.old other_links.old }
+    ensures { TwoTails tracer.entry.table.words.now records.new links.new others.new other_links.new }
 {
-    if records.len() < TailList::WORDS {
+    if records.len() < LIST_WORDS {
         return;
     }
-    if meets(table, first, word(records, 1)) {
+    if meets(tracer.table, first, word(records, 1)) {
         return;
     }
-    if !relist(table, Grammar { words: grammar, productions }, first, others, other_links) {
+    if !relist(tracer, first, others, other_links) {
         return;
     }
     records.swap_with_slice(others);

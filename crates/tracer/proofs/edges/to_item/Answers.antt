@@ -1,10 +1,14 @@
 use Rattle.tracer.proofs.Answered.{on_ok, on_err}
-use Rattle.std.proofs.Common.{sym, ◌∙◌}
-use Rattle.trace_graph.specs.Graph.{at_nonterminal, at_item}
-use Rattle.trace.specs.Traced.{owner_of}
-use Rattle.tracer.proofs.Adding.{first_traced, first_code, first_key}
+use Rattle.std.proofs.Common.{refl}
+use Rattle.repr.specs.Meaning.{Item}
+use Rattle.table.specs.Decoded.{meaning}
+use Rattle.table.proofs.Decoding.{fits}
+use Rattle.codes.proofs.Keys.{label_small}
+use Rattle.tracer.proofs.Adding.{first_traced, first_code}
 use Rattle.tracer.proofs.edges.to_item.Goals as goal
 
--- src/lib.rt:36:1
+pub insert-requires : goal.insert-requires
+insert-requires c = let sm = label_small (meaning c.args.tracer.table.words.now) (fits c.args.tracer.table.words.now c.args.tracer.table.accepted) _ c.requires in (sm.0, sm.1, (c.args.tracer.working.least.long, c.args.tracer.working.small))
+
 pub returns : goal.returns
-returns c = record { coded = on_ok c.insert_code.result c.insert_code.ensures.coded (λ r T fits L h es C. r T fits es (record { source = at_nonterminal (owner_of T (record { production = c.args.production; index = c.args.index })); target = at_item (record { production = c.args.production; index = c.args.index }); label = (record { production = c.args.production; index = c.args.index }) }) C (first_traced T fits (record { production = c.args.production; index = c.args.index }) h) (c.code.ensures.0 ∙ sym (first_code T fits (record { production = c.args.production; index = c.args.index }) h)) (c.key.ensures.1 T.productions L h.production ∙ sym (first_key T fits (record { production = c.args.production; index = c.args.index }) h))); edge_limit_in_bounds = on_err c.insert_code.result c.insert_code.ensures.edge_limit_in_bounds (λ r T fits L h es C. r T fits es (record { source = at_nonterminal (owner_of T (record { production = c.args.production; index = c.args.index })); target = at_item (record { production = c.args.production; index = c.args.index }); label = (record { production = c.args.production; index = c.args.index }) }) C (first_traced T fits (record { production = c.args.production; index = c.args.index }) h) (c.code.ensures.0 ∙ sym (first_code T fits (record { production = c.args.production; index = c.args.index }) h)) (c.key.ensures.1 T.productions L h.production ∙ sym (first_key T fits (record { production = c.args.production; index = c.args.index }) h))) }
+returns c = let T = meaning c.args.tracer.table.words.now in let F = fits c.args.tracer.table.words.now c.args.tracer.table.accepted in let W = c.args.tracer.working in let i : Item = record { production = c.args.item.production; index = c.args.item.index } in record { coded = on_ok c.insert.result c.insert.ensures.coded (λ r es C. r T F W.least c.requires.production es _ C (first_traced T F i c.requires) (first_code T F i c.requires _ refl refl)); full = on_err c.insert.result c.insert.ensures.full (λ r es C. r T F W.least c.requires.production es _ C (first_traced T F i c.requires) (first_code T F i c.requires _ refl refl)) }

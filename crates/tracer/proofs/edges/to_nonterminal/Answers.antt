@@ -1,14 +1,20 @@
 use Rattle.tracer.proofs.Answered.{on_ok, on_err}
-use Rattle.std.proofs.Common.{◌∙◌}
-use Rattle.trace.specs.Traced.{owner_of}
-use Rattle.trace.specs.Edges.{edge_to_nonterminal}
-use Rattle.tracer.proofs.Adding.{way_traced, code_on, code_off, key_on, key_off}
+use Rattle.std.proofs.Common.{refl}
+use Rattle.repr.specs.Meaning.{Item}
+use Rattle.table.specs.Decoded.{meaning}
+use Rattle.table.proofs.Decoding.{fits}
+use Rattle.codes.proofs.Keys.{label_small}
+use Rattle.tracer.proofs.Adding.{way_traced, code_on, code_off}
 use Rattle.tracer.proofs.edges.to_nonterminal.Goals as goal
 
--- src/lib.rt:71:9
-pub returns-then-on : goal.returns-then-on
-returns-then-on c = record { coded = on_ok c.insert_code.result c.insert_code.ensures.coded (λ r T fits L n l h can es C. r T fits es (edge_to_nonterminal c.args.on (owner_of T (record { production = c.args.production; index = c.args.index })) n (record { production = c.args.production; index = c.args.index })) C (way_traced T fits (record { production = c.args.production; index = c.args.index }) n l h can c.args.on) (c.code.ensures.0 ∙ code_on T fits (record { production = c.args.production; index = c.args.index }) n l h can c.args.on c.if-on.true) (c.key.ensures.1 T.productions L h.production ∙ key_on T fits (record { production = c.args.production; index = c.args.index }) n l h can c.args.on c.if-on.true)); edge_limit_in_bounds = on_err c.insert_code.result c.insert_code.ensures.edge_limit_in_bounds (λ r T fits L n l h can es C. r T fits es (edge_to_nonterminal c.args.on (owner_of T (record { production = c.args.production; index = c.args.index })) n (record { production = c.args.production; index = c.args.index })) C (way_traced T fits (record { production = c.args.production; index = c.args.index }) n l h can c.args.on) (c.code.ensures.0 ∙ code_on T fits (record { production = c.args.production; index = c.args.index }) n l h can c.args.on c.if-on.true) (c.key.ensures.1 T.productions L h.production ∙ key_on T fits (record { production = c.args.production; index = c.args.index }) n l h can c.args.on c.if-on.true)) }
+pub insert-requires : goal.insert-requires
+insert-requires c = let sm = label_small (meaning c.args.tracer.table.words.now) (fits c.args.tracer.table.words.now c.args.tracer.table.accepted) _ c.requires in (sm.0, sm.1, (c.args.tracer.working.least.long, c.args.tracer.working.small))
 
--- src/lib.rt:57:1
+pub returns-then-on : goal.returns-then-on
+returns-then-on c = let T = meaning c.args.tracer.table.words.now in let F = fits c.args.tracer.table.words.now c.args.tracer.table.accepted in let W = c.args.tracer.working in let i : Item = record { production = c.args.item.production; index = c.args.item.index } in record { coded = on_ok c.insert.result c.insert.ensures.coded (λ r n l can es C. r T F W.least c.requires.production es _ C (way_traced T F i n l c.requires can c.args.on) (code_on T F i n l c.requires can c.args.on c.if-on.true _ refl refl)); full = on_err c.insert.result c.insert.ensures.full (λ r n l can es C. r T F W.least c.requires.production es _ C (way_traced T F i n l c.requires can c.args.on) (code_on T F i n l c.requires can c.args.on c.if-on.true _ refl refl)) }
+
+pub insert-requires-2 : goal.insert-requires-2
+insert-requires-2 c = let sm = label_small (meaning c.args.tracer.table.words.now) (fits c.args.tracer.table.words.now c.args.tracer.table.accepted) _ c.requires in (sm.0, sm.1, (c.args.tracer.working.least.long, c.args.tracer.working.small))
+
 pub returns : goal.returns
-returns c = record { coded = on_ok c.insert_code-2.result c.insert_code-2.ensures.coded (λ r T fits L n l h can es C. r T fits es (edge_to_nonterminal c.args.on (owner_of T (record { production = c.args.production; index = c.args.index })) n (record { production = c.args.production; index = c.args.index })) C (way_traced T fits (record { production = c.args.production; index = c.args.index }) n l h can c.args.on) (c.code-2.ensures.0 ∙ code_off T fits (record { production = c.args.production; index = c.args.index }) n l h can c.args.on c.if-on.false) (c.key-2.ensures.1 T.productions L h.production ∙ key_off T fits (record { production = c.args.production; index = c.args.index }) n l h can c.args.on c.if-on.false)); edge_limit_in_bounds = on_err c.insert_code-2.result c.insert_code-2.ensures.edge_limit_in_bounds (λ r T fits L n l h can es C. r T fits es (edge_to_nonterminal c.args.on (owner_of T (record { production = c.args.production; index = c.args.index })) n (record { production = c.args.production; index = c.args.index })) C (way_traced T fits (record { production = c.args.production; index = c.args.index }) n l h can c.args.on) (c.code-2.ensures.0 ∙ code_off T fits (record { production = c.args.production; index = c.args.index }) n l h can c.args.on c.if-on.false) (c.key-2.ensures.1 T.productions L h.production ∙ key_off T fits (record { production = c.args.production; index = c.args.index }) n l h can c.args.on c.if-on.false)) }
+returns c = let T = meaning c.args.tracer.table.words.now in let F = fits c.args.tracer.table.words.now c.args.tracer.table.accepted in let W = c.args.tracer.working in let i : Item = record { production = c.args.item.production; index = c.args.item.index } in record { coded = on_ok c.insert-2.result c.insert-2.ensures.coded (λ r n l can es C. r T F W.least c.requires.production es _ C (way_traced T F i n l c.requires can c.args.on) (code_off T F i n l c.requires can c.args.on c.if-on.false _ refl refl)); full = on_err c.insert-2.result c.insert-2.ensures.full (λ r n l can es C. r T F W.least c.requires.production es _ C (way_traced T F i n l c.requires can c.args.on) (code_off T F i n l c.requires can c.args.on c.if-on.false _ refl refl)) }

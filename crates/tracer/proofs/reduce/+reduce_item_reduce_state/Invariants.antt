@@ -2,28 +2,20 @@ use Rattle.std.proofs.Common.{◌≡◌, ℕ, ◌+◌, ◌*◌, ◌<◌, true, l
 use Rattle.repr.specs.Lists.{mem}
 use Rattle.repr.specs.Meaning.{state_at}
 use Rattle.table.specs.Decoded.{meaning, items_from}
-use Rattle.table.specs.Index.{ItemIndex}
 use Rattle.state_graph.specs.States.{states_in}
-use Rattle.state_graph.specs.Remembered.{Remembered}
 use Rattle.trace.proofs.Steps.{from_state, on_item}
 use Rattle.tracer.specs.Held.{unset}
 use Rattle.tracer.proofs.ReduceSteps.{Left}
 use Rattle.tracer.proofs.reduce.+reduce_item_reduce_state.Given as goal
 
-abbrev pub invariant-reduce_item-loop-p : goal.invariant-reduce_item-loop-p
-invariant-reduce_item-loop-p l = ((k : ℕ) → mem k (states_in l.rest.low l.rest.high) ≡ true → k < length (meaning l.table).states) × Left (meaning l.table) (from_state (meaning l.table) l.owner) (states_in l.initial.rest.low l.initial.rest.high) (states_in l.rest.low l.rest.high) l.initial.words l.initial.flags l.initial.entered l.initial.stamps l.words l.flags l.entered l.stamps × Remembered (meaning l.table) l.steps
+abbrev pub invariant-reduce_item-loop-from : goal.invariant-reduce_item-loop-from
+invariant-reduce_item-loop-from l = ((k : ℕ) → mem k (states_in l.from-iterator.0.low l.from-iterator.0.high) ≡ true → k < length (meaning l.over.tracer.table.words.now).states) × Left (meaning l.over.tracer.table.words.now) (from_state (meaning l.over.tracer.table.words.now) l.owner) (states_in l.initial.from-iterator.0.low l.initial.from-iterator.0.high) (states_in l.from-iterator.0.low l.from-iterator.0.high) l.initial.trace.edges.words l.initial.trace.edges.flags l.initial.trace.entered l.initial.stamps.words l.trace.edges.words l.trace.edges.flags l.trace.entered l.stamps.words × (l.walk.table.words.now ≡ l.over.tracer.table.words.now)
 
-abbrev pub decreases-reduce_item-loop-p : goal.decreases-reduce_item-loop-p
-decreases-reduce_item-loop-p l = length (states_in l.rest.low l.rest.high)
-
-abbrev pub invariant-reduce_state-loop-at : goal.invariant-reduce_state-loop-at
-invariant-reduce_state-loop-at l = ItemIndex l.table l.at × Left (meaning l.table) (on_item (meaning l.table) l.state l.nonterminal) (state_at (meaning l.table) l.state).items (items_from l.table l.at) l.initial.words l.initial.flags l.initial.entered l.initial.stamps l.words l.flags l.entered l.stamps × Remembered (meaning l.table) l.steps
-
-abbrev pub decreases-reduce_state-loop-at : goal.decreases-reduce_state-loop-at
-decreases-reduce_state-loop-at l = length (items_from l.table l.at)
+abbrev pub invariant-reduce_state-loop-read : goal.invariant-reduce_state-loop-read
+invariant-reduce_state-loop-read l = (l.read-iterator.table.words.now ≡ l.over.tracer.table.words.now) × Left (meaning l.over.tracer.table.words.now) (on_item (meaning l.over.tracer.table.words.now) l.state l.nonterminal) (state_at (meaning l.over.tracer.table.words.now) l.state).items (items_from l.over.tracer.table.words.now l.read-iterator.at) l.initial.trace.edges.words l.initial.trace.edges.flags l.initial.trace.entered l.initial.stamps.words l.trace.edges.words l.trace.edges.flags l.trace.entered l.stamps.words × (l.walk.table.words.now ≡ l.over.tracer.table.words.now)
 
 abbrev pub decreases-reduce_item : goal.decreases-reduce_item
-decreases-reduce_item l = unset l.entered.now * 2 + 1
+decreases-reduce_item l = unset l.trace.now.entered * 2 + 1
 
 abbrev pub decreases-reduce_state : goal.decreases-reduce_state
-decreases-reduce_state l = unset l.entered.now * 2
+decreases-reduce_state l = unset l.trace.now.entered * 2

@@ -5,10 +5,10 @@ use Rattle.tracer.proofs.Places.{left, further, Placed}
 use Rattle.tracer.proofs.shift.+trace_epsilon.Given as goal
 
 abbrev pub invariant-loop-place : goal.invariant-loop-place
-invariant-loop-place l = (L : Usable l.table l.records l.links) × Turning l.table l.state l.nonterminal l.initial.words l.initial.flags l.initial.entered l.words l.flags l.entered (left l.table l.records L.count l.place.slot l.place.at) × Placed l.table l.records l.links L l.nonterminal l.place.slot l.place.at
+invariant-loop-place l = (L : Usable l.tracer.table.words.now l.records l.links) × Turning l.tracer.table.words.now l.state l.nonterminal l.initial.trace.edges.words l.initial.trace.edges.flags l.initial.trace.entered l.trace.edges.words l.trace.edges.flags l.trace.entered (left l.tracer.table.words.now l.records L.count l.place.slot l.place.at) × Placed l.tracer.table.words.now l.records l.links L l.nonterminal l.place.slot l.place.at
 
 abbrev pub decreases-loop-place : goal.decreases-loop-place
-decreases-loop-place l = further l.table l.place.slot l.place.at
+decreases-loop-place l = further l.tracer.table.words.now l.place.slot l.place.at
 
 abbrev pub decreases-trace_epsilon : goal.decreases-trace_epsilon
-decreases-trace_epsilon l = unset l.entered.now
+decreases-trace_epsilon l = unset l.trace.now.entered

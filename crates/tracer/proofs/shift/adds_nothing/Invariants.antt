@@ -1,10 +1,6 @@
-use Rattle.std.proofs.Common.{length}
-use Rattle.table.specs.Decoded.{items_from}
+use Rattle.std.proofs.Common.{◌≡◌}
 use Rattle.tracer.proofs.Passing.{Passing}
 use Rattle.tracer.proofs.shift.adds_nothing.Given as goal
 
-abbrev pub invariant-loop-at : goal.invariant-loop-at
-invariant-loop-at l = Passing l.table l.state l.flags l.entered l.before l.at
-
-abbrev pub decreases-loop-at : goal.decreases-loop-at
-decreases-loop-at l = length (items_from l.table l.at)
+abbrev pub invariant-loop-read : goal.invariant-loop-read
+invariant-loop-read l = (l.read-iterator.table.words.now ≡ l.tracer.table.words.now) × Passing l.tracer.table.words.now l.state l.trace.edges.flags l.trace.entered l.before l.read-iterator.at

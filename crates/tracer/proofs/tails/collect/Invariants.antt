@@ -1,10 +1,6 @@
-use Rattle.std.proofs.Common.{length}
-use Rattle.table.specs.Decoded.{items_from}
+use Rattle.std.proofs.Common.{◌≡◌}
 use Rattle.tracer.proofs.Collecting.{Collecting}
 use Rattle.tracer.proofs.tails.collect.Given as goal
 
-abbrev pub invariant-loop-at : goal.invariant-loop-at
-invariant-loop-at l = Collecting l.table l.tail l.records l.met l.at l.count
-
-abbrev pub decreases-loop-at : goal.decreases-loop-at
-decreases-loop-at l = length (items_from l.table l.at)
+abbrev pub invariant-loop-read : goal.invariant-loop-read
+invariant-loop-read l = (l.read-iterator.table.words.now ≡ l.tracer.table.words.now) × Collecting l.tracer.table.words.now l.tail l.records l.met l.read-iterator.at l.count

@@ -4,70 +4,54 @@ use Rattle.tracer.proofs.Linking.{linked_start, linked_skip, linked_put}
 use Rattle.tracer.proofs.Passing.{packed_few}
 use Rattle.tracer.proofs.tails.link.Goals as goal
 
--- src/tails.rt:127:5
 pub unlink-requires : goal.unlink-requires
-unlink-requires c = c.requires.2
+unlink-requires c = c.requires.1
 
--- src/tails.rt:129:5
 pub loop-k-init : goal.loop-k-init
-loop-k-init c = (linked_start _ _ _ _ c.requires.0.1 _ _ _ (c.unlink.auto.links ∙ c.requires.2) c.unlink.ensures, omega arith, c.requires.1.1.least)
+loop-k-init c = (linked_start _ _ _ _ c.args.tracer.working _ _ _ (c.unlink.auto.links ∙ c.requires.1) c.unlink.ensures, omega arith, c.requires.0.1.least)
 
--- src/tails.rt:130:9
--- src/tails.rt:131:32
 pub word-requires : goal.word-requires
-word-requires c = let C = c.requires.1.1 in omega (arith, C.long, C.few, c.loop-k.invariant.1, c.loop-k-test.true)
+word-requires c = let C = c.requires.0.1 in omega (arith, C.long, C.few, c.loop-k.invariant.1, c.loop-k-test.true)
 
--- src/tails.rt:131:13
 pub item-read-requires : goal.item-read-requires
-item-read-requires c = let C = c.requires.1.1 in
-    let o = C.on (c.loop-k.k - 1) (omega (arith, c.loop-k-test.true)) (omega (arith, c.loop-k.invariant.1, c.loop-k-test.true)) in record { table_value = c.requires.0.1.accepted; fact = (rw c.word.ensures.0 o.1, rw c.word.ensures.0 o.0) }
+item-read-requires c = let C = c.requires.0.1 in
+    let o = C.on (c.loop-k.k - 1) (omega (arith, c.loop-k-test.true)) (omega (arith, c.loop-k.invariant.1, c.loop-k-test.true)) in record { some = rw c.word.ensures.0 o.1; on = rw c.word.ensures.0 o.0 }
 
--- src/tails.rt:136:13
 pub cursor-nonterminal-requires : goal.cursor-nonterminal-requires
-cursor-nonterminal-requires c = let W = c.requires.0.1 in (W.packed, packed_few _ _ _ _ W _ _ c.item-read.ensures.fits)
+cursor-nonterminal-requires c = packed_few _ _ _ _ c.args.tracer.working _ _ c.item-read.ensures.read.fits
 
--- src/tails.rt:138:24
 pub bounds-links-nonterminal : goal.bounds-links-nonterminal
 bounds-links-nonterminal c = omega (arith, c.loop-k.invariant.0.long, c.if-nonterminal-lt-LIMIT.true)
 
--- src/tails.rt:139:13
 pub bounds-links-k : goal.bounds-links-k
-bounds-links-k c = let C = c.requires.1.1 in omega (arith, C.few, c.loop-k.invariant.0.long, c.loop-k.invariant.1, c.loop-k-test.true)
+bounds-links-k c = let C = c.requires.0.1 in omega (arith, C.few, c.loop-k.invariant.0.long, c.loop-k.invariant.1, c.loop-k-test.true)
 
--- src/tails.rt:140:34
 pub overflow_cast-links : goal.overflow_cast-links
-overflow_cast-links c = let C = c.requires.1.1 in omega (arith, C.few, c.loop-k.invariant.1)
+overflow_cast-links c = let C = c.requires.0.1 in omega (arith, C.few, c.loop-k.invariant.1)
 
--- src/tails.rt:140:13
 pub bounds-links-nonterminal-then-nonterminal-lt-LIMIT : goal.bounds-links-nonterminal-then-nonterminal-lt-LIMIT
 bounds-links-nonterminal-then-nonterminal-lt-LIMIT c = let l = length-set c.loop-k.links (c.loop-k.k - 1) (get_or c.loop-k.links c.cursor-nonterminal.result 0) ∙ c.loop-k.invariant.0.long in omega (arith, c.if-nonterminal-lt-LIMIT.true)
 
--- src/tails.rt:129:5
--- src/tails.rt:129:5
 pub loop-k-preserved-then-nonterminal-lt-LIMIT : goal.loop-k-preserved-then-nonterminal-lt-LIMIT
 loop-k-preserved-then-nonterminal-lt-LIMIT c = let less = c.loop-k-test.true in
     let few = c.loop-k.invariant.1 in (
-      linked_put _ _ (c.loop-k.k - 1) _ _ _ _ c.word.ensures.0 c.item-read.ensures _ _ _ c.requires.0.1 _ (cursor_is _ _ _ _ c.cursor-nonterminal.ensures) _ _ _ c.loop-k.invariant.0 (omega arith) (omega arith) (omega arith)
-          c.if-nonterminal-lt-LIMIT.true (cursor_shifts _ _ _ _ c.cursor-nonterminal.ensures c.if-nonterminal-lt-LIMIT.true) c.requires.1.1.few,
+      linked_put _ _ (c.loop-k.k - 1) _ _ _ _ c.word.ensures.0 c.item-read.ensures.read _ _ _ c.args.tracer.working _ (cursor_is _ _ _ _ c.cursor-nonterminal.ensures) _ _ _ c.loop-k.invariant.0 (omega arith) (omega arith) (omega arith)
+          c.if-nonterminal-lt-LIMIT.true (cursor_shifts _ _ _ _ c.cursor-nonterminal.ensures c.if-nonterminal-lt-LIMIT.true) c.requires.0.1.few,
       omega arith,
       omega arith,
     )
 
--- src/tails.rt:129:5
--- src/tails.rt:129:5
 pub loop-k-preserved : goal.loop-k-preserved
 loop-k-preserved c = let less = c.loop-k-test.true in
     let few = c.loop-k.invariant.1 in (
-      linked_skip _ _ (c.loop-k.k - 1) _ _ _ _ c.word.ensures.0 c.item-read.ensures _ _ _ c.requires.0.1 _ (cursor_is _ _ _ _ c.cursor-nonterminal.ensures) _ _ _ c.loop-k.invariant.0 (omega arith) (omega arith) (omega arith)
+      linked_skip _ _ (c.loop-k.k - 1) _ _ _ _ c.word.ensures.0 c.item-read.ensures.read _ _ _ c.args.tracer.working _ (cursor_is _ _ _ _ c.cursor-nonterminal.ensures) _ _ _ c.loop-k.invariant.0 (omega arith) (omega arith) (omega arith)
           c.if-nonterminal-lt-LIMIT.false,
       omega arith,
       omega arith,
     )
 
--- src/tails.rt:116:1
 pub shape_of-links : goal.shape_of-links
-shape_of-links c = c.loop-k.invariant.0.long ∙ sym c.requires.2
+shape_of-links c = c.loop-k.invariant.0.long ∙ sym c.requires.1
 
--- src/tails.rt:116:1
 pub returns : goal.returns
 returns c = let e : c.loop-k.k ≡ 32 = omega (arith, c.loop-k-test.false, c.loop-k.invariant.2) in rw e at c.loop-k.invariant.0

@@ -3,7 +3,7 @@ use Rattle.tracer.proofs.Exchanging.{listed-over, turned}
 use Rattle.tracer.proofs.tails.list_tail.Goals as goal
 
 pub relist-requires : goal.relist-requires
-relist-requires c = record { by_index = c.requires.by_index; records_len = (omega arith, omega arith, c.requires.two_tails.other_usable) }
+relist-requires c = record { on = c.requires.on; records_len = (omega arith, omega arith, c.requires.two_tails.other_usable) }
 
 pub returns-then-not-relist : goal.returns-then-not-relist
 returns-then-not-relist c = listed-over _ _ _ _ _ _ _ c.requires.two_tails c.relist.auto.records c.relist.auto.links c.relist.ensures

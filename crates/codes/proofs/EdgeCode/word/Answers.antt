@@ -1,8 +1,7 @@
 use Rattle.std.proofs.Common.{refl, arith}
 use Rattle.codes.specs.Codes.{item_code}
-use Rattle.codes.proofs.code.Goals as goal
+use Rattle.codes.proofs.EdgeCode.word.Goals as goal
 
--- src/lib.rt:7:1
 pub returns : goal.returns
 unfolding item_code
-returns c = (refl, omega arith)
+returns c = (rw c.number.ensures.0 refl, omega (arith, c.number.ensures.1))

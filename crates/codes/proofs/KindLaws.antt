@@ -1,0 +1,17 @@
+-- The word and the key of an edge from its kind and label (specs/Kinds). Assumes nothing.
+use Rattle.std.proofs.Common.{◌≡◌, ◌+◌, ◌*◌, sym, refl}
+use Rattle.repr.specs.Meaning.{Table, TableFits}
+use Rattle.trace_graph.specs.Graph.{TraceEdge}
+use Rattle.trace.specs.Sound.{EdgeSound}
+use Rattle.codes.specs.declared.EdgeCode.{EdgeCode}
+use Rattle.codes.specs.Codes.{item_code, code_of, key_by, key_of}
+use Rattle.codes.specs.Kinds.{kind_number, IsCodeOf}
+use Rattle.codes.proofs.Keys.{key_edge}
+
+module _ (c : EdgeCode) (e : TraceEdge) (I : IsCodeOf c e) where
+  pub word_is : kind_number c.kind * 2176 + item_code (record { production = c.item.production; index = c.item.index }) ≡ code_of e
+  unfolding code_of
+  word_is = rw (I.kind, I.label) refl
+
+  pub key_is : (T : Table) → TableFits T → EdgeSound T e → key_by T.productions (kind_number c.kind) (record { production = c.item.production; index = c.item.index }) ≡ key_of T.productions (code_of e)
+  key_is T fits t = rw (I.kind, I.label) (sym (key_edge T fits e t))

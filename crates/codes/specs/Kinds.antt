@@ -1,0 +1,17 @@
+-- The code's `EdgeKind` and `EdgeCode`: the numbers of the kinds, and of which edge one is. Assumes nothing: these are definitions.
+use Rattle.std.specs.Prelude.{◌≡◌, ℕ}
+use Rattle.trace_graph.specs.Graph.{TraceEdge}
+use Rattle.codes.specs.Codes.{kind_of}
+use Rattle.codes.specs.declared.EdgeKind.{EdgeKind}
+use Rattle.codes.specs.declared.EdgeKind.TheVariants.{IntoItem, Between, FromItem}
+use Rattle.codes.specs.declared.EdgeCode.{EdgeCode}
+
+abbrev pub kind_number : EdgeKind → ℕ
+kind_number IntoItem = 0
+kind_number Between = 1
+kind_number FromItem = 2
+
+-- the edge's kind and label are these
+pub record IsCodeOf (c : EdgeCode) (e : TraceEdge) : Type 0 where
+  pub kind : kind_number c.kind ≡ kind_of e.source e.target
+  pub label : record { production = c.item.production; index = c.item.index } ≡ e.label
