@@ -18,7 +18,7 @@ use classifier::{classify, place_fits};
 use entries::{copy_entries, is_naive, write_entry};
 use error::{Class, Conflict};
 use example::Example;
-use examples::{Given, prepare};
+use examples::{Given, TableConflict, prepare};
 use lookahead::TokenSet;
 use repr::{ProductionIndex, Refusal};
 use slices::zero;
@@ -41,10 +41,10 @@ fn choose_token(
     naive: &mut [u16],
     written: Written,
 ) -> Result<Written, Refusal>
-    requires tokens_value { set_fits (meaning given.table.now) conflict tokens.0 ≡ true }
+    requires tokens_value { set_fits (meaning given.table.words.now) conflict tokens.0 ≡ true }
     requires token_bound { (token < 64) × (written.better + written.naive ≤ token) }
     requires better_len { (length better.old ≡ entries_room) × (length naive.old ≡ entries_room) }
-    ensures naive_after { sorted_in result better.new naive.new ≡ added_to (entries_in better.old written.better) (entries_in naive.old written.naive) (token_entries (meaning given.entry.table.now) conflict tokens.0 token) }
+    ensures naive_after { sorted_in result better.new naive.new ≡ added_to (entries_in better.old written.better) (entries_in naive.old written.naive) (token_entries (meaning given.entry.table.words.now) conflict tokens.0 token) }
     ensures counts_within { CountsWithin (token + 1) result }
 {
     if !tokens.contains(token) {
@@ -53,7 +53,11 @@ fn choose_token(
     let one = Conflict { token, ..conflict };
     let mut action = [0u16; Example::WORDS];
     let mut reduce = [0u16; Example::WORDS];
-    let found = classify(given, one, &mut action, &mut reduce)?;
+    let case = TableConflict {
+        given,
+        conflict: one,
+    };
+    let found = classify(case, &mut action, &mut reduce)?;
     if is_naive(found.class) {
         write_entry(naive, written.naive, token, found.class);
         return Ok(Written {
@@ -76,9 +80,9 @@ fn choose_tokens(
     better: &mut [u16],
     naive: &mut [u16],
 ) -> Result<Written, Refusal>
-    requires tokens_value { set_fits (meaning given.table.now) conflict tokens.0 ≡ true }
+    requires tokens_value { set_fits (meaning given.table.words.now) conflict tokens.0 ≡ true }
     requires better_len { (length better.old ≡ entries_room) × (length naive.old ≡ entries_room) }
-    ensures naive_after { sorted_in result better.new naive.new ≡ added_to [] [] (classes_of (meaning given.entry.table.now) conflict (members tokens.0)) }
+    ensures naive_after { sorted_in result better.new naive.new ≡ added_to [] [] (classes_of (meaning given.entry.table.words.now) conflict (members tokens.0)) }
     ensures counts_within { CountsWithin entry_limit result }
 {
     let mut written = Written {
@@ -113,8 +117,8 @@ fn answer(entries: &[u16], count: usize) -> Chosen
 
 // The better classes if there are any, else the naive ones.
 fn choose_gathered(given: Given, conflict: Conflict, tokens: TokenSet) -> Result<Chosen, Refusal>
-    requires tokens_value { set_fits (meaning given.table.now) conflict tokens.0 ≡ true }
-    ensures { choice_in result ≡ choice_of conflict.action (classes_of (meaning given.entry.table.now) conflict (members tokens.0)) }
+    requires tokens_value { set_fits (meaning given.table.words.now) conflict tokens.0 ≡ true }
+    ensures { choice_in result ≡ choice_of conflict.action (classes_of (meaning given.entry.table.words.now) conflict (members tokens.0)) }
 {
     let mut better = [0u16; Class::ALL_WORDS];
     let mut naive = [0u16; Class::ALL_WORDS];
@@ -138,8 +142,8 @@ fn choose_read(
     ensures { outcome (choice_in result) scratch.new ≡ outcome (choice_of conflict.action (classes_of (meaning table.entry.words.now) conflict (members tokens.0))) (zeroed classify_scratch scratch.old) }
 {
     let past = ProductionIndex::ALL_WORDS;
-    let prepared = prepare(table.words, &mut scratch[..past]);
-    let given = prepared.given(table.words, &scratch[..past]);
+    let prepared = prepare(table, &mut scratch[..past]);
+    let given = prepared.given(table, &scratch[..past]);
     let chosen = choose_gathered(given, conflict, tokens);
     zero(scratch, Conflict::SCRATCH);
     chosen

@@ -226,8 +226,8 @@ read-zeroed T c o action reduce action' reduce' w w' front m e long h z =
     ap (λ (l : List ℕ). outcome o l action' reduce') (z ∙ zeroed_lent classify_scratch m front w long h) ∙ e w
 
 -- what was packed into the words lent is what is read
-pub reads-front : (t front back : List ℕ) (counts : Counts) (sets least ends : List ℕ) (m : ℕ) → length front ≡ m → Reads t front counts sets least ends → Reads t (take m (front ++ back)) counts sets least ends
-reads-front t front back counts sets least ends m long R = subst (λ (g : List ℕ). Reads t g counts sets least ends) (sym (take_at front back m long)) R
+pub reads-front : (t front back : List ℕ) (productions terminals : ℕ) (sets least ends : List ℕ) (m : ℕ) → length front ≡ m → Reads t front productions terminals sets least ends → Reads t (take m (front ++ back)) productions terminals sets least ends
+reads-front t front back productions terminals sets least ends m long R = subst (λ (g : List ℕ). Reads t g productions terminals sets least ends) (sym (take_at front back m long)) R
 
 -- the whole
 

@@ -16,10 +16,10 @@ ghost use Rattle.classifier.specs.Shown.{judged_words, shown_of};
 
 use error::{Class, Classification, Conflict};
 use example::Example as ExampleBuffer;
-use examples::{Given, action_examples, prepare, reduced};
+use examples::{TableConflict, action_examples, prepare, reduced};
 use judge::{judge, write_example};
 use outline::Side;
-use pairs::sort_side;
+use pairs::{SortedSide, sort_side};
 use repr::{ProductionIndex, Refusal};
 use slices::zero;
 use table::AcceptedTable;
@@ -57,21 +57,19 @@ fn shifts_end(conflict: Conflict, terminals: usize) -> bool
 }
 
 // The example of the action's side that is shown, if there is one, at the front of its buffer.
-fn show(given: Given, conflict: Conflict, side: &Side, shown: Option<usize>, buffer: &mut [u16])
-    requires conflict_value { conflict_fits (meaning given.table.now) conflict ≡ true }
-    requires side_kept { (xs : List Example) × (SideKept (meaning given.table.now) (is_shift conflict) (action_made (meaning given.table.now) conflict) xs side.now.kept side.now.prints × ShownFits (length xs) «shown») }
+fn show(case: TableConflict, side: &Side, shown: Option<usize>, buffer: &mut [u16])
+    requires side_kept { (xs : List Example) × (SideKept (meaning case.given.table.words.now) (is_shift case.conflict) (action_made (meaning case.given.table.words.now) case.conflict) xs side.now.kept side.now.prints × ShownFits (length xs) «shown») }
     requires example_room_in_bounds { example_room ≤ length buffer.old }
-    ensures { (xs : List Example) → SideKept (meaning given.entry.table.now) (is_shift conflict) (action_made (meaning given.entry.table.now) conflict) xs side.now.kept side.now.prints → ShownFits (length xs) «shown» → buffer.new ≡ shown_words (meaning given.entry.table.now).productions (shown_in xs «shown») buffer.old }
+    ensures { (xs : List Example) → SideKept (meaning case.entry.given.table.words.now) (is_shift case.entry.conflict) (action_made (meaning case.entry.given.table.words.now) case.entry.conflict) xs side.now.kept side.now.prints → ShownFits (length xs) «shown» → buffer.new ≡ shown_words (meaning case.entry.given.table.words.now).productions (shown_in xs «shown») buffer.old }
 {
     if let Some(k) = shown {
-        write_example(given, conflict, side, k, buffer);
+        write_example(case, side, k, buffer);
     }
 }
 
 // The class from both sides: either empty is naive, and writes nothing; else both are put in order and judged, and the examples shown are made again.
 fn classify_kept(
-    given: Given,
-    conflict: Conflict,
+    case: TableConflict,
     actions: &Side,
     action_count: usize,
     reduces: &Side,
@@ -79,10 +77,9 @@ fn classify_kept(
     action: &mut [u16],
     reduce: &mut [u16],
 ) -> Class
-    requires conflict_value { conflict_fits (meaning given.table.now) conflict ≡ true }
-    requires sides { (xs : List Example) × ((ys : List Example) × (Sides (meaning given.table.now) conflict xs ys actions.now.kept actions.now.prints reduces.now.kept reduces.now.prints × ((length xs ≡ action_count) × (length ys ≡ reduce_count)))) }
+    requires sides { (xs : List Example) × ((ys : List Example) × (Sides (meaning case.given.table.words.now) case.conflict xs ys actions.now.kept actions.now.prints reduces.now.kept reduces.now.prints × ((length xs ≡ action_count) × (length ys ≡ reduce_count)))) }
     requires example_room_in_bounds { (example_room ≤ length action.old) × (example_room ≤ length reduce.old) }
-    ensures { (xs ys : List Example) → Sides (meaning given.entry.table.now) conflict xs ys actions.now.kept actions.now.prints reduces.now.kept reduces.now.prints → length xs ≡ action_count → length ys ≡ reduce_count → judged_words result action.new reduce.new ≡ shown_of (meaning given.entry.table.now).productions action.old reduce.old (judged (meaning given.entry.table.now) conflict xs ys) }
+    ensures { (xs ys : List Example) → Sides (meaning case.entry.given.table.words.now) case.entry.conflict xs ys actions.now.kept actions.now.prints reduces.now.kept reduces.now.prints → length xs ≡ action_count → length ys ≡ reduce_count → judged_words result action.new reduce.new ≡ shown_of (meaning case.entry.given.table.words.now).productions action.old reduce.old (judged (meaning case.entry.given.table.words.now) case.entry.conflict xs ys) }
 {
     if action_count == 0 {
         return Class::Naive;
@@ -95,47 +92,55 @@ fn classify_kept(
     sort_side(actions, action_count, &mut rows);
     sort_side(reduces, reduce_count, &mut columns);
     let judged = judge(
-        given,
-        conflict,
-        actions,
-        &rows[..action_count],
-        reduces,
-        &columns[..reduce_count],
+        case,
+        SortedSide {
+            side: actions,
+            order: &rows[..action_count],
+        },
+        SortedSide {
+            side: reduces,
+            order: &columns[..reduce_count],
+        },
     );
-    show(given, conflict, actions, judged.action, action);
-    show(given, reduced(conflict), reduces, judged.reduce, reduce);
+    let other = TableConflict {
+        given: case.given,
+        conflict: reduced(case.conflict),
+    };
+    show(case, actions, judged.action, action);
+    show(other, reduces, judged.reduce, reduce);
     judged.class
 }
 
 // `classify`: the action's side is worked first, the reduce's even if the first is empty; 12 to 14 leave the example buffers. No scratch is used: what is written stands in small arrays.
 pub fn classify(
-    given: Given,
-    conflict: Conflict,
+    case: TableConflict,
     action: &mut [u16],
     reduce: &mut [u16],
 ) -> Result<Classification, Refusal>
-    requires conflict_value { conflict_fits (meaning given.table.now) conflict ≡ true }
-    requires example_room_in_bounds { (example_room ≤ length action.old) × (example_room ≤ length reduce.old) }
-    ensures { (scratch : List ℕ) → outcome (reading_of result) (zeroed classify_scratch scratch) action.new reduce.new ≡ gathered_outcome (meaning given.entry.table.now) conflict scratch action.old reduce.old (gather (meaning given.entry.table.now) conflict) }
+    requires { (example_room ≤ length action.old) × (example_room ≤ length reduce.old) }
+    ensures { (scratch : List ℕ) → outcome (reading_of result) (zeroed classify_scratch scratch) action.new reduce.new ≡ gathered_outcome (meaning case.entry.given.table.words.now) case.entry.conflict scratch action.old reduce.old (gather (meaning case.entry.given.table.words.now) case.entry.conflict) }
 {
     let mut actions = Side::new();
     let mut reduces = Side::new();
-    let own = action_examples(given, conflict, &mut actions)?;
-    let other = action_examples(given, reduced(conflict), &mut reduces)?;
+    let other = TableConflict {
+        given: case.given,
+        conflict: reduced(case.conflict),
+    };
+    let own = action_examples(case, &mut actions)?;
+    let found = action_examples(other, &mut reduces)?;
     let class = classify_kept(
-        given,
-        conflict,
+        case,
         &actions,
         own.examples,
         &reduces,
-        other.examples,
+        found.examples,
         action,
         reduce,
     );
     Ok(Classification {
         class,
         action_trials: own.trials,
-        reduce_trials: other.trials,
+        reduce_trials: found.trials,
     })
 }
 
@@ -152,9 +157,9 @@ fn classify_read(
     ensures { outcome (reading_of result) scratch.new action.new reduce.new ≡ gathered_outcome (meaning table.entry.words.now) conflict scratch.old action.old reduce.old (gather (meaning table.entry.words.now) conflict) }
 {
     let past = ProductionIndex::ALL_WORDS;
-    let prepared = prepare(table.words, &mut scratch[..past]);
-    let given = prepared.given(table.words, &scratch[..past]);
-    let classified = classify(given, conflict, action, reduce);
+    let prepared = prepare(table, &mut scratch[..past]);
+    let given = prepared.given(table, &scratch[..past]);
+    let classified = classify(TableConflict { given, conflict }, action, reduce);
     zero(scratch, Conflict::SCRATCH);
     classified
 }

@@ -70,7 +70,7 @@ pub fn write_entry(entries: &mut [u16], count: usize, token: u16, class: Class)
     write_words(entries, count, token, words);
 }
 
-// How many values a class of a number has.
+// How many values a class of a number has. By its number, as words may hold any.
 #[tactic(auto, unfolding(crate::specs::Entries::count_of_values))]
 fn value_count(class: u16) -> usize
     ensures { result ≡ count_of_values class }
@@ -110,7 +110,7 @@ fn read_class(entries: &[u16], k: usize) -> [u16; 5]
     [class, first, second, third, fourth]
 }
 
-// So many entries copied to the front of `to`, six words each; no other word changes.
+// So many entries copied to the front of `to`, six words each; no other word changes. Entry by entry, as it is asked of any words, also of such with something behind a class's own values.
 pub fn copy_entries(from: &[u16], to: &mut [u16], count: usize)
     requires { (count ≤ 64) × (length from.now ≡ entries_room) × (entries_room ≤ length to.old) }
     ensures { to.new ≡ joined entry_words (entries_in from.now count) ++ drop (entry_room * count) to.old }

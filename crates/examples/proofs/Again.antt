@@ -10,11 +10,11 @@ use Rattle.repr.specs.Meaning.{Production, Item, Table}
 use Rattle.repr.specs.Packed.{productions_in}
 use Rattle.slices.specs.Lent.{in_front}
 use Rattle.table.specs.Decoded.{meaning}
-use Rattle.table.specs.declared.Counts.{Counts}
 use Rattle.trace_graph.specs.Graph.{TraceEdge}
 use Rattle.trace_graph.specs.Fits.{item_is_fit}
 use Rattle.trace.specs.Shifting.{item_of}
 use Rattle.trace.proofs.Traced.{item_fits}
+use Rattle.tracer.specs.declared.Action.TheVariants.{Shift}
 use Rattle.tracer.specs.Built.{edges_by}
 use Rattle.codes.specs.Coded.{codes_room}
 use Rattle.example.specs.Example.{example_words}
@@ -41,34 +41,34 @@ codes_part w h = let d = length-drop 1 w in take_all edge_limit (drop 1 w) (omeg
 listed_by_lem : {listing other : Side} (k : ℕ) (x : Example) → other ≡ listing → Listed listing k x → Listed other k x
 listed_by_lem k x e L = record { examples = L.examples; trials = L.trials; is = e ∙ L.is; inside = L.inside; there = L.there }
 
-module _ (t g : List ℕ) (counts : Counts) (sets least ends : List ℕ) (R : Reads t g counts sets least ends) where
+module _ (t g : List ℕ) (productions terminals : ℕ) (sets least ends : List ℕ) (R : Reads t g productions terminals sets least ends) where
   -- one item's listing
   module _ (es : List TraceEdge) (i : Item) where
     pub listable_in : (owners codes part sources older latest : List ℕ) → part ≡ codes → Listable (meaning t).productions es owners codes sources older latest i
-        → Listable (productions_in g counts.productions) es owners part sources older latest i
+        → Listable (productions_in g productions) es owners part sources older latest i
     listable_in owners codes part sources older latest e L = rw (R.same, e) L
 
     module _ (ahead : Option ℕ) where
-      listing_same : length es ≤ edge_limit → (k : ℕ) → k ≤ example_limit → listed_by counts.terminals sets (productions_in g counts.productions) es ahead i k ≡ listing_side (meaning t) es i ahead k
+      listing_same : length es ≤ edge_limit → (k : ℕ) → k ≤ example_limit → listed_by terminals sets (productions_in g productions) es ahead i k ≡ listing_side (meaning t) es i ahead k
       listing_same few k h = rw (R.same, R.tokens, R.firsts) (listing_is (meaning t) es i ahead k few h)
 
       -- w: the words that the search leaves
       module _ (few : length es ≤ edge_limit) (owners codes w : List ℕ) (wanted : ℕ) (r : Bool)
-          (F : Finds (productions_in g counts.productions) es owners codes r (λ k. listed_by counts.terminals sets (productions_in g counts.productions) es ahead i k) wanted w) where
-        pub found-tried : r ≡ true → Tried (productions_in g counts.productions) es owners codes w
+          (F : Finds (productions_in g productions) es owners codes r (λ k. listed_by terminals sets (productions_in g productions) es ahead i k) wanted w) where
+        pub found-tried : r ≡ true → Tried (productions_in g productions) es owners codes w
         unfolding Finds
         found-tried e = let G = rw e at F in G.0
 
         pub again_made : r ≡ true → (b b' : List ℕ)
-            → ((es' : List TraceEdge) → Tried (productions_in g counts.productions) es' owners codes w → (p rest : List ℕ) → w ≡ trial_words p ++ rest
-            → b' ≡ in_front (example_words (productions_in g counts.productions) (labels_of (productions_in g counts.productions) es' p)) b)
+            → ((es' : List TraceEdge) → Tried (productions_in g productions) es' owners codes w → (p rest : List ℕ) → w ≡ trial_words p ++ rest
+            → b' ≡ in_front (example_words (productions_in g productions) (labels_of (productions_in g productions) es' p)) b)
             → (k : ℕ) (x : Example) → k ≤ example_limit → Listed (listing_side (meaning t) es i ahead k) wanted x → b' ≡ in_front (example_words (meaning t).productions x) b
         unfolding Finds
         again_made e b b' W k x h L =
             let G = rw e at F in
             let H = G.1 k x h (listed_by_lem wanted x (listing_same few k h) L) in
             W es G.0 H.path H.rest H.words
-            ∙ ap (λ (y : Example). in_front (example_words (productions_in g counts.productions) y) b) H.labels
+            ∙ ap (λ (y : Example). in_front (example_words (productions_in g productions) y) b) H.labels
             ∙ ap (λ (q : List Production). in_front (example_words q x) b) R.same
 
         pub again_none : {C : Type 0} → r ≡ false → (k : ℕ) (x : Example) → k ≤ example_limit → Listed (listing_side (meaning t) es i ahead k) wanted x → C
@@ -107,10 +107,10 @@ made_reduce T s (suc a) o token label k x e M = M
 module _ (T : Table) (c : Conflict) (label wanted : ℕ) (b b' : List ℕ) where
   pub action_shift : c.action ≡ 0
       → ((k : ℕ) (x : Example) → k ≤ example_limit
-      → Listed (listing_side T (edges_by true T c.state.0 (record { production = label / index_limit; index = label % index_limit })) (record { production = label / index_limit; index = label % index_limit }) (set_of None) k) wanted x
+      → Listed (listing_side T (edges_by Shift T c.state.0 (record { production = label / index_limit; index = label % index_limit })) (record { production = label / index_limit; index = label % index_limit }) (set_of None) k) wanted x
       → b' ≡ in_front (example_words T.productions x) b)
       → (x : Example) → action_made T c label wanted x → b' ≡ in_front (example_words T.productions x) b
-  unfolding edges_by set_of item_of shift_made action_made
+  unfolding set_of item_of shift_made action_made
   action_shift e A x M =
       let S = made_shift T c.state.0 c.action c.operand c.token label wanted x e M in
       A S.before x S.few S.listed

@@ -8,7 +8,6 @@ use borrow.Author.Tests.{ltb-true, leb-true}
 use Rattle.repr.specs.Meaning.{Production, no_production, Table}
 use Rattle.repr.specs.Packed.{productions_in}
 use Rattle.table.specs.Decoded.{meaning}
-use Rattle.table.specs.declared.Counts.{Counts}
 use Rattle.table.proofs.Decoding.{fits}
 use Rattle.lookahead.specs.declared.TokenSet.{TokenSet}
 use Rattle.lookahead.specs.Tokens.{single, with}
@@ -19,6 +18,7 @@ use Rattle.trace_graph.specs.Fits.{item_is_fit}
 use Rattle.trace_graph.proofs.Bools.{and_left, and_right}
 use Rattle.trace.specs.Reduce.{reduce_edges}
 use Rattle.trace.proofs.Traced.{item_fits}
+use Rattle.tracer.specs.declared.Action.TheVariants.{Reduce}
 use Rattle.tracer.specs.Built.{edges_by}
 use Rattle.enumerator.specs.Advance.{set_of}
 use Rattle.std.specs.Prelude.{Some}
@@ -32,25 +32,25 @@ single-token : (token set : ℕ) → token < 64 → set ≡ with 0 token → set
 single-token token set h e = e ∙ with_yes 0 token h ∙ union-zero-left (single token)
 
 -- the item of a reduce, r the answer of `reduce_item`
-module _ (t g : List ℕ) (counts : Counts) (sets least ends : List ℕ) (R : Reads t g counts sets least ends) (state : StateIndex) (p : ℕ) (r : Traced)
-    (e : r ≡ record { state = state; production = p; index = length (get_or (productions_in g counts.productions) p no_production).symbols; shift = false }) where
-  end_same : length (get_or (productions_in g counts.productions) p no_production).symbols ≡ length (get_or (meaning t).productions p no_production).symbols
+module _ (t g : List ℕ) (productions terminals : ℕ) (sets least ends : List ℕ) (R : Reads t g productions terminals sets least ends) (state : StateIndex) (p : ℕ) (r : Traced)
+    (e : r ≡ record { state = state; item = record { production = p; index = length (get_or (productions_in g productions) p no_production).symbols }; action = Reduce }) where
+  end_same : length (get_or (productions_in g productions) p no_production).symbols ≡ length (get_or (meaning t).productions p no_production).symbols
   end_same = ap (λ (l : List Production). length (get_or l p no_production).symbols) R.same
 
-  pub end_fits : state.0 < length (meaning t).states → p < length (meaning t).productions → (r.state.0 < length (meaning t).states) × (item_is_fit (meaning t).productions r.production r.index ≡ true)
+  pub end_fits : state.0 < length (meaning t).states → p < length (meaning t).productions → (r.state.0 < length (meaning t).states) × (item_is_fit (meaning t).productions r.item.production r.item.index ≡ true)
   end_fits hs h =
       let q = end_same in
-      subst (λ (x : Traced). (x.state.0 < length (meaning t).states) × (item_is_fit (meaning t).productions x.production x.index ≡ true)) (sym e)
-      (hs, item_fits (meaning t) (record { production = p; index = length (get_or (productions_in g counts.productions) p no_production).symbols }) (record { production = h; index = omega arith }))
+      subst (λ (x : Traced). (x.state.0 < length (meaning t).states) × (item_is_fit (meaning t).productions x.item.production x.item.index ≡ true)) (sym e)
+      (hs, item_fits (meaning t) (record { production = p; index = length (get_or (productions_in g productions) p no_production).symbols }) (record { production = h; index = omega arith }))
 
   pub reduce_is : (token : ℕ) (tokens : TokenSet) → token ≤ (meaning t).terminals → tokens.0 ≡ with 0 token
-      → listing_side (meaning t) (edges_by r.shift (meaning t) r.state.0 (record { production = r.production; index = r.index })) (record { production = r.production; index = r.index }) (set_of (Some tokens)) 0
+      → listing_side (meaning t) (edges_by r.action (meaning t) r.state.0 (record { production = r.item.production; index = r.item.index })) (record { production = r.item.production; index = r.item.index }) (set_of (Some tokens)) 0
       ≡ reduce_side (meaning t) state.0 p token
-  unfolding edges_by set_of reduce_side item_of_reduce
+  unfolding set_of reduce_side item_of_reduce
   reduce_is token tokens ht et =
       let f = (fits t R.accepted).few_terminals in
       let st = single-token token tokens.0 (omega arith) et in
-      ap (λ (x : Traced). listing_side (meaning t) (edges_by x.shift (meaning t) x.state.0 (record { production = x.production; index = x.index })) (record { production = x.production; index = x.index }) (set_of (Some tokens)) 0) e
+      ap (λ (x : Traced). listing_side (meaning t) (edges_by x.action (meaning t) x.state.0 (record { production = x.item.production; index = x.item.index })) (record { production = x.item.production; index = x.item.index }) (set_of (Some tokens)) 0) e
       ∙ (λ j. listing_side (meaning t) (reduce_edges (meaning t) state.0 (record { production = p; index = end_same j })) (record { production = p; index = end_same j }) (some (st j)) 0)
 
 -- a conflict in range

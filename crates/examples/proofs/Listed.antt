@@ -15,6 +15,8 @@ use Rattle.trace_graph.proofs.Fits.{item-parts}
 use Rattle.trace.specs.Traced.{owner_of}
 use Rattle.trace.specs.Sound.{owner_of_node as owner_at, EdgeSound, Sound}
 use Rattle.trace.proofs.Traced.{fits-item, shift_sound, reduce_sound}
+use Rattle.tracer.specs.declared.Action.{Action}
+use Rattle.tracer.specs.declared.Action.TheVariants.{Shift, Reduce}
 use Rattle.tracer.specs.Built.{edges_by}
 use Rattle.example.specs.Labels.{LabelFits}
 use Rattle.enumerator.specs.Stacks.{Within}
@@ -132,22 +134,21 @@ module _ (T : Table) (F : TableFits T) (es : List TraceEdge) (i : Item) (S : Sou
     example-shifts : (p : Path) → Memᴰ p (trials (ends_of es) (at_item i)) → Shifts ps (labels_of ps es p)
     example-shifts p m = enters (λ q. Shifts ps (labels_of ps es q)) first-shifts p (sound (ends_of es) (at_item i) p m)
 
-trace_sound : (T : Table) → TableFits T → (s : ℕ) (i : Item) → item_is_fit T.productions i.production i.index ≡ true → (shift : Bool) → Sound T i (edges_by shift T s i)
-unfolding edges_by
-trace_sound T fits s i f true = shift_sound T fits s i (fits-item T i f)
-trace_sound T fits s i f false = reduce_sound T fits s i (fits-item T i f)
+trace_sound : (T : Table) → TableFits T → (s : ℕ) (i : Item) → item_is_fit T.productions i.production i.index ≡ true → (action : Action) → Sound T i (edges_by action T s i)
+trace_sound T fits s i f Shift = shift_sound T fits s i (fits-item T i f)
+trace_sound T fits s i f Reduce = reduce_sound T fits s i (fits-item T i f)
 
-module _ (T : Table) (fits : TableFits T) (shift : Bool) (s : ℕ) (i : Item) (f : item_is_fit T.productions i.production i.index ≡ true) where
-  module _ (ahead : Option ℕ) (k m : ℕ) (xs : List Example) (e : listing_side T (edges_by shift T s i) i ahead k ≡ gathered xs m) (j : ℕ) (h : j < length xs) where
-    by_trials : (P : Example → Type 0) → ((p : Path) → Memᴰ p (trials (ends_of (edges_by shift T s i)) (at_item i)) → P (labels_of T.productions (edges_by shift T s i) p)) → P (nth xs j)
-    by_trials P all = all-gathered P (listing_side T (edges_by shift T s i) i ahead k) xs m (listing-all T (edges_by shift T s i) i ahead k P all) e j h
+module _ (T : Table) (fits : TableFits T) (action : Action) (s : ℕ) (i : Item) (f : item_is_fit T.productions i.production i.index ≡ true) where
+  module _ (ahead : Option ℕ) (k m : ℕ) (xs : List Example) (e : listing_side T (edges_by action T s i) i ahead k ≡ gathered xs m) (j : ℕ) (h : j < length xs) where
+    by_trials : (P : Example → Type 0) → ((p : Path) → Memᴰ p (trials (ends_of (edges_by action T s i)) (at_item i)) → P (labels_of T.productions (edges_by action T s i) p)) → P (nth xs j)
+    by_trials P all = all-gathered P (listing_side T (edges_by action T s i) i ahead k) xs m (listing-all T (edges_by action T s i) i ahead k P all) e j h
 
     pub listed-fits : ExampleFits T.productions (nth xs j)
-    listed-fits = by_trials (ExampleFits T.productions) (example-fits T fits (edges_by shift T s i) i (trace_sound T fits s i f shift))
+    listed-fits = by_trials (ExampleFits T.productions) (example-fits T fits (edges_by action T s i) i (trace_sound T fits s i f action))
 
     pub listed-first : label_of T.productions true (nth xs j) ≡ i.production * index_limit + i.index
     listed-first =
-        by_trials (λ x. label_of T.productions true x ≡ i.production * index_limit + i.index) (example-first T fits (edges_by shift T s i) i (trace_sound T fits s i f shift))
+        by_trials (λ x. label_of T.productions true x ≡ i.production * index_limit + i.index) (example-first T fits (edges_by action T s i) i (trace_sound T fits s i f action))
 
     pub listed-shifts : i.index < length (production_at T i.production).symbols → Shifts T.productions (nth xs j)
-    listed-shifts l = by_trials (Shifts T.productions) (example-shifts T fits (edges_by shift T s i) i (trace_sound T fits s i f shift) l)
+    listed-shifts l = by_trials (Shifts T.productions) (example-shifts T fits (edges_by action T s i) i (trace_sound T fits s i f action) l)

@@ -7,7 +7,6 @@ use lib.Seq.{take_all}
 use Rattle.repr.specs.Sizes.{edge_limit, example_limit}
 use Rattle.repr.specs.Meaning.{Item}
 use Rattle.repr.specs.Packed.{productions_in}
-use Rattle.table.specs.declared.Counts.{Counts}
 use Rattle.table.specs.Decoded.{meaning}
 use Rattle.table.proofs.Decoding.{fits}
 use Rattle.trace_graph.specs.Graph.{TraceEdge}
@@ -24,15 +23,12 @@ use Rattle.examples.specs.Listing.{listed_by, Listable}
 use Rattle.examples.specs.Gathers.{ListedOn}
 use Rattle.examples.proofs.Traces.{listing-over, listing_is}
 
-module _ (t g : List ℕ) (counts : Counts) (sets least ends : List ℕ) (R : Reads t g counts sets least ends) where
-  pub reads-terminals : counts.terminals ≤ 63
-  reads-terminals = rw R.tokens (fits t R.accepted).few_terminals
-
+module _ (t g : List ℕ) (productions terminals : ℕ) (sets least ends : List ℕ) (R : Reads t g productions terminals sets least ends) where
   -- `open_view`: what tracing asks, and what its words hold
-  pub reads_working : Working t g counts.productions least
+  pub reads_working : Working t g productions least
   reads_working = record { accepted = R.accepted; packed = R.packed; same = R.same; least = R.leasts; small = R.small }
 
-  pub carried : (ws fs : List ℕ) (es : List TraceEdge) → Coded (meaning t) ws fs es → Carried g counts.productions ws (meaning t) es
+  pub carried : (ws fs : List ℕ) (es : List TraceEdge) → Coded (meaning t) ws fs es → Carried g productions ws (meaning t) es
   carried ws fs es C = record {
     fits = fits t R.accepted;
     packed = R.packed;
@@ -50,13 +46,13 @@ module _ (t g : List ℕ) (counts : Counts) (sets least ends : List ℕ) (R : Re
 
     -- for `list_outlines`, which is lent the words of the edges without their count
     pub listable_in : (owners codes sources older latest : List ℕ) → Listable (meaning t).productions es owners codes sources older latest i
-        → Listable (productions_in g counts.productions) es owners (take edge_limit codes) sources older latest i
+        → Listable (productions_in g productions) es owners (take edge_limit codes) sources older latest i
     listable_in owners codes sources older latest L = let l = L.labelled.by_code in rw (R.same, take_all edge_limit codes (omega arith)) L
 
     -- `list_item`
     module _ (ahead : Option ℕ) (shift : Bool) (count : ℕ) (kept prints kept' prints' : List ℕ) where
       pub item-listed : (r : Result Gathered Refusal) → length es ≤ edge_limit → count ≤ example_limit
-          → ListedOn (productions_in g counts.productions) shift r count kept prints kept' prints' (listed_by counts.terminals sets (productions_in g counts.productions) es ahead i count)
+          → ListedOn (productions_in g productions) shift r count kept prints kept' prints' (listed_by terminals sets (productions_in g productions) es ahead i count)
           → ListedOn (meaning t).productions shift r count kept prints kept' prints' (listing_side (meaning t) es i ahead count)
       item-listed r h l S =
           let S₁ = rw (R.same, R.tokens, R.firsts) at S in

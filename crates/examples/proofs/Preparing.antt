@@ -5,32 +5,29 @@ use Rattle.repr.specs.Sizes.{production_limit}
 use Rattle.repr.specs.Meaning.{Production, Table}
 use Rattle.repr.specs.Packed.{Packed, productions_in}
 use Rattle.table.specs.Checked.{Accepted}
-use Rattle.table.specs.declared.Counts.{Counts}
 use Rattle.table.specs.Decoded.{meaning}
-use Rattle.table.specs.Index.{CountsOf}
 use Rattle.table.specs.Refusals.{check_of}
 use Rattle.first.specs.First.{sets_of_first}
 use Rattle.trace.specs.Ends.{Ends}
 use Rattle.codes.specs.Coded.{Leasts}
 use Rattle.examples.specs.Reads.{Reads}
 
-pub prepared : (t g : List ℕ) (counts : Counts) (sets least ends : List ℕ) → check_of t ≡ Accepted → CountsOf (meaning t) counts.nonterminals counts.terminals counts.states counts.productions
+pub prepared : (t g : List ℕ) (productions terminals : ℕ) (sets least ends : List ℕ) → check_of t ≡ Accepted → productions ≡ length (meaning t).productions → terminals ≡ (meaning t).terminals
     → Packed g (length (meaning t).productions) × (productions_in g (length (meaning t).productions) ≡ (meaning t).productions)
-    → sets ≡ sets_of_first counts.terminals (productions_in g counts.productions)
-    → Leasts (productions_in g counts.productions) least × ((p : ℕ) → p < production_limit → get_or least p 0 < production_limit)
-    → ((T : Table) → T.productions ≡ productions_in g counts.productions → T.terminals ≡ counts.terminals → Ends T ends)
-    → Reads t g counts sets least ends
-prepared t g counts sets least ends a C P e L E =
-    let same : productions_in g counts.productions ≡ (meaning t).productions = rw C.productions P.1 in
+    → sets ≡ sets_of_first terminals (productions_in g productions)
+    → Leasts (productions_in g productions) least × ((p : ℕ) → p < production_limit → get_or least p 0 < production_limit)
+    → ((T : Table) → T.productions ≡ productions_in g productions → T.terminals ≡ terminals → Ends T ends)
+    → Reads t g productions terminals sets least ends
+prepared t g productions terminals sets least ends a en et P e L E =
+    let same : productions_in g productions ≡ (meaning t).productions = rw en P.1 in
     record {
       accepted = a;
-      packed = rw C.productions P.0;
+      packed = rw en P.0;
       same = same;
-      many = C.productions;
-      nonterminals = C.nonterminals;
-      tokens = C.terminals;
-      firsts = e ∙ (λ j. sets_of_first (C.terminals j) (same j));
+      many = en;
+      tokens = et;
+      firsts = e ∙ (λ j. sets_of_first (et j) (same j));
       leasts = subst (λ (ps : List Production). Leasts ps least) same L.0;
       small = L.1;
-      suffixes = E (meaning t) (sym same) (sym C.terminals);
+      suffixes = E (meaning t) (sym same) (sym et);
     }

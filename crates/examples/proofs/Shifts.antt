@@ -17,6 +17,7 @@ use Rattle.trace.specs.Shift.{shift_edges}
 use Rattle.trace.specs.Shifting.{item_of}
 use Rattle.trace.proofs.Once.{item_equal}
 use Rattle.trace.proofs.Traced.{item_fits}
+use Rattle.tracer.specs.declared.Action.TheVariants.{Shift}
 use Rattle.tracer.specs.Built.{edges_by}
 use Rattle.enumerator.specs.Advance.{set_of}
 use Rattle.std.specs.Prelude.{None}
@@ -153,16 +154,15 @@ module _ (T : Table) (F : TableFits T) (s token : ℕ) (hs : s < length T.states
 
     -- the listing that was made, r its answer
     module _ (r : Result Gathered Refusal) (kept' prints' : List ℕ)
-        (a : ListedOn T.productions true r total kept prints kept' prints' (listing_side T (edges_by true T s (record { production = c / index_limit; index = c % index_limit })) (record { production = c / index_limit; index = c % index_limit }) (set_of None) total)) where
+        (a : ListedOn T.productions true r total kept prints kept' prints' (listing_side T (edges_by Shift T s (record { production = c / index_limit; index = c % index_limit })) (record { production = c / index_limit; index = c % index_limit }) (set_of None) total)) where
       abbrev listing : Side
-      listing = listing_side T (edges_by true T s (item_of c)) (item_of c) none total
+      listing = listing_side T (edges_by Shift T s (item_of c)) (item_of c) none total
 
       answer : ListedOn T.productions true r total kept prints kept' prints' listing
       unfolding item_of set_of
       answer = a
 
       step : (so : Side) → with_more (gathered U.examples trials) listing ≡ so → shift_side_from T s so (items_left T s token order n (suc place)) ≡ shift_side T s token
-      unfolding edges_by
       step so e =
           ap (λ (l : Side). shift_side_from T s l (items_left T s token order n (suc place))) (sym e ∙ ap (λ (q : ℕ). with_more (gathered U.examples trials) (listing_side T (shift_edges T s (item_of c)) (item_of c) none q)) (sym (examples_gathered U.examples trials ∙ U.many)))
           ∙ sym (from_next T s (gathered U.examples trials) (item_of c) (items_left T s token order n (suc place)))

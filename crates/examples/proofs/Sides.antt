@@ -13,6 +13,7 @@ use Rattle.repr.proofs.Lists.{cases}
 use Rattle.lookahead.specs.Tokens.{single}
 use Rattle.trace_graph.specs.Fits.{item_is_fit}
 use Rattle.trace.specs.Shifting.{item_of}
+use Rattle.tracer.specs.declared.Action.TheVariants.{Shift, Reduce}
 use Rattle.tracer.specs.Built.{edges_by}
 use Rattle.error.specs.Judge.{Example}
 use Rattle.error.specs.Sides.{gathered, listing_side, item_of_reduce, reduce_side}
@@ -61,17 +62,17 @@ each_of P xs ys total m f g k h =
 
 module _ (T : Table) (F : TableFits T) (s c : ℕ) (f : item_is_fit T.productions (item_of c).production (item_of c).index ≡ true) (i : (item_of c).index < length (production_at T (item_of c).production).symbols)
     (xs ys : List Example) (total n m : ℕ) (many : length xs ≡ total) (kept prints kept' prints' : List ℕ) (K : SideKept T true (shift_made T s) xs kept prints) (R : Room kept' prints')
-    (B : Behind T.productions true total n ys kept prints kept' prints') (L : listing_side T (edges_by true T s (item_of c)) (item_of c) none total ≡ gathered ys m) where
+    (B : Behind T.productions true total n ys kept prints kept' prints') (L : listing_side T (edges_by Shift T s (item_of c)) (item_of c) none total ≡ gathered ys m) where
   code-back : (item_of c).production * index_limit + (item_of c).index ≡ c
   unfolding item_of
   code-back = omega arith
 
   label_is : (j : ℕ) → j < length ys → (outline_from T.productions true (nth ys j)).label ≡ c
   unfolding outline_from
-  label_is j h = listed-first T F true s (item_of c) f none total m ys L j h ∙ code-back
+  label_is j h = listed-first T F Shift s (item_of c) f none total m ys L j h ∙ code-back
 
   made_here : (j : ℕ) → j < length ys → shift_made T s c j (nth ys j)
-  unfolding shift_made edges_by
+  unfolding shift_made
   made_here j h = record { before = total; few = let a = B.many in let b = B.few in omega arith; listed = record { examples = ys; trials = m; is = L; inside = h; there = refl } }
 
   pub shift_kept : SideKept T true (shift_made T s) (xs ++ ys) kept' prints'
@@ -90,16 +91,16 @@ module _ (T : Table) (F : TableFits T) (s c : ℕ) (f : item_is_fit T.production
     labels =
         each_of (λ k x. k < labelled_limit → KeptLabels T.productions kept' k x) xs ys total many
         (λ k h l. B.same_labels k (omega arith) l (nth xs k) (K.labels k h l)) B.new_labels;
-    fits = each_of (λ k x. ExampleFits T.productions x) xs ys total many K.fits (λ j h. listed-fits T F true s (item_of c) f none total m ys L j h);
-    shifts = λ e. each_of (λ k x. Shifts T.productions x) xs ys total many (K.shifts e) (λ j h. listed-shifts T F true s (item_of c) f none total m ys L j h i);
+    fits = each_of (λ k x. ExampleFits T.productions x) xs ys total many K.fits (λ j h. listed-fits T F Shift s (item_of c) f none total m ys L j h);
+    shifts = λ e. each_of (λ k x. Shifts T.productions x) xs ys total many (K.shifts e) (λ j h. listed-shifts T F Shift s (item_of c) f none total m ys L j h i);
   }
 
 -- a reduce's side
 
 module _ (T : Table) (F : TableFits T) (s p token : ℕ) (f : item_is_fit T.productions (item_of_reduce T p).production (item_of_reduce T p).index ≡ true) (kept prints kept' prints' : List ℕ) (R : Room kept' prints') where
   module _ (n m : ℕ) (ys : List Example) (B : Behind T.productions false 0 n ys kept prints kept' prints') (L : reduce_side T s p token ≡ gathered ys m) where
-    listing : listing_side T (edges_by false T s (item_of_reduce T p)) (item_of_reduce T p) (some (single token)) 0 ≡ gathered ys m
-    unfolding reduce_side edges_by
+    listing : listing_side T (edges_by Reduce T s (item_of_reduce T p)) (item_of_reduce T p) (some (single token)) 0 ≡ gathered ys m
+    unfolding reduce_side
     listing = L
 
     again_here : (k : ℕ) → k < length ys → (label turn : ℕ) → turn ≡ k → reduce_made T s p token label turn (nth ys k)
@@ -118,7 +119,7 @@ module _ (T : Table) (F : TableFits T) (s p token : ℕ) (f : item_is_fit T.prod
       };
       again = λ k h. again_here k h (outline_in kept' prints' k).label (turn_in kept' k) (from_zero (λ q. turn_in kept' q ≡ k) k (B.new_turn k h));
       labels = λ k h. from_zero (λ q. q < labelled_limit → KeptLabels T.productions kept' q (nth ys k)) k (B.new_labels k h);
-      fits = λ k h. listed-fits T F false s (item_of_reduce T p) f (some (single token)) 0 m ys listing k h;
+      fits = λ k h. listed-fits T F Reduce s (item_of_reduce T p) f (some (single token)) 0 m ys listing k h;
       shifts = λ e. absurd (true≢false (sym e));
     }
 

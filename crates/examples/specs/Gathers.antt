@@ -1,5 +1,5 @@
 -- What the functions that list a side answer, and what is kept of its examples. Assumes nothing: these are definitions.
-use Rattle.std.specs.Prelude.{◌≡◌, ℕ, zero, suc, ◌+◌, ◌<◌, ◌≤◌, Bool, true, List, length, ◌==◌, ◌≢◌, Result, Ok, Err}
+use Rattle.std.specs.Prelude.{◌≡◌, ℕ, zero, suc, ◌+◌, ◌<◌, ◌≤◌, Bool, true, false, List, length, ◌==◌, ◌≢◌, Result, Ok, Err}
 use Rattle.std.proofs.Math.Option.{none}
 use Rattle.repr.specs.Sizes.{reduction_limit, example_limit}
 use Rattle.repr.specs.declared.refusals.Refusal.{Refusal}
@@ -14,6 +14,8 @@ use Rattle.error.specs.Sides.{Side, gathered, stopped, listing_side, reduce_side
 use Rattle.outline.specs.Outline.{outline_from}
 use Rattle.outline.specs.Kept.{nth, outline_in, turn_in, labelled_limit, KeptLabels, Outlined}
 use Rattle.outline.specs.Inline.{Shifts}
+use Rattle.tracer.specs.declared.Action.{Action}
+use Rattle.tracer.specs.declared.Action.TheVariants.{Shift, Reduce}
 use Rattle.examples.specs.declared.Gathered.{Gathered}
 use Rattle.examples.specs.Again.{Listed}
 
@@ -55,6 +57,11 @@ ListedOn ps shift (Err x) count kept prints kept' prints' listing = Stops x list
 unfoldable pub TrialsIn : ℕ → Result Gathered Refusal → Type 0
 TrialsIn l (Ok g) = g.trials ≤ l
 TrialsIn l (Err x) = Unit {0}
+
+-- which of the two traces an example with such a label is of
+unfoldable pub shifts : Action → Bool
+shifts Shift = true
+shifts Reduce = false
 
 -- how an example with a kept label is made again: it is number k of the listing of its item, which began after some examples
 pub record Made (listing : ℕ → Side) (k : ℕ) (x : Example) : Type 0 where

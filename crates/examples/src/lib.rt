@@ -8,8 +8,6 @@ ghost use Rattle.slices.specs.Lent.{in_front};
 ghost use Rattle.repr.specs.Meaning.{no_production, Item as ItemOf};
 ghost use Rattle.repr.specs.Packed.{Packed, productions_in};
 ghost use Rattle.table.specs.Decoded.{meaning};
-ghost use Rattle.table.specs.Checked.{Accepted};
-ghost use Rattle.table.specs.Refusals.{check_of};
 ghost use Rattle.trace_graph.specs.Graph.{TraceEdge};
 ghost use Rattle.trace_graph.specs.Fits.{item_is_fit};
 ghost use Rattle.tracer.specs.Built.{edges_by};
@@ -26,72 +24,72 @@ ghost use Rattle.error.specs.Outcome.{conflict_fits};
 ghost use Rattle.outline.specs.Inline.{CodeFits};
 ghost use Rattle.examples.specs.Reads.{Reads};
 ghost use Rattle.examples.specs.Listing.{listed_by, Listable};
-ghost use Rattle.examples.specs.Gathers.{ListedOn, Sided, shift_made, reduce_made, action_made, is_shift, reduced, TrialsIn, PutBehind};
+ghost use Rattle.examples.specs.Gathers.{ListedOn, Sided, shifts, shift_made, reduce_made, action_made, is_shift, reduced, TrialsIn, PutBehind};
+ghost use Rattle.tracer.specs.declared.Action.TheVariants.{Reduce};
 ghost use Rattle.examples.specs.Again.{Listed, Finds};
 
+use codes::fill_least;
 use codes::viewing::view_codes;
-use codes::{EdgeCode, fill_least};
 use error::Conflict;
-use example::Example;
+use example::{Example, Labels};
 use first::FirstSets;
 use lookahead::TokenSet;
 use lr1_core::Item;
-use outline::{Outline, Side, outline_of};
-use repr::{Grammar, NonterminalString, ProductionIndex, Refusal};
+use outline::{Outline, Side, item_at, outline_of};
+use repr::{Grammar, ProductionIndex, Refusal};
 use search::{Searched, read_labels, search, write_trial};
 use shift_items::{conflicting_shift_items, next_shift_item};
 use state_graph::StateIndex;
-use table::{Counts, read_counts, read_productions};
+use table::AcceptedTable;
 use trace::reduce::suffix_ends;
 use trace_graph::Full;
-use tracer::trace_codes;
+use tracer::reduce::Reduction;
+use tracer::{Action, OpenTrace, Tracer, trace_codes};
 use view::View;
 
 // What tracing and listing read beside the table and its productions, made once for a table: FIRST sets, the least equal productions, which items have a nullable suffix.
 #[derive(Clone, Copy)]
 pub struct Prepared {
-    pub counts: Counts,
-    pub map: [u64; NonterminalString::LIMIT],
+    pub sets: FirstSets,
     pub least: [u8; ProductionIndex::LIMIT],
     pub ends: [u64; Item::FLAG_WORDS],
 }
 
 // Packs the productions into the words lent, and makes the rest.
-pub fn prepare(table: &[u16], grammar: &mut [u16]) -> Prepared
-    requires table_value { check_of table.now ≡ Accepted }
-    requires grammar_len { length grammar.old ≡ grammar_room }
-    ensures { Reads table.now grammar.new result.counts result.map result.least result.ends }
+pub fn prepare(table: AcceptedTable, words: &mut [u16]) -> Prepared
+    requires { length words.old ≡ grammar_room }
+    ensures { Reads table.entry.words.now words.new (length (meaning table.entry.words.now).productions) result.sets.terminals result.sets.map result.least result.ends }
 {
-    let counts = read_counts(table);
-    let productions = counts.productions;
-    let terminals = counts.terminals as u16;
-    read_productions(table, grammar);
-    let sets = FirstSets::new(Grammar { words: grammar, productions }, terminals);
-    let map = sets.map;
+    table.read_productions(words);
+    let counts = table.counts();
+    let grammar = Grammar {
+        words,
+        productions: counts.productions,
+    };
+    let sets = FirstSets::new(grammar, counts.terminals as u16);
     let mut least = [0u8; ProductionIndex::LIMIT];
-    fill_least(Grammar { words: grammar, productions }, &mut least);
+    fill_least(grammar, &mut least);
     let mut ends = [0u64; Item::FLAG_WORDS];
-    suffix_ends(Grammar { words: grammar, productions }, terminals, &map, &mut ends);
-    Prepared {
-        counts,
-        map,
-        least,
-        ends,
-    }
+    suffix_ends(grammar, &sets, &mut ends);
+    Prepared { sets, least, ends }
 }
 
 impl Prepared {
     // All of it, with the table and its packed productions.
-    pub fn given<'a>(&'a self, table: &'a [u16], grammar: &'a [u16]) -> Given<'a>
-        requires { Reads table.now grammar.now self.now.counts self.now.map self.now.least self.now.ends }
-        ensures tables { (result.table.now ≡ table.now) × (result.grammar.now ≡ grammar.now) × (result.counts ≡ self.now.counts) }
-        ensures sets { (result.map.now ≡ self.now.map) × (result.least.now ≡ self.now.least) × (result.ends.now ≡ self.now.ends) }
+    pub fn given<'a>(&'a self, table: AcceptedTable<'a>, words: &'a [u16]) -> Given<'a>
+        requires { Reads table.words.now words.now (length (meaning table.words.now).productions) self.now.sets.terminals self.now.sets.map self.now.least self.now.ends }
+        ensures table { result.table.words.now ≡ table.entry.words.now }
+        ensures grammar { (result.grammar.words.now ≡ words.now) × (result.grammar.productions ≡ length (meaning table.entry.words.now).productions) }
+        ensures sets { (result.sets.now ≡ self.now.sets) × (result.least.now ≡ self.now.least) × (result.ends.now ≡ self.now.ends) }
     {
+        let grammar = Grammar {
+            words,
+            productions: table.counts().productions,
+        };
         Given {
             table,
             grammar,
-            counts: self.counts,
-            map: &self.map,
+            sets: &self.sets,
             least: &self.least,
             ends: &self.ends,
         }
@@ -101,13 +99,20 @@ impl Prepared {
 // What gathering and judging are given of a table: the table, its packed productions, and what was prepared.
 #[derive(Clone, Copy)]
 pub struct Given<'a> {
-    pub table: &'a [u16],
-    pub grammar: &'a [u16],
-    pub counts: Counts,
-    pub map: &'a [u64; NonterminalString::LIMIT],
+    pub table: AcceptedTable<'a>,
+    pub grammar: Grammar<'a>,
+    pub sets: &'a FirstSets,
     pub least: &'a [u8],
     pub ends: &'a [u64],
-    pub ghost reads: { Reads table.now grammar.now counts map.now least.now ends.now },
+    pub ghost reads: { Reads table.words.now grammar.words.now grammar.productions sets.now.terminals sets.now.map least.now ends.now },
+}
+
+// A conflict of the table, its parts in range.
+#[derive(Clone, Copy)]
+pub struct TableConflict<'a> {
+    pub given: Given<'a>,
+    pub conflict: Conflict,
+    pub ghost fits: { conflict_fits (meaning given.table.words.now) conflict ≡ true },
 }
 
 // How many examples are kept of a side, and how many trials were made.
@@ -117,93 +122,77 @@ pub struct Gathered {
     pub trials: u32,
 }
 
-// An item that is traced from a state, as a shift's or as a reduce's: a yes or no, as what it picks is defined by (`edges_by`, `label_of`).
+// An item that is traced from a state, as a shift's or as a reduce's.
 #[derive(Clone, Copy)]
 pub struct Traced {
     pub state: StateIndex,
-    pub production: usize,
-    pub index: usize,
-    pub shift: bool,
+    pub item: Item,
+    pub action: Action,
+}
+
+impl Traced {
+    // Whether as a shift's: a yes or no, as what is kept of an example is defined by (`label_of`).
+    #[tactic(auto, unfolding(crate::specs::Gathers::shifts))]
+    fn shifts(self) -> bool
+        ensures { result ≡ shifts self.action }
+    {
+        matches!(self.action, Action::Shift)
+    }
 }
 
 // The outline of the trial that the words hold, kept as example `count` of its side, number `turn` of its listing; and the labels of the side's first.
 fn keep_trial(
     grammar: Grammar,
     shift: bool,
-    owners: &[u8],
-    codes: &[u16],
+    view: View,
     words: &[u16],
     side: &mut Side,
     count: usize,
     turn: usize,
 )
-    requires tried { (es : List TraceEdge) × Tried (productions_in grammar.words.now grammar.productions) es owners.now codes.now words.now }
+    requires tried { (es : List TraceEdge) × Tried (productions_in grammar.words.now grammar.productions) es view.owners.now view.codes.now words.now }
     requires count_in_bounds { (count < example_limit) × (turn < example_limit) }
-    ensures { (es : List TraceEdge) → Tried (productions_in grammar.entry.words.now grammar.entry.productions) es owners.now codes.now words.now → (p rest : List ℕ) → words.now ≡ trial_words p ++ rest → PutBehind (productions_in grammar.entry.words.now grammar.entry.productions) shift (labels_of (productions_in grammar.entry.words.now grammar.entry.productions) es p) turn count side.old.kept side.old.prints side.new.kept side.new.prints }
+    ensures { (es : List TraceEdge) → Tried (productions_in grammar.entry.words.now grammar.entry.productions) es view.entry.owners.now view.entry.codes.now words.now → (p rest : List ℕ) → words.now ≡ trial_words p ++ rest → PutBehind (productions_in grammar.entry.words.now grammar.entry.productions) shift (labels_of (productions_in grammar.entry.words.now grammar.entry.productions) es p) turn count side.old.kept side.old.prints side.new.kept side.new.prints }
 {
-    let mut labels = [0u16; Example::ALL_LABEL_WORDS];
-    let size = read_labels(owners, codes, words, &mut labels);
-    let outline = outline_of(grammar, &labels[..size], shift);
+    let mut room = [0u16; Example::ALL_LABEL_WORDS];
+    let size = read_labels(view, words, &mut room);
+    let labels = Labels {
+        grammar,
+        words: &room[..size],
+    };
+    let outline = outline_of(labels, shift);
     side.keep(outline, turn, count);
     if count < Outline::LABELLED {
-        side.keep_labels(&labels[..size], count);
+        side.keep_labels(&room[..size], count);
     }
 }
 
 // Every example of a listing, its outline put behind the `count` of its side; the search goes from one to the next. Example 193 of the side is refusal 14, trial 100,001 refusal 13. The view says from which item.
 fn list_outlines(
-    grammar: &[u16],
-    counts: Counts,
-    map: &[u64; NonterminalString::LIMIT],
+    grammar: Grammar,
+    sets: &FirstSets,
     lookahead: Option<TokenSet>,
     shift: bool,
-    owners: &[u8],
-    codes: &[u16],
-    sources: &[u8],
-    older: &[u16],
-    latest: &[u16],
+    view: View,
     side: &mut Side,
     count: usize,
 ) -> Result<Gathered, Refusal>
-    requires packed { Packed grammar.now counts.productions × (counts.terminals ≤ 63) }
-    requires listable { (es : List TraceEdge) × ((start : ItemOf) × Listable (productions_in grammar.now counts.productions) es owners.now codes.now sources.now older.now latest.now start) }
+    requires listable { (es : List TraceEdge) × ((start : ItemOf) × Listable (productions_in grammar.words.now grammar.productions) es view.owners.now view.codes.now view.sources.now view.older.now view.latest.now start) }
     requires count_in_bounds { count ≤ example_limit }
-    ensures listed_on { (es : List TraceEdge) (start : ItemOf) → Listable (productions_in grammar.now counts.productions) es owners.now codes.now sources.now older.now latest.now start → ListedOn (productions_in grammar.now counts.productions) shift result count side.old.kept side.old.prints side.new.kept side.new.prints (listed_by counts.terminals map.now (productions_in grammar.now counts.productions) es (set_of lookahead) start count) }
+    ensures listed_on { (es : List TraceEdge) (start : ItemOf) → Listable (productions_in grammar.entry.words.now grammar.entry.productions) es view.entry.owners.now view.entry.codes.now view.entry.sources.now view.entry.older.now view.entry.latest.now start → ListedOn (productions_in grammar.entry.words.now grammar.entry.productions) shift result count side.old.kept side.old.prints side.new.kept side.new.prints (listed_by sets.now.terminals sets.now.map (productions_in grammar.entry.words.now grammar.entry.productions) es (set_of lookahead) start count) }
     ensures trials_in { TrialsIn trial_limit result }
 {
     let mut words = [0u16; View::TRIAL];
-    let productions = counts.productions;
-    let terminals = counts.terminals as u16;
     let mut turn: usize = 0;
     let mut made: u32 = 0;
+    // Each search tells by its answer whether there is another.
     loop {
-        match search(
-            Grammar { words: grammar, productions },
-            terminals,
-            map,
-            lookahead,
-            owners,
-            codes,
-            sources,
-            older,
-            latest,
-            &mut words,
-            made,
-        ) {
+        match search(grammar, sets, lookahead, view, &mut words, made) {
             Searched::Hit(number) => {
                 if count + turn >= Conflict::EXAMPLES {
                     return Err(Refusal::TooManyExamples);
                 }
-                keep_trial(
-                    Grammar { words: grammar, productions },
-                    shift,
-                    owners,
-                    codes,
-                    &words,
-                    side,
-                    count + turn,
-                    turn,
-                );
+                keep_trial(grammar, shift, view, &words, side, count + turn, turn);
                 turn += 1;
                 made = number;
             }
@@ -224,38 +213,32 @@ fn list_outlines(
 fn open_view(
     given: Given,
     traced: Traced,
-    words: &mut [u16],
+    trace: &mut OpenTrace,
     owners: &mut [u8],
     sources: &mut [u8],
     older: &mut [u16],
     latest: &mut [u16],
 ) -> Result<(), Full>
-    requires state_in_bounds { (traced.state.0 < length (meaning given.table.now).states) × (item_is_fit (meaning given.table.now).productions traced.production traced.index ≡ true) }
-    requires words_len { (length words.old ≡ codes_room) × (length owners.old ≡ edge_limit) }
+    requires state_in_bounds { (traced.state.0 < length (meaning given.table.words.now).states) × (item_is_fit (meaning given.table.words.now).productions traced.item.production traced.item.index ≡ true) }
+    requires owners_len { length owners.old ≡ edge_limit }
     requires sources_value { (sources.old ≡ replicate edge_limit 0) × ((older.old ≡ replicate edge_limit 0) × (latest.old ≡ replicate latest_room 0)) }
-    ensures listable { OnOk result (Listable (meaning given.entry.table.now).productions (edges_by traced.shift (meaning given.entry.table.now) traced.state.0 (record { production = traced.production; index = traced.index })) owners.new (drop 1 words.new) sources.new older.new latest.new (record { production = traced.production; index = traced.index })) }
-    ensures edge_limit_in_bounds { OnErr result (edge_limit < length (edges_by traced.shift (meaning given.entry.table.now) traced.state.0 (record { production = traced.production; index = traced.index }))) }
+    ensures listable { OnOk result (Listable (meaning given.entry.table.words.now).productions (edges_by traced.action (meaning given.entry.table.words.now) traced.state.0 (record { production = traced.item.production; index = traced.item.index })) owners.new (drop 1 trace.new.edges.words) sources.new older.new latest.new (record { production = traced.item.production; index = traced.item.index })) }
+    ensures edge_limit_in_bounds { OnErr result (edge_limit < length (edges_by traced.action (meaning given.entry.table.words.now) traced.state.0 (record { production = traced.item.production; index = traced.item.index }))) }
 {
-    let state = traced.state.0 as usize;
-    let production = traced.production;
-    let index = traced.index;
-    trace_codes(
-        given.table,
-        given.grammar,
-        given.counts.productions,
-        given.least,
-        given.ends,
-        words,
-        state,
-        production,
-        index,
-        traced.shift,
-    )?;
+    let tracer = Tracer {
+        table: given.table,
+        grammar: given.grammar,
+        least: given.least,
+    };
+    let over = Reduction {
+        tracer,
+        ends: given.ends,
+    };
+    trace_codes(over, traced.action, traced.state.0 as usize, traced.item, trace)?;
     view_codes(
         given.grammar,
-        words,
-        production,
-        index,
+        &trace.edges,
+        traced.item,
         owners,
         sources,
         older,
@@ -272,40 +255,43 @@ fn list_item(
     side: &mut Side,
     count: usize,
 ) -> Result<Gathered, Refusal>
-    requires state_in_bounds { (traced.state.0 < length (meaning given.table.now).states) × (item_is_fit (meaning given.table.now).productions traced.production traced.index ≡ true) }
+    requires state_in_bounds { (traced.state.0 < length (meaning given.table.words.now).states) × (item_is_fit (meaning given.table.words.now).productions traced.item.production traced.item.index ≡ true) }
     requires count_in_bounds { count ≤ example_limit }
-    ensures listed_on { ListedOn (meaning given.entry.table.now).productions traced.shift result count side.old.kept side.old.prints side.new.kept side.new.prints (listing_side (meaning given.entry.table.now) (edges_by traced.shift (meaning given.entry.table.now) traced.state.0 (record { production = traced.production; index = traced.index })) (record { production = traced.production; index = traced.index }) (set_of lookahead) count) }
+    ensures listed_on { ListedOn (meaning given.entry.table.words.now).productions (shifts traced.action) result count side.old.kept side.old.prints side.new.kept side.new.prints (listing_side (meaning given.entry.table.words.now) (edges_by traced.action (meaning given.entry.table.words.now) traced.state.0 (record { production = traced.item.production; index = traced.item.index })) (record { production = traced.item.production; index = traced.item.index }) (set_of lookahead) count) }
     ensures trials_in { TrialsIn trial_limit result }
 {
-    let mut words = [0u16; EdgeCode::WORDS];
+    let mut trace = OpenTrace::new();
     let mut owners = [0u8; View::EDGES];
     let mut sources = [0u8; View::EDGES];
     let mut older = [0u16; View::EDGES];
     let mut latest = [0u16; View::NODES];
-    let shift = traced.shift;
     match open_view(
         given,
         traced,
-        &mut words,
+        &mut trace,
         &mut owners,
         &mut sources,
         &mut older,
         &mut latest,
     ) {
-        Ok(()) => list_outlines(
-            given.grammar,
-            given.counts,
-            given.map,
-            lookahead,
-            shift,
-            &owners,
-            &words[1..],
-            &sources,
-            &older,
-            &latest,
-            side,
-            count,
-        ),
+        Ok(()) => {
+            let view = View {
+                sources: &sources,
+                older: &older,
+                latest: &latest,
+                owners: &owners,
+                codes: &trace.edges.words[1..],
+            };
+            list_outlines(
+                given.grammar,
+                given.sets,
+                lookahead,
+                traced.shifts(),
+                view,
+                side,
+                count,
+            )
+        }
         Err(Full) => Err(Refusal::TooManyEdges),
     }
 }
@@ -317,16 +303,14 @@ fn shift_examples(
     token: usize,
     side: &mut Side,
 ) -> Result<Gathered, Refusal>
-    requires state_in_bounds { state.0 < length (meaning given.table.now).states }
-    ensures { Sided (meaning given.entry.table.now) true (shift_made (meaning given.entry.table.now) state.0) result side.new.kept side.new.prints (shift_side (meaning given.entry.table.now) state.0 token) }
+    requires state_in_bounds { state.0 < length (meaning given.table.words.now).states }
+    ensures { Sided (meaning given.entry.table.words.now) true (shift_made (meaning given.entry.table.words.now) state.0) result side.new.kept side.new.prints (shift_side (meaning given.entry.table.words.now) state.0 token) }
 {
     let mut order = [0u16; ProductionIndex::LIMIT];
     let mut marks = [0u64; Item::FLAG_WORDS];
-    let productions = given.counts.productions;
     conflicting_shift_items(
         given.table,
         given.grammar,
-        productions,
         state.0 as usize,
         &mut order,
         &mut marks,
@@ -336,19 +320,11 @@ fn shift_examples(
         trials: 0,
     };
     let mut from: usize = 0;
-    while let Some((place, code)) = next_shift_item(
-        given.grammar,
-        productions,
-        token,
-        &order,
-        &marks,
-        from,
-    ) {
+    while let Some((place, code)) = next_shift_item(given.grammar, token, &order, &marks, from) {
         let traced = Traced {
             state,
-            production: code / ProductionIndex::INDEXES,
-            index: code % ProductionIndex::INDEXES,
-            shift: true,
+            item: item_at(code),
+            action: Action::Shift,
         };
         let listed = list_item(given, None, traced, side, gathered.examples)?;
         gathered.examples = listed.examples;
@@ -361,17 +337,15 @@ fn shift_examples(
 // A production at its end, as a reduce traces it.
 fn reduce_item(grammar: Grammar, state: StateIndex, production: usize) -> Traced
     requires { production < grammar.productions }
-    ensures { result ≡ record { state = state; production = production; index = length (slice_index_or (productions_in grammar.entry.words.now grammar.entry.productions) production no_production).symbols; shift = false } }
+    ensures { result ≡ record { state = state; item = record { production = production; index = length (slice_index_or (productions_in grammar.entry.words.now grammar.entry.productions) production no_production).symbols }; action = Reduce } }
 {
-    let item = Item {
-        production,
-        index: 0,
-    };
     Traced {
         state,
-        production,
-        index: item.length(grammar),
-        shift: false,
+        item: Item {
+            production,
+            index: grammar.length(production),
+        },
+        action: Action::Reduce,
     }
 }
 
@@ -383,10 +357,10 @@ fn reduce_examples(
     token: u16,
     side: &mut Side,
 ) -> Result<Gathered, Refusal>
-    requires state_in_bounds { (state.0 < length (meaning given.table.now).states) × ((production < length (meaning given.table.now).productions) × (token ≤ (meaning given.table.now).terminals)) }
-    ensures { Sided (meaning given.entry.table.now) false (reduce_made (meaning given.entry.table.now) state.0 production token) result side.new.kept side.new.prints (reduce_side (meaning given.entry.table.now) state.0 production token) }
+    requires state_in_bounds { (state.0 < length (meaning given.table.words.now).states) × ((production < length (meaning given.table.words.now).productions) × (token ≤ (meaning given.table.words.now).terminals)) }
+    ensures { Sided (meaning given.entry.table.words.now) false (reduce_made (meaning given.entry.table.words.now) state.0 production token) result side.new.kept side.new.prints (reduce_side (meaning given.entry.table.words.now) state.0 production token) }
 {
-    let traced = reduce_item(given.grammar, given.counts.productions, state, production);
+    let traced = reduce_item(given.grammar, state, production);
     let tokens = TokenSet::from(token);
     list_item(given, Some(tokens), traced, side, 0)
 }
@@ -404,13 +378,13 @@ pub fn reduced(conflict: Conflict) -> Conflict
 
 // The side of the conflict's action.
 pub fn action_examples(
-    given: Given,
-    conflict: Conflict,
+    case: TableConflict,
     side: &mut Side,
 ) -> Result<Gathered, Refusal>
-    requires conflict_value { conflict_fits (meaning given.table.now) conflict ≡ true }
-    ensures { Sided (meaning given.entry.table.now) (is_shift conflict) (action_made (meaning given.entry.table.now) conflict) result side.new.kept side.new.prints (action_side_of (meaning given.entry.table.now) conflict.state.0 conflict.action conflict.operand conflict.token) }
+    ensures { Sided (meaning case.entry.given.table.words.now) (is_shift case.entry.conflict) (action_made (meaning case.entry.given.table.words.now) case.entry.conflict) result side.new.kept side.new.prints (action_side_of (meaning case.entry.given.table.words.now) case.entry.conflict.state.0 case.entry.conflict.action case.entry.conflict.operand case.entry.conflict.token) }
 {
+    let given = case.given;
+    let conflict = case.conflict;
     let state = conflict.state;
     let operand = conflict.operand as usize;
     let token = conflict.token;
@@ -422,42 +396,22 @@ pub fn action_examples(
 
 // From no edge on, past `wanted` examples of a listing: whether the words hold the next.
 fn find_example(
-    grammar: &[u16],
-    counts: Counts,
-    map: &[u64; NonterminalString::LIMIT],
+    grammar: Grammar,
+    sets: &FirstSets,
     lookahead: Option<TokenSet>,
-    owners: &[u8],
-    codes: &[u16],
-    sources: &[u8],
-    older: &[u16],
-    latest: &[u16],
+    view: View,
     words: &mut [u16],
     wanted: usize,
 ) -> bool
-    requires packed { Packed grammar.now counts.productions × (counts.terminals ≤ 63) }
-    requires listable { (es : List TraceEdge) × ((start : ItemOf) × Listable (productions_in grammar.now counts.productions) es owners.now codes.now sources.now older.now latest.now start) }
+    requires listable { (es : List TraceEdge) × ((start : ItemOf) × Listable (productions_in grammar.words.now grammar.productions) es view.owners.now view.codes.now view.sources.now view.older.now view.latest.now start) }
     requires by_index { (rest : List ℕ) × (words.old ≡ trial_words [] ++ rest) }
-    ensures { (es : List TraceEdge) (start : ItemOf) → Listable (productions_in grammar.now counts.productions) es owners.now codes.now sources.now older.now latest.now start → Finds (productions_in grammar.now counts.productions) es owners.now codes.now result (λ k. listed_by counts.terminals map.now (productions_in grammar.now counts.productions) es (set_of lookahead) start k) wanted words.new }
+    ensures { (es : List TraceEdge) (start : ItemOf) → Listable (productions_in grammar.entry.words.now grammar.entry.productions) es view.entry.owners.now view.entry.codes.now view.entry.sources.now view.entry.older.now view.entry.latest.now start → Finds (productions_in grammar.entry.words.now grammar.entry.productions) es view.entry.owners.now view.entry.codes.now result (λ k. listed_by sets.now.terminals sets.now.map (productions_in grammar.entry.words.now grammar.entry.productions) es (set_of lookahead) start k) wanted words.new }
 {
-    let productions = counts.productions;
-    let terminals = counts.terminals as u16;
     // Counted beside the searches: with a range the last search would stand once more behind the loop.
     let mut left = wanted;
     let mut made: u32 = 0;
     loop {
-        match search(
-            Grammar { words: grammar, productions },
-            terminals,
-            map,
-            lookahead,
-            owners,
-            codes,
-            sources,
-            older,
-            latest,
-            words,
-            made,
-        ) {
+        match search(grammar, sets, lookahead, view, words, made) {
             Searched::Hit(number) => {
                 if left == 0 {
                     return true;
@@ -483,11 +437,11 @@ fn item_again(
     wanted: usize,
     buffer: &mut [u16],
 )
-    requires state_in_bounds { (traced.state.0 < length (meaning given.table.now).states) × (item_is_fit (meaning given.table.now).productions traced.production traced.index ≡ true) }
+    requires state_in_bounds { (traced.state.0 < length (meaning given.table.words.now).states) × (item_is_fit (meaning given.table.words.now).productions traced.item.production traced.item.index ≡ true) }
     requires example_room_in_bounds { example_room ≤ length buffer.old }
-    ensures { (k : ℕ) (x : ExampleOf) → k ≤ example_limit → Listed (listing_side (meaning given.entry.table.now) (edges_by traced.shift (meaning given.entry.table.now) traced.state.0 (record { production = traced.production; index = traced.index })) (record { production = traced.production; index = traced.index }) (set_of lookahead) k) wanted x → buffer.new ≡ in_front (example_words (meaning given.entry.table.now).productions x) buffer.old }
+    ensures { (k : ℕ) (x : ExampleOf) → k ≤ example_limit → Listed (listing_side (meaning given.entry.table.words.now) (edges_by traced.action (meaning given.entry.table.words.now) traced.state.0 (record { production = traced.item.production; index = traced.item.index })) (record { production = traced.item.production; index = traced.item.index }) (set_of lookahead) k) wanted x → buffer.new ≡ in_front (example_words (meaning given.entry.table.words.now).productions x) buffer.old }
 {
-    let mut words = [0u16; EdgeCode::WORDS];
+    let mut trace = OpenTrace::new();
     let mut owners = [0u8; View::EDGES];
     let mut sources = [0u8; View::EDGES];
     let mut older = [0u16; View::EDGES];
@@ -495,35 +449,23 @@ fn item_again(
     match open_view(
         given,
         traced,
-        &mut words,
+        &mut trace,
         &mut owners,
         &mut sources,
         &mut older,
         &mut latest,
     ) {
         Ok(()) => {
+            let view = View {
+                sources: &sources,
+                older: &older,
+                latest: &latest,
+                owners: &owners,
+                codes: &trace.edges.words[1..],
+            };
             let mut trial = [0u16; View::TRIAL];
-            if find_example(
-                given.grammar,
-                given.counts,
-                given.map,
-                lookahead,
-                &owners,
-                &words[1..],
-                &sources,
-                &older,
-                &latest,
-                &mut trial,
-                wanted,
-            ) {
-                write_trial(
-                    given.grammar,
-                    given.counts.productions,
-                    &owners,
-                    &words[1..],
-                    &trial,
-                    buffer,
-                );
+            if find_example(given.grammar, given.sets, lookahead, view, &mut trial, wanted) {
+                write_trial(given.grammar, view, &trial, buffer);
             }
         }
         Err(Full) => {}
@@ -539,37 +481,36 @@ fn reduce_again(
     wanted: usize,
     buffer: &mut [u16],
 )
-    requires state_in_bounds { (state.0 < length (meaning given.table.now).states) × ((production < length (meaning given.table.now).productions) × (token ≤ (meaning given.table.now).terminals)) }
+    requires state_in_bounds { (state.0 < length (meaning given.table.words.now).states) × ((production < length (meaning given.table.words.now).productions) × (token ≤ (meaning given.table.words.now).terminals)) }
     requires example_room_in_bounds { example_room ≤ length buffer.old }
-    ensures { (label : ℕ) (x : ExampleOf) → reduce_made (meaning given.entry.table.now) state.0 production token label wanted x → buffer.new ≡ in_front (example_words (meaning given.entry.table.now).productions x) buffer.old }
+    ensures { (label : ℕ) (x : ExampleOf) → reduce_made (meaning given.entry.table.words.now) state.0 production token label wanted x → buffer.new ≡ in_front (example_words (meaning given.entry.table.words.now).productions x) buffer.old }
 {
-    let traced = reduce_item(given.grammar, given.counts.productions, state, production);
+    let traced = reduce_item(given.grammar, state, production);
     let tokens = TokenSet::from(token);
     item_again(given, Some(tokens), traced, wanted, buffer);
 }
 
 // An example of the side of the conflict's action made again: of a shift the item is the label kept.
 pub fn action_again(
-    given: Given,
-    conflict: Conflict,
+    case: TableConflict,
     label: usize,
     wanted: usize,
     buffer: &mut [u16],
 )
-    requires conflict_value { conflict_fits (meaning given.table.now) conflict ≡ true }
-    requires code_fits { is_shift conflict ≡ true → CodeFits (meaning given.table.now).productions label }
+    requires code_fits { is_shift case.conflict ≡ true → CodeFits (meaning case.given.table.words.now).productions label }
     requires example_room_in_bounds { example_room ≤ length buffer.old }
-    ensures { (x : ExampleOf) → action_made (meaning given.entry.table.now) conflict label wanted x → buffer.new ≡ in_front (example_words (meaning given.entry.table.now).productions x) buffer.old }
+    ensures { (x : ExampleOf) → action_made (meaning case.entry.given.table.words.now) case.entry.conflict label wanted x → buffer.new ≡ in_front (example_words (meaning case.entry.given.table.words.now).productions x) buffer.old }
 {
+    let given = case.given;
+    let conflict = case.conflict;
     let state = conflict.state;
     let operand = conflict.operand as usize;
     let token = conflict.token;
     if conflict.action == 0 {
         let traced = Traced {
             state,
-            production: label / ProductionIndex::INDEXES,
-            index: label % ProductionIndex::INDEXES,
-            shift: true,
+            item: item_at(label),
+            action: Action::Shift,
         };
         item_again(given, None, traced, wanted, buffer);
     } else {

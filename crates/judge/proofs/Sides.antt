@@ -17,7 +17,6 @@ use Rattle.repr.proofs.Lists.{clash}
 use Rattle.repr.proofs.Listed.{and_left, and_right}
 use Rattle.repr.proofs.Tests.{All_at, All_intro}
 use Rattle.slices.specs.Lent.{in_front}
-use Rattle.table.specs.declared.Counts.{Counts}
 use Rattle.table.specs.Decoded.{meaning}
 use Rattle.table.proofs.Decoding.{fits}
 use Rattle.first.specs.First.{sets_of_first}
@@ -119,22 +118,22 @@ shift_is c e = eq-eqb c.action 0 e
 
 -- what is read of a table
 
-module _ (t g : List ℕ) (counts : Counts) (sets least ends : List ℕ) (R : Reads t g counts sets least ends) where
+module _ (t g : List ℕ) (productions terminals : ℕ) (sets least ends : List ℕ) (R : Reads t g productions terminals sets least ends) where
   abbrev T : Table
   T = meaning t
 
   pub table_fits : TableFits T
   table_fits = fits t R.accepted
 
-  pub reads_grammar : Grammar T g counts.productions
+  pub reads_grammar : Grammar T g productions
   reads_grammar = record { packed = R.packed; same = R.same; many = R.many }
 
-  pub reads_ready : Packed g counts.productions × (counts.terminals ≤ terminal_limit)
+  pub reads_ready : Packed g productions × (terminals ≤ terminal_limit)
   reads_ready = (R.packed, omega (arith, R.tokens, table_fits.few_terminals))
 
   pub reads_owner : (p : ℕ) → p < length T.productions → (w : ℕ) → w ≡ get_or g (production_place p) 0 → (w ≡ (production_at T p).nonterminal) × (w < length T.nonterminals)
   reads_owner p h w e =
-      let q : w ≡ (production_at T p).nonterminal = e ∙ sym (owner_is g counts.productions R.packed p (omega (arith, R.many))) ∙ ap (λ (ps : List Production). (get_or ps p no_production).nonterminal) R.same in
+      let q : w ≡ (production_at T p).nonterminal = e ∙ sym (owner_is g productions R.packed p (omega (arith, R.many))) ∙ ap (λ (ps : List Production). (get_or ps p no_production).nonterminal) R.same in
       let f = (All_at (ProductionFits T) T.productions p no_production table_fits.productions h).owner in
       (q, omega arith)
 

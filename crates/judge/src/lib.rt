@@ -1,4 +1,4 @@
-// The class of a conflict from what is kept of its examples (`classify` and the three `try_classify_` of lr1/error/mod.rs; part 8 of document 01, request 06 of document 02). Of either side the code has what is kept of the examples, and their order: of the action side `actions`, `rows`, of the reduce side `reduces`, `columns`.
+// The class of a conflict from what is kept of its examples (`classify` and the three `try_classify_` of lr1/error/mod.rs; part 8 of document 01, request 06 of document 02). Of either side the code has what is kept of the examples, and their order: of the action side `actions`, of the reduce side `reduces`.
 
 #![tactic(auto)]
 
@@ -6,30 +6,27 @@ ghost use Rattle.std.specs.Prelude.{◌≡◌, true, false, List, ◌+◌, ◌�
 ghost use Rattle.repr.specs.Sizes.{example_room};
 ghost use Rattle.repr.specs.Meaning.{Table, Production, no_production, is_same_symbol};
 ghost use Rattle.repr.specs.Listed.{symbol_of_kind};
-ghost use Rattle.repr.specs.Packed.{Packed, productions_in};
+ghost use Rattle.repr.specs.Packed.{productions_in};
 ghost use Rattle.slices.specs.Same.{same_words};
 ghost use Rattle.slices.specs.Lent.{in_front};
 ghost use Rattle.table.specs.Decoded.{meaning};
-ghost use Rattle.table.specs.Checked.{Accepted};
-ghost use Rattle.table.specs.Refusals.{check_of};
 ghost use Rattle.example.specs.Example.{example_words};
 ghost use Rattle.error.specs.Judge.{Example, is_same_reading, is_operator_of, ambiguity_of_shift, ambiguity_of_reduce, ambiguity_of, question_of, inline_or, unambiguous, judge};
 ghost use Rattle.error.specs.Sorted.{first_fit};
 ghost use Rattle.error.specs.Judge as judging;
 ghost use Rattle.error.specs.Outcome.{conflict_fits};
-ghost use Rattle.shift_items.specs.Codes.{Grammar};
+ghost use Rattle.shift_items.specs.Codes.{Grammar as GrammarOf};
 ghost use Rattle.outline.specs.Kept.{nth};
-ghost use Rattle.examples.specs.Reads.{Reads};
 ghost use Rattle.examples.specs.Gathers.{SideKept, is_shift, action_made, reduce_made};
 ghost use Rattle.judge.specs.Judging.{InBuffer, Sides, Ordered, picked, pair_in, heads_in, both, Judges, ReadAlike, question_in, QuestionFits, optional_one};
 
 use error::{Class, Conflict};
 use example::Example as ExampleBuffer;
-use examples::{Given, action_again, reduced};
+use examples::{TableConflict, action_again, reduced};
 use outline::{Outline, Side};
-use pairs::{Test, first_pair};
+use pairs::{SortedSide, Test, first_pair};
 use repr::{Grammar, NonterminalString, ProductionIndex, word};
-use table::{Counts, first_production, production};
+use table::AcceptedTable;
 
 // A class and the examples that are shown with it, by their numbers.
 #[derive(Clone, Copy)]
@@ -40,19 +37,18 @@ pub struct Judged {
 }
 
 // Example k of the side of the conflict's action, written at the front of a buffer: from its labels where they are kept, else made again.
-pub fn write_example(given: Given, conflict: Conflict, side: &Side, k: usize, buffer: &mut [u16])
-    requires conflict_value { conflict_fits (meaning given.table.now) conflict ≡ true }
-    requires side_kept { (xs : List Example) × (SideKept (meaning given.table.now) (is_shift conflict) (action_made (meaning given.table.now) conflict) xs side.now.kept side.now.prints × (k < length xs)) }
+pub fn write_example(case: TableConflict, side: &Side, k: usize, buffer: &mut [u16])
+    requires side_kept { (xs : List Example) × (SideKept (meaning case.given.table.words.now) (is_shift case.conflict) (action_made (meaning case.given.table.words.now) case.conflict) xs side.now.kept side.now.prints × (k < length xs)) }
     requires example_room_in_bounds { example_room ≤ length buffer.old }
-    ensures { (xs : List Example) → SideKept (meaning given.entry.table.now) (is_shift conflict) (action_made (meaning given.entry.table.now) conflict) xs side.now.kept side.now.prints → k < length xs → buffer.new ≡ in_front (example_words (meaning given.entry.table.now).productions (nth xs k)) buffer.old }
+    ensures { (xs : List Example) → SideKept (meaning case.entry.given.table.words.now) (is_shift case.entry.conflict) (action_made (meaning case.entry.given.table.words.now) case.entry.conflict) xs side.now.kept side.now.prints → k < length xs → buffer.new ≡ in_front (example_words (meaning case.entry.given.table.words.now).productions (nth xs k)) buffer.old }
 {
     if k < Outline::LABELLED {
-        side.write_kept(given.grammar, given.counts.productions, k, buffer);
+        side.write_kept(case.given.grammar, k, buffer);
         return;
     }
     let outline = side.outline(k);
     let turn = side.turn(k);
-    action_again(given, conflict, outline.label, turn, buffer);
+    action_again(case, outline.label, turn, buffer);
 }
 
 // Whether two examples have the same symbols and the same cursor.
@@ -73,56 +69,51 @@ fn same_reading(action: &[u16], reduce: &[u16]) -> bool
 
 // Whether examples x and y, made again, are read alike.
 fn same_again(
-    given: Given,
-    conflict: Conflict,
+    case: TableConflict,
     actions: &Side,
     x: usize,
     reduces: &Side,
     y: usize,
 ) -> bool
-    requires conflict_value { conflict_fits (meaning given.table.now) conflict ≡ true }
-    requires sides { (xs : List Example) × ((ys : List Example) × (Sides (meaning given.table.now) conflict xs ys actions.now.kept actions.now.prints reduces.now.kept reduces.now.prints × ((x < length xs) × (y < length ys)))) }
-    ensures { (xs ys : List Example) → Sides (meaning given.entry.table.now) conflict xs ys actions.now.kept actions.now.prints reduces.now.kept reduces.now.prints → x < length xs → y < length ys → result ≡ is_same_reading (meaning given.entry.table.now).productions (nth xs x) (nth ys y) }
+    requires { (xs : List Example) × ((ys : List Example) × (Sides (meaning case.given.table.words.now) case.conflict xs ys actions.now.kept actions.now.prints reduces.now.kept reduces.now.prints × ((x < length xs) × (y < length ys)))) }
+    ensures { (xs ys : List Example) → Sides (meaning case.entry.given.table.words.now) case.entry.conflict xs ys actions.now.kept actions.now.prints reduces.now.kept reduces.now.prints → x < length xs → y < length ys → result ≡ is_same_reading (meaning case.entry.given.table.words.now).productions (nth xs x) (nth ys y) }
 {
     let mut action = [0u16; ExampleBuffer::WORDS];
     let mut reduce = [0u16; ExampleBuffer::WORDS];
-    write_example(given, conflict, actions, x, &mut action);
-    write_example(given, reduced(conflict), reduces, y, &mut reduce);
+    let other = TableConflict {
+        given: case.given,
+        conflict: reduced(case.conflict),
+    };
+    write_example(case, actions, x, &mut action);
+    write_example(other, reduces, y, &mut reduce);
     same_reading(&action, &reduce)
 }
 
 // `try_classify_ambiguity`: the first pair that is read alike, by the numbers of its examples. Prints are equal where two are read alike; where they are equal both are made again and compared, and if they differ the search goes on behind them.
 fn try_classify_ambiguity(
-    given: Given,
-    conflict: Conflict,
-    actions: &Side,
-    rows: &[u16],
-    reduces: &Side,
-    columns: &[u16],
+    case: TableConflict,
+    actions: SortedSide,
+    reduces: SortedSide,
 ) -> Option<(usize, usize)>
-    requires conflict_value { conflict_fits (meaning given.table.now) conflict ≡ true }
-    requires sides { (xs : List Example) × ((ys : List Example) × (Sides (meaning given.table.now) conflict xs ys actions.now.kept actions.now.prints reduces.now.kept reduces.now.prints × (Ordered xs rows.now × Ordered ys columns.now))) }
-    ensures { (xs ys : List Example) → Sides (meaning given.entry.table.now) conflict xs ys actions.now.kept actions.now.prints reduces.now.kept reduces.now.prints → Ordered xs rows.now → Ordered ys columns.now → ReadAlike (meaning given.entry.table.now).productions xs ys rows.now columns.now result }
+    requires { (xs : List Example) × ((ys : List Example) × (Sides (meaning case.given.table.words.now) case.conflict xs ys actions.side.now.kept actions.side.now.prints reduces.side.now.kept reduces.side.now.prints × (Ordered xs actions.order.now × Ordered ys reduces.order.now))) }
+    ensures { (xs ys : List Example) → Sides (meaning case.entry.given.table.words.now) case.entry.conflict xs ys actions.entry.side.now.kept actions.entry.side.now.prints reduces.entry.side.now.kept reduces.entry.side.now.prints → Ordered xs actions.entry.order.now → Ordered ys reduces.entry.order.now → ReadAlike (meaning case.entry.given.table.words.now).productions xs ys actions.entry.order.now reduces.entry.order.now result }
 {
     let mut row: usize = 0;
     let mut column: usize = 0;
+    // Each search tells by its answer whether there is another, and from where on.
     loop {
         match first_pair(
-            given.map,
-            given.grammar,
-            given.counts,
+            case.given.sets,
+            case.given.grammar,
             Test::Alike,
             actions,
-            rows,
             reduces,
-            columns,
-            row,
-            column,
+            (row, column),
         ) {
             Some((i, j)) => {
-                let x = word(rows, i);
-                let y = word(columns, j);
-                if same_again(given, conflict, actions, x, reduces, y) {
+                let x = word(actions.order, i);
+                let y = word(reduces.order, j);
+                if same_again(case, actions.side, x, reduces.side, y) {
                     return Some((x, y));
                 }
                 row = i;
@@ -161,7 +152,7 @@ fn is_operator(grammar: Grammar, production: usize, terminal: u16) -> bool
     requires { production < grammar.productions }
     ensures { result ≡ is_operator_of (get_or (productions_in grammar.entry.words.now grammar.entry.productions) production no_production) terminal }
 {
-    let nonterminal = grammar[production * ProductionIndex::WORDS];
+    let nonterminal = grammar.words[production * ProductionIndex::WORDS];
     let operator = [0, nonterminal, 1, terminal, 0, nonterminal];
     grammar.symbols(production) == operator.as_slice()
 }
@@ -178,7 +169,7 @@ fn shift_ambiguity(
     ensures { (xs ys : List Example) → x < length xs → y < length ys → Judges xs ys result (ambiguity_of_shift (get_or (productions_in grammar.entry.words.now grammar.entry.productions) production no_production) terminal (pair_in xs ys x y)) }
 {
     let at = production * ProductionIndex::WORDS;
-    let nonterminal = grammar[at];
+    let nonterminal = grammar.words[at];
     if is_operator(grammar, production, terminal) {
         return with_both(Class::Precedence(NonterminalString(nonterminal)), x, y);
     }
@@ -200,11 +191,11 @@ fn reduce_ambiguity(
 {
     if first == second {
         let span = production * ProductionIndex::WORDS + 2;
-        let start = grammar[span];
-        let end = grammar[span + 1];
+        let start = grammar.words[span];
+        let end = grammar.words[span + 1];
         let other_span = other * ProductionIndex::WORDS + 2;
-        let other_start = grammar[other_span];
-        let other_end = grammar[other_span + 1];
+        let other_start = grammar.words[other_span];
+        let other_end = grammar.words[other_span + 1];
         return Judged {
             class: Class::AmbiguousReduction(start, end, other_start, other_end),
             action: Some(x),
@@ -215,29 +206,22 @@ fn reduce_ambiguity(
 }
 
 // A pair that is read alike, by the action.
-fn ambiguity(
-    grammar: &[u16],
-    counts: Counts,
-    conflict: Conflict,
-    actions: &Side,
-    x: usize,
-    reduces: &Side,
-    y: usize,
-) -> Judged
-    requires { (T : Table) × (Grammar T grammar.now counts.productions × ((conflict_fits T conflict ≡ true) × ((xs : List Example) × ((ys : List Example) × (Sides T conflict xs ys actions.now.kept actions.now.prints reduces.now.kept reduces.now.prints × ((x < length xs) × (y < length ys))))))) }
-    ensures { (T : Table) → Grammar T grammar.now counts.productions → conflict_fits T conflict ≡ true → (xs ys : List Example) → Sides T conflict xs ys actions.now.kept actions.now.prints reduces.now.kept reduces.now.prints → x < length xs → y < length ys → Judges xs ys result (ambiguity_of T conflict.production.0 conflict.action conflict.operand (pair_in xs ys x y)) }
+fn ambiguity(case: TableConflict, actions: &Side, x: usize, reduces: &Side, y: usize) -> Judged
+    requires { (xs : List Example) × ((ys : List Example) × (Sides (meaning case.given.table.words.now) case.conflict xs ys actions.now.kept actions.now.prints reduces.now.kept reduces.now.prints × ((x < length xs) × (y < length ys)))) }
+    ensures { (xs ys : List Example) → Sides (meaning case.entry.given.table.words.now) case.entry.conflict xs ys actions.now.kept actions.now.prints reduces.now.kept reduces.now.prints → x < length xs → y < length ys → Judges xs ys result (ambiguity_of (meaning case.entry.given.table.words.now) case.entry.conflict.production.0 case.entry.conflict.action case.entry.conflict.operand (pair_in xs ys x y)) }
 {
+    let grammar = case.given.grammar;
+    let conflict = case.conflict;
     let production = conflict.production.0 as usize;
-    let operand = conflict.operand;
     if conflict.action == 0 {
-        return shift_ambiguity(Grammar { words: grammar, productions: counts.productions }, production, operand, x, y);
+        return shift_ambiguity(grammar, production, conflict.operand, x, y);
     }
     let action = actions.outline(x);
     let reduce = reduces.outline(y);
     reduce_ambiguity(
-        Grammar { words: grammar, productions: counts.productions },
+        grammar,
         production,
-        operand as usize,
+        conflict.operand as usize,
         x,
         action.first,
         y,
@@ -250,161 +234,126 @@ fn optional(grammar: Grammar, none: usize, one: usize) -> Option<(u16, u16)>
     requires { (none < grammar.productions) × (one < grammar.productions) }
     ensures { (question_in result ≡ optional_one (get_or (productions_in grammar.entry.words.now grammar.entry.productions) none no_production).symbols (get_or (productions_in grammar.entry.words.now grammar.entry.productions) one no_production).symbols) × QuestionFits result }
 {
-    if word(grammar.words, none * ProductionIndex::WORDS + 1) != 0 {
+    if grammar.length(none) != 0 {
         return None;
     }
-    if word(grammar.words, one * ProductionIndex::WORDS + 1) != 1 {
+    if grammar.length(one) != 1 {
         return None;
     }
     let at = one * ProductionIndex::WORDS + 4;
-    Some((grammar[at], grammar[at + 1]))
+    Some((grammar.words[at], grammar.words[at + 1]))
 }
 
 // `try_classify_question`: the nonterminal has two productions, one empty and one of one symbol.
 fn try_classify_question(
-    table: &[u16],
-    grammar: &[u16],
-    productions: usize,
+    table: AcceptedTable,
+    grammar: Grammar,
     nonterminal: usize,
 ) -> Option<(u16, u16)>
-    requires table_value { check_of table.now ≡ Accepted }
-    requires grammar { Grammar (meaning table.now) grammar.now productions × (nonterminal < length (meaning table.now).nonterminals) }
-    ensures { (question_in result ≡ question_of (meaning table.now) nonterminal) × QuestionFits result }
+    requires { GrammarOf (meaning table.words.now) grammar.words.now grammar.productions × (nonterminal < length (meaning table.words.now).nonterminals) }
+    ensures { (question_in result ≡ question_of (meaning table.entry.words.now) nonterminal) × QuestionFits result }
 {
-    let head = first_production(table, nonterminal);
+    let head = table.first_production(nonterminal);
     if head == 0 {
         return None;
     }
-    let first = production(table, head);
+    let first = table.production(head);
     let next = first.next;
     if next == 0 {
         return None;
     }
-    let second = production(table, next);
+    let second = table.production(next);
     if second.next != 0 {
         return None;
     }
     let p = first.production;
     let q = second.production;
-    match optional(Grammar { words: grammar, productions }, p, q) {
-        None => optional(Grammar { words: grammar, productions }, q, p),
+    match optional(grammar, p, q) {
+        None => optional(grammar, q, p),
         symbol => symbol,
     }
 }
 
 // `try_classify_inline`: the first pair that inlining would help, else insufficient lookahead with the first of each.
 fn try_classify_inline(
-    given: Given,
-    conflict: Conflict,
-    actions: &Side,
-    rows: &[u16],
-    reduces: &Side,
-    columns: &[u16],
+    case: TableConflict,
+    actions: SortedSide,
+    reduces: SortedSide,
 ) -> Judged
-    requires conflict_value { conflict_fits (meaning given.table.now) conflict ≡ true }
-    requires action_value { conflict.action ≡ 0 }
-    requires sides { (xs : List Example) × ((ys : List Example) × (Sides (meaning given.table.now) conflict xs ys actions.now.kept actions.now.prints reduces.now.kept reduces.now.prints × (Ordered xs rows.now × Ordered ys columns.now))) }
-    ensures { (xs ys : List Example) → Sides (meaning given.entry.table.now) conflict xs ys actions.now.kept actions.now.prints reduces.now.kept reduces.now.prints → Ordered xs rows.now → Ordered ys columns.now → Judges xs ys result (inline_or (meaning given.entry.table.now).productions (heads_in xs ys rows.now columns.now) (first_fit (judging.inlines (meaning given.entry.table.now)) (picked xs rows.now) (picked ys columns.now))) }
+    requires action_value { case.conflict.action ≡ 0 }
+    requires sides { (xs : List Example) × ((ys : List Example) × (Sides (meaning case.given.table.words.now) case.conflict xs ys actions.side.now.kept actions.side.now.prints reduces.side.now.kept reduces.side.now.prints × (Ordered xs actions.order.now × Ordered ys reduces.order.now))) }
+    ensures { (xs ys : List Example) → Sides (meaning case.entry.given.table.words.now) case.entry.conflict xs ys actions.entry.side.now.kept actions.entry.side.now.prints reduces.entry.side.now.kept reduces.entry.side.now.prints → Ordered xs actions.entry.order.now → Ordered ys reduces.entry.order.now → Judges xs ys result (inline_or (meaning case.entry.given.table.words.now).productions (heads_in xs ys actions.entry.order.now reduces.entry.order.now) (first_fit (judging.inlines (meaning case.entry.given.table.words.now)) (picked xs actions.entry.order.now) (picked ys reduces.entry.order.now))) }
 {
     match first_pair(
-        given.map,
-        given.grammar,
-        given.counts,
+        case.given.sets,
+        case.given.grammar,
         Test::Inline,
         actions,
-        rows,
         reduces,
-        columns,
-        0,
-        0,
+        (0, 0),
     ) {
         Some((i, j)) => {
-            let x = word(rows, i);
-            let y = word(columns, j);
-            let reduce = reduces.outline(y);
+            let x = word(actions.order, i);
+            let y = word(reduces.order, j);
+            let reduce = reduces.side.outline(y);
             with_both(
                 Class::SuggestInline(NonterminalString(reduce.first as u16)),
                 x,
                 y,
             )
         }
-        None => with_first(Class::InsufficientLookahead, rows, columns),
+        None => with_first(Class::InsufficientLookahead, actions.order, reduces.order),
     }
 }
 
 // A shift where no pair is ambiguous: question, inline, else insufficient lookahead.
 fn shift_unambiguous(
-    given: Given,
-    conflict: Conflict,
-    actions: &Side,
-    rows: &[u16],
-    reduces: &Side,
-    columns: &[u16],
+    case: TableConflict,
+    actions: SortedSide,
+    reduces: SortedSide,
 ) -> Judged
-    requires conflict_value { conflict_fits (meaning given.table.now) conflict ≡ true }
-    requires action_value { conflict.action ≡ 0 }
-    requires sides { (xs : List Example) × ((ys : List Example) × (Sides (meaning given.table.now) conflict xs ys actions.now.kept actions.now.prints reduces.now.kept reduces.now.prints × (Ordered xs rows.now × Ordered ys columns.now))) }
-    ensures { (xs ys : List Example) → Sides (meaning given.entry.table.now) conflict xs ys actions.now.kept actions.now.prints reduces.now.kept reduces.now.prints → Ordered xs rows.now → Ordered ys columns.now → Judges xs ys result (unambiguous (meaning given.entry.table.now) conflict.production.0 0 (picked xs rows.now) (picked ys columns.now) (heads_in xs ys rows.now columns.now)) }
+    requires action_value { case.conflict.action ≡ 0 }
+    requires sides { (xs : List Example) × ((ys : List Example) × (Sides (meaning case.given.table.words.now) case.conflict xs ys actions.side.now.kept actions.side.now.prints reduces.side.now.kept reduces.side.now.prints × (Ordered xs actions.order.now × Ordered ys reduces.order.now))) }
+    ensures { (xs ys : List Example) → Sides (meaning case.entry.given.table.words.now) case.entry.conflict xs ys actions.entry.side.now.kept actions.entry.side.now.prints reduces.entry.side.now.kept reduces.entry.side.now.prints → Ordered xs actions.entry.order.now → Ordered ys reduces.entry.order.now → Judges xs ys result (unambiguous (meaning case.entry.given.table.words.now) case.entry.conflict.production.0 0 (picked xs actions.entry.order.now) (picked ys reduces.entry.order.now) (heads_in xs ys actions.entry.order.now reduces.entry.order.now)) }
 {
-    let production = conflict.production.0 as usize;
-    let nonterminal = word(given.grammar, production * ProductionIndex::WORDS);
-    match try_classify_question(
-        given.table,
-        given.grammar,
-        given.counts.productions,
-        nonterminal,
-    ) {
+    let production = case.conflict.production.0 as usize;
+    let nonterminal = case.given.grammar.owner(production);
+    match try_classify_question(case.given.table, case.given.grammar, nonterminal) {
         Some((kind, number)) => with_first(
             Class::SuggestQuestion(NonterminalString(nonterminal as u16), kind, number),
-            rows,
-            columns,
+            actions.order,
+            reduces.order,
         ),
-        None => try_classify_inline(given, conflict, actions, rows, reduces, columns),
+        None => try_classify_inline(case, actions, reduces),
     }
 }
 
 // Where no pair is ambiguous: by the action, question and inline being for a shift alone.
 fn unambiguous(
-    given: Given,
-    conflict: Conflict,
-    actions: &Side,
-    rows: &[u16],
-    reduces: &Side,
-    columns: &[u16],
+    case: TableConflict,
+    actions: SortedSide,
+    reduces: SortedSide,
 ) -> Judged
-    requires conflict_value { conflict_fits (meaning given.table.now) conflict ≡ true }
-    requires sides { (xs : List Example) × ((ys : List Example) × (Sides (meaning given.table.now) conflict xs ys actions.now.kept actions.now.prints reduces.now.kept reduces.now.prints × (Ordered xs rows.now × Ordered ys columns.now))) }
-    ensures { (xs ys : List Example) → Sides (meaning given.entry.table.now) conflict xs ys actions.now.kept actions.now.prints reduces.now.kept reduces.now.prints → Ordered xs rows.now → Ordered ys columns.now → Judges xs ys result (judging.unambiguous (meaning given.entry.table.now) conflict.production.0 conflict.action (picked xs rows.now) (picked ys columns.now) (heads_in xs ys rows.now columns.now)) }
+    requires { (xs : List Example) × ((ys : List Example) × (Sides (meaning case.given.table.words.now) case.conflict xs ys actions.side.now.kept actions.side.now.prints reduces.side.now.kept reduces.side.now.prints × (Ordered xs actions.order.now × Ordered ys reduces.order.now))) }
+    ensures { (xs ys : List Example) → Sides (meaning case.entry.given.table.words.now) case.entry.conflict xs ys actions.entry.side.now.kept actions.entry.side.now.prints reduces.entry.side.now.kept reduces.entry.side.now.prints → Ordered xs actions.entry.order.now → Ordered ys reduces.entry.order.now → Judges xs ys result (judging.unambiguous (meaning case.entry.given.table.words.now) case.entry.conflict.production.0 case.entry.conflict.action (picked xs actions.entry.order.now) (picked ys reduces.entry.order.now) (heads_in xs ys actions.entry.order.now reduces.entry.order.now)) }
 {
-    if conflict.action == 0 {
-        return shift_unambiguous(given, conflict, actions, rows, reduces, columns);
+    if case.conflict.action == 0 {
+        return shift_unambiguous(case, actions, reduces);
     }
-    with_first(Class::InsufficientLookahead, rows, columns)
+    with_first(Class::InsufficientLookahead, actions.order, reduces.order)
 }
 
 // The class from two sides in their order, neither of them empty: ambiguity first.
 pub fn judge(
-    given: Given,
-    conflict: Conflict,
-    actions: &Side,
-    rows: &[u16],
-    reduces: &Side,
-    columns: &[u16],
+    case: TableConflict,
+    actions: SortedSide,
+    reduces: SortedSide,
 ) -> Judged
-    requires conflict_value { conflict_fits (meaning given.table.now) conflict ≡ true }
-    requires sides { (xs : List Example) × ((ys : List Example) × (Sides (meaning given.table.now) conflict xs ys actions.now.kept actions.now.prints reduces.now.kept reduces.now.prints × (Ordered xs rows.now × Ordered ys columns.now))) }
-    ensures { (xs ys : List Example) → Sides (meaning given.entry.table.now) conflict xs ys actions.now.kept actions.now.prints reduces.now.kept reduces.now.prints → Ordered xs rows.now → Ordered ys columns.now → Judges xs ys result (judge (meaning given.entry.table.now) conflict (picked xs rows.now) (picked ys columns.now)) }
+    requires { (xs : List Example) × ((ys : List Example) × (Sides (meaning case.given.table.words.now) case.conflict xs ys actions.side.now.kept actions.side.now.prints reduces.side.now.kept reduces.side.now.prints × (Ordered xs actions.order.now × Ordered ys reduces.order.now))) }
+    ensures { (xs ys : List Example) → Sides (meaning case.entry.given.table.words.now) case.entry.conflict xs ys actions.entry.side.now.kept actions.entry.side.now.prints reduces.entry.side.now.kept reduces.entry.side.now.prints → Ordered xs actions.entry.order.now → Ordered ys reduces.entry.order.now → Judges xs ys result (judge (meaning case.entry.given.table.words.now) case.entry.conflict (picked xs actions.entry.order.now) (picked ys reduces.entry.order.now)) }
 {
-    match try_classify_ambiguity(given, conflict, actions, rows, reduces, columns) {
-        Some((x, y)) => ambiguity(
-            given.grammar,
-            given.counts,
-            conflict,
-            actions,
-            x,
-            reduces,
-            y,
-        ),
-        None => unambiguous(given, conflict, actions, rows, reduces, columns),
+    match try_classify_ambiguity(case, actions, reduces) {
+        Some((x, y)) => ambiguity(case, actions.side, x, reduces.side, y),
+        None => unambiguous(case, actions, reduces),
     }
 }

@@ -17,15 +17,9 @@ use Rattle.outline.specs.Outline.{print_of, item_code, next_item, label_of, outl
 use Rattle.outline.proofs.Prints.{print_small}
 use Rattle.outline.proofs.Upcoming.{first_reduction, code_small, next_cycle, next-no_more, next_item_lem}
 
--- one label, or two and more
+-- two labels and more
 module _ (ws : List ℕ) where
-  pub one_label : length ws < 2 * label_room → length (labels_in ws) ≤ 1
-  one_label h = let r = label_count ws in omega arith
-
-  pub two_labels : 2 * label_room ≤ length ws → 1 < length (labels_in ws)
-  two_labels h = let r = label_count ws in omega arith
-
-  pub labels_two : 1 < length (labels_in ws) → labels_in ws ≡ label_at ws 0 ∷ label_at ws 1 ∷ drop 2 (labels_in ws)
+  labels_two : 1 < length (labels_in ws) → labels_in ws ≡ label_at ws 0 ∷ label_at ws 1 ∷ drop 2 (labels_in ws)
   labels_two h = labels_step ws 0 (omega arith) ∙ ap (λ (l : List Label). label_at ws 0 ∷ l) (labels_step ws 1 h)
 
 module _ (g : List ℕ) (n : ℕ) (P : Packed g n) (ws : List ℕ) (F : LabelsFit (productions_in g n) ws) where
@@ -40,7 +34,7 @@ module _ (g : List ℕ) (n : ℕ) (P : Packed g n) (ws : List ℕ) (F : LabelsFi
   unfolding productions_in
   count = length-map-below (production_in g) n
 
-  code_is : (j : ℕ) → j < length (labels_in ws) → (p i : ℕ) → p ≡ (label_at ws j).production → i ≡ (label_at ws j).index → (p * index_limit + i ≡ item_code (label_at ws j)) × (p * index_limit + i ≤ item_limit)
+  pub code_is : (j : ℕ) → j < length (labels_in ws) → (p i : ℕ) → p ≡ (label_at ws j).production → i ≡ (label_at ws j).index → (p * index_limit + i ≡ item_code (label_at ws j)) × (p * index_limit + i ≤ item_limit)
   unfolding item_code
   code_is j h p i ep ei =
       let s = code_small ps (short_in g n P) (label_at ws j) (fit j h) (let c = count in let f = P.few in omega arith) in
@@ -49,53 +43,38 @@ module _ (g : List ℕ) (n : ℕ) (P : Packed g n) (ws : List ℕ) (F : LabelsFi
 
   -- `kept_label`
 
-  pub label_shift : (s : Bool) → s ≡ true → (p i : ℕ) → p ≡ get_or ws 1 0 → i ≡ get_or ws 2 0 → (p * index_limit + i ≡ label_of ps s (labels_in ws)) × (p * index_limit + i ≤ item_limit)
+  pub label_shift : (s : Bool) → s ≡ true → (p i : ℕ) → p ≡ (label_at ws 0).production → i ≡ (label_at ws 0).index → (p * index_limit + i ≡ label_of ps s (labels_in ws)) × (p * index_limit + i ≤ item_limit)
   unfolding label_of
   label_shift s e p i ep ei =
       let h = some_label ws F in
-      let q = code_is 0 h p i (ep ∙ label_production ws 0 h) (ei ∙ label_index ws 0 h) in
+      let q = code_is 0 h p i ep ei in
       (rw (e, labels_step ws 0 h) q.0, q.1)
 
-  pub label_one : (s : Bool) → s ≡ false → length ws < 2 * label_room → (item_limit ≡ label_of ps s (labels_in ws)) × (item_limit ≤ item_limit)
+  pub label_one : (s : Bool) → s ≡ false → length (labels_in ws) < 2 → (item_limit ≡ label_of ps s (labels_in ws)) × (item_limit ≤ item_limit)
   unfolding label_of
-  label_one s e h = (rw e (go (labels_in ws) (one_label ws h)), omega arith)
+  label_one s e h = (rw e (go (labels_in ws) (omega arith)), omega arith)
     where
       go : (ls : List Label) → length ls ≤ 1 → item_limit ≡ label_of ps false ls
       go [] l = refl
       go (x ∷ []) l = refl
       go (x ∷ y ∷ ls) l = absurd (omega arith)
 
-  module _ (s : Bool) (e : s ≡ false) (h : 2 * label_room ≤ length ws) where
-    two : 1 < length (labels_in ws)
-    two = two_labels ws h
-
+  module _ (s : Bool) (e : s ≡ false) (two : 2 ≤ length (labels_in ws)) where
     next_is : label_of ps s (labels_in ws) ≡ next_item ps (label_at ws 0) (label_at ws 1)
     unfolding label_of
     next_is = rw (e, labels_two ws two)
 
-    module _ (x y : ℕ) (ex : x ≡ get_or ws 3 0) (ey : y ≡ get_or ws 0 0) where
-      owner : x ≡ (label_at ws 1).nonterminal
-      owner = ex ∙ label_nonterminal ws 1 two
-
-      first_owner : y ≡ (label_at ws 0).nonterminal
-      first_owner = ey ∙ label_nonterminal ws 0 (omega (arith, two))
-
+    module _ (x y : ℕ) (owner : x ≡ (label_at ws 1).nonterminal) (first_owner : y ≡ (label_at ws 0).nonterminal) where
       pub label_cycle : x ≡ y → (item_limit ≡ label_of ps s (labels_in ws)) × (item_limit ≤ item_limit)
       label_cycle q = (sym (next_is ∙ next_cycle ps (label_at ws 0) (label_at ws 1) (eq-eqb _ _ (sym owner ∙ q ∙ first_owner))), omega arith)
 
-      module _ (ne : x ≡ y → ⊥) (p i : ℕ) (ep : p ≡ get_or ws 4 0) (ei : i ≡ get_or ws 5 0) where
-        ep' : p ≡ (label_at ws 1).production
-        ep' = ep ∙ label_production ws 1 two
-
-        ei' : i ≡ (label_at ws 1).index
-        ei' = ei ∙ label_index ws 1 two
-
+      module _ (ne : x ≡ y → ⊥) (p i : ℕ) (ep : p ≡ (label_at ws 1).production) (ei : i ≡ (label_at ws 1).index) where
         pub next-inside : p < n
-        next-inside = let a = (fit 1 two).production in let c = count in let q = ep' in omega arith
+        next-inside = let a = (fit 1 two).production in let c = count in omega arith
 
         suffix-length : (m : ℕ) → m ≡ length (listed (symbol_words g p)) → length (sets_of ps (label_at ws 1)).suffix ≡ m - suc i
         unfolding sets_of symbol_sets
-        suffix-length m em = rw (← ep', ← ei', production-symbols g n p next-inside, em) (length-drop (suc i) (listed (symbol_words g p)))
+        suffix-length m em = rw (← ep, ← ei, production-symbols g n p next-inside, em) (length-drop (suc i) (listed (symbol_words g p)))
 
         pub label_no_more : (m : ℕ) → m ≡ length (listed (symbol_words g p)) → m ≤ i + 1 → (item_limit ≡ label_of ps s (labels_in ws)) × (item_limit ≤ item_limit)
         label_no_more m em le =
@@ -106,7 +85,7 @@ module _ (g : List ℕ) (n : ℕ) (P : Packed g n) (ws : List ℕ) (F : LabelsFi
         label_more m em lt =
             let l = length (sets_of ps (label_at ws 1)).suffix in
             let z : eqb l 0 ≡ false = let q = suffix-length m em in ne_eqb l 0 (λ w. omega arith) in
-            let q = code_is 1 two p i ep' ei' in
+            let q = code_is 1 two p i ep ei in
             (q.0 ∙ sym (next_is ∙ next_item_lem ps (label_at ws 0) (label_at ws 1) (ne_eqb _ _ (λ w. ne (owner ∙ w ∙ sym first_owner))) z), q.1)
 
   -- the outline of what was read
@@ -114,16 +93,14 @@ module _ (g : List ℕ) (n : ℕ) (P : Packed g n) (ws : List ℕ) (F : LabelsFi
   first_is : (reduction_at ps (labels_in ws) 0).nonterminal ≡ (label_at ws 0).nonterminal
   first_is = rw (labels_step ws 0 (some_label ws F), first_reduction ps (label_at ws 0) (drop 1 (labels_in ws)))
 
-  pub outline_made : (shift : Bool) (p q f l : ℕ) → p ≡ length (symbols ps (labels_in ws)) → q ≡ print_of ps (labels_in ws) → f ≡ get_or ws 0 0 → l ≡ label_of ps shift (labels_in ws) → l ≤ item_limit
+  pub outline_made : (shift : Bool) (p q f l : ℕ) → p ≡ length (symbols ps (labels_in ws)) → q ≡ print_of ps (labels_in ws) → f ≡ (label_at ws 0).nonterminal → l ≡ label_of ps shift (labels_in ws) → l ≤ item_limit
       → (record { places = p; print = q; first = f; label = l } ≡ outline_from ps shift (labels_in ws)) × OutlineFits (record { places = p; print = q; first = f; label = l })
   unfolding outline_from symbol_count
   outline_made shift p q f l ep eq ef el ll =
       let h = some_label ws F in
-      let a = label_nonterminal ws 0 h in
       let b = at_most_528 ps (short_in g n P) (labels_in ws) (few_labels ws F) in
       let c = print_small ps (labels_in ws) in
-      let d = (fit 0 h).nonterminal in
-      let first : f ≡ (label_at ws 0).nonterminal = ef ∙ a in (
-        rw (ep, eq, first, el, first_is),
+      let d = (fit 0 h).nonterminal in (
+        rw (ep, eq, ef, el, first_is),
         record { places = omega arith; print = omega arith; first = omega arith; label = ll },
       )

@@ -7,10 +7,10 @@ ghost use Rattle.repr.specs.Sizes.{nonterminal_limit, terminal_limit, index_limi
 ghost use Rattle.repr.specs.Lists.{joined};
 ghost use Rattle.repr.specs.Meaning.{is_same_symbol};
 ghost use Rattle.repr.specs.Listed.{symbol_of_kind, listed, symbol_is_fit, list_is_fit};
-ghost use Rattle.repr.specs.Packed.{Packed, productions_in};
+ghost use Rattle.repr.specs.Packed.{productions_in};
 ghost use Rattle.slices.specs.Lent.{in_front};
 ghost use Rattle.example.specs.Example.{prefixes, suffixes, middle, symbol_words, example_words};
-ghost use Rattle.example.specs.Labels.{labels_in, LabelsFit};
+ghost use Rattle.example.specs.Labels.{labels_in};
 ghost use Rattle.example.specs.Written.{words_of};
 ghost use Rattle.error.specs.Judge.{Example as ExampleOf};
 ghost use Rattle.outline.specs.Outline.{print_limit, mix, symbol_code, print_of, print_words, label_of, outline_from, OutlineFits};
@@ -18,10 +18,7 @@ ghost use Rattle.outline.specs.Kept.{outlines_room, labelled_limit, kept_room, K
 ghost use Rattle.outline.specs.Inline.{apart, diverge_by, CodeFits, codes_inline};
 
 use error::Conflict;
-use example::{
-    Example, cursor_part, label_count, prefix_part, prefix_total, suffix_part, symbol_count,
-    write_example,
-};
+use example::{Example, Labels};
 use first::FirstSets;
 use lr1_core::{Item, suffix};
 use repr::{Grammar, NonterminalString, ProductionIndex, word};
@@ -77,29 +74,27 @@ fn print_list(print: u64, symbols: &[u16]) -> u64
 }
 
 // With the prefixes more, outermost first.
-fn print_prefixes(print: u64, grammar: Grammar, labels: &[u16]) -> u64
-    requires within { print < print_limit }
-    requires labels_fit { LabelsFit (productions_in grammar.words.now grammar.productions) labels.now }
-    ensures { (result ≡ print_words print (words_of (prefixes (productions_in grammar.entry.words.now grammar.entry.productions) (labels_in labels.now)))) × (result < print_limit) }
+fn print_prefixes(print: u64, labels: Labels) -> u64
+    requires { print < print_limit }
+    ensures { (result ≡ print_words print (words_of (prefixes (productions_in labels.entry.grammar.words.now labels.entry.grammar.productions) (labels_in labels.entry.words.now)))) × (result < print_limit) }
 {
     let mut mixed = print;
-    for label in (0..label_count(labels)).rev() {
-        mixed = print_list(mixed, prefix_part(grammar, labels, label));
+    for label in (0..labels.count()).rev() {
+        mixed = print_list(mixed, labels.prefix(label));
     }
     mixed
 }
 
 // With the cursor place more: the cursor's symbol, or the empty mark where the first label has no symbol.
-fn print_middle(print: u64, grammar: Grammar, labels: &[u16]) -> u64
-    requires within { print < print_limit }
-    requires labels_fit { LabelsFit (productions_in grammar.words.now grammar.productions) labels.now }
-    ensures { (result ≡ print_words print (joined symbol_words (middle (productions_in grammar.entry.words.now grammar.entry.productions) (labels_in labels.now)))) × (result < print_limit) }
+fn print_middle(print: u64, labels: Labels) -> u64
+    requires { print < print_limit }
+    ensures { (result ≡ print_words print (joined symbol_words (middle (productions_in labels.entry.grammar.words.now labels.entry.grammar.productions) (labels_in labels.entry.words.now)))) × (result < print_limit) }
 {
-    let part = cursor_part(grammar, labels);
+    let part = labels.cursor();
     if part.len() > 0 {
         return print_list(print, part);
     }
-    let lead = prefix_part(grammar, labels, 0);
+    let lead = labels.prefix(0);
     if lead.len() > 0 {
         return print;
     }
@@ -107,63 +102,57 @@ fn print_middle(print: u64, grammar: Grammar, labels: &[u16]) -> u64
 }
 
 // With the suffixes more, innermost first.
-fn print_suffixes(print: u64, grammar: Grammar, labels: &[u16]) -> u64
-    requires within { print < print_limit }
-    requires labels_fit { LabelsFit (productions_in grammar.words.now grammar.productions) labels.now }
-    ensures { (result ≡ print_words print (words_of (suffixes (productions_in grammar.entry.words.now grammar.entry.productions) (labels_in labels.now)))) × (result < print_limit) }
+fn print_suffixes(print: u64, labels: Labels) -> u64
+    requires { print < print_limit }
+    ensures { (result ≡ print_words print (words_of (suffixes (productions_in labels.entry.grammar.words.now labels.entry.grammar.productions) (labels_in labels.entry.words.now)))) × (result < print_limit) }
 {
     let mut mixed = print;
-    for label in 0..label_count(labels) {
-        mixed = print_list(mixed, suffix_part(grammar, labels, label));
+    for label in 0..labels.count() {
+        mixed = print_list(mixed, labels.suffix(label));
     }
     mixed
 }
 
 // The print of the example of the labels: of its cursor, then of its symbols.
-fn print(grammar: Grammar, labels: &[u16]) -> u64
-    requires labels_fit { LabelsFit (productions_in grammar.words.now grammar.productions) labels.now }
-    ensures { result ≡ print_of (productions_in grammar.entry.words.now grammar.entry.productions) (labels_in labels.now) }
+fn print(labels: Labels) -> u64
+    ensures { result ≡ print_of (productions_in labels.entry.grammar.words.now labels.entry.grammar.productions) (labels_in labels.entry.words.now) }
 {
-    let cursor = prefix_total(grammar, labels) as u64;
-    let before = print_prefixes(cursor, grammar, labels);
-    let passed = print_middle(before, grammar, labels);
-    print_suffixes(passed, grammar, labels)
+    let cursor = labels.prefix_total() as u64;
+    let before = print_prefixes(cursor, labels);
+    let passed = print_middle(before, labels);
+    print_suffixes(passed, labels)
 }
 
 // The label that the inline test reads: of an example of a shift its first item; of a reduce the second reduction's, where that shifts more and its nonterminal is another.
-fn kept_label(grammar: Grammar, labels: &[u16], shift: bool) -> usize
-    requires labels_fit { LabelsFit (productions_in grammar.words.now grammar.productions) labels.now }
-    ensures { (result ≡ label_of (productions_in grammar.entry.words.now grammar.entry.productions) shift (labels_in labels.now)) × (result ≤ item_limit) }
+fn kept_label(labels: Labels, shift: bool) -> usize
+    ensures { (result ≡ label_of (productions_in labels.entry.grammar.words.now labels.entry.grammar.productions) shift (labels_in labels.entry.words.now)) × (result ≤ item_limit) }
 {
     if shift {
-        return word(labels, 1) * ProductionIndex::INDEXES + word(labels, 2);
+        let first = labels.item(0);
+        return first.production * ProductionIndex::INDEXES + first.index;
     }
-    if labels.len() < 2 * Example::LABEL_WORDS {
+    if labels.count() < 2 {
         return Item::LIMIT;
     }
-    let next = Item {
-        production: word(labels, 4),
-        index: word(labels, 5),
-    };
-    if word(labels, 3) == word(labels, 0) {
+    if labels.nonterminal(1) == labels.nonterminal(0) {
         return Item::LIMIT;
     }
-    if next.length(grammar) <= next.index + 1 {
+    let next = labels.item(1);
+    if next.length(labels.grammar) <= next.index + 1 {
         return Item::LIMIT;
     }
     next.production * ProductionIndex::INDEXES + next.index
 }
 
 // What is kept of the example of the labels.
-pub fn outline_of(grammar: Grammar, labels: &[u16], shift: bool) -> Outline
-    requires labels_fit { LabelsFit (productions_in grammar.words.now grammar.productions) labels.now }
-    ensures { (result ≡ outline_from (productions_in grammar.entry.words.now grammar.entry.productions) shift (labels_in labels.now)) × OutlineFits result }
+pub fn outline_of(labels: Labels, shift: bool) -> Outline
+    ensures { (result ≡ outline_from (productions_in labels.entry.grammar.words.now labels.entry.grammar.productions) shift (labels_in labels.entry.words.now)) × OutlineFits result }
 {
     Outline {
-        places: symbol_count(grammar, labels),
-        print: print(grammar, labels),
-        first: word(labels, 0),
-        label: kept_label(grammar, labels, shift),
+        places: labels.symbol_count(),
+        print: print(labels),
+        first: labels.nonterminal(0),
+        label: kept_label(labels, shift),
     }
 }
 
@@ -220,7 +209,11 @@ impl Side {
         let at = Outline::OUTLINES + k * Outline::LABELLED_WORDS;
         let from = at + 1;
         let to = from + word(&self.kept, at);
-        write_example(grammar, &self.kept[from..to], buffer);
+        let labels = Labels {
+            grammar,
+            words: &self.kept[from..to],
+        };
+        labels.write_example(buffer);
     }
 
     // What is kept of example k.
@@ -247,7 +240,7 @@ impl Side {
 }
 
 // An item from its number.
-fn item_at(code: usize) -> Item
+pub fn item_at(code: usize) -> Item
     ensures { (result.production ≡ code / index_limit) × (result.index ≡ code % index_limit) }
 {
     Item {

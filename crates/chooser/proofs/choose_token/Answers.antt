@@ -11,8 +11,11 @@ pub returns-then-not-contains : goal.returns-then-not-contains
 returns-then-not-contains c = let whole = token-out _ c.args.conflict c.args.tokens.0 _ c.args.better.now c.args.naive.now _ _ c.requires.token_bound.1 (sym c.contains.ensures ∙ c.if-not-contains.true) in
     record { naive_after = whole.0; counts_within = whole.1 }
 
+pub invariant_of-case : goal.invariant_of-case
+invariant_of-case c = record { fits = token-fits _ c.args.conflict _ _ c.requires.tokens_value (sym c.contains.ensures ∙ c.if-not-contains.false) }
+
 pub classify-requires : goal.classify-requires
-classify-requires c = record { conflict_value = token-fits _ c.args.conflict _ _ c.requires.tokens_value (sym c.contains.ensures ∙ c.if-not-contains.false); example_room_in_bounds = (rw (length-replicate {A = ℕ} example_room 0) (omega arith), rw (length-replicate {A = ℕ} example_room 0) (omega arith)) }
+classify-requires c = (rw (length-replicate {A = ℕ} example_room 0) (omega arith), rw (length-replicate {A = ℕ} example_room 0) (omega arith))
 
 pub returns-in_err-found : goal.returns-in_err-found
 returns-in_err-found c =

@@ -8,10 +8,10 @@ use native.Mathlib.Omega.{arith}
 use Rattle.classifier.proofs.classify_kept.Goals as goal
 
 pub returns-then-action_count-eq0 : goal.returns-then-action_count-eq0
-returns-then-action_count-eq0 c = λ xs ys K e f. no_action _ c.args.conflict _ _ xs ys (e ∙ c.if-action_count-eq0.true)
+returns-then-action_count-eq0 c = λ xs ys K e f. no_action _ c.args.case.conflict _ _ xs ys (e ∙ c.if-action_count-eq0.true)
 
 pub returns-then-reduce_count-eq0 : goal.returns-then-reduce_count-eq0
-returns-then-reduce_count-eq0 c = λ xs ys K e f. no_reduce _ c.args.conflict _ _ xs ys (f ∙ c.if-reduce_count-eq0.true)
+returns-then-reduce_count-eq0 c = λ xs ys K e f. no_reduce _ c.args.case.conflict _ _ xs ys (f ∙ c.if-reduce_count-eq0.true)
 
 pub sort_side-requires : goal.sort_side-requires
 sort_side-requires c = let P = c.requires.sides in let K = P.1.1.0 in let e = P.1.1.1.0 in let S = side_sorts _ _ _ _ _ _ K.action _ e _ (length-replicate {A = ℕ} example_limit 0) in (S.0, S.1)
@@ -32,13 +32,16 @@ pub slice_bounds-judge-end-2 : goal.slice_bounds-judge-end-2
 slice_bounds-judge-end-2 c = let P = c.requires.sides in let K = P.1.1.0 in let f = P.1.1.1.1 in sym (side_long _ _ _ _ _ _ K.reduce _ f _ c.sort_side-2.ensures)
 
 pub judge-judged-requires : goal.judge-judged-requires
-judge-judged-requires c = let P = c.requires.sides in let K = P.1.1.0 in let e = P.1.1.1.0 in let f = P.1.1.1.1 in record { conflict_value = c.requires.conflict_value; sides = (P.0, (P.1.0, (K, ((side_ordered _ _ _ _ _ _ K.action _ e _ c.sort_side.ensures c.if-action_count-eq0.false), (side_ordered _ _ _ _ _ _ K.reduce _ f _ c.sort_side-2.ensures c.if-reduce_count-eq0.false))))) }
+judge-judged-requires c = let P = c.requires.sides in let K = P.1.1.0 in let e = P.1.1.1.0 in let f = P.1.1.1.1 in (P.0, (P.1.0, (K, ((side_ordered _ _ _ _ _ _ K.action _ e _ c.sort_side.ensures c.if-action_count-eq0.false), (side_ordered _ _ _ _ _ _ K.reduce _ f _ c.sort_side-2.ensures c.if-reduce_count-eq0.false)))))
+
+pub invariant_of-other : goal.invariant_of-other
+invariant_of-other c = record { fits = rw c.reduced.ensures (reduced_fits _ c.args.case.conflict c.args.case.fits) }
 
 pub show-requires : goal.show-requires
-show-requires c = let P = c.requires.sides in let K = P.1.1.0 in let e = P.1.1.1.0 in let f = P.1.1.1.1 in let J = c.judge-judged.ensures P.0 P.1.0 K (side_ordered _ _ _ _ _ _ K.action _ e _ c.sort_side.ensures c.if-action_count-eq0.false) (side_ordered _ _ _ _ _ _ K.reduce _ f _ c.sort_side-2.ensures c.if-reduce_count-eq0.false) in record { conflict_value = c.requires.conflict_value; side_kept = (P.0, (K.action, J.action)); example_room_in_bounds = c.requires.example_room_in_bounds.0 }
+show-requires c = let P = c.requires.sides in let K = P.1.1.0 in let e = P.1.1.1.0 in let f = P.1.1.1.1 in let J = c.judge-judged.ensures P.0 P.1.0 K (side_ordered _ _ _ _ _ _ K.action _ e _ c.sort_side.ensures c.if-action_count-eq0.false) (side_ordered _ _ _ _ _ _ K.reduce _ f _ c.sort_side-2.ensures c.if-reduce_count-eq0.false) in record { side_kept = (P.0, (K.action, J.action)); example_room_in_bounds = c.requires.example_room_in_bounds.0 }
 
 pub show-requires-2 : goal.show-requires-2
-show-requires-2 c = let P = c.requires.sides in let K = P.1.1.0 in let e = P.1.1.1.0 in let f = P.1.1.1.1 in let J = c.judge-judged.ensures P.0 P.1.0 K (side_ordered _ _ _ _ _ _ K.action _ e _ c.sort_side.ensures c.if-action_count-eq0.false) (side_ordered _ _ _ _ _ _ K.reduce _ f _ c.sort_side-2.ensures c.if-reduce_count-eq0.false) in rw c.reduced.ensures (record { conflict_value = reduced_fits _ c.args.conflict c.requires.conflict_value; side_kept = (P.1.0, (reduced-kept _ c.args.conflict P.1.0 _ _ K.reduce, J.reduce)); example_room_in_bounds = c.requires.example_room_in_bounds.1 })
+show-requires-2 c = let P = c.requires.sides in let K = P.1.1.0 in let e = P.1.1.1.0 in let f = P.1.1.1.1 in let J = c.judge-judged.ensures P.0 P.1.0 K (side_ordered _ _ _ _ _ _ K.action _ e _ c.sort_side.ensures c.if-action_count-eq0.false) (side_ordered _ _ _ _ _ _ K.reduce _ f _ c.sort_side-2.ensures c.if-reduce_count-eq0.false) in rw c.reduced.ensures (record { side_kept = (P.1.0, (reduced-kept _ c.args.case.conflict P.1.0 _ _ K.reduce, J.reduce)); example_room_in_bounds = c.requires.example_room_in_bounds.1 })
 
 pub returns : goal.returns
-returns c = λ xs ys K e f. let J = c.judge-judged.ensures xs ys K (side_ordered _ _ _ _ _ _ K.action _ e _ c.sort_side.ensures c.if-action_count-eq0.false) (side_ordered _ _ _ _ _ _ K.reduce _ f _ c.sort_side-2.ensures c.if-reduce_count-eq0.false) in kept-judged _ c.args.conflict xs ys _ _ _ _ _ _ _ J (side_picked _ _ _ _ _ _ K.action _ e _ c.sort_side.ensures) (side_picked _ _ _ _ _ _ K.reduce _ f _ c.sort_side-2.ensures) (c.show.ensures xs K.action J.action) ((rw c.reduced.ensures at c.show-2.ensures) ys (reduced-kept _ c.args.conflict ys _ _ K.reduce) J.reduce)
+returns c = λ xs ys K e f. let J = c.judge-judged.ensures xs ys K (side_ordered _ _ _ _ _ _ K.action _ e _ c.sort_side.ensures c.if-action_count-eq0.false) (side_ordered _ _ _ _ _ _ K.reduce _ f _ c.sort_side-2.ensures c.if-reduce_count-eq0.false) in kept-judged _ c.args.case.conflict xs ys _ _ _ _ _ _ _ J (side_picked _ _ _ _ _ _ K.action _ e _ c.sort_side.ensures) (side_picked _ _ _ _ _ _ K.reduce _ f _ c.sort_side-2.ensures) (c.show.ensures xs K.action J.action) ((rw c.reduced.ensures at c.show-2.ensures) ys (reduced-kept _ c.args.case.conflict ys _ _ K.reduce) J.reduce)

@@ -15,27 +15,30 @@ pub slice_bounds-prepare-end-2 : goal.slice_bounds-prepare-end-2
 slice_bounds-prepare-end-2 c = sym (length-take-le grammar_room c.args.scratch.now (omega (arith, c.requires.classify_scratch_in_bounds.0)))
 
 pub prepare-prepared-requires : goal.prepare-prepared-requires
-prepare-prepared-requires c = record { table_value = c.args.table.accepted; grammar_len = length-take-le grammar_room c.args.scratch.now (omega (arith, c.requires.classify_scratch_in_bounds.0)) }
+prepare-prepared-requires c = length-take-le grammar_room c.args.scratch.now (omega (arith, c.requires.classify_scratch_in_bounds.0))
 
 pub slice_bounds-given-end : goal.slice_bounds-given-end
-slice_bounds-given-end c = let l = length_front {A = ℕ} c.args.scratch.now c.prepare-prepared.new.grammar grammar_room c.prepare-prepared.auto.grammar in omega (arith, l, c.requires.classify_scratch_in_bounds.0)
+slice_bounds-given-end c = let l = length_front {A = ℕ} c.args.scratch.now c.prepare-prepared.new.words grammar_room c.prepare-prepared.auto.words in omega (arith, l, c.requires.classify_scratch_in_bounds.0)
 
 pub slice_bounds-given-end-2 : goal.slice_bounds-given-end-2
-slice_bounds-given-end-2 c = let l = length_front {A = ℕ} c.args.scratch.now c.prepare-prepared.new.grammar grammar_room c.prepare-prepared.auto.grammar in sym (length-take-le grammar_room (c.prepare-prepared.new.grammar ++ drop grammar_room c.args.scratch.now) (omega (arith, l, c.requires.classify_scratch_in_bounds.0)))
+slice_bounds-given-end-2 c = let l = length_front {A = ℕ} c.args.scratch.now c.prepare-prepared.new.words grammar_room c.prepare-prepared.auto.words in sym (length-take-le grammar_room (c.prepare-prepared.new.words ++ drop grammar_room c.args.scratch.now) (omega (arith, l, c.requires.classify_scratch_in_bounds.0)))
 
 pub given-given-requires : goal.given-given-requires
-given-given-requires c = reads-front _ _ _ _ _ _ _ grammar_room (c.prepare-prepared.auto.grammar ∙ length-take-le grammar_room c.args.scratch.now (omega (arith, c.requires.classify_scratch_in_bounds.0))) c.prepare-prepared.ensures
+given-given-requires c = reads-front _ _ _ _ _ _ _ _ grammar_room (c.prepare-prepared.auto.words ∙ length-take-le grammar_room c.args.scratch.now (omega (arith, c.requires.classify_scratch_in_bounds.0))) c.prepare-prepared.ensures
+
+pub invariant_of-classified : goal.invariant_of-classified
+invariant_of-classified c = record { fits = rw c.given-given.ensures.table c.requires.conflict_value }
 
 pub classify-classified-requires : goal.classify-classified-requires
-classify-classified-requires c = record { conflict_value = rw c.given-given.ensures.tables.0 c.requires.conflict_value; example_room_in_bounds = c.requires.classify_scratch_in_bounds.1 }
+classify-classified-requires c = c.requires.classify_scratch_in_bounds.1
 
 pub zero-requires : goal.zero-requires
-zero-requires c = let l = length_front {A = ℕ} c.args.scratch.now c.prepare-prepared.new.grammar grammar_room c.prepare-prepared.auto.grammar in omega (arith, l, c.requires.classify_scratch_in_bounds.0)
+zero-requires c = let l = length_front {A = ℕ} c.args.scratch.now c.prepare-prepared.new.words grammar_room c.prepare-prepared.auto.words in omega (arith, l, c.requires.classify_scratch_in_bounds.0)
 
 pub shape_of-scratch : goal.shape_of-scratch
-shape_of-scratch c = c.zero.auto.words ∙ length_front {A = ℕ} c.args.scratch.now c.prepare-prepared.new.grammar grammar_room c.prepare-prepared.auto.grammar
+shape_of-scratch c = c.zero.auto.words ∙ length_front {A = ℕ} c.args.scratch.now c.prepare-prepared.new.words grammar_room c.prepare-prepared.auto.words
 
 pub returns : goal.returns
 returns c =
-    let said = rw c.given-given.ensures.tables.0 at c.classify-classified.ensures in
-    (read-zeroed _ c.args.conflict _ _ _ _ _ c.args.scratch.now _ c.prepare-prepared.new.grammar grammar_room said (c.prepare-prepared.auto.grammar ∙ length-take-le grammar_room c.args.scratch.now (omega (arith, c.requires.classify_scratch_in_bounds.0))) (omega arith) c.zero.ensures)
+    let said = rw c.given-given.ensures.table at c.classify-classified.ensures in
+    (read-zeroed _ c.args.conflict _ _ _ _ _ c.args.scratch.now _ c.prepare-prepared.new.words grammar_room said (c.prepare-prepared.auto.words ∙ length-take-le grammar_room c.args.scratch.now (omega (arith, c.requires.classify_scratch_in_bounds.0))) (omega arith) c.zero.ensures)

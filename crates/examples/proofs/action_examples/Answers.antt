@@ -3,13 +3,13 @@ use Rattle.examples.proofs.Actions.{action_shift, action_reduce}
 use Rattle.examples.proofs.action_examples.Goals as goal
 
 pub shift_examples-requires : goal.shift_examples-requires
-shift_examples-requires c = record { state_in_bounds = state_in_lem _ _ c.requires.conflict_value }
+shift_examples-requires c = record { state_in_bounds = state_in_lem _ _ c.args.case.fits }
 
 pub returns-then-conflict-eq0 : goal.returns-then-conflict-eq0
 returns-then-conflict-eq0 c = action_shift _ _ _ _ _ c.if-conflict-eq0.true c.shift_examples.ensures
 
 pub reduce_examples-requires : goal.reduce_examples-requires
-reduce_examples-requires c = record { state_in_bounds = (state_in_lem _ _ c.requires.conflict_value, (operand_in_lem _ _ c.requires.conflict_value c.if-conflict-eq0.false, token_in _ _ c.requires.conflict_value)) }
+reduce_examples-requires c = record { state_in_bounds = (state_in_lem _ _ c.args.case.fits, (operand_in_lem _ _ c.args.case.fits c.if-conflict-eq0.false, token_in _ _ c.args.case.fits)) }
 
 pub returns : goal.returns
 returns c = action_reduce _ _ _ _ _ c.if-conflict-eq0.false c.reduce_examples.ensures

@@ -10,11 +10,11 @@ use Rattle.examples.proofs.keep_trial.Goals as goal
 pub read_labels-size-requires : goal.read_labels-size-requires
 read_labels-size-requires c = record { tried = (_, c.requires.tried); labels_room_in_bounds = rw (length-replicate {A = ℕ} labels_room 0) (omega arith) }
 
-pub slice_bounds-outline_of-end : goal.slice_bounds-outline_of-end
-slice_bounds-outline_of-end c = let l = c.read_labels-size.auto.labels ∙ length-replicate {A = ℕ} labels_room 0 in sym (length-take-le _ c.read_labels-size.new.labels (omega (arith, c.read_labels-size.ensures.upper_bound.0)))
+pub slice_bounds-labels-end : goal.slice_bounds-labels-end
+slice_bounds-labels-end c = let l = c.read_labels-size.auto.labels ∙ length-replicate {A = ℕ} labels_room 0 in sym (length-take-le _ c.read_labels-size.new.labels (omega (arith, c.read_labels-size.ensures.upper_bound.0)))
 
-pub outline_of-outline-requires : goal.outline_of-outline-requires
-outline_of-outline-requires c = record { labels_fit = c.read_labels-size.ensures.upper_bound.1 _ _ c.requires.tried.1 }
+pub invariant_of-labels : goal.invariant_of-labels
+invariant_of-labels c = record { fit = c.read_labels-size.ensures.upper_bound.1 _ _ c.requires.tried.1 }
 
 pub slice_bounds-keep_labels-end : goal.slice_bounds-keep_labels-end
 slice_bounds-keep_labels-end c = let l = c.read_labels-size.auto.labels ∙ length-replicate {A = ℕ} labels_room 0 in sym (length-take-le _ c.read_labels-size.new.labels (omega (arith, c.read_labels-size.ensures.upper_bound.0)))

@@ -7,14 +7,11 @@ use Rattle.examples.proofs.Turns.{walk_zeros, out_few, turn_first, turn_full, tu
 use native.Mathlib.Omega.{arith}
 use Rattle.examples.proofs.list_outlines.Goals as goal
 
-pub overflow_cast-terminals : goal.overflow_cast-terminals
-overflow_cast-terminals c = omega (arith, c.requires.packed.1)
-
 pub loop-number-init : goal.loop-number-init
 loop-number-init c = ((length-replicate {A = ℕ} trial_room 0, omega (arith, c.requires.count_in_bounds)), λ es start L. (walk_zeros _ _ _ _ _ _, turn_first _ _ _ _ _ _ _ _ _ _ c.requires.count_in_bounds))
 
 pub search-requires : goal.search-requires
-search-requires c = let X = c.requires.listable in record { packed = c.requires.packed; searching = (X.0, (X.1.0, walk_searching _ _ _ _ _ _ _ _ _ _ _ X.1.1 _ _ (c.loop-number.invariant.1 _ _ X.1.1).0)) }
+search-requires c = let X = c.requires.listable in (X.0, (X.1.0, walk_searching _ _ _ _ _ _ _ _ _ _ _ X.1.1 _ _ (c.loop-number.invariant.1 _ _ X.1.1).0))
 
 pub overflow_add-count : goal.overflow_add-count
 overflow_add-count c = omega (arith, c.loop-number.invariant.0.1)
@@ -33,7 +30,7 @@ overflow_add-count-in-Hit c = omega (arith, c.if-count-turn-ge-EXAMPLES.false)
 
 pub keep_trial-requires : goal.keep_trial-requires
 keep_trial-requires c = let X = c.requires.listable in
-    let U = (c.loop-number.invariant.1 _ _ X.1.1).0 in record { packed = c.requires.packed.0; tried = (X.0, hit-tried _ _ _ _ _ _ _ _ _ _ _ X.1.1 _ _ U _ _ (c.search.ensures _ _ (walk_searching _ _ _ _ _ _ _ _ _ _ _ X.1.1 _ _ U)) _ c.in-Hit.is); count_in_bounds = (omega (arith, c.if-count-turn-ge-EXAMPLES.false), omega (arith, c.if-count-turn-ge-EXAMPLES.false)) }
+    let U = (c.loop-number.invariant.1 _ _ X.1.1).0 in record { tried = (X.0, hit-tried _ _ _ _ _ _ _ _ _ _ _ X.1.1 _ _ U _ _ (c.search.ensures _ _ (walk_searching _ _ _ _ _ _ _ _ _ _ _ X.1.1 _ _ U)) _ c.in-Hit.is); count_in_bounds = (omega (arith, c.if-count-turn-ge-EXAMPLES.false), omega (arith, c.if-count-turn-ge-EXAMPLES.false)) }
 
 pub overflow_add-turn : goal.overflow_add-turn
 overflow_add-turn c = omega (arith, c.if-count-turn-ge-EXAMPLES.false)

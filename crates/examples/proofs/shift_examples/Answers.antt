@@ -9,7 +9,7 @@ use native.Mathlib.Omega.{arith}
 use Rattle.examples.proofs.shift_examples.Goals as goal
 
 pub conflicting_shift_items-requires : goal.conflicting_shift_items-requires
-conflicting_shift_items-requires c = record { table_value = c.args.given.reads.accepted; grammar = (record { packed = c.args.given.reads.packed; same = c.args.given.reads.same; many = c.args.given.reads.many }, c.requires.state_in_bounds); order_len = (length-replicate {A = ℕ} production_limit 0, refl) }
+conflicting_shift_items-requires c = record { grammar = (record { packed = c.args.given.reads.packed; same = c.args.given.reads.same; many = c.args.given.reads.many }, c.requires.state_in_bounds); order_len = (length-replicate {A = ℕ} production_limit 0, refl) }
 
 pub loop-place-init : goal.loop-place-init
 loop-place-init c = turn_first _ _ _ _ _ _ _ _ _ c.conflicting_shift_items.ensures c.args.side.now.room

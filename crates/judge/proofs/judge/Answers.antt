@@ -1,12 +1,12 @@
 use Rattle.judge.proofs.Ways.{judges_same}
-use Rattle.judge.proofs.Sides.{reads_grammar, pair_inside, judge-pair, judge-none}
+use Rattle.judge.proofs.Sides.{pair_inside, judge-pair, judge-none}
 use Rattle.judge.proofs.judge.Goals as goal
 
 pub ambiguity-requires : goal.ambiguity-requires
-ambiguity-requires c = let P = c.requires.sides in (_, (reads_grammar _ _ _ _ _ _ c.args.given.reads, (c.requires.conflict_value, (P.0, (P.1.0, (P.1.1.0, pair_inside _ c.args.conflict P.0 P.1.0 _ _ _ _ P.1.1.0 c.args.rows.now c.args.columns.now P.1.1.1.0 P.1.1.1.1 _ (c.try_classify_ambiguity.ensures P.0 P.1.0 P.1.1.0 P.1.1.1.0 P.1.1.1.1) _ _ c.in-Some.is))))))
+ambiguity-requires c = let P = c.requires in (P.0, (P.1.0, (P.1.1.0, pair_inside _ c.args.case.conflict P.0 P.1.0 _ _ _ _ P.1.1.0 c.args.actions.order.now c.args.reduces.order.now P.1.1.1.0 P.1.1.1.1 _ (c.try_classify_ambiguity.ensures P.0 P.1.0 P.1.1.0 P.1.1.1.0 P.1.1.1.1) _ _ c.in-Some.is)))
 
 pub returns-in-Some : goal.returns-in-Some
-returns-in-Some c = λ xs ys K A B. let E = c.try_classify_ambiguity.ensures xs ys K A B in let I = pair_inside _ c.args.conflict xs ys _ _ _ _ K c.args.rows.now c.args.columns.now A B _ E _ _ c.in-Some.is in judges_same xs ys _ _ _ (c.ambiguity.ensures _ (reads_grammar _ _ _ _ _ _ c.args.given.reads) c.requires.conflict_value xs ys K I.0 I.1) (judge-pair _ c.args.conflict xs ys _ _ _ _ K c.args.rows.now c.args.columns.now A B _ E _ _ c.in-Some.is)
+returns-in-Some c = λ xs ys K A B. let E = c.try_classify_ambiguity.ensures xs ys K A B in let I = pair_inside _ c.args.case.conflict xs ys _ _ _ _ K c.args.actions.order.now c.args.reduces.order.now A B _ E _ _ c.in-Some.is in judges_same xs ys _ _ _ (c.ambiguity.ensures xs ys K I.0 I.1) (judge-pair _ c.args.case.conflict xs ys _ _ _ _ K c.args.actions.order.now c.args.reduces.order.now A B _ E _ _ c.in-Some.is)
 
 pub returns-in-None : goal.returns-in-None
-returns-in-None c = λ xs ys K A B. judges_same xs ys _ _ _ (c.unambiguous.ensures xs ys K A B) (judge-none _ c.args.conflict xs ys _ _ _ _ K c.args.rows.now c.args.columns.now A B _ (c.try_classify_ambiguity.ensures xs ys K A B) c.in-None.is)
+returns-in-None c = λ xs ys K A B. judges_same xs ys _ _ _ (c.unambiguous.ensures xs ys K A B) (judge-none _ c.args.case.conflict xs ys _ _ _ _ K c.args.actions.order.now c.args.reduces.order.now A B _ (c.try_classify_ambiguity.ensures xs ys K A B) c.in-None.is)

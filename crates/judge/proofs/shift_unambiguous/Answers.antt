@@ -3,20 +3,20 @@ use Rattle.judge.proofs.Sides.{conflict_production, reads_grammar, reads_owner, 
 use native.Mathlib.Omega.{arith}
 use Rattle.judge.proofs.shift_unambiguous.Goals as goal
 
-pub word-nonterminal-requires : goal.word-nonterminal-requires
-word-nonterminal-requires c = let R = c.args.given.reads in let p = conflict_production _ c.args.conflict c.requires.conflict_value in omega (arith, p, R.many, R.packed.few, R.packed.long)
+pub owner-nonterminal-requires : goal.owner-nonterminal-requires
+owner-nonterminal-requires c = let R = c.args.case.given.reads in let p = conflict_production _ c.args.case.conflict c.args.case.fits in omega (arith, p, R.many)
 
 pub try_classify_question-requires : goal.try_classify_question-requires
-try_classify_question-requires c = let R = c.args.given.reads in record { table_value = R.accepted; grammar = (reads_grammar _ _ _ _ _ _ R, (reads_owner _ _ _ _ _ _ R c.args.conflict.production.0 (conflict_production _ c.args.conflict c.requires.conflict_value) _ c.word-nonterminal.ensures.0).1) }
+try_classify_question-requires c = let R = c.args.case.given.reads in (reads_grammar _ _ _ _ _ _ _ R, (reads_owner _ _ _ _ _ _ _ R c.args.case.conflict.production.0 (conflict_production _ c.args.case.conflict c.args.case.fits) _ c.owner-nonterminal.ensures).1)
 
 pub with_first-requires : goal.with_first-requires
 with_first-requires c = let P = c.requires.sides in (P.1.1.1.0.any, P.1.1.1.1.any)
 
 pub try_classify_inline-requires : goal.try_classify_inline-requires
-try_classify_inline-requires c = record { conflict_value = c.requires.conflict_value; action_value = c.requires.action_value; sides = c.requires.sides }
+try_classify_inline-requires c = record { action_value = c.requires.action_value; sides = c.requires.sides }
 
 pub returns-in-Some : goal.returns-in-Some
-returns-in-Some c = λ xs ys K A B. let R = c.args.given.reads in judges_heads xs ys c.args.rows.now c.args.columns.now A.inside A.any B.inside B.any _ _ _ c.with_first.ensures (question_some _ c.args.conflict xs ys _ _ _ _ K c.args.rows.now c.args.columns.now A B c.args.conflict.production.0 _ (reads_owner _ _ _ _ _ _ R c.args.conflict.production.0 (conflict_production _ c.args.conflict c.requires.conflict_value) _ c.word-nonterminal.ensures.0).0 _ c.try_classify_question.ensures.0 _ _ c.in-Some.is c.try_classify_question.ensures.1)
+returns-in-Some c = λ xs ys K A B. let R = c.args.case.given.reads in judges_heads xs ys c.args.actions.order.now c.args.reduces.order.now A.inside A.any B.inside B.any _ _ _ c.with_first.ensures (question_some _ c.args.case.conflict xs ys _ _ _ _ K c.args.actions.order.now c.args.reduces.order.now A B c.args.case.conflict.production.0 _ (reads_owner _ _ _ _ _ _ _ R c.args.case.conflict.production.0 (conflict_production _ c.args.case.conflict c.args.case.fits) _ c.owner-nonterminal.ensures).0 _ c.try_classify_question.ensures.0 _ _ c.in-Some.is c.try_classify_question.ensures.1)
 
 pub returns-in-None : goal.returns-in-None
-returns-in-None c = λ xs ys K A B. let R = c.args.given.reads in judges_same xs ys _ _ _ (c.try_classify_inline.ensures xs ys K A B) (question_none _ c.args.conflict xs ys _ _ _ _ K c.args.rows.now c.args.columns.now A B c.args.conflict.production.0 _ (reads_owner _ _ _ _ _ _ R c.args.conflict.production.0 (conflict_production _ c.args.conflict c.requires.conflict_value) _ c.word-nonterminal.ensures.0).0 _ c.try_classify_question.ensures.0 c.in-None.is)
+returns-in-None c = λ xs ys K A B. let R = c.args.case.given.reads in judges_same xs ys _ _ _ (c.try_classify_inline.ensures xs ys K A B) (question_none _ c.args.case.conflict xs ys _ _ _ _ K c.args.actions.order.now c.args.reduces.order.now A B c.args.case.conflict.production.0 _ (reads_owner _ _ _ _ _ _ _ R c.args.case.conflict.production.0 (conflict_production _ c.args.case.conflict c.args.case.fits) _ c.owner-nonterminal.ensures).0 _ c.try_classify_question.ensures.0 c.in-None.is)

@@ -10,8 +10,8 @@ use Rattle.judge.specs.Judging.{Sides, Ordered}
 use Rattle.judge.proofs.try_classify_ambiguity.Given as goal
 
 abbrev pub invariant-loop-i : goal.invariant-loop-i
-invariant-loop-i l = (xs ys : List Example) → Sides (meaning l.given.table.now) l.conflict xs ys l.actions.kept l.actions.prints l.reduces.kept l.reduces.prints → Ordered xs l.rows → Ordered ys l.columns
-    → first_from (λ x y. is_same_reading (meaning l.given.table.now).productions (nth xs x) (nth ys y)) l.rows l.columns l.row l.column ≡ first_fit (λ x y. is_same_reading (meaning l.given.table.now).productions (nth xs x) (nth ys y)) l.rows l.columns
+invariant-loop-i l = (xs ys : List Example) → Sides (meaning l.case.given.table.words.now) l.case.conflict xs ys l.actions.side.now.kept l.actions.side.now.prints l.reduces.side.now.kept l.reduces.side.now.prints → Ordered xs l.actions.order.now → Ordered ys l.reduces.order.now
+    → first_from (λ x y. is_same_reading (meaning l.case.given.table.words.now).productions (nth xs x) (nth ys y)) l.actions.order.now l.reduces.order.now l.row l.column ≡ first_fit (λ x y. is_same_reading (meaning l.case.given.table.words.now).productions (nth xs x) (nth ys y)) l.actions.order.now l.reduces.order.now
 
 abbrev pub decreases-loop-i : goal.decreases-loop-i
-decreases-loop-i l = length (pairs_from l.rows l.columns l.row l.column)
+decreases-loop-i l = length (pairs_from l.actions.order.now l.reduces.order.now l.row l.column)

@@ -3,13 +3,13 @@ use Rattle.judge.proofs.Sides.{unambiguous_shift, unambiguous_reduce}
 use Rattle.judge.proofs.unambiguous.Goals as goal
 
 pub shift_unambiguous-requires : goal.shift_unambiguous-requires
-shift_unambiguous-requires c = record { conflict_value = c.requires.conflict_value; action_value = c.if-conflict-eq0.true; sides = c.requires.sides }
+shift_unambiguous-requires c = record { action_value = c.if-case-eq0.true; sides = c.requires }
 
-pub returns-then-conflict-eq0 : goal.returns-then-conflict-eq0
-returns-then-conflict-eq0 c = λ xs ys K A B. judges_same xs ys _ _ _ (c.shift_unambiguous.ensures xs ys K A B) (unambiguous_shift _ _ _ _ _ _ c.if-conflict-eq0.true)
+pub returns-then-case-eq0 : goal.returns-then-case-eq0
+returns-then-case-eq0 c = λ xs ys K A B. judges_same xs ys _ _ _ (c.shift_unambiguous.ensures xs ys K A B) (unambiguous_shift _ _ _ _ _ _ c.if-case-eq0.true)
 
 pub with_first-requires : goal.with_first-requires
-with_first-requires c = let P = c.requires.sides in (P.1.1.1.0.any, P.1.1.1.1.any)
+with_first-requires c = let P = c.requires in (P.1.1.1.0.any, P.1.1.1.1.any)
 
 pub returns : goal.returns
-returns c = λ xs ys K A B. judges_heads xs ys c.args.rows.now c.args.columns.now A.inside A.any B.inside B.any _ _ _ c.with_first.ensures (unambiguous_reduce _ _ _ _ _ _ c.if-conflict-eq0.false)
+returns c = λ xs ys K A B. judges_heads xs ys c.args.actions.order.now c.args.reduces.order.now A.inside A.any B.inside B.any _ _ _ c.with_first.ensures (unambiguous_reduce _ _ _ _ _ _ c.if-case-eq0.false)

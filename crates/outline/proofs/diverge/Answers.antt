@@ -14,14 +14,14 @@ first0-requires c =
     let i = c.loop-own.invariant in
     let s = c.in-Some.ensures.steps in
     let t = diverge_turn c.args.sets.now.terminals c.args.sets.now.map _ _ _ _ _ _ s.0.1.0 (s.0.1.1 ∙ i.own_two) s.1.1.0 (s.1.1.1 ∙ i.other_two) i.own_fits i.other_fits in
-    (c.args.sets.now.few, t.own_fits)
+    t.own_fits
 
 pub first0-requires-then-ne : goal.first0-requires-then-ne
 first0-requires-then-ne c =
     let i = c.loop-own.invariant in
     let s = c.in-Some.ensures.steps in
     let t = diverge_turn c.args.sets.now.terminals c.args.sets.now.map _ _ _ _ _ _ s.0.1.0 (s.0.1.1 ∙ i.own_two) s.1.1.0 (s.1.1.1 ∙ i.other_two) i.own_fits i.other_fits in
-    (c.args.sets.now.few, t.other_fits)
+    t.other_fits
 
 pub returns-then-ne : goal.returns-then-ne
 returns-then-ne c =

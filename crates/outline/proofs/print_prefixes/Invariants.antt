@@ -7,4 +7,4 @@ use Rattle.outline.specs.Outline.{print_limit, print_words}
 use Rattle.outline.proofs.print_prefixes.Given as goal
 
 abbrev pub invariant-loop-label : goal.invariant-loop-label
-invariant-loop-label l = (l.label ≤ length (labels_in l.labels)) × (l.mixed < print_limit) × (print_words l.mixed (words_of (prefixes (productions_in l.grammar.words.now l.grammar.productions) (take l.label (labels_in l.labels)))) ≡ print_words l.print (words_of (prefixes (productions_in l.grammar.words.now l.grammar.productions) (labels_in l.labels))))
+invariant-loop-label l = (l.label ≤ length (labels_in l.labels.words.now)) × (l.mixed < print_limit) × (print_words l.mixed (words_of (prefixes (productions_in l.labels.grammar.words.now l.labels.grammar.productions) (take l.label (labels_in l.labels.words.now)))) ≡ print_words l.print (words_of (prefixes (productions_in l.labels.grammar.words.now l.labels.grammar.productions) (labels_in l.labels.words.now))))
