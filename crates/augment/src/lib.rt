@@ -7,7 +7,8 @@ ghost use Rattle.repr.specs.Reply.{reply_of};
 ghost use Rattle.repr.specs.Sizes.{nonterminal_limit, terminal_limit, production_limit};
 ghost use Rattle.repr.specs.Lists.{some?};
 ghost use Rattle.repr.specs.Meaning.{nonterminal, is_same_symbol, Table};
-ghost use Rattle.repr.specs.Listed.{symbol_of_kind, listed, list_is_fit};
+ghost use Rattle.repr.specs.Listed.{listed, list_is_fit};
+ghost use Rattle.repr.specs.Symbols.{meant};
 ghost use Rattle.repr.specs.Packed.{Packed, productions_in};
 ghost use Rattle.table.specs.Decoded.{meaning};
 ghost use Rattle.table.specs.Checked.{Accepted};
@@ -16,7 +17,7 @@ ghost use Rattle.grammar_records.specs.Target.{PackedAs, owned_from};
 ghost use Rattle.augment.specs.Started.{uses, is_start_needed, started_in, started_of, Startable, GrammarOf};
 
 use grammar_records::{count_symbols, next_owned, write_front, write_productions, write_symbols};
-use repr::{Grammar, NonterminalString, ProductionIndex, Refusal};
+use repr::{Grammar, NonterminalString, ProductionIndex, Refusal, Symbol, SymbolIter};
 use table::{Counts, put, read_counts, read_productions};
 
 // Records written and the start production.
@@ -26,11 +27,15 @@ pub struct Started {
     pub production: ProductionIndex,
 }
 
-// Whether a symbol is a nonterminal.
-fn is_nonterminal(kind: usize, number: usize, n: usize) -> bool
-    ensures { result ≡ is_same_symbol (nonterminal n) (symbol_of_kind kind number) }
+// Whether a symbol is nonterminal n.
+#[tactic(auto, unfolding(repr::specs::Meaning::is_same_symbol))]
+fn is_nonterminal(symbol: Symbol, n: usize) -> bool
+    ensures { result ≡ is_same_symbol (nonterminal n) (meant symbol) }
 {
-    kind == 0 && n == number
+    match symbol {
+        Symbol::Nonterminal(nonterminal) => n == nonterminal.0 as usize,
+        Symbol::Terminal(_) => false,
+    }
 }
 
 // Whether it is one of a list's symbols.
@@ -38,10 +43,8 @@ fn is_among(symbols: &[u16], n: usize) -> bool
     requires { list_is_fit nonterminal_limit terminal_limit symbols.now ≡ true }
     ensures { result ≡ some? (is_same_symbol (nonterminal n)) (listed symbols.now) }
 {
-    for i in 0..symbols.len() / 2 {
-        let kind = repr::word(symbols, 2 * i);
-        let number = repr::word(symbols, 2 * i + 1);
-        if is_nonterminal(kind, number, n) {
+    for symbol in (SymbolIter { words: symbols }) {
+        if is_nonterminal(symbol, n) {
             return true;
         }
     }

@@ -81,6 +81,7 @@ pub fn count(text: &[u8]) -> Counts
     };
     let mut mode = Mode::Top(false);
     let mut at: usize = 0;
+    // Any text: where something is no token it answers zeros, which a `for` over `TokenIter` would not tell from the end.
     loop {
         match next_token(text, at) {
             Next::Token(word, _from, past) => {

@@ -43,10 +43,7 @@ impl Ids {
 pub fn byte(text: &[u8], at: usize) -> usize
     ensures { (result ≡ get_or text.now at 0) × (result < byte_limit) }
 {
-    match text.get(at) {
-        Some(b) => usize::from(*b),
-        None => 0,
-    }
+    usize::from(text.get(at).copied().unwrap_or(0))
 }
 
 // The words that the ids of a text are entered in, as those of a `SymbolTable`.

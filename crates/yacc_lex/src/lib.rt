@@ -134,7 +134,7 @@ fn literal_at(text: &[u8], at: usize) -> Piece
     if !is_literal(text[at + 1]) {
         return Piece::Outside;
     }
-    if text[at + 2] == 39 {
+    if text[at + 2] == b'\'' {
         return Piece::Word(Word::Literal, at + 3);
     }
     Piece::Outside
@@ -193,22 +193,22 @@ fn piece_at(text: &[u8], at: usize) -> Piece
     if is_digit(b) {
         return Piece::Outside;
     }
-    if b == 39 {
+    if b == b'\'' {
         return literal_at(text, at);
     }
-    if b == 37 {
+    if b == b'%' {
         return directive_at(text, at);
     }
-    if b == 47 {
+    if b == b'/' {
         return comment_at(text, at);
     }
-    if b == 58 {
+    if b == b':' {
         return Piece::Word(Word::Colon, at + 1);
     }
-    if b == 124 {
+    if b == b'|' {
         return Piece::Word(Word::Bar, at + 1);
     }
-    if b == 59 {
+    if b == b';' {
         return Piece::Word(Word::Semi, at + 1);
     }
     Piece::Outside
@@ -220,6 +220,7 @@ pub fn next_token(text: &[u8], at: usize) -> Next
     ensures { Told text.now at result }
 {
     let mut i = at;
+    // Each gap says where the next piece stands: an iterator of gaps would be this loop again.
     loop {
         match piece_at(text, i) {
             Piece::Gap(past) => {

@@ -26,8 +26,9 @@ use Rattle.yacc_said.specs.Said.{end_said, said_in, id_at, events_of, of_said}
 use Rattle.yacc_said.specs.declared.Saying.{Saying}
 use Rattle.yacc_said.specs.declared.Saying.TheVariants.{Lists, Opens, Defines, Uses, Shuts, Nothing}
 use Rattle.yacc_said.proofs.Laws.{said_turn, said-whole}
-use Rattle.yacc_uses.specs.Uses.{judged, verdict_of}
+use Rattle.yacc_uses.specs.Uses.{judged, is_bad, verdict_of}
 use Rattle.yacc_uses.specs.declared.Verdict.{Verdict}
+use Rattle.yacc_uses.specs.declared.Verdict.TheVariants.{Clear, Open, Bad}
 use Rattle.yacc_uses.proofs.Laws.{verdict_said, verdict_undefined}
 use Rattle.std.proofs.Common.{Option as Answer, Some, None}
 use Rattle.std.specs.Option.{is_some}
@@ -213,9 +214,9 @@ unfolding of_id
 define_word m w s e q = id_word m w (sym (ap of_id e) ∙ ap of_id q)
 
 -- `uses_nowhere`
-pub uses-first : (t : List ℕ) (l : Layout) → parse t ≡ some l → of_said false (verdict_of (nowhere (source_in l.pieces)) (record { bad = false; body = false })) (top false) (placed_from t 0) ≡ undefined_use (source_in l.pieces)
+pub uses-first : (t : List ℕ) (l : Layout) → parse t ≡ some l → of_said false (verdict_of (nowhere (source_in l.pieces)) Clear) (top false) (placed_from t 0) ≡ undefined_use (source_in l.pieces)
 unfolding source_in
-uses-first t l e = said-whole false (verdict_of (nowhere (source_in l.pieces)) (record { bad = false; body = false })) t l e ∙ verdict_undefined (events (top false) (placed 0 l.pieces))
+uses-first t l e = said-whole false (verdict_of (nowhere (source_in l.pieces)) Clear) t l e ∙ verdict_undefined (events (top false) (placed 0 l.pieces))
 
 judged_same : (s : Saying) (v : Verdict) (w u : Bool) → (s ≡ Uses → w ≡ u) → judged v s w ≡ judged v s u
 unfolding judged
@@ -231,7 +232,7 @@ uses_turn t at m S v y r inv s b w from past n L e q f g =
     said_turn false t at m (verdict_of (nowhere S) v) r inv (verdict_of (nowhere S) y) w from past n L g
     (λ es. ap (λ (k : Verdict). verdict_of (nowhere S) k es) (q ∙ judged_same s v b (nowhere S (id_at t w from past)) f) ∙ verdict_said s (nowhere S) v (id_at t w from past) from past es ∙ ap (λ (k : Saying). verdict_of (nowhere S) v (events_of k (id_at t w from past) from past ++ es)) e)
 
-pub verdict_end : (S : Source) (v : Verdict) → verdict_of (nowhere S) v [] ≡ v.bad
+pub verdict_end : (S : Source) (v : Verdict) → verdict_of (nowhere S) v [] ≡ is_bad v
 unfolding verdict_of
 verdict_end S v = refl
 

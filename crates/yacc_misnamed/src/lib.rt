@@ -49,15 +49,12 @@ fn is_lost(symbols: &SymbolTable, token: Token) -> bool
 fn uses_nowhere(symbols: &SymbolTable) -> bool
     ensures { (l : Layout) → parse symbols.now.text.now ≡ some l → result ≡ undefined_use (source_in l.pieces) }
 {
-    let mut verdict = Verdict {
-        bad: false,
-        body: false,
-    };
+    let mut verdict = Verdict::Clear;
     for token in TokenIter::new(symbols.text) {
         let wrong = is_nowhere(symbols, token);
         verdict = judge(verdict, token.what, wrong);
     }
-    verdict.bad
+    matches!(verdict, Verdict::Bad)
 }
 
 // Is the START id on no left side.

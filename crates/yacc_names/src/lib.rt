@@ -49,6 +49,7 @@ pub fn find(
 {
     let name = bytes(text, from, past);
     let mut next = word(ix, bucket_of(text, from, past));
+    // The index says of each name which is next in its bucket: an iterator of links would be this loop again.
     while next != 0 {
         let start = word(starts, next - 1);
         let end = word(pasts, next - 1);

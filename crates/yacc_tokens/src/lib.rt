@@ -48,6 +48,7 @@ pub fn is_grammar(text: &[u8]) -> bool
 {
     let mut mode = Mode::Top(false);
     let mut at: usize = 0;
+    // The end of a text and what is no token answer differently, which a `for` over tokens would not tell apart.
     loop {
         match next_token(text, at) {
             Next::Token(word, _from, past) => {

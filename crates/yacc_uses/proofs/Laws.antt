@@ -13,8 +13,9 @@ use Rattle.yacc_read.specs.Outcome.{nowhere, undefined_use}
 use Rattle.yacc_said.specs.declared.Saying.{Saying}
 use Rattle.yacc_said.specs.declared.Saying.TheVariants.{Lists, Opens, Defines, Uses, Shuts, Nothing}
 use Rattle.yacc_said.specs.Said.{events_of}
-use Rattle.yacc_uses.specs.Uses.{judged, verdict_of}
+use Rattle.yacc_uses.specs.Uses.{judged, is_bad, verdict_of}
 use Rattle.yacc_uses.specs.declared.Verdict.{Verdict}
+use Rattle.yacc_uses.specs.declared.Verdict.TheVariants.{Clear, Open, Bad}
 
 -- a turn of the loop
 pub verdict_said : (s : Saying) (t : Id → Bool) (v : Verdict) (x : Id) (from past : ℕ) (es : List Event) → verdict_of t (judged v s (t x)) es ≡ verdict_of t v (events_of s x from past ++ es)
@@ -45,26 +46,47 @@ or_three : (a b c : Bool) → ((a || b) || c) ≡ (a || (b || c))
 or_three true b c = refl
 or_three false b c = refl
 
-use_is : (b o w : Bool) → judged (record { bad = b; body = o }) Uses w ≡ record { bad = b; body = o || w }
-unfolding judged
-use_is b true true = refl
-use_is b false true = refl
-use_is b true false = refl
-use_is b false false = refl
+-- by flags: one in a closed alternative, one in the open one
+abbrev flagged : Bool → Bool → Verdict
+flagged true o = Bad
+flagged false true = Open
+flagged false false = Clear
 
-shut_is : (b o : Bool) → judged (record { bad = b; body = o }) Shuts false ≡ record { bad = b || o; body = false }
+bad_is : (b o : Bool) → is_bad (flagged b o) ≡ b
+bad_is true o = refl
+bad_is false true = refl
+bad_is false false = refl
+
+pub not_bad : (v : Verdict) → (v ≡ Bad → ⊥) → false ≡ is_bad v
+not_bad Clear n = refl
+not_bad Open n = refl
+not_bad Bad n = absurd (n refl)
+
+define_is : (b o : Bool) → judged (flagged b o) Defines false ≡ flagged b false
 unfolding judged
-shut_is true true = refl
+define_is true o = refl
+define_is false true = refl
+define_is false false = refl
+
+use_is : (b o w : Bool) → judged (flagged b o) Uses w ≡ flagged b (o || w)
+unfolding judged
+use_is true o w = refl
+use_is false true w = refl
+use_is false false true = refl
+use_is false false false = refl
+
+shut_is : (b o : Bool) → judged (flagged b o) Shuts false ≡ flagged (b || o) false
+unfolding judged
+shut_is true o = refl
 shut_is false true = refl
-shut_is true false = refl
 shut_is false false = refl
 
-verdict_from : (t : Id → Bool) (es : List Event) (b o : Bool) (l : Id) (us : List Use) → o ≡ some? t (ids_of us) → verdict_of t (record { bad = b; body = o }) es ≡ (b || some? (λ a. some? t a.ids) (alternatives_from l us es))
+verdict_from : (t : Id → Bool) (es : List Event) (b o : Bool) (l : Id) (us : List Use) → o ≡ some? t (ids_of us) → verdict_of t (flagged b o) es ≡ (b || some? (λ a. some? t a.ids) (alternatives_from l us es))
 unfolding verdict_of judged alternatives_from alternative
-verdict_from t [] b o l us e = sym (ap (λ (c : Bool). b || c) (some?-nil (λ (a : Alternative). some? t a.ids)) ∙ or-false b)
+verdict_from t [] b o l us e = bad_is b o ∙ sym (ap (λ (c : Bool). b || c) (some?-nil (λ (a : Alternative). some? t a.ids)) ∙ or-false b)
 verdict_from t (lists x at ∷ es) b o l us e = verdict_from t es b o l us e
 verdict_from t (opens x ∷ es) b o l us e = verdict_from t es b o l us e
-verdict_from t (defines x at ∷ es) b o l us e = verdict_from t es b false x [] (sym (some?-nil t))
+verdict_from t (defines x at ∷ es) b o l us e = ap (λ (v : Verdict). verdict_of t v es) (define_is b o) ∙ verdict_from t es b false x [] (sym (some?-nil t))
 verdict_from t (uses x from past ∷ es) b o l us e =
     let u : Use = record { id = x; from = from; past = past } in
     ap (λ (v : Verdict). verdict_of t v es) (use_is b o (t x))
@@ -77,6 +99,6 @@ verdict_from t (shuts at ∷ es) b o l us e =
     ∙ ap (λ (c : Bool). b || c) (sym (some-cons (λ a. some? t a.ids) (alternative l us at) (alternatives_from l [] es)))
 
 -- 21: an id of a body that is nowhere
-pub verdict_undefined : (es : List Event) → verdict_of (nowhere (source_of es)) (record { bad = false; body = false }) es ≡ undefined_use (source_of es)
+pub verdict_undefined : (es : List Event) → verdict_of (nowhere (source_of es)) Clear es ≡ undefined_use (source_of es)
 unfolding undefined_use source_of
 verdict_undefined es = verdict_from (nowhere (source_of es)) es false false no_id [] (sym (some?-nil (nowhere (source_of es))))

@@ -5,17 +5,24 @@ use Rattle.yacc_read.specs.Events.{Event, lists, opens, defines, uses, shuts}
 use Rattle.yacc_said.specs.declared.Saying.{Saying}
 use Rattle.yacc_said.specs.declared.Saying.TheVariants.{Lists, Opens, Defines, Uses, Shuts, Nothing}
 use Rattle.yacc_uses.specs.declared.Verdict.{Verdict}
+use Rattle.yacc_uses.specs.declared.Verdict.TheVariants.{Clear, Open, Bad}
 
 unfoldable pub judged : Verdict → Saying → Bool → Verdict
 judged v Lists w = v
 judged v Opens w = v
-judged v Defines w = record { bad = v.bad; body = false }
-judged v Uses w = elim w [ true ↦ record { bad = v.bad; body = true } | false ↦ v ]
-judged v Shuts w = elim v.body [ true ↦ record { bad = true; body = false } | false ↦ v ]
+judged v Defines w = elim v [ Clear ↦ Clear | Open ↦ Clear | Bad ↦ Bad ]
+judged v Uses w = elim v [ Clear ↦ elim w [ true ↦ Open | false ↦ Clear ] | Open ↦ Open | Bad ↦ Bad ]
+judged v Shuts w = elim v [ Clear ↦ Clear | Open ↦ Bad | Bad ↦ Bad ]
 judged v Nothing w = v
 
+-- is one found in an alternative that is closed
+abbrev pub is_bad : Verdict → Bool
+is_bad Clear = false
+is_bad Open = false
+is_bad Bad = true
+
 unfoldable pub verdict_of : (Id → Bool) → Verdict → List Event → Bool
-verdict_of t v [] = v.bad
+verdict_of t v [] = is_bad v
 verdict_of t v (lists x at ∷ es) = verdict_of t v es
 verdict_of t v (opens x ∷ es) = verdict_of t v es
 verdict_of t v (defines x at ∷ es) = verdict_of t (judged v Defines false) es

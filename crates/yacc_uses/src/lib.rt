@@ -7,11 +7,12 @@ ghost use Rattle.yacc_uses.specs.Uses.{judged};
 
 use yacc_said::Saying;
 
-// Was there one in an alternative that is closed; is there one in the open one.
+// Is there one: not yet, in the alternative that is open, in one that is closed.
 #[derive(Clone, Copy)]
-pub struct Verdict {
-    pub bad: bool,
-    pub body: bool,
+pub enum Verdict {
+    Clear,
+    Open,
+    Bad,
 }
 
 // What a word says, and whether it is such an id.
@@ -19,19 +20,10 @@ pub struct Verdict {
 pub fn judge(verdict: Verdict, what: Saying, wrong: bool) -> Verdict
     ensures { result ≡ judged verdict what wrong }
 {
-    match what {
-        Saying::Defines => Verdict {
-            body: false,
-            ..verdict
-        },
-        Saying::Uses => Verdict {
-            body: verdict.body || wrong,
-            ..verdict
-        },
-        Saying::Shuts => Verdict {
-            bad: verdict.bad || verdict.body,
-            body: false,
-        },
-        Saying::Lists | Saying::Opens | Saying::Nothing => verdict,
+    match (verdict, what) {
+        (Verdict::Open, Saying::Defines) => Verdict::Clear,
+        (Verdict::Clear, Saying::Uses) if wrong => Verdict::Open,
+        (Verdict::Open, Saying::Shuts) => Verdict::Bad,
+        _ => verdict,
     }
 }

@@ -12,8 +12,8 @@ use borrow.Author.Tests.{lt-ltb, le-ltb}
 use Rattle.slices.specs.Lent.{in_front}
 use Rattle.repr.specs.Sizes.{production_place}
 use Rattle.repr.specs.Lists.{joined}
-use Rattle.repr.specs.Meaning.{terminal, Production}
-use Rattle.repr.specs.Listed.{symbol_of_kind, listed}
+use Rattle.repr.specs.Meaning.{nonterminal, terminal, Production}
+use Rattle.repr.specs.Listed.{listed}
 use Rattle.repr.specs.Packed.{symbol_words, production_in}
 use Rattle.numerals.specs.Numeral.{numeral_by, numeral}
 use Rattle.yacc_writer.specs.Wrote.{Wrote, name_bytes, terminal_bytes, token_bytes, production_bytes, file_bytes}
@@ -107,17 +107,13 @@ number_two {d = d} n h k ed ee S W =
 pub byte-then : {a b c : List ℕ} {at m r x : ℕ} {t : List ℕ} (k : ℕ) → Wrote a at (x ∷ []) b m → Wrote b m t c r × (r ≤ m + k) → Wrote a at (x ∷ t) c r × (r ≤ at + (k + 1))
 byte-then k S W = let p = S.place in let h = W.1 in (wrote_then S W.0, omega arith)
 
-pub symbol-put : {a b c : List ℕ} {at m r l : ℕ} (kind n : ℕ) → (kind ≡ 0 → l ≡ 78) × ((kind ≡ 0 → ⊥) → l ≡ 84) → Wrote a at (32 ∷ []) b m → Wrote b m (l ∷ numeral n) c r × (r ≤ m + 3)
-    → Wrote a at (name_bytes (symbol_of_kind kind n)) c r × (r ≤ at + 4)
-unfolding name_bytes symbol_of_kind
-symbol-put zero n h S W = let e = byte-then 3 S W in (wrote_as e.0 (ap {B = List ℕ} (λ (x : ℕ). 32 ∷ x ∷ numeral n) (h.0 refl)), e.1)
-symbol-put (suc k) n h S W =
-    let e = byte-then 3 S W in
-    (wrote_as e.0 (ap {B = List ℕ} (λ (x : ℕ). 32 ∷ x ∷ numeral n) (h.1 (λ (z : suc k ≡ 0). absurd (omega arith)))), e.1)
+pub nonterminal-put : {a b c : List ℕ} {at m r : ℕ} (n : ℕ) → Wrote a at (32 ∷ []) b m → Wrote b m (78 ∷ numeral n) c r × (r ≤ m + 3) → Wrote a at (name_bytes (nonterminal n)) c r × (r ≤ at + 4)
+unfolding name_bytes
+nonterminal-put n S W = byte-then 3 S W
 
-pub terminal-put : {a b : List ℕ} {at r : ℕ} (t : ℕ) → Wrote a at (name_bytes (symbol_of_kind 1 t)) b r → Wrote a at (name_bytes (terminal t)) b r
-unfolding symbol_of_kind
-terminal-put t W = W
+pub terminal-put : {a b c : List ℕ} {at m r : ℕ} (n : ℕ) → Wrote a at (32 ∷ []) b m → Wrote b m (84 ∷ numeral n) c r × (r ≤ m + 3) → Wrote a at (name_bytes (terminal n)) c r × (r ≤ at + 4)
+unfolding name_bytes
+terminal-put n S W = byte-then 3 S W
 
 -- the line of the tokens
 pub no_tokens : (a : List ℕ) (n : ℕ) → n ≡ 0 → Wrote a 0 (token_bytes n) a 0 × (0 ≤ 259)

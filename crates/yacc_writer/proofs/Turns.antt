@@ -15,11 +15,10 @@ use Rattle.repr.specs.Reply.{answered, refused}
 use Rattle.repr.specs.Sizes.{nonterminal_limit, terminal_limit, symbol_limit, production_place}
 use Rattle.repr.specs.Lists.{up_from, below, joined}
 use Rattle.repr.specs.Meaning.{Symbol, terminal, Production, Table}
-use Rattle.repr.specs.Listed.{symbol_of_kind, listed, symbol_is_fit, list_is_fit}
+use Rattle.repr.specs.Listed.{listed, list_is_fit}
 use Rattle.repr.specs.Packed.{Packed, symbol_words, production_in, productions_in}
 use Rattle.repr.proofs.Lists.{clash}
 use Rattle.repr.proofs.Packed.{words_long}
-use Rattle.repr.proofs.Listed.{fits_half, fits-step, listed-none, listed-step}
 use Rattle.table.specs.Checked.{Accepted, Refused as No}
 use Rattle.table.specs.Decoded.{meaning, productions_from}
 use Rattle.table.specs.Refusals.{check_of}
@@ -96,64 +95,32 @@ productions_end g {text₀} {at} {n} {text} {place} {i} I h =
     let e = numbered_end I h in
     (subst (λ (l : List ℕ). Wrote text₀ at l text place) (joined_map production_bytes (production_in g) (below n)) e.0, e.1)
 
--- `put_symbols`
-pub record Symbols (text₀ : List ℕ) (at : ℕ) (words text : List ℕ) (place i : ℕ) : Type 0 where
-  pub within : i ≤ length words
-  pub near : place ≤ at + 2 * i
-  pub fits : list_is_fit nonterminal_limit terminal_limit (drop i words) ≡ true
-  pub left : Left text₀ at (joined name_bytes (listed words)) text place (joined name_bytes (listed (drop i words)))
+-- `put_symbols`: what is left of the symbols
+pub record Symbols (text₀ : List ℕ) (at : ℕ) (whole : List Symbol) (text : List ℕ) (place : ℕ) (rest : List Symbol) : Type 0 where
+  pub near : place + 4 * length rest ≤ at + 4 * length whole
+  pub left : Left text₀ at (joined name_bytes whole) text place (joined name_bytes rest)
 
-pub symbols-first : (text : List ℕ) (at : ℕ) (words : List ℕ) → list_is_fit nonterminal_limit terminal_limit words ≡ true → Symbols text at words text at 0
-symbols-first text at words e = record { within = omega arith; near = omega arith; fits = e; left = left_all_lem text at (joined name_bytes (listed words)) }
+pub symbols-first : (text : List ℕ) (at : ℕ) (whole : List Symbol) → Symbols text at whole text at whole
+symbols-first text at whole = record { near = omega arith; left = left_all_lem text at (joined name_bytes whole) }
 
-and_left : (a b : Bool) → a && b ≡ true → a ≡ true
-and_left true b e = refl
-and_left false b e = e
-
-and_right : (a b : Bool) → a && b ≡ true → b ≡ true
-and_right true b e = e
-and_right false b e = clash false e refl
-
-fits_small : (k x : ℕ) → symbol_is_fit nonterminal_limit terminal_limit k x ≡ true → x < 100
-unfolding symbol_is_fit
-fits_small zero x e = let h = ltb-true x nonterminal_limit e in omega arith
-fits_small (suc zero) x e = let h = ltb-true x terminal_limit e in omega arith
-fits_small (suc (suc k)) x e = clash false e refl
-
-module _ {text₀ : List ℕ} {at : ℕ} {words text : List ℕ} {place i : ℕ} (S : Symbols text₀ at words text place i) (h : i < length words) where
-  -- a kind has its number behind it
-  pub symbols-whole : i + 1 < length words
-  symbols-whole = go (ltb (i + 1) (length words)) refl
-    where
-      go : (b : Bool) → ltb (i + 1) (length words) ≡ b → i + 1 < length words
-      go true e = ltb-true (i + 1) (length words) e
-      go false e = clash (list_is_fit nonterminal_limit terminal_limit (drop i words)) S.fits (fits_half nonterminal_limit terminal_limit words i h (ltb-false (i + 1) (length words) e))
-
-  module _ (k x : ℕ) (ek : k ≡ get_or words i 0) (ex : x ≡ get_or words (i + 1) 0) where
-    step : symbol_is_fit nonterminal_limit terminal_limit k x && list_is_fit nonterminal_limit terminal_limit (drop (i + 2) words) ≡ true
-    step = sym (fits-step nonterminal_limit terminal_limit words i symbols-whole k x ek ex) ∙ S.fits
-
-    pub symbols_small : x < 100
-    symbols_small = fits_small k x (and_left (symbol_is_fit nonterminal_limit terminal_limit k x) (list_is_fit nonterminal_limit terminal_limit (drop (i + 2) words)) step)
-
-    rest_is : joined name_bytes (listed (drop i words)) ≡ name_bytes (symbol_of_kind k x) ++ joined name_bytes (listed (drop (i + 2) words))
-    unfolding joined
-    rest_is =
-        let s : symbol_of_kind (get_or words i 0) (get_or words (i + 1) 0) ≡ symbol_of_kind k x = ap (λ (a : ℕ). symbol_of_kind a (get_or words (i + 1) 0)) (sym ek) ∙ ap (symbol_of_kind k) (sym ex) in
-        ap (joined name_bytes) (listed-step words i symbols-whole) ∙ ap (λ (y : Symbol). name_bytes y ++ joined name_bytes (listed (drop (i + 2) words))) s
-
-    pub symbols-more : {text' : List ℕ} {place' : ℕ} → Wrote text place (name_bytes (symbol_of_kind k x)) text' place' → place' ≤ place + 4 → Symbols text₀ at words text' place' (i + 2)
-    symbols-more {text'} {place'} W b = record {
-      within = let w = symbols-whole in omega arith;
-      near = let n = S.near in omega arith;
-      fits = and_right (symbol_is_fit nonterminal_limit terminal_limit k x) (list_is_fit nonterminal_limit terminal_limit (drop (i + 2) words)) step;
-      left = left_less S.left rest_is W;
-    }
-
-pub symbols_end : {text₀ : List ℕ} {at : ℕ} {words text : List ℕ} {place i : ℕ} → Symbols text₀ at words text place i → length words ≤ i
-    → Wrote text₀ at (joined name_bytes (listed words)) text place
+pub symbols-more : {text₀ : List ℕ} {at : ℕ} {whole : List Symbol} {text text' : List ℕ} {place place' : ℕ} {rest rest' : List Symbol} (s : Symbol)
+    → Symbols text₀ at whole text place rest → rest ≡ s ∷ rest' → Wrote text place (name_bytes s) text' place' → place' ≤ place + 4 → Symbols text₀ at whole text' place' rest'
 unfolding joined
-symbols_end {text₀} {at} {words} {text} {place} {i} S h = left-none S.left (ap (joined name_bytes) (listed-none words i h))
+symbols-more s S e W b = record {
+  near = let n = S.near in let l = ap length e in omega arith;
+  left = left_less S.left (ap (joined name_bytes) e) W;
+}
+
+pub listed_few : (ws : List ℕ) → 2 * length (listed ws) ≤ length ws
+unfolding listed
+listed_few [] = omega arith
+listed_few (k ∷ []) = omega arith
+listed_few (k ∷ n ∷ ws) = let i = listed_few ws in omega arith
+
+pub symbols_end : {text₀ : List ℕ} {at : ℕ} (words : List ℕ) {text : List ℕ} {place : ℕ} {rest : List Symbol} → Symbols text₀ at (listed words) text place rest → rest ≡ [] → length words ≤ 2 * symbol_limit
+    → Wrote text₀ at (joined name_bytes (listed words)) text place × (place ≤ at + 64)
+unfolding joined
+symbols_end words S e h = let n = S.near in let f = listed_few words in (left-none S.left (ap (joined name_bytes) e), omega arith)
 
 -- what the code asks of a production's words
 pub owner_small : (g : List ℕ) (n p o : ℕ) → Packed g n → p < n → o ≡ get_or g (production_place p) 0 → o < 100

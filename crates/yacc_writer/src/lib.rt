@@ -7,7 +7,8 @@ ghost use Rattle.numerals.specs.Numeral.{numeral};
 ghost use Rattle.repr.specs.Reply.{reply_of};
 ghost use Rattle.repr.specs.Sizes.{nonterminal_limit, terminal_limit, symbol_limit};
 ghost use Rattle.repr.specs.Lists.{joined};
-ghost use Rattle.repr.specs.Listed.{symbol_of_kind, listed, list_is_fit};
+ghost use Rattle.repr.specs.Listed.{listed, list_is_fit};
+ghost use Rattle.repr.specs.Symbols.{meant, IsInRange};
 ghost use Rattle.repr.specs.Packed.{Packed, production_in, productions_in};
 ghost use Rattle.table.specs.Decoded.{meaning};
 ghost use Rattle.table.specs.Checked.{Accepted};
@@ -16,7 +17,7 @@ ghost use Rattle.yacc_write.specs.Text.{ascending};
 ghost use Rattle.yacc_write.specs.Outcome.{written_of, write_of};
 ghost use Rattle.yacc_writer.specs.Wrote.{place_limit, Wrote, name_bytes, token_bytes, production_bytes, file_bytes, terminal_bytes};
 
-use repr::{Grammar, ProductionIndex, Refusal, symbols, word};
+use repr::{Grammar, ProductionIndex, Refusal, Symbol, SymbolIter, symbols, word};
 use table::{first_production, production, read_counts, read_productions};
 
 // A byte; the place behind it.
@@ -43,24 +44,16 @@ fn put_all(text: &mut [u8], at: usize, bytes: &[u8]) -> usize
     place
 }
 
-fn digit(n: usize) -> u8
-    requires { n < 10 }
-    ensures { result ≡ 48 + n }
-{
-    (48 + n) as u8
-}
-
 // A number of one or two digits: no name has a greater one.
 fn put_number(text: &mut [u8], at: usize, n: usize) -> usize
     requires { (at + 1 < place_limit) × (n < 100) }
     ensures { Wrote text.old at (numeral n) text.new result × (result ≤ at + 2) }
 {
-    let last = digit(n % 10);
+    let last = b'0' + (n % 10) as u8;
     if n < 10 {
         return put(text, at, last);
     }
-    let first = digit(n / 10);
-    let next = put(text, at, first);
+    let next = put(text, at, b'0' + (n / 10) as u8);
     put(text, next, last)
 }
 
@@ -73,21 +66,16 @@ fn put_name(text: &mut [u8], at: usize, letter: u8, n: usize) -> usize
     put_number(text, next, n)
 }
 
-// The letter of a symbol's name.
-fn letter_of(kind: usize) -> u8
-    ensures { (kind ≡ 0 → result ≡ 78) × ((kind ≡ 0 → ⊥) → result ≡ 84) }
-{
-    if kind == 0 { b'N' } else { b'T' }
-}
-
 // A space and a symbol's name.
-fn put_symbol(text: &mut [u8], at: usize, kind: usize, number: usize) -> usize
-    requires { (at + 3 < place_limit) × (number < 100) }
-    ensures { Wrote text.old at (name_bytes (symbol_of_kind kind number)) text.new result × (result ≤ at + 4) }
+fn put_symbol(text: &mut [u8], at: usize, symbol: Symbol) -> usize
+    requires { (at + 3 < place_limit) × IsInRange symbol }
+    ensures { Wrote text.old at (name_bytes (meant symbol)) text.new result × (result ≤ at + 4) }
 {
-    let letter = letter_of(kind);
     let next = put(text, at, b' ');
-    put_name(text, next, letter, number)
+    match symbol {
+        Symbol::Nonterminal(nonterminal) => put_name(text, next, b'N', nonterminal.0 as usize),
+        Symbol::Terminal(terminal) => put_name(text, next, b'T', terminal as usize),
+    }
 }
 
 // The names of the terminals below n, a space before each.
@@ -97,7 +85,7 @@ fn put_terminals(text: &mut [u8], at: usize, n: usize) -> usize
 {
     let mut place = at;
     for t in 0..n {
-        place = put_symbol(text, place, 1, t);
+        place = put_symbol(text, place, Symbol::Terminal(t as u16));
     }
     place
 }
@@ -121,10 +109,8 @@ fn put_symbols(text: &mut [u8], at: usize, words: &[u16]) -> usize
     ensures { Wrote text.old at (joined name_bytes (listed words.now)) text.new result × (result ≤ at + 64) }
 {
     let mut place = at;
-    for i in (0..words.len()).step_by(2) {
-        let kind = word(words, i);
-        let number = word(words, i + 1);
-        place = put_symbol(text, place, kind, number);
+    for symbol in (SymbolIter { words: words }) {
+        place = put_symbol(text, place, symbol);
     }
     place
 }

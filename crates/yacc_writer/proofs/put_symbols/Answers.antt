@@ -1,43 +1,19 @@
-use Rattle.yacc_writer.proofs.Turns.{left_long, symbols-first, symbols-whole, symbols_small, symbols-more, symbols_end}
-use Prim.Native.Nat.{◌+◌, ◌≤◌}
-use lib.ListN.{length}
-use native.Mathlib.Omega.{arith}
+use Rattle.std.proofs.Common.{arith}
+use Rattle.repr.proofs.FrontSymbol.{first_in_range}
+use Rattle.yacc_writer.proofs.Turns.{symbols-first, listed_few, symbols-more, symbols_end}
 use Rattle.yacc_writer.proofs.put_symbols.Goals as goal
 
-pub loop-i-init : goal.loop-i-init
-loop-i-init c = symbols-first _ _ _ c.requires.1.1
-
-pub word-kind-requires : goal.word-kind-requires
-word-kind-requires c = c.loop-i-test.true
-
-pub overflow_add-i : goal.overflow_add-i
-overflow_add-i c = omega (arith, c.loop-i-test.true, c.requires.1.0)
-
-pub word-number-requires : goal.word-number-requires
-word-number-requires c = symbols-whole c.loop-i.invariant c.loop-i-test.true
+pub loop-symbol-init : goal.loop-symbol-init
+loop-symbol-init c = rw c.into_iter-symbol-iterator.ensures.into_iter_gives (symbols-first _ _ _)
 
 pub put_symbol-place-requires : goal.put_symbol-place-requires
-put_symbol-place-requires c = (omega (arith, c.loop-i.invariant.near, c.loop-i-test.true, c.requires.0, c.requires.1.0), symbols_small c.loop-i.invariant c.loop-i-test.true _ _ c.word-kind.ensures.0 c.word-number.ensures.0)
+put_symbol-place-requires c =
+    let n = c.loop-symbol.invariant.near in
+    let f = listed_few c.args.words.now in
+    (omega (arith, n, f, c.requires.0, c.requires.1.0), first_in_range _ _ _ c.loop-symbol.symbol-iterator.fits c.in-Some.ensures.steps)
 
-pub overflow_step-i : goal.overflow_step-i
-overflow_step-i c = omega (arith, c.loop-i-test.true, c.requires.1.0)
-
-pub loop-i-smaller : goal.loop-i-smaller
-loop-i-smaller c = omega (arith, c.loop-i-test.true)
-
-pub loop-i-preserved : goal.loop-i-preserved
-loop-i-preserved c = symbols-more c.loop-i.invariant c.loop-i-test.true _ _ c.word-kind.ensures.0 c.word-number.ensures.0 c.put_symbol-place.ensures.0 c.put_symbol-place.ensures.1
-
-pub shape_of-text : goal.shape_of-text
-shape_of-text c = left_long c.loop-i.invariant.left
+pub loop-symbol-preserved : goal.loop-symbol-preserved
+loop-symbol-preserved c = symbols-more _ c.loop-symbol.invariant c.in-Some.ensures.steps c.put_symbol-place.ensures.0 c.put_symbol-place.ensures.1
 
 pub returns : goal.returns
-returns c = (symbols_end c.loop-i.invariant c.loop-i-test.false, omega (arith, c.loop-i.invariant.near, c.loop-i.invariant.within, c.requires.1.0))
-
-pub returns-2 : goal.returns-2
-returns-2 c =
-    let h : length c.args.words.now ≤ c.loop-i.i + 2 = omega arith in
-    let I = symbols-more c.loop-i.invariant c.loop-i-test.true _ _ c.word-kind.ensures.0 c.word-number.ensures.0 c.put_symbol-place.ensures.0 c.put_symbol-place.ensures.1 in
-    let n = I.near in
-    let w = I.within in
-    (symbols_end I h, omega (arith, n, w, c.requires.1.0))
+returns c = symbols_end _ c.loop-symbol.invariant c.in-None.ensures.steps.0 c.requires.1.0

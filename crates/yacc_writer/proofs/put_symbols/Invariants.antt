@@ -1,10 +1,6 @@
-use Prim.Native.Nat.{◌-◌}
-use lib.ListN.{length}
+use Rattle.repr.specs.Listed.{listed}
 use Rattle.yacc_writer.proofs.Turns.{Symbols}
 use Rattle.yacc_writer.proofs.put_symbols.Given as goal
 
-abbrev pub invariant-loop-i : goal.invariant-loop-i
-invariant-loop-i l = Symbols l.initial.text l.at l.words l.text l.place l.i
-
-abbrev pub decreases-loop-i : goal.decreases-loop-i
-decreases-loop-i l = length l.words - l.i
+abbrev pub invariant-loop-symbol : goal.invariant-loop-symbol
+invariant-loop-symbol l = Symbols l.initial.text l.at (listed l.words) l.text l.place (listed l.symbol-iterator.words.now)
