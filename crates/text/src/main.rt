@@ -4,20 +4,16 @@
 
 ghost use Rattle.std.specs.Prelude.{true, ◌≡◌, ◌+◌, ◌*◌, ◌≤◌, ◌<◌, length};
 ghost use Rattle.repr.specs.Sizes.{record_limit};
-ghost use Rattle.repr.specs.Packed.{Packed};
 ghost use Rattle.table.specs.Words.{word_at};
-ghost use Rattle.table.specs.Checked.{Accepted};
-ghost use Rattle.table.specs.Refusals.{check_of};
-ghost use Rattle.table_check.specs.Known.{AreasOf};
 ghost use Rattle.typed.specs.Typed.{IsItem};
 
 use little::decode;
 use pipe::{BYTES, RECORDS, Stop, WORDS, read_table, say_end};
-use repr::ProductionIndex;
+use repr::{Grammar, ProductionIndex};
 use std::io;
 use streams::{Failed, PIECES, read, write};
-use table::read_productions;
-use table_check::areas::{Areas, survey};
+use table::{AcceptedTable, read_productions};
+use table_check::areas::{Surveyed, survey};
 use table_check::check;
 use typed::{Roles, numbers_line, record_line};
 
@@ -69,24 +65,22 @@ fn follow(marks: &mut [bool], r: usize, next: usize) -> bool {
 }
 
 // Whether production and index are an item's.
-fn is_item(grammar: &[u16], productions: usize, p: usize, i: usize) -> bool
-    requires { Packed grammar.now productions }
-    ensures { result ≡ true → IsItem grammar.now productions p i }
+fn is_item(grammar: Grammar, p: usize, i: usize) -> bool
+    ensures { result ≡ true → IsItem grammar.entry.words.now grammar.entry.productions p i }
 {
-    p < productions && i <= repr::word(grammar, p * ProductionIndex::WORDS + 1)
+    p < grammar.productions && i <= repr::word(grammar.words, p * ProductionIndex::WORDS + 1)
 }
 
 // The sorts of chains that reach record r, those before it being followed.
-fn roles_of(table: &[u16], a: Areas, grammar: &[u16], r: usize, marks: &mut Marks) -> Roles
-    requires { AreasOf table.now a × ((r < a.records) × Packed grammar.now a.productions) }
-    ensures { result.item ≡ true → IsItem grammar.now a.productions (word_at table.now r 1) (word_at table.now r 2) }
+fn roles_of(s: Surveyed, grammar: Grammar, r: usize, marks: &mut Marks) -> Roles
+    requires { r < s.areas.records }
+    ensures { result.item ≡ true → IsItem grammar.entry.words.now grammar.entry.productions (word_at s.entry.words.now r 1) (word_at s.entry.words.now r 2) }
 {
-    let next = table::word(table, r, 0);
-    let one = table::word(table, r, 1);
-    let two = table::word(table, r, 2);
-    let fits = is_item(grammar, a.productions, one, two);
+    let next = table::word(s.words, r, 0);
+    let one = table::word(s.words, r, 1);
+    let two = table::word(s.words, r, 2);
     let symbol = follow(&mut marks.symbols, r, next);
-    let item = follow(&mut marks.items, r, next) && fits;
+    let item = follow(&mut marks.items, r, next) && is_item(grammar, one, two);
     let edge = follow(&mut marks.edges, r, next);
     Roles { symbol, item, edge }
 }
@@ -94,27 +88,35 @@ fn roles_of(table: &[u16], a: Areas, grammar: &[u16], r: usize, marks: &mut Mark
 // A line for each record.
 fn write_records<R: Print + Eprint>(
     rt: &R,
-    table: &[u16],
-    a: Areas,
-    grammar: &[u16],
+    s: Surveyed,
+    grammar: Grammar,
     marks: &mut Marks,
     out: &mut [u8],
 ) -> Result<(), Failed>
-    requires { AreasOf table.now a × (Packed grammar.now a.productions × (2048 ≤ length out.old)) }
+    requires { 2048 ≤ length out.old }
 {
-    for r in 0..a.records {
-        let roles = roles_of(table, a, grammar, r, marks);
-        let n = record_line(out, table, a, grammar, r, roles);
+    for r in 0..s.areas.records {
+        let roles = roles_of(s, grammar, r, marks);
+        let n = record_line(out, s, grammar, r, roles);
         write(rt, &out[..n])?;
     }
     Ok(())
 }
 
 // The lines of an accepted table.
-fn write_table<R: Print + Eprint>(rt: &R, table: &[u16], out: &mut [u8]) -> Result<(), Failed>
-    requires { (check_of table.now ≡ Accepted) × (2048 ≤ length out.old) }
+fn write_table<R: Print + Eprint>(
+    rt: &R,
+    table: AcceptedTable,
+    out: &mut [u8],
+) -> Result<(), Failed>
+    requires { 2048 ≤ length out.old }
 {
-    let a = survey(table);
+    let words = table.words;
+    let s = Surveyed {
+        words,
+        areas: survey(words),
+    };
+    let a = s.areas;
     write_numbers(
         rt,
         &[a.records as u16],
@@ -122,17 +124,21 @@ fn write_table<R: Print + Eprint>(rt: &R, table: &[u16], out: &mut [u8]) -> Resu
         a.records - 1,
         out,
     )?;
-    let mut grammar = [0u16; ProductionIndex::ALL_WORDS];
-    read_productions(table, &mut grammar);
+    let mut packed = [0u16; ProductionIndex::ALL_WORDS];
+    read_productions(words, &mut packed);
+    let grammar = Grammar {
+        words: &packed,
+        productions: a.productions,
+    };
     let mut marks = Marks {
         symbols: [false; RECORDS],
         items: [false; RECORDS],
         edges: [false; RECORDS],
     };
-    mark_heads(table, a.productions_at, a.loose_at, 1, &mut marks.symbols);
-    mark_heads(table, a.states_at, a.productions_at, 0, &mut marks.items);
-    mark_heads(table, a.states_at, a.productions_at, 1, &mut marks.edges);
-    write_records(rt, table, a, &grammar, &mut marks, out)
+    mark_heads(words, a.productions_at, a.loose_at, 1, &mut marks.symbols);
+    mark_heads(words, a.states_at, a.productions_at, 0, &mut marks.items);
+    mark_heads(words, a.states_at, a.productions_at, 1, &mut marks.edges);
+    write_records(rt, s, grammar, &mut marks, out)
 }
 
 // Conflicts of five words each, numbered on, and the words of one that is cut short.
@@ -204,9 +210,7 @@ fn text_input<R: io::Input + Print + Eprint>(rt: &R) -> Result<(), Stop> {
     let mut table = [0u16; WORDS];
     let mut out = [0u8; 2048];
     let words = read_table(rt, &mut bytes, &mut table)? * 4;
-    let table = &table[..words];
-    check(table)?;
-    write_table(rt, table, &mut out)?;
+    write_table(rt, check(&table[..words])?, &mut out)?;
     Ok(text_rest(rt, &mut out)?)
 }
 

@@ -5,15 +5,13 @@
 ghost use Rattle.std.specs.Prelude.{true, ◌≡◌, ◌+◌, ◌*◌, ◌≤◌, ◌<◌, length, take};
 ghost use Rattle.repr.specs.Lists.{joined};
 ghost use Rattle.repr.specs.Sizes.{record_limit};
-ghost use Rattle.repr.specs.Packed.{Packed};
 ghost use Rattle.table.specs.Words.{word_at};
-ghost use Rattle.table_check.specs.Known.{AreasOf};
 ghost use Rattle.lines.specs.Lines.{Put, spaced};
 ghost use Rattle.typed.specs.Typed.{IsItem, named, symbol_part, rule_text, item_part, by_text, edge_part, unused_part, loose_text, area_text, record_text, line_of, line_of_record};
 
 use lines::{put, put_after, put_symbol, put_symbols, put_text};
-use repr::{ProductionIndex, symbols, word};
-use table_check::areas::Areas;
+use repr::Grammar;
+use table_check::areas::Surveyed;
 
 // The sorts of chains that reach a loose record: a set, since chains may share it.
 #[derive(Clone, Copy)]
@@ -67,20 +65,12 @@ fn put_rule(out: &mut [u8], at: usize, nonterminal: usize, words: &[u16], i: usi
     put_symbols(out, fourth, behind)
 }
 
-fn put_item_part(
-    out: &mut [u8],
-    at: usize,
-    grammar: &[u16],
-    productions: usize,
-    p: usize,
-    i: usize,
-) -> usize
-    requires packed { Packed grammar.now productions × IsItem grammar.now productions p i }
+fn put_item_part(out: &mut [u8], at: usize, grammar: Grammar, p: usize, i: usize) -> usize
+    requires item { IsItem grammar.words.now grammar.productions p i }
     requires at_in_bounds { at + 800 ≤ length out.old }
-    ensures { Put out.old at (item_part true grammar.now p i) out.new result × (result ≤ at + 800) }
+    ensures { Put out.old at (item_part true grammar.entry.words.now p i) out.new result × (result ≤ at + 800) }
 {
-    let nonterminal = word(grammar, p * ProductionIndex::WORDS);
-    put_rule(out, at, nonterminal, symbols(grammar, p, productions), i)
+    put_rule(out, at, grammar.owner(p), grammar.symbols(p), i)
 }
 
 fn put_by(out: &mut [u8], at: usize, kind: usize, number: usize) -> usize
@@ -116,15 +106,14 @@ fn put_loose(
     out: &mut [u8],
     at: usize,
     table: &[u16],
-    grammar: &[u16],
-    productions: usize,
+    grammar: Grammar,
     r: usize,
     roles: Roles,
 ) -> usize
     requires r_lt_record_limit { (r < record_limit) × (r * 4 + 3 < length table.now) }
-    requires packed { Packed grammar.now productions × (roles.item ≡ true → IsItem grammar.now productions (word_at table.now r 1) (word_at table.now r 2)) }
+    requires item { roles.item ≡ true → IsItem grammar.words.now grammar.productions (word_at table.now r 1) (word_at table.now r 2) }
     requires at_in_bounds { at + 1028 ≤ length out.old }
-    ensures { Put out.old at (loose_text table.now grammar.now r roles) out.new result × (result ≤ at + 1028) }
+    ensures { Put out.old at (loose_text table.now grammar.entry.words.now r roles) out.new result × (result ≤ at + 1028) }
 {
     let one = table::word(table, r, 1);
     let two = table::word(table, r, 2);
@@ -134,7 +123,7 @@ fn put_loose(
         place = put_symbol_part(out, place, one, two);
     }
     if roles.item {
-        place = put_item_part(out, place, grammar, productions, one, two);
+        place = put_item_part(out, place, grammar, one, two);
     }
     if roles.edge {
         place = put_edge_part(out, place, one, two, three);
@@ -143,10 +132,11 @@ fn put_loose(
 }
 
 // What a record of the areas is.
-fn put_area(out: &mut [u8], at: usize, table: &[u16], a: Areas, r: usize) -> usize
-    requires { AreasOf table.now a × (at + 1028 ≤ length out.old) }
-    ensures { Put out.old at (area_text table.now r) out.new result × (result ≤ at + 1028) }
+fn put_area(out: &mut [u8], at: usize, s: Surveyed, r: usize) -> usize
+    requires { at + 1028 ≤ length out.old }
+    ensures { Put out.old at (area_text s.entry.words.now r) out.new result × (result ≤ at + 1028) }
 {
+    let a = s.areas;
     match r {
         0 => put_text(out, at, b": nonterminals, terminals, states, productions"),
         _ if r < a.states_at => put_named(out, at, b": nonterminal", r - 1),
@@ -159,42 +149,34 @@ fn put_area(out: &mut [u8], at: usize, table: &[u16], a: Areas, r: usize) -> usi
 fn put_record(
     out: &mut [u8],
     at: usize,
-    table: &[u16],
-    a: Areas,
-    grammar: &[u16],
+    s: Surveyed,
+    grammar: Grammar,
     r: usize,
     roles: Roles,
 ) -> usize
-    requires areas_of { AreasOf table.now a × (r < a.records) }
-    requires packed { Packed grammar.now a.productions × (roles.item ≡ true → IsItem grammar.now a.productions (word_at table.now r 1) (word_at table.now r 2)) }
+    requires r_lt_records { r < s.areas.records }
+    requires item { roles.item ≡ true → IsItem grammar.words.now grammar.productions (word_at s.words.now r 1) (word_at s.words.now r 2) }
     requires at_in_bounds { at + 1028 ≤ length out.old }
-    ensures { Put out.old at (record_text table.now grammar.now r roles) out.new result × (result ≤ at + 1028) }
+    ensures { Put out.old at (record_text s.entry.words.now grammar.entry.words.now r roles) out.new result × (result ≤ at + 1028) }
 {
-    if r < a.loose_at {
-        return put_area(out, at, table, a, r);
+    if r < s.areas.loose_at {
+        return put_area(out, at, s, r);
     }
-    put_loose(out, at, table, grammar, a.productions, r, roles)
+    put_loose(out, at, s.words, grammar, r, roles)
 }
 
 // The line of a record, at the front of the bytes; its length.
-pub fn record_line(
-    out: &mut [u8],
-    table: &[u16],
-    a: Areas,
-    grammar: &[u16],
-    r: usize,
-    roles: Roles,
-) -> usize
-    requires areas_of { AreasOf table.now a × (r < a.records) }
-    requires packed { Packed grammar.now a.productions × (roles.item ≡ true → IsItem grammar.now a.productions (word_at table.now r 1) (word_at table.now r 2)) }
+pub fn record_line(out: &mut [u8], s: Surveyed, grammar: Grammar, r: usize, roles: Roles) -> usize
+    requires r_lt_records { r < s.areas.records }
+    requires item { roles.item ≡ true → IsItem grammar.words.now grammar.productions (word_at s.words.now r 1) (word_at s.words.now r 2) }
     requires in_bounds { 2048 ≤ length out.old }
-    ensures { (take result out.new ≡ line_of_record table.now grammar.now r roles) × (result ≤ length out.new) }
+    ensures { (take result out.new ≡ line_of_record s.entry.words.now grammar.entry.words.now r roles) × (result ≤ length out.new) }
 {
     let from = r * 4;
     let past = from + 4;
-    let first = put_words(out, 0, &table[from..past]);
+    let first = put_words(out, 0, &s.words[from..past]);
     let second = put_named(out, first, b" #", r);
-    let third = put_record(out, second, table, a, grammar, r, roles);
+    let third = put_record(out, second, s, grammar, r, roles);
     put(out, third, b'\n')
 }
 

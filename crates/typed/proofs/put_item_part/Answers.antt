@@ -7,10 +7,10 @@ use Rattle.typed.proofs.put_item_part.Goals as goal
 
 pub put_rule-requires-clause-i_in_bounds : goal.put_rule-requires-clause-i_in_bounds
 put_rule-requires-clause-i_in_bounds c =
-    let I = c.requires.packed.1 in
-    let s = c.requires.packed.0.short _ I.production in
-    let l = ap length c.symbols.ensures ∙ words_long _ _ _ c.requires.packed.0 I.production in
+    let I = c.requires.item in
+    let s = c.args.grammar.packed.short _ I.production in
+    let l = ap length c.symbols.ensures ∙ words_long _ _ _ c.args.grammar.packed I.production in
     (omega (arith, l, I.index), omega (arith, s, l))
 
 pub returns : goal.returns
-returns c = (item-put _ _ _ c.word-nonterminal.ensures.0 c.symbols.ensures c.put_rule.ensures.0, c.put_rule.ensures.1)
+returns c = (item-put _ _ _ c.owner.ensures c.symbols.ensures c.put_rule.ensures.0, c.put_rule.ensures.1)

@@ -12,7 +12,7 @@ returns c =
       | then-roles w ↦ rw (w.out-is, w.place-is) (symbol-yes _ _ w.if-roles.true w.put_symbol_part-place.ensures.0, w.put_symbol_part-place.ensures.1)
       | else-roles w ↦ (symbol_no _ _ w.if-roles.false w.out-is w.place-is, omega arith)
     ] in
-    let item : Put c.if-roles.out c.if-roles.place (item_part c.args.roles.item c.args.grammar.now c.word-one.result c.word-two.result) c.if-roles-2.out c.if-roles-2.place × (c.if-roles-2.place ≤ c.if-roles.place + 800) =
+    let item : Put c.if-roles.out c.if-roles.place (item_part c.args.roles.item c.args.grammar.words.now c.word-one.result c.word-two.result) c.if-roles-2.out c.if-roles-2.place × (c.if-roles-2.place ≤ c.if-roles.place + 800) =
     elim c.if-roles-2.branch [
       | then-roles-2 w ↦ rw (w.out-is, w.place-is) (item-yes _ _ _ w.if-roles-2.true w.put_item_part-place.ensures.0, w.put_item_part-place.ensures.1)
       | else-roles-2 w ↦ (item_no _ _ _ w.if-roles-2.false w.out-is w.place-is, omega arith)
