@@ -1,7 +1,7 @@
 // A table in a stream, as the programs read and write it: the number of its records, its words, the rest. What fails is said on standard error (crate streams).
 #![tactic(auto)]
 
-ghost use Rattle.std.specs.Prelude.{◌*◌, ◌≤◌, IfOk, length};
+ghost use Rattle.std.specs.Prelude.{◌≡◌, ◌*◌, ◌≤◌, IfOk, length};
 ghost use Rattle.repr.specs.Sizes.{record_limit};
 ghost use Rattle.pipe.specs.Given.{Holds};
 
@@ -25,12 +25,20 @@ pub enum Stop {
 }
 
 impl From<Refusal> for Stop {
+    ghost use Rattle.pipe.specs.declared.Stop.TheVariants.{Refused};
+
+    ghost from_gives = { λ refusal stop. stop ≡ Refused refusal };
+
     fn from(refusal: Refusal) -> Stop {
         Stop::Refused(refusal)
     }
 }
 
 impl From<Failed> for Stop {
+    ghost use Rattle.pipe.specs.declared.Stop.TheVariants.{Failed as Said};
+
+    ghost from_gives = { λ _ stop. stop ≡ Said };
+
     fn from(_failed: Failed) -> Stop {
         Stop::Failed
     }

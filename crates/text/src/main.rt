@@ -12,7 +12,7 @@ use pipe::{BYTES, RECORDS, Stop, WORDS, read_table, say_end};
 use repr::{Grammar, ProductionIndex};
 use std::io;
 use streams::{Failed, PIECES, read, write};
-use table::AcceptedTable;
+use table::{AcceptedTable, read_productions};
 use table_check::areas::{Surveyed, survey};
 use table_check::check;
 use typed::{Roles, numbers_line, record_line};
@@ -68,7 +68,7 @@ fn follow(marks: &mut [bool], r: usize, next: usize) -> bool {
 fn is_item(grammar: Grammar, p: usize, i: usize) -> bool
     ensures { result ≡ true → IsItem grammar.entry.words.now grammar.entry.productions p i }
 {
-    p < grammar.productions && i <= grammar.length(p)
+    p < grammar.productions && i <= repr::word(grammar.words, p * ProductionIndex::WORDS + 1)
 }
 
 // The sorts of chains that reach record r, those before it being followed.
@@ -79,9 +79,8 @@ fn roles_of(s: Surveyed, grammar: Grammar, r: usize, marks: &mut Marks) -> Roles
     let next = table::word(s.words, r, 0);
     let one = table::word(s.words, r, 1);
     let two = table::word(s.words, r, 2);
-    let fits = is_item(grammar, one, two);
     let symbol = follow(&mut marks.symbols, r, next);
-    let item = follow(&mut marks.items, r, next) && fits;
+    let item = follow(&mut marks.items, r, next) && is_item(grammar, one, two);
     let edge = follow(&mut marks.edges, r, next);
     Roles { symbol, item, edge }
 }
@@ -105,10 +104,19 @@ fn write_records<R: Print + Eprint>(
 }
 
 // The lines of an accepted table.
-fn write_table<R: Print + Eprint>(rt: &R, table: AcceptedTable, out: &mut [u8]) -> Result<(), Failed>
+fn write_table<R: Print + Eprint>(
+    rt: &R,
+    table: AcceptedTable,
+    out: &mut [u8],
+) -> Result<(), Failed>
     requires { 2048 ≤ length out.old }
 {
-    let a = survey(table.words);
+    let words = table.words;
+    let s = Surveyed {
+        words,
+        areas: survey(words),
+    };
+    let a = s.areas;
     write_numbers(
         rt,
         &[a.records as u16],
@@ -116,10 +124,10 @@ fn write_table<R: Print + Eprint>(rt: &R, table: AcceptedTable, out: &mut [u8]) 
         a.records - 1,
         out,
     )?;
-    let mut grammar = [0u16; ProductionIndex::ALL_WORDS];
-    table.read_productions(&mut grammar);
+    let mut packed = [0u16; ProductionIndex::ALL_WORDS];
+    read_productions(words, &mut packed);
     let grammar = Grammar {
-        words: &grammar,
+        words: &packed,
         productions: a.productions,
     };
     let mut marks = Marks {
@@ -127,14 +135,10 @@ fn write_table<R: Print + Eprint>(rt: &R, table: AcceptedTable, out: &mut [u8]) 
         items: [false; RECORDS],
         edges: [false; RECORDS],
     };
-    mark_heads(table.words, a.productions_at, a.loose_at, 1, &mut marks.symbols);
-    mark_heads(table.words, a.states_at, a.productions_at, 0, &mut marks.items);
-    mark_heads(table.words, a.states_at, a.productions_at, 1, &mut marks.edges);
-    let surveyed = Surveyed {
-        words: table.words,
-        areas: a,
-    };
-    write_records(rt, surveyed, grammar, &mut marks, out)
+    mark_heads(words, a.productions_at, a.loose_at, 1, &mut marks.symbols);
+    mark_heads(words, a.states_at, a.productions_at, 0, &mut marks.items);
+    mark_heads(words, a.states_at, a.productions_at, 1, &mut marks.edges);
+    write_records(rt, s, grammar, &mut marks, out)
 }
 
 // Conflicts of five words each, numbered on, and the words of one that is cut short.
@@ -206,8 +210,7 @@ fn text_input<R: io::Input + Print + Eprint>(rt: &R) -> Result<(), Stop> {
     let mut table = [0u16; WORDS];
     let mut out = [0u8; 2048];
     let words = read_table(rt, &mut bytes, &mut table)? * 4;
-    let table = &table[..words];
-    write_table(rt, check(table)?, &mut out)?;
+    write_table(rt, check(&table[..words])?, &mut out)?;
     Ok(text_rest(rt, &mut out)?)
 }
 

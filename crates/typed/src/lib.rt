@@ -70,8 +70,7 @@ fn put_item_part(out: &mut [u8], at: usize, grammar: Grammar, p: usize, i: usize
     requires at_in_bounds { at + 800 ≤ length out.old }
     ensures { Put out.old at (item_part true grammar.entry.words.now p i) out.new result × (result ≤ at + 800) }
 {
-    let nonterminal = grammar.owner(p);
-    put_rule(out, at, nonterminal, grammar.symbols(p), i)
+    put_rule(out, at, grammar.owner(p), grammar.symbols(p), i)
 }
 
 fn put_by(out: &mut [u8], at: usize, kind: usize, number: usize) -> usize
@@ -137,11 +136,12 @@ fn put_area(out: &mut [u8], at: usize, s: Surveyed, r: usize) -> usize
     requires { at + 1028 ≤ length out.old }
     ensures { Put out.old at (area_text s.entry.words.now r) out.new result × (result ≤ at + 1028) }
 {
+    let a = s.areas;
     match r {
         0 => put_text(out, at, b": nonterminals, terminals, states, productions"),
-        _ if r < s.areas.states_at => put_named(out, at, b": nonterminal", r - 1),
-        _ if r < s.areas.productions_at => put_named(out, at, b": state", r - s.areas.states_at),
-        _ => put_named(out, at, b": production", r - s.areas.productions_at),
+        _ if r < a.states_at => put_named(out, at, b": nonterminal", r - 1),
+        _ if r < a.productions_at => put_named(out, at, b": state", r - a.states_at),
+        _ => put_named(out, at, b": production", r - a.productions_at),
     }
 }
 
@@ -154,7 +154,7 @@ fn put_record(
     r: usize,
     roles: Roles,
 ) -> usize
-    requires within { r < s.areas.records }
+    requires r_lt_records { r < s.areas.records }
     requires item { roles.item ≡ true → IsItem grammar.words.now grammar.productions (word_at s.words.now r 1) (word_at s.words.now r 2) }
     requires at_in_bounds { at + 1028 ≤ length out.old }
     ensures { Put out.old at (record_text s.entry.words.now grammar.entry.words.now r roles) out.new result × (result ≤ at + 1028) }
@@ -167,7 +167,7 @@ fn put_record(
 
 // The line of a record, at the front of the bytes; its length.
 pub fn record_line(out: &mut [u8], s: Surveyed, grammar: Grammar, r: usize, roles: Roles) -> usize
-    requires within { r < s.areas.records }
+    requires r_lt_records { r < s.areas.records }
     requires item { roles.item ≡ true → IsItem grammar.words.now grammar.productions (word_at s.words.now r 1) (word_at s.words.now r 2) }
     requires in_bounds { 2048 ≤ length out.old }
     ensures { (take result out.new ≡ line_of_record s.entry.words.now grammar.entry.words.now r roles) × (result ≤ length out.new) }

@@ -13,4 +13,4 @@ put_rule-requires-clause-i_in_bounds c =
     (omega (arith, l, I.index), omega (arith, s, l))
 
 pub returns : goal.returns
-returns c = (item-put _ _ _ c.owner-nonterminal.ensures c.symbols.ensures c.put_rule.ensures.0, c.put_rule.ensures.1)
+returns c = (item-put _ _ _ c.owner.ensures c.symbols.ensures c.put_rule.ensures.0, c.put_rule.ensures.1)
