@@ -11,14 +11,12 @@ ghost use Rattle.repr.specs.Listed.{listed, list_is_fit};
 ghost use Rattle.repr.specs.Symbols.{meant};
 ghost use Rattle.repr.specs.Packed.{Packed, productions_in};
 ghost use Rattle.table.specs.Decoded.{meaning};
-ghost use Rattle.table.specs.Checked.{Accepted};
-ghost use Rattle.table.specs.Refusals.{check_of};
 ghost use Rattle.grammar_records.specs.Target.{PackedAs, owned_from};
 ghost use Rattle.augment.specs.Started.{uses, is_start_needed, started_in, started_of, Startable, GrammarOf};
 
 use grammar_records::{count_symbols, next_owned, write_front, write_productions, write_symbols};
 use repr::{Grammar, NonterminalString, ProductionIndex, Refusal, Symbol, SymbolIter};
-use table::{Counts, put, read_counts, read_productions};
+use table::{AcceptedTable, Counts, put};
 
 // Records written and the start production.
 #[derive(Clone, Copy)]
@@ -127,17 +125,16 @@ pub fn write_started(
 
 // The grammar with a start production, at the front of `out`: its own, or one that is added. Refusals 2, then 17; they change nothing.
 pub fn with_start(
-    table: &[u16],
+    table: AcceptedTable,
     start: NonterminalString,
     out: &mut [u16],
 ) -> Result<Started, Refusal>
-    requires table_value { check_of table.now ≡ Accepted }
-    requires startable { Startable (meaning table.now) start.0 }
-    ensures { record { answer = reply_of result; out = out.new } ≡ started_of (meaning table.now) start.0 out.old }
+    requires { Startable (meaning table.words.now) start.0 }
+    ensures { record { answer = reply_of result; out = out.new } ≡ started_of (meaning table.entry.words.now) start.0 out.old }
 {
     let mut grammar = [0u16; ProductionIndex::ALL_WORDS];
-    read_productions(table, &mut grammar);
-    let counts = read_counts(table);
+    table.read_productions(&mut grammar);
+    let counts = table.counts();
     let nonterminals = counts.nonterminals;
     let productions = counts.productions;
     let n = start.0 as usize;

@@ -10,7 +10,7 @@ use crate::words::{at, number, set_at};
 use lookahead::TokenSet;
 use lr1_core::{Item, prefix, suffix};
 use repr::{Grammar, ProductionIndex};
-use table::{read_counts, read_productions};
+use table::AcceptedTable;
 
 fn say_set<R: Print>(rt: &R, set: TokenSet) {
     say_halves(rt, set.0);
@@ -101,29 +101,23 @@ fn say_item<R: Print>(rt: &R, item: Item, grammar: Grammar)
     say_words(rt, suffix(grammar, item));
 }
 
-fn ask_item_in<R: Print>(rt: &R, table: &[u16], production: usize, index: usize)
-    requires { check_of table.now ≡ Accepted }
-{
-    let counts = read_counts(table);
-    let productions = counts.productions;
-    let mut grammar = [0u16; ProductionIndex::ALL_WORDS];
-    read_productions(table, &mut grammar);
-    if production < productions {
-        let item = Item {
-            production: production,
-            index: index,
-        };
-        if index <= item.length(Grammar { words: &grammar, productions }) {
-            say_item(rt, item, Grammar { words: &grammar, productions });
-            return;
-        }
+fn ask_item_in<R: Print>(rt: &R, table: AcceptedTable, production: usize, index: usize) {
+    let mut words = [0u16; ProductionIndex::ALL_WORDS];
+    table.read_productions(&mut words);
+    let grammar = Grammar {
+        words: &words,
+        productions: table.counts().productions,
+    };
+    if production < grammar.productions && index <= grammar.length(production) {
+        say_item(rt, Item { production, index }, grammar);
+    } else {
+        say_answer(rt, 9, 0);
     }
-    say_answer(rt, 9, 0);
 }
 
 pub fn ask_item<R: Print>(rt: &R, table: &[u16], more: &[u16]) {
     match table_check::check(table) {
         Err(refusal) => say_answer(rt, refusal.number(), refusal.place()),
-        Ok(_) => ask_item_in(rt, table, number(more, 0), number(more, 1)),
+        Ok(accepted) => ask_item_in(rt, accepted, number(more, 0), number(more, 1)),
     }
 }

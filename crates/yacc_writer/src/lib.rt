@@ -9,16 +9,14 @@ ghost use Rattle.repr.specs.Sizes.{nonterminal_limit, terminal_limit, symbol_lim
 ghost use Rattle.repr.specs.Lists.{joined};
 ghost use Rattle.repr.specs.Listed.{listed, list_is_fit};
 ghost use Rattle.repr.specs.Symbols.{meant, IsInRange};
-ghost use Rattle.repr.specs.Packed.{Packed, production_in, productions_in};
+ghost use Rattle.repr.specs.Packed.{production_in, productions_in};
 ghost use Rattle.table.specs.Decoded.{meaning};
-ghost use Rattle.table.specs.Checked.{Accepted};
-ghost use Rattle.table.specs.Refusals.{check_of};
 ghost use Rattle.yacc_write.specs.Text.{ascending};
 ghost use Rattle.yacc_write.specs.Outcome.{written_of, write_of};
 ghost use Rattle.yacc_writer.specs.Wrote.{place_limit, Wrote, name_bytes, token_bytes, production_bytes, file_bytes, terminal_bytes};
 
-use repr::{Grammar, ProductionIndex, Refusal, Symbol, SymbolIter, symbols, word};
-use table::{first_production, production, read_counts, read_productions};
+use repr::{Grammar, ProductionIndex, Refusal, Symbol, SymbolIter};
+use table::AcceptedTable;
 
 // A byte; the place behind it.
 fn put(text: &mut [u8], at: usize, byte: u8) -> usize
@@ -116,27 +114,25 @@ fn put_symbols(text: &mut [u8], at: usize, words: &[u16]) -> usize
 }
 
 // The line of a production.
-fn put_production(text: &mut [u8], at: usize, grammar: &[u16], p: usize, n: usize) -> usize
-    requires { (at < 64000) × (Packed grammar.now n × (p < n)) }
-    ensures { Wrote text.old at (production_bytes (production_in grammar.now p)) text.new result × (result ≤ at + 72) }
+fn put_production(text: &mut [u8], at: usize, grammar: Grammar, p: usize) -> usize
+    requires { (at < 64000) × (p < grammar.productions) }
+    ensures { Wrote text.old at (production_bytes (production_in grammar.entry.words.now p)) text.new result × (result ≤ at + 72) }
 {
-    let owner = word(grammar, p * ProductionIndex::WORDS);
-    let words = symbols(grammar, p, n);
-    let name = put_name(text, at, b'N', owner);
+    let name = put_name(text, at, b'N', grammar.owner(p));
     let space = put(text, name, b' ');
     let colon = put(text, space, b':');
-    let last = put_symbols(text, colon, words);
+    let last = put_symbols(text, colon, grammar.symbols(p));
     put_all(text, last, b" ;\n")
 }
 
 // The lines of the productions.
-fn put_productions(text: &mut [u8], at: usize, grammar: &[u16], n: usize) -> usize
-    requires { (at < 1000) × Packed grammar.now n }
-    ensures { Wrote text.old at (joined production_bytes (productions_in grammar.now n)) text.new result × (result ≤ at + 72 * n) }
+fn put_productions(text: &mut [u8], at: usize, grammar: Grammar) -> usize
+    requires { at < 1000 }
+    ensures { Wrote text.old at (joined production_bytes (productions_in grammar.entry.words.now grammar.entry.productions)) text.new result × (result ≤ at + 72 * grammar.entry.productions) }
 {
     let mut place = at;
-    for p in 0..n {
-        place = put_production(text, place, grammar, p, n);
+    for p in 0..grammar.productions {
+        place = put_production(text, place, grammar, p);
     }
     place
 }
@@ -152,20 +148,17 @@ fn put_file(text: &mut [u8], grammar: Grammar, terminals: usize) -> usize
 }
 
 // Does each nonterminal have a production, and the first ones ascend: else 23.
-fn ascends(table: &[u16]) -> bool
-    requires { check_of table.now ≡ Accepted }
-    ensures { result ≡ ascending 0 (meaning table.now).nonterminals }
+fn ascends(table: AcceptedTable) -> bool
+    ensures { result ≡ ascending 0 (meaning table.entry.words.now).nonterminals }
 {
-    let counts = read_counts(table);
-    let nonterminals = counts.nonterminals;
+    let nonterminals = table.counts().nonterminals;
     let mut least: usize = 0;
     for n in 0..nonterminals {
-        let head = first_production(table, n);
+        let head = table.first_production(n);
         if head == 0 {
             return false;
         }
-        let read = production(table, head);
-        let first = read.production;
+        let first = table.production(head).production;
         if first < least {
             return false;
         }
@@ -175,29 +168,29 @@ fn ascends(table: &[u16]) -> bool
 }
 
 // Writes an accepted table whose first productions ascend, if there is room: the bytes are counted first.
-fn write_ordered(table: &[u16], text: &mut [u8]) -> Result<u16, Refusal>
-    requires table_value { check_of table.now ≡ Accepted }
-    requires table_value_2 { ascending 0 (meaning table.now).nonterminals ≡ true }
-    ensures { record { answer = reply_of result; text = text.new } ≡ written_of (meaning table.now) text.old }
+fn write_ordered(table: AcceptedTable, text: &mut [u8]) -> Result<u16, Refusal>
+    requires { ascending 0 (meaning table.words.now).nonterminals ≡ true }
+    ensures { record { answer = reply_of result; text = text.new } ≡ written_of (meaning table.entry.words.now) text.old }
 {
-    let counts = read_counts(table);
-    let terminals = counts.terminals;
-    let productions = counts.productions;
-    let mut grammar = [0u16; ProductionIndex::ALL_WORDS];
-    read_productions(table, &mut grammar);
+    let counts = table.counts();
+    let mut words = [0u16; ProductionIndex::ALL_WORDS];
+    table.read_productions(&mut words);
+    let grammar = Grammar {
+        words: &words,
+        productions: counts.productions,
+    };
     let mut nothing = [0u8; 1];
-    let size = put_file(&mut nothing, &grammar, terminals, productions);
+    let size = put_file(&mut nothing, grammar, counts.terminals);
     if size > text.len() {
         return Err(Refusal::NoRoom);
     }
-    let _size = put_file(text, &grammar, terminals, productions);
+    let _size = put_file(text, grammar, counts.terminals);
     Ok(size as u16)
 }
 
 // Writes an accepted table.
-fn write_in(table: &[u16], text: &mut [u8]) -> Result<u16, Refusal>
-    requires { check_of table.now ≡ Accepted }
-    ensures { record { answer = reply_of result; text = text.new } ≡ written_of (meaning table.now) text.old }
+fn write_in(table: AcceptedTable, text: &mut [u8]) -> Result<u16, Refusal>
+    ensures { record { answer = reply_of result; text = text.new } ≡ written_of (meaning table.entry.words.now) text.old }
 {
     if ascends(table) {
         return write_ordered(table, text);
@@ -209,6 +202,5 @@ fn write_in(table: &[u16], text: &mut [u8]) -> Result<u16, Refusal>
 pub fn write_yacc(table: &[u16], text: &mut [u8]) -> Result<u16, Refusal>
     ensures { record { answer = reply_of result; text = text.new } ≡ write_of table.now text.old }
 {
-    table_check::check(table)?;
-    write_in(table, text)
+    write_in(table_check::check(table)?, text)
 }

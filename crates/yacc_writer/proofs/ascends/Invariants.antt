@@ -5,4 +5,4 @@ use Rattle.yacc_writer.proofs.Turns.{Ascends}
 use Rattle.yacc_writer.proofs.ascends.Given as goal
 
 abbrev pub invariant-loop-n : goal.invariant-loop-n
-invariant-loop-n l = Ascends (meaning l.table).nonterminals l.least l.n × (l.nonterminals ≡ length (meaning l.table).nonterminals)
+invariant-loop-n l = Ascends (meaning l.table.words.now).nonterminals l.least l.n × (l.nonterminals ≡ length (meaning l.table.words.now).nonterminals)

@@ -9,7 +9,7 @@ pub put_all-mark-requires : goal.put_all-mark-requires
 put_all-mark-requires c = omega (arith, c.put_tokens-tokens.ensures.1)
 
 pub put_productions-requires : goal.put_productions-requires
-put_productions-requires c = (omega (arith, c.put_all-mark.ensures.place, c.put_tokens-tokens.ensures.1), c.args.grammar.packed)
+put_productions-requires c = omega (arith, c.put_all-mark.ensures.place, c.put_tokens-tokens.ensures.1)
 
 pub returns : goal.returns
 returns c = file_put _ _ _ c.args.grammar.packed.few c.put_tokens-tokens.ensures c.put_all-mark.ensures c.put_productions.ensures

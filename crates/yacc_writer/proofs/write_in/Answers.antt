@@ -2,11 +2,8 @@ use mathlib.Core.Path.{sym, ◌∙◌}
 use Rattle.yacc_writer.proofs.Turns.{written_disordered}
 use Rattle.yacc_writer.proofs.write_in.Goals as goal
 
-pub ascends-requires : goal.ascends-requires
-ascends-requires c = c.requires
-
 pub write_ordered-requires : goal.write_ordered-requires
-write_ordered-requires c = record { table_value = c.requires; table_value_2 = sym c.ascends.ensures ∙ c.if-ascends.true }
+write_ordered-requires c = sym c.ascends.ensures ∙ c.if-ascends.true
 
 pub returns-then-ascends : goal.returns-then-ascends
 returns-then-ascends c = c.write_ordered.ensures

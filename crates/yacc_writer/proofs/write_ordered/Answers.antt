@@ -2,20 +2,20 @@ use Rattle.yacc_writer.proofs.Turns.{ordered_short, ordered_done}
 use native.Mathlib.Omega.{arith}
 use Rattle.yacc_writer.proofs.write_ordered.Goals as goal
 
-pub read_counts-counts-requires : goal.read_counts-counts-requires
-read_counts-counts-requires c = c.requires.table_value
+pub invariant_of-grammar : goal.invariant_of-grammar
+invariant_of-grammar c = record { packed = rw c.counts-counts.ensures.productions c.read_productions.ensures.0 }
 
 pub put_file-size-requires : goal.put_file-size-requires
-put_file-size-requires c = (rw c.read_counts-counts.ensures.terminals c.read_counts-counts.ensures.fits.few_terminals, rw c.read_counts-counts.ensures.productions c.read_productions.ensures.0)
+put_file-size-requires c = rw c.counts-counts.ensures.terminals c.counts-counts.ensures.fits.few_terminals
 
 pub returns-then-size-text : goal.returns-then-size-text
-returns-then-size-text c = ordered_short _ _ _ _ _ _ c.requires.table_value_2 c.read_counts-counts.ensures.terminals c.read_counts-counts.ensures.productions c.read_productions.ensures.1 c.put_file-size.ensures.0.place c.if-size-text.true
+returns-then-size-text c = ordered_short _ _ _ _ _ _ c.requires c.counts-counts.ensures.terminals c.counts-counts.ensures.productions c.read_productions.ensures.1 c.put_file-size.ensures.0.place c.if-size-text.true
 
 pub put_file-size-requires-2 : goal.put_file-size-requires-2
-put_file-size-requires-2 c = (rw c.read_counts-counts.ensures.terminals c.read_counts-counts.ensures.fits.few_terminals, rw c.read_counts-counts.ensures.productions c.read_productions.ensures.0)
+put_file-size-requires-2 c = rw c.counts-counts.ensures.terminals c.counts-counts.ensures.fits.few_terminals
 
 pub overflow_cast-result : goal.overflow_cast-result
 overflow_cast-result c = omega (arith, c.put_file-size.ensures.1)
 
 pub returns : goal.returns
-returns c = ordered_done _ _ _ _ _ _ c.requires.table_value_2 c.read_counts-counts.ensures.terminals c.read_counts-counts.ensures.productions c.read_productions.ensures.1 c.put_file-size.ensures.0.place c.if-size-text.false _ _ c.put_file-size-2.ensures.0
+returns c = ordered_done _ _ _ _ _ _ c.requires c.counts-counts.ensures.terminals c.counts-counts.ensures.productions c.read_productions.ensures.1 c.put_file-size.ensures.0.place c.if-size-text.false _ _ c.put_file-size-2.ensures.0

@@ -3,13 +3,10 @@ use Rattle.std.proofs.lemmas.Result.{err_from_is_err_and}
 use Rattle.yacc_writer.proofs.Turns.{write-refused, write_accepted}
 use Rattle.yacc_writer.proofs.write_yacc.Goals as goal
 
-pub write_in-requires : goal.write_in-requires
-write_in-requires c = sym c.in_ok-check.ensures.answer
-
 pub returns-in_err-check : goal.returns-in_err-check
 returns-in_err-check c =
     let p = err_from_is_err_and c.from_residual.result c.from_residual.ensures.1 in
     rw (p.1, p.2) (write-refused _ _ _ _ (sym c.in_err-check.ensures.answer))
 
 pub returns : goal.returns
-returns c = c.write_in.ensures ∙ write_accepted _ _ (sym c.in_ok-check.ensures.answer)
+returns c = rw c.in_ok-check.ensures.same at c.write_in.ensures ∙ write_accepted _ _ (sym c.in_ok-check.ensures.answer)
