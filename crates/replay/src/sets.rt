@@ -1,8 +1,6 @@
 // Ops 14 and 15: token sets, an item's symbols.
 ghost use Rattle.std.specs.Prelude.{◌≡◌, ◌<◌, ◌≤◌, length};
-ghost use Rattle.table.specs.Checked.{Accepted};
-ghost use Rattle.table.specs.Refusals.{check_of};
-ghost use Rattle.repr.specs.Packed.{Packed, symbol_words};
+ghost use Rattle.repr.specs.Packed.{symbol_words};
 ghost use Rattle.repr.specs.Listed.{listed};
 
 use crate::say::{say_answer, say_bool, say_halves, say_next, say_words};
@@ -85,7 +83,7 @@ fn shifted(item: Item, grammar: Grammar) -> u64
 }
 
 fn say_item<R: Print>(rt: &R, item: Item, grammar: Grammar)
-    requires within { item.production < grammar.productions }
+    requires production { item.production < grammar.productions }
     requires index_in_bounds { item.index ≤ length (listed (symbol_words grammar.words.now item.production)) }
 {
     let sets = item.symbol_sets(grammar);

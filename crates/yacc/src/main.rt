@@ -5,14 +5,13 @@
 
 ghost use Rattle.std.specs.Prelude.{◌≡◌, ◌≤◌, length};
 ghost use Rattle.table.specs.Decoded.{meaning};
-ghost use Rattle.table.specs.Checked.{Accepted};
-ghost use Rattle.table.specs.Refusals.{check_of};
 ghost use Rattle.augment.specs.Started.{Startable};
 
 use augment::with_start;
 use pipe::{Stop, say_end, write_records};
-use repr::NonterminalString;
+use repr::{NonterminalString, Refusal};
 use streams::{read, write};
+use table::AcceptedTable;
 use yacc_reader::{misnamed_at, read_yacc};
 use yacc_stray::{place_of, stray};
 
@@ -51,23 +50,18 @@ fn say_misnamed<R: Eprint>(rt: &R, text: &[u8])
 // The grammar that was read, from its start nonterminal.
 fn write_grammar<R: Print + Eprint>(
     rt: &R,
-    table: &[u16],
+    table: AcceptedTable,
     start: NonterminalString,
     bytes: &mut [u8],
 ) -> Result<(), Stop>
-    requires table_value { check_of table.now ≡ Accepted }
-    requires startable { Startable (meaning table.now) start.0 }
+    requires startable { Startable (meaning table.words.now) start.0 }
     requires in_bounds { 65536 ≤ length bytes.old }
 {
     let mut out = [0u16; 8848];
-    match with_start(table, start, &mut out) {
-        Err(refusal) => Err(Stop::Refused(refusal.number(), refusal.place())),
-        Ok(started) => {
-            let past = started.records as usize * 4;
-            write_records(rt, &out[..past], bytes)?;
-            Ok(write(rt, &started.production.0.to_le_bytes())?)
-        }
-    }
+    let started = with_start(table, start, &mut out)?;
+    let past = started.records as usize * 4;
+    write_records(rt, &out[..past], bytes)?;
+    Ok(write(rt, &started.production.0.to_le_bytes())?)
 }
 
 // A text that was read whole.
@@ -76,13 +70,12 @@ fn read_text<R: Print + Eprint>(rt: &R, text: &[u8], bytes: &mut [u8]) -> Result
 {
     let mut table = [0u16; 8840];
     let mut places = [0u16; 95];
-    match read_yacc(text, &mut table, &mut places) {
-        Err(refusal) => Err(Stop::Refused(refusal.number(), refusal.place())),
-        Ok(read) => {
-            let words = read.records as usize * 4;
-            write_grammar(rt, &table[..words], read.start, bytes)
-        }
-    }
+    let read = read_yacc(text, &mut table, &mut places)?;
+    let words = read.records as usize * 4;
+    let table = AcceptedTable {
+        words: &table[..words],
+    };
+    write_grammar(rt, table, read.start, bytes)
 }
 
 // One byte more than a text may have shows that it is too long. Only the text itself is refused by 20 and 21.
@@ -94,8 +87,8 @@ fn main(rt: HostRuntime) {
         let run = read_text(&rt, text, &mut bytes);
         say_end(&rt, run);
         match run {
-            Err(Stop::Refused(20, _)) => say_stray(&rt, text),
-            Err(Stop::Refused(21, _)) => say_misnamed(&rt, text),
+            Err(Stop::Refused(Refusal::NoText)) => say_stray(&rt, text),
+            Err(Stop::Refused(Refusal::Misnamed)) => say_misnamed(&rt, text),
             _ => {}
         }
     }
