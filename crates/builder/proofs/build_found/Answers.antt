@@ -23,7 +23,7 @@ search_states-requires c = record {
 pub returns-in_err-search_states : goal.returns-in_err-search_states
 returns-in_err-search_states c =
     let q = err_from_is_err_and c.from_residual.result c.from_residual.ensures.1 in
-    λ S. rw (q.1, q.2, q.3)
+    λ S. rw (q.1, q.2.0, q.2.1)
     (halts-answer _ _ (fits _ c.args.table.accepted) c.sizes_of.ensures c.counts-counts.ensures.productions (c.new-sets.ensures.terminals ∙ c.counts-counts.ensures.terminals)
     (rw c.counts-counts.ensures.productions c.read_productions.ensures.1) (rw c.new-sets.ensures.terminals c.new-sets.ensures.is) c.requires.start_value.0
     _ _ _ _ _ c.search_states.ensures c.in_err-search_states.was _ S)
