@@ -7,11 +7,11 @@ use native.Mathlib.Omega.{arith}
 use lib.Dec.{eqb}
 use lib.ListN.{length, get_or}
 use borrow.Author.Tests.{ltb-true}
-use Rattle.repr.specs.Sizes.{record_limit, symbol_limit, terminal_limit}
+use Rattle.repr.specs.Sizes.{record_limit, symbol_limit}
 use Rattle.repr.specs.Lists.{below, keep}
 use Rattle.repr.specs.Meaning.{All, Production, Edge, State, Table, no_state, state_at, ProductionFits, TableFits}
 use Rattle.repr.specs.Reply.{answered, refused}
-use Rattle.repr.specs.Packed.{ productions_in}
+use Rattle.repr.specs.Packed.{productions_in}
 use Rattle.repr.proofs.Lists.{length_mapped, length-map-below, get_d_map, get_d_map-below}
 use Rattle.slices.specs.Lent.{in_front, zeroed}
 use Rattle.spelling.specs.Spelled.{size_of, symbol_lists, item_lists, states_at, productions_at, symbols_at, items_place, edges_at, records_of, spell}

@@ -1,4 +1,4 @@
-use Rattle.std.proofs.Common.{refl, ◌∙◌, arith}
+use Rattle.std.proofs.Common.{refl, ◌∙◌}
 use Rattle.std.proofs.lemmas.Result.{err_from_is_err_and}
 use Rattle.table.proofs.Decoding.{fits}
 use Rattle.builder.proofs.Found.{ready, halts-answer, all_found, ended}
@@ -29,11 +29,14 @@ returns-in_err-search_states c =
     _ _ _ _ _ c.search_states.ensures c.in_err-search_states.was _ S)
 
 pub write_found-requires : goal.write_found-requires
-write_found-requires c = (_, ended _ _ (fits _ c.args.table.accepted) c.sizes_of.ensures c.counts-counts.ensures.productions (c.new-sets.ensures.terminals ∙ c.counts-counts.ensures.terminals)
-    (rw c.counts-counts.ensures.productions c.read_productions.ensures.1) (rw c.new-sets.ensures.terminals c.new-sets.ensures.is) c.requires.start_value.0 _ _ _
-    (all_found _ _ (fits _ c.args.table.accepted) c.sizes_of.ensures c.counts-counts.ensures.productions (c.new-sets.ensures.terminals ∙ c.counts-counts.ensures.terminals)
-    (rw c.counts-counts.ensures.productions c.read_productions.ensures.1) (rw c.new-sets.ensures.terminals c.new-sets.ensures.is) c.requires.start_value.0
-    _ _ _ _ _ c.search_states.ensures c.in_ok-search_states.was))
+write_found-requires c = (
+  _,
+  ended _ _ (fits _ c.args.table.accepted) c.sizes_of.ensures c.counts-counts.ensures.productions (c.new-sets.ensures.terminals ∙ c.counts-counts.ensures.terminals)
+      (rw c.counts-counts.ensures.productions c.read_productions.ensures.1) (rw c.new-sets.ensures.terminals c.new-sets.ensures.is) c.requires.start_value.0 _ _ _
+      (all_found _ _ (fits _ c.args.table.accepted) c.sizes_of.ensures c.counts-counts.ensures.productions (c.new-sets.ensures.terminals ∙ c.counts-counts.ensures.terminals)
+      (rw c.counts-counts.ensures.productions c.read_productions.ensures.1) (rw c.new-sets.ensures.terminals c.new-sets.ensures.is) c.requires.start_value.0
+      _ _ _ _ _ c.search_states.ensures c.in_ok-search_states.was),
+)
 
 pub returns : goal.returns
 returns c = c.write_found.ensures _ (ended _ _ (fits _ c.args.table.accepted) c.sizes_of.ensures c.counts-counts.ensures.productions (c.new-sets.ensures.terminals ∙ c.counts-counts.ensures.terminals)
