@@ -7,11 +7,11 @@ use native.Mathlib.Omega.{arith}
 use lib.Dec.{eqb}
 use lib.ListN.{length, get_or}
 use borrow.Author.Tests.{ltb-true}
-use Rattle.repr.specs.Sizes.{record_limit, symbol_limit, terminal_limit}
+use Rattle.repr.specs.Sizes.{record_limit, symbol_limit}
 use Rattle.repr.specs.Lists.{below, keep}
 use Rattle.repr.specs.Meaning.{All, Production, Edge, State, Table, no_state, state_at, ProductionFits, TableFits}
 use Rattle.repr.specs.Reply.{answered, refused}
-use Rattle.repr.specs.Packed.{ productions_in}
+use Rattle.repr.specs.Packed.{productions_in}
 use Rattle.repr.proofs.Lists.{length_mapped, length-map-below, get_d_map, get_d_map-below}
 use Rattle.slices.specs.Lent.{in_front, zeroed}
 use Rattle.spelling.specs.Spelled.{size_of, symbol_lists, item_lists, states_at, productions_at, symbols_at, items_place, edges_at, records_of, spell}
@@ -121,12 +121,12 @@ module _ {T : Table} {room : ℕ} {found : FoundStates} (s : Ended T room found)
       few = omega (arith, long_rows, s.all.holds.begun.few);
       front = s.all.front;
       next = λ k h.
-          let i : k < n = omega (arith, long_rows, s.all.many) in
+          let i : k < found.begins.now.states = omega (arith, long_rows, s.all.many) in
           let up = s.all.rises k i in
           let m : length (get_or ds k []) ≡ get_or found.edges.now.rows (k + 1) 0 - get_or found.edges.now.rows k 0 = ap length (row_at k i) ∙ length_row found.edges.now.words found.edges.now.rows k in
           omega (arith, up, m);
     });
-    is = λ k h. let i : k < n = omega (arith, long_states, s.all.many) in sym (ap (λ (q : State). q.edges) (state_at_lem k h) ∙ row_at k i);
+    is = λ k h. let i : k < found.begins.now.states = omega (arith, long_states, s.all.many) in sym (ap (λ (q : State). q.edges) (state_at_lem k h) ∙ row_at k i);
   }
 
   items_from_lem : found.source.sizes.fixed + found.begins.now.states ≡ items_place table_found
@@ -207,7 +207,7 @@ module _ {T : Table} {room : ℕ} {found : FoundStates} (s : Ended T room found)
 
 -- what the search gets and leaves
 
-module _ {T : Table} {room : ℕ} {source : Source} (start : ℕ) (F : TableFits T) (z : SizesOf T room source.sizes) (many : source.grammar.productions ≡ length T.productions)
+module _ {T : Table} {room : ℕ} (source : Source) (start : ℕ) (F : TableFits T) (z : SizesOf T room source.sizes) (many : source.grammar.productions ≡ length T.productions)
     (tokens : source.sets.now.terminals ≡ T.terminals) (same : productions_in source.grammar.words.now source.grammar.productions ≡ T.productions)
     (q : source.sets.now.map ≡ sets_of_first source.sets.now.terminals (productions_in source.grammar.words.now source.grammar.productions)) (h : start_is_fit T start ≡ true) where
   pub grammar : OfTable T source.grammar.words.now source.grammar.productions source.sets.now.terminals source.sets.now.map

@@ -12,7 +12,7 @@ use Rattle.spelling.specs.Grown.{Grown, Room}
 use Rattle.spelling.proofs.Grown.{grown-join, grown-all}
 use Rattle.spelling.proofs.Wrote.{front_is}
 use Rattle.grammar_records.specs.Target.{Target, PackedAs}
-use Rattle.state_records.specs.Rows.{Begins, ItemsIn, EdgesIn}
+use Rattle.state_records.specs.Rows.{BeginsOf, ItemsIn, EdgesIn}
 use Rattle.measuring.specs.declared.FoundStates.{FoundStates}
 use Rattle.builder.specs.Ended.{Laid}
 
@@ -50,7 +50,7 @@ module _ {U : Table} {found : FoundStates} {out : List ℕ} (L : Laid U found ou
   -- what the six writers leave, one after the other
   pub all-written : (o₁ o₂ o₃ o₄ o₅ o₆ : List ℕ)
       → ((W : Table) → Target W found.source.sizes.nonterminals found.source.sets.now.terminals found.begins.now.states out → PackedAs W found.source.grammar.words.now found.source.grammar.productions → Grown W out o₁ 0 (states_at W))
-      → ((W : Table) → found.begins.now.states ≡ length W.states → 1 + found.source.sizes.nonterminals ≡ states_at W → found.source.sizes.fixed + found.begins.now.states ≡ items_place W → found.source.sizes.fixed + found.begins.now.states + get_or found.begins.now.items found.begins.now.states 0 ≡ edges_at W → Begins (item_lists W) found.begins.now.items → Begins (edge_lists W) found.edges.now.rows → Room W o₁
+      → ((W : Table) → found.begins.now.states ≡ length W.states → 1 + found.source.sizes.nonterminals ≡ states_at W → found.source.sizes.fixed + found.begins.now.states ≡ items_place W → found.source.sizes.fixed + found.begins.now.states + get_or found.begins.now.items found.begins.now.states 0 ≡ edges_at W → BeginsOf (item_lists W) found.begins.now.items → BeginsOf (edge_lists W) found.edges.now.rows → Room W o₁
       → Grown W o₁ o₂ (states_at W) (productions_at W))
       → ((W : Table) → Target W found.source.sizes.nonterminals found.source.sets.now.terminals found.begins.now.states o₂ → PackedAs W found.source.grammar.words.now found.source.grammar.productions → Grown W o₂ o₃ (productions_at W) (symbols_at W))
       → ((W : Table) → PackedAs W found.source.grammar.words.now found.source.grammar.productions → 1 + found.source.sizes.nonterminals + found.begins.now.states + found.source.grammar.productions ≡ symbols_at W → Room W o₃ → Grown W o₃ o₄ (symbols_at W) (items_place W))

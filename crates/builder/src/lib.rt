@@ -78,27 +78,15 @@ fn write_table(found: FoundStates, out: &mut [u16])
     let items = sizes.fixed + states;
     let ends = items + begins.items[states];
     write_front(grammar, counts, out);
-    write_states(
-        &begins.items,
-        &edges.rows,
-        states,
-        1 + nonterminals,
-        items,
-        ends,
-        out,
-    );
+    write_states(begins, edges, 1 + nonterminals, items, ends, out);
     write_productions(grammar, counts, out);
     write_symbols(grammar, 1 + nonterminals + states + productions, out);
-    write_items(found.words, &begins.items, states, items, out);
-    write_edges(&edges.words, &edges.rows, states, ends, out);
+    write_items(found.words, begins, items, out);
+    write_edges(edges, states, ends, out);
 }
 
 // Refusal 17 at the end of the search, else the table and its conflicts.
-fn write_found(
-    found: FoundStates,
-    out: &mut [u16],
-    conflicts: &mut [u16],
-) -> Result<Built, Refusal>
+fn write_found(found: FoundStates, out: &mut [u16], conflicts: &mut [u16]) -> Result<Built, Refusal>
     requires { (T : Table) × Ended T (length out.old / 4) found }
     ensures { (T : Table) (s : Ended T (length out.old / 4) found.entry) (S : List ℕ) → record { answer = reply_of result; scratch = zeroed build_scratch S; out = out.new; conflicts = conflicts.new } ≡ built_of T S out.old conflicts.old (outcome T s.start (length out.old / 4) (length conflicts.old)) }
 {

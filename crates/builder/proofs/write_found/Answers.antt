@@ -1,4 +1,5 @@
 use mathlib.Core.Path.{refl}
+use Rattle.std.proofs.lemmas.Result.{err_from_is_err_and}
 use Rattle.measuring.specs.Complete.{collection}
 use Rattle.builder.specs.Ended.{complete}
 use Rattle.builder.proofs.Found.{table_found, stops-answer, few_records, few_conflicts, list_room, laid, full-answer}
@@ -6,7 +7,7 @@ use native.Mathlib.Omega.{arith}
 use Rattle.builder.proofs.write_found.Goals as goal
 
 pub returns-in_err-measured : goal.returns-in_err-measured
-returns-in_err-measured c = ?
+returns-in_err-measured c = let q = err_from_is_err_and c.from_residual.result c.from_residual.ensures.1 in λ T s S. rw (q.1, q.2.0, q.2.1) (stops-answer s _ (c.measure.ensures (complete s)) c.in_err-measured.was S)
 
 pub write_table-requires : goal.write_table-requires
 write_table-requires c = let s = c.requires.1 in (table_found s, laid s _ (c.measure.ensures (complete s)) c.in_ok-measured.was refl)
