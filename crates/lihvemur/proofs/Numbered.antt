@@ -7,7 +7,6 @@ use Rattle.spelling.specs.Outcome.{Outcome as Spelling}
 use Rattle.compaction.specs.Outcome.{Outcome as Compaction}
 use Rattle.builder.specs.Outcome.{Left as Building}
 use Rattle.builder.specs.declared.Built.{Built}
-use Rattle.builder.specs.declared.Built.TheVariants.{States as Full, Refused as NotBuilt}
 use Rattle.repr.specs.declared.NonterminalString.{NonterminalString}
 use Rattle.yacc_read.specs.Outcome.{Outcome as ReadOutcome}
 use Rattle.yacc_read.specs.declared.Reading.{Reading}
@@ -57,12 +56,12 @@ module _ {a p old n : ℕ} {words : List ℕ} where
   trace_handed (Ok k) h d e = rw (h.0, h.1, h.2, ← e)
   trace_handed (Err x) h d e = rw (h.0, h.1, h.2, ← e)
 
-module _ (records count : ℕ) (c : Built) (ss os cs : List ℕ) (d : Building) (e : record { answer = c; scratch = ss; out = os; conflicts = cs } ≡ d) where
-  pub build-made : (written found : ℕ) → c ≡ Full written found → build_numbers 0 0 written found ss os cs ≡ built_numbers records count d
+module _ (records count : ℕ) (c : Reply Built) (ss os cs : List ℕ) (d : Building) (e : record { answer = c; scratch = ss; out = os; conflicts = cs } ≡ d) where
+  pub build-made : (b : Built) → c ≡ answered b → build_numbers 0 0 b.records b.conflicts ss os cs ≡ built_numbers records count d
   unfolding built_numbers
-  build-made written found h = rw (← e, h)
+  build-made b h = rw (← e, h)
 
-  pub build-refused : (n r : ℕ) → c ≡ NotBuilt n r → build_numbers n r records count ss os cs ≡ built_numbers records count d
+  pub build-refused : (n r : ℕ) → c ≡ refused n r → build_numbers n r records count ss os cs ≡ built_numbers records count d
   unfolding built_numbers
   build-refused n r h = rw (← e, h)
 

@@ -6,7 +6,6 @@ use Rattle.repr.specs.Reply.{answered, refused, Reply, number_of, place_of}
 use Rattle.spelling.specs.Outcome.{Outcome as Spelling}
 use Rattle.compaction.specs.Outcome.{Outcome as Compaction}
 use Rattle.builder.specs.Outcome.{Left as Building}
-use Rattle.builder.specs.declared.Built.TheVariants.{States as Full, Refused as NotBuilt}
 use Rattle.yacc_read.specs.Outcome.{Outcome as ReadOutcome}
 use Rattle.yacc_read.specs.declared.Reading.TheVariants.{Read, Refused as NotRead}
 use Rattle.yacc_write.specs.Outcome.{Outcome as WriteOutcome}
@@ -45,8 +44,8 @@ pub data BuildNumbers : Type 0 where
 
 unfoldable pub built_numbers : ℕ → ℕ → Building → BuildNumbers
 built_numbers records count o = elim o.answer [
-  | Full written found ↦ build_numbers 0 0 written found o.scratch o.out o.conflicts
-  | NotBuilt n r ↦ build_numbers n r records count o.scratch o.out o.conflicts
+  | answered built ↦ build_numbers 0 0 built.records built.conflicts o.scratch o.out o.conflicts
+  | refused n r ↦ build_numbers n r records count o.scratch o.out o.conflicts
 ]
 
 -- refusal, place, number of records, number of places, start nonterminal, and the words written of the table and of the places

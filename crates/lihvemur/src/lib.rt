@@ -20,7 +20,6 @@ ghost use Rattle.lr1.specs.Edges.{add_edge_of};
 ghost use Rattle.tracer.specs.Outcome.{shift_of, reduce_of};
 ghost use Rattle.lihvemur.specs.Exported.{HandedOut, numbers, check_numbers, spell_numbers, respell_numbers, compact_numbers, build_numbers, built_numbers, read_numbers, reading_numbers, write_numbers, writing_numbers, set_numbers, followed_numbers, answer_numbers, first_numbers, state_numbers, walk_numbers, add_numbers, edge_numbers, trace_numbers, backtrace_numbers};
 
-use builder::Built;
 use lookahead::TokenSet;
 use repr::{ProductionIndex, Refusal};
 use state_graph::StateIndex;
@@ -89,16 +88,13 @@ pub fn lihvemur_build_states(
     ensures { build_numbers result place.new records.new count.new scratch.new out.new conflicts.new ≡ built_numbers records.old count.old (build_of table.now start scratch.old out.old conflicts.old) }
 {
     match lr1::build_states(table, ProductionIndex(start), scratch, out, conflicts) {
-        Built::States(written, found) => {
+        Ok(built) => {
             *place = 0;
-            *records = written;
-            *count = found;
+            *records = built.records;
+            *count = built.conflicts;
             0
         }
-        Built::Refused(refusal, at) => {
-            *place = at;
-            refusal
-        }
+        Err(refusal) => refuse(refusal, place),
     }
 }
 

@@ -64,8 +64,8 @@ pub fn build_states(
     scratch: &mut [u16],
     out: &mut [u16],
     conflicts: &mut [u16],
-) -> Built
-    ensures { record { answer = result; scratch = scratch.new; out = out.new; conflicts = conflicts.new } ≡ build_of table.now start.0 scratch.old out.old conflicts.old }
+) -> Result<Built, Refusal>
+    ensures { record { answer = reply_of result; scratch = scratch.new; out = out.new; conflicts = conflicts.new } ≡ build_of table.now start.0 scratch.old out.old conflicts.old }
 {
     builder::build_states(table, start, scratch, out, conflicts)
 }
