@@ -1,7 +1,8 @@
 -- What the exported functions answer in numbers: 0, or the refusal, whose place stands behind `place`. A number behind another reference changes only with answer 0; lent words are those that the entry leaves.
 -- Assumes nothing: these are definitions.
-use Rattle.std.specs.Prelude.{ℕ, Bool, List}
-use Rattle.repr.specs.Reply.{answered, refused, Reply}
+use Rattle.std.specs.Prelude.{◌≡◌, ℕ, Bool, List, Result, MatchResult}
+use Rattle.repr.specs.declared.refusals.Refusal.{Refusal}
+use Rattle.repr.specs.Reply.{answered, refused, Reply, number_of, place_of}
 use Rattle.spelling.specs.Outcome.{Outcome as Spelling}
 use Rattle.compaction.specs.Outcome.{Outcome as Compaction}
 use Rattle.builder.specs.Outcome.{Left as Building}
@@ -20,6 +21,10 @@ pub data Numbers : Type 0 where
 unfoldable pub check_numbers : Checked → Numbers
 check_numbers Accepted = numbers 0 0
 check_numbers (Refused n r) = numbers n r
+
+-- a count handed out, or a refusal (a, p): the count is as it was
+abbrev pub HandedOut : Result ℕ Refusal → ℕ → ℕ → ℕ → ℕ → Type 0
+HandedOut r a p old n = MatchResult r (λ count. (a ≡ 0) × (p ≡ 0) × (n ≡ count)) (λ x. (a ≡ number_of x) × (p ≡ place_of x) × (n ≡ old))
 
 -- refusal, place, number of records and the words written
 pub data SpellNumbers : Type 0 where

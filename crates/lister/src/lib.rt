@@ -36,7 +36,7 @@ use search::{Searched, search, write_trial};
 use table::AcceptedTable;
 use trace_graph::{TraceGraph, check_graph, item_fits, read_node};
 use view::View;
-use view::making::check_view;
+use view::making::{ViewLists, check_view};
 
 // Whether any lookahead holds tokens of the table alone.
 fn lookahead_fits(terminals: usize, lookahead: Option<TokenSet>) -> bool
@@ -257,23 +257,16 @@ pub fn step_in(
         return Err(Refusal::TooShort);
     }
     let mut ix = [0u16; TraceGraph::INDEX_WORDS];
-    let mut owners = [0u8; View::EDGES];
+    let mut lists = ViewLists::new();
     let mut codes = [0u16; View::EDGES];
-    let mut sources = [0u8; View::EDGES];
-    let mut older = [0u16; View::EDGES];
-    let mut latest = [0u16; View::NODES];
     if !check_view(
         grammar,
         counts.nonterminals,
         graph,
-        start.production,
-        start.index,
+        start,
         &mut ix,
-        &mut owners,
+        &mut lists,
         &mut codes,
-        &mut sources,
-        &mut older,
-        &mut latest,
     ) {
         return Err(Refusal::OutOfRange);
     }
@@ -284,10 +277,10 @@ pub fn step_in(
         return Err(Refusal::TooShort);
     }
     let view = View {
-        sources: &sources,
-        older: &older,
-        latest: &latest,
-        owners: &owners,
+        sources: &lists.sources,
+        older: &lists.older,
+        latest: &lists.latest,
+        owners: &lists.owners,
         codes: &codes,
     };
     go_on(
