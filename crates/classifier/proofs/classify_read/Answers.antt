@@ -26,8 +26,8 @@ slice_bounds-given-end-2 c = let l = length_front {A = ℕ} c.args.scratch.now c
 pub given-given-requires : goal.given-given-requires
 given-given-requires c = reads-front _ _ _ _ _ _ _ _ grammar_room (c.prepare-prepared.auto.words ∙ length-take-le grammar_room c.args.scratch.now (omega (arith, c.requires.classify_scratch_in_bounds.0))) c.prepare-prepared.ensures
 
-pub invariant_of-classified : goal.invariant_of-classified
-invariant_of-classified c = record { fits = rw c.given-given.ensures.table c.requires.conflict_value }
+pub invariant_of-classify : goal.invariant_of-classify
+invariant_of-classify c = record { fits = rw c.given-given.ensures.table c.requires.conflict_value }
 
 pub classify-classified-requires : goal.classify-classified-requires
 classify-classified-requires c = c.requires.classify_scratch_in_bounds.1

@@ -8,7 +8,7 @@ pub loop-number-init : goal.loop-number-init
 loop-number-init c = (refl, λ es start L. (walk_first _ _ _ _ _ _ _ _ c.requires.by_index.1, seek-first _ _ _ _ _ _ _))
 
 pub search-requires : goal.search-requires
-search-requires c = let L = c.requires.listable.1.1 in (c.requires.listable.0, (c.requires.listable.1.0, walk_searching _ _ _ _ _ _ _ _ _ _ _ L _ _ (c.loop-number.invariant.1 c.requires.listable.0 c.requires.listable.1.0 L).0))
+search-requires c = let L = c.requires.listable.1.1 in record { searching = (c.requires.listable.0, (c.requires.listable.1.0, walk_searching _ _ _ _ _ _ _ _ _ _ _ L _ _ (c.loop-number.invariant.1 c.requires.listable.0 c.requires.listable.1.0 L).0)) }
 
 pub shape_of-words-then-left-eq0 : goal.shape_of-words-then-left-eq0
 shape_of-words-then-left-eq0 c = c.search.auto.words ∙ c.loop-number.invariant.0

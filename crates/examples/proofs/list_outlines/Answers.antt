@@ -11,7 +11,7 @@ pub loop-number-init : goal.loop-number-init
 loop-number-init c = ((length-replicate {A = ℕ} trial_room 0, omega (arith, c.requires.count_in_bounds)), λ es start L. (walk_zeros _ _ _ _ _ _, turn_first _ _ _ _ _ _ _ _ _ _ c.requires.count_in_bounds))
 
 pub search-requires : goal.search-requires
-search-requires c = let X = c.requires.listable in (X.0, (X.1.0, walk_searching _ _ _ _ _ _ _ _ _ _ _ X.1.1 _ _ (c.loop-number.invariant.1 _ _ X.1.1).0))
+search-requires c = let X = c.requires.listable in record { searching = (X.0, (X.1.0, walk_searching _ _ _ _ _ _ _ _ _ _ _ X.1.1 _ _ (c.loop-number.invariant.1 _ _ X.1.1).0)) }
 
 pub overflow_add-count : goal.overflow_add-count
 overflow_add-count c = omega (arith, c.loop-number.invariant.0.1)

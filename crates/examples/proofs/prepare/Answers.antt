@@ -1,4 +1,10 @@
-use mathlib.Core.Path.{refl, sym}
+use mathlib.Core.Path.{◌∙◌}
 use Rattle.examples.proofs.Preparing.{prepared}
-use native.Mathlib.Omega.{arith}
 use Rattle.examples.proofs.prepare.Goals as goal
+
+pub returns : goal.returns
+returns c =
+    let C = c.counts-counts.ensures in
+    let S = c.new-sets.ensures in
+    let R = prepared _ _ _ _ _ _ _ c.args.table.accepted C.productions (S.terminals ∙ C.terminals) c.read_productions.ensures (rw S.terminals S.is) c.fill_least.ensures c.suffix_ends.ensures in
+    rw C.productions at R
