@@ -17,6 +17,13 @@ pub const WORDS: usize = RECORDS * 4;
 
 pub const BYTES: usize = WORDS * 2;
 
+// Of the conflicts behind a table, those read at a time, five words each.
+pub const CONFLICTS: usize = 4096;
+
+pub const CONFLICT_WORDS: usize = CONFLICTS * 5;
+
+pub const CONFLICT_BYTES: usize = CONFLICT_WORDS * 2;
+
 // What ends a program's run, an error that `?` takes: a refusal; or a read or a write failed, which standard error says already.
 #[derive(Clone, Copy)]
 pub enum Stop {

@@ -8,7 +8,9 @@ ghost use Rattle.table.specs.Words.{word_at};
 ghost use Rattle.typed.specs.Typed.{IsItem};
 
 use little::decode;
-use pipe::{BYTES, RECORDS, Stop, WORDS, read_table, say_end};
+use pipe::{
+    BYTES, CONFLICT_BYTES, CONFLICT_WORDS, CONFLICTS, RECORDS, Stop, WORDS, read_table, say_end,
+};
 use repr::{Grammar, ProductionIndex};
 use std::io;
 use streams::{Failed, PIECES, read, write};
@@ -16,6 +18,9 @@ use table::{AcceptedTable, read_productions};
 use table_check::areas::{Surveyed, survey};
 use table_check::check;
 use typed::{Roles, numbers_line, record_line};
+
+// Bytes for a line.
+const LINE: usize = 2048;
 
 // Which records the chains of each sort reach, as far as these were followed.
 #[derive(Drop)]
@@ -31,9 +36,9 @@ fn write_numbers<R: Print + Eprint>(
     words: &[u16],
     name: &[u8],
     n: usize,
-    out: &mut [u8],
+    out: &mut [u8; LINE],
 ) -> Result<(), Failed>
-    requires { (length words.now ≤ 8) × ((length name.now ≤ 64) × (2048 ≤ length out.old)) }
+    requires { (length words.now ≤ 8) × (length name.now ≤ 64) }
 {
     let k = numbers_line(out, words, name, n);
     write(rt, &out[..k])
@@ -91,10 +96,8 @@ fn write_records<R: Print + Eprint>(
     s: Surveyed,
     grammar: Grammar,
     marks: &mut Marks,
-    out: &mut [u8],
-) -> Result<(), Failed>
-    requires { 2048 ≤ length out.old }
-{
+    out: &mut [u8; LINE],
+) -> Result<(), Failed> {
     for r in 0..s.areas.records {
         let roles = roles_of(s, grammar, r, marks);
         let n = record_line(out, s, grammar, r, roles);
@@ -107,10 +110,8 @@ fn write_records<R: Print + Eprint>(
 fn write_table<R: Print + Eprint>(
     rt: &R,
     table: AcceptedTable,
-    out: &mut [u8],
-) -> Result<(), Failed>
-    requires { 2048 ≤ length out.old }
-{
+    out: &mut [u8; LINE],
+) -> Result<(), Failed> {
     let words = table.words;
     let s = Surveyed {
         words,
@@ -146,9 +147,9 @@ fn write_conflicts<R: Print + Eprint>(
     rt: &R,
     words: &[u16],
     first: usize,
-    out: &mut [u8],
+    out: &mut [u8; LINE],
 ) -> Result<(), Failed>
-    requires { (length words.now ≤ 20480) × ((first < 1152921504606846976) × (2048 ≤ length out.old)) }
+    requires { (length words.now ≤ 20480) × (first < 1152921504606846976) }
 {
     for (k, conflict) in words.chunks_exact(5).enumerate() {
         write_numbers(rt, conflict, b" # conflict", first + k, out)?;
@@ -177,12 +178,11 @@ fn say_odd<R: Eprint>(rt: &R, bytes: usize) {
 fn text_piece<R: io::Input + Print + Eprint>(
     rt: &R,
     first: usize,
-    bytes: &mut [u8],
-    words: &mut [u16],
-    out: &mut [u8],
+    bytes: &mut [u8; CONFLICT_BYTES],
+    words: &mut [u16; CONFLICT_WORDS],
+    out: &mut [u8; LINE],
 ) -> Result<bool, Failed>
-    requires bytes_len { (length bytes.old ≡ 40960) × (20480 ≤ length words.old) }
-    requires first_bound { (first < 1152921504606846976) × (2048 ≤ length out.old) }
+    requires { first < 1152921504606846976 }
 {
     let got = read(rt, bytes)?;
     let n = decode(&bytes[..got], words);
@@ -191,14 +191,12 @@ fn text_piece<R: io::Input + Print + Eprint>(
     Ok(got == bytes.len())
 }
 
-// The rest, piece by piece: 40,960 bytes are 4,096 conflicts.
-fn text_rest<R: io::Input + Print + Eprint>(rt: &R, out: &mut [u8]) -> Result<(), Failed>
-    requires { 2048 ≤ length out.old }
-{
-    let mut bytes = [0u8; 40960];
-    let mut words = [0u16; 20480];
+// The rest, piece by piece.
+fn text_rest<R: io::Input + Print + Eprint>(rt: &R, out: &mut [u8; LINE]) -> Result<(), Failed> {
+    let mut bytes = [0u8; CONFLICT_BYTES];
+    let mut words = [0u16; CONFLICT_WORDS];
     for piece in 0..PIECES as usize {
-        if !text_piece(rt, 1 + piece * 4096, &mut bytes, &mut words, out)? {
+        if !text_piece(rt, 1 + piece * CONFLICTS, &mut bytes, &mut words, out)? {
             break;
         }
     }
@@ -208,7 +206,7 @@ fn text_rest<R: io::Input + Print + Eprint>(rt: &R, out: &mut [u8]) -> Result<()
 fn text_input<R: io::Input + Print + Eprint>(rt: &R) -> Result<(), Stop> {
     let mut bytes = [0u8; BYTES];
     let mut table = [0u16; WORDS];
-    let mut out = [0u8; 2048];
+    let mut out = [0u8; LINE];
     let words = read_table(rt, &mut bytes, &mut table)? * 4;
     write_table(rt, check(&table[..words])?, &mut out)?;
     Ok(text_rest(rt, &mut out)?)

@@ -9,6 +9,11 @@ ghost use Rattle.words.specs.Bytes.{Below, Near, word_of, in_comment_of, reader_
 use std::io;
 use streams::{Failed, PIECES, read, write};
 
+// Bytes of a piece, and for its words.
+const PIECE: usize = 65536;
+
+const ROOM: usize = PIECE * 2;
+
 // What a reader stands in; a number may go on.
 #[derive(Clone, Copy)]
 pub enum Within {
@@ -157,11 +162,10 @@ fn say_unreadable<R: Print + Eprint>(rt: &R, at: Unreadable) -> Result<(), Faile
 fn read_piece<R: io::Input + Print + Eprint>(
     rt: &R,
     reader: Reader,
-    bytes: &mut [u8],
-    out: &mut [u8],
+    bytes: &mut [u8; PIECE],
+    out: &mut [u8; ROOM],
 ) -> Result<Option<Reader>, Failed>
-    requires below { Below (reader_of reader) 9223372036854775808 }
-    requires bytes_len { (length bytes.old ≡ 65536) × (131072 ≤ length out.old) }
+    requires { Below (reader_of reader) 9223372036854775808 }
     ensures { IfOk result (λ more. IfSome more (λ next. Near (reader_of reader) (reader_of next) 65536)) }
 {
     let got = match read(rt, bytes) {
@@ -190,8 +194,8 @@ fn read_piece<R: io::Input + Print + Eprint>(
 }
 
 fn main(rt: HostRuntime) {
-    let mut bytes = [0u8; 65536];
-    let mut out = [0u8; 131072];
+    let mut bytes = [0u8; PIECE];
+    let mut out = [0u8; ROOM];
     let mut reader = Reader::START;
     for _piece in 0..PIECES {
         let Ok(Some(next)) = read_piece(&rt, reader, &mut bytes, &mut out) else {
