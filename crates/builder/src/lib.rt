@@ -25,7 +25,7 @@ use searching::search_states;
 use slices::zero;
 use state_records::{write_edges, write_items, write_states};
 use stored::Kernel;
-use table::{AcceptedTable, Counts, read_productions};
+use table::{AcceptedTable, Counts};
 use taking::Edges;
 
 // How many records of the table and how many conflicts are written.
@@ -127,7 +127,7 @@ fn build_found(
 {
     let counts = table.counts();
     let mut packed = [0u16; ProductionIndex::ALL_WORDS];
-    read_productions(table.words, &mut packed);
+    table.read_productions(&mut packed);
     let grammar = Grammar {
         words: &packed,
         productions: counts.productions,

@@ -5,11 +5,10 @@
 mod productions;
 mod refusals;
 
-ghost use Rattle.std.specs.Prelude.{◌≡◌, Bool, true, false, List, map, ◌++◌, ℕ, ◌+◌, ◌*◌, ◌≤◌, ◌<◌, length, get_or};
-ghost use Rattle.std.proofs.Math.Seq.{slice};
+ghost use Rattle.std.specs.Prelude.{◌≡◌, true, false, ◌++◌, ◌+◌, ◌*◌, ◌<◌, length, get_or};
 ghost use Rattle.repr.specs.Sizes.{nonterminal_limit, terminal_limit};
 ghost use Rattle.repr.specs.Listed.{symbol_is_fit, list_is_fit};
-ghost use Rattle.repr.specs.Packed.{Packed, symbol_words};
+ghost use Rattle.repr.specs.Packed.{Packed};
 
 pub use productions::Grammar;
 pub use refusals::Refusal;
@@ -138,16 +137,4 @@ pub fn joined_fits(n: usize, t: usize, xs: &[u16], ys: &[u16]) -> bool
         }
     }
     false
-}
-
-// A production's symbols, as a part of the packed words.
-pub fn symbols<'a>(grammar: &'a [u16], production: usize, productions: usize) -> &'a [u16]
-    requires packed { Packed grammar.now productions }
-    requires production_lt_productions { production < productions }
-    ensures { result.now ≡ symbol_words grammar.now production }
-{
-    let from = production * ProductionIndex::WORDS + 4;
-    let length = word(grammar, production * ProductionIndex::WORDS + 1);
-    let past = from + 2 * length;
-    &grammar[from..past]
 }

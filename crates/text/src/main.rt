@@ -14,7 +14,7 @@ use pipe::{
 use repr::{Grammar, ProductionIndex};
 use std::io;
 use streams::{Failed, PIECES, read, write};
-use table::{AcceptedTable, read_productions};
+use table::AcceptedTable;
 use table_check::areas::{Surveyed, survey};
 use table_check::check;
 use typed::{Roles, numbers_line, record_line};
@@ -126,7 +126,7 @@ fn write_table<R: Print + Eprint>(
         out,
     )?;
     let mut packed = [0u16; ProductionIndex::ALL_WORDS];
-    read_productions(words, &mut packed);
+    table.read_productions(&mut packed);
     let grammar = Grammar {
         words: &packed,
         productions: a.productions,
