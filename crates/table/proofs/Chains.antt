@@ -49,13 +49,6 @@ pub names_good : (a : Area) (r x : ℕ) → a.from ≤ x → x < a.past → r < 
 unfolding names
 names_good a r x h l g = rw (le-leb a.from x h, lt-ltb x a.past l, lt-ltb r x g)
 
--- against the rule: before the area, past it, or not larger than the holder
-pub names-before : (a : Area) (r x : ℕ) → x < a.from → names a r x ≡ false
-names-before a r x h = cases (names a r x) (λ e. let n = named a r x e in absurd (omega arith)) (λ e. e)
-
-pub names_past : (a : Area) (r x : ℕ) → a.past ≤ x → names a r x ≡ false
-names_past a r x h = cases (names a r x) (λ e. let n = named a r x e in absurd (omega arith)) (λ e. e)
-
 -- an index that is not against the rule is 0 or good
 pub against-zero : (a : Area) (r : ℕ) → against a r 0 ≡ false
 unfolding against
