@@ -186,7 +186,7 @@ fn put_class(
     put(out, last, b'\n')
 }
 
-// The line of a refusal, in numbers as `Classified` has it.
+// The line of a refusal, in numbers: any may be said, and `Refusal` would ask more of callers.
 pub fn refused_line(out: &mut [u8], number: u64, refusal: u16, place: u16) -> usize
     requires { 200 ≤ length out.old }
     ensures { Put out.old 0 (line_of_refusal number refusal place) out.new result }
