@@ -85,7 +85,7 @@ pub fn word(words: &[u16], at: usize) -> usize
     words[at] as usize
 }
 
-// Whether a symbol is in range, of n nonterminals and t terminals.
+// Whether a symbol is in range, of n nonterminals and t terminals. Kind and number are any two words: that they are a symbol is what is asked.
 pub fn symbol_fits(n: usize, t: usize, kind: usize, number: usize) -> bool
     ensures { result ≡ symbol_is_fit n t kind number }
 {

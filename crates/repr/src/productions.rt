@@ -15,6 +15,7 @@ pub struct Grammar<'a> {
     pub ghost packed: { Packed words.now productions },
 }
 
+// Which production is asked is a number, and that there is such a one is asked at each call: a type for it would have to hold the grammar.
 impl<'a> Grammar<'a> {
     // A production's nonterminal.
     pub fn owner(self, production: usize) -> usize

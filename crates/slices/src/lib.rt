@@ -6,7 +6,7 @@ ghost use Rattle.std.specs.Prelude.{◌≡◌, ◌++◌, ◌≤◌, ◌<◌, suc
 ghost use Rattle.slices.specs.Insert.{inserted_at};
 ghost use Rattle.slices.specs.Lent.{zeroed};
 
-// The first words of one slice copied to the front of another.
+// The first words of one slice copied to the front of another: the library's copying, in the words that contracts have for it.
 pub fn copy_words(from: &[u16], to: &mut [u16], n: usize)
     requires { (n ≤ length from.now) × (n ≤ length to.old) }
     ensures { to.new ≡ take n from.now ++ drop n to.old }
@@ -23,7 +23,7 @@ pub fn insert_at(list: &mut [u16], at: usize, n: usize, x: u16)
     list[at] = x;
 }
 
-// The first n words zero.
+// The first n words zero: the library's filling, in the words that contracts have for it.
 pub fn zero(words: &mut [u16], n: usize)
     requires { n ≤ length words.old }
     ensures { words.new ≡ zeroed n words.old }

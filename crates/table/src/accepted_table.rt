@@ -15,7 +15,7 @@ use crate::{
 };
 use repr::ProductionIndex;
 
-// A symbol, and the index of the next.
+// A symbol, its kind and number as they are copied into packed words, and the index of the next.
 #[derive(Clone, Copy)]
 struct SymbolRecord {
     next: usize,
@@ -223,7 +223,7 @@ impl<'a> AcceptedTable<'a> {
         grammar[base + 3] = end as u16;
     }
 
-    // Stores each production's symbols and span.
+    // Stores each production's symbols and span. It reads like `read_owners`; one of both would take a closure that writes, which is no plainer.
     fn read_symbols(self, grammar: &mut [u16])
         requires { OwnersIn (meaning self.words.now) grammar.old }
         ensures { Packed grammar.new (length (meaning self.entry.words.now).productions) × (productions_in grammar.new (length (meaning self.entry.words.now).productions) ≡ (meaning self.entry.words.now).productions) }

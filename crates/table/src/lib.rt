@@ -52,7 +52,7 @@ pub struct ItemRecord {
     pub index: usize,
 }
 
-// An edge, and the index of the next.
+// An edge, its kind and number as the record has them, and the index of the next.
 #[derive(Clone, Copy)]
 pub struct EdgeRecord {
     pub next: usize,

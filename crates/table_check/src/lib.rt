@@ -34,23 +34,13 @@ fn inspect_over(
     ensures { checked_of result ≡ first_row table.now (3 ∷ 4 ∷ 5 ∷ 6 ∷ 7 ∷ 8 ∷ []) }
 {
     let a = areas::survey(table);
-    let from = a.loose_at;
-    let past = a.records;
-    mark::mark_heads(
-        table,
-        a.productions_at,
-        a.productions,
-        1,
-        from,
-        past,
-        symbols,
-    );
-    mark::mark_heads(table, a.states_at, a.states, 0, from, past, items);
-    mark::mark_heads(table, a.states_at, a.states, 1, from, past, edges);
     let s = Surveyed {
         words: table,
         areas: a,
     };
+    mark::mark_heads(s, a.productions_at, a.productions, 1, symbols);
+    mark::mark_heads(s, a.states_at, a.states, 0, items);
+    mark::mark_heads(s, a.states_at, a.states, 1, edges);
     let mut held = [0u8; 128];
     held::hold(s, &mut held);
     let mut lengths = [0u8; 128];

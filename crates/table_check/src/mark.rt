@@ -2,33 +2,23 @@
 // record's number, so one pass over the records in order follows every chain, however many heads share it.
 ghost use Rattle.std.specs.Prelude.{true, List, ◌≡◌, ℕ, ◌+◌, ◌/◌, ◌≤◌, ◌<◌, length};
 ghost use Rattle.bits.specs.Bits.{bit_at};
-ghost use Rattle.table.specs.Words.{word_at, loose, records, loose_records, names};
-ghost use Rattle.table_check.specs.Marks.{Sized};
+ghost use Rattle.table.specs.Words.{word_at, loose, loose_records, names};
 ghost use Rattle.table_check.specs.Passed.{Blank, Passed};
 
 use crate::areas;
+use crate::areas::Surveyed;
 use bits::{is_set, put};
 use table::word;
 
-// The heads in word k of the n records from `first` on; `from` and `past` bound the loose records.
-pub fn mark_heads(
-    table: &[u16],
-    first: usize,
-    n: usize,
-    k: usize,
-    from: usize,
-    past: usize,
-    marks: &mut [u64],
-)
-    requires sized { Sized table.now }
-    requires from_value { (from ≡ loose table.now) × (past ≡ records table.now) }
-    requires n_bound { (first + n ≤ loose table.now) × ((k < 2) × Blank table.now marks.old) }
-    ensures { Passed table.now first n k n (loose table.now) marks.new }
+// The heads in word k of the n records from `first` on.
+pub fn mark_heads(s: Surveyed, first: usize, n: usize, k: usize, marks: &mut [u64])
+    requires { (first + n ≤ s.areas.loose_at) × ((k < 2) × Blank s.words.now marks.old) }
+    ensures { Passed s.entry.words.now first n k n (loose s.entry.words.now) marks.new }
 {
     for i in 0..n {
         let r = first + i;
-        let x = word(table, r, k);
-        if areas::names(from, past, r, x) {
+        let x = word(s.words, r, k);
+        if areas::names(s.areas.loose_at, s.areas.records, r, x) {
             put(marks, x);
         }
     }

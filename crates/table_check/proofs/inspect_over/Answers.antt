@@ -6,13 +6,13 @@ use native.Mathlib.Omega.{arith}
 use Rattle.table_check.proofs.inspect_over.Goals as goal
 
 pub mark_heads-requires : goal.mark_heads-requires
-mark_heads-requires c = let A = c.survey-a.ensures in record { sized = c.requires.sized; from_value = (A.loose_at, A.records); n_bound = (omega arith, (omega arith, c.requires.blank.0)) }
+mark_heads-requires c = let A = c.survey-a.ensures in (omega arith, (omega arith, c.requires.blank.0))
 
 pub mark_heads-requires-2 : goal.mark_heads-requires-2
-mark_heads-requires-2 c = let A = c.survey-a.ensures in record { sized = c.requires.sized; from_value = (A.loose_at, A.records); n_bound = (omega arith, (omega arith, c.requires.blank.1.0)) }
+mark_heads-requires-2 c = let A = c.survey-a.ensures in (omega arith, (omega arith, c.requires.blank.1.0))
 
 pub mark_heads-requires-3 : goal.mark_heads-requires-3
-mark_heads-requires-3 c = let A = c.survey-a.ensures in record { sized = c.requires.sized; from_value = (A.loose_at, A.records); n_bound = (omega arith, (omega arith, c.requires.blank.1.1)) }
+mark_heads-requires-3 c = let A = c.survey-a.ensures in (omega arith, (omega arith, c.requires.blank.1.1))
 
 pub scan-requires : goal.scan-requires
 scan-requires c = let A = c.survey-a.ensures in record {
