@@ -15,7 +15,7 @@ ghost use Rattle.grammar_records.specs.Target.{PackedAs, owned_from};
 ghost use Rattle.augment.specs.Started.{uses, is_start_needed, started_in, started_of, Startable, GrammarOf};
 
 use grammar_records::{count_symbols, next_owned, write_front, write_productions, write_symbols};
-use repr::{Grammar, NonterminalString, ProductionIndex, symbols};
+use repr::{Grammar, NonterminalString, ProductionIndex};
 use table::{Counts, put, read_counts, read_productions};
 
 // Records written and the start production; or the refusal and its place.
@@ -97,15 +97,19 @@ pub fn write_started(grammar: &[u16], counts: Counts, production: usize, out: &m
 {
     let nonterminals = counts.nonterminals;
     let productions = counts.productions;
+    let packed = Grammar {
+        words: grammar,
+        productions,
+    };
     let begin = 2 + nonterminals + productions;
-    let records = begin + count_symbols(Grammar { words: grammar, productions });
+    let records = begin + count_symbols(packed);
     if records > out.len() / 4 {
         return Started::Refused(17, 0);
     }
-    write_front(grammar, counts, out);
+    write_front(packed, counts, out);
     put(out, 1 + nonterminals, 0, 0, 0, 0);
-    write_productions(grammar, counts, out);
-    write_symbols(Grammar { words: grammar, productions }, begin, out);
+    write_productions(packed, counts, out);
+    write_symbols(packed, begin, out);
     Started::Production(records as u16, ProductionIndex(production as u16))
 }
 
@@ -121,7 +125,13 @@ pub fn with_start(table: &[u16], start: NonterminalString, out: &mut [u16]) -> S
     let nonterminals = counts.nonterminals;
     let productions = counts.productions;
     let n = start.0 as usize;
-    if let Some(first) = own_start(Grammar { words: &grammar, productions }, n) {
+    if let Some(first) = own_start(
+        Grammar {
+            words: &grammar,
+            productions,
+        },
+        n,
+    ) {
         return write_started(&grammar, counts, first, out);
     }
     if nonterminals == NonterminalString::LIMIT {

@@ -11,6 +11,7 @@ use borrow.Author.Tests.{ltb-true, ltb-false}
 use Rattle.slices.specs.Lent.{in_front}
 use Rattle.repr.specs.Meaning.{Edge, State, Table, no_state, state_at}
 use Rattle.repr.proofs.Lists.{cases, get_d_map-below, length-map-below}
+use Rattle.repr.specs.Reply.{answered as told, refused as declined}
 use Rattle.table.specs.Checked.{Checked, Accepted, Refused as NotAccepted}
 use Rattle.table.specs.Decoded.{meaning}
 use Rattle.table.specs.Refusals.{check_of}
@@ -30,7 +31,7 @@ use Rattle.build.proofs.Refusals.{outcome-full}
 use Rattle.conflict_list.proofs.Laws.{list_long}
 use Rattle.builder.specs.Outcome.{Left, build_scratch, start_is_fit, conflict_count, built_of, built_in, build_of}
 use Rattle.builder.specs.Canonical.{set_of, IsCanonical}
-use Rattle.builder.specs.declared.Built.TheVariants.{States, Refused}
+use Rattle.builder.specs.declared.Built.{Built}
 use Rattle.builder.proofs.Written.{edges_are, build_accepted, build-meaning, build_spelling}
 use Rattle.builder.proofs.Fit.{conflicts_fit}
 use Rattle.builder.proofs.Ways.{in_short, in_unfit, build-refused, build_checked}
@@ -99,11 +100,11 @@ pub record Answered (t : List ℕ) (start : ℕ) (scratch out list : List ℕ) (
   pub written : (build_of t start scratch out list).out ≡ in_front (spell (built_table (meaning t) Rs es)) out
   pub listed : (build_of t start scratch out list).conflicts ≡ in_front (conflict_words (meaning t) Rs) list
 
-apart : (m r n c : ℕ) → Refused m r ≡ States n c → ⊥
-apart m r n c e = let z : ◌≡◌ {A = ℕ} 0 1 = cc in omega arith
+apart : (m r : ℕ) (b : Built) → declined m r ≡ told b → ⊥
+apart m r b e = let z : ◌≡◌ {A = ℕ} 0 1 = cc in omega arith
 
-same : (a b n c : ℕ) → States a b ≡ States n c → (n ≡ a) × (c ≡ b)
-same a b n c e = (cc, cc)
+same : (a b : Built) → told a ≡ told b → (b.records ≡ a.records) × (b.conflicts ≡ a.conflicts)
+same a b e = let q : b ≡ a = cc in (ap (λ (d : Built). d.records) q, ap (λ (d : Built). d.conflicts) q)
 
 front_of : (new old : List ℕ) → in_front new old ≡ new ++ drop (length new) old
 unfolding in_front
@@ -126,13 +127,13 @@ module _ (t : List ℕ) (start : ℕ) (scratch out list : List ℕ) where
   unfolding build_of built_in
   searched q f g = rw (q, build_of, f, built_in, g)
 
-  module _ (n c : ℕ) (e : left.answer ≡ States n c) where
+  module _ (n c : ℕ) (e : left.answer ≡ told (record { records = n; conflicts = c })) where
     found : check_of t ≡ Accepted → start_is_fit (meaning t) start ≡ true → (o : Outcome) → outcome (meaning t) start (length out / 4) (length list) ≡ o
         → left ≡ built_of (meaning t) scratch out list o → Answered t start scratch out list n c
     unfolding built_of
-    found a f (refused m) q r = absurd (apart m 0 n c (ap (λ (l : Left). l.answer) (sym r) ∙ e))
+    found a f (refused m) q r = absurd (apart m 0 _ (ap (λ (l : Left). l.answer) (sym r) ∙ e))
     found a f (full Rs es) q r =
-        let s = same (records_of (built_table (meaning t) Rs es)) (conflict_count (meaning t) Rs) n c (ap (λ (l : Left). l.answer) (sym r) ∙ e) in
+        let s = same (record { records = records_of (built_table (meaning t) Rs es); conflicts = conflict_count (meaning t) Rs }) (record { records = n; conflicts = c }) (ap (λ (l : Left). l.answer) (sym r) ∙ e) in
         record {
           accepted = a;
           start_in_lem = start-inside (meaning t) start f;
@@ -149,14 +150,14 @@ module _ (t : List ℕ) (start : ℕ) (scratch out list : List ℕ) where
     answered = by (check_of t) refl
       where
         by : (d : Checked) → check_of t ≡ d → Answered t start scratch out list n c
-        by (NotAccepted m r) q = absurd (apart m r n c (ap (λ (l : Left). l.answer) (build-refused t start scratch out list m r q) ∙ e))
+        by (NotAccepted m r) q = absurd (apart m r _ (ap (λ (l : Left). l.answer) (build-refused t start scratch out list m r q) ∙ e))
         by Accepted q =
             cases (ltb (length scratch) build_scratch)
-            (λ f. absurd (apart 11 0 n c (ap (λ (l : Left). l.answer) (build_checked t start scratch out list q _ (in_short (meaning t) start scratch out list (ltb-true (length scratch) build_scratch f))) ∙ e)))
+            (λ f. absurd (apart 11 0 _ (ap (λ (l : Left). l.answer) (build_checked t start scratch out list q _ (in_short (meaning t) start scratch out list (ltb-true (length scratch) build_scratch f))) ∙ e)))
             (λ f.
             cases (start_is_fit (meaning t) start)
             (λ g. found q g (outcome (meaning t) start (length out / 4) (length list)) refl (searched q f g))
-            (λ g. absurd (apart 18 0 n c (ap (λ (l : Left). l.answer) (build_checked t start scratch out list q _ (in_unfit (meaning t) start scratch out list (ltb-false (length scratch) build_scratch f) _ g refl)) ∙ e))))
+            (λ g. absurd (apart 18 0 _ (ap (λ (l : Left). l.answer) (build_checked t start scratch out list q _ (in_unfit (meaning t) start scratch out list (ltb-false (length scratch) build_scratch f) _ g refl)) ∙ e))))
 
     -- Req 01: the table in front of the output has the book's states, the list in front of the other all conflicts
     pub build_canonical : IsCanonical (meaning t) start (take (4 * n) left.out) (take (5 * c) left.conflicts)

@@ -7,19 +7,20 @@ use native.Mathlib.Omega.{arith}
 use lib.Dec.{eqb}
 use lib.ListN.{length, get_or}
 use borrow.Author.Tests.{ltb-true}
-use Rattle.repr.specs.Sizes.{record_limit, symbol_limit, terminal_limit}
+use Rattle.repr.specs.Sizes.{record_limit, symbol_limit}
 use Rattle.repr.specs.Lists.{below, keep}
 use Rattle.repr.specs.Meaning.{All, Production, Edge, State, Table, no_state, state_at, ProductionFits, TableFits}
-use Rattle.repr.specs.Packed.{Packed, productions_in}
+use Rattle.repr.specs.Reply.{answered, refused}
+use Rattle.repr.specs.Packed.{productions_in}
 use Rattle.repr.proofs.Lists.{length_mapped, length-map-below, get_d_map, get_d_map-below}
 use Rattle.slices.specs.Lent.{in_front, zeroed}
 use Rattle.spelling.specs.Spelled.{size_of, symbol_lists, item_lists, states_at, productions_at, symbols_at, items_place, edges_at, records_of, spell}
 use Rattle.table.proofs.Chains.{and-true}
 use Rattle.first.specs.First.{sets_of_first}
-use Rattle.closing.specs.Grammar.{Grammar}
+use Rattle.closing.specs.Grammar.{OfTable}
 use Rattle.build.specs.States.{built, written}
 use Rattle.build.specs.Built.{built_state, built_table, conflict_words}
-use Rattle.build.specs.Outcome.{sum, refused, full, finish, outcome}
+use Rattle.build.specs.Outcome.{sum, refused as stopped, full, finish, outcome}
 use Rattle.build.proofs.Refusals.{outcome-full}
 use Rattle.stored.specs.Stored.{packed}
 use Rattle.kept_states.proofs.Holds.{length-packed, holds_counted}
@@ -29,14 +30,17 @@ use Rattle.collecting.specs.Rows.{row_in, rows_in, FoundAll, FoundAs}
 use Rattle.std.proofs.Common.{Result, Ok, Err}
 use Rattle.finding.specs.Search.{refusal_of}
 use Rattle.finding.specs.declared.Halt.{Halt}
-use Rattle.finding.specs.declared.Sizes.{Sizes}
+use Rattle.std.specs.Borrow.{Bor}
+use Rattle.kept_states.specs.declared.Begins.{Begins}
+use Rattle.taking.specs.declared.Edges.{Edges}
+use Rattle.finding.specs.declared.Source.{Source}
+use Rattle.measuring.specs.declared.FoundStates.{FoundStates}
 use Rattle.searching.specs.Ready.{Ready}
 use Rattle.measuring.specs.Complete.{MeasuredAs}
 use Rattle.measuring.specs.declared.Measured.{Measured}
 use Rattle.measuring.proofs.Laws.{length_row}
 use Rattle.conflict_list.proofs.Laws.{list_long}
 use Rattle.state_records.specs.Rows.{item_of, ItemsIn, EdgesIn}
-use Rattle.builder.specs.declared.Built.TheVariants.{States, Refused}
 use Rattle.builder.specs.Outcome.{build_scratch, start_is_fit, conflict_count, built_of}
 use Rattle.builder.specs.Ended.{SizesOf, Ended, Laid}
 use Rattle.builder.proofs.Written.{size-map, items_are, edges_are, records_are}
@@ -48,19 +52,17 @@ unfolding All sum
 few_symbols T [] A = omega arith
 few_symbols T (p ∷ ps) A = let s = A.0.short in let i = few_symbols T ps A.1 in omega arith
 
-module _ {T : Table} (g : List ℕ) {N P symbols : ℕ} (F : TableFits T) (same : productions_in g (length T.productions) ≡ T.productions)
+module _ {T : Table} (g : List ℕ) {N P symbols : ℕ} (F : TableFits T) (same : productions_in g P ≡ T.productions)
     (n : N ≡ length T.nonterminals) (p : P ≡ length T.productions) (y : symbols ≡ size_of (map (λ (p : Production). p.symbols) (productions_in g P))) where
   symbols_are : symbols ≡ sum (λ (p : Production). length p.symbols) T.productions
-  symbols_are = y ∙ ap (λ (ps : List Production). size_of (map (λ (p : Production). p.symbols) ps)) (ap (productions_in g) p ∙ same) ∙ size-map (λ (p : Production). p.symbols) T.productions
+  symbols_are = y ∙ ap (λ (ps : List Production). size_of (map (λ (p : Production). p.symbols) ps)) same ∙ size-map (λ (p : Production). p.symbols) T.productions
 
   pub fixed_small : 1 + N + P + symbols ≤ 65536
   fixed_small = let a = few_symbols T T.productions F.productions in omega (arith, symbols_are, F.few_nonterminals, F.few_productions_lem)
 
-  pub sizes_are : {e : ℕ} → e ≡ T.terminals → {room limit : ℕ} → limit ≡ min room record_limit → SizesOf T room (record { nonterminals = N; terminals = e; productions = P; fixed = 1 + N + P + symbols; limit = limit })
-  sizes_are q l = record {
+  pub sizes_are : {room limit : ℕ} → limit ≡ min room record_limit → SizesOf T room (record { nonterminals = N; fixed = 1 + N + P + symbols; limit = limit })
+  sizes_are l = record {
     counted = record { nonterminals_are = n; fixed_is = omega (arith, symbols_are); limit_is = l };
-    tokens = q;
-    many = p;
     small = fixed_small;
   }
 
@@ -74,23 +76,23 @@ packed-written : (S : List ℕ) → map item_of (packed S) ≡ written S
 unfolding packed written
 packed-written S = map-map (λ (x : ℕ). record { place = x; set = get_or S x 0 }) item_of (keep (λ x. not (eqb (get_or S x 0) 0)) (below (length S)))
 
-module _ {T : Table} {room : ℕ} {g : List ℕ} {sizes : Sizes} {ws bs E es : List ℕ} {n : ℕ} (s : Ended T room g sizes ws bs E es n) where
+module _ {T : Table} {room : ℕ} {found : FoundStates} (s : Ended T room found) where
   abbrev Rs : List (List ℕ)
   Rs = s.all.Rs
 
   abbrev ds : List (List Edge)
-  ds = rows_in E es n
+  ds = rows_in found.edges.now.words found.edges.now.rows found.begins.now.states
 
   abbrev pub table_found : Table
-  table_found = built_table T s.all.Rs (rows_in E es n)
+  table_found = built_table T s.all.Rs (rows_in found.edges.now.words found.edges.now.rows found.begins.now.states)
 
   long_rows : length ds ≡ length Rs
   unfolding rows_in
-  long_rows = length-map-below (row_in E es) n ∙ s.all.many
+  long_rows = length-map-below (row_in found.edges.now.words found.edges.now.rows) found.begins.now.states ∙ s.all.many
 
-  row_at : (k : ℕ) → k < n → get_or ds k [] ≡ row_in E es k
+  row_at : (k : ℕ) → k < found.begins.now.states → get_or ds k [] ≡ row_in found.edges.now.words found.edges.now.rows k
   unfolding rows_in
-  row_at k h = get_d_map-below (row_in E es) n k [] h
+  row_at k h = get_d_map-below (row_in found.edges.now.words found.edges.now.rows) found.begins.now.states k [] h
 
   long_states : length table_found.states ≡ length Rs
   unfolding built_table
@@ -100,46 +102,46 @@ module _ {T : Table} {room : ℕ} {g : List ℕ} {sizes : Sizes} {ws bs E es : L
   unfolding built_table built_state
   state_at_lem k h = get_d_map-below (built_state Rs ds) (length Rs) k no_state (rw (long_states) at h)
 
-  items_in : ItemsIn table_found ws bs
+  items_in : ItemsIn table_found found.words.now found.begins.now.items
   items_in = record {
     begins = rw (items_are T Rs ds) (record {
       few = rw (length_mapped written Rs) s.all.holds.begun.few;
       front = s.all.holds.front;
       next = λ k h.
           let i : k < length Rs = rw (length_mapped written Rs) at h in
-          s.all.holds.counts k i ∙ ap (λ (m : ℕ). get_or bs k 0 + m) (sym (length-packed (get_or Rs k [])) ∙ sym (ap length (get_d_map written Rs k [] [] i)));
+          s.all.holds.counts k i ∙ ap (λ (m : ℕ). get_or found.begins.now.items k 0 + m) (sym (length-packed (get_or Rs k [])) ∙ sym (ap length (get_d_map written Rs k [] [] i)));
     });
     room = s.all.holds.begun.room;
     is = λ k h. ap (map item_of) (s.all.holds.is k (rw long_states at h)) ∙ packed-written (get_or Rs k []) ∙ sym (ap (λ (q : State). q.items) (state_at_lem k h));
   }
 
-  edges_in_lem : EdgesIn table_found E es
+  edges_in_lem : EdgesIn table_found found.edges.now.words found.edges.now.rows
   edges_in_lem = record {
     begins = rw (edges_are T Rs ds long_rows) (record {
       few = omega (arith, long_rows, s.all.holds.begun.few);
       front = s.all.front;
       next = λ k h.
-          let i : k < n = omega (arith, long_rows, s.all.many) in
+          let i : k < found.begins.now.states = omega (arith, long_rows, s.all.many) in
           let up = s.all.rises k i in
-          let m : length (get_or ds k []) ≡ get_or es (k + 1) 0 - get_or es k 0 = ap length (row_at k i) ∙ length_row E es k in
+          let m : length (get_or ds k []) ≡ get_or found.edges.now.rows (k + 1) 0 - get_or found.edges.now.rows k 0 = ap length (row_at k i) ∙ length_row found.edges.now.words found.edges.now.rows k in
           omega (arith, up, m);
     });
-    is = λ k h. let i : k < n = omega (arith, long_states, s.all.many) in sym (ap (λ (q : State). q.edges) (state_at_lem k h) ∙ row_at k i);
+    is = λ k h. let i : k < found.begins.now.states = omega (arith, long_states, s.all.many) in sym (ap (λ (q : State). q.edges) (state_at_lem k h) ∙ row_at k i);
   }
 
-  items_from_lem : sizes.fixed + n ≡ items_place table_found
+  items_from_lem : found.source.sizes.fixed + found.begins.now.states ≡ items_place table_found
   unfolding items_place symbols_at productions_at states_at built_table
   items_from_lem =
       let a : length (map (built_state Rs ds) (below (length Rs))) ≡ length Rs = length-map-below (built_state Rs ds) (length Rs) in
       let y : size_of (symbol_lists T) ≡ sum (λ (p : Production). length p.symbols) T.productions = size-map (λ (p : Production). p.symbols) T.productions in
       rw (a, y) (omega (arith, s.counted.fixed_is, s.all.many))
 
-  edges_from_lem : sizes.fixed + n + get_or bs n 0 ≡ edges_at table_found
+  edges_from_lem : found.source.sizes.fixed + found.begins.now.states + get_or found.begins.now.items found.begins.now.states 0 ≡ edges_at table_found
   unfolding edges_at
   edges_from_lem =
       let i : size_of (item_lists table_found) ≡ sum (λ (S : List ℕ). length (written S)) Rs = ap size_of (items_are T Rs ds) ∙ size-map written Rs in
-      let b : sum (λ (S : List ℕ). length (written S)) Rs ≡ get_or bs (length Rs) 0 = holds_counted T s.start ws bs Rs s.all.holds in
-      let m : get_or bs n 0 ≡ get_or bs (length Rs) 0 = ap (λ (i : ℕ). get_or bs i 0) s.all.many in
+      let b : sum (λ (S : List ℕ). length (written S)) Rs ≡ get_or found.begins.now.items (length Rs) 0 = holds_counted T s.start found.words.now found.begins.now.items Rs s.all.holds in
+      let m : get_or found.begins.now.items found.begins.now.states 0 ≡ get_or found.begins.now.items (length Rs) 0 = ap (λ (i : ℕ). get_or found.begins.now.items i 0) s.all.many in
       omega (arith, items_from_lem, i, b, m)
 
   outcome_is : (words : ℕ) → outcome T s.start room words ≡ finish T room words (built Rs ds)
@@ -150,9 +152,9 @@ module _ {T : Table} {room : ℕ} {g : List ℕ} {sizes : Sizes} {ws bs E es : L
 
   module _ (words : ℕ) {m : Result Measured Halt} (h : MeasuredAs T room words Rs ds m) where
     pub stops-answer : {v : Halt} → m ≡ Err v → {out conflicts : List ℕ} (S : List ℕ)
-        → record { answer = Refused (refusal_of v) 0; scratch = zeroed build_scratch S; out = out; conflicts = conflicts } ≡ built_of T S out conflicts (outcome T s.start room words)
+        → record { answer = refused (refusal_of v) 0; scratch = zeroed build_scratch S; out = out; conflicts = conflicts } ≡ built_of T S out conflicts (outcome T s.start room words)
     unfolding MeasuredAs built_of
-    stops-answer {v} e S = let q : finish T room words (built Rs ds) ≡ refused (refusal_of v) = rw e at h in rw (outcome_is words ∙ q) refl
+    stops-answer {v} e S = let q : finish T room words (built Rs ds) ≡ stopped (refusal_of v) = rw e at h in rw (outcome_is words ∙ q) refl
 
     module _ {v : Measured} (e : m ≡ Ok v) where
       fitted : MeasuredAs T room words Rs ds (Ok v)
@@ -179,7 +181,7 @@ module _ {T : Table} {room : ℕ} {g : List ℕ} {sizes : Sizes} {ws bs E es : L
       pub list_room : length (conflict_words T Rs) ≤ words
       list_room = rw (list_long T Rs) (outcome-full T s.start room words Rs ds whole).2
 
-      pub laid : {out : List ℕ} → room ≡ length out / 4 → Laid table_found g sizes ws bs E es n out
+      pub laid : {out : List ℕ} → room ≡ length out / 4 → Laid table_found found out
       unfolding built_table
       laid q = record {
         target = record {
@@ -199,39 +201,35 @@ module _ {T : Table} {room : ℕ} {g : List ℕ} {sizes : Sizes} {ws bs E es : L
       }
 
       pub full-answer : (out conflicts : List ℕ) {out' conflicts' : List ℕ} → out' ≡ in_front (spell table_found) out → conflicts' ≡ in_front (conflict_words T Rs) conflicts → (S : List ℕ)
-          → record { answer = States v.records v.conflicts; scratch = zeroed build_scratch S; out = out'; conflicts = conflicts' } ≡ built_of T S out conflicts (outcome T s.start room words)
+          → record { answer = answered (record { records = v.records; conflicts = v.conflicts }); scratch = zeroed build_scratch S; out = out'; conflicts = conflicts' } ≡ built_of T S out conflicts (outcome T s.start room words)
       unfolding MeasuredAs built_of conflict_count
       full-answer out conflicts a b S = rw (whole, a, b, records_answered, fitted.2) refl
 
--- what FIRST asks for
-
-pub new_asks : {T : Table} {room : ℕ} {g : List ℕ} {sizes : Sizes} → TableFits T → SizesOf T room sizes → Packed g (length T.productions) → Packed g sizes.productions × (sizes.terminals ≤ terminal_limit)
-new_asks F z k = (rw z.many k, rw z.tokens F.few_terminals)
-
 -- what the search gets and leaves
 
-module _ {T : Table} {room : ℕ} {g : List ℕ} {sizes : Sizes} {sets : List ℕ} (start : ℕ) (F : TableFits T) (z : SizesOf T room sizes) (k : Packed g (length T.productions))
-    (same : productions_in g (length T.productions) ≡ T.productions) (q : sets ≡ sets_of_first sizes.terminals (productions_in g sizes.productions)) (h : start_is_fit T start ≡ true) where
-  pub grammar : Grammar T g sizes.productions sizes.terminals sets
+module _ {T : Table} {room : ℕ} (source : Source) (start : ℕ) (F : TableFits T) (z : SizesOf T room source.sizes) (many : source.grammar.productions ≡ length T.productions)
+    (tokens : source.sets.now.terminals ≡ T.terminals) (same : productions_in source.grammar.words.now source.grammar.productions ≡ T.productions)
+    (q : source.sets.now.map ≡ sets_of_first source.sets.now.terminals (productions_in source.grammar.words.now source.grammar.productions)) (h : start_is_fit T start ≡ true) where
+  pub grammar : OfTable T source.grammar.words.now source.grammar.productions source.sets.now.terminals source.sets.now.map
   grammar = record {
     fits = F;
-    packed = rw z.many k;
-    same = ap (productions_in g) z.many ∙ same;
-    many = z.many;
-    tokens = z.tokens;
-    firsts = q ∙ rw (z.tokens, z.many, same) refl;
+    packed = source.grammar.packed;
+    same = same;
+    many = many;
+    tokens = tokens;
+    firsts = q ∙ rw (tokens, same) refl;
   }
 
-  pub started : start < sizes.productions
+  pub started : start < source.grammar.productions
   unfolding start_is_fit
-  started = rw z.many (ltb-true start (length T.productions) (and-true _ _ h).0)
+  started = rw many (ltb-true start (length T.productions) (and-true _ _ h).0)
 
-  abbrev pub ready : Ready g sizes sets start
+  abbrev pub ready : Ready source start
   ready = record { T = T; room = room; grammar = grammar; counted = z.counted; started = started; small = z.small }
 
-  module _ (ws bs E es : List ℕ) (n : ℕ) {r : Result (Unit {0}) Halt} (w : (s : Ready g sizes sets start) → FoundAs s.T start (found_to s.T start s.room) ws bs E es n r) where
+  module _ (ws bs E es : List ℕ) (n : ℕ) {r : Result (Unit {0}) Halt} (w : (s : Ready source start) → FoundAs s.T start (found_to s.T start s.room) ws bs E es n r) where
     pub halts-answer : {v : Halt} → r ≡ Err v → (words : ℕ) {out conflicts : List ℕ} (S : List ℕ)
-        → record { answer = Refused (refusal_of v) 0; scratch = zeroed build_scratch S; out = out; conflicts = conflicts } ≡ built_of T S out conflicts (outcome T start room words)
+        → record { answer = refused (refusal_of v) 0; scratch = zeroed build_scratch S; out = out; conflicts = conflicts } ≡ built_of T S out conflicts (outcome T start room words)
     unfolding FoundAs finish_to built_of
     halts-answer {v} x words S = let y : found_to T start room ≡ halts (refusal_of v) = rw x at (w ready) in rw (outcome_steps T start room words ∙ ap (finish_to T room words) y) refl
 
@@ -239,13 +237,13 @@ module _ {T : Table} {room : ℕ} {g : List ℕ} {sizes : Sizes} {sets : List �
     unfolding FoundAs
     all_found x = rw x at (w ready)
 
-    abbrev pub ended : {u : Unit {0}} → r ≡ Ok u → Ended T room g sizes ws bs E es n
-    ended x = record {
-      start = start;
-      sets = sets;
-      grammar = grammar;
-      started = started;
-      counted = z.counted;
-      small = z.small;
-      all = all_found x;
-    }
+  abbrev pub ended : (words : Bor (List ℕ)) (begins : Bor Begins) (edges : Bor Edges) → FoundAll T start (found_to T start room) words.now begins.now.items edges.now.words edges.now.rows begins.now.states
+      → Ended T room (record { source = source; words = words; begins = begins; edges = edges })
+  ended words begins edges all = record {
+    start = start;
+    grammar = grammar;
+    started = started;
+    counted = z.counted;
+    small = z.small;
+    all = all;
+  }

@@ -8,6 +8,7 @@ use lib.Dec.{eqb}
 use lib.ListN.{length, drop}
 use borrow.Author.Tests.{eqb-true, eqb-false, ne_eqb, lt-ltb, le-ltb}
 use Rattle.repr.specs.Meaning.{Item, Edge, Table, state_at}
+use Rattle.repr.specs.Reply.{Reply, refused}
 use Rattle.repr.proofs.Lists.{cases}
 use Rattle.slices.specs.Lent.{zeroed}
 use Rattle.slices.proofs.Lent.{zeroed_lent}
@@ -21,7 +22,6 @@ use Rattle.table.proofs.Chains.{chain_end}
 use Rattle.table.proofs.Indexes.{item-read, edge_read_lem}
 use Rattle.build.specs.Outcome.{outcome}
 use Rattle.builder.specs.declared.Built.{Built}
-use Rattle.builder.specs.declared.Built.TheVariants.{Refused}
 use Rattle.builder.specs.Outcome.{Left, build_scratch, start_is_fit, grammar_alone, built_of, built_in, build_of}
 
 -- 18
@@ -77,18 +77,18 @@ module _ (T : Table) where
   -- 11, 18, what is found
 
   module _ (start : ℕ) (scratch out conflicts : List ℕ) where
-    pub in_short : length scratch < build_scratch → record { answer = Refused 11 0; scratch = scratch; out = out; conflicts = conflicts } ≡ built_in T start scratch out conflicts
+    pub in_short : length scratch < build_scratch → record { answer = refused 11 0; scratch = scratch; out = out; conflicts = conflicts } ≡ built_in T start scratch out conflicts
     unfolding built_in
     in_short h = rw (built_in, lt-ltb (length scratch) build_scratch h) refl
 
     module _ (long : build_scratch ≤ length scratch) (scratch' : List ℕ) where
       pub in_unfit : start_is_fit T start ≡ false → scratch' ≡ zeroed build_scratch scratch
-          → record { answer = Refused 18 0; scratch = scratch'; out = out; conflicts = conflicts } ≡ built_in T start scratch out conflicts
+          → record { answer = refused 18 0; scratch = scratch'; out = out; conflicts = conflicts } ≡ built_in T start scratch out conflicts
       unfolding built_in built_of
       in_unfit f z = rw (built_in, le-ltb (length scratch) build_scratch long, f, z) refl
 
       pub in_found : start_is_fit T start ≡ true → (front : List ℕ) → length front ≡ build_scratch → scratch' ≡ zeroed build_scratch (front ++ drop build_scratch scratch)
-          → (r : Built) (out' conflicts' : List ℕ)
+          → (r : Reply Built) (out' conflicts' : List ℕ)
           → ((S : List ℕ) → record { answer = r; scratch = zeroed build_scratch S; out = out'; conflicts = conflicts' }
           ≡ built_of T S out conflicts (outcome T start (length out / 4) (length conflicts)))
           → record { answer = r; scratch = scratch'; out = out'; conflicts = conflicts' } ≡ built_in T start scratch out conflicts
@@ -100,7 +100,7 @@ module _ (T : Table) where
 -- 1 to 8
 
 module _ (t : List ℕ) (start : ℕ) (scratch out conflicts : List ℕ) where
-  pub build-refused : (n r : ℕ) → check_of t ≡ NotAccepted n r → record { answer = Refused n r; scratch = scratch; out = out; conflicts = conflicts } ≡ build_of t start scratch out conflicts
+  pub build-refused : (n r : ℕ) → check_of t ≡ NotAccepted n r → record { answer = refused n r; scratch = scratch; out = out; conflicts = conflicts } ≡ build_of t start scratch out conflicts
   unfolding build_of
   build-refused n r e = rw (e, build_of) refl
 

@@ -3,9 +3,10 @@ use Rattle.std.specs.Prelude.{ℕ, ◌+◌, ◌≤◌, ◌<◌, ◌≡◌, List,
 use Rattle.repr.specs.Sizes.{state_limit}
 use Rattle.repr.specs.Meaning.{Table}
 use Rattle.spelling.specs.Spelled.{items_place, edges_at}
-use Rattle.closing.specs.Grammar.{Grammar}
+use Rattle.closing.specs.Grammar.{OfTable}
 use Rattle.finding.specs.Steps.{found_to}
 use Rattle.finding.specs.declared.Sizes.{Sizes}
+use Rattle.measuring.specs.declared.FoundStates.{FoundStates}
 use Rattle.starting.specs.Start.{Counted}
 use Rattle.collecting.specs.Rows.{FoundAll}
 use Rattle.measuring.specs.Complete.{Complete}
@@ -15,30 +16,25 @@ use Rattle.state_records.specs.Rows.{ItemsIn, EdgesIn}
 -- the numbers of a table and of the output's room, and that sums of them are exact
 pub record SizesOf (T : Table) (room : ℕ) (sizes : Sizes) : Type 0 where
   pub counted : Counted T room sizes.nonterminals sizes.fixed sizes.limit
-  pub tokens : sizes.terminals ≡ T.terminals
-  pub many : sizes.productions ≡ length T.productions
   pub small : sizes.fixed ≤ 65536
 
-pub record Ended (T : Table) (room : ℕ) (g : List ℕ) (sizes : Sizes) (ws bs E es : List ℕ) (n : ℕ) : Type 0 where
+pub record Ended (T : Table) (room : ℕ) (found : FoundStates) : Type 0 where
   pub start : ℕ
-  pub sets : List ℕ
-  pub grammar : Grammar T g sizes.productions sizes.terminals sets
-  pub started : start < sizes.productions
-  pub counted : Counted T room sizes.nonterminals sizes.fixed sizes.limit
-  pub small : sizes.fixed ≤ 65536
-  pub all : FoundAll T start (found_to T start room) ws bs E es n
+  pub grammar : OfTable T found.source.grammar.words.now found.source.grammar.productions found.source.sets.now.terminals found.source.sets.now.map
+  pub started : start < found.source.grammar.productions
+  pub counted : Counted T room found.source.sizes.nonterminals found.source.sizes.fixed found.source.sizes.limit
+  pub small : found.source.sizes.fixed ≤ 65536
+  pub all : FoundAll T start (found_to T start room) found.words.now found.begins.now.items found.edges.now.words found.edges.now.rows found.begins.now.states
 
 -- as `measure` takes it
-module _ {T : Table} {room : ℕ} {g : List ℕ} {sizes : Sizes} {ws bs E es : List ℕ} {n : ℕ} (s : Ended T room g sizes ws bs E es n) where
-  abbrev pub complete : Complete g sizes ws bs es n
+module _ {T : Table} {room : ℕ} {found : FoundStates} (s : Ended T room found) where
+  abbrev pub complete : Complete found
   complete = record {
     T = T;
     start = s.start;
     room = room;
-    terminals = sizes.terminals;
-    sets = s.sets;
     w = found_to T s.start room;
-    E = E;
+    E = found.edges.now.words;
     grammar = s.grammar;
     started = s.started;
     counted = s.counted;
@@ -47,12 +43,12 @@ module _ {T : Table} {room : ℕ} {g : List ℕ} {sizes : Sizes} {ws bs E es : L
   }
 
 -- U has the packed productions and the states that the words hold, and its regions begin where the numbers say
-pub record Laid (U : Table) (g : List ℕ) (sizes : Sizes) (ws bs E es : List ℕ) (n : ℕ) (out : List ℕ) : Type 0 where
-  pub target : Target U sizes.nonterminals sizes.terminals n out
-  pub few : n ≤ state_limit
-  pub many : sizes.productions ≡ length U.productions
-  pub packed : PackedAs U g sizes.productions
-  pub items : ItemsIn U ws bs
-  pub edges : EdgesIn U E es
-  pub items_at : sizes.fixed + n ≡ items_place U
-  pub edges_at : sizes.fixed + n + get_or bs n 0 ≡ edges_at U
+pub record Laid (U : Table) (found : FoundStates) (out : List ℕ) : Type 0 where
+  pub target : Target U found.source.sizes.nonterminals found.source.sets.now.terminals found.begins.now.states out
+  pub few : found.begins.now.states ≤ state_limit
+  pub many : found.source.grammar.productions ≡ length U.productions
+  pub packed : PackedAs U found.source.grammar.words.now found.source.grammar.productions
+  pub items : ItemsIn U found.words.now found.begins.now.items
+  pub edges : EdgesIn U found.edges.now.words found.edges.now.rows
+  pub items_at : found.source.sizes.fixed + found.begins.now.states ≡ items_place U
+  pub edges_at : found.source.sizes.fixed + found.begins.now.states + get_or found.begins.now.items found.begins.now.states 0 ≡ edges_at U

@@ -1,6 +1,7 @@
 -- What `build_states` answers and leaves in the lent words (Req 01), for every table, start production and buffers. Assumes nothing: these are definitions.
 use Rattle.std.specs.Prelude.{ℕ, ◌/◌, Bool, true, false, ◌&&◌, List, length, eqb, ltb}
 use Rattle.repr.specs.Meaning.{Table, state_at}
+use Rattle.repr.specs.Reply.{Reply, answered, refused}
 use Rattle.slices.specs.Lent.{in_front, zeroed}
 use Rattle.table.specs.Checked.{Accepted, Refused as NotAccepted}
 use Rattle.table.specs.Decoded.{meaning}
@@ -8,9 +9,8 @@ use Rattle.table.specs.Refusals.{check_of}
 use Rattle.spelling.specs.Spelled.{records_of, spell}
 use Rattle.build.specs.States.{clashes}
 use Rattle.build.specs.Built.{built_table, conflict_words}
-use Rattle.build.specs.Outcome.{sum, Outcome, refused, full, outcome}
+use Rattle.build.specs.Outcome.{sum, Outcome, refused as stopped, full, outcome}
 use Rattle.builder.specs.declared.Built.{Built}
-use Rattle.builder.specs.declared.Built.TheVariants.{States, Refused}
 
 -- the words of scratch that 11 asks for, and that success and every refusal from 16 on zero
 abbrev pub build_scratch : ℕ
@@ -18,7 +18,7 @@ build_scratch = 64000
 
 -- the answer, and every lent word after the call
 pub record Left : Type 0 where
-  pub answer : Built
+  pub answer : Reply Built
   pub scratch : List ℕ
   pub out : List ℕ
   pub conflicts : List ℕ
@@ -36,9 +36,9 @@ conflict_count T Rs = sum (λ (S : List ℕ). length (clashes T S)) Rs
 
 -- a refusal from 16 on writes nothing
 unfoldable pub built_of : Table → List ℕ → List ℕ → List ℕ → Outcome → Left
-built_of T scratch out conflicts (refused n) = record { answer = Refused n 0; scratch = zeroed build_scratch scratch; out = out; conflicts = conflicts }
+built_of T scratch out conflicts (stopped n) = record { answer = refused n 0; scratch = zeroed build_scratch scratch; out = out; conflicts = conflicts }
 built_of T scratch out conflicts (full Rs es) = record {
-  answer = States (records_of (built_table T Rs es)) (conflict_count T Rs);
+  answer = answered (record { records = records_of (built_table T Rs es); conflicts = conflict_count T Rs });
   scratch = zeroed build_scratch scratch;
   out = in_front (spell (built_table T Rs es)) out;
   conflicts = in_front (conflict_words T Rs) conflicts;
@@ -47,9 +47,9 @@ built_of T scratch out conflicts (full Rs es) = record {
 -- 11, then 18, then what is found; a part of a record is no room
 unfoldable pub built_in : Table → ℕ → List ℕ → List ℕ → List ℕ → Left
 built_in T start scratch out conflicts = elim (ltb (length scratch) build_scratch) [
-  | true ↦ record { answer = Refused 11 0; scratch = scratch; out = out; conflicts = conflicts }
+  | true ↦ record { answer = refused 11 0; scratch = scratch; out = out; conflicts = conflicts }
   | false ↦ elim (start_is_fit T start) [
-    | false ↦ built_of T scratch out conflicts (refused 18)
+    | false ↦ built_of T scratch out conflicts (stopped 18)
     | true ↦ built_of T scratch out conflicts (outcome T start (length out / 4) (length conflicts))
   ]
 ]
@@ -57,6 +57,6 @@ built_in T start scratch out conflicts = elim (ltb (length scratch) build_scratc
 -- `build_states`: table, start production, scratch, the table's buffer, the conflicts'
 unfoldable pub build_of : List ℕ → ℕ → List ℕ → List ℕ → List ℕ → Left
 build_of t start scratch out conflicts = elim (check_of t) [
-  | NotAccepted n r ↦ record { answer = Refused n r; scratch = scratch; out = out; conflicts = conflicts }
+  | NotAccepted n r ↦ record { answer = refused n r; scratch = scratch; out = out; conflicts = conflicts }
   | Accepted ↦ built_in (meaning t) start scratch out conflicts
 ]

@@ -15,7 +15,7 @@ use Rattle.first.proofs.Join.{first1-join}
 use Rattle.build.specs.States.{from}
 use Rattle.build.proofs.Rounds.{gives_none, gives-some}
 use Rattle.build.proofs.Closure.{behind_fit}
-use Rattle.closing.specs.Grammar.{Grammar}
+use Rattle.closing.specs.Grammar.{OfTable}
 use Rattle.closing.specs.Fed.{feed, fed_by_items, fed_by_firsts}
 use Rattle.lr1_core.specs.Items.{symbol_sets}
 use Rattle.lr1_core.specs.Cursor.{symbol_code, cursor_code, code_in}
@@ -37,7 +37,7 @@ feed-other T A (terminal t ∷ β) s c e h f = refl
 feed-other T A (nonterminal n ∷ β) s c e h f = absurd (omega (arith, f n β refl))
 
 -- FIRST(β s) by the code's sets
-pub feed-some : (T : Table) (g : List ℕ) (k e : ℕ) (sets A : List ℕ) (ys β : List Symbol) (s n m u : ℕ) → Grammar T g k e sets → (s ≡ 0 → ⊥) → ys ≡ nonterminal n ∷ β
+pub feed-some : (T : Table) (g : List ℕ) (k e : ℕ) (sets A : List ℕ) (ys β : List Symbol) (s n m u : ℕ) → OfTable T g k e sets → (s ≡ 0 → ⊥) → ys ≡ nonterminal n ∷ β
     → m ≡ first1 e sets β s → u ≡ union (get_or A n 0) m → set A n u ≡ feed T A ys s
 unfolding feed rust_first0
 feed-some T g k e sets A ys β s n m u G ne q em eu =
@@ -54,7 +54,7 @@ unfolding fed_by_items
 items_snoc T S A [] x = refl
 items_snoc T S A (y ∷ xs) x = items_snoc T S (feed T A (from T y) (get_or S y 0)) xs x
 
-pub items_more : (T : Table) (g : List ℕ) (k e : ℕ) (sets S A A' A'' : List ℕ) (x : ℕ) → Grammar T g k e sets → x < index_limit * k → A' ≡ fed_by_items T S A (below x)
+pub items_more : (T : Table) (g : List ℕ) (k e : ℕ) (sets S A A' A'' : List ℕ) (x : ℕ) → OfTable T g k e sets → x < index_limit * k → A' ≡ fed_by_items T S A (below x)
     → A'' ≡ feed T A' (drop (x % index_limit) (production_in g (x / index_limit)).symbols) (get_or S x 0) → A'' ≡ fed_by_items T S A (below (x + 1))
 items_more T g k e sets S A A' A'' x G h q r =
     let p : production_at T (x / index_limit) ≡ production_in g (x / index_limit) = production_at_lem T g k e sets G (x / index_limit) (omega arith) in
@@ -69,7 +69,7 @@ unfolding fed_by_firsts
 firsts_snoc T A [] p = refl
 firsts_snoc T A (q ∷ ps) p = firsts_snoc T (feed T A (production_at T q).symbols (get_or A (production_at T q).nonterminal 0)) ps p
 
-pub firsts_more : (T : Table) (g : List ℕ) (k e : ℕ) (sets A A' A'' : List ℕ) (p n : ℕ) → Grammar T g k e sets → p < k → n ≡ get_or g (p * production_room) 0 → A' ≡ fed_by_firsts T A (below p)
+pub firsts_more : (T : Table) (g : List ℕ) (k e : ℕ) (sets A A' A'' : List ℕ) (p n : ℕ) → OfTable T g k e sets → p < k → n ≡ get_or g (p * production_room) 0 → A' ≡ fed_by_firsts T A (below p)
     → A'' ≡ feed T A' (production_in g p).symbols (get_or A' n 0) → A'' ≡ fed_by_firsts T A (below (p + 1))
 unfolding production_in
 firsts_more T g k e sets A A' A'' p n G h en q r =
@@ -83,14 +83,14 @@ length-feed T A (terminal t ∷ β) s = refl
 length-feed T A (nonterminal n ∷ β) s = simp length-set
 
 -- a nonterminal at the cursor is one of the table's
-head-fits : (T : Table) (g : List ℕ) (k e : ℕ) (sets : List ℕ) (p i n : ℕ) (β : List Symbol) → Grammar T g k e sets → p < k → drop i (listed (symbol_words g p)) ≡ nonterminal n ∷ β
+head-fits : (T : Table) (g : List ℕ) (k e : ℕ) (sets : List ℕ) (p i n : ℕ) (β : List Symbol) → OfTable T g k e sets → p < k → drop i (listed (symbol_words g p)) ≡ nonterminal n ∷ β
     → n < length T.nonterminals
 unfolding production_in SymbolFits All
 head-fits T g k e sets p i n β G h q =
     (behind_fit T G.fits (record { production = p; index = i }) (nonterminal n) β (ap (λ (r : Production). drop i r.symbols) (production_at_lem T g k e sets G p h) ∙ q)).0
 
 -- a cursor at no nonterminal
-pub feed_past : (T : Table) (g : List ℕ) (k e : ℕ) (sets A : List ℕ) (p i s c : ℕ) → Grammar T g k e sets → p < k → c ≡ code_in g p i → 32 ≤ c → A ≡ feed T A (drop i (production_in g p).symbols) s
+pub feed_past : (T : Table) (g : List ℕ) (k e : ℕ) (sets A : List ℕ) (p i s c : ℕ) → OfTable T g k e sets → p < k → c ≡ code_in g p i → 32 ≤ c → A ≡ feed T A (drop i (production_in g p).symbols) s
 unfolding code_in production_in
 feed_past T g k e sets A p i s c G h ec l = feed-other T A (drop i (listed (symbol_words g p))) s c ec l (λ n β q. small n β q)
   where
@@ -100,7 +100,7 @@ feed_past T g k e sets A p i s c G h ec l = feed-other T A (drop i (listed (symb
         omega (arith, f, G.fits.few_nonterminals)
 
 -- a cursor at a nonterminal, by the code's values: its number, the words behind the cursor, FIRST of them, the union
-pub feed-step : (T : Table) (g : List ℕ) (k e : ℕ) (sets A ws : List ℕ) (p i s n m u : ℕ) → Grammar T g k e sets → (s ≡ 0 → ⊥) → n ≡ code_in g p i → n < 32
+pub feed-step : (T : Table) (g : List ℕ) (k e : ℕ) (sets A ws : List ℕ) (p i s n m u : ℕ) → OfTable T g k e sets → (s ≡ 0 → ⊥) → n ≡ code_in g p i → n < 32
     → listed ws ≡ (symbol_sets (listed (symbol_words g p)) i).suffix → m ≡ first1 e sets (listed ws) s → u ≡ union (get_or A n 0) m → set A n u ≡ feed T A (drop i (production_in g p).symbols) s
 unfolding symbol_sets production_in
 feed-step T g k e sets A ws p i s n m u G ne ec l ew em eu =

@@ -5,9 +5,9 @@ use Rattle.repr.specs.Listed.{list_is_fit}
 use Rattle.repr.specs.Packed.{Packed, symbol_words, production_in, productions_in}
 use Rattle.repr.proofs.Lists.{get_d_map-below}
 use Rattle.repr.proofs.Listed.{fits_head}
-use Rattle.closing.specs.Grammar.{Grammar}
+use Rattle.closing.specs.Grammar.{OfTable}
 
-pub production_at_lem : (T : Table) (g : List ℕ) (n e : ℕ) (sets : List ℕ) → Grammar T g n e sets → (p : ℕ) → p < n → production_at T p ≡ production_in g p
+pub production_at_lem : (T : Table) (g : List ℕ) (n e : ℕ) (sets : List ℕ) → OfTable T g n e sets → (p : ℕ) → p < n → production_at T p ≡ production_in g p
 unfolding productions_in
 production_at_lem T g n e sets G p h = rw (← G.same) (get_d_map-below (production_in g) n p no_production h)
 

@@ -20,7 +20,7 @@ use Rattle.build.proofs.Members.{mem_less}
 use Rattle.build.proofs.Rounds.{Sized, round-append, round_sized, round_less, settle-stop, loop_more}
 use Rattle.build.proofs.Aheads.{spread-first, spread-later, length-spread, aheads_fit, begin_sized, closure_by_aheads}
 use Rattle.repr.specs.Packed.{production_in}
-use Rattle.closing.specs.Grammar.{Grammar}
+use Rattle.closing.specs.Grammar.{OfTable}
 use Rattle.closing.specs.Fed.{Flat, feed, fed_by_items, fed_by_firsts, fed, spread_in}
 use Rattle.closing.proofs.Grammar.{production_at_lem}
 
@@ -152,7 +152,7 @@ module _ (g A K : List ℕ) where
       get_or-set_other (spread_in g A K (below m)) (m * index_limit) (p * index_limit) (union (get_or (spread_in g A K (below m)) (m * index_limit) 0) (get_or A (get_or g (m * production_room) 0) 0)) 0 (λ w. ne (omega arith))
       ∙ more (omega (arith, ne)) l))
 
-module _ (T : Table) (g : List ℕ) (k e : ℕ) (sets : List ℕ) (G : Grammar T g k e sets) (K A : List ℕ) (f : Flat K) (q : aheads T (take (index_limit * k) K) ≡ take (index_limit * k) K ++ A) where
+module _ (T : Table) (g : List ℕ) (k e : ℕ) (sets : List ℕ) (G : OfTable T g k e sets) (K A : List ℕ) (f : Flat K) (q : aheads T (take (index_limit * k) K) ≡ take (index_limit * k) K ++ A) where
   many : index_limit * k ≡ places T
   many = ap (λ (n : ℕ). index_limit * n) G.many
 
@@ -215,7 +215,7 @@ pub turn_start : (T : Table) (F : TableFits T) (S : List ℕ) → Sized (places 
 unfolding aheads
 turn_start T F S z = record { sized = begin_sized T F S z; same = refl; done = λ q. clash true refl q }
 
-module _ (T : Table) (g : List ℕ) (k e : ℕ) (sets : List ℕ) (G : Grammar T g k e sets) (K A A₁ A₂ : List ℕ) (f : Flat K) (c c' b : Bool)
+module _ (T : Table) (g : List ℕ) (k e : ℕ) (sets : List ℕ) (G : OfTable T g k e sets) (K A A₁ A₂ : List ℕ) (f : Flat K) (c c' b : Bool)
     (turn : Turn T (take (index_limit * k) K) A c) (q₁ : A₁ ≡ fed_by_items T K A (below (index_limit * k))) (q₂ : A₂ ≡ fed_by_firsts T A₁ (below k)) (ec : c' ≡ not b) (eb : b ≡ same_words A₂ A) where
   S : List ℕ
   S = take (index_limit * k) K

@@ -5,7 +5,7 @@ use Rattle.repr.specs.Packed.{Packed, productions_in}
 use Rattle.first.specs.First.{sets_of_first}
 
 -- the words and numbers are those of a table T
-pub record Grammar (T : Table) (g : List ℕ) (productions terminals : ℕ) (sets : List ℕ) : Type 0 where
+pub record OfTable (T : Table) (g : List ℕ) (productions terminals : ℕ) (sets : List ℕ) : Type 0 where
   pub fits : TableFits T
   pub packed : Packed g productions
   pub same : productions_in g productions ≡ T.productions
@@ -15,4 +15,4 @@ pub record Grammar (T : Table) (g : List ℕ) (productions terminals : ℕ) (set
 
 -- those of some table
 abbrev pub Held : List ℕ → ℕ → ℕ → List ℕ → Type 0
-Held g productions terminals sets = (T : Table) × Grammar T g productions terminals sets
+Held g productions terminals sets = (T : Table) × OfTable T g productions terminals sets

@@ -10,7 +10,7 @@ ghost use Rattle.repr.specs.Meaning.{Table};
 ghost use Rattle.repr.specs.Packed.{Packed, production_in};
 ghost use Rattle.build.specs.States.{closure};
 ghost use Rattle.build.specs.Aheads.{aheads};
-ghost use Rattle.closing.specs.Grammar.{Grammar, Held};
+ghost use Rattle.closing.specs.Grammar.{OfTable, Held};
 ghost use Rattle.closing.specs.Fed.{Flat, feed, fed_by_items, fed_by_firsts, spread_in};
 
 use first::FirstSets;
@@ -19,15 +19,9 @@ use lr1_core::{Item, suffix};
 use repr::{Grammar, ProductionIndex, word};
 
 // What an item gives to the nonterminal at its cursor: FIRST of what stands behind it, followed by the item's tokens. An item without a token gives nothing.
-fn feed(
-    grammar: Grammar,
-    sets: &FirstSets,
-    item: Item,
-    set: TokenSet,
-    aheads: &mut [u64; 32],
-)
+fn feed(grammar: Grammar, sets: &FirstSets, item: Item, set: TokenSet, aheads: &mut [u64; 32])
     requires { item.production < grammar.productions }
-    ensures { (T : Table) → Grammar T grammar.entry.words.now grammar.entry.productions sets.now.terminals sets.now.map → aheads.new ≡ feed T aheads.old (drop item.index (production_in grammar.entry.words.now item.production).symbols) set.0 }
+    ensures { (T : Table) → OfTable T grammar.entry.words.now grammar.entry.productions sets.now.terminals sets.now.map → aheads.new ≡ feed T aheads.old (drop item.index (production_in grammar.entry.words.now item.production).symbols) set.0 }
 {
     let tokens = set.0;
     if tokens == 0 {
@@ -47,7 +41,7 @@ fn feed_items(
     kernel: &[u64; Item::LIMIT],
     aheads: &mut [u64; 32],
 )
-    ensures { (T : Table) → Grammar T grammar.entry.words.now grammar.entry.productions sets.now.terminals sets.now.map → aheads.new ≡ fed_by_items T kernel.now aheads.old (below (index_limit * grammar.entry.productions)) }
+    ensures { (T : Table) → OfTable T grammar.entry.words.now grammar.entry.productions sets.now.terminals sets.now.map → aheads.new ≡ fed_by_items T kernel.now aheads.old (below (index_limit * grammar.entry.productions)) }
 {
     let places = ProductionIndex::INDEXES * grammar.productions;
     for place in 0..places {
@@ -55,52 +49,37 @@ fn feed_items(
             production: place / ProductionIndex::INDEXES,
             index: place % ProductionIndex::INDEXES,
         };
-        feed(
-            grammar,
-            sets,
-            item,
-            TokenSet(kernel[place]),
-            aheads,
-        );
+        feed(grammar, sets, item, TokenSet(kernel[place]), aheads);
     }
 }
 
 // By the first item of each production.
-fn feed_firsts(
-    grammar: Grammar,
-    sets: &FirstSets,
-    aheads: &mut [u64; 32],
-)
-    ensures { (T : Table) → Grammar T grammar.entry.words.now grammar.entry.productions sets.now.terminals sets.now.map → aheads.new ≡ fed_by_firsts T aheads.old (below grammar.entry.productions) }
+fn feed_firsts(grammar: Grammar, sets: &FirstSets, aheads: &mut [u64; 32])
+    ensures { (T : Table) → OfTable T grammar.entry.words.now grammar.entry.productions sets.now.terminals sets.now.map → aheads.new ≡ fed_by_firsts T aheads.old (below grammar.entry.productions) }
 {
     for production in 0..grammar.productions {
         let item = Item {
             production,
             index: 0,
         };
-        let nonterminal = word(grammar.words, production * ProductionIndex::WORDS);
+        let nonterminal = grammar.owner(production);
         let set = TokenSet(aheads[nonterminal]);
         feed(grammar, sets, item, set, aheads);
     }
 }
 
 // The lookaheads of each nonterminal's index-0 items: round after round until one changes nothing.
-fn aheads_of(
-    grammar: &[u16],
-    productions: usize,
-    sets: &FirstSets,
-    kernel: &[u64; Item::LIMIT],
-) -> [u64; 32]
-    requires held { Held grammar.now productions sets.now.terminals sets.now.map }
+fn aheads_of(grammar: Grammar, sets: &FirstSets, kernel: &[u64; Item::LIMIT]) -> [u64; 32]
+    requires held { Held grammar.words.now grammar.productions sets.now.terminals sets.now.map }
     requires flat { Flat kernel.now }
-    ensures { (T : Table) → Grammar T grammar.now productions sets.now.terminals sets.now.map → aheads T (take (index_limit * productions) kernel.now) ≡ take (index_limit * productions) kernel.now ++ result }
+    ensures { (T : Table) → OfTable T grammar.entry.words.now grammar.entry.productions sets.now.terminals sets.now.map → aheads T (take (index_limit * grammar.entry.productions) kernel.now) ≡ take (index_limit * grammar.entry.productions) kernel.now ++ result }
 {
     let mut aheads = [0u64; 32];
     let mut changed = true;
     while changed {
         let before = aheads;
-        feed_items(Grammar { words: grammar, productions }, sets, kernel, &mut aheads);
-        feed_firsts(Grammar { words: grammar, productions }, sets, &mut aheads);
+        feed_items(grammar, sets, kernel, &mut aheads);
+        feed_firsts(grammar, sets, &mut aheads);
         changed = aheads != before;
     }
     aheads
@@ -112,7 +91,7 @@ fn spread(grammar: Grammar, aheads: &[u64; 32], state: &mut [u64; Item::LIMIT])
     ensures { state.new ≡ spread_in grammar.entry.words.now aheads.now state.old (below grammar.entry.productions) }
 {
     for production in 0..grammar.productions {
-        let nonterminal = word(grammar.words, production * ProductionIndex::WORDS);
+        let nonterminal = grammar.owner(production);
         let own = TokenSet(state[production * ProductionIndex::INDEXES]);
         let ahead = TokenSet(aheads[nonterminal]);
         state[production * ProductionIndex::INDEXES] = own.union(ahead).0;
@@ -120,16 +99,11 @@ fn spread(grammar: Grammar, aheads: &[u64; 32], state: &mut [u64; Item::LIMIT])
 }
 
 // closure(I) in place.
-pub fn transitive_closure(
-    grammar: &[u16],
-    productions: usize,
-    sets: &FirstSets,
-    state: &mut [u64; Item::LIMIT],
-)
-    requires held { Held grammar.now productions sets.now.terminals sets.now.map }
+pub fn transitive_closure(grammar: Grammar, sets: &FirstSets, state: &mut [u64; Item::LIMIT])
+    requires held { Held grammar.words.now grammar.productions sets.now.terminals sets.now.map }
     requires flat { Flat state.old }
-    ensures { (length state.new ≡ item_limit) × ((T : Table) → Grammar T grammar.now productions sets.now.terminals sets.now.map → state.new ≡ closure T (take (index_limit * productions) state.old) ++ drop (index_limit * productions) state.old) }
+    ensures { (length state.new ≡ item_limit) × ((T : Table) → OfTable T grammar.entry.words.now grammar.entry.productions sets.now.terminals sets.now.map → state.new ≡ closure T (take (index_limit * grammar.entry.productions) state.old) ++ drop (index_limit * grammar.entry.productions) state.old) }
 {
-    let aheads = aheads_of(Grammar { words: grammar, productions }, sets, state);
-    spread(Grammar { words: grammar, productions }, &aheads, state);
+    let aheads = aheads_of(grammar, sets, state);
+    spread(grammar, &aheads, state);
 }

@@ -139,11 +139,11 @@ module _ {g : List ℕ} {n : ℕ} {ws : List ℕ} {k : ℕ} (h : k < get_or ws 0
     pub making_low : (x : ℕ) → x ≡ get_or g (v.production * production_room) 0 → x < nonterminal_limit
     making_low = owner_low (decoded E.1.1) v (words_is E.1.1)
 
-  pub making_more : {start : Item} {owners sources older latest sources' older' latest' : List ℕ} {a b x : ℕ} → Making g n ws start owners sources older latest k → k < edge_limit
+  pub making_more : {start : Item} {owners sources older latest owners' sources' older' latest' : List ℕ} {a b x : ℕ} → Making g n ws start owners sources older latest k → k < edge_limit
       → a ≡ source_of (node_is v.source) → a ≤ nonterminal_limit → b ≡ slot_of start (node_is v.target) → b < latest_room
-      → sources' ≡ set sources k a → older' ≡ set older k (get_or latest b 0) → latest' ≡ set latest b (k + 1) → x ≡ get_or g (v.production * production_room) 0
-      → Making g n ws start (set owners k x) sources' older' latest' (k + 1)
-  making_more {start} {owners} {sources} {older} {latest} {sources'} {older'} {latest'} {a} {b} {x} M low ea la eb lb es' eo el ex = record {
+      → sources' ≡ set sources k a → older' ≡ set older k (get_or latest b 0) → latest' ≡ set latest b (k + 1) → owners' ≡ set owners k x → x ≡ get_or g (v.production * production_room) 0
+      → Making g n ws start owners' sources' older' latest' (k + 1)
+  making_more {start} {owners} {sources} {older} {latest} {owners'} {sources'} {older'} {latest'} {a} {b} {x} M low ea la eb lb es' eo el ew ex = rw ew (record {
     most = omega arith;
     by_owner = length-set owners k x ∙ M.by_owner;
     viewed = λ T es C. rw (es', eo, el)
@@ -155,7 +155,7 @@ module _ {g : List ℕ} {n : ℕ} {ws : List ℕ} {k : ℕ} (h : k < get_or ws 0
         ∙ ap (λ (p : ℕ). get_or g (p * production_room) 0) (production_is (decoded C) v (words_is C)) ∙ sym (owner_is (decoded C))
         ∙ ap (λ (i : ℕ). owner_of_node T.productions (get_or es i no_edge).source) (sym z))
         (λ q. let ne = eqb-false j k q in get_or-set_other owners k j x 0 ne ∙ M.owned T es C j (less j l ne));
-  }
+  })
     where
       less : (j : ℕ) → j < k + 1 → (j ≡ k → ⊥) → j < k
       less j l ne = omega arith

@@ -21,9 +21,9 @@ pub fn find_states(
     kernel: &mut Kernel,
     edges: &mut Edges,
 ) -> Result<(), Halt>
-    requires search { Search source.grammar.now source.sizes source.first.now words.old begins.old.items begins.old.states }
-    requires item_limit_in_bounds { (item_limit * 5 ≤ length kernel.old.words) × (length edges.old.words ≡ 12160) × (length edges.old.rows ≡ 129) × (get_or edges.old.rows 0 0 ≡ 0) }
-    ensures { (s : Search source.entry.grammar.now source.entry.sizes source.entry.first.now words.old begins.old.items begins.old.states) → FoundAs s.T s.start (collect_to 129 s.T s.room s.Rs []) words.new begins.new.items edges.new.words edges.new.rows begins.new.states result }
+    requires search { Search source words.old begins.old.items begins.old.states }
+    requires front { get_or edges.old.rows 0 0 ≡ 0 }
+    ensures { (s : Search source.entry words.old begins.old.items begins.old.states) → FoundAs s.T s.start (collect_to 129 s.T s.room s.Rs []) words.new begins.new.items edges.new.words edges.new.rows begins.new.states result }
 {
     edges.many = 0;
     let mut k = 0;

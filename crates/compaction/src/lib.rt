@@ -15,19 +15,18 @@ ghost use Rattle.compaction.specs.Outcome.{compact_of};
 ghost use Rattle.compaction.specs.Passes.{Headed, HeadsMarked, Numbering, Numbers, Numbered, Closing, Followed, Freed};
 
 use repr::Refusal;
-use table::{put, word};
+use table::{AcceptedTable, put, word};
 use table_check::areas::{Areas, survey};
 use table_check::check;
 
 // Marks the heads in word k of the records from `first` up to and without `past`.
-fn mark_heads(table: &[u16], first: usize, past: usize, k: usize, numbers: &mut [u16])
-    requires table_value { check_of table.now ≡ Accepted }
-    requires first_le_past { (first ≤ past) × ((past ≤ loose table.now) × ((k < 4) × Headed table.now first past k)) }
+fn mark_heads(table: AcceptedTable, first: usize, past: usize, k: usize, numbers: &mut [u16])
+    requires first_le_past { (first ≤ past) × ((past ≤ loose table.words.now) × ((k < 4) × Headed table.words.now first past k)) }
     requires numbers_len { length numbers.old ≡ record_limit }
-    ensures { HeadsMarked table.now first past k numbers.old numbers.new }
+    ensures { HeadsMarked table.entry.words.now first past k numbers.old numbers.new }
 {
     for r in first..past {
-        let x = word(table, r, k);
+        let x = word(table.words, r, k);
         if x != 0 {
             numbers[x] = 1;
         }
@@ -35,13 +34,12 @@ fn mark_heads(table: &[u16], first: usize, past: usize, k: usize, numbers: &mut 
 }
 
 // Reached record r gets its new number, and its next is marked.
-fn number_one(table: &[u16], r: usize, number: usize, numbers: &mut [u16])
-    requires table_value { check_of table.now ≡ Accepted }
-    requires r_value { (reached table.now r ≡ true) × (number ≤ record_limit) }
+fn number_one(table: AcceptedTable, r: usize, number: usize, numbers: &mut [u16])
+    requires r_value { (reached table.words.now r ≡ true) × (number ≤ record_limit) }
     requires numbers_len { length numbers.old ≡ record_limit }
-    ensures { Numbered table.now numbers.old numbers.new r number }
+    ensures { Numbered table.entry.words.now numbers.old numbers.new r number }
 {
-    let x = word(table, r, 0);
+    let x = word(table.words, r, 0);
     if x != 0 {
         numbers[x] = 1;
     }
@@ -50,10 +48,10 @@ fn number_one(table: &[u16], r: usize, number: usize, numbers: &mut [u16])
 
 // One ascending pass over the loose records, whose heads are marked: a next index is larger than its record's number, so each is marked by the time it is met.
 // The number of records that are left.
-fn number_loose(table: &[u16], a: Areas, numbers: &mut [u16]) -> usize
-    requires table_value { (check_of table.now ≡ Accepted) × AreasOf table.now a }
-    requires numbers_len { (length numbers.old ≡ record_limit) × Numbering table.now numbers.old (loose table.now) }
-    ensures { (result ≡ count_of table.now) × Numbers table.now numbers.new }
+fn number_loose(table: AcceptedTable, a: Areas, numbers: &mut [u16]) -> usize
+    requires areas { AreasOf table.words.now a }
+    requires numbers_len { (length numbers.old ≡ record_limit) × Numbering table.words.now numbers.old (loose table.words.now) }
+    ensures { (result ≡ count_of table.entry.words.now) × Numbers table.entry.words.now numbers.new }
 {
     let from = a.loose_at;
     let past = a.records;
@@ -68,10 +66,10 @@ fn number_loose(table: &[u16], a: Areas, numbers: &mut [u16]) -> usize
 }
 
 // The new number of each reached record. The number of records that are left.
-fn number_reached(table: &[u16], a: Areas, numbers: &mut [u16]) -> usize
-    requires table_value { (check_of table.now ≡ Accepted) × AreasOf table.now a }
+fn number_reached(table: AcceptedTable, a: Areas, numbers: &mut [u16]) -> usize
+    requires areas { AreasOf table.words.now a }
     requires numbers_value { numbers.old ≡ replicate record_limit 0 }
-    ensures { (result ≡ count_of table.now) × Numbers table.now numbers.new }
+    ensures { (result ≡ count_of table.entry.words.now) × Numbers table.entry.words.now numbers.new }
 {
     mark_heads(table, a.states_at, a.productions_at, 0, numbers);
     mark_heads(table, a.states_at, a.loose_at, 1, numbers);
@@ -137,9 +135,10 @@ fn close_gaps(table: &mut [u16]) -> usize
     requires { check_of table.old ≡ Accepted }
     ensures { (result ≡ count_of table.old) × (table.new ≡ compacted table.old) }
 {
-    let a = survey(table);
+    let accepted = AcceptedTable { words: table };
+    let a = survey(accepted.words);
     let mut numbers = [0u16; 8192];
-    let count = number_reached(table, a, &mut numbers);
+    let count = number_reached(accepted, a, &mut numbers);
     move_down(table, a, &numbers);
     follow_heads(table, a.states_at, a.productions_at, 0, &numbers);
     follow_heads(table, a.states_at, a.loose_at, 1, &numbers);

@@ -7,7 +7,7 @@ use Rattle.repr.specs.Meaning.{Table}
 use Rattle.repr.proofs.Lists.{cases, clash, length_mapped, mem-up_from, mem_below, mem-cons_here, mem-cons_there, joined_nil, joined_cons}
 use Rattle.lookahead.specs.Tokens.{meet, members}
 use Rattle.build.specs.States.{reduces, clashes_of, clashes}
-use Rattle.closing.specs.Grammar.{Grammar}
+use Rattle.closing.specs.Grammar.{OfTable}
 use Rattle.clashing.specs.Clashes.{shift_clash, reduce_clash, Shifted, clashes_with}
 use Rattle.clashing.proofs.Clashes.{clashes_with_lem}
 use Rattle.conflict_counts.specs.Reductions.{ReducedAs}
@@ -77,7 +77,7 @@ mem_high q p n h m =
     (λ t. omega (arith, ltb-true q (p + 1 + (n - (p + 1))) t))
     (λ t. clash (mem q (up_from (p + 1) (n - (p + 1)))) m (e ∙ rw t (and-false (not (ltb q (p + 1))))))
 
-module _ (T : Table) (g : List ℕ) (P e : ℕ) (sets : List ℕ) (G : Grammar T g P e sets) (K r : List ℕ) (sh : ℕ) (is : ReducedAs T P K r P) (w : Shifted T (take (index_limit * P) K) sh) where
+module _ (T : Table) (g : List ℕ) (P e : ℕ) (sets : List ℕ) (G : OfTable T g P e sets) (K r : List ℕ) (sh : ℕ) (is : ReducedAs T P K r P) (w : Shifted T (take (index_limit * P) K) sh) where
   pairs_are : (p : ℕ) → p < P → pairs_in r p (up_from (p + 1) (P - (p + 1)))
       ≡ joined (λ q. map (reduce_clash p q) (members (meet (reduces T (take (index_limit * P) K) p) (reduces T (take (index_limit * P) K) q)))) (up_from (p + 1) (P - (p + 1)))
   unfolding pairs_in

@@ -7,11 +7,11 @@ use Rattle.repr.specs.Listed.{listed}
 use Rattle.repr.specs.Packed.{symbol_words, production_in}
 use Rattle.repr.proofs.Lists.{cases}
 use Rattle.build.specs.States.{reduces}
-use Rattle.closing.specs.Grammar.{Grammar}
+use Rattle.closing.specs.Grammar.{OfTable}
 use Rattle.closing.proofs.Grammar.{production_at_lem}
 use Rattle.conflict_counts.specs.Reductions.{ReducedAs}
 
-pub reduction_is : (T : Table) (g : List ℕ) (P e : ℕ) (sets : List ℕ) → Grammar T g P e sets → (S : List ℕ) (p n : ℕ) → p < P → n ≡ length (listed (symbol_words g p)) → n ≤ 16
+pub reduction_is : (T : Table) (g : List ℕ) (P e : ℕ) (sets : List ℕ) → OfTable T g P e sets → (S : List ℕ) (p n : ℕ) → p < P → n ≡ length (listed (symbol_words g p)) → n ≤ 16
     → get_or S (p * index_limit + n) 0 ≡ reduces T (take (index_limit * P) S) p
 unfolding reduces production_in
 reduction_is T g P e sets G S p n h l few =

@@ -17,7 +17,7 @@ use Rattle.build.proofs.Rounds.{Sized}
 use Rattle.build.proofs.Closure.{Describes, item, item_code_lem, tokens_at, tokens_index, tokens-item, has-inside, some-token, behind_fit}
 use Rattle.build.proofs.Goto.{moved_sized, moved_exact, nothing-empty, nothing-some}
 use Rattle.lr1_core.specs.Cursor.{symbol_code, cursor_code, code_in}
-use Rattle.closing.specs.Grammar.{Grammar}
+use Rattle.closing.specs.Grammar.{OfTable}
 use Rattle.closing.specs.Fed.{Flat}
 use Rattle.closing.proofs.Grammar.{production_at_lem}
 use Rattle.closing.proofs.Rest.{front_sized}
@@ -81,7 +81,7 @@ both false b h = clash false h refl
 agree : (a b : Bool) → (a ≡ true → b ≡ true) → (b ≡ true → a ≡ true) → a ≡ b
 agree a b f g = cases a (λ t. t ∙ sym (f t)) (λ t. cases b (λ u. clash a (g u) t) (λ u. t ∙ sym u))
 
-module _ (T : Table) (g : List ℕ) (P e : ℕ) (sets : List ℕ) (G : Grammar T g P e sets) where
+module _ (T : Table) (g : List ℕ) (P e : ℕ) (sets : List ℕ) (G : OfTable T g P e sets) where
   code_at : (x : ℕ) → x < index_limit * P → code_in g (x / index_limit) (x % index_limit) ≡ cursor_code (from T x)
   unfolding code_in production_in
   code_at x h = ap (λ (r : Production). cursor_code (drop (x % index_limit) r.symbols)) (sym (production_at_lem T g P e sets G (x / index_limit) (omega arith)))

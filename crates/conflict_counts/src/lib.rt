@@ -10,7 +10,7 @@ ghost use Rattle.repr.specs.Lists.{up_from, below, joined};
 ghost use Rattle.repr.specs.Packed.{Packed};
 ghost use Rattle.lookahead.specs.Tokens.{has, meet};
 ghost use Rattle.build.specs.States.{reduces, clashes};
-ghost use Rattle.closing.specs.Grammar.{Grammar};
+ghost use Rattle.closing.specs.Grammar.{OfTable};
 ghost use Rattle.closing.specs.Fed.{Flat};
 ghost use Rattle.clashing.specs.Clashes.{Shifted};
 ghost use Rattle.conflict_counts.specs.Reductions.{ReducedAs};
@@ -21,13 +21,9 @@ use lr1_core::Item;
 use repr::{Grammar, ProductionIndex};
 
 // Of one production.
-fn reduction(
-    grammar: Grammar,
-    state: &[u64; Item::LIMIT],
-    production: usize,
-) -> u64
+fn reduction(grammar: Grammar, state: &[u64; Item::LIMIT], production: usize) -> u64
     requires { production < grammar.productions }
-    ensures { (T : Table) (terminals : ℕ) (sets : List ℕ) → Grammar T grammar.entry.words.now grammar.entry.productions terminals sets → result ≡ reduces T (take (index_limit * grammar.entry.productions) state.now) production }
+    ensures { (T : Table) (terminals : ℕ) (sets : List ℕ) → OfTable T grammar.entry.words.now grammar.entry.productions terminals sets → result ≡ reduces T (take (index_limit * grammar.entry.productions) state.now) production }
 {
     let item = Item {
         production,
@@ -38,11 +34,8 @@ fn reduction(
 }
 
 // Of all.
-pub fn reductions(
-    grammar: Grammar,
-    state: &[u64; Item::LIMIT],
-) -> [u64; ProductionIndex::LIMIT]
-    ensures { (length result ≡ production_limit) × ((T : Table) (terminals : ℕ) (sets : List ℕ) → Grammar T grammar.entry.words.now grammar.entry.productions terminals sets → ReducedAs T grammar.entry.productions state.now result grammar.entry.productions) }
+fn reductions(grammar: Grammar, state: &[u64; Item::LIMIT]) -> [u64; ProductionIndex::LIMIT]
+    ensures { (length result ≡ production_limit) × ((T : Table) (terminals : ℕ) (sets : List ℕ) → OfTable T grammar.entry.words.now grammar.entry.productions terminals sets → ReducedAs T grammar.entry.productions state.now result grammar.entry.productions) }
 {
     let mut map = [0u64; ProductionIndex::LIMIT];
     for production in 0..grammar.productions {
@@ -52,12 +45,7 @@ pub fn reductions(
 }
 
 // The terminal at the cursor of one item, if it has a token, put into the set.
-fn shift_one(
-    grammar: Grammar,
-    place: usize,
-    tokens: u64,
-    set: TokenSet,
-) -> TokenSet
+fn shift_one(grammar: Grammar, place: usize, tokens: u64, set: TokenSet) -> TokenSet
     requires { place < index_limit * grammar.productions }
     ensures { (t : ℕ) → has result.0 t ≡ has set.0 t || (nat_lt t 63 && shifts_at grammar.entry.words.now tokens place t) }
 {
@@ -79,9 +67,9 @@ fn shift_one(
 }
 
 // The terminals that the state shifts.
-pub fn shift_set(grammar: Grammar, state: &[u64; Item::LIMIT]) -> TokenSet
+fn shift_set(grammar: Grammar, state: &[u64; Item::LIMIT]) -> TokenSet
     requires flat { Flat state.now }
-    ensures { (T : Table) (terminals : ℕ) (sets : List ℕ) → Grammar T grammar.entry.words.now grammar.entry.productions terminals sets → Shifted T (take (index_limit * grammar.entry.productions) state.now) result.0 }
+    ensures { (T : Table) (terminals : ℕ) (sets : List ℕ) → OfTable T grammar.entry.words.now grammar.entry.productions terminals sets → Shifted T (take (index_limit * grammar.entry.productions) state.now) result.0 }
 {
     let places = ProductionIndex::INDEXES * grammar.productions;
     let mut set = TokenSet::new();
@@ -91,65 +79,75 @@ pub fn shift_set(grammar: Grammar, state: &[u64; Item::LIMIT]) -> TokenSet
     set
 }
 
-// The tokens that both productions reduce with.
-pub fn common(reduced: &[u64; ProductionIndex::LIMIT], production: usize, other: usize) -> TokenSet
-    requires { (production < production_limit) × (other < production_limit) }
-    ensures { result.0 ≡ meet (slice_index reduced.now production) (slice_index reduced.now other) }
-{
-    TokenSet(reduced[production]).intersection(TokenSet(reduced[other]))
+// What a state does by token: the tokens that each production's complete item reduces with, the terminals that are shifted.
+#[derive(Clone, Copy)]
+pub struct Actions {
+    pub reductions: [u64; ProductionIndex::LIMIT],
+    pub shifts: TokenSet,
+    pub productions: usize,
+    pub ghost few: { productions ≤ production_limit },
 }
 
-// The tokens of a production that are shifted too.
-pub fn shifts_of(
-    reduced: &[u64; ProductionIndex::LIMIT],
-    shifted: TokenSet,
-    production: usize,
-) -> TokenSet
-    requires { production < production_limit }
-    ensures { result.0 ≡ meet (slice_index reduced.now production) shifted.0 }
-{
-    TokenSet(reduced[production]).intersection(shifted)
-}
-
-// How many conflicts a production has with the higher ones.
-fn count_pairs(
-    reduced: &[u64; ProductionIndex::LIMIT],
-    productions: usize,
-    production: usize,
-) -> usize
-    requires { (productions ≤ production_limit) × (production < productions) }
-    ensures { (result ≡ length (pairs_in reduced.now production (up_from (production + 1) (productions - (production + 1))))) × (result ≤ 8192) }
-{
-    let mut many = 0;
-    for other in production + 1..productions {
-        many += common(reduced, production, other).len();
+impl Actions {
+    // Of a state that stands flat.
+    pub fn new(grammar: Grammar, state: &[u64; Item::LIMIT]) -> Actions
+        requires flat { Flat state.now }
+        ensures productions { result.productions ≡ grammar.entry.productions }
+        ensures reductions { (T : Table) (terminals : ℕ) (sets : List ℕ) → OfTable T grammar.entry.words.now grammar.entry.productions terminals sets → ReducedAs T grammar.entry.productions state.now result.reductions grammar.entry.productions }
+        ensures shifts { (T : Table) (terminals : ℕ) (sets : List ℕ) → OfTable T grammar.entry.words.now grammar.entry.productions terminals sets → Shifted T (take (index_limit * grammar.entry.productions) state.now) result.shifts.0 }
+    {
+        Actions {
+            reductions: reductions(grammar, state),
+            shifts: shift_set(grammar, state),
+            productions: grammar.productions,
+        }
     }
-    many
-}
 
-// How many there are.
-fn count_reduced(
-    reduced: &[u64; ProductionIndex::LIMIT],
-    shifted: TokenSet,
-    productions: usize,
-) -> usize
-    requires { productions ≤ production_limit }
-    ensures { (result ≡ length (joined (clashes_in reduced.now shifted.0 productions) (below productions))) × (result ≤ 1056768) }
-{
-    let mut many = 0;
-    for production in 0..productions {
-        let shifts = shifts_of(reduced, shifted, production).len();
-        many += shifts + count_pairs(reduced, productions, production);
+    // The tokens that both productions reduce with.
+    pub fn common(&self, production: usize, other: usize) -> TokenSet
+        requires { (production < self.now.productions) × (other < self.now.productions) }
+        ensures { result.0 ≡ meet (slice_index self.now.reductions production) (slice_index self.now.reductions other) }
+    {
+        TokenSet(self.reductions[production]).intersection(TokenSet(self.reductions[other]))
     }
-    many
+
+    // The tokens of a production that are shifted too.
+    pub fn shifts_of(&self, production: usize) -> TokenSet
+        requires { production < self.now.productions }
+        ensures { result.0 ≡ meet (slice_index self.now.reductions production) self.now.shifts.0 }
+    {
+        TokenSet(self.reductions[production]).intersection(self.shifts)
+    }
+
+    // How many conflicts a production has with the higher ones.
+    fn count_pairs(&self, production: usize) -> usize
+        requires { production < self.now.productions }
+        ensures { (result ≡ length (pairs_in self.now.reductions production (up_from (production + 1) (self.now.productions - (production + 1))))) × (result ≤ 8192) }
+    {
+        let mut many = 0;
+        for other in production + 1..self.productions {
+            many += self.common(production, other).len();
+        }
+        many
+    }
+
+    // How many there are.
+    fn count(&self) -> usize
+        ensures { (result ≡ length (joined (clashes_in self.now.reductions self.now.shifts.0 self.now.productions) (below self.now.productions))) × (result ≤ 1056768) }
+    {
+        let mut many = 0;
+        for production in 0..self.productions {
+            let shifts = self.shifts_of(production).len();
+            many += shifts + self.count_pairs(production);
+        }
+        many
+    }
 }
 
 // The conflicts of the state.
 pub fn count_state(grammar: Grammar, state: &[u64; Item::LIMIT]) -> usize
     requires flat { Flat state.now }
-    ensures { (result ≤ 1056768) × ((T : Table) (terminals : ℕ) (sets : List ℕ) → Grammar T grammar.entry.words.now grammar.entry.productions terminals sets → result ≡ length (clashes T (take (index_limit * grammar.entry.productions) state.now))) }
+    ensures { (result ≤ 1056768) × ((T : Table) (terminals : ℕ) (sets : List ℕ) → OfTable T grammar.entry.words.now grammar.entry.productions terminals sets → result ≡ length (clashes T (take (index_limit * grammar.entry.productions) state.now))) }
 {
-    let reduced = reductions(grammar, state);
-    let shifted = shift_set(grammar, state);
-    count_reduced(&reduced, shifted, grammar.productions)
+    Actions::new(grammar, state).count()
 }

@@ -10,39 +10,27 @@ ghost use Rattle.measuring.specs.Complete.{Collection};
 ghost use Rattle.conflict_list.specs.Listed.{state_words};
 
 use conflict_words::write_state;
-use kept_states::{Begins, unpack};
+use kept_states::unpack;
+use measuring::FoundStates;
 
 // Those of state k from a place on; the place behind them.
-fn write_at(
-    grammar: &[u16],
-    productions: usize,
-    words: &[u16],
-    begins: &Begins,
-    k: usize,
-    list: &mut [u16],
-    at: usize,
-) -> usize
-    requires k_in_bounds { (s : Collection grammar.now productions words.now begins.now.items begins.now.states) × (at + length (state_words s.T s.Rs k) ≤ length list.old) }
-    requires k_lt_states { k < begins.now.states }
-    ensures { (s : Collection grammar.now productions words.now begins.now.items begins.now.states) → (list.new ≡ put_at at (state_words s.T s.Rs k) list.old) × (result ≡ at + length (state_words s.T s.Rs k)) }
+fn write_at(found: FoundStates, k: usize, list: &mut [u16], at: usize) -> usize
+    requires k_in_bounds { (s : Collection found) × (at + length (state_words s.T s.Rs k) ≤ length list.old) }
+    requires k_lt_states { k < found.begins.now.states }
+    ensures { (s : Collection found.entry) → (list.new ≡ put_at at (state_words s.T s.Rs k) list.old) × (result ≡ at + length (state_words s.T s.Rs k)) }
 {
-    let state = unpack(words, begins.items[k], begins.items[k + 1]);
-    write_state(Grammar { words: grammar, productions }, &state, k, list, at)
+    let begins = found.begins;
+    let state = unpack(found.words, begins.items[k], begins.items[k + 1]);
+    write_state(found.source.grammar, &state, k, list, at)
 }
 
 // All, at the front of the list.
-pub fn write_conflicts(
-    grammar: &[u16],
-    productions: usize,
-    words: &[u16],
-    begins: &Begins,
-    list: &mut [u16],
-)
-    requires { (s : Collection grammar.now productions words.now begins.now.items begins.now.states) × (length (conflict_words s.T s.Rs) ≤ length list.old) }
-    ensures { (s : Collection grammar.now productions words.now begins.now.items begins.now.states) → length (conflict_words s.T s.Rs) ≤ length list.old → list.new ≡ in_front (conflict_words s.T s.Rs) list.old }
+pub fn write_conflicts(found: FoundStates, list: &mut [u16])
+    requires { (s : Collection found) × (length (conflict_words s.T s.Rs) ≤ length list.old) }
+    ensures { (s : Collection found.entry) → length (conflict_words s.T s.Rs) ≤ length list.old → list.new ≡ in_front (conflict_words s.T s.Rs) list.old }
 {
     let mut place = 0;
-    for k in 0..begins.states {
-        place = write_at(Grammar { words: grammar, productions }, words, begins, k, list, place);
+    for k in 0..found.begins.states {
+        place = write_at(found, k, list, place);
     }
 }

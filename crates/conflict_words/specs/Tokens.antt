@@ -1,10 +1,19 @@
--- The words of a conflict by its numbers. Assumes nothing: these are definitions.
-use Rattle.std.specs.Prelude.{ℕ, true, false, List, [], ◌∷◌, ◌==◌}
+-- The words of a conflict from its pair and its token. Assumes nothing: these are definitions.
+use Rattle.std.specs.Prelude.{ℕ, List, [], ◌∷◌}
+use Rattle.conflict_words.specs.declared.Action.{Action}
+use Rattle.conflict_words.specs.declared.Action.TheVariants.{Shift, Reduce}
+use Rattle.conflict_words.specs.declared.Pair.{Pair}
+
+-- document 01's number of an action
+abbrev pub kind_of : Action → ℕ
+kind_of Shift = 0
+kind_of (Reduce q) = 1
 
 -- a shift is of the token itself
-unfoldable pub other_of : ℕ → ℕ → ℕ → ℕ
-other_of action other token = elim (action == 0) [ true ↦ token | false ↦ other ]
+abbrev pub other_of : Action → ℕ → ℕ
+other_of Shift token = token
+other_of (Reduce q) token = q
 
 -- those of `clash_words` of specs/Built of build
-unfoldable pub token_words : ℕ → ℕ → ℕ → ℕ → ℕ → List ℕ
-token_words state production action other token = state ∷ production ∷ action ∷ other_of action other token ∷ token ∷ []
+unfoldable pub token_words : Pair → ℕ → List ℕ
+token_words pair token = pair.state ∷ pair.production ∷ kind_of pair.action ∷ other_of pair.action token ∷ token ∷ []

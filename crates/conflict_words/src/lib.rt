@@ -10,46 +10,53 @@ ghost use Rattle.lookahead.specs.Tokens.{members};
 ghost use Rattle.example.specs.Written.{put_at};
 ghost use Rattle.build.specs.States.{clashes};
 ghost use Rattle.build.specs.Built.{clash_words};
-ghost use Rattle.closing.specs.Grammar.{Grammar};
+ghost use Rattle.closing.specs.Grammar.{OfTable};
 ghost use Rattle.closing.specs.Fed.{Flat};
 ghost use Rattle.conflict_counts.specs.Clashed.{pairs_in, clashes_in};
-ghost use Rattle.conflict_words.specs.Tokens.{other_of, token_words};
+ghost use Rattle.conflict_words.specs.Tokens.{token_words};
 
-use conflict_counts::{common, reductions, shift_set, shifts_of};
+use conflict_counts::Actions;
 use lookahead::TokenSet;
 use lr1_core::Item;
-use repr::{Grammar, ProductionIndex};
+use repr::Grammar;
 
-// A conflict without its token: action 0 shifts it, 1 reduces by production `other`.
+// What is done with a token besides reducing: it is shifted, or another production is reduced.
+#[derive(Clone, Copy)]
+pub enum Action {
+    Shift,
+    Reduce(u16),
+}
+
+// A conflict without its token.
 #[derive(Clone, Copy)]
 pub struct Pair {
     pub state: u16,
     pub production: u16,
-    pub action: u16,
-    pub other: u16,
+    pub action: Action,
 }
 
-fn other_of(pair: Pair, token: u16) -> u16
-    ensures { result ≡ other_of pair.action pair.other token }
+// Its words: a shift is of the token itself.
+fn words_of(pair: Pair, token: u16) -> [u16; 5]
+    ensures { result ≡ token_words pair token }
 {
-    if pair.action == 0 { token } else { pair.other }
+    match pair.action {
+        Action::Shift => [pair.state, pair.production, 0, token, token],
+        Action::Reduce(other) => [pair.state, pair.production, 1, other, token],
+    }
 }
 
+// Here and below the list and a place are lent, and the place behind what was written comes back: a struct of both would say the same of fields behind a `&mut`.
 fn write_one(list: &mut [u16], at: usize, pair: Pair, token: u16)
     requires { at + 5 ≤ length list.old }
-    ensures { list.new ≡ put_at at (token_words pair.state pair.production pair.action pair.other token) list.old }
+    ensures { list.new ≡ put_at at (token_words pair token) list.old }
 {
-    list[at] = pair.state;
-    list[at + 1] = pair.production;
-    list[at + 2] = pair.action;
-    list[at + 3] = other_of(pair, token);
-    list[at + 4] = token;
+    list[at..at + 5].copy_from_slice(&words_of(pair, token));
 }
 
 // One for each token of the set; the place behind them.
 fn write_tokens(list: &mut [u16], at: usize, pair: Pair, set: TokenSet) -> usize
-    requires { at + length (joined (token_words pair.state pair.production pair.action pair.other) (members set.0)) ≤ length list.old }
-    ensures { (list.new ≡ put_at at (joined (token_words pair.state pair.production pair.action pair.other) (members set.0)) list.old) × (result ≡ at + length (joined (token_words pair.state pair.production pair.action pair.other) (members set.0))) }
+    requires { at + length (joined (token_words pair) (members set.0)) ≤ length list.old }
+    ensures { (list.new ≡ put_at at (joined (token_words pair) (members set.0)) list.old) × (result ≡ at + length (joined (token_words pair) (members set.0))) }
 {
     let mut place = at;
     for token in set.iter() {
@@ -63,24 +70,22 @@ fn write_tokens(list: &mut [u16], at: usize, pair: Pair, set: TokenSet) -> usize
 fn write_pairs(
     list: &mut [u16],
     at: usize,
-    reduced: &[u64; ProductionIndex::LIMIT],
-    productions: usize,
+    actions: &Actions,
     state: usize,
     production: usize,
 ) -> usize
-    requires productions_le_production_limit { (productions ≤ production_limit) × (production < productions) × (state < state_limit) }
-    requires production_in_bounds { at + length (joined (clash_words state) (pairs_in reduced.now production (up_from (production + 1) (productions - (production + 1))))) ≤ length list.old }
-    ensures { (list.new ≡ put_at at (joined (clash_words state) (pairs_in reduced.now production (up_from (production + 1) (productions - (production + 1))))) list.old) × (result ≡ at + length (joined (clash_words state) (pairs_in reduced.now production (up_from (production + 1) (productions - (production + 1)))))) }
+    requires production_lt_productions { (production < actions.now.productions) × (state < state_limit) }
+    requires production_in_bounds { at + length (joined (clash_words state) (pairs_in actions.now.reductions production (up_from (production + 1) (actions.now.productions - (production + 1))))) ≤ length list.old }
+    ensures { (list.new ≡ put_at at (joined (clash_words state) (pairs_in actions.now.reductions production (up_from (production + 1) (actions.now.productions - (production + 1))))) list.old) × (result ≡ at + length (joined (clash_words state) (pairs_in actions.now.reductions production (up_from (production + 1) (actions.now.productions - (production + 1)))))) }
 {
     let mut place = at;
-    for other in production + 1..productions {
+    for other in production + 1..actions.productions {
         let pair = Pair {
             state: state as u16,
             production: production as u16,
-            action: 1,
-            other: other as u16,
+            action: Action::Reduce(other as u16),
         };
-        place = write_tokens(list, place, pair, common(reduced, production, other));
+        place = write_tokens(list, place, pair, actions.common(production, other));
     }
     place
 }
@@ -89,68 +94,48 @@ fn write_pairs(
 fn write_production(
     list: &mut [u16],
     at: usize,
-    reduced: &[u64; ProductionIndex::LIMIT],
-    shifted: TokenSet,
-    productions: usize,
+    actions: &Actions,
     state: usize,
     production: usize,
 ) -> usize
-    requires productions_le_production_limit { (productions ≤ production_limit) × (production < productions) × (state < state_limit) }
-    requires production_in_bounds { at + length (joined (clash_words state) (clashes_in reduced.now shifted.0 productions production)) ≤ length list.old }
-    ensures { (list.new ≡ put_at at (joined (clash_words state) (clashes_in reduced.now shifted.0 productions production)) list.old) × (result ≡ at + length (joined (clash_words state) (clashes_in reduced.now shifted.0 productions production))) }
+    requires production_lt_productions { (production < actions.now.productions) × (state < state_limit) }
+    requires production_in_bounds { at + length (joined (clash_words state) (clashes_in actions.now.reductions actions.now.shifts.0 actions.now.productions production)) ≤ length list.old }
+    ensures { (list.new ≡ put_at at (joined (clash_words state) (clashes_in actions.now.reductions actions.now.shifts.0 actions.now.productions production)) list.old) × (result ≡ at + length (joined (clash_words state) (clashes_in actions.now.reductions actions.now.shifts.0 actions.now.productions production))) }
 {
     let pair = Pair {
         state: state as u16,
         production: production as u16,
-        action: 0,
-        other: 0,
+        action: Action::Shift,
     };
-    let place = write_tokens(list, at, pair, shifts_of(reduced, shifted, production));
-    write_pairs(list, place, reduced, productions, state, production)
+    let place = write_tokens(list, at, pair, actions.shifts_of(production));
+    write_pairs(list, place, actions, state, production)
 }
 
 // All of the state's productions.
-fn write_reduced(
-    list: &mut [u16],
-    at: usize,
-    reduced: &[u64; ProductionIndex::LIMIT],
-    shifted: TokenSet,
-    productions: usize,
-    state: usize,
-) -> usize
-    requires productions_le_production_limit { (productions ≤ production_limit) × (state < state_limit) }
-    requires productions_in_bounds { at + length (joined (clash_words state) (joined (clashes_in reduced.now shifted.0 productions) (below productions))) ≤ length list.old }
-    ensures { (list.new ≡ put_at at (joined (clash_words state) (joined (clashes_in reduced.now shifted.0 productions) (below productions))) list.old) × (result ≡ at + length (joined (clash_words state) (joined (clashes_in reduced.now shifted.0 productions) (below productions)))) }
+fn write_actions(list: &mut [u16], at: usize, actions: &Actions, state: usize) -> usize
+    requires state_lt_state_limit { state < state_limit }
+    requires productions_in_bounds { at + length (joined (clash_words state) (joined (clashes_in actions.now.reductions actions.now.shifts.0 actions.now.productions) (below actions.now.productions))) ≤ length list.old }
+    ensures { (list.new ≡ put_at at (joined (clash_words state) (joined (clashes_in actions.now.reductions actions.now.shifts.0 actions.now.productions) (below actions.now.productions))) list.old) × (result ≡ at + length (joined (clash_words state) (joined (clashes_in actions.now.reductions actions.now.shifts.0 actions.now.productions) (below actions.now.productions)))) }
 {
     let mut place = at;
-    for production in 0..productions {
-        place = write_production(
-            list,
-            place,
-            reduced,
-            shifted,
-            productions,
-            state,
-            production,
-        );
+    for production in 0..actions.productions {
+        place = write_production(list, place, actions, state, production);
     }
     place
 }
 
 // The conflicts of state `number`, which stands flat.
 pub fn write_state(
-    grammar: &[u16],
-    productions: usize,
+    grammar: Grammar,
     state: &[u64; Item::LIMIT],
     number: usize,
     list: &mut [u16],
     at: usize,
 ) -> usize
     requires flat { Flat state.now × (number < state_limit) }
-    requires by_index { (T : Table) × (terminals : ℕ) × (sets : List ℕ) × Grammar T grammar.now productions terminals sets × (at + length (joined (clash_words number) (clashes T (take (index_limit * productions) state.now))) ≤ length list.old) }
-    ensures { (T : Table) (terminals : ℕ) (sets : List ℕ) → Grammar T grammar.now productions terminals sets → (list.new ≡ put_at at (joined (clash_words number) (clashes T (take (index_limit * productions) state.now))) list.old) × (result ≡ at + length (joined (clash_words number) (clashes T (take (index_limit * productions) state.now)))) }
+    requires by_index { (T : Table) × (terminals : ℕ) × (sets : List ℕ) × OfTable T grammar.words.now grammar.productions terminals sets × (at + length (joined (clash_words number) (clashes T (take (index_limit * grammar.productions) state.now))) ≤ length list.old) }
+    ensures { (T : Table) (terminals : ℕ) (sets : List ℕ) → OfTable T grammar.entry.words.now grammar.entry.productions terminals sets → (list.new ≡ put_at at (joined (clash_words number) (clashes T (take (index_limit * grammar.entry.productions) state.now))) list.old) × (result ≡ at + length (joined (clash_words number) (clashes T (take (index_limit * grammar.entry.productions) state.now)))) }
 {
-    let reduced = reductions(Grammar { words: grammar, productions }, state);
-    let shifted = shift_set(Grammar { words: grammar, productions }, state);
-    write_reduced(list, at, &reduced, shifted, productions, number)
+    let actions = Actions::new(grammar, state);
+    write_actions(list, at, &actions, number)
 }

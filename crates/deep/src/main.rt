@@ -9,10 +9,9 @@
 ghost use Rattle.std.specs.Prelude.{◌≡◌, ◌+◌, ◌*◌, ◌≤◌, ◌<◌, length};
 
 use lr1::{backtrace_reduce, backtrace_shift};
-use repr::ProductionIndex;
+use repr::{ProductionIndex, Refusal};
 use state_graph::StateIndex;
 use trace_graph::TraceGraph;
-use tracer::Backtrace;
 
 // The words of a record.
 #[derive(Clone, Copy)]
@@ -99,10 +98,10 @@ fn put_states(table: &mut [u16])
     put(table, 452, Row(0, 1, 1, 127));
 }
 
-fn say<R: Print>(rt: &R, answer: Backtrace) {
+fn say<R: Print>(rt: &R, answer: Result<u16, Refusal>) {
     let (first, second) = match answer {
-        Backtrace::Edges(count) => (0, count),
-        Backtrace::Refused(refusal, place) => (refusal, place),
+        Ok(count) => (0, count),
+        Err(refusal) => (refusal.number(), refusal.place()),
     };
     let _ = println!(rt; "{first} {second}");
 }

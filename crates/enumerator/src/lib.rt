@@ -2,7 +2,10 @@
 
 #![tactic(auto)]
 
+ghost use Rattle.std.specs.Prelude.{◌≡◌};
+
 use lookahead::TokenSet;
+use lr1_core::Item;
 use repr::ProductionIndex;
 
 pub mod machine;
@@ -15,6 +18,18 @@ pub struct Listing {
     pub lookahead: Option<TokenSet>,
     pub count: u32,
     pub is_open: bool,
+}
+
+impl Listing {
+    // Its start item.
+    pub fn start(self) -> Item
+        ensures { (result.production ≡ self.production.0) × (result.index ≡ self.index) }
+    {
+        Item {
+            production: self.production.0 as usize,
+            index: self.index as usize,
+        }
+    }
 }
 
 // What a call of `advance` that is not refused answers: an example is in its buffer and its number is the listing's count; or the end.

@@ -24,7 +24,7 @@ use Rattle.finding.specs.Steps.{Reach, nowhere, stops, reach, add_to, goto_to}
 use Rattle.finding.specs.Search.{KernelIn, Stored, Search, refusal_of, Keeps, Reached, symbol_of_code, CodeFits}
 use Rattle.finding.specs.declared.Halt.{Halt}
 use Rattle.finding.specs.declared.Halt.TheVariants.{States, Records}
-use Rattle.finding.specs.declared.Sizes.{Sizes}
+use Rattle.finding.specs.declared.Source.{Source}
 use Rattle.finding.proofs.Steps.{to_old, to_full, to_new, goto-none, goto-some}
 use Rattle.finding.proofs.Laws.{entry_places}
 
@@ -83,7 +83,7 @@ last-begin T start ws bs Rs n H q =
     let p : n - 1 + 1 ≡ n = omega (arith, z) in
     rw p at (H.begun.ends (n - 1) (omega (arith, z))))
 
-module _ (g : List ℕ) (sizes : Sizes) (sets ws bs : List ℕ) (n : ℕ) (s : Search g sizes sets ws bs n) (C : List ℕ) (new : place C s.Rs ≡ length s.Rs) where
+module _ (source : Source) (ws bs : List ℕ) (n : ℕ) (s : Search source ws bs n) (C : List ℕ) (new : place C s.Rs ≡ length s.Rs) where
   high : length s.Rs ≤ place C s.Rs
   high = omega arith
 
@@ -94,30 +94,30 @@ module _ (g : List ℕ) (sizes : Sizes) (sets ws bs : List ℕ) (n : ℕ) (s : S
       comes_stops s.T s.start s.Rs (add_to s.T s.room C s.Rs) ws' bs' m' States
       (to_full s.T s.room C s.Rs high (ap (stops_at s.T s.room (s.Rs ++ C ∷ [])) k ∙ stops_128 s.T s.room (s.Rs ++ C ∷ [])) ∙ ap (λ (i : ℕ). stops (number_of i)) k)
 
-  module _ (few : n ≡ 128 → ⊥) (S ws' bs' : List ℕ) (m' : ℕ) (is : take (index_limit * sizes.productions) S ≡ C) where
+  module _ (few : n ≡ 128 → ⊥) (S ws' bs' : List ℕ) (m' : ℕ) (is : take (index_limit * source.grammar.productions) S ≡ C) where
     other : length s.Rs ≡ 128 → ⊥
     other q = few (s.many ∙ q)
 
-    test : stops_at s.T s.room (s.Rs ++ C ∷ []) (length s.Rs) ≡ ltb sizes.limit (sizes.fixed + n + 1 + (get_or bs n 0 + length (packed (take (index_limit * sizes.productions) S))))
-    test = rw (is, s.many, s.limit_is) (stops-more_is s.T s.start s.room ws bs s.Rs s.holds C sizes.fixed s.fixed_is other)
+    test : stops_at s.T s.room (s.Rs ++ C ∷ []) (length s.Rs) ≡ ltb source.sizes.limit (source.sizes.fixed + n + 1 + (get_or bs n 0 + length (packed (take (index_limit * source.grammar.productions) S))))
+    test = rw (is, s.many, s.limit_is) (stops-more_is s.T s.start s.room ws bs s.Rs s.holds C source.sizes.fixed s.fixed_is other)
 
-    pub store_none : (h : Halt) → h ≡ Records → Stored (sizes.fixed + n + 1) sizes.limit (packed (take (index_limit * sizes.productions) S)) ws ws' bs bs' n false → Reached s.T s.start s.Rs (add_to s.T s.room C s.Rs) ws' bs' m' (Err h)
+    pub store_none : (h : Halt) → h ≡ Records → Stored (source.sizes.fixed + n + 1) source.sizes.limit (packed (take (index_limit * source.grammar.productions) S)) ws ws' bs bs' n false → Reached s.T s.start s.Rs (add_to s.T s.room C s.Rs) ws' bs' m' (Err h)
     store_none h q k =
         rw q (comes_stops s.T s.start s.Rs (add_to s.T s.room C s.Rs) ws' bs' m' Records
-        (to_full s.T s.room C s.Rs high (test ∙ lt-ltb sizes.limit (sizes.fixed + n + 1 + (get_or bs n 0 + length (packed (take (index_limit * sizes.productions) S)))) (k.none refl)) ∙ ap stops (number_of_lem (length s.Rs) other)))
+        (to_full s.T s.room C s.Rs high (test ∙ lt-ltb source.sizes.limit (source.sizes.fixed + n + 1 + (get_or bs n 0 + length (packed (take (index_limit * source.grammar.productions) S)))) (k.none refl)) ∙ ap stops (number_of_lem (length s.Rs) other)))
 
-    pub store_some : Stored (sizes.fixed + n + 1) sizes.limit (packed (take (index_limit * sizes.productions) S)) ws ws' bs bs' n true → m' ≡ n + 1 → Made s.T s.start C
+    pub store_some : Stored (source.sizes.fixed + n + 1) source.sizes.limit (packed (take (index_limit * source.grammar.productions) S)) ws ws' bs bs' n true → m' ≡ n + 1 → Made s.T s.start C
         → Reached s.T s.start s.Rs (add_to s.T s.room C s.Rs) ws' bs' m' (Ok (Some n))
     store_some k w' m =
-        let past : ℕ = get_or bs n 0 + length (packed (take (index_limit * sizes.productions) S)) in
-        let small : get_or bs n 0 + length (packed (take (index_limit * sizes.productions) S)) ≤ record_limit = omega (arith, k.room refl, s.limit_is) in
+        let past : ℕ = get_or bs n 0 + length (packed (take (index_limit * source.grammar.productions) S)) in
+        let small : get_or bs n 0 + length (packed (take (index_limit * source.grammar.productions) S)) ≤ record_limit = omega (arith, k.room refl, s.limit_is) in
         let few' : length s.Rs < state_limit = omega (arith, other, s.holds.begun.few) in
-        let at : get_or bs n 0 + length (packed (take (index_limit * sizes.productions) S)) ≡ get_or bs (length s.Rs) 0 + length (packed C) = rw (is, s.many) refl in
-        let more = holds_more s.T s.start ws bs s.Rs s.holds C m (get_or bs n 0 + length (packed (take (index_limit * sizes.productions) S))) few' at small in
+        let at : get_or bs n 0 + length (packed (take (index_limit * source.grammar.productions) S)) ≡ get_or bs (length s.Rs) 0 + length (packed C) = rw (is, s.many) refl in
+        let more = holds_more s.T s.start ws bs s.Rs s.holds C m (get_or bs n 0 + length (packed (take (index_limit * source.grammar.productions) S))) few' at small in
         let w : ws' ≡ put_all ws (get_or bs (length s.Rs) 0) (packed C) = k.words refl ∙ rw (is, s.many) refl in
-        let b : bs' ≡ set bs (length s.Rs + 1) (get_or bs n 0 + length (packed (take (index_limit * sizes.productions) S))) = k.begins refl ∙ ap (λ (i : ℕ). set bs (i + 1) (get_or bs n 0 + length (packed (take (index_limit * sizes.productions) S)))) s.many in
+        let b : bs' ≡ set bs (length s.Rs + 1) (get_or bs n 0 + length (packed (take (index_limit * source.grammar.productions) S))) = k.begins refl ∙ ap (λ (i : ℕ). set bs (i + 1) (get_or bs n 0 + length (packed (take (index_limit * source.grammar.productions) S)))) s.many in
         comes_to s.T s.start s.Rs (add_to s.T s.room C s.Rs) ws' bs' n m' (s.Rs ++ C ∷ [])
-        (to_new s.T s.room C s.Rs high (test ∙ le-ltb sizes.limit (sizes.fixed + n + 1 + (get_or bs n 0 + length (packed (take (index_limit * sizes.productions) S)))) (k.room refl)) ∙ ap (λ (i : ℕ). reach i (s.Rs ++ C ∷ [])) (new ∙ sym s.many))
+        (to_new s.T s.room C s.Rs high (test ∙ le-ltb source.sizes.limit (source.sizes.fixed + n + 1 + (get_or bs n 0 + length (packed (take (index_limit * source.grammar.productions) S)))) (k.room refl)) ∙ ap (λ (i : ℕ). reach i (s.Rs ++ C ∷ [])) (new ∙ sym s.many))
         (rw (length_snoc C s.Rs) (omega (arith, s.many, w')))
         (omega (arith, w'))
         (rw (w, b) more)
@@ -193,14 +193,14 @@ goto_is T X S = refl
 
 -- `goto_over`
 
-module _ (g : List ℕ) (sizes : Sizes) (sets ws bs : List ℕ) (n : ℕ) (s : Search g sizes sets ws bs n) (k : ℕ) (h : k < n) where
+module _ (source : Source) (ws bs : List ℕ) (n : ℕ) (s : Search source ws bs n) (k : ℕ) (h : k < n) where
   inside : k < length s.Rs
   inside = rw s.many at h
 
   size : length (get_or s.Rs k []) ≡ places s.T
   size = (made_sized s.T s.grammar.fits s.start s.started (s.holds.made k inside)).long
 
-  many_places : index_limit * sizes.productions ≡ places s.T
+  many_places : index_limit * source.grammar.productions ≡ places s.T
   many_places = ap (λ (i : ℕ). index_limit * i) s.grammar.many
 
   state_is : entries ws (get_or bs k 0) (get_or bs (k + 1) 0 - get_or bs k 0) ≡ packed (get_or s.Rs k [])
@@ -217,10 +217,10 @@ module _ (g : List ℕ) (sizes : Sizes) (sets ws bs : List ℕ) (n : ℕ) (s : S
       let c = length-entries ws (get_or bs k 0) (get_or bs (k + 1) 0 - get_or bs k 0) in
       omega (arith, size, many_places, s.grammar.packed.few)
 
-  pub over-places : (m : ℕ) → get_or bs k 0 ≤ m → m < get_or bs (k + 1) 0 → (entry_at ws m).place < index_limit * sizes.productions
+  pub over-places : (m : ℕ) → get_or bs k 0 ≤ m → m < get_or bs (k + 1) 0 → (entry_at ws m).place < index_limit * source.grammar.productions
   over-places m u v = let w = entry_places ws (get_or s.Rs k []) (get_or bs k 0) (get_or bs (k + 1) 0 - get_or bs k 0) state_is m u (omega arith) in omega (arith, size, many_places)
 
-  module _ (c : ℕ) (F : CodeFits sizes.nonterminals sizes.terminals c) (ks : List ℕ) (many : ℕ) (is : entries ks 0 many ≡ moved_over g c (entries ws (get_or bs k 0) (get_or bs (k + 1) 0 - get_or bs k 0))) where
+  module _ (c : ℕ) (F : CodeFits source.sizes.nonterminals source.sets.now.terminals c) (ks : List ℕ) (many : ℕ) (is : entries ks 0 many ≡ moved_over source.grammar.words.now c (entries ws (get_or bs k 0) (get_or bs (k + 1) 0 - get_or bs k 0))) where
     abbrev X : Symbol
     X = symbol_of_code c
 
@@ -229,8 +229,8 @@ module _ (g : List ℕ) (sizes : Sizes) (sets ws bs : List ℕ) (n : ℕ) (s : S
 
     over_is : entries ks 0 many ≡ packed M
     over_is =
-        is ∙ ap (moved_over g c) state_is ∙ ap (λ (i : ℕ). moved_over g i (packed (get_or s.Rs k []))) (sym (code_of c))
-        ∙ packed-moved s.T g sizes.productions sizes.terminals sets s.grammar (symbol_of_code c) (code_fits s.T sizes.nonterminals sizes.terminals c s.nonterminals_are s.grammar.tokens F) (get_or s.Rs k []) size
+        is ∙ ap (moved_over source.grammar.words.now c) state_is ∙ ap (λ (i : ℕ). moved_over source.grammar.words.now i (packed (get_or s.Rs k []))) (sym (code_of c))
+        ∙ packed-moved s.T source.grammar.words.now source.grammar.productions source.sets.now.terminals source.sets.now.map s.grammar (symbol_of_code c) (code_fits s.T source.sizes.nonterminals source.sets.now.terminals c s.nonterminals_are s.grammar.tokens F) (get_or s.Rs k []) size
 
     over_many : length (packed M) ≡ many
     over_many = sym (ap length over_is) ∙ length-entries ks 0 many
@@ -243,7 +243,7 @@ module _ (g : List ℕ) (sizes : Sizes) (sets ws bs : List ℕ) (n : ℕ) (s : S
         comes_nowhere s.T s.start s.Rs (goto_to s.T s.room (get_or s.Rs k []) s.Rs (symbol_of_code c)) ws bs n
         (goto-none s.T s.room (get_or s.Rs k []) s.Rs (symbol_of_code c) (cases (nothing? M) (λ t. t) (λ t. absurd (omega (arith, packed_something M t, over_many))))) s.many s.holds
 
-    pub over_kernel : KernelIn ks many sizes.productions
+    pub over_kernel : KernelIn ks many source.grammar.productions
     over_kernel = record {
       kernel = M;
       long = length_moved s.T (symbol_of_code c) (get_or s.Rs k []) ∙ sym many_places;
@@ -267,7 +267,7 @@ module _ (g : List ℕ) (sizes : Sizes) (sets ws bs : List ℕ) (n : ℕ) (s : S
 
       -- with what `store` leaves
       pub over_new : t ≡ n → (ws' bs' : List ℕ) (m' : ℕ) (r : Result (Option ℕ) Halt)
-          → ((M : List ℕ) → length M ≡ index_limit * sizes.productions → entries ks 0 many ≡ packed M → Made s.T s.start (closure s.T M) → place (closure s.T M) s.Rs ≡ length s.Rs
+          → ((M : List ℕ) → length M ≡ index_limit * source.grammar.productions → entries ks 0 many ≡ packed M → Made s.T s.start (closure s.T M) → place (closure s.T M) s.Rs ≡ length s.Rs
           → Reached s.T s.start s.Rs (add_to s.T s.room (closure s.T M) s.Rs) ws' bs' m' r)
           → Reached s.T s.start s.Rs (goto_to s.T s.room (get_or s.Rs k []) s.Rs (symbol_of_code c)) ws' bs' m' r
       over_new u ws' bs' m' r stored =

@@ -10,7 +10,7 @@ use Rattle.lookahead.proofs.Growing.{get_d_none}
 use Rattle.build.specs.States.{places, closure}
 use Rattle.build.proofs.Rounds.{Sized}
 use Rattle.build.proofs.Closure.{closure_sized}
-use Rattle.closing.specs.Grammar.{Grammar}
+use Rattle.closing.specs.Grammar.{OfTable}
 use Rattle.closing.specs.Fed.{Flat}
 use Rattle.stored.specs.Stored.{Entry, no_entry, entry_at, entries, held, packed}
 use Rattle.stored.proofs.Packed.{held_none, held-some}
@@ -109,7 +109,7 @@ module _ (ks : List ℕ) (many P : ℕ) (few : P ≤ 128) where
       sym (take_at M (replicate (item_limit - length M) 0) (index_limit * P) long) ∙ ap (take (index_limit * P)) c
       ∙ take_at k.kernel (replicate (item_limit - length k.kernel) 0) (index_limit * P) k.long
 
-  pub closed_is : (k : KernelIn ks many P) (K R : List ℕ) → K ≡ unpacked (entries ks 0 (many - 0)) → (T : Table) (g : List ℕ) (e : ℕ) (sets : List ℕ) → Grammar T g P e sets
+  pub closed_is : (k : KernelIn ks many P) (K R : List ℕ) → K ≡ unpacked (entries ks 0 (many - 0)) → (T : Table) (g : List ℕ) (e : ℕ) (sets : List ℕ) → OfTable T g P e sets
       → R ≡ closure T (take (index_limit * P) K) ++ drop (index_limit * P) K → (M : List ℕ) → length M ≡ index_limit * P → entries ks 0 many ≡ packed M → take (index_limit * P) R ≡ closure T M
   closed_is k K R ek T g e sets G er M long is =
       let q = flat_is M K long is ek in

@@ -2,7 +2,7 @@
 use Rattle.std.specs.Prelude.{◌≡◌, ℕ, ◌+◌, ◌-◌, ◌*◌, ◌^◌, ◌<◌, ◌≤◌, min, Bool, true, false, Option, Some, None, Result, Ok, Err, List, [], length, nat_lt, slice_index, slice_index_or, slice_set}
 use Rattle.repr.specs.Sizes.{index_limit, record_limit}
 use Rattle.repr.specs.Meaning.{Symbol, nonterminal, terminal, Production, Table}
-use Rattle.closing.specs.Grammar.{Grammar}
+use Rattle.closing.specs.Grammar.{OfTable}
 use Rattle.build.specs.Outcome.{sum}
 use Rattle.stored.specs.Stored.{Entry, entries, packed}
 use Rattle.kept_states.specs.Kept.{put_all}
@@ -10,7 +10,7 @@ use Rattle.kept_states.specs.Made.{Holds}
 use Rattle.finding.specs.Steps.{Reach, nowhere, stops, reach}
 use Rattle.finding.specs.declared.Halt.{Halt}
 use Rattle.finding.specs.declared.Halt.TheVariants.{States, Records}
-use Rattle.finding.specs.declared.Sizes.{Sizes}
+use Rattle.finding.specs.declared.Source.{Source}
 
 -- the number of the refusal for what a search lacks
 abbrev pub refusal_of : Halt → ℕ
@@ -32,17 +32,17 @@ pub record Stored (fixed limit : ℕ) (es : List Entry) (ws ws' bs bs' : List �
   pub begins : r ≡ true → bs' ≡ slice_set bs (n + 1) (slice_index bs n + length es)
 
 -- the words and numbers that a step gets: those of some search, Rs found so far
-pub record Search (g : List ℕ) (sizes : Sizes) (sets ws bs : List ℕ) (n : ℕ) : Type 0 where
+pub record Search (source : Source) (ws bs : List ℕ) (n : ℕ) : Type 0 where
   pub T : Table
   pub start : ℕ
   pub room : ℕ
   pub Rs : List (List ℕ)
-  pub grammar : Grammar T g sizes.productions sizes.terminals sets
+  pub grammar : OfTable T source.grammar.words.now source.grammar.productions source.sets.now.terminals source.sets.now.map
   pub started : start < length T.productions
-  pub nonterminals_are : sizes.nonterminals ≡ length T.nonterminals
-  pub fixed_is : sizes.fixed ≡ 1 + length T.nonterminals + length T.productions + sum (λ (p : Production). length p.symbols) T.productions
-  pub fixed_small : sizes.fixed ≤ 65536
-  pub limit_is : sizes.limit ≡ min room record_limit
+  pub nonterminals_are : source.sizes.nonterminals ≡ length T.nonterminals
+  pub fixed_is : source.sizes.fixed ≡ 1 + length T.nonterminals + length T.productions + sum (λ (p : Production). length p.symbols) T.productions
+  pub fixed_small : source.sizes.fixed ≤ 65536
+  pub limit_is : source.sizes.limit ≡ min room record_limit
   pub holds : Holds T start ws bs Rs
   pub many : n ≡ length Rs
 

@@ -5,7 +5,8 @@
 ghost use Rattle.std.specs.Prelude.{◌≡◌, ℕ, suc, ◌+◌, ◌-◌, ◌*◌, ◌^◌, ◌<◌, ◌≤◌, true, false, List, [], MatchResult, length, take, slice_index, slice_index_or};
 ghost use Rattle.repr.specs.Sizes.{index_limit, item_limit, record_limit, state_limit};
 ghost use Rattle.repr.specs.Meaning.{Table};
-ghost use Rattle.closing.specs.Grammar.{Grammar, Held};
+ghost use Rattle.repr.specs.Reply.{number_of, place_of};
+ghost use Rattle.closing.specs.Grammar.{OfTable, Held};
 ghost use Rattle.build.specs.States.{closure, place};
 ghost use Rattle.stored.specs.Stored.{entries, packed};
 ghost use Rattle.kept_states.specs.Made.{Made};
@@ -13,17 +14,16 @@ ghost use Rattle.finding.specs.Steps.{add_to, goto_to};
 ghost use Rattle.finding.specs.Search.{KernelIn, Stored, Search, refusal_of, CodeFits, symbol_of_code, Reached};
 
 use closing::transitive_closure;
+use first::FirstSets;
 use kept_states::{Begins, count_items, find, pack, unpack};
 use lr1_core::Item;
-use repr::ProductionIndex;
+use repr::{Grammar, ProductionIndex, Refusal};
 use stored::{Kernel, move_over};
 
 // What is known of the table while its states are found: records without states, items and edges, and how many there may be.
 #[derive(Clone, Copy)]
 pub struct Sizes {
     pub nonterminals: usize,
-    pub terminals: u16,
-    pub productions: usize,
     pub fixed: usize,
     pub limit: usize,
 }
@@ -31,8 +31,8 @@ pub struct Sizes {
 // What a search is given: the grammar, its FIRST sets, the numbers.
 #[derive(Clone, Copy)]
 pub struct Source<'a> {
-    pub grammar: &'a [u16],
-    pub first: &'a [u64; 32],
+    pub grammar: Grammar<'a>,
+    pub sets: &'a FirstSets,
     pub sizes: Sizes,
 }
 
@@ -43,14 +43,13 @@ pub enum Halt {
     Records,
 }
 
-impl Halt {
-    // The number of its refusal.
-    pub fn refusal(self) -> u16
-        ensures { result ≡ refusal_of self }
-    {
-        match self {
-            Halt::States => 16,
-            Halt::Records => 17,
+impl From<Halt> for Refusal {
+    ghost from_gives = { λ h r. (number_of r ≡ refusal_of h) × (place_of r ≡ 0) };
+
+    fn from(halt: Halt) -> Refusal {
+        match halt {
+            Halt::States => Refusal::TooManyStates,
+            Halt::Records => Refusal::NoRoom,
         }
     }
 }
@@ -58,15 +57,16 @@ impl Halt {
 // One state more, stored behind the others if it has room.
 pub fn append(
     state: &[u64; Item::LIMIT],
-    sizes: Sizes,
+    source: Source,
     words: &mut [u16],
     begins: &mut Begins,
 ) -> Result<(), Halt>
-    requires state_len { (length state.now ≡ item_limit) × (sizes.productions ≤ 128) × (sizes.fixed ≤ 65536) × (sizes.limit ≤ record_limit) }
-    requires record_limit_in_bounds { (record_limit * 5 ≤ length words.old) × (length begins.old.items ≡ suc state_limit) × (begins.old.states < state_limit) × (slice_index begins.old.items begins.old.states ≤ record_limit) }
-    ensures { let stored = Stored (sizes.fixed + begins.old.states + 1) sizes.limit (packed (take (index_limit * sizes.productions) state.now)) words.old words.new begins.old.items begins.new.items begins.old.states in MatchResult result (λ u. stored true × (begins.new.states ≡ begins.old.states + 1)) (λ h. (h ≡ Halt.Records) × stored false) }
+    requires state_len { (length state.now ≡ item_limit) × (source.sizes.fixed ≤ 65536) × (source.sizes.limit ≤ record_limit) }
+    requires record_limit_in_bounds { (record_limit * 5 ≤ length words.old) × (begins.old.states < state_limit) × (slice_index begins.old.items begins.old.states ≤ record_limit) }
+    ensures { let stored = Stored (source.entry.sizes.fixed + begins.old.states + 1) source.entry.sizes.limit (packed (take (index_limit * source.entry.grammar.productions) state.now)) words.old words.new begins.old.items begins.new.items begins.old.states in MatchResult result (λ u. stored true × (begins.new.states ≡ begins.old.states + 1)) (λ h. (h ≡ Halt.Records) × stored false) }
 {
-    let places = ProductionIndex::INDEXES * sizes.productions;
+    let sizes = source.sizes;
+    let places = ProductionIndex::INDEXES * source.grammar.productions;
     let states = begins.states;
     let begin = begins.items[states];
     let past = begin + count_items(state, places);
@@ -80,19 +80,12 @@ pub fn append(
 
 // A kernel closed.
 pub fn close(source: Source, kernel: &Kernel) -> [u64; Item::LIMIT]
-    requires held { Held source.grammar.now source.sizes.productions source.sizes.terminals source.first.now }
-    requires many_le_record_limit { (kernel.now.many ≤ record_limit) × (kernel.now.many * 5 ≤ length kernel.now.words) × KernelIn kernel.now.words kernel.now.many source.sizes.productions }
-    ensures { (length result ≡ item_limit) × ((T : Table) (M : List ℕ) → Grammar T source.entry.grammar.now source.entry.sizes.productions source.entry.sizes.terminals source.entry.first.now → length M ≡ index_limit * source.entry.sizes.productions → entries kernel.now.words 0 kernel.now.many ≡ packed M → take (index_limit * source.entry.sizes.productions) result ≡ closure T M) }
+    requires held { Held source.grammar.words.now source.grammar.productions source.sets.now.terminals source.sets.now.map }
+    requires kernel { KernelIn kernel.now.words kernel.now.many source.grammar.productions }
+    ensures { (length result ≡ item_limit) × ((T : Table) (M : List ℕ) → OfTable T source.entry.grammar.words.now source.entry.grammar.productions source.entry.sets.now.terminals source.entry.sets.now.map → length M ≡ index_limit * source.entry.grammar.productions → entries kernel.now.words 0 kernel.now.many ≡ packed M → take (index_limit * source.entry.grammar.productions) result ≡ closure T M) }
 {
-    let sizes = source.sizes;
     let mut state = unpack(&kernel.words, 0, kernel.many);
-    transitive_closure(
-        source.grammar,
-        sizes.productions,
-        sizes.terminals,
-        source.first,
-        &mut state,
-    );
+    transitive_closure(source.grammar, source.sets, &mut state);
     state
 }
 
@@ -103,16 +96,16 @@ fn store(
     begins: &mut Begins,
     kernel: &Kernel,
 ) -> Result<Option<usize>, Halt>
-    requires search { Search source.grammar.now source.sizes source.first.now words.old begins.old.items begins.old.states }
-    requires many_le_record_limit { (kernel.now.many ≤ record_limit) × (kernel.now.many * 5 ≤ length kernel.now.words) × KernelIn kernel.now.words kernel.now.many source.sizes.productions }
-    ensures { (s : Search source.entry.grammar.now source.entry.sizes source.entry.first.now words.old begins.old.items begins.old.states) (M : List ℕ) → length M ≡ index_limit * source.entry.sizes.productions → entries kernel.now.words 0 kernel.now.many ≡ packed M → Made s.T s.start (closure s.T M) → place (closure s.T M) s.Rs ≡ length s.Rs → Reached s.T s.start s.Rs (add_to s.T s.room (closure s.T M) s.Rs) words.new begins.new.items begins.new.states result }
+    requires search { Search source words.old begins.old.items begins.old.states }
+    requires kernel { KernelIn kernel.now.words kernel.now.many source.grammar.productions }
+    ensures { (s : Search source.entry words.old begins.old.items begins.old.states) (M : List ℕ) → length M ≡ index_limit * source.entry.grammar.productions → entries kernel.now.words 0 kernel.now.many ≡ packed M → Made s.T s.start (closure s.T M) → place (closure s.T M) s.Rs ≡ length s.Rs → Reached s.T s.start s.Rs (add_to s.T s.room (closure s.T M) s.Rs) words.new begins.new.items begins.new.states result }
 {
     let number = begins.states;
     if number == 128 {
         return Err(Halt::States);
     }
     let state = close(source, kernel);
-    append(&state, source.sizes, words, begins)?;
+    append(&state, source, words, begins)?;
     Ok(Some(number))
 }
 
@@ -125,22 +118,13 @@ pub fn goto_over(
     symbol: usize,
     kernel: &mut Kernel,
 ) -> Result<Option<usize>, Halt>
-    requires search { Search source.grammar.now source.sizes source.first.now words.old begins.old.items begins.old.states }
-    requires k_lt_states { (k < begins.old.states) × CodeFits source.sizes.nonterminals source.sizes.terminals symbol × (item_limit * 5 ≤ length kernel.old.words) }
-    ensures { (length kernel.new.words ≡ length kernel.old.words) × ((s : Search source.entry.grammar.now source.entry.sizes source.entry.first.now words.old begins.old.items begins.old.states) → Reached s.T s.start s.Rs (goto_to s.T s.room (slice_index_or s.Rs k []) s.Rs (symbol_of_code symbol)) words.new begins.new.items begins.new.states result) }
+    requires search { Search source words.old begins.old.items begins.old.states }
+    requires k_lt_states { (k < begins.old.states) × CodeFits source.sizes.nonterminals source.sets.now.terminals symbol }
+    ensures { (s : Search source.entry words.old begins.old.items begins.old.states) → Reached s.T s.start s.Rs (goto_to s.T s.room (slice_index_or s.Rs k []) s.Rs (symbol_of_code symbol)) words.new begins.new.items begins.new.states result }
 {
     let begin = begins.items[k];
     let past = begins.items[k + 1];
-    let productions = source.sizes.productions;
-    move_over(
-        source.grammar,
-        productions,
-        words,
-        begin,
-        past,
-        symbol,
-        kernel,
-    );
+    move_over(source.grammar, words, begin, past, symbol, kernel);
     if kernel.many == 0 {
         return Ok(None);
     }

@@ -11,7 +11,7 @@ ghost use Rattle.spelling.specs.Spelled.{chain_from, symbol_quad, quads, size_of
 ghost use Rattle.spelling.specs.Grown.{Grown, Room, Stands};
 ghost use Rattle.grammar_records.specs.Target.{Target, PackedAs, owned_from};
 
-use repr::{Grammar, ProductionIndex, symbols};
+use repr::{Grammar, ProductionIndex};
 use spelling::{head_of, next_of};
 use table::{Counts, put};
 
@@ -21,7 +21,7 @@ pub fn count_symbols(grammar: Grammar) -> usize
 {
     let mut many = 0;
     for p in 0..grammar.productions {
-        many += repr::word(grammar.words, p * ProductionIndex::WORDS + 1);
+        many += grammar.length(p);
     }
     many
 }
@@ -31,7 +31,7 @@ pub fn next_owned(grammar: Grammar, owner: usize, from: usize) -> Option<usize>
     ensures { let p = owned_from (productions_in grammar.entry.words.now grammar.entry.productions) owner from in MatchOption result (p ≡ grammar.entry.productions) (λ q. (q < grammar.entry.productions) × (p ≡ q)) }
 {
     for p in from..grammar.productions {
-        if repr::word(grammar.words, p * ProductionIndex::WORDS) == owner {
+        if grammar.owner(p) == owner {
             return Some(p);
         }
     }
@@ -50,12 +50,12 @@ fn next_record(grammar: Grammar, owner: usize, from: usize, at: usize) -> usize
 }
 
 // Record 0 and the nonterminals.
-pub fn write_front(grammar: &[u16], counts: Counts, out: &mut [u16])
-    requires { (U : Table) × (Target U counts.nonterminals counts.terminals counts.states out.old × PackedAs U grammar.now counts.productions) }
-    ensures { (U : Table) → Target U counts.nonterminals counts.terminals counts.states out.old → PackedAs U grammar.now counts.productions → Grown U out.old out.new 0 (states_at U) }
+pub fn write_front(grammar: Grammar, counts: Counts, out: &mut [u16])
+    requires { (U : Table) × (Target U counts.nonterminals counts.terminals counts.states out.old × PackedAs U grammar.words.now grammar.productions) }
+    ensures { (U : Table) → Target U counts.nonterminals counts.terminals counts.states out.old → PackedAs U grammar.entry.words.now grammar.entry.productions → Grown U out.old out.new 0 (states_at U) }
 {
     let nonterminals = counts.nonterminals;
-    let productions = counts.productions;
+    let productions = grammar.productions;
     let at = 1 + nonterminals + counts.states;
     put(
         out,
@@ -66,26 +66,26 @@ pub fn write_front(grammar: &[u16], counts: Counts, out: &mut [u16])
         productions,
     );
     for n in 0..nonterminals {
-        let head = next_record(Grammar { words: grammar, productions }, n, 0, at);
+        let head = next_record(grammar, n, 0, at);
         put(out, 1 + n, head, 0, 0, 0);
     }
 }
 
 // The productions.
-pub fn write_productions(grammar: &[u16], counts: Counts, out: &mut [u16])
-    requires { (U : Table) × (Target U counts.nonterminals counts.terminals counts.states out.old × PackedAs U grammar.now counts.productions) }
-    ensures { (U : Table) → Target U counts.nonterminals counts.terminals counts.states out.old → PackedAs U grammar.now counts.productions → Grown U out.old out.new (productions_at U) (symbols_at U) }
+pub fn write_productions(grammar: Grammar, counts: Counts, out: &mut [u16])
+    requires { (U : Table) × (Target U counts.nonterminals counts.terminals counts.states out.old × PackedAs U grammar.words.now grammar.productions) }
+    ensures { (U : Table) → Target U counts.nonterminals counts.terminals counts.states out.old → PackedAs U grammar.entry.words.now grammar.entry.productions → Grown U out.old out.new (productions_at U) (symbols_at U) }
 {
-    let productions = counts.productions;
+    let productions = grammar.productions;
     let at = 1 + counts.nonterminals + counts.states;
     let mut y = at + productions;
     for p in 0..productions {
         let place = p * ProductionIndex::WORDS;
-        let owner = repr::word(grammar, place);
-        let many = repr::word(grammar, place + 1);
-        let start = repr::word(grammar, place + 2);
-        let end = repr::word(grammar, place + 3);
-        let next = next_record(Grammar { words: grammar, productions }, owner, p + 1, at);
+        let owner = grammar.owner(p);
+        let many = grammar.length(p);
+        let start = repr::word(grammar.words, place + 2);
+        let end = repr::word(grammar.words, place + 3);
+        let next = next_record(grammar, owner, p + 1, at);
         let head = head_of(many, y);
         put(out, at + p, next, head, start, end);
         y += many;
@@ -109,12 +109,12 @@ fn write_chain(symbols: &[u16], begin: usize, out: &mut [u16]) -> usize
 }
 
 // The symbols of all productions, from a record on.
-pub fn write_symbols(grammar: &[u16], productions: usize, begin: usize, out: &mut [u16])
-    requires { (U : Table) × (PackedAs U grammar.now productions × ((begin ≡ symbols_at U) × Room U out.old)) }
-    ensures { (U : Table) → PackedAs U grammar.now productions → begin ≡ symbols_at U → Room U out.old → Grown U out.old out.new (symbols_at U) (items_place U) }
+pub fn write_symbols(grammar: Grammar, begin: usize, out: &mut [u16])
+    requires { (U : Table) × (PackedAs U grammar.words.now grammar.productions × ((begin ≡ symbols_at U) × Room U out.old)) }
+    ensures { (U : Table) → PackedAs U grammar.entry.words.now grammar.entry.productions → begin ≡ symbols_at U → Room U out.old → Grown U out.old out.new (symbols_at U) (items_place U) }
 {
     let mut at = begin;
-    for p in 0..productions {
-        at = write_chain(symbols(grammar, p, productions), at, out);
+    for p in 0..grammar.productions {
+        at = write_chain(grammar.symbols(p), at, out);
     }
 }

@@ -2,8 +2,8 @@
 
 #![tactic(auto)]
 
-ghost use Rattle.std.specs.Prelude.{◌≡◌, ℕ, ◌+◌, ◌-◌, ◌*◌, ◌^◌, ◌<◌, ◌≤◌, List, MatchOption, length, take};
-ghost use Rattle.repr.specs.Sizes.{item_limit, record_limit};
+ghost use Rattle.std.specs.Prelude.{◌≡◌, ℕ, suc, ◌+◌, ◌-◌, ◌*◌, ◌^◌, ◌<◌, ◌≤◌, List, MatchOption, length, take};
+ghost use Rattle.repr.specs.Sizes.{item_limit, record_limit, state_limit};
 ghost use Rattle.stored.specs.Stored.{entry_at, entries, put_entry, packed};
 ghost use Rattle.kept_states.specs.Kept.{unpacked, put_all, states_in, Begun, kernel_place};
 
@@ -15,6 +15,7 @@ use stored::{Kernel, StoredItem, read_item, same_kernel, write_item};
 pub struct Begins {
     pub items: [usize; 129],
     pub states: usize,
+    pub ghost long: { length items ≡ suc state_limit },
 }
 
 // The items number `from` up to `past`, flat: item [production, index] at 17 * production + index.
@@ -56,8 +57,7 @@ pub fn count_items(state: &[u64; Item::LIMIT], places: usize) -> usize
 
 // The first state that has this kernel.
 pub fn find(words: &[u16], begins: &Begins, kernel: &Kernel) -> Option<usize>
-    requires begun { Begun words.now begins.now.items begins.now.states }
-    requires many_le_record_limit { (kernel.now.many ≤ record_limit) × (kernel.now.many * 5 ≤ length kernel.now.words) }
+    requires { Begun words.now begins.now.items begins.now.states }
     ensures { let k = kernel_place (entries kernel.now.words 0 kernel.now.many) (states_in words.now begins.now.items begins.now.states) in MatchOption result (k ≡ begins.now.states) (λ n. (n < begins.now.states) × (k ≡ n)) }
 {
     for k in 0..begins.states {

@@ -33,20 +33,20 @@ module _ (c d : Reply Listing) (e : c ≡ d) where
 
 -- ahead: what `lookahead_of` answers, ahead': what its contract says it is
 module _ (p : ProductionIndex) (i n : ℕ) (o : Bool) (t g scratch₀ buffer₀ : List ℕ) (ahead ahead' : Lookahead) (ea : ahead ≡ ahead') (a : Reply Advanced) (next : Listing) (scratch buffer : List ℕ) (e : outcome a next scratch buffer ≡ advance_of (record { production = p; index = i; lookahead = ahead; count = n; is_open = o }) t g scratch₀ buffer₀) where
-  answered : (b : Reply Advanced) → a ≡ b → advanced_numbers (outcome b next scratch buffer) ≡ advanced_numbers (advance_of (record { production = p; index = i; lookahead = ahead'; count = n; is_open = o }) t g scratch₀ buffer₀)
-  answered b h = ap (λ (b : Reply Advanced). advanced_numbers (outcome b next scratch buffer)) (sym h) ∙ ap advanced_numbers (e ∙ ap (λ (x : Lookahead). advance_of (record { production = p; index = i; lookahead = x; count = n; is_open = o }) t g scratch₀ buffer₀) ea)
+  told : (b : Reply Advanced) → a ≡ b → advanced_numbers (outcome b next scratch buffer) ≡ advanced_numbers (advance_of (record { production = p; index = i; lookahead = ahead'; count = n; is_open = o }) t g scratch₀ buffer₀)
+  told b h = ap (λ (b : Reply Advanced). advanced_numbers (outcome b next scratch buffer)) (sym h) ∙ ap advanced_numbers (e ∙ ap (λ (x : Lookahead). advance_of (record { production = p; index = i; lookahead = x; count = n; is_open = o }) t g scratch₀ buffer₀) ea)
 
-  pub advance_example : a ≡ (answered Example) → advance_numbers 0 0 next.count next.is_open scratch buffer ≡ advanced_numbers (advance_of (record { production = p; index = i; lookahead = ahead'; count = n; is_open = o }) t g scratch₀ buffer₀)
+  pub advance_example : a ≡ answered Example → advance_numbers 0 0 next.count next.is_open scratch buffer ≡ advanced_numbers (advance_of (record { production = p; index = i; lookahead = ahead'; count = n; is_open = o }) t g scratch₀ buffer₀)
   unfolding advanced_numbers
-  advance_example h = answered (answered Example) h
+  advance_example h = told (answered Example) h
 
-  pub advance_end : a ≡ (answered End) → advance_numbers 16 0 next.count next.is_open scratch buffer ≡ advanced_numbers (advance_of (record { production = p; index = i; lookahead = ahead'; count = n; is_open = o }) t g scratch₀ buffer₀)
+  pub advance_end : a ≡ answered End → advance_numbers 16 0 next.count next.is_open scratch buffer ≡ advanced_numbers (advance_of (record { production = p; index = i; lookahead = ahead'; count = n; is_open = o }) t g scratch₀ buffer₀)
   unfolding advanced_numbers
-  advance_end h = answered (answered End) h
+  advance_end h = told (answered End) h
 
   pub advance_refused : (m r : ℕ) → a ≡ refused m r → advance_numbers m r next.count next.is_open scratch buffer ≡ advanced_numbers (advance_of (record { production = p; index = i; lookahead = ahead'; count = n; is_open = o }) t g scratch₀ buffer₀)
   unfolding advanced_numbers
-  advance_refused m r h = answered (refused m r) h
+  advance_refused m r h = told (refused m r) h
 
 module _ (old : ℕ) (t : List ℕ) (i : Item) (calls g scratch₀ output₀ : List ℕ) (ahead ahead' : Lookahead) (ea : ahead ≡ ahead') (c : Reply ℕ) (scratch output : List ℕ) (e : listed c scratch output ≡ list_of t i ahead calls g scratch₀ output₀) where
   run : (b : Reply ℕ) → c ≡ b → listed_numbers old (listed b scratch output) ≡ listed_numbers old (list_of t i ahead' calls g scratch₀ output₀)

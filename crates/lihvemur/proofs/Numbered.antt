@@ -2,12 +2,11 @@
 use Rattle.std.proofs.Common.{◌≡◌, ℕ, Bool, List, sym, ap, ◌∙◌}
 use Rattle.std.specs.Prelude.{Result, Ok, Err}
 use Rattle.repr.specs.declared.refusals.Refusal.{Refusal}
-use Rattle.repr.specs.Reply.{Reply, answered, refused, number_of, place_of}
+use Rattle.repr.specs.Reply.{Reply, answered, refused, reply_of, number_of, place_of}
 use Rattle.spelling.specs.Outcome.{Outcome as Spelling}
 use Rattle.compaction.specs.Outcome.{Outcome as Compaction}
 use Rattle.builder.specs.Outcome.{Left as Building}
 use Rattle.builder.specs.declared.Built.{Built}
-use Rattle.builder.specs.declared.Built.TheVariants.{States as Full, Refused as NotBuilt}
 use Rattle.repr.specs.declared.NonterminalString.{NonterminalString}
 use Rattle.yacc_read.specs.Outcome.{Outcome as ReadOutcome}
 use Rattle.yacc_read.specs.declared.Reading.{Reading}
@@ -22,7 +21,7 @@ use Rattle.first.specs.declared.Answer.{Answer}
 use Rattle.lr1.specs.Entries.{walk_of}
 use Rattle.lr1.specs.Edges.{EdgeOutcome, edge_outcome}
 use Rattle.tracer.specs.Outcome.{Outcome, outcome}
-use Rattle.lihvemur.specs.Exported.{numbers, check_numbers, spell_numbers, respell_numbers, compact_numbers, build_numbers, built_numbers, read_numbers, reading_numbers, write_numbers, writing_numbers, set_numbers, followed_numbers, answer_numbers, first_numbers, state_numbers, walk_numbers, add_numbers, edge_numbers, trace_numbers, backtrace_numbers}
+use Rattle.lihvemur.specs.Exported.{HandedOut, numbers, check_numbers, spell_numbers, respell_numbers, compact_numbers, build_numbers, built_numbers, read_numbers, reading_numbers, write_numbers, writing_numbers, set_numbers, followed_numbers, answer_numbers, first_numbers, state_numbers, walk_numbers, add_numbers, edge_numbers, trace_numbers, backtrace_numbers}
 use Rattle.table.specs.Checked.{Checked, Accepted, Refused}
 
 -- c: what the entry answers, d: what its contract says it is
@@ -35,30 +34,34 @@ module _ (c d : Checked) (e : c ≡ d) where
   unfolding check_numbers
   check_refused n r h = rw (sym e ∙ h)
 
-module _ (old : ℕ) (c : Reply ℕ) (words : List ℕ) (d : Spelling) (e : record { answer = c; out = words } ≡ d) where
-  pub spell-made : (count : ℕ) → c ≡ answered count → spell_numbers 0 0 count words ≡ respell_numbers old d
+-- a count handed out
+module _ {a p old n : ℕ} {words : List ℕ} where
+  pub spell_handed : (r : Result ℕ Refusal) → HandedOut r a p old n → (d : Spelling) → record { answer = reply_of r; out = words } ≡ d → spell_numbers a p n words ≡ respell_numbers old d
   unfolding respell_numbers
-  spell-made count h = rw (← e, h)
+  spell_handed (Ok k) h d e = rw (h.0, h.1, h.2, ← e)
+  spell_handed (Err x) h d e = rw (h.0, h.1, h.2, ← e)
 
-  pub spell-refused : (n r : ℕ) → c ≡ refused n r → spell_numbers n r old words ≡ respell_numbers old d
-  unfolding respell_numbers
-  spell-refused n r h = rw (← e, h)
-
-module _ (old : ℕ) (c : Reply ℕ) (words : List ℕ) (d : Compaction) (e : record { answer = c; table = words } ≡ d) where
-  pub compact-left : (count : ℕ) → c ≡ answered count → spell_numbers 0 0 count words ≡ compact_numbers old d
+  pub compact_handed : (r : Result ℕ Refusal) → HandedOut r a p old n → (d : Compaction) → record { answer = reply_of r; table = words } ≡ d → spell_numbers a p n words ≡ compact_numbers old d
   unfolding compact_numbers
-  compact-left count h = rw (← e, h)
+  compact_handed (Ok k) h d e = rw (h.0, h.1, h.2, ← e)
+  compact_handed (Err x) h d e = rw (h.0, h.1, h.2, ← e)
 
-  pub compact-refused : (n r : ℕ) → c ≡ refused n r → spell_numbers n r old words ≡ compact_numbers old d
-  unfolding compact_numbers
-  compact-refused n r h = rw (← e, h)
+  pub edge_handed : (r : Result ℕ Refusal) → HandedOut r a p old n → (d : EdgeOutcome) → edge_outcome (reply_of r) words ≡ d → add_numbers a p n words ≡ edge_numbers old d
+  unfolding edge_numbers
+  edge_handed (Ok k) h d e = rw (h.0, h.1, h.2, ← e)
+  edge_handed (Err x) h d e = rw (h.0, h.1, h.2, ← e)
 
-module _ (records count : ℕ) (c : Built) (ss os cs : List ℕ) (d : Building) (e : record { answer = c; scratch = ss; out = os; conflicts = cs } ≡ d) where
-  pub build-made : (written found : ℕ) → c ≡ Full written found → build_numbers 0 0 written found ss os cs ≡ built_numbers records count d
+  pub trace_handed : (r : Result ℕ Refusal) → HandedOut r a p old n → {scratch : List ℕ} (d : Outcome) → outcome (reply_of r) words scratch ≡ d → trace_numbers a p n words scratch ≡ backtrace_numbers old d
+  unfolding backtrace_numbers
+  trace_handed (Ok k) h d e = rw (h.0, h.1, h.2, ← e)
+  trace_handed (Err x) h d e = rw (h.0, h.1, h.2, ← e)
+
+module _ (records count : ℕ) (c : Reply Built) (ss os cs : List ℕ) (d : Building) (e : record { answer = c; scratch = ss; out = os; conflicts = cs } ≡ d) where
+  pub build-made : (b : Built) → c ≡ answered b → build_numbers 0 0 b.records b.conflicts ss os cs ≡ built_numbers records count d
   unfolding built_numbers
-  build-made written found h = rw (← e, h)
+  build-made b h = rw (← e, h)
 
-  pub build-refused : (n r : ℕ) → c ≡ NotBuilt n r → build_numbers n r records count ss os cs ≡ built_numbers records count d
+  pub build-refused : (n r : ℕ) → c ≡ refused n r → build_numbers n r records count ss os cs ≡ built_numbers records count d
   unfolding built_numbers
   build-refused n r h = rw (← e, h)
 
@@ -106,21 +109,3 @@ module _ (old : List ℕ) (c : Result StateSet Refusal) (d : Reply (List ℕ)) (
   pub walk_refused : (r : Refusal) → c ≡ Err r → state_numbers (number_of r) (place_of r) old ≡ walk_numbers old d
   unfolding walk_numbers walk_of
   walk_refused r h = rw (sym e ∙ ap walk_of h)
-
-module _ (old : ℕ) (c : Reply ℕ) (graph : List ℕ) (d : EdgeOutcome) (e : edge_outcome c graph ≡ d) where
-  pub edge_there : (count : ℕ) → c ≡ answered count → add_numbers 0 0 count graph ≡ edge_numbers old d
-  unfolding edge_numbers
-  edge_there count h = rw (sym e ∙ ap (λ (a : Reply ℕ). edge_outcome a graph) h)
-
-  pub edge_refused : (n r : ℕ) → c ≡ refused n r → add_numbers n r old graph ≡ edge_numbers old d
-  unfolding edge_numbers
-  edge_refused n r h = rw (sym e ∙ ap (λ (a : Reply ℕ). edge_outcome a graph) h)
-
-module _ (old : ℕ) (c : Reply ℕ) (graph scratch : List ℕ) (d : Outcome) (e : outcome c graph scratch ≡ d) where
-  pub trace_made : (count : ℕ) → c ≡ answered count → trace_numbers 0 0 count graph scratch ≡ backtrace_numbers old d
-  unfolding backtrace_numbers
-  trace_made count h = rw (sym e ∙ ap (λ (a : Reply ℕ). outcome a graph scratch) h)
-
-  pub trace_refused : (n r : ℕ) → c ≡ refused n r → trace_numbers n r old graph scratch ≡ backtrace_numbers old d
-  unfolding backtrace_numbers
-  trace_refused n r h = rw (sym e ∙ ap (λ (a : Reply ℕ). outcome a graph scratch) h)

@@ -1,11 +1,11 @@
 -- What the exported functions answer in numbers: 0, or the refusal, whose place stands behind `place`. A number behind another reference changes only with answer 0; lent words are those that the entry leaves.
 -- Assumes nothing: these are definitions.
-use Rattle.std.specs.Prelude.{ℕ, Bool, List}
-use Rattle.repr.specs.Reply.{answered, refused, Reply}
+use Rattle.std.specs.Prelude.{◌≡◌, ℕ, Bool, List, Result, MatchResult}
+use Rattle.repr.specs.declared.refusals.Refusal.{Refusal}
+use Rattle.repr.specs.Reply.{answered, refused, Reply, number_of, place_of}
 use Rattle.spelling.specs.Outcome.{Outcome as Spelling}
 use Rattle.compaction.specs.Outcome.{Outcome as Compaction}
 use Rattle.builder.specs.Outcome.{Left as Building}
-use Rattle.builder.specs.declared.Built.TheVariants.{States as Full, Refused as NotBuilt}
 use Rattle.yacc_read.specs.Outcome.{Outcome as ReadOutcome}
 use Rattle.yacc_read.specs.declared.Reading.TheVariants.{Read, Refused as NotRead}
 use Rattle.yacc_write.specs.Outcome.{Outcome as WriteOutcome}
@@ -24,6 +24,10 @@ unfoldable pub check_numbers : Checked → Numbers
 check_numbers Accepted = numbers 0 0
 check_numbers (Refused n r) = numbers n r
 
+-- a count handed out, or a refusal (a, p): the count is as it was
+abbrev pub HandedOut : Result ℕ Refusal → ℕ → ℕ → ℕ → ℕ → Type 0
+HandedOut r a p old n = MatchResult r (λ count. (a ≡ 0) × (p ≡ 0) × (n ≡ count)) (λ x. (a ≡ number_of x) × (p ≡ place_of x) × (n ≡ old))
+
 -- refusal, place, number of records and the words written
 pub data SpellNumbers : Type 0 where
   spell_numbers : ℕ → ℕ → ℕ → List ℕ → SpellNumbers
@@ -40,8 +44,8 @@ pub data BuildNumbers : Type 0 where
 
 unfoldable pub built_numbers : ℕ → ℕ → Building → BuildNumbers
 built_numbers records count o = elim o.answer [
-  | Full written found ↦ build_numbers 0 0 written found o.scratch o.out o.conflicts
-  | NotBuilt n r ↦ build_numbers n r records count o.scratch o.out o.conflicts
+  | answered built ↦ build_numbers 0 0 built.records built.conflicts o.scratch o.out o.conflicts
+  | refused n r ↦ build_numbers n r records count o.scratch o.out o.conflicts
 ]
 
 -- refusal, place, number of records, number of places, start nonterminal, and the words written of the table and of the places

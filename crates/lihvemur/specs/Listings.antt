@@ -4,6 +4,7 @@ use Rattle.repr.specs.Reply.{Reply, answered, refused}
 use Rattle.enumerator.specs.Advance.{Outcome, outcome}
 use Rattle.enumerator.specs.Lookahead.{Lookahead}
 use Rattle.std.specs.Prelude.{None, Some}
+use Rattle.enumerator.specs.declared.Listing.{Listing}
 use Rattle.enumerator.specs.declared.Advanced.TheVariants.{Example, End}
 use Rattle.listing.specs.CallList.{Ran, listed}
 use Rattle.lihvemur.specs.Exported.{Numbers, numbers}

@@ -18,14 +18,12 @@ ghost use Rattle.state_graph.specs.States.{states_in};
 ghost use Rattle.lr1.specs.Entries.{first0_of, first1_of, trace_back_of};
 ghost use Rattle.lr1.specs.Edges.{add_edge_of};
 ghost use Rattle.tracer.specs.Outcome.{shift_of, reduce_of};
-ghost use Rattle.lihvemur.specs.Exported.{numbers, check_numbers, spell_numbers, respell_numbers, compact_numbers, build_numbers, built_numbers, read_numbers, reading_numbers, write_numbers, writing_numbers, set_numbers, followed_numbers, answer_numbers, first_numbers, state_numbers, walk_numbers, add_numbers, edge_numbers, trace_numbers, backtrace_numbers};
+ghost use Rattle.lihvemur.specs.Exported.{HandedOut, numbers, check_numbers, spell_numbers, respell_numbers, compact_numbers, build_numbers, built_numbers, read_numbers, reading_numbers, write_numbers, writing_numbers, set_numbers, followed_numbers, answer_numbers, first_numbers, state_numbers, walk_numbers, add_numbers, edge_numbers, trace_numbers, backtrace_numbers};
 
-use builder::Built;
 use lookahead::TokenSet;
 use repr::{ProductionIndex, Refusal};
 use state_graph::StateIndex;
 use trace_graph::TraceGraphNode;
-use tracer::Backtrace;
 use yacc_read::Reading;
 use yacc_write::Writing;
 
@@ -36,6 +34,20 @@ fn refuse(refusal: Refusal, place: &mut u16) -> u16
 {
     *place = refusal.place();
     refusal.number()
+}
+
+// A count behind its reference, or a refusal in numbers.
+fn hand_out(answer: Result<u16, Refusal>, count: &mut u16, place: &mut u16) -> u16
+    ensures { HandedOut answer result place.new count.old count.new }
+{
+    match answer {
+        Ok(number) => {
+            *place = 0;
+            *count = number;
+            0
+        }
+        Err(refusal) => refuse(refusal, place),
+    }
 }
 
 pub fn lihvemur_check(table: &[u16], place: &mut u16) -> u16
@@ -53,27 +65,13 @@ pub fn lihvemur_check(table: &[u16], place: &mut u16) -> u16
 pub fn lihvemur_respell(table: &[u16], out: &mut [u16], records: &mut u16, place: &mut u16) -> u16
     ensures { spell_numbers result place.new records.new out.new ≡ respell_numbers records.old (respell_of table.now out.old) }
 {
-    match lr1::respell(table, out) {
-        Ok(count) => {
-            *place = 0;
-            *records = count;
-            0
-        }
-        Err(refusal) => refuse(refusal, place),
-    }
+    hand_out(lr1::respell(table, out), records, place)
 }
 
 pub fn lihvemur_compact(table: &mut [u16], records: &mut u16, place: &mut u16) -> u16
     ensures { spell_numbers result place.new records.new table.new ≡ compact_numbers records.old (compact_of table.old) }
 {
-    match lr1::compact(table) {
-        Ok(count) => {
-            *place = 0;
-            *records = count;
-            0
-        }
-        Err(refusal) => refuse(refusal, place),
-    }
+    hand_out(lr1::compact(table), records, place)
 }
 
 // The number of conflicts may pass 65,535, so it has 32 bits.
@@ -90,16 +88,13 @@ pub fn lihvemur_build_states(
     ensures { build_numbers result place.new records.new count.new scratch.new out.new conflicts.new ≡ built_numbers records.old count.old (build_of table.now start scratch.old out.old conflicts.old) }
 {
     match lr1::build_states(table, ProductionIndex(start), scratch, out, conflicts) {
-        Built::States(written, found) => {
+        Ok(built) => {
             *place = 0;
-            *records = written;
-            *count = found;
+            *records = built.records;
+            *count = built.conflicts;
             0
         }
-        Built::Refused(refusal, at) => {
-            *place = at;
-            refusal
-        }
+        Err(refusal) => refuse(refusal, place),
     }
 }
 
@@ -251,14 +246,8 @@ pub fn lihvemur_add_edge(
 {
     let from = TraceGraphNode::of(source_kind, source, source_index);
     let to = TraceGraphNode::of(target_kind, target, target_index);
-    match lr1::add_edge(table, from, to, ProductionIndex(production), index, graph) {
-        Ok(count) => {
-            *place = 0;
-            *edges = count;
-            0
-        }
-        Err(refusal) => refuse(refusal, place),
-    }
+    let answer = lr1::add_edge(table, from, to, ProductionIndex(production), index, graph);
+    hand_out(answer, edges, place)
 }
 
 pub fn lihvemur_backtrace_shift(
@@ -274,17 +263,8 @@ pub fn lihvemur_backtrace_shift(
     ensures { trace_numbers result place.new edges.new graph.new scratch.new ≡ backtrace_numbers edges.old (shift_of table.now state (record { production = production; index = index }) graph.old scratch.old) }
 {
     let p = ProductionIndex(production);
-    match lr1::backtrace_shift(table, StateIndex(state), p, index, graph, scratch) {
-        Backtrace::Edges(count) => {
-            *place = 0;
-            *edges = count;
-            0
-        }
-        Backtrace::Refused(refusal, at) => {
-            *place = at;
-            refusal
-        }
-    }
+    let answer = lr1::backtrace_shift(table, StateIndex(state), p, index, graph, scratch);
+    hand_out(answer, edges, place)
 }
 
 pub fn lihvemur_backtrace_reduce(
@@ -300,15 +280,6 @@ pub fn lihvemur_backtrace_reduce(
     ensures { trace_numbers result place.new edges.new graph.new scratch.new ≡ backtrace_numbers edges.old (reduce_of table.now state (record { production = production; index = index }) graph.old scratch.old) }
 {
     let p = ProductionIndex(production);
-    match lr1::backtrace_reduce(table, StateIndex(state), p, index, graph, scratch) {
-        Backtrace::Edges(count) => {
-            *place = 0;
-            *edges = count;
-            0
-        }
-        Backtrace::Refused(refusal, at) => {
-            *place = at;
-            refusal
-        }
-    }
+    let answer = lr1::backtrace_reduce(table, StateIndex(state), p, index, graph, scratch);
+    hand_out(answer, edges, place)
 }

@@ -6,8 +6,8 @@ ghost use Rattle.listing.specs.CallList.{list_of};
 ghost use Rattle.lihvemur.specs.Exported.{numbers};
 ghost use Rattle.lihvemur.specs.Listings.{ahead_of, open_numbers, advance_numbers, advanced_numbers, list_numbers, listed_numbers};
 
-use enumerator::{Advanced, Listing, Opened};
-use listing::Listed;
+use crate::refuse;
+use enumerator::{Advanced, Listing};
 use lookahead::TokenSet;
 use repr::ProductionIndex;
 
@@ -31,14 +31,11 @@ pub fn lihvemur_lr0_examples(
     ensures { numbers result place.new ≡ open_numbers (open_of table.now (record { production = production; index = index }) None graph.now) }
 {
     match listing::lr0_examples(table, ProductionIndex(production), index, graph) {
-        Opened::Listing(_) => {
+        Ok(_) => {
             *place = 0;
             0
         }
-        Opened::Refused(refusal, at) => {
-            *place = at;
-            refusal
-        }
+        Err(refusal) => refuse(refusal, place),
     }
 }
 
@@ -54,14 +51,11 @@ pub fn lihvemur_lr1_examples(
 {
     let p = ProductionIndex(production);
     match listing::lr1_examples(table, p, index, TokenSet(lookahead), graph) {
-        Opened::Listing(_) => {
+        Ok(_) => {
             *place = 0;
             0
         }
-        Opened::Refused(refusal, at) => {
-            *place = at;
-            refusal
-        }
+        Err(refusal) => refuse(refusal, place),
     }
 }
 
@@ -81,31 +75,25 @@ pub fn lihvemur_advance(
 ) -> u16
     ensures { advance_numbers result place.new count.new is_open.new scratch.new buffer.new ≡ advanced_numbers (advance_of (record { production = record { 0 = production }; index = index; lookahead = ahead_of filtered lookahead; count = count.old; is_open = is_open.old }) table.now graph.now scratch.old buffer.old) }
 {
-    let l = Listing {
+    let mut l = Listing {
         production: ProductionIndex(production),
-        index: index,
+        index,
         lookahead: lookahead_of(filtered, lookahead),
         count: *count,
         is_open: *is_open,
     };
-    let s = listing::step(l, table, graph, scratch, buffer);
-    let next = s.next;
-    let answer = s.answer;
-    *count = next.count;
-    *is_open = next.is_open;
+    let answer = listing::advance(&mut l, table, graph, scratch, buffer);
+    *count = l.count;
+    *is_open = l.is_open;
     match answer {
-        Advanced::Example => {
+        Ok(advanced) => {
             *place = 0;
-            0
+            match advanced {
+                Advanced::Example => 0,
+                Advanced::End => 16,
+            }
         }
-        Advanced::End => {
-            *place = 0;
-            16
-        }
-        Advanced::Refused(refusal, at) => {
-            *place = at;
-            refusal
-        }
+        Err(refusal) => refuse(refusal, place),
     }
 }
 
@@ -128,14 +116,11 @@ pub fn lihvemur_examples(
     let p = ProductionIndex(production);
     let ahead = lookahead_of(filtered, lookahead);
     match listing::examples(table, p, index, ahead, calls, graph, scratch, output) {
-        Listed::Calls(count) => {
+        Ok(count) => {
             *place = 0;
             *made = count;
             0
         }
-        Listed::Refused(refusal, at) => {
-            *place = at;
-            refusal
-        }
+        Err(refusal) => refuse(refusal, place),
     }
 }

@@ -1,9 +1,10 @@
 -- What is asked before the words are: the start item, the lookahead and the graph, refusal 9, a law for each way. Assumes nothing.
 use Prim.Native.Nat.{ℕ, zero, suc, ◌^◌, ◌≤◌, ◌<◌}
 use mathlib.Core.Path.{◌≡◌, refl, sym, ap, ◌∙◌}
-use mathlib.Core.Bool.{Bool, true, false}
+use mathlib.Core.Bool.{Bool, true, false, ◌&&◌}
 use mathlib.Core.List.{List, [], ◌++◌}
 use mathlib.Core.Option.{Option, none, some}
+use Rattle.std.proofs.Math.Bool.{and_assoc}
 use lib.ListN.{length, drop, replicate}
 use lib.Dec.{ltb}
 use borrow.Author.Tests.{le-leb, lt-leb}
@@ -67,22 +68,18 @@ module _ {n e : ℕ} {ps : List Production} (p i : ℕ) (a : Option ℕ) (g : Li
   unfolding lent_graph_fits
   graph_long h = rw (le-leb graph_room (length g) h, lent_graph_fits, R.nonterminals, R.productions)
 
-  pub asked-item : (b : Bool) → b ≡ item_is_fit ps p i → b ≡ false → false ≡ whole
-  unfolding asked
-  asked-item b eb f = rw (item_is ∙ sym eb ∙ f)
-
-  module _ (b : Bool) (eb : b ≡ item_is_fit ps p i) (t : b ≡ true) (c : Bool) (ec : c ≡ ahead_by e a) where
-    pub asked-ahead : c ≡ false → false ≡ whole
+  -- by whether the item and the lookahead are in range
+  module _ (b : Bool) (eb : b ≡ (item_is_fit ps p i && ahead_by e a)) where
+    asked_is : whole ≡ (b && lent_graph_fits T g)
     unfolding asked
-    asked-ahead f = rw (item_is ∙ sym eb ∙ t, ahead_is a ∙ sym ec ∙ f)
+    asked_is = rw (item_is, ahead_is a, eb) (sym (and_assoc (item_is_fit ps p i) (ahead_by e a) (lent_graph_fits T g)))
 
-    module _ (u : c ≡ true) where
-      rest_is : whole ≡ lent_graph_fits T g
-      unfolding asked
-      rest_is = rw (item_is ∙ sym eb ∙ t, ahead_is a ∙ sym ec ∙ u)
+    pub asked-none : b ≡ false → whole ≡ false
+    asked-none f = asked_is ∙ ap (λ (x : Bool). x && lent_graph_fits T g) f
 
-      pub asked_short : length g < graph_room → true ≡ whole
-      asked_short h = sym (rest_is ∙ graph_short h)
+    module _ (t : b ≡ true) where
+      pub asked_short : length g < graph_room → whole ≡ true
+      asked_short h = asked_is ∙ ap (λ (x : Bool). x && lent_graph_fits T g) t ∙ graph_short h
 
-      pub asked_long : graph_room ≤ length g → (r : Bool) → r ≡ graph_fits n ps g → r ≡ whole
-      asked_long h r er = er ∙ sym (rest_is ∙ graph_long h)
+      pub asked_long : graph_room ≤ length g → (r : Bool) → r ≡ graph_fits n ps g → whole ≡ r
+      asked_long h r er = asked_is ∙ ap (λ (x : Bool). x && lent_graph_fits T g) t ∙ graph_long h ∙ sym er

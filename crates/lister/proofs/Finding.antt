@@ -67,14 +67,11 @@ module _ (es : List TraceEdge) (l : Listing) (ws : List ℕ) where
       lost_past : lost es l ws ≡ not holds
       lost_past = lost_open ∙ ap (λ (b : Bool). not b && not holds) (ne_eqb l.count 0 nz)
 
-      pub lost-held : (h : Bool) → h ≡ holds → h ≡ true → false ≡ lost es l ws
-      lost-held h e t = sym (lost_past ∙ ap not (sym e ∙ t))
-
-      pub lost-other : (h : Bool) → h ≡ holds → h ≡ false → true ≡ lost es l ws
-      lost-other h e f = sym (lost_past ∙ ap not (sym e ∙ f))
+      pub lost-past : (h : Bool) → h ≡ holds → not h ≡ lost es l ws
+      lost-past h e = ap not e ∙ sym lost_past
 
       held : lost es l ws ≡ false → holds ≡ true
-      held f = cases holds (λ h. h) (λ h. clash (lost es l ws) (sym (lost-other holds refl h)) f)
+      held f = cases holds (λ h. h) (λ h. clash (lost es l ws) (lost_past ∙ ap not h) f)
 
 -- the 32,000 words of a trial are its 34 and zeros
 abbrev behind : List ℕ → List ℕ
@@ -120,13 +117,16 @@ searching {ws = ws} ws' L W S e = record {
 
 -- the filter asks the FIRST sets only where a lookahead is set
 module _ {n e : ℕ} {ps : List Production} (T : Table) (R : Read T n e ps) (es : List TraceEdge) (m : List ℕ) where
-  pub hands-read : (a : Option ℕ) → m ≡ sets_for a e ps → (p : Path) → hands T es a p ≡ hands_by e m ps es a p
+  hands_over : (a : Option ℕ) → m ≡ sets_for a e ps → (p : Path) → hands T es a p ≡ hands_by e m ps es a p
   unfolding sets_for
-  hands-read none em p = hands-any T m es p ∙ (λ j. hands_by (sym R.terminals j) m (sym R.productions j) es none p)
-  hands-read (some s) em p =
+  hands_over none em p = hands-any T m es p ∙ (λ j. hands_by (sym R.terminals j) m (sym R.productions j) es none p)
+  hands_over (some s) em p =
       hands_by_lem T es (some s) p
       ∙ (λ j. hands_by (sym R.terminals j) (sets_of_first (sym R.terminals j) (sym R.productions j)) (sym R.productions j) es (some s) p)
       ∙ ap (λ (x : List ℕ). hands_by e x ps es (some s) p) (sym em)
+
+  pub hands-read : (a : Option ℕ) (k : ℕ) → (m ≡ sets_for a e ps) × (k ≡ e) → (p : Path) → hands T es a p ≡ hands_by k m ps es a p
+  hands-read a k E p = rw E.1 (hands_over a E.0 p)
 
 -- the words after the search: those of no edge are zero
 none-zeroed : (ws : List ℕ) → words_of [] ++ drop scratch_words ws ≡ zeroed scratch_words ws

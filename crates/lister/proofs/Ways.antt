@@ -19,7 +19,6 @@ use Rattle.enumerator.specs.Stacks.{Roomy, Started, Ranged}
 use Rattle.enumerator.specs.Advance.{Outcome, outcome, set_of, start_of, asked, found_outcome, rest_of, lost, advance_in, open_in}
 use Rattle.enumerator.specs.Lookahead.{Lookahead}
 use Rattle.enumerator.specs.declared.Listing.{Listing}
-use Rattle.enumerator.specs.declared.Advanced.{Advanced}
 use Rattle.enumerator.specs.declared.Advanced.TheVariants.{End}
 use Rattle.enumerator.proofs.Outcomes.{advance_short, advance_ended, advance_open}
 use Rattle.lister.specs.Context.{Read, Listable}
@@ -48,24 +47,30 @@ pub started : {ps : List Production} {g : List ℕ} {p i : ℕ} {owners codes so
 started {ps} L = record { ground = record { productions = ps; ranged = L.ranged }; fits = L.fits }
 
 -- opening
-module _ (T : Table) (p i : ℕ) (a : Lookahead) (g : List ℕ) (b : Bool) (eb : b ≡ asked T (record { production = p; index = i }) (set_of a) g) where
-  pub open_refused : b ≡ false → refused 9 0 ≡ open_in (record { production = p; index = i }) a g T
-  unfolding open_in
-  open_refused f = rw (sym eb ∙ f, open_in)
+module _ (T : Table) (p i : ℕ) (a : Lookahead) (g : List ℕ) where
+  abbrev opens : Reply Listing
+  opens = open_in (record { production = p; index = i }) a g T
 
-  module _ (t : b ≡ true) where
-    pub open_short : length g < graph_room → refused 11 0 ≡ open_in (record { production = p; index = i }) a g T
+  abbrev is_asked : Bool
+  is_asked = asked T (record { production = p; index = i }) (set_of a) g
+
+  pub open_refused : is_asked ≡ false → refused 9 0 ≡ opens
+  unfolding open_in
+  open_refused f = rw (f, open_in)
+
+  module _ (t : is_asked ≡ true) where
+    pub open_short : length g < graph_room → refused 11 0 ≡ opens
     unfolding open_in
-    open_short h = rw (sym eb ∙ t, lt-leb graph_room (length g) h, open_in)
+    open_short h = rw (t, lt-leb graph_room (length g) h, open_in)
 
     module _ (h : graph_room ≤ length g) (c : Bool) (ec : c ≡ is_node_of (at_item (record { production = p; index = i })) (edges_in g)) where
-      pub open_stray : c ≡ false → refused 15 0 ≡ open_in (record { production = p; index = i }) a g T
+      pub open_stray : c ≡ false → refused 15 0 ≡ opens
       unfolding open_in
-      open_stray f = rw (sym eb ∙ t, le-leb graph_room (length g) h, sym ec ∙ f, open_in)
+      open_stray f = rw (t, le-leb graph_room (length g) h, sym ec ∙ f, open_in)
 
-      pub open_fresh : c ≡ true → (o : Bool) → o ≡ true → answered (record { production = record { 0 = p }; index = i; lookahead = a; count = 0; is_open = o }) ≡ open_in (record { production = p; index = i }) a g T
+      pub open_fresh : c ≡ true → (o : Bool) → o ≡ true → answered (record { production = record { 0 = p }; index = i; lookahead = a; count = 0; is_open = o }) ≡ opens
       unfolding open_in
-      open_fresh u o eo = rw (sym eb ∙ t, le-leb graph_room (length g) h, sym ec ∙ u, open_in, eo)
+      open_fresh u o eo = rw (t, le-leb graph_room (length g) h, sym ec ∙ u, open_in, eo)
 
 -- a call
 enough_graph : (m s b : ℕ) → m < graph_room → enough (record { graph = m; scratch = s; buffer = b }) ≡ false
@@ -85,62 +90,45 @@ unfolding enough
 enough-all m s b h k j = rw (le-leb graph_room m h, le-leb scratch_words s k, le-leb example_room b j)
 
 module _ (g : List ℕ) (l : Listing) (scratch buffer : List ℕ) (T : Table) where
-  -- an answer that leaves the listing
-  leaves : (x : Listing) (a b : Reply Advanced) → (x ≡ l) × (a ≡ b) → outcome a x scratch buffer ≡ outcome b l scratch buffer
-  leaves x a b e = λ j. outcome (e.1 j) (e.0 j) scratch buffer
+  abbrev answer : Outcome
+  answer = advance_in g l scratch buffer T
 
-  advance_refused : asked T (start_of l) (set_of l.lookahead) g ≡ false → advance_in g l scratch buffer T ≡ outcome (refused 9 0) l scratch buffer
+  pub step-refused : asked T (start_of l) (set_of l.lookahead) g ≡ false → outcome (refused 9 0) l scratch buffer ≡ answer
   unfolding advance_in
-  advance_refused e = rw (e, advance_in)
+  step-refused e = rw (e, advance_in)
 
-  module _ (b : Bool) (eb : b ≡ asked T (record { production = l.production.0; index = l.index }) (set_of l.lookahead) g) (x : Listing) (a : Reply Advanced) where
-    pub step-refused : b ≡ false → (x ≡ l) × (a ≡ refused 9 0) → outcome a x scratch buffer ≡ advance_in g l scratch buffer T
-    unfolding start_of
-    step-refused f e = leaves x a (refused 9 0) e ∙ sym (advance_refused (sym eb ∙ f))
+  -- past 9
+  module _ (q : asked T (start_of l) (set_of l.lookahead) g ≡ true) where
+    pub step_graph : length g < graph_room → outcome (refused 11 0) l scratch buffer ≡ answer
+    step_graph h = sym (advance_short g l scratch buffer T q (enough_graph (length g) (length scratch) (length buffer) h))
 
-    module _ (t : b ≡ true) (e : (x ≡ l) × (a ≡ refused 11 0)) where
-      pub step_graph : length g < graph_room → outcome a x scratch buffer ≡ advance_in g l scratch buffer T
-      unfolding start_of
-      step_graph h = leaves x a (refused 11 0) e ∙ sym (advance_short g l scratch buffer T (sym eb ∙ t) (enough_graph (length g) (length scratch) (length buffer) h))
+    pub step_scratch : length scratch < scratch_words → outcome (refused 11 0) l scratch buffer ≡ answer
+    step_scratch h = sym (advance_short g l scratch buffer T q (enough_scratch (length g) (length scratch) (length buffer) h))
 
-      pub step_scratch : length scratch < scratch_words → outcome a x scratch buffer ≡ advance_in g l scratch buffer T
-      unfolding start_of
-      step_scratch h = leaves x a (refused 11 0) e ∙ sym (advance_short g l scratch buffer T (sym eb ∙ t) (enough_scratch (length g) (length scratch) (length buffer) h))
+    pub step_buffer : length buffer < example_room → outcome (refused 11 0) l scratch buffer ≡ answer
+    step_buffer h = sym (advance_short g l scratch buffer T q (enough_buffer (length g) (length scratch) (length buffer) h))
 
-      pub step_buffer : length buffer < example_room → outcome a x scratch buffer ≡ advance_in g l scratch buffer T
-      unfolding start_of
-      step_buffer h = leaves x a (refused 11 0) e ∙ sym (advance_short g l scratch buffer T (sym eb ∙ t) (enough_buffer (length g) (length scratch) (length buffer) h))
+    -- past 11
+    module _ (lg : graph_room ≤ length g) (ls : scratch_words ≤ length scratch) (lb : example_room ≤ length buffer) where
+      all : enough (record { graph = length g; scratch = length scratch; buffer = length buffer }) ≡ true
+      all = enough-all (length g) (length scratch) (length buffer) lg ls lb
 
-  -- past 11
-  module _ (q : asked T (start_of l) (set_of l.lookahead) g ≡ true) (lg : graph_room ≤ length g) (ls : scratch_words ≤ length scratch) (lb : example_room ≤ length buffer)
-      (k : Bool) (ek : k ≡ lost (edges_in g) l scratch) where
-    all : enough (record { graph = length g; scratch = length scratch; buffer = length buffer }) ≡ true
-    all = enough-all (length g) (length scratch) (length buffer) lg ls lb
+      pub go_lost : lost (edges_in g) l scratch ≡ true → outcome (refused 9 0) l scratch buffer ≡ answer
+      unfolding advance_in
+      go_lost e = rw (q, all, e, advance_in)
 
-    advance_lost : lost (edges_in g) l scratch ≡ true → advance_in g l scratch buffer T ≡ outcome (refused 9 0) l scratch buffer
-    unfolding advance_in
-    advance_lost e = rw (q, all, e, advance_in)
+      module _ (f : lost (edges_in g) l scratch ≡ false) where
+        pub go_stray : is_node_of (at_item (start_of l)) (edges_in g) ≡ false → outcome (refused 15 0) l scratch buffer ≡ answer
+        unfolding advance_in
+        go_stray n = rw (q, all, f, n, advance_in)
 
-    advance_stray : lost (edges_in g) l scratch ≡ false → is_node_of (at_item (start_of l)) (edges_in g) ≡ false → advance_in g l scratch buffer T ≡ outcome (refused 15 0) l scratch buffer
-    unfolding advance_in
-    advance_stray e n = rw (q, all, e, n, advance_in)
+        module _ (m : is_node_of (at_item (start_of l)) (edges_in g) ≡ true) where
+          pub go_ended : l.is_open ≡ false → outcome (answered End) l scratch buffer ≡ answer
+          go_ended o = sym (advance_ended g l scratch buffer T q all f m o)
 
-    pub go_lost : k ≡ true → (x : Listing) (a : Reply Advanced) → (x ≡ l) × (a ≡ refused 9 0) → outcome a x scratch buffer ≡ advance_in g l scratch buffer T
-    go_lost t x a e = leaves x a (refused 9 0) e ∙ sym (advance_lost (sym ek ∙ t))
-
-    module _ (f : k ≡ false) (m : Bool) (em : m ≡ is_node_of (at_item (record { production = l.production.0; index = l.index })) (edges_in g)) where
-      pub go_stray : m ≡ false → (x : Listing) (a : Reply Advanced) → (x ≡ l) × (a ≡ refused 15 0) → outcome a x scratch buffer ≡ advance_in g l scratch buffer T
-      unfolding start_of
-      go_stray n x a e = leaves x a (refused 15 0) e ∙ sym (advance_stray (sym ek ∙ f) (sym em ∙ n))
-
-      pub go_ended : m ≡ true → l.is_open ≡ false → (x : Listing) (a : Reply Advanced) → (x ≡ l) × (a ≡ (answered End)) → outcome a x scratch buffer ≡ advance_in g l scratch buffer T
-      unfolding start_of
-      go_ended y o x a e = leaves x a (answered End) e ∙ sym (advance_ended g l scratch buffer T q all (sym ek ∙ f) (sym em ∙ y) o)
-
-      pub go_found : m ≡ true → l.is_open ≡ true → (o : Outcome)
-          → o
-          ≡ found_outcome T (edges_in g) l scratch buffer
-          (search (hands T (edges_in g) (set_of l.lookahead)) (trial_limit - l.count) l.count (rest_of l.count scratch (trials (ends_of (edges_in g)) (at_item (start_of l)))))
-          → o ≡ advance_in g l scratch buffer T
-      unfolding start_of
-      go_found y u o e = e ∙ sym (advance_open g l scratch buffer T q all (sym ek ∙ f) (sym em ∙ y) u)
+          pub go_found : l.is_open ≡ true → (o : Outcome)
+              → o
+              ≡ found_outcome T (edges_in g) l scratch buffer
+              (search (hands T (edges_in g) (set_of l.lookahead)) (trial_limit - l.count) l.count (rest_of l.count scratch (trials (ends_of (edges_in g)) (at_item (start_of l)))))
+              → o ≡ answer
+          go_found u o e = e ∙ sym (advance_open g l scratch buffer T q all f m u)

@@ -1,16 +1,18 @@
-// Opening and stepping a listing by value, over an accepted table: part 6 of document 01 (`lr0_examples`, `lr1_examples` and the iteration of lr1/trace/trace_graph/mod.rs).
+// Opening and stepping a listing, over an accepted table: part 6 of document 01 (`lr0_examples`, `lr1_examples` and the iteration of lr1/trace/trace_graph/mod.rs).
 
 #![tactic(auto)]
 
-ghost use Rattle.std.specs.Prelude.{◌≡◌, true, false, List, ◌++◌, ℕ, ◌+◌, ◌-◌, ◌≤◌, ◌<◌, length, get_or, replicate};
+ghost use Rattle.std.specs.Prelude.{◌≡◌, true, false, ◌&&◌, List, ◌++◌, ℕ, ◌+◌, ◌-◌, ◌≤◌, ◌<◌, length, get_or, replicate};
 ghost use Rattle.repr.specs.Sizes.{edge_limit, graph_room, scratch_words, trial_limit, example_room};
 ghost use Rattle.slices.specs.Lent.{in_front};
+ghost use Rattle.repr.specs.Reply.{reply_of};
 ghost use Rattle.repr.specs.Meaning.{Table};
 ghost use Rattle.repr.specs.Packed.{Packed, productions_in};
 ghost use Rattle.table.specs.Decoded.{meaning};
 ghost use Rattle.table.specs.Checked.{Accepted};
 ghost use Rattle.table.specs.Refusals.{check_of};
 ghost use Rattle.trace_graph.specs.Graph.{at_item, is_same_node, is_node_of};
+ghost use Rattle.trace_graph.specs.Fits.{item_is_fit};
 ghost use Rattle.trace_graph.specs.Words.{node_at, edges_in};
 ghost use Rattle.trace_graph.specs.Index.{index_room};
 ghost use Rattle.example.specs.Example.{example_words};
@@ -24,23 +26,17 @@ ghost use Rattle.search.specs.Given.{Tried};
 ghost use Rattle.lister.specs.Context.{Read, Listable, ahead_by, sets_for, begun};
 
 use enumerator::machine::{clear, holds_trial};
-use enumerator::{Advanced, Listing, Opened};
+use enumerator::{Advanced, Listing};
 use example::Example;
 use first::FirstSets;
 use lookahead::TokenSet;
-use repr::{Grammar, NonterminalString, ProductionIndex, word};
+use lr1_core::Item;
+use repr::{Grammar, NonterminalString, ProductionIndex, Refusal, word};
 use search::{Searched, search, write_trial};
-use table::{read_counts, read_productions};
+use table::AcceptedTable;
 use trace_graph::{TraceGraph, check_graph, item_fits, read_node};
 use view::View;
-use view::making::check_view;
-
-// A listing moved on, and what the call answers.
-#[derive(Clone, Copy)]
-pub struct Stepped {
-    pub next: Listing,
-    pub answer: Advanced,
-}
+use view::making::{ViewLists, check_view};
 
 // Whether any lookahead holds tokens of the table alone.
 fn lookahead_fits(terminals: usize, lookahead: Option<TokenSet>) -> bool
@@ -53,99 +49,35 @@ fn lookahead_fits(terminals: usize, lookahead: Option<TokenSet>) -> bool
     }
 }
 
-// Refusal 9 for the start item, the lookahead, and the graph if it is long enough; its index is made in zeroed words.
-fn asked(
-    grammar: Grammar,
-    n: usize,
-    terminals: usize,
-    production: usize,
-    index: usize,
-    lookahead: Option<TokenSet>,
-    graph: &[u16],
-    ix: &mut [u16],
-) -> bool
-    requires n_bound { (n ≤ 32) × (terminals ≤ 63) }
-    requires ix_value { ix.old ≡ replicate index_room 0 }
-    ensures value { (T : Table) → Read T n terminals (productions_in grammar.entry.words.now grammar.entry.productions) → result ≡ asked T (record { production = production; index = index }) (set_of lookahead) graph.now }
-    ensures ranged { result ≡ true → graph_room ≤ length graph.now → Ranged (productions_in grammar.entry.words.now grammar.entry.productions) graph.now }
+// Whether the start item is one of the table, and any lookahead holds tokens of it alone.
+fn fits(grammar: Grammar, terminals: usize, start: Item, lookahead: Option<TokenSet>) -> bool
+    requires { terminals ≤ 63 }
+    ensures { result ≡ (item_is_fit (productions_in grammar.entry.words.now grammar.entry.productions) start.production start.index && ahead_by terminals (set_of lookahead)) }
 {
-    if item_fits(grammar, production, index) {
-        if lookahead_fits(terminals, lookahead) {
-            if graph.len() < TraceGraph::WORDS {
-                return true;
-            }
-            return check_graph(grammar, n, graph, ix);
-        }
-    }
-    false
-}
-
-// The same of a step, which makes the graph's view from the item and the labels of its edges as well, in zeroed words.
-fn asked_view(
-    grammar: Grammar,
-    n: usize,
-    terminals: usize,
-    production: usize,
-    index: usize,
-    lookahead: Option<TokenSet>,
-    graph: &[u16],
-    owners: &mut [u8],
-    codes: &mut [u16],
-    sources: &mut [u8],
-    older: &mut [u16],
-    latest: &mut [u16],
-) -> bool
-    requires n_bound { (n ≤ 32) × (terminals ≤ 63) }
-    requires owners_len { (length owners.old ≡ edge_limit) × (length codes.old ≡ edge_limit) }
-    requires sources_value { (sources.old ≡ replicate edge_limit 0) × ((older.old ≡ replicate edge_limit 0) × (latest.old ≡ replicate latest_room 0)) }
-    ensures value { (T : Table) → Read T n terminals (productions_in grammar.entry.words.now grammar.entry.productions) → result ≡ asked T (record { production = production; index = index }) (set_of lookahead) graph.now }
-    ensures listable { result ≡ true → graph_room ≤ length graph.now → Listable (productions_in grammar.entry.words.now grammar.entry.productions) graph.now production index owners.new codes.new sources.new older.new latest.new }
-{
-    if item_fits(grammar, production, index) {
-        if lookahead_fits(terminals, lookahead) {
-            if graph.len() < TraceGraph::WORDS {
-                return true;
-            }
-            let mut ix = [0u16; TraceGraph::INDEX_WORDS];
-            return check_view(
-                grammar,
-                n,
-                graph,
-                production,
-                index,
-                &mut ix,
-                owners,
-                codes,
-                sources,
-                older,
-                latest,
-            );
-        }
-    }
-    false
+    item_fits(grammar, start.production, start.index) && lookahead_fits(terminals, lookahead)
 }
 
 // Whether the node whose words begin at a place is an item.
-fn is_item(graph: &[u16], at: usize, production: usize, index: usize) -> bool
+fn is_item(graph: &[u16], at: usize, item: Item) -> bool
     requires { at + 2 < length graph.now }
-    ensures { result ≡ is_same_node (at_item (record { production = production; index = index })) (node_at graph.now at) }
+    ensures { result ≡ is_same_node (at_item (record { production = item.production; index = item.index })) (node_at graph.now at) }
 {
     let node = read_node(graph, at);
     if node.kind == 0 {
         return false;
     }
-    production == node.number && index == node.index
+    item.production == node.number && item.index == node.index
 }
 
 // Whether an item is a node of the graph: an end of one of its edges (refusal 15).
-fn is_node(graph: &[u16], production: usize, index: usize) -> bool
+fn is_node(graph: &[u16], item: Item) -> bool
     requires { Roomy graph.now }
-    ensures { result ≡ is_node_of (at_item (record { production = production; index = index })) (edges_in graph.now) }
+    ensures { result ≡ is_node_of (at_item (record { production = item.production; index = item.index })) (edges_in graph.now) }
 {
     let count = word(graph, 0);
     for k in 0..count {
         let at = k * TraceGraph::EDGE_WORDS + 1;
-        if is_item(graph, at, production, index) || is_item(graph, at + 3, production, index) {
+        if is_item(graph, at, item) || is_item(graph, at + 3, item) {
             return true;
         }
     }
@@ -154,62 +86,59 @@ fn is_node(graph: &[u16], production: usize, index: usize) -> bool
 
 // `lr0_examples` and `lr1_examples`: a fresh listing, or refusal 9, 11 or 15.
 pub fn open_in(
-    table: &[u16],
+    table: AcceptedTable,
     production: ProductionIndex,
     index: u16,
     lookahead: Option<TokenSet>,
     graph: &[u16],
-) -> Opened
-    requires { check_of table.now ≡ Accepted }
-    ensures { result ≡ open_in (record { production = production.0; index = index }) lookahead graph.now (meaning table.now) }
+) -> Result<Listing, Refusal>
+    ensures { reply_of result ≡ open_in (record { production = production.0; index = index }) lookahead graph.now (meaning table.entry.words.now) }
 {
-    let p = production.0 as usize;
-    let counts = read_counts(table);
-    let mut grammar = [0u16; ProductionIndex::ALL_WORDS];
-    read_productions(table, &mut grammar);
-    let mut ix = [0u16; TraceGraph::INDEX_WORDS];
-    if asked(
-        Grammar { words: &grammar, productions: counts.productions },
-        counts.nonterminals,
-        counts.terminals,
-        p,
-        index as usize,
-        lookahead,
-        graph,
-        &mut ix,
-    ) {
-        if graph.len() < TraceGraph::WORDS {
-            return Opened::Refused(11, 0);
-        }
-        if is_node(graph, p, index as usize) {
-            return Opened::Listing(Listing {
-                production: production,
-                index: index,
-                lookahead: lookahead,
-                count: 0,
-                is_open: true,
-            });
-        }
-        return Opened::Refused(15, 0);
+    let counts = table.counts();
+    let mut words = [0u16; ProductionIndex::ALL_WORDS];
+    table.read_productions(&mut words);
+    let grammar = Grammar {
+        words: &words,
+        productions: counts.productions,
+    };
+    let start = Item {
+        production: production.0 as usize,
+        index: index as usize,
+    };
+    if !fits(grammar, counts.terminals, start, lookahead) {
+        return Err(Refusal::OutOfRange);
     }
-    Opened::Refused(9, 0)
+    if graph.len() < TraceGraph::WORDS {
+        return Err(Refusal::TooShort);
+    }
+    let mut ix = [0u16; TraceGraph::INDEX_WORDS];
+    if !check_graph(grammar, counts.nonterminals, graph, &mut ix) {
+        return Err(Refusal::OutOfRange);
+    }
+    if !is_node(graph, start) {
+        return Err(Refusal::NoNode);
+    }
+    Ok(Listing {
+        production,
+        index,
+        lookahead,
+        count: 0,
+        is_open: true,
+    })
 }
 
 // The FIRST sets, where a lookahead is set.
-fn first_sets(
-    grammar: Grammar,
-    terminals: u16,
-    lookahead: Option<TokenSet>,
-) -> FirstSets
+fn first_sets(grammar: Grammar, terminals: u16, lookahead: Option<TokenSet>) -> FirstSets
     requires { terminals ≤ 63 }
-    ensures { result.map ≡ sets_for (set_of lookahead) terminals (productions_in grammar.entry.words.now grammar.entry.productions) }
+    ensures { (result.map ≡ sets_for (set_of lookahead) terminals (productions_in grammar.entry.words.now grammar.entry.productions)) × (result.terminals ≡ terminals) }
 {
-    match lookahead {
-        None => FirstSets {
+    let Some(_) = lookahead else {
+        return FirstSets {
             map: [0u64; NonterminalString::LIMIT],
-        },
-        Some(set) => FirstSets::new(grammar, terminals),
-    }
+            terminals,
+        };
+    };
+    FirstSets::new(grammar, terminals)
 }
 
 // A fresh listing starts from the words of no edge, whatever the words hold.
@@ -232,204 +161,135 @@ fn lost(l: Listing, graph: &[u16], words: &[u16]) -> bool
         if l.count == 0 {
             return false;
         }
-        let production = l.production.0 as usize;
-        let index = l.index as usize;
-        if holds_trial(graph, words, production, index) {
-            return false;
-        }
-        return true;
+        return !holds_trial(graph, words, l.start());
     }
     false
 }
 
-// The listing with another count, open or not.
-fn moved(l: Listing, count: u32, is_open: bool) -> Listing
-    ensures { result ≡ moved l count is_open }
-{
-    let production = l.production;
-    let lookahead = l.lookahead;
-    Listing {
-        production: production,
-        index: l.index,
-        lookahead: lookahead,
-        count: count,
-        is_open: is_open,
-    }
-}
-
-// An answer that leaves the listing.
-fn unmoved(l: Listing, answer: Advanced) -> Stepped
-    ensures { (result.next ≡ l) × (result.answer ≡ answer) }
-{
-    Stepped {
-        next: l,
-        answer: answer,
-    }
-}
-
 // The search of an open listing, over the view of its graph: the next example, the end, or refusal 13.
 fn find_next(
-    l: Listing,
+    l: &mut Listing,
     grammar: Grammar,
     terminals: u16,
     graph: &[u16],
-    owners: &[u8],
-    codes: &[u16],
-    sources: &[u8],
-    older: &[u16],
-    latest: &[u16],
+    view: View,
     scratch: &mut [u16],
     buffer: &mut [u16],
-) -> Stepped
+) -> Result<Advanced, Refusal>
     requires within { terminals ≤ 63 }
-    requires viewing { Viewing (edges_in graph.now) (record { production = l.production.0; index = l.index }) sources.now older.now latest.now × Labelled (productions_in grammar.words.now grammar.productions) (edges_in graph.now) owners.now codes.now }
+    requires viewing { Viewing (edges_in graph.now) (record { production = l.old.production.0; index = l.old.index }) view.sources.now view.older.now view.latest.now × Labelled (productions_in grammar.words.now grammar.productions) (edges_in graph.now) view.owners.now view.codes.now }
     requires scratch_words_in_bounds { (scratch_words ≤ length scratch.old) × (example_room ≤ length buffer.old) }
-    requires is_open_value { (l.is_open ≡ true) × (lost (edges_in graph.now) l scratch.old ≡ false) }
-    ensures { (n : ℕ) (T : Table) → Read T n terminals (productions_in grammar.entry.words.now grammar.entry.productions) → outcome result.answer result.next scratch.new buffer.new ≡ found_outcome T (edges_in graph.now) l scratch.old buffer.old (search (hands T (edges_in graph.now) (set_of l.lookahead)) (trial_limit - l.count) l.count (rest_of l.count scratch.old (trials (ends_of (edges_in graph.now)) (at_item (start_of l))))) }
+    requires is_open_value { (l.old.is_open ≡ true) × (lost (edges_in graph.now) l.old scratch.old ≡ false) }
+    ensures { (n : ℕ) (T : Table) → Read T n terminals (productions_in grammar.entry.words.now grammar.entry.productions) → outcome (reply_of result) l.new scratch.new buffer.new ≡ found_outcome T (edges_in graph.now) l.old scratch.old buffer.old (search (hands T (edges_in graph.now) (set_of l.old.lookahead)) (trial_limit - l.old.count) l.old.count (rest_of l.old.count scratch.old (trials (ends_of (edges_in graph.now)) (at_item (start_of l.old))))) }
 {
     let lookahead = l.lookahead;
     let count = l.count;
     let sets = first_sets(grammar, terminals, lookahead);
-    let map = sets.map;
     begin(scratch, count);
-    match search(
-        grammar,
-        terminals,
-        &map,
-        lookahead,
-        owners,
-        codes,
-        sources,
-        older,
-        latest,
-        scratch,
-        count,
-    ) {
+    match search(grammar, &sets, lookahead, view, scratch, count) {
         Searched::Hit(number) => {
-            write_trial(grammar, owners, codes, scratch, buffer);
-            Stepped {
-                next: moved(l, number, true),
-                answer: Advanced::Example,
-            }
+            write_trial(grammar, view, scratch, buffer);
+            l.count = number;
+            Ok(Advanced::Example)
         }
-        Searched::Out(trials) => Stepped {
-            next: moved(l, trials, false),
-            answer: Advanced::End,
-        },
-        Searched::Over => Stepped {
-            next: moved(l, Searched::TRIALS, false),
-            answer: Advanced::Refused(13, 0),
-        },
+        Searched::Out(trials) => {
+            l.count = trials;
+            l.is_open = false;
+            Ok(Advanced::End)
+        }
+        Searched::Over => {
+            l.count = Searched::TRIALS;
+            l.is_open = false;
+            Err(Refusal::TooManyTrials)
+        }
     }
 }
 
 // A call that is lent what refusal 11 asks: 9 for the words, 15, the end of an ended listing, the search.
 fn go_on(
-    l: Listing,
+    l: &mut Listing,
     grammar: Grammar,
     terminals: u16,
     graph: &[u16],
-    owners: &[u8],
-    codes: &[u16],
-    sources: &[u8],
-    older: &[u16],
-    latest: &[u16],
+    view: View,
     scratch: &mut [u16],
     buffer: &mut [u16],
-) -> Stepped
+) -> Result<Advanced, Refusal>
     requires within { terminals ≤ 63 }
-    requires listable { Listable (productions_in grammar.words.now grammar.productions) graph.now l.production.0 l.index owners.now codes.now sources.now older.now latest.now }
+    requires listable { Listable (productions_in grammar.words.now grammar.productions) graph.now l.old.production.0 l.old.index view.owners.now view.codes.now view.sources.now view.older.now view.latest.now }
     requires scratch_words_in_bounds { (scratch_words ≤ length scratch.old) × (example_room ≤ length buffer.old) }
-    ensures { (n : ℕ) (T : Table) → Read T n terminals (productions_in grammar.entry.words.now grammar.entry.productions) → asked T (start_of l) (set_of l.lookahead) graph.now ≡ true → outcome result.answer result.next scratch.new buffer.new ≡ advance_in graph.now l scratch.old buffer.old T }
+    ensures { (n : ℕ) (T : Table) → Read T n terminals (productions_in grammar.entry.words.now grammar.entry.productions) → asked T (start_of l.old) (set_of l.old.lookahead) graph.now ≡ true → outcome (reply_of result) l.new scratch.new buffer.new ≡ advance_in graph.now l.old scratch.old buffer.old T }
 {
-    let production = l.production.0 as usize;
-    let index = l.index as usize;
-    let strayed = lost(l, graph, scratch);
-    let node = is_node(graph, production, index);
-    if strayed {
-        return unmoved(l, Advanced::Refused(9, 0));
+    if lost(*l, graph, scratch) {
+        return Err(Refusal::OutOfRange);
     }
-    if node {
-        if l.is_open {
-            return find_next(
-                l,
-                grammar,
-                terminals,
-                graph,
-                owners,
-                codes,
-                sources,
-                older,
-                latest,
-                scratch,
-                buffer,
-            );
-        }
-        return unmoved(l, Advanced::End);
+    if !is_node(graph, l.start()) {
+        return Err(Refusal::NoNode);
     }
-    unmoved(l, Advanced::Refused(15, 0))
+    if !l.is_open {
+        return Ok(Advanced::End);
+    }
+    find_next(l, grammar, terminals, graph, view, scratch, buffer)
 }
 
-// `advance` by value: refusals 9, 11 and 15, the end, the next example, refusal 13.
+// `advance` over an accepted table: refusals 9, 11 and 15, the end, the next example, refusal 13.
 pub fn step_in(
-    l: Listing,
-    table: &[u16],
+    l: &mut Listing,
+    table: AcceptedTable,
     graph: &[u16],
     scratch: &mut [u16],
     buffer: &mut [u16],
-) -> Stepped
-    requires { check_of table.now ≡ Accepted }
-    ensures { outcome result.answer result.next scratch.new buffer.new ≡ advance_in graph.now l scratch.old buffer.old (meaning table.now) }
+) -> Result<Advanced, Refusal>
+    ensures { outcome (reply_of result) l.new scratch.new buffer.new ≡ advance_in graph.now l.old scratch.old buffer.old (meaning table.entry.words.now) }
 {
-    let counts = read_counts(table);
-    let productions = counts.productions;
-    let terminals = counts.terminals;
-    let mut grammar = [0u16; ProductionIndex::ALL_WORDS];
-    read_productions(table, &mut grammar);
-    let mut owners = [0u8; View::EDGES];
-    let mut codes = [0u16; View::EDGES];
-    let mut sources = [0u8; View::EDGES];
-    let mut older = [0u16; View::EDGES];
-    let mut latest = [0u16; View::NODES];
-    let production = l.production.0 as usize;
-    let index = l.index as usize;
-    let lookahead = l.lookahead;
-    if asked_view(
-        Grammar { words: &grammar, productions },
-        counts.nonterminals,
-        terminals,
-        production,
-        index,
-        lookahead,
-        graph,
-        &mut owners,
-        &mut codes,
-        &mut sources,
-        &mut older,
-        &mut latest,
-    ) {
-        if graph.len() < TraceGraph::WORDS {
-            return unmoved(l, Advanced::Refused(11, 0));
-        }
-        if scratch.len() < TraceGraph::SCRATCH {
-            return unmoved(l, Advanced::Refused(11, 0));
-        }
-        if buffer.len() < Example::WORDS {
-            return unmoved(l, Advanced::Refused(11, 0));
-        }
-        return go_on(
-            l,
-            Grammar { words: &grammar, productions },
-            terminals as u16,
-            graph,
-            &owners,
-            &codes,
-            &sources,
-            &older,
-            &latest,
-            scratch,
-            buffer,
-        );
+    let counts = table.counts();
+    let mut words = [0u16; ProductionIndex::ALL_WORDS];
+    table.read_productions(&mut words);
+    let grammar = Grammar {
+        words: &words,
+        productions: counts.productions,
+    };
+    let start = l.start();
+    if !fits(grammar, counts.terminals, start, l.lookahead) {
+        return Err(Refusal::OutOfRange);
     }
-    unmoved(l, Advanced::Refused(9, 0))
+    if graph.len() < TraceGraph::WORDS {
+        return Err(Refusal::TooShort);
+    }
+    let mut ix = [0u16; TraceGraph::INDEX_WORDS];
+    let mut lists = ViewLists::new();
+    let mut codes = [0u16; View::EDGES];
+    if !check_view(
+        grammar,
+        counts.nonterminals,
+        graph,
+        start,
+        &mut ix,
+        &mut lists,
+        &mut codes,
+    ) {
+        return Err(Refusal::OutOfRange);
+    }
+    if scratch.len() < TraceGraph::SCRATCH {
+        return Err(Refusal::TooShort);
+    }
+    if buffer.len() < Example::WORDS {
+        return Err(Refusal::TooShort);
+    }
+    let view = View {
+        sources: &lists.sources,
+        older: &lists.older,
+        latest: &lists.latest,
+        owners: &lists.owners,
+        codes: &codes,
+    };
+    go_on(
+        l,
+        grammar,
+        counts.terminals as u16,
+        graph,
+        view,
+        scratch,
+        buffer,
+    )
 }

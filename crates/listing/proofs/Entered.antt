@@ -4,7 +4,7 @@ use mathlib.Core.Path.{◌≡◌}
 use mathlib.Core.List.{List}
 use Rattle.repr.specs.Reply.{Reply, refused}
 use Rattle.repr.specs.Meaning.{Item}
-use Rattle.table.specs.Checked.{Checked, Accepted, Refused as NotAccepted}
+use Rattle.table.specs.Checked.{Accepted, Refused as NotAccepted}
 use Rattle.table.specs.Decoded.{meaning}
 use Rattle.table.specs.Refusals.{check_of}
 use Rattle.enumerator.specs.Advance.{Outcome, outcome, open_by, open_in, open_of, advance_by, advance_in, advance_of}

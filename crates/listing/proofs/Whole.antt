@@ -4,7 +4,7 @@ use mathlib.Core.Path.{◌≡◌, refl, sym, ap, ◌∙◌}
 use mathlib.Core.List.{List, [], ◌++◌}
 use lib.ListN.{length, drop}
 use borrow.Author.Tests.{lt-ltb, le-ltb}
-use Rattle.repr.specs.Reply.{Reply, answered, refused}
+use Rattle.repr.specs.Reply.{answered, refused}
 use Rattle.repr.specs.Meaning.{Item}
 use Rattle.enumerator.specs.Advance.{open_of}
 use Rattle.enumerator.specs.Calls.{Left, scratch_after}
@@ -40,23 +40,25 @@ module _ (t : List ℕ) (i : Item) (ahead : Lookahead) (cs g scratch out : List 
       ap (finished (length cs / 3)) h
       ∙ ap (λ (ls : List Left). listed (answered (length cs / 3)) (scratch_after t g l scratch (lents_in cs out)) (records_of ls ++ drop (output_words cs) out)) (demand t i ahead g l e scratch (lents_in cs out)).same
 
-  module _ (k : ℕ) (ek : k ≡ refusal_of_calls cs (length out)) (o : Reply Listing) (eo : o ≡ open_of t i ahead g) where
-    pub opening_refused : (n r : ℕ) → o ≡ refused n r → k ≡ 0 → listed (refused n r) scratch out ≡ list_of t i ahead cs g scratch out
-    unfolding list_of list_by
-    opening_refused n r e z = rw (← ek, ← eo, e, z)
+  module _ (k : ℕ) (ek : k ≡ refusal_of_calls cs (length out)) where
+    module _ (n r : ℕ) (e : refused n r ≡ open_of t i ahead g) where
+      pub opening_refused : k ≡ 0 → listed (refused n r) scratch out ≡ list_of t i ahead cs g scratch out
+      unfolding list_of list_by
+      opening_refused z = rw (← ek, ← e, z)
 
-    pub list_refused_lower : (n r : ℕ) → o ≡ refused n r → (k ≡ 0 → ⊥) → k < n → listed (refused k 0) scratch out ≡ list_of t i ahead cs g scratch out
-    unfolding list_of
-    list_refused_lower n r e ne h = rw (← ek, ← eo, e) (lower_list k n r ne h)
+      pub list_refused_lower : (k ≡ 0 → ⊥) → k < n → listed (refused k 0) scratch out ≡ list_of t i ahead cs g scratch out
+      unfolding list_of
+      list_refused_lower ne h = rw (← ek, ← e) (lower_list k n r ne h)
 
-    pub opening_refused_lower : (n r : ℕ) → o ≡ refused n r → (k ≡ 0 → ⊥) → n ≤ k → listed (refused n r) scratch out ≡ list_of t i ahead cs g scratch out
-    unfolding list_of
-    opening_refused_lower n r e ne h = rw (← ek, ← eo, e) (lower_opening k n r ne h)
+      pub opening_refused_lower : (k ≡ 0 → ⊥) → n ≤ k → listed (refused n r) scratch out ≡ list_of t i ahead cs g scratch out
+      unfolding list_of
+      opening_refused_lower ne h = rw (← ek, ← e) (lower_opening k n r ne h)
 
-    pub list_refused : (l : Listing) → o ≡ answered l → (k ≡ 0 → ⊥) → listed (refused k 0) scratch out ≡ list_of t i ahead cs g scratch out
-    unfolding list_of
-    list_refused l e ne = rw (← ek, ← eo, e) (list_alone k l ne)
+    module _ (l : Listing) (e : answered l ≡ open_of t i ahead g) where
+      pub list_refused : (k ≡ 0 → ⊥) → listed (refused k 0) scratch out ≡ list_of t i ahead cs g scratch out
+      unfolding list_of
+      list_refused ne = rw (← ek, ← e) (list_alone k l ne)
 
-    pub calls-made : (l : Listing) → o ≡ answered l → k ≡ 0 → (s x : List ℕ) → ended s x ≡ ended_of t g cs l scratch [] out → listed (answered (length cs / 3)) s x ≡ list_of t i ahead cs g scratch out
-    unfolding list_of
-    calls-made l e z s x h = let a = all_made l (sym eo ∙ e) s x h in rw (← ek, z, ← eo, e) a
+      pub calls-made : k ≡ 0 → (s x : List ℕ) → ended s x ≡ ended_of t g cs l scratch [] out → listed (answered (length cs / 3)) s x ≡ list_of t i ahead cs g scratch out
+      unfolding list_of
+      calls-made z s x h = let a = all_made l (sym e) s x h in rw (← ek, z, ← e) a

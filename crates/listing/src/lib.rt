@@ -2,23 +2,41 @@
 
 #![tactic(auto)]
 
-ghost use Rattle.std.specs.Prelude.{◌≡◌, [], ◌∷◌, ◌≤◌, ◌<◌, ◌%◌, ◌/◌, length, get_or, drop};
+ghost use Rattle.std.specs.Prelude.{OnOk, IfErr, ◌≡◌, [], ◌∷◌, ◌≤◌, ◌<◌, ◌%◌, ◌/◌, length, get_or, drop};
+ghost use Rattle.repr.specs.Reply.{number_of, place_of, reply_of};
 ghost use Rattle.enumerator.specs.Advance.{outcome, open_of, advance_of};
 ghost use Rattle.listing.specs.CallList.{number_of_answer, made, made_of, refusal_of_calls, listed, list_of, ended, ended_of};
 
-use enumerator::{Advanced, Listing, Opened};
-use lister::{Stepped, open_in, step_in};
+use enumerator::{Advanced, Listing};
+use lister::{open_in, step_in};
 use lookahead::TokenSet;
-use repr::ProductionIndex;
+use repr::{ProductionIndex, Refusal};
+use table_check::check;
+
+// A listing of the examples of a start item: of all, or of those whose `first0` meets the lookahead.
+fn open_listing(
+    table: &[u16],
+    production: ProductionIndex,
+    index: u16,
+    lookahead: Option<TokenSet>,
+    graph: &[u16],
+) -> Result<Listing, Refusal>
+    ensures { reply_of result ≡ open_of table.now (record { production = production.0; index = index }) lookahead graph.now }
+{
+    let accepted = check(table)?;
+    open_in(accepted, production, index, lookahead, graph)
+}
 
 // A listing of all examples of a start item.
-pub fn lr0_examples(table: &[u16], production: ProductionIndex, index: u16, graph: &[u16]) -> Opened
-    ensures { result ≡ open_of table.now (record { production = production.0; index = index }) None graph.now }
+pub fn lr0_examples(
+    table: &[u16],
+    production: ProductionIndex,
+    index: u16,
+    graph: &[u16],
+) -> Result<Listing, Refusal>
+    ensures { reply_of result ≡ open_of table.now (record { production = production.0; index = index }) None graph.now }
 {
-    match table_check::check(table) {
-        Err(refusal) => Opened::Refused(refusal.number(), refusal.place()),
-        Ok(_) => open_in(table, production, index, None, graph),
-    }
+    open_listing(table, production, index, None, graph)
 }
 
 // A listing of the examples of a start item whose `first0` meets the lookahead.
@@ -28,32 +46,10 @@ pub fn lr1_examples(
     index: u16,
     lookahead: TokenSet,
     graph: &[u16],
-) -> Opened
-    ensures { result ≡ open_of table.now (record { production = production.0; index = index }) (Some lookahead) graph.now }
+) -> Result<Listing, Refusal>
+    ensures { reply_of result ≡ open_of table.now (record { production = production.0; index = index }) (Some lookahead) graph.now }
 {
-    match table_check::check(table) {
-        Err(refusal) => Opened::Refused(refusal.number(), refusal.place()),
-        Ok(_) => open_in(table, production, index, Some(lookahead), graph),
-    }
-}
-
-// The next example, by value.
-pub fn step(
-    l: Listing,
-    table: &[u16],
-    graph: &[u16],
-    scratch: &mut [u16],
-    buffer: &mut [u16],
-) -> Stepped
-    ensures { outcome result.answer result.next scratch.new buffer.new ≡ advance_of l table.now graph.now scratch.old buffer.old }
-{
-    match table_check::check(table) {
-        Err(refusal) => Stepped {
-            next: l,
-            answer: Advanced::Refused(refusal.number(), refusal.place()),
-        },
-        Ok(_) => step_in(l, table, graph, scratch, buffer),
-    }
+    open_listing(table, production, index, Some(lookahead), graph)
 }
 
 // The next example: the listing is lent and moved on in place.
@@ -63,31 +59,11 @@ pub fn advance(
     graph: &[u16],
     scratch: &mut [u16],
     buffer: &mut [u16],
-) -> Advanced
-    ensures { outcome result l.new scratch.new buffer.new ≡ advance_of l.old table.now graph.now scratch.old buffer.old }
+) -> Result<Advanced, Refusal>
+    ensures { outcome (reply_of result) l.new scratch.new buffer.new ≡ advance_of l.old table.now graph.now scratch.old buffer.old }
 {
-    let s = step(*l, table, graph, scratch, buffer);
-    *l = s.next;
-    s.answer
-}
-
-// `advance` on a listing of the caller's own.
-fn hop(l: Listing, table: &[u16], graph: &[u16], scratch: &mut [u16], buffer: &mut [u16]) -> Stepped
-    ensures { outcome result.answer result.next scratch.new buffer.new ≡ advance_of l table.now graph.now scratch.old buffer.old }
-{
-    let mut m = l;
-    let answer = advance(&mut m, table, graph, scratch, buffer);
-    Stepped {
-        next: m,
-        answer: answer,
-    }
-}
-
-// What a list of calls answers: how many were made.
-#[derive(Clone, Copy)]
-pub enum Listed {
-    Calls(usize),
-    Refused(u16, u16),
+    let accepted = check(table)?;
+    step_in(l, accepted, graph, scratch, buffer)
 }
 
 // A number of the list of calls.
@@ -99,48 +75,35 @@ fn number(calls: &[u32], at: usize) -> usize
 }
 
 // The number that is recorded of an answer.
-fn answer_number(answer: Advanced) -> u16
-    ensures { result ≡ number_of_answer answer }
+fn answer_number(answer: Result<Advanced, Refusal>) -> u16
+    ensures { result ≡ number_of_answer (reply_of answer) }
 {
     match answer {
-        Advanced::Example => 0,
-        Advanced::End => 16,
-        Advanced::Refused(refusal, _) => refusal,
+        Ok(advanced) => match advanced {
+            Advanced::Example => 0,
+            Advanced::End => 16,
+        },
+        Err(refusal) => refusal.number(),
     }
 }
 
-// The refusal of a list of calls over an output of so many words, 0 for none. What is left of the output is counted down, call by call.
-fn calls_refusal(calls: &[u32], words: usize) -> u16
-    ensures { result ≡ refusal_of_calls calls.now words }
+// Refusal 9 for a list of calls that is cut short, 11 for an output that has fewer words than they ask. What is left of the output is counted down, call by call.
+fn check_calls(calls: &[u32], words: usize) -> Result<(), Refusal>
+    ensures fits { OnOk result (refusal_of_calls calls.now words ≡ 0) }
+    ensures refused { IfErr result (λ e. (number_of e ≡ refusal_of_calls calls.now words) × (place_of e ≡ 0) × (0 < number_of e)) }
 {
     if calls.len() % 3 != 0 {
-        return 9;
+        return Err(Refusal::OutOfRange);
     }
     let mut left = words;
     for i in 0..calls.len() / 3 {
         let part = 3 + number(calls, 3 * i + 2);
         if left < part {
-            return 11;
+            return Err(Refusal::TooShort);
         }
         left -= part;
     }
-    0
-}
-
-// A listing of a start item, with a lookahead or without.
-fn open_listing(
-    table: &[u16],
-    production: ProductionIndex,
-    index: u16,
-    lookahead: Option<TokenSet>,
-    graph: &[u16],
-) -> Opened
-    ensures { result ≡ open_of table.now (record { production = production.0; index = index }) lookahead graph.now }
-{
-    match lookahead {
-        None => lr0_examples(table, production, index, graph),
-        Some(set) => lr1_examples(table, production, index, set, graph),
-    }
+    Ok(())
 }
 
 // The three words in front of a call's buffer.
@@ -155,25 +118,21 @@ fn write_record(part: &mut [u16], number: u16, count: u32)
 
 // One call, lent a beginning of the graph and of the scratch. Its part of the output is three words, the answer's number and the count, and then its buffer.
 fn call(
-    l: Listing,
+    l: &mut Listing,
     table: &[u16],
     graph: &[u16],
     graph_words: usize,
     scratch_words: usize,
     scratch: &mut [u16],
     part: &mut [u16],
-) -> Listing
+)
     requires { 3 ≤ length part.old }
-    ensures { made result scratch.new part.new ≡ made_of table.now graph.now l graph_words scratch_words scratch.old part.old }
+    ensures { made l.new scratch.new part.new ≡ made_of table.now graph.now l.old graph_words scratch_words scratch.old part.old }
 {
     let n = graph_words.min(graph.len());
     let m = scratch_words.min(scratch.len());
-    let s = hop(l, table, &graph[..n], &mut scratch[..m], &mut part[3..]);
-    let next = s.next;
-    let answer = s.answer;
-    let count = next.count;
-    write_record(part, answer_number(answer), count);
-    next
+    let answer = advance(l, table, &graph[..n], &mut scratch[..m], &mut part[3..]);
+    write_record(part, answer_number(answer), l.count);
 }
 
 // The calls, one after another, over one graph and one scratch, each with its own part of the output.
@@ -194,8 +153,8 @@ fn make_calls(
         let graph_words = number(calls, 3 * i);
         let scratch_words = number(calls, 3 * i + 1);
         let to = from + 3 + number(calls, 3 * i + 2);
-        listing = call(
-            listing,
+        call(
+            &mut listing,
             table,
             graph,
             graph_words,
@@ -207,8 +166,8 @@ fn make_calls(
     }
 }
 
-// A listing is opened, and the calls of a list are made on it through `advance`. `calls` has three numbers a call: how much of the graph and of the scratch it is
-// lent, and the length of its buffer. Of each call the output holds the answer's number, the count in two words, and its buffer.
+// A listing is opened, and the calls of a list are made on it through `advance`; answers how many. `calls` has three numbers a call: how much of the graph and of the scratch it is
+// lent, and the length of its buffer. Of each call the output holds the answer's number, the count in two words, and its buffer. The parameters are those that C hands over.
 pub fn examples(
     table: &[u16],
     production: ProductionIndex,
@@ -218,26 +177,24 @@ pub fn examples(
     graph: &[u16],
     scratch: &mut [u16],
     output: &mut [u16],
-) -> Listed
-    ensures { listed result scratch.new output.new ≡ list_of table.now (record { production = production.0; index = index }) lookahead calls.now graph.now scratch.old output.old }
+) -> Result<usize, Refusal>
+    ensures { listed (reply_of result) scratch.new output.new ≡ list_of table.now (record { production = production.0; index = index }) lookahead calls.now graph.now scratch.old output.old }
 {
-    let refusal = calls_refusal(calls, output.len());
+    let fits = check_calls(calls, output.len());
     match open_listing(table, production, index, lookahead, graph) {
-        Opened::Refused(other, place) => {
-            if refusal == 0 {
-                return Listed::Refused(other, place);
+        Err(other) => {
+            let Err(own) = fits else {
+                return Err(other);
+            };
+            if own.number() < other.number() {
+                return Err(own);
             }
-            if refusal < other {
-                return Listed::Refused(refusal, 0);
-            }
-            Listed::Refused(other, place)
+            Err(other)
         }
-        Opened::Listing(l) => {
-            if refusal != 0 {
-                return Listed::Refused(refusal, 0);
-            }
+        Ok(l) => {
+            fits?;
             make_calls(l, table, calls, graph, scratch, output);
-            Listed::Calls(calls.len() / 3)
+            Ok(calls.len() / 3)
         }
     }
 }

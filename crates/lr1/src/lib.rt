@@ -15,18 +15,20 @@ ghost use Rattle.builder.specs.Outcome.{build_of};
 ghost use Rattle.yacc_read.specs.Outcome.{read_of};
 ghost use Rattle.yacc_write.specs.Outcome.{write_of};
 ghost use Rattle.trace_graph.specs.Nodes.{node_value};
-ghost use Rattle.tracer.specs.Outcome.{outcome, shift_of, reduce_of};
+ghost use Rattle.tracer.specs.Outcome.{outcome, trace_by, shift_of, reduce_of};
+ghost use Rattle.tracer.specs.Built.{edges_by};
 ghost use Rattle.lr1.specs.Edges.{edge_outcome, added_edge_in, add_edge_of};
 ghost use Rattle.lr1.specs.Entries.{first0_answer, first0_of, first1_answer, first1_of, walk_of, trace_back_answer, trace_back_of};
 
 use builder::Built;
 use first::{Answer, FirstSets};
 use lookahead::TokenSet;
+use lr1_core::Item;
 use repr::{Grammar, ProductionIndex, Refusal, joined_fits, list_fits, word};
 use state_graph::{StateIndex, StateSet};
-use table::{AcceptedTable, read_productions};
+use table::AcceptedTable;
 use trace_graph::{Full, TraceEdge, TraceGraph, TraceGraphNode, check_graph, edge_fits, insert};
-use tracer::Backtrace;
+use tracer::Action;
 use yacc_read::Reading;
 use yacc_write::Writing;
 
@@ -62,8 +64,8 @@ pub fn build_states(
     scratch: &mut [u16],
     out: &mut [u16],
     conflicts: &mut [u16],
-) -> Built
-    ensures { record { answer = result; scratch = scratch.new; out = out.new; conflicts = conflicts.new } ≡ build_of table.now start.0 scratch.old out.old conflicts.old }
+) -> Result<Built, Refusal>
+    ensures { record { answer = reply_of result; scratch = scratch.new; out = out.new; conflicts = conflicts.new } ≡ build_of table.now start.0 scratch.old out.old conflicts.old }
 {
     builder::build_states(table, start, scratch, out, conflicts)
 }
@@ -183,7 +185,7 @@ fn trace_back_in(
     let number = state.0 as usize;
     if number < counts.states {
         if joined_fits(counts.nonterminals, counts.terminals, xs, ys) {
-            return Ok(state_graph::trace_back_joined(table.words, number, xs, ys));
+            return Ok(state_graph::trace_back_joined(table, number, xs, ys));
         }
     }
     Err(Refusal::OutOfRange)
@@ -218,17 +220,20 @@ fn add_edge_in(table: AcceptedTable, edge: TraceEdge, graph: &mut [u16]) -> Resu
     ensures { edge_outcome (reply_of result) graph.new ≡ added_edge_in edge graph.old (meaning table.entry.words.now) }
 {
     let counts = table.counts();
-    let productions = counts.productions;
     let n = counts.nonterminals;
-    let mut grammar = [0u16; ProductionIndex::ALL_WORDS];
-    read_productions(table.words, &mut grammar);
-    if edge_fits(Grammar { words: &grammar, productions }, n, edge) {
+    let mut words = [0u16; ProductionIndex::ALL_WORDS];
+    table.read_productions(&mut words);
+    let grammar = Grammar {
+        words: &words,
+        productions: counts.productions,
+    };
+    if edge_fits(grammar, n, edge) {
         if graph.len() < TraceGraph::WORDS {
             return Err(Refusal::TooShort);
         }
         let mut ix = [0u16; TraceGraph::INDEX_WORDS];
-        if check_graph(Grammar { words: &grammar, productions }, n, graph, &mut ix) {
-            return match insert(Grammar { words: &grammar, productions }, n, graph, &mut ix, edge) {
+        if check_graph(grammar, n, graph, &mut ix) {
+            return match insert(grammar, n, graph, &mut ix, edge) {
                 Ok(()) => Ok(word(graph, 0) as u16),
                 Err(Full) => Err(Refusal::TooManyEdges),
             };
@@ -237,7 +242,22 @@ fn add_edge_in(table: AcceptedTable, edge: TraceEdge, graph: &mut [u16]) -> Resu
     Err(Refusal::OutOfRange)
 }
 
-// The trace of a shift, back from an item in a state (part 5 of document 01): its edges at the front of the graph, whose old words are not looked at.
+// The one trace or the other, of a table as it is lent.
+fn backtrace(
+    table: &[u16],
+    action: Action,
+    state: StateIndex,
+    item: Item,
+    graph: &mut [u16],
+    scratch: &mut [u16],
+) -> Result<u16, Refusal>
+    ensures { outcome (reply_of result) graph.new scratch.new ≡ trace_by (edges_by action) table.now state.0 (record { production = item.production; index = item.index }) graph.old scratch.old (check_of table.now) }
+{
+    let accepted = table_check::check(table)?;
+    tracer::trace_in(accepted, action, state.0 as usize, item, graph, scratch)
+}
+
+// The trace of a shift, back from an item in a state (part 5 of document 01): its edges at the front of the graph, whose old words are not looked at. The answer is their number.
 pub fn backtrace_shift(
     table: &[u16],
     state: StateIndex,
@@ -245,16 +265,14 @@ pub fn backtrace_shift(
     index: u16,
     graph: &mut [u16],
     scratch: &mut [u16],
-) -> Backtrace
-    ensures { outcome result graph.new scratch.new ≡ shift_of table.now state.0 (record { production = production.0; index = index }) graph.old scratch.old }
+) -> Result<u16, Refusal>
+    ensures { outcome (reply_of result) graph.new scratch.new ≡ shift_of table.now state.0 (record { production = production.0; index = index }) graph.old scratch.old }
 {
-    let s = state.0 as usize;
-    let p = production.0 as usize;
-    let i = index as usize;
-    match table_check::check(table) {
-        Err(refusal) => Backtrace::Refused(refusal.number(), refusal.place()),
-        Ok(_) => tracer::shift_in(table, s, p, i, graph, scratch),
-    }
+    let item = Item {
+        production: production.0 as usize,
+        index: index as usize,
+    };
+    backtrace(table, Action::Shift, state, item, graph, scratch)
 }
 
 // The trace of a reduction, in the same way.
@@ -265,14 +283,12 @@ pub fn backtrace_reduce(
     index: u16,
     graph: &mut [u16],
     scratch: &mut [u16],
-) -> Backtrace
-    ensures { outcome result graph.new scratch.new ≡ reduce_of table.now state.0 (record { production = production.0; index = index }) graph.old scratch.old }
+) -> Result<u16, Refusal>
+    ensures { outcome (reply_of result) graph.new scratch.new ≡ reduce_of table.now state.0 (record { production = production.0; index = index }) graph.old scratch.old }
 {
-    let s = state.0 as usize;
-    let p = production.0 as usize;
-    let i = index as usize;
-    match table_check::check(table) {
-        Err(refusal) => Backtrace::Refused(refusal.number(), refusal.place()),
-        Ok(_) => tracer::reduce_in(table, s, p, i, graph, scratch),
-    }
+    let item = Item {
+        production: production.0 as usize,
+        index: index as usize,
+    };
+    backtrace(table, Action::Reduce, state, item, graph, scratch)
 }

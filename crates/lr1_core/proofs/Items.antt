@@ -1,10 +1,10 @@
 -- Laws of an item's symbol sets (specs/Items), over a production's words. Assumes nothing.
-use Rattle.std.specs.Prelude.{◌≡◌, ℕ, zero, suc, ◌+◌, ◌-◌, ◌*◌, ◌<◌, ◌≤◌, false, eqb, List, [], ◌∷◌, ◌++◌, length, get_or, take, drop}
+use Rattle.std.specs.Prelude.{◌≡◌, ℕ, zero, suc, ◌+◌, ◌-◌, ◌*◌, ◌<◌, ◌≤◌, false, eqb, List, [], ◌∷◌, length, get_or, take, drop, min}
 use mathlib.Core.Path.{refl, sym, ◌∙◌}
 use mathlib.Core.Option.{some}
 use native.Mathlib.Omega.{arith}
 use lib.ListN.{drop_of_length-le}
-use lib.Seq.{take_all, drop-drop, length-take-le}
+use lib.Seq.{take_all, length-take-le}
 use Rattle.repr.specs.Sizes.{production_place}
 use Rattle.repr.specs.Meaning.{Symbol}
 use Rattle.repr.specs.Listed.{symbol_of_kind, listed}
@@ -98,15 +98,7 @@ module _ (g : List ℕ) (n p i : ℕ) (P : Packed g n) (h : p < n) (l : i < leng
       go zero a = absurd (a refl)
       go (suc c) a = refl
 
--- parts of the packed words
-pub prefix_part : (g : List ℕ) (n p i past : ℕ) → Packed g n → p < n → i ≤ length (listed (symbol_words g p)) → past ≡ production_place p + 4 + 2 * i
-    → take (past - (production_place p + 4)) (drop (production_place p + 4) g) ≡ take (2 * i) (symbol_words g p)
-unfolding symbol_words
-prefix_part g n p i past P h l e =
-    let s = symbols_long g n p P h in
-    let z : past - (production_place p + 4) ≡ 2 * i = omega arith in
-    rw z (sym (lib.Seq.take-take (2 * i) (2 * get_or g (production_place p + 1) 0) (drop (production_place p + 4) g) (omega arith)))
-
+-- parts of a production's symbols
 pub prefix_is : (ws : List ℕ) (i : ℕ) → listed (take (2 * i) ws) ≡ (symbol_sets (listed ws) i).prefix
 unfolding symbol_sets
 prefix_is ws i = listed-take i ws
@@ -115,25 +107,9 @@ pub suffix_is : (ws : List ℕ) (i : ℕ) → listed (drop (2 * i + 2) ws) ≡ (
 unfolding symbol_sets
 suffix_is ws i = let e : 2 * i + 2 ≡ 2 * suc i = omega arith in rw e (listed-drop (suc i) ws)
 
-drop_of_take : (m k : ℕ) (l : List ℕ) → drop m (take (m + k) l) ≡ take k (drop m l)
-drop_of_take m k l = rw (lib.Seq.take-add m k l) (go (native.Mathlib.Decide.dec_le m (length l)))
+pub tail_from : (xs : List ℕ) (a k : ℕ) → k ≡ min a (length xs) → take (length xs - k) (drop k xs) ≡ drop a xs
+tail_from xs a k e = rw (take_all (length xs - k) (drop k xs) (rw (lib.ListN.length-drop k xs) (omega arith))) (go (native.Mathlib.Decide.dec_le a (length xs)))
   where
-    go : Dec (m ≤ length l) → drop m (take m l ++ take k (drop m l)) ≡ take k (drop m l)
-    go (yes q) = lib.Seq.drop_at (take m l) (take k (drop m l)) m (length-take-le m l q)
-    go (no q) = rw (drop_of_length-le l {i = m} (omega arith), take_all m l (omega arith), lib.Seq.take-nil k, mathlib.Core.List.append-nil l) (drop_of_length-le l {i = m} (omega arith))
-
-pub suffix_part : (g : List ℕ) (n p i k from past : ℕ) → Packed g n → p < n → k ≡ get_or g (production_place p + 1) 0 → i < k → from ≡ production_place p + 4 + 2 * i + 2 → past ≡ production_place p + 4 + 2 * k
-    → take (past - from) (drop from g) ≡ drop (2 * i + 2) (symbol_words g p)
-unfolding symbol_words
-suffix_part g n p i k from past P h ek l ef ep =
-    let z : past - from ≡ 2 * (k - i - 1) = omega arith in
-    let y : 2 * k ≡ 2 * i + 2 + 2 * (k - i - 1) = omega arith in
-    let x : from ≡ production_place p + 4 + (2 * i + 2) = omega arith in
-    rw (z, ← ek, y, drop_of_take (2 * i + 2) (2 * (k - i - 1)) (drop (production_place p + 4) g), lib.Seq.drop-drop (2 * i + 2) (production_place p + 4) g, x) refl
-
-pub suffix-none : (g : List ℕ) (n p i past : ℕ) → Packed g n → p < n → length (listed (symbol_words g p)) ≤ i → take (past - past) (drop past g) ≡ drop (2 * i + 2) (symbol_words g p)
-suffix-none g n p i past P h l =
-    let z : past - past ≡ 0 = omega arith in
-    let s = symbols_long g n p P h in
-    let w = words_long g n p P h in
-    rw z (sym (drop_of_length-le (symbol_words g p) {i = 2 * i + 2} (omega arith)))
+    go : Dec (a ≤ length xs) → drop k xs ≡ drop a xs
+    go (yes q) = let h : k ≡ a = omega arith in rw h refl
+    go (no q) = rw (drop_of_length-le xs {i = k} (omega arith), drop_of_length-le xs {i = a} (omega arith)) refl

@@ -10,7 +10,7 @@ ghost use Rattle.lr1_core.specs.Items.{no_sets, symbol_sets, counts, counts_of, 
 
 use repr::{Grammar, NonterminalString, ProductionIndex, word};
 
-// The number of symbols before the cursor, at it and after it.
+// The number of symbols before the cursor, at it and after it: its readers want these alone, the symbols are `prefix` and `suffix`.
 #[derive(Clone, Copy)]
 pub struct SymbolSets {
     pub prefix: usize,
@@ -51,8 +51,7 @@ impl Item {
         requires { self.production < grammar.productions }
         ensures { (result ≡ length (listed (symbol_words grammar.entry.words.now self.production))) × (result ≤ 16) }
     {
-        let production = self.production;
-        word(grammar.words, production * ProductionIndex::WORDS + 1)
+        grammar.length(self.production)
     }
 
     pub fn can_shift(self, grammar: Grammar) -> bool
@@ -110,11 +109,7 @@ impl Item {
         95
     }
 
-    pub fn can_shift_nonterminal(
-        self,
-        grammar: Grammar,
-        nonterminal: usize,
-    ) -> bool
+    pub fn can_shift_nonterminal(self, grammar: Grammar, nonterminal: usize) -> bool
         requires { self.production < grammar.productions }
         ensures { result ≡ shifts_nonterminal (listed (symbol_words grammar.entry.words.now self.production)) self.index nonterminal }
     {
@@ -131,9 +126,8 @@ pub fn prefix<'a>(grammar: Grammar<'a>, item: Item) -> &'a [u16]
     requires index_in_bounds { item.index ≤ length (listed (symbol_words grammar.words.now item.production)) }
     ensures { (result.now ≡ take (2 * item.index) (symbol_words grammar.entry.words.now item.production)) × (listed result.now ≡ (symbol_sets (listed (symbol_words grammar.entry.words.now item.production)) item.index).prefix) }
 {
-    let from = item.production * ProductionIndex::WORDS + 4;
-    let past = from + 2 * item.index;
-    &grammar.words[from..past]
+    let symbols = grammar.symbols(item.production);
+    &symbols[..2 * item.index]
 }
 
 // The symbols after the cursor.
@@ -142,14 +136,7 @@ pub fn suffix<'a>(grammar: Grammar<'a>, item: Item) -> &'a [u16]
     requires index_in_bounds { item.index ≤ length (listed (symbol_words grammar.words.now item.production)) }
     ensures { (result.now ≡ drop (2 * item.index + 2) (symbol_words grammar.entry.words.now item.production)) × (listed result.now ≡ (symbol_sets (listed (symbol_words grammar.entry.words.now item.production)) item.index).suffix) }
 {
-    let length = item.length(grammar);
-    let start = item.production * ProductionIndex::WORDS + 4;
-    let past = start + 2 * length;
-    let index = item.index;
-    if index < length {
-        let from = start + 2 * index + 2;
-        &grammar.words[from..past]
-    } else {
-        &grammar.words[past..past]
-    }
+    let symbols = grammar.symbols(item.production);
+    let from = 2 * item.index + 2;
+    &symbols[from.min(symbols.len())..]
 }

@@ -30,6 +30,7 @@ use Rattle.collecting.specs.Rows.{row_in, rows_in}
 use Rattle.std.proofs.Common.{Ok, Err}
 use Rattle.finding.specs.declared.Halt.TheVariants.{Records}
 use Rattle.finding.specs.declared.Sizes.{Sizes}
+use Rattle.measuring.specs.declared.FoundStates.{FoundStates}
 use Rattle.measuring.specs.Complete.{Collection, Complete, MeasuredAs}
 
 -- a state flat again
@@ -42,7 +43,16 @@ padded M n f x =
     let q : length M + (x - length M) ≡ x = omega (arith, ltb-false x (length M) t) in
     rw (← q, get_or-append-add M (replicate n 0) (x - length M) 0, get_d_none n (x - length M)) (omega arith))
 
-module _ (g : List ℕ) (P : ℕ) (ws bs : List ℕ) (n : ℕ) (s : Collection g P ws bs n) (k : ℕ) (h : k < n) where
+module _ (found : FoundStates) (s : Collection found) (k : ℕ) (h : k < found.begins.now.states) where
+  abbrev ws : List ℕ
+  ws = found.words.now
+
+  abbrev bs : List ℕ
+  bs = found.begins.now.items
+
+  abbrev P : ℕ
+  P = found.source.grammar.productions
+
   inside : k < length s.Rs
   inside = omega (arith, s.many)
 
@@ -112,25 +122,34 @@ rows_sum E es (suc k) z f =
 
 -- records
 
-module _ (g : List ℕ) (sizes : Sizes) (ws bs es : List ℕ) (n : ℕ) (s : Complete g sizes ws bs es n) where
-  pub few_begins : get_or bs n 0 ≤ record_limit
+module _ (found : FoundStates) (s : Complete found) where
+  abbrev es : List ℕ
+  es = found.edges.now.rows
+
+  abbrev n : ℕ
+  n = found.begins.now.states
+
+  abbrev sizes : Sizes
+  sizes = found.source.sizes
+
+  pub few_begins : get_or found.begins.now.items n 0 ≤ record_limit
   few_begins = by n s.all.many
     where
-      by : (m : ℕ) → m ≡ length s.all.Rs → get_or bs m 0 ≤ record_limit
+      by : (m : ℕ) → m ≡ length s.all.Rs → get_or found.begins.now.items m 0 ≤ record_limit
       by zero q = rw s.all.holds.front (omega arith)
       by (suc m) q = rw (add-one m) at (s.all.holds.begun.ends m (omega arith))
 
   pub few_states : n ≤ 128
   few_states = omega (arith, s.all.many, s.all.holds.begun.few)
 
-  pub records_are : sizes.fixed + n + get_or bs n 0 + get_or es n 0 ≡ records s.T s.all.Rs + sum (λ (ds : List Edge). length ds) (rows_in s.E es n)
+  pub records_are : sizes.fixed + n + get_or found.begins.now.items n 0 + get_or es n 0 ≡ records s.T s.all.Rs + sum (λ (ds : List Edge). length ds) (rows_in s.E es n)
   unfolding records
   records_are =
       let a = rows_sum s.E es n s.all.front s.all.rises in
-      let b = holds_counted s.T s.start ws bs s.all.Rs s.all.holds in
+      let b = holds_counted s.T s.start found.words.now found.begins.now.items s.all.Rs s.all.holds in
       let c = s.counted.fixed_is in
       let d = s.all.many in
-      let e : get_or bs n 0 ≡ get_or bs (length s.all.Rs) 0 = ap (λ (i : ℕ). get_or bs i 0) s.all.many in
+      let e : get_or found.begins.now.items n 0 ≡ get_or found.begins.now.items (length s.all.Rs) 0 = ap (λ (i : ℕ). get_or found.begins.now.items i 0) s.all.many in
       omega arith
 
   module _ (r : ℕ) (is : r ≡ records s.T s.all.Rs + sum (λ (ds : List Edge). length ds) (rows_in s.E es n)) (words : ℕ) where

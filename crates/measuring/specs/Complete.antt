@@ -1,7 +1,7 @@
 -- All states found, as words hold them: what counting and writing them gets, and what is decided at the end. Assumes nothing: these are definitions.
 use Rattle.std.specs.Prelude.{Result, Ok, Err, ℕ, ◌+◌, ◌≤◌, ◌<◌, ◌≡◌, List, length}
 use Rattle.repr.specs.Meaning.{Edge, Table}
-use Rattle.closing.specs.Grammar.{Grammar}
+use Rattle.closing.specs.Grammar.{OfTable}
 use Rattle.build.specs.States.{built, clashes}
 use Rattle.build.specs.Outcome.{sum, records, refused, full, finish}
 use Rattle.kept_states.specs.Made.{Holds}
@@ -10,42 +10,36 @@ use Rattle.starting.specs.Start.{Counted}
 use Rattle.collecting.specs.Rows.{FoundAll}
 use Rattle.measuring.specs.declared.Measured.{Measured}
 use Rattle.finding.specs.declared.Halt.{Halt}
-use Rattle.finding.specs.declared.Sizes.{Sizes}
+use Rattle.measuring.specs.declared.FoundStates.{FoundStates}
 use Rattle.finding.specs.Search.{refusal_of}
 
--- the n states of some table
-pub record Collection (g : List ℕ) (productions : ℕ) (ws bs : List ℕ) (n : ℕ) : Type 0 where
+-- the states are those of some table
+pub record Collection (found : FoundStates) : Type 0 where
   pub T : Table
   pub start : ℕ
-  pub terminals : ℕ
-  pub sets : List ℕ
   pub Rs : List (List ℕ)
-  pub grammar : Grammar T g productions terminals sets
-  pub started : start < productions
-  pub holds : Holds T start ws bs Rs
-  pub many : n ≡ length Rs
+  pub grammar : OfTable T found.source.grammar.words.now found.source.grammar.productions found.source.sets.now.terminals found.source.sets.now.map
+  pub started : start < found.source.grammar.productions
+  pub holds : Holds T start found.words.now found.begins.now.items Rs
+  pub many : found.begins.now.states ≡ length Rs
 
 -- with their edges, and the numbers of specs/Start of starting
-pub record Complete (g : List ℕ) (sizes : Sizes) (ws bs es : List ℕ) (n : ℕ) : Type 0 where
+pub record Complete (found : FoundStates) : Type 0 where
   pub T : Table
   pub start : ℕ
   pub room : ℕ
-  pub terminals : ℕ
-  pub sets : List ℕ
   pub w : Found
   pub E : List ℕ
-  pub grammar : Grammar T g sizes.productions terminals sets
-  pub started : start < sizes.productions
-  pub counted : Counted T room sizes.nonterminals sizes.fixed sizes.limit
-  pub small : sizes.fixed ≤ 65536
-  pub all : FoundAll T start w ws bs E es n
+  pub grammar : OfTable T found.source.grammar.words.now found.source.grammar.productions found.source.sets.now.terminals found.source.sets.now.map
+  pub started : start < found.source.grammar.productions
+  pub counted : Counted T room found.source.sizes.nonterminals found.source.sizes.fixed found.source.sizes.limit
+  pub small : found.source.sizes.fixed ≤ 65536
+  pub all : FoundAll T start w found.words.now found.begins.now.items E found.edges.now.rows found.begins.now.states
 
-abbrev pub collection : (g : List ℕ) (sizes : Sizes) (ws bs es : List ℕ) (n : ℕ) → Complete g sizes ws bs es n → Collection g sizes.productions ws bs n
-collection g sizes ws bs es n s = record {
+abbrev pub collection : (found : FoundStates) → Complete found → Collection found
+collection found s = record {
   T = s.T;
   start = s.start;
-  terminals = s.terminals;
-  sets = s.sets;
   Rs = s.all.Rs;
   grammar = s.grammar;
   started = s.started;

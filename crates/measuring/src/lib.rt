@@ -21,54 +21,58 @@ pub struct Measured {
     pub conflicts: usize,
 }
 
+// The states found, in words, with their edges, and what they are of.
+#[derive(Clone, Copy)]
+pub struct FoundStates<'a> {
+    pub source: Source<'a>,
+    pub words: &'a [u16],
+    pub begins: &'a Begins,
+    pub edges: &'a Edges,
+}
+
 // The conflicts of state k.
-fn count_at(grammar: &[u16], productions: usize, words: &[u16], begins: &Begins, k: usize) -> usize
-    requires collection { Collection grammar.now productions words.now begins.now.items begins.now.states }
-    requires k_lt_states { k < begins.now.states }
-    ensures { (result ≤ 1056768) × ((s : Collection grammar.now productions words.now begins.now.items begins.now.states) → result ≡ length (clashes s.T (get_or s.Rs k []))) }
+fn count_at(found: FoundStates, k: usize) -> usize
+    requires collection { Collection found }
+    requires k_lt_states { k < found.begins.now.states }
+    ensures { (result ≤ 1056768) × ((s : Collection found.entry) → result ≡ length (clashes s.T (get_or s.Rs k []))) }
 {
-    let state = unpack(words, begins.items[k], begins.items[k + 1]);
-    count_state(Grammar { words: grammar, productions }, &state)
+    let begins = found.begins;
+    let state = unpack(found.words, begins.items[k], begins.items[k + 1]);
+    count_state(found.source.grammar, &state)
 }
 
 // The conflicts of all.
-pub fn count_conflicts(grammar: &[u16], productions: usize, words: &[u16], begins: &Begins) -> usize
-    requires { Collection grammar.now productions words.now begins.now.items begins.now.states }
-    ensures { (result ≤ 135266304) × ((s : Collection grammar.now productions words.now begins.now.items begins.now.states) → result ≡ sum (λ (S : List ℕ). length (clashes s.T S)) s.Rs) }
+pub fn count_conflicts(found: FoundStates) -> usize
+    requires { Collection found }
+    ensures { (result ≤ 135266304) × ((s : Collection found.entry) → result ≡ sum (λ (S : List ℕ). length (clashes s.T S)) s.Rs) }
 {
     let mut many = 0;
-    for k in 0..begins.states {
-        many += count_at(Grammar { words: grammar, productions }, words, begins, k);
+    for k in 0..found.begins.states {
+        many += count_at(found, k);
     }
     many
 }
 
 // The records of the table, edges included.
-fn table_records(source: Source, words: &[u16], begins: &Begins, edges: &Edges) -> usize
-    requires { Complete source.grammar.now source.sizes words.now begins.now.items edges.now.rows begins.now.states }
-    ensures { (s : Complete source.entry.grammar.now source.entry.sizes words.now begins.now.items edges.now.rows begins.now.states) → result ≡ records s.T s.all.Rs + sum (λ (es : List Edge). length es) (rows_in s.E edges.now.rows begins.now.states) }
+fn table_records(found: FoundStates) -> usize
+    requires { Complete found }
+    ensures { (s : Complete found.entry) → result ≡ records s.T s.all.Rs + sum (λ (es : List Edge). length es) (rows_in s.E found.entry.edges.now.rows found.entry.begins.now.states) }
 {
-    let states = begins.states;
-    source.sizes.fixed + states + begins.items[states] + edges.rows[states]
+    let states = found.begins.states;
+    let source = found.source;
+    source.sizes.fixed + states + found.begins.items[states] + found.edges.rows[states]
 }
 
 // Refusal 17 for the edges, then for the list of conflicts, which has room for so many words.
-pub fn measure(
-    source: Source,
-    words: &[u16],
-    begins: &Begins,
-    edges: &Edges,
-    room: usize,
-) -> Result<Measured, Halt>
-    requires { Complete source.grammar.now source.sizes words.now begins.now.items edges.now.rows begins.now.states }
-    ensures { (s : Complete source.entry.grammar.now source.entry.sizes words.now begins.now.items edges.now.rows begins.now.states) → MeasuredAs s.T s.room room s.all.Rs (rows_in s.E edges.now.rows begins.now.states) result }
+pub fn measure(found: FoundStates, room: usize) -> Result<Measured, Halt>
+    requires { Complete found }
+    ensures { (s : Complete found.entry) → MeasuredAs s.T s.room room s.all.Rs (rows_in s.E found.entry.edges.now.rows found.entry.begins.now.states) result }
 {
-    let sizes = source.sizes;
-    let records = table_records(source, words, begins, edges);
-    if sizes.limit < records {
+    let records = table_records(found);
+    if found.source.sizes.limit < records {
         return Err(Halt::Records);
     }
-    let conflicts = count_conflicts(source.grammar, sizes.productions, words, begins);
+    let conflicts = count_conflicts(found);
     if room < 5 * conflicts {
         return Err(Halt::Records);
     }

@@ -13,12 +13,12 @@ use Rattle.starting.specs.Start.{Started}
 use Rattle.collecting.specs.Rows.{FoundAs}
 use Rattle.finding.specs.declared.Halt.{Halt}
 use Rattle.finding.specs.declared.Halt.TheVariants.{Records}
-use Rattle.finding.specs.declared.Sizes.{Sizes}
+use Rattle.finding.specs.declared.Source.{Source}
 use Rattle.searching.specs.Ready.{Ready}
 
-module _ (g : List ℕ) (sizes : Sizes) (sets : List ℕ) (start : ℕ) (s : Ready g sizes sets start) (ws bs : List ℕ) (n : ℕ) where
+module _ (source : Source) (start : ℕ) (s : Ready source start) (ws bs : List ℕ) (n : ℕ) where
   -- the search that state 0 begins
-  abbrev pub begun : Started s.T start s.room ws bs true × (n ≡ 1) → Search g sizes sets ws bs n
+  abbrev pub begun : Started s.T start s.room ws bs true × (n ≡ 1) → Search source ws bs n
   begun k = record {
     T = s.T;
     start = start;

@@ -1,14 +1,14 @@
 -- What a whole search gets: the grammar of some table in words, and its numbers. Assumes nothing: these are definitions.
-use Rattle.std.specs.Prelude.{ℕ, ◌≤◌, ◌<◌, List}
+use Rattle.std.specs.Prelude.{ℕ, ◌≤◌, ◌<◌}
 use Rattle.repr.specs.Meaning.{Table}
-use Rattle.closing.specs.Grammar.{Grammar}
-use Rattle.finding.specs.declared.Sizes.{Sizes}
+use Rattle.closing.specs.Grammar.{OfTable}
+use Rattle.finding.specs.declared.Source.{Source}
 use Rattle.starting.specs.Start.{Counted}
 
-pub record Ready (g : List ℕ) (sizes : Sizes) (sets : List ℕ) (start : ℕ) : Type 0 where
+pub record Ready (source : Source) (start : ℕ) : Type 0 where
   pub T : Table
   pub room : ℕ
-  pub grammar : Grammar T g sizes.productions sizes.terminals sets
-  pub counted : Counted T room sizes.nonterminals sizes.fixed sizes.limit
-  pub started : start < sizes.productions
-  pub small : sizes.fixed ≤ 65536
+  pub grammar : OfTable T source.grammar.words.now source.grammar.productions source.sets.now.terminals source.sets.now.map
+  pub counted : Counted T room source.sizes.nonterminals source.sizes.fixed source.sizes.limit
+  pub started : start < source.grammar.productions
+  pub small : source.sizes.fixed ≤ 65536

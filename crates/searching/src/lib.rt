@@ -24,9 +24,9 @@ pub fn search_states(
     kernel: &mut Kernel,
     edges: &mut Edges,
 ) -> Result<(), Halt>
-    requires ready { Ready source.grammar.now source.sizes source.first.now start }
-    requires item_limit_in_bounds { (item_limit * 5 ≤ length kernel.old.words) × (record_limit * 5 ≤ length words.old) × (length begins.old.items ≡ suc state_limit) × (get_or begins.old.items 0 0 ≡ 0) × (length edges.old.words ≡ 12160) × (length edges.old.rows ≡ 129) × (get_or edges.old.rows 0 0 ≡ 0) }
-    ensures { (s : Ready source.entry.grammar.now source.entry.sizes source.entry.first.now start) → FoundAs s.T start (found_to s.T start s.room) words.new begins.new.items edges.new.words edges.new.rows begins.new.states result }
+    requires ready { Ready source start }
+    requires front { (record_limit * 5 ≤ length words.old) × (get_or begins.old.items 0 0 ≡ 0) × (get_or edges.old.rows 0 0 ≡ 0) }
+    ensures { (s : Ready source.entry start) → FoundAs s.T start (found_to s.T start s.room) words.new begins.new.items edges.new.words edges.new.rows begins.new.states result }
 {
     first_state(source, start, words, begins, kernel)?;
     find_states(source, words, begins, kernel, edges)

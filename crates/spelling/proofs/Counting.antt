@@ -25,9 +25,6 @@ module _ (t : List ℕ) (e : check_of t ≡ Accepted) where
       let l = ap length (records-more t e from ne W.on next en) in
       record { on = index_next t e from ne W.on next en; few = omega (arith, W.few, h); left = omega (arith, W.left) }
 
-  pub counting_fewer : (all most from count next : ℕ) → (from ≡ 0 → ⊥) → next ≡ word_at t from 0 → Counting t all most from count → length (records_from t next) < length (records_from t from)
-  counting_fewer all most from count next ne en W = let l = ap length (records-more t e from ne W.on next en) in omega arith
-
   pub counting_most : (all most from count : ℕ) → count ≡ most → Counting t all most from count → most ≡ min all most
   counting_most all most from count h W = omega (arith, W.left)
 

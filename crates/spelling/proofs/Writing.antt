@@ -60,9 +60,6 @@ module _ (t : List ℕ) (e : check_of t ≡ Accepted) where
         let k : at < records_of (meaning t) = omega (arith, W.stands.within, (regions (meaning t)).long) in
         (omega (arith, W.room.few), omega (arith, W.room.long, W.grown.long))
 
-    pub writing_fewer : (next : ℕ) → next ≡ word_at t from 0 → length (records_from t next) < length (records_from t from)
-    writing_fewer next en = let l = ap length (records-more t e from ne W.on next en) in omega arith
-
     module _ (next one two three r : ℕ) (en : next ≡ word_at t from 0) (e1 : one ≡ word_at t from 1) (e2 : two ≡ word_at t from 2) (e3 : three ≡ word_at t from 3)
         (f : (next ≡ 0 → r ≡ 0) × ((next ≡ 0 → ⊥) → r ≡ at + 1)) where
       follower : r ≡ head_of (suc at) (records_from t next)

@@ -12,6 +12,9 @@ ghost use Rattle.spelling.specs.Spelled.{chain_from, chains_from, size_of, state
 ghost use Rattle.spelling.specs.Grown.{Grown, Room, Stands, records_from, same_quad, LooseIndex, chains_of, Heads, SizesOf};
 ghost use Rattle.spelling.specs.Outcome.{written_of, respell_of};
 
+mod chain;
+
+use chain::RecordIter;
 use repr::Refusal;
 use table::{AcceptedTable, put, word};
 
@@ -33,17 +36,11 @@ fn write_chain(table: AcceptedTable, out: &mut [u16], head: usize, begin: usize)
     requires loose_index { LooseIndex table.words.now head × (Stands (quads (meaning table.words.now)) begin (chain_from (same_quad table.words.now) begin (records_from table.words.now head)) × Room (meaning table.words.now) out.old) }
     ensures { (result ≡ begin + length (records_from table.entry.words.now head)) × Grown (meaning table.entry.words.now) out.old out.new begin result }
 {
-    let mut from = head;
     let mut at = begin;
-    while from != 0 {
-        let next = word(table.words, from, 0);
-        let one = word(table.words, from, 1);
-        let two = word(table.words, from, 2);
-        let three = word(table.words, from, 3);
-        let follower = next_of(next, at);
-        put(out, at, follower, one, two, three);
+    for record in (RecordIter { table, at: head }) {
+        let follower = next_of(record.next, at);
+        put(out, at, follower, record.one, record.two, record.three);
         at += 1;
-        from = next;
     }
     at
 }
@@ -73,13 +70,11 @@ fn count_chain(table: AcceptedTable, head: usize, most: usize) -> usize
     requires loose_index { LooseIndex table.words.now head × (most ≤ suc record_limit) }
     ensures { result ≡ min (length (records_from table.entry.words.now head)) most }
 {
-    let mut from = head;
     let mut count: usize = 0;
-    while from != 0 {
+    for _record in (RecordIter { table, at: head }) {
         if count == most {
             return most;
         }
-        from = word(table.words, from, 0);
         count += 1;
     }
     count

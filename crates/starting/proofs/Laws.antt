@@ -22,9 +22,9 @@ use Rattle.lookahead.proofs.Sets.{union-zero-left}
 use Rattle.build.specs.States.{places, closure, start_state}
 use Rattle.build.specs.Outcome.{sum, records, stops_at}
 use Rattle.build.proofs.Refusals.{stops-other}
-use Rattle.closing.specs.Grammar.{Grammar}
+use Rattle.closing.specs.Grammar.{OfTable}
 use Rattle.stored.specs.Stored.{Entry, entries, put_entry, held, packed}
-use Rattle.stored.proofs.Stored.{entries-put, length-put}
+use Rattle.stored.proofs.Stored.{entries-put}
 use Rattle.stored.proofs.Packed.{held_none, held-some}
 use Rattle.kept_states.specs.Made.{first, Holds}
 use Rattle.kept_states.proofs.Holds.{holds_more, length-packed}
@@ -78,9 +78,6 @@ single-some : (e : ℕ) → single e ≡ 0 → ⊥
 unfolding single
 single-some e q = power_some e q
 
-pub kernel_long : (ks ks' : List ℕ) (x s : ℕ) → ks' ≡ put_entry ks 0 x s → length ks' ≡ length ks
-kernel_long ks ks' x s q = ap length q ∙ length-put ks 0 x s
-
 -- its kernel in words
 module _ (ks ks' : List ℕ) (P start e s : ℕ) (room : 5 ≤ length ks) (few : e ≤ 63) (h : start < P) (es : s ≡ with 0 e) (put : ks' ≡ put_entry ks 0 (start * index_limit) s) where
   words_are : entries ks' 0 1 ≡ packed (set (replicate (index_limit * P) 0) (index_limit * start) (single e))
@@ -101,8 +98,8 @@ module _ (ks ks' : List ℕ) (P start e s : ℕ) (room : 5 ≤ length ks) (few :
   }
 
   -- closed
-  pub start-closed : (T : Table) (g sets S : List ℕ) → Grammar T g P e sets
-      → ((T : Table) (M : List ℕ) → Grammar T g P e sets → length M ≡ index_limit * P → entries ks' 0 1 ≡ packed M → take (index_limit * P) S ≡ closure T M) → take (index_limit * P) S ≡ start_state T start
+  pub start-closed : (T : Table) (g sets S : List ℕ) → OfTable T g P e sets
+      → ((T : Table) (M : List ℕ) → OfTable T g P e sets → length M ≡ index_limit * P → entries ks' 0 1 ≡ packed M → take (index_limit * P) S ≡ closure T M) → take (index_limit * P) S ≡ start_state T start
   unfolding start_state
   start-closed T g sets S G f =
       let a : index_limit * P ≡ places T = ap (λ (i : ℕ). index_limit * i) G.many in

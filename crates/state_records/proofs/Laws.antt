@@ -22,11 +22,11 @@ use Rattle.kept_states.specs.Kept.{state_in}
 use Rattle.finding.specs.Search.{symbol_of_code}
 use Rattle.taking.specs.Taking.{edge_of, edges_in}
 use Rattle.collecting.specs.Rows.{row_in}
-use Rattle.state_records.specs.Rows.{Begins, item_of, ItemsIn, EdgesIn}
+use Rattle.state_records.specs.Rows.{BeginsOf, item_of, ItemsIn, EdgesIn}
 
 -- lists one behind the other
 
-module _ {ℓ} {A : Type ℓ} (xss : List (List A)) (bs : List ℕ) (B : Begins xss bs) where
+module _ {ℓ} {A : Type ℓ} (xss : List (List A)) (bs : List ℕ) (B : BeginsOf xss bs) where
   place_is : (o k : ℕ) → k ≤ length xss → place_of o xss k ≡ o + get_or bs k 0
   place_is o zero h = place-start o xss ∙ omega (arith, B.front)
   place_is o (suc k) h =
@@ -134,7 +134,7 @@ module _ (E : List ℕ) (from past : ℕ) where
 
 -- the lists of all states
 
-module _ {ℓ} {A : Type ℓ} (U : Table) (g : State → List A) (bs : List ℕ) (B : Begins (map g U.states) bs) where
+module _ {ℓ} {A : Type ℓ} (U : Table) (g : State → List A) (bs : List ℕ) (B : BeginsOf (map g U.states) bs) where
   pub rows_few : length U.states ≤ state_limit
   rows_few = omega (arith, B.few, length_mapped g U.states)
 
@@ -152,7 +152,7 @@ module _ {ℓ} {A : Type ℓ} (U : Table) (g : State → List A) (bs : List ℕ)
 -- the list xs of state k stands where the words say, and so it is written
 module _ {ℓ} {A : Type ℓ} (U : Table) (f : ℕ → A → Quad) (g : State → List A) (o : ℕ)
     (stand : (k : ℕ) → k < length U.states → Stands (quads U) (place_of o (map g U.states) k) (chain_from f (place_of o (map g U.states) k) (g (state_at U k))))
-    (bs : List ℕ) (B : Begins (map g U.states) bs) (k at : ℕ) (h : k < length U.states) (e : at ≡ o) (xs : List A) (x : xs ≡ g (state_at U k)) where
+    (bs : List ℕ) (B : BeginsOf (map g U.states) bs) (k at : ℕ) (h : k < length U.states) (e : at ≡ o) (xs : List A) (x : xs ≡ g (state_at U k)) where
   rows_here : Stands (quads U) (at + get_or bs k 0) (chain_from f (at + get_or bs k 0) xs)
   rows_here = rw (x, e, ← rows_place U g bs B o k h) (stand k h)
 
@@ -196,16 +196,16 @@ module _ (U : Table) (E es : List ℕ) (I : EdgesIn U E es) (k at : ℕ) (h : k 
 -- a state's record
 
 module _ (U : Table) (g₀ : List ℕ) (R : Room U g₀) (s : ℕ) (h : s < length U.states) where
-  pub state_items : (bs : List ℕ) → Begins (item_lists U) bs → (items : ℕ) → items ≡ items_place U → items + get_or bs s 0 ≤ record_limit
+  pub state_items : (bs : List ℕ) → BeginsOf (item_lists U) bs → (items : ℕ) → items ≡ items_place U → items + get_or bs s 0 ≤ record_limit
   state_items bs B items e = let p = rows_place U (λ (q : State). q.items) bs B (items_place U) s h in omega (arith, (items_within U s h).before, R.few)
 
-  pub state_edges : (es : List ℕ) → Begins (edge_lists U) es → (edges : ℕ) → edges ≡ edges_at U → edges + get_or es s 0 ≤ record_limit
+  pub state_edges : (es : List ℕ) → BeginsOf (edge_lists U) es → (edges : ℕ) → edges ≡ edges_at U → edges + get_or es s 0 ≤ record_limit
   state_edges es D edges e = let p = rows_place U (λ (q : State). q.edges) es D (edges_at U) s h in omega (arith, (edges_within U s h).before, R.few)
 
   pub state_room : (at : ℕ) (g : List ℕ) → at ≡ states_at U → length g ≡ length g₀ → (at + s < record_limit) × ((at + s) * 4 + 3 < length g)
   state_room at g e l = let b = begins U in (omega (arith, R.few), omega (arith, R.long))
 
-  pub state_put : (bs es : List ℕ) (at items edges x y : ℕ) (g g' : List ℕ) → Begins (item_lists U) bs → Begins (edge_lists U) es → at ≡ states_at U → items ≡ items_place U → edges ≡ edges_at U → length g ≡ length g₀
+  pub state_put : (bs es : List ℕ) (at items edges x y : ℕ) (g g' : List ℕ) → BeginsOf (item_lists U) bs → BeginsOf (edge_lists U) es → at ≡ states_at U → items ≡ items_place U → edges ≡ edges_at U → length g ≡ length g₀
       → (get_or bs (s + 1) 0 - get_or bs s 0 ≡ 0 → x ≡ 0) × ((get_or bs (s + 1) 0 - get_or bs s 0 ≡ 0 → ⊥) → x ≡ items + get_or bs s 0)
       → (get_or es (s + 1) 0 - get_or es s 0 ≡ 0 → y ≡ 0) × ((get_or es (s + 1) 0 - get_or es s 0 ≡ 0 → ⊥) → y ≡ edges + get_or es s 0)
       → g' ≡ put_quad g (at + s) x y 0 0 → Grown U g₀ g (states_at U) (states_at U + s) → Grown U g₀ g' (states_at U) (states_at U + (s + 1))

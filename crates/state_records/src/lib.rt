@@ -9,30 +9,31 @@ ghost use Rattle.spelling.specs.Spelled.{chain_from, item_quad, edge_quad, item_
 ghost use Rattle.spelling.specs.Grown.{Grown, Room, Stands};
 ghost use Rattle.stored.specs.Stored.{entries};
 ghost use Rattle.taking.specs.Taking.{edges_in};
-ghost use Rattle.state_records.specs.Rows.{Begins, item_of, ItemsIn, EdgesIn};
+ghost use Rattle.state_records.specs.Rows.{BeginsOf, item_of, ItemsIn, EdgesIn};
 
+use kept_states::Begins;
 use repr::ProductionIndex;
 use spelling::{head_of, next_of};
 use table::put;
+use taking::Edges;
 
-// The states, from record `at` on: their items begin at record `items`, their edges at record `edges`.
+// The states, from record `at` on: their items begin at record `items`, their edges at record `ends`.
 pub fn write_states(
-    begins: &[usize; 129],
-    rows: &[usize; 129],
-    states: usize,
+    begins: &Begins,
+    edges: &Edges,
     at: usize,
     items: usize,
-    edges: usize,
+    ends: usize,
     out: &mut [u16],
 )
-    requires { (U : Table) × ((states ≡ length U.states) × ((at ≡ states_at U) × ((items ≡ items_place U) × ((edges ≡ edges_at U) × (Begins (item_lists U) begins.now × (Begins (edge_lists U) rows.now × Room U out.old)))))) }
-    ensures { (U : Table) → states ≡ length U.states → at ≡ states_at U → items ≡ items_place U → edges ≡ edges_at U → Begins (item_lists U) begins.now → Begins (edge_lists U) rows.now → Room U out.old → Grown U out.old out.new (states_at U) (productions_at U) }
+    requires { (U : Table) × ((begins.now.states ≡ length U.states) × ((at ≡ states_at U) × ((items ≡ items_place U) × ((ends ≡ edges_at U) × (BeginsOf (item_lists U) begins.now.items × (BeginsOf (edge_lists U) edges.now.rows × Room U out.old)))))) }
+    ensures { (U : Table) → begins.now.states ≡ length U.states → at ≡ states_at U → items ≡ items_place U → ends ≡ edges_at U → BeginsOf (item_lists U) begins.now.items → BeginsOf (edge_lists U) edges.now.rows → Room U out.old → Grown U out.old out.new (states_at U) (productions_at U) }
 {
-    for s in 0..states {
-        let item = begins[s];
-        let edge = rows[s];
-        let item_head = head_of(begins[s + 1] - item, items + item);
-        let edge_head = head_of(rows[s + 1] - edge, edges + edge);
+    for s in 0..begins.states {
+        let item = begins.items[s];
+        let edge = edges.rows[s];
+        let item_head = head_of(begins.items[s + 1] - item, items + item);
+        let edge_head = head_of(edges.rows[s + 1] - edge, ends + edge);
         put(out, at + s, item_head, edge_head, 0, 0);
     }
 }
@@ -58,18 +59,12 @@ fn write_state_items(words: &[u16], from: usize, past: usize, items: usize, out:
 }
 
 // The items of all states, from record `items` on.
-pub fn write_items(
-    words: &[u16],
-    begins: &[usize; 129],
-    states: usize,
-    items: usize,
-    out: &mut [u16],
-)
-    requires { (U : Table) × ((states ≡ length U.states) × ((items ≡ items_place U) × (ItemsIn U words.now begins.now × Room U out.old))) }
-    ensures { (U : Table) → states ≡ length U.states → items ≡ items_place U → ItemsIn U words.now begins.now → Room U out.old → Grown U out.old out.new (items_place U) (edges_at U) }
+pub fn write_items(words: &[u16], begins: &Begins, items: usize, out: &mut [u16])
+    requires { (U : Table) × ((begins.now.states ≡ length U.states) × ((items ≡ items_place U) × (ItemsIn U words.now begins.now.items × Room U out.old))) }
+    ensures { (U : Table) → begins.now.states ≡ length U.states → items ≡ items_place U → ItemsIn U words.now begins.now.items → Room U out.old → Grown U out.old out.new (items_place U) (edges_at U) }
 {
-    for k in 0..states {
-        write_state_items(words, begins[k], begins[k + 1], items, out);
+    for k in 0..begins.states {
+        write_state_items(words, begins.items[k], begins.items[k + 1], items, out);
     }
 }
 
@@ -93,17 +88,11 @@ fn write_state_edges(edges: &[u16; 12160], from: usize, past: usize, at: usize, 
 }
 
 // The edges of all states, from record `at` on.
-pub fn write_edges(
-    edges: &[u16; 12160],
-    rows: &[usize; 129],
-    states: usize,
-    at: usize,
-    out: &mut [u16],
-)
-    requires { (U : Table) × ((states ≡ length U.states) × ((at ≡ edges_at U) × (EdgesIn U edges.now rows.now × Room U out.old))) }
-    ensures { (U : Table) → states ≡ length U.states → at ≡ edges_at U → EdgesIn U edges.now rows.now → Room U out.old → Grown U out.old out.new (edges_at U) (records_of U) }
+pub fn write_edges(edges: &Edges, states: usize, at: usize, out: &mut [u16])
+    requires { (U : Table) × ((states ≡ length U.states) × ((at ≡ edges_at U) × (EdgesIn U edges.now.words edges.now.rows × Room U out.old))) }
+    ensures { (U : Table) → states ≡ length U.states → at ≡ edges_at U → EdgesIn U edges.now.words edges.now.rows → Room U out.old → Grown U out.old out.new (edges_at U) (records_of U) }
 {
     for k in 0..states {
-        write_state_edges(edges, rows[k], rows[k + 1], at, out);
+        write_state_edges(&edges.words, edges.rows[k], edges.rows[k + 1], at, out);
     }
 }

@@ -9,21 +9,21 @@ use lib.ListN.{length}
 use borrow.Author.Tests.{ltb-true}
 use Rattle.repr.specs.Sizes.{record_limit}
 use Rattle.repr.specs.Meaning.{Table}
+use Rattle.repr.specs.Reply.{Reply, answered, refused}
 use Rattle.repr.proofs.Lists.{cases}
 use Rattle.table.specs.Checked.{Checked, Accepted, Refused as NotAccepted}
 use Rattle.table.specs.Decoded.{meaning}
 use Rattle.table.specs.Refusals.{check_of}
 use Rattle.table.proofs.Chains.{and-true}
-use Rattle.build.specs.Outcome.{Outcome, refused, full, outcome}
+use Rattle.build.specs.Outcome.{Outcome, refused as stopped, full, outcome}
 use Rattle.build.proofs.Refusals.{outcome-full}
 use Rattle.builder.specs.Outcome.{Left, build_scratch, start_is_fit, conflict_count, built_of, built_in, build_of}
 use Rattle.builder.specs.declared.Built.{Built}
-use Rattle.builder.specs.declared.Built.TheVariants.{States, Refused}
 use Rattle.builder.proofs.Written.{build-room}
 
-unfoldable Few : ℕ → ℕ → Built → Type 0
-Few room words (States n m) = (n ≤ min room record_limit) × (5 * m ≤ words)
-Few room words (Refused n r) = Unit {0}
+unfoldable Few : ℕ → ℕ → Reply Built → Type 0
+Few room words (answered b) = (b.records ≤ min room record_limit) × (5 * b.conflicts ≤ words)
+Few room words (refused n r) = Unit {0}
 
 module _ (t : List ℕ) (start : ℕ) (scratch out conflicts : List ℕ) where
   abbrev T : Table
@@ -34,7 +34,7 @@ module _ (t : List ℕ) (start : ℕ) (scratch out conflicts : List ℕ) where
 
   in_room : check_of t ≡ Accepted → start_is_fit T start ≡ true → (o : Outcome) → outcome T start (length out / 4) (length conflicts) ≡ o → FewOf (built_of T scratch out conflicts o)
   unfolding Few built_of conflict_count start_is_fit
-  in_room a s (refused n) e = tt
+  in_room a s (stopped n) e = tt
   in_room a s (full Rs es) e =
       (build-room t a start (length out / 4) (length conflicts) (ltb-true start (length T.productions) (and-true _ _ s).0) Rs es e, (outcome-full T start (length out / 4) (length conflicts) Rs es e).2)
 
@@ -49,9 +49,9 @@ module _ (t : List ℕ) (start : ℕ) (scratch out conflicts : List ℕ) where
   few Accepted e = rw (e, build_of) (found e)
   few (NotAccepted n r) e = rw (e, build_of) tt
 
-  pub room-kept : (r : Built) (ss os cs : List ℕ) (n m : ℕ) → record { answer = r; scratch = ss; out = os; conflicts = cs } ≡ build_of t start scratch out conflicts → r ≡ States n m
-      → (n ≤ record_limit) × (n * 4 ≤ length out) × (m * 5 ≤ length conflicts)
+  pub room-kept : (r : Reply Built) (ss os cs : List ℕ) (b : Built) → record { answer = r; scratch = ss; out = os; conflicts = cs } ≡ build_of t start scratch out conflicts → r ≡ answered b
+      → (b.records ≤ record_limit) × (b.records * 4 ≤ length out) × (b.conflicts * 5 ≤ length conflicts)
   unfolding Few
-  room-kept r ss os cs n m e h =
+  room-kept r ss os cs b e h =
       let f = subst (Few (length out / 4) (length conflicts)) (ap (λ (l : Left). l.answer) (sym e) ∙ h) (few (check_of t) refl) in
       (omega (arith, f.0), omega (arith, f.0), omega (arith, f.1))

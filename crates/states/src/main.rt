@@ -54,10 +54,10 @@ fn build_input<R: io::Input + Print + Eprint>(rt: &R) -> Result<(), Stop> {
         &mut out,
         &mut conflicts,
     ) {
-        Built::Refused(refusal, place) => Err(Stop::Refused(refusal, place)),
-        Built::States(records, many) => {
-            let past = records as usize * 4;
-            let end = many as usize * 5;
+        Err(refusal) => Err(Stop::Refused(refusal.number(), refusal.place())),
+        Ok(built) => {
+            let past = built.records as usize * 4;
+            let end = built.conflicts as usize * 5;
             Ok(write_states(rt, &out[..past], &conflicts[..end], &mut bytes)?)
         }
     }

@@ -11,7 +11,7 @@ use Rattle.build.specs.States.{places, from, begins, moved_to, moved}
 use Rattle.build.proofs.Closure.{behind_fit}
 use Rattle.build.proofs.Goto.{drop-long, length_moved, moved_at, moved_to-zero, symbols_short}
 use Rattle.lr1_core.specs.Cursor.{symbol_code, cursor_code, code_in}
-use Rattle.closing.specs.Grammar.{Grammar}
+use Rattle.closing.specs.Grammar.{OfTable}
 use Rattle.closing.proofs.Grammar.{production_at_lem}
 use Rattle.stored.specs.Stored.{Entry, held, packed, moved_over}
 
@@ -139,7 +139,7 @@ held_turn M n a z =
     let e : 0 + n ≡ n = omega arith in
     sym (held_none M 0 (up_from 1 n) a) ∙ ap (held M) (up_from-last 0 n) ∙ held-last M (up_from 0 n) (0 + n) (rw e z)
 
-module _ (T : Table) (g : List ℕ) (k e : ℕ) (sets : List ℕ) (G : Grammar T g k e sets) (X : Symbol) (fit : SymbolFits T X) where
+module _ (T : Table) (g : List ℕ) (k e : ℕ) (sets : List ℕ) (G : OfTable T g k e sets) (X : Symbol) (fit : SymbolFits T X) where
   from-fits : (x : ℕ) → All (SymbolFits T) (from T x)
   unfolding All
   from-fits x = by (from T x) refl

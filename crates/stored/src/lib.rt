@@ -3,7 +3,7 @@
 #![tactic(auto)]
 
 ghost use Rattle.std.specs.Prelude.{◌≡◌, ℕ, ◌+◌, ◌-◌, ◌*◌, ◌^◌, ◌<◌, ◌≤◌, List, MatchOption, length};
-ghost use Rattle.repr.specs.Sizes.{index_limit, record_limit};
+ghost use Rattle.repr.specs.Sizes.{index_limit, item_limit, record_limit};
 ghost use Rattle.repr.specs.Packed.{Packed};
 ghost use Rattle.stored.specs.Stored.{entry_at, entries, put_entry, moved_over, is_same_kernel, Appended, MetAfter};
 
@@ -54,17 +54,13 @@ pub fn write_item(words: &mut [u16], at: usize, item: StoredItem)
 pub struct Kernel {
     pub words: [u16; 10880],
     pub many: usize,
+    pub ghost room: { (many ≤ item_limit) × (length words ≡ item_limit * 5) },
 }
 
 // One item, moved over the symbol and put behind the kernel's, if its cursor stands there.
-fn move_one(
-    grammar: Grammar,
-    read: StoredItem,
-    symbol: usize,
-    kernel: &mut Kernel,
-)
+fn move_one(grammar: Grammar, read: StoredItem, symbol: usize, kernel: &mut Kernel)
     requires within { (read.place < index_limit * grammar.productions) × (read.set < 2 ^ 64) }
-    requires many_lt_record_limit { (kernel.old.many < record_limit) × (kernel.old.many * 5 + 5 ≤ length kernel.old.words) }
+    requires many_lt_item_limit { kernel.old.many < item_limit }
     ensures { Appended grammar.entry.words.now symbol read.place read.set kernel.old.words kernel.new.words kernel.old.many kernel.new.many }
 {
     let place = read.place;
@@ -92,9 +88,9 @@ pub fn move_over(
     symbol: usize,
     kernel: &mut Kernel,
 )
-    requires from_le_past { (from ≤ past) × (past ≤ record_limit) × (past * 5 ≤ length words.now) × ((past - from) * 5 ≤ length kernel.old.words) }
+    requires from_le_past { (from ≤ past) × (past ≤ record_limit) × (past * 5 ≤ length words.now) × (past - from ≤ item_limit) }
     requires by_index { (m : ℕ) → from ≤ m → m < past → (entry_at words.now m).place < index_limit * grammar.productions }
-    ensures { (kernel.new.many ≤ past - from) × (length kernel.new.words ≡ length kernel.old.words) × (entries kernel.new.words 0 kernel.new.many ≡ moved_over grammar.entry.words.now symbol (entries words.now from (past - from))) }
+    ensures { (kernel.new.many ≤ past - from) × (entries kernel.new.words 0 kernel.new.many ≡ moved_over grammar.entry.words.now symbol (entries words.now from (past - from))) }
 {
     kernel.many = 0;
     for at in from..past {
@@ -105,7 +101,7 @@ pub fn move_over(
 
 // How many of a kernel's items are met after one item more: an index-0 item is passed over. None if the item is not the kernel's next.
 fn meet_one(mine: StoredItem, kernel: &Kernel, met: usize) -> Option<usize>
-    requires { (met ≤ kernel.now.many) × (kernel.now.many ≤ record_limit) × (kernel.now.many * 5 ≤ length kernel.now.words) }
+    requires { met ≤ kernel.now.many }
     ensures { MatchOption result (MetAfter mine.place mine.set kernel.now.words met kernel.now.many (kernel.now.many + 1)) (λ n. (n ≤ kernel.now.many) × MetAfter mine.place mine.set kernel.now.words met kernel.now.many n) }
 {
     if mine.place % ProductionIndex::INDEXES == 0 {
@@ -120,7 +116,7 @@ fn meet_one(mine: StoredItem, kernel: &Kernel, met: usize) -> Option<usize>
 
 // Whether the items number `from` up to `past` have exactly these past index 0.
 pub fn same_kernel(words: &[u16], from: usize, past: usize, kernel: &Kernel) -> bool
-    requires { (from ≤ past) × (past ≤ record_limit) × (past * 5 ≤ length words.now) × (kernel.now.many ≤ record_limit) × (kernel.now.many * 5 ≤ length kernel.now.words) }
+    requires { (from ≤ past) × (past ≤ record_limit) × (past * 5 ≤ length words.now) }
     ensures { result ≡ is_same_kernel (entries words.now from (past - from)) (entries kernel.now.words 0 kernel.now.many) }
 {
     let mut met = 0;

@@ -18,14 +18,14 @@ use Rattle.kept_states.specs.Made.{Holds}
 use Rattle.finding.specs.Steps.{Reach, stops, goto_to, Told, stopped, told, behind, take_to}
 use Rattle.finding.specs.Search.{Search, Keeps, Reached, refusal_of, symbol_of_code, CodeFits}
 use Rattle.finding.specs.declared.Halt.{Halt}
-use Rattle.finding.specs.declared.Sizes.{Sizes}
+use Rattle.finding.specs.declared.Source.{Source}
 use Rattle.finding.proofs.Steps.{to_nowhere, to_stops, to_reach}
 use Rattle.taking.specs.Taking.{edge_of, edges_in, code_of, TookOne, passed, reached, Tried, TakenAs}
 
 -- the same search later on
-abbrev pub search_on : (g : List ℕ) (sizes : Sizes) (sets ws bs ws' bs' : List ℕ) (n q : ℕ) (s : Search g sizes sets ws bs n) (Qs : List (List ℕ)) → q ≡ length Qs → Holds s.T s.start ws' bs' Qs
-    → Search g sizes sets ws' bs' q
-search_on g sizes sets ws bs ws' bs' n q s Qs m H = record {
+abbrev pub search_on : (source : Source) (ws bs ws' bs' : List ℕ) (n q : ℕ) (s : Search source ws bs n) (Qs : List (List ℕ)) → q ≡ length Qs → Holds s.T s.start ws' bs' Qs
+    → Search source ws' bs' q
+search_on source ws bs ws' bs' n q s Qs m H = record {
   T = s.T;
   start = s.start;
   room = s.room;

@@ -19,6 +19,7 @@ pub struct Edges {
     pub words: [u16; 12160],
     pub rows: [usize; 129],
     pub many: usize,
+    pub ghost long: { (length words ≡ 12160) × (length rows ≡ 129) },
 }
 
 // Symbol j of those tried, by its number.
@@ -43,9 +44,9 @@ fn take_one(
     kernel: &mut Kernel,
     edges: &mut Edges,
 ) -> Result<(), Halt>
-    requires search { Search source.grammar.now source.sizes source.first.now words.old begins.old.items begins.old.states }
-    requires k_lt_states { (k < begins.old.states) × CodeFits source.sizes.nonterminals source.sizes.terminals symbol × (symbol < 95) × (item_limit * 5 ≤ length kernel.old.words) × (length edges.old.words ≡ 12160) × (edges.old.many < 12160) }
-    ensures { (length kernel.new.words ≡ length kernel.old.words) × (length edges.new.words ≡ 12160) × (edges.new.rows ≡ edges.old.rows) × ((s : Search source.entry.grammar.now source.entry.sizes source.entry.first.now words.old begins.old.items begins.old.states) → Tried s.T s.start s.Rs (goto_to s.T s.room (get_or s.Rs k []) s.Rs (symbol_of_code symbol)) symbol words.new begins.new.items edges.old.words edges.new.words edges.old.many begins.new.states edges.new.many result) }
+    requires search { Search source words.old begins.old.items begins.old.states }
+    requires k_lt_states { (k < begins.old.states) × CodeFits source.sizes.nonterminals source.sets.now.terminals symbol × (symbol < 95) × (edges.old.many < 12160) }
+    ensures { (edges.new.rows ≡ edges.old.rows) × ((s : Search source.entry words.old begins.old.items begins.old.states) → Tried s.T s.start s.Rs (goto_to s.T s.room (get_or s.Rs k []) s.Rs (symbol_of_code symbol)) symbol words.new begins.new.items edges.old.words edges.new.words edges.old.many begins.new.states edges.new.many result) }
 {
     match goto_over(source, words, begins, k, symbol, kernel)? {
         None => Ok(()),
@@ -67,12 +68,12 @@ pub fn take_state(
     kernel: &mut Kernel,
     edges: &mut Edges,
 ) -> Result<(), Halt>
-    requires search { Search source.grammar.now source.sizes source.first.now words.old begins.old.items begins.old.states }
-    requires k_lt_found { (k < begins.old.states) × (item_limit * 5 ≤ length kernel.old.words) × (length edges.old.words ≡ 12160) × (edges.old.many + 95 ≤ 12160) }
-    ensures { (length kernel.new.words ≡ length kernel.old.words) × (length edges.new.words ≡ 12160) × (edges.new.rows ≡ edges.old.rows) × ((s : Search source.entry.grammar.now source.entry.sizes source.entry.first.now words.old begins.old.items begins.old.states) → TakenAs s.T s.start s.Rs (take_to s.T s.room (get_or s.Rs k []) s.Rs (tried s.T)) words.new begins.new.items edges.old.words edges.new.words edges.old.many begins.new.states edges.new.many result) }
+    requires search { Search source words.old begins.old.items begins.old.states }
+    requires k_lt_found { (k < begins.old.states) × (edges.old.many + 95 ≤ 12160) }
+    ensures { (edges.new.rows ≡ edges.old.rows) × ((s : Search source.entry words.old begins.old.items begins.old.states) → TakenAs s.T s.start s.Rs (take_to s.T s.room (get_or s.Rs k []) s.Rs (tried s.T)) words.new begins.new.items edges.old.words edges.new.words edges.old.many begins.new.states edges.new.many result) }
 {
     let nonterminals = source.sizes.nonterminals;
-    let symbols = nonterminals + source.sizes.terminals as usize;
+    let symbols = nonterminals + source.sets.terminals as usize;
     for j in 0..symbols {
         let symbol = code_of(nonterminals, j);
         take_one(source, words, begins, k, symbol, kernel, edges)?;

@@ -15,31 +15,17 @@ use lr1_core::{Item, suffix};
 use repr::{Grammar, NonterminalString, ProductionIndex};
 
 // Whether an item's suffix may derive the empty string.
-fn item_ends(
-    grammar: Grammar,
-    sets: &FirstSets,
-    production: usize,
-    index: usize,
-) -> bool
+fn item_ends(grammar: Grammar, sets: &FirstSets, item: Item) -> bool
     requires map_value { sets.now.map ≡ sets_of_first sets.now.terminals (productions_in grammar.words.now grammar.productions) }
-    requires production_lt_productions { (production < grammar.productions) × (index ≤ length (listed (symbol_words grammar.words.now production))) }
-    ensures { (T : meaning-of.Table) → T.productions ≡ productions_in grammar.entry.words.now grammar.entry.productions → T.terminals ≡ sets.now.terminals → result ≡ nullable T (suffix_of T (item_at production index)) }
+    requires within { (item.production < grammar.productions) × (item.index ≤ length (listed (symbol_words grammar.words.now item.production))) }
+    ensures { (T : meaning-of.Table) → T.productions ≡ productions_in grammar.entry.words.now grammar.entry.productions → T.terminals ≡ sets.now.terminals → result ≡ nullable T (suffix_of T (item_at item.production item.index)) }
 {
-    let item = Item {
-        production: production,
-        index: index,
-    };
     let rest = suffix(grammar, item);
     sets.first0(rest).nullable
 }
 
 // The flags of one production's items.
-fn production_ends(
-    grammar: Grammar,
-    sets: &FirstSets,
-    ends: &mut [u64],
-    production: usize,
-)
+fn production_ends(grammar: Grammar, sets: &FirstSets, ends: &mut [u64], production: usize)
     requires map_value { sets.now.map ≡ sets_of_first sets.now.terminals (productions_in grammar.words.now grammar.productions) }
     requires production_lt_productions { (production < grammar.productions) × (length ends.old ≡ item_flags) }
     ensures { (T : meaning-of.Table) → T.productions ≡ productions_in grammar.entry.words.now grammar.entry.productions → T.terminals ≡ sets.now.terminals → EndsTo T ends.old (production * index_limit) → EndsTo T ends.new ((production + 1) * index_limit) }
@@ -50,18 +36,14 @@ fn production_ends(
     };
     let past = item.length(grammar) + 1;
     for index in 0..past {
-        if item_ends(grammar, sets, production, index) {
+        if item_ends(grammar, sets, Item { production, index }) {
             put(ends, production * ProductionIndex::INDEXES + index);
         }
     }
 }
 
 // The flags of all items, made once: tracing asks for each item that it meets whether its suffix is nullable.
-pub fn suffix_ends(
-    grammar: Grammar,
-    sets: &FirstSets,
-    ends: &mut [u64],
-)
+pub fn suffix_ends(grammar: Grammar, sets: &FirstSets, ends: &mut [u64])
     requires map_value { sets.now.map ≡ sets_of_first sets.now.terminals (productions_in grammar.words.now grammar.productions) }
     requires ends_value { ends.old ≡ replicate item_flags 0 }
     ensures { (T : meaning-of.Table) → T.productions ≡ productions_in grammar.entry.words.now grammar.entry.productions → T.terminals ≡ sets.now.terminals → Ends T ends.new }

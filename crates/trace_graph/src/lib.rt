@@ -99,6 +99,7 @@ impl TraceGraphNode {
 }
 
 // A node in words while the code works: of kind 0 the nonterminal `number`, of kind 1 the item at `index` of production `number`.
+// A lent graph is read before it is checked, so an enum would have a third variant in every match, as `TraceGraphNode` has at the entry.
 #[derive(Clone, Copy, PartialEq, Eq)]
 pub struct Node {
     pub kind: usize,
@@ -242,6 +243,7 @@ fn bucket_of(grammar: Grammar, edge: TraceEdge) -> usize
 }
 
 // Whether an equal edge is among the first k edges: only those in the edge's bucket are looked at.
+// Its links are words, 0 at the end: an iterator for this one loop would be longer than the loop.
 pub fn find(
     grammar: Grammar,
     n: usize,

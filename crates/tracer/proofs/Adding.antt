@@ -1,5 +1,5 @@
 -- The edges that tracing adds, in one word each. Assumes nothing.
-use Rattle.std.proofs.Common.{◌≡◌, ℕ, ◌+◌, ◌*◌, ◌<◌, Bool, true, false, eqb, length, sym, refl, arith, eqb-true}
+use Rattle.std.proofs.Common.{◌≡◌, ℕ, ◌<◌, Bool, true, false, eqb, length, sym, arith, eqb-true}
 use borrow.Author.Tests.{eqb-false}
 use Rattle.repr.specs.Meaning.{Item, Table, TableFits, ItemFits}
 use Rattle.repr.proofs.Lists.{cases}

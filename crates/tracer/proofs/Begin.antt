@@ -1,7 +1,7 @@
 -- A trace begun: no edge, no flag, no pair; and the states in which an item begins. Assumes nothing.
-use Rattle.std.proofs.Common.{◌≡◌, ℕ, ◌*◌, ◌<◌, ◌≤◌, true, List, [], length, get_or, take, set, replicate, sym, refl, ap, ◌∙◌, arith, get_or-set_same}
-use Rattle.repr.specs.Lists.{mem, some?}
-use Rattle.repr.specs.Meaning.{Production, Table, ItemFits, All}
+use Rattle.std.proofs.Common.{◌≡◌, ℕ, ◌*◌, ◌<◌, ◌≤◌, true, List, [], length, take, replicate, sym, refl, ap, ◌∙◌}
+use Rattle.repr.specs.Lists.{mem}
+use Rattle.repr.specs.Meaning.{Production, Table, ItemFits}
 use Rattle.repr.specs.Listed.{listed, list_is_fit}
 use Rattle.repr.specs.Packed.{symbol_words, productions_in}
 use Rattle.repr.proofs.Lists.{mem-nil}
@@ -9,7 +9,7 @@ use Rattle.lr1_core.specs.Items.{symbol_sets}
 use Rattle.table.specs.Decoded.{meaning}
 use Rattle.table.proofs.Decoding.{fits}
 use Rattle.state_graph.specs.Walk.{traced_back}
-use Rattle.trace_graph.specs.Graph.{at_nonterminal, at_item, TraceEdge, empty_graph}
+use Rattle.trace_graph.specs.Graph.{at_nonterminal, at_item, TraceEdge}
 use Rattle.trace_graph.specs.Fits.{item_is_fit}
 use Rattle.trace.specs.Traced.{untraced, add_to, owner_of, prefix_of, in_turn, pairs}
 use Rattle.trace.specs.Shift.{epsilon, shift_trace, shift_edges}
@@ -18,7 +18,7 @@ use Rattle.trace.proofs.Traced.{item_fits}
 use Rattle.trace.proofs.EndsLaws.{fits-words, prefix-fits, before_is}
 use Rattle.trace.proofs.Fuel.{back_inside}
 use Rattle.bits.proofs.Laws.{zeros_none}
-use Rattle.codes.specs.Coded.{codes_room, Coded}
+use Rattle.codes.specs.Coded.{Coded}
 use Rattle.tracer.specs.Held.{Held, Working}
 
 -- edges in words, and no pair entered

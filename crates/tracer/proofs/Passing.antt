@@ -1,7 +1,7 @@
 -- The test whether a state's items lead to nothing new (specs/Passed of trace): of one item, and of a chain from the front. Assumes nothing.
-use Rattle.std.proofs.Common.{◌≡◌, ℕ, zero, suc, ◌+◌, ◌*◌, ◌<◌, ◌≤◌, true, false, eqb, List, [], ◌∷◌, length, get_or, drop, sym, refl, ap, ◌∙◌, arith, ltb-false}
+use Rattle.std.proofs.Common.{◌≡◌, ℕ, zero, suc, ◌+◌, ◌*◌, ◌<◌, ◌≤◌, true, false, List, [], ◌∷◌, length, get_or, drop, sym, refl, ap, ◌∙◌, arith, ltb-false}
 use Rattle.repr.specs.Lists.{some?}
-use Rattle.repr.specs.Meaning.{Item, Table, TableFits, ItemFits, All, state_at}
+use Rattle.repr.specs.Meaning.{Item, ItemFits, All, state_at}
 use Rattle.repr.specs.Listed.{listed}
 use Rattle.repr.specs.Packed.{symbol_words}
 use Rattle.repr.proofs.Lists.{clash}
@@ -11,17 +11,14 @@ use Rattle.table.specs.Decoded.{meaning, items_from}
 use Rattle.table.specs.Index.{ItemIndex, ItemRead}
 use Rattle.table.proofs.Decoding.{fits}
 use Rattle.trace_graph.specs.Graph.{TraceEdge, is_same_edge}
-use Rattle.trace.specs.Traced.{owner_of, can_shift}
-use Rattle.trace.specs.Edges.{epsilon_edge, edge_to_nonterminal}
+use Rattle.trace.specs.Traced.{can_shift}
+use Rattle.trace.specs.Edges.{epsilon_edge}
 use Rattle.trace.specs.Passed.{ItemPassed}
 use Rattle.trace.proofs.Fuel.{owner_small}
 use Rattle.bits.specs.Bits.{bit_at}
-use Rattle.codes.specs.Codes.{code_of, key_of}
 use Rattle.codes.specs.Coded.{Coded}
-use Rattle.codes.proofs.Coding.{there}
 use Rattle.tracer.specs.Held.{Working}
 use Rattle.tracer.specs.Clear.{Clear}
-use Rattle.tracer.proofs.Adding.{epsilon_way, way_traced}
 use Rattle.tracer.proofs.Turns.{items_none, work_many, work_owner, work_shift}
 
 -- the item's production is packed, and its nonterminal is in range

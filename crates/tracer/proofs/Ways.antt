@@ -1,5 +1,5 @@
 -- The ways through a trace: refusals 9, 11 and 12, and the graph handed over. Assumes nothing.
-use Rattle.std.proofs.Common.{◌≡◌, ℕ, ◌<◌, ◌≤◌, Bool, true, false, not, ◌&&◌, ltb, leb, List, ◌++◌, length, get_or, drop, sym, refl, ap, ◌∙◌, le-ltb, lt-ltb, le-leb}
+use Rattle.std.proofs.Common.{◌≡◌, ℕ, ◌<◌, ◌≤◌, Bool, true, false, ◌&&◌, ltb, leb, List, ◌++◌, length, get_or, drop, sym, refl, ap, ◌∙◌, le-ltb, lt-ltb, le-leb}
 use borrow.Author.Tests.{lt-leb}
 use Rattle.repr.specs.Reply.{answered, refused}
 use Rattle.repr.specs.Sizes.{production_limit, edge_limit, edge_place, graph_room, scratch_words}
@@ -18,9 +18,7 @@ use Rattle.codes.specs.Coded.{Coded, Leasts}
 use Rattle.codes.specs.Carried.{Carried}
 use Rattle.table.specs.Refusals.{check_of}
 use Rattle.table.specs.Index.{CountsOf}
-use Rattle.trace.specs.Shift.{shift_edges}
-use Rattle.trace.specs.Reduce.{reduce_edges}
-use Rattle.tracer.specs.Built.{Asked, edges_by}
+use Rattle.tracer.specs.Built.{Asked}
 use Rattle.tracer.specs.Held.{Working}
 use Rattle.tracer.proofs.Words.{words_long}
 

@@ -109,7 +109,10 @@ fn is_passed(tracer: Tracer, trace: &OpenTrace, before: usize, item: Item) -> bo
     if nonterminal >= NonterminalString::LIMIT {
         return true;
     }
-    if !is_set(&trace.entered, before * NonterminalString::LIMIT + nonterminal) {
+    if !is_set(
+        &trace.entered,
+        before * NonterminalString::LIMIT + nonterminal,
+    ) {
         return true;
     }
     if !is_known(tracer, &trace.edges, item) {
@@ -191,7 +194,10 @@ fn passes_over(
     if before >= StateIndex::LIMIT {
         return false;
     }
-    if !is_set(&trace.entered, before * NonterminalString::LIMIT + nonterminal) {
+    if !is_set(
+        &trace.entered,
+        before * NonterminalString::LIMIT + nonterminal,
+    ) {
         return false;
     }
     adds_nothing(tracer, trace, before, known, state)

@@ -1,3 +1,4 @@
 pub mod View
 pub mod Trial
 pub mod Steps
+pub mod Blank

@@ -7,21 +7,60 @@ ghost use Rattle.trace_graph.specs.Fits.{graph_fits};
 ghost use Rattle.trace_graph.specs.Index.{index_room};
 ghost use Rattle.trace_graph.specs.Values.{node_is, node_value_fits};
 ghost use Rattle.enumerator.specs.Lister.{owner_of_node};
+ghost use Rattle.view.specs.Blank.{Blank};
 ghost use Rattle.view.specs.View.{latest_room, slot_of, source_of, Labelled, EdgeRanged, View as Viewing};
 
 use crate::View;
+use lr1_core::Item;
 use repr::{Grammar, ProductionIndex, word};
 use trace_graph::{Node, check_edge, read_edge};
 
+// The lists of a view while it is made, and by edge the nonterminal that it comes from: View's fields but the labels' items.
+#[derive(Drop)]
+pub struct ViewLists {
+    pub sources: [u8; View::EDGES],
+    pub older: [u16; View::EDGES],
+    pub latest: [u16; View::NODES],
+    pub owners: [u8; View::EDGES],
+}
+
+impl ViewLists {
+    // Of no edge.
+    pub fn new() -> ViewLists
+        ensures { Blank result }
+    {
+        ViewLists {
+            sources: [0u8; View::EDGES],
+            older: [0u16; View::EDGES],
+            latest: [0u16; View::NODES],
+            owners: [0u8; View::EDGES],
+        }
+    }
+
+    // Edge k put in, from a nonterminal or an item to a node by its number: the latest edge into that becomes the next older one.
+    pub fn put(&mut self, k: usize, source: usize, slot: usize, owner: usize)
+        requires { (k < edge_limit) × (source ≤ nonterminal_limit) × (slot < latest_room) × (owner < nonterminal_limit) }
+        ensures sources { self.new.sources ≡ set self.old.sources k source }
+        ensures older { self.new.older ≡ set self.old.older k (get_or self.old.latest slot 0) }
+        ensures latest { self.new.latest ≡ set self.old.latest slot (k + 1) }
+        ensures owners { self.new.owners ≡ set self.old.owners k owner }
+    {
+        self.sources[k] = source as u8;
+        self.older[k] = self.latest[slot];
+        self.latest[slot] = (k + 1) as u16;
+        self.owners[k] = owner as u8;
+    }
+}
+
 // The number of a node among those of the view from an item.
-pub fn slot(node: Node, production: usize, index: usize) -> usize
+pub fn slot(node: Node, start: Item) -> usize
     requires { node.kind ≡ 0 → node.number < nonterminal_limit }
-    ensures { (result ≡ slot_of (record { production = production; index = index }) (node_is node)) × (result < latest_room) }
+    ensures { (result ≡ slot_of (record { production = start.production; index = start.index }) (node_is node)) × (result < latest_room) }
 {
     if node.kind == 0 {
         return node.number;
     }
-    if node.number == production && node.index == index {
+    if node.number == start.production && node.index == start.index {
         return View::START;
     }
     View::START + 1
@@ -36,26 +75,6 @@ pub fn source(node: Node) -> usize
         return node.number + 1;
     }
     0
-}
-
-// Edge k put into the view: the latest edge into its target becomes the next older one.
-pub fn put(
-    k: usize,
-    source: usize,
-    slot: usize,
-    sources: &mut [u8],
-    older: &mut [u16],
-    latest: &mut [u16],
-)
-    requires k_lt_edge_limit { (k < edge_limit) × ((source ≤ nonterminal_limit) × (slot < latest_room)) }
-    requires sources_len { (length sources.old ≡ edge_limit) × ((length older.old ≡ edge_limit) × (length latest.old ≡ latest_room)) }
-    ensures sources_after { sources.new ≡ set sources.old k source }
-    ensures older_after { older.new ≡ set older.old k (get_or latest.old slot 0) }
-    ensures latest_after { latest.new ≡ set latest.old slot (k + 1) }
-{
-    sources[k] = source as u8;
-    older[k] = latest[slot];
-    latest[slot] = (k + 1) as u16;
 }
 
 // The nonterminal of a node: an item's is its production's.
@@ -75,61 +94,40 @@ fn view_edge(
     grammar: Grammar,
     graph: &[u16],
     k: usize,
-    production: usize,
-    index: usize,
-    owners: &mut [u8],
+    start: Item,
+    lists: &mut ViewLists,
     codes: &mut [u16],
-    sources: &mut [u8],
-    older: &mut [u16],
-    latest: &mut [u16],
 )
-    requires k_lt_edge_limit { (k < edge_limit) × (graph_room ≤ length graph.now) }
+    requires room { (k < edge_limit) × (graph_room ≤ length graph.now) × (length codes.old ≡ edge_limit) }
     requires edge_ranged { EdgeRanged (productions_in grammar.words.now grammar.productions) graph.now k }
-    requires owners_len { (length owners.old ≡ edge_limit) × (length codes.old ≡ edge_limit) }
-    requires sources_len { (length sources.old ≡ edge_limit) × ((length older.old ≡ edge_limit) × (length latest.old ≡ latest_room)) }
-    ensures owners_after { owners.new ≡ set owners.old k (owner_of_node (productions_in grammar.entry.words.now grammar.entry.productions) (edge_at graph.now k).source) }
-    ensures codes_after { codes.new ≡ set codes.old k ((edge_at graph.now k).label.production * index_limit + (edge_at graph.now k).label.index) }
-    ensures sources_after { sources.new ≡ set sources.old k (source_of (edge_at graph.now k).source) }
-    ensures older_after { older.new ≡ set older.old k (get_or latest.old (slot_of (record { production = production; index = index }) (edge_at graph.now k).target) 0) }
-    ensures latest_after { latest.new ≡ set latest.old (slot_of (record { production = production; index = index }) (edge_at graph.now k).target) (k + 1) }
+    ensures owners { lists.new.owners ≡ set lists.old.owners k (owner_of_node (productions_in grammar.entry.words.now grammar.entry.productions) (edge_at graph.now k).source) }
+    ensures codes { codes.new ≡ set codes.old k ((edge_at graph.now k).label.production * index_limit + (edge_at graph.now k).label.index) }
+    ensures sources { lists.new.sources ≡ set lists.old.sources k (source_of (edge_at graph.now k).source) }
+    ensures older { lists.new.older ≡ set lists.old.older k (get_or lists.old.latest (slot_of (record { production = start.production; index = start.index }) (edge_at graph.now k).target) 0) }
+    ensures latest { lists.new.latest ≡ set lists.old.latest (slot_of (record { production = start.production; index = start.index }) (edge_at graph.now k).target) (k + 1) }
 {
     let edge = read_edge(graph, k);
     let from = edge.source;
     let to = edge.target;
-    let label = edge.production;
-    let place = edge.index;
-    owners[k] = node_owner(grammar, from) as u8;
-    codes[k] = (label * ProductionIndex::INDEXES + place) as u16;
-    put(
-        k,
-        source(from),
-        slot(to, production, index),
-        sources,
-        older,
-        latest,
-    );
+    codes[k] = (edge.production * ProductionIndex::INDEXES + edge.index) as u16;
+    lists.put(k, source(from), slot(to, start), node_owner(grammar, from));
 }
 
-// Whether a lent graph is one (refusal 9), as `check_graph` asks; in the same pass its view for a listing from an item is made in zeroed words, and the label of every edge.
+// Whether a lent graph is one (refusal 9), as `check_graph` asks; in the same pass its view for a listing from an item is made in new lists, and the label of every edge.
 pub fn check_view(
     grammar: Grammar,
     n: usize,
     graph: &[u16],
-    production: usize,
-    index: usize,
+    start: Item,
     ix: &mut [u16],
-    owners: &mut [u8],
+    lists: &mut ViewLists,
     codes: &mut [u16],
-    sources: &mut [u8],
-    older: &mut [u16],
-    latest: &mut [u16],
 ) -> bool
-    requires n_bound { (n ≤ 32) × (graph_room ≤ length graph.now) }
+    requires n_bound { (n ≤ 32) × (graph_room ≤ length graph.now) × (length codes.old ≡ edge_limit) }
     requires ix_value { ix.old ≡ replicate index_room 0 }
-    requires owners_len { (length owners.old ≡ edge_limit) × (length codes.old ≡ edge_limit) }
-    requires sources_value { (sources.old ≡ replicate edge_limit 0) × ((older.old ≡ replicate edge_limit 0) × (latest.old ≡ replicate latest_room 0)) }
+    requires blank { Blank lists.old }
     ensures value { result ≡ graph_fits n (productions_in grammar.entry.words.now grammar.entry.productions) graph.now }
-    ensures viewing { result ≡ true → Viewing (edges_in graph.now) (record { production = production; index = index }) sources.new older.new latest.new × Labelled (productions_in grammar.entry.words.now grammar.entry.productions) (edges_in graph.now) owners.new codes.new }
+    ensures viewing { result ≡ true → Viewing (edges_in graph.now) (record { production = start.production; index = start.index }) lists.new.sources lists.new.older lists.new.latest × Labelled (productions_in grammar.entry.words.now grammar.entry.productions) (edges_in graph.now) lists.new.owners codes.new }
 {
     let count = word(graph, 0);
     if count > View::EDGES {
@@ -139,18 +137,7 @@ pub fn check_view(
         if !check_edge(grammar, n, graph, ix, k) {
             return false;
         }
-        view_edge(
-            grammar,
-            graph,
-            k,
-            production,
-            index,
-            owners,
-            codes,
-            sources,
-            older,
-            latest,
-        );
+        view_edge(grammar, graph, k, start, lists, codes);
     }
     true
 }

@@ -1,9 +1,6 @@
 use Rattle.augment.proofs.Uses.{passing_found, passing_step, passing_end, passing_fits}
 use Rattle.augment.proofs.stands_in.Goals as goal
 
-pub symbols-requires : goal.symbols-requires
-symbols-requires c = record { production_lt_productions = c.loop-p-test.true }
-
 pub is_among-requires : goal.is_among-requires
 is_among-requires c = passing_fits _ _ _ _ c.args.grammar.packed c.loop-p-test.true c.symbols.ensures
 

@@ -3,8 +3,8 @@ use Rattle.augment.proofs.Ways.{read-packed, read_grammar, own_inside, own_way, 
 use native.Mathlib.Omega.{arith}
 use Rattle.augment.proofs.with_start.Goals as goal
 
-pub own_start-requires : goal.own_start-requires
-own_start-requires c = (read-packed _ _ _ _ _ _ c.read_counts-counts.ensures c.requires.startable _ c.read_productions.ensures).packed
+pub invariant_of-own_start : goal.invariant_of-own_start
+invariant_of-own_start c = record { packed = (read-packed _ _ _ _ _ _ c.read_counts-counts.ensures c.requires.startable _ c.read_productions.ensures).packed }
 
 pub returns-then-nonterminals-eq-LIMIT : goal.returns-then-nonterminals-eq-LIMIT
 returns-then-nonterminals-eq-LIMIT c = many_nonterminals _ _ _ _ _ _ c.read_counts-counts.ensures c.requires.startable (sym (c.in_default.ensures _ (read-packed _ _ _ _ _ _ c.read_counts-counts.ensures c.requires.startable _ c.read_productions.ensures))) _ c.if-nonterminals-eq-LIMIT.true

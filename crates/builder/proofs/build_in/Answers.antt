@@ -13,7 +13,7 @@ pub slice_bounds-build_found-end-then-start_fits : goal.slice_bounds-build_found
 slice_bounds-build_found-end-then-start_fits c = sym (length-take-le build_scratch c.args.scratch.now c.if-scratch-lt-SCRATCH.false)
 
 pub build_found-answer-requires : goal.build_found-answer-requires
-build_found-answer-requires c = let l = length-take-le build_scratch c.args.scratch.now c.if-scratch-lt-SCRATCH.false in record { table_value = c.requires; start_value = (sym c.start_fits.ensures ∙ c.if-start_fits.true, omega (arith, l)) }
+build_found-answer-requires c = let l = length-take-le build_scratch c.args.scratch.now c.if-scratch-lt-SCRATCH.false in record { start_value = (sym c.start_fits.ensures ∙ c.if-start_fits.true, omega (arith, l)) }
 
 pub zero-requires : goal.zero-requires
 zero-requires c = let l = length_front {A = ℕ} c.args.scratch.now c.build_found-answer.new.words build_scratch c.build_found-answer.auto.words in omega (arith, l, c.if-scratch-lt-SCRATCH.false)

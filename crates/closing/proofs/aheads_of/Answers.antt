@@ -4,12 +4,6 @@ use Rattle.closing.proofs.aheads_of.Goals as goal
 pub loop-changed-init : goal.loop-changed-init
 loop-changed-init c = λ T G. turn_start T G.fits _ (front_sized T _ _ c.requires.flat G.packed.few G.many)
 
-pub feed_items-requires : goal.feed_items-requires
-feed_items-requires c = let G = c.requires.held.1 in (G.packed, rw G.tokens G.fits.few_terminals)
-
-pub feed_firsts-requires : goal.feed_firsts-requires
-feed_firsts-requires c = let G = c.requires.held.1 in (G.packed, rw G.tokens G.fits.few_terminals)
-
 pub loop-changed-smaller : goal.loop-changed-smaller
 loop-changed-smaller c = let T = c.requires.held.0 in let G = c.requires.held.1 in turn_less T _ _ _ _ G _ _ _ _ c.requires.flat _ _ _ (c.loop-changed.invariant T G) (c.feed_items.ensures T G) (c.feed_firsts.ensures T G) c.ne-changed.ensures (same_pointwise _ _) c.loop-changed-test.true
 

@@ -1,12 +1,12 @@
 use Rattle.std.proofs.Common.{◌+◌, ◌*◌, ◌++◌, take}
 use Rattle.repr.specs.Sizes.{index_limit}
 use Rattle.repr.specs.Meaning.{Table}
-use Rattle.closing.specs.Grammar.{Grammar}
+use Rattle.closing.specs.Grammar.{OfTable}
 use Rattle.closing.proofs.Rest.{left, Turn}
 use Rattle.closing.proofs.aheads_of.Given as goal
 
 abbrev pub invariant-loop-changed : goal.invariant-loop-changed
-invariant-loop-changed l = (T : Table) → Grammar T l.grammar l.productions l.sets.terminals l.sets.map → Turn T (take (index_limit * l.productions) l.kernel) l.aheads l.changed
+invariant-loop-changed l = (T : Table) → OfTable T l.grammar.words.now l.grammar.productions l.sets.terminals l.sets.map → Turn T (take (index_limit * l.grammar.productions) l.kernel) l.aheads l.changed
 
 abbrev pub decreases-loop-changed : goal.decreases-loop-changed
-decreases-loop-changed l = left (index_limit * l.productions + 32) l.changed (take (index_limit * l.productions) l.kernel ++ l.aheads)
+decreases-loop-changed l = left (index_limit * l.grammar.productions + 32) l.changed (take (index_limit * l.grammar.productions) l.kernel ++ l.aheads)

@@ -6,7 +6,7 @@ pub loop-place-init : goal.loop-place-init
 loop-place-init c = λ T G. items_none T _ _
 
 pub feed-requires : goal.feed-requires
-feed-requires c = (omega (arith, c.loop-place-test.true), c.args.sets.now.few)
+feed-requires c = omega (arith, c.loop-place-test.true)
 
 pub loop-place-preserved : goal.loop-place-preserved
 loop-place-preserved c = λ T G. items_more T _ _ _ _ _ _ _ _ _ G c.loop-place-test.true (c.loop-place.invariant T G) (c.feed.ensures T G)

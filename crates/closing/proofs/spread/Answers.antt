@@ -6,10 +6,10 @@ pub loop-production-init : goal.loop-production-init
 loop-production-init c = spread_none _ _ _
 
 pub bounds-aheads-nonterminal : goal.bounds-aheads-nonterminal
-bounds-aheads-nonterminal c = omega (arith, c.args.grammar.packed.owner _ c.loop-production-test.true, c.word-nonterminal.ensures.0)
+bounds-aheads-nonterminal c = omega (arith, c.args.grammar.packed.owner _ c.loop-production-test.true, c.owner-nonterminal.ensures)
 
 pub loop-production-preserved : goal.loop-production-preserved
-loop-production-preserved c = spread-more _ _ _ _ _ _ _ c.loop-production.invariant c.word-nonterminal.ensures.0 c.union.ensures.is
+loop-production-preserved c = spread-more _ _ _ _ _ _ _ c.loop-production.invariant c.owner-nonterminal.ensures c.union.ensures.is
 
 pub returns : goal.returns
 returns c = spread_end _ _ _ _ _ _ c.loop-production.auto.production-end c.loop-production-test.false c.loop-production.invariant

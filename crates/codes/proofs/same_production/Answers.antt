@@ -1,4 +1,4 @@
-use Rattle.std.proofs.Common.{◌∙◌, ne_eqb, arith}
+use Rattle.std.proofs.Common.{◌∙◌, ne_eqb}
 use Rattle.codes.proofs.Least.{begins, same_not, same_label}
 use Rattle.codes.proofs.same_production.Goals as goal
 

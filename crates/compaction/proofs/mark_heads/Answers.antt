@@ -9,15 +9,15 @@ pub loop-r-init : goal.loop-r-init
 loop-r-init c = heads_none _ _ _ _
 
 pub word-x-requires : goal.word-x-requires
-word-x-requires c = let A = accepts _ c.requires.table_value in omega (arith, A.words, A.few_records, A.areas)
+word-x-requires c = let A = accepts _ c.args.table.accepted in omega (arith, A.words, A.few_records, A.areas)
 
 pub bounds-numbers-x : goal.bounds-numbers-x
-bounds-numbers-x c = let A = accepts _ c.requires.table_value in
+bounds-numbers-x c = let A = accepts _ c.args.table.accepted in
     let b = reached-below _ A _ (head_at _ _ _ _ _ _ c.requires.first_le_past.1.1.1 c.loop-r.auto.r c.loop-r-test.true c.word-x.ensures.0 c.if-x-ne0.true) in
     omega (arith, b, c.requires.numbers_len)
 
 pub loop-r-preserved : goal.loop-r-preserved
-loop-r-preserved c = let A = accepts _ c.requires.table_value in
+loop-r-preserved c = let A = accepts _ c.args.table.accepted in
     let H = c.loop-r.invariant in
     elim c.if-x-ne0.branch [
       | then-x-ne0 w ↦

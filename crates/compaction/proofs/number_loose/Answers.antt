@@ -8,24 +8,24 @@ use Rattle.compaction.proofs.number_loose.Goals.{then-numbers-r-ne0, else-number
 
 pub loop-r-init : goal.loop-r-init
 loop-r-init c =
-    let n = count_start _ _ _ c.requires.table_value.1.loose_at c.requires.numbers_len.1 in
+    let n = count_start _ _ _ c.requires.areas.loose_at c.requires.numbers_len.1 in
     record { count = n.0; numbering = n.1 }
 
 pub bounds-numbers-r : goal.bounds-numbers-r
-bounds-numbers-r c = omega (arith, c.requires.table_value.1.few, c.requires.numbers_len.0)
+bounds-numbers-r c = omega (arith, c.requires.areas.few, c.requires.numbers_len.0)
 
 pub number_one-requires : goal.number_one-requires
 number_one-requires c = let I = c.loop-r.invariant in
-    let w = write_low c.args.table.now c.loop-r.r (omega (arith, c.requires.table_value.1.loose_at)) in
-    record { table_value = c.requires.table_value.0; r_value = (numbered-yes _ _ _ I.numbering c.if-numbers-r-ne0.true, omega (arith, c.requires.table_value.1.few, w, I.count)); numbers_len = c.loop-r.auto.numbers ∙ c.requires.numbers_len.0 }
+    let w = write_low c.args.table.words.now c.loop-r.r (omega (arith, c.requires.areas.loose_at)) in
+    record { r_value = (numbered-yes _ _ _ I.numbering c.if-numbers-r-ne0.true, omega (arith, c.requires.areas.few, w, I.count)); numbers_len = c.loop-r.auto.numbers ∙ c.requires.numbers_len.0 }
 
 pub overflow_add-count : goal.overflow_add-count
 overflow_add-count c = let I = c.loop-r.invariant in
-    let w = write_low c.args.table.now c.loop-r.r (omega (arith, c.requires.table_value.1.loose_at)) in
-    omega (arith, c.requires.table_value.1.few, w, I.count)
+    let w = write_low c.args.table.words.now c.loop-r.r (omega (arith, c.requires.areas.loose_at)) in
+    omega (arith, c.requires.areas.few, w, I.count)
 
 pub loop-r-preserved : goal.loop-r-preserved
-loop-r-preserved c = let A = accepts _ c.requires.table_value.0 in
+loop-r-preserved c = let A = accepts _ c.args.table.accepted in
     let I = c.loop-r.invariant in
     let K = I.numbering in
     elim c.if-numbers-r-ne0.branch [
@@ -39,5 +39,5 @@ loop-r-preserved c = let A = accepts _ c.requires.table_value.0 in
 
 pub returns : goal.returns
 returns c = let I = c.loop-r.invariant in
-    let e : c.loop-r.r ≡ c.args.a.records = omega (arith, c.requires.table_value.1.room) in
-    numbering_end _ _ _ _ (e ∙ c.requires.table_value.1.records) I.count (c.loop-r.auto.numbers ∙ c.requires.numbers_len.0) I.numbering
+    let e : c.loop-r.r ≡ c.args.a.records = omega (arith, c.requires.areas.room) in
+    numbering_end _ _ _ _ (e ∙ c.requires.areas.records) I.count (c.loop-r.auto.numbers ∙ c.requires.numbers_len.0) I.numbering

@@ -5,4 +5,4 @@ use Rattle.compaction.specs.Passes.{Numbering}
 use Rattle.compaction.proofs.number_loose.Given as goal
 
 abbrev pub invariant-loop-r : goal.invariant-loop-r
-invariant-loop-r l = record { count : l.count ≡ loose l.table + rank l.table l.r; numbering : Numbering l.table l.numbers l.r }
+invariant-loop-r l = record { count : l.count ≡ loose l.table.words.now + rank l.table.words.now l.r; numbering : Numbering l.table.words.now l.numbers l.r }

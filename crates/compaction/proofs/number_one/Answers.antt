@@ -9,28 +9,28 @@ use Rattle.compaction.proofs.number_one.Goals as goal
 use Rattle.compaction.proofs.number_one.Goals.{then-x-ne0, else-x-ne0}
 
 pub word-x-requires : goal.word-x-requires
-word-x-requires c = let A = accepts _ c.requires.table_value in
+word-x-requires c = let A = accepts _ c.args.table.accepted in
     let p = reached-place _ _ c.requires.r_value.0 in
     omega (arith, p.1, A.words, A.few_records)
 
 pub bounds-numbers-x : goal.bounds-numbers-x
-bounds-numbers-x c = let A = accepts _ c.requires.table_value in
+bounds-numbers-x c = let A = accepts _ c.args.table.accepted in
     let l = next-later _ A _ _ c.requires.r_value.0 c.word-x.ensures.0 c.if-x-ne0.true in
     omega (arith, l.1, c.requires.numbers_len)
 
 pub offset_bounds-numbers-r : goal.offset_bounds-numbers-r
-offset_bounds-numbers-r c = let p = reached-below _ (accepts _ c.requires.table_value) _ c.requires.r_value.0 in
+offset_bounds-numbers-r c = let p = reached-below _ (accepts _ c.args.table.accepted) _ c.requires.r_value.0 in
     omega arith
 
 pub bounds-numbers-r : goal.bounds-numbers-r
-bounds-numbers-r c = let p = reached-below _ (accepts _ c.requires.table_value) _ c.requires.r_value.0 in
+bounds-numbers-r c = let p = reached-below _ (accepts _ c.args.table.accepted) _ c.requires.r_value.0 in
     elim c.if-x-ne0.branch [ then-x-ne0 w ↦ rw w.numbers-is (simp length-set (omega arith)) | else-x-ne0 w ↦ rw w.numbers-is (omega arith) ]
 
 pub shape_of-numbers : goal.shape_of-numbers
 shape_of-numbers c = simp length-set (elim c.if-x-ne0.branch [ then-x-ne0 w ↦ rw w.numbers-is (simp length-set) | else-x-ne0 w ↦ rw w.numbers-is refl ])
 
 pub returns : goal.returns
-returns c = let A = accepts _ c.requires.table_value in
+returns c = let A = accepts _ c.args.table.accepted in
     let R = c.requires.r_value.0 in
     let b = reached-below _ A _ R in
     let s : 0 < c.args.r = let n = reached-some _ _ R in omega arith in

@@ -1,23 +1,11 @@
-use mathlib.Core.Path.{refl}
-use lib.ListN.{length-set}
-use Rattle.conflict_words.proofs.Laws.{stored_five}
-use native.Mathlib.Omega.{arith}
+use Rattle.std.proofs.Common.{◌≡◌, ℕ, ◌+◌, ◌-◌, ◌++◌, List, take, ap, ◌∙◌, arith, drop-drop}
+use borrow.Rule.Slice.PartMut.{put_mid}
+use Rattle.conflict_words.specs.Tokens.{token_words}
+use Rattle.example.specs.Written.{put_at}
 use Rattle.conflict_words.proofs.write_one.Goals as goal
 
-pub bounds-list-at-2 : goal.bounds-list-at-2
-bounds-list-at-2 c = simp length-set (omega (arith, c.requires))
-
-pub bounds-list-at-3 : goal.bounds-list-at-3
-bounds-list-at-3 c = simp length-set (omega (arith, c.requires))
-
-pub bounds-list-at-4 : goal.bounds-list-at-4
-bounds-list-at-4 c = simp length-set (omega (arith, c.requires))
-
-pub bounds-list-at-5 : goal.bounds-list-at-5
-bounds-list-at-5 c = simp length-set (omega (arith, c.requires))
-
-pub shape_of-list : goal.shape_of-list
-shape_of-list c = simp length-set refl
-
 pub returns : goal.returns
-returns c = stored_five _ _ _ _ _ _ _ _ c.other_of.ensures c.requires
+unfolding put_at token_words
+returns c = let k : c.args.at + 5 - c.args.at ≡ 5 = omega arith in
+    rw k (ap (λ (l : List ℕ). put_mid c.args.at 5 c.args.list.now l) (c.copy_from_slice.ensures.after ∙ c.words_of.ensures)
+    ∙ ap (λ (l : List ℕ). take c.args.at c.args.list.now ++ (token_words c.args.pair c.args.token ++ l)) (drop-drop 5 c.args.at c.args.list.now))

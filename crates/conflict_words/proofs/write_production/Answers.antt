@@ -3,19 +3,19 @@ use native.Mathlib.Omega.{arith}
 use Rattle.conflict_words.proofs.write_production.Goals as goal
 
 pub overflow_cast-pair : goal.overflow_cast-pair
-overflow_cast-pair c = omega (arith, c.requires.productions_le_production_limit.2)
+overflow_cast-pair c = omega (arith, c.requires.production_lt_productions.1)
 
 pub overflow_cast-pair-2 : goal.overflow_cast-pair-2
-overflow_cast-pair-2 c = omega (arith, c.requires.productions_le_production_limit.0, c.requires.productions_le_production_limit.1)
+overflow_cast-pair-2 c = omega (arith, c.requires.production_lt_productions.0, c.args.actions.now.few)
 
 pub shifts_of-requires : goal.shifts_of-requires
-shifts_of-requires c = omega (arith, c.requires.productions_le_production_limit.0, c.requires.productions_le_production_limit.1)
+shifts_of-requires c = c.requires.production_lt_productions.0
 
 pub write_tokens-place-requires : goal.write_tokens-place-requires
-write_tokens-place-requires c = shifts-room c.args.state c.args.reduced.now c.args.shifted.0 c.args.productions c.args.production c.shifts_of.result.0 _ c.args.list.now c.shifts_of.ensures c.requires.production_in_bounds
+write_tokens-place-requires c = shifts-room c.args.state c.args.actions.now.reductions c.args.actions.now.shifts.0 c.args.actions.now.productions c.args.production c.shifts_of.result.0 _ c.args.list.now c.shifts_of.ensures c.requires.production_in_bounds
 
 pub write_pairs-requires : goal.write_pairs-requires
-write_pairs-requires c = record { productions_le_production_limit = c.requires.productions_le_production_limit; production_in_bounds = pairs-room c.args.state c.args.reduced.now c.args.shifted.0 c.args.productions c.args.production c.shifts_of.result.0 _ _ c.shifts_of.ensures c.requires.production_in_bounds _ _ c.write_tokens-place.ensures.0 c.write_tokens-place.ensures.1 }
+write_pairs-requires c = record { production_lt_productions = c.requires.production_lt_productions; production_in_bounds = pairs-room c.args.state c.args.actions.now.reductions c.args.actions.now.shifts.0 c.args.actions.now.productions c.args.production c.shifts_of.result.0 _ _ c.shifts_of.ensures c.requires.production_in_bounds _ _ c.write_tokens-place.ensures.0 c.write_tokens-place.ensures.1 }
 
 pub returns : goal.returns
-returns c = production-done c.args.state c.args.reduced.now c.args.shifted.0 c.args.productions c.args.production c.shifts_of.result.0 _ _ c.shifts_of.ensures c.requires.production_in_bounds _ _ c.write_tokens-place.ensures.0 c.write_tokens-place.ensures.1 _ _ c.write_pairs.ensures.0 c.write_pairs.ensures.1
+returns c = production-done c.args.state c.args.actions.now.reductions c.args.actions.now.shifts.0 c.args.actions.now.productions c.args.production c.shifts_of.result.0 _ _ c.shifts_of.ensures c.requires.production_in_bounds _ _ c.write_tokens-place.ensures.0 c.write_tokens-place.ensures.1 _ _ c.write_pairs.ensures.0 c.write_pairs.ensures.1

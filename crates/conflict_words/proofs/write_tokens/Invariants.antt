@@ -5,4 +5,4 @@ use Rattle.repr.specs.Lists.{joined}
 use Rattle.conflict_words.proofs.write_tokens.Given as goal
 
 abbrev pub invariant-loop-token : goal.invariant-loop-token
-invariant-loop-token l = Turn l.at (joined (token_words l.pair.state l.pair.production l.pair.action l.pair.other) (members l.fn.set.0)) l.initial.list l.place (joined (token_words l.pair.state l.pair.production l.pair.action l.pair.other) (members l.token-iterator.0)) l.list
+invariant-loop-token l = Turn l.at (joined (token_words l.pair) (members l.fn.set.0)) l.initial.list l.place (joined (token_words l.pair) (members l.token-iterator.0)) l.list

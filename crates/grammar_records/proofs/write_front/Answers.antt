@@ -20,7 +20,7 @@ loop-n-init c = λ U g N A P F. F
 
 pub next_record-head-requires : goal.next_record-head-requires
 next_record-head-requires c = let Q = c.requires in
-    (Q.1.1.packed, omega (arith, (areas_at Q.0 _ _ _ _ _ _ Q.1.0 Q.1.1).few))
+    omega (arith, (areas_at Q.0 _ _ _ _ _ _ Q.1.0 Q.1.1).few)
 
 pub put-requires-in-loop-n : goal.put-requires-in-loop-n
 put-requires-in-loop-n c = let Q = c.requires in

@@ -1,6 +1,8 @@
 use Rattle.spelling.proofs.Areas.{head_small}
 use Rattle.grammar_records.proofs.Packed.{row_of, many_of, packed-inside}
 use Rattle.grammar_records.proofs.Areas.{areas_at, index_small, rows_start, rows_room, rows_head, rows_step, rows_end}
+use mathlib.Core.Path.{◌∙◌}
+use Rattle.repr.proofs.Parts.{symbols_long}
 use native.Mathlib.Omega.{arith}
 use Rattle.grammar_records.proofs.write_productions.Goals as goal
 
@@ -21,7 +23,7 @@ loop-p-init c = λ U A Y P R. rows_start U _ _ _ A Y R
 
 pub next_record-next-requires : goal.next_record-next-requires
 next_record-next-requires c = let Q = c.requires in
-    (Q.1.1.packed, omega (arith, (areas_at Q.0 _ _ _ _ _ _ Q.1.0 Q.1.1).few))
+    omega (arith, (areas_at Q.0 _ _ _ _ _ _ Q.1.0 Q.1.1).few)
 
 pub overflow_add-at-in-loop-p : goal.overflow_add-at-in-loop-p
 overflow_add-at-in-loop-p c = let Q = c.requires in
@@ -37,10 +39,10 @@ put-requires c = let Q = c.requires in
 pub overflow_add-y-in-loop-p : goal.overflow_add-y-in-loop-p
 overflow_add-y-in-loop-p c = let Q = c.requires in
     let A = areas_at Q.0 _ _ _ _ _ _ Q.1.0 Q.1.1 in
-    omega (arith, rows_head Q.0 _ _ _ _ _ (packed-inside Q.0 _ _ _ Q.1.1 c.loop-p-test.true) (c.loop-p.invariant Q.0 A.begin A.end Q.1.1 Q.1.0.room), c.word-many.ensures.1)
+    omega (arith, rows_head Q.0 _ _ _ _ _ (packed-inside Q.0 _ _ _ Q.1.1 c.loop-p-test.true) (c.loop-p.invariant Q.0 A.begin A.end Q.1.1 Q.1.0.room), c.length-many.ensures.short)
 
 pub loop-p-preserved : goal.loop-p-preserved
-loop-p-preserved c = λ U A Y P R. rows_step U _ _ _ _ _ (packed-inside U _ _ _ P c.loop-p-test.true) (c.loop-p.invariant U A Y P R) _ _ _ _ _ _ _ _ (row_of U _ _ _ P c.loop-p-test.true) c.word-owner.ensures.0 (c.next_record-next.ensures U P A) c.word-many.ensures.0 c.word-start.ensures.0 c.word-end.ensures.0 c.head_of-head.ensures c.put.ensures
+loop-p-preserved c = λ U A Y P R. rows_step U _ _ _ _ _ (packed-inside U _ _ _ P c.loop-p-test.true) (c.loop-p.invariant U A Y P R) _ _ _ _ _ _ _ _ (row_of U _ _ _ P c.loop-p-test.true) c.owner-owner.ensures (c.next_record-next.ensures U P A) (c.length-many.ensures.is ∙ symbols_long _ _ _ c.args.grammar.packed c.loop-p-test.true) c.word-start.ensures.0 c.word-end.ensures.0 c.head_of-head.ensures c.put.ensures
 
 pub shape_of-out : goal.shape_of-out
 shape_of-out c = let Q = c.requires in

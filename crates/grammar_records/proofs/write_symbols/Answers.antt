@@ -4,9 +4,6 @@ use Rattle.grammar_records.proofs.write_symbols.Goals as goal
 pub loop-p-init : goal.loop-p-init
 loop-p-init c = λ U P e R. walk_start U _ _ P _ _ e R
 
-pub symbols-requires : goal.symbols-requires
-symbols-requires c = record { packed = c.requires.1.0.packed; production_lt_productions = c.loop-p-test.true }
-
 pub write_chain-at-requires : goal.write_chain-at-requires
 write_chain-at-requires c = let Q = c.requires in
     let W = c.loop-p.invariant Q.0 Q.1.0 Q.1.1.0 Q.1.1.1 in record { symbols_value = walk-fits Q.0 _ _ Q.1.0 _ _ _ _ _ c.loop-p-test.true c.symbols.ensures W; stands = (Q.0, (walk_stands Q.0 _ _ Q.1.0 _ _ _ _ _ c.loop-p-test.true c.symbols.ensures W, W.room)) }

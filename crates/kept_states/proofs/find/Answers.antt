@@ -7,22 +7,22 @@ pub loop-k-init : goal.loop-k-init
 loop-k-init c = find-start _ _ _ _
 
 pub offset_bounds-begins-k : goal.offset_bounds-begins-k
-offset_bounds-begins-k c = omega (arith, c.loop-k-test.true, c.requires.begun.few)
+offset_bounds-begins-k c = omega (arith, c.loop-k-test.true, c.requires.few)
 
 pub bounds-begins-k : goal.bounds-begins-k
-bounds-begins-k c = omega (arith, c.loop-k-test.true, c.requires.begun.few)
+bounds-begins-k c = omega (arith, c.loop-k-test.true, c.requires.few)
 
 pub overflow_add-k : goal.overflow_add-k
-overflow_add-k c = omega (arith, c.loop-k-test.true, c.requires.begun.few)
+overflow_add-k c = omega (arith, c.loop-k-test.true, c.requires.few)
 
 pub offset_bounds-begins-k-in-loop-k : goal.offset_bounds-begins-k-in-loop-k
-offset_bounds-begins-k-in-loop-k c = omega (arith, c.loop-k-test.true, c.requires.begun.few)
+offset_bounds-begins-k-in-loop-k c = omega (arith, c.loop-k-test.true, c.requires.few)
 
 pub bounds-begins-k-in-loop-k : goal.bounds-begins-k-in-loop-k
-bounds-begins-k-in-loop-k c = omega (arith, c.loop-k-test.true, c.requires.begun.few)
+bounds-begins-k-in-loop-k c = omega (arith, c.loop-k-test.true, c.requires.few)
 
 pub same_kernel-requires : goal.same_kernel-requires
-same_kernel-requires c = (c.requires.begun.rises _ c.loop-k-test.true, c.requires.begun.ends _ c.loop-k-test.true, omega (arith, c.requires.begun.ends _ c.loop-k-test.true, c.requires.begun.room), c.requires.many_le_record_limit.0, c.requires.many_le_record_limit.1)
+same_kernel-requires c = (c.requires.rises _ c.loop-k-test.true, c.requires.ends _ c.loop-k-test.true, omega (arith, c.requires.ends _ c.loop-k-test.true, c.requires.room))
 
 pub returns-then-same_kernel : goal.returns-then-same_kernel
 returns-then-same_kernel c = (c.loop-k-test.true, find_here _ _ _ _ _ _ _ (same_state _ _ _ _ _ _ _ refl refl c.same_kernel.ensures) c.loop-k-test.true c.if-same_kernel.true c.loop-k.invariant)

@@ -1,8 +1,5 @@
-use Rattle.lihvemur.proofs.Numbered.{trace_made, trace_refused}
+use Rattle.lihvemur.proofs.Numbered.{trace_handed}
 use Rattle.lihvemur.proofs.lihvemur_backtrace_reduce.Goals as goal
 
-pub returns-in-Edges : goal.returns-in-Edges
-returns-in-Edges c = trace_made _ _ _ _ _ c.backtrace_reduce.ensures _ c.in-Edges.is
-
-pub returns-in-Refused : goal.returns-in-Refused
-returns-in-Refused c = trace_refused _ _ _ _ _ c.backtrace_reduce.ensures _ _ c.in-Refused.is
+pub returns : goal.returns
+returns c = trace_handed _ c.hand_out.ensures _ c.backtrace_reduce-answer.ensures

@@ -1,10 +1,5 @@
-use Rattle.std.proofs.Common.{ap}
-use Rattle.repr.specs.Reply.{reply_of}
-use Rattle.lihvemur.proofs.Numbered.{spell-made, spell-refused}
+use Rattle.lihvemur.proofs.Numbered.{spell_handed}
 use Rattle.lihvemur.proofs.lihvemur_respell.Goals as goal
 
-pub returns-in-Ok : goal.returns-in-Ok
-returns-in-Ok c = spell-made _ _ _ _ c.respell.ensures _ (ap reply_of c.in-Ok.is)
-
-pub returns-in-Err : goal.returns-in-Err
-returns-in-Err c = rw (c.refuse.ensures.number, c.refuse.ensures.place) (spell-refused _ _ _ _ c.respell.ensures _ _ (ap reply_of c.in-Err.is))
+pub returns : goal.returns
+returns c = spell_handed _ c.hand_out.ensures _ c.respell.ensures

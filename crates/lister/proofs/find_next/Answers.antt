@@ -1,5 +1,5 @@
-use mathlib.Core.Path.{◌∙◌}
-use Rattle.enumerator.specs.Advance.{start_of}
+use mathlib.Core.Path.{refl, ◌∙◌}
+use Rattle.enumerator.specs.Advance.{start_of, moved}
 use Rattle.lister.proofs.Finding.{start_at, searching, hands-read, hit-tried, found-hit, found_out_lem, found-over}
 use native.Mathlib.Omega.{arith}
 use Rattle.lister.proofs.find_next.Goals as goal
@@ -8,7 +8,7 @@ pub begin-requires : goal.begin-requires
 begin-requires c = c.requires.scratch_words_in_bounds.0
 
 pub search-requires : goal.search-requires
-search-requires c = record { packed = c.requires.within; searching = (_, (_, searching _ c.requires.viewing.1 c.requires.viewing.0 (start_at _ _ _ c.requires.is_open_value.0 c.requires.is_open_value.1) c.begin.ensures)) }
+search-requires c = record { searching = (_, (_, searching _ c.requires.viewing.1 c.requires.viewing.0 (start_at _ _ _ c.requires.is_open_value.0 c.requires.is_open_value.1) c.begin.ensures)) }
 
 pub write_trial-requires : goal.write_trial-requires
 write_trial-requires c = let L = c.requires.viewing.1 in
@@ -19,25 +19,25 @@ pub shape_of-scratch-in-Hit : goal.shape_of-scratch-in-Hit
 shape_of-scratch-in-Hit c = c.search.auto.words ∙ c.begin.auto.words
 
 pub returns-in-Hit : goal.returns-in-Hit
-unfolding start_of
+unfolding start_of moved
 returns-in-Hit c = let L = c.requires.viewing.1 in
     let A = start_at _ _ _ c.requires.is_open_value.0 c.requires.is_open_value.1 in
     let B = c.begin.ensures in
     λ n T R.
-    found-hit L A _ _ _ _ B (c.search.ensures _ _ (searching _ L c.requires.viewing.0 A B)) T R _ _ _ (hands-read T R _ _ _ c.first_sets-sets.ensures) _ c.in-Hit.is _ _ c.moved.ensures (cc) _ (c.write_trial.ensures _)
+    found-hit L A _ _ _ _ B (c.search.ensures _ _ (searching _ L c.requires.viewing.0 A B)) T R _ _ _ (hands-read T R _ _ _ _ c.first_sets-sets.ensures) _ c.in-Hit.is _ _ refl c.requires.is_open_value.0 _ (c.write_trial.ensures _)
 
 pub returns-in-Out : goal.returns-in-Out
-unfolding start_of
+unfolding start_of moved
 returns-in-Out c = let L = c.requires.viewing.1 in
     let A = start_at _ _ _ c.requires.is_open_value.0 c.requires.is_open_value.1 in
     let B = c.begin.ensures in
     λ n T R.
-    found_out_lem L A _ _ _ _ B (c.search.ensures _ _ (searching _ L c.requires.viewing.0 A B)) T R _ _ _ (hands-read T R _ _ _ c.first_sets-sets.ensures) _ c.in-Out.is _ _ c.moved-in-Out.ensures cc
+    found_out_lem L A _ _ _ _ B (c.search.ensures _ _ (searching _ L c.requires.viewing.0 A B)) T R _ _ _ (hands-read T R _ _ _ _ c.first_sets-sets.ensures) _ c.in-Out.is _ _ refl refl
 
 pub returns-in-Over : goal.returns-in-Over
-unfolding start_of
+unfolding start_of moved
 returns-in-Over c = let L = c.requires.viewing.1 in
     let A = start_at _ _ _ c.requires.is_open_value.0 c.requires.is_open_value.1 in
     let B = c.begin.ensures in
     λ n T R.
-    found-over L A _ _ _ _ B (c.search.ensures _ _ (searching _ L c.requires.viewing.0 A B)) T R _ _ _ (hands-read T R _ _ _ c.first_sets-sets.ensures) c.in-Over.is _ _ _ c.moved-in-Over.ensures (omega arith) cc
+    found-over L A _ _ _ _ B (c.search.ensures _ _ (searching _ L c.requires.viewing.0 A B)) T R _ _ _ (hands-read T R _ _ _ _ c.first_sets-sets.ensures) c.in-Over.is _ _ _ refl (omega arith) refl

@@ -1,8 +1,9 @@
+use mathlib.Core.Path.{refl}
 use Rattle.lister.proofs.Asking.{sets-any, sets-set}
 use Rattle.lister.proofs.first_sets.Goals as goal
 
-pub returns-in-None : goal.returns-in-None
-returns-in-None c = sets-any _ _ c.in-None.is _
+pub returns-in_default : goal.returns-in_default
+returns-in_default c = (sets-any _ _ c.in_default.is _, refl)
 
-pub returns-in-Some : goal.returns-in-Some
-returns-in-Some c = sets-set _ _ _ c.in-Some.is _ _ c.new.ensures
+pub returns : goal.returns
+returns c = (sets-set _ _ _ c.in-Some.is _ _ c.new.ensures.is, c.new.ensures.terminals)

@@ -1,23 +1,28 @@
+use mathlib.Core.Path.{sym, ◌∙◌}
+use Rattle.enumerator.specs.Advance.{start_of}
 use Rattle.lister.proofs.Ways.{roomy_of, started, go_lost, go_stray, go_ended, go_found}
 use Rattle.lister.proofs.go_on.Goals as goal
 
-pub lost-strayed-requires : goal.lost-strayed-requires
-lost-strayed-requires c = record { started = started c.requires.listable; scratch_words_in_bounds = c.requires.scratch_words_in_bounds.0 }
+pub lost-requires : goal.lost-requires
+lost-requires c = record { started = started c.requires.listable; scratch_words_in_bounds = c.requires.scratch_words_in_bounds.0 }
 
-pub is_node-node-requires : goal.is_node-node-requires
-is_node-node-requires c = roomy_of c.requires.listable.ranged
+pub returns-then-lost : goal.returns-then-lost
+returns-then-lost c = λ n T R q. go_lost _ _ _ _ T q c.requires.listable.ranged.long c.requires.scratch_words_in_bounds.0 c.requires.scratch_words_in_bounds.1 (sym c.lost.ensures ∙ c.if-lost.true)
 
-pub returns-then-strayed : goal.returns-then-strayed
-returns-then-strayed c = λ n T R q. go_lost _ _ _ _ T q c.requires.listable.ranged.long c.requires.scratch_words_in_bounds.0 c.requires.scratch_words_in_bounds.1 _ c.lost-strayed.ensures (let h = c.if-strayed.true in cc) _ _ c.unmoved.ensures
+pub is_node-requires : goal.is_node-requires
+is_node-requires c = roomy_of c.requires.listable.ranged
+
+pub returns-then-not-is_node : goal.returns-then-not-is_node
+unfolding start_of
+returns-then-not-is_node c = λ n T R q. go_stray _ _ _ _ T q c.requires.listable.ranged.long c.requires.scratch_words_in_bounds.0 c.requires.scratch_words_in_bounds.1 (sym c.lost.ensures ∙ c.if-lost.false) (rw (← c.start.ensures.0, ← c.start.ensures.1) (sym c.if-not-is_node.ensures))
+
+pub returns-then-not-l : goal.returns-then-not-l
+unfolding start_of
+returns-then-not-l c = λ n T R q. go_ended _ _ _ _ T q c.requires.listable.ranged.long c.requires.scratch_words_in_bounds.0 c.requires.scratch_words_in_bounds.1 (sym c.lost.ensures ∙ c.if-lost.false) (rw (← c.start.ensures.0, ← c.start.ensures.1) (sym c.if-not-is_node.ensures)) (let h = c.if-not-l.true in cc)
 
 pub find_next-requires : goal.find_next-requires
-find_next-requires c = record { packed = c.requires.within; viewing = (c.requires.listable.view, c.requires.listable.labelled); scratch_words_in_bounds = c.requires.scratch_words_in_bounds; is_open_value = ((let h = c.if-l.true in cc), (let h = c.if-strayed.false in let k = c.lost-strayed.ensures in cc)) }
-
-pub returns-then-l : goal.returns-then-l
-returns-then-l c = λ n T R q. go_found _ _ _ _ T q c.requires.listable.ranged.long c.requires.scratch_words_in_bounds.0 c.requires.scratch_words_in_bounds.1 _ c.lost-strayed.ensures (let h = c.if-strayed.false in cc) _ c.is_node-node.ensures c.if-node.true (let h = c.if-l.true in cc) _ (c.find_next.ensures n T R)
-
-pub returns-then-node : goal.returns-then-node
-returns-then-node c = λ n T R q. go_ended _ _ _ _ T q c.requires.listable.ranged.long c.requires.scratch_words_in_bounds.0 c.requires.scratch_words_in_bounds.1 _ c.lost-strayed.ensures (let h = c.if-strayed.false in cc) _ c.is_node-node.ensures c.if-node.true (let h = c.if-l.false in cc) _ _ c.unmoved-then-node.ensures
+find_next-requires c = record { within = c.requires.within; viewing = (c.requires.listable.view, c.requires.listable.labelled); scratch_words_in_bounds = c.requires.scratch_words_in_bounds; is_open_value = ((let h = c.if-not-l.false in cc), sym c.lost.ensures ∙ c.if-lost.false) }
 
 pub returns : goal.returns
-returns c = λ n T R q. go_stray _ _ _ _ T q c.requires.listable.ranged.long c.requires.scratch_words_in_bounds.0 c.requires.scratch_words_in_bounds.1 _ c.lost-strayed.ensures (let h = c.if-strayed.false in cc) _ c.is_node-node.ensures c.if-node.false _ _ c.unmoved-2.ensures
+unfolding start_of
+returns c = λ n T R q. go_found _ _ _ _ T q c.requires.listable.ranged.long c.requires.scratch_words_in_bounds.0 c.requires.scratch_words_in_bounds.1 (sym c.lost.ensures ∙ c.if-lost.false) (rw (← c.start.ensures.0, ← c.start.ensures.1) (sym c.if-not-is_node.ensures)) (let h = c.if-not-l.false in cc) _ (c.find_next.ensures n T R)

@@ -5,8 +5,8 @@ use Rattle.lister.proofs.is_item.Goals as goal
 pub returns-then-node-eq0 : goal.returns-then-node-eq0
 returns-then-node-eq0 c = item-other c.read_node-node.result _ c.read_node-node.ensures.0 _ _ c.if-node-eq0.true
 
-pub returns-then-production-node : goal.returns-then-production-node
-returns-then-production-node c = item_index c.read_node-node.result _ c.read_node-node.ensures.0 _ _ c.if-node-eq0.false c.if-production-node.true
+pub returns-then-item-node : goal.returns-then-item-node
+returns-then-item-node c = item_index c.read_node-node.result _ c.read_node-node.ensures.0 _ _ c.if-node-eq0.false c.if-item-node.true
 
-pub returns-else-production-node : goal.returns-else-production-node
-returns-else-production-node c = ne_eqb _ _ c.if-production-node.false ∙ item-number c.read_node-node.result _ c.read_node-node.ensures.0 _ _ c.if-node-eq0.false c.if-production-node.false
+pub returns-else-item-node : goal.returns-else-item-node
+returns-else-item-node c = ne_eqb _ _ c.if-item-node.false ∙ item-number c.read_node-node.result _ c.read_node-node.ensures.0 _ _ c.if-node-eq0.false c.if-item-node.false

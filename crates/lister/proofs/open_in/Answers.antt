@@ -1,21 +1,31 @@
 use mathlib.Core.Path.{refl}
-use Rattle.lister.proofs.Ways.{few_nonterminals, few_terminals, packed_of, read_of, roomy_of, open_refused, open_short, open_stray, open_fresh}
+use Rattle.view.proofs.Made.{ranged_of}
+use Rattle.lister.proofs.Asking.{asked-none, asked_short, asked_long}
+use Rattle.lister.proofs.Ways.{packed_of, read_of, roomy_of, open_refused, open_short, open_stray, open_fresh}
 use Rattle.lister.proofs.open_in.Goals as goal
 
-pub asked-requires : goal.asked-requires
-asked-requires c = record { packed = packed_of c.read_counts-counts.ensures _ c.read_productions.ensures.0; n_bound = (few_nonterminals c.read_counts-counts.ensures, few_terminals c.read_counts-counts.ensures); ix_value = refl }
+pub invariant_of-grammar : goal.invariant_of-grammar
+invariant_of-grammar c = record { packed = packed_of c.counts-counts.ensures _ c.read_productions.ensures.0 }
+
+pub returns-then-not-fits : goal.returns-then-not-fits
+returns-then-not-fits c = let R = read_of c.counts-counts.ensures _ c.read_productions.ensures.1 in
+    open_refused _ _ _ _ _ (asked-none _ _ _ _ _ R _ c.if-not-fits.ensures refl)
 
 pub returns-then-graph-lt-WORDS : goal.returns-then-graph-lt-WORDS
-returns-then-graph-lt-WORDS c = open_short _ _ _ _ _ _ (c.asked.ensures.value _ (read_of c.read_counts-counts.ensures _ c.read_productions.ensures.1)) c.if-asked.true c.if-graph-lt-WORDS.true
+returns-then-graph-lt-WORDS c = let R = read_of c.counts-counts.ensures _ c.read_productions.ensures.1 in
+    open_short _ _ _ _ _ (asked_short _ _ _ _ _ R _ c.if-not-fits.ensures refl c.if-graph-lt-WORDS.true) c.if-graph-lt-WORDS.true
+
+pub returns-then-not-check_graph : goal.returns-then-not-check_graph
+returns-then-not-check_graph c = let R = read_of c.counts-counts.ensures _ c.read_productions.ensures.1 in
+    open_refused _ _ _ _ _ (asked_long _ _ _ _ _ R _ c.if-not-fits.ensures refl c.if-graph-lt-WORDS.false _ c.if-not-check_graph.ensures.value)
 
 pub is_node-requires : goal.is_node-requires
-is_node-requires c = roomy_of (c.asked.ensures.ranged c.if-asked.true c.if-graph-lt-WORDS.false)
+is_node-requires c = roomy_of (ranged_of (c.if-not-check_graph.ensures.graphed refl))
 
-pub returns-then-is_node : goal.returns-then-is_node
-returns-then-is_node c = open_fresh _ _ _ _ _ _ (c.asked.ensures.value _ (read_of c.read_counts-counts.ensures _ c.read_productions.ensures.1)) c.if-asked.true c.if-graph-lt-WORDS.false _ c.is_node.ensures c.if-is_node.true _ cc
-
-pub returns-then-asked : goal.returns-then-asked
-returns-then-asked c = open_stray _ _ _ _ _ _ (c.asked.ensures.value _ (read_of c.read_counts-counts.ensures _ c.read_productions.ensures.1)) c.if-asked.true c.if-graph-lt-WORDS.false _ c.is_node.ensures c.if-is_node.false
+pub returns-then-not-is_node : goal.returns-then-not-is_node
+returns-then-not-is_node c = let R = read_of c.counts-counts.ensures _ c.read_productions.ensures.1 in
+    open_stray _ _ _ _ _ (asked_long _ _ _ _ _ R _ c.if-not-fits.ensures refl c.if-graph-lt-WORDS.false _ c.if-not-check_graph.ensures.value) c.if-graph-lt-WORDS.false _ c.if-not-is_node.ensures refl
 
 pub returns : goal.returns
-returns c = open_refused _ _ _ _ _ _ (c.asked.ensures.value _ (read_of c.read_counts-counts.ensures _ c.read_productions.ensures.1)) c.if-asked.false
+returns c = let R = read_of c.counts-counts.ensures _ c.read_productions.ensures.1 in
+    open_fresh _ _ _ _ _ (asked_long _ _ _ _ _ R _ c.if-not-fits.ensures refl c.if-graph-lt-WORDS.false _ c.if-not-check_graph.ensures.value) c.if-graph-lt-WORDS.false _ c.if-not-is_node.ensures refl _ refl

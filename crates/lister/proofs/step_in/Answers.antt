@@ -1,28 +1,52 @@
-use mathlib.Core.Path.{refl, sym, ◌∙◌}
+use mathlib.Core.Path.{refl, sym}
 use Rattle.enumerator.specs.Advance.{start_of}
-use Rattle.lister.proofs.Ways.{few_nonterminals, few_terminals, packed_of, read_of, step-refused, step_graph, step_scratch, step_buffer}
+use Rattle.view.proofs.Made.{ranged_fits}
+use Rattle.trace_graph.proofs.Bools.{and_left}
+use Rattle.lister.proofs.Asking.{asked-none, asked_short, asked_long}
+use Rattle.lister.proofs.Ways.{few_nonterminals, packed_of, read_of, step-refused, step_graph, step_scratch, step_buffer}
 use native.Mathlib.Omega.{arith}
 use Rattle.lister.proofs.step_in.Goals as goal
 
-pub asked_view-requires : goal.asked_view-requires
-asked_view-requires c = record { packed = packed_of c.read_counts-counts.ensures _ c.read_productions.ensures.0; n_bound = (few_nonterminals c.read_counts-counts.ensures, few_terminals c.read_counts-counts.ensures); owners_len = (refl, refl); sources_value = (refl, (refl, refl)) }
+pub invariant_of-grammar : goal.invariant_of-grammar
+invariant_of-grammar c = record { packed = packed_of c.counts-counts.ensures _ c.read_productions.ensures.0 }
+
+pub returns-then-not-fits : goal.returns-then-not-fits
+unfolding start_of
+returns-then-not-fits c = let R = read_of c.counts-counts.ensures _ c.read_productions.ensures.1 in
+    step-refused _ _ _ _ _ (asked-none _ _ _ _ _ R _ (rw (← c.start-start.ensures.0, ← c.start-start.ensures.1) c.if-not-fits.ensures) refl)
 
 pub returns-then-graph-lt-WORDS : goal.returns-then-graph-lt-WORDS
-returns-then-graph-lt-WORDS c = step_graph _ _ _ _ _ _ (c.asked_view.ensures.value _ (read_of c.read_counts-counts.ensures _ c.read_productions.ensures.1)) _ _ c.if-asked_view.true c.unmoved.ensures (omega (arith, c.if-graph-lt-WORDS.true))
+unfolding start_of
+returns-then-graph-lt-WORDS c = let R = read_of c.counts-counts.ensures _ c.read_productions.ensures.1 in
+    step_graph _ _ _ _ _ (asked_short _ _ _ _ _ R _ (rw (← c.start-start.ensures.0, ← c.start-start.ensures.1) c.if-not-fits.ensures) refl c.if-graph-lt-WORDS.true) c.if-graph-lt-WORDS.true
+
+pub returns-then-not-check_view : goal.returns-then-not-check_view
+unfolding start_of
+returns-then-not-check_view c = let R = read_of c.counts-counts.ensures _ c.read_productions.ensures.1 in
+    step-refused _ _ _ _ _ (asked_long _ _ _ _ _ R _ (rw (← c.start-start.ensures.0, ← c.start-start.ensures.1) c.if-not-fits.ensures) refl c.if-graph-lt-WORDS.false _ c.if-not-check_view.ensures.value)
 
 pub returns-then-scratch-lt-SCRATCH : goal.returns-then-scratch-lt-SCRATCH
-returns-then-scratch-lt-SCRATCH c = step_scratch _ _ _ _ _ _ (c.asked_view.ensures.value _ (read_of c.read_counts-counts.ensures _ c.read_productions.ensures.1)) _ _ c.if-asked_view.true c.unmoved-then-scratch-lt-SCRATCH.ensures (omega (arith, c.if-scratch-lt-SCRATCH.true))
+unfolding start_of
+returns-then-scratch-lt-SCRATCH c = let R = read_of c.counts-counts.ensures _ c.read_productions.ensures.1 in
+    step_scratch _ _ _ _ _ (asked_long _ _ _ _ _ R _ (rw (← c.start-start.ensures.0, ← c.start-start.ensures.1) c.if-not-fits.ensures) refl c.if-graph-lt-WORDS.false _ c.if-not-check_view.ensures.value) c.if-scratch-lt-SCRATCH.true
 
 pub returns-then-buffer-lt-WORDS : goal.returns-then-buffer-lt-WORDS
-returns-then-buffer-lt-WORDS c = step_buffer _ _ _ _ _ _ (c.asked_view.ensures.value _ (read_of c.read_counts-counts.ensures _ c.read_productions.ensures.1)) _ _ c.if-asked_view.true c.unmoved-then-buffer-lt-WORDS.ensures (omega (arith, c.if-buffer-lt-WORDS.true))
-
-pub go_on-requires : goal.go_on-requires
-go_on-requires c = record { packed = (packed_of c.read_counts-counts.ensures _ c.read_productions.ensures.0, few_terminals c.read_counts-counts.ensures); listable = c.asked_view.ensures.listable c.if-asked_view.true (omega (arith, c.if-graph-lt-WORDS.false)); scratch_words_in_bounds = (omega (arith, c.if-scratch-lt-SCRATCH.false), omega (arith, c.if-buffer-lt-WORDS.false)) }
-
-pub returns-then-asked_view : goal.returns-then-asked_view
 unfolding start_of
-returns-then-asked_view c = let R = read_of c.read_counts-counts.ensures _ c.read_productions.ensures.1 in
-    c.go_on.ensures _ _ R (sym (c.asked_view.ensures.value _ R) ∙ c.if-asked_view.true)
+returns-then-buffer-lt-WORDS c = let R = read_of c.counts-counts.ensures _ c.read_productions.ensures.1 in
+    step_buffer _ _ _ _ _ (asked_long _ _ _ _ _ R _ (rw (← c.start-start.ensures.0, ← c.start-start.ensures.1) c.if-not-fits.ensures) refl c.if-graph-lt-WORDS.false _ c.if-not-check_view.ensures.value) c.if-buffer-lt-WORDS.true
+
+pub invariant_of-view : goal.invariant_of-view
+invariant_of-view c = record { tidy = (c.if-not-check_view.ensures.viewing refl).0.viewed.tidy }
+
+pub go_on-requires-clause-listable : goal.go_on-requires-clause-listable
+go_on-requires-clause-listable c = rw (← c.start-start.ensures.0, ← c.start-start.ensures.1) (record {
+  ranged = ranged_fits _ _ _ (sym c.if-not-check_view.ensures.value) (few_nonterminals c.counts-counts.ensures) (omega (arith, c.if-graph-lt-WORDS.false));
+  fits = and_left _ _ (sym c.if-not-fits.ensures);
+  view = (c.if-not-check_view.ensures.viewing refl).0;
+  labelled = (c.if-not-check_view.ensures.viewing refl).1;
+})
 
 pub returns : goal.returns
-returns c = step-refused _ _ _ _ _ _ (c.asked_view.ensures.value _ (read_of c.read_counts-counts.ensures _ c.read_productions.ensures.1)) _ _ c.if-asked_view.false c.unmoved-2.ensures
+unfolding start_of
+returns c = let R = read_of c.counts-counts.ensures _ c.read_productions.ensures.1 in
+    c.go_on.ensures _ _ R (asked_long _ _ _ _ _ R _ (rw (← c.start-start.ensures.0, ← c.start-start.ensures.1) c.if-not-fits.ensures) refl c.if-graph-lt-WORDS.false _ c.if-not-check_view.ensures.value)

@@ -3,12 +3,12 @@ use Rattle.listing.proofs.answer_number.Goals as goal
 
 pub returns-in-Example : goal.returns-in-Example
 unfolding number_of_answer
-returns-in-Example c = rw c.in-Example.is
+returns-in-Example c = rw (c.in-Ok.is, c.in-Example.is)
 
 pub returns-in-End : goal.returns-in-End
 unfolding number_of_answer
-returns-in-End c = rw c.in-End.is
+returns-in-End c = rw (c.in-Ok.is, c.in-End.is)
 
-pub returns-in-Refused : goal.returns-in-Refused
+pub returns-in-Err : goal.returns-in-Err
 unfolding number_of_answer
-returns-in-Refused c = rw c.in-Refused.is
+returns-in-Err c = rw c.in-Err.is c.number.ensures

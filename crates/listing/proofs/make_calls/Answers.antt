@@ -36,8 +36,8 @@ slice_bounds-call-start c = let k = c.loop-i-test.true in let w = words_at c.arg
 pub slice_bounds-call-end : goal.slice_bounds-call-end
 slice_bounds-call-end c = let k = c.loop-i-test.true in let w = words_at c.args.calls.now (3 * c.loop-i.i) (omega arith) in let e = c.loop-i.invariant.0 in let s = c.loop-i.invariant.1 in let n = c.number.ensures.0 in omega arith
 
-pub call-listing-requires : goal.call-listing-requires
-call-listing-requires c = let k = c.loop-i-test.true in
+pub call-requires : goal.call-requires
+call-requires c = let k = c.loop-i-test.true in
     let w = words_at c.args.calls.now (3 * c.loop-i.i) (omega arith) in
     let e = c.loop-i.invariant.0 in
     let s = c.loop-i.invariant.1 in
@@ -56,9 +56,9 @@ loop-i-preserved c = let k = c.loop-i-test.true in
     let n = c.number.ensures.0 in
     let to : c.loop-i.from + 3 + c.number.result ≤ length c.loop-i.output = omega arith in rw next (
       omega arith,
-      same_len_mid c.loop-i.from (c.loop-i.from + 3 + c.number.result - c.loop-i.from) c.loop-i.output c.call-listing.new.part c.call-listing.auto.part ∙ s,
-      c.call-listing.auto.scratch ∙ c.loop-i.invariant.2,
-      calls-more c.args.table.now c.args.graph.now c.args.calls.now (3 * c.loop-i.i) three c.loop-i.listing c.loop-i.scratch c.loop-i.output c.loop-i.from (c.loop-i.from + 3 + c.number.result) _ _ _ c.number-graph_words.ensures.0 c.number-scratch_words.ensures.0 n refl to _ _ _ c.call-listing.auto.part c.call-listing.ensures ∙ c.loop-i.invariant.3,
+      same_len_mid c.loop-i.from (c.loop-i.from + 3 + c.number.result - c.loop-i.from) c.loop-i.output c.call.new.part c.call.auto.part ∙ s,
+      c.call.auto.scratch ∙ c.loop-i.invariant.2,
+      calls-more c.args.table.now c.args.graph.now c.args.calls.now (3 * c.loop-i.i) three c.loop-i.listing c.loop-i.scratch c.loop-i.output c.loop-i.from (c.loop-i.from + 3 + c.number.result) _ _ _ c.number-graph_words.ensures.0 c.number-scratch_words.ensures.0 n refl to _ _ _ c.call.auto.part c.call.ensures ∙ c.loop-i.invariant.3,
     )
 
 pub shape_of-scratch : goal.shape_of-scratch

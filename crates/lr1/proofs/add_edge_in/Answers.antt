@@ -3,17 +3,17 @@ use Rattle.lr1.proofs.Graphs.{edge_out, graph_short, graph_out, edge_added, edge
 use native.Mathlib.Omega.{arith}
 use Rattle.lr1.proofs.add_edge_in.Goals as goal
 
-pub edge_fits-requires : goal.edge_fits-requires
-edge_fits-requires c = rw c.counts-counts.ensures.productions c.read_productions.ensures.0
+pub invariant_of-grammar : goal.invariant_of-grammar
+invariant_of-grammar c = record { packed = rw c.counts-counts.ensures.productions c.read_productions.ensures.0 }
 
 pub returns-then-graph-lt-WORDS : goal.returns-then-graph-lt-WORDS
 returns-then-graph-lt-WORDS c = graph_short _ _ _ _ _ _ _ c.counts-counts.ensures.nonterminals c.counts-counts.ensures.productions c.read_productions.ensures.1 c.edge_fits.ensures c.if-edge_fits.true (omega (arith, c.if-graph-lt-WORDS.true))
 
 pub check_graph-requires : goal.check_graph-requires
-check_graph-requires c = record { packed = rw c.counts-counts.ensures.productions c.read_productions.ensures.0; n_bound = (rw c.counts-counts.ensures.nonterminals c.counts-counts.ensures.fits.few_nonterminals, omega (arith, c.if-graph-lt-WORDS.false)); ix_value = refl }
+check_graph-requires c = record { n_bound = (rw c.counts-counts.ensures.nonterminals c.counts-counts.ensures.fits.few_nonterminals, omega (arith, c.if-graph-lt-WORDS.false)); ix_value = refl }
 
 pub insert-requires : goal.insert-requires
-insert-requires c = record { packed = rw c.counts-counts.ensures.productions c.read_productions.ensures.0; graphed = c.check_graph.ensures.graphed c.if-check_graph.true; edge_value = sym c.edge_fits.ensures ∙ c.if-edge_fits.true }
+insert-requires c = record { graphed = c.check_graph.ensures.graphed c.if-check_graph.true; edge_value = sym c.edge_fits.ensures ∙ c.if-edge_fits.true }
 
 pub returns-in-Ok : goal.returns-in-Ok
 returns-in-Ok c = edge_added _ _ _ _ _ _ _ c.counts-counts.ensures.nonterminals c.counts-counts.ensures.productions c.read_productions.ensures.1 c.edge_fits.ensures c.if-edge_fits.true (omega (arith, c.if-graph-lt-WORDS.false)) _ c.check_graph.ensures.value c.if-check_graph.true _ (c.check_graph.ensures.graphed c.if-check_graph.true) (c.in-Ok.ensures.added) c.word.ensures.0

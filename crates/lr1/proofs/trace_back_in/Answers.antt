@@ -4,7 +4,7 @@ use Rattle.lr1.proofs.Entered.{walk-yes, walk_list, walk_state, fits_by}
 use Rattle.lr1.proofs.trace_back_in.Goals as goal
 
 pub trace_back_joined-requires : goal.trace_back_joined-requires
-trace_back_joined-requires c = record { table_value = c.args.table.accepted; state_in_bounds = (rw c.counts-counts.ensures.states at c.if-number-counts.true, rw (c.counts-counts.ensures.nonterminals, c.counts-counts.ensures.terminals) at (sym c.joined_fits.ensures ∙ c.if-joined_fits.true)) }
+trace_back_joined-requires c = record { state_in_bounds = (rw c.counts-counts.ensures.states at c.if-number-counts.true, rw (c.counts-counts.ensures.nonterminals, c.counts-counts.ensures.terminals) at (sym c.joined_fits.ensures ∙ c.if-joined_fits.true)) }
 
 pub returns-then-joined_fits : goal.returns-then-joined_fits
 unfolding walk_of

@@ -1,18 +1,21 @@
-use mathlib.Core.Path.{refl, ap, ◌∙◌}
+use Rattle.std.specs.Prelude.{ℕ, ◌*◌, List, take}
+use mathlib.Core.Path.{sym, ap, ◌∙◌}
+use lib.Seq.{length-take-le}
 use Rattle.repr.specs.Listed.{listed}
+use Rattle.repr.proofs.Packed.{words_long}
 use Rattle.repr.proofs.Parts.{symbols_long}
-use Rattle.lr1_core.proofs.Items.{prefix_part, prefix_is}
+use Rattle.lr1_core.proofs.Items.{prefix_is}
 use native.Mathlib.Omega.{arith}
 use Rattle.lr1_core.proofs.prefix.Goals as goal
 
-pub overflow_mul-past : goal.overflow_mul-past
-overflow_mul-past c = let s = symbols_long _ _ _ c.args.grammar.packed c.requires.within in let q = c.args.grammar.packed.short _ c.requires.within in omega (arith, s, q, c.requires.index_in_bounds)
-
-pub overflow_add-past : goal.overflow_add-past
-overflow_add-past c = let s = symbols_long _ _ _ c.args.grammar.packed c.requires.within in let q = c.args.grammar.packed.short _ c.requires.within in omega (arith, s, q, c.requires.index_in_bounds, c.requires.within, c.args.grammar.packed.few)
+pub overflow_mul-result : goal.overflow_mul-result
+overflow_mul-result c = let s = symbols_long _ _ _ c.args.grammar.packed c.requires.within in let q = c.args.grammar.packed.short _ c.requires.within in omega (arith, s, q, c.requires.index_in_bounds)
 
 pub slice_bounds-result-end : goal.slice_bounds-result-end
-slice_bounds-result-end c = let s = symbols_long _ _ _ c.args.grammar.packed c.requires.within in let q = c.args.grammar.packed.short _ c.requires.within in omega (arith, s, q, c.requires.index_in_bounds, c.requires.within, c.args.grammar.packed.few, c.args.grammar.packed.long)
+slice_bounds-result-end c =
+    let s = symbols_long _ _ _ c.args.grammar.packed c.requires.within in
+    let w = words_long _ _ _ c.args.grammar.packed c.requires.within in
+    sym (length-take-le (2 * c.args.item.index) _ (rw c.symbols-symbols.ensures (omega (arith, s, w, c.requires.index_in_bounds))))
 
 pub returns : goal.returns
-returns c = let e = prefix_part c.args.grammar.words.now _ c.args.item.production c.args.item.index _ c.args.grammar.packed c.requires.within c.requires.index_in_bounds refl in (e, ap listed e ∙ prefix_is _ _)
+returns c = let e = ap (λ (ws : List ℕ). take (2 * c.args.item.index) ws) c.symbols-symbols.ensures in (e, ap listed e ∙ prefix_is _ _)

@@ -12,7 +12,7 @@ pub overflow_add-many : goal.overflow_add-many
 overflow_add-many c = omega (arith, c.count_at-many.ensures.0, c.loop-k.invariant.0, c.loop-k-test.true, c.requires.many, c.requires.holds.begun.few)
 
 pub loop-k-preserved : goal.loop-k-preserved
-loop-k-preserved c = (omega (arith, c.count_at-many.ensures.0, c.loop-k.invariant.0), λ s. sum_more _ _ _ _ _ s _ c.loop-k-test.true _ _ (c.loop-k.invariant.1 s) (c.count_at-many.ensures.1 s))
+loop-k-preserved c = (omega (arith, c.count_at-many.ensures.0, c.loop-k.invariant.0), λ s. sum_more _ s _ c.loop-k-test.true _ _ (c.loop-k.invariant.1 s) (c.count_at-many.ensures.1 s))
 
 pub returns : goal.returns
 returns c = (omega (arith, c.loop-k.invariant.0, c.loop-k.auto.k-end, c.requires.many, c.requires.holds.begun.few), λ s. sum_end s.T s.Rs _ c.loop-k.k _ s.many (omega (arith, c.loop-k-test.false, c.loop-k.auto.k-end)) (c.loop-k.invariant.1 s))

@@ -8,4 +8,4 @@ use mathlib.Core.Path.{◌≡◌}
 use Rattle.measuring.proofs.count_conflicts.Given as goal
 
 abbrev pub invariant-loop-k : goal.invariant-loop-k
-invariant-loop-k l = (l.many ≤ 1056768 * l.k) × ((s : Collection l.grammar l.productions l.words l.begins.items l.begins.states) → l.many ≡ sum (λ (S : List ℕ). length (clashes s.T S)) (take l.k s.Rs))
+invariant-loop-k l = (l.many ≤ 1056768 * l.k) × ((s : Collection l.found) → l.many ≡ sum (λ (S : List ℕ). length (clashes s.T S)) (take l.k s.Rs))

@@ -1,13 +1,7 @@
-use mathlib.Core.Path.{◌≡◌}
-use lib.ListN.{length}
-use Rattle.table.specs.Checked.{Accepted}
-use Rattle.table.specs.Refusals.{check_of}
+use Rattle.std.proofs.Common.{◌≡◌, length}
 use Rattle.spelling.specs.Grown.{records_from}
 use Rattle.spelling.proofs.Counting.{Counting}
 use Rattle.spelling.proofs.count_chain.Given as goal
 
-abbrev pub invariant-loop-from : goal.invariant-loop-from
-invariant-loop-from l = Counting l.table.words.now (length (records_from l.table.words.now l.head)) l.most l.from l.count × (check_of l.table.words.now ≡ Accepted)
-
-abbrev pub decreases-loop-from : goal.decreases-loop-from
-decreases-loop-from l = length (records_from l.table.words.now l.from)
+abbrev pub invariant-loop-record : goal.invariant-loop-record
+invariant-loop-record l = (l._record-iterator.table.words.now ≡ l.fn.table.words.now) × Counting l.fn.table.words.now (length (records_from l.fn.table.words.now l.fn.head)) l.most l._record-iterator.at l.count

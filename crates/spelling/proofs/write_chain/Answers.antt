@@ -1,44 +1,26 @@
-use native.Mathlib.Omega.{arith}
-use Rattle.spelling.proofs.Reading.{index_asked}
-use Rattle.spelling.proofs.Writing.{writing_start, writing_room, follower_small, writing_fewer, writing_step, writing_end}
+use Rattle.std.proofs.Common.{refl, ◌∙◌, arith}
+use Rattle.spelling.proofs.Writing.{writing_start, writing_room, follower_small, writing_step, writing_end}
 use Rattle.spelling.proofs.write_chain.Goals as goal
 
-pub loop-from-init : goal.loop-from-init
-loop-from-init c = (writing_start _ c.args.table.accepted _ _ _ c.requires.loose_index, c.args.table.accepted)
-
-pub word-next-requires : goal.word-next-requires
-word-next-requires c = index_asked _ c.loop-from.invariant.1 _ c.loop-from-test.true c.loop-from.invariant.0.on _ (omega arith)
-
-pub word-one-requires : goal.word-one-requires
-word-one-requires c = index_asked _ c.loop-from.invariant.1 _ c.loop-from-test.true c.loop-from.invariant.0.on _ (omega arith)
-
-pub word-two-requires : goal.word-two-requires
-word-two-requires c = index_asked _ c.loop-from.invariant.1 _ c.loop-from-test.true c.loop-from.invariant.0.on _ (omega arith)
-
-pub word-three-requires : goal.word-three-requires
-word-three-requires c = index_asked _ c.loop-from.invariant.1 _ c.loop-from-test.true c.loop-from.invariant.0.on _ (omega arith)
+pub loop-record-init : goal.loop-record-init
+loop-record-init c = rw c.into_iter-record-iterator.ensures.into_iter_gives (refl, writing_start _ c.args.table.accepted _ _ _ c.requires.loose_index)
 
 pub next_of-follower-requires : goal.next_of-follower-requires
-next_of-follower-requires c = (writing_room _ c.loop-from.invariant.1 _ _ _ _ _ _ c.loop-from-test.true c.loop-from.invariant.0).0
+next_of-follower-requires c = (writing_room _ c.args.table.accepted _ _ _ _ _ _ c.in-Some.ensures.steps.1.0 c.loop-record.invariant.1).0
 
 pub put-requires : goal.put-requires
-put-requires c = let r = writing_room _ c.loop-from.invariant.1 _ _ _ _ _ _ c.loop-from-test.true c.loop-from.invariant.0 in record { r_lt_record_limit = r; a_bound = (follower_small _ _ _ r.0 c.next_of-follower.ensures, (c.word-one.ensures.1, (c.word-two.ensures.1, c.word-three.ensures.1))) }
+put-requires c = let r = writing_room _ c.args.table.accepted _ _ _ _ _ _ c.in-Some.ensures.steps.1.0 c.loop-record.invariant.1 in
+    record { r_lt_record_limit = r; a_bound = (follower_small _ _ _ r.0 c.next_of-follower.ensures, (c.in-Some.record.small.0, (c.in-Some.record.small.1, c.in-Some.record.small.2))) }
 
 pub overflow_add-at : goal.overflow_add-at
-overflow_add-at c = omega (arith, (writing_room _ c.loop-from.invariant.1 _ _ _ _ _ _ c.loop-from-test.true c.loop-from.invariant.0).0)
+overflow_add-at c = omega (arith, (writing_room _ c.args.table.accepted _ _ _ _ _ _ c.in-Some.ensures.steps.1.0 c.loop-record.invariant.1).0)
 
-pub loop-from-smaller : goal.loop-from-smaller
-loop-from-smaller c = writing_fewer _ c.loop-from.invariant.1 _ _ _ _ _ _ c.loop-from-test.true c.loop-from.invariant.0 _ c.word-next.ensures.0
-
-pub loop-from-preserved : goal.loop-from-preserved
-loop-from-preserved c = (
-  writing_step _ c.loop-from.invariant.1 _ _ _ _ _ _ c.loop-from-test.true c.loop-from.invariant.0
-      _ _ _ _ _ c.word-next.ensures.0 c.word-one.ensures.0 c.word-two.ensures.0 c.word-three.ensures.0 c.next_of-follower.ensures _ c.put.ensures,
-  c.loop-from.invariant.1,
-)
+pub loop-record-preserved : goal.loop-record-preserved
+loop-record-preserved c = let s = rw c.loop-record.invariant.0 at c.in-Some.ensures.steps.1 in
+    (c.in-Some.ensures.steps.0 ∙ c.loop-record.invariant.0, rw s.1 (writing_step _ c.args.table.accepted _ _ _ _ _ _ s.0 c.loop-record.invariant.1 _ _ _ _ _ s.2 s.3 s.4 s.5 c.next_of-follower.ensures _ c.put.ensures))
 
 pub shape_of-out : goal.shape_of-out
-shape_of-out c = c.loop-from.invariant.0.grown.long
+shape_of-out c = c.loop-record.invariant.1.grown.long
 
 pub returns : goal.returns
-returns c = writing_end _ c.loop-from.invariant.1 _ _ _ _ _ _ c.loop-from-test.false c.loop-from.invariant.0
+returns c = writing_end _ c.args.table.accepted _ _ _ _ _ _ c.in-None.ensures.steps.1 c.loop-record.invariant.1

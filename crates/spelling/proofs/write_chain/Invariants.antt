@@ -1,14 +1,7 @@
-use mathlib.Core.Path.{◌≡◌}
-use Prim.Native.Nat.{◌+◌}
-use lib.ListN.{length}
-use Rattle.table.specs.Checked.{Accepted}
-use Rattle.table.specs.Refusals.{check_of}
+use Rattle.std.proofs.Common.{◌≡◌, ◌+◌, length}
 use Rattle.spelling.specs.Grown.{records_from}
 use Rattle.spelling.proofs.Writing.{Writing}
 use Rattle.spelling.proofs.write_chain.Given as goal
 
-abbrev pub invariant-loop-from : goal.invariant-loop-from
-invariant-loop-from l = Writing l.table.words.now l.initial.out l.out l.begin (l.begin + length (records_from l.table.words.now l.head)) l.from l.at × (check_of l.table.words.now ≡ Accepted)
-
-abbrev pub decreases-loop-from : goal.decreases-loop-from
-decreases-loop-from l = length (records_from l.table.words.now l.from)
+abbrev pub invariant-loop-record : goal.invariant-loop-record
+invariant-loop-record l = (l.record-iterator.table.words.now ≡ l.fn.table.words.now) × Writing l.fn.table.words.now l.initial.out l.out l.fn.begin (l.fn.begin + length (records_from l.fn.table.words.now l.fn.head)) l.record-iterator.at l.at

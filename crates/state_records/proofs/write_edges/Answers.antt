@@ -10,16 +10,16 @@ use Rattle.state_records.proofs.Laws.{rows_few, rows_count, edges_here, edges_mo
 use Rattle.state_records.proofs.write_edges.Goals as goal
 
 pub loop-k-init : goal.loop-k-init
-loop-k-init c = (omega (arith, c.requires.1.0, rows_few c.requires.0 (λ s. s.edges) _ c.requires.1.1.1.0.begins), λ U es ei I R. let z : edges_at U ≡ edges_at U + get_or c.args.rows.now 0 0 = omega (arith, I.begins.front) in rw (← z) (grown-none U _ _))
+loop-k-init c = (omega (arith, c.requires.1.0, rows_few c.requires.0 (λ s. s.edges) _ c.requires.1.1.1.0.begins), λ U es ei I R. let z : edges_at U ≡ edges_at U + get_or c.args.edges.now.rows 0 0 = omega (arith, I.begins.front) in rw (← z) (grown-none U _ _))
 
-pub offset_bounds-rows-k : goal.offset_bounds-rows-k
-offset_bounds-rows-k c = omega (arith, c.loop-k-test.true, c.loop-k.invariant.0)
+pub offset_bounds-edges-k : goal.offset_bounds-edges-k
+offset_bounds-edges-k c = omega (arith, c.loop-k-test.true, c.loop-k.invariant.0)
 
-pub bounds-rows-k : goal.bounds-rows-k
-bounds-rows-k c = omega (arith, c.loop-k-test.true, c.loop-k.invariant.0)
+pub bounds-edges-k : goal.bounds-edges-k
+bounds-edges-k c = omega (arith, c.loop-k-test.true, c.loop-k.invariant.0)
 
-pub offset_bounds-rows-k-in-loop-k : goal.offset_bounds-rows-k-in-loop-k
-offset_bounds-rows-k-in-loop-k c = omega (arith, c.loop-k-test.true, c.loop-k.invariant.0)
+pub offset_bounds-edges-k-in-loop-k : goal.offset_bounds-edges-k-in-loop-k
+offset_bounds-edges-k-in-loop-k c = omega (arith, c.loop-k-test.true, c.loop-k.invariant.0)
 
 pub write_state_edges-requires : goal.write_state_edges-requires
 write_state_edges-requires c = let P = c.requires in

@@ -10,7 +10,7 @@ use Rattle.state_records.proofs.Laws.{rows_few, rows_count, items_here, items_mo
 use Rattle.state_records.proofs.write_items.Goals as goal
 
 pub loop-k-init : goal.loop-k-init
-loop-k-init c = (omega (arith, c.requires.1.0, rows_few c.requires.0 (λ s. s.items) _ c.requires.1.1.1.0.begins), λ U es ei I R. let z : items_place U ≡ items_place U + get_or c.args.begins.now 0 0 = omega (arith, I.begins.front) in rw (← z) (grown-none U _ _))
+loop-k-init c = (omega (arith, c.requires.1.0, rows_few c.requires.0 (λ s. s.items) _ c.requires.1.1.1.0.begins), λ U es ei I R. let z : items_place U ≡ items_place U + get_or c.args.begins.now.items 0 0 = omega (arith, I.begins.front) in rw (← z) (grown-none U _ _))
 
 pub offset_bounds-begins-k : goal.offset_bounds-begins-k
 offset_bounds-begins-k c = omega (arith, c.loop-k-test.true, c.loop-k.invariant.0)

@@ -16,11 +16,11 @@ offset_bounds-begins-s c = omega (arith, c.loop-s-test.true, c.loop-s.invariant.
 pub bounds-begins-s : goal.bounds-begins-s
 bounds-begins-s c = omega (arith, c.loop-s-test.true, c.loop-s.invariant.0)
 
-pub offset_bounds-rows-s : goal.offset_bounds-rows-s
-offset_bounds-rows-s c = omega (arith, c.loop-s-test.true, c.loop-s.invariant.0)
+pub offset_bounds-edges-s : goal.offset_bounds-edges-s
+offset_bounds-edges-s c = omega (arith, c.loop-s-test.true, c.loop-s.invariant.0)
 
-pub bounds-rows-s : goal.bounds-rows-s
-bounds-rows-s c = omega (arith, c.loop-s-test.true, c.loop-s.invariant.0)
+pub bounds-edges-s : goal.bounds-edges-s
+bounds-edges-s c = omega (arith, c.loop-s-test.true, c.loop-s.invariant.0)
 
 pub offset_bounds-begins-s-in-loop-s : goal.offset_bounds-begins-s-in-loop-s
 offset_bounds-begins-s-in-loop-s c = omega (arith, c.loop-s-test.true, c.loop-s.invariant.0)
@@ -34,17 +34,17 @@ overflow_sub-begins c = let P = c.requires in omega (arith, rows_count P.0 (λ s
 pub overflow_add-items : goal.overflow_add-items
 overflow_add-items c = let P = c.requires in omega (arith, state_items P.0 _ P.1.1.1.1.1.1.1 _ (inside_is _ _ _ c.loop-s-test.true P.1.0) _ P.1.1.1.1.1.0 _ P.1.1.1.0)
 
-pub offset_bounds-rows-s-in-loop-s : goal.offset_bounds-rows-s-in-loop-s
-offset_bounds-rows-s-in-loop-s c = omega (arith, c.loop-s-test.true, c.loop-s.invariant.0)
+pub offset_bounds-edges-s-in-loop-s : goal.offset_bounds-edges-s-in-loop-s
+offset_bounds-edges-s-in-loop-s c = omega (arith, c.loop-s-test.true, c.loop-s.invariant.0)
 
-pub bounds-rows-s-in-loop-s : goal.bounds-rows-s-in-loop-s
-bounds-rows-s-in-loop-s c = omega (arith, c.loop-s-test.true, c.loop-s.invariant.0)
+pub bounds-edges-s-in-loop-s : goal.bounds-edges-s-in-loop-s
+bounds-edges-s-in-loop-s c = omega (arith, c.loop-s-test.true, c.loop-s.invariant.0)
 
-pub overflow_sub-rows : goal.overflow_sub-rows
-overflow_sub-rows c = let P = c.requires in omega (arith, rows_count P.0 (λ s. s.edges) _ P.1.1.1.1.1.1.0 _ (inside_is _ _ _ c.loop-s-test.true P.1.0))
+pub overflow_sub-edges : goal.overflow_sub-edges
+overflow_sub-edges c = let P = c.requires in omega (arith, rows_count P.0 (λ s. s.edges) _ P.1.1.1.1.1.1.0 _ (inside_is _ _ _ c.loop-s-test.true P.1.0))
 
-pub overflow_add-edges : goal.overflow_add-edges
-overflow_add-edges c = let P = c.requires in omega (arith, state_edges P.0 _ P.1.1.1.1.1.1.1 _ (inside_is _ _ _ c.loop-s-test.true P.1.0) _ P.1.1.1.1.1.1.0 _ P.1.1.1.1.0)
+pub overflow_add-ends : goal.overflow_add-ends
+overflow_add-ends c = let P = c.requires in omega (arith, state_edges P.0 _ P.1.1.1.1.1.1.1 _ (inside_is _ _ _ c.loop-s-test.true P.1.0) _ P.1.1.1.1.1.1.0 _ P.1.1.1.1.0)
 
 pub overflow_add-at : goal.overflow_add-at
 overflow_add-at c = let P = c.requires in omega (arith, (state_room P.0 _ P.1.1.1.1.1.1.1 _ (inside_is _ _ _ c.loop-s-test.true P.1.0) _ c.loop-s.out P.1.1.0 c.loop-s.auto.out).0)

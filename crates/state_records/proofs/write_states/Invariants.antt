@@ -5,8 +5,8 @@ use Rattle.repr.specs.Sizes.{state_limit}
 use Rattle.repr.specs.Meaning.{Table}
 use Rattle.spelling.specs.Spelled.{item_lists, edge_lists, states_at, items_place, edges_at}
 use Rattle.spelling.specs.Grown.{Grown, Room}
-use Rattle.state_records.specs.Rows.{Begins}
+use Rattle.state_records.specs.Rows.{BeginsOf}
 use Rattle.state_records.proofs.write_states.Given as goal
 
 abbrev pub invariant-loop-s : goal.invariant-loop-s
-invariant-loop-s l = (l.states ≤ state_limit) × ((U : Table) → l.states ≡ length U.states → l.at ≡ states_at U → l.items ≡ items_place U → l.edges ≡ edges_at U → Begins (item_lists U) l.begins → Begins (edge_lists U) l.rows → Room U l.initial.out → Grown U l.initial.out l.out (states_at U) (states_at U + l.s))
+invariant-loop-s l = (l.begins.states ≤ state_limit) × ((U : Table) → l.begins.states ≡ length U.states → l.at ≡ states_at U → l.items ≡ items_place U → l.ends ≡ edges_at U → BeginsOf (item_lists U) l.begins.items → BeginsOf (edge_lists U) l.edges.rows → Room U l.initial.out → Grown U l.initial.out l.out (states_at U) (states_at U + l.s))

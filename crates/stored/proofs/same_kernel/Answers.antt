@@ -9,7 +9,7 @@ pub read_item-mine-requires : goal.read_item-mine-requires
 read_item-mine-requires c = (omega (arith, c.loop-at-test.true, c.requires.1), omega (arith, c.loop-at-test.true, c.requires.2))
 
 pub meet_one-requires : goal.meet_one-requires
-meet_one-requires c = (c.loop-at.invariant.0, c.requires.3, c.requires.4)
+meet_one-requires c = c.loop-at.invariant.0
 
 pub returns-in-None : goal.returns-in-None
 returns-in-None c = kernel_off _ _ _ _ _ _ _ _ _ _ c.loop-at-test.true c.read_item-mine.ensures.0 c.in-None.ensures (omega arith) c.loop-at.invariant.1

@@ -1,5 +1,5 @@
 use Rattle.codes.proofs.Coding.{key-least, key_itself}
-use Rattle.std.proofs.Common.{◌≡◌, sym, ap, ◌∙◌, arith}
+use Rattle.std.proofs.Common.{◌≡◌, ap, ◌∙◌, arith}
 use Rattle.codes.specs.Codes.{item_code}
 use Rattle.codes.specs.Kinds.{kind_number}
 use Rattle.codes.proofs.EdgeCode.key.Goals as goal

@@ -1,4 +1,4 @@
-use Rattle.std.proofs.Common.{sym, ◌∙◌, arith}
+use Rattle.std.proofs.Common.{sym, ◌∙◌}
 use Rattle.codes.proofs.Coding.{there}
 use Rattle.codes.proofs.KindLaws.{word_is, key_is}
 use Rattle.codes.proofs.EdgeCodes.contains.Goals as goal

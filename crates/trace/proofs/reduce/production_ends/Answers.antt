@@ -14,7 +14,7 @@ pub loop-index-init : goal.loop-index-init
 loop-index-init c = (c.requires.production_lt_productions.1, omega arith, λ T ep et E. ends-start T _ _ E)
 
 pub item_ends-requires : goal.item_ends-requires
-item_ends-requires c = let q = c.length-past.ensures.0 in record { map_value = c.requires.map_value; production_lt_productions = (c.requires.production_lt_productions.0, omega arith) }
+item_ends-requires c = let q = c.length-past.ensures.0 in record { map_value = c.requires.map_value; within = (c.requires.production_lt_productions.0, omega arith) }
 
 pub overflow_mul-production : goal.overflow_mul-production
 overflow_mul-production c = let q = c.args.grammar.packed.few in let r = c.requires.production_lt_productions.0 in omega arith

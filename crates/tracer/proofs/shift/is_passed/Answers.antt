@@ -1,6 +1,4 @@
 use Rattle.std.proofs.Common.{sym, ◌∙◌, true≢false, arith}
-use Rattle.table.specs.Decoded.{meaning}
-use Rattle.table.proofs.Decoding.{fits}
 use Rattle.lr1_core.proofs.Cursor.{cursor_is}
 use Rattle.tracer.proofs.Passing.{packed_few, owner_few, none-shifted, none-entered, edge_there, owner_there}
 use Rattle.tracer.proofs.shift.is_passed.Goals as goal

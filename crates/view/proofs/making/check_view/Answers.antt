@@ -7,7 +7,7 @@ use Rattle.repr.specs.Packed.{productions_in}
 use Rattle.trace_graph.specs.Index.{index_room}
 use Rattle.trace_graph.proofs.Checks.{checked_first, checked_more, checked_all, graph_many, graph_bad}
 use Rattle.view.specs.View.{EdgeRanged}
-use Rattle.view.proofs.Made.{viewed_first, kept_long, making_more, view_made, ranged_of}
+use Rattle.view.proofs.Made.{viewed_first, making_more, view_made, ranged_of}
 use Rattle.view.proofs.Labelling.{labelling_first, labelling_more, labelling_made}
 use Rattle.view.proofs.making.check_view.Goals as goal
 
@@ -19,7 +19,7 @@ returns-then-count-gt-EDGES c = let A = c.args in record { value = graph_many A.
 
 pub loop-k-init : goal.loop-k-init
 loop-k-init c = let A = c.args in
-    (checked_first (productions_in A.grammar.words.now A.grammar.productions) A.n A.graph.now A.ix.now c.requires.n_bound.0 c.requires.n_bound.1 c.requires.ix_value, (omega arith, (labelling_first c.requires.owners_len.0 c.requires.owners_len.1, viewed_first c.requires.sources_value.0 c.requires.sources_value.1.0 c.requires.sources_value.1.1)))
+    (checked_first (productions_in A.grammar.words.now A.grammar.productions) A.n A.graph.now A.ix.now c.requires.n_bound.0 c.requires.n_bound.1 c.requires.ix_value, (omega arith, (labelling_first (omega arith) c.requires.n_bound.2, viewed_first c.requires.blank.0 c.requires.blank.1 c.requires.blank.2)))
 
 pub check_edge-requires : goal.check_edge-requires
 check_edge-requires c = record { graphed = c.loop-k.invariant.0.good; k_lt_edge_limit = omega (arith, c.loop-k-test.true, c.if-count-gt-EDGES.false) }
@@ -27,8 +27,7 @@ check_edge-requires c = record { graphed = c.loop-k.invariant.0.good; k_lt_edge_
 pub view_edge-requires : goal.view_edge-requires
 view_edge-requires c = let G = c.check_edge.ensures.graphed_2 c.if-not-check_edge.false in
     let I = c.loop-k.invariant.1.1 in
-    let W = I.1.tidy in
-    let E : EdgeRanged (productions_in c.args.grammar.words.now c.args.grammar.productions) c.args.graph.now c.loop-k.k = record { nonterminals = c.args.n; few = c.requires.n_bound.0; fits = G.fits c.loop-k.k (omega arith) } in record { k_lt_edge_limit = (omega (arith, G.few), G.long); edge_ranged = E; owners_len = (I.0.by_owner, I.0.by_code); sources_len = (W.by_source.long, (W.by_older.long, W.by_latest.long)) }
+    let E : EdgeRanged (productions_in c.args.grammar.words.now c.args.grammar.productions) c.args.graph.now c.loop-k.k = record { nonterminals = c.args.n; few = c.requires.n_bound.0; fits = G.fits c.loop-k.k (omega arith) } in record { room = (omega (arith, G.few), G.long, I.0.by_code); edge_ranged = E }
 
 pub loop-k-preserved : goal.loop-k-preserved
 loop-k-preserved c = let A = c.args in
@@ -40,8 +39,8 @@ loop-k-preserved c = let A = c.args in
       (
         omega (arith, c.loop-k-test.true),
         (
-          labelling_more c.args.grammar.packed E (omega (arith, c.loop-k-test.true, c.word-count.ensures.0)) (omega (arith, c.if-count-gt-EDGES.false, c.word-count.ensures.0)) I.1.1.0 c.view_edge.ensures.owners_after c.view_edge.ensures.codes_after,
-          making_more E (omega (arith, c.loop-k-test.true, c.word-count.ensures.0)) (omega (arith, c.if-count-gt-EDGES.false, c.word-count.ensures.0)) I.1.1.1 c.view_edge.ensures.sources_after c.view_edge.ensures.older_after c.view_edge.ensures.latest_after,
+          labelling_more c.args.grammar.packed E (omega (arith, c.loop-k-test.true, c.word-count.ensures.0)) (omega (arith, c.if-count-gt-EDGES.false, c.word-count.ensures.0)) I.1.1.0 c.view_edge.ensures.owners c.view_edge.ensures.codes,
+          making_more E (omega (arith, c.loop-k-test.true, c.word-count.ensures.0)) (omega (arith, c.if-count-gt-EDGES.false, c.word-count.ensures.0)) I.1.1.1 c.view_edge.ensures.sources c.view_edge.ensures.older c.view_edge.ensures.latest,
         ),
       ),
     )
@@ -49,20 +48,8 @@ loop-k-preserved c = let A = c.args in
 pub shape_of-ix-then-not-check_edge : goal.shape_of-ix-then-not-check_edge
 shape_of-ix-then-not-check_edge c = c.check_edge.auto.ix ∙ c.loop-k.invariant.0.good.index.long ∙ sym (ap length c.requires.ix_value ∙ length-replicate {A = ℕ} index_room 0)
 
-pub shape_of-owners-then-not-check_edge : goal.shape_of-owners-then-not-check_edge
-shape_of-owners-then-not-check_edge c = c.loop-k.invariant.1.1.0.by_owner ∙ sym c.requires.owners_len.0
-
 pub shape_of-codes-then-not-check_edge : goal.shape_of-codes-then-not-check_edge
-shape_of-codes-then-not-check_edge c = c.loop-k.invariant.1.1.0.by_code ∙ sym c.requires.owners_len.1
-
-pub shape_of-sources-then-not-check_edge : goal.shape_of-sources-then-not-check_edge
-shape_of-sources-then-not-check_edge c = kept_long c.loop-k.invariant.1.1.1.tidy.by_source c.requires.sources_value.0
-
-pub shape_of-older-then-not-check_edge : goal.shape_of-older-then-not-check_edge
-shape_of-older-then-not-check_edge c = kept_long c.loop-k.invariant.1.1.1.tidy.by_older c.requires.sources_value.1.0
-
-pub shape_of-latest-then-not-check_edge : goal.shape_of-latest-then-not-check_edge
-shape_of-latest-then-not-check_edge c = kept_long c.loop-k.invariant.1.1.1.tidy.by_latest c.requires.sources_value.1.1
+shape_of-codes-then-not-check_edge c = c.loop-k.invariant.1.1.0.by_code ∙ sym c.requires.n_bound.2
 
 pub returns-then-not-check_edge : goal.returns-then-not-check_edge
 returns-then-not-check_edge c = let A = c.args in record { value = graph_bad A.n (productions_in A.grammar.words.now A.grammar.productions) A.graph.now c.loop-k.k (omega (arith, c.loop-k-test.true, c.word-count.ensures.0)) c.check_edge.result c.check_edge.ensures.value c.if-not-check_edge.true; viewing = λ z. absurd (true≢false (sym z)) }
@@ -70,20 +57,8 @@ returns-then-not-check_edge c = let A = c.args in record { value = graph_bad A.n
 pub shape_of-ix : goal.shape_of-ix
 shape_of-ix c = c.loop-k.invariant.0.good.index.long ∙ sym (ap length c.requires.ix_value ∙ length-replicate {A = ℕ} index_room 0)
 
-pub shape_of-owners : goal.shape_of-owners
-shape_of-owners c = c.loop-k.invariant.1.1.0.by_owner ∙ sym c.requires.owners_len.0
-
 pub shape_of-codes : goal.shape_of-codes
-shape_of-codes c = c.loop-k.invariant.1.1.0.by_code ∙ sym c.requires.owners_len.1
-
-pub shape_of-sources : goal.shape_of-sources
-shape_of-sources c = kept_long c.loop-k.invariant.1.1.1.tidy.by_source c.requires.sources_value.0
-
-pub shape_of-older : goal.shape_of-older
-shape_of-older c = kept_long c.loop-k.invariant.1.1.1.tidy.by_older c.requires.sources_value.1.0
-
-pub shape_of-latest : goal.shape_of-latest
-shape_of-latest c = kept_long c.loop-k.invariant.1.1.1.tidy.by_latest c.requires.sources_value.1.1
+shape_of-codes c = c.loop-k.invariant.1.1.0.by_code ∙ sym c.requires.n_bound.2
 
 pub returns : goal.returns
 returns c = let A = c.args in

@@ -9,4 +9,4 @@ use Rattle.view.proofs.making.check_view.Given as goal
 
 abbrev pub invariant-loop-k : goal.invariant-loop-k
 invariant-loop-k l = Checked l.n (productions_in l.grammar.words.now l.grammar.productions) l.graph l.ix l.k
-    × ((l.k ≤ l.count) × (Labelling (productions_in l.grammar.words.now l.grammar.productions) (edges_in l.graph) l.owners l.codes l.k × Viewed (ends l.graph) (record { production = l.production; index = l.index }) l.sources l.older l.latest l.k))
+    × ((l.k ≤ l.count) × (Labelling (productions_in l.grammar.words.now l.grammar.productions) (edges_in l.graph) l.lists.owners l.codes l.k × Viewed (ends l.graph) (record { production = l.start.production; index = l.start.index }) l.lists.sources l.lists.older l.lists.latest l.k))

@@ -1,21 +1,21 @@
 use Rattle.view.proofs.Made.{slot-nonterminal, slot-start, slot-other, slot-place}
 use native.Mathlib.Omega.{arith}
 use Rattle.view.proofs.making.slot.Goals as goal
-use Rattle.view.proofs.making.slot.Goals.{else-node-production-via-then-node-production+else-node-index, else-node-production-via-else-node-production}
+use Rattle.view.proofs.making.slot.Goals.{else-node-start-via-then-node-start+else-node-start-2, else-node-start-via-else-node-start}
 
 pub returns-then-node-eq0 : goal.returns-then-node-eq0
-returns-then-node-eq0 c = (slot-nonterminal c.args.node c.args.production c.args.index c.if-node-eq0.true, omega (arith, c.requires c.if-node-eq0.true))
+returns-then-node-eq0 c = (slot-nonterminal c.args.node c.args.start.production c.args.start.index c.if-node-eq0.true, omega (arith, c.requires c.if-node-eq0.true))
 
-pub returns-then-node-index : goal.returns-then-node-index
-returns-then-node-index c = (slot-start c.args.node c.args.production c.args.index c.if-node-eq0.false c.if-node-production.true c.if-node-index.true, omega arith)
+pub returns-then-node-start-2 : goal.returns-then-node-start-2
+returns-then-node-start-2 c = (slot-start c.args.node c.args.start.production c.args.start.index c.if-node-eq0.false c.if-node-start.true c.if-node-start-2.true, omega arith)
 
 pub returns : goal.returns
 returns c = let N = c.args.node in
-    let p = c.args.production in
-    let i = c.args.index in (
-      elim c.else-node-production.branch [
-        | else-node-production-via-then-node-production+else-node-index w ↦ slot-place N p i c.if-node-eq0.false w.if-node-production.true w.if-node-index.false
-        | else-node-production-via-else-node-production w ↦ slot-other N p i c.if-node-eq0.false w.if-node-production.false
+    let p = c.args.start.production in
+    let i = c.args.start.index in (
+      elim c.else-node-start.branch [
+        | else-node-start-via-then-node-start+else-node-start-2 w ↦ slot-place N p i c.if-node-eq0.false w.if-node-start.true w.if-node-start-2.false
+        | else-node-start-via-else-node-start w ↦ slot-other N p i c.if-node-eq0.false w.if-node-start.false
       ],
       omega arith,
     )

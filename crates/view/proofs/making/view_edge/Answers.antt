@@ -25,10 +25,11 @@ pub slot-requires : goal.slot-requires
 slot-requires c = target_small c.requires.edge_ranged c.read_edge-edge.ensures.1
 
 pub put-requires : goal.put-requires
-put-requires c = record { k_lt_edge_limit = (c.requires.k_lt_edge_limit.0, (c.source.ensures.1, c.slot.ensures.1)); sources_len = c.requires.sources_len }
+put-requires c = (c.requires.room.0, c.source.ensures.1, c.slot.ensures.1, c.node_owner.ensures.1)
 
 pub returns : goal.returns
 returns c = let A = c.args in
+    let L = A.lists.now in
     let E = c.requires.edge_ranged in
     let q = c.read_edge-edge.ensures.1 in
-    let o = slot-put E q (record { production = A.production; index = A.index }) c.slot.ensures.0 in record { owners_after = ap (λ (x : ℕ). set A.owners.now A.k x) (owner_put c.args.grammar.packed E q c.node_owner.ensures.0); codes_after = ap (λ (x : ℕ). set A.codes.now A.k x) (code_put c.args.grammar.packed E q); sources_after = c.put.ensures.sources_after ∙ ap (λ (x : ℕ). set A.sources.now A.k x) (source-put E q c.source.ensures.0); older_after = c.put.ensures.older_after ∙ ap (λ (x : ℕ). set A.older.now A.k (get_or A.latest.now x 0)) o; latest_after = c.put.ensures.latest_after ∙ ap (λ (x : ℕ). set A.latest.now x (A.k + 1)) o }
+    let o = slot-put E q (record { production = A.start.production; index = A.start.index }) c.slot.ensures.0 in record { owners = c.put.ensures.owners ∙ ap (λ (x : ℕ). set L.owners A.k x) (owner_put c.args.grammar.packed E q c.node_owner.ensures.0); codes = ap (λ (x : ℕ). set A.codes.now A.k x) (code_put c.args.grammar.packed E q); sources = c.put.ensures.sources ∙ ap (λ (x : ℕ). set L.sources A.k x) (source-put E q c.source.ensures.0); older = c.put.ensures.older ∙ ap (λ (x : ℕ). set L.older A.k (get_or L.latest x 0)) o; latest = c.put.ensures.latest ∙ ap (λ (x : ℕ). set L.latest x (A.k + 1)) o }
