@@ -34,20 +34,12 @@ use Rattle.examples.specs.Gathers.{shift_made, reduce_made, made_by, action_made
 use Rattle.examples.proofs.Traces.{listing-over, listing_is}
 use Rattle.examples.proofs.Seeking.{not_stopped}
 
--- the edges behind their number
-pub codes_part : (w : List ℕ) → length w ≡ codes_room → take edge_limit (drop 1 w) ≡ drop 1 w
-codes_part w h = let d = length-drop 1 w in take_all edge_limit (drop 1 w) (omega arith)
-
 listed_by_lem : {listing other : Side} (k : ℕ) (x : Example) → other ≡ listing → Listed listing k x → Listed other k x
 listed_by_lem k x e L = record { examples = L.examples; trials = L.trials; is = e ∙ L.is; inside = L.inside; there = L.there }
 
 module _ (t g : List ℕ) (productions terminals : ℕ) (sets least ends : List ℕ) (R : Reads t g productions terminals sets least ends) where
   -- one item's listing
   module _ (es : List TraceEdge) (i : Item) where
-    pub listable_in : (owners codes part sources older latest : List ℕ) → part ≡ codes → Listable (meaning t).productions es owners codes sources older latest i
-        → Listable (productions_in g productions) es owners part sources older latest i
-    listable_in owners codes part sources older latest e L = rw (R.same, e) L
-
     module _ (ahead : Option ℕ) where
       listing_same : length es ≤ edge_limit → (k : ℕ) → k ≤ example_limit → listed_by terminals sets (productions_in g productions) es ahead i k ≡ listing_side (meaning t) es i ahead k
       listing_same few k h = rw (R.same, R.tokens, R.firsts) (listing_is (meaning t) es i ahead k few h)

@@ -1,8 +1,9 @@
 -- The ways through `open_view` and `list_item`: the trace's edges have a view, and their listing is that of error/specs/Sides. Assumes nothing.
-use Rattle.std.specs.Prelude.{Result, Err, ◌≡◌, ℕ, ◌<◌, ◌≤◌, Bool, List, length, take}
+use Rattle.std.specs.Prelude.{Result, Err, ◌≡◌, ℕ, ◌-◌, ◌<◌, ◌≤◌, Bool, List, length, take, drop}
 use native.Mathlib.Omega.{arith}
 use mathlib.Core.Path.{subst, refl}
 use mathlib.Core.Option.{Option}
+use lib.ListN.{length-drop}
 use lib.Seq.{take_all}
 use Rattle.repr.specs.Sizes.{edge_limit, example_limit}
 use Rattle.repr.specs.Meaning.{Item}
@@ -44,10 +45,10 @@ module _ (t g : List ℕ) (productions terminals : ℕ) (sets least ends : List 
     pub listable : (owners codes sources older latest : List ℕ) → View es i sources older latest × Labelled (meaning t).productions es owners codes → Listable (meaning t).productions es owners codes sources older latest i
     listable owners codes sources older latest h = record { labelled = h.1; view = h.0 }
 
-    -- for `list_outlines`, which is lent the words of the edges without their count
-    pub listable_in : (owners codes sources older latest : List ℕ) → Listable (meaning t).productions es owners codes sources older latest i
-        → Listable (productions_in g productions) es owners (take edge_limit codes) sources older latest i
-    listable_in owners codes sources older latest L = let l = L.labelled.by_code in rw (R.same, take_all edge_limit codes (omega arith)) L
+    -- the view that is searched has the words of the edges without their count
+    pub listable_in : (owners words sources older latest : List ℕ) → Listable (meaning t).productions es owners (drop 1 words) sources older latest i
+        → Listable (productions_in g productions) es owners (take (length words - 1) (drop 1 words)) sources older latest i
+    listable_in owners words sources older latest L = let d = length-drop 1 words in rw (R.same, take_all (length words - 1) (drop 1 words) (omega arith)) L
 
     -- `list_item`
     module _ (ahead : Option ℕ) (shift : Bool) (count : ℕ) (kept prints kept' prints' : List ℕ) where

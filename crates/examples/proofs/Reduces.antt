@@ -40,7 +40,6 @@ module _ (t g : List ℕ) (productions terminals : ℕ) (sets least ends : List 
   item_in_lem h = item_fits (meaning t) (item_of_reduce (meaning t) p) (record { production = h; index = omega arith })
 
   not_shift : shifts r.action ≡ false
-  unfolding shifts
   not_shift = ap (λ (x : Traced). shifts x.action) e
 
   pub reduce_made_lem : (token : ℕ) (tokens : TokenSet) → p < length (meaning t).productions → token ≤ (meaning t).terminals → tokens.0 ≡ with 0 token → (a : Result Gathered Refusal) (kept prints kept' prints' : List ℕ) → Room kept' prints'

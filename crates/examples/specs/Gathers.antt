@@ -59,7 +59,7 @@ TrialsIn l (Ok g) = g.trials ≤ l
 TrialsIn l (Err x) = Unit {0}
 
 -- which of the two traces an example with such a label is of
-unfoldable pub shifts : Action → Bool
+abbrev pub shifts : Action → Bool
 shifts Shift = true
 shifts Reduce = false
 

@@ -35,7 +35,7 @@ use example::{Example, Labels};
 use first::FirstSets;
 use lookahead::TokenSet;
 use lr1_core::Item;
-use outline::{Outline, Side, item_at, outline_of};
+use outline::{Outline, Side, outline_of};
 use repr::{Grammar, ProductionIndex, Refusal};
 use search::{Searched, read_labels, search, write_trial};
 use shift_items::{conflicting_shift_items, next_shift_item};
@@ -132,7 +132,6 @@ pub struct Traced {
 
 impl Traced {
     // Whether as a shift's: a yes or no, as what is kept of an example is defined by (`label_of`).
-    #[tactic(auto, unfolding(crate::specs::Gathers::shifts))]
     fn shifts(self) -> bool
         ensures { result ≡ shifts self.action }
     {
@@ -323,7 +322,10 @@ fn shift_examples(
     while let Some((place, code)) = next_shift_item(given.grammar, token, &order, &marks, from) {
         let traced = Traced {
             state,
-            item: item_at(code),
+            item: Item {
+                production: code / ProductionIndex::INDEXES,
+                index: code % ProductionIndex::INDEXES,
+            },
             action: Action::Shift,
         };
         let listed = list_item(given, None, traced, side, gathered.examples)?;
@@ -509,7 +511,10 @@ pub fn action_again(
     if conflict.action == 0 {
         let traced = Traced {
             state,
-            item: item_at(label),
+            item: Item {
+                production: label / ProductionIndex::INDEXES,
+                index: label % ProductionIndex::INDEXES,
+            },
             action: Action::Shift,
         };
         item_again(given, None, traced, wanted, buffer);

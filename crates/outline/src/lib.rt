@@ -240,7 +240,7 @@ impl Side {
 }
 
 // An item from its number.
-pub fn item_at(code: usize) -> Item
+fn item_at(code: usize) -> Item
     ensures { (result.production ≡ code / index_limit) × (result.index ≡ code % index_limit) }
 {
     Item {

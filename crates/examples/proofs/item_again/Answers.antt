@@ -3,31 +3,32 @@ use mathlib.Core.Path.{refl, ◌∙◌}
 use lib.ListN.{length-replicate}
 use Rattle.codes.specs.Coded.{codes_room}
 use Rattle.examples.proofs.Walks.{no_edge}
-use Rattle.examples.proofs.Again.{codes_part, listable_in, found-tried, again_made, again_none, again_full}
+use Rattle.examples.proofs.Opening.{listable_in}
+use Rattle.examples.proofs.Again.{found-tried, again_made, again_none, again_full}
 use Rattle.examples.proofs.item_again.Goals as goal
 
 pub open_view-requires : goal.open_view-requires
 open_view-requires c = record { state_in_bounds = c.requires.state_in_bounds; owners_len = refl; sources_value = (refl, (refl, refl)) }
 
 pub invariant_of-view : goal.invariant_of-view
-invariant_of-view c = record { tidy = c.in-Ok.ensures.listable.view.tidy }
+invariant_of-view c = record { tidy = c.in-Ok.ensures.listable.view.viewed.tidy }
 
 pub find_example-requires : goal.find_example-requires
 find_example-requires c = let O = c.in-Ok.ensures.listable in
-    let L = listable_in _ _ _ _ _ _ _ c.args.given.reads _ _ _ _ _ _ _ _ (codes_part c.open_view.new.trace.edges.words c.open_view.auto.trace) O in record { listable = (_, (_, L)); by_index = (_, no_edge) }
+    let L = listable_in _ _ _ _ _ _ _ c.args.given.reads _ _ _ c.open_view.new.trace.edges.words _ _ _ O in record { listable = (_, (_, L)); by_index = (_, no_edge) }
 
 pub write_trial-requires : goal.write_trial-requires
 write_trial-requires c = let O = c.in-Ok.ensures.listable in
-    let L = listable_in _ _ _ _ _ _ _ c.args.given.reads _ _ _ _ _ _ _ _ (codes_part c.open_view.new.trace.edges.words c.open_view.auto.trace) O in record { tried = (_, found-tried _ _ _ _ _ _ _ c.args.given.reads _ _ _ O.labelled.few _ _ _ _ _ (c.find_example.ensures _ _ L) c.if-find_example.true); example_room_in_bounds = c.requires.example_room_in_bounds }
+    let L = listable_in _ _ _ _ _ _ _ c.args.given.reads _ _ _ c.open_view.new.trace.edges.words _ _ _ O in record { tried = (_, found-tried _ _ _ _ _ _ _ c.args.given.reads _ _ _ O.labelled.few _ _ _ _ _ (c.find_example.ensures _ _ L) c.if-find_example.true); example_room_in_bounds = c.requires.example_room_in_bounds }
 
 pub returns-then-find_example : goal.returns-then-find_example
 returns-then-find_example c = let O = c.in-Ok.ensures.listable in
-    let L = listable_in _ _ _ _ _ _ _ c.args.given.reads _ _ _ _ _ _ _ _ (codes_part c.open_view.new.trace.edges.words c.open_view.auto.trace) O in
+    let L = listable_in _ _ _ _ _ _ _ c.args.given.reads _ _ _ c.open_view.new.trace.edges.words _ _ _ O in
     again_made _ _ _ _ _ _ _ c.args.given.reads _ _ _ O.labelled.few _ _ _ _ _ (c.find_example.ensures _ _ L) c.if-find_example.true _ _ c.write_trial.ensures
 
 pub returns-else-find_example : goal.returns-else-find_example
 returns-else-find_example c = let O = c.in-Ok.ensures.listable in
-    let L = listable_in _ _ _ _ _ _ _ c.args.given.reads _ _ _ _ _ _ _ _ (codes_part c.open_view.new.trace.edges.words c.open_view.auto.trace) O in
+    let L = listable_in _ _ _ _ _ _ _ c.args.given.reads _ _ _ c.open_view.new.trace.edges.words _ _ _ O in
     λ k x h M. again_none _ _ _ _ _ _ _ c.args.given.reads _ _ _ O.labelled.few _ _ _ _ _ (c.find_example.ensures _ _ L) c.if-find_example.false k x h M
 
 pub returns-in-Err : goal.returns-in-Err

@@ -1,4 +1,3 @@
-use mathlib.Core.Path.{◌∙◌}
 use Rattle.examples.proofs.Preparing.{prepared}
 use Rattle.examples.proofs.prepare.Goals as goal
 
@@ -6,5 +5,5 @@ pub returns : goal.returns
 returns c =
     let C = c.counts-counts.ensures in
     let S = c.new-sets.ensures in
-    let R = prepared _ _ _ _ _ _ _ c.args.table.accepted C.productions (S.terminals ∙ C.terminals) c.read_productions.ensures (rw S.terminals S.is) c.fill_least.ensures c.suffix_ends.ensures in
+    let R = prepared _ _ _ _ _ _ _ c.args.table.accepted C.productions _ S.terminals C.terminals c.read_productions.ensures S.is c.fill_least.ensures c.suffix_ends.ensures in
     rw C.productions at R

@@ -1,5 +1,5 @@
 use Rattle.judge.proofs.Ways.{judges_same, judges_heads}
-use Rattle.judge.proofs.Sides.{conflict_production, reads_grammar, reads_owner, question_some, question_none}
+use Rattle.judge.proofs.Sides.{table_fits, conflict_production, reads_grammar, reads_owner, question_some, question_none}
 use native.Mathlib.Omega.{arith}
 use Rattle.judge.proofs.shift_unambiguous.Goals as goal
 
@@ -20,3 +20,9 @@ returns-in-Some c = λ xs ys K A B. let R = c.args.case.given.reads in judges_he
 
 pub returns-in-None : goal.returns-in-None
 returns-in-None c = λ xs ys K A B. let R = c.args.case.given.reads in judges_same xs ys _ _ _ (c.try_classify_inline.ensures xs ys K A B) (question_none _ c.args.case.conflict xs ys _ _ _ _ K c.args.actions.order.now c.args.reduces.order.now A B c.args.case.conflict.production.0 _ (reads_owner _ _ _ _ _ _ _ R c.args.case.conflict.production.0 (conflict_production _ c.args.case.conflict c.args.case.fits) _ c.owner-nonterminal.ensures).0 _ c.try_classify_question.ensures.0 c.in-None.is)
+
+pub overflow_cast-nonterminal : goal.overflow_cast-nonterminal
+overflow_cast-nonterminal c =
+    let R = c.args.case.given.reads in
+    let inside = (reads_owner _ _ _ _ _ _ _ R c.args.case.conflict.production.0 (conflict_production _ c.args.case.conflict c.args.case.fits) _ c.owner-nonterminal.ensures).1 in
+    omega (arith, inside, (table_fits _ _ _ _ _ _ _ R).few_nonterminals)
