@@ -10,13 +10,16 @@ use error::Conflict;
 use example::Example;
 use lines::{lines, refused_line};
 use little::decode;
-use pipe::{BYTES, Stop, WORDS, read_table};
+use pipe::{BYTES, CONFLICT_BYTES, CONFLICT_WORDS, CONFLICTS, Stop, WORDS, read_table};
 use report::classify;
 use repr::{ProductionIndex, Refusal};
 use state_graph::StateIndex;
 use std::io;
 use streams::{Failed, PIECES, read, write};
 use table_check::check;
+
+// Bytes for the lines of a conflict.
+const LINES: usize = 65536;
 
 // One line for a refusal of the table (number 0) or of a conflict.
 fn say_refused<R: Print + Eprint>(rt: &R, number: u64, refusal: Refusal) -> Result<(), Failed> {
@@ -33,9 +36,8 @@ fn conflict_lines(
     scratch: &mut [u16],
     action: &mut [u16],
     reduce: &mut [u16],
-    out: &mut [u8],
+    out: &mut [u8; LINES],
 ) -> usize
-    requires { 65536 ≤ length out.old }
     ensures { Prints number (classify_of table.now conflict scratch.old action.old reduce.old) out.new result }
 {
     let classified = classify(table, conflict, scratch, action, reduce);
@@ -62,9 +64,9 @@ fn explain_some<R: Print + Eprint>(
     table: &[u16],
     words: &[u16],
     first: u64,
-    out: &mut [u8],
+    out: &mut [u8; LINES],
 ) -> Result<(), Failed>
-    requires { (length words.now ≤ 20480) × ((first < 1152921504606846976) × (65536 ≤ length out.old)) }
+    requires { (length words.now ≤ 20480) × (first < 1152921504606846976) }
 {
     let mut scratch = [0u16; Conflict::SCRATCH];
     let mut action = [0u16; Example::WORDS];
@@ -89,12 +91,11 @@ fn explain_piece<R: io::Input + Print + Eprint>(
     rt: &R,
     table: &[u16],
     first: u64,
-    bytes: &mut [u8],
-    words: &mut [u16],
-    out: &mut [u8],
+    bytes: &mut [u8; CONFLICT_BYTES],
+    words: &mut [u16; CONFLICT_WORDS],
+    out: &mut [u8; LINES],
 ) -> Result<bool, Failed>
-    requires in_bounds { (length bytes.old ≡ 40960) × (20480 ≤ length words.old) }
-    requires first_bound { (first < 1152921504606846976) × (65536 ≤ length out.old) }
+    requires { first < 1152921504606846976 }
 {
     let got = read(rt, bytes)?;
     let n = decode(&bytes[..got], words);
@@ -105,18 +106,13 @@ fn explain_piece<R: io::Input + Print + Eprint>(
     Ok(got == bytes.len())
 }
 
-// All conflicts, piece by piece: 40,960 bytes are 4,096 conflicts.
-fn explain_conflicts<R: io::Input + Print + Eprint>(
-    rt: &R,
-    table: &[u16],
-    bytes: &mut [u8],
-) -> Result<(), Failed>
-    requires { length bytes.old ≡ 40960 }
-{
-    let mut words = [0u16; 20480];
-    let mut out = [0u8; 65536];
+// All conflicts, piece by piece.
+fn explain_conflicts<R: io::Input + Print + Eprint>(rt: &R, table: &[u16]) -> Result<(), Failed> {
+    let mut bytes = [0u8; CONFLICT_BYTES];
+    let mut words = [0u16; CONFLICT_WORDS];
+    let mut out = [0u8; LINES];
     for piece in 0..PIECES {
-        if !explain_piece(rt, table, 1 + piece * 4096, bytes, &mut words, &mut out)? {
+        if !explain_piece(rt, table, 1 + piece * CONFLICTS as u64, &mut bytes, &mut words, &mut out)? {
             break;
         }
     }
@@ -129,7 +125,7 @@ fn explain_input<R: io::Input + Print + Eprint>(rt: &R) -> Result<(), Stop> {
     let words = read_table(rt, &mut bytes, &mut table)? * 4;
     let table = &table[..words];
     check(table)?;
-    Ok(explain_conflicts(rt, table, &mut bytes[..40960])?)
+    Ok(explain_conflicts(rt, table)?)
 }
 
 fn main(rt: HostRuntime) {

@@ -27,9 +27,9 @@ fn write_states<R: io::Input + Print + Eprint>(
     rt: &R,
     table: &[u16],
     conflicts: &[u16],
-    bytes: &mut [u8],
+    bytes: &mut [u8; BYTES],
 ) -> Result<(), Failed>
-    requires table_len { (length table.now ≤ record_limit * 4) × (65536 ≤ length bytes.old) }
+    requires table_len { length table.now ≤ record_limit * 4 }
     requires conflicts_len { length conflicts.now ≤ 65535 * 5 }
 {
     write_records(rt, table, bytes)?;
