@@ -121,7 +121,7 @@ impl FirstSets {
         result.with(self.terminals)
     }
 
-    // FIRST of a list of symbols.
+    // FIRST of a list of symbols. A list comes as words, here and below: callers have parts of packed words, and two lists joined have no iterator before they are known to fit.
     pub fn first0(&self, symbols: &[u16]) -> Answer
         requires { list_is_fit nonterminal_limit terminal_limit symbols.now ≡ true }
         ensures { result ≡ first0 self.now.terminals self.now.map (listed symbols.now) }
