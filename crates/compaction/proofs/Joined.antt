@@ -3,7 +3,7 @@ use mathlib.Core.Path.{◌≡◌, sym, ap, ◌∙◌}
 use mathlib.Core.List.{List}
 use Prim.Native.Nat.{ℕ, ◌*◌, ◌≤◌, ◌<◌}
 use native.Mathlib.Omega.{arith}
-use lib.ListN.{length, replicate, length-replicate}
+use lib.ListN.{length, replicate}
 use lib.Dec.{eqb}
 use borrow.Author.Tests.{eqb-true, eqb-false}
 use Rattle.repr.specs.Reply.{answered}
@@ -47,11 +47,8 @@ module _ (t : List ℕ) (a : Areas) (A : Accepts t) (P : AreasOf t a) where
   others_asked = let d = areas_of t in rw (P.states_at, P.loose_at) (omega arith, (omega arith, (omega arith, others_headed t A)))
 
   pub numbering_begun : (ms ms₁ ms₂ : List ℕ) → ms ≡ replicate record_limit 0 → HeadsMarked t a.states_at a.productions_at 0 ms ms₁
-      → HeadsMarked t a.states_at a.loose_at 1 ms₁ ms₂ → (length ms₂ ≡ record_limit) × Numbering t ms₂ (loose t)
-  numbering_begun ms ms₁ ms₂ e H K = (
-    K.long ∙ H.long ∙ ap length e ∙ length-replicate {A = ℕ} record_limit 0,
-    numbering_start t ms ms₁ ms₂ record_limit e (rw (P.states_at, P.productions_at) at H) (rw (P.states_at, P.loose_at) at K),
-  )
+      → HeadsMarked t a.states_at a.loose_at 1 ms₁ ms₂ → Numbering t ms₂ (loose t)
+  numbering_begun ms ms₁ ms₂ e H K = numbering_start t ms ms₁ ms₂ record_limit e (rw (P.states_at, P.productions_at) at H) (rw (P.states_at, P.loose_at) at K)
 
   module _ (ms g₁ : List ℕ) (N : Numbers t ms) (C : Closing t g₁ (records t)) where
     pub follow_items_asked : ((a.states_at ≤ a.productions_at) × ((a.productions_at ≤ record_limit) × ((a.productions_at * 4 ≤ length g₁) × (0 < 4))))

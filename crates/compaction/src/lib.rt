@@ -19,10 +19,12 @@ use table::{AcceptedTable, put, word};
 use table_check::areas::{Areas, survey};
 use table_check::check;
 
+// Records of a table at most.
+const LIMIT: usize = 8192;
+
 // Marks the heads in word k of the records from `first` up to and without `past`.
-fn mark_heads(table: AcceptedTable, first: usize, past: usize, k: usize, numbers: &mut [u16])
+fn mark_heads(table: AcceptedTable, first: usize, past: usize, k: usize, numbers: &mut [u16; LIMIT])
     requires first_le_past { (first ≤ past) × ((past ≤ loose table.words.now) × ((k < 4) × Headed table.words.now first past k)) }
-    requires numbers_len { length numbers.old ≡ record_limit }
     ensures { HeadsMarked table.entry.words.now first past k numbers.old numbers.new }
 {
     for r in first..past {
@@ -34,9 +36,8 @@ fn mark_heads(table: AcceptedTable, first: usize, past: usize, k: usize, numbers
 }
 
 // Reached record r gets its new number, and its next is marked.
-fn number_one(table: AcceptedTable, r: usize, number: usize, numbers: &mut [u16])
+fn number_one(table: AcceptedTable, r: usize, number: usize, numbers: &mut [u16; LIMIT])
     requires r_value { (reached table.words.now r ≡ true) × (number ≤ record_limit) }
-    requires numbers_len { length numbers.old ≡ record_limit }
     ensures { Numbered table.entry.words.now numbers.old numbers.new r number }
 {
     let x = word(table.words, r, 0);
@@ -48,9 +49,9 @@ fn number_one(table: AcceptedTable, r: usize, number: usize, numbers: &mut [u16]
 
 // One ascending pass over the loose records, whose heads are marked: a next index is larger than its record's number, so each is marked by the time it is met.
 // The number of records that are left.
-fn number_loose(table: AcceptedTable, a: Areas, numbers: &mut [u16]) -> usize
+fn number_loose(table: AcceptedTable, a: Areas, numbers: &mut [u16; LIMIT]) -> usize
     requires areas { AreasOf table.words.now a }
-    requires numbers_len { (length numbers.old ≡ record_limit) × Numbering table.words.now numbers.old (loose table.words.now) }
+    requires numbering { Numbering table.words.now numbers.old (loose table.words.now) }
     ensures { (result ≡ count_of table.entry.words.now) × Numbers table.entry.words.now numbers.new }
 {
     let from = a.loose_at;
@@ -66,7 +67,7 @@ fn number_loose(table: AcceptedTable, a: Areas, numbers: &mut [u16]) -> usize
 }
 
 // The new number of each reached record. The number of records that are left.
-fn number_reached(table: AcceptedTable, a: Areas, numbers: &mut [u16]) -> usize
+fn number_reached(table: AcceptedTable, a: Areas, numbers: &mut [u16; LIMIT]) -> usize
     requires areas { AreasOf table.words.now a }
     requires numbers_value { numbers.old ≡ replicate record_limit 0 }
     ensures { (result ≡ count_of table.entry.words.now) × Numbers table.entry.words.now numbers.new }
@@ -137,7 +138,7 @@ fn close_gaps(table: &mut [u16]) -> usize
 {
     let accepted = AcceptedTable { words: table };
     let a = survey(accepted.words);
-    let mut numbers = [0u16; 8192];
+    let mut numbers = [0u16; LIMIT];
     let count = number_reached(accepted, a, &mut numbers);
     move_down(table, a, &numbers);
     follow_heads(table, a.states_at, a.productions_at, 0, &numbers);

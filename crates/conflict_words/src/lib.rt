@@ -20,7 +20,7 @@ use lookahead::TokenSet;
 use lr1_core::Item;
 use repr::Grammar;
 
-// What is done with a token besides reducing: it is shifted, or another production is reduced.
+// What is done with a token besides reducing, as the Rust's `Action`: it is shifted, or another production is reduced.
 #[derive(Clone, Copy)]
 pub enum Action {
     Shift,

@@ -14,7 +14,7 @@ word-x-requires c = let A = accepts _ c.args.table.accepted in omega (arith, A.w
 pub bounds-numbers-x : goal.bounds-numbers-x
 bounds-numbers-x c = let A = accepts _ c.args.table.accepted in
     let b = reached-below _ A _ (head_at _ _ _ _ _ _ c.requires.first_le_past.1.1.1 c.loop-r.auto.r c.loop-r-test.true c.word-x.ensures.0 c.if-x-ne0.true) in
-    omega (arith, b, c.requires.numbers_len)
+    omega (arith, b, c.told-numbers)
 
 pub loop-r-preserved : goal.loop-r-preserved
 loop-r-preserved c = let A = accepts _ c.args.table.accepted in
@@ -23,6 +23,6 @@ loop-r-preserved c = let A = accepts _ c.args.table.accepted in
       | then-x-ne0 w ↦
           let R = head_at _ _ _ _ _ _ c.requires.first_le_past.1.1.1 c.loop-r.auto.r c.loop-r-test.true c.word-x.ensures.0 w.if-x-ne0.true in
           let b = reached-below _ A _ R in
-          rw w.numbers-is (heads_put _ _ _ _ _ _ H _ c.word-x.ensures.0 (omega (arith, b, c.requires.numbers_len)) R)
+          rw w.numbers-is (heads_put _ _ _ _ _ _ H _ c.word-x.ensures.0 (omega (arith, b, c.told-numbers)) R)
       | else-x-ne0 w ↦ rw w.numbers-is (heads_zero _ _ _ _ _ _ H (sym c.word-x.ensures.0 ∙ w.if-x-ne0.false))
     ]

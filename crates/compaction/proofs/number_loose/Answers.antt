@@ -8,16 +8,16 @@ use Rattle.compaction.proofs.number_loose.Goals.{then-numbers-r-ne0, else-number
 
 pub loop-r-init : goal.loop-r-init
 loop-r-init c =
-    let n = count_start _ _ _ c.requires.areas.loose_at c.requires.numbers_len.1 in
-    record { count = n.0; numbering = n.1 }
+    let n = count_start _ _ _ c.requires.areas.loose_at c.requires.numbering in
+    record { count = n.0; numbering = n.1; long = c.told-numbers }
 
 pub bounds-numbers-r : goal.bounds-numbers-r
-bounds-numbers-r c = omega (arith, c.requires.areas.few, c.requires.numbers_len.0)
+bounds-numbers-r c = omega (arith, c.requires.areas.few, c.told-numbers)
 
 pub number_one-requires : goal.number_one-requires
 number_one-requires c = let I = c.loop-r.invariant in
     let w = write_low c.args.table.words.now c.loop-r.r (omega (arith, c.requires.areas.loose_at)) in
-    record { r_value = (numbered-yes _ _ _ I.numbering c.if-numbers-r-ne0.true, omega (arith, c.requires.areas.few, w, I.count)); numbers_len = c.loop-r.auto.numbers ∙ c.requires.numbers_len.0 }
+    record { r_value = (numbered-yes _ _ _ I.numbering c.if-numbers-r-ne0.true, omega (arith, c.requires.areas.few, w, I.count)) }
 
 pub overflow_add-count : goal.overflow_add-count
 overflow_add-count c = let I = c.loop-r.invariant in
@@ -33,11 +33,11 @@ loop-r-preserved c = let A = accepts _ c.args.table.accepted in
           let R = numbered-yes _ _ _ K w.if-numbers-r-ne0.true in
           let m = moved_is _ _ R in
           let N = w.number_one.ensures in
-          rw (w.numbers-is, w.count-is) (record { count = rw (count_yes _ _ R) (omega (arith, I.count)); numbering = numbering_put _ _ _ K A _ _ R (omega (arith, m, I.count)) N })
-      | else-numbers-r-ne0 w ↦ rw (w.numbers-is, w.count-is) (record { count = rw (count_no _ _ (numbered_no _ _ _ K w.if-numbers-r-ne0.false)) I.count; numbering = numbering_skip _ _ _ K w.if-numbers-r-ne0.false })
+          rw (w.numbers-is, w.count-is) (record { count = rw (count_yes _ _ R) (omega (arith, I.count)); numbering = numbering_put _ _ _ K A _ _ R (omega (arith, m, I.count)) N; long = N.long ∙ I.long })
+      | else-numbers-r-ne0 w ↦ rw (w.numbers-is, w.count-is) (record { count = rw (count_no _ _ (numbered_no _ _ _ K w.if-numbers-r-ne0.false)) I.count; numbering = numbering_skip _ _ _ K w.if-numbers-r-ne0.false; long = I.long })
     ]
 
 pub returns : goal.returns
 returns c = let I = c.loop-r.invariant in
     let e : c.loop-r.r ≡ c.args.a.records = omega (arith, c.requires.areas.room) in
-    numbering_end _ _ _ _ (e ∙ c.requires.areas.records) I.count (c.loop-r.auto.numbers ∙ c.requires.numbers_len.0) I.numbering
+    numbering_end _ _ _ _ (e ∙ c.requires.areas.records) I.count I.long I.numbering

@@ -1,6 +1,5 @@
-use mathlib.Core.Path.{refl, sym, ◌∙◌}
+use mathlib.Core.Path.{sym, ◌∙◌}
 use Prim.Native.Nat.{◌<◌}
-use lib.ListN.{length-set}
 use Rattle.table.proofs.Accepted.{accepts}
 use Rattle.compaction.proofs.Moves.{reached-place, reached-some}
 use Rattle.compaction.proofs.Numbering.{reached-below, next-later, numbered-last, numbered_more}
@@ -16,7 +15,7 @@ word-x-requires c = let A = accepts _ c.args.table.accepted in
 pub bounds-numbers-x : goal.bounds-numbers-x
 bounds-numbers-x c = let A = accepts _ c.args.table.accepted in
     let l = next-later _ A _ _ c.requires.r_value.0 c.word-x.ensures.0 c.if-x-ne0.true in
-    omega (arith, l.1, c.requires.numbers_len)
+    omega (arith, l.1, c.told-numbers)
 
 pub offset_bounds-numbers-r : goal.offset_bounds-numbers-r
 offset_bounds-numbers-r c = let p = reached-below _ (accepts _ c.args.table.accepted) _ c.requires.r_value.0 in
@@ -24,10 +23,7 @@ offset_bounds-numbers-r c = let p = reached-below _ (accepts _ c.args.table.acce
 
 pub bounds-numbers-r : goal.bounds-numbers-r
 bounds-numbers-r c = let p = reached-below _ (accepts _ c.args.table.accepted) _ c.requires.r_value.0 in
-    elim c.if-x-ne0.branch [ then-x-ne0 w ↦ rw w.numbers-is (simp length-set (omega arith)) | else-x-ne0 w ↦ rw w.numbers-is (omega arith) ]
-
-pub shape_of-numbers : goal.shape_of-numbers
-shape_of-numbers c = simp length-set (elim c.if-x-ne0.branch [ then-x-ne0 w ↦ rw w.numbers-is (simp length-set) | else-x-ne0 w ↦ rw w.numbers-is refl ])
+    omega arith
 
 pub returns : goal.returns
 returns c = let A = accepts _ c.args.table.accepted in
@@ -37,6 +33,6 @@ returns c = let A = accepts _ c.args.table.accepted in
     elim c.if-x-ne0.branch [
       | then-x-ne0 w ↦
           let l = next-later _ A _ _ R c.word-x.ensures.0 w.if-x-ne0.true in
-          rw w.numbers-is (numbered_more _ _ _ _ (omega arith) _ c.word-x.ensures.0 l.0 (omega (arith, l.1, c.requires.numbers_len)) s)
+          rw w.numbers-is (numbered_more _ _ _ _ (omega arith) _ c.word-x.ensures.0 l.0 (omega (arith, l.1, c.told-numbers)) s)
       | else-x-ne0 w ↦ rw w.numbers-is (numbered-last _ _ _ _ (omega arith) (sym c.word-x.ensures.0 ∙ w.if-x-ne0.false) s)
     ]
