@@ -28,12 +28,7 @@ ends g = ends_of (edges_in g)
 -- the graph's words
 
 pub edge_low : (g : List ℕ) → Roomy g → (e : ℕ) → e < get_or g 0 0 → (e < edge_limit) × (e * edge_room + 3 < length g)
-unfolding Roomy
 edge_low g R e h = (omega (arith, R.1), omega (arith, R.0, R.1))
-
-pub roomy : {g : List ℕ} → Ground g → Roomy g
-unfolding Roomy
-roomy B = (B.ranged.long, B.ranged.few_edges)
 
 -- the node that an edge comes from, read
 pub source_value : (g : List ℕ) (e : ℕ) (v : NodeValue) → e < get_or g 0 0 → node_is v ≡ node_at g (edge_place e) → (ends g).source e ≡ node_is v

@@ -25,7 +25,7 @@ pub record Started (g : List ℕ) (production index : ℕ) : Type 0 where
   pub fits : item_is_fit ground.productions production index ≡ true
 
 -- room for the edges that a count allows
-unfoldable pub Roomy : List ℕ → Type 0
+abbrev pub Roomy : List ℕ → Type 0
 Roomy g = (graph_room ≤ length g) × (slice_index g 0 ≤ edge_limit)
 
 -- edges below k

@@ -16,47 +16,6 @@ use lr1_core::Item;
 use repr::word;
 use trace_graph::{Node, TraceGraph, read_node};
 
-// Whether an edge comes from a nonterminal.
-fn comes_from(graph: &[u16], edge: usize, nonterminal: usize) -> bool
-    requires roomy { Roomy graph.now }
-    requires edge_bound { edge < slice_index graph.now 0 }
-    ensures { result ≡ is_same_node ((ends_of (edges_in graph.now)).source edge) (at_nonterminal nonterminal) }
-{
-    let source = read_node(graph, edge * TraceGraph::EDGE_WORDS + 1);
-    source.kind == 0 && source.number == nonterminal
-}
-
-// Whether one of the first edges comes from a nonterminal.
-fn uses(graph: &[u16], words: &[u16], depth: usize, nonterminal: usize) -> bool
-    requires roomy { Roomy graph.now }
-    requires depth_in_bounds { depth < length words.now }
-    requires within { Within (slice_index graph.now 0) (stack_in words.now depth) }
-    ensures { result ≡ mem nonterminal (used_of (ends_of (edges_in graph.now)) (stack_in words.now depth)) }
-{
-    for k in (1..=depth).rev() {
-        let edge = word(words, k);
-        if comes_from(graph, edge, nonterminal) {
-            return true;
-        }
-    }
-    false
-}
-
-// Whether the trial is an example: its last edge comes from an item.
-pub fn is_example(graph: &[u16], words: &[u16]) -> bool
-    requires roomy { Roomy graph.now }
-    requires stacked { Stacked (slice_index graph.now 0) words.now }
-    ensures { (st rest : List ℕ) → words.now ≡ words_of (reverse st) ++ rest → result ≡ is_example_in (ends_of (edges_in graph.now)) (reverse st) }
-{
-    let depth = word(words, 0);
-    if depth == 0 {
-        return false;
-    }
-    let edge = word(words, depth);
-    let source = read_node(graph, edge * TraceGraph::EDGE_WORDS + 1);
-    source.kind != 0
-}
-
 // The words of no edge.
 pub fn clear(words: &mut [u16])
     requires { scratch_words ≤ length words.old }
@@ -77,52 +36,100 @@ fn only_zeros(words: &[u16], from: usize) -> bool
     all == 0
 }
 
-// Whether a number is an edge's, and the edge enters a node.
-fn enters(graph: &[u16], edge: usize, node: Node) -> bool
-    requires { (G : Ground graph.now) × (node_value_fits G.ranged.nonterminals G.productions node ≡ true) }
-    ensures { result ≡ (nat_lt edge (ends_of (edges_in graph.now)).count && is_same_node ((ends_of (edges_in graph.now)).target edge) (node_is node)) }
-{
-    edge < word(graph, 0) && read_node(graph, edge * TraceGraph::EDGE_WORDS + 4) == node
+// The words of a trace graph: they have room for the edges that its count allows.
+#[derive(Clone, Copy)]
+pub struct Graph<'a> {
+    pub words: &'a [u16],
+    pub ghost roomy: { Roomy words.now },
 }
 
-// Whether the first edges are a trial from the start item: each enters the node that the one before it comes from, a nonterminal that none before comes from.
-fn is_trial(graph: &[u16], words: &[u16], depth: usize, start: Item) -> bool
-    requires started { Started graph.now start.production start.index }
-    requires depth_nonzero { (0 < depth) × (depth < length words.now) }
-    ensures { result ≡ trial_from? (ends_of (edges_in graph.now)) [] (at_item (record { production = start.production; index = start.index })) (take depth (drop 1 words.now)) }
-{
-    let mut node = Node {
-        kind: 1,
-        number: start.production,
-        index: start.index,
-    };
-    for at in 0..depth - 1 {
-        let edge = word(words, at + 1);
-        if !enters(graph, edge, node) {
-            return false;
-        }
-        let source = read_node(graph, edge * TraceGraph::EDGE_WORDS + 1);
-        if source.kind != 0 {
-            return false;
-        }
-        if uses(graph, words, at, source.number) {
-            return false;
-        }
-        node = source;
+impl<'a> Graph<'a> {
+    // Whether an edge comes from a nonterminal.
+    fn comes_from(self, edge: usize, nonterminal: usize) -> bool
+        requires edge_bound { edge < slice_index self.words.now 0 }
+        ensures { result ≡ is_same_node ((ends_of (edges_in self.entry.words.now)).source edge) (at_nonterminal nonterminal) }
+    {
+        let source = read_node(self.words, edge * TraceGraph::EDGE_WORDS + 1);
+        source.kind == 0 && source.number == nonterminal
     }
-    let edge = word(words, depth);
-    enters(graph, edge, node)
-}
 
-// Whether the words are those of a trial that is an example (refusal 9): no trial has more than 33 edges.
-pub fn holds_trial(graph: &[u16], words: &[u16], start: Item) -> bool
-    requires started { Started graph.now start.production start.index }
-    requires scratch_words_in_bounds { scratch_words ≤ length words.now }
-    ensures { result ≡ has_trial (ends_of (edges_in graph.now)) (at_item (record { production = start.production; index = start.index })) words.now }
-{
-    let depth = word(words, 0);
-    if depth == 0 || depth > Example::REDUCTIONS || !only_zeros(words, depth + 1) {
-        return false;
+    // Whether one of the first edges comes from a nonterminal.
+    fn uses(self, words: &[u16], depth: usize, nonterminal: usize) -> bool
+        requires depth_in_bounds { depth < length words.now }
+        requires within { Within (slice_index self.words.now 0) (stack_in words.now depth) }
+        ensures { result ≡ mem nonterminal (used_of (ends_of (edges_in self.entry.words.now)) (stack_in words.now depth)) }
+    {
+        for k in (1..=depth).rev() {
+            let edge = word(words, k);
+            if self.comes_from(edge, nonterminal) {
+                return true;
+            }
+        }
+        false
     }
-    is_trial(graph, words, depth, start) && is_example(graph, words)
+
+    // Whether the trial is an example: its last edge comes from an item.
+    fn is_example(self, words: &[u16]) -> bool
+        requires stacked { Stacked (slice_index self.words.now 0) words.now }
+        ensures { (st rest : List ℕ) → words.now ≡ words_of (reverse st) ++ rest → result ≡ is_example_in (ends_of (edges_in self.entry.words.now)) (reverse st) }
+    {
+        let depth = word(words, 0);
+        if depth == 0 {
+            return false;
+        }
+        let edge = word(words, depth);
+        let source = read_node(self.words, edge * TraceGraph::EDGE_WORDS + 1);
+        source.kind != 0
+    }
+
+    // Whether a number is an edge's, and the edge enters a node.
+    fn enters(self, edge: usize, node: Node) -> bool
+        requires { (G : Ground self.words.now) × (node_value_fits G.ranged.nonterminals G.productions node ≡ true) }
+        ensures { result ≡ (nat_lt edge (ends_of (edges_in self.entry.words.now)).count && is_same_node ((ends_of (edges_in self.entry.words.now)).target edge) (node_is node)) }
+    {
+        edge < word(self.words, 0)
+            && read_node(self.words, edge * TraceGraph::EDGE_WORDS + 4) == node
+    }
+
+    // Whether the first edges are a trial from the start item: each enters the node that the one before it comes from, a nonterminal that none before comes from.
+    fn is_trial(self, words: &[u16], depth: usize, start: Item) -> bool
+        requires started { Started self.words.now start.production start.index }
+        requires depth_nonzero { (0 < depth) × (depth < length words.now) }
+        ensures { result ≡ trial_from? (ends_of (edges_in self.entry.words.now)) [] (at_item (record { production = start.production; index = start.index })) (take depth (drop 1 words.now)) }
+    {
+        let mut node = Node {
+            kind: 1,
+            number: start.production,
+            index: start.index,
+        };
+        for at in 0..depth - 1 {
+            let edge = word(words, at + 1);
+            if !self.enters(edge, node) {
+                return false;
+            }
+            let source = read_node(self.words, edge * TraceGraph::EDGE_WORDS + 1);
+            if source.kind != 0 {
+                return false;
+            }
+            if self.uses(words, at, source.number) {
+                return false;
+            }
+            node = source;
+        }
+        let edge = word(words, depth);
+        self.enters(edge, node)
+    }
+
+    // Whether the words are those of a trial that is an example (refusal 9): no trial has more than 33 edges.
+    pub fn holds_trial(self, words: &[u16], start: Item) -> bool
+        requires started { Started self.words.now start.production start.index }
+        requires scratch_words_in_bounds { scratch_words ≤ length words.now }
+        ensures { result ≡ has_trial (ends_of (edges_in self.entry.words.now)) (at_item (record { production = start.production; index = start.index })) words.now }
+    {
+        let depth = word(words, 0);
+        if depth == 0 || depth > Example::REDUCTIONS || !only_zeros(words, depth + 1) {
+            return false;
+        }
+        self.is_trial(words, depth, start) && self.is_example(words)
+    }
 }

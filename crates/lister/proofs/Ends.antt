@@ -106,9 +106,7 @@ module _ {g : List ℕ} {v : Node} {count k : ℕ} (L : Looking g v count k) whe
         }
 
 pub roomy_long : (g : List ℕ) → Roomy g → graph_room ≤ length g
-unfolding Roomy
 roomy_long g r = r.0
 
 pub roomy_few : (g : List ℕ) → Roomy g → get_or g 0 0 ≤ edge_limit
-unfolding Roomy
 roomy_few g r = r.1

@@ -40,7 +40,6 @@ module _ {T : Table} {n e s p : ℕ} (C : CountsOf T n e s p) where
       read_of = record { nonterminals = C.nonterminals; terminals = C.terminals; productions = ap (productions_in g) C.productions ∙ q }
 
 pub roomy_of : {ps : List Production} {g : List ℕ} → Ranged ps g → Roomy g
-unfolding Roomy
 roomy_of R = (R.long, R.few_edges)
 
 pub started : {ps : List Production} {g : List ℕ} {p i : ℕ} {owners codes sources older latest : List ℕ} → Listable ps g p i owners codes sources older latest → Started g p i

@@ -25,7 +25,7 @@ ghost use Rattle.view.specs.Trial.{trial_words};
 ghost use Rattle.search.specs.Given.{Tried};
 ghost use Rattle.lister.specs.Context.{Read, Listable, ahead_by, sets_for, begun};
 
-use enumerator::machine::{clear, holds_trial};
+use enumerator::machine::{Graph, clear};
 use enumerator::{Advanced, Listing};
 use example::Example;
 use first::FirstSets;
@@ -70,14 +70,13 @@ fn is_item(graph: &[u16], at: usize, item: Item) -> bool
 }
 
 // Whether an item is a node of the graph: an end of one of its edges (refusal 15).
-fn is_node(graph: &[u16], item: Item) -> bool
-    requires { Roomy graph.now }
-    ensures { result ≡ is_node_of (at_item (record { production = item.production; index = item.index })) (edges_in graph.now) }
+fn is_node(graph: Graph, item: Item) -> bool
+    ensures { result ≡ is_node_of (at_item (record { production = item.production; index = item.index })) (edges_in graph.entry.words.now) }
 {
-    let count = word(graph, 0);
+    let count = word(graph.words, 0);
     for k in 0..count {
         let at = k * TraceGraph::EDGE_WORDS + 1;
-        if is_item(graph, at, item) || is_item(graph, at + 3, item) {
+        if is_item(graph.words, at, item) || is_item(graph.words, at + 3, item) {
             return true;
         }
     }
@@ -115,7 +114,7 @@ pub fn open_in(
     if !check_graph(grammar, counts.nonterminals, graph, &mut ix) {
         return Err(Refusal::OutOfRange);
     }
-    if !is_node(graph, start) {
+    if !is_node(Graph { words: graph }, start) {
         return Err(Refusal::NoNode);
     }
     Ok(Listing {
@@ -152,16 +151,16 @@ fn begin(words: &mut [u16], count: u32)
 }
 
 // Whether an open listing past count 0 is lent words that hold no example's trial (refusal 9).
-fn lost(l: Listing, graph: &[u16], words: &[u16]) -> bool
-    requires started { Started graph.now l.production.0 l.index }
+fn lost(l: Listing, graph: Graph, words: &[u16]) -> bool
+    requires started { Started graph.words.now l.production.0 l.index }
     requires scratch_words_in_bounds { scratch_words ≤ length words.now }
-    ensures { result ≡ lost (edges_in graph.now) l words.now }
+    ensures { result ≡ lost (edges_in graph.entry.words.now) l words.now }
 {
     if l.is_open {
         if l.count == 0 {
             return false;
         }
-        return !holds_trial(graph, words, l.start());
+        return !graph.holds_trial(words, l.start());
     }
     false
 }
@@ -171,16 +170,16 @@ fn find_next(
     l: &mut Listing,
     grammar: Grammar,
     terminals: u16,
-    graph: &[u16],
+    graph: Graph,
     view: View,
     scratch: &mut [u16],
     buffer: &mut [u16],
 ) -> Result<Advanced, Refusal>
     requires within { terminals ≤ 63 }
-    requires viewing { Viewing (edges_in graph.now) (record { production = l.old.production.0; index = l.old.index }) view.sources.now view.older.now view.latest.now × Labelled (productions_in grammar.words.now grammar.productions) (edges_in graph.now) view.owners.now view.codes.now }
+    requires viewing { Viewing (edges_in graph.words.now) (record { production = l.old.production.0; index = l.old.index }) view.sources.now view.older.now view.latest.now × Labelled (productions_in grammar.words.now grammar.productions) (edges_in graph.words.now) view.owners.now view.codes.now }
     requires scratch_words_in_bounds { (scratch_words ≤ length scratch.old) × (example_room ≤ length buffer.old) }
-    requires is_open_value { (l.old.is_open ≡ true) × (lost (edges_in graph.now) l.old scratch.old ≡ false) }
-    ensures { (n : ℕ) (T : Table) → Read T n terminals (productions_in grammar.entry.words.now grammar.entry.productions) → outcome (reply_of result) l.new scratch.new buffer.new ≡ found_outcome T (edges_in graph.now) l.old scratch.old buffer.old (search (hands T (edges_in graph.now) (set_of l.old.lookahead)) (trial_limit - l.old.count) l.old.count (rest_of l.old.count scratch.old (trials (ends_of (edges_in graph.now)) (at_item (start_of l.old))))) }
+    requires is_open_value { (l.old.is_open ≡ true) × (lost (edges_in graph.words.now) l.old scratch.old ≡ false) }
+    ensures { (n : ℕ) (T : Table) → Read T n terminals (productions_in grammar.entry.words.now grammar.entry.productions) → outcome (reply_of result) l.new scratch.new buffer.new ≡ found_outcome T (edges_in graph.entry.words.now) l.old scratch.old buffer.old (search (hands T (edges_in graph.entry.words.now) (set_of l.old.lookahead)) (trial_limit - l.old.count) l.old.count (rest_of l.old.count scratch.old (trials (ends_of (edges_in graph.entry.words.now)) (at_item (start_of l.old))))) }
 {
     let lookahead = l.lookahead;
     let count = l.count;
@@ -210,15 +209,15 @@ fn go_on(
     l: &mut Listing,
     grammar: Grammar,
     terminals: u16,
-    graph: &[u16],
+    graph: Graph,
     view: View,
     scratch: &mut [u16],
     buffer: &mut [u16],
 ) -> Result<Advanced, Refusal>
     requires within { terminals ≤ 63 }
-    requires listable { Listable (productions_in grammar.words.now grammar.productions) graph.now l.old.production.0 l.old.index view.owners.now view.codes.now view.sources.now view.older.now view.latest.now }
+    requires listable { Listable (productions_in grammar.words.now grammar.productions) graph.words.now l.old.production.0 l.old.index view.owners.now view.codes.now view.sources.now view.older.now view.latest.now }
     requires scratch_words_in_bounds { (scratch_words ≤ length scratch.old) × (example_room ≤ length buffer.old) }
-    ensures { (n : ℕ) (T : Table) → Read T n terminals (productions_in grammar.entry.words.now grammar.entry.productions) → asked T (start_of l.old) (set_of l.old.lookahead) graph.now ≡ true → outcome (reply_of result) l.new scratch.new buffer.new ≡ advance_in graph.now l.old scratch.old buffer.old T }
+    ensures { (n : ℕ) (T : Table) → Read T n terminals (productions_in grammar.entry.words.now grammar.entry.productions) → asked T (start_of l.old) (set_of l.old.lookahead) graph.entry.words.now ≡ true → outcome (reply_of result) l.new scratch.new buffer.new ≡ advance_in graph.entry.words.now l.old scratch.old buffer.old T }
 {
     if lost(*l, graph, scratch) {
         return Err(Refusal::OutOfRange);
@@ -287,7 +286,7 @@ pub fn step_in(
         l,
         grammar,
         counts.terminals as u16,
-        graph,
+        Graph { words: graph },
         view,
         scratch,
         buffer,

@@ -1,6 +1,6 @@
 use mathlib.Core.Path.{sym, ◌∙◌}
 use Rattle.enumerator.specs.Advance.{start_of}
-use Rattle.lister.proofs.Ways.{roomy_of, started, go_lost, go_stray, go_ended, go_found}
+use Rattle.lister.proofs.Ways.{started, go_lost, go_stray, go_ended, go_found}
 use Rattle.lister.proofs.go_on.Goals as goal
 
 pub lost-requires : goal.lost-requires
@@ -8,9 +8,6 @@ lost-requires c = record { started = started c.requires.listable; scratch_words_
 
 pub returns-then-lost : goal.returns-then-lost
 returns-then-lost c = λ n T R q. go_lost _ _ _ _ T q c.requires.listable.ranged.long c.requires.scratch_words_in_bounds.0 c.requires.scratch_words_in_bounds.1 (sym c.lost.ensures ∙ c.if-lost.true)
-
-pub is_node-requires : goal.is_node-requires
-is_node-requires c = roomy_of c.requires.listable.ranged
 
 pub returns-then-not-is_node : goal.returns-then-not-is_node
 unfolding start_of

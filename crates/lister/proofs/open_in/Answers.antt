@@ -19,8 +19,8 @@ pub returns-then-not-check_graph : goal.returns-then-not-check_graph
 returns-then-not-check_graph c = let R = read_of c.counts-counts.ensures _ c.read_productions.ensures.1 in
     open_refused _ _ _ _ _ (asked_long _ _ _ _ _ R _ c.if-not-fits.ensures refl c.if-graph-lt-WORDS.false _ c.if-not-check_graph.ensures.value)
 
-pub is_node-requires : goal.is_node-requires
-is_node-requires c = roomy_of (ranged_of (c.if-not-check_graph.ensures.graphed refl))
+pub invariant_of-is_node : goal.invariant_of-is_node
+invariant_of-is_node c = record { roomy = roomy_of (ranged_of (c.if-not-check_graph.ensures.graphed refl)) }
 
 pub returns-then-not-is_node : goal.returns-then-not-is_node
 returns-then-not-is_node c = let R = read_of c.counts-counts.ensures _ c.read_productions.ensures.1 in

@@ -3,7 +3,7 @@ use Rattle.enumerator.specs.Advance.{start_of}
 use Rattle.view.proofs.Made.{ranged_fits}
 use Rattle.trace_graph.proofs.Bools.{and_left}
 use Rattle.lister.proofs.Asking.{asked-none, asked_short, asked_long}
-use Rattle.lister.proofs.Ways.{few_nonterminals, packed_of, read_of, step-refused, step_graph, step_scratch, step_buffer}
+use Rattle.lister.proofs.Ways.{few_nonterminals, packed_of, read_of, roomy_of, step-refused, step_graph, step_scratch, step_buffer}
 use native.Mathlib.Omega.{arith}
 use Rattle.lister.proofs.step_in.Goals as goal
 
@@ -37,6 +37,9 @@ returns-then-buffer-lt-WORDS c = let R = read_of c.counts-counts.ensures _ c.rea
 
 pub invariant_of-view : goal.invariant_of-view
 invariant_of-view c = record { tidy = (c.if-not-check_view.ensures.viewing refl).0.viewed.tidy }
+
+pub invariant_of-go_on : goal.invariant_of-go_on
+invariant_of-go_on c = record { roomy = roomy_of (ranged_fits _ _ _ (sym c.if-not-check_view.ensures.value) (few_nonterminals c.counts-counts.ensures) (omega (arith, c.if-graph-lt-WORDS.false))) }
 
 pub go_on-requires-clause-listable : goal.go_on-requires-clause-listable
 go_on-requires-clause-listable c = rw (← c.start-start.ensures.0, ← c.start-start.ensures.1) (record {

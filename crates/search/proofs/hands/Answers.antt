@@ -6,9 +6,6 @@ use Rattle.search.proofs.hands.Goals as goal
 pub is_example-requires : goal.is_example-requires
 is_example-requires c = let P = c.requires.tried in record { held = tried-held P.1.0 }
 
-pub passes-requires : goal.passes-requires
-passes-requires c = record { tried = (c.requires.tried.0, c.requires.tried.1.0) }
-
 pub returns-then-is_example : goal.returns-then-is_example
 returns-then-is_example c = λ es T D p rest w.
     hands-example c.args.sets.now.terminals c.args.sets.now.map (productions_in c.args.grammar.words.now c.args.grammar.productions) es (set_of c.args.ahead) c.is_example.result c.args.words.now c.args.view.sources.now D (tried-inside T) c.is_example.ensures p rest w

@@ -12,59 +12,26 @@ word-count-requires c = omega (arith, tried_long c.requires.tried.1.1)
 pub loop-at-init : goal.loop-at-init
 loop-at-init c = λ ps es T. reading_first T c.requires.labels_room_in_bounds c.word-count.ensures.0
 
-pub overflow_add-at : goal.overflow_add-at
-overflow_add-at c = let R = c.loop-at.invariant _ _ c.requires.tried.1.1 in omega (arith, (reading_room R c.loop-at-test.true).0)
-
 pub word-edge-requires : goal.word-edge-requires
 word-edge-requires c = let R = c.loop-at.invariant _ _ c.requires.tried.1.1 in (reading_room R c.loop-at-test.true).1.0
 
 pub word-code-requires : goal.word-code-requires
 word-code-requires c = let R = c.loop-at.invariant _ _ c.requires.tried.1.1 in (reading_low R c.loop-at-test.true c.word-edge.ensures.0).1
 
-pub overflow_mul-place : goal.overflow_mul-place
-overflow_mul-place c = let R = c.loop-at.invariant _ _ c.requires.tried.1.1 in omega (arith, (reading_room R c.loop-at-test.true).0)
-
 pub bounds-view-edge : goal.bounds-view-edge
 bounds-view-edge c = let R = c.loop-at.invariant _ _ c.requires.tried.1.1 in (reading_low R c.loop-at-test.true c.word-edge.ensures.0).0
-
-pub offset_bounds-labels-place : goal.offset_bounds-labels-place
-offset_bounds-labels-place c = let R = c.loop-at.invariant _ _ c.requires.tried.1.1 in omega (arith, (reading_room R c.loop-at-test.true).0)
 
 pub bounds-labels-place : goal.bounds-labels-place
 bounds-labels-place c = let R = c.loop-at.invariant _ _ c.requires.tried.1.1 in omega (arith, (reading_room R c.loop-at-test.true).1.1)
 
-pub overflow_cast-labels-in-loop-at : goal.overflow_cast-labels-in-loop-at
-overflow_cast-labels-in-loop-at c = omega (arith, c.word-code.ensures.1)
-
-pub overflow_add-labels : goal.overflow_add-labels
-overflow_add-labels c = let R = c.loop-at.invariant _ _ c.requires.tried.1.1 in omega (arith, (reading_room R c.loop-at-test.true).0)
-
-pub offset_bounds-labels-place-in-loop-at : goal.offset_bounds-labels-place-in-loop-at
-offset_bounds-labels-place-in-loop-at c = let R = c.loop-at.invariant _ _ c.requires.tried.1.1 in omega (arith, (reading_room R c.loop-at-test.true).0)
-
 pub bounds-labels-place-in-loop-at : goal.bounds-labels-place-in-loop-at
 bounds-labels-place-in-loop-at c = let R = c.loop-at.invariant _ _ c.requires.tried.1.1 in let r = (reading_room R c.loop-at-test.true).1.1 in simp length-set (omega arith)
-
-pub overflow_cast-labels-in-loop-at-2 : goal.overflow_cast-labels-in-loop-at-2
-overflow_cast-labels-in-loop-at-2 c = omega (arith, c.word-code.ensures.1)
-
-pub overflow_add-labels-in-loop-at : goal.overflow_add-labels-in-loop-at
-overflow_add-labels-in-loop-at c = let R = c.loop-at.invariant _ _ c.requires.tried.1.1 in omega (arith, (reading_room R c.loop-at-test.true).0)
-
-pub offset_bounds-labels-place-in-loop-at-2 : goal.offset_bounds-labels-place-in-loop-at-2
-offset_bounds-labels-place-in-loop-at-2 c = let R = c.loop-at.invariant _ _ c.requires.tried.1.1 in omega (arith, (reading_room R c.loop-at-test.true).0)
 
 pub bounds-labels-place-in-loop-at-2 : goal.bounds-labels-place-in-loop-at-2
 bounds-labels-place-in-loop-at-2 c = let R = c.loop-at.invariant _ _ c.requires.tried.1.1 in let r = (reading_room R c.loop-at-test.true).1.1 in simp length-set (omega arith)
 
 pub loop-at-preserved : goal.loop-at-preserved
 loop-at-preserved c = λ ps es T. reading_again (c.loop-at.invariant ps es T) c.loop-at-test.true c.word-edge.ensures.0 refl (ap (λ (k : ℕ). k % item_limit) c.word-code.ensures.0)
-
-pub overflow_mul-result : goal.overflow_mul-result
-overflow_mul-result c = let R = c.loop-at.invariant _ _ c.requires.tried.1.1 in omega (arith, (reading_few R).0)
-
-pub shape_of-labels : goal.shape_of-labels
-shape_of-labels c = (c.loop-at.invariant _ _ c.requires.tried.1.1).size
 
 pub returns : goal.returns
 returns c = let R = c.loop-at.invariant _ _ c.requires.tried.1.1 in record { upper_bound = (omega (arith, (reading_few R).0), λ ps es T. reading_fit (c.loop-at.invariant ps es T) c.loop-at-test.false); labels_after = λ ps es T. reading_labels (c.loop-at.invariant ps es T) c.loop-at-test.false }

@@ -1,4 +1,4 @@
-use mathlib.Core.Path.{sym, ◌∙◌}
+use mathlib.Core.Path.{◌∙◌}
 use Rattle.enumerator.proofs.Counting.{counted_none}
 use Rattle.view.proofs.Viewing.{view_sourced}
 use Rattle.search.proofs.Turning.{searching_held, searching_fitting, turn_first, turn_end, turn_tried, turn_long, turn_over, turn_hit, turn_again}
@@ -11,9 +11,6 @@ count_walk-requires c = let S = c.requires.searching.1.1 in record { held = sear
 pub loop-lookahead-init : goal.loop-lookahead-init
 loop-lookahead-init c = ((λ es start S. turn_first S (omega arith)), c.count_walk.auto.counts, c.count_walk.ensures)
 
-pub slice_bounds-next-end : goal.slice_bounds-next-end
-slice_bounds-next-end c = sym c.loop-lookahead.invariant.1
-
 pub next-requires : goal.next-requires
 next-requires c = let S = c.requires.searching.1.1 in
     let U = c.loop-lookahead.invariant.0 _ _ S in record { held = (searching_held U.held, searching_fitting U.held); counted_walk = c.loop-lookahead.invariant.2 }
@@ -21,29 +18,17 @@ next-requires c = let S = c.requires.searching.1.1 in
 pub overrun-requires : goal.overrun-requires
 overrun-requires c = turn_long (c.loop-lookahead.invariant.0 _ _ c.requires.searching.1.1) c.next.ensures.by_index c.loop-lookahead-test.true
 
-pub shape_of-words-then-made-ge-TRIALS : goal.shape_of-words-then-made-ge-TRIALS
-shape_of-words-then-made-ge-TRIALS c = c.overrun.auto.words ∙ c.next.auto.words ∙ (c.loop-lookahead.invariant.0 _ _ c.requires.searching.1.1).size
-
 pub returns-then-made-ge-TRIALS : goal.returns-then-made-ge-TRIALS
 returns-then-made-ge-TRIALS c = λ es start S. turn_over (c.loop-lookahead.invariant.0 es start S) c.next.ensures.by_index c.loop-lookahead-test.true (omega (arith, c.if-made-ge-TRIALS.true)) c.overrun.ensures
 
-pub overflow_add-made : goal.overflow_add-made
-overflow_add-made c = omega (arith, c.if-made-ge-TRIALS.false)
-
 pub hands-requires : goal.hands-requires
 hands-requires c = record { tried = (c.requires.searching.0, (turn_tried (c.loop-lookahead.invariant.0 _ _ c.requires.searching.1.1) c.next.ensures.by_index c.loop-lookahead-test.true, view_sourced c.requires.searching.1.1.view)) }
-
-pub shape_of-words-then-hands : goal.shape_of-words-then-hands
-shape_of-words-then-hands c = c.next.auto.words ∙ (c.loop-lookahead.invariant.0 _ _ c.requires.searching.1.1).size
 
 pub returns-then-hands : goal.returns-then-hands
 returns-then-hands c = λ es start S.
     let U = c.loop-lookahead.invariant.0 es start S in
     let T = turn_tried U c.next.ensures.by_index c.loop-lookahead-test.true in
     turn_hit U c.next.ensures.by_index c.loop-lookahead-test.true (omega (arith, c.if-made-ge-TRIALS.false)) (c.hands.ensures es T (view_sourced S.view)) (omega arith) c.if-hands.true
-
-pub loop-lookahead-smaller : goal.loop-lookahead-smaller
-loop-lookahead-smaller c = omega (arith, c.if-made-ge-TRIALS.false)
 
 pub loop-lookahead-preserved : goal.loop-lookahead-preserved
 loop-lookahead-preserved c = (
@@ -54,9 +39,6 @@ loop-lookahead-preserved c = (
   c.next.auto.counts ∙ c.loop-lookahead.invariant.1,
   c.next.ensures.counted_walk_2,
 )
-
-pub shape_of-words : goal.shape_of-words
-shape_of-words c = c.next.auto.words ∙ (c.loop-lookahead.invariant.0 _ _ c.requires.searching.1.1).size
 
 pub returns : goal.returns
 returns c = λ es start S. turn_end (c.loop-lookahead.invariant.0 es start S) c.next.ensures.by_index c.loop-lookahead-test.false (omega arith)

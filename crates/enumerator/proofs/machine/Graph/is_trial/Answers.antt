@@ -1,7 +1,7 @@
 use Rattle.std.proofs.Common.{ℕ, get_or, ap, ◌∙◌, arith}
-use Rattle.enumerator.proofs.Stepping.{edge_low, roomy}
+use Rattle.enumerator.proofs.Stepping.{edge_low}
 use Rattle.enumerator.proofs.Holding.{trial_first, trial_edge, trial_ends, trial_cycles, trial_again, trial_stops, trial_last}
-use Rattle.enumerator.proofs.machine.is_trial.Goals as goal
+use Rattle.enumerator.proofs.machine.Graph.is_trial.Goals as goal
 
 pub loop-at-init : goal.loop-at-init
 loop-at-init c = trial_first c.requires.started c.requires.depth_nonzero.0
@@ -22,13 +22,13 @@ pub overflow_add-edge : goal.overflow_add-edge
 overflow_add-edge c = omega (arith, c.word-edge.ensures.1)
 
 pub read_node-source-requires : goal.read_node-source-requires
-read_node-source-requires c = omega (arith, edge_low c.args.graph.now (roomy c.requires.started.ground) c.word-edge.result (trial_edge c.loop-at.invariant c.requires.depth_nonzero.1 c.word-edge.result c.word-edge.ensures.0 c.enters.result c.enters.ensures (omega arith) c.if-not-enters.false))
+read_node-source-requires c = omega (arith, edge_low c.args.self.words.now c.args.self.roomy c.word-edge.result (trial_edge c.loop-at.invariant c.requires.depth_nonzero.1 c.word-edge.result c.word-edge.ensures.0 c.enters.result c.enters.ensures (omega arith) c.if-not-enters.false))
 
 pub returns-then-source-ne0 : goal.returns-then-source-ne0
 returns-then-source-ne0 c = trial_ends c.loop-at.invariant c.requires.depth_nonzero.1 c.word-edge.result c.word-edge.ensures.0 c.enters.result c.enters.ensures (omega arith) c.if-not-enters.false c.read_node-source.result c.read_node-source.ensures.0 c.if-source-ne0.true
 
 pub uses-requires : goal.uses-requires
-uses-requires c = record { roomy = roomy c.requires.started.ground; depth_in_bounds = omega (arith, c.requires.depth_nonzero.1); within = c.loop-at.invariant.edges }
+uses-requires c = record { depth_in_bounds = omega (arith, c.requires.depth_nonzero.1); within = c.loop-at.invariant.edges }
 
 pub returns-then-uses : goal.returns-then-uses
 returns-then-uses c = trial_cycles c.loop-at.invariant c.requires.depth_nonzero.1 c.word-edge.result c.word-edge.ensures.0 c.enters.result c.enters.ensures (omega arith) c.if-not-enters.false c.read_node-source.result c.read_node-source.ensures.0 c.if-source-ne0.false c.uses.result c.uses.ensures c.if-uses.true

@@ -1,7 +1,7 @@
 use Rattle.std.proofs.Common.{◌∙◌, le-ltb}
 use Rattle.trace_graph.specs.Values.{same_value}
 use Rattle.enumerator.proofs.Holding.{enters_edge, enters_past}
-use Rattle.enumerator.proofs.machine.enters.Goals as goal
+use Rattle.enumerator.proofs.machine.Graph.enters.Goals as goal
 
 pub returns-then-edge-word : goal.returns-then-edge-word
 unfolding same_value
