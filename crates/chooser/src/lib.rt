@@ -24,6 +24,15 @@ use repr::{ProductionIndex, Refusal};
 use slices::zero;
 use table::AcceptedTable;
 
+// A conflict of the table whose tokens are a set, all in range.
+#[derive(Clone, Copy)]
+struct TableChoice<'a> {
+    given: Given<'a>,
+    conflict: Conflict,
+    tokens: TokenSet,
+    ghost fits: { set_fits (meaning given.table.words.now) conflict tokens.0 ≡ true },
+}
+
 // How many better and how many naive classes are written.
 #[derive(Clone, Copy)]
 struct Written {
@@ -33,29 +42,28 @@ struct Written {
 
 // One token: if the set has it, its class is written behind the better ones or behind the naive ones.
 fn choose_token(
-    given: Given,
-    conflict: Conflict,
-    tokens: TokenSet,
+    choice: TableChoice,
     token: u16,
     better: &mut [u16],
     naive: &mut [u16],
     written: Written,
 ) -> Result<Written, Refusal>
-    requires tokens_value { set_fits (meaning given.table.words.now) conflict tokens.0 ≡ true }
     requires token_bound { (token < 64) × (written.better + written.naive ≤ token) }
     requires better_len { (length better.old ≡ entries_room) × (length naive.old ≡ entries_room) }
-    ensures naive_after { sorted_in result better.new naive.new ≡ added_to (entries_in better.old written.better) (entries_in naive.old written.naive) (token_entries (meaning given.entry.table.words.now) conflict tokens.0 token) }
+    ensures naive_after { sorted_in result better.new naive.new ≡ added_to (entries_in better.old written.better) (entries_in naive.old written.naive) (token_entries (meaning choice.entry.given.table.words.now) choice.entry.conflict choice.entry.tokens.0 token) }
     ensures counts_within { CountsWithin (token + 1) result }
 {
-    if !tokens.contains(token) {
+    if !choice.tokens.contains(token) {
         return Ok(written);
     }
-    let one = Conflict { token, ..conflict };
     let mut action = [0u16; Example::WORDS];
     let mut reduce = [0u16; Example::WORDS];
     let case = TableConflict {
-        given,
-        conflict: one,
+        given: choice.given,
+        conflict: Conflict {
+            token,
+            ..choice.conflict
+        },
     };
     let found = classify(case, &mut action, &mut reduce)?;
     if is_naive(found.class) {
@@ -74,15 +82,12 @@ fn choose_token(
 
 // Every token of the set in order.
 fn choose_tokens(
-    given: Given,
-    conflict: Conflict,
-    tokens: TokenSet,
+    choice: TableChoice,
     better: &mut [u16],
     naive: &mut [u16],
 ) -> Result<Written, Refusal>
-    requires tokens_value { set_fits (meaning given.table.words.now) conflict tokens.0 ≡ true }
-    requires better_len { (length better.old ≡ entries_room) × (length naive.old ≡ entries_room) }
-    ensures naive_after { sorted_in result better.new naive.new ≡ added_to [] [] (classes_of (meaning given.entry.table.words.now) conflict (members tokens.0)) }
+    requires { (length better.old ≡ entries_room) × (length naive.old ≡ entries_room) }
+    ensures naive_after { sorted_in result better.new naive.new ≡ added_to [] [] (classes_of (meaning choice.entry.given.table.words.now) choice.entry.conflict (members choice.entry.tokens.0)) }
     ensures counts_within { CountsWithin entry_limit result }
 {
     let mut written = Written {
@@ -90,7 +95,7 @@ fn choose_tokens(
         naive: 0,
     };
     for token in 0..64 {
-        written = choose_token(given, conflict, tokens, token, better, naive, written)?;
+        written = choose_token(choice, token, better, naive, written)?;
     }
     Ok(written)
 }
@@ -99,7 +104,11 @@ fn choose_tokens(
 fn naive_chosen(conflict: Conflict, count: usize) -> usize
     ensures { result ≡ count_of_naive conflict.action count }
 {
-    if conflict.action == 0 { count } else { count.min(1) }
+    if conflict.action == 0 {
+        count
+    } else {
+        count.min(1)
+    }
 }
 
 // So many entries chosen: no word of another stays behind them.
@@ -116,17 +125,16 @@ fn answer(entries: &[u16], count: usize) -> Chosen
 }
 
 // The better classes if there are any, else the naive ones.
-fn choose_gathered(given: Given, conflict: Conflict, tokens: TokenSet) -> Result<Chosen, Refusal>
-    requires tokens_value { set_fits (meaning given.table.words.now) conflict tokens.0 ≡ true }
-    ensures { choice_in result ≡ choice_of conflict.action (classes_of (meaning given.entry.table.words.now) conflict (members tokens.0)) }
+fn choose_gathered(choice: TableChoice) -> Result<Chosen, Refusal>
+    ensures { choice_in result ≡ choice_of choice.entry.conflict.action (classes_of (meaning choice.entry.given.table.words.now) choice.entry.conflict (members choice.entry.tokens.0)) }
 {
     let mut better = [0u16; Class::ALL_WORDS];
     let mut naive = [0u16; Class::ALL_WORDS];
-    let written = choose_tokens(given, conflict, tokens, &mut better, &mut naive)?;
+    let written = choose_tokens(choice, &mut better, &mut naive)?;
     if written.better != 0 {
         return Ok(answer(&better, written.better));
     }
-    let count = naive_chosen(conflict, written.naive);
+    let count = naive_chosen(choice.conflict, written.naive);
     Ok(answer(&naive, count))
 }
 
@@ -144,7 +152,12 @@ fn choose_read(
     let past = ProductionIndex::ALL_WORDS;
     let prepared = prepare(table, &mut scratch[..past]);
     let given = prepared.given(table, &scratch[..past]);
-    let chosen = choose_gathered(given, conflict, tokens);
+    let choice = TableChoice {
+        given,
+        conflict,
+        tokens,
+    };
+    let chosen = choose_gathered(choice);
     zero(scratch, Conflict::SCRATCH);
     chosen
 }

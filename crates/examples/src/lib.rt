@@ -15,7 +15,7 @@ ghost use Rattle.codes.specs.Coded.{codes_room};
 ghost use Rattle.example.specs.Example.{example_words};
 ghost use Rattle.enumerator.specs.Lister.{labels_of};
 ghost use Rattle.enumerator.specs.Advance.{set_of};
-ghost use Rattle.view.specs.View.{latest_room};
+ghost use Rattle.view.specs.Blank.{Blank};
 ghost use Rattle.view.specs.Trial.{trial_words};
 ghost use Rattle.search.specs.Given.{Tried};
 ghost use Rattle.error.specs.Judge.{Example as ExampleOf};
@@ -46,6 +46,7 @@ use trace_graph::Full;
 use tracer::reduce::Reduction;
 use tracer::{Action, OpenTrace, Tracer, trace_codes};
 use view::View;
+use view::making::ViewLists;
 
 // What tracing and listing read beside the table and its productions, made once for a table: FIRST sets, the least equal productions, which items have a nullable suffix.
 #[derive(Clone, Copy)]
@@ -208,20 +209,16 @@ fn list_outlines(
     }
 }
 
-// The item is traced from the state: its edges in words of one each, their owners, and the view from the item in three zeroed lists. More than 1,024 edges do not fit.
+// The item is traced from the state: its edges in words of one each, and the view from the item in new lists. More than 1,024 edges do not fit.
 fn open_view(
     given: Given,
     traced: Traced,
     trace: &mut OpenTrace,
-    owners: &mut [u8],
-    sources: &mut [u8],
-    older: &mut [u16],
-    latest: &mut [u16],
+    lists: &mut ViewLists,
 ) -> Result<(), Full>
     requires state_in_bounds { (traced.state.0 < length (meaning given.table.words.now).states) × (item_is_fit (meaning given.table.words.now).productions traced.item.production traced.item.index ≡ true) }
-    requires owners_len { length owners.old ≡ edge_limit }
-    requires sources_value { (sources.old ≡ replicate edge_limit 0) × ((older.old ≡ replicate edge_limit 0) × (latest.old ≡ replicate latest_room 0)) }
-    ensures listable { OnOk result (Listable (meaning given.entry.table.words.now).productions (edges_by traced.action (meaning given.entry.table.words.now) traced.state.0 (record { production = traced.item.production; index = traced.item.index })) owners.new (drop 1 trace.new.edges.words) sources.new older.new latest.new (record { production = traced.item.production; index = traced.item.index })) }
+    requires blank { Blank lists.old }
+    ensures listable { OnOk result (Listable (meaning given.entry.table.words.now).productions (edges_by traced.action (meaning given.entry.table.words.now) traced.state.0 (record { production = traced.item.production; index = traced.item.index })) lists.new.owners (drop 1 trace.new.edges.words) lists.new.sources lists.new.older lists.new.latest (record { production = traced.item.production; index = traced.item.index })) }
     ensures edge_limit_in_bounds { OnErr result (edge_limit < length (edges_by traced.action (meaning given.entry.table.words.now) traced.state.0 (record { production = traced.item.production; index = traced.item.index }))) }
 {
     let tracer = Tracer {
@@ -233,16 +230,14 @@ fn open_view(
         tracer,
         ends: given.ends,
     };
-    trace_codes(over, traced.action, traced.state.0 as usize, traced.item, trace)?;
-    view_codes(
-        given.grammar,
-        &trace.edges,
+    trace_codes(
+        over,
+        traced.action,
+        traced.state.0 as usize,
         traced.item,
-        owners,
-        sources,
-        older,
-        latest,
-    );
+        trace,
+    )?;
+    view_codes(given.grammar, &trace.edges, traced.item, lists);
     Ok(())
 }
 
@@ -260,25 +255,14 @@ fn list_item(
     ensures trials_in { TrialsIn trial_limit result }
 {
     let mut trace = OpenTrace::new();
-    let mut owners = [0u8; View::EDGES];
-    let mut sources = [0u8; View::EDGES];
-    let mut older = [0u16; View::EDGES];
-    let mut latest = [0u16; View::NODES];
-    match open_view(
-        given,
-        traced,
-        &mut trace,
-        &mut owners,
-        &mut sources,
-        &mut older,
-        &mut latest,
-    ) {
+    let mut lists = ViewLists::new();
+    match open_view(given, traced, &mut trace, &mut lists) {
         Ok(()) => {
             let view = View {
-                sources: &sources,
-                older: &older,
-                latest: &latest,
-                owners: &owners,
+                sources: &lists.sources,
+                older: &lists.older,
+                latest: &lists.latest,
+                owners: &lists.owners,
                 codes: &trace.edges.words[1..],
             };
             list_outlines(
@@ -379,10 +363,7 @@ pub fn reduced(conflict: Conflict) -> Conflict
 }
 
 // The side of the conflict's action.
-pub fn action_examples(
-    case: TableConflict,
-    side: &mut Side,
-) -> Result<Gathered, Refusal>
+pub fn action_examples(case: TableConflict, side: &mut Side) -> Result<Gathered, Refusal>
     ensures { Sided (meaning case.entry.given.table.words.now) (is_shift case.entry.conflict) (action_made (meaning case.entry.given.table.words.now) case.entry.conflict) result side.new.kept side.new.prints (action_side_of (meaning case.entry.given.table.words.now) case.entry.conflict.state.0 case.entry.conflict.action case.entry.conflict.operand case.entry.conflict.token) }
 {
     let given = case.given;
@@ -444,29 +425,25 @@ fn item_again(
     ensures { (k : ℕ) (x : ExampleOf) → k ≤ example_limit → Listed (listing_side (meaning given.entry.table.words.now) (edges_by traced.action (meaning given.entry.table.words.now) traced.state.0 (record { production = traced.item.production; index = traced.item.index })) (record { production = traced.item.production; index = traced.item.index }) (set_of lookahead) k) wanted x → buffer.new ≡ in_front (example_words (meaning given.entry.table.words.now).productions x) buffer.old }
 {
     let mut trace = OpenTrace::new();
-    let mut owners = [0u8; View::EDGES];
-    let mut sources = [0u8; View::EDGES];
-    let mut older = [0u16; View::EDGES];
-    let mut latest = [0u16; View::NODES];
-    match open_view(
-        given,
-        traced,
-        &mut trace,
-        &mut owners,
-        &mut sources,
-        &mut older,
-        &mut latest,
-    ) {
+    let mut lists = ViewLists::new();
+    match open_view(given, traced, &mut trace, &mut lists) {
         Ok(()) => {
             let view = View {
-                sources: &sources,
-                older: &older,
-                latest: &latest,
-                owners: &owners,
+                sources: &lists.sources,
+                older: &lists.older,
+                latest: &lists.latest,
+                owners: &lists.owners,
                 codes: &trace.edges.words[1..],
             };
             let mut trial = [0u16; View::TRIAL];
-            if find_example(given.grammar, given.sets, lookahead, view, &mut trial, wanted) {
+            if find_example(
+                given.grammar,
+                given.sets,
+                lookahead,
+                view,
+                &mut trial,
+                wanted,
+            ) {
                 write_trial(given.grammar, view, &trial, buffer);
             }
         }
@@ -493,12 +470,7 @@ fn reduce_again(
 }
 
 // An example of the side of the conflict's action made again: of a shift the item is the label kept.
-pub fn action_again(
-    case: TableConflict,
-    label: usize,
-    wanted: usize,
-    buffer: &mut [u16],
-)
+pub fn action_again(case: TableConflict, label: usize, wanted: usize, buffer: &mut [u16])
     requires code_fits { is_shift case.conflict ≡ true → CodeFits (meaning case.given.table.words.now).productions label }
     requires example_room_in_bounds { example_room ≤ length buffer.old }
     ensures { (x : ExampleOf) → action_made (meaning case.entry.given.table.words.now) case.entry.conflict label wanted x → buffer.new ≡ in_front (example_words (meaning case.entry.given.table.words.now).productions x) buffer.old }

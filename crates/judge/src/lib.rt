@@ -68,13 +68,7 @@ fn same_reading(action: &[u16], reduce: &[u16]) -> bool
 }
 
 // Whether examples x and y, made again, are read alike.
-fn same_again(
-    case: TableConflict,
-    actions: &Side,
-    x: usize,
-    reduces: &Side,
-    y: usize,
-) -> bool
+fn same_again(case: TableConflict, actions: &Side, x: usize, reduces: &Side, y: usize) -> bool
     requires { (xs : List Example) × ((ys : List Example) × (Sides (meaning case.given.table.words.now) case.conflict xs ys actions.now.kept actions.now.prints reduces.now.kept reduces.now.prints × ((x < length xs) × (y < length ys)))) }
     ensures { (xs ys : List Example) → Sides (meaning case.entry.given.table.words.now) case.entry.conflict xs ys actions.now.kept actions.now.prints reduces.now.kept reduces.now.prints → x < length xs → y < length ys → result ≡ is_same_reading (meaning case.entry.given.table.words.now).productions (nth xs x) (nth ys y) }
 {
@@ -158,13 +152,7 @@ fn is_operator(grammar: Grammar, production: usize, terminal: u16) -> bool
 }
 
 // Ambiguity of a shift: precedence where the production is of an operator. The terminal of the action is tested, not the token.
-fn shift_ambiguity(
-    grammar: Grammar,
-    production: usize,
-    terminal: u16,
-    x: usize,
-    y: usize,
-) -> Judged
+fn shift_ambiguity(grammar: Grammar, production: usize, terminal: u16, x: usize, y: usize) -> Judged
     requires { production < grammar.productions }
     ensures { (xs ys : List Example) → x < length xs → y < length ys → Judges xs ys result (ambiguity_of_shift (get_or (productions_in grammar.entry.words.now grammar.entry.productions) production no_production) terminal (pair_in xs ys x y)) }
 {
@@ -275,11 +263,7 @@ fn try_classify_question(
 }
 
 // `try_classify_inline`: the first pair that inlining would help, else insufficient lookahead with the first of each.
-fn try_classify_inline(
-    case: TableConflict,
-    actions: SortedSide,
-    reduces: SortedSide,
-) -> Judged
+fn try_classify_inline(case: TableConflict, actions: SortedSide, reduces: SortedSide) -> Judged
     requires action_value { case.conflict.action ≡ 0 }
     requires sides { (xs : List Example) × ((ys : List Example) × (Sides (meaning case.given.table.words.now) case.conflict xs ys actions.side.now.kept actions.side.now.prints reduces.side.now.kept reduces.side.now.prints × (Ordered xs actions.order.now × Ordered ys reduces.order.now))) }
     ensures { (xs ys : List Example) → Sides (meaning case.entry.given.table.words.now) case.entry.conflict xs ys actions.entry.side.now.kept actions.entry.side.now.prints reduces.entry.side.now.kept reduces.entry.side.now.prints → Ordered xs actions.entry.order.now → Ordered ys reduces.entry.order.now → Judges xs ys result (inline_or (meaning case.entry.given.table.words.now).productions (heads_in xs ys actions.entry.order.now reduces.entry.order.now) (first_fit (judging.inlines (meaning case.entry.given.table.words.now)) (picked xs actions.entry.order.now) (picked ys reduces.entry.order.now))) }
@@ -307,11 +291,7 @@ fn try_classify_inline(
 }
 
 // A shift where no pair is ambiguous: question, inline, else insufficient lookahead.
-fn shift_unambiguous(
-    case: TableConflict,
-    actions: SortedSide,
-    reduces: SortedSide,
-) -> Judged
+fn shift_unambiguous(case: TableConflict, actions: SortedSide, reduces: SortedSide) -> Judged
     requires action_value { case.conflict.action ≡ 0 }
     requires sides { (xs : List Example) × ((ys : List Example) × (Sides (meaning case.given.table.words.now) case.conflict xs ys actions.side.now.kept actions.side.now.prints reduces.side.now.kept reduces.side.now.prints × (Ordered xs actions.order.now × Ordered ys reduces.order.now))) }
     ensures { (xs ys : List Example) → Sides (meaning case.entry.given.table.words.now) case.entry.conflict xs ys actions.entry.side.now.kept actions.entry.side.now.prints reduces.entry.side.now.kept reduces.entry.side.now.prints → Ordered xs actions.entry.order.now → Ordered ys reduces.entry.order.now → Judges xs ys result (unambiguous (meaning case.entry.given.table.words.now) case.entry.conflict.production.0 0 (picked xs actions.entry.order.now) (picked ys reduces.entry.order.now) (heads_in xs ys actions.entry.order.now reduces.entry.order.now)) }
@@ -329,11 +309,7 @@ fn shift_unambiguous(
 }
 
 // Where no pair is ambiguous: by the action, question and inline being for a shift alone.
-fn unambiguous(
-    case: TableConflict,
-    actions: SortedSide,
-    reduces: SortedSide,
-) -> Judged
+fn unambiguous(case: TableConflict, actions: SortedSide, reduces: SortedSide) -> Judged
     requires { (xs : List Example) × ((ys : List Example) × (Sides (meaning case.given.table.words.now) case.conflict xs ys actions.side.now.kept actions.side.now.prints reduces.side.now.kept reduces.side.now.prints × (Ordered xs actions.order.now × Ordered ys reduces.order.now))) }
     ensures { (xs ys : List Example) → Sides (meaning case.entry.given.table.words.now) case.entry.conflict xs ys actions.entry.side.now.kept actions.entry.side.now.prints reduces.entry.side.now.kept reduces.entry.side.now.prints → Ordered xs actions.entry.order.now → Ordered ys reduces.entry.order.now → Judges xs ys result (judging.unambiguous (meaning case.entry.given.table.words.now) case.entry.conflict.production.0 case.entry.conflict.action (picked xs actions.entry.order.now) (picked ys reduces.entry.order.now) (heads_in xs ys actions.entry.order.now reduces.entry.order.now)) }
 {
@@ -344,11 +320,7 @@ fn unambiguous(
 }
 
 // The class from two sides in their order, neither of them empty: ambiguity first.
-pub fn judge(
-    case: TableConflict,
-    actions: SortedSide,
-    reduces: SortedSide,
-) -> Judged
+pub fn judge(case: TableConflict, actions: SortedSide, reduces: SortedSide) -> Judged
     requires { (xs : List Example) × ((ys : List Example) × (Sides (meaning case.given.table.words.now) case.conflict xs ys actions.side.now.kept actions.side.now.prints reduces.side.now.kept reduces.side.now.prints × (Ordered xs actions.order.now × Ordered ys reduces.order.now))) }
     ensures { (xs ys : List Example) → Sides (meaning case.entry.given.table.words.now) case.entry.conflict xs ys actions.entry.side.now.kept actions.entry.side.now.prints reduces.entry.side.now.kept reduces.entry.side.now.prints → Ordered xs actions.entry.order.now → Ordered ys reduces.entry.order.now → Judges xs ys result (judge (meaning case.entry.given.table.words.now) case.entry.conflict (picked xs actions.entry.order.now) (picked ys reduces.entry.order.now)) }
 {

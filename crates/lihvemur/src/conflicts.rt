@@ -5,8 +5,8 @@ ghost use Rattle.error.specs.Outcome.{classify_of};
 ghost use Rattle.lihvemur.specs.Reports.{packed, class_numbers, classified_numbers, choice_numbers, choose_numbers, part_numbers, observed_numbers};
 ghost use Rattle.report.specs.Part.{part_observed};
 
-use entries::{class_number, copy_entries};
 use crate::refuse;
+use entries::{class_number, copy_entries};
 use error::{Class, Conflict};
 use lookahead::TokenSet;
 use report::{Part, choose, classify, observed_part};

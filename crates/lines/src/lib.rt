@@ -228,7 +228,13 @@ pub fn lines(
 {
     match classified {
         Ok(found) => {
-            let next = put_class(out, number, found.class, found.action_trials, found.reduce_trials);
+            let next = put_class(
+                out,
+                number,
+                found.class,
+                found.action_trials,
+                found.reduce_trials,
+            );
             put_examples(out, next, found.class, action, reduce)
         }
         Err(refusal) => refused_line(out, number, refusal.number(), refusal.place()),

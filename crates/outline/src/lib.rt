@@ -250,11 +250,7 @@ fn item_at(code: usize) -> Item
 }
 
 // Whether at the first difference of two lists the FIRST sets are disjoint. An exhausted list is a no.
-fn diverge(
-    sets: &FirstSets,
-    first: &[u16],
-    second: &[u16],
-) -> bool
+fn diverge(sets: &FirstSets, first: &[u16], second: &[u16]) -> bool
     requires first_value { list_is_fit nonterminal_limit terminal_limit first.now ≡ true }
     requires second_value { list_is_fit nonterminal_limit terminal_limit second.now ≡ true }
     ensures { result ≡ diverge_by sets.now.terminals sets.now.map (listed first.now) (listed second.now) }
@@ -268,12 +264,7 @@ fn diverge(
 }
 
 // The inline test on a shift item and what is kept of a reduce's second label.
-pub fn inlines(
-    sets: &FirstSets,
-    grammar: Grammar,
-    label: usize,
-    other: usize,
-) -> bool
+pub fn inlines(sets: &FirstSets, grammar: Grammar, label: usize, other: usize) -> bool
     requires code_fits { CodeFits (productions_in grammar.words.now grammar.productions) label }
     requires code_fits_2 { other < item_limit → CodeFits (productions_in grammar.words.now grammar.productions) other }
     ensures { result ≡ codes_inline sets.now.terminals sets.now.map (productions_in grammar.entry.words.now grammar.entry.productions) label other }

@@ -27,8 +27,8 @@ slice_bounds-given-end-2 c = let l = length_front {A = ℕ} c.args.scratch.now c
 pub given-given-requires : goal.given-given-requires
 given-given-requires c = reads-front _ _ _ _ _ _ _ _ grammar_room (c.prepare-prepared.auto.words ∙ length-take-le grammar_room c.args.scratch.now (omega (arith, c.requires.classify_scratch_in_bounds))) c.prepare-prepared.ensures
 
-pub choose_gathered-chosen-requires : goal.choose_gathered-chosen-requires
-choose_gathered-chosen-requires c = rw c.given-given.ensures.table (record { tokens_value = c.requires.tokens_value })
+pub invariant_of-choice : goal.invariant_of-choice
+invariant_of-choice c = record { fits = rw c.given-given.ensures.table c.requires.tokens_value }
 
 pub zero-requires : goal.zero-requires
 zero-requires c = let l = length_front {A = ℕ} c.args.scratch.now c.prepare-prepared.new.words grammar_room c.prepare-prepared.auto.words in omega (arith, l, c.requires.classify_scratch_in_bounds)

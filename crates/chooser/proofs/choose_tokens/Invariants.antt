@@ -3,4 +3,4 @@ use Rattle.chooser.proofs.Tokens.{Turn}
 use Rattle.chooser.proofs.choose_tokens.Given as goal
 
 abbrev pub invariant-loop-token : goal.invariant-loop-token
-invariant-loop-token l = Turn (meaning l.given.table.words.now) l.conflict l.tokens.0 l.initial.better l.initial.naive l.better l.naive l.written.better l.written.naive l.token
+invariant-loop-token l = Turn (meaning l.choice.given.table.words.now) l.choice.conflict l.choice.tokens.0 l.initial.better l.initial.naive l.better l.naive l.written.better l.written.naive l.token

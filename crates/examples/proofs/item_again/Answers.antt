@@ -8,7 +8,7 @@ use Rattle.examples.proofs.Again.{found-tried, again_made, again_none, again_ful
 use Rattle.examples.proofs.item_again.Goals as goal
 
 pub open_view-requires : goal.open_view-requires
-open_view-requires c = record { state_in_bounds = c.requires.state_in_bounds; owners_len = refl; sources_value = (refl, (refl, refl)) }
+open_view-requires c = record { state_in_bounds = c.requires.state_in_bounds; blank = c.new-lists.ensures }
 
 pub invariant_of-view : goal.invariant_of-view
 invariant_of-view c = record { tidy = c.in-Ok.ensures.listable.view.viewed.tidy }

@@ -1,13 +1,9 @@
-use mathlib.Core.Path.{refl}
-use Rattle.std.specs.Prelude.{ℕ}
-use lib.ListN.{length-replicate}
-use Rattle.repr.specs.Sizes.{edge_limit}
 use Rattle.examples.proofs.Opening.{listable_in, item-listed, item-full}
 use Rattle.examples.proofs.Turns.{trials-none}
 use Rattle.examples.proofs.list_item.Goals as goal
 
 pub open_view-requires : goal.open_view-requires
-open_view-requires c = record { state_in_bounds = c.requires.state_in_bounds; owners_len = length-replicate {A = ℕ} edge_limit 0; sources_value = (refl, (refl, refl)) }
+open_view-requires c = record { state_in_bounds = c.requires.state_in_bounds; blank = c.new-lists.ensures }
 
 pub invariant_of-view : goal.invariant_of-view
 invariant_of-view c = record { tidy = c.in-Ok.ensures.listable.view.viewed.tidy }

@@ -14,7 +14,7 @@ pub trace_codes-requires : goal.trace_codes-requires
 trace_codes-requires c = record { within = (c.requires.state_in_bounds.0, fits-item _ _ c.requires.state_in_bounds.1) }
 
 pub view_codes-requires : goal.view_codes-requires
-view_codes-requires c = record { carried = (_, (_, carried _ _ _ _ _ _ _ c.args.given.reads _ _ _ c.in_ok-trace_codes.ensures.coded)); owners_len = (c.requires.owners_len, c.requires.sources_value) }
+view_codes-requires c = record { carried = (_, (_, carried _ _ _ _ _ _ _ c.args.given.reads _ _ _ c.in_ok-trace_codes.ensures.coded)); blank = c.requires.blank }
 
 pub returns : goal.returns
 returns c = record { listable = (listable _ _ _ _ _ _ _ c.args.given.reads _ _ _ _ _ _ _ (c.view_codes.ensures _ _ (carried _ _ _ _ _ _ _ c.args.given.reads _ _ _ c.in_ok-trace_codes.ensures.coded))); edge_limit_in_bounds = tt }

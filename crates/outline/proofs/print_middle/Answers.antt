@@ -6,7 +6,6 @@ use Rattle.outline.specs.Outline.{print_words}
 use Rattle.outline.proofs.Prints.{words-none, words-mark}
 use Rattle.outline.proofs.print_middle.Goals as goal
 
-
 pub print_list-requires : goal.print_list-requires
 print_list-requires c = c.requires
 
