@@ -71,11 +71,7 @@ pub fn build_states(
 
 // Reads the rules of a yacc text (docs/YACC.md) into a grammar, a table of one state without items and edges, at the front of `table` (Req 09), and where each nonterminal and each terminal got its number
 // to the front of `places`; answers how many records, how many places, and the start nonterminal. Refusals 20, 21, 2, 5, 17 in this order; they change no word.
-pub fn read_yacc(
-    text: &[u8],
-    table: &mut [u16],
-    places: &mut [u16],
-) -> Result<Reading, Refusal>
+pub fn read_yacc(text: &[u8], table: &mut [u16], places: &mut [u16]) -> Result<Reading, Refusal>
     ensures { record { answer = reply_of result; table = table.new; places = places.new } ≡ read_of text.now table.old places.old }
 {
     yacc_reader::read_yacc(text, table, places)

@@ -20,9 +20,7 @@ use Rattle.yacc_text.specs.Grammar.{Id, named, quoted, Token, ident, Layout, tex
 use Rattle.yacc_text.specs.Places.{Placed as Spot, placed, placed_from}
 use Rattle.yacc_text.specs.Parse.{parse}
 use Rattle.yacc_text.specs.Forward.{Mode, top, wanted, listed, starting, ruled, sided, bodied, done, dead, sides, move, last, accepts}
-use Rattle.yacc_lex.specs.Steps.{token_at, Leads, Told}
-use Rattle.yacc_lex.specs.declared.Next.{Next}
-use Rattle.yacc_lex.specs.declared.Next.TheVariants.{End as Ends}
+use Rattle.yacc_lex.specs.Steps.{token_at, Leads}
 use Rattle.yacc_lex.specs.declared.Word.{Word}
 use Rattle.yacc_lex.specs.declared.Word.TheVariants.{Name, Literal, Token as TheToken, Start, Mark, Colon, Bar, Semi}
 use Rattle.yacc_tokens.specs.Accepted.{judged}

@@ -4,7 +4,7 @@ use Rattle.yacc_text.specs.Grammar.{byte_limit}
 use Rattle.yacc_read.specs.Source.{Known}
 use Rattle.yacc_enter.specs.declared.Ids.{Ids}
 use Rattle.yacc_enter.specs.declared.Words.{Words}
-use Rattle.yacc_enter.specs.Ids.{Open, Moves}
+use Rattle.yacc_enter.specs.Ids.{Open, Grows, Moves}
 
 -- room for one name and one number more
 pub record Ready (t : List ℕ) (w : Words) (ids : Ids) : Type 0 where
@@ -19,6 +19,8 @@ pub record SameRoom (w v : Words) : Type 0 where
   pub lefts : length v.lefts.now ≡ length w.lefts.now
   pub tokens : length v.tokens.now ≡ length w.tokens.now
 
--- what was held is held with the left sides os and the tokens ps entered
-abbrev pub MovesTo : List ℕ → Words → Ids → Words → Ids → List Known → List Known → Type 0
-MovesTo t w ids v r os ps = Moves t w.starts.now w.pasts.now w.ix.now w.lefts.now w.tokens.now ids v.starts.now v.pasts.now v.ix.now v.lefts.now v.tokens.now r os ps
+-- at most one more of each, and what was held is held with the left sides os and the tokens ps entered
+pub record Enters (t : List ℕ) (w : Words) (ids : Ids) (v : Words) (r : Ids) (os ps : List Known) : Type 0 where
+  pub grows : Grows ids r
+  pub room : SameRoom w v
+  pub moves : Moves t w.starts.now w.pasts.now w.ix.now w.lefts.now w.tokens.now ids v.starts.now v.pasts.now v.ix.now v.lefts.now v.tokens.now r os ps

@@ -12,8 +12,8 @@ ghost use Rattle.std.proofs.Math.Seq.{slice};
 ghost use Rattle.yacc_names.specs.Names.{held, is_name, latest};
 ghost use Rattle.yacc_numbers.specs.Numbers.{place_in};
 ghost use Rattle.yacc_enter.specs.Props.{Kept-prop, Named-prop};
-ghost use Rattle.yacc_enter.specs.Ids.{Kept, is_id, Within, Grows, Fresh, NoQuote, name_at, Named};
-ghost use Rattle.yacc_enter.specs.Words.{Ready, SameRoom, MovesTo};
+ghost use Rattle.yacc_enter.specs.Ids.{Kept, is_id, Within, Fresh, NoQuote, name_at, Named};
+ghost use Rattle.yacc_enter.specs.Words.{Ready, Enters};
 
 use yacc_lex::Word;
 use yacc_names::{find, place};
@@ -150,11 +150,17 @@ impl<'a> SymbolTable<'a> {
 fn define(text: &[u8], words: &mut Words, ids: Ids, from: usize, past: usize) -> Ids
     requires ready { Ready text.now words.old ids }
     requires within { Within text.now from past }
-    ensures grows { Grows ids result }
-    ensures room { SameRoom words.old words.new }
-    ensures moves { MovesTo text.now words.old ids words.new result (name_at text.now from past ∷ []) [] }
+    ensures { Enters text.now words.old ids words.new result (name_at text.now from past ∷ []) [] }
 {
-    let placed = place(text, words.starts, words.pasts, words.ix, ids.names, from, past);
+    let placed = place(
+        text,
+        words.starts,
+        words.pasts,
+        words.ix,
+        ids.names,
+        from,
+        past,
+    );
     let nonterminals = number(words.lefts, placed.number, ids.nonterminals);
     Ids {
         names: placed.names,
@@ -167,11 +173,17 @@ fn define(text: &[u8], words: &mut Words, ids: Ids, from: usize, past: usize) ->
 fn declare(text: &[u8], words: &mut Words, ids: Ids, from: usize, past: usize) -> Ids
     requires ready { Ready text.now words.old ids }
     requires within { Within text.now from past }
-    ensures grows { Grows ids result }
-    ensures room { SameRoom words.old words.new }
-    ensures moves { MovesTo text.now words.old ids words.new result [] (name_at text.now from past ∷ []) }
+    ensures { Enters text.now words.old ids words.new result [] (name_at text.now from past ∷ []) }
 {
-    let placed = place(text, words.starts, words.pasts, words.ix, ids.names, from, past);
+    let placed = place(
+        text,
+        words.starts,
+        words.pasts,
+        words.ix,
+        ids.names,
+        from,
+        past,
+    );
     let terminals = number(words.tokens, 256 + placed.number, ids.terminals);
     Ids {
         names: placed.names,
@@ -184,9 +196,7 @@ fn declare(text: &[u8], words: &mut Words, ids: Ids, from: usize, past: usize) -
 fn quote(text: &[u8], words: &mut Words, ids: Ids, from: usize, past: usize) -> Ids
     requires ready { Ready text.now words.old ids }
     requires within { Within text.now from past }
-    ensures grows { Grows ids result }
-    ensures room { SameRoom words.old words.new }
-    ensures moves { MovesTo text.now words.old ids words.new result [] (record { id = quoted (get_or text.now (from + 1) 0); at = from } ∷ []) }
+    ensures { Enters text.now words.old ids words.new result [] (record { id = quoted (get_or text.now (from + 1) 0); at = from } ∷ []) }
 {
     let b = byte(text, from + 1);
     let terminals = number(words.tokens, b, ids.terminals);
@@ -202,9 +212,7 @@ fn enter(text: &[u8], words: &mut Words, ids: Ids, token: Token) -> Ids
     requires ready { Ready text.now words.old ids }
     requires within { Within text.now token.from token.past }
     requires no_quote { NoQuote (mode_of token.mode) token.word }
-    ensures grows { Grows ids result }
-    ensures room { SameRoom words.old words.new }
-    ensures moves { MovesTo text.now words.old ids words.new result (joined left_side (events_of token.what (id_at text.now token.word token.from token.past) token.from token.past)) (joined token_use (events_of token.what (id_at text.now token.word token.from token.past) token.from token.past)) }
+    ensures { Enters text.now words.old ids words.new result (joined left_side (events_of token.what (id_at text.now token.word token.from token.past) token.from token.past)) (joined token_use (events_of token.what (id_at text.now token.word token.from token.past) token.from token.past)) }
 {
     match token.word {
         Word::Name => match token.what {

@@ -137,11 +137,7 @@ impl Room {
 }
 
 // Reads a text of the grammar.
-fn read_in(
-    text: &[u8],
-    table: &mut [u16],
-    places: &mut [u16],
-) -> Result<Reading, Refusal>
+fn read_in(text: &[u8], table: &mut [u16], places: &mut [u16]) -> Result<Reading, Refusal>
     requires { (length text.now ≤ text_limit) × (is_grammar_text text.now ≡ true) }
     ensures { (l : Layout) → parse text.now ≡ some l → record { answer = reply_of result; table = table.new; places = places.new } ≡ named_of (source_in l.pieces) table.old places.old }
 {
@@ -151,11 +147,7 @@ fn read_in(
 }
 
 // Reads a yacc text into a table with one empty state: the table at the front of `table`, the places at the front of `places`. Refusals 20, 21, 2, 5, 17 in this order; they change nothing.
-pub fn read_yacc(
-    text: &[u8],
-    table: &mut [u16],
-    places: &mut [u16],
-) -> Result<Reading, Refusal>
+pub fn read_yacc(text: &[u8], table: &mut [u16], places: &mut [u16]) -> Result<Reading, Refusal>
     ensures { record { answer = reply_of result; table = table.new; places = places.new } ≡ read_of text.now table.old places.old }
 {
     if text.len() > 65535 {

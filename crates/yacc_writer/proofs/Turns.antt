@@ -1,15 +1,15 @@
 -- What the loops of the writer hold, their turns, and the ways out of `write_in`. Assumes nothing.
-use Prim.Native.Nat.{ℕ, zero, suc, ◌+◌, ◌-◌, ◌*◌, ◌≤◌, ◌<◌}
+use Prim.Native.Nat.{ℕ, suc, ◌+◌, ◌-◌, ◌*◌, ◌≤◌, ◌<◌}
 use native.Mathlib.Nat.{le-add_right, mul-suc}
 use native.Mathlib.Numerals.{add-one}
 use native.Mathlib.Omega.{arith}
 use mathlib.Core.Path.{◌≡◌, refl, sym, ap, ◌∙◌, subst}
 use mathlib.Core.Bool.{Bool, true, false, ◌&&◌}
 use mathlib.Core.List.{List, [], ◌∷◌, ◌++◌, map}
-use lib.Dec.{leb, ltb}
+use lib.Dec.{leb}
 use lib.ListN.{length, get_or, drop, drop_of_length-le}
 use lib.Seq.{drop-cons, length-sets}
-use borrow.Author.Tests.{le-leb, lt-leb, ltb-true, ltb-false}
+use borrow.Author.Tests.{le-leb, lt-leb}
 use Rattle.slices.specs.Lent.{in_front}
 use Rattle.repr.specs.Reply.{answered, refused}
 use Rattle.repr.specs.Sizes.{nonterminal_limit, terminal_limit, symbol_limit, production_place}
@@ -17,7 +17,6 @@ use Rattle.repr.specs.Lists.{up_from, below, joined}
 use Rattle.repr.specs.Meaning.{Symbol, terminal, Production, Table}
 use Rattle.repr.specs.Listed.{listed, list_is_fit}
 use Rattle.repr.specs.Packed.{Packed, symbol_words, production_in, productions_in}
-use Rattle.repr.proofs.Lists.{clash}
 use Rattle.repr.proofs.Packed.{words_long}
 use Rattle.table.specs.Checked.{Accepted, Refused as No}
 use Rattle.table.specs.Decoded.{meaning, productions_from}

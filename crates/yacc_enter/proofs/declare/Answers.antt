@@ -1,3 +1,4 @@
+use mathlib.Core.Path.{refl}
 use Rattle.yacc_enter.proofs.Laws.{placing_low, numbered_most, declare_moves}
 use native.Mathlib.Omega.{arith}
 use Rattle.yacc_enter.proofs.declare.Goals as goal
@@ -11,8 +12,9 @@ overflow_add-placed c = let o = c.requires.ready.names.names in let l = placing_
 pub number-terminals-requires : goal.number-terminals-requires
 number-terminals-requires c = let o = c.requires.ready.names in let h = c.requires.ready.token in let l = placing_low _ _ _ _ _ _ _ _ _ _ _ c.place-placed.ensures in let a = l.0 in let b = l.1 in (omega (arith, a, b, h), o.terminals)
 
-pub returns-clause-grows : goal.returns-clause-grows
-returns-clause-grows c = record { names = (placing_low _ _ _ _ _ _ _ _ _ _ _ c.place-placed.ensures).1; nonterminals = omega arith; terminals = numbered_most _ _ _ _ c.number-terminals.ensures.value }
-
-pub returns-clause-moves : goal.returns-clause-moves
-returns-clause-moves c = declare_moves _ _ _ _ _ _ _ _ _ c.requires.ready.names _ _ c.requires.within c.place-placed.ensures _ _ _ c.requires.ready.token c.number-terminals.ensures.numbers_after c.number-terminals.ensures.value _ c.requires.ready.left
+pub returns : goal.returns
+returns c = record {
+  grows = record { names = (placing_low _ _ _ _ _ _ _ _ _ _ _ c.place-placed.ensures).1; nonterminals = omega arith; terminals = numbered_most _ _ _ _ c.number-terminals.ensures.value };
+  room = record { starts = c.place-placed.auto.starts; pasts = c.place-placed.auto.pasts; ix = c.place-placed.auto.ix; lefts = refl; tokens = c.number-terminals.auto.numbers };
+  moves = declare_moves _ _ _ _ _ _ _ _ _ c.requires.ready.names _ _ c.requires.within c.place-placed.ensures _ _ _ c.requires.ready.token c.number-terminals.ensures.numbers_after c.number-terminals.ensures.value _ c.requires.ready.left;
+}

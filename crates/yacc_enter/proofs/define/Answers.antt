@@ -1,3 +1,4 @@
+use mathlib.Core.Path.{refl}
 use Rattle.yacc_enter.proofs.Laws.{placing_low, numbered_most, define_moves}
 use native.Mathlib.Omega.{arith}
 use Rattle.yacc_enter.proofs.define.Goals as goal
@@ -8,8 +9,9 @@ place-placed-requires c = let o = c.requires.ready.names in let w = c.requires.w
 pub number-nonterminals-requires : goal.number-nonterminals-requires
 number-nonterminals-requires c = let o = c.requires.ready.names in let h = c.requires.ready.left in let l = placing_low _ _ _ _ _ _ _ _ _ _ _ c.place-placed.ensures in let a = l.0 in let b = l.1 in (omega (arith, a, b, h), o.nonterminals)
 
-pub returns-clause-grows : goal.returns-clause-grows
-returns-clause-grows c = record { names = (placing_low _ _ _ _ _ _ _ _ _ _ _ c.place-placed.ensures).1; nonterminals = numbered_most _ _ _ _ c.number-nonterminals.ensures.value; terminals = omega arith }
-
-pub returns-clause-moves : goal.returns-clause-moves
-returns-clause-moves c = define_moves _ _ _ _ _ _ _ _ _ c.requires.ready.names _ _ c.requires.within c.place-placed.ensures _ _ _ c.requires.ready.left c.number-nonterminals.ensures.numbers_after c.number-nonterminals.ensures.value _ c.requires.ready.token
+pub returns : goal.returns
+returns c = record {
+  grows = record { names = (placing_low _ _ _ _ _ _ _ _ _ _ _ c.place-placed.ensures).1; nonterminals = numbered_most _ _ _ _ c.number-nonterminals.ensures.value; terminals = omega arith };
+  room = record { starts = c.place-placed.auto.starts; pasts = c.place-placed.auto.pasts; ix = c.place-placed.auto.ix; lefts = c.number-nonterminals.auto.numbers; tokens = refl };
+  moves = define_moves _ _ _ _ _ _ _ _ _ c.requires.ready.names _ _ c.requires.within c.place-placed.ensures _ _ _ c.requires.ready.left c.number-nonterminals.ensures.numbers_after c.number-nonterminals.ensures.value _ c.requires.ready.token;
+}

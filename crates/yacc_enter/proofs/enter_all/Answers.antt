@@ -27,8 +27,7 @@ pub loop-token-preserved : goal.loop-token-preserved
 loop-token-preserved c =
     let i = c.loop-token.invariant in
     let R = read_in _ _ i.0 _ _ c.in-Some.ensures.steps in
-    let m = c.enter-ids.ensures.room in
-    (
+    let m = c.enter-ids.ensures.room in (
       R.text,
       record { starts = m.starts ∙ i.1.starts; pasts = m.pasts ∙ i.1.pasts; ix = m.ix ∙ i.1.ix; lefts = m.lefts ∙ i.1.lefts; tokens = m.tokens ∙ i.1.tokens },
       rw R.at (turn_next _ _ _ _ _ _ _ _ _ i.2 _ _ _ _ _ _ _ _ _ _ R.leads c.enter-ids.ensures.grows (rw (says_in _ _ i.0 _ _ R) at c.enter-ids.ensures.moves) R.mode),

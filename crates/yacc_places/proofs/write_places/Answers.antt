@@ -35,15 +35,14 @@ loop-token-preserved c =
     let i = c.loop-token.invariant in
     let R = read_in _ c.loop-token.token-iterator i.0 _ _ c.in-Some.ensures.steps in
     let e = says_in _ c.loop-token.token-iterator i.0 _ _ R in
-    let same = c.write_place-n.auto.places in
-    (
+    let same = c.write_place-n.auto.places in (
       R.text,
       λ l p.
-      let H = c.args.symbols.now.named.held l p in
-      let a = H.nonterminals.numbers.count in
-      let b = H.terminals.numbers.count in
-      let r = c.requires.1 in
-      rw R.at (placing-next _ _ _ _ _ _ _ _ _ (i.1 l p) a (let g = c.loop-token.auto.places in omega (arith, a, b, r, g)) _ _ _ _ _ R.leads e R.mode _ _ (c.left_said-left.ensures _ _ H) (c.token_said-right.ensures _ _ H) _ _ _ _ c.write_place-n.ensures.places_after c.write_place-n.ensures.value c.write_place-m.ensures.places_after c.write_place-m.ensures.value same),
+          let H = c.args.symbols.now.named.held l p in
+          let a = H.nonterminals.numbers.count in
+          let b = H.terminals.numbers.count in
+          let r = c.requires.1 in
+          rw R.at (placing-next _ _ _ _ _ _ _ _ _ (i.1 l p) a (let g = c.loop-token.auto.places in omega (arith, a, b, r, g)) _ _ _ _ _ R.leads e R.mode _ _ (c.left_said-left.ensures _ _ H) (c.token_said-right.ensures _ _ H) _ _ _ _ c.write_place-n.ensures.places_after c.write_place-n.ensures.value c.write_place-m.ensures.places_after c.write_place-m.ensures.value same),
     )
 
 pub returns : goal.returns

@@ -1,4 +1,3 @@
-use Rattle.std.proofs.Common.{arith}
 use Rattle.yacc_writer.proofs.Laws.{nonterminal-put, terminal-put}
 use Rattle.yacc_writer.proofs.put_symbol.Goals as goal
 

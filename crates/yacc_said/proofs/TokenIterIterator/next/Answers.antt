@@ -12,9 +12,9 @@ invariant_of-token c = record { says = c.said.ensures; wide = c.in-Token.ensures
 pub invariant_of-self : goal.invariant_of-self
 unfolding Told
 invariant_of-self c = record {
-    inside = c.in-Token.ensures.inside;
-    accepted = turn _ _ _ _ c.args.self.now.accepted _ _ _ _ c.in-Token.ensures (c.moved-self.ensures _ _ _);
-  }
+  inside = c.in-Token.ensures.inside;
+  accepted = turn _ _ _ _ c.args.self.now.accepted _ _ _ _ c.in-Token.ensures (c.moved-self.ensures _ _ _);
+}
 
 pub returns-in-Token-clause-steps : goal.returns-in-Token-clause-steps
 unfolding Told Gives
