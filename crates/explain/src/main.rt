@@ -112,7 +112,14 @@ fn explain_conflicts<R: io::Input + Print + Eprint>(rt: &R, table: &[u16]) -> Re
     let mut words = [0u16; CONFLICT_WORDS];
     let mut out = [0u8; LINES];
     for piece in 0..PIECES {
-        if !explain_piece(rt, table, 1 + piece * CONFLICTS as u64, &mut bytes, &mut words, &mut out)? {
+        if !explain_piece(
+            rt,
+            table,
+            1 + piece * CONFLICTS as u64,
+            &mut bytes,
+            &mut words,
+            &mut out,
+        )? {
             break;
         }
     }
