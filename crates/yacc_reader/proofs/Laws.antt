@@ -9,10 +9,8 @@ use lib.ListN.{length, get_or, replicate, length-replicate}
 use lib.Dec.{leb}
 use borrow.Author.Tests.{leb-true, le-leb, lt-leb}
 use Rattle.slices.specs.Lent.{in_front}
-use Rattle.repr.specs.declared.refusals.Refusal.{Refusal}
-use Rattle.repr.specs.Reply.{Reply, answered, refused, reply_of, number_of, place_of}
+use Rattle.repr.specs.Reply.{Reply, answered, refused}
 use Rattle.repr.specs.Meaning.{no_state, TableFits}
-use Rattle.repr.specs.declared.ProductionIndex.{ProductionIndex}
 use Rattle.repr.proofs.Lists.{cases, clash, length_mapped}
 use Rattle.repr.proofs.Listed.{and_left, and_right}
 use Rattle.spelling.specs.Spelled.{records_of, spell}
@@ -34,7 +32,6 @@ use Rattle.yacc_read.proofs.Read.{was_read}
 use Rattle.yacc_count.specs.Counted.{counts_in}
 use Rattle.yacc_count.specs.declared.Counts.{Counts}
 use Rattle.yacc_count.proofs.Limits.{counts_whole, places_long, written_of}
-use Rattle.std.specs.Prelude.{Result, Ok, Err}
 use Rattle.yacc_limits.specs.Limited.{Meant, limited_of}
 use Rattle.yacc_names.specs.Names.{bucket_limit}
 use Rattle.yacc_enter.specs.declared.Ids.{Ids}

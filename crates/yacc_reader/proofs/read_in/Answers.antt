@@ -1,4 +1,3 @@
-use Rattle.std.proofs.Common.{sym}
 use Rattle.yacc_reader.proofs.read_in.Goals as goal
 
 pub enter-requires : goal.enter-requires
