@@ -106,10 +106,10 @@ fn first_sets(table: AcceptedTable) -> FirstSets
     ensures terminals { result.terminals ≡ (meaning table.entry.words.now).terminals }
 {
     let counts = table.counts();
-    let mut grammar = [0u16; ProductionIndex::ALL_WORDS];
-    table.read_productions(&mut grammar);
+    let mut words = [0u16; ProductionIndex::ALL_WORDS];
+    table.read_productions(&mut words);
     let grammar = Grammar {
-        words: &grammar,
+        words: &words,
         productions: counts.productions,
     };
     FirstSets::new(grammar, counts.terminals as u16)

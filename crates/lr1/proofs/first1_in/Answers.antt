@@ -6,7 +6,7 @@ pub first1-requires : goal.first1-requires
 first1-requires c = list_wider _ _ 32 63 _ (rw c.counts-counts.ensures.nonterminals c.counts-counts.ensures.fits.few_nonterminals) (rw c.counts-counts.ensures.terminals c.counts-counts.ensures.fits.few_terminals) (sym c.list_fits.ensures ∙ c.if-list_fits.true)
 
 pub returns-then-fits : goal.returns-then-fits
-returns-then-fits c = first1-yes _ _ _ _ c.counts-counts.ensures.nonterminals c.counts-counts.ensures.terminals _ c.list_fits.ensures _ c.if-list_fits.true _ c.fits.ensures c.if-fits.true _ c.first_sets.ensures.is _ c.first1.ensures
+returns-then-fits c = first1-yes _ _ _ _ c.counts-counts.ensures.nonterminals c.counts-counts.ensures.terminals _ c.list_fits.ensures _ c.if-list_fits.true _ c.fits.ensures c.if-fits.true _ c.first_sets.ensures.is _ (rw (c.first_sets.ensures.terminals ∙ sym c.counts-counts.ensures.terminals) at c.first1.ensures)
 
 pub returns-else-fits : goal.returns-else-fits
 returns-else-fits c = first1-set _ _ _ _ c.counts-counts.ensures.nonterminals c.counts-counts.ensures.terminals _ c.list_fits.ensures _ c.if-list_fits.true _ c.fits.ensures c.if-fits.false
