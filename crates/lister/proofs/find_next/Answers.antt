@@ -1,11 +1,8 @@
-use mathlib.Core.Path.{refl, ◌∙◌}
+use mathlib.Core.Path.{refl}
 use Rattle.enumerator.specs.Advance.{start_of, moved}
 use Rattle.lister.proofs.Finding.{start_at, searching, hands-read, hit-tried, found-hit, found_out_lem, found-over}
 use native.Mathlib.Omega.{arith}
 use Rattle.lister.proofs.find_next.Goals as goal
-
-pub begin-requires : goal.begin-requires
-begin-requires c = c.requires.scratch_words_in_bounds.0
 
 pub search-requires : goal.search-requires
 search-requires c = record { searching = (_, (_, searching _ c.requires.viewing.1 c.requires.viewing.0 (start_at _ _ _ c.requires.is_open_value.0 c.requires.is_open_value.1) c.begin.ensures)) }
@@ -14,9 +11,6 @@ pub write_trial-requires : goal.write_trial-requires
 write_trial-requires c = let L = c.requires.viewing.1 in
     let A = start_at _ _ _ c.requires.is_open_value.0 c.requires.is_open_value.1 in
     let B = c.begin.ensures in record { tried = (_, hit-tried L A _ _ _ _ B (c.search.ensures _ _ (searching _ L c.requires.viewing.0 A B)) _ c.in-Hit.is); example_room_in_bounds = c.requires.scratch_words_in_bounds.1 }
-
-pub shape_of-scratch-in-Hit : goal.shape_of-scratch-in-Hit
-shape_of-scratch-in-Hit c = c.search.auto.words ∙ c.begin.auto.words
 
 pub returns-in-Hit : goal.returns-in-Hit
 unfolding start_of moved

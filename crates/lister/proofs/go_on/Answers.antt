@@ -17,9 +17,6 @@ pub returns-then-not-l : goal.returns-then-not-l
 unfolding start_of
 returns-then-not-l c = λ n T R q. go_ended _ _ _ _ T q c.requires.listable.ranged.long c.requires.scratch_words_in_bounds.0 c.requires.scratch_words_in_bounds.1 (sym c.lost.ensures ∙ c.if-lost.false) (rw (← c.start.ensures.0, ← c.start.ensures.1) (sym c.if-not-is_node.ensures)) (let h = c.if-not-l.true in cc)
 
-pub find_next-requires : goal.find_next-requires
-find_next-requires c = record { within = c.requires.within; viewing = (c.requires.listable.view, c.requires.listable.labelled); scratch_words_in_bounds = c.requires.scratch_words_in_bounds; is_open_value = ((let h = c.if-not-l.false in cc), sym c.lost.ensures ∙ c.if-lost.false) }
-
 pub returns : goal.returns
 unfolding start_of
 returns c = λ n T R q. go_found _ _ _ _ T q c.requires.listable.ranged.long c.requires.scratch_words_in_bounds.0 c.requires.scratch_words_in_bounds.1 (sym c.lost.ensures ∙ c.if-lost.false) (rw (← c.start.ensures.0, ← c.start.ensures.1) (sym c.if-not-is_node.ensures)) (let h = c.if-not-l.false in cc) _ (c.find_next.ensures n T R)

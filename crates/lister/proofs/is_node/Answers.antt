@@ -1,26 +1,10 @@
 use mathlib.Core.Path.{refl}
-use Rattle.lister.proofs.Ends.{look-first, look-source, look_target, look_again, look_end, roomy_long, roomy_few}
-use native.Mathlib.Omega.{arith}
+use Rattle.lister.proofs.Ends.{look-first, look-source, look_target, look_again, look_end}
 use Rattle.lister.proofs.is_node.Goals as goal
 use Rattle.lister.proofs.is_node.Goals.{then-is_item-via-then-is_item, then-is_item-via-else-is_item+then-is_item-2}
 
-pub word-count-requires : goal.word-count-requires
-word-count-requires c = let l = roomy_long _ c.args.graph.roomy in omega arith
-
 pub loop-k-init : goal.loop-k-init
 loop-k-init c = look-first c.word-count.ensures.0
-
-pub overflow_mul-at : goal.overflow_mul-at
-overflow_mul-at c = let f = roomy_few _ c.args.graph.roomy in omega (arith, c.loop-k-test.true, c.loop-k.invariant.counted)
-
-pub overflow_add-at : goal.overflow_add-at
-overflow_add-at c = let f = roomy_few _ c.args.graph.roomy in omega (arith, c.loop-k-test.true, c.loop-k.invariant.counted)
-
-pub is_item-requires : goal.is_item-requires
-is_item-requires c = let l = roomy_long _ c.args.graph.roomy in let f = roomy_few _ c.args.graph.roomy in omega (arith, c.loop-k-test.true, c.loop-k.invariant.counted)
-
-pub is_item-requires-else-is_item : goal.is_item-requires-else-is_item
-is_item-requires-else-is_item c = let l = roomy_long _ c.args.graph.roomy in let f = roomy_few _ c.args.graph.roomy in omega (arith, c.loop-k-test.true, c.loop-k.invariant.counted)
 
 pub returns-then-is_item : goal.returns-then-is_item
 returns-then-is_item c = elim c.then-is_item.branch [

@@ -1,11 +1,7 @@
 use mathlib.Core.Path.{refl}
-use Rattle.view.proofs.Made.{ranged_of}
 use Rattle.lister.proofs.Asking.{asked-none, asked_short, asked_long}
-use Rattle.lister.proofs.Ways.{packed_of, read_of, roomy_of, open_refused, open_short, open_stray, open_fresh}
+use Rattle.lister.proofs.Ways.{read_of, open_refused, open_short, open_stray, open_fresh}
 use Rattle.lister.proofs.open_in.Goals as goal
-
-pub invariant_of-grammar : goal.invariant_of-grammar
-invariant_of-grammar c = record { packed = packed_of c.counts-counts.ensures _ c.read_productions.ensures.0 }
 
 pub returns-then-not-fits : goal.returns-then-not-fits
 returns-then-not-fits c = let R = read_of c.counts-counts.ensures _ c.read_productions.ensures.1 in
@@ -18,9 +14,6 @@ returns-then-graph-lt-WORDS c = let R = read_of c.counts-counts.ensures _ c.read
 pub returns-then-not-check_graph : goal.returns-then-not-check_graph
 returns-then-not-check_graph c = let R = read_of c.counts-counts.ensures _ c.read_productions.ensures.1 in
     open_refused _ _ _ _ _ (asked_long _ _ _ _ _ R _ c.if-not-fits.ensures refl c.if-graph-lt-WORDS.false _ c.if-not-check_graph.ensures.value)
-
-pub invariant_of-is_node : goal.invariant_of-is_node
-invariant_of-is_node c = record { roomy = roomy_of (ranged_of (c.if-not-check_graph.ensures.graphed refl)) }
 
 pub returns-then-not-is_node : goal.returns-then-not-is_node
 returns-then-not-is_node c = let R = read_of c.counts-counts.ensures _ c.read_productions.ensures.1 in

@@ -3,12 +3,9 @@ use Rattle.enumerator.specs.Advance.{start_of}
 use Rattle.view.proofs.Made.{ranged_fits}
 use Rattle.trace_graph.proofs.Bools.{and_left}
 use Rattle.lister.proofs.Asking.{asked-none, asked_short, asked_long}
-use Rattle.lister.proofs.Ways.{few_nonterminals, packed_of, read_of, roomy_of, step-refused, step_graph, step_scratch, step_buffer}
+use Rattle.lister.proofs.Ways.{few_nonterminals, read_of, roomy_of, step-refused, step_graph, step_scratch, step_buffer}
 use native.Mathlib.Omega.{arith}
 use Rattle.lister.proofs.step_in.Goals as goal
-
-pub invariant_of-grammar : goal.invariant_of-grammar
-invariant_of-grammar c = record { packed = packed_of c.counts-counts.ensures _ c.read_productions.ensures.0 }
 
 pub returns-then-not-fits : goal.returns-then-not-fits
 unfolding start_of
@@ -34,9 +31,6 @@ pub returns-then-buffer-lt-WORDS : goal.returns-then-buffer-lt-WORDS
 unfolding start_of
 returns-then-buffer-lt-WORDS c = let R = read_of c.counts-counts.ensures _ c.read_productions.ensures.1 in
     step_buffer _ _ _ _ _ (asked_long _ _ _ _ _ R _ (rw (← c.start-start.ensures.0, ← c.start-start.ensures.1) c.if-not-fits.ensures) refl c.if-graph-lt-WORDS.false _ c.if-not-check_view.ensures.value) c.if-buffer-lt-WORDS.true
-
-pub invariant_of-view : goal.invariant_of-view
-invariant_of-view c = record { tidy = (c.if-not-check_view.ensures.viewing refl).0.viewed.tidy }
 
 pub invariant_of-go_on : goal.invariant_of-go_on
 invariant_of-go_on c = record { roomy = roomy_of (ranged_fits _ _ _ (sym c.if-not-check_view.ensures.value) (few_nonterminals c.counts-counts.ensures) (omega (arith, c.if-graph-lt-WORDS.false))) }

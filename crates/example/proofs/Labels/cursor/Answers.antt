@@ -3,9 +3,6 @@ use Rattle.example.proofs.LabelList.{some_label, item-production, item_small}
 use Rattle.example.proofs.Parts.{cursor_room, cursor_is, cursor_none}
 use Rattle.example.proofs.Labels.cursor.Goals as goal
 
-pub item-first-requires : goal.item-first-requires
-item-first-requires c = some_label _ c.args.self.fit
-
 pub overflow_mul-from : goal.overflow_mul-from
 overflow_mul-from c = let q = item_small c.args.self.grammar.words.now c.args.self.grammar.productions c.args.self.words.now c.args.self.fit 0 (some_label _ c.args.self.fit) _ _ c.item-first.ensures.0 c.item-first.ensures.1 c.args.self.grammar.packed in omega (arith, q)
 

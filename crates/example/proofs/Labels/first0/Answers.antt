@@ -14,9 +14,6 @@ loop-asked-init c = let e = c.args.sets.now.terminals in
     let ls = labels_in c.args.self.words.now in
     (asked-start e sets ps ls _ c.new.ensures.0, number-start e sets ps ls, refl, omega arith)
 
-pub label_first0-next-requires : goal.label_first0-next-requires
-label_first0-next-requires c = omega (arith, c.count-count.ensures.0, c.loop-asked-test.true)
-
 pub returns-then-not-answer : goal.returns-then-not-answer
 returns-then-not-answer c = let e = c.args.sets.now.terminals in
     let sets = c.args.sets.now.map in

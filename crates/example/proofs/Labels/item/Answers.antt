@@ -1,24 +1,6 @@
-use Rattle.std.proofs.Common.{◌∙◌, arith}
-use Rattle.example.proofs.LabelList.{three_words, label_production, label_index}
+use Rattle.std.proofs.Common.{◌∙◌}
+use Rattle.example.proofs.LabelList.{label_production, label_index}
 use Rattle.example.proofs.Labels.item.Goals as goal
-
-pub overflow_mul-label : goal.overflow_mul-label
-overflow_mul-label c = let t = three_words c.args.self.words.now in omega arith
-
-pub overflow_add-label : goal.overflow_add-label
-overflow_add-label c = let t = three_words c.args.self.words.now in omega arith
-
-pub word-requires : goal.word-requires
-word-requires c = let t = three_words c.args.self.words.now in omega arith
-
-pub overflow_mul-label-2 : goal.overflow_mul-label-2
-overflow_mul-label-2 c = let t = three_words c.args.self.words.now in omega arith
-
-pub overflow_add-label-2 : goal.overflow_add-label-2
-overflow_add-label-2 c = let t = three_words c.args.self.words.now in omega arith
-
-pub word-requires-2 : goal.word-requires-2
-word-requires-2 c = let t = three_words c.args.self.words.now in omega arith
 
 pub returns : goal.returns
 returns c = (c.word.ensures.0 ∙ label_production _ _ c.requires, c.word-2.ensures.0 ∙ label_index _ _ c.requires)

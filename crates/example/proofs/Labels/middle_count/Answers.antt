@@ -4,9 +4,6 @@ use Rattle.example.proofs.Parts.{sets-counted}
 use Rattle.example.proofs.Walk.{counted_one, counted_none, counted-mark}
 use Rattle.example.proofs.Labels.middle_count.Goals as goal
 
-pub item-item-requires : goal.item-item-requires
-item-item-requires c = some_label _ c.args.self.fit
-
 pub symbol_sets-sets-requires : goal.symbol_sets-sets-requires
 symbol_sets-sets-requires c = let h = some_label _ c.args.self.fit in
     let e = c.item-item.ensures in record { within = (item-production c.args.self.grammar.words.now c.args.self.grammar.productions c.args.self.words.now c.args.self.fit 0 h _ _ e.0 e.1); index_in_bounds = item_index c.args.self.grammar.words.now c.args.self.grammar.productions c.args.self.words.now c.args.self.fit 0 h _ _ e.0 e.1 }

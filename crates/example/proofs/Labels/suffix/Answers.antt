@@ -2,9 +2,6 @@ use Rattle.example.proofs.LabelList.{item-production, item_index}
 use Rattle.example.proofs.Parts.{suffix_is}
 use Rattle.example.proofs.Labels.suffix.Goals as goal
 
-pub item-requires : goal.item-requires
-item-requires c = c.requires
-
 pub suffix-requires : goal.suffix-requires
 suffix-requires c = let e = c.item.ensures in record { within = (item-production c.args.self.grammar.words.now c.args.self.grammar.productions c.args.self.words.now c.args.self.fit _ c.requires _ _ e.0 e.1); index_in_bounds = item_index c.args.self.grammar.words.now c.args.self.grammar.productions c.args.self.words.now c.args.self.fit _ c.requires _ _ e.0 e.1 }
 

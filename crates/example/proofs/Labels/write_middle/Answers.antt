@@ -25,9 +25,6 @@ returns-then-part-gt0 c = let ps = productions_in c.args.self.grammar.words.now 
     let two = (middle_one ps ws h _ c.cursor-part.ensures c.if-part-gt0.true).1 in
     (c.copy.ensures ∙ ap (λ (l : List ℕ). put_at at l b) (sym e), omega (arith, ap length e, two))
 
-pub prefix-lead-requires : goal.prefix-lead-requires
-prefix-lead-requires c = some_label _ c.args.self.fit
-
 pub returns-then-lead-gt0 : goal.returns-then-lead-gt0
 returns-then-lead-gt0 c = let ps = productions_in c.args.self.grammar.words.now c.args.self.grammar.productions in
     let ws = c.args.self.words.now in

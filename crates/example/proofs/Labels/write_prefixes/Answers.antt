@@ -3,16 +3,9 @@ use Rattle.repr.specs.Packed.{productions_in}
 use Rattle.example.specs.Example.{prefixes}
 use Rattle.example.specs.Labels.{labels_in}
 use Rattle.example.specs.Written.{words_of}
-use Rattle.example.proofs.Put.{turn_start, turn_room, turn_more, turn_end}
-use Rattle.example.proofs.Walk.{prefix-whole, prefix_turn, prefix-done}
+use Rattle.example.proofs.Put.{turn_room, turn_more, turn_end}
+use Rattle.example.proofs.Walk.{prefix_turn, prefix-done}
 use Rattle.example.proofs.Labels.write_prefixes.Goals as goal
-
-pub loop-label-init : goal.loop-label-init
-loop-label-init c = let ps = productions_in c.args.self.grammar.words.now c.args.self.grammar.productions in
-    turn_start _ _ _ _ (prefix-whole ps c.args.self.words.now c.count-count.result (omega (arith, c.count-count.ensures.0))) c.requires
-
-pub prefix-part-requires : goal.prefix-part-requires
-prefix-part-requires c = omega (arith, c.count-count.ensures.0)
 
 pub copy-requires : goal.copy-requires
 copy-requires c = let ps = productions_in c.args.self.grammar.words.now c.args.self.grammar.productions in
@@ -20,14 +13,6 @@ copy-requires c = let ps = productions_in c.args.self.grammar.words.now c.args.s
     let n = c.loop-label.label in
     let step = prefix_turn ps ws (n - 1) n (n - 1) (omega arith) (omega arith) (omega (arith, c.count-count.ensures.0)) _ c.prefix-part.ensures in
     turn_room c.loop-label.invariant c.prefix-part.result.now (words_of (prefixes ps (take (n - 1) (labels_in ws)))) step
-
-pub overflow_add-place : goal.overflow_add-place
-overflow_add-place c = let ps = productions_in c.args.self.grammar.words.now c.args.self.grammar.productions in
-    let ws = c.args.self.words.now in
-    let n = c.loop-label.label in
-    let step = prefix_turn ps ws (n - 1) n (n - 1) (omega arith) (omega arith) (omega (arith, c.count-count.ensures.0)) _ c.prefix-part.ensures in
-    let r = turn_room c.loop-label.invariant c.prefix-part.result.now (words_of (prefixes ps (take (n - 1) (labels_in ws)))) step in
-    omega (arith, r)
 
 pub loop-label-preserved : goal.loop-label-preserved
 loop-label-preserved c = let ps = productions_in c.args.self.grammar.words.now c.args.self.grammar.productions in

@@ -22,9 +22,6 @@ loop-label-init c = let ps = productions_in c.args.self.grammar.words.now c.args
       omega arith,
     )
 
-pub prefix-requires : goal.prefix-requires
-prefix-requires c = omega (arith, c.count-count.ensures.0, c.loop-label-test.true)
-
 pub overflow_sub-start : goal.overflow_sub-start
 overflow_sub-start c = let ps = productions_in c.args.self.grammar.words.now c.args.self.grammar.productions in
     let ws = c.args.self.words.now in
@@ -32,20 +29,6 @@ overflow_sub-start c = let ps = productions_in c.args.self.grammar.words.now c.a
     let l : c.loop-label.label < length (labels_in ws) = omega (arith, c.count-count.ensures.0, c.loop-label-test.true) in
     let q = prefix-step ps ws c.loop-label.label l _ c.prefix.ensures in
     omega (arith, q, I.1)
-
-pub suffix-requires : goal.suffix-requires
-suffix-requires c = omega (arith, c.count-count.ensures.0, c.loop-label-test.true)
-
-pub overflow_add-end : goal.overflow_add-end
-overflow_add-end c = let ps = productions_in c.args.self.grammar.words.now c.args.self.grammar.productions in
-    let ws = c.args.self.words.now in
-    let I = c.loop-label.invariant in
-    let l : c.loop-label.label < length (labels_in ws) = omega (arith, c.count-count.ensures.0, c.loop-label-test.true) in
-    let q = around-next ps ws c.args.places c.loop-label.label l _ _ I.1 I.2 _ _ c.prefix.ensures c.suffix.ensures in
-    omega (arith, q, c.requires.places_value.1)
-
-pub nonterminal-requires : goal.nonterminal-requires
-nonterminal-requires c = omega (arith, c.count-count.ensures.0, c.loop-label-test.true)
 
 pub put_three-requires : goal.put_three-requires
 put_three-requires c = let ps = productions_in c.args.self.grammar.words.now c.args.self.grammar.productions in
@@ -60,15 +43,6 @@ put_three-requires c = let ps = productions_in c.args.self.grammar.words.now c.a
       c.nonterminal.ensures.1,
     )
 
-pub overflow_add-place : goal.overflow_add-place
-overflow_add-place c = let ps = productions_in c.args.self.grammar.words.now c.args.self.grammar.productions in
-    let ws = c.args.self.words.now in
-    let I = c.loop-label.invariant in
-    let l : c.loop-label.label < length (labels_in ws) = omega (arith, c.count-count.ensures.0, c.loop-label-test.true) in
-    let q = around-next ps ws c.args.places c.loop-label.label l _ _ I.1 I.2 _ _ c.prefix.ensures c.suffix.ensures in
-    let r = turn_room I.0 (_ ∷ _ ∷ _ ∷ []) _ (around_turn ps ws c.args.places c.loop-label.label l _ _ _ q.0 q.1 c.nonterminal.ensures.0) in
-    omega (arith, r)
-
 pub loop-label-preserved : goal.loop-label-preserved
 loop-label-preserved c = let ps = productions_in c.args.self.grammar.words.now c.args.self.grammar.productions in
     let ws = c.args.self.words.now in
@@ -80,9 +54,6 @@ loop-label-preserved c = let ps = productions_in c.args.self.grammar.words.now c
       q.1,
       omega (arith, c.loop-label-test.true),
     )
-
-pub shape_of-buffer : goal.shape_of-buffer
-shape_of-buffer c = c.loop-label.invariant.0.size
 
 pub returns : goal.returns
 returns c = let ps = productions_in c.args.self.grammar.words.now c.args.self.grammar.productions in
