@@ -1,16 +1,25 @@
--- A numeral grows by its last digit. Assumes nothing.
-use Rattle.std.proofs.Common.{ℕ, zero, suc, ◌+◌, ◌-◌, ◌/◌, ◌%◌, ◌≤◌, ◌<◌, ◌≡◌, [], ◌∷◌, ◌++◌, ap, ◌∙◌, sym, arith}
-use borrow.Author.Tests.{lt-ltb, le-ltb}
-use Rattle.numerals.specs.Numeral.{numeral_by}
+-- A numeral is the library's text of a number. Assumes nothing.
+use Rattle.std.proofs.Common.{ℕ, zero, suc, ◌+◌, ◌/◌, ◌%◌, ◌^◌, ◌≤◌, ◌<◌, ◌≡◌, List, [], ◌∷◌, ◌++◌, length, length-append, ap, ◌∙◌, sym, arith}
+use Rattle.std.specs.Fmt.{decimal}
+use Rattle.std.proofs.lemmas.Fmt.{decimal_digit, decimal_step, decimal_nonempty, length-decimal-le}
+use borrow.Author.Tests.{ltb-true, ltb-false}
+use lib.Dec.{ltb}
+use Rattle.repr.proofs.Lists.{cases}
+use Rattle.numerals.specs.Numeral.{numeral, numeral_by}
 
-pub one_digit : (f n : ℕ) → 0 < f → n < 10 → (48 + n) ∷ [] ≡ numeral_by f n
+by_digits : (f n : ℕ) → n < 2 ^ 64 → length (decimal n) ≤ f → numeral_by f n ≡ decimal n
 unfolding numeral_by
-one_digit zero n p h = absurd (omega arith)
-one_digit (suc f) n p h = sym (rw (lt-ltb n 10 h, numeral_by))
+by_digits zero n k h = absurd (omega (arith, decimal_nonempty n k))
+by_digits (suc f) n k h =
+    cases (ltb n 10)
+    (λ e. rw (e, numeral_by) (sym (decimal_digit n (ltb-true n 10 e))))
+    (λ e. let s = decimal_step n (ltb-false n 10 e) k in
+    let l = ap length s ∙ length-append (decimal (n / 10)) ((48 + n % 10) ∷ []) in
+    rw (e, numeral_by) (ap (λ (ds : List ℕ). ds ++ ((48 + n % 10) ∷ [])) (by_digits f (n / 10) (omega (arith, k)) (omega (arith, l, h))) ∙ sym s))
 
-pub more_digits : (f n : ℕ) → 0 < f → 10 ≤ n → numeral_by (f - 1) (n / 10) ++ ((48 + n % 10) ∷ []) ≡ numeral_by f n
-unfolding numeral_by
-more_digits zero n p h = absurd (omega arith)
-more_digits (suc f) n p h =
-    let e : suc f - 1 ≡ f = omega arith in
-    ap (λ (k : ℕ). numeral_by k (n / 10) ++ ((48 + n % 10) ∷ [])) e ∙ sym (rw (le-ltb n 10 h, numeral_by))
+pub numeral_decimal : (n : ℕ) → n < 2 ^ 64 → decimal n ≡ numeral n
+unfolding numeral
+numeral_decimal n h = sym (by_digits 20 n h (length-decimal-le 20 n (omega arith) (omega (arith, h)) h))
+
+pub decimal_short : (n : ℕ) → n < 2 ^ 64 → length (decimal n) ≤ 20
+decimal_short n h = length-decimal-le 20 n (omega arith) (omega (arith, h)) h

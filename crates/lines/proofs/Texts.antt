@@ -2,6 +2,7 @@
 use Prim.Native.Nat.{ℕ, zero, suc, ◌+◌, ◌-◌, ◌*◌, ◌≤◌, ◌<◌}
 use native.Mathlib.Omega.{arith}
 use mathlib.Core.Path.{◌≡◌, refl, sym, ap, ◌∙◌, subst}
+use mathlib.Core.Logic.{◌⊎◌, inl, inr}
 use mathlib.Core.List.{List, [], ◌∷◌, ◌++◌, append_assoc, append-nil}
 use lib.ListN.{length, get_or, take, drop}
 use borrow.Author.Tests.{eq-eqb, ne_eqb}
@@ -33,25 +34,16 @@ unfolding line_of_refusal spaced
 refused-put k n p P Q R S T = put_then P (put_then Q (put_then R (put_then S T)))
 
 -- a class's own values
-pub own_naive : {k : Class} (a : List ℕ) (at : ℕ) → k ≡ Naive → Put a at (own_text (values_of_class k)) a at × (at ≤ at + 84)
+pub own_nothing : {k : Class} (a : List ℕ) (at : ℕ) → (k ≡ Naive) ⊎ ((k ≡ Ambiguity) ⊎ (k ≡ InsufficientLookahead)) → Put a at (own_text (values_of_class k)) a at × (at ≤ at + 84)
 unfolding own_text values_of_class
-own_naive a at e = (rw e (put-nothing a at), omega arith)
+own_nothing a at (inl e) = (rw e (put-nothing a at), omega arith)
+own_nothing a at (inr (inl e)) = (rw e (put-nothing a at), omega arith)
+own_nothing a at (inr (inr e)) = (rw e (put-nothing a at), omega arith)
 
-pub own_ambiguity : {k : Class} (a : List ℕ) (at : ℕ) → k ≡ Ambiguity → Put a at (own_text (values_of_class k)) a at × (at ≤ at + 84)
-unfolding own_text values_of_class
-own_ambiguity a at e = (rw e (put-nothing a at), omega arith)
-
-pub own_insufficient : {k : Class} (a : List ℕ) (at : ℕ) → k ≡ InsufficientLookahead → Put a at (own_text (values_of_class k)) a at × (at ≤ at + 84)
-unfolding own_text values_of_class
-own_insufficient a at e = (rw e (put-nothing a at), omega arith)
-
-pub own_precedence : {k : Class} {a b : List ℕ} {at r : ℕ} {n : NonterminalString} → k ≡ Precedence n → Put a at (32 ∷ numeral n.0) b r → Put a at (own_text (values_of_class k)) b r
+pub own_nonterminal : {k : Class} {a b : List ℕ} {at r : ℕ} {n : NonterminalString} → (k ≡ Precedence n) ⊎ (k ≡ SuggestInline n) → Put a at (32 ∷ numeral n.0) b r → Put a at (own_text (values_of_class k)) b r
 unfolding own_text values_of_class spaced
-own_precedence e P = rw e P
-
-pub own_inline : {k : Class} {a b : List ℕ} {at r : ℕ} {n : NonterminalString} → k ≡ SuggestInline n → Put a at (32 ∷ numeral n.0) b r → Put a at (own_text (values_of_class k)) b r
-unfolding own_text values_of_class spaced
-own_inline e P = rw e P
+own_nonterminal (inl e) P = rw e P
+own_nonterminal (inr e) P = rw e P
 
 pub own_question : {k : Class} {a b c : List ℕ} {at m r s x : ℕ} {n : NonterminalString} → k ≡ SuggestQuestion n s x → Put a at (32 ∷ numeral n.0) b m → Put b m (symbol_text s x) c r → Put a at (own_text (values_of_class k)) c r
 unfolding own_text values_of_class spaced
@@ -215,13 +207,34 @@ example-put {s = s} {q} example es ec eq P Q R S T U =
     put_then P (put_then Q (put_then R' (put_then S' (put_then T' U))))
 
 -- which examples are shown
-pub examples_naive : (a : List ℕ) (at k : ℕ) (x y : List ℕ) → k ≡ 0 → Put a at (example_lines k x y) a at
-unfolding example_lines
-examples_naive a at k x y e = rw (eq-eqb k 0 e, example_lines) (put-nothing a at)
+pub examples_naive : {k : Class} (a : List ℕ) (at : ℕ) (x y : List ℕ) → k ≡ Naive → Put a at (example_lines (number_of_class k) x y) a at
+unfolding example_lines number_of_class
+examples_naive a at x y e = rw e (put-nothing a at)
 
-pub examples_action : {a b : List ℕ} {at r : ℕ} (k : ℕ) (x y : List ℕ) → (k ≡ 0 → ⊥) → k ≡ 5 → Put a at (example_line 97 x) b r → Put a at (example_lines k x y) b r
-unfolding example_lines
-examples_action k x y n e P = rw (ne_eqb k 0 n, eq-eqb k 5 e, example_lines) P
+pub examples_action : {k : Class} {a b : List ℕ} {at r s e o u : ℕ} (x y : List ℕ) → k ≡ AmbiguousReduction s e o u → Put a at (example_line 97 x) b r → Put a at (example_lines (number_of_class k) x y) b r
+unfolding example_lines number_of_class
+examples_action x y i P = rw i P
+
+-- the classes that show both
+pub number_no_naive : (k : Class) → (k ≡ Naive → ⊥) → number_of_class k ≡ 0 → ⊥
+unfolding number_of_class
+number_no_naive Naive n e = n refl
+number_no_naive Ambiguity n e = absurd (omega arith)
+number_no_naive (Precedence m) n e = absurd (omega arith)
+number_no_naive (SuggestInline m) n e = absurd (omega arith)
+number_no_naive (SuggestQuestion m s x) n e = absurd (omega arith)
+number_no_naive (AmbiguousReduction x y z w) n e = absurd (omega arith)
+number_no_naive InsufficientLookahead n e = absurd (omega arith)
+
+pub number_no_reduction : (k : Class) → ((x y z w : ℕ) → k ≡ AmbiguousReduction x y z w → ⊥) → number_of_class k ≡ 5 → ⊥
+unfolding number_of_class
+number_no_reduction Naive n e = absurd (omega arith)
+number_no_reduction Ambiguity n e = absurd (omega arith)
+number_no_reduction (Precedence m) n e = absurd (omega arith)
+number_no_reduction (SuggestInline m) n e = absurd (omega arith)
+number_no_reduction (SuggestQuestion m s x) n e = absurd (omega arith)
+number_no_reduction (AmbiguousReduction x y z w) n e = n x y z w refl
+number_no_reduction InsufficientLookahead n e = absurd (omega arith)
 
 pub examples_both : {a b c : List ℕ} {at m r : ℕ} (k : ℕ) (x y : List ℕ) → (k ≡ 0 → ⊥) → (k ≡ 5 → ⊥) → Put a at (example_line 97 x) b m → Put b m (example_line 114 y) c r → Put a at (example_lines k x y) c r
 unfolding example_lines
@@ -232,13 +245,11 @@ pub lines-refused : {k : Result Classification Refusal} {a b : List ℕ} {r : �
 unfolding lines_of reading_of
 lines-refused n x y e P = (rw e (put_all P), put-within P)
 
-pub lines_class : {k : Result Classification Refusal} {a b c : List ℕ} {m r v : ℕ} (n : ℕ) (x y : List ℕ) {q : Classification} → k ≡ Ok q → v ≡ number_of_class q.class → Put a 0 (class_line n (number_of_class q.class) (values_of_class q.class) q.action_trials q.reduce_trials) b m → Put b m (example_lines v x y) c r
+pub lines_class : {k : Result Classification Refusal} {a b c : List ℕ} {m r : ℕ} (n : ℕ) (x y : List ℕ) {q : Classification} → k ≡ Ok q → Put a 0 (class_line n (number_of_class q.class) (values_of_class q.class) q.action_trials q.reduce_trials) b m → Put b m (example_lines (number_of_class q.class) x y) c r
     → (take r c ≡ lines_of n (reading_of k) x y) × (r ≤ length c)
 unfolding lines_of reading_of
-lines_class n x y e f P Q =
-    let W = put_then P (put_as Q (ap (λ (z : ℕ). example_lines z x y) f)) in
-    (rw e (put_all W), put-within W)
+lines_class n x y e P Q = let W = put_then P Q in (rw e (put_all W), put-within W)
 
-pub class_shown : {k : Result Classification Refusal} {v : ℕ} {x y : List ℕ} {q : Classification} → k ≡ Ok q → v ≡ number_of_class q.class → ReadingShown (reading_of k) x y → Shown v x y
+pub class_shown : {k : Result Classification Refusal} {x y : List ℕ} {q : Classification} → k ≡ Ok q → ReadingShown (reading_of k) x y → Shown (number_of_class q.class) x y
 unfolding ReadingShown reading_of
-class_shown {x = x} {y} e f S = subst (λ (n : ℕ). Shown n x y) (sym f) (rw e at S)
+class_shown e S = rw e at S

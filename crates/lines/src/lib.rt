@@ -1,15 +1,16 @@
 // The lines that the explaining program prints (document 01, its program run), from a conflict's outcome to bytes.
 #![tactic(auto)]
 
-ghost use Rattle.std.specs.Prelude.{◌≡◌, ◌++◌, ◌∷◌, [], ◌+◌, ◌*◌, ◌^◌, ◌≤◌, ◌<◌, length, take, drop};
+ghost use Rattle.std.specs.Prelude.{◌≡◌, ◌++◌, ◌∷◌, [], ◌+◌, ◌*◌, ◌≤◌, ◌<◌, length, take, drop};
 ghost use Rattle.repr.specs.Sizes.{reduction_limit, example_symbols, reduction_room};
-ghost use Rattle.numerals.specs.Numeral.{numeral, numeral_by};
+ghost use Rattle.numerals.specs.Numeral.{numeral};
 ghost use Rattle.error.specs.Numbers.{number_of_class, values_of_class, reading_of};
 ghost use Rattle.lines.specs.Lines.{Put, Whole, Shown, ReadingShown, symbol_text, reduction_text, symbol_texts, reduction_texts, counted, total_of_symbols, printed_length, example_line, own_text, refused_text, line_of_refusal, class_line, example_lines, lines_of};
 
 use entries::class_number;
 use error::{Class, Classification};
 use example::Example;
+use itoa::Buffer;
 use repr::{Refusal, word};
 
 // A byte; the place after it.
@@ -31,25 +32,13 @@ pub fn put_text(out: &mut [u8], at: usize, text: &[u8]) -> usize
     end
 }
 
-// A number of at most so many digits. By hand, since the contract says which bytes these are, and there is no heap for a text.
-fn put_digits(out: &mut [u8], at: usize, n: u64, most: usize) -> usize
-    requires few { (0 < most) × (n < 10 ^ most) }
-    requires in_bounds { at + most ≤ length out.old }
-    ensures { Put out.old at (numeral_by most n) out.new result × (result ≤ at + most) }
-{
-    if n < 10 {
-        return put(out, at, b'0' + n as u8);
-    }
-    let next = put_digits(out, at, n / 10, most - 1);
-    put(out, next, b'0' + (n % 10) as u8)
-}
-
 // A number.
 fn put_number(out: &mut [u8], at: usize, n: u64) -> usize
     requires { at + 20 ≤ length out.old }
     ensures { Put out.old at (numeral n) out.new result × (result ≤ at + 20) }
 {
-    put_digits(out, at, n, 20)
+    let mut buffer = Buffer::new();
+    put_text(out, at, buffer.format(n).as_bytes())
 }
 
 // A byte, then a number: at most 21 bytes.
@@ -61,7 +50,7 @@ pub fn put_after(out: &mut [u8], at: usize, byte: u8, n: u64) -> usize
     put_number(out, next, n)
 }
 
-// A symbol: kind/number.
+// A symbol: kind/number. In numbers, since the empty mark, kind 2, is no symbol of a grammar.
 pub fn put_symbol(out: &mut [u8], at: usize, kind: usize, number: usize) -> usize
     requires { at + 42 ≤ length out.old }
     ensures { Put out.old at (symbol_text kind number) out.new result × (result ≤ at + 42) }
@@ -161,10 +150,10 @@ fn put_own(out: &mut [u8], at: usize, class: Class) -> usize
     ensures { Put out.old at (own_text (values_of_class class)) out.new result × (result ≤ at + 84) }
 {
     match class {
-        Class::Naive => at,
-        Class::Ambiguity => at,
-        Class::Precedence(nonterminal) => put_after(out, at, b' ', nonterminal.0 as u64),
-        Class::SuggestInline(nonterminal) => put_after(out, at, b' ', nonterminal.0 as u64),
+        Class::Naive | Class::Ambiguity | Class::InsufficientLookahead => at,
+        Class::Precedence(nonterminal) | Class::SuggestInline(nonterminal) => {
+            put_after(out, at, b' ', nonterminal.0 as u64)
+        }
         Class::SuggestQuestion(nonterminal, kind, number) => {
             let next = put_after(out, at, b' ', nonterminal.0 as u64);
             put_symbol(out, next, kind as usize, number as usize)
@@ -175,7 +164,6 @@ fn put_own(out: &mut [u8], at: usize, class: Class) -> usize
             let third = put_after(out, second, b' ', other_start as u64);
             put_after(out, third, b' ', other_end as u64)
         }
-        Class::InsufficientLookahead => at,
     }
 }
 
@@ -198,7 +186,7 @@ fn put_class(
     put(out, last, b'\n')
 }
 
-// The line of a refusal.
+// The line of a refusal, by its number and its place.
 pub fn refused_line(out: &mut [u8], number: u64, refusal: u16, place: u16) -> usize
     requires { 200 ≤ length out.old }
     ensures { Put out.old 0 (line_of_refusal number refusal place) out.new result }
@@ -211,19 +199,19 @@ pub fn refused_line(out: &mut [u8], number: u64, refusal: u16, place: u16) -> us
 }
 
 // The examples shown with a class: naive none, class 5 the action's.
-fn put_examples(out: &mut [u8], at: usize, class: u16, action: &[u16], reduce: &[u16]) -> usize
-    requires shown { Shown class action.now reduce.now }
+fn put_examples(out: &mut [u8], at: usize, class: Class, action: &[u16], reduce: &[u16]) -> usize
+    requires shown { Shown (number_of_class class) action.now reduce.now }
     requires at_in_bounds { at + 48598 ≤ length out.old }
-    ensures { Put out.old at (example_lines class action.now reduce.now) out.new result }
+    ensures { Put out.old at (example_lines (number_of_class class) action.now reduce.now) out.new result }
 {
-    if class == 0 {
-        return at;
+    match class {
+        Class::Naive => at,
+        Class::AmbiguousReduction(_, _, _, _) => put_example(out, at, b'a', action),
+        _ => {
+            let next = put_example(out, at, b'a', action);
+            put_example(out, next, b'r', reduce)
+        }
     }
-    let next = put_example(out, at, b'a', action);
-    if class == 5 {
-        return next;
-    }
-    put_example(out, next, b'r', reduce)
 }
 
 // The lines of a conflict, at the front of the bytes; their number.
@@ -247,7 +235,7 @@ pub fn lines(
                 found.action_trials,
                 found.reduce_trials,
             );
-            put_examples(out, next, class_number(found.class), action, reduce)
+            put_examples(out, next, found.class, action, reduce)
         }
         Err(refusal) => refused_line(out, number, refusal.number(), refusal.place()),
     }

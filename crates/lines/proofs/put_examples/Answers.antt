@@ -1,25 +1,23 @@
-use mathlib.Core.Path.{◌∙◌}
-use Rattle.lines.proofs.Texts.{examples_naive, examples_action, examples_both}
-use native.Mathlib.Omega.{arith}
+use Rattle.std.proofs.Common.{arith}
+use Rattle.lines.proofs.Texts.{examples_naive, examples_action, examples_both, number_no_naive, number_no_reduction}
 use Rattle.lines.proofs.put_examples.Goals as goal
 
-pub returns-then-class-eq0 : goal.returns-then-class-eq0
-returns-then-class-eq0 c = examples_naive _ _ _ _ _ (omega (arith, c.if-class-eq0.true))
+pub put_example-requires-clause-whole : goal.put_example-requires-clause-whole
+put_example-requires-clause-whole c = c.requires.shown.action_whole (number_no_naive c.args.class (λ e. cc))
 
 pub put_example-next-requires : goal.put_example-next-requires
-put_example-next-requires c = record { whole = c.requires.shown.action_whole c.if-class-eq0.false; at_in_bounds = omega (arith, c.requires.at_in_bounds) }
+put_example-next-requires c = record { whole = c.requires.shown.action_whole (number_no_naive c.args.class c.in_default.not-Naive); at_in_bounds = omega (arith, c.requires.at_in_bounds) }
 
-pub shape_of-out-then-class-eq5 : goal.shape_of-out-then-class-eq5
-shape_of-out-then-class-eq5 c = c.put_example-next.ensures.0.long
+pub put_example-requires-in_default : goal.put_example-requires-in_default
+put_example-requires-in_default c =
+    let l = c.put_example-next.ensures.0.long in
+    record { whole = c.requires.shown.reduce_whole (number_no_naive c.args.class c.in_default.not-Naive) (number_no_reduction c.args.class c.in_default.not-AmbiguousReduction); at_in_bounds = omega (arith, c.requires.at_in_bounds, c.put_example-next.ensures.1, l) }
 
-pub returns-then-class-eq5 : goal.returns-then-class-eq5
-returns-then-class-eq5 c = examples_action _ c.args.action.now c.args.reduce.now c.if-class-eq0.false c.if-class-eq5.true c.put_example-next.ensures.0
+pub returns-in-Naive : goal.returns-in-Naive
+returns-in-Naive c = examples_naive _ _ _ _ c.in-Naive.is
 
-pub put_example-requires : goal.put_example-requires
-put_example-requires c = let l = c.put_example-next.ensures.0.long in record { whole = c.requires.shown.reduce_whole c.if-class-eq0.false c.if-class-eq5.false; at_in_bounds = omega (arith, c.requires.at_in_bounds, c.put_example-next.ensures.1, l) }
+pub returns-in-AmbiguousReduction : goal.returns-in-AmbiguousReduction
+returns-in-AmbiguousReduction c = examples_action c.args.action.now c.args.reduce.now c.in-AmbiguousReduction.is c.put_example.ensures.0
 
-pub shape_of-out : goal.shape_of-out
-shape_of-out c = c.put_example.ensures.0.long ∙ c.put_example-next.ensures.0.long
-
-pub returns : goal.returns
-returns c = examples_both _ c.args.action.now c.args.reduce.now c.if-class-eq0.false c.if-class-eq5.false c.put_example-next.ensures.0 c.put_example.ensures.0
+pub returns-in_default : goal.returns-in_default
+returns-in_default c = examples_both _ c.args.action.now c.args.reduce.now (number_no_naive c.args.class c.in_default.not-Naive) (number_no_reduction c.args.class c.in_default.not-AmbiguousReduction) c.put_example-next.ensures.0 c.put_example-in_default.ensures.0

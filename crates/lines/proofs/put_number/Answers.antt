@@ -1,6 +1,13 @@
-use Rattle.numerals.specs.Numeral.{numeral}
+use Rattle.std.proofs.Common.{arith, ap, ◌∙◌}
+use lib.ListN.{length}
+use Rattle.lines.proofs.Laws.{put_as}
+use Rattle.lines.proofs.Numerals.{numeral_decimal, decimal_short}
 use Rattle.lines.proofs.put_number.Goals as goal
 
+pub put_text-requires : goal.put_text-requires
+put_text-requires c = let e = ap length (c.as_bytes.ensures.value ∙ c.format.ensures.text) in omega (arith, e, decimal_short c.args.n (omega arith))
+
 pub returns : goal.returns
-unfolding numeral
-returns c = c.put_digits.ensures
+returns c =
+    let e = c.as_bytes.ensures.value ∙ c.format.ensures.text in
+    (put_as c.put_text.ensures (e ∙ numeral_decimal c.args.n (omega arith)), omega (arith, ap length e, c.put_text.ensures.place, decimal_short c.args.n (omega arith)))
