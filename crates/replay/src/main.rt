@@ -45,12 +45,15 @@ use conflicts::{ask_choose, ask_classify, ask_observed};
 use lists::{ask_advance, ask_examples, ask_open};
 use little::decode;
 use repr::word;
-use rewrites::ask_rewrite;
+use rewrites::{ask_compact, ask_respell};
 use sets::{ask_item, ask_sets};
 use std::io;
 use std::io::Read;
-use traces::ask_trace;
-use walks::{ask_joined, ask_walk};
+use tracer::Action;
+use traces::{ask_add_edge, ask_backtrace};
+use walks::{
+    ask_check, ask_first0, ask_first0_joined, ask_first1, ask_trace_back, ask_trace_back_joined,
+};
 use yaccs::{ask_read_yacc, ask_write_yacc};
 
 // Fills a list with words, by way of bytes; none if the input is shorter.
@@ -66,8 +69,13 @@ fn read_words<R: io::Input>(rt: &R, out: &mut [u16]) -> Option<()>
 
 fn ask<R: Print>(rt: &R, op: u16, table: &[u16], more: &[u16]) {
     match op {
-        0..=4 => ask_walk(rt, op, table, more),
-        5..=7 => ask_trace(rt, op, table, more),
+        1 => ask_check(rt, table),
+        2 => ask_first0(rt, table, more),
+        3 => ask_first1(rt, table, more),
+        0 | 4 => ask_trace_back(rt, table, more),
+        5 => ask_backtrace(rt, Action::Shift, table, more),
+        6 => ask_backtrace(rt, Action::Reduce, table, more),
+        7 => ask_add_edge(rt, table, more),
         8 => ask_advance(rt, table, more),
         9 => ask_examples(rt, table, more),
         10 => ask_classify(rt, table, more),
@@ -76,8 +84,10 @@ fn ask<R: Print>(rt: &R, op: u16, table: &[u16], more: &[u16]) {
         13 => ask_open(rt, table, more),
         14 => ask_sets(rt, more),
         15 => ask_item(rt, table, more),
-        16 | 17 => ask_joined(rt, op, table, more),
-        18 | 19 => ask_rewrite(rt, op, table, more),
+        16 => ask_first0_joined(rt, table, more),
+        17 => ask_trace_back_joined(rt, table, more),
+        18 => ask_respell(rt, table, more),
+        19 => ask_compact(rt, table),
         20 => ask_build(rt, table, more),
         21 => ask_read_yacc(rt, table, more),
         22 => ask_write_yacc(rt, table, more),

@@ -1,6 +1,7 @@
 // Ops 5 to 7: backtrace_shift, backtrace_reduce, add_edge.
 use crate::say::{say_answer, say_digest, say_next, say_words};
 use crate::words::{at, front, number, put, rest};
+use tracer::Action;
 
 // The words of an accepted graph.
 fn say_graph<R: Print>(rt: &R, answer: u16, edges: u16, graph: &[u16]) {
@@ -16,7 +17,7 @@ fn say_traced<R: Print>(rt: &R, answer: u16, place: u16, edges: u16, graph: &[u1
 }
 
 fn backtrace(
-    op: u16,
+    action: Action,
     table: &[u16],
     more: &[u16],
     graph: &mut [u16],
@@ -27,27 +28,25 @@ fn backtrace(
     let state = at(more, 0);
     let p = at(more, 1);
     let i = at(more, 2);
-    if op == 5 {
-        lihvemur::lihvemur_backtrace_shift(table, state, p, i, graph, scratch, edges, place)
-    } else {
-        lihvemur::lihvemur_backtrace_reduce(table, state, p, i, graph, scratch, edges, place)
+    match action {
+        Action::Shift => {
+            lihvemur::lihvemur_backtrace_shift(table, state, p, i, graph, scratch, edges, place)
+        }
+        Action::Reduce => {
+            lihvemur::lihvemur_backtrace_reduce(table, state, p, i, graph, scratch, edges, place)
+        }
     }
 }
 
-fn ask_backtrace<R: Print>(
-    rt: &R,
-    op: u16,
-    table: &[u16],
-    more: &[u16],
-    graph: &mut [u16],
-    scratch: &mut [u16],
-) {
+pub fn ask_backtrace<R: Print>(rt: &R, action: Action, table: &[u16], more: &[u16]) {
+    let mut graph = [7u16; 8200];
+    let mut scratch = [7u16; 32008];
     let mut place: u16 = 7;
     let mut edges: u16 = 7;
     let g = number(more, 3).min(graph.len());
     let s = number(more, 4).min(scratch.len());
     let answer = backtrace(
-        op,
+        action,
         table,
         more,
         &mut graph[..g],
@@ -55,9 +54,9 @@ fn ask_backtrace<R: Print>(
         &mut edges,
         &mut place,
     );
-    say_traced(rt, answer, place, edges, graph);
-    say_digest(rt, scratch);
-    say_graph(rt, answer, edges, graph);
+    say_traced(rt, answer, place, edges, &graph);
+    say_digest(rt, &scratch);
+    say_graph(rt, answer, edges, &graph);
 }
 
 fn add_edge(
@@ -83,22 +82,13 @@ fn add_edge(
     )
 }
 
-fn ask_add_edge<R: Print>(rt: &R, table: &[u16], more: &[u16], graph: &mut [u16]) {
+pub fn ask_add_edge<R: Print>(rt: &R, table: &[u16], more: &[u16]) {
+    let mut graph = [7u16; 8200];
     let mut place: u16 = 7;
     let mut edges: u16 = 7;
     let g = number(more, 8).min(graph.len());
-    put(rest(more, 9), graph);
+    put(rest(more, 9), &mut graph);
     let answer = add_edge(table, more, &mut graph[..g], &mut edges, &mut place);
-    say_traced(rt, answer, place, edges, graph);
-    say_graph(rt, answer, edges, graph);
-}
-
-pub fn ask_trace<R: Print>(rt: &R, op: u16, table: &[u16], more: &[u16]) {
-    let mut graph = [7u16; 8200];
-    let mut scratch = [7u16; 32008];
-    if op == 7 {
-        ask_add_edge(rt, table, more, &mut graph);
-    } else {
-        ask_backtrace(rt, op, table, more, &mut graph, &mut scratch);
-    }
+    say_traced(rt, answer, place, edges, &graph);
+    say_graph(rt, answer, edges, &graph);
 }

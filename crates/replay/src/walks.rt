@@ -2,14 +2,14 @@
 use crate::say::{say_answer, say_bool, say_ones};
 use crate::words::{at, front, number, rest, set_at};
 
-fn ask_check<R: Print>(rt: &R, table: &[u16]) {
+pub fn ask_check<R: Print>(rt: &R, table: &[u16]) {
     let mut place: u16 = 7;
     let answer = lihvemur::lihvemur_check(table, &mut place);
     say_answer(rt, answer, place);
 }
 
 // Place, whether the list is nullable, and the set's members; before the call yes, and token 7.
-fn ask_first0<R: Print>(rt: &R, table: &[u16], more: &[u16]) {
+pub fn ask_first0<R: Print>(rt: &R, table: &[u16], more: &[u16]) {
     let mut place: u16 = 7;
     let mut nullable = true;
     let mut set: u64 = 128;
@@ -19,7 +19,7 @@ fn ask_first0<R: Print>(rt: &R, table: &[u16], more: &[u16]) {
     say_ones(rt, set, 0);
 }
 
-fn ask_first1<R: Print>(rt: &R, table: &[u16], more: &[u16]) {
+pub fn ask_first1<R: Print>(rt: &R, table: &[u16], more: &[u16]) {
     let mut place: u16 = 7;
     let mut set: u64 = 128;
     let ahead = set_at(more, 0);
@@ -28,7 +28,7 @@ fn ask_first1<R: Print>(rt: &R, table: &[u16], more: &[u16]) {
     say_ones(rt, set, 0);
 }
 
-fn ask_trace_back<R: Print>(rt: &R, table: &[u16], more: &[u16]) {
+pub fn ask_trace_back<R: Print>(rt: &R, table: &[u16], more: &[u16]) {
     let mut place: u16 = 7;
     let mut low: u64 = 128;
     let mut high: u64 = 128;
@@ -47,7 +47,7 @@ fn ask_trace_back<R: Print>(rt: &R, table: &[u16], more: &[u16]) {
 }
 
 // The first list's number of words, its words, then the second's.
-fn ask_first0_joined<R: Print>(rt: &R, table: &[u16], more: &[u16]) {
+pub fn ask_first0_joined<R: Print>(rt: &R, table: &[u16], more: &[u16]) {
     let mut place: u16 = 7;
     let mut nullable = true;
     let mut set: u64 = 128;
@@ -68,7 +68,7 @@ fn ask_first0_joined<R: Print>(rt: &R, table: &[u16], more: &[u16]) {
 }
 
 // The state, then the lists.
-fn ask_trace_back_joined<R: Print>(rt: &R, table: &[u16], more: &[u16]) {
+pub fn ask_trace_back_joined<R: Print>(rt: &R, table: &[u16], more: &[u16]) {
     let mut place: u16 = 7;
     let mut low: u64 = 128;
     let mut high: u64 = 128;
@@ -82,24 +82,4 @@ fn ask_trace_back_joined<R: Print>(rt: &R, table: &[u16], more: &[u16]) {
     say_answer(rt, answer, place);
     say_ones(rt, low, 0);
     say_ones(rt, high, 64);
-}
-
-pub fn ask_joined<R: Print>(rt: &R, op: u16, table: &[u16], more: &[u16]) {
-    if op == 16 {
-        ask_first0_joined(rt, table, more);
-    } else {
-        ask_trace_back_joined(rt, table, more);
-    }
-}
-
-pub fn ask_walk<R: Print>(rt: &R, op: u16, table: &[u16], more: &[u16]) {
-    if op == 1 {
-        ask_check(rt, table);
-    } else if op == 2 {
-        ask_first0(rt, table, more);
-    } else if op == 3 {
-        ask_first1(rt, table, more);
-    } else {
-        ask_trace_back(rt, table, more);
-    }
 }
