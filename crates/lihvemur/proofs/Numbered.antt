@@ -7,7 +7,6 @@ use Rattle.spelling.specs.Outcome.{Outcome as Spelling}
 use Rattle.compaction.specs.Outcome.{Outcome as Compaction}
 use Rattle.builder.specs.Outcome.{Left as Building}
 use Rattle.builder.specs.declared.Built.{Built}
-use Rattle.repr.specs.declared.NonterminalString.{NonterminalString}
 use Rattle.yacc_read.specs.Outcome.{Outcome as ReadOutcome}
 use Rattle.yacc_read.specs.declared.Reading.{Reading}
 use Rattle.yacc_write.specs.Outcome.{Outcome as WriteOutcome}
