@@ -13,12 +13,15 @@ use repr::{ProductionIndex, Refusal};
 use state_graph::StateIndex;
 use trace_graph::TraceGraph;
 
+// 453 records.
+const WORDS: usize = 1812;
+
 // The words of a record.
 #[derive(Clone, Copy)]
 struct Row(u16, u16, u16, u16);
 
-fn put(table: &mut [u16], number: u16, row: Row)
-    requires { (length table.old ≡ 1812) × (number < 453) }
+fn put(table: &mut [u16; WORDS], number: u16, row: Row)
+    requires { number < 453 }
 {
     let at = number as usize * 4;
     table[at..at + 4].copy_from_slice(&[row.0, row.1, row.2, row.3]);
@@ -39,8 +42,8 @@ fn next_row(row: Row, step: Row) -> Row
 }
 
 // Records one after another, each a step on from the one before.
-fn put_rows(table: &mut [u16], first: u16, count: u16, row: Row, step: Row)
-    requires table_len { (length table.old ≡ 1812) × ((count ≤ 128) × (first + count ≤ 453)) }
+fn put_rows(table: &mut [u16; WORDS], first: u16, count: u16, row: Row, step: Row)
+    requires records { (count ≤ 128) × (first + count ≤ 453) }
     requires row_bound { (row.0 ≤ 500) × ((row.1 ≤ 500) × ((row.2 ≤ 500) × (row.3 ≤ 500))) }
     requires step_bound { (step.0 ≤ 1) × ((step.1 ≤ 1) × ((step.2 ≤ 1) × (step.3 ≤ 1))) }
 {
@@ -52,9 +55,7 @@ fn put_rows(table: &mut [u16], first: u16, count: u16, row: Row, step: Row)
 }
 
 // Record 0, nonterminals from 1, productions from 161.
-fn put_productions(table: &mut [u16])
-    requires { length table.old ≡ 1812 }
-{
+fn put_productions(table: &mut [u16; WORDS]) {
     put(table, 0, Row(32, 2, 128, 36));
     put_rows(table, 1, 32, Row(161, 0, 0, 0), Row(1, 0, 0, 0));
     put(table, 161, Row(193, 197, 0, 0));
@@ -65,9 +66,7 @@ fn put_productions(table: &mut [u16])
 }
 
 // Symbols from 197.
-fn put_symbols(table: &mut [u16])
-    requires { length table.old ≡ 1812 }
-{
+fn put_symbols(table: &mut [u16; WORDS]) {
     put(table, 197, Row(198, 1, 0, 0));
     put(table, 198, Row(0, 0, 31, 0));
     put_rows(table, 199, 31, Row(0, 0, 0, 0), Row(0, 0, 1, 0));
@@ -78,9 +77,7 @@ fn put_symbols(table: &mut [u16])
 }
 
 // Items from 248.
-fn put_items(table: &mut [u16])
-    requires { length table.old ≡ 1812 }
-{
+fn put_items(table: &mut [u16; WORDS]) {
     put(table, 248, Row(249, 0, 1, 0));
     put_rows(table, 249, 31, Row(250, 1, 0, 0), Row(1, 1, 0, 0));
     put_rows(table, 280, 15, Row(281, 33, 0, 0), Row(1, 0, 1, 0));
@@ -90,9 +87,7 @@ fn put_items(table: &mut [u16])
 }
 
 // States from 33, edges from 325.
-fn put_states(table: &mut [u16])
-    requires { length table.old ≡ 1812 }
-{
+fn put_states(table: &mut [u16; WORDS]) {
     put_rows(table, 33, 128, Row(248, 325, 0, 0), Row(0, 1, 0, 0));
     put_rows(table, 325, 127, Row(452, 1, 0, 1), Row(0, 0, 0, 1));
     put(table, 452, Row(0, 1, 1, 127));
@@ -107,7 +102,7 @@ fn say<R: Print>(rt: &R, answer: Result<u16, Refusal>) {
 }
 
 fn main(rt: HostRuntime) {
-    let mut table = [0u16; 1812];
+    let mut table = [0u16; WORDS];
     let mut graph = [0u16; TraceGraph::WORDS];
     let mut scratch = [0u16; TraceGraph::SCRATCH];
     put_productions(&mut table);
