@@ -121,10 +121,6 @@ module _ (T : Table) (start room : ℕ) (Rs : List (List ℕ)) (ws bs E es : Lis
     unfolding TakenAs
     round-more v step = on step
 
-  pub taken_small : (v : Unit {0}) → TakenAs T start u.Qs (take_to T room (get_or u.Qs k []) u.Qs (tried T)) ws' bs' E E' m q' m' (Ok v) → m' ≤ m + 95
-  unfolding TakenAs
-  taken_small v step = step.high
-
 pub round_end : (T : Table) (start room : ℕ) (Rs : List (List ℕ)) (ws bs E es : List ℕ) (k m q : ℕ) → Round T start room Rs ws bs E es k m q → q ≤ k → FoundAs T start (collect_to 129 T room Rs []) ws bs E es q (Ok tt)
 unfolding FoundAs
 round_end T start room Rs ws bs E es k m q u h =
