@@ -1,5 +1,5 @@
 -- One law for each way through the code of this crate (src/lib), label by label. Assumes nothing.
-use Rattle.std.proofs.Common.{◌≡◌, ℕ, zero, suc, ◌+◌, ◌-◌, ◌*◌, ◌/◌, ◌<◌, ◌≤◌, List, [], ◌∷◌, ◌++◌, map, length, take, drop, sym, refl, ap, ◌∙◌, append_assoc, append-nil, arith, drop_of_length-le, take_all}
+use Rattle.std.proofs.Common.{◌≡◌, ℕ, zero, suc, ◌+◌, ◌-◌, ◌*◌, ◌/◌, ◌<◌, ◌≤◌, List, [], ◌∷◌, ◌++◌, map, length, take, drop, sym, refl, ap, ◌∙◌, append_assoc, append-nil, arith, drop_of_length-le}
 use mathlib.Core.Option.{Option, none, some}
 use Rattle.repr.specs.Sizes.{example_symbols, example_room}
 use Rattle.repr.specs.Lists.{joined}
@@ -171,9 +171,6 @@ module _ (ps : List Production) (ws : List ℕ) where
   symbols-sum p m s ep em es = let a = length_symbols ps (labels_in ws) in omega arith
 
   -- prefixes, from the last label on
-
-  pub prefix-whole : (k : ℕ) → k ≡ length (labels_in ws) → words_of (prefixes ps (take k (labels_in ws))) ≡ words_of (prefixes ps (labels_in ws))
-  prefix-whole k e = ap (λ (l : List Label). words_of (prefixes ps l)) (take_all k (labels_in ws) (omega arith))
 
   prefixes-last : (xs : List Label) (l : Label) → prefixes ps (xs ++ (l ∷ [])) ≡ (sets_of ps l).prefix ++ prefixes ps xs
   unfolding prefixes

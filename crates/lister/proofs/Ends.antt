@@ -8,7 +8,7 @@ use lib.ListN.{length, get_or, drop, drop_of_length-le}
 use lib.Seq.{drop-cons}
 use lib.Dec.{eqb}
 use borrow.Author.Tests.{eq-eqb, ne_eqb}
-use Rattle.repr.specs.Sizes.{edge_limit, edge_place, graph_room}
+use Rattle.repr.specs.Sizes.{edge_place}
 use Rattle.repr.specs.Lists.{some?}
 use Rattle.repr.proofs.Tests.{some?-nil, some?-yes, some?_no}
 use Rattle.trace_graph.specs.declared.Node.{Node as NodeValue}
@@ -16,7 +16,6 @@ use Rattle.trace_graph.specs.Graph.{Node, at_item, same_item, is_same_node, Trac
 use Rattle.trace_graph.specs.Words.{node_at, edge_at, edges_in}
 use Rattle.trace_graph.specs.Values.{node_is}
 use Rattle.enumerator.specs.Trials.{no_edge}
-use Rattle.enumerator.specs.Stacks.{Roomy}
 use Rattle.enumerator.proofs.Edges.{edges_count, edges_at_lem}
 use Rattle.enumerator.proofs.Stepping.{value_nonterminal}
 use Rattle.view.proofs.Owner.{kind_item}
@@ -104,9 +103,3 @@ module _ {g : List ℕ} {v : Node} {count k : ℕ} (L : Looking g v count k) whe
           within = omega arith;
           same = sym (ap (some? (ends_at v)) here ∙ some?_no (ends_at v) (edge_at g k) (drop (k + 1) (edges_in g)) (edge_is_lem ∙ n)) ∙ L.same;
         }
-
-pub roomy_long : (g : List ℕ) → Roomy g → graph_room ≤ length g
-roomy_long g r = r.0
-
-pub roomy_few : (g : List ℕ) → Roomy g → get_or g 0 0 ≤ edge_limit
-roomy_few g r = r.1

@@ -9,7 +9,7 @@ use borrow.Author.Tests.{le-leb, lt-leb}
 use Rattle.repr.specs.Reply.{Reply, answered, refused}
 use Rattle.repr.specs.Sizes.{graph_room, scratch_words, trial_limit, example_room}
 use Rattle.repr.specs.Meaning.{Production, Table}
-use Rattle.repr.specs.Packed.{Packed, productions_in}
+use Rattle.repr.specs.Packed.{productions_in}
 use Rattle.table.specs.Index.{CountsOf}
 use Rattle.trace_graph.specs.Graph.{at_item, is_node_of}
 use Rattle.trace_graph.specs.Words.{edges_in}
@@ -32,9 +32,6 @@ module _ {T : Table} {n e s p : ℕ} (C : CountsOf T n e s p) where
   few_terminals = rw C.terminals C.fits.few_terminals
 
   module _ (g : List ℕ) where
-    pub packed_of : Packed g (length T.productions) → Packed g p
-    packed_of P = rw C.productions P
-
     module _ (q : productions_in g (length T.productions) ≡ T.productions) where
       pub read_of : Read T n e (productions_in g p)
       read_of = record { nonterminals = C.nonterminals; terminals = C.terminals; productions = ap (productions_in g) C.productions ∙ q }

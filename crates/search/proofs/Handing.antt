@@ -3,14 +3,12 @@ use Rattle.std.specs.Prelude.{◌≡◌, ℕ, Bool, true, false, ◌&&◌, List,
 use mathlib.Core.Path.{sym, ap, subst, ◌∙◌}
 use mathlib.Core.List.{reverse-reverse}
 use mathlib.Core.Option.{Option, some}
-use Rattle.slices.specs.Lent.{in_front}
 use Rattle.repr.specs.Meaning.{Production}
 use Rattle.lookahead.specs.declared.TokenSet.{TokenSet}
 use Rattle.first.specs.First.{first0, meets_ahead}
 use Rattle.first.specs.declared.Answer.{Answer}
 use Rattle.trace_graph.specs.Graph.{TraceEdge}
-use Rattle.example.specs.Example.{Label, example_words, ahead, meets}
-use Rattle.example.specs.Labels.{labels_in}
+use Rattle.example.specs.Example.{Label, ahead, meets}
 use Rattle.enumerator.specs.Trials.{Path, ends_of, is_example_in}
 use Rattle.enumerator.specs.Lister.{labels_of}
 use Rattle.enumerator.specs.Advance.{set_of}
@@ -68,8 +66,3 @@ module _ (e : ℕ) (sets : List ℕ) (ps : List Production) (es : List TraceEdge
     pub hands-other : b ≡ false → false ≡ hands_by e sets ps es o p
     unfolding hands_by
     hands-other h = sym (ap (λ (x : Bool). x && passes_by e sets ps es o p) (sym example_is ∙ h))
-
--- the example that is written is that of the labels read
-pub written_is : (ps : List Production) (ls : List ℕ) (labels : List Label) (b b' : List ℕ) → labels_in ls ≡ labels → b' ≡ in_front (example_words ps (labels_in ls)) b
-    → b' ≡ in_front (example_words ps labels) b
-written_is ps ls labels b b' e w = w ∙ ap (λ (x : List Label). in_front (example_words ps x) b) e

@@ -62,7 +62,7 @@ pub fn read_labels(view: View, words: &[u16], labels: &mut [u16]) -> usize
     Example::LABEL_WORDS * count
 }
 
-// The example of the trial that the words hold, at the front of the buffer.
+// The example of the trial that the words hold, at the front of the buffer. `tried` is of a graph that no argument has: a fact with many proofs, which no struct can hold.
 pub fn write_trial(grammar: Grammar, view: View, words: &[u16], buffer: &mut [u16])
     requires tried { (es : List TraceEdge) × Tried (productions_in grammar.words.now grammar.productions) es view.owners.now view.codes.now words.now }
     requires example_room_in_bounds { example_room ≤ length buffer.old }

@@ -1,4 +1,4 @@
-// The machine that steps from trial to trial (`find_next_trace` and what it calls), over a view and the words of a trial.
+// The machine that steps from trial to trial (`find_next_trace` and what it calls), over a view and the words of a trial. The counts are of the words, which are lent: no struct can hold that they agree.
 ghost use Rattle.std.specs.Prelude.{◌≡◌, List, [], ◌∷◌, ◌++◌, reverse, ℕ, ◌≤◌, ◌<◌, length, get_or, drop};
 ghost use Rattle.repr.specs.Sizes.{edge_limit, nonterminal_limit, reduction_limit};
 ghost use Rattle.enumerator.specs.Counts.{Counted};

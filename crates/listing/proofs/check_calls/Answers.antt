@@ -7,15 +7,6 @@ use Rattle.listing.proofs.check_calls.Goals as goal
 pub returns-then-calls-ne0 : goal.returns-then-calls-ne0
 returns-then-calls-ne0 c = record { fits = tt; refused = (cut_short _ _ c.if-calls-ne0.true, refl, omega arith) }
 
-pub loop-i-init : goal.loop-i-init
-loop-i-init c = refl
-
-pub number-part-requires : goal.number-part-requires
-number-part-requires c = let k = c.loop-i-test.true in omega arith
-
-pub overflow_add-part : goal.overflow_add-part
-overflow_add-part c = omega (arith, c.number-part.ensures.1)
-
 pub returns-then-left-part : goal.returns-then-left-part
 returns-then-left-part c = let k = c.loop-i-test.true in let w = words_at c.args.calls.now (3 * c.loop-i.i) (omega arith) in let e = c.loop-i.invariant in let n = c.number-part.ensures.0 in let f = c.if-left-part.true in record { fits = tt; refused = (too_short _ _ c.if-calls-ne0.false (omega arith), refl, omega arith) }
 

@@ -1,7 +1,7 @@
 use mathlib.Core.Path.{◌≡◌, refl, sym, ap, ◌∙◌}
 use mathlib.Core.List.{List, []}
 use Prim.Native.Nat.{ℕ, ◌+◌, ◌*◌, ◌-◌, ◌≤◌}
-use lib.ListN.{length, take, drop, drop_of_length-le, length-take, length-drop}
+use lib.ListN.{length, take, drop, drop_of_length-le}
 use borrow.Rule.Slice.PartMut.{same_len_mid}
 use Rattle.listing.specs.CallList.{ended_of}
 use Rattle.listing.proofs.Asked.{accepted, words_at}
@@ -12,39 +12,8 @@ use Rattle.listing.proofs.make_calls.Goals as goal
 pub loop-i-init : goal.loop-i-init
 loop-i-init c = (omega (arith, (accepted _ _ c.requires).1), refl, refl, refl)
 
-pub number-graph_words-requires : goal.number-graph_words-requires
-number-graph_words-requires c = omega (arith, c.loop-i-test.true)
-
-pub number-scratch_words-requires : goal.number-scratch_words-requires
-number-scratch_words-requires c = let k = c.loop-i-test.true in omega arith
-
-pub overflow_add-to : goal.overflow_add-to
-overflow_add-to c = let k = c.loop-i-test.true in let w = words_at c.args.calls.now (3 * c.loop-i.i) (omega arith) in let e = c.loop-i.invariant.0 in let s = c.loop-i.invariant.1 in omega arith
-
-pub number-requires : goal.number-requires
-number-requires c = let k = c.loop-i-test.true in omega arith
-
-pub overflow_add-to-in-loop-i : goal.overflow_add-to-in-loop-i
-overflow_add-to-in-loop-i c = let k = c.loop-i-test.true in let w = words_at c.args.calls.now (3 * c.loop-i.i) (omega arith) in let e = c.loop-i.invariant.0 in let s = c.loop-i.invariant.1 in let n = c.number.ensures.0 in omega arith
-
-pub offset_bounds-output-from : goal.offset_bounds-output-from
-offset_bounds-output-from c = let k = c.loop-i-test.true in let w = words_at c.args.calls.now (3 * c.loop-i.i) (omega arith) in let e = c.loop-i.invariant.0 in let s = c.loop-i.invariant.1 in omega (arith, c.well_formed)
-
-pub slice_bounds-call-start : goal.slice_bounds-call-start
-slice_bounds-call-start c = let k = c.loop-i-test.true in let w = words_at c.args.calls.now (3 * c.loop-i.i) (omega arith) in let e = c.loop-i.invariant.0 in let s = c.loop-i.invariant.1 in let n = c.number.ensures.0 in omega arith
-
 pub slice_bounds-call-end : goal.slice_bounds-call-end
 slice_bounds-call-end c = let k = c.loop-i-test.true in let w = words_at c.args.calls.now (3 * c.loop-i.i) (omega arith) in let e = c.loop-i.invariant.0 in let s = c.loop-i.invariant.1 in let n = c.number.ensures.0 in omega arith
-
-pub call-requires : goal.call-requires
-call-requires c = let k = c.loop-i-test.true in
-    let w = words_at c.args.calls.now (3 * c.loop-i.i) (omega arith) in
-    let e = c.loop-i.invariant.0 in
-    let s = c.loop-i.invariant.1 in
-    let n = c.number.ensures.0 in
-    let d = length-drop c.loop-i.from c.loop-i.output in
-    let t = length-take (c.loop-i.from + 3 + c.number.result - c.loop-i.from) (drop c.loop-i.from c.loop-i.output) in
-    omega arith
 
 pub loop-i-preserved : goal.loop-i-preserved
 loop-i-preserved c = let k = c.loop-i-test.true in
@@ -60,12 +29,6 @@ loop-i-preserved c = let k = c.loop-i-test.true in
       c.call.auto.scratch ∙ c.loop-i.invariant.2,
       calls-more c.args.table.now c.args.graph.now c.args.calls.now (3 * c.loop-i.i) three c.loop-i.listing c.loop-i.scratch c.loop-i.output c.loop-i.from (c.loop-i.from + 3 + c.number.result) _ _ _ c.number-graph_words.ensures.0 c.number-scratch_words.ensures.0 n refl to _ _ _ c.call.auto.part c.call.ensures ∙ c.loop-i.invariant.3,
     )
-
-pub shape_of-scratch : goal.shape_of-scratch
-shape_of-scratch c = c.loop-i.invariant.2
-
-pub shape_of-output : goal.shape_of-output
-shape_of-output c = c.loop-i.invariant.1
 
 pub returns : goal.returns
 returns c = let k = c.loop-i-test.false in
