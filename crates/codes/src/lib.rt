@@ -106,7 +106,8 @@ impl EdgeCodes {
     pub fn clear(&mut self)
         ensures { (T : meaning-of.Table) → Coded T self.new.words self.new.flags [] }
     {
-        self.words[0] = 0;
+        let empty = TraceGraph::new();
+        self.words[0] = empty.edges as u16;
         self.flags.fill(0);
     }
 

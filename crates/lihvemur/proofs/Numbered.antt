@@ -31,7 +31,7 @@ module _ (c d : Checked) (e : c ≡ d) where
   check_refused n r h = rw (sym e ∙ h)
 
 -- a count handed out
-module _ {a p old n : ℕ} {words : List ℕ} where
+module _ (a p old n : ℕ) (words : List ℕ) where
   pub spell_handed : (r : Result ℕ Refusal) → HandedOut r a p old n → (d : Spelling) → record { answer = reply_of r; out = words } ≡ d → spell_numbers a p n words ≡ respell_numbers old d
   unfolding respell_numbers
   spell_handed (Ok k) h d e = rw (h.0, h.1, h.2, ← e)
@@ -47,10 +47,10 @@ module _ {a p old n : ℕ} {words : List ℕ} where
   edge_handed (Ok k) h d e = rw (h.0, h.1, h.2, ← e)
   edge_handed (Err x) h d e = rw (h.0, h.1, h.2, ← e)
 
-  pub trace_handed : (r : Result ℕ Refusal) → HandedOut r a p old n → {scratch : List ℕ} (d : Outcome) → outcome (reply_of r) words scratch ≡ d → trace_numbers a p n words scratch ≡ backtrace_numbers old d
+  pub trace_handed : (r : Result ℕ Refusal) → HandedOut r a p old n → (scratch : List ℕ) (d : Outcome) → outcome (reply_of r) words scratch ≡ d → trace_numbers a p n words scratch ≡ backtrace_numbers old d
   unfolding backtrace_numbers
-  trace_handed (Ok k) h d e = rw (h.0, h.1, h.2, ← e)
-  trace_handed (Err x) h d e = rw (h.0, h.1, h.2, ← e)
+  trace_handed (Ok k) h scratch d e = rw (h.0, h.1, h.2, ← e)
+  trace_handed (Err x) h scratch d e = rw (h.0, h.1, h.2, ← e)
 
 module _ (records count : ℕ) (c : Reply Built) (ss os cs : List ℕ) (d : Building) (e : record { answer = c; scratch = ss; out = os; conflicts = cs } ≡ d) where
   pub build-made : (b : Built) → c ≡ answered b → build_numbers 0 0 b.records b.conflicts ss os cs ≡ built_numbers records count d

@@ -2,4 +2,4 @@ use Rattle.lihvemur.proofs.Numbered.{spell_handed}
 use Rattle.lihvemur.proofs.lihvemur_respell.Goals as goal
 
 pub returns : goal.returns
-returns c = spell_handed _ c.hand_out.ensures _ c.respell.ensures
+returns c = spell_handed _ _ _ _ _ _ c.hand_out.ensures _ c.respell.ensures
