@@ -81,6 +81,7 @@ impl EdgeCode {
 }
 
 // A trace's edges, one word each behind their number, and a bit for each key that one of them has.
+// Fixed words and how many are used, since there is no heap.
 #[derive(Drop)]
 pub struct EdgeCodes {
     pub words: [u16; EdgeCodes::WORDS],

@@ -57,9 +57,9 @@ pub fn lihvemur_classify(
     let conflict = Conflict {
         state: StateIndex(state),
         production: ProductionIndex(production),
-        action: action,
-        operand: operand,
-        token: token,
+        action,
+        operand,
+        token,
     };
     match classify(table, conflict, scratch, action_example, reduce_example) {
         Ok(found) => {
@@ -92,8 +92,8 @@ pub fn lihvemur_choose(
     let conflict = Conflict {
         state: StateIndex(state),
         production: ProductionIndex(production),
-        action: action,
-        operand: operand,
+        action,
+        operand,
         token: 0,
     };
     if entries.len() < Class::ALL_WORDS {

@@ -87,7 +87,7 @@ fn answer_number(answer: Result<Advanced, Refusal>) -> u16
     }
 }
 
-// Refusal 9 for a list of calls that is cut short, 11 for an output that has fewer words than they ask. What is left of the output is counted down, call by call.
+// Refusal 9 for a list of calls that is cut short, 11 for an output that has fewer words than they ask. What is left of the output is counted down, call by call; `chunks_exact(3)` wants a law that the library has not.
 fn check_calls(calls: &[u32], words: usize) -> Result<(), Refusal>
     ensures fits { OnOk result (refusal_of_calls calls.now words ≡ 0) }
     ensures refused { IfErr result (λ e. (number_of e ≡ refusal_of_calls calls.now words) × (place_of e ≡ 0) × (0 < number_of e)) }

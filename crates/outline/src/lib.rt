@@ -157,6 +157,7 @@ pub fn outline_of(labels: Labels, shift: bool) -> Outline
 }
 
 // What is kept of a side's examples: outlines, behind them the labels of the first, and of each example its print.
+// Fixed words, since there is no heap; how many are used is the count that a listing answers.
 #[derive(Drop)]
 pub struct Side {
     pub kept: [u16; Outline::ALL_WORDS],

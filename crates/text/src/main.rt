@@ -23,6 +23,7 @@ use typed::{Roles, numbers_line, record_line};
 const LINE: usize = 2048;
 
 // Which records the chains of each sort reach, as far as these were followed.
+// A list for each sort, since chains may share a record.
 #[derive(Drop)]
 struct Marks {
     symbols: [bool; RECORDS],

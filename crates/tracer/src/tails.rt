@@ -35,6 +35,7 @@ pub const TAIL_AHEAD: usize = 64;
 pub const SHORT_TABLE: usize = 2560;
 
 // A listed tail in N words each.
+// Records and their links in fixed words, since there is no heap.
 #[derive(Drop)]
 pub struct TailList<const N: usize> {
     pub records: [u16; N],
@@ -203,11 +204,11 @@ pub fn begin(records: &[u16], links: &[u16], nonterminal: usize, at: usize) -> P
         return Place { slot: 0, at: 0 };
     }
     if at != word(records, 1) {
-        return Place { slot: 0, at: at };
+        return Place { slot: 0, at };
     }
     let slot = word(links, nonterminal);
     Place {
-        slot: slot,
+        slot,
         at: word(records, slot),
     }
 }

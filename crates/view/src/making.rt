@@ -16,6 +16,7 @@ use repr::{Grammar, ProductionIndex, word};
 use trace_graph::{Node, check_edge, read_edge};
 
 // The lists of a view while it is made, and by edge the nonterminal that it comes from: View's fields but the labels' items.
+// Fixed words, since there is no heap; a list each, as the elements differ in size.
 #[derive(Drop)]
 pub struct ViewLists {
     pub sources: [u8; View::EDGES],

@@ -43,7 +43,7 @@ fn close(tally: Tally) -> Tally
         counts: Counts {
             alternatives: counts.alternatives + 1,
             symbols: counts.symbols + tally.body,
-            short: short,
+            short,
         },
         body: 0,
     }

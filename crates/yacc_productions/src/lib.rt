@@ -86,10 +86,10 @@ fn add(grammar: &mut [u16], body: Body, read: Symbol, from: usize, past: usize) 
     grammar[at] = kind;
     grammar[at + 1] = number;
     Body {
-        production: production,
+        production,
         owner: body.owner,
         symbols: symbols + 1,
-        start: start,
+        start,
         end: past,
     }
 }
@@ -129,7 +129,7 @@ fn step(symbols: &SymbolTable, grammar: &mut [u16], body: Body, token: Token) ->
             let owner = left_number(symbols, token.from, token.past);
             Body {
                 production: body.production,
-                owner: owner,
+                owner,
                 symbols: 0,
                 start: 0,
                 end: 0,

@@ -42,7 +42,7 @@ fn write_read(
         nonterminals: symbols.counts.nonterminals,
         terminals: symbols.counts.terminals,
         states: 1,
-        productions: productions,
+        productions,
     };
     let started = write_started(&grammar, counts, 0, table)?;
     write_places(symbols, places);
@@ -126,11 +126,11 @@ impl Room {
             tokens,
         } = self;
         let words = Words {
-            starts: starts,
-            pasts: pasts,
-            ix: ix,
-            lefts: lefts,
-            tokens: tokens,
+            starts,
+            pasts,
+            ix,
+            lefts,
+            tokens,
         };
         SymbolTable::enter(text, words)
     }

@@ -89,7 +89,7 @@ fn begin_sign(mode: Mode, b: u8) -> Stage
             part: Part::Signed,
         },
         b'/' => Stage {
-            mode: mode,
+            mode,
             part: Part::Slashed,
         },
         b':' => Stage {
@@ -115,7 +115,7 @@ fn begin(mode: Mode, b: u8) -> Stage
 {
     if is_white(b) {
         return Stage {
-            mode: mode,
+            mode,
             part: Part::Between,
         };
     }
@@ -168,7 +168,7 @@ fn in_word(mode: Mode, word: &'static [u8], b: u8) -> Stage
         [next, rest @ ..] => {
             if *next == b {
                 return Stage {
-                    mode: mode,
+                    mode,
                     part: Part::Word(rest),
                 };
             }
@@ -184,12 +184,12 @@ fn in_comment(mode: Mode, b: u8) -> Stage
 {
     match b {
         b'*' => Stage {
-            mode: mode,
+            mode,
             part: Part::Starred,
         },
         0 => lost(),
         _ => Stage {
-            mode: mode,
+            mode,
             part: Part::Inside,
         },
     }
@@ -214,7 +214,7 @@ fn step(stage: Stage, b: u8) -> Stage
         Part::Opened => {
             if is_literal(b) {
                 return Stage {
-                    mode: mode,
+                    mode,
                     part: Part::Filled,
                 };
             }
@@ -223,7 +223,7 @@ fn step(stage: Stage, b: u8) -> Stage
         Part::Filled => {
             if b == b'\'' {
                 return Stage {
-                    mode: mode,
+                    mode,
                     part: Part::Between,
                 };
             }
@@ -232,7 +232,7 @@ fn step(stage: Stage, b: u8) -> Stage
         Part::Slashed => {
             if b == b'*' {
                 return Stage {
-                    mode: mode,
+                    mode,
                     part: Part::Inside,
                 };
             }
@@ -242,7 +242,7 @@ fn step(stage: Stage, b: u8) -> Stage
         Part::Starred => {
             if b == b'/' {
                 return Stage {
-                    mode: mode,
+                    mode,
                     part: Part::Between,
                 };
             }

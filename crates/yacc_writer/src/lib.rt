@@ -107,7 +107,7 @@ fn put_symbols(text: &mut [u8], at: usize, words: &[u16]) -> usize
     ensures { Wrote text.old at (joined name_bytes (listed words.now)) text.new result × (result ≤ at + 64) }
 {
     let mut place = at;
-    for symbol in (SymbolIter { words: words }) {
+    for symbol in (SymbolIter { words }) {
         place = put_symbol(text, place, symbol);
     }
     place
