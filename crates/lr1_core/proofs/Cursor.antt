@@ -1,19 +1,16 @@
 -- Laws of the symbol at the cursor as one number (specs/Cursor). Assumes nothing.
-use Rattle.std.specs.Prelude.{◌≡◌, ℕ, zero, suc, ◌+◌, ◌*◌, ◌<◌, ◌≤◌, true, false, eqb, ltb, List, [], ◌∷◌, length, get_or, drop}
+use Rattle.std.specs.Prelude.{◌≡◌, ℕ, suc, ◌+◌, ◌<◌, ◌≤◌, true, eqb, ltb, List, [], ◌∷◌, length, drop}
 use mathlib.Core.Path.{refl, sym, ap, ◌∙◌}
 use native.Mathlib.Omega.{arith}
 use lib.ListN.{drop_of_length-le}
-use lib.Seq.{drop-drop, drop-nil}
+use lib.Seq.{drop-drop}
 use borrow.Author.Tests.{eqb-true, eq-eqb, ne_eqb, ltb-true, ltb-false}
-use Rattle.repr.specs.Sizes.{production_place}
 use Rattle.repr.specs.Meaning.{Symbol, nonterminal, terminal}
-use Rattle.repr.specs.Listed.{symbol_of_kind, listed, list_is_fit}
-use Rattle.repr.specs.Packed.{Packed, symbol_words}
+use Rattle.repr.specs.Listed.{listed}
+use Rattle.repr.specs.Packed.{symbol_words}
 use Rattle.repr.proofs.Lists.{cases, clash}
-use Rattle.repr.proofs.Listed.{fits_head, symbol_range}
 use Rattle.lr1_core.specs.Items.{first, symbol_sets, is_nonterminal, shifts_nonterminal}
 use Rattle.lr1_core.specs.Cursor.{symbol_code, cursor_code, code_in}
-use Rattle.lr1_core.proofs.Items.{symbol_here}
 
 pub code-none : (g : List ℕ) (p i : ℕ) → length (listed (symbol_words g p)) ≤ i → 95 ≡ code_in g p i
 unfolding code_in cursor_code

@@ -1,4 +1,4 @@
-use Rattle.std.proofs.Common.{arith, ltb-true, ltb-false, sym, ◌∙◌}
+use Rattle.std.proofs.Common.{ltb-true, ltb-false, sym, ◌∙◌}
 use Rattle.std.proofs.Math.ListN.{drop_of_length-le}
 use Rattle.lr1_core.proofs.Item.cursor.Goals as goal
 
