@@ -125,10 +125,10 @@ impl<'a> Graph<'a> {
         ensures { result ≡ has_trial (ends_of (edges_in self.entry.words.now)) (at_item (record { production = start.production; index = start.index })) words.now }
     {
         let depth = word(words, 0);
-        depth != 0
-            && depth <= Example::REDUCTIONS
-            && only_zeros(words, depth + 1)
-            && self.is_trial(words, depth, start)
-            && self.is_example(words)
+        // By the words alone there is none.
+        if depth == 0 || depth > Example::REDUCTIONS || !only_zeros(words, depth + 1) {
+            return false;
+        }
+        self.is_trial(words, depth, start) && self.is_example(words)
     }
 }

@@ -50,11 +50,13 @@ pub fn clear(words: &mut [u16])
 // The last edge, or none.
 fn last(words: &[u16]) -> Option<usize>
     requires held { Held words.now }
-    ensures { MatchOption result (get_or words.now 0 0 ≡ 0) (λ e. (0 < get_or words.now 0 0) × (e ≡ get_or words.now (get_or words.now 0 0) 0)) }
+    ensures { MatchOption result (get_or words.now 0 0 ≡ 0) (λ e. (get_or words.now 0 0 ≡ 0 → ⊥) × (e ≡ get_or words.now (get_or words.now 0 0) 0) × (e < edge_limit)) }
 {
-    match word(words, 0) {
-        0 => None,
-        depth => Some(word(words, depth)),
+    let depth = word(words, 0);
+    if depth == 0 {
+        None
+    } else {
+        Some(word(words, depth))
     }
 }
 
