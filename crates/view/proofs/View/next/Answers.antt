@@ -1,6 +1,6 @@
 use mathlib.Core.Path.{refl}
 use Rattle.enumerator.proofs.Counting.{counted_in, counted-out}
-use Rattle.view.proofs.Stepping.{none-room, next-none, next-at_item, next-used, new_room, next_new}
+use Rattle.view.proofs.Stepping.{next-none, next-at_item, next-used, new_room, next_new}
 use Rattle.view.proofs.Counting.{top-counted, join-none, join-given, join-top}
 use Rattle.view.proofs.View.next.Goals as goal
 use Rattle.view.proofs.View.next.Goals.{in_default-source-via-in-Some-source+else-counts-nonterminal-eq0, in_default-source-via-in_default-source}

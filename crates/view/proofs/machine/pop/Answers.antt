@@ -1,6 +1,4 @@
-use lib.ListN.{length-set}
 use Rattle.view.proofs.Trial.{popped}
-use native.Mathlib.Omega.{arith}
 use Rattle.view.proofs.machine.pop.Goals as goal
 
 pub returns : goal.returns

@@ -1,6 +1,4 @@
-use lib.ListN.{length-set}
 use Rattle.view.proofs.Trial.{pushed}
-use native.Mathlib.Omega.{arith}
 use Rattle.view.proofs.machine.push.Goals as goal
 
 pub returns : goal.returns

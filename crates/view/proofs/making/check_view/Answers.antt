@@ -1,5 +1,5 @@
 use native.Mathlib.Omega.{arith}
-use mathlib.Core.Path.{refl, sym, ◌∙◌}
+use mathlib.Core.Path.{refl, sym}
 use mathlib.Core.Bool.{true≢false}
 use Rattle.repr.specs.Packed.{productions_in}
 use Rattle.trace_graph.proofs.Checks.{checked_first, checked_more, checked_all, graph_many, graph_bad}
