@@ -1,6 +1,7 @@
 -- One law for each way through the code of this crate (src/lib), label by label. Assumes nothing.
-use Rattle.std.proofs.Common.{◌≡◌, ℕ, zero, suc, ◌+◌, ◌-◌, ◌*◌, ◌/◌, ◌<◌, ◌≤◌, List, [], ◌∷◌, ◌++◌, map, length, take, drop, sym, refl, ap, ◌∙◌, append_assoc, append-nil, arith, drop_of_length-le}
+use Rattle.std.proofs.Common.{◌≡◌, ℕ, zero, suc, ◌+◌, ◌-◌, ◌*◌, ◌/◌, ◌<◌, ◌≤◌, Bool, true, false, ◌==◌, List, [], ◌∷◌, ◌++◌, map, length, take, drop, sym, refl, ap, ◌∙◌, append_assoc, append-nil, arith, drop_of_length-le}
 use mathlib.Core.Option.{Option, none, some}
+use borrow.Author.Tests.{eqb-true, eqb-false}
 use Rattle.repr.specs.Sizes.{example_symbols, example_room}
 use Rattle.repr.specs.Lists.{joined}
 use Rattle.repr.specs.Meaning.{Symbol, Production}
@@ -14,6 +15,13 @@ use Rattle.example.proofs.Sizes.{Short, prefixes-cons, suffixes-cons, around, le
 use Rattle.example.proofs.LabelList.{labels_step, labels_back, few_labels, short_in}
 use Rattle.example.proofs.Parts.{words_append, part_length, list_of, first_cursor}
 use Rattle.example.proofs.Reductions.{reductions-around, around-nil, around-cons}
+
+-- a list that is empty or is not, as the code asks
+pub not_empty : (ws : List ℕ) {r : Bool} → r ≡ (length ws == 0) → r ≡ false → 0 < length ws
+not_empty ws e f = let n = eqb-false (length ws) 0 (sym e ∙ f) in omega arith
+
+pub empty : (ws : List ℕ) {r : Bool} → r ≡ (length ws == 0) → r ≡ true → length ws ≤ 0
+empty ws e t = let z = eqb-true (length ws) 0 (sym e ∙ t) in omega arith
 
 -- sizes: at most 528 symbols, 33 reductions, 1,158 words
 

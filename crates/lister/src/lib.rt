@@ -32,7 +32,7 @@ use first::FirstSets;
 use lookahead::TokenSet;
 use lr1_core::Item;
 use repr::{Grammar, NonterminalString, ProductionIndex, Refusal, word};
-use search::{Searched, search, write_trial};
+use search::{Filter, Searched, search, write_trial};
 use table::AcceptedTable;
 use trace_graph::{TraceGraph, check_graph, item_fits, read_node};
 use view::View;
@@ -63,10 +63,7 @@ fn is_item(graph: &[u16], at: usize, item: Item) -> bool
     ensures { result ≡ is_same_node (at_item (record { production = item.production; index = item.index })) (node_at graph.now at) }
 {
     let node = read_node(graph, at);
-    if node.kind == 0 {
-        return false;
-    }
-    item.production == node.number && item.index == node.index
+    node.kind != 0 && item.production == node.number && item.index == node.index
 }
 
 // Whether an item is a node of the graph: an end of one of its edges (refusal 15).
@@ -95,11 +92,7 @@ pub fn open_in(
 {
     let counts = table.counts();
     let mut words = [0u16; ProductionIndex::ALL_WORDS];
-    table.read_productions(&mut words);
-    let grammar = Grammar {
-        words: &words,
-        productions: counts.productions,
-    };
+    let grammar = table.read_grammar(&mut words);
     let start = Item {
         production: production.0 as usize,
         index: index as usize,
@@ -131,13 +124,13 @@ fn first_sets(grammar: Grammar, terminals: u16, lookahead: Option<TokenSet>) -> 
     requires { terminals ≤ 63 }
     ensures { (result.map ≡ sets_for (set_of lookahead) terminals (productions_in grammar.entry.words.now grammar.entry.productions)) × (result.terminals ≡ terminals) }
 {
-    let Some(_) = lookahead else {
-        return FirstSets {
+    match lookahead {
+        None => FirstSets {
             map: [0u64; NonterminalString::LIMIT],
             terminals,
-        };
-    };
-    FirstSets::new(grammar, terminals)
+        },
+        Some(_) => FirstSets::new(grammar, terminals),
+    }
 }
 
 // A fresh listing starts from the words of no edge, whatever the words hold.
@@ -156,13 +149,7 @@ fn lost(l: Listing, graph: Graph, words: &[u16]) -> bool
     requires scratch_words_in_bounds { scratch_words ≤ length words.now }
     ensures { result ≡ lost (edges_in graph.entry.words.now) l words.now }
 {
-    if l.is_open {
-        if l.count == 0 {
-            return false;
-        }
-        return !graph.holds_trial(words, l.start());
-    }
-    false
+    l.is_open && l.count != 0 && !graph.holds_trial(words, l.start())
 }
 
 // The search of an open listing, over the view of its graph: the next example, the end, or refusal 13.
@@ -184,8 +171,13 @@ fn find_next(
     let lookahead = l.lookahead;
     let count = l.count;
     let sets = first_sets(grammar, terminals, lookahead);
+    let filter = Filter {
+        grammar,
+        sets: &sets,
+        lookahead,
+    };
     begin(scratch, count);
-    match search(grammar, &sets, lookahead, view, scratch, count) {
+    match search(filter, view, scratch, count) {
         Searched::Hit(number) => {
             write_trial(grammar, view, scratch, buffer);
             l.count = number;
@@ -243,11 +235,7 @@ pub fn step_in(
 {
     let counts = table.counts();
     let mut words = [0u16; ProductionIndex::ALL_WORDS];
-    table.read_productions(&mut words);
-    let grammar = Grammar {
-        words: &words,
-        productions: counts.productions,
-    };
+    let grammar = table.read_grammar(&mut words);
     let start = l.start();
     if !fits(grammar, counts.terminals, start, l.lookahead) {
         return Err(Refusal::OutOfRange);
@@ -255,7 +243,6 @@ pub fn step_in(
     if graph.len() < TraceGraph::WORDS {
         return Err(Refusal::TooShort);
     }
-    let mut ix = [0u16; TraceGraph::INDEX_WORDS];
     let mut lists = ViewLists::new();
     let mut codes = [0u16; View::EDGES];
     if !check_view(
@@ -263,7 +250,6 @@ pub fn step_in(
         counts.nonterminals,
         graph,
         start,
-        &mut ix,
         &mut lists,
         &mut codes,
     ) {
@@ -275,19 +261,12 @@ pub fn step_in(
     if buffer.len() < Example::WORDS {
         return Err(Refusal::TooShort);
     }
-    let view = View {
-        sources: &lists.sources,
-        older: &lists.older,
-        latest: &lists.latest,
-        owners: &lists.owners,
-        codes: &codes,
-    };
     go_on(
         l,
         grammar,
         counts.terminals as u16,
         Graph { words: graph },
-        view,
+        lists.view(&codes),
         scratch,
         buffer,
     )

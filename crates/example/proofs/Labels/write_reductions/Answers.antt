@@ -26,7 +26,7 @@ pub overflow_sub-start : goal.overflow_sub-start
 overflow_sub-start c = let ps = productions_in c.args.self.grammar.words.now c.args.self.grammar.productions in
     let ws = c.args.self.words.now in
     let I = c.loop-label.invariant in
-    let l : c.loop-label.label < length (labels_in ws) = omega (arith, c.count-count.ensures.0, c.loop-label-test.true) in
+    let l : c.loop-label.label < length (labels_in ws) = omega (arith, c.count-label-end.ensures.0, c.loop-label-test.true) in
     let q = prefix-step ps ws c.loop-label.label l _ c.prefix.ensures in
     omega (arith, q, I.1)
 
@@ -34,7 +34,7 @@ pub put_three-requires : goal.put_three-requires
 put_three-requires c = let ps = productions_in c.args.self.grammar.words.now c.args.self.grammar.productions in
     let ws = c.args.self.words.now in
     let I = c.loop-label.invariant in
-    let l : c.loop-label.label < length (labels_in ws) = omega (arith, c.count-count.ensures.0, c.loop-label-test.true) in
+    let l : c.loop-label.label < length (labels_in ws) = omega (arith, c.count-label-end.ensures.0, c.loop-label-test.true) in
     let q = around-next ps ws c.args.places c.loop-label.label l _ _ I.1 I.2 _ _ c.prefix.ensures c.suffix.ensures in
     let few = around_few c.args.self.grammar.words.now c.args.self.grammar.productions c.args.self.grammar.packed ws c.args.self.fit in (
       turn_room I.0 (_ ∷ _ ∷ _ ∷ []) _ (around_turn ps ws c.args.places c.loop-label.label l _ _ _ q.0 q.1 c.nonterminal.ensures.0),
@@ -47,7 +47,7 @@ pub loop-label-preserved : goal.loop-label-preserved
 loop-label-preserved c = let ps = productions_in c.args.self.grammar.words.now c.args.self.grammar.productions in
     let ws = c.args.self.words.now in
     let I = c.loop-label.invariant in
-    let l : c.loop-label.label < length (labels_in ws) = omega (arith, c.count-count.ensures.0, c.loop-label-test.true) in
+    let l : c.loop-label.label < length (labels_in ws) = omega (arith, c.count-label-end.ensures.0, c.loop-label-test.true) in
     let q = around-next ps ws c.args.places c.loop-label.label l _ _ I.1 I.2 _ _ c.prefix.ensures c.suffix.ensures in (
       turn_more I.0 _ _ (around_turn ps ws c.args.places c.loop-label.label l _ _ _ q.0 q.1 c.nonterminal.ensures.0) _ c.put_three.ensures,
       q.0,
@@ -58,4 +58,4 @@ loop-label-preserved c = let ps = productions_in c.args.self.grammar.words.now c
 pub returns : goal.returns
 returns c = let ps = productions_in c.args.self.grammar.words.now c.args.self.grammar.productions in
     let ws = c.args.self.words.now in
-    (turn_end c.loop-label.invariant.0 (around-done ps ws _ c.loop-label.label (omega (arith, c.count-count.ensures.0, c.loop-label-test.false)))).0
+    (turn_end c.loop-label.invariant.0 (around-done ps ws _ c.loop-label.label (omega (arith, c.count-label-end.ensures.0, c.loop-label-test.false)))).0
