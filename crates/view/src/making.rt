@@ -8,7 +8,7 @@ ghost use Rattle.trace_graph.specs.Index.{index_room};
 ghost use Rattle.trace_graph.specs.Values.{node_is, node_value_fits};
 ghost use Rattle.enumerator.specs.Lister.{owner_of_node};
 ghost use Rattle.view.specs.Blank.{Blank};
-ghost use Rattle.view.specs.View.{latest_room, slot_of, source_of, Labelled, EdgeRanged, View as Viewing};
+ghost use Rattle.view.specs.View.{latest_room, slot_of, source_of, Tidy, Labelled, EdgeRanged, View as Viewing};
 
 use crate::View;
 use lr1_core::Item;
@@ -50,6 +50,21 @@ impl ViewLists {
         self.older[k] = self.latest[slot];
         self.latest[slot] = (k + 1) as u16;
         self.owners[k] = owner as u8;
+    }
+
+    // The view that they make, with the labels' items.
+    pub fn view<'a>(&'a self, codes: &'a [u16]) -> View<'a>
+        requires { Tidy self.now.sources self.now.older self.now.latest }
+        ensures lists { (result.sources.now ≡ self.now.sources) × (result.older.now ≡ self.now.older) × (result.latest.now ≡ self.now.latest) × (result.owners.now ≡ self.now.owners) }
+        ensures codes { result.codes.now ≡ codes.now }
+    {
+        View {
+            sources: &self.sources,
+            older: &self.older,
+            latest: &self.latest,
+            owners: &self.owners,
+            codes,
+        }
     }
 }
 
