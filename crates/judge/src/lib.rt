@@ -18,14 +18,14 @@ ghost use Rattle.error.specs.Outcome.{conflict_fits};
 ghost use Rattle.shift_items.specs.Codes.{Grammar as GrammarOf};
 ghost use Rattle.outline.specs.Kept.{nth};
 ghost use Rattle.examples.specs.Gathers.{SideKept, is_shift, action_made, reduce_made};
-ghost use Rattle.judge.specs.Judging.{InBuffer, Sides, Ordered, picked, pair_in, heads_in, both, Judges, ReadAlike, question_in, QuestionFits, optional_one};
+ghost use Rattle.judge.specs.Judging.{InBuffer, Sides, Ordered, picked, pair_in, heads_in, both, Judges, ReadAlike, question_in, optional_one};
 
 use error::{Class, Conflict};
 use example::Example as ExampleBuffer;
 use examples::{TableConflict, action_again, reduced};
 use outline::{Outline, Side};
 use pairs::{SortedSide, Test, first_pair};
-use repr::{Grammar, NonterminalString, ProductionIndex, word};
+use repr::{Grammar, NonterminalString, Symbol, word};
 use table::AcceptedTable;
 
 // A class and the examples that are shown with it, by their numbers.
@@ -56,15 +56,10 @@ fn same_reading(action: &[u16], reduce: &[u16]) -> bool
     requires { (ps : List Production) × ((x : Example) × ((y : Example) × (InBuffer ps x action.now × InBuffer ps y reduce.now))) }
     ensures { (ps : List Production) (x y : Example) → InBuffer ps x action.now → InBuffer ps y reduce.now → result ≡ is_same_reading ps x y }
 {
-    let count = word(action, 0);
-    if count != word(reduce, 0) {
-        return false;
-    }
-    if word(action, 1) != word(reduce, 1) {
-        return false;
-    }
-    let past = 3 + 2 * count;
-    action[3..past] == reduce[3..past]
+    let past = 3 + 2 * word(action, 0);
+    word(action, 0) == word(reduce, 0)
+        && word(action, 1) == word(reduce, 1)
+        && action[3..past] == reduce[3..past]
 }
 
 // Whether examples x and y, made again, are read alike.
@@ -92,32 +87,23 @@ fn try_classify_ambiguity(
     requires { (xs : List Example) × ((ys : List Example) × (Sides (meaning case.given.table.words.now) case.conflict xs ys actions.side.now.kept actions.side.now.prints reduces.side.now.kept reduces.side.now.prints × (Ordered xs actions.order.now × Ordered ys reduces.order.now))) }
     ensures { (xs ys : List Example) → Sides (meaning case.entry.given.table.words.now) case.entry.conflict xs ys actions.entry.side.now.kept actions.entry.side.now.prints reduces.entry.side.now.kept reduces.entry.side.now.prints → Ordered xs actions.entry.order.now → Ordered ys reduces.entry.order.now → ReadAlike (meaning case.entry.given.table.words.now).productions xs ys actions.entry.order.now reduces.entry.order.now result }
 {
-    let mut row: usize = 0;
-    let mut column: usize = 0;
-    // Each search tells by its answer whether there is another, and from where on.
-    loop {
-        match first_pair(
-            case.given.sets,
-            case.given.grammar,
-            Test::Alike,
-            actions,
-            reduces,
-            (row, column),
-        ) {
-            Some((i, j)) => {
-                let x = word(actions.order, i);
-                let y = word(reduces.order, j);
-                if same_again(case, actions.side, x, reduces.side, y) {
-                    return Some((x, y));
-                }
-                row = i;
-                column = j + 1;
-            }
-            None => {
-                return None;
-            }
+    let mut begin: (usize, usize) = (0, 0);
+    while let Some((i, j)) = first_pair(
+        case.given.sets,
+        case.given.grammar,
+        Test::Alike,
+        actions,
+        reduces,
+        begin,
+    ) {
+        let x = word(actions.order, i);
+        let y = word(reduces.order, j);
+        if same_again(case, actions.side, x, reduces.side, y) {
+            return Some((x, y));
         }
+        begin = (i, j + 1);
     }
+    None
 }
 
 // A class that shows an example of each side.
@@ -146,9 +132,11 @@ fn is_operator(grammar: Grammar, production: usize, terminal: u16) -> bool
     requires { production < grammar.productions }
     ensures { result ≡ is_operator_of (get_or (productions_in grammar.entry.words.now grammar.entry.productions) production no_production) terminal }
 {
-    let nonterminal = grammar.words[production * ProductionIndex::WORDS];
-    let operator = [0, nonterminal, 1, terminal, 0, nonterminal];
-    grammar.symbols(production) == operator.as_slice()
+    let own = Symbol::Nonterminal(NonterminalString(grammar.owner(production) as u16));
+    grammar.length(production) == 3
+        && grammar.symbol(production, 0) == own
+        && grammar.symbol(production, 1) == Symbol::Terminal(terminal)
+        && grammar.symbol(production, 2) == own
 }
 
 // Ambiguity of a shift: precedence where the production is of an operator. The terminal of the action is tested, not the token.
@@ -156,10 +144,9 @@ fn shift_ambiguity(grammar: Grammar, production: usize, terminal: u16, x: usize,
     requires { production < grammar.productions }
     ensures { (xs ys : List Example) → x < length xs → y < length ys → Judges xs ys result (ambiguity_of_shift (get_or (productions_in grammar.entry.words.now grammar.entry.productions) production no_production) terminal (pair_in xs ys x y)) }
 {
-    let at = production * ProductionIndex::WORDS;
-    let nonterminal = grammar.words[at];
     if is_operator(grammar, production, terminal) {
-        return with_both(Class::Precedence(NonterminalString(nonterminal)), x, y);
+        let nonterminal = NonterminalString(grammar.owner(production) as u16);
+        return with_both(Class::Precedence(nonterminal), x, y);
     }
     with_both(Class::Ambiguity, x, y)
 }
@@ -178,12 +165,8 @@ fn reduce_ambiguity(
     ensures { (xs ys : List Example) → x < length xs → y < length ys → first ≡ (judging.reduction_at (productions_in grammar.entry.words.now grammar.entry.productions) (nth xs x) 0).nonterminal → second ≡ (judging.reduction_at (productions_in grammar.entry.words.now grammar.entry.productions) (nth ys y) 0).nonterminal → Judges xs ys result (ambiguity_of_reduce (productions_in grammar.entry.words.now grammar.entry.productions) (get_or (productions_in grammar.entry.words.now grammar.entry.productions) production no_production) (get_or (productions_in grammar.entry.words.now grammar.entry.productions) other no_production) (pair_in xs ys x y)) }
 {
     if first == second {
-        let span = production * ProductionIndex::WORDS + 2;
-        let start = grammar.words[span];
-        let end = grammar.words[span + 1];
-        let other_span = other * ProductionIndex::WORDS + 2;
-        let other_start = grammar.words[other_span];
-        let other_end = grammar.words[other_span + 1];
+        let (start, end) = grammar.span(production);
+        let (other_start, other_end) = grammar.span(other);
         return Judged {
             class: Class::AmbiguousReduction(start, end, other_start, other_end),
             action: Some(x),
@@ -217,19 +200,16 @@ fn ambiguity(case: TableConflict, actions: &Side, x: usize, reduces: &Side, y: u
     )
 }
 
-// The one symbol of production `one`, its kind and number, where `none` has no symbol.
-fn optional(grammar: Grammar, none: usize, one: usize) -> Option<(u16, u16)>
+// The one symbol of production `one`, where `none` has no symbol.
+fn optional(grammar: Grammar, none: usize, one: usize) -> Option<Symbol>
     requires { (none < grammar.productions) × (one < grammar.productions) }
-    ensures { (question_in result ≡ optional_one (get_or (productions_in grammar.entry.words.now grammar.entry.productions) none no_production).symbols (get_or (productions_in grammar.entry.words.now grammar.entry.productions) one no_production).symbols) × QuestionFits result }
+    ensures { question_in result ≡ optional_one (get_or (productions_in grammar.entry.words.now grammar.entry.productions) none no_production).symbols (get_or (productions_in grammar.entry.words.now grammar.entry.productions) one no_production).symbols }
 {
-    if grammar.length(none) != 0 {
-        return None;
+    if grammar.length(none) == 0 && grammar.length(one) == 1 {
+        Some(grammar.symbol(one, 0))
+    } else {
+        None
     }
-    if grammar.length(one) != 1 {
-        return None;
-    }
-    let at = one * ProductionIndex::WORDS + 4;
-    Some((grammar.words[at], grammar.words[at + 1]))
 }
 
 // `try_classify_question`: the nonterminal has two productions, one empty and one of one symbol.
@@ -237,28 +217,24 @@ fn try_classify_question(
     table: AcceptedTable,
     grammar: Grammar,
     nonterminal: usize,
-) -> Option<(u16, u16)>
+) -> Option<Symbol>
     requires { GrammarOf (meaning table.words.now) grammar.words.now grammar.productions × (nonterminal < length (meaning table.words.now).nonterminals) }
-    ensures { (question_in result ≡ question_of (meaning table.entry.words.now) nonterminal) × QuestionFits result }
+    ensures { question_in result ≡ question_of (meaning table.entry.words.now) nonterminal }
 {
-    let head = table.first_production(nonterminal);
-    if head == 0 {
-        return None;
-    }
-    let first = table.production(head);
-    let next = first.next;
-    if next == 0 {
-        return None;
-    }
-    let second = table.production(next);
-    if second.next != 0 {
-        return None;
-    }
-    let p = first.production;
-    let q = second.production;
-    match optional(grammar, p, q) {
-        None => optional(grammar, q, p),
-        symbol => symbol,
+    let mut productions = table.productions(nonterminal);
+    let first = productions.next();
+    let second = productions.next();
+    let third = productions.next();
+    match (first, second, third) {
+        (Some(first), Some(second), None) => {
+            let p = first.production;
+            let q = second.production;
+            match optional(grammar, p, q) {
+                None => optional(grammar, q, p),
+                symbol => symbol,
+            }
+        }
+        _ => None,
     }
 }
 
@@ -299,11 +275,14 @@ fn shift_unambiguous(case: TableConflict, actions: SortedSide, reduces: SortedSi
     let production = case.conflict.production.0 as usize;
     let nonterminal = case.given.grammar.owner(production);
     match try_classify_question(case.given.table, case.given.grammar, nonterminal) {
-        Some((kind, number)) => with_first(
-            Class::SuggestQuestion(NonterminalString(nonterminal as u16), kind, number),
-            actions.order,
-            reduces.order,
-        ),
+        Some(symbol) => {
+            let (kind, number) = symbol.words();
+            with_first(
+                Class::SuggestQuestion(NonterminalString(nonterminal as u16), kind, number),
+                actions.order,
+                reduces.order,
+            )
+        }
         None => try_classify_inline(case, actions, reduces),
     }
 }
