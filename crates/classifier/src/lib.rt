@@ -17,7 +17,7 @@ ghost use Rattle.classifier.specs.Shown.{judged_words, shown_of};
 use error::{Class, Classification, Conflict};
 use example::Example as ExampleBuffer;
 use examples::{TableConflict, action_examples, prepare, reduced};
-use judge::{judge, write_example};
+use judge::{Judging, write_example};
 use outline::Side;
 use pairs::{SortedSide, sort_side};
 use repr::{ProductionIndex, Refusal};
@@ -80,17 +80,18 @@ fn classify_kept(
     let mut columns = [0u16; Conflict::EXAMPLES];
     sort_side(actions, action_count, &mut rows);
     sort_side(reduces, reduce_count, &mut columns);
-    let judged = judge(
+    let judging = Judging {
         case,
-        SortedSide {
+        actions: SortedSide {
             side: actions,
             order: &rows[..action_count],
         },
-        SortedSide {
+        reduces: SortedSide {
             side: reduces,
             order: &columns[..reduce_count],
         },
-    );
+    };
+    let judged = judging.judge();
     let other = TableConflict {
         given: case.given,
         conflict: reduced(case.conflict),
