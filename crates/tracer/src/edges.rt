@@ -1,5 +1,5 @@
 // The edges that tracing adds, each by its kind and the item at hand.
-ghost use Rattle.std.specs.Prelude.{OnOk, OnErr, ◌≡◌, ℕ, ◌<◌, true, false, List, length};
+ghost use Rattle.std.specs.Prelude.{OnOk, OnErr, ◌≡◌, ℕ, ◌<◌, true, List, length};
 ghost use Rattle.repr.specs.Sizes.{edge_limit};
 ghost use Rattle.repr.specs.Meaning.{ItemFits};
 ghost use Rattle.table.specs.Decoded.{meaning};
@@ -7,7 +7,7 @@ ghost use Rattle.trace_graph.specs.Graph.{TraceEdge, add, at_nonterminal, at_ite
 ghost use Rattle.trace.specs.Traced.{can_shift, owner_of};
 ghost use Rattle.trace.specs.Edges.{edge_to_nonterminal};
 ghost use Rattle.codes.specs.Coded.{Coded};
-ghost use Rattle.codes.specs.declared.EdgeKind.TheVariants.{Between, FromItem};
+ghost use Rattle.codes.specs.Kinds.{kind_from};
 
 use crate::Tracer;
 use codes::{EdgeCode, EdgeCodes, EdgeKind};
@@ -31,7 +31,7 @@ pub fn to_item(tracer: Tracer, edges: &mut EdgeCodes, item: Item) -> Result<(), 
 
 // The kind of an edge into a nonterminal that an item can shift: where tracing goes on from the item's nonterminal, else from the item. Whether it goes on is a yes or no, as the definitions have it (`edge_to_nonterminal`).
 pub fn kind_on(on: bool) -> EdgeKind
-    ensures { result ≡ elim on [ true ↦ Between | false ↦ FromItem ] }
+    ensures { result ≡ kind_from on }
 {
     if on {
         EdgeKind::Between
