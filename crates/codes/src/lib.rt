@@ -2,11 +2,13 @@
 
 #![tactic(auto)]
 
-ghost use Rattle.std.specs.Prelude.{OnOk, OnErr, ◌≡◌, ℕ, ◌+◌, ◌*◌, ◌<◌, ◌≤◌, Bool, true, false, List, [], ◌++◌, length, drop, replicate, slice_index};
+ghost use Rattle.std.specs.Prelude.{OnOk, OnErr, ◌≡◌, ℕ, ◌+◌, ◌*◌, ◌/◌, ◌%◌, ◌<◌, ◌≤◌, Bool, true, false, List, [], ◌++◌, length, drop, replicate, slice_index};
 ghost use Rattle.repr.specs.Sizes.{production_limit, index_limit, item_limit, edge_limit, edge_place, graph_room};
 ghost use Rattle.repr.specs.Lists.{some?};
 ghost use Rattle.repr.specs.Meaning as meaning-of;
-ghost use Rattle.repr.specs.Packed.{Packed, productions_in};
+ghost use Rattle.repr.specs.Listed.{listed};
+ghost use Rattle.repr.specs.Packed.{Packed, productions_in, symbol_words};
+ghost use Rattle.lr1_core.specs.Items.{shifts_nonterminal};
 ghost use Rattle.trace_graph.specs.Graph as graph-of;
 ghost use Rattle.trace_graph.specs.Words.{edge_words, graph_words};
 ghost use Rattle.trace_graph.specs.Values.{SmallEdge, value_words};
@@ -176,12 +178,9 @@ fn least_same(grammar: Grammar, p: usize) -> usize
     requires { p < grammar.productions }
     ensures { (result ≡ least_alike (productions_in grammar.entry.words.now grammar.entry.productions) p) × (result < production_limit) }
 {
-    for q in 0..p {
-        if same_production(grammar, q, p) {
-            return q;
-        }
-    }
-    p
+    (0..p)
+        .find(|q| same_production(grammar, *q, p))
+        .unwrap_or(p)
 }
 
 // That of every production.
