@@ -53,15 +53,12 @@ pub record Collecting (t : List ℕ) (tail : ℕ) (rs ms : List ℕ) (at count :
       ≡ in_turn (item_step (meaning t) s n f) (items_from t tail) st
   pub met : (i : Item) → i.index < index_limit → bit_at ms (i.production * index_limit + i.index) ≡ true → some? (same_item i) (along t rs (count - first_slot) first_slot) ≡ true
 
--- r: the nonterminal at the cursor of an item, if it has one
-pub shifts_none : (t g : List ℕ) (productions : ℕ) (ls : List ℕ) → Working t g productions ls → (p x r : ℕ) → ItemFits (meaning t) (record { production = p; index = x })
-    → ((n : ℕ) → shifts_nonterminal (listed (symbol_words g p)) x n ≡ true → r ≡ n) → first_slot ≤ r → (n : ℕ) → n < length (meaning t).nonterminals → can_shift (meaning t) n (record { production = p; index = x }) ≡ false
-shifts_none t g productions ls W p x r I q h n l =
+-- an item without a nonterminal at its cursor
+pub shifts_none : (t g : List ℕ) (productions : ℕ) (ls : List ℕ) → Working t g productions ls → (p x : ℕ) → ItemFits (meaning t) (record { production = p; index = x })
+    → ((n : ℕ) → shifts_nonterminal (listed (symbol_words g p)) x n ≡ false) → (n : ℕ) → n < length (meaning t).nonterminals → can_shift (meaning t) n (record { production = p; index = x }) ≡ false
+shifts_none t g productions ls W p x I z n l =
     let m = work_many t g productions ls W in
-    let f = (fits t W.accepted).few_nonterminals in
-    cases (can_shift (meaning t) n (record { production = p; index = x }))
-    (λ c. let e = q n (work_shift t g productions ls W p x n (omega (arith, I.production)) ∙ c) in absurd (omega arith))
-    (λ c. c)
+    sym (work_shift t g productions ls W p x n (omega (arith, I.production))) ∙ z n
 
 module _ (t : List ℕ) (tail : ℕ) (rs : List ℕ) where
   pub collecting_start : ItemIndex t tail → length rs ≡ tail_words → Collecting t tail rs (replicate item_flags 0) tail first_slot
