@@ -13,7 +13,7 @@ ghost use Rattle.first.specs.First.{first_of, marked_at_end, first0, first1, joi
 use lookahead::TokenSet;
 use repr::{Grammar, NonterminalString, Symbol, SymbolIter};
 
-// FIRST of a list: the terminals that begin what it derives, never the end of input; and whether it derives the empty list.
+// FIRST of a list: the terminals that begin what it derives, never the end of input; and whether it derives the empty list. A list may have both, one or neither, so they are no Option.
 #[derive(Clone, Copy, PartialEq, Eq)]
 pub struct Answer {
     pub tokens: TokenSet,
@@ -41,13 +41,7 @@ impl Answer {
         ensures { result ≡ meets_ahead terminals self lookahead.0 }
     {
         let tokens = self.tokens;
-        if tokens.is_intersecting(lookahead) {
-            return true;
-        }
-        if self.nullable {
-            return lookahead.contains_eof(terminals);
-        }
-        false
+        tokens.is_intersecting(lookahead) || (self.nullable && lookahead.contains_eof(terminals))
     }
 
     // Whether no terminal is in both, and not both lists are nullable.
@@ -56,13 +50,7 @@ impl Answer {
     {
         let tokens = self.tokens;
         let others = other.tokens;
-        if tokens.is_intersecting(others) {
-            return false;
-        }
-        if self.nullable {
-            return !other.nullable;
-        }
-        true
+        tokens.is_disjoint(others) && !(self.nullable && other.nullable)
     }
 }
 

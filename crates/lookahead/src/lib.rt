@@ -101,11 +101,7 @@ impl TokenSet {
     pub fn contains(self, token: u16) -> bool
         ensures { result ≡ has self.0 token }
     {
-        if token < TokenSet::LIMIT {
-            (self.0 >> token) & 1 == 1
-        } else {
-            false
-        }
+        token < TokenSet::LIMIT && (self.0 >> token) & 1 == 1
     }
 
     pub fn contains_eof(self, terminals: u16) -> bool
@@ -119,11 +115,7 @@ impl TokenSet {
         requires { terminals ≤ 63 }
         ensures { result ≡ ltb self.0 (2 ^ suc terminals) }
     {
-        if terminals < 63 {
-            self.0 < 1 << (terminals + 1)
-        } else {
-            true
-        }
+        terminals >= 63 || self.0 < 1 << (terminals + 1)
     }
 
     // If this set contains the end of input, removes it and says so.

@@ -2,13 +2,14 @@
 
 #![tactic(auto)]
 
-ghost use Rattle.std.specs.Prelude.{◌≡◌, ℕ, ◌+◌, ◌*◌, ◌<◌, ◌≤◌, Bool, true, false, List, length, take, drop, ◌==◌, nat_lt};
+ghost use Rattle.std.specs.Prelude.{◌≡◌, ℕ, suc, ◌+◌, ◌*◌, ◌/◌, ◌%◌, ◌<◌, ◌≤◌, Bool, true, false, List, [], ◌∷◌, MatchOption, length, take, drop, ◌==◌, nat_lt};
+ghost use Rattle.repr.specs.Sizes.{production_limit, index_limit, item_limit};
 ghost use Rattle.repr.specs.Listed.{listed};
 ghost use Rattle.repr.specs.Packed.{Packed, symbol_words};
-ghost use Rattle.lr1_core.specs.Cursor.{code_in};
+ghost use Rattle.repr.specs.Symbols.{meant, IsInRange};
 ghost use Rattle.lr1_core.specs.Items.{no_sets, symbol_sets, counts, counts_of, shifts_nonterminal, sets_in};
 
-use repr::{Grammar, NonterminalString, ProductionIndex, word};
+use repr::{Grammar, ProductionIndex, Symbol};
 
 // The number of symbols before the cursor, at it and after it: its readers want these alone, the symbols are `prefix` and `suffix`.
 #[derive(Clone, Copy)]
@@ -44,7 +45,26 @@ impl Item {
     pub const LIMIT: usize = ProductionIndex::LIMIT * ProductionIndex::INDEXES;
 
     // Words of 64 flags, one flag for each of them.
-    pub const FLAG_WORDS: usize = 34;
+    pub const FLAG_WORDS: usize = Item::LIMIT / 64;
+
+    // Its place among all items: those of each production one behind the other.
+    pub fn place(self) -> usize
+        requires { (self.production < production_limit) × (self.index < index_limit) }
+        ensures is { result ≡ self.production * index_limit + self.index }
+        ensures within { result < item_limit }
+    {
+        self.production * ProductionIndex::INDEXES + self.index
+    }
+
+    // The item of a place.
+    pub fn at(place: usize) -> Item
+        ensures { (result.production ≡ place / index_limit) × (result.index ≡ place % index_limit) }
+    {
+        Item {
+            production: place / ProductionIndex::INDEXES,
+            index: place % ProductionIndex::INDEXES,
+        }
+    }
 
     // How many symbols the production has.
     pub fn length(self, grammar: Grammar) -> usize
@@ -91,32 +111,26 @@ impl Item {
         }
     }
 
-    // The symbol at the cursor as one number: a nonterminal's own, 32 more than a terminal's, 95 at the end.
-    pub fn cursor(self, grammar: Grammar) -> usize
+    // The symbol at the cursor, none at the end: what is left of the symbols from the cursor on begins with it.
+    pub fn cursor(self, grammar: Grammar) -> Option<Symbol>
         requires { self.production < grammar.productions }
-        ensures { result ≡ code_in grammar.entry.words.now self.production self.index }
+        ensures { let left = drop self.index (listed (symbol_words grammar.entry.words.now self.production)) in MatchOption result (left ≡ []) (λ s. (left ≡ meant s ∷ drop (suc self.index) (listed (symbol_words grammar.entry.words.now self.production))) × IsInRange s) }
     {
-        let production = self.production;
-        let index = self.index;
-        if index < self.length(grammar) {
-            let at = production * ProductionIndex::WORDS + 4 + 2 * index;
-            let number = word(grammar.words, at + 1);
-            if word(grammar.words, at) == 0 {
-                return number;
-            }
-            return 32 + number;
+        if self.can_shift(grammar) {
+            Some(grammar.symbol(self.production, self.index))
+        } else {
+            None
         }
-        95
     }
 
     pub fn can_shift_nonterminal(self, grammar: Grammar, nonterminal: usize) -> bool
         requires { self.production < grammar.productions }
         ensures { result ≡ shifts_nonterminal (listed (symbol_words grammar.entry.words.now self.production)) self.index nonterminal }
     {
-        if nonterminal >= NonterminalString::LIMIT {
-            return false;
+        match self.cursor(grammar) {
+            Some(Symbol::Nonterminal(n)) => n.0 as usize == nonterminal,
+            _ => false,
         }
-        self.cursor(grammar) == nonterminal
     }
 }
 

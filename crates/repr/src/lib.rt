@@ -7,7 +7,8 @@ mod refusals;
 
 ghost use Rattle.std.specs.Prelude.{◌≡◌, true, false, ◌++◌, ◌+◌, ◌*◌, ◌<◌, length, get_or};
 ghost use Rattle.repr.specs.Sizes.{nonterminal_limit, terminal_limit};
-ghost use Rattle.repr.specs.Listed.{symbol_is_fit, list_is_fit};
+ghost use Rattle.repr.specs.Listed.{symbol_of_kind, symbol_is_fit, list_is_fit};
+ghost use Rattle.repr.specs.Symbols.{meant};
 ghost use Rattle.repr.specs.Packed.{Packed};
 
 pub use productions::Grammar;
@@ -44,6 +45,36 @@ pub enum Symbol {
     Terminal(u16),
 }
 
+impl Symbol {
+    // Terminals of a table at most; a nonterminal's limit is `NonterminalString::LIMIT`.
+    pub const TERMINALS: usize = 63;
+
+    // Words of a symbol, as lists have them: its kind and its number.
+    pub const WORDS: usize = 2;
+
+    // The symbol of its two words. That a kind is 0 or 1 is asked where a list is lent (`list_fits`).
+    #[tactic(auto, unfolding(crate::specs::Listed::symbol_of_kind))]
+    pub fn of(kind: u16, number: u16) -> Symbol
+        ensures { meant result ≡ symbol_of_kind kind number }
+    {
+        match kind {
+            0 => Symbol::Nonterminal(NonterminalString(number)),
+            _ => Symbol::Terminal(number),
+        }
+    }
+
+    // Its two words.
+    #[tactic(auto, unfolding(crate::specs::Listed::symbol_of_kind))]
+    pub fn words(self) -> (u16, u16)
+        ensures { (symbol_of_kind result.0 result.1 ≡ meant self) × (result.0 < 2) }
+    {
+        match self {
+            Symbol::Nonterminal(nonterminal) => (0, nonterminal.0),
+            Symbol::Terminal(terminal) => (1, terminal),
+        }
+    }
+}
+
 // The symbols of a list in words, kind and number each, one after the other.
 #[derive(Clone, Copy)]
 pub struct SymbolIter<'a> {
@@ -54,7 +85,6 @@ pub struct SymbolIter<'a> {
 impl<'a> Iterator for SymbolIter<'a> {
     ghost use Rattle.std.specs.Iterator.{YieldsFirstBy, item_count};
     ghost use Rattle.repr.specs.Listed.{listed};
-    ghost use Rattle.repr.specs.Symbols.{meant};
 
     type Item = Symbol;
 
@@ -63,16 +93,12 @@ impl<'a> Iterator for SymbolIter<'a> {
     ghost remaining = { item_count (λ s. listed s.words.now) };
 
     fn next(&mut self) -> Option<Symbol> {
-        let words = self.words;
-        if words.len() < 2 {
-            return None;
-        }
-        self.words = &words[2..];
-        let number = words[1];
-        if words[0] == 0 {
-            Some(Symbol::Nonterminal(NonterminalString(number)))
-        } else {
-            Some(Symbol::Terminal(number))
+        match self.words {
+            [kind, number, rest @ ..] => {
+                self.words = rest;
+                Some(Symbol::of(*kind, *number))
+            }
+            _ => None,
         }
     }
 }
@@ -89,52 +115,38 @@ pub fn word(words: &[u16], at: usize) -> usize
 pub fn symbol_fits(n: usize, t: usize, kind: usize, number: usize) -> bool
     ensures { result ≡ symbol_is_fit n t kind number }
 {
-    if kind == 0 {
-        return number < n;
+    match kind {
+        0 => number < n,
+        1 => number < t,
+        _ => false,
     }
-    if kind == 1 {
-        return number < t;
-    }
-    false
 }
 
 // Whether a list holds whole symbols, each in range.
 pub fn list_fits(n: usize, t: usize, list: &[u16]) -> bool
     ensures { result ≡ list_is_fit n t list.now }
 {
-    if list.len() % 2 != 0 {
-        return false;
-    }
-    for i in 0..list.len() / 2 {
-        let kind = word(list, 2 * i);
-        let number = word(list, 2 * i + 1);
-        if !symbol_fits(n, t, kind, number) {
-            return false;
-        }
-    }
-    true
+    list.len() % Symbol::WORDS == 0
+        && list.chunks_exact(Symbol::WORDS).all(|symbol| symbol_fits(
+            n,
+            t,
+            word(symbol, 0),
+            word(symbol, 1),
+        ))
 }
 
 // The same of two lists joined. Where the first is odd, a symbol begins with its last word and ends with the other's first.
 pub fn joined_fits(n: usize, t: usize, xs: &[u16], ys: &[u16]) -> bool
     ensures { result ≡ list_is_fit n t (xs.now ++ ys.now) }
 {
-    if xs.len() % 2 == 0 {
-        if list_fits(n, t, xs) {
-            return list_fits(n, t, ys);
-        }
-        return false;
+    if xs.len() % Symbol::WORDS == 0 {
+        return list_fits(n, t, xs) && list_fits(n, t, ys);
     }
-    if ys.len() == 0 {
+    if ys.is_empty() {
         return false;
     }
     let last = xs.len() - 1;
-    if list_fits(n, t, &xs[..last]) {
-        let kind = word(xs, last);
-        let number = word(ys, 0);
-        if symbol_fits(n, t, kind, number) {
-            return list_fits(n, t, &ys[1..]);
-        }
-    }
-    false
+    list_fits(n, t, &xs[..last])
+        && symbol_fits(n, t, word(xs, last), word(ys, 0))
+        && list_fits(n, t, &ys[1..])
 }

@@ -1,11 +1,12 @@
 // The productions of a table in a fixed number of words (specs/Packed), as the code works on them.
 
-ghost use Rattle.std.specs.Prelude.{◌≡◌, ◌+◌, ◌≤◌, ◌<◌, length, get_or};
+ghost use Rattle.std.specs.Prelude.{◌≡◌, suc, ◌+◌, ◌≤◌, ◌<◌, ◌∷◌, length, get_or, drop};
 ghost use Rattle.repr.specs.Sizes.{production_place};
 ghost use Rattle.repr.specs.Listed.{listed};
+ghost use Rattle.repr.specs.Symbols.{meant, IsInRange};
 ghost use Rattle.repr.specs.Packed.{Packed, symbol_words};
 
-use crate::{ProductionIndex, word};
+use crate::{ProductionIndex, Symbol, word};
 
 // The productions, packed: numbers are in range, and no production is too long.
 #[derive(Clone, Copy)]
@@ -43,5 +44,27 @@ impl<'a> Grammar<'a> {
         let past = from + 2 * word(self.words, production * ProductionIndex::WORDS + 1);
         let words = self.words;
         &words[from..past]
+    }
+
+    // Symbol `index` of a production: what is left of the symbols from there on begins with it.
+    pub fn symbol(self, production: usize, index: usize) -> Symbol
+        requires within { production < self.productions }
+        requires index_in_bounds { index < length (listed (symbol_words self.words.now production)) }
+        ensures is { drop index (listed (symbol_words self.entry.words.now production)) ≡ meant result ∷ drop (suc index) (listed (symbol_words self.entry.words.now production)) }
+        ensures in_range { IsInRange result }
+    {
+        let words = self.words;
+        let at = production * ProductionIndex::WORDS + 4 + Symbol::WORDS * index;
+        Symbol::of(words[at], words[at + 1])
+    }
+
+    // Where a production stands in its text, up to where.
+    pub fn span(self, production: usize) -> (u16, u16)
+        requires { production < self.productions }
+        ensures { (result.0 ≡ get_or self.entry.words.now (production_place production + 2) 0) × (result.1 ≡ get_or self.entry.words.now (production_place production + 3) 0) }
+    {
+        let words = self.words;
+        let at = production * ProductionIndex::WORDS + 2;
+        (words[at], words[at + 1])
     }
 }

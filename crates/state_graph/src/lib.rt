@@ -20,7 +20,7 @@ ghost use Rattle.state_graph.specs.Remembered.{step_rows, step_places, step_word
 
 use bits::{is_set, put};
 use lookahead::TokenSet;
-use repr::NonterminalString;
+use repr::{NonterminalString, Symbol};
 use table::{AcceptedTable, word};
 
 // The number of a state.
@@ -348,9 +348,9 @@ impl<'a> StateWalk<'a> {
         }
         let step = Step {
             table: self.table,
-            kind: kind,
-            number: number,
-            set: set,
+            kind,
+            number,
+            set,
         };
         let found = step.states();
         remember(&mut self.steps, place, set, found);
@@ -365,10 +365,8 @@ impl<'a> StateWalk<'a> {
         ensures table { self.new.table.words.now ≡ self.old.table.words.now }
     {
         let mut found = set;
-        for i in (0..symbols.len() / 2).rev() {
-            let kind = repr::word(symbols, 2 * i);
-            let number = repr::word(symbols, 2 * i + 1);
-            found = self.step_back(kind, number, found);
+        for symbol in symbols.chunks_exact(Symbol::WORDS).rev() {
+            found = self.step_back(repr::word(symbol, 0), repr::word(symbol, 1), found);
         }
         found
     }
@@ -398,27 +396,25 @@ pub fn trace_back_joined(table: AcceptedTable, state: usize, xs: &[u16], ys: &[u
     StateWalk::new(table).walk_joined(StateSet::of(state), xs, ys)
 }
 
-// `trace_back` of one state. The last step alone is remembered, by a row that no symbol has before the first: a run of one symbol over a set that stays costs one step.
+// `trace_back` of one state. The last step alone is remembered: a run of one symbol over a set that stays costs one step.
 pub fn trace_back(table: AcceptedTable, state: usize, symbols: &[u16]) -> StateSet
     requires state_in_bounds { (state < length (meaning table.words.now).states) × (list_is_fit (length (meaning table.words.now).nonterminals) (meaning table.words.now).terminals symbols.now ≡ true) }
     ensures { states_in result.low result.high ≡ traced_back (meaning table.entry.words.now) state (listed symbols.now) }
 {
     let mut found = StateSet::of(state);
-    let mut last = found;
-    let mut over = StateSet::ROWS;
-    for i in (0..symbols.len() / 2).rev() {
-        let kind = repr::word(symbols, 2 * i);
-        let number = repr::word(symbols, 2 * i + 1);
-        let row = kind * NonterminalString::LIMIT + number;
-        if row == over && found == last {
+    let mut last: Option<(usize, usize, StateSet)> = None;
+    for symbol in symbols.chunks_exact(Symbol::WORDS).rev() {
+        let kind = repr::word(symbol, 0);
+        let number = repr::word(symbol, 1);
+        let this = Some((kind, number, found));
+        if last == this {
             continue;
         }
-        last = found;
-        over = row;
+        last = this;
         let step = Step {
-            table: table,
-            kind: kind,
-            number: number,
+            table,
+            kind,
+            number,
             set: found,
         };
         found = step.states();

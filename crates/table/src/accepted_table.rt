@@ -1,9 +1,10 @@
 // An accepted table: what the check answered is kept in the type, and reading it asks for nothing more.
 
-ghost use Rattle.std.specs.Prelude.{◌≡◌, [], ◌<◌, length, get_or};
+ghost use Rattle.std.specs.Prelude.{◌≡◌, [], ◌+◌, ◌<◌, length, get_or};
 ghost use Rattle.repr.specs.Sizes.{grammar_room};
 ghost use Rattle.repr.specs.Meaning.{state_at, production_at};
 ghost use Rattle.repr.specs.Packed.{Packed, productions_in};
+ghost use Rattle.table.specs.Words.{state_area, production_area};
 ghost use Rattle.table.specs.Checked.{Accepted};
 ghost use Rattle.table.specs.Decoded.{meaning, items_from, edges_from, productions_from};
 ghost use Rattle.table.specs.Refusals.{check_of};
@@ -13,7 +14,7 @@ ghost use Rattle.table.specs.Written.{symbols_from, SymbolIndex, SymbolRead, Own
 use crate::{
     Counts, EdgeIter, EdgeRecord, ItemIter, ItemRecord, ProductionIter, ProductionRecord, word,
 };
-use repr::ProductionIndex;
+use repr::{Grammar, ProductionIndex};
 
 // A symbol, its kind and number as they are copied into packed words, and the index of the next.
 #[derive(Clone, Copy)]
@@ -34,12 +35,24 @@ impl<'a> AcceptedTable<'a> {
     pub fn counts(self) -> Counts
         ensures { CountsOf (meaning self.entry.words.now) result.nonterminals result.terminals result.states result.productions }
     {
-        Counts {
-            nonterminals: word(self.words, 0, 0),
-            terminals: word(self.words, 0, 1),
-            states: word(self.words, 0, 2),
-            productions: word(self.words, 0, 3),
-        }
+        Counts::of(self.words)
+    }
+
+    // A state's record.
+    fn state_record(self, state: usize) -> usize
+        requires { state < length (meaning self.words.now).states }
+        ensures { result ≡ state_area self.entry.words.now + state }
+    {
+        1 + self.counts().nonterminals + state
+    }
+
+    // A production's record.
+    fn production_record(self, production: usize) -> usize
+        requires { production < length (meaning self.words.now).productions }
+        ensures { result ≡ production_area self.entry.words.now + production }
+    {
+        let counts = self.counts();
+        1 + counts.nonterminals + counts.states + production
     }
 
     // The index of a state's first item.
@@ -48,8 +61,7 @@ impl<'a> AcceptedTable<'a> {
         ensures items { items_from self.entry.words.now result ≡ (state_at (meaning self.entry.words.now) state).items }
         ensures on { ItemIndex self.entry.words.now result }
     {
-        let nonterminals = word(self.words, 0, 0);
-        word(self.words, 1 + nonterminals + state, 0)
+        word(self.words, self.state_record(state), 0)
     }
 
     pub fn item(self, at: usize) -> ItemRecord
@@ -83,8 +95,7 @@ impl<'a> AcceptedTable<'a> {
         ensures edges { edges_from self.entry.words.now result ≡ (state_at (meaning self.entry.words.now) state).edges }
         ensures on { EdgeIndex self.entry.words.now result }
     {
-        let nonterminals = word(self.words, 0, 0);
-        word(self.words, 1 + nonterminals + state, 1)
+        word(self.words, self.state_record(state), 1)
     }
 
     pub fn edge(self, at: usize) -> EdgeRecord
@@ -125,11 +136,10 @@ impl<'a> AcceptedTable<'a> {
         requires on { ProductionHead self.words.now at }
         ensures { ProductionRead self.entry.words.now at result.next result.production }
     {
-        let nonterminals = word(self.words, 0, 0);
-        let states = word(self.words, 0, 2);
+        let counts = self.counts();
         ProductionRecord {
             next: word(self.words, at, 0),
-            production: at - (1 + nonterminals + states),
+            production: at - (1 + counts.nonterminals + counts.states),
         }
     }
 
@@ -149,9 +159,7 @@ impl<'a> AcceptedTable<'a> {
         requires { production < length (meaning self.words.now).productions }
         ensures { (symbols_from self.entry.words.now result ≡ (production_at (meaning self.entry.words.now) production).symbols) × SymbolIndex self.entry.words.now result }
     {
-        let nonterminals = word(self.words, 0, 0);
-        let states = word(self.words, 0, 2);
-        word(self.words, 1 + nonterminals + states + production, 1)
+        word(self.words, self.production_record(production), 1)
     }
 
     fn symbol(self, at: usize) -> SymbolRecord
@@ -181,14 +189,12 @@ impl<'a> AcceptedTable<'a> {
         requires { length grammar.old ≡ grammar_room }
         ensures { OwnersIn (meaning self.entry.words.now) grammar.new }
     {
-        let counts = self.counts();
-        let nonterminals = counts.nonterminals;
-        for n in 0..nonterminals {
+        for n in 0..self.counts().nonterminals {
             self.read_owner(grammar, n);
         }
     }
 
-    // Stores a production's symbols, and returns how many they are.
+    // Stores a production's symbols, and returns how many they are. An iterator over their records would serve this loop alone.
     fn store_symbols(self, grammar: &mut [u16], production: usize) -> usize
         requires { (length grammar.old ≡ grammar_room) × (production < length (meaning self.words.now).productions) }
         ensures { SymbolsStored self.entry.words.now grammar.old grammar.new production result }
@@ -212,9 +218,7 @@ impl<'a> AcceptedTable<'a> {
         ensures { ProductionStored self.entry.words.now grammar.old grammar.new production }
     {
         let count = self.store_symbols(grammar, production);
-        let nonterminals = word(self.words, 0, 0);
-        let states = word(self.words, 0, 2);
-        let record = 1 + nonterminals + states + production;
+        let record = self.production_record(production);
         let start = word(self.words, record, 2);
         let end = word(self.words, record, 3);
         let base = production * ProductionIndex::WORDS;
@@ -228,9 +232,7 @@ impl<'a> AcceptedTable<'a> {
         requires { OwnersIn (meaning self.words.now) grammar.old }
         ensures { Packed grammar.new (length (meaning self.entry.words.now).productions) × (productions_in grammar.new (length (meaning self.entry.words.now).productions) ≡ (meaning self.entry.words.now).productions) }
     {
-        let counts = self.counts();
-        let productions = counts.productions;
-        for p in 0..productions {
+        for p in 0..self.counts().productions {
             self.read_symbols_of(grammar, p);
         }
     }
@@ -242,5 +244,16 @@ impl<'a> AcceptedTable<'a> {
     {
         self.read_owners(grammar);
         self.read_symbols(grammar);
+    }
+
+    // The productions, packed into words that are lent for them.
+    pub fn read_grammar<'b>(self, words: &'b mut [u16; ProductionIndex::ALL_WORDS]) -> Grammar<'b>
+        ensures { (result.productions ≡ length (meaning self.entry.words.now).productions) × (productions_in result.words.now result.productions ≡ (meaning self.entry.words.now).productions) }
+    {
+        self.read_productions(words);
+        Grammar {
+            words,
+            productions: self.counts().productions,
+        }
     }
 }

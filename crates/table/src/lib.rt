@@ -5,7 +5,7 @@
 mod accepted_table;
 mod iter;
 
-ghost use Rattle.std.specs.Prelude.{◌≡◌, ◌+◌, ◌*◌, ◌<◌, length};
+ghost use Rattle.std.specs.Prelude.{◌≡◌, ◌+◌, ◌*◌, ◌≤◌, ◌<◌, length};
 ghost use Rattle.repr.specs.Sizes.{record_limit};
 ghost use Rattle.table.specs.Words.{word_at};
 ghost use Rattle.table.specs.Quads.{put_quad};
@@ -13,6 +13,9 @@ ghost use Rattle.table.specs.Decoded.{meaning};
 
 pub use accepted_table::AcceptedTable;
 pub use iter::{EdgeIter, ItemIter, ProductionIter};
+
+// Records of a table at most (refusal 1).
+pub const RECORDS: usize = 8192;
 
 // Word k of record r.
 pub fn word(table: &[u16], r: usize, k: usize) -> usize
@@ -41,6 +44,22 @@ pub struct Counts {
     pub terminals: usize,
     pub states: usize,
     pub productions: usize,
+}
+
+impl Counts {
+    // Those of any words that have a record 0.
+    pub fn of(table: &[u16]) -> Counts
+        requires { 4 ≤ length table.now }
+        ensures read { (result.nonterminals ≡ word_at table.now 0 0) × ((result.terminals ≡ word_at table.now 0 1) × ((result.states ≡ word_at table.now 0 2) × (result.productions ≡ word_at table.now 0 3))) }
+        ensures small { (result.nonterminals < 65536) × ((result.terminals < 65536) × ((result.states < 65536) × (result.productions < 65536))) }
+    {
+        Counts {
+            nonterminals: word(table, 0, 0),
+            terminals: word(table, 0, 1),
+            states: word(table, 0, 2),
+            productions: word(table, 0, 3),
+        }
+    }
 }
 
 // An item, the index of its record, and the index of the next.

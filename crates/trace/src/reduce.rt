@@ -12,7 +12,7 @@ ghost use Rattle.trace.specs.Ends.{EndsTo, Ends};
 use bits::put;
 use first::FirstSets;
 use lr1_core::{Item, suffix};
-use repr::{Grammar, NonterminalString, ProductionIndex};
+use repr::Grammar;
 
 // Whether an item's suffix may derive the empty string.
 fn item_ends(grammar: Grammar, sets: &FirstSets, item: Item) -> bool
@@ -30,14 +30,10 @@ fn production_ends(grammar: Grammar, sets: &FirstSets, ends: &mut [u64], product
     requires production_lt_productions { (production < grammar.productions) × (length ends.old ≡ item_flags) }
     ensures { (T : meaning-of.Table) → T.productions ≡ productions_in grammar.entry.words.now grammar.entry.productions → T.terminals ≡ sets.now.terminals → EndsTo T ends.old (production * index_limit) → EndsTo T ends.new ((production + 1) * index_limit) }
 {
-    let item = Item {
-        production: production,
-        index: 0,
-    };
-    let past = item.length(grammar) + 1;
-    for index in 0..past {
-        if item_ends(grammar, sets, Item { production, index }) {
-            put(ends, production * ProductionIndex::INDEXES + index);
+    for index in 0..=grammar.length(production) {
+        let item = Item { production, index };
+        if item_ends(grammar, sets, item) {
+            put(ends, item.place());
         }
     }
 }

@@ -18,7 +18,7 @@ ghost use Rattle.trace_graph.specs.Nodes.{graph_node, node_value};
 ghost use Rattle.trace_graph.specs.Insert.{Graphed, chained, Added, Overfull, fresh};
 
 use lr1_core::Item;
-use repr::{Grammar, NonterminalString, ProductionIndex, word};
+use repr::{Grammar, NonterminalString, ProductionIndex, Refusal, Symbol, word};
 
 #[derive(Clone, Copy)]
 pub struct TraceGraph {
@@ -120,6 +120,16 @@ pub struct TraceEdge {
 #[derive(Clone, Copy, PartialEq, Eq)]
 pub struct Full;
 
+impl From<Full> for Refusal {
+    ghost use Rattle.repr.specs.declared.Refusal.TheVariants.{TooManyEdges};
+
+    ghost from_gives = { λ _ refusal. refusal ≡ TooManyEdges };
+
+    fn from(_full: Full) -> Refusal {
+        Refusal::TooManyEdges
+    }
+}
+
 // The number of a node, by which buckets are made.
 pub fn node_number(node: Node) -> usize
     requires { SmallNode node }
@@ -128,7 +138,11 @@ pub fn node_number(node: Node) -> usize
     if node.kind == 0 {
         node.number
     } else {
-        NonterminalString::LIMIT + (node.number * ProductionIndex::INDEXES + node.index)
+        let item = Item {
+            production: node.number,
+            index: node.index,
+        };
+        NonterminalString::LIMIT + item.place()
     }
 }
 
@@ -137,13 +151,10 @@ pub fn read_node(graph: &[u16], at: usize) -> Node
     requires { at + 2 < length graph.now }
     ensures { (node_is result ≡ node_at graph.now at) × (result ≡ node_read graph.now at) }
 {
-    let kind = word(graph, at);
-    let number = word(graph, at + 1);
-    let index = word(graph, at + 2);
     Node {
-        kind: kind,
-        number: number,
-        index: index,
+        kind: word(graph, at),
+        number: word(graph, at + 1),
+        index: word(graph, at + 2),
     }
 }
 
@@ -153,15 +164,11 @@ pub fn read_edge(graph: &[u16], k: usize) -> TraceEdge
     ensures { (edge_is result ≡ edge_at graph.now k) × (result ≡ edge_read graph.now k) }
 {
     let at = k * TraceGraph::EDGE_WORDS + 1;
-    let source = read_node(graph, at);
-    let target = read_node(graph, at + 3);
-    let production = word(graph, at + 6);
-    let index = word(graph, at + 7);
     TraceEdge {
-        source: source,
-        target: target,
-        production: production,
-        index: index,
+        source: read_node(graph, at),
+        target: read_node(graph, at + 3),
+        production: word(graph, at + 6),
+        index: word(graph, at + 7),
     }
 }
 
@@ -189,10 +196,7 @@ pub fn same_label(grammar: Grammar, p: usize, i: usize, q: usize, j: usize) -> b
     requires i_value { (item_is_fit (productions_in grammar.words.now grammar.productions) p i ≡ true) × (item_is_fit (productions_in grammar.words.now grammar.productions) q j ≡ true) }
     ensures { result ≡ same_sets (label_of (productions_in grammar.entry.words.now grammar.entry.productions) (record { production = p; index = i })) (label_of (productions_in grammar.entry.words.now grammar.entry.productions) (record { production = q; index = j })) }
 {
-    if p == q {
-        return i == j;
-    }
-    i == j && grammar.symbols(p) == grammar.symbols(q)
+    i == j && (p == q || grammar.symbols(p) == grammar.symbols(q))
 }
 
 // Whether edge k is equal to the edge.
@@ -219,10 +223,9 @@ fn mix(list: &[u16], start: usize) -> usize
     ensures { (result ≡ mixed start (listed list.now)) × (result < 65536) }
 {
     let mut sum = start;
-    for i in 0..list.len() / 2 {
-        let kind = word(list, 2 * i);
-        let number = word(list, 2 * i + 1);
-        sum = (sum * 211 + (kind * NonterminalString::LIMIT + number)) % 65536;
+    for symbol in list.chunks_exact(Symbol::WORDS) {
+        let number = word(symbol, 0) * NonterminalString::LIMIT + word(symbol, 1);
+        sum = (sum * 211 + number) % 65536;
     }
     sum
 }
@@ -237,13 +240,12 @@ fn bucket_of(grammar: Grammar, edge: TraceEdge) -> usize
     let from = node_number(source);
     let to = node_number(target);
     let start = (from * 3001 + (to * 613 + edge.index * 89)) % 65536;
-    let production = edge.production;
-    let label = grammar.symbols(production);
-    mix(label, start) % TraceGraph::BUCKETS
+    mix(grammar.symbols(edge.production), start) % TraceGraph::BUCKETS
 }
 
 // Whether an equal edge is among the first k edges: only those in the edge's bucket are looked at.
-// Its links are words, 0 at the end: an iterator for this one loop would be longer than the loop.
+// Its links are words, 0 at the end, since there is no heap: an iterator for this one loop would be longer than the loop.
+// Here and below a grammar and a number of nonterminals, a graph and its index are given beside each other: the callers (two entries) have them so, and a struct would be made at each call.
 pub fn find(
     grammar: Grammar,
     n: usize,
@@ -310,10 +312,7 @@ pub fn insert(
 pub fn item_fits(grammar: Grammar, production: usize, index: usize) -> bool
     ensures { result ≡ item_is_fit (productions_in grammar.entry.words.now grammar.entry.productions) production index }
 {
-    let item = Item {
-        production: production,
-        index: index,
-    };
+    let item = Item { production, index };
     production < grammar.productions && index <= item.length(grammar)
 }
 
