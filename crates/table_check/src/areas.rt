@@ -6,7 +6,7 @@ ghost use Rattle.table_check.specs.Marks.{Sized};
 ghost use Rattle.table_check.specs.Known.{AreasOf, Known, area};
 
 use repr::{NonterminalString, ProductionIndex, Symbol};
-use table::{RECORDS, counts, word};
+use table::{Counts, RECORDS, word};
 
 // The states of a table at most.
 const STATES: usize = 128;
@@ -138,7 +138,7 @@ pub fn bad_counts(table: &[u16]) -> bool
     requires { row1 table.now ≡ false }
     ensures { result ≡ row2 table.now }
 {
-    let counts = counts(table);
+    let counts = Counts::of(table);
     counts.nonterminals == 0
         || counts.nonterminals > NonterminalString::LIMIT
         || counts.terminals > Symbol::TERMINALS
@@ -153,7 +153,7 @@ pub fn survey(table: &[u16]) -> Areas
     requires { Sized table.now }
     ensures { AreasOf table.now result }
 {
-    let counts = counts(table);
+    let counts = Counts::of(table);
     let states_at = 1 + counts.nonterminals;
     let productions_at = states_at + counts.states;
     Areas {

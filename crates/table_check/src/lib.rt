@@ -18,9 +18,9 @@ ghost use Rattle.table.specs.Refusals.{first_row, check_of};
 ghost use Rattle.table_check.specs.Marks.{Sized};
 
 use areas::{Gathered, Surveyed};
-use mark::Marks;
+use mark::{ALL, FEW, Marks};
 use repr::{ProductionIndex, Refusal};
-use table::{AcceptedTable, RECORDS};
+use table::AcceptedTable;
 
 pub use loose::Roles;
 
@@ -47,11 +47,6 @@ fn inspect_within<const N: usize>(table: &[u16]) -> Result<(), Refusal>
     };
     scan::scan(g, &mut marks)
 }
-
-// Words of marks for 512 records, and for all that a table can have.
-const FEW: usize = 8;
-
-const ALL: usize = RECORDS / 64;
 
 // By the number of records. Zeroing the marks is most of the work on a small table.
 fn inspect(table: &[u16]) -> Result<(), Refusal>

@@ -8,7 +8,12 @@ ghost use Rattle.table_check.specs.Passed.{Blank, Passed, Reaching};
 use crate::areas::Surveyed;
 use crate::loose::Roles;
 use bits::{is_set, put};
-use table::word;
+use table::{RECORDS, word};
+
+// Words of marks for 512 records, and for all that a table can have.
+pub const FEW: usize = 8;
+
+pub const ALL: usize = RECORDS / 64;
 
 // What the records are reached as: for each sort of chain a flag for each record, 64 to a word.
 #[derive(Drop)]
