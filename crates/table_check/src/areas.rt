@@ -26,7 +26,7 @@ pub struct Areas {
 
 // The records that an index may name: from `from` up to and without `past`.
 #[derive(Clone, Copy)]
-pub struct Area {
+pub(crate) struct Area {
     pub from: usize,
     pub past: usize,
 }
@@ -34,7 +34,7 @@ pub struct Area {
 impl Area {
     // Whether index x, held by record r, names one of them by the rule.
     #[tactic(auto, unfolding(table::specs::Words::names))]
-    pub fn names(self, r: usize, x: usize) -> bool
+    pub(crate) fn names(self, r: usize, x: usize) -> bool
         ensures { result ≡ names (area self.from self.past) r x }
     {
         self.from <= x && x < self.past && r < x
@@ -42,7 +42,7 @@ impl Area {
 
     // Whether it is against the rule: not 0, and no such name.
     #[tactic(auto, unfolding(table::specs::Words::against))]
-    pub fn against(self, r: usize, x: usize) -> bool
+    pub(crate) fn against(self, r: usize, x: usize) -> bool
         ensures { result ≡ against (area self.from self.past) r x }
     {
         x != 0 && !self.names(r, x)
@@ -59,8 +59,9 @@ pub struct Surveyed<'a> {
 
 impl<'a> Surveyed<'a> {
     // What an index of productions may name.
-    pub fn productions(self) -> Area
-        ensures { area result.from result.past ≡ production_records self.entry.words.now }
+    pub(crate) fn productions(self) -> Area
+        ensures records { area result.from result.past ≡ production_records self.entry.words.now }
+        ensures within { (result.from ≡ self.entry.areas.productions_at) × (result.past ≡ self.entry.areas.loose_at) }
     {
         Area {
             from: self.areas.productions_at,
@@ -69,8 +70,9 @@ impl<'a> Surveyed<'a> {
     }
 
     // What an index of loose records may name.
-    pub fn loose(self) -> Area
-        ensures { area result.from result.past ≡ loose_records self.entry.words.now }
+    pub(crate) fn loose(self) -> Area
+        ensures records { area result.from result.past ≡ loose_records self.entry.words.now }
+        ensures within { (result.from ≡ self.entry.areas.loose_at) × (result.past ≡ self.entry.areas.records) }
     {
         Area {
             from: self.areas.loose_at,
@@ -90,7 +92,7 @@ pub struct Gathered<'a> {
 
 // Record r of such a table.
 #[derive(Clone, Copy)]
-pub struct Record<'a> {
+pub(crate) struct Record<'a> {
     pub g: Gathered<'a>,
     pub r: usize,
     pub ghost inside: { r < g.s.areas.records },
@@ -98,26 +100,26 @@ pub struct Record<'a> {
 
 impl<'a> Record<'a> {
     // Its word k.
-    pub fn word(self, k: usize) -> usize
+    pub(crate) fn word(self, k: usize) -> usize
         requires { k < 4 }
-        ensures { result ≡ word_at self.entry.g.s.words.now self.r k }
+        ensures { result ≡ word_at self.entry.g.s.words.now self.entry.r k }
     {
         word(self.g.s.words, self.r, k)
     }
 
     // Whether word k, an index into the area, is against the rule.
-    pub fn against(self, named: Area, k: usize) -> bool
+    pub(crate) fn against(self, named: Area, k: usize) -> bool
         requires { k < 4 }
-        ensures { result ≡ against (area named.from named.past) self.r (word_at self.entry.g.s.words.now self.r k) }
+        ensures { result ≡ against (area named.from named.past) self.entry.r (word_at self.entry.g.s.words.now self.entry.r k) }
     {
         named.against(self.r, self.word(k))
     }
 
     // Whether word k, which is to be spare, is not 0.
     #[tactic(auto, unfolding(table::specs::Refusals::used))]
-    pub fn spare(self, k: usize) -> bool
+    pub(crate) fn spare(self, k: usize) -> bool
         requires { k < 4 }
-        ensures { result ≡ used self.entry.g.s.words.now self.r k }
+        ensures { result ≡ used self.entry.g.s.words.now self.entry.r k }
     {
         self.word(k) != 0
     }

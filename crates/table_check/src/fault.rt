@@ -4,7 +4,6 @@ ghost use Rattle.table_check.specs.Rows.{number_of_fault};
 ghost use Rattle.table_check.specs.Faults.{fault_at, fault_of_nonterminal, fault_of_state, fault_of_production, fault_of_loose};
 
 use crate::areas::Record;
-use crate::loose;
 use crate::loose::Roles;
 use repr::ProductionIndex;
 
@@ -19,84 +18,86 @@ pub enum Row {
     Spare = 8,
 }
 
-// Rows 3 and 8: first production, then three spare words.
-#[tactic(auto, unfolding(crate::specs::Faults::fault_of_nonterminal, crate::specs::Faults::choose))]
-fn nonterminal_fault(record: Record) -> Option<Row>
-    ensures { number_of_fault result ≡ fault_of_nonterminal record.entry.g.s.words.now record.r }
-{
-    if record.against(record.g.s.productions(), 0) {
-        return Some(Row::Chain);
+impl<'a> Record<'a> {
+    // Rows 3 and 8: first production, then three spare words.
+    #[tactic(auto, unfolding(crate::specs::Faults::fault_of_nonterminal, crate::specs::Faults::choose))]
+    fn nonterminal_fault(self) -> Option<Row>
+        ensures { number_of_fault result ≡ fault_of_nonterminal self.entry.g.s.words.now self.entry.r }
+    {
+        if self.against(self.g.s.productions(), 0) {
+            return Some(Row::Chain);
+        }
+        if self.spare(1) || self.spare(2) || self.spare(3) {
+            return Some(Row::Spare);
+        }
+        None
     }
-    if record.spare(1) || record.spare(2) || record.spare(3) {
-        return Some(Row::Spare);
-    }
-    None
-}
 
-// Rows 3 and 8: first item, first edge, two spare words.
-#[tactic(auto, unfolding(crate::specs::Faults::fault_of_state, crate::specs::Faults::choose))]
-fn state_fault(record: Record) -> Option<Row>
-    ensures { number_of_fault result ≡ fault_of_state record.entry.g.s.words.now record.r }
-{
-    let loose = record.g.s.loose();
-    if record.against(loose, 0) || record.against(loose, 1) {
-        return Some(Row::Chain);
+    // Rows 3 and 8: first item, first edge, two spare words.
+    #[tactic(auto, unfolding(crate::specs::Faults::fault_of_state, crate::specs::Faults::choose))]
+    fn state_fault(self) -> Option<Row>
+        ensures { number_of_fault result ≡ fault_of_state self.entry.g.s.words.now self.entry.r }
+    {
+        let loose = self.g.s.loose();
+        if self.against(loose, 0) || self.against(loose, 1) {
+            return Some(Row::Chain);
+        }
+        if self.spare(2) || self.spare(3) {
+            return Some(Row::Spare);
+        }
+        None
     }
-    if record.spare(2) || record.spare(3) {
-        return Some(Row::Spare);
-    }
-    None
-}
 
-// Rows 3, 4 and 5: next production and first symbol, the chains that hold it, its length. Spans are free.
-fn production_fault(record: Record) -> Option<Row>
-    requires { (record.g.s.areas.productions_at ≤ record.r) × (record.r < record.g.s.areas.loose_at) }
-    ensures { number_of_fault result ≡ fault_of_production record.entry.g.s.words.now record.r }
-{
-    let g = record.g;
-    if record.against(g.s.productions(), 0) || record.against(g.s.loose(), 1) {
-        return Some(Row::Chain);
+    // Rows 3, 4 and 5: next production and first symbol, the chains that hold it, its length. Spans are free.
+    fn production_fault(self) -> Option<Row>
+        requires { (self.g.s.areas.productions_at ≤ self.r) × (self.r < self.g.s.areas.loose_at) }
+        ensures { number_of_fault result ≡ fault_of_production self.entry.g.s.words.now self.entry.r }
+    {
+        let g = self.g;
+        if self.against(g.s.productions(), 0) || self.against(g.s.loose(), 1) {
+            return Some(Row::Chain);
+        }
+        let p = self.r - g.s.areas.productions_at;
+        if g.held[p] != 1 {
+            return Some(Row::Owner);
+        }
+        if g.lengths[p] as usize > ProductionIndex::SYMBOLS {
+            return Some(Row::TooLong);
+        }
+        None
     }
-    let p = record.r - g.s.areas.productions_at;
-    if g.held[p] != 1 {
-        return Some(Row::Owner);
-    }
-    if g.lengths[p] as usize > ProductionIndex::SYMBOLS {
-        return Some(Row::TooLong);
-    }
-    None
-}
 
-// Rows 3, 6, 7 and 8, by what the record is reached as; reached as nothing, it offends against none.
-#[tactic(auto, unfolding(crate::specs::Faults::fault_of_loose, crate::specs::Faults::choose))]
-pub fn loose_fault(record: Record, roles: Roles) -> Option<Row>
-    ensures { number_of_fault result ≡ fault_of_loose record.entry.g.s.words.now record.r roles.symbol roles.item roles.edge }
-{
-    if loose::index_fault(record, roles) {
-        return Some(Row::Chain);
+    // Rows 3, 6, 7 and 8, by what the record is reached as; reached as nothing, it offends against none.
+    #[tactic(auto, unfolding(crate::specs::Faults::fault_of_loose, crate::specs::Faults::choose))]
+    pub fn loose_fault(self, roles: Roles) -> Option<Row>
+        ensures { number_of_fault result ≡ fault_of_loose self.entry.g.s.words.now self.entry.r roles.symbol roles.item roles.edge }
+    {
+        if self.index_fault(roles) {
+            return Some(Row::Chain);
+        }
+        if self.symbol_fault(roles) {
+            return Some(Row::Symbol);
+        }
+        if self.range_fault(roles) {
+            return Some(Row::Target);
+        }
+        if self.spare_fault(roles) {
+            return Some(Row::Spare);
+        }
+        None
     }
-    if loose::symbol_fault(record, roles) {
-        return Some(Row::Symbol);
-    }
-    if loose::range_fault(record, roles) {
-        return Some(Row::Target);
-    }
-    if loose::spare_fault(record, roles) {
-        return Some(Row::Spare);
-    }
-    None
-}
 
-// The lowest row that a record before the loose ones meets.
-pub fn area_fault(record: Record) -> Option<Row>
-    requires { record.r < record.g.s.areas.loose_at }
-    ensures { number_of_fault result ≡ fault_at record.entry.g.s.words.now record.r }
-{
-    let areas = record.g.s.areas;
-    match record.r {
-        0 => None,
-        r if r < areas.states_at => nonterminal_fault(record),
-        r if r < areas.productions_at => state_fault(record),
-        _ => production_fault(record),
+    // The lowest row that a record before the loose ones meets.
+    pub fn area_fault(self) -> Option<Row>
+        requires { self.r < self.g.s.areas.loose_at }
+        ensures { number_of_fault result ≡ fault_at self.entry.g.s.words.now self.entry.r }
+    {
+        let areas = self.g.s.areas;
+        match self.r {
+            0 => None,
+            r if r < areas.states_at => self.nonterminal_fault(),
+            r if r < areas.productions_at => self.state_fault(),
+            _ => self.production_fault(),
+        }
     }
 }

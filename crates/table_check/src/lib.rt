@@ -11,24 +11,38 @@ mod loose;
 pub mod mark;
 mod scan;
 
-ghost use Rattle.std.specs.Prelude.{List, [], ◌∷◌, ◌≡◌, ◌≤◌, ◌*◌, IfOk};
+ghost use Rattle.std.specs.Prelude.{List, [], ◌∷◌, ◌≡◌, ◌≤◌, ◌*◌, IfOk, replicate};
 ghost use Rattle.table.specs.Words.{records};
 ghost use Rattle.table.specs.Checked.{checked_of};
 ghost use Rattle.table.specs.Refusals.{first_row, check_of};
 ghost use Rattle.table_check.specs.Marks.{Sized};
 
 use areas::{Gathered, Surveyed};
+pub use loose::Roles;
 use mark::{ALL, FEW, Marks};
 use repr::{ProductionIndex, Refusal};
 use table::AcceptedTable;
 
-pub use loose::Roles;
+// What is gathered of the productions, in bytes that are lent for it.
+fn gather<'a>(
+    s: Surveyed<'a>,
+    held: &'a mut [u8; ProductionIndex::LIMIT],
+    lengths: &'a mut [u8; ProductionIndex::LIMIT],
+) -> Gathered<'a>
+    requires { held.old ≡ replicate 128 0 }
+    ensures { result.s.words.now ≡ s.entry.words.now }
+{
+    held::hold(s, held);
+    counts::count(s, lengths);
+    Gathered { s, held, lengths }
+}
 
 // Rows 3 to 8, of a table that rows 1 and 2 let through, over so many words of marks. The heads of all chains are marked; then one pass looks at each record and marks
 // its next as what it is marked as itself, however chains are shared.
 fn inspect_within<const N: usize>(table: &[u16]) -> Result<(), Refusal>
     requires sized { Sized table.now }
     requires room { records table.now ≤ N * 64 }
+    requires few { N ≤ 128 }
     ensures { checked_of result ≡ first_row table.now (3 ∷ 4 ∷ 5 ∷ 6 ∷ 7 ∷ 8 ∷ []) }
 {
     let s = Surveyed {
@@ -37,14 +51,8 @@ fn inspect_within<const N: usize>(table: &[u16]) -> Result<(), Refusal>
     };
     let mut marks = Marks::<N>::of_heads(s);
     let mut held = [0u8; ProductionIndex::LIMIT];
-    held::hold(s, &mut held);
     let mut lengths = [0u8; ProductionIndex::LIMIT];
-    counts::count(s, &mut lengths);
-    let g = Gathered {
-        s,
-        held: &held,
-        lengths: &lengths,
-    };
+    let g = gather(s, &mut held, &mut lengths);
     scan::scan(g, &mut marks)
 }
 

@@ -22,49 +22,52 @@ impl Roles {
     }
 }
 
-// Row 3: the next index.
-#[tactic(auto, unfolding(crate::specs::Faults::index_bad))]
-pub fn index_fault(record: Record, roles: Roles) -> bool
-    ensures { result ≡ index_bad record.entry.g.s.words.now record.r roles.symbol roles.item roles.edge }
-{
-    roles.any() && record.against(record.g.s.loose(), 0)
-}
+impl<'a> Record<'a> {
+    // Row 3: the next index.
+    #[tactic(auto, unfolding(crate::specs::Faults::index_bad))]
+    pub fn index_fault(self, roles: Roles) -> bool
+        ensures { result ≡ index_bad self.entry.g.s.words.now self.entry.r roles.symbol roles.item roles.edge }
+    {
+        roles.any() && self.against(self.g.s.loose(), 0)
+    }
 
-// Row 6: a symbol or an edge.
-#[tactic(auto, unfolding(crate::specs::Faults::symbol_bad))]
-pub fn symbol_fault(record: Record, roles: Roles) -> bool
-    ensures { result ≡ symbol_bad record.entry.g.s.words.now record.r roles.symbol roles.edge }
-{
-    let areas = record.g.s.areas;
-    let kind = record.word(1);
-    let number = record.word(2);
-    (roles.symbol || roles.edge) && !symbol_fits(areas.nonterminals, areas.terminals, kind, number)
-}
+    // Row 6: a symbol or an edge.
+    #[tactic(auto, unfolding(crate::specs::Faults::symbol_bad))]
+    pub fn symbol_fault(self, roles: Roles) -> bool
+        ensures { result ≡ symbol_bad self.entry.g.s.words.now self.entry.r roles.symbol roles.edge }
+    {
+        let areas = self.g.s.areas;
+        let kind = self.word(1);
+        let number = self.word(2);
+        (roles.symbol || roles.edge)
+            && !symbol_fits(areas.nonterminals, areas.terminals, kind, number)
+    }
 
-// Row 7 of an item: its production, and its index against the production's length.
-#[tactic(auto, unfolding(crate::specs::Faults::item_bad))]
-fn item_fault(record: Record) -> bool
-    ensures { result ≡ item_bad record.entry.g.s.words.now record.r }
-{
-    let g = record.g;
-    let production = record.word(1);
-    let index = record.word(2);
-    production >= g.s.areas.productions || (g.lengths[production] as usize) < index
-}
+    // Row 7 of an item: its production, and its index against the production's length.
+    #[tactic(auto, unfolding(crate::specs::Faults::item_bad))]
+    fn item_fault(self) -> bool
+        ensures { result ≡ item_bad self.entry.g.s.words.now self.entry.r }
+    {
+        let g = self.g;
+        let production = self.word(1);
+        let index = self.word(2);
+        production >= g.s.areas.productions || (g.lengths[production] as usize) < index
+    }
 
-// Row 7: also the target of an edge.
-#[tactic(auto, unfolding(crate::specs::Faults::range_bad))]
-pub fn range_fault(record: Record, roles: Roles) -> bool
-    ensures { result ≡ range_bad record.entry.g.s.words.now record.r roles.item roles.edge }
-{
-    let states = record.g.s.areas.states;
-    (roles.item && item_fault(record)) || (roles.edge && states <= record.word(3))
-}
+    // Row 7: also the target of an edge.
+    #[tactic(auto, unfolding(crate::specs::Faults::range_bad))]
+    pub fn range_fault(self, roles: Roles) -> bool
+        ensures { result ≡ range_bad self.entry.g.s.words.now self.entry.r roles.item roles.edge }
+    {
+        let states = self.g.s.areas.states;
+        (roles.item && self.item_fault()) || (roles.edge && states <= self.word(3))
+    }
 
-// Row 8: a symbol or an item; an edge's fourth word is its target.
-#[tactic(auto, unfolding(crate::specs::Faults::spare_bad))]
-pub fn spare_fault(record: Record, roles: Roles) -> bool
-    ensures { result ≡ spare_bad record.entry.g.s.words.now record.r roles.symbol roles.item }
-{
-    (roles.symbol || roles.item) && record.spare(3)
+    // Row 8: a symbol or an item; an edge's fourth word is its target.
+    #[tactic(auto, unfolding(crate::specs::Faults::spare_bad))]
+    pub fn spare_fault(self, roles: Roles) -> bool
+        ensures { result ≡ spare_bad self.entry.g.s.words.now self.entry.r roles.symbol roles.item }
+    {
+        (roles.symbol || roles.item) && self.spare(3)
+    }
 }

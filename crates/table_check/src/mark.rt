@@ -74,7 +74,8 @@ impl<const N: usize> Marks<N> {
 
     // What record r is marked as; its next, if it is by the rule, is marked so too.
     pub fn pass(&mut self, s: Surveyed, r: usize) -> Roles
-        requires { (r < s.areas.records) × (s.areas.records ≤ N * 64) }
+        requires inside { r < s.areas.records }
+        requires room { s.areas.records ≤ N * 64 }
         ensures symbol { result.symbol ≡ bit_at self.old.symbols r }
         ensures item { result.item ≡ bit_at self.old.items r }
         ensures edge { result.edge ≡ bit_at self.old.edges r }

@@ -9,7 +9,6 @@ ghost use Rattle.table_check.specs.Offences.{row_of, place_of};
 ghost use Rattle.table_check.specs.Faults.{fault_at, Best};
 
 use crate::areas::{Gathered, Record};
-use crate::fault;
 use crate::fault::Row;
 use crate::mark::Marks;
 use repr::Refusal;
@@ -58,20 +57,21 @@ fn scan_areas(g: Gathered) -> Option<Offence>
 {
     let mut best = None;
     for r in 0..g.s.areas.loose_at {
-        let m = fault::area_fault(Record { g, r });
+        let m = Record { g, r }.area_fault();
         best = lower(best, m, r);
     }
     best
 }
 
 // A loose record, all before it passed: the lowest row that it meets, and its next is marked as what it is marked as.
-fn pass<const N: usize>(record: Record, marks: &mut Marks<N>) -> Option<Row>
-    requires { (record.g.s.areas.loose_at ≤ record.r) × Reaching record.g.s.words.now record.r marks.old.symbols marks.old.items marks.old.edges }
-    ensures value { number_of_fault result ≡ fault_at record.entry.g.s.words.now record.r }
-    ensures reaching { Reaching record.entry.g.s.words.now (record.r + 1) marks.new.symbols marks.new.items marks.new.edges }
+fn pass<const N: usize>(this: Record, marks: &mut Marks<N>) -> Option<Row>
+    requires loose { this.g.s.areas.loose_at ≤ this.r }
+    requires reaching { Reaching this.g.s.words.now this.r marks.old.symbols marks.old.items marks.old.edges }
+    ensures value { number_of_fault result ≡ fault_at this.entry.g.s.words.now this.entry.r }
+    ensures reaching { Reaching this.entry.g.s.words.now (this.entry.r + 1) marks.new.symbols marks.new.items marks.new.edges }
 {
-    let roles = marks.pass(record.g.s, record.r);
-    fault::loose_fault(record, roles)
+    let roles = marks.pass(this.g.s, this.r);
+    this.loose_fault(roles)
 }
 
 // The loose records, after the others. Each is marked by then as all that it is reached as.
