@@ -13,8 +13,9 @@ use repr::{ProductionIndex, Refusal};
 use state_graph::StateIndex;
 use trace_graph::TraceGraph;
 
-// 453 records.
-const WORDS: usize = 1812;
+const RECORDS: usize = 453;
+
+const WORDS: usize = RECORDS * 4;
 
 // The words of a record.
 #[derive(Clone, Copy)]

@@ -10,7 +10,9 @@ use error::Conflict;
 use example::Example;
 use lines::{lines, refused_line};
 use little::decode;
-use pipe::{BYTES, CONFLICT_BYTES, CONFLICT_WORDS, CONFLICTS, Stop, WORDS, read_table};
+use pipe::{
+    BYTES, CONFLICT_BYTES, CONFLICT_WORDS, CONFLICTS, Stop, WORDS, WORDS_OF_CONFLICT, read_table,
+};
 use report::classify;
 use repr::{ProductionIndex, Refusal};
 use state_graph::StateIndex;
@@ -18,12 +20,14 @@ use std::io;
 use streams::{Failed, PIECES, read, write};
 use table_check::check;
 
-// Bytes for the lines of a conflict.
+// Bytes for the lines of a conflict, and for the line of a refusal.
 const LINES: usize = 65536;
+
+const LINE: usize = 200;
 
 // One line for a refusal of the table (number 0) or of a conflict.
 fn say_refused<R: Print + Eprint>(rt: &R, number: u64, refusal: Refusal) -> Result<(), Failed> {
-    let mut out = [0u8; 200];
+    let mut out = [0u8; LINE];
     let n = refused_line(&mut out, number, refusal.number(), refusal.place());
     write(rt, &out[..n])
 }
@@ -71,7 +75,7 @@ fn explain_some<R: Print + Eprint>(
     let mut scratch = [0u16; Conflict::SCRATCH];
     let mut action = [0u16; Example::WORDS];
     let mut reduce = [0u16; Example::WORDS];
-    for (k, conflict) in words.chunks_exact(5).enumerate() {
+    for (k, conflict) in words.chunks_exact(WORDS_OF_CONFLICT).enumerate() {
         let n = conflict_lines(
             table,
             first + k as u64,
@@ -86,7 +90,7 @@ fn explain_some<R: Print + Eprint>(
     Ok(())
 }
 
-// A piece of the conflicts; whether there may be more. A conflict cut short is refusal 9, and the last.
+// A piece of the conflicts; whether there may be more, a yes or no that a failing read or write does not answer. A conflict cut short is refusal 9, and the last.
 fn explain_piece<R: io::Input + Print + Eprint>(
     rt: &R,
     table: &[u16],
@@ -100,8 +104,9 @@ fn explain_piece<R: io::Input + Print + Eprint>(
     let got = read(rt, bytes)?;
     let n = decode(&bytes[..got], words);
     explain_some(rt, table, &words[..n], first, out)?;
-    if got % 10 != 0 {
-        say_refused(rt, first + got as u64 / 10, Refusal::OutOfRange)?;
+    let size = WORDS_OF_CONFLICT * 2;
+    if got % size != 0 {
+        say_refused(rt, first + (got / size) as u64, Refusal::OutOfRange)?;
     }
     Ok(got == bytes.len())
 }

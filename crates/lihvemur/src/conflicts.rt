@@ -5,7 +5,7 @@ ghost use Rattle.error.specs.Outcome.{classify_of};
 ghost use Rattle.lihvemur.specs.Reports.{packed, class_numbers, classified_numbers, choice_numbers, choose_numbers, part_numbers, observed_numbers};
 ghost use Rattle.report.specs.Part.{part_observed};
 
-use crate::refuse;
+use crate::{refuse, told};
 use entries::{class_number, copy_entries};
 use error::{Class, Conflict};
 use lookahead::TokenSet;
@@ -25,13 +25,10 @@ fn class_values(class: Class) -> u64
     ensures { result ≡ packed (values_of_class class) }
 {
     match class {
-        Class::Naive => 0,
-        Class::Ambiguity => 0,
-        Class::Precedence(n) => pack(n.0, 0, 0, 0),
-        Class::SuggestInline(n) => pack(n.0, 0, 0, 0),
+        Class::Naive | Class::Ambiguity | Class::InsufficientLookahead => 0,
+        Class::Precedence(n) | Class::SuggestInline(n) => pack(n.0, 0, 0, 0),
         Class::SuggestQuestion(n, kind, number) => pack(n.0, kind, number, 0),
         Class::AmbiguousReduction(a, b, c, d) => pack(a, b, c, d),
-        Class::InsufficientLookahead => 0,
     }
 }
 
@@ -61,17 +58,15 @@ pub fn lihvemur_classify(
         operand,
         token,
     };
-    match classify(table, conflict, scratch, action_example, reduce_example) {
-        Ok(found) => {
-            *place = 0;
-            *class = class_number(found.class);
-            *values = class_values(found.class);
-            *action_trials = found.action_trials;
-            *reduce_trials = found.reduce_trials;
-            0
-        }
-        Err(refusal) => refuse(refusal, place),
+    let answer = classify(table, conflict, scratch, action_example, reduce_example);
+    let (number, found) = told(answer, place);
+    if let Some(found) = found {
+        *class = class_number(found.class);
+        *values = class_values(found.class);
+        *action_trials = found.action_trials;
+        *reduce_trials = found.reduce_trials;
     }
+    number
 }
 
 // Six words an entry at the front of `entries`, no other word changed. It is lent at least 384 words: else the refusal that no scratch gets, 1 to 11.
@@ -102,15 +97,12 @@ pub fn lihvemur_choose(
             Err(refusal) => refuse(refusal, place),
         };
     }
-    match choose(table, conflict, TokenSet(tokens), scratch) {
-        Ok(chosen) => {
-            copy_entries(&chosen.entries, entries, chosen.count);
-            *count = chosen.count;
-            *place = 0;
-            0
-        }
-        Err(refusal) => refuse(refusal, place),
+    let (number, chosen) = told(choose(table, conflict, TokenSet(tokens), scratch), place);
+    if let Some(chosen) = chosen {
+        copy_entries(&chosen.entries, entries, chosen.count);
+        *count = chosen.count;
     }
+    number
 }
 
 // In which buffer the observed symbols lie, 0 the action's, 1 the reduce's, and behind `words` how many words they have there from word 3 on.

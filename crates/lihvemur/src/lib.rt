@@ -6,7 +6,7 @@
 pub mod conflicts;
 pub mod listings;
 
-ghost use Rattle.std.specs.Prelude.{◌≡◌, ◌++◌};
+ghost use Rattle.std.specs.Prelude.{◌≡◌, ◌++◌, MatchResult};
 ghost use Rattle.repr.specs.Reply.{number_of, place_of};
 ghost use Rattle.table.specs.Refusals.{check_of};
 ghost use Rattle.spelling.specs.Outcome.{respell_of};
@@ -34,30 +34,34 @@ fn refuse(refusal: Refusal, place: &mut u16) -> u16
     refusal.number()
 }
 
+// 0 and what is answered, to be written behind its references; or a refusal in numbers and nothing.
+fn told<T>(answer: Result<T, Refusal>, place: &mut u16) -> (u16, Option<T>)
+    ensures { MatchResult answer (λ x. (result.0 ≡ 0) × (place.new ≡ 0) × (result.1 ≡ Some x)) (λ e. (result.0 ≡ number_of e) × (place.new ≡ place_of e) × (result.1 ≡ None)) }
+{
+    match answer {
+        Ok(found) => {
+            *place = 0;
+            (0, Some(found))
+        }
+        Err(refusal) => (refuse(refusal, place), None),
+    }
+}
+
 // A count behind its reference, or a refusal in numbers.
 fn hand_out(answer: Result<u16, Refusal>, count: &mut u16, place: &mut u16) -> u16
     ensures { HandedOut answer result place.new count.old count.new }
 {
-    match answer {
-        Ok(number) => {
-            *place = 0;
-            *count = number;
-            0
-        }
-        Err(refusal) => refuse(refusal, place),
+    let (number, found) = told(answer, place);
+    if let Some(found) = found {
+        *count = found;
     }
+    number
 }
 
 pub fn lihvemur_check(table: &[u16], place: &mut u16) -> u16
     ensures { numbers result place.new ≡ check_numbers (check_of table.now) }
 {
-    match lr1::check(table) {
-        Ok(_) => {
-            *place = 0;
-            0
-        }
-        Err(refusal) => refuse(refusal, place),
-    }
+    told(lr1::check(table), place).0
 }
 
 pub fn lihvemur_respell(table: &[u16], out: &mut [u16], records: &mut u16, place: &mut u16) -> u16
@@ -85,15 +89,13 @@ pub fn lihvemur_build_states(
 ) -> u16
     ensures { build_numbers result place.new records.new count.new scratch.new out.new conflicts.new ≡ built_numbers records.old count.old (build_of table.now start scratch.old out.old conflicts.old) }
 {
-    match lr1::build_states(table, ProductionIndex(start), scratch, out, conflicts) {
-        Ok(built) => {
-            *place = 0;
-            *records = built.records;
-            *count = built.conflicts;
-            0
-        }
-        Err(refusal) => refuse(refusal, place),
+    let answer = lr1::build_states(table, ProductionIndex(start), scratch, out, conflicts);
+    let (number, built) = told(answer, place);
+    if let Some(built) = built {
+        *records = built.records;
+        *count = built.conflicts;
     }
+    number
 }
 
 pub fn lihvemur_read_yacc(
@@ -107,29 +109,19 @@ pub fn lihvemur_read_yacc(
 ) -> u16
     ensures { read_numbers result place.new records.new count.new start.new table.new places.new ≡ reading_numbers records.old count.old start.old (read_of text.now table.old places.old) }
 {
-    match lr1::read_yacc(text, table, places) {
-        Ok(read) => {
-            *place = 0;
-            *records = read.records;
-            *count = read.places;
-            *start = read.start.0;
-            0
-        }
-        Err(refusal) => refuse(refusal, place),
+    let (number, read) = told(lr1::read_yacc(text, table, places), place);
+    if let Some(read) = read {
+        *records = read.records;
+        *count = read.places;
+        *start = read.start.0;
     }
+    number
 }
 
 pub fn lihvemur_write_yacc(table: &[u16], text: &mut [u8], bytes: &mut u16, place: &mut u16) -> u16
     ensures { write_numbers result place.new bytes.new text.new ≡ writing_numbers bytes.old (write_of table.now text.old) }
 {
-    match lr1::write_yacc(table, text) {
-        Ok(written) => {
-            *place = 0;
-            *bytes = written;
-            0
-        }
-        Err(refusal) => refuse(refusal, place),
-    }
+    hand_out(lr1::write_yacc(table, text), bytes, place)
 }
 
 pub fn lihvemur_first0(
@@ -154,15 +146,12 @@ pub fn lihvemur_first0_joined(
 ) -> u16
     ensures { answer_numbers result place.new set.new nullable.new ≡ first_numbers set.old nullable.old (first0_of table.now (xs.now ++ ys.now)) }
 {
-    match lr1::first0_joined(table, xs, ys) {
-        Ok(answer) => {
-            *place = 0;
-            *set = answer.tokens.0;
-            *nullable = answer.nullable;
-            0
-        }
-        Err(refusal) => refuse(refusal, place),
+    let (number, answer) = told(lr1::first0_joined(table, xs, ys), place);
+    if let Some(answer) = answer {
+        *set = answer.tokens.0;
+        *nullable = answer.nullable;
     }
+    number
 }
 
 pub fn lihvemur_first1(
@@ -174,14 +163,11 @@ pub fn lihvemur_first1(
 ) -> u16
     ensures { set_numbers result place.new set.new ≡ followed_numbers set.old (first1_of table.now symbols.now lookahead) }
 {
-    match lr1::first1(table, TokenSet(lookahead), symbols) {
-        Ok(tokens) => {
-            *place = 0;
-            *set = tokens.0;
-            0
-        }
-        Err(refusal) => refuse(refusal, place),
+    let (number, tokens) = told(lr1::first1(table, TokenSet(lookahead), symbols), place);
+    if let Some(tokens) = tokens {
+        *set = tokens.0;
     }
+    number
 }
 
 pub fn lihvemur_trace_back(
@@ -208,15 +194,12 @@ pub fn lihvemur_trace_back_joined(
 ) -> u16
     ensures { state_numbers result place.new (states_in low.new high.new) ≡ walk_numbers (states_in low.old high.old) (trace_back_of table.now state (xs.now ++ ys.now)) }
 {
-    match lr1::trace_back_joined(table, StateIndex(state), xs, ys) {
-        Ok(states) => {
-            *place = 0;
-            *low = states.low;
-            *high = states.high;
-            0
-        }
-        Err(refusal) => refuse(refusal, place),
+    let (number, states) = told(lr1::trace_back_joined(table, StateIndex(state), xs, ys), place);
+    if let Some(states) = states {
+        *low = states.low;
+        *high = states.high;
     }
+    number
 }
 
 // A node is kind (0 nonterminal, 1 item), its nonterminal or production, and 0 or the item's index; the label is the item at `index` of `production`.

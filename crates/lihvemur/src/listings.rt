@@ -6,19 +6,19 @@ ghost use Rattle.listing.specs.CallList.{list_of};
 ghost use Rattle.lihvemur.specs.Exported.{numbers};
 ghost use Rattle.lihvemur.specs.Listings.{ahead_of, open_numbers, advance_numbers, advanced_numbers, list_numbers, listed_numbers};
 
-use crate::refuse;
+use crate::told;
 use enumerator::{Advanced, Listing};
 use lookahead::TokenSet;
 use repr::ProductionIndex;
+
+// The answer at a listing's end (LIHVEMUR_END in C), which is no refusal.
+pub const END: u16 = 16;
 
 // Any lookahead of a listing from its two parts; the set counts only where it is filtered.
 fn lookahead_of(filtered: bool, set: u64) -> Option<TokenSet>
     ensures { result ≡ ahead_of filtered set }
 {
-    if filtered {
-        return Some(TokenSet(set));
-    }
-    None
+    filtered.then_some(TokenSet(set))
 }
 
 pub fn lihvemur_lr0_examples(
@@ -30,13 +30,8 @@ pub fn lihvemur_lr0_examples(
 ) -> u16
     ensures { numbers result place.new ≡ open_numbers (open_of table.now (record { production = production; index = index }) None graph.now) }
 {
-    match listing::lr0_examples(table, ProductionIndex(production), index, graph) {
-        Ok(_) => {
-            *place = 0;
-            0
-        }
-        Err(refusal) => refuse(refusal, place),
-    }
+    let answer = listing::lr0_examples(table, ProductionIndex(production), index, graph);
+    told(answer, place).0
 }
 
 pub fn lihvemur_lr1_examples(
@@ -50,16 +45,11 @@ pub fn lihvemur_lr1_examples(
     ensures { numbers result place.new ≡ open_numbers (open_of table.now (record { production = production; index = index }) (Some (record { 0 = lookahead })) graph.now) }
 {
     let p = ProductionIndex(production);
-    match listing::lr1_examples(table, p, index, TokenSet(lookahead), graph) {
-        Ok(_) => {
-            *place = 0;
-            0
-        }
-        Err(refusal) => refuse(refusal, place),
-    }
+    let answer = listing::lr1_examples(table, p, index, TokenSet(lookahead), graph);
+    told(answer, place).0
 }
 
-// The next example: 0 with an example, 16 at the end, else the refusal. Count and openness are those of the listing after the call, whatever it answers.
+// The next example: 0 with an example, `END` at the end, else the refusal. Count and openness are those of the listing after the call, whatever it answers.
 pub fn lihvemur_advance(
     table: &[u16],
     production: u16,
@@ -85,15 +75,10 @@ pub fn lihvemur_advance(
     let answer = listing::advance(&mut l, table, graph, scratch, buffer);
     *count = l.count;
     *is_open = l.is_open;
-    match answer {
-        Ok(advanced) => {
-            *place = 0;
-            match advanced {
-                Advanced::Example => 0,
-                Advanced::End => 16,
-            }
-        }
-        Err(refusal) => refuse(refusal, place),
+    let (number, advanced) = told(answer, place);
+    match advanced {
+        Some(Advanced::End) => END,
+        _ => number,
     }
 }
 
@@ -115,12 +100,10 @@ pub fn lihvemur_examples(
 {
     let p = ProductionIndex(production);
     let ahead = lookahead_of(filtered, lookahead);
-    match listing::examples(table, p, index, ahead, calls, graph, scratch, output) {
-        Ok(count) => {
-            *place = 0;
-            *made = count;
-            0
-        }
-        Err(refusal) => refuse(refusal, place),
+    let answer = listing::examples(table, p, index, ahead, calls, graph, scratch, output);
+    let (number, count) = told(answer, place);
+    if let Some(count) = count {
+        *made = count;
     }
+    number
 }

@@ -13,7 +13,7 @@ use example::Example;
 use itoa::Buffer;
 use repr::{Refusal, word};
 
-// A byte; the place after it.
+// A byte; the place after it. Here and below `out` is written from `at` on and the place behind comes back: the contracts say which bytes are put between the two, and crate conflict_words why these are two values.
 pub fn put(out: &mut [u8], at: usize, byte: u8) -> usize
     requires { at < length out.old }
     ensures { Put out.old at (byte ∷ []) out.new result }

@@ -24,10 +24,10 @@ use builder::Built;
 use first::{Answer, FirstSets};
 use lookahead::TokenSet;
 use lr1_core::Item;
-use repr::{Grammar, ProductionIndex, Refusal, joined_fits, list_fits, word};
+use repr::{ProductionIndex, Refusal, joined_fits, list_fits, word};
 use state_graph::{StateIndex, StateSet};
 use table::AcceptedTable;
-use trace_graph::{Full, TraceEdge, TraceGraph, TraceGraphNode, check_graph, edge_fits, insert};
+use trace_graph::{TraceEdge, TraceGraph, TraceGraphNode, check_graph, edge_fits, insert};
 use tracer::{Action, Traced};
 use yacc_read::Reading;
 
@@ -105,14 +105,9 @@ fn first_sets(table: AcceptedTable) -> FirstSets
     ensures is { result.map ≡ sets_of_first (meaning table.entry.words.now).terminals (meaning table.entry.words.now).productions }
     ensures terminals { result.terminals ≡ (meaning table.entry.words.now).terminals }
 {
-    let counts = table.counts();
     let mut words = [0u16; ProductionIndex::ALL_WORDS];
-    table.read_productions(&mut words);
-    let grammar = Grammar {
-        words: &words,
-        productions: counts.productions,
-    };
-    FirstSets::new(grammar, counts.terminals as u16)
+    let grammar = table.read_grammar(&mut words);
+    FirstSets::new(grammar, table.counts().terminals as u16)
 }
 
 fn first0_in(table: AcceptedTable, xs: &[u16], ys: &[u16]) -> Result<Answer, Refusal>
@@ -142,14 +137,12 @@ fn first1_in(
     ensures { reply_of result ≡ first1_answer symbols.now lookahead.0 (meaning table.entry.words.now) }
 {
     let counts = table.counts();
-    let n = counts.nonterminals;
-    let terminals = counts.terminals;
-    if list_fits(n, terminals, symbols) {
-        if lookahead.fits(terminals) {
-            return Ok(first_sets(table).first1(symbols, lookahead));
-        }
+    if list_fits(counts.nonterminals, counts.terminals, symbols) && lookahead.fits(counts.terminals)
+    {
+        Ok(first_sets(table).first1(symbols, lookahead))
+    } else {
+        Err(Refusal::OutOfRange)
     }
-    Err(Refusal::OutOfRange)
 }
 
 // The states from which a path of edges spells the symbols and ends at the given state.
@@ -182,12 +175,11 @@ fn trace_back_in(
 {
     let counts = table.counts();
     let number = state.0 as usize;
-    if number < counts.states {
-        if joined_fits(counts.nonterminals, counts.terminals, xs, ys) {
-            return Ok(state_graph::trace_back_joined(table, number, xs, ys));
-        }
+    if number < counts.states && joined_fits(counts.nonterminals, counts.terminals, xs, ys) {
+        Ok(state_graph::trace_back_joined(table, number, xs, ys))
+    } else {
+        Err(Refusal::OutOfRange)
     }
-    Err(Refusal::OutOfRange)
 }
 
 // Puts an edge, whose label is the item at `index` of `production`, into a graph that the caller lends, unless an equal one is there (part 4 of document 01).
@@ -202,13 +194,10 @@ pub fn add_edge(
     ensures { edge_outcome (reply_of result) graph.new ≡ add_edge_of table.now (record { source = node_value source; target = node_value target; production = production.0; index = index }) graph.old }
 {
     let accepted = table_check::check(table)?;
-    let from = source.words();
-    let to = target.words();
-    let p = production.0 as usize;
     let edge = TraceEdge {
-        source: from,
-        target: to,
-        production: p,
+        source: source.words(),
+        target: target.words(),
+        production: production.0 as usize,
         index: index as usize,
     };
     add_edge_in(accepted, edge, graph)
@@ -218,27 +207,21 @@ pub fn add_edge(
 fn add_edge_in(table: AcceptedTable, edge: TraceEdge, graph: &mut [u16]) -> Result<u16, Refusal>
     ensures { edge_outcome (reply_of result) graph.new ≡ added_edge_in edge graph.old (meaning table.entry.words.now) }
 {
-    let counts = table.counts();
-    let n = counts.nonterminals;
+    let n = table.counts().nonterminals;
     let mut words = [0u16; ProductionIndex::ALL_WORDS];
-    table.read_productions(&mut words);
-    let grammar = Grammar {
-        words: &words,
-        productions: counts.productions,
-    };
-    if edge_fits(grammar, n, edge) {
-        if graph.len() < TraceGraph::WORDS {
-            return Err(Refusal::TooShort);
-        }
-        let mut ix = [0u16; TraceGraph::INDEX_WORDS];
-        if check_graph(grammar, n, graph, &mut ix) {
-            return match insert(grammar, n, graph, &mut ix, edge) {
-                Ok(()) => Ok(word(graph, 0) as u16),
-                Err(Full) => Err(Refusal::TooManyEdges),
-            };
-        }
+    let grammar = table.read_grammar(&mut words);
+    if !edge_fits(grammar, n, edge) {
+        return Err(Refusal::OutOfRange);
     }
-    Err(Refusal::OutOfRange)
+    if graph.len() < TraceGraph::WORDS {
+        return Err(Refusal::TooShort);
+    }
+    let mut ix = [0u16; TraceGraph::INDEX_WORDS];
+    if !check_graph(grammar, n, graph, &mut ix) {
+        return Err(Refusal::OutOfRange);
+    }
+    insert(grammar, n, graph, &mut ix, edge)?;
+    Ok(word(graph, 0) as u16)
 }
 
 // The one trace or the other, of a table as it is lent.

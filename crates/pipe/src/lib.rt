@@ -10,17 +10,20 @@ use repr::Refusal;
 use std::io;
 use streams::{Failed, read, read_some, write};
 
-// The most records of a table, its words and their bytes.
-pub const RECORDS: usize = 8192;
+pub use table::RECORDS;
 
+// The most words of a table, and their bytes.
 pub const WORDS: usize = RECORDS * 4;
 
 pub const BYTES: usize = WORDS * 2;
 
-// Of the conflicts behind a table, those read at a time, five words each.
+// Words of a conflict behind a table.
+pub const WORDS_OF_CONFLICT: usize = 5;
+
+// Of the conflicts those read at a time, their words and bytes.
 pub const CONFLICTS: usize = 4096;
 
-pub const CONFLICT_WORDS: usize = CONFLICTS * 5;
+pub const CONFLICT_WORDS: usize = CONFLICTS * WORDS_OF_CONFLICT;
 
 pub const CONFLICT_BYTES: usize = CONFLICT_WORDS * 2;
 

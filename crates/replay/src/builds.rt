@@ -1,12 +1,16 @@
 // Op 20: build_states.
 use crate::say::{say_answer, say_digest, say_next, say_words};
-use crate::words::{at, front, number};
+use crate::words::{Request, TABLE, front};
+
+// Words of scratch and of conflicts that are lent, some more than the call takes.
+const BUILD_SCRATCH: usize = 64008;
+
+const CONFLICTS: usize = 10008;
 
 // Prints the numbers.
 fn build_lent<R: Print>(
     rt: &R,
-    table: &[u16],
-    more: &[u16],
+    request: Request,
     scratch: &mut [u16],
     out: &mut [u16],
     conflicts: &mut [u16],
@@ -14,12 +18,12 @@ fn build_lent<R: Print>(
     let mut place: u16 = 7;
     let mut records: u16 = 7;
     let mut count: u32 = 7;
-    let s = number(more, 1).min(scratch.len());
-    let o = number(more, 2).min(out.len());
-    let c = number(more, 3).min(conflicts.len());
+    let s = request.number(1).min(scratch.len());
+    let o = request.number(2).min(out.len());
+    let c = request.number(3).min(conflicts.len());
     let answer = lihvemur::lihvemur_build_states(
-        table,
-        at(more, 0),
+        request.table,
+        request.at(0),
         &mut scratch[..s],
         &mut out[..o],
         &mut conflicts[..c],
@@ -32,11 +36,11 @@ fn build_lent<R: Print>(
     say_next(rt, count as u64);
 }
 
-pub fn ask_build<R: Print>(rt: &R, table: &[u16], more: &[u16]) {
-    let mut scratch = [7u16; 64008];
-    let mut out = [7u16; 32776];
-    let mut conflicts = [7u16; 10008];
-    build_lent(rt, table, more, &mut scratch, &mut out, &mut conflicts);
+pub fn ask_build<R: Print>(rt: &R, request: Request) {
+    let mut scratch = [7u16; BUILD_SCRATCH];
+    let mut out = [7u16; TABLE];
+    let mut conflicts = [7u16; CONFLICTS];
+    build_lent(rt, request, &mut scratch, &mut out, &mut conflicts);
     say_digest(rt, &scratch);
     say_digest(rt, &out);
     say_digest(rt, &conflicts);

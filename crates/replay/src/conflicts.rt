@@ -1,10 +1,14 @@
 // Ops 10 to 12: classify, choose, observed.
 use crate::say::{say_answer, say_digest, say_halves, say_next, say_words};
-use crate::words::{at, front, number, rest, set_at};
+use crate::words::{EXAMPLE, Request, SCRATCH, front, number};
+use error::Class;
+use lookahead::TokenSet;
+
+// Words of entries that are lent, some more than the call takes.
+const ENTRIES: usize = 390;
 
 fn classify(
-    table: &[u16],
-    more: &[u16],
+    request: Request,
     scratch: &mut [u16],
     action: &mut [u16],
     reduce: &mut [u16],
@@ -15,12 +19,12 @@ fn classify(
     place: &mut u16,
 ) -> u16 {
     lihvemur::conflicts::lihvemur_classify(
-        table,
-        at(more, 0),
-        at(more, 1),
-        at(more, 2),
-        at(more, 3),
-        at(more, 4),
+        request.table,
+        request.at(0),
+        request.at(1),
+        request.at(2),
+        request.at(3),
+        request.at(4),
         scratch,
         action,
         reduce,
@@ -35,8 +39,7 @@ fn classify(
 // Prints the numbers and answers the class, 7 where the call was refused.
 fn classify_lent<R: Print>(
     rt: &R,
-    table: &[u16],
-    more: &[u16],
+    request: Request,
     scratch: &mut [u16],
     action: &mut [u16],
     reduce: &mut [u16],
@@ -46,12 +49,11 @@ fn classify_lent<R: Print>(
     let mut values: u64 = 7;
     let mut action_trials: u32 = 7;
     let mut reduce_trials: u32 = 7;
-    let s = number(more, 5).min(scratch.len());
-    let a = number(more, 6).min(action.len());
-    let r = number(more, 7).min(reduce.len());
+    let s = request.number(5).min(scratch.len());
+    let a = request.number(6).min(action.len());
+    let r = request.number(7).min(reduce.len());
     let answer = classify(
-        table,
-        more,
+        request,
         &mut scratch[..s],
         &mut action[..a],
         &mut reduce[..r],
@@ -78,21 +80,21 @@ fn say_example<R: Print>(rt: &R, buffer: &[u16]) {
 
 // The examples that a class has: none if it is naive or the call was refused, the action's of an ambiguous reduction, else both.
 fn say_examples<R: Print>(rt: &R, class: u16, action: &[u16], reduce: &[u16]) {
-    if class != 0 {
-        if class != 7 {
+    match class {
+        0 | 7 => {}
+        5 => say_example(rt, action),
+        _ => {
             say_example(rt, action);
-            if class != 5 {
-                say_example(rt, reduce);
-            }
+            say_example(rt, reduce);
         }
     }
 }
 
-pub fn ask_classify<R: Print>(rt: &R, table: &[u16], more: &[u16]) {
-    let mut scratch = [7u16; 32008];
-    let mut action = [7u16; 1160];
-    let mut reduce = [7u16; 1160];
-    let class = classify_lent(rt, table, more, &mut scratch, &mut action, &mut reduce);
+pub fn ask_classify<R: Print>(rt: &R, request: Request) {
+    let mut scratch = [7u16; SCRATCH];
+    let mut action = [7u16; EXAMPLE];
+    let mut reduce = [7u16; EXAMPLE];
+    let class = classify_lent(rt, request, &mut scratch, &mut action, &mut reduce);
     say_digest(rt, &scratch);
     say_digest(rt, &action);
     say_digest(rt, &reduce);
@@ -100,20 +102,19 @@ pub fn ask_classify<R: Print>(rt: &R, table: &[u16], more: &[u16]) {
 }
 
 fn choose(
-    table: &[u16],
-    more: &[u16],
+    request: Request,
     scratch: &mut [u16],
     entries: &mut [u16],
     count: &mut usize,
     place: &mut u16,
 ) -> u16 {
     lihvemur::conflicts::lihvemur_choose(
-        table,
-        at(more, 0),
-        at(more, 1),
-        at(more, 2),
-        at(more, 3),
-        set_at(more, 4),
+        request.table,
+        request.at(0),
+        request.at(1),
+        request.at(2),
+        request.at(3),
+        request.set_at(4),
         scratch,
         entries,
         count,
@@ -124,18 +125,16 @@ fn choose(
 // How many words of entries there are.
 fn choose_lent<R: Print>(
     rt: &R,
-    table: &[u16],
-    more: &[u16],
+    request: Request,
     scratch: &mut [u16],
     entries: &mut [u16],
 ) -> usize {
     let mut place: u16 = 7;
     let mut count: usize = 77;
-    let s = number(more, 8).min(scratch.len());
-    let e = number(more, 9).min(entries.len());
+    let s = request.number(8).min(scratch.len());
+    let e = request.number(9).min(entries.len());
     let answer = choose(
-        table,
-        more,
+        request,
         &mut scratch[..s],
         &mut entries[..e],
         &mut count,
@@ -143,22 +142,26 @@ fn choose_lent<R: Print>(
     );
     say_answer(rt, answer, place);
     say_next(rt, count as u64);
-    if answer == 0 { count.min(64) * 6 } else { 0 }
+    if answer == 0 {
+        count.min(TokenSet::LIMIT as usize) * Class::ENTRY_WORDS
+    } else {
+        0
+    }
 }
 
-pub fn ask_choose<R: Print>(rt: &R, table: &[u16], more: &[u16]) {
-    let mut scratch = [7u16; 32008];
-    let mut entries = [7u16; 390];
-    let n = choose_lent(rt, table, more, &mut scratch, &mut entries);
+pub fn ask_choose<R: Print>(rt: &R, request: Request) {
+    let mut scratch = [7u16; SCRATCH];
+    let mut entries = [7u16; ENTRIES];
+    let n = choose_lent(rt, request, &mut scratch, &mut entries);
     say_digest(rt, &scratch);
     say_digest(rt, &entries);
     say_words(rt, front(&entries, n));
 }
 
-pub fn ask_observed<R: Print>(rt: &R, more: &[u16]) {
-    let n = number(more, 0);
-    let action = front(rest(more, 1), n);
-    let reduce = rest(more, 1 + n);
+pub fn ask_observed<R: Print>(rt: &R, request: Request) {
+    let n = request.number(0);
+    let action = front(request.rest(1), n);
+    let reduce = request.rest(1 + n);
     let mut words: usize = 7;
     let which = lihvemur::conflicts::lihvemur_observed(action, reduce, &mut words);
     let _ = print!(rt; "{which}");

@@ -54,43 +54,49 @@ use traces::{ask_add_edge, ask_backtrace};
 use walks::{
     ask_check, ask_first0, ask_first0_joined, ask_first1, ask_trace_back, ask_trace_back_joined,
 };
+use words::Request;
 use yaccs::{ask_read_yacc, ask_write_yacc};
+
+// Words of a table's buffer, and further words of a request.
+const WORDS: usize = 32772;
+
+const MORE: usize = 8448;
 
 // Fills a list with words, by way of bytes; none if the input is shorter.
 fn read_words<R: io::Input>(rt: &R, out: &mut [u16]) -> Option<()>
     requires { length out.old ≤ 32772 }
 {
-    let mut bytes = [0u8; 65544];
+    let mut bytes = [0u8; WORDS * 2];
     let size = out.len() * 2;
     rt.reader().read_exact(&mut bytes[..size]).ok()?;
     decode(&bytes[..size], out);
     Some(())
 }
 
-fn ask<R: Print>(rt: &R, op: u16, table: &[u16], more: &[u16]) {
+fn ask<R: Print>(rt: &R, op: u16, request: Request) {
     match op {
-        1 => ask_check(rt, table),
-        2 => ask_first0(rt, table, more),
-        3 => ask_first1(rt, table, more),
-        0 | 4 => ask_trace_back(rt, table, more),
-        5 => ask_backtrace(rt, Action::Shift, table, more),
-        6 => ask_backtrace(rt, Action::Reduce, table, more),
-        7 => ask_add_edge(rt, table, more),
-        8 => ask_advance(rt, table, more),
-        9 => ask_examples(rt, table, more),
-        10 => ask_classify(rt, table, more),
-        11 => ask_choose(rt, table, more),
-        12 => ask_observed(rt, more),
-        13 => ask_open(rt, table, more),
-        14 => ask_sets(rt, more),
-        15 => ask_item(rt, table, more),
-        16 => ask_first0_joined(rt, table, more),
-        17 => ask_trace_back_joined(rt, table, more),
-        18 => ask_respell(rt, table, more),
-        19 => ask_compact(rt, table),
-        20 => ask_build(rt, table, more),
-        21 => ask_read_yacc(rt, table, more),
-        22 => ask_write_yacc(rt, table, more),
+        1 => ask_check(rt, request.table),
+        2 => ask_first0(rt, request),
+        3 => ask_first1(rt, request),
+        0 | 4 => ask_trace_back(rt, request),
+        5 => ask_backtrace(rt, Action::Shift, request),
+        6 => ask_backtrace(rt, Action::Reduce, request),
+        7 => ask_add_edge(rt, request),
+        8 => ask_advance(rt, request),
+        9 => ask_examples(rt, request),
+        10 => ask_classify(rt, request),
+        11 => ask_choose(rt, request),
+        12 => ask_observed(rt, request),
+        13 => ask_open(rt, request),
+        14 => ask_sets(rt, request),
+        15 => ask_item(rt, request),
+        16 => ask_first0_joined(rt, request),
+        17 => ask_trace_back_joined(rt, request),
+        18 => ask_respell(rt, request),
+        19 => ask_compact(rt, request.table),
+        20 => ask_build(rt, request),
+        21 => ask_read_yacc(rt, request),
+        22 => ask_write_yacc(rt, request),
         _ => {
             let _ = print!(rt; "?");
         }
@@ -100,24 +106,31 @@ fn ask<R: Print>(rt: &R, op: u16, table: &[u16], more: &[u16]) {
 
 // The further words, and the answer.
 fn replay_rest<R: io::Input + Print>(rt: &R, op: u16, table: &[u16]) -> Option<()> {
-    let mut more = [0u16; 8448];
+    let mut more = [0u16; MORE];
     read_words(rt, &mut more[..1])?;
     let n = word(&more, 0);
-    if n > 8448 {
+    if n > MORE {
         return None;
     }
     read_words(rt, &mut more[..n])?;
-    ask(rt, op, table, &more[..n]);
+    ask(
+        rt,
+        op,
+        Request {
+            table,
+            more: &more[..n],
+        },
+    );
     Some(())
 }
 
 // One request; none at the end of the input. Document 01 says nothing of this form; it is the sample's own.
 fn replay<R: io::Input + Print>(rt: &R) -> Option<()> {
     let mut head = [0u16; 3];
-    let mut table = [0u16; 32772];
+    let mut table = [0u16; WORDS];
     read_words(rt, &mut head)?;
     let n = word(&head, 1) + word(&head, 2) * 65536;
-    if n > 32772 {
+    if n > WORDS {
         return None;
     }
     read_words(rt, &mut table[..n])?;

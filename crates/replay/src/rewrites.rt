@@ -1,13 +1,13 @@
 // Ops 18 and 19: respell, compact.
 use crate::say::{say_answer, say_digest, say_next, say_words};
-use crate::words::{front, number, put};
+use crate::words::{Request, TABLE, front, put};
 
-pub fn ask_respell<R: Print>(rt: &R, table: &[u16], more: &[u16]) {
-    let mut out = [7u16; 32776];
+pub fn ask_respell<R: Print>(rt: &R, request: Request) {
+    let mut out = [7u16; TABLE];
     let mut place: u16 = 7;
     let mut records: u16 = 7;
-    let n = number(more, 0).min(out.len());
-    let answer = lihvemur::lihvemur_respell(table, &mut out[..n], &mut records, &mut place);
+    let n = request.number(0).min(out.len());
+    let answer = lihvemur::lihvemur_respell(request.table, &mut out[..n], &mut records, &mut place);
     say_answer(rt, answer, place);
     say_next(rt, records as u64);
     say_digest(rt, &out);
@@ -16,7 +16,7 @@ pub fn ask_respell<R: Print>(rt: &R, table: &[u16], more: &[u16]) {
 
 // The table is a part of a longer list.
 pub fn ask_compact<R: Print>(rt: &R, table: &[u16]) {
-    let mut lent = [7u16; 32776];
+    let mut lent = [7u16; TABLE];
     let mut place: u16 = 7;
     let mut records: u16 = 7;
     put(table, &mut lent);

@@ -4,10 +4,10 @@ ghost use Rattle.repr.specs.Packed.{symbol_words};
 ghost use Rattle.repr.specs.Listed.{listed};
 
 use crate::say::{say_answer, say_bool, say_halves, say_next, say_words};
-use crate::words::{at, number, set_at};
+use crate::words::Request;
 use lookahead::TokenSet;
 use lr1_core::{Item, prefix, suffix};
-use repr::{Grammar, ProductionIndex};
+use repr::{Grammar, NonterminalString, ProductionIndex};
 use table::AcceptedTable;
 
 fn say_set<R: Print>(rt: &R, set: TokenSet) {
@@ -58,11 +58,11 @@ fn say_members<R: Print>(rt: &R, a: TokenSet) {
     }
 }
 
-pub fn ask_sets<R: Print>(rt: &R, more: &[u16]) {
-    let terminals = at(more, 0);
-    let token = at(more, 1);
-    let a = TokenSet(set_at(more, 2));
-    let b = TokenSet(set_at(more, 6));
+pub fn ask_sets<R: Print>(rt: &R, request: Request) {
+    let terminals = request.at(0);
+    let token = request.at(1);
+    let a = TokenSet(request.set_at(2));
+    let b = TokenSet(request.set_at(6));
     say_answer(rt, 0, 0);
     say_one(rt, a, terminals, token);
     say_two(rt, a, b);
@@ -74,7 +74,7 @@ pub fn ask_sets<R: Print>(rt: &R, more: &[u16]) {
 fn shifted(item: Item, grammar: Grammar) -> u64
     requires { item.production < grammar.productions }
 {
-    for n in 0..32usize {
+    for n in 0..NonterminalString::LIMIT {
         if item.can_shift_nonterminal(grammar, n) {
             return n as u64 + 1;
         }
@@ -101,11 +101,7 @@ fn say_item<R: Print>(rt: &R, item: Item, grammar: Grammar)
 
 fn ask_item_in<R: Print>(rt: &R, table: AcceptedTable, production: usize, index: usize) {
     let mut words = [0u16; ProductionIndex::ALL_WORDS];
-    table.read_productions(&mut words);
-    let grammar = Grammar {
-        words: &words,
-        productions: table.counts().productions,
-    };
+    let grammar = table.read_grammar(&mut words);
     if production < grammar.productions && index <= grammar.length(production) {
         say_item(rt, Item { production, index }, grammar);
     } else {
@@ -113,9 +109,9 @@ fn ask_item_in<R: Print>(rt: &R, table: AcceptedTable, production: usize, index:
     }
 }
 
-pub fn ask_item<R: Print>(rt: &R, table: &[u16], more: &[u16]) {
-    match table_check::check(table) {
+pub fn ask_item<R: Print>(rt: &R, request: Request) {
+    match table_check::check(request.table) {
         Err(refusal) => say_answer(rt, refusal.number(), refusal.place()),
-        Ok(accepted) => ask_item_in(rt, accepted, number(more, 0), number(more, 1)),
+        Ok(accepted) => ask_item_in(rt, accepted, request.number(0), request.number(1)),
     }
 }

@@ -1,12 +1,13 @@
 // Ops 5 to 7: backtrace_shift, backtrace_reduce, add_edge.
 use crate::say::{say_answer, say_digest, say_next, say_words};
-use crate::words::{at, front, number, put, rest};
+use crate::words::{GRAPH, Request, SCRATCH, front, put};
+use trace_graph::TraceGraph;
 use tracer::Action;
 
 // The words of an accepted graph.
 fn say_graph<R: Print>(rt: &R, answer: u16, edges: u16, graph: &[u16]) {
     if answer == 0 {
-        say_words(rt, front(graph, edges as usize * 8 + 1));
+        say_words(rt, front(graph, 1 + edges as usize * TraceGraph::EDGE_WORDS));
     }
 }
 
@@ -18,37 +19,35 @@ fn say_traced<R: Print>(rt: &R, answer: u16, place: u16, edges: u16, graph: &[u1
 
 fn backtrace(
     action: Action,
-    table: &[u16],
-    more: &[u16],
+    request: Request,
     graph: &mut [u16],
     scratch: &mut [u16],
     edges: &mut u16,
     place: &mut u16,
 ) -> u16 {
-    let state = at(more, 0);
-    let p = at(more, 1);
-    let i = at(more, 2);
+    let state = request.at(0);
+    let p = request.at(1);
+    let i = request.at(2);
     match action {
         Action::Shift => {
-            lihvemur::lihvemur_backtrace_shift(table, state, p, i, graph, scratch, edges, place)
+            lihvemur::lihvemur_backtrace_shift(request.table, state, p, i, graph, scratch, edges, place)
         }
         Action::Reduce => {
-            lihvemur::lihvemur_backtrace_reduce(table, state, p, i, graph, scratch, edges, place)
+            lihvemur::lihvemur_backtrace_reduce(request.table, state, p, i, graph, scratch, edges, place)
         }
     }
 }
 
-pub fn ask_backtrace<R: Print>(rt: &R, action: Action, table: &[u16], more: &[u16]) {
-    let mut graph = [7u16; 8200];
-    let mut scratch = [7u16; 32008];
+pub fn ask_backtrace<R: Print>(rt: &R, action: Action, request: Request) {
+    let mut graph = [7u16; GRAPH];
+    let mut scratch = [7u16; SCRATCH];
     let mut place: u16 = 7;
     let mut edges: u16 = 7;
-    let g = number(more, 3).min(graph.len());
-    let s = number(more, 4).min(scratch.len());
+    let g = request.number(3).min(graph.len());
+    let s = request.number(4).min(scratch.len());
     let answer = backtrace(
         action,
-        table,
-        more,
+        request,
         &mut graph[..g],
         &mut scratch[..s],
         &mut edges,
@@ -60,35 +59,34 @@ pub fn ask_backtrace<R: Print>(rt: &R, action: Action, table: &[u16], more: &[u1
 }
 
 fn add_edge(
-    table: &[u16],
-    more: &[u16],
+    request: Request,
     graph: &mut [u16],
     edges: &mut u16,
     place: &mut u16,
 ) -> u16 {
     lihvemur::lihvemur_add_edge(
-        table,
-        at(more, 0),
-        at(more, 1),
-        at(more, 2),
-        at(more, 3),
-        at(more, 4),
-        at(more, 5),
-        at(more, 6),
-        at(more, 7),
+        request.table,
+        request.at(0),
+        request.at(1),
+        request.at(2),
+        request.at(3),
+        request.at(4),
+        request.at(5),
+        request.at(6),
+        request.at(7),
         graph,
         edges,
         place,
     )
 }
 
-pub fn ask_add_edge<R: Print>(rt: &R, table: &[u16], more: &[u16]) {
-    let mut graph = [7u16; 8200];
+pub fn ask_add_edge<R: Print>(rt: &R, request: Request) {
+    let mut graph = [7u16; GRAPH];
     let mut place: u16 = 7;
     let mut edges: u16 = 7;
-    let g = number(more, 8).min(graph.len());
-    put(rest(more, 9), &mut graph);
-    let answer = add_edge(table, more, &mut graph[..g], &mut edges, &mut place);
+    let g = request.number(8).min(graph.len());
+    put(request.rest(9), &mut graph);
+    let answer = add_edge(request, &mut graph[..g], &mut edges, &mut place);
     say_traced(rt, answer, place, edges, &graph);
     say_graph(rt, answer, edges, &graph);
 }

@@ -1,6 +1,59 @@
 // Parts of a request, and words that are lent. Every function is total: words that a request has not are zeros.
 ghost use Rattle.std.specs.Prelude.{◌<◌, ◌≤◌};
 
+// Words of the buffers that are lent: some more than a call takes, so that those behind show that they stay.
+pub const TABLE: usize = 32776;
+
+pub const GRAPH: usize = 8200;
+
+pub const SCRATCH: usize = 32008;
+
+pub const EXAMPLE: usize = 1160;
+
+// The words of a scratch that a listing uses.
+const LISTED: usize = 32000;
+
+// What a request asks about: a table, and further words.
+#[derive(Clone, Copy)]
+pub struct Request<'a> {
+    pub table: &'a [u16],
+    pub more: &'a [u16],
+}
+
+impl<'a> Request<'a> {
+    pub fn at(self, i: usize) -> u16 {
+        at(self.more, i)
+    }
+
+    pub fn number(self, i: usize) -> usize
+        ensures { result < 65536 }
+    {
+        number(self.more, i)
+    }
+
+    pub fn number32(self, i: usize) -> u32
+        ensures { result < 65536 }
+    {
+        self.number(i) as u32
+    }
+
+    // A set of tokens from its four words, the lowest first.
+    pub fn set_at(self, i: usize) -> u64
+        requires { i < 1000000 }
+    {
+        let a = self.number(i);
+        let b = self.number(i + 1);
+        let c = self.number(i + 2);
+        let d = self.number(i + 3);
+        (a + b * 65536 + c * 4294967296 + d * 281474976710656) as u64
+    }
+
+    // The further words from a place on.
+    pub fn rest(self, n: usize) -> &'a [u16] {
+        rest(self.more, n)
+    }
+}
+
 pub fn at(words: &[u16], i: usize) -> u16 {
     words.get(i).copied().unwrap_or(0)
 }
@@ -9,23 +62,6 @@ pub fn number(words: &[u16], i: usize) -> usize
     ensures { result < 65536 }
 {
     at(words, i) as usize
-}
-
-pub fn number32(words: &[u16], i: usize) -> u32
-    ensures { result < 65536 }
-{
-    number(words, i) as u32
-}
-
-// A set of tokens from its four words, the lowest first.
-pub fn set_at(words: &[u16], i: usize) -> u64
-    requires { i < 1000000 }
-{
-    let a = number(words, i);
-    let b = number(words, i + 1);
-    let c = number(words, i + 2);
-    let d = number(words, i + 3);
-    (a + b * 65536 + c * 4294967296 + d * 281474976710656) as u64
 }
 
 // The first n words, or all.
@@ -46,9 +82,8 @@ pub fn put(from: &[u16], to: &mut [u16]) {
     to[..n].copy_from_slice(&from[..n]);
 }
 
-// The words of scratch that a listing uses.
 pub fn zero(to: &mut [u16]) {
-    let n = to.len().min(32000);
+    let n = to.len().min(LISTED);
     to[..n].fill(0);
 }
 

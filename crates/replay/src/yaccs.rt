@@ -1,6 +1,15 @@
 // Ops 21 and 22: read_yacc, write_yacc.
 use crate::say::{say_answer, say_digest, say_next, say_words};
-use crate::words::{at, front, number};
+use crate::words::{Request, at, front};
+
+// Words and bytes that are lent, some more than a call takes: of a grammar, of places, of a text that is read and of one that is written.
+const GRAMMAR: usize = 8848;
+
+const PLACES: usize = 104;
+
+const TEXT: usize = 65544;
+
+const WRITTEN: usize = 9480;
 
 // A byte of some words, two in each, the low one first; past them 0.
 fn byte_at(words: &[u16], i: usize) -> u8 {
@@ -26,13 +35,13 @@ fn put_text(words: &[u16], from: usize, times: usize, text: &mut [u8]) {
 }
 
 // Prints the numbers.
-fn read_lent<R: Print>(rt: &R, text: &[u8], more: &[u16], table: &mut [u16], places: &mut [u16]) {
+fn read_lent<R: Print>(rt: &R, text: &[u8], request: Request, table: &mut [u16], places: &mut [u16]) {
     let mut place: u16 = 7;
     let mut records: u16 = 7;
     let mut count: u16 = 7;
     let mut start: u16 = 7;
-    let t = number(more, 0).min(table.len());
-    let p = number(more, 1).min(places.len());
+    let t = request.number(0).min(table.len());
+    let p = request.number(1).min(places.len());
     let answer = lihvemur::lihvemur_read_yacc(
         text,
         &mut table[..t],
@@ -48,10 +57,10 @@ fn read_lent<R: Print>(rt: &R, text: &[u8], more: &[u16], table: &mut [u16], pla
     say_next(rt, start as u64);
 }
 
-fn ask_read<R: Print>(rt: &R, text: &[u8], more: &[u16]) {
-    let mut table = [7u16; 8848];
-    let mut places = [7u16; 104];
-    read_lent(rt, text, more, &mut table, &mut places);
+fn ask_read<R: Print>(rt: &R, text: &[u8], request: Request) {
+    let mut table = [7u16; GRAMMAR];
+    let mut places = [7u16; PLACES];
+    read_lent(rt, text, request, &mut table, &mut places);
     say_digest(rt, &table);
     say_digest(rt, &places);
     say_words(rt, front(&table, 24));
@@ -59,18 +68,18 @@ fn ask_read<R: Print>(rt: &R, text: &[u8], more: &[u16]) {
 }
 
 // The text stands at the front of a buffer.
-fn read_by<R: Print>(rt: &R, words: &[u16], more: &[u16], text: &mut [u8]) {
-    let from = number(more, 3);
-    let times = number(more, 4);
-    let n = (number(more, 2) + times).min(text.len());
-    put_text(words, from, times, &mut text[..n]);
-    ask_read(rt, &text[..n], more);
+fn read_by<R: Print>(rt: &R, request: Request, text: &mut [u8]) {
+    let from = request.number(3);
+    let times = request.number(4);
+    let n = (request.number(2) + times).min(text.len());
+    put_text(request.table, from, times, &mut text[..n]);
+    ask_read(rt, &text[..n], request);
 }
 
 // The words stand in place of a table.
-pub fn ask_read_yacc<R: Print>(rt: &R, words: &[u16], more: &[u16]) {
-    let mut text = [0u8; 65544];
-    read_by(rt, words, more, &mut text);
+pub fn ask_read_yacc<R: Print>(rt: &R, request: Request) {
+    let mut text = [0u8; TEXT];
+    read_by(rt, request, &mut text);
 }
 
 // Bytes as words, as many as there is room for.
@@ -81,19 +90,19 @@ fn widen(bytes: &[u8], words: &mut [u16]) {
 }
 
 // Prints the numbers.
-fn write_lent<R: Print>(rt: &R, table: &[u16], more: &[u16], text: &mut [u8]) {
+fn write_lent<R: Print>(rt: &R, request: Request, text: &mut [u8]) {
     let mut place: u16 = 7;
     let mut bytes: u16 = 7;
-    let n = number(more, 0).min(text.len());
-    let answer = lihvemur::lihvemur_write_yacc(table, &mut text[..n], &mut bytes, &mut place);
+    let n = request.number(0).min(text.len());
+    let answer = lihvemur::lihvemur_write_yacc(request.table, &mut text[..n], &mut bytes, &mut place);
     say_answer(rt, answer, place);
     say_next(rt, bytes as u64);
 }
 
-pub fn ask_write_yacc<R: Print>(rt: &R, table: &[u16], more: &[u16]) {
-    let mut text = [7u8; 9480];
-    let mut words = [0u16; 9480];
-    write_lent(rt, table, more, &mut text);
+pub fn ask_write_yacc<R: Print>(rt: &R, request: Request) {
+    let mut text = [7u8; WRITTEN];
+    let mut words = [0u16; WRITTEN];
+    write_lent(rt, request, &mut text);
     widen(&text, &mut words);
     say_digest(rt, &words);
     say_words(rt, front(&words, 24));

@@ -7,10 +7,15 @@ ghost use Rattle.std.specs.Prelude.{◌*◌, ◌≤◌, length};
 ghost use Rattle.repr.specs.Sizes.{record_limit};
 
 use builder::{Built, build_states};
-use pipe::{BYTES, Stop, WORDS, pass_on, read_table, say_end, write_records, write_words};
+use pipe::{
+    BYTES, Stop, WORDS, WORDS_OF_CONFLICT, pass_on, read_table, say_end, write_records, write_words,
+};
 use repr::ProductionIndex;
 use std::io;
 use streams::{Failed, read};
+
+// Conflicts of a table at most.
+const CONFLICTS: usize = 65535;
 
 // The start production behind the table; where there is none, a number that no production has.
 fn read_start<R: io::Input + Eprint>(rt: &R) -> Result<ProductionIndex, Failed> {
@@ -44,7 +49,7 @@ fn build_input<R: io::Input + Print + Eprint>(rt: &R) -> Result<(), Stop> {
     let start = read_start(rt)?;
     let mut scratch = [0u16; Built::SCRATCH];
     let mut out = [0u16; WORDS];
-    let mut conflicts = [0u16; 327675];
+    let mut conflicts = [0u16; CONFLICTS * WORDS_OF_CONFLICT];
     let built = build_states(
         &table[..words],
         start,
@@ -53,7 +58,7 @@ fn build_input<R: io::Input + Print + Eprint>(rt: &R) -> Result<(), Stop> {
         &mut conflicts,
     )?;
     let past = built.records as usize * 4;
-    let end = built.conflicts as usize * 5;
+    let end = built.conflicts as usize * WORDS_OF_CONFLICT;
     Ok(write_states(rt, &out[..past], &conflicts[..end], &mut bytes)?)
 }
 

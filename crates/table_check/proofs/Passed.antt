@@ -6,25 +6,17 @@ use Prim.Native.Nat.{ℕ, ◌+◌, ◌/◌, ◌≤◌, ◌<◌}
 use native.Mathlib.Omega.{arith}
 use native.Mathlib.Decide.{ℕ_discrete}
 use lib.ListN.{length}
-use lib.Dec.{eqb}
 use Rattle.bits.specs.Bits.{bit_at, bit_put}
 use Rattle.bits.proofs.Laws.{put-length, put_here, put_other, zeros_none}
-use Rattle.table.specs.Words.{word_at, records, loose, loose_records, names, against}
+use Rattle.table.specs.Words.{Area, word_at, loose, loose_records, names}
 use Rattle.table.specs.Reached.{Reached, head, next, reached_by}
 use Rattle.table.proofs.Reached.{loose-named, reached, by_reached}
 use Rattle.repr.proofs.Lists.{cases, clash}
 use Rattle.table_check.specs.Passed.{Blank, Passed}
-use Rattle.table_check.specs.Known.{area}
 
 -- the test of the code is the rule
-pub tested : (t : List ℕ) (from past r x : ℕ) {b v : Bool} → from ≡ loose t → past ≡ records t → b ≡ names (area from past) r x → b ≡ v → names (loose_records t) r x ≡ v
-unfolding loose_records
-tested t from past r x f p e v = rw (← f, ← p, ← e) v
-
--- an index by the rule is not against it
-pub not-against : (t : List ℕ) (r x : ℕ) → x ≡ word_at t r 0 → names (loose_records t) r x ≡ true → false ≡ against (loose_records t) r (word_at t r 0)
-unfolding against
-not-against t r x e y = rw (← e, y) (cases (eqb x 0) (λ o. rw o) (λ o. rw o))
+pub tested : (t : List ℕ) (a : Area) (r x : ℕ) {b v : Bool} → a ≡ loose_records t → b ≡ names a r x → b ≡ v → names (loose_records t) r x ≡ v
+tested t a r x l e v = rw (← l, ← e) v
 
 module _ {t : List ℕ} {first n k : ℕ} where
   -- nothing is marked yet

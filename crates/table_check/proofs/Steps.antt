@@ -1,20 +1,21 @@
 -- A chain followed record by record: its number of records, and the productions that it holds. Assumes nothing.
 use mathlib.Core.Path.{◌≡◌, sym, ap, ◌∙◌}
-use mathlib.Core.Bool.{true, false}
-use mathlib.Core.List.{List, ◌∷◌}
+use mathlib.Core.Bool.{true}
+use mathlib.Core.List.{List, [], ◌∷◌}
 use Prim.Native.Nat.{ℕ, ◌+◌, ◌-◌, min, ◌≤◌, ◌<◌}
 use native.Mathlib.Omega.{arith}
 use native.Mathlib.Decide.{ℕ_discrete}
-use lib.ListN.{length, get_or, set}
+use lib.ListN.{length, get_or, set, length-set}
 use lib.Seq.{get_or-set_same, get_or-set_other}
 use Rattle.repr.specs.Sizes.{index_limit}
-use Rattle.table.specs.Words.{word_at, records, production_area, loose_records, names, chain}
+use Rattle.table.specs.Words.{Area, word_at, records, production_area, loose_records, production_records, names, chain}
 use Rattle.table.specs.Decoded.{production_chain, symbol_chain}
-use Rattle.table.proofs.Chains.{named, chain-none, chain-step}
+use Rattle.repr.specs.Lists.{mem}
+use Rattle.repr.proofs.Lists.{mem-cons_here, mem-cons_there}
+use Rattle.table.proofs.Chains.{named, chain-step, chain_member}
 use Rattle.table_check.specs.Marks.{Lengths}
 use Rattle.table_check.specs.Known.{AreasOf, area, bump}
 use Rattle.table_check.specs.declared.areas.Areas.{Areas}
-use Rattle.table_check.proofs.Ways.{production_area_lem, loose-area}
 
 module _ (t : List ℕ) (from past last r : ℕ) (whole : past ≤ records t) where
   -- a good index is the first of what is left, and after it stands the chain from its next index
@@ -23,39 +24,41 @@ module _ (t : List ℕ) (from past last r : ℕ) (whole : past ≤ records t) wh
       let n = named (area from past) last r e in
       chain-step t (area from past) whole last r (λ z. let l = n.later in omega arith) e ∙ ap (λ (y : ℕ). r ∷ chain t (area from past) r y) (sym q)
 
-  pub count_more : names (area from past) last r ≡ true → (x : ℕ) → x ≡ word_at t r 0 → (n total : ℕ) → n + length (chain t (area from past) last r) ≡ total
-      → n + 1 + length (chain t (area from past) r x) ≡ total
-  count_more e x q n total h = let s = ap length (step e x q) in omega arith
+-- ---- the productions of a chain, held: what is left of it is in the area, and gives what all of it is to give
+pub record Holding (from past : ℕ) (xs hs all : List ℕ) : Type 0 where
+  pub long : length hs ≡ 128
+  pub rest : bump from hs xs ≡ all
+  pub inside : (y : ℕ) → mem y xs ≡ true → (from ≤ y) × (y < past)
 
-  pub count_full : names (area from past) last r ≡ true → (n total : ℕ) → n + length (chain t (area from past) last r) ≡ total → index_limit ≤ n → index_limit ≡ min index_limit total
-  count_full e n total h l = omega arith
+module _ {from past r : ℕ} {xs hs all : List ℕ} where
+  pub hold_here : Holding from past (r ∷ xs) hs all → (from ≤ r) × (r < past)
+  hold_here H = H.inside r (mem-cons_here r xs)
 
-  pub count_end : names (area from past) last r ≡ false → (n total : ℕ) → n + length (chain t (area from past) last r) ≡ total → n ≤ index_limit → n ≡ min index_limit total
-  count_end e n total h l = let s = ap length (chain-none t (area from past) last r e) in omega arith
-
-  pub hold_more : names (area from past) last r ≡ true → (x : ℕ) → x ≡ word_at t r 0 → (hs : List ℕ) (m : ℕ) → m ≡ min 2 (get_or hs (r - from) 0 + 1) → (all : List ℕ)
-      → bump from hs (chain t (area from past) last r) ≡ all → bump from (set hs (r - from) m) (chain t (area from past) r x) ≡ all
+  pub hold_more : (m : ℕ) → m ≡ min 2 (get_or hs (r - from) 0 + 1) → Holding from past (r ∷ xs) hs all → Holding from past xs (set hs (r - from) m) all
   unfolding bump
-  hold_more e x q hs m em all h = rw em (ap (bump from hs) (sym (step e x q)) ∙ h)
+  hold_more m e H = record { long = simp length-set H.long; rest = rw e H.rest; inside = λ y k. H.inside y (mem-cons_there y r xs k) }
 
-  pub hold_end : names (area from past) last r ≡ false → (hs all : List ℕ) → bump from hs (chain t (area from past) last r) ≡ all → hs ≡ all
-  unfolding bump
-  hold_end e hs all h = ap (bump from hs) (sym (chain-none t (area from past) last r e)) ∙ h
+pub hold_end : {from past : ℕ} {hs all : List ℕ} → Holding from past [] hs all → hs ≡ all
+unfolding bump
+hold_end H = H.rest
 
--- ---- where the two walks begin
-module _ (t : List ℕ) (a : Areas) (A : AreasOf t a) where
-  pub count_start : (p last x : ℕ) → last ≡ a.productions_at + p → x ≡ word_at t last 1 → 0 + length (chain t (area a.loose_at a.records) last x) ≡ length (symbol_chain t p)
+-- ---- the two chains, by the areas
+module _ (t : List ℕ) (a : Areas) (A : AreasOf t a) (r : Area) where
+  pub symbols_begin : r ≡ loose_records t → (p last x : ℕ) → last ≡ a.productions_at + p → x ≡ word_at t last 1 → chain t r last x ≡ symbol_chain t p
   unfolding symbol_chain
-  count_start p last x e q =
-      let z : last ≡ production_area t + p = rw (← A.productions_at) e in
-      let s : chain t (area a.loose_at a.records) last x ≡ chain t (loose_records t) (production_area t + p) (word_at t (production_area t + p) 1) = rw (q, z, loose-area t a A) in
-      let l = ap length s in
-      omega arith
+  symbols_begin h p last x e q = let z : last ≡ production_area t + p = rw (← A.productions_at) e in rw (q, z, h)
 
-  pub hold_start : (n last x : ℕ) → last ≡ 1 + n → x ≡ word_at t last 0 → (hs : List ℕ)
-      → bump a.productions_at hs (chain t (area a.productions_at a.loose_at) last x) ≡ bump (production_area t) hs (production_chain t n)
+  pub productions_begin : r ≡ production_records t → (n last x : ℕ) → last ≡ 1 + n → x ≡ word_at t last 0 → chain t r last x ≡ production_chain t n
   unfolding production_chain
-  hold_start n last x e q hs = rw (q, e, production_area_lem t a A, A.productions_at)
+  productions_begin h n last x e q = rw (q, e, h)
+
+  pub hold_begin : r ≡ production_records t → r.from ≡ a.productions_at → r.past ≡ a.loose_at → (n last x : ℕ) → last ≡ 1 + n → x ≡ word_at t last 0 → (hs : List ℕ) → length hs ≡ 128
+      → Holding a.productions_at a.loose_at (chain t r last x) hs (bump (production_area t) hs (production_chain t n))
+  hold_begin h f p n last x e q hs l = record {
+    long = l;
+    rest = rw (A.productions_at, productions_begin h n last x e q);
+    inside = λ y m. let k = chain_member t r last x y m in (omega (arith, k.inside, f), omega (arith, k.early, p));
+  }
 
 -- ---- the lengths so far
 pub lengths-more : (t ls : List ℕ) (p v : ℕ) → p < length ls → v ≡ min index_limit (length (symbol_chain t p)) → ((q : ℕ) → q < p → get_or ls q 0 ≡ min index_limit (length (symbol_chain t q)))

@@ -1,21 +1,20 @@
 -- The ways through the tests of one record, one law for each return. Assumes nothing.
 use mathlib.Core.Path.{◌≡◌, sym, ap, ◌∙◌}
-use mathlib.Core.Bool.{Bool, true, false, ◌&&◌, ◌||◌}
+use mathlib.Core.Bool.{Bool, true, false}
 use mathlib.Core.List.{List}
 use Prim.Native.Nat.{ℕ, ◌+◌, ◌-◌, min, ◌≤◌, ◌<◌}
 use native.Mathlib.Omega.{arith}
 use lib.ListN.{length, get_or}
-use lib.Dec.{ltb, leb}
-use borrow.Author.Tests.{eq-eqb, ne_eqb, lt-ltb, le-ltb, le-leb, lt-leb}
+use borrow.Author.Tests.{eq-eqb, ne_eqb, lt-ltb, le-ltb}
 use Rattle.repr.specs.Lists.{below, occurrences, joined}
-use Rattle.table.specs.Words.{word_at, productions, production_area, loose_records, production_records, against}
+use Rattle.table.specs.Words.{Area, word_at, productions, production_area, loose_records, production_records, against}
 use Rattle.table.specs.Decoded.{production_chain, symbol_chain}
 use Rattle.table_check.specs.Rows.{number_of_row}
 use Rattle.table_check.specs.declared.fault.Row.{Row}
 use Rattle.table_check.specs.declared.fault.Row.TheVariants.{Chain, Owner, TooLong, Symbol, Target, Spare}
 use Rattle.table_check.specs.Marks.{Held, Lengths}
 use Rattle.table_check.specs.Known.{AreasOf, area}
-use Rattle.table_check.specs.Faults.{choose, index_bad, symbol_bad, item_bad, range_bad, spare_bad, fault_of_production, fault_of_loose, better}
+use Rattle.table_check.specs.Faults.{choose, fault_of_production}
 use Rattle.table_check.specs.declared.areas.Areas.{Areas}
 
 -- ---- an index that was read, by the areas
@@ -28,14 +27,10 @@ module _ (t : List ℕ) (a : Areas) (A : AreasOf t a) where
   unfolding loose_records
   loose-area = rw (A.loose_at, A.records)
 
-  pub production_index : (r k x : ℕ) → x ≡ word_at t r k → against (area a.productions_at a.loose_at) r x ≡ against (production_records t) r (word_at t r k)
-  production_index r k x e = rw (e, production_area_lem)
+-- an index against the rule of an area
+pub ruled : (a b : Area) (r x : ℕ) {v w : Bool} → a ≡ b → v ≡ against a r x → v ≡ w → against b r x ≡ w
+ruled a b r x e h k = rw (← e, ← h) k
 
-  pub loose_index : (r k x : ℕ) → x ≡ word_at t r k → against (area a.loose_at a.records) r x ≡ against (loose_records t) r (word_at t r k)
-  loose_index r k x e = rw (e, loose-area)
-
--- ---- a nonterminal
--- ---- a state
 -- ---- a production, with how often it is held and how long it is
 held-once : (n : ℕ) → min 2 n ≡ 1 → n ≡ 1
 held-once n e = omega arith
@@ -77,62 +72,6 @@ module _ (t : List ℕ) (r : ℕ) where
           let d : p ≡ r - production_area t = omega arith in
           let n : length (symbol_chain t p) ≤ 16 = omega arith in
           rw (i, j, eq-eqb _ _ o, ← d, le-ltb _ _ n)
-
--- ---- a loose record
-module _ (t : List ℕ) (r : ℕ) (s i e : Bool) where
-  pub loose_1 : index_bad t r s i e ≡ true → 3 ≡ fault_of_loose t r s i e
-  unfolding fault_of_loose choose
-  loose_1 x = rw x
-
-  module _ (x : index_bad t r s i e ≡ false) where
-    pub loose_2 : symbol_bad t r s e ≡ true → 6 ≡ fault_of_loose t r s i e
-    unfolding fault_of_loose choose
-    loose_2 y = rw (x, y)
-
-    module _ (y : symbol_bad t r s e ≡ false) where
-      pub loose_3 : range_bad t r i e ≡ true → 7 ≡ fault_of_loose t r s i e
-      unfolding fault_of_loose choose
-      loose_3 z = rw (x, y, z)
-
-      pub loose_4 : range_bad t r i e ≡ false → (b : Bool) → spare_bad t r s i ≡ b → choose b 8 0 ≡ fault_of_loose t r s i e
-      unfolding fault_of_loose choose
-      loose_4 z b w = rw (x, y, z, w)
-
-pub index_is : (t : List ℕ) (r : ℕ) (s i e bad b : Bool) → bad ≡ against (loose_records t) r (word_at t r 0) → b ≡ (s || (i || e)) && bad → index_bad t r s i e ≡ b
-unfolding index_bad
-index_is t r s i e bad b h q = rw (← h, q)
-
-module _ (t : List ℕ) (r production index k : ℕ) (i : Bool) (ep : production ≡ word_at t r 1) (ei : index ≡ word_at t r 2) (ek : k ≡ word_at t 0 3) (ii : i ≡ true) where
-  pub item_past : k ≤ production → true ≡ i && item_bad t r
-  unfolding item_bad
-  item_past h = rw (← ep, ← ei, ← ek, ii, le-leb _ _ h)
-
-  pub item_index : production < k → (ls : List ℕ) → Lengths t ls → ltb (get_or ls production 0) index ≡ i && item_bad t r
-  unfolding item_bad
-  item_index h ls L = rw (← ep, ← ei, ← ek, ii, lt-leb _ _ h, L production (rw ek at h))
-
-pub item-none : (t : List ℕ) (r : ℕ) (i : Bool) → i ≡ false → false ≡ i && item_bad t r
-item-none t r i e = rw e
-
-module _ (t : List ℕ) (r : ℕ) (i e : Bool) where
-  pub range_item : i && item_bad t r ≡ true → true ≡ range_bad t r i e
-  unfolding range_bad
-  range_item n = rw n
-
-  pub range_edge : i && item_bad t r ≡ false → (k w : ℕ) → k ≡ word_at t 0 2 → w ≡ word_at t r 3 → e ≡ true → leb k w ≡ range_bad t r i e
-  unfolding range_bad
-  range_edge n k w ek ew q = rw (n, q, ← ek, ← ew)
-
-  pub range_none : i && item_bad t r ≡ false → e ≡ false → false ≡ range_bad t r i e
-  unfolding range_bad
-  range_none n q = rw (n, q)
-
--- ---- a row before the best so far
-module _ (m row : ℕ) where
-  module _ (ne : m ≡ 0 → ⊥) where
-    pub better-first : row ≡ 0 → true ≡ better m row
-    unfolding better
-    better-first e = rw (ne_eqb _ _ ne, eq-eqb _ _ e)
 
 -- a row of the code is no 0
 pub some_row : (row : Row) → number_of_row row ≡ 0 → ⊥

@@ -1,12 +1,15 @@
 // A table's size and counts, and the rule of an index.
 ghost use Rattle.std.specs.Prelude.{false, ◌≡◌, ◌<◌};
-ghost use Rattle.table.specs.Refusals.{row1, row2};
+ghost use Rattle.table.specs.Refusals.{row1, row2, used};
 ghost use Rattle.table.specs.Words.{word_at, production_records, loose_records, names, against};
 ghost use Rattle.table_check.specs.Marks.{Sized};
 ghost use Rattle.table_check.specs.Known.{AreasOf, Known, area};
 
-use repr::{NonterminalString, ProductionIndex};
-use table::word;
+use repr::{NonterminalString, ProductionIndex, Symbol};
+use table::{Counts, RECORDS, word};
+
+// The states of a table at most.
+const STATES: usize = 128;
 
 // The counts of record 0, the number of records, and where the areas begin.
 #[derive(Clone, Copy)]
@@ -21,12 +24,61 @@ pub struct Areas {
     pub loose_at: usize,
 }
 
+// The records that an index may name: from `from` up to and without `past`.
+#[derive(Clone, Copy)]
+pub(crate) struct Area {
+    pub from: usize,
+    pub past: usize,
+}
+
+impl Area {
+    // Whether index x, held by record r, names one of them by the rule.
+    #[tactic(auto, unfolding(table::specs::Words::names))]
+    pub(crate) fn names(self, r: usize, x: usize) -> bool
+        ensures { result ≡ names (area self.from self.past) r x }
+    {
+        self.from <= x && x < self.past && r < x
+    }
+
+    // Whether it is against the rule: not 0, and no such name.
+    #[tactic(auto, unfolding(table::specs::Words::against))]
+    pub(crate) fn against(self, r: usize, x: usize) -> bool
+        ensures { result ≡ against (area self.from self.past) r x }
+    {
+        x != 0 && !self.names(r, x)
+    }
+}
+
 // A table that rows 1 and 2 let through, with its areas.
 #[derive(Clone, Copy)]
 pub struct Surveyed<'a> {
     pub words: &'a [u16],
     pub areas: Areas,
     pub ghost of: { AreasOf words.now areas },
+}
+
+impl<'a> Surveyed<'a> {
+    // What an index of productions may name.
+    pub(crate) fn productions(self) -> Area
+        ensures records { area result.from result.past ≡ production_records self.entry.words.now }
+        ensures within { (result.from ≡ self.entry.areas.productions_at) × (result.past ≡ self.entry.areas.loose_at) }
+    {
+        Area {
+            from: self.areas.productions_at,
+            past: self.areas.loose_at,
+        }
+    }
+
+    // What an index of loose records may name.
+    pub(crate) fn loose(self) -> Area
+        ensures records { area result.from result.past ≡ loose_records self.entry.words.now }
+        ensures within { (result.from ≡ self.entry.areas.loose_at) × (result.past ≡ self.entry.areas.records) }
+    {
+        Area {
+            from: self.areas.loose_at,
+            past: self.areas.records,
+        }
+    }
 }
 
 // What is gathered of its productions too: how many chains hold each, as far as two, and how many symbols it has, as far as seventeen.
@@ -38,13 +90,48 @@ pub struct Gathered<'a> {
     pub ghost known: { Known s.words.now s.areas held.now lengths.now },
 }
 
-// Row 1: no words, a part of a record, or above 32,768 words.
+// Record r of such a table.
+#[derive(Clone, Copy)]
+pub(crate) struct Record<'a> {
+    pub g: Gathered<'a>,
+    pub r: usize,
+    pub ghost inside: { r < g.s.areas.records },
+}
+
+impl<'a> Record<'a> {
+    // Its word k.
+    pub(crate) fn word(self, k: usize) -> usize
+        requires { k < 4 }
+        ensures { result ≡ word_at self.entry.g.s.words.now self.entry.r k }
+    {
+        word(self.g.s.words, self.r, k)
+    }
+
+    // Whether word k, an index into the area, is against the rule.
+    pub(crate) fn against(self, named: Area, k: usize) -> bool
+        requires { k < 4 }
+        ensures { result ≡ against (area named.from named.past) self.entry.r (word_at self.entry.g.s.words.now self.entry.r k) }
+    {
+        named.against(self.r, self.word(k))
+    }
+
+    // Whether word k, which is to be spare, is not 0.
+    #[tactic(auto, unfolding(table::specs::Refusals::used))]
+    pub(crate) fn spare(self, k: usize) -> bool
+        requires { k < 4 }
+        ensures { result ≡ used self.entry.g.s.words.now self.entry.r k }
+    {
+        self.word(k) != 0
+    }
+}
+
+// Row 1: no words, a part of a record, or above 8,192 records.
 #[tactic(auto, unfolding(table::specs::Refusals::row1))]
 pub fn bad_words(table: &[u16]) -> bool
     ensures { result ≡ row1 table.now }
 {
     let words = table.len();
-    words == 0 || words % 4 != 0 || words > 32768
+    words == 0 || words % 4 != 0 || words > RECORDS * 4
 }
 
 // Row 2: a count outside its range, or areas longer than the table.
@@ -53,17 +140,14 @@ pub fn bad_counts(table: &[u16]) -> bool
     requires { row1 table.now ≡ false }
     ensures { result ≡ row2 table.now }
 {
-    let nonterminals = word(table, 0, 0);
-    let terminals = word(table, 0, 1);
-    let states = word(table, 0, 2);
-    let productions = word(table, 0, 3);
-    nonterminals == 0
-        || nonterminals > NonterminalString::LIMIT
-        || terminals > 63
-        || states == 0
-        || states > 128
-        || productions > ProductionIndex::LIMIT
-        || table.len() / 4 < 1 + nonterminals + states + productions
+    let counts = Counts::of(table);
+    counts.nonterminals == 0
+        || counts.nonterminals > NonterminalString::LIMIT
+        || counts.terminals > Symbol::TERMINALS
+        || counts.states == 0
+        || counts.states > STATES
+        || counts.productions > ProductionIndex::LIMIT
+        || table.len() / 4 < 1 + counts.nonterminals + counts.states + counts.productions
 }
 
 // Read once; what works on the records is handed this by value.
@@ -71,52 +155,17 @@ pub fn survey(table: &[u16]) -> Areas
     requires { Sized table.now }
     ensures { AreasOf table.now result }
 {
-    let nonterminals = word(table, 0, 0);
-    let terminals = word(table, 0, 1);
-    let states = word(table, 0, 2);
-    let productions = word(table, 0, 3);
+    let counts = Counts::of(table);
+    let states_at = 1 + counts.nonterminals;
+    let productions_at = states_at + counts.states;
     Areas {
         records: table.len() / 4,
-        nonterminals,
-        terminals,
-        states,
-        productions,
-        states_at: 1 + nonterminals,
-        productions_at: 1 + nonterminals + states,
-        loose_at: 1 + nonterminals + states + productions,
+        nonterminals: counts.nonterminals,
+        terminals: counts.terminals,
+        states: counts.states,
+        productions: counts.productions,
+        states_at,
+        productions_at,
+        loose_at: productions_at + counts.productions,
     }
-}
-
-// Whether index x, held by record r, names a record of the area by the rule.
-#[tactic(auto, unfolding(table::specs::Words::names))]
-pub fn names(from: usize, past: usize, r: usize, x: usize) -> bool
-    ensures { result ≡ names (area from past) r x }
-{
-    from <= x && x < past && r < x
-}
-
-// Whether it is against the rule: not 0, and no such name.
-#[tactic(auto, unfolding(table::specs::Words::against))]
-pub fn against(from: usize, past: usize, r: usize, x: usize) -> bool
-    ensures { result ≡ against (area from past) r x }
-{
-    x != 0 && !names(from, past, r, x)
-}
-
-// Whether word k of record r, an index of productions, is against it.
-pub fn bad_production_index(s: Surveyed, r: usize, k: usize) -> bool
-    requires r_lt_records { (r < s.areas.records) × (k < 4) }
-    ensures { result ≡ against (production_records s.entry.words.now) r (word_at s.entry.words.now r k) }
-{
-    let x = word(s.words, r, k);
-    against(s.areas.productions_at, s.areas.loose_at, r, x)
-}
-
-// The same of an index of loose records.
-pub fn bad_loose_index(s: Surveyed, r: usize, k: usize) -> bool
-    requires r_lt_records { (r < s.areas.records) × (k < 4) }
-    ensures { result ≡ against (loose_records s.entry.words.now) r (word_at s.entry.words.now r k) }
-{
-    let x = word(s.words, r, k);
-    against(s.areas.loose_at, s.areas.records, r, x)
 }

@@ -5,8 +5,8 @@ ghost use Rattle.table.specs.Words.{word_at};
 ghost use Rattle.table.specs.Decoded.{symbol_chain};
 ghost use Rattle.table_check.specs.Marks.{Lengths};
 
-use crate::areas;
 use crate::areas::Surveyed;
+use crate::chain::ChainIter;
 use repr::ProductionIndex;
 use table::word;
 
@@ -15,20 +15,14 @@ fn symbol_count(s: Surveyed, p: usize) -> usize
     requires p_bound { p < word_at s.words.now 0 3 }
     ensures { result ≡ min index_limit (length (symbol_chain s.entry.words.now p)) }
 {
-    let from = s.areas.loose_at;
-    let past = s.areas.records;
-    let mut last = s.areas.productions_at + p;
-    let mut r = word(s.words, last, 1);
-    let mut n: usize = 0;
-    while areas::names(from, past, last, r) {
-        if n >= ProductionIndex::INDEXES {
-            return ProductionIndex::INDEXES;
-        }
-        n += 1;
-        last = r;
-        r = word(s.words, last, 0);
-    }
-    n
+    let last = s.areas.productions_at + p;
+    let chain = ChainIter {
+        s,
+        area: s.loose(),
+        last,
+        at: word(s.words, last, 1),
+    };
+    chain.take(ProductionIndex::INDEXES).count()
 }
 
 // Those of all productions.

@@ -1,38 +1,29 @@
 // How many of the nonterminals' chains hold each production, as far as two.
-ghost use Rattle.std.specs.Prelude.{◌≡◌, ℕ, ◌+◌, ◌<◌, min, length, replicate};
+ghost use Rattle.std.specs.Prelude.{◌≡◌, ℕ, ◌+◌, ◌<◌, length, replicate};
 ghost use Rattle.table.specs.Words.{production_area, word_at};
 ghost use Rattle.table.specs.Decoded.{production_chain};
 ghost use Rattle.table_check.specs.Marks.{Held};
-ghost use Rattle.table_check.specs.Known.{AreasOf, bump};
+ghost use Rattle.table_check.specs.Known.{bump};
 
-use crate::areas;
 use crate::areas::Surveyed;
+use crate::chain::ChainIter;
 use table::word;
 
-// One more, as far as two.
-fn more(h: u8) -> u8
-    ensures { result ≡ min 2 (h + 1) }
-{
-    if h < 2 {
-        return h + 1;
-    }
-    2
-}
-
-// One more for each production in the chain of nonterminal n. An index against the rule ends it.
+// One more for each production in the chain of nonterminal n, as far as two.
 fn hold_chain(s: Surveyed, n: usize, held: &mut [u8])
     requires n_bound { (n < word_at s.words.now 0 0) × (length held.old ≡ 128) }
     ensures { held.new ≡ bump (production_area s.entry.words.now) held.old (production_chain s.entry.words.now n) }
 {
-    let from = s.areas.productions_at;
-    let past = s.areas.loose_at;
-    let mut last = 1 + n;
-    let mut r = word(s.words, last, 0);
-    while areas::names(from, past, last, r) {
-        let p = r - from;
-        held[p] = more(held[p]);
-        last = r;
-        r = word(s.words, last, 0);
+    let last = 1 + n;
+    let chain = ChainIter {
+        s,
+        area: s.productions(),
+        last,
+        at: word(s.words, last, 0),
+    };
+    for r in chain {
+        let p = r - s.areas.productions_at;
+        held[p] = held[p].min(1) + 1;
     }
 }
 

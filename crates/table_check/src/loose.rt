@@ -1,75 +1,73 @@
-// Rows 3, 6, 7 and 8 of a loose record, by what it is reached as: symbol, item, edge.
+// Rows 3, 6, 7 and 8 of a loose record, by what it is reached as.
 ghost use Rattle.std.specs.Prelude.{Bool, ◌&&◌, ◌||◌, ◌≡◌, ℕ, ◌<◌};
-ghost use Rattle.table.specs.Refusals.{used};
-ghost use Rattle.table_check.specs.Faults.{symbol_bad, item_bad, range_bad, spare_bad};
+ghost use Rattle.table_check.specs.Faults.{index_bad, symbol_bad, item_bad, range_bad, spare_bad};
 
-use crate::areas::{Gathered, Surveyed};
+use crate::areas::Record;
 use repr::symbol_fits;
-use table::word;
 
-// Whether word k of record r, which is to be spare, is not 0.
-#[tactic(auto, unfolding(table::specs::Refusals::used))]
-pub fn spare(s: Surveyed, r: usize, k: usize) -> bool
-    requires r_lt_records { (r < s.areas.records) × (k < 4) }
-    ensures { result ≡ used s.entry.words.now r k }
-{
-    word(s.words, r, k) != 0
+// The sorts of chains that reach a loose record: a set, since chains may share it.
+#[derive(Clone, Copy)]
+pub struct Roles {
+    pub symbol: bool,
+    pub item: bool,
+    pub edge: bool,
 }
 
-// Row 3: the next index, which is `bad` or not.
-pub fn index_fault(bad: bool, symbol: bool, item: bool, edge: bool) -> bool
-    ensures { result ≡ (symbol || (item || edge)) && bad }
-{
-    (symbol || item || edge) && bad
-}
-
-// Row 6: a symbol or an edge.
-#[tactic(auto, unfolding(crate::specs::Faults::symbol_bad))]
-pub fn symbol_fault(s: Surveyed, r: usize, symbol: bool, edge: bool) -> bool
-    requires r_lt_records { r < s.areas.records }
-    ensures { result ≡ symbol_bad s.entry.words.now r symbol edge }
-{
-    let kind = word(s.words, r, 1);
-    let number = word(s.words, r, 2);
-    (symbol || edge) && !symbol_fits(s.areas.nonterminals, s.areas.terminals, kind, number)
-}
-
-// Row 7 of an item: its production, and its index against the production's length.
-fn item_fault(g: Gathered, r: usize, item: bool) -> bool
-    requires { r < g.s.areas.records }
-    ensures { result ≡ item && item_bad g.entry.s.words.now r }
-{
-    let s = g.s;
-    let production = word(s.words, r, 1);
-    let index = word(s.words, r, 2);
-    if item {
-        if production >= s.areas.productions {
-            return true;
-        }
-        return (g.lengths[production] as usize) < index;
+impl Roles {
+    // Whether any does.
+    pub fn any(self) -> bool
+        ensures { result ≡ (self.symbol || (self.item || self.edge)) }
+    {
+        self.symbol || self.item || self.edge
     }
-    false
 }
 
-// Row 7: also the target of an edge.
-pub fn range_fault(g: Gathered, r: usize, item: bool, edge: bool) -> bool
-    requires { r < g.s.areas.records }
-    ensures { result ≡ range_bad g.entry.s.words.now r item edge }
-{
-    if item_fault(g, r, item) {
-        return true;
+impl<'a> Record<'a> {
+    // Row 3: the next index.
+    #[tactic(auto, unfolding(crate::specs::Faults::index_bad))]
+    pub fn index_fault(self, roles: Roles) -> bool
+        ensures { result ≡ index_bad self.entry.g.s.words.now self.entry.r roles.symbol roles.item roles.edge }
+    {
+        roles.any() && self.against(self.g.s.loose(), 0)
     }
-    if edge {
-        return g.s.areas.states <= word(g.s.words, r, 3);
-    }
-    false
-}
 
-// Row 8: a symbol or an item; an edge's fourth word is its target.
-#[tactic(auto, unfolding(crate::specs::Faults::spare_bad))]
-pub fn spare_fault(s: Surveyed, r: usize, symbol: bool, item: bool) -> bool
-    requires r_lt_records { r < s.areas.records }
-    ensures { result ≡ spare_bad s.entry.words.now r symbol item }
-{
-    (symbol || item) && spare(s, r, 3)
+    // Row 6: a symbol or an edge.
+    #[tactic(auto, unfolding(crate::specs::Faults::symbol_bad))]
+    pub fn symbol_fault(self, roles: Roles) -> bool
+        ensures { result ≡ symbol_bad self.entry.g.s.words.now self.entry.r roles.symbol roles.edge }
+    {
+        let areas = self.g.s.areas;
+        let kind = self.word(1);
+        let number = self.word(2);
+        (roles.symbol || roles.edge)
+            && !symbol_fits(areas.nonterminals, areas.terminals, kind, number)
+    }
+
+    // Row 7 of an item: its production, and its index against the production's length.
+    #[tactic(auto, unfolding(crate::specs::Faults::item_bad))]
+    fn item_fault(self) -> bool
+        ensures { result ≡ item_bad self.entry.g.s.words.now self.entry.r }
+    {
+        let g = self.g;
+        let production = self.word(1);
+        let index = self.word(2);
+        production >= g.s.areas.productions || (g.lengths[production] as usize) < index
+    }
+
+    // Row 7: also the target of an edge.
+    #[tactic(auto, unfolding(crate::specs::Faults::range_bad))]
+    pub fn range_fault(self, roles: Roles) -> bool
+        ensures { result ≡ range_bad self.entry.g.s.words.now self.entry.r roles.item roles.edge }
+    {
+        let states = self.g.s.areas.states;
+        (roles.item && self.item_fault()) || (roles.edge && states <= self.word(3))
+    }
+
+    // Row 8: a symbol or an item; an edge's fourth word is its target.
+    #[tactic(auto, unfolding(crate::specs::Faults::spare_bad))]
+    pub fn spare_fault(self, roles: Roles) -> bool
+        ensures { result ≡ spare_bad self.entry.g.s.words.now self.entry.r roles.symbol roles.item }
+    {
+        (roles.symbol || roles.item) && self.spare(3)
+    }
 }

@@ -3,33 +3,25 @@
 #![tactic(auto)]
 
 ghost use Rattle.std.specs.Prelude.{true, ◌≡◌, ◌+◌, ◌*◌, ◌≤◌, ◌<◌, length};
-ghost use Rattle.repr.specs.Sizes.{record_limit};
 ghost use Rattle.table.specs.Words.{word_at};
 ghost use Rattle.typed.specs.Typed.{IsItem};
 
 use little::decode;
 use pipe::{
-    BYTES, CONFLICT_BYTES, CONFLICT_WORDS, CONFLICTS, RECORDS, Stop, WORDS, read_table, say_end,
+    BYTES, CONFLICT_BYTES, CONFLICT_WORDS, CONFLICTS, Stop, WORDS, WORDS_OF_CONFLICT, read_table,
+    say_end,
 };
 use repr::{Grammar, ProductionIndex};
 use std::io;
 use streams::{Failed, PIECES, read, write};
-use table::AcceptedTable;
+use table::{AcceptedTable, word};
 use table_check::areas::{Surveyed, survey};
 use table_check::check;
+use table_check::mark::{ALL, Marks};
 use typed::{Roles, numbers_line, record_line};
 
 // Bytes for a line.
 const LINE: usize = 2048;
-
-// Which records the chains of each sort reach, as far as these were followed.
-// A list for each sort, since chains may share a record.
-#[derive(Drop)]
-struct Marks {
-    symbols: [bool; RECORDS],
-    items: [bool; RECORDS],
-    edges: [bool; RECORDS],
-}
 
 // Numbers, a name and another number.
 fn write_numbers<R: Print + Eprint>(
@@ -45,50 +37,25 @@ fn write_numbers<R: Print + Eprint>(
     write(rt, &out[..k])
 }
 
-// Marks the record that an index names.
-fn mark(marks: &mut [bool], x: usize) {
-    if let Some(marked) = marks.get_mut(x) {
-        *marked = true;
-    }
-}
-
-// Marks the heads in word k of the records from `first` up to and without `past`.
-fn mark_heads(table: &[u16], first: usize, past: usize, k: usize, marks: &mut [bool])
-    requires { (past ≤ record_limit) × ((past * 4 ≤ length table.now) × (k < 4)) }
-{
-    for r in first..past {
-        mark(marks, table::word(table, r, k));
-    }
-}
-
-// Whether record r is marked; if so, its next is marked too.
-fn follow(marks: &mut [bool], r: usize, next: usize) -> bool {
-    let marked = marks.get(r) == Some(&true);
-    if marked {
-        mark(marks, next);
-    }
-    marked
-}
-
 // Whether production and index are an item's.
 fn is_item(grammar: Grammar, p: usize, i: usize) -> bool
     ensures { result ≡ true → IsItem grammar.entry.words.now grammar.entry.productions p i }
 {
-    p < grammar.productions && i <= repr::word(grammar.words, p * ProductionIndex::WORDS + 1)
+    p < grammar.productions && i <= grammar.length(p)
 }
 
 // The sorts of chains that reach record r, those before it being followed.
-fn roles_of(s: Surveyed, grammar: Grammar, r: usize, marks: &mut Marks) -> Roles
+fn roles_of(s: Surveyed, grammar: Grammar, r: usize, marks: &mut Marks<ALL>) -> Roles
     requires { r < s.areas.records }
     ensures { result.item ≡ true → IsItem grammar.entry.words.now grammar.entry.productions (word_at s.entry.words.now r 1) (word_at s.entry.words.now r 2) }
 {
-    let next = table::word(s.words, r, 0);
-    let one = table::word(s.words, r, 1);
-    let two = table::word(s.words, r, 2);
-    let symbol = follow(&mut marks.symbols, r, next);
-    let item = follow(&mut marks.items, r, next) && is_item(grammar, one, two);
-    let edge = follow(&mut marks.edges, r, next);
-    Roles { symbol, item, edge }
+    let one = word(s.words, r, 1);
+    let two = word(s.words, r, 2);
+    let roles = marks.pass(s, r);
+    Roles {
+        item: roles.item && is_item(grammar, one, two),
+        ..roles
+    }
 }
 
 // A line for each record.
@@ -96,7 +63,7 @@ fn write_records<R: Print + Eprint>(
     rt: &R,
     s: Surveyed,
     grammar: Grammar,
-    marks: &mut Marks,
+    marks: &mut Marks<ALL>,
     out: &mut [u8; LINE],
 ) -> Result<(), Failed> {
     for r in 0..s.areas.records {
@@ -118,28 +85,17 @@ fn write_table<R: Print + Eprint>(
         words,
         areas: survey(words),
     };
-    let a = s.areas;
+    let records = s.areas.records;
     write_numbers(
         rt,
-        &[a.records as u16],
+        &[records as u16],
         b" # records of the table, the last with the number",
-        a.records - 1,
+        records - 1,
         out,
     )?;
     let mut packed = [0u16; ProductionIndex::ALL_WORDS];
-    table.read_productions(&mut packed);
-    let grammar = Grammar {
-        words: &packed,
-        productions: a.productions,
-    };
-    let mut marks = Marks {
-        symbols: [false; RECORDS],
-        items: [false; RECORDS],
-        edges: [false; RECORDS],
-    };
-    mark_heads(words, a.productions_at, a.loose_at, 1, &mut marks.symbols);
-    mark_heads(words, a.states_at, a.productions_at, 0, &mut marks.items);
-    mark_heads(words, a.states_at, a.productions_at, 1, &mut marks.edges);
+    let grammar = table.read_grammar(&mut packed);
+    let mut marks = Marks::of_heads(s);
     write_records(rt, s, grammar, &mut marks, out)
 }
 
@@ -152,10 +108,10 @@ fn write_conflicts<R: Print + Eprint>(
 ) -> Result<(), Failed>
     requires { (length words.now ≤ 20480) × (first < 1152921504606846976) }
 {
-    for (k, conflict) in words.chunks_exact(5).enumerate() {
+    for (k, conflict) in words.chunks_exact(WORDS_OF_CONFLICT).enumerate() {
         write_numbers(rt, conflict, b" # conflict", first + k, out)?;
     }
-    let left = words.chunks_exact(5).remainder();
+    let left = words.chunks_exact(WORDS_OF_CONFLICT).remainder();
     if left.is_empty() {
         return Ok(());
     }
@@ -163,7 +119,7 @@ fn write_conflicts<R: Print + Eprint>(
         rt,
         left,
         b" # a part of conflict",
-        first + words.len() / 5,
+        first + words.len() / WORDS_OF_CONFLICT,
         out,
     )
 }
@@ -175,7 +131,7 @@ fn say_odd<R: Eprint>(rt: &R, bytes: usize) {
     }
 }
 
-// A piece of the rest; whether there may be more.
+// A piece of the rest; whether there may be more, a yes or no that a failing read or write does not answer.
 fn text_piece<R: io::Input + Print + Eprint>(
     rt: &R,
     first: usize,

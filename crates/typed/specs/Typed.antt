@@ -5,7 +5,7 @@ use Rattle.repr.specs.Lists.{joined}
 use Rattle.repr.specs.Packed.{symbol_words}
 use Rattle.table.specs.Words.{word_at, state_area, production_area, loose}
 use Rattle.lines.specs.Lines.{spaced, symbol_text, symbol_texts}
-use Rattle.typed.specs.declared.Roles.{Roles}
+use Rattle.table_check.specs.declared.loose.Roles.{Roles}
 
 -- texts, byte for byte
 -- ` #`

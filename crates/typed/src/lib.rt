@@ -13,15 +13,9 @@ use lines::{put, put_after, put_symbol, put_symbols, put_text};
 use repr::Grammar;
 use table_check::areas::Surveyed;
 
-// The sorts of chains that reach a loose record: a set, since chains may share it.
-#[derive(Clone, Copy)]
-pub struct Roles {
-    pub symbol: bool,
-    pub item: bool,
-    pub edge: bool,
-}
+pub use table_check::Roles;
 
-// Numbers, a space before each.
+// Numbers, a space before each. Here and below `out` is written from `at` on and the place behind comes back, since the contracts say which bytes are put between the two (as in crate lines).
 pub fn put_words(out: &mut [u8], at: usize, words: &[u16]) -> usize
     requires { (length words.now ≤ 8) × (at + 21 * length words.now ≤ length out.old) }
     ensures { Put out.old at (joined spaced words.now) out.new result × (result ≤ at + 21 * length words.now) }
@@ -95,7 +89,7 @@ fn put_unused_part(out: &mut [u8], at: usize, roles: Roles) -> usize
     requires { at + 8 ≤ length out.old }
     ensures { Put out.old at (unused_part roles) out.new result × (result ≤ at + 8) }
 {
-    if roles.symbol || roles.item || roles.edge {
+    if roles.any() {
         return at;
     }
     put_text(out, at, b": unused")

@@ -9,20 +9,37 @@ ghost use Rattle.augment.specs.Started.{Startable};
 
 use augment::with_start;
 use pipe::{Stop, say_end, write_records};
-use repr::{NonterminalString, Refusal};
+use repr::{NonterminalString, ProductionIndex, Refusal, Symbol};
 use streams::{read, write};
 use table::AcceptedTable;
 use yacc_reader::{misnamed_at, read_yacc};
 use yacc_stray::{place_of, stray};
+
+// The bytes of a text at most.
+const TEXT: usize = 65535;
+
+// Bytes of a buffer: one more than a text may have, which shows that it is too long; and for a table's words.
+const BYTES: usize = TEXT + 1;
+
+// Records of a grammar at most: record 0, nonterminals, a state, productions and their symbols. A start production is two more.
+const RECORDS: usize = 2
+    + NonterminalString::LIMIT
+    + ProductionIndex::LIMIT
+    + ProductionIndex::LIMIT * ProductionIndex::SYMBOLS;
+
+const WORDS: usize = RECORDS * 4;
+
+const STARTED_WORDS: usize = WORDS + 8;
+
+// Places of the nonterminals and terminals.
+const PLACES: usize = NonterminalString::LIMIT + Symbol::TERMINALS;
 
 // Line and column of a byte of the text, and what is wrong there, on standard error.
 fn say_place<R: Eprint>(rt: &R, text: &[u8], at: usize, wrong: &str)
     requires { (at ≤ length text.now) × (length text.now ≤ 65536) }
 {
     let place = place_of(text, at);
-    let line = place.line;
-    let column = place.column;
-    let _ = eprintln!(rt; "line {line} column {column}: {wrong}");
+    let _ = eprintln!(rt; "line {} column {}: {wrong}", place.line, place.column);
 }
 
 // Where 20 is: no text has a byte 65,535.
@@ -30,8 +47,8 @@ fn say_stray<R: Eprint>(rt: &R, text: &[u8])
     requires { length text.now ≤ 65536 }
 {
     let at = stray(text);
-    if at >= 65535 && text.len() > 65535 {
-        say_place(rt, text, 65535, "the text is too long");
+    if at >= TEXT && text.len() > TEXT {
+        say_place(rt, text, TEXT, "the text is too long");
     } else if at == text.len() {
         say_place(rt, text, at, "the text ends too early");
     } else {
@@ -57,7 +74,7 @@ fn write_grammar<R: Print + Eprint>(
     requires startable { Startable (meaning table.words.now) start.0 }
     requires in_bounds { 65536 ≤ length bytes.old }
 {
-    let mut out = [0u16; 8848];
+    let mut out = [0u16; STARTED_WORDS];
     let started = with_start(table, start, &mut out)?;
     let past = started.records as usize * 4;
     write_records(rt, &out[..past], bytes)?;
@@ -68,8 +85,8 @@ fn write_grammar<R: Print + Eprint>(
 fn read_text<R: Print + Eprint>(rt: &R, text: &[u8], bytes: &mut [u8]) -> Result<(), Stop>
     requires { 65536 ≤ length bytes.old }
 {
-    let mut table = [0u16; 8840];
-    let mut places = [0u16; 95];
+    let mut table = [0u16; WORDS];
+    let mut places = [0u16; PLACES];
     let read = read_yacc(text, &mut table, &mut places)?;
     let words = read.records as usize * 4;
     let table = AcceptedTable {
@@ -78,10 +95,10 @@ fn read_text<R: Print + Eprint>(rt: &R, text: &[u8], bytes: &mut [u8]) -> Result
     write_grammar(rt, table, read.start, bytes)
 }
 
-// One byte more than a text may have shows that it is too long. Only the text itself is refused by 20 and 21.
+// Only the text itself is refused by 20 and 21.
 fn main(rt: HostRuntime) {
-    let mut text = [0u8; 65536];
-    let mut bytes = [0u8; 65536];
+    let mut text = [0u8; BYTES];
+    let mut bytes = [0u8; BYTES];
     if let Ok(got) = read(&rt, &mut text) {
         let text = &text[..got];
         let run = read_text(&rt, text, &mut bytes);

@@ -1,38 +1,42 @@
-use Rattle.table_check.proofs.Steps.{count_start, count_more, count_full, count_end}
-use Rattle.table.proofs.Chains.{named}
-use mathlib.Core.Path.{refl, sym, ◌∙◌}
-use native.Mathlib.Omega.{arith}
+use Rattle.std.proofs.Common.{◌≡◌, refl, ap, ℕ, List, [], ◌∷◌, None, arith, length, min}
+use native.Mathlib.Decide.{ℕ_discrete}
+use Rattle.std.specs.Iterator.{Yields, YieldsFirst}
+use Rattle.std.specs.Iterator.Adapters.{take_steps, take_source, take_count}
+use Rattle.std.specs.declared.iter.Take.{Take}
+use Rattle.table.specs.Words.{chain}
+use Rattle.table_check.specs.Known.{area}
+use Rattle.table_check.specs.declared.chain.ChainIter.{ChainIter}
+use Rattle.table_check.proofs.Steps.{symbols_begin}
 use Rattle.table_check.proofs.counts.symbol_count.Goals as goal
 
 pub overflow_add-last : goal.overflow_add-last
 overflow_add-last c = let A = c.args.s.of in omega (arith, c.requires.p_bound)
 
-pub word-r-requires : goal.word-r-requires
-word-r-requires c = let A = c.args.s.of in omega (arith, c.requires.p_bound)
+pub word-requires : goal.word-requires
+word-requires c = let A = c.args.s.of in omega (arith, c.requires.p_bound)
 
-pub loop-p-init : goal.loop-p-init
-loop-p-init c = (omega arith, count_start _ _ c.args.s.of _ _ _ refl c.word-r.ensures.0)
+pub invariant_of-chain : goal.invariant_of-chain
+invariant_of-chain c = record { inside = omega (arith, c.loose.ensures.within) }
 
-pub returns-then-n-ge-INDEXES : goal.returns-then-n-ge-INDEXES
-returns-then-n-ge-INDEXES c = let A = c.args.s.of in
-    count_full _ _ _ _ _ (omega arith) (sym c.names.ensures ∙ c.loop-p-test.true) _ _ c.loop-p.invariant.1
-    c.if-n-ge-INDEXES.true
+-- what is left of a chain, and the first n of it counted
+abbrev left : ChainIter → List ℕ
+left s = chain s.s.words.now (area s.area.from s.area.past) s.last s.at
 
-pub overflow_add-n : goal.overflow_add-n
-overflow_add-n c = omega (arith, c.if-n-ge-INDEXES.false)
-
-pub word-r-requires-in-loop-p : goal.word-r-requires-in-loop-p
-word-r-requires-in-loop-p c = let A = c.args.s.of in
-    let n = named _ _ _ (sym c.names.ensures ∙ c.loop-p-test.true) in omega (arith, n.early)
-
-pub loop-p-smaller : goal.loop-p-smaller
-loop-p-smaller c = let n = named _ _ _ (sym c.names.ensures ∙ c.loop-p-test.true) in omega (arith, n.early, n.later)
-
-pub loop-p-preserved : goal.loop-p-preserved
-loop-p-preserved c = let A = c.args.s.of in
-    (omega (arith, c.if-n-ge-INDEXES.false), count_more _ _ _ _ _ (omega arith) (sym c.names.ensures ∙ c.loop-p-test.true) _ c.word-r-in-loop-p.ensures.0 _ _ c.loop-p.invariant.1)
+taken : (xs : List ℕ) (s t u : Take ChainIter) → Yields (take_steps (YieldsFirst left)) s xs t → take_steps (YieldsFirst left) t None u → length xs ≡ min (take_count s) (length (left (take_source s)))
+taken [] s t u y e = go (ℕ_discrete (take_count t) 0)
+  where
+    go : Dec (take_count t ≡ 0) → 0 ≡ min (take_count s) (length (left (take_source s)))
+    go (yes z) = let w = ap take_count y in omega (arith, w, z)
+    go (no ne) = let w = ap length (e (omega (arith, ne))).0 in let v = ap (λ (r : Take ChainIter). length (left (take_source r))) y in omega (arith, w, v)
+taken (x ∷ xs) s t u y e =
+    let w = taken xs y.0 t u y.2 e in
+    let l = ap length y.1.0 in
+    omega (arith, w, l, y.1.1)
 
 pub returns : goal.returns
-returns c = let A = c.args.s.of in
-    count_end _ _ _ _ _ (omega arith) (sym c.names.ensures ∙ c.loop-p-test.false) _ _ c.loop-p.invariant.1
-    c.loop-p.invariant.0
+returns c =
+    let r = c.count.ensures.ran in
+    let n = taken r.0 c.take.result r.1.1.0 r.1.0 r.1.1.1 r.1.1.2 in
+    let l = ap (λ (i : ChainIter). length (left i)) c.take.ensures.source in
+    let s = ap length (symbols_begin _ _ c.args.s.of _ c.loose.ensures.records _ _ _ refl c.word.ensures.0) in
+    omega (arith, r.2, n, l, s, c.take.ensures.count)

@@ -1,47 +1,32 @@
-use Rattle.table_check.proofs.Steps.{hold_start, hold_more, hold_end}
-use Rattle.table.proofs.Chains.{named}
-use lib.ListN.{length-set}
-use mathlib.Core.Path.{refl, sym, ◌∙◌}
-use native.Mathlib.Omega.{arith}
+use Rattle.std.proofs.Common.{refl, arith}
+use Rattle.table_check.proofs.Steps.{hold_begin, hold_here, hold_more, hold_end}
 use Rattle.table_check.proofs.held.hold_chain.Goals as goal
 
-pub overflow_add-last : goal.overflow_add-last
-overflow_add-last c = let A = c.args.s.of in omega (arith, c.requires.n_bound)
+pub invariant_of-r-items : goal.invariant_of-r-items
+invariant_of-r-items c = let A = c.args.s.of in record { inside = omega (arith, c.productions.ensures.within, A.room) }
 
-pub word-r-requires : goal.word-r-requires
-word-r-requires c = let A = c.args.s.of in omega (arith, c.requires.n_bound)
-
-pub loop-last-init : goal.loop-last-init
-loop-last-init c = (refl, hold_start _ _ c.args.s.of _ _ _ refl c.word-r.ensures.0 _)
+pub loop-r-init : goal.loop-r-init
+loop-r-init c =
+    let p = c.productions.ensures in
+    rw c.into_iter-r-iterator.ensures.into_iter_gives (hold_begin _ _ c.args.s.of _ p.records p.within.0 p.within.1 _ _ _ refl c.word.ensures.0 _ c.requires.n_bound.1)
 
 pub overflow_sub-p : goal.overflow_sub-p
-overflow_sub-p c = let n = named _ _ _ (sym c.names.ensures ∙ c.loop-last-test.true) in omega (arith, n.inside)
+overflow_sub-p c = (hold_here (rw c.in-Some.ensures.steps at c.loop-r.invariant)).0
 
 pub bounds-held-p : goal.bounds-held-p
-bounds-held-p c = let A = c.args.s.of in
-    let n = named _ _ _ (sym c.names.ensures ∙ c.loop-last-test.true) in omega
-    (arith, n.inside, n.early, c.loop-last.invariant.0, c.requires.n_bound)
+bounds-held-p c =
+    let A = c.args.s.of in
+    let h = hold_here (rw c.in-Some.ensures.steps at c.loop-r.invariant) in
+    omega (arith, h, c.loop-r.invariant.long, A.loose_is, A.few_productions)
 
-pub bounds-held-p-in-loop-last : goal.bounds-held-p-in-loop-last
-bounds-held-p-in-loop-last c = let A = c.args.s.of in
-    let n = named _ _ _ (sym c.names.ensures ∙ c.loop-last-test.true) in omega
-    (arith, n.inside, n.early, c.loop-last.invariant.0, c.requires.n_bound)
+pub bounds-held-p-in-loop-r : goal.bounds-held-p-in-loop-r
+bounds-held-p-in-loop-r c =
+    let A = c.args.s.of in
+    let h = hold_here (rw c.in-Some.ensures.steps at c.loop-r.invariant) in
+    omega (arith, h, c.loop-r.invariant.long, A.loose_is, A.few_productions)
 
-pub word-r-requires-in-loop-last : goal.word-r-requires-in-loop-last
-word-r-requires-in-loop-last c = let A = c.args.s.of in
-    let n = named _ _ _ (sym c.names.ensures ∙ c.loop-last-test.true) in omega (arith, n.early)
-
-pub loop-last-smaller : goal.loop-last-smaller
-loop-last-smaller c = let n = named _ _ _ (sym c.names.ensures ∙ c.loop-last-test.true) in omega
-    (arith, n.early, n.later)
-
-pub loop-last-preserved : goal.loop-last-preserved
-loop-last-preserved c = let A = c.args.s.of in
-    (simp length-set c.loop-last.invariant.0, hold_more _ _ _ _ _ (omega arith) (sym c.names.ensures ∙ c.loop-last-test.true) _ c.word-r-in-loop-last.ensures.0 _ _ c.more.ensures _ c.loop-last.invariant.1)
-
-pub shape_of-held : goal.shape_of-held
-shape_of-held c = c.loop-last.invariant.0
+pub loop-r-preserved : goal.loop-r-preserved
+loop-r-preserved c = hold_more _ (omega (arith, c.min.ensures)) (rw c.in-Some.ensures.steps at c.loop-r.invariant)
 
 pub returns : goal.returns
-returns c = let A = c.args.s.of in
-    hold_end _ _ _ _ _ (omega arith) (sym c.names.ensures ∙ c.loop-last-test.false) _ _ c.loop-last.invariant.1
+returns c = hold_end (rw c.in-None.ensures.steps.0 at c.loop-r.invariant)

@@ -3,13 +3,10 @@ use Rattle.table.specs.Words.{records}
 use Rattle.table_check.proofs.scan.scan_loose.Goals as goal
 
 pub loop-r-init : goal.loop-r-init
-loop-r-init c = let A = c.args.g.s.of in (rw A.loose_at c.requires.reaching, rw A.loose_at c.requires.best)
-
-pub pass-m-requires : goal.pass-m-requires
-pass-m-requires c = (c.loop-r.auto.r, (c.loop-r-test.true, c.loop-r.invariant.0))
+loop-r-init g c = let A = c.args.g.s.of in (rw A.loose_at c.requires.reaching, rw A.loose_at c.requires.best)
 
 pub loop-r-preserved : goal.loop-r-preserved
-loop-r-preserved c = (c.pass-m.ensures.reaching, c.lower-best.ensures _ c.pass-m.ensures.value c.loop-r.invariant.1)
+loop-r-preserved g c = (c.pass-m.ensures.reaching, c.lower-best.ensures _ c.pass-m.ensures.value c.loop-r.invariant.1)
 
 pub returns : goal.returns
-returns c = let A = c.args.g.s.of in let e : c.loop-r.r ≡ records c.args.g.s.words.now = omega (arith, A.records, A.room, A.loose_at) in rw e at c.loop-r.invariant.1
+returns g c = let A = c.args.g.s.of in let e : c.loop-r.r ≡ records c.args.g.s.words.now = omega (arith, A.records, A.room, A.loose_at) in rw e at c.loop-r.invariant.1
