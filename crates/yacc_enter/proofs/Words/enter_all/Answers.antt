@@ -1,7 +1,7 @@
 use Rattle.std.proofs.Common.{refl, ◌∙◌}
 use Rattle.yacc_said.proofs.Laws.{read_in, judged_in, says_in, ends_in}
 use Rattle.yacc_enter.proofs.Laws.{turn_first, turn_within, turn_open, turn_lefts, turn_tokens, no_quote, turn_next, turn_last}
-use Rattle.yacc_enter.proofs.enter_all.Goals as goal
+use Rattle.yacc_enter.proofs.Words.enter_all.Goals as goal
 
 pub loop-token-init : goal.loop-token-init
 loop-token-init c =
