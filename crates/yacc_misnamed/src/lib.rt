@@ -30,8 +30,7 @@ fn is_nowhere(symbols: &SymbolTable, token: Token) -> bool
     requires { token.lexeme.past ≤ length symbols.now.text.now }
     ensures { is_id token.lexeme.word ≡ true → (ns ts : List Known) → Holds symbols.now ns ts → result ≡ nowhere_of ns ts (id_at symbols.now.text.now token.lexeme.word token.lexeme.from token.lexeme.past) }
 {
-    symbols.left(token.lexeme).is_none()
-        && symbols.token(token.lexeme).is_none()
+    symbols.left(token.lexeme).is_none() && symbols.token(token.lexeme).is_none()
 }
 
 // Is the START id, where a word says it, on no left side.
