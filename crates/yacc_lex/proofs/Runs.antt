@@ -11,7 +11,7 @@ use Rattle.std.specs.List.{starts_with}
 use Rattle.std.proofs.lemmas.Grind.{common_steps}
 use Rattle.std.proofs.lemmas.Bool.Decides.{nat_tests}
 use lib.ListN.{length, get_or, take, drop, length-drop, drop_of_length-le}
-use lib.Seq.{drop-cons}
+use lib.Seq.{drop-cons, get_or-drop}
 use borrow.Author.Tests.{eq-eqb, ne_eqb}
 use Rattle.yacc_text.specs.Grammar.{kind_of, goes_on_byte, comment, slash_next, closes, stops}
 use Rattle.yacc_text.specs.Lex.{Next, goes, outside, rest, run_of, past_run, strip, longer, in_comment}
@@ -25,6 +25,12 @@ drop-next t i h = drop-cons t i 0 h ∙ ap (λ (k : ℕ). get_or t i 0 ∷ drop 
 -- the bytes from a place on, as the code slices them
 pub rest_of : (at : ℕ) (t : List ℕ) → take (length t - at) (drop at t) ≡ drop at t
 rest_of at t = grind (arith, common_steps)
+
+pub rest_long : (at : ℕ) (t : List ℕ) → length (take (length t - at) (drop at t)) ≡ length t - at
+rest_long at t = ap length (rest_of at t) ∙ length-drop at t
+
+pub byte_behind : (at i : ℕ) (t : List ℕ) → get_or (take (length t - at) (drop at t)) i 0 ≡ get_or t (at + i) 0
+byte_behind at i t = ap (λ (k : List ℕ). get_or k i 0) (rest_of at t) ∙ get_or-drop at t i 0
 
 -- `run_end`
 run_none : (b : ℕ) (k : List ℕ) → goes_on_byte (kind_of b) ≡ false → run_of (b ∷ k) ≡ []

@@ -18,9 +18,7 @@ use Rattle.yacc_read.specs.Events.{Event, lists, opens, defines, uses, shuts, ev
 use Rattle.yacc_read.specs.Source.{same_id, is_known, left_side, start_use, Use, alternative, alternatives_from, Source, source_of}
 use Rattle.yacc_read.specs.Outcome.{nowhere, undefined_use, named_both_ways, undefined_start, misnamed, source_in}
 use Rattle.yacc_read.proofs.Known.{same_id_eq, known_cons, known_none, known_entered}
-use Rattle.yacc_lex.specs.Steps.{token_at, front, Leads, Told}
-use Rattle.yacc_lex.specs.declared.Next.{Next}
-use Rattle.yacc_lex.specs.declared.Next.TheVariants.{End as Ends, Outside as NoToken}
+use Rattle.yacc_lex.specs.Steps.{token_at, front, Leads}
 use Rattle.yacc_lex.specs.declared.Word.{Word}
 use Rattle.yacc_said.specs.Said.{said_in, id_at, events_of}
 use Rattle.yacc_said.specs.declared.Saying.{Saying}

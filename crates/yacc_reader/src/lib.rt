@@ -24,6 +24,7 @@ use yacc_misnamed::{fault_place, is_misnamed};
 use yacc_places::{start_of, write_places};
 use yacc_productions::pack;
 use yacc_read::Reading;
+use yacc_text::is_short;
 use yacc_tokens::is_grammar;
 
 // Writes the table and the places of a text that nothing refuses, whose ids are entered.
@@ -87,7 +88,7 @@ fn read_named(
     read_counted(symbols, table, places)
 }
 
-// Words for the ids of any text: it has fewer names than bytes.
+// Words for the ids of any text: it has fewer names than bytes. Lists side by side, as `Words` has them, on the stack: there is no heap.
 #[derive(Drop)]
 struct Room {
     starts: [u16; Ids::NAMES],
@@ -150,13 +151,10 @@ fn read_in(text: &[u8], table: &mut [u16], places: &mut [u16]) -> Result<Reading
 pub fn read_yacc(text: &[u8], table: &mut [u16], places: &mut [u16]) -> Result<Reading, Refusal>
     ensures { record { answer = reply_of result; table = table.new; places = places.new } ≡ read_of text.now table.old places.old }
 {
-    if text.len() > 65535 {
+    if !is_short(text) || !is_grammar(text) {
         return Err(Refusal::NoText);
     }
-    if is_grammar(text) {
-        return read_in(text, table, places);
-    }
-    Err(Refusal::NoText)
+    read_in(text, table, places)
 }
 
 // Where a text of the grammar is at fault.
@@ -173,10 +171,7 @@ fn fault_in(text: &[u8]) -> usize
 pub fn misnamed_at(text: &[u8]) -> usize
     ensures { (result ≤ length text.now) × (length text.now ≤ text_limit → (l : Layout) → parse text.now ≡ some l → misnamed (source_in l.pieces) ≡ true → fault_from (source_in l.pieces) (top false) (placed 0 l.pieces) ≡ some result) }
 {
-    if 65535 < text.len() {
-        return 0;
-    }
-    if is_grammar(text) {
+    if is_short(text) && is_grammar(text) {
         return fault_in(text);
     }
     0

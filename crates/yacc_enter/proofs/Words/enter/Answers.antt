@@ -1,6 +1,6 @@
 use mathlib.Core.Path.{refl}
 use Rattle.yacc_enter.proofs.Laws.{grows_none, moves-lists, moves-defines, still_name, literal_said, still_literal, word_is, word_undefining, still_word}
-use Rattle.yacc_enter.proofs.enter.Goals as goal
+use Rattle.yacc_enter.proofs.Words.enter.Goals as goal
 
 pub returns-in-Lists : goal.returns-in-Lists
 returns-in-Lists c = let e = c.declare.ensures in record { grows = e.grows; room = e.room; moves = word_is _ _ _ _ _ _ _ _ _ _ _ _ _ _ _ _ _ _ c.in-Name.is (moves-lists _ _ _ _ _ _ _ _ _ _ _ _ _ _ _ _ _ c.in-Lists.is e.moves) }
