@@ -73,10 +73,7 @@ impl FirstSets {
             map: [0u64; NonterminalString::LIMIT],
             terminals,
         };
-        let mut changed = true;
-        while changed {
-            changed = sets.grow(grammar);
-        }
+        while sets.grow(grammar) {}
         sets
     }
 
@@ -91,6 +88,7 @@ impl FirstSets {
         }
     }
 
+    // A list comes as words, here and below: callers have parts of packed words, and two lists joined have no iterator before they are known to fit.
     // FIRST of a list of symbols as the sets have it, with the end of input in it exactly if the list may derive the empty string.
     fn end_marked(&self, symbols: &[u16]) -> TokenSet
         requires { list_is_fit nonterminal_limit terminal_limit symbols.now ≡ true }
@@ -109,7 +107,7 @@ impl FirstSets {
         result.with(self.terminals)
     }
 
-    // FIRST of a list of symbols. A list comes as words, here and below: callers have parts of packed words, and two lists joined have no iterator before they are known to fit.
+    // FIRST of a list of symbols.
     pub fn first0(&self, symbols: &[u16]) -> Answer
         requires { list_is_fit nonterminal_limit terminal_limit symbols.now ≡ true }
         ensures { result ≡ first0 self.now.terminals self.now.map (listed symbols.now) }
