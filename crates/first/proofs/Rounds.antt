@@ -3,7 +3,7 @@
 use mathlib.Core.Path.{◌≡◌, refl, sym, ap, ◌∙◌}
 use mathlib.Core.Bool.{Bool, true, false, ◌&&◌, ◌||◌, not}
 use mathlib.Core.List.{List}
-use Prim.Native.Nat.{ℕ, suc, ◌+◌, ◌-◌, ◌≤◌, ◌<◌}
+use Prim.Native.Nat.{ℕ, ◌+◌, ◌-◌, ◌≤◌, ◌<◌}
 use native.Mathlib.Numerals.{add-one}
 use native.Mathlib.Omega.{arith}
 use lib.Dec.{eqb}
@@ -16,7 +16,6 @@ use Rattle.slices.specs.Same.{same_words}
 use Rattle.repr.specs.Meaning.{Production}
 use Rattle.repr.specs.Listed.{listed}
 use Rattle.repr.specs.Packed.{Packed, symbol_words, production_in, productions_in}
-use Rattle.repr.proofs.Lists.{cases, clash}
 use Rattle.lookahead.specs.Tokens.{union}
 use Rattle.first.specs.First.{marked_at_end, grown, round, settle, rounds, sets_of_first}
 use Rattle.first.proofs.Least.{grown_same, round-nil, round_snoc, length-round, round_same_snoc, round_sized, round_less, loop_more, loop_start, loop_done}
@@ -59,52 +58,36 @@ module _ (e : ℕ) (g map₀ : List ℕ) where
       rw (round_snoc e map₀ ps (production_in g p)) at (round_same_snoc e map₀ ps (production_in g p)) in
       (at ∙ sym next, rw (ec, em, at, q, both) (sym (not-both (same_words (round e map₀ ps) map₀) (same_words (grown e (round e map₀ ps) (production_in g p)) (round e map₀ ps)))))
 
--- rounds: what is left is what the sum of the sets can still grow by, and one round more while the last changed something
+-- rounds: what is left is what the sum of the sets can still grow by
 
-unfoldable pub left : Bool → List ℕ → ℕ
-left true map = suc (rounds - total map)
-left false map = rounds - total map
+unfoldable pub left : List ℕ → ℕ
+left map = rounds - total map
 
--- a turn begins with sets from which the rounds reach the answer; where the last round changed nothing they are the answer
-pub record Turn (e : ℕ) (ps : List Production) (map : List ℕ) (changed : Bool) : Type 0 where
+-- a turn begins with sets from which the rounds reach the answer; where a round changes nothing they are the answer
+pub record Turn (e : ℕ) (ps : List Production) (map : List ℕ) : Type 0 where
   pub sized : Sized nonterminal_limit map
   pub same : settle rounds e map ps ≡ sets_of_first e ps
-  pub done : changed ≡ false → map ≡ sets_of_first e ps
 
-pub turn_start : (e : ℕ) (ps : List Production) → Turn e ps (replicate nonterminal_limit 0) true
-turn_start e ps = record { sized = none_sized nonterminal_limit; same = loop_start e ps; done = λ q. clash true refl q }
+pub turn_start : (e : ℕ) (ps : List Production) → Turn e ps (replicate nonterminal_limit 0)
+turn_start e ps = record { sized = none_sized nonterminal_limit; same = loop_start e ps }
 
-module _ (e : ℕ) (g : List ℕ) (n : ℕ) (packed : Packed g n) (few : e ≤ terminal_limit) (map map' : List ℕ) (c c' : Bool)
-    (turn : Turn e (productions_in g n) map c) (q : map' ≡ round e map (productions_in g n)) (ec : c' ≡ not (same_words map' map)) where
-  again : (b : Bool) → c' ≡ b → same_words (round e map (productions_in g n)) map ≡ not b
-  again true y = not-true (same_words (round e map (productions_in g n)) map) (rw (← q) (sym ec ∙ y))
-  again false y = not-false (same_words (round e map (productions_in g n)) map) (rw (← q) (sym ec ∙ y))
+module _ (e : ℕ) (g : List ℕ) (n : ℕ) (packed : Packed g n) (few : e ≤ terminal_limit) (map map' : List ℕ) (c : Bool)
+    (turn : Turn e (productions_in g n) map) (q : map' ≡ round e map (productions_in g n)) (ec : c ≡ not (same_words map' map)) where
+  changes : c ≡ true → same_words (round e map (productions_in g n)) map ≡ false
+  changes y = not-true (same_words (round e map (productions_in g n)) map) (rw (← q) (sym ec ∙ y))
 
-  pub turn_again : Turn e (productions_in g n) map' c'
-  turn_again = cases c' (λ y. more y) (λ y. stop y)
-    where
-      ps : List Production
-      ps = productions_in g n
+  stays : c ≡ false → same_words (round e map (productions_in g n)) map ≡ true
+  stays y = not-false (same_words (round e map (productions_in g n)) map) (rw (← q) (sym ec ∙ y))
 
-      sized : Sized nonterminal_limit map'
-      sized = rw q (round_sized e map ps few (packed_small e g n packed few).productions turn.sized)
+  pub turn_again : c ≡ true → Turn e (productions_in g n) map'
+  turn_again y = record {
+    sized = rw q (round_sized e map (productions_in g n) few (packed_small e g n packed few).productions turn.sized);
+    same = rw q (loop_more e (productions_in g n) (packed_small e g n packed few) map turn.sized (changes y) ∙ turn.same);
+  }
 
-      more : c' ≡ true → Turn e ps map' c'
-      more y = record {
-        sized = sized;
-        same = rw q (loop_more e ps (packed_small e g n packed few) map turn.sized (again true y) ∙ turn.same);
-        done = λ z. clash c' y z;
-      }
-
-      stop : c' ≡ false → Turn e ps map' c'
-      stop y =
-          let same' : map' ≡ map = q ∙ same_words_eq (round e map ps) map (again false y) in
-          record {
-            sized = sized;
-            same = rw same' turn.same;
-            done = λ z. same' ∙ sym (loop_done e map ps (again false y)) ∙ turn.same;
-          }
-
-  pub turn_less : c ≡ true → left c' map' < left c map
+  pub turn_less : c ≡ true → left map' < left map
   unfolding left
-  turn_less t = rw (t, q) (cases c' (λ y. rw y (omega (arith, round_less e (productions_in g n) (packed_small e g n packed few) map turn.sized (again true y)))) (λ y. rw (y, same_words_eq (round e map (productions_in g n)) map (again false y)) (omega arith)))
+  turn_less y = rw q (omega (arith, round_less e (productions_in g n) (packed_small e g n packed few) map turn.sized (changes y)))
+
+  pub turn_done : c ≡ false → map' ≡ sets_of_first e (productions_in g n)
+  turn_done y = q ∙ same_words_eq (round e map (productions_in g n)) map (stays y) ∙ sym (loop_done e map (productions_in g n) (stays y)) ∙ turn.same

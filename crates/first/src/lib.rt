@@ -73,10 +73,7 @@ impl FirstSets {
             map: [0u64; NonterminalString::LIMIT],
             terminals,
         };
-        let mut changed = true;
-        while changed {
-            changed = sets.grow(grammar);
-        }
+        while sets.grow(grammar) {}
         sets
     }
 
@@ -91,6 +88,7 @@ impl FirstSets {
         }
     }
 
+    // A list comes as words, here and below: callers have parts of packed words, and two lists joined have no iterator before they are known to fit.
     // FIRST of a list of symbols as the sets have it, with the end of input in it exactly if the list may derive the empty string.
     fn end_marked(&self, symbols: &[u16]) -> TokenSet
         requires { list_is_fit nonterminal_limit terminal_limit symbols.now ≡ true }
@@ -109,7 +107,7 @@ impl FirstSets {
         result.with(self.terminals)
     }
 
-    // FIRST of a list of symbols. A list comes as words, here and below: callers have parts of packed words, and two lists joined have no iterator before they are known to fit.
+    // FIRST of a list of symbols.
     pub fn first0(&self, symbols: &[u16]) -> Answer
         requires { list_is_fit nonterminal_limit terminal_limit symbols.now ≡ true }
         ensures { result ≡ first0 self.now.terminals self.now.map (listed symbols.now) }
@@ -130,12 +128,12 @@ impl FirstSets {
         answer
     }
 
-    // FIRST of two lists joined. Where the first is odd, a symbol begins with its last word and ends with the other's first.
+    // FIRST of two lists joined. Where the first is odd, a symbol begins with its last word and ends with the other's first; `joined_fits` of repr says why this is no function of its own.
     pub fn first0_joined(&self, xs: &[u16], ys: &[u16]) -> Answer
         requires { list_is_fit nonterminal_limit terminal_limit (xs.now ++ ys.now) ≡ true }
         ensures { result ≡ first0 self.now.terminals self.now.map (listed (xs.now ++ ys.now)) }
     {
-        if xs.len() % 2 == 0 {
+        if xs.len() % Symbol::WORDS == 0 {
             let answer = self.first0(xs);
             return self.followed_by(answer, ys);
         }

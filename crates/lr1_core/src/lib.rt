@@ -20,7 +20,7 @@ pub struct SymbolSets {
 }
 
 impl SymbolSets {
-    // The empty sets.
+    // The empty sets: `new` as in the Rust, with a contract that a derived `Default` would not have.
     pub fn new() -> SymbolSets
         ensures by_index { (ws : List ℕ) → sets_in ws result.prefix result.cursor result.suffix ≡ no_sets }
         ensures suffix_value { counts result.prefix result.cursor result.suffix ≡ counts_of no_sets }
@@ -40,6 +40,7 @@ pub struct Item {
     pub index: usize,
 }
 
+// The grammar is given to each method, as an item is stored and compared without one: what holds of both is asked at each call.
 impl Item {
     // Items of all productions.
     pub const LIMIT: usize = ProductionIndex::LIMIT * ProductionIndex::INDEXES;
@@ -133,25 +134,25 @@ impl Item {
             None => false,
         }
     }
-}
 
-// The symbols before the cursor.
-pub fn prefix<'a>(grammar: Grammar<'a>, item: Item) -> &'a [u16]
-    requires within { item.production < grammar.productions }
-    requires index_in_bounds { item.index ≤ length (listed (symbol_words grammar.words.now item.production)) }
-    ensures { (result.now ≡ take (2 * item.index) (symbol_words grammar.entry.words.now item.production)) × (listed result.now ≡ (symbol_sets (listed (symbol_words grammar.entry.words.now item.production)) item.index).prefix) }
-{
-    let symbols = grammar.symbols(item.production);
-    &symbols[..2 * item.index]
-}
+    // The symbols before the cursor.
+    pub fn prefix<'a>(self, grammar: Grammar<'a>) -> &'a [u16]
+        requires within { self.production < grammar.productions }
+        requires index_in_bounds { self.index ≤ length (listed (symbol_words grammar.words.now self.production)) }
+        ensures { (result.now ≡ take (2 * self.index) (symbol_words grammar.entry.words.now self.production)) × (listed result.now ≡ (symbol_sets (listed (symbol_words grammar.entry.words.now self.production)) self.index).prefix) }
+    {
+        let symbols = grammar.symbols(self.production);
+        &symbols[..Symbol::WORDS * self.index]
+    }
 
-// The symbols after the cursor.
-pub fn suffix<'a>(grammar: Grammar<'a>, item: Item) -> &'a [u16]
-    requires within { item.production < grammar.productions }
-    requires index_in_bounds { item.index ≤ length (listed (symbol_words grammar.words.now item.production)) }
-    ensures { (result.now ≡ drop (2 * item.index + 2) (symbol_words grammar.entry.words.now item.production)) × (listed result.now ≡ (symbol_sets (listed (symbol_words grammar.entry.words.now item.production)) item.index).suffix) }
-{
-    let symbols = grammar.symbols(item.production);
-    let from = 2 * item.index + 2;
-    &symbols[from.min(symbols.len())..]
+    // The symbols after the cursor.
+    pub fn suffix<'a>(self, grammar: Grammar<'a>) -> &'a [u16]
+        requires within { self.production < grammar.productions }
+        requires index_in_bounds { self.index ≤ length (listed (symbol_words grammar.words.now self.production)) }
+        ensures { (result.now ≡ drop (2 * self.index + 2) (symbol_words grammar.entry.words.now self.production)) × (listed result.now ≡ (symbol_sets (listed (symbol_words grammar.entry.words.now self.production)) self.index).suffix) }
+    {
+        let symbols = grammar.symbols(self.production);
+        let from = Symbol::WORDS * self.index + Symbol::WORDS;
+        &symbols[from.min(symbols.len())..]
+    }
 }

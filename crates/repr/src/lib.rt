@@ -32,10 +32,21 @@ impl ProductionIndex {
     pub const SYMBOLS: usize = 16;
 
     pub const INDEXES: usize = ProductionIndex::SYMBOLS + 1;
-    // Words of one production, and of all.
-    pub const WORDS: usize = 4 + 2 * ProductionIndex::SYMBOLS;
+
+    // Words of one production before its symbols, of one, and of all.
+    pub const HEAD: usize = 4;
+
+    pub const WORDS: usize = ProductionIndex::HEAD + Symbol::WORDS * ProductionIndex::SYMBOLS;
 
     pub const ALL_WORDS: usize = ProductionIndex::LIMIT * ProductionIndex::WORDS;
+}
+
+// The number of a state.
+#[derive(Clone, Copy, PartialEq, Eq)]
+pub struct StateIndex(pub u16);
+
+impl StateIndex {
+    pub const LIMIT: usize = 128;
 }
 
 // A symbol of the grammar, in the Rust's order.
@@ -48,6 +59,9 @@ pub enum Symbol {
 impl Symbol {
     // Terminals of a table at most; a nonterminal's limit is `NonterminalString::LIMIT`.
     pub const TERMINALS: usize = 63;
+
+    // All symbols, the terminals behind the nonterminals.
+    pub const LIMIT: usize = NonterminalString::LIMIT + Symbol::TERMINALS;
 
     // Words of a symbol, as lists have them: its kind and its number.
     pub const WORDS: usize = 2;
@@ -136,6 +150,7 @@ pub fn list_fits(n: usize, t: usize, list: &[u16]) -> bool
 }
 
 // The same of two lists joined. Where the first is odd, a symbol begins with its last word and ends with the other's first.
+// `first0_joined` of crate first and `walk_joined` of state_graph split two lists alike. What they do with the three parts differs (they are tested, their FIRST sets are joined in order, a walk goes over them from the last), so that one function for all would take a closure and be no shorter.
 pub fn joined_fits(n: usize, t: usize, xs: &[u16], ys: &[u16]) -> bool
     ensures { result ≡ list_is_fit n t (xs.now ++ ys.now) }
 {

@@ -40,8 +40,8 @@ impl<'a> Grammar<'a> {
         requires { production < self.productions }
         ensures { result.now ≡ symbol_words self.entry.words.now production }
     {
-        let from = production * ProductionIndex::WORDS + 4;
-        let past = from + 2 * word(self.words, production * ProductionIndex::WORDS + 1);
+        let from = production * ProductionIndex::WORDS + ProductionIndex::HEAD;
+        let past = from + Symbol::WORDS * self.length(production);
         let words = self.words;
         &words[from..past]
     }
@@ -54,7 +54,9 @@ impl<'a> Grammar<'a> {
         ensures in_range { IsInRange result }
     {
         let words = self.words;
-        let at = production * ProductionIndex::WORDS + 4 + Symbol::WORDS * index;
+        let at = production * ProductionIndex::WORDS
+            + ProductionIndex::HEAD
+            + Symbol::WORDS * index;
         Symbol::of(words[at], words[at + 1])
     }
 

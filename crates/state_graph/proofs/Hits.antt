@@ -211,8 +211,3 @@ module _ (t : List ℕ) (ok : check_of t ≡ Accepted) (k x l h : ℕ) where
       F.exact p lp ∙ rw e (cases (ltb p (length (meaning t).states))
       (λ u. rw u)
       (λ u. rw u (sym (leads-outside (meaning t) (symbol_of_kind k x) (states_in l h) p (ltb-false p (length (meaning t).states) u))))))
-
--- as the code counts them
-pub records_is : (t : List ℕ) → length t / 4 ≡ records t
-unfolding records
-records_is t = refl

@@ -20,16 +20,9 @@ ghost use Rattle.state_graph.specs.Remembered.{step_rows, step_places, step_word
 
 use bits::{is_set, put};
 use lookahead::TokenSet;
+pub use repr::StateIndex;
 use repr::{NonterminalString, Symbol};
-use table::{AcceptedTable, word};
-
-// The number of a state.
-#[derive(Clone, Copy)]
-pub struct StateIndex(pub u16);
-
-impl StateIndex {
-    pub const LIMIT: usize = 128;
-}
+use table::{AcceptedTable, RECORDS, word};
 
 // A set of states: 0 to 63 in `low`, 64 to 127 in `high`. Every operation is total: a state above 127 is not contained and not inserted.
 #[derive(Clone, Copy, PartialEq, Eq)]
@@ -40,10 +33,7 @@ pub struct StateSet {
 
 impl StateSet {
     // A bit for each record of a table, while walking back.
-    pub const HIT_WORDS: usize = 128;
-
-    // Symbols: 32 nonterminals, 63 terminals behind them.
-    pub const ROWS: usize = 95;
+    pub const HIT_WORDS: usize = RECORDS / 64;
 
     // Steps that are remembered: four words each, and behind them a word each that says over which symbol.
     pub const STEPS: usize = 31;
@@ -68,31 +58,27 @@ impl StateSet {
     pub fn insert(self, state: usize) -> StateSet
         ensures { (k : ℕ) → has_state result.low result.high k ≡ has_state self.low self.high k || (ltb k 128 && eqb k state) }
     {
-        if state < 64 {
-            return StateSet {
+        match state {
+            0..64 => StateSet {
                 low: self.low | 1 << state,
-                high: self.high,
-            };
-        }
-        if state < StateIndex::LIMIT {
-            return StateSet {
-                low: self.low,
+                ..self
+            },
+            64..StateIndex::LIMIT => StateSet {
                 high: self.high | 1 << (state - 64),
-            };
+                ..self
+            },
+            _ => self,
         }
-        self
     }
 
     pub fn contains(self, state: usize) -> bool
         ensures { result ≡ has_state self.low self.high state }
     {
-        if state < 64 {
-            return (self.low >> state) & 1 == 1;
+        match state {
+            0..64 => (self.low >> state) & 1 == 1,
+            64..StateIndex::LIMIT => (self.high >> (state - 64)) & 1 == 1,
+            _ => false,
         }
-        if state < StateIndex::LIMIT {
-            return (self.high >> (state - 64)) & 1 == 1;
-        }
-        false
     }
 
     pub fn union(self, other: StateSet) -> StateSet
@@ -187,11 +173,8 @@ impl Step<'_> {
         requires { (records self.table.words.now ≤ record_limit) × (length self.table.words.now ≡ 4 * records self.table.words.now) × (r < records self.table.words.now) × (length hits.now ≡ hit_words) }
         ensures { result ≡ is_hit_now self.entry.table.words.now hits.now self.entry.kind self.entry.number self.entry.set.low self.entry.set.high r }
     {
-        if self.ends_in(r) {
-            return true;
-        }
         let next = word(self.table.words, r, 0);
-        next > r && next < self.table.words.len() / 4 && is_set(hits, next)
+        self.ends_in(r) || (next > r && next < self.table.records() && is_set(hits, next))
     }
 
     // The records from the last down: a next index is larger than its record's number, so what follows a record is known when it is read.
@@ -199,7 +182,7 @@ impl Step<'_> {
         requires { hits.old ≡ replicate hit_words 0 }
         ensures { Hits self.entry.table.words.now self.entry.kind self.entry.number self.entry.set.low self.entry.set.high hits.new }
     {
-        for r in (0..self.table.words.len() / 4).rev() {
+        for r in (0..self.table.records()).rev() {
             if self.hit_now(hits, r) {
                 put(hits, r);
             }
@@ -245,7 +228,7 @@ impl Step<'_> {
         ensures { SteppedTo (predecessors (meaning self.entry.table.words.now) (symbol_of_kind self.entry.kind self.entry.number) (states_in self.entry.set.low self.entry.set.high)) result }
     {
         let states = self.table.counts().states;
-        let mut left = self.table.words.len() / 4;
+        let mut left = self.table.records();
         let mut found = StateSet::new();
         for s in 0..states {
             if self.leads(s, &mut left)? {
@@ -269,6 +252,7 @@ impl Step<'_> {
     }
 }
 
+// The steps that are remembered stand in words, those of all symbols behind those of all sets: an array of structs would need a first value for each, where zeros say that nothing is remembered.
 // The two words of a set.
 fn set_at(words: &[u64], at: usize) -> StateSet
     requires { at + 1 < length words.now }
@@ -280,7 +264,7 @@ fn set_at(words: &[u64], at: usize) -> StateSet
     }
 }
 
-// A place for what a step finds, by its symbol (a row: its number among all of StateSet::ROWS) and its set: steps from different sets over one symbol have different places as far as may be, and a place says what it holds.
+// A place for what a step finds, by its symbol (a row: its number among all symbols, the terminals behind the nonterminals) and its set: steps from different sets over one symbol have different places as far as may be, and a place says what it holds.
 fn place_of(row: usize, set: StateSet) -> usize
     requires { row < step_rows }
     ensures { result < step_places }
@@ -299,14 +283,14 @@ fn recalls(steps: &[u64], place: usize, row: usize, set: StateSet) -> bool
 }
 
 // What a step found, until another one takes its place.
-fn remember(steps: &mut [u64], row: usize, set: StateSet, found: StateSet)
-    requires { (row * 4 + 3 < length steps.old) × (row < 1000) }
-    ensures { steps.new ≡ put_quad steps.old row set.low set.high found.low found.high }
+fn remember(steps: &mut [u64], place: usize, set: StateSet, found: StateSet)
+    requires { (place * 4 + 3 < length steps.old) × (place < 1000) }
+    ensures { steps.new ≡ put_quad steps.old place set.low set.high found.low found.high }
 {
-    steps[row * 4] = set.low;
-    steps[row * 4 + 1] = set.high;
-    steps[row * 4 + 2] = found.low;
-    steps[row * 4 + 3] = found.high;
+    steps[place * 4] = set.low;
+    steps[place * 4 + 1] = set.high;
+    steps[place * 4 + 2] = found.low;
+    steps[place * 4 + 3] = found.high;
 }
 
 // Which symbol it was over.
@@ -317,7 +301,7 @@ fn note(steps: &mut [u64], place: usize, row: usize)
     steps[StateSet::STEP_SYMBOLS + place] = (row + 1) as u64;
 }
 
-// A walk back over an accepted table: each step is remembered until another takes its place.
+// A walk back over an accepted table: each step is remembered until another takes its place. There is no heap, so the words for that are a fixed number.
 #[derive(Drop)]
 pub struct StateWalk<'a> {
     pub table: AcceptedTable<'a>,
@@ -371,12 +355,12 @@ impl<'a> StateWalk<'a> {
         found
     }
 
-    // Back over two lists joined: over the second and, from the states found, over the first. Where the first is odd, a symbol begins with its last word and ends with the other's first.
+    // Back over two lists joined: over the second and, from the states found, over the first. Where the first is odd, a symbol begins with its last word and ends with the other's first; `joined_fits` of repr says why this is no function of its own.
     fn walk_joined(&mut self, set: StateSet, xs: &[u16], ys: &[u16]) -> StateSet
         requires { list_is_fit (length (meaning self.old.table.words.now).nonterminals) (meaning self.old.table.words.now).terminals (xs.now ++ ys.now) ≡ true }
         ensures { states_in result.low result.high ≡ walked_back (meaning self.old.table.words.now) (states_in set.low set.high) (listed (xs.now ++ ys.now)) }
     {
-        if xs.len() % 2 == 0 {
+        if xs.len() % Symbol::WORDS == 0 {
             let found = self.walk_back(set, ys);
             return self.walk_back(found, xs);
         }

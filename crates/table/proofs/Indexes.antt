@@ -2,7 +2,7 @@
 use mathlib.Core.Path.{◌≡◌, sym, ap, ◌∙◌}
 use mathlib.Core.Bool.{true, false}
 use mathlib.Core.List.{List, [], ◌∷◌, map}
-use Prim.Native.Nat.{ℕ, ◌+◌, ◌-◌, ◌*◌, ◌≤◌, ◌<◌}
+use Prim.Native.Nat.{ℕ, ◌+◌, ◌-◌, ◌*◌, ◌/◌, ◌≤◌, ◌<◌}
 use native.Mathlib.Omega.{arith}
 use lib.ListN.{length, get_or}
 use lib.Dec.{eqb}
@@ -150,9 +150,16 @@ module _ (t : List ℕ) (A : Accepts t) where
 abbrev pub Asked : List ℕ → ℕ → ℕ → Type 0
 Asked t r k = (r < record_limit) × ((k < 4) × (r * 4 + k < length t))
 
+records_of : (t : List ℕ) → length t / 4 ≡ records t
+unfolding records
+records_of t = λ i. length t / 4
+
 module _ (t : List ℕ) (e : check_of t ≡ Accepted) where
   pub has_counts : 4 ≤ length t
   has_counts = let A = accepts t e in omega (arith, A.words, A.some_record)
+
+  pub records_are : (length t / 4 ≡ records t) × (length t / 4 ≤ record_limit)
+  records_are = let q : length t / 4 ≡ records t = records_of t in (q, rw q (accepts t e).few_records)
 
   pub state_asked : (s r k : ℕ) → r ≡ state_area t + s → s < length (meaning t).states → k < 4 → Asked t r k
   state_asked s r k er hs h =
@@ -196,29 +203,29 @@ module _ (t : List ℕ) (e : check_of t ≡ Accepted) where
 
   -- a production's number
 
-  pub production-after : (at n s : ℕ) → (at ≡ 0 → ⊥) → ProductionHead t at → n ≡ length (meaning t).nonterminals → s ≡ length (meaning t).states → 1 + n + s ≤ at
-  production-after at n s ne H en es =
+  pub production-after : (at n s r : ℕ) → (at ≡ 0 → ⊥) → ProductionHead t at → n ≡ length (meaning t).nonterminals → s ≡ length (meaning t).states → r ≡ 1 + n + s → r ≤ at
+  production-after at n s r ne H en es er =
       let i = production_in_lem t at (H.inside ne) in
       let z = (areas_of t).production_area_lem in
       let a = many_nonterminals t in
       let b = many_states t in
       omega arith
 
-  pub production_is : (at n s next : ℕ) → (at ≡ 0 → ⊥) → ProductionHead t at → n ≡ length (meaning t).nonterminals → s ≡ length (meaning t).states → next ≡ word_at t at 0
-      → ProductionRead t at next (at - (1 + n + s))
-  production_is at n s next ne H en es ex =
+  pub production_is : (at n s r next : ℕ) → (at ≡ 0 → ⊥) → ProductionHead t at → n ≡ length (meaning t).nonterminals → s ≡ length (meaning t).states → r ≡ 1 + n + s
+      → next ≡ word_at t at 0 → ProductionRead t at next (at - r)
+  production_is at n s r next ne H en es er ex =
       let z = (areas_of t).production_area_lem in
       let a = many_nonterminals t in
       let b = many_states t in
-      production-read t (accepts t e) at next (at - (1 + n + s)) ne H ex (omega arith)
+      production-read t (accepts t e) at next (at - r) ne H ex (omega arith)
 
   -- a record's number
 
-  pub state_record_is : (n s : ℕ) → n ≡ length (meaning t).nonterminals → 1 + n + s ≡ state_area t + s
-  state_record_is n s en = let z = (areas_of t).state_area_lem in let a = many_nonterminals t in omega arith
+  pub state_record_is : (n r s : ℕ) → n ≡ length (meaning t).nonterminals → r ≡ 1 + n → r + s ≡ state_area t + s
+  state_record_is n r s en er = let z = (areas_of t).state_area_lem in let a = many_nonterminals t in omega arith
 
-  pub production_record_is : (n s p : ℕ) → n ≡ length (meaning t).nonterminals → s ≡ length (meaning t).states → 1 + n + s + p ≡ production_area t + p
-  production_record_is n s p en es =
+  pub production_record_is : (n s r p : ℕ) → n ≡ length (meaning t).nonterminals → s ≡ length (meaning t).states → r ≡ 1 + n + s → r + p ≡ production_area t + p
+  production_record_is n s r p en es er =
       let z = (areas_of t).production_area_lem in
       let a = many_nonterminals t in
       let b = many_states t in

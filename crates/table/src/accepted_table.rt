@@ -1,10 +1,10 @@
 // An accepted table: what the check answered is kept in the type, and reading it asks for nothing more.
 
-ghost use Rattle.std.specs.Prelude.{◌≡◌, [], ◌+◌, ◌<◌, length, get_or};
-ghost use Rattle.repr.specs.Sizes.{grammar_room};
+ghost use Rattle.std.specs.Prelude.{◌≡◌, [], ◌+◌, ◌≤◌, ◌<◌, length, get_or};
+ghost use Rattle.repr.specs.Sizes.{record_limit, grammar_room};
 ghost use Rattle.repr.specs.Meaning.{state_at, production_at};
 ghost use Rattle.repr.specs.Packed.{Packed, productions_in};
-ghost use Rattle.table.specs.Words.{state_area, production_area};
+ghost use Rattle.table.specs.Words.{records, state_area, production_area};
 ghost use Rattle.table.specs.Checked.{Accepted};
 ghost use Rattle.table.specs.Decoded.{meaning, items_from, edges_from, productions_from};
 ghost use Rattle.table.specs.Refusals.{check_of};
@@ -12,9 +12,10 @@ ghost use Rattle.table.specs.Index.{CountsOf, ItemIndex, EdgeIndex, ProductionHe
 ghost use Rattle.table.specs.Written.{symbols_from, SymbolIndex, SymbolRead, OwnerStored, OwnersIn, SymbolsStored, ProductionStored};
 
 use crate::{
-    Counts, EdgeIter, EdgeRecord, ItemIter, ItemRecord, ProductionIter, ProductionRecord, word,
+    Counts, EdgeIter, EdgeRecord, ItemIter, ItemRecord, ProductionIter, ProductionRecord,
+    RECORD_WORDS, word,
 };
-use repr::{Grammar, ProductionIndex};
+use repr::{Grammar, ProductionIndex, Symbol};
 
 // A symbol, its kind and number as they are copied into packed words, and the index of the next.
 #[derive(Clone, Copy)]
@@ -31,7 +32,16 @@ pub struct AcceptedTable<'a> {
     pub ghost accepted: { check_of words.now ≡ Accepted },
 }
 
+// Which state, nonterminal or production is asked is a number, and that there is such a one is asked at each call: a type for it would have to hold the table.
 impl<'a> AcceptedTable<'a> {
+    // How many records.
+    pub fn records(self) -> usize
+        ensures is { result ≡ records self.entry.words.now }
+        ensures few { result ≤ record_limit }
+    {
+        self.words.len() / RECORD_WORDS
+    }
+
     pub fn counts(self) -> Counts
         ensures { CountsOf (meaning self.entry.words.now) result.nonterminals result.terminals result.states result.productions }
     {
@@ -43,7 +53,7 @@ impl<'a> AcceptedTable<'a> {
         requires { state < length (meaning self.words.now).states }
         ensures { result ≡ state_area self.entry.words.now + state }
     {
-        1 + self.counts().nonterminals + state
+        self.counts().states_at() + state
     }
 
     // A production's record.
@@ -51,8 +61,7 @@ impl<'a> AcceptedTable<'a> {
         requires { production < length (meaning self.words.now).productions }
         ensures { result ≡ production_area self.entry.words.now + production }
     {
-        let counts = self.counts();
-        1 + counts.nonterminals + counts.states + production
+        self.counts().productions_at() + production
     }
 
     // The index of a state's first item.
@@ -136,10 +145,9 @@ impl<'a> AcceptedTable<'a> {
         requires on { ProductionHead self.words.now at }
         ensures { ProductionRead self.entry.words.now at result.next result.production }
     {
-        let counts = self.counts();
         ProductionRecord {
             next: word(self.words, at, 0),
-            production: at - (1 + counts.nonterminals + counts.states),
+            production: at - self.counts().productions_at(),
         }
     }
 
@@ -203,7 +211,9 @@ impl<'a> AcceptedTable<'a> {
         let mut count: usize = 0;
         while at != 0 {
             let read = self.symbol(at);
-            let put = production * ProductionIndex::WORDS + 4 + 2 * count;
+            let put = production * ProductionIndex::WORDS
+                + ProductionIndex::HEAD
+                + Symbol::WORDS * count;
             grammar[put] = read.kind as u16;
             grammar[put + 1] = read.number as u16;
             count += 1;
@@ -237,7 +247,7 @@ impl<'a> AcceptedTable<'a> {
         }
     }
 
-    // Writes the productions into words, as specs/Packed of repr has them.
+    // Writes the productions into words, as specs/Packed of repr has them: a slice here and above, since the words may be a part of a lent scratch (examples::prepare).
     pub fn read_productions(self, grammar: &mut [u16])
         requires { length grammar.old ≡ grammar_room }
         ensures { Packed grammar.new (length (meaning self.entry.words.now).productions) × (productions_in grammar.new (length (meaning self.entry.words.now).productions) ≡ (meaning self.entry.words.now).productions) }

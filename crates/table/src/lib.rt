@@ -14,15 +14,17 @@ ghost use Rattle.table.specs.Decoded.{meaning};
 pub use accepted_table::AcceptedTable;
 pub use iter::{EdgeIter, ItemIter, ProductionIter};
 
-// Records of a table at most (refusal 1).
+// Records of a table at most (refusal 1), and words of a record.
 pub const RECORDS: usize = 8192;
+
+pub const RECORD_WORDS: usize = 4;
 
 // Word k of record r.
 pub fn word(table: &[u16], r: usize, k: usize) -> usize
     requires { (r < record_limit) × ((k < 4) × (r * 4 + k < length table.now)) }
     ensures { (result ≡ word_at table.now r k) × (result < 65536) }
 {
-    table[r * 4 + k] as usize
+    table[r * RECORD_WORDS + k] as usize
 }
 
 // Puts record r.
@@ -31,10 +33,11 @@ pub fn put(table: &mut [u16], r: usize, a: usize, b: usize, c: usize, d: usize)
     requires a_bound { (a < 65536) × ((b < 65536) × ((c < 65536) × (d < 65536))) }
     ensures { table.new ≡ put_quad table.old r a b c d }
 {
-    table[r * 4] = a as u16;
-    table[r * 4 + 1] = b as u16;
-    table[r * 4 + 2] = c as u16;
-    table[r * 4 + 3] = d as u16;
+    let at = r * RECORD_WORDS;
+    table[at] = a as u16;
+    table[at + 1] = b as u16;
+    table[at + 2] = c as u16;
+    table[at + 3] = d as u16;
 }
 
 // The counts of record 0.
@@ -60,6 +63,46 @@ impl Counts {
             productions: word(table, 0, 3),
         }
     }
+
+    // Puts them into record 0.
+    pub fn put(self, table: &mut [u16])
+        requires room { 4 ≤ length table.old }
+        requires small { (self.nonterminals < 65536) × ((self.terminals < 65536) × ((self.states < 65536) × (self.productions < 65536))) }
+        ensures { table.new ≡ put_quad table.old 0 self.nonterminals self.terminals self.states self.productions }
+    {
+        put(
+            table,
+            0,
+            self.nonterminals,
+            self.terminals,
+            self.states,
+            self.productions,
+        );
+    }
+
+    // The first record of the states, behind record 0 and the nonterminals.
+    pub fn states_at(self) -> usize
+        requires { self.nonterminals < 65536 }
+        ensures { result ≡ 1 + self.nonterminals }
+    {
+        1 + self.nonterminals
+    }
+
+    // The first record of the productions.
+    pub fn productions_at(self) -> usize
+        requires { (self.nonterminals < 65536) × (self.states < 65536) }
+        ensures { result ≡ 1 + self.nonterminals + self.states }
+    {
+        self.states_at() + self.states
+    }
+
+    // The first loose record.
+    pub fn loose_at(self) -> usize
+        requires { (self.nonterminals < 65536) × ((self.states < 65536) × (self.productions < 65536)) }
+        ensures { result ≡ 1 + self.nonterminals + self.states + self.productions }
+    {
+        self.productions_at() + self.productions
+    }
 }
 
 // An item, the index of its record, and the index of the next.
@@ -71,7 +114,7 @@ pub struct ItemRecord {
     pub index: usize,
 }
 
-// An edge, its kind and number as the record has them, and the index of the next.
+// An edge, its symbol's kind and number, and the index of the next. They stay two words, as what reads an edge compares them with words of records that may be none (state_graph).
 #[derive(Clone, Copy)]
 pub struct EdgeRecord {
     pub next: usize,

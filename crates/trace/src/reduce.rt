@@ -11,7 +11,7 @@ ghost use Rattle.trace.specs.Ends.{EndsTo, Ends};
 
 use bits::put;
 use first::FirstSets;
-use lr1_core::{Item, suffix};
+use lr1_core::Item;
 use repr::Grammar;
 
 // Whether an item's suffix may derive the empty string.
@@ -20,7 +20,7 @@ fn item_ends(grammar: Grammar, sets: &FirstSets, item: Item) -> bool
     requires within { (item.production < grammar.productions) × (item.index ≤ length (listed (symbol_words grammar.words.now item.production))) }
     ensures { (T : meaning-of.Table) → T.productions ≡ productions_in grammar.entry.words.now grammar.entry.productions → T.terminals ≡ sets.now.terminals → result ≡ nullable T (suffix_of T (item_at item.production item.index)) }
 {
-    let rest = suffix(grammar, item);
+    let rest = item.suffix(grammar);
     sets.first0(rest).nullable
 }
 

@@ -62,10 +62,10 @@ module _ {ws : List ℕ} {start sum : ℕ} {left : List ℕ} (M : Mixing ws star
       }
 
 -- the label's words that `bucket_of` mixes, and what it gives
-pub words_fit_lem : (g : List ℕ) (m : ℕ) (v : EdgeValue) → Packed g m → v.production < m → {ws : List ℕ} → ws ≡ symbol_words g v.production → list_is_fit nonterminal_limit terminal_limit ws ≡ true
-words_fit_lem g m v P h e = rw e (P.fits v.production h)
+pub words_fit_lem : (g : List ℕ) (m : ℕ) (v : EdgeValue) → Packed g m → v.label.production < m → {ws : List ℕ} → ws ≡ symbol_words g v.label.production → list_is_fit nonterminal_limit terminal_limit ws ≡ true
+words_fit_lem g m v P h e = rw e (P.fits v.label.production h)
 
-pub bucket_made : (g : List ℕ) (m : ℕ) (v : EdgeValue) → v.production < m → {from to r : ℕ} {ws : List ℕ} → from ≡ number_of_node (node_is v.source) → to ≡ number_of_node (node_is v.target) → ws ≡ symbol_words g v.production
-    → r ≡ mixed ((from * 3001 + (to * 613 + v.index * 89)) % 65536) (listed ws) → r % bucket_limit ≡ bucket_number (productions_in g m) (edge_is v)
+pub bucket_made : (g : List ℕ) (m : ℕ) (v : EdgeValue) → v.label.production < m → {from to r : ℕ} {ws : List ℕ} → from ≡ number_of_node (node_is v.source) → to ≡ number_of_node (node_is v.target) → ws ≡ symbol_words g v.label.production
+    → r ≡ mixed ((from * 3001 + (to * 613 + v.label.index * 89)) % 65536) (listed ws) → r % bucket_limit ≡ bucket_number (productions_in g m) (edge_is v)
 unfolding bucket_number edge_is
-bucket_made g m v h es et ew er = rw (er, es, et, ew, production-symbols g m v.production h)
+bucket_made g m v h es et ew er = rw (er, es, et, ew, production-symbols g m v.label.production h)

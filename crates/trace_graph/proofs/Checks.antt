@@ -104,7 +104,7 @@ module _ {g : List ℕ} {m n : ℕ} {ws ix : List ℕ} {k : ℕ} {w : EdgeValue}
     pub check_fits : value_fits n (productions_in g m) w ≡ true
     check_fits = sym L.fits ∙ y
 
-    pub check_small : SmallEdge w × (w.production < m)
+    pub check_small : SmallEdge w × (w.label.production < m)
     check_small = value_small g m L.packed n L.graph.nonterminals w check_fits
 
     module _ {r : Bool} (er : r ≡ some? (is_same_edge (productions_in g m) (edge_is w)) (first_edges ws k)) where

@@ -31,13 +31,13 @@ pub record Compared (n : ℕ) (ps : List Production) (ws : List ℕ) (k : ℕ) (
 
 -- the ways through it
 module _ {n : ℕ} {ps : List Production} {ws : List ℕ} {k : ℕ} {v w : EdgeValue} (C : Compared n ps ws k v w) where
-  pub left_label : item_is_fit ps v.production v.index ≡ true
+  pub left_label : item_is_fit ps v.label.production v.label.index ≡ true
   left_label = label_fits n ps v C.fits
 
-  pub right_label : item_is_fit ps w.production w.index ≡ true
+  pub right_label : item_is_fit ps w.label.production w.label.index ≡ true
   right_label = label_fits n ps w (read_fits n ps ws k w C.read C.here)
 
-  edge_is_lem : is_same_edge ps (edge_is v) (edge_at ws k) ≡ (same_value v.source w.source && (same_value v.target w.target && same_sets (label_of ps (record { production = v.production; index = v.index })) (label_of ps (record { production = w.production; index = w.index }))))
+  edge_is_lem : is_same_edge ps (edge_is v) (edge_at ws k) ≡ (same_value v.source w.source && (same_value v.target w.target && same_sets (label_of ps (record { production = v.label.production; index = v.label.index })) (label_of ps (record { production = w.label.production; index = w.label.index }))))
   unfolding is_same_edge edge_is
   edge_is_lem =
       let here = read_fits n ps ws k w C.read C.here in
@@ -54,7 +54,7 @@ module _ {n : ℕ} {ps : List Production} {ws : List ℕ} {k : ℕ} {v w : EdgeV
       pub edge_target_no : t ≡ false → false ≡ is_same_edge ps (edge_is v) (edge_at ws k)
       edge_target_no z = sym (edge_is_lem ∙ rw (sym q ∙ y, sym p ∙ z))
 
-      pub edge_yes : {l : Bool} → t ≡ true → l ≡ same_sets (label_of ps (record { production = v.production; index = v.index })) (label_of ps (record { production = w.production; index = w.index }))
+      pub edge_yes : {l : Bool} → t ≡ true → l ≡ same_sets (label_of ps (record { production = v.label.production; index = v.label.index })) (label_of ps (record { production = w.label.production; index = w.label.index }))
           → l ≡ is_same_edge ps (edge_is v) (edge_at ws k)
       edge_yes z e = e ∙ sym (edge_is_lem ∙ rw (sym q ∙ y, sym p ∙ z))
 

@@ -195,22 +195,22 @@ module _ (n : ℕ) (ps : List Production) (v : EdgeValue) where
     unfolding value_fits
     source_fits = and_left _ _ e
 
-    rest-fits : node_value_fits n ps v.target && item_is_fit ps v.production v.index ≡ true
+    rest-fits : node_value_fits n ps v.target && item_is_fit ps v.label.production v.label.index ≡ true
     unfolding value_fits
     rest-fits = and_right (node_value_fits n ps v.source) _ e
 
     pub target_fits : node_value_fits n ps v.target ≡ true
     target_fits = and_left _ _ rest-fits
 
-    pub label_fits : item_is_fit ps v.production v.index ≡ true
+    pub label_fits : item_is_fit ps v.label.production v.label.index ≡ true
     label_fits = and_right (node_value_fits n ps v.target) _ rest-fits
 
     pub small_edge : Bounds n ps → SmallEdge v
     small_edge B = record {
       source = small_node n ps B v.source source_fits;
       target = small_node n ps B v.target target_fits;
-      production = B.production v.production v.index label_fits;
-      index = B.index v.production v.index label_fits;
+      production = B.production v.label.production v.label.index label_fits;
+      index = B.index v.label.production v.label.index label_fits;
     }
 
   -- the ways through `edge_fits`
@@ -222,10 +222,10 @@ module _ (n : ℕ) (ps : List Production) (v : EdgeValue) where
   unfolding value_fits
   target_out e f = rw (e, f)
 
-  pub label_decides : node_value_fits n ps v.source ≡ true → node_value_fits n ps v.target ≡ true → item_is_fit ps v.production v.index ≡ value_fits n ps v
+  pub label_decides : node_value_fits n ps v.source ≡ true → node_value_fits n ps v.target ≡ true → item_is_fit ps v.label.production v.label.index ≡ value_fits n ps v
   unfolding value_fits
   label_decides e f = rw (e, f)
 
 -- an edge of a packed table in range is small, and its label's production is one of the table's
-pub value_small : (g : List ℕ) (m : ℕ) → Packed g m → (n : ℕ) → n ≤ 32 → (v : EdgeValue) → value_fits n (productions_in g m) v ≡ true → SmallEdge v × (v.production < m)
-value_small g m P n h v e = (small_edge n (productions_in g m) v e (bounds g m P n h), item-below g m P v.production v.index (label_fits n (productions_in g m) v e))
+pub value_small : (g : List ℕ) (m : ℕ) → Packed g m → (n : ℕ) → n ≤ 32 → (v : EdgeValue) → value_fits n (productions_in g m) v ≡ true → SmallEdge v × (v.label.production < m)
+value_small g m P n h v e = (small_edge n (productions_in g m) v e (bounds g m P n h), item-below g m P v.label.production v.label.index (label_fits n (productions_in g m) v e))

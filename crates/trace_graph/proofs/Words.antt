@@ -55,7 +55,7 @@ read_of ws k v h =
     node a b c = record { kind = a; number = b; index = c }
 
     edge : NodeValue → NodeValue → ℕ → ℕ → EdgeValue
-    edge s t p i = record { source = s; target = t; production = p; index = i }
+    edge s t p i = record { source = s; target = t; label = record { production = p; index = i } }
 
     make : {a b c d e f p q a' b' c' d' e' f' p' q' : ℕ} → a ≡ a' → b ≡ b' → c ≡ c' → d ≡ d' → e ≡ e' → f ≡ f' → p ≡ p' → q ≡ q'
         → edge (node a b c) (node d e f) p q ≡ edge (node a' b' c') (node d' e' f') p' q'
@@ -68,14 +68,14 @@ unfolding node_is node_at node_read
 node_made ws at a b c x y z = rw (x, y, z) (refl, refl)
 
 pub edge_made : (ws : List ℕ) (k : ℕ) (s t : NodeValue) (p i : ℕ) → s ≡ node_read ws (edge_place k) → t ≡ node_read ws (edge_place k + 3) → p ≡ get_or ws (edge_place k + 6) 0 → i ≡ get_or ws (edge_place k + 7) 0
-    → (edge_is (record { source = s; target = t; production = p; index = i }) ≡ edge_at ws k) × (record { source = s; target = t; production = p; index = i } ≡ edge_read ws k)
+    → (edge_is (record { source = s; target = t; label = record { production = p; index = i } }) ≡ edge_at ws k) × (record { source = s; target = t; label = record { production = p; index = i } } ≡ edge_read ws k)
 unfolding edge_read
 edge_made ws k s t p i x y z w =
-    let e : ◌≡◌ {A = EdgeValue} (record { source = s; target = t; production = p; index = i }) (edge_read ws k) = rw (x, y, z, w) in
+    let e : ◌≡◌ {A = EdgeValue} (record { source = s; target = t; label = record { production = p; index = i } }) (edge_read ws k) = rw (x, y, z, w) in
     (ap edge_is e ∙ edge_read_lem ws k, e)
 
 pub words_stored : (ws : List ℕ) (k : ℕ) (v : EdgeValue)
-    → set (set (set (set (set (set (set (set ws (edge_place k) v.source.kind) (edge_place k + 1) v.source.number) (edge_place k + 2) v.source.index) (edge_place k + 3) v.target.kind) (edge_place k + 4) v.target.number) (edge_place k + 5) v.target.index) (edge_place k + 6) v.production) (edge_place k + 7) v.index ≡ written ws k (value_words v)
+    → set (set (set (set (set (set (set (set ws (edge_place k) v.source.kind) (edge_place k + 1) v.source.number) (edge_place k + 2) v.source.index) (edge_place k + 3) v.target.kind) (edge_place k + 4) v.target.number) (edge_place k + 5) v.target.index) (edge_place k + 6) v.label.production) (edge_place k + 7) v.label.index ≡ written ws k (value_words v)
 unfolding written value_words
 words_stored ws k v = rw (add-two (edge_place k), add-three (edge_place k), add-four (edge_place k), add_five (edge_place k), add_six (edge_place k), add_seven (edge_place k), add-one (edge_place k))
 
@@ -109,7 +109,7 @@ value_of (at_nonterminal n) = record { kind = 0; number = n; index = 0 }
 value_of (at_item i) = record { kind = 1; number = i.production; index = i.index }
 
 pub edge_value : TraceEdge → EdgeValue
-edge_value e = record { source = value_of e.source; target = value_of e.target; production = e.label.production; index = e.label.index }
+edge_value e = record { source = value_of e.source; target = value_of e.target; label = record { production = e.label.production; index = e.label.index } }
 
 node_of_lem : (v : Node) → node_is (value_of v) ≡ v
 unfolding value_of node_is node_of
@@ -138,7 +138,7 @@ own_value n ps v e =
     make (own_node n ps v.source.kind v.source.number v.source.index s) (own_node n ps v.target.kind v.target.number v.target.index t)
   where
     make : {s t s' t' : NodeValue} → s ≡ s' → t ≡ t'
-        → ◌≡◌ {A = EdgeValue} (record { source = s; target = t; production = v.production; index = v.index }) (record { source = s'; target = t'; production = v.production; index = v.index })
+        → ◌≡◌ {A = EdgeValue} (record { source = s; target = t; label = v.label }) (record { source = s'; target = t'; label = v.label })
     make x y = rw (x, y)
 
 node_words_lem : (v : Node) → node_words v ≡ (value_of v).kind ∷ (value_of v).number ∷ (value_of v).index ∷ []

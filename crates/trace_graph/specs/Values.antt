@@ -15,7 +15,7 @@ unfoldable pub node_is : NodeValue → Node
 node_is v = node_of v.kind v.number v.index
 
 unfoldable pub edge_is : EdgeValue → TraceEdge
-edge_is v = record { source = node_is v.source; target = node_is v.target; label = record { production = v.production; index = v.index } }
+edge_is v = record { source = node_is v.source; target = node_is v.target; label = record { production = v.label.production; index = v.label.index } }
 
 -- the same words
 unfoldable pub same_value : NodeValue → NodeValue → Bool
@@ -26,7 +26,7 @@ unfoldable pub node_value_fits : ℕ → List Production → NodeValue → Bool
 node_value_fits n ps v = node_fits n ps v.kind v.number v.index
 
 unfoldable pub value_fits : ℕ → List Production → EdgeValue → Bool
-value_fits n ps v = node_value_fits n ps v.source && (node_value_fits n ps v.target && item_is_fit ps v.production v.index)
+value_fits n ps v = node_value_fits n ps v.source && (node_value_fits n ps v.target && item_is_fit ps v.label.production v.label.index)
 
 -- what range gives of a table at most as large as the limits
 pub record SmallNode (v : NodeValue) : Type 0 where
@@ -37,8 +37,8 @@ pub record SmallNode (v : NodeValue) : Type 0 where
 pub record SmallEdge (v : EdgeValue) : Type 0 where
   pub source : SmallNode v.source
   pub target : SmallNode v.target
-  pub production : v.production < 128
-  pub index : v.index ≤ 16
+  pub production : v.label.production < 128
+  pub index : v.label.index ≤ 16
 
 -- the three words from a place on, and edge k's eight
 unfoldable pub node_read : List ℕ → ℕ → NodeValue
@@ -48,13 +48,12 @@ unfoldable pub edge_read : List ℕ → ℕ → EdgeValue
 edge_read ws k = record {
   source = node_read ws (edge_place k);
   target = node_read ws (edge_place k + 3);
-  production = slice_index ws (edge_place k + 6);
-  index = slice_index ws (edge_place k + 7);
+  label = record { production = slice_index ws (edge_place k + 6); index = slice_index ws (edge_place k + 7) };
 }
 
 unfoldable pub value_words : EdgeValue → List ℕ
 value_words v =
-    v.source.kind ∷ v.source.number ∷ v.source.index ∷ v.target.kind ∷ v.target.number ∷ v.target.index ∷ v.production ∷ v.index ∷ []
+    v.source.kind ∷ v.source.number ∷ v.source.index ∷ v.target.kind ∷ v.target.number ∷ v.target.index ∷ v.label.production ∷ v.label.index ∷ []
 
 -- edge k's words written
 unfoldable pub written : List ℕ → ℕ → List ℕ → List ℕ

@@ -62,16 +62,11 @@ impl TraceGraphNode {
     pub fn of(kind: u16, number: u16, index: u16) -> TraceGraphNode
         ensures { result ≡ graph_node kind number index }
     {
-        if kind == 0 {
-            if index == 0 {
-                return TraceGraphNode::Nonterminal(NonterminalString(number));
-            }
-            return TraceGraphNode::Other(kind, number, index);
+        match (kind, index) {
+            (0, 0) => TraceGraphNode::Nonterminal(NonterminalString(number)),
+            (1, _) => TraceGraphNode::Item(ProductionIndex(number), index),
+            _ => TraceGraphNode::Other(kind, number, index),
         }
-        if kind == 1 {
-            return TraceGraphNode::Item(ProductionIndex(number), index);
-        }
-        TraceGraphNode::Other(kind, number, index)
     }
 
     // Its three words.
@@ -79,11 +74,7 @@ impl TraceGraphNode {
         ensures { result ≡ node_value self }
     {
         match self {
-            TraceGraphNode::Nonterminal(n) => Node {
-                kind: 0,
-                number: n.0 as usize,
-                index: 0,
-            },
+            TraceGraphNode::Nonterminal(n) => Node::nonterminal(n.0 as usize),
             TraceGraphNode::Item(p, index) => Node {
                 kind: 1,
                 number: p.0 as usize,
@@ -107,13 +98,36 @@ pub struct Node {
     pub index: usize,
 }
 
-// An edge; its label is the symbol sets of the item at `index` of `production`.
+impl Node {
+    // The node of a nonterminal.
+    pub fn nonterminal(number: usize) -> Node
+        ensures { result ≡ record { kind = 0; number = number; index = 0 } }
+    {
+        Node {
+            kind: 0,
+            number,
+            index: 0,
+        }
+    }
+
+    // The node of an item.
+    pub fn item(item: Item) -> Node
+        ensures { result ≡ record { kind = 1; number = item.production; index = item.index } }
+    {
+        Node {
+            kind: 1,
+            number: item.production,
+            index: item.index,
+        }
+    }
+}
+
+// An edge; its label is the symbol sets of an item.
 #[derive(Clone, Copy)]
 pub struct TraceEdge {
     pub source: Node,
     pub target: Node,
-    pub production: usize,
-    pub index: usize,
+    pub label: Item,
 }
 
 // The edges are as many as there may be: refusal 12.
@@ -167,8 +181,10 @@ pub fn read_edge(graph: &[u16], k: usize) -> TraceEdge
     TraceEdge {
         source: read_node(graph, at),
         target: read_node(graph, at + 3),
-        production: word(graph, at + 6),
-        index: word(graph, at + 7),
+        label: Item {
+            production: word(graph, at + 6),
+            index: word(graph, at + 7),
+        },
     }
 }
 
@@ -187,16 +203,19 @@ pub fn write_edge(graph: &mut [u16], k: usize, edge: TraceEdge)
     graph[at + 3] = target.kind as u16;
     graph[at + 4] = target.number as u16;
     graph[at + 5] = target.index as u16;
-    graph[at + 6] = edge.production as u16;
-    graph[at + 7] = edge.index as u16;
+    let label = edge.label;
+    graph[at + 6] = label.production as u16;
+    graph[at + 7] = label.index as u16;
 }
 
-// Whether the labels of item i of production p and item j of production q are equal: by their symbols, and not by production.
-pub fn same_label(grammar: Grammar, p: usize, i: usize, q: usize, j: usize) -> bool
-    requires i_value { (item_is_fit (productions_in grammar.words.now grammar.productions) p i ≡ true) × (item_is_fit (productions_in grammar.words.now grammar.productions) q j ≡ true) }
-    ensures { result ≡ same_sets (label_of (productions_in grammar.entry.words.now grammar.entry.productions) (record { production = p; index = i })) (label_of (productions_in grammar.entry.words.now grammar.entry.productions) (record { production = q; index = j })) }
+// Whether the labels of two items are equal: by their symbols, and not by production.
+pub fn same_label(grammar: Grammar, a: Item, b: Item) -> bool
+    requires { (item_is_fit (productions_in grammar.words.now grammar.productions) a.production a.index ≡ true) × (item_is_fit (productions_in grammar.words.now grammar.productions) b.production b.index ≡ true) }
+    ensures { result ≡ same_sets (label_of (productions_in grammar.entry.words.now grammar.entry.productions) (record { production = a.production; index = a.index })) (label_of (productions_in grammar.entry.words.now grammar.entry.productions) (record { production = b.production; index = b.index })) }
 {
-    i == j && (p == q || grammar.symbols(p) == grammar.symbols(q))
+    a.index == b.index
+        && (a.production == b.production
+            || grammar.symbols(a.production) == grammar.symbols(b.production))
 }
 
 // Whether edge k is equal to the edge.
@@ -208,16 +227,10 @@ fn same_edge(grammar: Grammar, n: usize, graph: &[u16], k: usize, edge: TraceEdg
     let other = read_edge(graph, k);
     edge.source == other.source
         && edge.target == other.target
-        && same_label(
-            grammar,
-            edge.production,
-            edge.index,
-            other.production,
-            other.index,
-        )
+        && same_label(grammar, edge.label, other.label)
 }
 
-// A list of symbols mixed into a number.
+// A list of symbols mixed into a number. Crate yacc_names mixes bytes by the same rule; they have the one line in the loop in common.
 fn mix(list: &[u16], start: usize) -> usize
     requires { (start < 65536) × (list_is_fit nonterminal_limit terminal_limit list.now ≡ true) }
     ensures { (result ≡ mixed start (listed list.now)) × (result < 65536) }
@@ -232,20 +245,20 @@ fn mix(list: &[u16], start: usize) -> usize
 
 // The bucket of an edge.
 fn bucket_of(grammar: Grammar, edge: TraceEdge) -> usize
-    requires small_edge { SmallEdge edge × (edge.production < grammar.productions) }
+    requires small_edge { SmallEdge edge × (edge.label.production < grammar.productions) }
     ensures { (result ≡ bucket_number (productions_in grammar.entry.words.now grammar.entry.productions) (edge_is edge)) × (result < bucket_limit) }
 {
     let source = edge.source;
     let target = edge.target;
     let from = node_number(source);
     let to = node_number(target);
-    let start = (from * 3001 + (to * 613 + edge.index * 89)) % 65536;
-    mix(grammar.symbols(edge.production), start) % TraceGraph::BUCKETS
+    let start = (from * 3001 + (to * 613 + edge.label.index * 89)) % 65536;
+    mix(grammar.symbols(edge.label.production), start) % TraceGraph::BUCKETS
 }
 
 // Whether an equal edge is among the first k edges: only those in the edge's bucket are looked at.
 // Its links are words, 0 at the end, since there is no heap: an iterator for this one loop would be longer than the loop.
-// Here and below a grammar and a number of nonterminals, a graph and its index are given beside each other: the callers (two entries) have them so, and a struct would be made at each call.
+// Here and below a grammar and a number of nonterminals, a graph and its index are given beside each other: callers (adding an edge, opening a listing, its view) have them so from lent words, and would make a struct for the one call.
 pub fn find(
     grammar: Grammar,
     n: usize,
@@ -307,13 +320,12 @@ pub fn insert(
     Ok(())
 }
 
-// Whether a production and an index are those of an item.
+// Whether an item is one of the grammar.
 #[tactic(auto, unfolding(crate::specs::Fits::item_is_fit))]
-pub fn item_fits(grammar: Grammar, production: usize, index: usize) -> bool
-    ensures { result ≡ item_is_fit (productions_in grammar.entry.words.now grammar.entry.productions) production index }
+pub fn item_fits(grammar: Grammar, item: Item) -> bool
+    ensures { result ≡ item_is_fit (productions_in grammar.entry.words.now grammar.entry.productions) item.production item.index }
 {
-    let item = Item { production, index };
-    production < grammar.productions && index <= item.length(grammar)
+    item.production < grammar.productions && item.index <= item.length(grammar)
 }
 
 // Whether a node is in range, of n nonterminals.
@@ -323,7 +335,13 @@ pub fn node_fits(grammar: Grammar, n: usize, node: Node) -> bool
 {
     match node.kind {
         0 => node.number < n && node.index == 0,
-        1 => item_fits(grammar, node.number, node.index),
+        1 => {
+            let item = Item {
+                production: node.number,
+                index: node.index,
+            };
+            item_fits(grammar, item)
+        }
         _ => false,
     }
 }
@@ -335,7 +353,7 @@ pub fn edge_fits(grammar: Grammar, n: usize, edge: TraceEdge) -> bool
 {
     node_fits(grammar, n, edge.source)
         && node_fits(grammar, n, edge.target)
-        && item_fits(grammar, edge.production, edge.index)
+        && item_fits(grammar, edge.label)
 }
 
 // Whether edge k is in range and equals none before it; if so the index is brought up to it.
@@ -357,6 +375,7 @@ pub fn check_edge(grammar: Grammar, n: usize, graph: &[u16], ix: &mut [u16], k: 
     true
 }
 
+// Each edge that is found to fit goes into the index: no `all`, whose closure would write.
 // Whether a lent graph is one (refusal 9): a count within the limit, every number in range, no edge twice. Makes its index in zeroed words.
 pub fn check_graph(grammar: Grammar, n: usize, graph: &[u16], ix: &mut [u16]) -> bool
     requires n_bound { (n ≤ 32) × (graph_room ≤ length graph.now) }

@@ -9,7 +9,7 @@ compared : (c : After-read_edge-other) → Compared c.args.n (productions_in c.a
 compared c = record { read = c.read_edge-other.ensures.1; here = c.requires.k_value.0; fits = c.requires.k_value.1 }
 
 pub same_label-requires : goal.same_label-requires
-same_label-requires c = record { i_value = (left_label (compared (goal.at.same_label-requires c).After-read_edge-other), right_label (compared (goal.at.same_label-requires c).After-read_edge-other)) }
+same_label-requires c = (left_label (compared (goal.at.same_label-requires c).After-read_edge-other), right_label (compared (goal.at.same_label-requires c).After-read_edge-other))
 
 pub returns-then-eq-2 : goal.returns-then-eq-2
 unfolding same_value

@@ -1,12 +1,13 @@
 use Rattle.state_graph.proofs.States.{insert_low, insert_high, insert-none}
 use mathlib.Core.Path.{refl}
+use native.Mathlib.Omega.{arith}
 use Rattle.state_graph.proofs.StateSet.insert.Goals as goal
 
-pub returns-then-state-lt64 : goal.returns-then-state-lt64
-returns-then-state-lt64 c = λ k. insert_low c.args.self.low c.args.self.high c.args.state _ k c.if-state-lt64.true refl
+pub returns-in-0-to-63 : goal.returns-in-0-to-63
+returns-in-0-to-63 c = λ k. insert_low c.args.self.low c.args.self.high c.args.state _ k (omega arith) refl
 
-pub returns-then-state-lt-LIMIT : goal.returns-then-state-lt-LIMIT
-returns-then-state-lt-LIMIT c = λ k. insert_high c.args.self.low c.args.self.high c.args.state _ k c.if-state-lt64.false c.if-state-lt-LIMIT.true refl
+pub returns-in-64-to-127 : goal.returns-in-64-to-127
+returns-in-64-to-127 c = λ k. insert_high c.args.self.low c.args.self.high c.args.state _ k (omega arith) (omega arith) refl
 
-pub returns : goal.returns
-returns c = λ k. insert-none c.args.self.low c.args.self.high c.args.state k c.if-state-lt-LIMIT.false
+pub returns-in_default : goal.returns-in_default
+returns-in_default c = λ k. insert-none c.args.self.low c.args.self.high c.args.state k (omega arith)

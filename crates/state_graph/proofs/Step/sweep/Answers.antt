@@ -3,12 +3,12 @@ use Prim.Native.Nat.{ℕ}
 use lib.ListN.{length, length-replicate}
 use Rattle.table.proofs.Accepted.{accepts}
 use Rattle.state_graph.specs.Hits.{hit_words}
-use Rattle.state_graph.proofs.Hits.{records_is, sweep_start, sweep_hit, sweep_miss, sweep_done}
+use Rattle.state_graph.proofs.Hits.{sweep_start, sweep_hit, sweep_miss, sweep_done}
 use native.Mathlib.Omega.{arith}
 use Rattle.state_graph.proofs.Step.sweep.Goals as goal
 
 pub loop-r-init : goal.loop-r-init
-loop-r-init c = rw (records_is c.args.self.table.words.now) (sweep_start c.args.self.table.words.now c.args.self.table.accepted c.args.self.kind c.args.self.number c.args.self.set.low c.args.self.set.high c.args.hits.now c.requires)
+loop-r-init c = rw c.records-r.ensures.is (sweep_start c.args.self.table.words.now c.args.self.table.accepted c.args.self.kind c.args.self.number c.args.self.set.low c.args.self.set.high c.args.hits.now c.requires)
 
 pub hit_now-requires : goal.hit_now-requires
 hit_now-requires c = let A = accepts c.args.self.table.words.now c.args.self.table.accepted in let w = c.loop-r.invariant.within in (A.few_records, A.words, omega (arith, c.loop-r-test.true), c.loop-r.invariant.long)

@@ -6,7 +6,7 @@ pub word-requires : goal.word-requires
 word-requires c = production-asked _ c.args.self.accepted _ _ c.requires.some c.requires.on (omega arith)
 
 pub overflow_sub-result : goal.overflow_sub-result
-overflow_sub-result c = production-after _ c.args.self.accepted _ _ _ c.requires.some c.requires.on c.counts-counts.ensures.nonterminals c.counts-counts.ensures.states
+overflow_sub-result c = production-after _ c.args.self.accepted _ _ _ _ c.requires.some c.requires.on c.counts.ensures.nonterminals c.counts.ensures.states c.productions_at.ensures
 
 pub returns : goal.returns
-returns c = production_is _ c.args.self.accepted _ _ _ _ c.requires.some c.requires.on c.counts-counts.ensures.nonterminals c.counts-counts.ensures.states c.word.ensures.0
+returns c = production_is _ c.args.self.accepted _ _ _ _ _ c.requires.some c.requires.on c.counts.ensures.nonterminals c.counts.ensures.states c.productions_at.ensures c.word.ensures.0

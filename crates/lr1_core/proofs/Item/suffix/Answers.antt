@@ -4,7 +4,7 @@ use Rattle.repr.specs.Listed.{listed}
 use Rattle.repr.proofs.Parts.{symbols_long}
 use Rattle.lr1_core.proofs.Items.{suffix_is, tail_from}
 use native.Mathlib.Omega.{arith}
-use Rattle.lr1_core.proofs.suffix.Goals as goal
+use Rattle.lr1_core.proofs.Item.suffix.Goals as goal
 
 pub overflow_mul-from : goal.overflow_mul-from
 overflow_mul-from c = let s = symbols_long _ _ _ c.args.grammar.packed c.requires.within in let q = c.args.grammar.packed.short _ c.requires.within in omega (arith, s, q, c.requires.index_in_bounds)
@@ -13,4 +13,4 @@ pub overflow_add-from : goal.overflow_add-from
 overflow_add-from c = let s = symbols_long _ _ _ c.args.grammar.packed c.requires.within in let q = c.args.grammar.packed.short _ c.requires.within in omega (arith, s, q, c.requires.index_in_bounds)
 
 pub returns : goal.returns
-returns c = let e = tail_from c.symbols-symbols.result.now (2 * c.args.item.index + 2) _ c.min.ensures ∙ ap (λ (ws : List ℕ). drop (2 * c.args.item.index + 2) ws) c.symbols-symbols.ensures in (e, ap listed e ∙ suffix_is _ _)
+returns c = let e = tail_from c.symbols-symbols.result.now (2 * c.args.self.index + 2) _ c.min.ensures ∙ ap (λ (ws : List ℕ). drop (2 * c.args.self.index + 2) ws) c.symbols-symbols.ensures in (e, ap listed e ∙ suffix_is _ _)
