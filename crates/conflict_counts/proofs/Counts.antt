@@ -78,14 +78,13 @@ joined_sum f a (suc m) =
     let j = ap length (joined_cons f a (up_from (suc a) m)) ∙ length-append (f a) (joined f (up_from (suc a) m)) in
     rw (add-one a, sum_by-cons (λ p. length (f p)) a (range_with_len (suc a) m)) (omega arith)
 
-pub joined_few : {A : Type 0} (f : ℕ → List A) (top a m : ℕ) → ((p : ℕ) → length (f p) ≤ top) → length (joined f (up_from a m)) ≤ m * top
-unfolding up_from
-joined_few f top a zero h = rw (joined_nil f) (omega arith)
-joined_few f top a (suc m) h =
-    let more : length (joined f (up_from (suc a) m)) ≤ m * top = joined_few f top (suc a) m h in
-    let j = ap length (joined_cons f a (up_from (suc a) m)) ∙ length-append (f a) (joined f (up_from (suc a) m)) in
-    let k = h a in
-    let e : suc m * top ≡ m * top + top = omega arith in
+pub joined_few : {A : Type 0} (f : ℕ → List A) (top : ℕ) (xs : List ℕ) → ((p : ℕ) → length (f p) ≤ top) → length (joined f xs) ≤ length xs * top
+joined_few f top [] h = rw (joined_nil f) (omega arith)
+joined_few f top (x ∷ xs) h =
+    let more = joined_few f top xs h in
+    let j = ap length (joined_cons f x xs) ∙ length-append (f x) (joined f xs) in
+    let k = h x in
+    let e : suc (length xs) * top ≡ length xs * top + top = omega arith in
     omega arith
 
 pub clashes_few : (r : List ℕ) (sh n p : ℕ) → n ≤ 128 → length (clashes_in r sh n p) ≤ 8256

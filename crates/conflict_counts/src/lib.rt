@@ -53,7 +53,8 @@ fn shift_one(grammar: Grammar, place: usize, tokens: u64, set: TokenSet) -> Toke
     }
     match Item::at(place).cursor(grammar) {
         Some(Symbol::Terminal(terminal)) => set.with(terminal),
-        _ => set,
+        Some(Symbol::Nonterminal(_)) => set,
+        None => set,
     }
 }
 
@@ -135,7 +136,9 @@ impl Actions {
     fn count(&self) -> usize
         ensures { (result ≡ length (joined (clashes_in self.now.reductions self.now.shifts.0 self.now.productions) (below self.now.productions))) × (result ≤ 1056768) }
     {
-        (0..self.productions).map(|production| self.count_of(production)).sum()
+        (0..self.productions)
+            .map(|production| self.count_of(production))
+            .sum()
     }
 }
 

@@ -63,7 +63,13 @@ pub fn write_items(words: &[u16], begins: &Begins, items: usize, out: &mut [u16]
 }
 
 // The edges of one state.
-fn write_state_edges(edges: &[u16; Edges::LIMIT], from: usize, past: usize, at: usize, out: &mut [u16])
+fn write_state_edges(
+    edges: &[u16; Edges::LIMIT],
+    from: usize,
+    past: usize,
+    at: usize,
+    out: &mut [u16],
+)
     requires from_le_past { from ≤ past }
     requires stands { (U : Table) × (Stands (quads U) (at + from) (chain_from edge_quad (at + from) (edges_in edges.now from (past - from))) × Room U out.old) }
     ensures { (U : Table) → Stands (quads U) (at + from) (chain_from edge_quad (at + from) (edges_in edges.now from (past - from))) → Room U out.old → Grown U out.old out.new (at + from) (at + past) }
@@ -72,7 +78,14 @@ fn write_state_edges(edges: &[u16; Edges::LIMIT], from: usize, past: usize, at: 
         let edge = FoundEdge::of(edges[m]);
         let (kind, number) = edge.symbol.words();
         let next = next_of(past - m - 1, at + m);
-        put(out, at + m, next, kind as usize, number as usize, edge.target);
+        put(
+            out,
+            at + m,
+            next,
+            kind as usize,
+            number as usize,
+            edge.target,
+        );
     }
 }
 
