@@ -63,7 +63,7 @@ fn is_item(graph: &[u16], at: usize, item: Item) -> bool
     ensures { result ≡ is_same_node (at_item (record { production = item.production; index = item.index })) (node_at graph.now at) }
 {
     let node = read_node(graph, at);
-    node.kind != 0 && item.production == node.number && item.index == node.index
+    node.kind != 0 && (item.production == node.number && item.index == node.index)
 }
 
 // Whether an item is a node of the graph: an end of one of its edges (refusal 15).
@@ -124,13 +124,13 @@ fn first_sets(grammar: Grammar, terminals: u16, lookahead: Option<TokenSet>) -> 
     requires { terminals ≤ 63 }
     ensures { (result.map ≡ sets_for (set_of lookahead) terminals (productions_in grammar.entry.words.now grammar.entry.productions)) × (result.terminals ≡ terminals) }
 {
-    match lookahead {
-        None => FirstSets {
+    let Some(_) = lookahead else {
+        return FirstSets {
             map: [0u64; NonterminalString::LIMIT],
             terminals,
-        },
-        Some(_) => FirstSets::new(grammar, terminals),
-    }
+        };
+    };
+    FirstSets::new(grammar, terminals)
 }
 
 // A fresh listing starts from the words of no edge, whatever the words hold.
@@ -149,7 +149,7 @@ fn lost(l: Listing, graph: Graph, words: &[u16]) -> bool
     requires scratch_words_in_bounds { scratch_words ≤ length words.now }
     ensures { result ≡ lost (edges_in graph.entry.words.now) l words.now }
 {
-    l.is_open && l.count != 0 && !graph.holds_trial(words, l.start())
+    l.is_open && (l.count != 0 && !graph.holds_trial(words, l.start()))
 }
 
 // The search of an open listing, over the view of its graph: the next example, the end, or refusal 13.
