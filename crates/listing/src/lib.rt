@@ -155,7 +155,13 @@ fn call(
 {
     let n = lent.graph.min(graph.len());
     let m = lent.scratch.min(scratch.len());
-    let answer = advance(l, table, &graph[..n], &mut scratch[..m], &mut part[Lent::RECORD..]);
+    let answer = advance(
+        l,
+        table,
+        &graph[..n],
+        &mut scratch[..m],
+        &mut part[Lent::RECORD..],
+    );
     write_record(part, answer_number(answer), l.count);
 }
 
