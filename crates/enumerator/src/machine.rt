@@ -101,6 +101,7 @@ impl<'a> Graph<'a> {
             number: start.production,
             index: start.index,
         };
+        // The node is carried from edge to edge, which a closure for `all` would have to change.
         for at in 0..depth - 1 {
             let edge = word(words, at + 1);
             if !self.enters(edge, node) {

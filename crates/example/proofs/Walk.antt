@@ -1,5 +1,5 @@
 -- One law for each way through the code of this crate (src/lib), label by label. Assumes nothing.
-use Rattle.std.proofs.Common.{◌≡◌, ℕ, zero, suc, ◌+◌, ◌-◌, ◌*◌, ◌/◌, ◌<◌, ◌≤◌, Bool, true, false, ◌==◌, List, [], ◌∷◌, ◌++◌, map, length, take, drop, sym, refl, ap, ◌∙◌, append_assoc, append-nil, arith, drop_of_length-le}
+use Rattle.std.proofs.Common.{◌≡◌, ℕ, zero, suc, ◌+◌, ◌-◌, ◌*◌, ◌<◌, ◌≤◌, Bool, true, false, ◌==◌, List, [], ◌∷◌, ◌++◌, map, length, take, drop, sym, refl, ap, ◌∙◌, append_assoc, append-nil, arith, drop_of_length-le}
 use mathlib.Core.Option.{Option, none, some}
 use Rattle.std.specs.List.{sum_by, range_with_len}
 use Rattle.std.proofs.lemmas.List.Sums.{sum_by-cons}
@@ -9,7 +9,7 @@ use Rattle.repr.specs.Lists.{joined}
 use Rattle.repr.specs.Meaning.{Symbol, Production}
 use Rattle.repr.specs.Packed.{productions_in, Packed}
 use Rattle.repr.proofs.Lists.{joined_nil, joined_append}
-use Rattle.lr1_core.specs.Items.{no_sets, counts, held, counts_of}
+use Rattle.lr1_core.specs.Items.{counts, held, counts_of}
 use Rattle.example.specs.Example.{Label, sets_of, symbol, epsilon, prefixes, suffixes, at_cursor, middle, symbols, symbol_words, example_words, cursor_of}
 use Rattle.example.specs.Labels.{labels_in, LabelsFit}
 use Rattle.example.specs.Written.{label_at, words_of, Part, around_words}

@@ -20,9 +20,7 @@ use repr::{Grammar, NonterminalString, ProductionIndex, Symbol, word};
 
 // An example in words: its limits.
 #[derive(Clone, Copy)]
-pub struct Example {
-    pub labels: usize,
-}
+pub struct Example;
 
 impl Example {
     // Reductions and symbols of an example; its counts (symbols, cursor, reductions); words of a symbol, of a reduction, of an example.
@@ -73,6 +71,7 @@ pub struct Expected {
 }
 
 // The labels of an example, innermost first, three words each: nonterminal, production, index. At least one and at most 33, in range of the grammar.
+// Which one is asked is its number: prefixes are asked from the last label on, the cursor and the empty mark of the first alone, so that an iterator would be a second way to the same words.
 #[derive(Clone, Copy)]
 pub struct Labels<'a> {
     pub grammar: Grammar<'a>,

@@ -154,7 +154,8 @@ fn lost(l: Listing, graph: Graph, words: &[u16]) -> bool
     l.is_open && (l.count != 0 && !graph.holds_trial(words, l.start()))
 }
 
-// The search of an open listing, over the view of its graph: the next example, the end, or refusal 13.
+// The search of an open listing, over the view of its graph: the next example, the end, or refusal 13. The graph and its view, the grammar and its terminals are handed on here and below alone, and what is known
+// of them has many proofs (`Listable`), which no struct can hold.
 fn find_next(
     l: &mut Listing,
     grammar: Grammar,
