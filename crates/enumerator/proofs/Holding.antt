@@ -22,7 +22,7 @@ use Rattle.enumerator.specs.Trials.{Path, Ends, TrialFrom, is_example_in, Small}
 use Rattle.enumerator.specs.Words.{words_of, path_in, has_trial, path_room}
 use Rattle.enumerator.specs.Machine.{used_of, goes_on_byte, trial_from?}
 use Rattle.enumerator.specs.Stacks.{Ground, Started, Within, Stacked, stack_in}
-use Rattle.enumerator.proofs.Nodes.{and_left}
+use Rattle.trace_graph.proofs.Bools.{and_left}
 use Rattle.enumerator.proofs.Edges.{edges_count, source_at, target_at}
 use Rattle.enumerator.proofs.Steps.{used_end, used_in}
 use Rattle.enumerator.proofs.Exact.{complete}

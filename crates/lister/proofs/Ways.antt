@@ -1,6 +1,6 @@
 -- The ways through opening and through a call (specs/Advance of enumerator), a law for each. Assumes nothing.
 use Prim.Native.Nat.{ℕ, ◌-◌, ◌≤◌, ◌<◌}
-use mathlib.Core.Path.{◌≡◌, sym, ap, ◌∙◌}
+use mathlib.Core.Path.{◌≡◌, sym, ◌∙◌}
 use mathlib.Core.Bool.{Bool, true, false, and-false}
 use mathlib.Core.List.{List}
 use lib.ListN.{length}
@@ -9,7 +9,6 @@ use borrow.Author.Tests.{le-leb, lt-leb}
 use Rattle.repr.specs.Reply.{Reply, answered, refused}
 use Rattle.repr.specs.Sizes.{graph_room, scratch_words, trial_limit, example_room}
 use Rattle.repr.specs.Meaning.{Production, Table}
-use Rattle.repr.specs.Packed.{productions_in}
 use Rattle.table.specs.Index.{CountsOf}
 use Rattle.trace_graph.specs.Graph.{at_item, is_node_of}
 use Rattle.trace_graph.specs.Words.{edges_in}
