@@ -67,13 +67,9 @@ impl<'a> Graph<'a> {
         requires within { Within (slice_index self.words.now 0) (stack_in words.now depth) }
         ensures { result ≡ mem nonterminal (used_of (ends_of (edges_in self.entry.words.now)) (stack_in words.now depth)) }
     {
-        for k in (1..=depth).rev() {
-            let edge = word(words, k);
-            if self.comes_from(edge, nonterminal) {
-                return true;
-            }
-        }
-        false
+        words[1..depth + 1]
+            .iter()
+            .any(|edge| self.comes_from(*edge as usize, nonterminal))
     }
 
     // Whether the trial is an example: its last edge comes from an item.
@@ -105,6 +101,7 @@ impl<'a> Graph<'a> {
             number: start.production,
             index: start.index,
         };
+        // The node is carried from edge to edge, which a closure for `all` would have to change.
         for at in 0..depth - 1 {
             let edge = word(words, at + 1);
             if !self.enters(edge, node) {

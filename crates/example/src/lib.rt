@@ -15,14 +15,12 @@ ghost use Rattle.example.specs.Written.{label_at, words_of, Part, put_at, around
 
 use first::{Answer, FirstSets};
 use lookahead::TokenSet;
-use lr1_core::{Item, SymbolSets, prefix, suffix};
+use lr1_core::{Item, prefix, suffix};
 use repr::{Grammar, NonterminalString, ProductionIndex, Symbol, word};
 
 // An example in words: its limits.
 #[derive(Clone, Copy)]
-pub struct Example {
-    pub labels: usize,
-}
+pub struct Example;
 
 impl Example {
     // Reductions and symbols of an example; its counts (symbols, cursor, reductions); words of a symbol, of a reduction, of an example.
@@ -73,6 +71,7 @@ pub struct Expected {
 }
 
 // The labels of an example, innermost first, three words each: nonterminal, production, index. At least one and at most 33, in range of the grammar.
+// Which one is asked is its number: prefixes are asked from the last label on, the cursor and the empty mark of the first alone, so that an iterator would be a second way to the same words.
 #[derive(Clone, Copy)]
 pub struct Labels<'a> {
     pub grammar: Grammar<'a>,
@@ -137,23 +136,38 @@ impl<'a> Labels<'a> {
         }
     }
 
-    // How many symbols stand before the cursors of all labels, and after them; the walk's first entry has the empty sets.
-    fn totals(self) -> SymbolSets
-        ensures { (result.prefix ≡ length (prefixes (productions_in self.entry.grammar.words.now self.entry.grammar.productions) (labels_in self.entry.words.now))) × (result.suffix ≡ length (suffixes (productions_in self.entry.grammar.words.now self.entry.grammar.productions) (labels_in self.entry.words.now))) }
+    // How many symbols stand before a label's cursor.
+    fn prefix_length(self, label: usize) -> usize
+        requires { label < length (labels_in self.words.now) }
+        ensures { result ≡ length (sets_of (productions_in self.entry.grammar.words.now self.entry.grammar.productions) (label_at self.entry.words.now label)).prefix }
     {
-        let mut total = SymbolSets::new();
-        for label in 0..self.count() {
-            total.prefix += self.prefix(label).len() / Example::SYMBOL_WORDS;
-            total.suffix += self.suffix(label).len() / Example::SYMBOL_WORDS;
-        }
-        total
+        self.prefix(label).len() / Example::SYMBOL_WORDS
+    }
+
+    // How many stand after it.
+    fn suffix_length(self, label: usize) -> usize
+        requires { label < length (labels_in self.words.now) }
+        ensures { result ≡ length (sets_of (productions_in self.entry.grammar.words.now self.entry.grammar.productions) (label_at self.entry.words.now label)).suffix }
+    {
+        self.suffix(label).len() / Example::SYMBOL_WORDS
     }
 
     // How many symbols stand before the cursor place of the example.
     pub fn prefix_total(self) -> usize
         ensures { result ≡ length (prefixes (productions_in self.entry.grammar.words.now self.entry.grammar.productions) (labels_in self.entry.words.now)) }
     {
-        self.totals().prefix
+        (0..self.count())
+            .map(|label| self.prefix_length(label))
+            .sum()
+    }
+
+    // How many stand after it.
+    fn suffix_total(self) -> usize
+        ensures { result ≡ length (suffixes (productions_in self.entry.grammar.words.now self.entry.grammar.productions) (labels_in self.entry.words.now)) }
+    {
+        (0..self.count())
+            .map(|label| self.suffix_length(label))
+            .sum()
     }
 
     // How many places the cursor place has: one, or none after a prefix with nothing at the cursor.
@@ -173,8 +187,7 @@ impl<'a> Labels<'a> {
     pub fn symbol_count(self) -> usize
         ensures { (result ≡ length (symbols (productions_in self.entry.grammar.words.now self.entry.grammar.productions) (labels_in self.entry.words.now))) × (result ≤ example_symbols) }
     {
-        let totals = self.totals();
-        totals.prefix + totals.suffix + self.middle_count()
+        self.prefix_total() + self.middle_count() + self.suffix_total()
     }
 
     // Writes the prefixes, outermost first; returns the place after them.
@@ -228,13 +241,12 @@ impl<'a> Labels<'a> {
         requires labels_in_bounds { at + reduction_room * length (labels_in self.words.now) ≤ length buffer.old }
         ensures { buffer.new ≡ put_at at (around_words (productions_in self.entry.grammar.words.now self.entry.grammar.productions) places (labels_in self.entry.words.now)) buffer.old }
     {
-        let totals = self.totals();
-        let mut start = totals.prefix;
-        let mut end = places - totals.suffix;
+        let mut start = self.prefix_total();
+        let mut end = places - self.suffix_total();
         let mut place = at;
         for label in 0..self.count() {
-            start -= self.prefix(label).len() / Example::SYMBOL_WORDS;
-            end += self.suffix(label).len() / Example::SYMBOL_WORDS;
+            start -= self.prefix_length(label);
+            end += self.suffix_length(label);
             put_three(buffer, place, start, end, self.nonterminal(label));
             place += Example::REDUCTION_WORDS;
         }

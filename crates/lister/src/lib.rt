@@ -3,7 +3,7 @@
 #![tactic(auto)]
 
 ghost use Rattle.std.specs.Prelude.{◌≡◌, true, false, ◌&&◌, List, ◌++◌, ℕ, ◌+◌, ◌-◌, ◌≤◌, ◌<◌, length, get_or, replicate};
-ghost use Rattle.repr.specs.Sizes.{edge_limit, graph_room, scratch_words, trial_limit, example_room};
+ghost use Rattle.repr.specs.Sizes.{edge_limit, edge_place, graph_room, scratch_words, trial_limit, example_room};
 ghost use Rattle.slices.specs.Lent.{in_front};
 ghost use Rattle.repr.specs.Reply.{reply_of};
 ghost use Rattle.repr.specs.Meaning.{Table};
@@ -13,7 +13,7 @@ ghost use Rattle.table.specs.Checked.{Accepted};
 ghost use Rattle.table.specs.Refusals.{check_of};
 ghost use Rattle.trace_graph.specs.Graph.{at_item, is_same_node, is_node_of};
 ghost use Rattle.trace_graph.specs.Fits.{item_is_fit};
-ghost use Rattle.trace_graph.specs.Words.{node_at, edges_in};
+ghost use Rattle.trace_graph.specs.Words.{node_at, edge_at, edges_in};
 ghost use Rattle.trace_graph.specs.Index.{index_room};
 ghost use Rattle.example.specs.Example.{example_words};
 ghost use Rattle.enumerator.specs.Trials.{ends_of, trials};
@@ -23,7 +23,7 @@ ghost use Rattle.enumerator.specs.Stacks.{Roomy, Started, Ranged};
 ghost use Rattle.view.specs.View.{latest_room, View as Viewing, Labelled};
 ghost use Rattle.view.specs.Trial.{trial_words};
 ghost use Rattle.search.specs.Given.{Tried};
-ghost use Rattle.lister.specs.Context.{Read, Listable, ahead_by, sets_for, begun};
+ghost use Rattle.lister.specs.Context.{Read, Listable, ends_at, ahead_by, sets_for, begun};
 
 use enumerator::machine::{Graph, clear};
 use enumerator::{Advanced, Listing};
@@ -63,21 +63,23 @@ fn is_item(graph: &[u16], at: usize, item: Item) -> bool
     ensures { result ≡ is_same_node (at_item (record { production = item.production; index = item.index })) (node_at graph.now at) }
 {
     let node = read_node(graph, at);
-    node.kind != 0 && item.production == node.number && item.index == node.index
+    node.kind != 0 && (item.production == node.number && item.index == node.index)
+}
+
+// Whether an item is an end of edge k.
+fn is_end(graph: &[u16], k: usize, item: Item) -> bool
+    requires { edge_place (k + 1) ≤ length graph.now }
+    ensures { result ≡ ends_at (at_item (record { production = item.production; index = item.index })) (edge_at graph.now k) }
+{
+    let at = k * TraceGraph::EDGE_WORDS + 1;
+    is_item(graph, at, item) || is_item(graph, at + 3, item)
 }
 
 // Whether an item is a node of the graph: an end of one of its edges (refusal 15).
 fn is_node(graph: Graph, item: Item) -> bool
     ensures { result ≡ is_node_of (at_item (record { production = item.production; index = item.index })) (edges_in graph.entry.words.now) }
 {
-    let count = word(graph.words, 0);
-    for k in 0..count {
-        let at = k * TraceGraph::EDGE_WORDS + 1;
-        if is_item(graph.words, at, item) || is_item(graph.words, at + 3, item) {
-            return true;
-        }
-    }
-    false
+    (0..word(graph.words, 0)).any(|k| is_end(graph.words, k, item))
 }
 
 // `lr0_examples` and `lr1_examples`: a fresh listing, or refusal 9, 11 or 15.
@@ -124,13 +126,13 @@ fn first_sets(grammar: Grammar, terminals: u16, lookahead: Option<TokenSet>) -> 
     requires { terminals ≤ 63 }
     ensures { (result.map ≡ sets_for (set_of lookahead) terminals (productions_in grammar.entry.words.now grammar.entry.productions)) × (result.terminals ≡ terminals) }
 {
-    match lookahead {
-        None => FirstSets {
+    let Some(_) = lookahead else {
+        return FirstSets {
             map: [0u64; NonterminalString::LIMIT],
             terminals,
-        },
-        Some(_) => FirstSets::new(grammar, terminals),
-    }
+        };
+    };
+    FirstSets::new(grammar, terminals)
 }
 
 // A fresh listing starts from the words of no edge, whatever the words hold.
@@ -149,10 +151,11 @@ fn lost(l: Listing, graph: Graph, words: &[u16]) -> bool
     requires scratch_words_in_bounds { scratch_words ≤ length words.now }
     ensures { result ≡ lost (edges_in graph.entry.words.now) l words.now }
 {
-    l.is_open && l.count != 0 && !graph.holds_trial(words, l.start())
+    l.is_open && (l.count != 0 && !graph.holds_trial(words, l.start()))
 }
 
-// The search of an open listing, over the view of its graph: the next example, the end, or refusal 13.
+// The search of an open listing, over the view of its graph: the next example, the end, or refusal 13. The graph and its view, the grammar and its terminals are handed on here and below alone, and what is known
+// of them has many proofs (`Listable`), which no struct can hold.
 fn find_next(
     l: &mut Listing,
     grammar: Grammar,

@@ -2,7 +2,7 @@
 
 #![tactic(auto)]
 
-ghost use Rattle.std.specs.Prelude.{OnOk, IfErr, ◌≡◌, [], ◌∷◌, ◌≤◌, ◌<◌, ◌%◌, ◌/◌, length, get_or, drop};
+ghost use Rattle.std.specs.Prelude.{OnOk, IfErr, ◌≡◌, [], ◌∷◌, ◌+◌, ◌≤◌, ◌<◌, ◌%◌, ◌/◌, length, get_or, drop};
 ghost use Rattle.repr.specs.Reply.{number_of, place_of, reply_of};
 ghost use Rattle.enumerator.specs.Advance.{outcome, open_of, advance_of};
 ghost use Rattle.listing.specs.CallList.{number_of_answer, made, made_of, refusal_of_calls, listed, list_of, ended, ended_of};
@@ -65,39 +65,39 @@ pub fn advance(
     step_in(l, accepted, graph, scratch, buffer)
 }
 
-// A call of a list: how much of the graph and of the scratch it is lent, and the length of its buffer.
+// What a call of a list is lent: how much of the graph and of the scratch, and the length of its buffer.
 #[derive(Clone, Copy)]
-struct Call {
+struct Lent {
     graph: usize,
     scratch: usize,
     buffer: usize,
 }
 
-impl Call {
-    // Its numbers, and the words that are recorded in front of its buffer.
+impl Lent {
+    // A call's numbers, and the words that are recorded in front of its buffer.
     const NUMBERS: usize = 3;
 
     const RECORD: usize = 3;
 
-    // The call of its numbers.
-    fn of(numbers: &[u32]) -> Call
+    // Of a call's numbers.
+    fn of(numbers: &[u32]) -> Lent
         requires { 3 ≤ length numbers.now }
         ensures read { (result.graph ≡ get_or numbers.now 0 0) × ((result.scratch ≡ get_or numbers.now 1 0) × (result.buffer ≡ get_or numbers.now 2 0)) }
         ensures small { result.buffer < 4294967296 }
     {
-        Call {
+        Lent {
             graph: numbers[0] as usize,
             scratch: numbers[1] as usize,
             buffer: numbers[2] as usize,
         }
     }
 
-    // The words of the output that it asks.
+    // The words of the output that the call asks.
     fn part(self) -> usize
         requires { self.buffer < 4294967296 }
         ensures { result ≡ 3 + self.buffer }
     {
-        Call::RECORD + self.buffer
+        Lent::RECORD + self.buffer
     }
 }
 
@@ -117,12 +117,12 @@ fn check_calls(calls: &[u32], words: usize) -> Result<(), Refusal>
     ensures fits { OnOk result (refusal_of_calls calls.now words ≡ 0) }
     ensures refused { IfErr result (λ e. (number_of e ≡ refusal_of_calls calls.now words) × (place_of e ≡ 0) × (0 < number_of e)) }
 {
-    if calls.len() % Call::NUMBERS != 0 {
+    if calls.len() % Lent::NUMBERS != 0 {
         return Err(Refusal::OutOfRange);
     }
     let mut left = words;
-    for numbers in calls.chunks_exact(Call::NUMBERS) {
-        let part = Call::of(numbers).part();
+    for numbers in calls.chunks_exact(Lent::NUMBERS) {
+        let part = Lent::of(numbers).part();
         if left < part {
             return Err(Refusal::TooShort);
         }
@@ -145,7 +145,7 @@ fn write_record(part: &mut [u16], number: u16, count: u32)
 fn call(
     l: &mut Listing,
     table: &[u16],
-    lent: Call,
+    lent: Lent,
     graph: &[u16],
     scratch: &mut [u16],
     part: &mut [u16],
@@ -155,7 +155,13 @@ fn call(
 {
     let n = lent.graph.min(graph.len());
     let m = lent.scratch.min(scratch.len());
-    let answer = advance(l, table, &graph[..n], &mut scratch[..m], &mut part[Call::RECORD..]);
+    let answer = advance(
+        l,
+        table,
+        &graph[..n],
+        &mut scratch[..m],
+        &mut part[Lent::RECORD..],
+    );
     write_record(part, answer_number(answer), l.count);
 }
 
@@ -173,8 +179,8 @@ fn make_calls(
 {
     let mut listing = l;
     let mut from: usize = 0;
-    for numbers in calls.chunks_exact(Call::NUMBERS) {
-        let lent = Call::of(numbers);
+    for numbers in calls.chunks_exact(Lent::NUMBERS) {
+        let lent = Lent::of(numbers);
         let to = from + lent.part();
         call(
             &mut listing,
@@ -216,7 +222,7 @@ pub fn examples(
         Ok(l) => {
             fits?;
             make_calls(l, table, calls, graph, scratch, output);
-            Ok(calls.len() / Call::NUMBERS)
+            Ok(calls.len() / Lent::NUMBERS)
         }
     }
 }

@@ -150,6 +150,7 @@ pub fn search(filter: Filter, view: View, words: &mut [u16], count: u32) -> Sear
     let mut counts = [0u8; NonterminalString::LIMIT];
     view.count_walk(words, &mut counts);
     let mut made = count;
+    // The next trial is made in the words that are lent: an iterator would have to hold them.
     while view.next(words, &mut counts) {
         if made >= Searched::TRIALS {
             return overrun(words);

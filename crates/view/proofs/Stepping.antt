@@ -12,7 +12,6 @@ use Rattle.std.specs.Prelude.{Option as Maybe, not, is_some, MatchOption, None, 
 use Rattle.repr.specs.Sizes.{nonterminal_limit, edge_limit, reduction_limit}
 use Rattle.repr.specs.Lists.{mem}
 use Rattle.enumerator.specs.Stacks.{stepped}
-use Rattle.view.specs.View.{Bounded}
 use Rattle.view.specs.Trial.{trial_room, trial_words, Held, Fitting, step_words}
 use Rattle.view.specs.Steps.{edge_in, used_by, back_by, seek_by, next_by, example_by}
 use Rattle.view.proofs.Trial.{words-head, stack_once, stack_depth, stack_long, empty, top-words, top_depth, top_short, under_within, upper, upper_below, upper_stack, upper_is}
@@ -30,10 +29,6 @@ step-some o e st rest ws q w = rw q (ap (stepped true) (w ∙ ap (λ (l : List �
 -- what a step is to meet, by its definition
 abbrev pub Meets : List ℕ → (List ℕ → Option (List ℕ)) → Bool → List ℕ → Type 0
 Meets ws step r ws' = (st rest : List ℕ) → ws ≡ trial_words (reverse st) ++ rest → stepped r ws' ≡ step_words (step st) rest
-
--- an edge that a word below a limit links
-pub link_low : {size : ℕ} {ws : List ℕ} → Bounded size edge_limit ws → (k : ℕ) {w : ℕ} → w ≡ get_or ws k 0 → (w ≤ edge_limit) × (w - 1 < edge_limit)
-link_low B k e = (omega (arith, B.low k), omega (arith, B.low k))
 
 -- `back`: the stack that is left gives what the whole gives
 pub record Turn (older ws₀ ws : List ℕ) (d : ℕ) : Type 0 where
@@ -121,9 +116,6 @@ module _ (sources older latest : List ℕ) {ws : List ℕ} (S : Held ws) {d : �
     none-next =
         let e = empty S d ed z in
         ap (next_by sources older latest) e ∙ next-first sources older latest ∙ ap (seek_by older (get_or latest nonterminal_limit 0)) (sym e)
-
-    pub none-room : Fitting (next_by sources older latest) ws → {w : ℕ} → w ≡ get_or latest nonterminal_limit 0 → (w ≡ 0 → ⊥) → get_or ws 0 0 < reduction_limit
-    none-room F {w} ew m = seek-room F w (none-next ∙ ap (λ (k : ℕ). seek_by older k S.stack) (sym ew)) m
 
     pub next-none : {w : ℕ} → w ≡ get_or latest nonterminal_limit 0 → {r : Bool} {ws' : List ℕ} → Meets ws (seek_by older w) r ws' → Meets ws (next_by sources older latest) r ws'
     next-none {w} ew f st rest q =

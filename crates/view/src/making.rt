@@ -131,7 +131,7 @@ fn view_edge(
 }
 
 // Whether a lent graph is one (refusal 9), as `check_graph` asks; in the same pass its view for a listing from an item is made in new lists, and the label of every edge. The lists
-// are lent and no answer, which would copy them.
+// are lent and no answer, which would copy them; a grammar and a number of nonterminals stand beside each other as in crate trace_graph.
 pub fn check_view(
     grammar: Grammar,
     n: usize,

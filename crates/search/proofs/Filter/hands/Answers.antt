@@ -1,3 +1,4 @@
+use mathlib.Core.Path.{◌∙◌}
 use Rattle.repr.specs.Packed.{productions_in}
 use Rattle.enumerator.specs.Advance.{set_of}
 use Rattle.search.proofs.Handing.{tried-held, tried-inside, hands-example, hands-other}
@@ -13,5 +14,5 @@ returns-then-is_example c = λ es T D p rest w.
 
 pub returns-else-is_example : goal.returns-else-is_example
 returns-else-is_example c = λ es T D p rest w.
-    hands-other c.args.self.sets.now.terminals c.args.self.sets.now.map (productions_in c.args.self.grammar.words.now c.args.self.grammar.productions) es (set_of c.args.self.lookahead) c.is_example.result c.args.words.now c.args.view.sources.now D (tried-inside T) c.is_example.ensures p rest w
+    c.if-is_example.false ∙ hands-other c.args.self.sets.now.terminals c.args.self.sets.now.map (productions_in c.args.self.grammar.words.now c.args.self.grammar.productions) es (set_of c.args.self.lookahead) c.is_example.result c.args.words.now c.args.view.sources.now D (tried-inside T) c.is_example.ensures p rest w
     c.if-is_example.false
