@@ -1,5 +1,5 @@
 -- A list of symbols in words gone through two words at a time, as `chunks_exact` does it (specs/Listed). Assumes nothing.
-use Rattle.std.proofs.Common.{◌≡◌, refl, sym, ap, subst, ◌∙◌, ℕ, ◌+◌, ◌%◌, ◌<◌, Bool, true, false, ◌&&◌, List, [], ◌∷◌, ◌++◌, length, get_or, MatchOption, Option, None, Some, length-append, arith}
+use Rattle.std.proofs.Common.{◌≡◌, refl, sym, ap, subst, ◌∙◌, ℕ, ◌+◌, ◌%◌, ◌<◌, Bool, true, false, ◌&&◌, List, [], ◌∷◌, ◌++◌, length, get_or, MatchOption, Option, None, Some, length-append, append-nil, arith}
 use Rattle.std.specs.Iterator.{Yields}
 use Rattle.std.specs.Slice.Iter.{chunks_exact_steps}
 use Rattle.std.specs.List.{FoldsTo}
@@ -7,7 +7,11 @@ use Rattle.std.specs.Fn.{Called}
 use Rattle.std.specs.declared.slice.ChunksExact.{ChunksExact}
 use denote.Ref.{Bor}
 use denote.Param.Members.{Mut}
+use Rattle.repr.specs.Meaning.{Symbol}
 use Rattle.repr.specs.Listed.{symbol_of_kind, listed, symbol_is_fit, list_is_fit}
+use Rattle.repr.proofs.Listed.{and_left}
+use Rattle.repr.proofs.Parts.{length-listed}
+use Rattle.repr.proofs.Joined.{listed-append, even_parts}
 
 -- two words and the rest
 
@@ -24,6 +28,24 @@ pair_fits n t ws [] rest e l = absurd (omega arith)
 pair_fits n t ws (k ∷ []) rest e l = absurd (omega arith)
 pair_fits n t ws (k ∷ x ∷ []) rest e l = rw e
 pair_fits n t ws (k ∷ x ∷ y ∷ zs) rest e l = absurd (omega arith)
+
+-- the same from the back
+module _ (n t : ℕ) (ws rest two : List ℕ) (f : list_is_fit n t ws ≡ true) (e : ws ≡ rest ++ two) (l : length two ≡ 2) where
+  back_even : length rest % 2 ≡ 0
+  back_even = omega (arith, length-listed n t ws f, ap length e ∙ length-append rest two)
+
+  back_parts : (list_is_fit n t rest ≡ true) × (list_is_fit n t two ≡ true)
+  back_parts = even_parts n t rest two (rw e at f) back_even
+
+  pub back_fits : list_is_fit n t rest ≡ true
+  back_fits = back_parts.0
+
+  pub back_symbol : symbol_is_fit n t (get_or two 0 0) (get_or two 1 0) ≡ true
+  back_symbol = and_left _ _ (sym (pair_fits n t two two [] (sym (append-nil two)) l) ∙ back_parts.1)
+
+  pub back_listed : listed ws ≡ listed rest ++ symbol_of_kind (get_or two 0 0) (get_or two 1 0) ∷ []
+  unfolding listed
+  back_listed = ap listed e ∙ listed-append rest two back_even ∙ ap (λ (xs : List Symbol). listed rest ++ xs) (pair_listed two two [] (sym (append-nil two)) l)
 
 -- fewer are none
 pub none_fits : (n t : ℕ) (ws : List ℕ) → length ws % 2 ≡ 0 → length ws < 2 → list_is_fit n t ws ≡ true
