@@ -31,10 +31,8 @@ module _ {T : Table} {n e s p : ℕ} (C : CountsOf T n e s p) where
   pub few_terminals : e ≤ 63
   few_terminals = rw C.terminals C.fits.few_terminals
 
-  module _ (g : List ℕ) where
-    module _ (q : productions_in g (length T.productions) ≡ T.productions) where
-      pub read_of : Read T n e (productions_in g p)
-      read_of = record { nonterminals = C.nonterminals; terminals = C.terminals; productions = ap (productions_in g) C.productions ∙ q }
+  pub read_of : {ps : List Production} → ps ≡ T.productions → Read T n e ps
+  read_of q = record { nonterminals = C.nonterminals; terminals = C.terminals; productions = q }
 
 pub roomy_of : {ps : List Production} {g : List ℕ} → Ranged ps g → Roomy g
 roomy_of R = (R.long, R.few_edges)

@@ -1,4 +1,4 @@
--- The labels of a trial in words, as `read_labels` writes them: edge by edge, three words each, all in range. Assumes nothing.
+-- The labels of a trial in words, as `write_labels` writes them: edge by edge, three words each, all in range. Assumes nothing.
 use Rattle.std.specs.Prelude.{◌≡◌, ℕ, zero, suc, ◌+◌, ◌*◌, ◌/◌, ◌%◌, ◌<◌, ◌≤◌, List, [], ◌∷◌, ◌++◌, map, length, get_or, take, drop, set}
 use native.Mathlib.Omega.{arith}
 use mathlib.Core.Path.{refl, sym, ap, ◌∙◌}
@@ -89,12 +89,12 @@ module _ {ps : List Production} {es : List TraceEdge} {owners codes ws labels₀
       pub reading_low : (x < length owners) × (x < length codes)
       reading_low = let L = R.tried.labelled in (omega (arith, edge_low, L.few, L.by_owner), omega (arith, edge_low, L.few, L.by_code))
 
-      module _ {o c : ℕ} (eo : o ≡ get_or owners x 0) (ec : c ≡ get_or codes x 0 % item_limit) where
-        label_words_lem : o ∷ c / index_limit ∷ c % index_limit ∷ [] ≡ label_words (label_at ps es x)
+      module _ {o c p i : ℕ} (eo : o ≡ get_or owners x 0) (ec : c ≡ get_or codes x 0 % item_limit) (ep : p ≡ c / index_limit) (ei : i ≡ c % index_limit) where
+        label_words_lem : o ∷ p ∷ i ∷ [] ≡ label_words (label_at ps es x)
         unfolding label_words label_in
-        label_words_lem = rw (eo, ec) (ap label_words (R.tried.labelled.label x edge_low))
+        label_words_lem = rw (ep, ei, eo, ec) (ap label_words (R.tried.labelled.label x edge_low))
 
-        pub reading_again : Reading ps es owners codes ws labels₀ count (set (set (set labels (label_room * at) o) (label_room * at + 1) (c / index_limit)) (label_room * at + 2) (c % index_limit)) (at + 1)
+        pub reading_again : Reading ps es owners codes ws labels₀ count (set (set (set labels (label_room * at) o) (label_room * at + 1) p) (label_room * at + 2) i) (at + 1)
         reading_again =
             let path = R.tried.path in
             let s : label_room * (at + 1) ≡ label_room * at + 3 = omega arith in
@@ -108,9 +108,9 @@ module _ {ps : List Production} {es : List TraceEdge} {owners codes ws labels₀
               size = simp length-set R.size;
               room = R.room;
               front =
-                  ap (λ (j : ℕ). take j (set (set (set labels (label_room * at) o) (label_room * at + 1) (c / index_limit)) (label_room * at + 2) (c % index_limit))) s
-                  ∙ front-more labels (label_room * at) o (c / index_limit) (c % index_limit) reading_room.1.1
-                  ∙ ap (λ (l : List ℕ). l ++ (o ∷ c / index_limit ∷ c % index_limit ∷ [])) R.front
+                  ap (λ (j : ℕ). take j (set (set (set labels (label_room * at) o) (label_room * at + 1) p) (label_room * at + 2) i)) s
+                  ∙ front-more labels (label_room * at) o p i reading_room.1.1
+                  ∙ ap (λ (l : List ℕ). l ++ (o ∷ p ∷ i ∷ [])) R.front
                   ∙ ap (λ (l : List ℕ). joined label_words (labels_of ps es (take at path)) ++ l) label_words_lem
                   ∙ sym (ap (λ (l : List ℕ). joined label_words (labels_of ps es l)) last ∙ labels_more ps es (take at path) x);
             }
