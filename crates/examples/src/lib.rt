@@ -44,7 +44,7 @@ use table::AcceptedTable;
 use trace::reduce::suffix_ends;
 use trace_graph::Full;
 use tracer::reduce::Reduction;
-use tracer::{Action, OpenTrace, Traced, Tracer, trace_codes};
+use tracer::{Action, OpenTrace, TracedItem, Tracer, trace_codes};
 use view::View;
 use view::making::ViewLists;
 
@@ -209,7 +209,7 @@ fn list_outlines(
 // The view from an item that is traced from its state, in new lists, the edges in words of one each. More than 1,024 edges do not fit.
 fn open_view<'a>(
     given: Given,
-    traced: Traced,
+    traced: TracedItem,
     trace: &'a mut OpenTrace,
     lists: &'a mut ViewLists,
 ) -> Result<View<'a>, Full>
@@ -236,7 +236,7 @@ fn open_view<'a>(
 fn list_item(
     given: Given,
     lookahead: Option<TokenSet>,
-    traced: Traced,
+    traced: TracedItem,
     side: &mut Side,
     count: usize,
 ) -> Result<Gathered, Refusal>
@@ -274,7 +274,7 @@ fn shift_examples(
     );
     let mut gathered = Gathered::default();
     for item in items {
-        let traced = Traced {
+        let traced = TracedItem {
             state: state.0 as usize,
             item,
             action: Action::Shift,
@@ -291,7 +291,7 @@ fn reduce_item(grammar: Grammar, state: StateIndex, production: usize) -> Traced
     requires { production < grammar.productions }
     ensures { result ≡ record { state = state.0; item = record { production = production; index = length (slice_index_or (productions_in grammar.entry.words.now grammar.entry.productions) production no_production).symbols }; action = Reduce } }
 {
-    Traced {
+    TracedItem {
         state: state.0 as usize,
         item: Item {
             production,
@@ -377,7 +377,7 @@ fn find_example(
 fn item_again(
     given: Given,
     lookahead: Option<TokenSet>,
-    traced: Traced,
+    traced: TracedItem,
     wanted: usize,
     buffer: &mut [u16],
 )
@@ -426,7 +426,7 @@ pub fn action_again(case: TableConflict, label: usize, wanted: usize, buffer: &m
     let operand = conflict.operand as usize;
     let token = conflict.token;
     if conflict.action == 0 {
-        let traced = Traced {
+        let traced = TracedItem {
             state: state.0 as usize,
             item: Item::at(label),
             action: Action::Shift,

@@ -28,7 +28,7 @@ use repr::{ProductionIndex, Refusal, joined_fits, list_fits, word};
 use state_graph::{StateIndex, StateSet};
 use table::AcceptedTable;
 use trace_graph::{TraceEdge, TraceGraph, TraceGraphNode, check_graph, edge_fits, insert};
-use tracer::{Action, Traced};
+use tracer::{Action, TracedItem};
 use yacc_read::Reading;
 
 // Whether a table is accepted; else the refusal, 1 to 8, and its place.
@@ -236,7 +236,7 @@ fn backtrace(
     ensures { outcome (reply_of result) graph.new scratch.new ≡ trace_by (edges_by action) table.now state.0 (record { production = item.production; index = item.index }) graph.old scratch.old (check_of table.now) }
 {
     let accepted = table_check::check(table)?;
-    let traced = Traced {
+    let traced = TracedItem {
         state: state.0 as usize,
         item,
         action,

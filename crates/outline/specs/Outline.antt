@@ -46,7 +46,7 @@ unfoldable pub item_code : Label → ℕ
 item_code l = l.production * index_limit + l.index
 
 -- the code's item in one number, or none
-unfoldable pub label_word : OptionOf ItemOf → ℕ
+abbrev pub label_word : OptionOf ItemOf → ℕ
 label_word None = item_limit
 label_word (Some i) = i.production * index_limit + i.index
 

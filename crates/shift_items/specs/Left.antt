@@ -1,6 +1,6 @@
 -- A state's shift items by places, 16 indexes for each production in their order: those that are left from a place on. `left_all_lem` of proofs/Left: from 0 on they are
 -- `shift_items` of error. Assumes nothing: these are definitions.
-use Rattle.std.specs.Prelude.{◌≡◌, ℕ, ◌*◌, ◌/◌, ◌%◌, Bool, ◌&&◌, List, map, length, drop, slice_index}
+use Rattle.std.specs.Prelude.{◌≡◌, ℕ, ◌*◌, ◌/◌, ◌%◌, ◌<◌, Bool, ◌&&◌, List, map, length, drop, slice_index}
 use Rattle.repr.specs.Sizes.{production_limit, symbol_limit, item_flags}
 use Rattle.repr.specs.Lists.{below, keep, some?}
 use Rattle.repr.specs.Meaning.{Item, Table, ItemFits, state_at}
@@ -8,7 +8,7 @@ use Rattle.trace_graph.specs.Graph.{same_item}
 use Rattle.error.specs.Items.{shifts_token}
 use Rattle.bits.specs.Bits.{bit_at}
 use Rattle.lr1_core.specs.declared.Item.{Item as ItemOf}
-use Rattle.shift_items.specs.Order.{Below, Ordered}
+use Rattle.shift_items.specs.Order.{Ordered}
 use Rattle.shift_items.specs.Codes.{Grammar, code_of, wanted}
 
 -- what the shift items of state s are read from
@@ -37,7 +37,7 @@ items_wanted g marks token order n at = keep (λ i. wanted g marks token (code_o
 -- words from which the items of n productions can be read
 pub record Readable (n : ℕ) (order marks : List ℕ) : Type 0 where
   pub long : length order ≡ production_limit
-  pub inside : Below n n order
+  pub inside : (j : ℕ) → j < n → slice_index order j < n
   pub flags : length marks ≡ item_flags
 
 -- the code's item

@@ -1,5 +1,6 @@
 -- The items of a tail put into slots, each once (specs/Tails): the loop of `collect`. An item whose flag is set is in a slot, so that it changes nothing after the slots. Assumes nothing.
-use Rattle.std.proofs.Common.{◌≡◌, ℕ, zero, suc, ◌+◌, ◌-◌, ◌*◌, ◌/◌, ◌<◌, ◌≤◌, Bool, true, false, ◌||◌, eqb, ltb, List, [], ◌∷◌, ◌++◌, length, get_or, take, set, replicate, sym, refl, ap, ◌∙◌, append_assoc, arith, length-set, get_or-set_other, get_or-set_same, ltb-false, ltb-true, eqb-true}
+use Rattle.std.proofs.Common.{◌≡◌, ℕ, zero, suc, ◌+◌, ◌-◌, ◌*◌, ◌/◌, ◌<◌, ◌≤◌, Bool, true, false, ◌||◌, eqb, ltb, List, [], ◌∷◌, ◌++◌, length, get_or, take, set, replicate, sym, refl, ap, ◌∙◌, true≢false, append_assoc, arith, length-set, get_or-set_other, get_or-set_same, ltb-false, ltb-true, eqb-true}
+use Rattle.std.specs.Prelude.{Option, Some, None, MatchOption, is_some, not}
 use mathlib.Core.Bool.{or-true}
 use borrow.Author.Tests.{eqb-false}
 use Rattle.repr.specs.Sizes.{index_limit, item_flags}
@@ -12,7 +13,6 @@ use Rattle.repr.proofs.Tests.{some?-yes, some?-append}
 use Rattle.lr1_core.specs.Items.{shifts_nonterminal}
 use Rattle.table.specs.Decoded.{meaning, items_from}
 use Rattle.table.specs.Index.{ItemIndex, ItemRead}
-use Rattle.table.proofs.Decoding.{fits}
 use Rattle.trace_graph.specs.Graph.{same_item}
 use Rattle.trace.specs.Traced.{Trace, can_shift, in_turn}
 use Rattle.trace.specs.Shift.{epsilon}
@@ -54,6 +54,10 @@ pub record Collecting (t : List ℕ) (tail : ℕ) (rs ms : List ℕ) (at count :
   pub met : (i : Item) → i.index < index_limit → bit_at ms (i.production * index_limit + i.index) ≡ true → some? (same_item i) (along t rs (count - first_slot) first_slot) ≡ true
 
 -- an item without a nonterminal at its cursor
+pub no_nonterminal : (A : Type 0) (B : ℕ → Type 0) (r : Option ℕ) → MatchOption r A B → (b : Bool) → is_some r ≡ not b → b ≡ true → A
+no_nonterminal A B None m b e t = m
+no_nonterminal A B (Some n) m b e t = absurd (true≢false (rw t at e))
+
 pub shifts_none : (t g : List ℕ) (productions : ℕ) (ls : List ℕ) → Working t g productions ls → (p x : ℕ) → ItemFits (meaning t) (record { production = p; index = x })
     → ((n : ℕ) → shifts_nonterminal (listed (symbol_words g p)) x n ≡ false) → (n : ℕ) → n < length (meaning t).nonterminals → can_shift (meaning t) n (record { production = p; index = x }) ≡ false
 shifts_none t g productions ls W p x I z n l =

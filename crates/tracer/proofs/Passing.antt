@@ -1,5 +1,5 @@
 -- The test whether a state's items lead to nothing new (specs/Passed of trace): of one item, and of a chain from the front. Assumes nothing.
-use Rattle.std.proofs.Common.{◌≡◌, ℕ, zero, suc, ◌+◌, ◌*◌, ◌<◌, ◌≤◌, true, false, eqb, List, [], ◌∷◌, length, get_or, drop, sym, refl, ap, ◌∙◌, arith, ltb-false, eqb-true}
+use Rattle.std.proofs.Common.{◌≡◌, ℕ, zero, suc, ◌+◌, ◌*◌, ◌<◌, true, false, eqb, List, [], ◌∷◌, length, get_or, drop, sym, refl, ap, ◌∙◌, arith, ltb-false, eqb-true}
 use Rattle.repr.specs.Lists.{some?}
 use Rattle.repr.specs.Meaning.{Item, ItemFits, All, state_at}
 use Rattle.repr.specs.Listed.{listed}

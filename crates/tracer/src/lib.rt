@@ -8,10 +8,13 @@ pub mod shift;
 pub mod stamps;
 pub mod tails;
 
-ghost use Rattle.std.specs.Prelude.{OnOk, OnErr, ◌≡◌, ◌<◌, ◌≤◌, [], length, replicate};
+ghost use Rattle.std.specs.Prelude.{OnOk, OnErr, MatchOption, ◌≡◌, ℕ, ◌+◌, ◌*◌, ◌<◌, ◌≤◌, false, eqb, [], length, replicate};
 ghost use Rattle.repr.specs.Sizes.{nonterminal_limit, state_limit, edge_limit, graph_room, scratch_words, item_flags};
 ghost use Rattle.repr.specs.Meaning as meaning-of;
+ghost use Rattle.repr.specs.Listed.{listed};
+ghost use Rattle.repr.specs.Packed.{symbol_words};
 ghost use Rattle.repr.specs.Reply.{reply_of};
+ghost use Rattle.lr1_core.specs.Items.{shifts_nonterminal};
 ghost use Rattle.slices.specs.Lent.{in_front};
 ghost use Rattle.table.specs.Decoded.{meaning};
 ghost use Rattle.trace_graph.specs.Words.{graph_words};
@@ -28,7 +31,7 @@ use bits::is_set;
 use codes::{EdgeCodes, fill_least, write_codes};
 use first::FirstSets;
 use lr1_core::Item;
-use repr::{Grammar, NonterminalString, ProductionIndex, Refusal, word};
+use repr::{Grammar, NonterminalString, ProductionIndex, Refusal, Symbol, word};
 use state_graph::StateIndex;
 use table::AcceptedTable;
 use trace::reduce::suffix_ends;
@@ -41,6 +44,18 @@ pub struct Tracer<'a> {
     pub grammar: Grammar<'a>,
     pub least: &'a [u8],
     pub ghost working: { Working table.words.now grammar.words.now grammar.productions least.now },
+}
+
+// The nonterminal at an item's cursor, if there is one.
+fn nonterminal_at(grammar: Grammar, item: Item) -> Option<usize>
+    requires { item.production < grammar.productions }
+    ensures { MatchOption result ((n : ℕ) → shifts_nonterminal (listed (symbol_words grammar.entry.words.now item.production)) item.index n ≡ false) (λ m. (m < nonterminal_limit) × ((n : ℕ) → shifts_nonterminal (listed (symbol_words grammar.entry.words.now item.production)) item.index n ≡ eqb m n)) }
+{
+    match item.cursor(grammar) {
+        Some(Symbol::Nonterminal(nonterminal)) => Some(nonterminal.0 as usize),
+        Some(Symbol::Terminal(_)) => None,
+        None => None,
+    }
 }
 
 // A trace at work: its edges, and a bit for each pair of a state and a nonterminal that is entered, in fixed words, since there is no heap.
@@ -94,18 +109,14 @@ pub enum Action {
 
 // What is traced: an item that stands in a state, by the one action or the other.
 #[derive(Clone, Copy)]
-pub struct Traced {
+pub struct TracedItem {
     pub state: usize,
     pub item: Item,
     pub action: Action,
 }
 
 // The one trace or the other, where it is known which suffixes are nullable.
-pub fn trace_codes(
-    over: Reduction,
-    traced: Traced,
-    trace: &mut OpenTrace,
-) -> Result<(), Full>
+pub fn trace_codes(over: Reduction, traced: TracedItem, trace: &mut OpenTrace) -> Result<(), Full>
     requires within { (traced.state < length (meaning over.tracer.table.words.now).states) × meaning-of.ItemFits (meaning over.tracer.table.words.now) (record { production = traced.item.production; index = traced.item.index }) }
     ensures coded { OnOk result (Coded (meaning over.entry.tracer.table.words.now) trace.new.edges.words trace.new.edges.flags (edges_by traced.action (meaning over.entry.tracer.table.words.now) traced.state (record { production = traced.item.production; index = traced.item.index }))) }
     ensures full { OnErr result (edge_limit < length (edges_by traced.action (meaning over.entry.tracer.table.words.now) traced.state (record { production = traced.item.production; index = traced.item.index }))) }
@@ -129,11 +140,7 @@ fn fill_ends(tracer: Tracer, ends: &mut [u64])
 }
 
 // The same where that is not known yet: a shift does not ask for it, so that the action is looked at here too.
-fn trace_item(
-    tracer: Tracer,
-    traced: Traced,
-    trace: &mut OpenTrace,
-) -> Result<(), Full>
+fn trace_item(tracer: Tracer, traced: TracedItem, trace: &mut OpenTrace) -> Result<(), Full>
     requires within { (traced.state < length (meaning tracer.table.words.now).states) × meaning-of.ItemFits (meaning tracer.table.words.now) (record { production = traced.item.production; index = traced.item.index }) }
     ensures coded { OnOk result (Coded (meaning tracer.entry.table.words.now) trace.new.edges.words trace.new.edges.flags (edges_by traced.action (meaning tracer.entry.table.words.now) traced.state (record { production = traced.item.production; index = traced.item.index }))) }
     ensures full { OnErr result (edge_limit < length (edges_by traced.action (meaning tracer.entry.table.words.now) traced.state (record { production = traced.item.production; index = traced.item.index }))) }
@@ -158,7 +165,7 @@ fn trace_item(
 fn build(
     table: AcceptedTable,
     grammar: Grammar,
-    traced: Traced,
+    traced: TracedItem,
     graph: &mut [u16],
 ) -> Result<(), Full>
     requires asked { Asked table.words.now grammar.words.now grammar.productions traced.state traced.item.production traced.item.index }
@@ -183,7 +190,7 @@ fn build(
 fn work(
     table: AcceptedTable,
     grammar: Grammar,
-    traced: Traced,
+    traced: TracedItem,
     graph: &mut [u16],
     scratch: &mut [u16],
 ) -> Result<u16, Refusal>
@@ -199,7 +206,7 @@ fn work(
 // `backtrace_shift` or `backtrace_reduce` over an accepted table: the number of edges, which are in the graph. Refusals 9 and 11 change nothing.
 pub fn trace_in(
     table: AcceptedTable,
-    traced: Traced,
+    traced: TracedItem,
     graph: &mut [u16],
     scratch: &mut [u16],
 ) -> Result<u16, Refusal>

@@ -18,11 +18,11 @@ ghost use Rattle.tracer.specs.Clear.{Clear};
 
 use crate::edges::{kind_on, to_item, to_nonterminal};
 use crate::tails::{LIST_WORDS, SHORT_TABLE, TAIL_AHEAD, TailList, after, ahead, begin, list_tail};
-use crate::{OpenTrace, Tracer};
+use crate::{OpenTrace, Tracer, nonterminal_at};
 use bits::{is_set, put};
 use codes::{EdgeCode, EdgeCodes};
 use lr1_core::{Item, prefix};
-use repr::{NonterminalString, Symbol};
+use repr::NonterminalString;
 use state_graph::{StateSet, trace_back};
 use trace_graph::Full;
 
@@ -91,14 +91,14 @@ fn is_passed(tracer: Tracer, trace: &OpenTrace, before: usize, item: Item) -> bo
     requires { ItemFits (meaning tracer.table.words.now) (record { production = item.production; index = item.index }) × (before < state_limit) }
     ensures { result ≡ true → (ws : List ℕ) (es : List TraceEdge) → Coded (meaning tracer.entry.table.words.now) ws trace.now.edges.flags es → ItemPassed (meaning tracer.entry.table.words.now) (λ n. bit_at trace.now.entered (before * nonterminal_limit + n)) es (record { production = item.production; index = item.index }) }
 {
-    match item.cursor(tracer.grammar) {
-        Some(Symbol::Nonterminal(nonterminal)) => {
-            !trace.is_entered(before, nonterminal.0 as usize)
+    match nonterminal_at(tracer.grammar, item) {
+        Some(nonterminal) => {
+            !trace.is_entered(before, nonterminal)
                 || (is_known(tracer, &trace.edges, item)
                     && (item.index > 0
                         || trace.is_entered(before, tracer.grammar.owner(item.production))))
         }
-        _ => true,
+        None => true,
     }
 }
 
@@ -125,7 +125,7 @@ impl Known {
 
     // The record of one state more that is passed over.
     fn with(self, tail: usize) -> Known
-        ensures { (result.state ≡ self.state) × ((result.last ≡ tail) × ((result.earlier ≢ self.last) → result.earlier ≡ self.earlier)) }
+        ensures { (result.state ≡ self.state) × (result.last ≡ tail) × ((result.earlier ≢ self.last) → result.earlier ≡ self.earlier) }
     {
         if tail == self.last {
             return self;
@@ -169,7 +169,7 @@ fn passes_over(
     state: usize,
     nonterminal: usize,
 ) -> bool
-    requires within { (known.state < state_limit) × ((state < length (meaning tracer.table.words.now).states) × (nonterminal < length (meaning tracer.table.words.now).nonterminals)) }
+    requires within { (known.state < state_limit) × (state < length (meaning tracer.table.words.now).states) × (nonterminal < length (meaning tracer.table.words.now).nonterminals) }
     requires clear { Clear tracer.table.words.now trace.now.edges.flags trace.now.entered known.state (items_from tracer.table.words.now known.last) × Clear tracer.table.words.now trace.now.edges.flags trace.now.entered known.state (items_from tracer.table.words.now known.earlier) }
     ensures nonterminal_value { result ≡ true → bit_at trace.now.entered (known.state * nonterminal_limit + nonterminal) ≡ true }
     ensures clear_2 { result ≡ true → Clear tracer.entry.table.words.now trace.now.edges.flags trace.now.entered known.state (state_at (meaning tracer.entry.table.words.now) state).items }

@@ -6,7 +6,7 @@ ghost use Rattle.tracer.specs.Stamps.{stamp_words, stamp_read_at};
 use lr1_core::Item;
 use repr::word;
 
-// A byte for each item, two to a word.
+// A byte for each item, two to a word: fixed words, since there is no heap.
 #[derive(Drop)]
 pub struct Stamps {
     pub words: [u16; Stamps::WORDS],

@@ -8,10 +8,10 @@ ghost use Rattle.table.specs.Decoded.{items_from};
 ghost use Rattle.table.specs.Index.{ItemIndex};
 ghost use Rattle.tracer.specs.Tails.{tail_words, first_slot, Collected, Linked, Usable, TwoTails, Begins, Follows};
 
-use crate::Tracer;
+use crate::{Tracer, nonterminal_at};
 use bits::{is_set, put};
 use lr1_core::Item;
-use repr::{NonterminalString, Symbol, word};
+use repr::{NonterminalString, word};
 use table::{AcceptedTable, ItemIter};
 
 // A slot and its record, or slot 0 and a record of the chain; record 0 is the end.
@@ -85,7 +85,7 @@ fn collect(tracer: Tracer, tail: usize, records: &mut [u16]) -> Option<usize>
             production: read.production,
             index: read.index,
         };
-        if !matches!(item.cursor(tracer.grammar), Some(Symbol::Nonterminal(_))) {
+        if nonterminal_at(tracer.grammar, item).is_none() {
             continue;
         }
         let place = item.place();
@@ -122,10 +122,9 @@ fn link(tracer: Tracer, records: &[u16], count: usize, links: &mut [u16])
             production: read.production,
             index: read.index,
         };
-        if let Some(Symbol::Nonterminal(nonterminal)) = item.cursor(tracer.grammar) {
-            let head = nonterminal.0 as usize;
-            links[k] = links[head];
-            links[head] = k as u16;
+        if let Some(nonterminal) = nonterminal_at(tracer.grammar, item) {
+            links[k] = links[nonterminal];
+            links[nonterminal] = k as u16;
         }
     }
 }
