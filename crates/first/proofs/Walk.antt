@@ -1,7 +1,6 @@
 -- One law for each way through the code of `end_marked`, `first0`, `first1` and of `Answer` (src/lib), over specs/First: FIRST of a list, symbol by symbol. Assumes nothing.
 use mathlib.Core.Path.{◌≡◌, sym, ap, ◌∙◌}
 use mathlib.Core.Bool.{Bool, true, false, not}
-use borrow.Author.Tests.{not-true, not-false}
 use lib.Dec.{eqb}
 use mathlib.Core.List.{List, [], ◌∷◌}
 use Prim.Native.Nat.{ℕ, ◌≤◌, ◌<◌}
@@ -71,18 +70,18 @@ answer_is e sets xs s t c es et ec = rw (et, ec, es)
 
 -- what is asked of an answer
 
-module _ (a b : Answer) (c : Bool) (ec : c ≡ not (eqb (meet a.tokens.0 b.tokens.0) 0)) where
-  pub disjoint-token : c ≡ true → false ≡ disjoint a b
+module _ (a b : Answer) (c : Bool) (ec : c ≡ eqb (meet a.tokens.0 b.tokens.0) 0) where
+  pub disjoint_no : c ≡ false → c ≡ disjoint a b
   unfolding disjoint
-  disjoint-token y = rw (not-true (eqb (meet a.tokens.0 b.tokens.0) 0) (sym ec ∙ y))
+  disjoint_no n = n ∙ sym (rw (sym ec ∙ n))
 
-  pub disjoint_end : c ≡ false → a.nullable ≡ true → not b.nullable ≡ disjoint a b
+  pub disjoint_one : c ≡ true → a.nullable ≡ true → (r : Bool) → r ≡ b.nullable → not r ≡ disjoint a b
   unfolding disjoint
-  disjoint_end n y = rw (not-false (eqb (meet a.tokens.0 b.tokens.0) 0) (sym ec ∙ n), y)
+  disjoint_one y n r er = rw (sym ec ∙ y, n, er)
 
-  pub disjoint-not : c ≡ false → a.nullable ≡ false → true ≡ disjoint a b
+  pub disjoint_yes : c ≡ true → a.nullable ≡ false → (r : Bool) → r ≡ a.nullable → not r ≡ disjoint a b
   unfolding disjoint
-  disjoint-not n z = rw (not-false (eqb (meet a.tokens.0 b.tokens.0) 0) (sym ec ∙ n), z)
+  disjoint_yes y n r er = rw (sym ec ∙ y, n, er, n)
 
 module _ (e : ℕ) (a : Answer) (ahead : ℕ) (c : Bool) (ec : c ≡ not (eqb (meet a.tokens.0 ahead) 0)) where
   pub meets-token : c ≡ true → true ≡ meets_ahead e a ahead

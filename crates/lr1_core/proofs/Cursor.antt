@@ -1,36 +1,30 @@
 -- Laws of the symbol at the cursor as one number (specs/Cursor). Assumes nothing.
-use Rattle.std.specs.Prelude.{◌≡◌, ℕ, zero, suc, ◌+◌, ◌*◌, ◌<◌, ◌≤◌, true, false, eqb, ltb, List, [], ◌∷◌, length, get_or, drop}
+use Rattle.std.specs.Prelude.{◌≡◌, ℕ, suc, ◌+◌, ◌<◌, ◌≤◌, true, eqb, ltb, List, [], ◌∷◌, length, drop}
 use mathlib.Core.Path.{refl, sym, ap, ◌∙◌}
 use native.Mathlib.Omega.{arith}
 use lib.ListN.{drop_of_length-le}
-use lib.Seq.{drop-drop, drop-nil}
+use lib.Seq.{drop-drop}
 use borrow.Author.Tests.{eqb-true, eq-eqb, ne_eqb, ltb-true, ltb-false}
-use Rattle.repr.specs.Sizes.{production_place}
 use Rattle.repr.specs.Meaning.{Symbol, nonterminal, terminal}
-use Rattle.repr.specs.Listed.{symbol_of_kind, listed, list_is_fit}
-use Rattle.repr.specs.Packed.{Packed, symbol_words}
+use Rattle.repr.specs.Listed.{listed}
+use Rattle.repr.specs.Packed.{symbol_words}
 use Rattle.repr.proofs.Lists.{cases, clash}
-use Rattle.repr.proofs.Listed.{fits_head, symbol_range}
 use Rattle.lr1_core.specs.Items.{first, symbol_sets, is_nonterminal, shifts_nonterminal}
 use Rattle.lr1_core.specs.Cursor.{symbol_code, cursor_code, code_in}
-use Rattle.lr1_core.proofs.Items.{symbol_here}
 
 pub code-none : (g : List ℕ) (p i : ℕ) → length (listed (symbol_words g p)) ≤ i → 95 ≡ code_in g p i
 unfolding code_in cursor_code
 code-none g p i h = rw (drop_of_length-le (listed (symbol_words g p)) {i = i} h) refl
 
-module _ (g : List ℕ) (n p i : ℕ) (P : Packed g n) (h : p < n) (l : i < length (listed (symbol_words g p))) where
-  pub code-nonterminal : (k x : ℕ) → k ≡ get_or g (production_place p + 4 + 2 * i) 0 → x ≡ get_or g (production_place p + 4 + 2 * i + 1) 0 → k ≡ 0 → x ≡ code_in g p i
-  unfolding code_in cursor_code symbol_code symbol_of_kind
-  code-nonterminal k x ek ex z = rw (symbol_here g n p i P h l, ← ek, z, ex)
+-- of what `Item::cursor` answers
 
-  pub code-terminal : (k x : ℕ) → k ≡ get_or g (production_place p + 4 + 2 * i) 0 → x ≡ get_or g (production_place p + 4 + 2 * i + 1) 0 → (k ≡ 0 → ⊥) → 32 + x ≡ code_in g p i
-  unfolding code_in cursor_code symbol_code symbol_of_kind
-  code-terminal k x ek ex z = rw (symbol_here g n p i P h l, ← ek, ex) (go k z)
-    where
-      go : (c : ℕ) → (c ≡ 0 → ⊥) → 32 + get_or g (production_place p + 4 + 2 * i + 1) 0 ≡ symbol_code (symbol_of_kind c (get_or g (production_place p + 4 + 2 * i + 1) 0))
-      go zero a = absurd (a refl)
-      go (suc c) a = refl
+pub code_ended : (g : List ℕ) (p i : ℕ) → drop i (listed (symbol_words g p)) ≡ [] → code_in g p i ≡ 95
+unfolding code_in cursor_code
+code_ended g p i e = rw e
+
+pub code_begun : (g : List ℕ) (p i : ℕ) (s : Symbol) (rest : List Symbol) → drop i (listed (symbol_words g p)) ≡ s ∷ rest → code_in g p i ≡ symbol_code s
+unfolding code_in cursor_code
+code_begun g p i s rest e = rw e
 
 -- a number below 32 is a nonterminal's
 
@@ -62,18 +56,6 @@ code_is g p i n h = go (drop i (listed (symbol_words g p)))
     go [] = ne_eqb 95 n (λ e. omega arith)
     go (nonterminal m ∷ ys) = refl
     go (terminal t ∷ ys) = ne_eqb (32 + t) n (λ e. omega arith)
-
-large : (ws : List ℕ) (i n : ℕ) → list_is_fit 32 63 ws ≡ true → 32 ≤ n → false ≡ is_nonterminal n (first (drop i (listed ws)))
-unfolding listed symbol_of_kind first is_nonterminal
-large [] i n f h = rw drop-nil
-large (k ∷ []) i n f h = rw drop-nil
-large (zero ∷ x ∷ ws) zero n f h = let r = (symbol_range 32 63 0 x (fits_head 32 63 (0 ∷ x ∷ ws) 0 (omega arith) f).1.0).1.0 refl in sym (ne_eqb x n (λ e. omega arith))
-large (suc k ∷ x ∷ ws) zero n f h = refl
-large (k ∷ x ∷ ws) (suc i) n f h = large ws i n (fits_head 32 63 (k ∷ x ∷ ws) 0 (omega arith) f).1.1 h
-
-pub code_never : (g : List ℕ) (ps p i n : ℕ) → Packed g ps → p < ps → 32 ≤ n → false ≡ shifts_nonterminal (listed (symbol_words g p)) i n
-unfolding shifts_nonterminal symbol_sets
-code_never g ps p i n P h l = large (symbol_words g p) i n (P.fits p h) l
 
 -- which one it is
 pub cursor_is : (g : List ℕ) (p i c : ℕ) → c ≡ code_in g p i → (n : ℕ) → shifts_nonterminal (listed (symbol_words g p)) i n ≡ true → c ≡ n

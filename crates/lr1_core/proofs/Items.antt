@@ -1,16 +1,15 @@
 -- Laws of an item's symbol sets (specs/Items), over a production's words. Assumes nothing.
 use Rattle.std.specs.Prelude.{◌≡◌, ℕ, zero, suc, ◌+◌, ◌-◌, ◌*◌, ◌<◌, ◌≤◌, false, eqb, List, [], ◌∷◌, length, get_or, take, drop, min}
-use mathlib.Core.Path.{refl, sym, ◌∙◌}
+use mathlib.Core.Path.{refl, sym}
 use mathlib.Core.Option.{some}
 use native.Mathlib.Omega.{arith}
 use lib.ListN.{drop_of_length-le}
 use lib.Seq.{take_all, length-take-le}
 use Rattle.repr.specs.Sizes.{production_place}
-use Rattle.repr.specs.Meaning.{Symbol}
+use Rattle.repr.specs.Meaning.{Symbol, nonterminal, terminal}
 use Rattle.repr.specs.Listed.{symbol_of_kind, listed}
 use Rattle.repr.specs.Packed.{symbol_words, Packed}
-use Rattle.repr.proofs.Packed.{words_long}
-use Rattle.repr.proofs.Parts.{listed-take, listed-drop, listed_at, symbols_long, word_of}
+use Rattle.repr.proofs.Parts.{listed-take, listed-drop, symbol_here}
 use Rattle.lr1_core.specs.Items.{no_sets, first, symbol_sets, counts, held, counts_of, is_nonterminal, shifts_nonterminal, sets_in}
 
 pub sets-none : (ws : List ℕ) → sets_in ws 0 0 0 ≡ no_sets
@@ -78,25 +77,31 @@ unfolding shifts_nonterminal symbol_sets first is_nonterminal
 shifts_past xs i k h = rw (drop_of_length-le xs {i = i} h)
 
 module _ (g : List ℕ) (n p i : ℕ) (P : Packed g n) (h : p < n) (l : i < length (listed (symbol_words g p))) where
-  pub symbol_here : drop i (listed (symbol_words g p)) ≡ symbol_of_kind (get_or g (production_place p + 4 + 2 * i) 0) (get_or g (production_place p + 4 + 2 * i + 1) 0) ∷ drop (suc i) (listed (symbol_words g p))
-  symbol_here =
-      let s = symbols_long g n p P h in
-      let w = words_long g n p P h in
-      let e : production_place p + 4 + 2 * i + 1 ≡ production_place p + 4 + (2 * i + 1) = omega arith in
-      listed_at (symbol_words g p) i (omega arith)
-      ∙ rw (word_of g n p (2 * i) P h (omega arith), word_of g n p (2 * i + 1) P h (omega arith), e)
-
   pub shifts_nonterminal_lem : (k x : ℕ) → get_or g (production_place p + 4 + 2 * i) 0 ≡ 0 → x ≡ get_or g (production_place p + 4 + 2 * i + 1) 0 → eqb x k ≡ shifts_nonterminal (listed (symbol_words g p)) i k
   unfolding shifts_nonterminal symbol_sets first is_nonterminal symbol_of_kind
-  shifts_nonterminal_lem k x z e = rw (symbol_here, z, e)
+  shifts_nonterminal_lem k x z e = rw (symbol_here g n p i P h l, z, e)
 
   pub shifts-terminal : (k : ℕ) → (get_or g (production_place p + 4 + 2 * i) 0 ≡ 0 → ⊥) → false ≡ shifts_nonterminal (listed (symbol_words g p)) i k
   unfolding shifts_nonterminal symbol_sets first is_nonterminal symbol_of_kind
-  shifts-terminal k ne = rw symbol_here (go (get_or g (production_place p + 4 + 2 * i) 0) ne)
+  shifts-terminal k ne = rw (symbol_here g n p i P h l) (go (get_or g (production_place p + 4 + 2 * i) 0) ne)
     where
       go : (c : ℕ) → (c ≡ 0 → ⊥) → false ≡ is_nonterminal k (some (symbol_of_kind c (get_or g (production_place p + 4 + 2 * i + 1) 0)))
       go zero a = absurd (a refl)
       go (suc c) a = refl
+
+-- by what is left from the cursor on
+module _ (xs : List Symbol) (i k : ℕ) where
+  pub shifts_none : drop i xs ≡ [] → shifts_nonterminal xs i k ≡ false
+  unfolding shifts_nonterminal symbol_sets first is_nonterminal
+  shifts_none e = rw e
+
+  pub shifts_this : (m : ℕ) (rest : List Symbol) → drop i xs ≡ nonterminal m ∷ rest → shifts_nonterminal xs i k ≡ eqb m k
+  unfolding shifts_nonterminal symbol_sets first is_nonterminal
+  shifts_this m rest e = rw e
+
+  pub shifts_no_terminal : (t : ℕ) (rest : List Symbol) → drop i xs ≡ terminal t ∷ rest → shifts_nonterminal xs i k ≡ false
+  unfolding shifts_nonterminal symbol_sets first is_nonterminal
+  shifts_no_terminal t rest e = rw e
 
 -- parts of a production's symbols
 pub prefix_is : (ws : List ℕ) (i : ℕ) → listed (take (2 * i) ws) ≡ (symbol_sets (listed ws) i).prefix

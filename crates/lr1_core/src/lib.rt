@@ -129,7 +129,8 @@ impl Item {
     {
         match self.cursor(grammar) {
             Some(Symbol::Nonterminal(n)) => n.0 as usize == nonterminal,
-            _ => false,
+            Some(Symbol::Terminal(_)) => false,
+            None => false,
         }
     }
 }

@@ -1,11 +1,13 @@
 -- The first symbol of a list in words, and the list behind it (specs/Listed, specs/Symbols). Assumes nothing.
-use Rattle.std.proofs.Common.{◌≡◌, refl, ap, ◌∙◌, ℕ, zero, suc, ◌-◌, ◌≤◌, ◌<◌, true, List, [], ◌∷◌, length, get_or, take, drop, arith}
+use Rattle.std.proofs.Common.{◌≡◌, refl, ◌∙◌, ℕ, zero, suc, ◌-◌, ◌*◌, ◌≤◌, ◌<◌, true, List, [], ◌∷◌, length, get_or, take, drop, arith}
 use Rattle.std.proofs.Math.Seq.{take-length}
 use Rattle.std.proofs.lemmas.List.{length-drop}
 use Rattle.repr.specs.Sizes.{nonterminal_limit, terminal_limit}
-use Rattle.repr.specs.Meaning.{Symbol, nonterminal, terminal}
+use Rattle.repr.specs.Meaning.{Symbol}
 use Rattle.repr.specs.Listed.{symbol_of_kind, listed, symbol_is_fit, list_is_fit}
-use Rattle.repr.proofs.Listed.{fits_head, symbol_range}
+use Rattle.repr.specs.Packed.{symbol_words, Packed}
+use Rattle.repr.proofs.Listed.{fits_head, listed-step, symbol_range}
+use Rattle.repr.proofs.Parts.{listed-drop, fits-drop}
 use Rattle.repr.specs.Symbols.{meant, IsInRange}
 use Rattle.repr.specs.declared.Symbol.{Symbol as Coded}
 use Rattle.repr.specs.declared.Symbol.TheVariants.{Nonterminal, Terminal}
@@ -24,23 +26,8 @@ module _ (ws : List ℕ) (h : 2 ≤ length ws) where
   pub fits_behind : list_is_fit nonterminal_limit terminal_limit ws ≡ true → list_is_fit nonterminal_limit terminal_limit (take (length ws - 2) (drop 2 ws)) ≡ true
   fits_behind f = rw behind_two (fits_head nonterminal_limit terminal_limit ws 0 (omega arith) f).1.1
 
-  listed_two : (l : List ℕ) → 2 ≤ length l → listed l ≡ symbol_of_kind (get_or l 0 0) (get_or l 1 0) ∷ listed (drop 2 l)
-  unfolding listed
-  listed_two [] g = absurd (omega arith)
-  listed_two (k ∷ []) g = absurd (omega arith)
-  listed_two (k ∷ x ∷ l) g = refl
-
-  pub listed-nonterminal : get_or ws 0 0 ≡ 0 → listed ws ≡ nonterminal (get_or ws 1 0) ∷ listed (take (length ws - 2) (drop 2 ws))
-  unfolding symbol_of_kind
-  listed-nonterminal e = rw behind_two (listed_two ws h ∙ rw e)
-
-  pub listed-terminal : (get_or ws 0 0 ≡ 0 → ⊥) → listed ws ≡ terminal (get_or ws 1 0) ∷ listed (take (length ws - 2) (drop 2 ws))
-  unfolding symbol_of_kind
-  listed-terminal ne = rw behind_two (listed_two ws h ∙ ap (λ (s : Symbol). s ∷ listed (drop 2 ws)) (later (get_or ws 0 0) ne))
-    where
-      later : (k : ℕ) → (k ≡ 0 → ⊥) → symbol_of_kind k (get_or ws 1 0) ≡ terminal (get_or ws 1 0)
-      later zero n = absurd (n refl)
-      later (suc k) n = refl
+  pub listed_two : listed ws ≡ symbol_of_kind (get_or ws 0 0) (get_or ws 1 0) ∷ listed (take (length ws - 2) (drop 2 ws))
+  listed_two = listed-step ws 0 (omega arith) ∙ rw behind_two
 
 -- the first symbol of a list in range is in range
 pub first_in_range : (ws : List ℕ) (s : Coded) (rest : List Symbol) → list_is_fit nonterminal_limit terminal_limit ws ≡ true → listed ws ≡ meant s ∷ rest → IsInRange s
@@ -54,3 +41,8 @@ first_in_range (k ∷ x ∷ ws) s rest f e = in_range k s (let h : symbol_of_kin
     in_range zero (Terminal t) q g = absurd cc
     in_range (suc k) (Nonterminal n) q g = absurd cc
     in_range (suc k) (Terminal t) q g = let b = (symbol_range nonterminal_limit terminal_limit (suc k) x g).1.1 (λ (z : ◌≡◌ {A = ℕ} (suc k) 0). absurd (omega arith)) in let same : x ≡ t = cc in omega arith
+
+-- symbol i of a production's is in range
+pub here_in_range : (g : List ℕ) (n p i : ℕ) (s : Coded) (rest : List Symbol) → Packed g n → p < n → drop i (listed (symbol_words g p)) ≡ meant s ∷ rest → IsInRange s
+here_in_range g n p i s rest P h e =
+    first_in_range (drop (2 * i) (symbol_words g p)) s rest (fits-drop nonterminal_limit terminal_limit i (symbol_words g p) (P.fits p h)) (listed-drop i (symbol_words g p) ∙ e)

@@ -7,3 +7,4 @@ pub mod SameSymbol
 pub mod Fronts
 pub mod Joined
 pub mod FrontSymbol
+pub mod Chunks

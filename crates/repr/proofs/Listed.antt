@@ -21,10 +21,6 @@ pub drop-last : (ws : List ℕ) (at : ℕ) → at < length ws → length ws ≤ 
 drop-last ws at h l = drop-cons ws at 0 h ∙ ap (λ (r : List ℕ). get_or ws at 0 ∷ r) (drop_of_length-le ws {i = suc at} (rw (add-one at) at l))
 
 module _ (n t : ℕ) (ws : List ℕ) (at : ℕ) where
-  pub fits-none : length ws ≤ at → list_is_fit n t (drop at ws) ≡ true
-  unfolding list_is_fit
-  fits-none h = rw (drop_of_length-le ws h)
-
   pub fits_half : at < length ws → length ws ≤ at + 1 → list_is_fit n t (drop at ws) ≡ false
   unfolding list_is_fit
   fits_half h l = rw (drop-last ws at h l)
@@ -33,13 +29,6 @@ module _ (n t : ℕ) (ws : List ℕ) (at : ℕ) where
       → list_is_fit n t (drop at ws) ≡ symbol_is_fit n t k x && list_is_fit n t (drop (at + 2) ws)
   unfolding list_is_fit
   fits-step h k x ek ex = rw (drop_two ws at h, ek, ex)
-
-  pub fits-bad : at + 1 < length ws → (k x : ℕ) → k ≡ get_or ws at 0 → x ≡ get_or ws (at + 1) 0 → symbol_is_fit n t k x ≡ false → list_is_fit n t (drop at ws) ≡ false
-  fits-bad h k x ek ex e = fits-step h k x ek ex ∙ rw e
-
-  pub fits_good : at + 1 < length ws → (k x : ℕ) → k ≡ get_or ws at 0 → x ≡ get_or ws (at + 1) 0 → symbol_is_fit n t k x ≡ true
-      → list_is_fit n t (drop at ws) ≡ list_is_fit n t (drop (at + 2) ws)
-  fits_good h k x ek ex e = fits-step h k x ek ex ∙ rw e
 
 -- a list of an odd number of words ends with half a symbol
 pub odd_unfit : (n t : ℕ) (ws : List ℕ) → (length ws % 2 ≡ 0 → ⊥) → list_is_fit n t ws ≡ false

@@ -58,3 +58,21 @@ listed_at ws i h =
 pub word_of : (g : List ℕ) (n p j : ℕ) → Packed g n → p < n → j < 2 * get_or g (production_place p + 1) 0 → get_or (symbol_words g p) j 0 ≡ get_or g (production_place p + 4 + j) 0
 unfolding symbol_words
 word_of g n p j P h l = get_or-take (2 * get_or g (production_place p + 1) 0) (drop (production_place p + 4) g) j 0 l ∙ get_or-drop (production_place p + 4) g j 0
+
+-- symbol i of a production's
+pub symbol_here : (g : List ℕ) (n p i : ℕ) → Packed g n → p < n → i < length (listed (symbol_words g p))
+    → drop i (listed (symbol_words g p)) ≡ symbol_of_kind (get_or g (production_place p + 4 + 2 * i) 0) (get_or g (production_place p + 4 + 2 * i + 1) 0) ∷ drop (suc i) (listed (symbol_words g p))
+symbol_here g n p i P h l =
+    let s = symbols_long g n p P h in
+    let w = words_long g n p P h in
+    let e : production_place p + 4 + 2 * i + 1 ≡ production_place p + 4 + (2 * i + 1) = omega arith in
+    listed_at (symbol_words g p) i (omega arith)
+    ∙ rw (word_of g n p (2 * i) P h (omega arith), word_of g n p (2 * i + 1) P h (omega arith), e)
+
+-- what is left of a list that fits does
+pub fits-drop : (n t i : ℕ) (ws : List ℕ) → list_is_fit n t ws ≡ true → list_is_fit n t (drop (2 * i) ws) ≡ true
+unfolding list_is_fit
+fits-drop n t zero ws e = e
+fits-drop n t (suc i) [] e = rw (two_more i)
+fits-drop n t (suc i) (k ∷ []) e = let z : ◌≡◌ {A = ℕ} 0 1 = cc in absurd (omega arith)
+fits-drop n t (suc i) (k ∷ x ∷ ws) e = rw (two_more i) (fits-drop n t i ws (fits_head n t (k ∷ x ∷ ws) 0 (omega arith) e).1.1)

@@ -130,8 +130,8 @@ pub fn list_fits(n: usize, t: usize, list: &[u16]) -> bool
         && list.chunks_exact(Symbol::WORDS).all(|symbol| symbol_fits(
             n,
             t,
-            word(symbol, 0),
-            word(symbol, 1),
+            symbol[0] as usize,
+            symbol[1] as usize,
         ))
 }
 

@@ -1,26 +1,31 @@
 -- One step back and the walk: what the code's sets of states are of the walk of specs/Walk, and what is remembered of it (specs/Remembered). Assumes nothing.
 use mathlib.Core.Path.{◌≡◌, refl, sym, ap, ◌∙◌}
 use mathlib.Core.Bool.{Bool, true, false, ◌&&◌}
-use mathlib.Core.List.{List, append-nil}
-use Prim.Native.Nat.{ℕ, zero, suc, ◌+◌, ◌-◌, ◌*◌, ◌/◌, ◌≤◌, ◌<◌}
+use mathlib.Core.List.{List, [], ◌∷◌, ◌++◌, append-nil}
+use Prim.Native.Nat.{ℕ, zero, suc, ◌+◌, ◌-◌, ◌*◌, ◌%◌, ◌≤◌, ◌<◌}
 use native.Mathlib.Omega.{arith}
 use lib.Dec.{eqb, ltb}
-use lib.ListN.{length, get_or, set, drop, replicate, length-replicate, length-set}
+use lib.ListN.{length, get_or, set, replicate, length-replicate, length-set}
 use lib.Seq.{get_or-set_same, get_or-set_other}
 use borrow.Author.Tests.{eqb-true, eqb-false}
 use Rattle.repr.specs.Lists.{up_from, below, keep}
 use Rattle.repr.specs.Meaning.{Symbol, Table, TableFits}
 use Rattle.repr.specs.Listed.{symbol_of_kind, symbol_is_fit, listed, list_is_fit}
-use Rattle.repr.proofs.Listed.{listed-none, listed-step, fits_head, symbol_range}
+use Rattle.repr.proofs.Listed.{symbol_range}
+use Rattle.repr.proofs.FrontSymbol.{listed_short}
+use Rattle.repr.proofs.Chunks.{back_fits, back_symbol, back_listed}
 use Rattle.repr.proofs.Parts.{length-listed}
-use Rattle.repr.proofs.Lists.{cases, length-below, get_d_below, keep_append, keep-none, keep_agree, length-up_from, get_d_up_from}
+use Rattle.repr.proofs.Lists.{cases, clash, length-below, get_d_below, keep_append, keep-none, keep_agree, length-up_from, get_d_up_from}
 use Rattle.lookahead.proofs.Growing.{get_d_none}
 use Rattle.table.specs.Quads.{put_quad}
 use Rattle.table.proofs.Quads.{put_long, put_other, put_0, put_1, put_2, put_3}
+use Rattle.std.specs.Prelude.{Option, Some, None}
+use Rattle.std.specs.Option.{option_eq}
+use Rattle.state_graph.specs.declared.StateSet.{StateSet}
 use Rattle.state_graph.specs.Walk.{leads, predecessors, walked_back, traced_back}
 use Rattle.state_graph.specs.States.{has_state, states_in}
 use Rattle.state_graph.specs.Remembered.{step_row, step_rows, step_places, symbol_place, step_words, set_at, Remembered}
-use Rattle.state_graph.proofs.Exact.{leads-outside, walk-nil, walk-cons}
+use Rattle.state_graph.proofs.Exact.{leads-outside, walk-nil, walk-cons, walk-append}
 use Rattle.state_graph.proofs.States.{states_one, range_two}
 
 pub range_more : (t : ℕ → Bool) (n d : ℕ) → ((k : ℕ) → n ≤ k → t k ≡ false) → keep t (below (n + d)) ≡ keep t (below n)
@@ -45,47 +50,35 @@ stepped T x ss l h few f =
 
 -- the walk, from the last symbol on
 
-fits-from : (n t : ℕ) (ws : List ℕ) → list_is_fit n t ws ≡ true → (i : ℕ) → 2 * i ≤ length ws → list_is_fit n t (drop (2 * i) ws) ≡ true
-fits-from n t ws f zero h = f
-fits-from n t ws f (suc i) h =
-    let e : 2 * suc i ≡ 2 * i + 2 = omega arith in
-    rw e (fits_head n t ws (2 * i) (omega arith) (fits-from n t ws f i (omega arith))).1.1
+-- the walk from what is found so far over what is left of the symbols is the whole walk
+pub record Walking (T : Table) (ws : List ℕ) (l₀ h₀ l h : ℕ) (left : List ℕ) : Type 0 where
+  pub fits : list_is_fit (length T.nonterminals) T.terminals left ≡ true
+  pub same : walked_back T (states_in l h) (listed left) ≡ walked_back T (states_in l₀ h₀) (listed ws)
 
--- the symbol at a place, in range
-pub fits_at : (n t : ℕ) (ws : List ℕ) → list_is_fit n t ws ≡ true → (i : ℕ) → 2 * i < length ws
-    → (2 * i + 1 < length ws) × (symbol_is_fit n t (get_or ws (2 * i) 0) (get_or ws (2 * i + 1) 0) ≡ true)
-fits_at n t ws f i h = let r = fits_head n t ws (2 * i) h (fits-from n t ws f i (omega arith)) in (r.0, r.1.0)
+pub walking_start : (T : Table) (ws : List ℕ) → list_is_fit (length T.nonterminals) T.terminals ws ≡ true → (l h : ℕ) (odd left : List ℕ) → ws ≡ odd ++ left → length odd ≡ length ws % 2 → Walking T ws l h l h left
+walking_start T ws f l h [] left e n = rw (← e) (record { fits = f; same = refl })
+walking_start T ws f l h (x ∷ odd) left e n = let even = length-listed (length T.nonterminals) T.terminals ws f in absurd (omega arith)
 
--- what is found so far is the walk over the symbols from place i on
-pub record Walking (T : Table) (ws : List ℕ) (l₀ h₀ l h i : ℕ) : Type 0 where
-  pub on : 2 * i ≤ length ws
-  pub same : states_in l h ≡ walked_back T (states_in l₀ h₀) (listed (drop (2 * i) ws))
+module _ (T : Table) (ws : List ℕ) (l₀ h₀ l h : ℕ) (left : List ℕ) (W : Walking T ws l₀ h₀ l h left) where
+  module _ (rest two : List ℕ) (e : left ≡ rest ++ two) (n : length two ≡ 2) (k x : ℕ) (ek : k ≡ get_or two 0 0) (ex : x ≡ get_or two 1 0) where
+    pub walking_symbol : symbol_is_fit (length T.nonterminals) T.terminals k x ≡ true
+    walking_symbol = rw (ek, ex) (back_symbol (length T.nonterminals) T.terminals left rest two W.fits e n)
 
-module _ (T : Table) (ws : List ℕ) (f : list_is_fit (length T.nonterminals) T.terminals ws ≡ true) where
-  pub walking_start : (l h i : ℕ) → i ≡ length ws / 2 → Walking T ws l h l h i
-  walking_start l h i e =
-      let even = length-listed (length T.nonterminals) T.terminals ws f in
-      record { on = omega arith; same = rw (listed-none ws (2 * i) (omega arith), walk-nil T (states_in l h)) }
+    pub walking_more : (m j : ℕ) → states_in m j ≡ predecessors T (symbol_of_kind k x) (states_in l h) → Walking T ws l₀ h₀ m j rest
+    walking_more m j found = record {
+      fits = back_fits (length T.nonterminals) T.terminals left rest two W.fits e n;
+      same =
+          ap (λ (ss : List ℕ). walked_back T ss (listed rest)) (found ∙ rw (ek, ex) (one (symbol_of_kind (get_or two 0 0) (get_or two 1 0))))
+          ∙ sym (walk-append T (states_in l h) (listed rest) (symbol_of_kind (get_or two 0 0) (get_or two 1 0) ∷ []))
+          ∙ ap (walked_back T (states_in l h)) (sym (back_listed (length T.nonterminals) T.terminals left rest two W.fits e n))
+          ∙ W.same;
+    }
+      where
+        one : (s : Symbol) → predecessors T s (states_in l h) ≡ walked_back T (states_in l h) (s ∷ [])
+        one s = ap (predecessors T s) (sym (walk-nil T (states_in l h))) ∙ sym (walk-cons T (states_in l h) s [])
 
-  module _ (l₀ h₀ l h i : ℕ) (W : Walking T ws l₀ h₀ l h i) (p : 0 < i) where
-    pub walking_at : (2 * (i - 1) + 1 < length ws) × (symbol_is_fit (length T.nonterminals) T.terminals (get_or ws (2 * (i - 1)) 0) (get_or ws (2 * (i - 1) + 1) 0) ≡ true)
-    walking_at = let o = W.on in fits_at (length T.nonterminals) T.terminals ws f (i - 1) (omega arith)
-
-    pub walking_symbol : (k x : ℕ) → k ≡ get_or ws (2 * (i - 1)) 0 → x ≡ get_or ws (2 * (i - 1) + 1) 0 → symbol_is_fit (length T.nonterminals) T.terminals k x ≡ true
-    walking_symbol k x ek ex = rw (ek, ex) walking_at.1
-
-    pub walking_more : (k x m j : ℕ) → k ≡ get_or ws (2 * (i - 1)) 0 → x ≡ get_or ws (2 * (i - 1) + 1) 0 → states_in m j ≡ predecessors T (symbol_of_kind k x) (states_in l h) → Walking T ws l₀ h₀ m j (i - 1)
-    walking_more k x m j ek ex found =
-        let o = W.on in
-        let e : 2 * (i - 1) + 2 ≡ 2 * i = omega arith in
-        let at = listed-step ws (2 * (i - 1)) walking_at.0 in
-        record {
-          on = omega arith;
-          same = found ∙ ap (predecessors T (symbol_of_kind k x)) W.same ∙ sym (walk-cons T (states_in l₀ h₀) (symbol_of_kind k x) (listed (drop (2 * i) ws))) ∙ ap (walked_back T (states_in l₀ h₀)) (sym (rw (← ek, ← ex, e) at at));
-        }
-
-  pub walking_done : (l₀ h₀ l h i : ℕ) → Walking T ws l₀ h₀ l h i → i ≡ 0 → states_in l h ≡ walked_back T (states_in l₀ h₀) (listed ws)
-  walking_done l₀ h₀ l h i W e = rw e at W.same
+  pub walking_done : length left < 2 → states_in l h ≡ walked_back T (states_in l₀ h₀) (listed ws)
+  walking_done short = sym (walk-nil T (states_in l h)) ∙ ap (walked_back T (states_in l h)) (sym (listed_short left short)) ∙ W.same
 
 -- back from one state: the set of it, and the walk
 pub traced : (T : Table) → TableFits T → (s : ℕ) → s < length T.states → (a b l h : ℕ) (xs : List Symbol) → ((k : ℕ) → has_state a b k ≡ (ltb k 128 && eqb k s))
@@ -119,22 +112,19 @@ module _ (T : Table) (F : TableFits T) (k x : ℕ) (f : symbol_is_fit (length T.
       go (suc k) zero r s a e = let i = s.1.0 refl in absurd (omega arith)
       go (suc k) (suc j) r s a e = let p = r.0 in let q = s.0 in (omega arith, omega arith)
 
--- the last step alone, by its row
+-- the last step alone, by its symbol and its set: what it found
 
-pub record LastStep (T : Table) (row l h a b : ℕ) : Type 0 where
-  pub exact : (k x : ℕ) → symbol_is_fit (length T.nonterminals) T.terminals k x ≡ true → step_row k x ≡ row → states_in a b ≡ predecessors T (symbol_of_kind k x) (states_in l h)
-
-module _ (T : Table) (F : TableFits T) where
-  pub no_step : (l h a b : ℕ) → LastStep T step_rows l h a b
-  no_step l h a b = record { exact = λ k x f e. let i = row_inside T F k x f in absurd (omega (arith, i, e)) }
-
-  pub step-made : (k x : ℕ) → symbol_is_fit (length T.nonterminals) T.terminals k x ≡ true → (l h a b : ℕ) → states_in a b ≡ predecessors T (symbol_of_kind k x) (states_in l h) → LastStep T (step_row k x) l h a b
-  step-made k x f l h a b found = record { exact = λ j y g e. let r = same_row T F k x f j y g e in rw (r.0, r.1) found }
+abbrev pub LastStep : Table → Option (ℕ × ℕ × StateSet) → ℕ → ℕ → Type 0
+LastStep T None a b = Unit {0}
+LastStep T (Some p) a b = states_in a b ≡ predecessors T (symbol_of_kind p.0 p.1) (states_in p.2.low p.2.high)
 
 -- over again it leads from the set to itself
-pub step_again : (T : Table) (row l h a b : ℕ) → LastStep T row l h a b → (k x : ℕ) → symbol_is_fit (length T.nonterminals) T.terminals k x ≡ true → step_row k x ≡ row → a ≡ l → b ≡ h
-    → states_in a b ≡ predecessors T (symbol_of_kind k x) (states_in a b)
-step_again T row l h a b L k x f e el eh = L.exact k x f e ∙ rw (el, eh)
+pub step_again : (T : Table) (eq : ℕ × ℕ × StateSet → ℕ × ℕ × StateSet → Bool)
+    → ((p q : ℕ × ℕ × StateSet) → eq p q ≡ true → (p.0 ≡ q.0) × (p.1 ≡ q.1) × (p.2.low ≡ q.2.low) × (p.2.high ≡ q.2.high))
+    → (last : Option (ℕ × ℕ × StateSet)) (k x : ℕ) (s : StateSet) → option_eq eq last (Some (k, x, s)) ≡ true → LastStep T last s.low s.high
+    → states_in s.low s.high ≡ predecessors T (symbol_of_kind k x) (states_in s.low s.high)
+step_again T eq sound None k x s h L = clash true refl (sym h)
+step_again T eq sound (Some p) k x s h L = let q = sound p (k, x, s) h in L ∙ rw (q.0, q.1, q.2, q.3)
 
 -- what is remembered
 

@@ -365,7 +365,7 @@ impl<'a> StateWalk<'a> {
         ensures table { self.new.table.words.now ≡ self.old.table.words.now }
     {
         let mut found = set;
-        for symbol in symbols.chunks_exact(Symbol::WORDS).rev() {
+        for symbol in symbols.rchunks_exact(Symbol::WORDS) {
             found = self.step_back(repr::word(symbol, 0), repr::word(symbol, 1), found);
         }
         found
@@ -403,7 +403,7 @@ pub fn trace_back(table: AcceptedTable, state: usize, symbols: &[u16]) -> StateS
 {
     let mut found = StateSet::of(state);
     let mut last: Option<(usize, usize, StateSet)> = None;
-    for symbol in symbols.chunks_exact(Symbol::WORDS).rev() {
+    for symbol in symbols.rchunks_exact(Symbol::WORDS) {
         let kind = repr::word(symbol, 0);
         let number = repr::word(symbol, 1);
         let this = Some((kind, number, found));

@@ -151,15 +151,15 @@ abbrev pub Asked : List ℕ → ℕ → ℕ → Type 0
 Asked t r k = (r < record_limit) × ((k < 4) × (r * 4 + k < length t))
 
 module _ (t : List ℕ) (e : check_of t ≡ Accepted) where
-  pub count_asked : (k : ℕ) → k < 4 → Asked t 0 k
-  count_asked k h = inside t (accepts t e) 0 k (accepts t e).some_record h
+  pub has_counts : 4 ≤ length t
+  has_counts = let A = accepts t e in omega (arith, A.words, A.some_record)
 
-  pub state_asked : (n s k : ℕ) → n ≡ word_at t 0 0 → s < length (meaning t).states → k < 4 → Asked t (1 + n + s) k
-  state_asked n s k en hs h =
+  pub state_asked : (s r k : ℕ) → r ≡ state_area t + s → s < length (meaning t).states → k < 4 → Asked t r k
+  state_asked s r k er hs h =
       let A = accepts t e in
       let z = areas_of t in
       let m = many_states t in
-      inside t A (1 + n + s) k (omega arith) h
+      inside t A r k (omega arith) h
 
   pub nonterminal-asked : (n k : ℕ) → n < length (meaning t).nonterminals → k < 4 → Asked t (1 + n) k
   nonterminal-asked n k hn h =
@@ -182,17 +182,13 @@ module _ (t : List ℕ) (e : check_of t ≡ Accepted) where
 
   -- the first index of a chain
 
-  pub first_item_is : (n s x : ℕ) → n ≡ word_at t 0 0 → s < length (meaning t).states → x ≡ word_at t (1 + n + s) 0
+  pub first_item_is : (s r x : ℕ) → r ≡ state_area t + s → s < length (meaning t).states → x ≡ word_at t r 0
       → (items_from t x ≡ (state_at (meaning t) s).items) × ItemIndex t x
-  first_item_is n s x en hs ex =
-      let z : 1 + n + s ≡ state_area t + s = omega (arith, (areas_of t).state_area_lem) in
-      item-first t (accepts t e) s x (rw (many_states t) at hs) (ex ∙ ap (λ (r : ℕ). word_at t r 0) z)
+  first_item_is s r x er hs ex = item-first t (accepts t e) s x (rw (many_states t) at hs) (ex ∙ ap (λ (r : ℕ). word_at t r 0) er)
 
-  pub first_edge_is : (n s x : ℕ) → n ≡ word_at t 0 0 → s < length (meaning t).states → x ≡ word_at t (1 + n + s) 1
+  pub first_edge_is : (s r x : ℕ) → r ≡ state_area t + s → s < length (meaning t).states → x ≡ word_at t r 1
       → (edges_from t x ≡ (state_at (meaning t) s).edges) × EdgeIndex t x
-  first_edge_is n s x en hs ex =
-      let z : 1 + n + s ≡ state_area t + s = omega (arith, (areas_of t).state_area_lem) in
-      edge_first t (accepts t e) s x (rw (many_states t) at hs) (ex ∙ ap (λ (r : ℕ). word_at t r 1) z)
+  first_edge_is s r x er hs ex = edge_first t (accepts t e) s x (rw (many_states t) at hs) (ex ∙ ap (λ (r : ℕ). word_at t r 1) er)
 
   pub first_production_is : (n x : ℕ) → n < length (meaning t).nonterminals → x ≡ word_at t (1 + n) 0
       → (productions_from t x ≡ get_or (meaning t).nonterminals n []) × ProductionHead t x
@@ -200,14 +196,30 @@ module _ (t : List ℕ) (e : check_of t ≡ Accepted) where
 
   -- a production's number
 
-  pub production-after : (at n s : ℕ) → (at ≡ 0 → ⊥) → ProductionHead t at → n ≡ word_at t 0 0 → s ≡ word_at t 0 2 → 1 + n + s ≤ at
+  pub production-after : (at n s : ℕ) → (at ≡ 0 → ⊥) → ProductionHead t at → n ≡ length (meaning t).nonterminals → s ≡ length (meaning t).states → 1 + n + s ≤ at
   production-after at n s ne H en es =
       let i = production_in_lem t at (H.inside ne) in
       let z = (areas_of t).production_area_lem in
+      let a = many_nonterminals t in
+      let b = many_states t in
       omega arith
 
-  pub production_is : (at n s next : ℕ) → (at ≡ 0 → ⊥) → ProductionHead t at → n ≡ word_at t 0 0 → s ≡ word_at t 0 2 → next ≡ word_at t at 0
+  pub production_is : (at n s next : ℕ) → (at ≡ 0 → ⊥) → ProductionHead t at → n ≡ length (meaning t).nonterminals → s ≡ length (meaning t).states → next ≡ word_at t at 0
       → ProductionRead t at next (at - (1 + n + s))
   production_is at n s next ne H en es ex =
       let z = (areas_of t).production_area_lem in
+      let a = many_nonterminals t in
+      let b = many_states t in
       production-read t (accepts t e) at next (at - (1 + n + s)) ne H ex (omega arith)
+
+  -- a record's number
+
+  pub state_record_is : (n s : ℕ) → n ≡ length (meaning t).nonterminals → 1 + n + s ≡ state_area t + s
+  state_record_is n s en = let z = (areas_of t).state_area_lem in let a = many_nonterminals t in omega arith
+
+  pub production_record_is : (n s p : ℕ) → n ≡ length (meaning t).nonterminals → s ≡ length (meaning t).states → 1 + n + s + p ≡ production_area t + p
+  production_record_is n s p en es =
+      let z = (areas_of t).production_area_lem in
+      let a = many_nonterminals t in
+      let b = many_states t in
+      omega arith

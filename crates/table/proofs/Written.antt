@@ -33,24 +33,23 @@ use Rattle.table.proofs.Indexes.{Asked, inside, loose_past}
 -- symbols, as the code reads them
 
 module _ (t : List ℕ) (e : check_of t ≡ Accepted) where
-  pub production_place-asked : (n s p k : ℕ) → n ≡ word_at t 0 0 → s ≡ word_at t 0 2 → p < length (meaning t).productions → k < 4 → Asked t (1 + n + s + p) k
-  production_place-asked n s p k en es hp h =
+  pub production_place-asked : (p r k : ℕ) → r ≡ production_area t + p → p < length (meaning t).productions → k < 4 → Asked t r k
+  production_place-asked p r k er hp h =
       let A = accepts t e in
       let z = areas_of t in
       let m = many_productions t in
-      inside t A (1 + n + s + p) k (omega arith) h
+      inside t A r k (omega arith) h
 
   pub symbol-asked : (at k : ℕ) → (at ≡ 0 → ⊥) → SymbolIndex t at → k < 4 → Asked t at k
   symbol-asked at k ne I h = inside t (accepts t e) at k (symbol-inside t at (I.reached ne)).1 h
 
-  pub first-symbol_is : (n s p x : ℕ) → n ≡ word_at t 0 0 → s ≡ word_at t 0 2 → p < length (meaning t).productions → x ≡ word_at t (1 + n + s + p) 1
+  pub first-symbol_is : (p r x : ℕ) → r ≡ production_area t + p → p < length (meaning t).productions → x ≡ word_at t r 1
       → (symbols_from t x ≡ (production_at (meaning t) p).symbols) × SymbolIndex t x
   unfolding symbols_from symbol_chain
-  first-symbol_is n s p x en es hp ex =
+  first-symbol_is p r x er hp ex =
       let A = accepts t e in
       let h : p < productions t = rw (many_productions t) at hp in
-      let z : 1 + n + s + p ≡ production_area t + p = omega (arith, (areas_of t).production_area_lem) in
-      let q : x ≡ word_at t (production_area t + p) 1 = ex ∙ ap (λ (r : ℕ). word_at t r 1) z in (
+      let q : x ≡ word_at t (production_area t + p) 1 = ex ∙ ap (λ (r : ℕ). word_at t r 1) er in (
         ap (λ (y : ℕ). map (symbol_at t) (chain t (loose_records t) 0 y)) q
             ∙ sym (ap (map (symbol_at t)) (chain-from t (loose_records t) (loose-whole t) (production_area t + p) (word_at t (production_area t + p) 1) (symbol-head t A p h)))
             ∙ sym (symbols_of_lem t p h),
@@ -314,14 +313,12 @@ module _ (t : List ℕ) (e : check_of t ≡ Accepted) (p : ℕ) (h : p < length 
   abbrev Heads : List ℕ → ℕ → ℕ → ℕ → List ℕ
   Heads g k a z = set (set (set g (production_place p + 1) k) (production_place p + 2) a) (production_place p + 3) z
 
-  pub production_stored : (g g₁ : List ℕ) (n s k a z : ℕ) → length g ≡ grammar_room → n ≡ word_at t 0 0 → s ≡ word_at t 0 2
-      → a ≡ word_at t (1 + n + s + p) 2 → z ≡ word_at t (1 + n + s + p) 3
+  pub production_stored : (g g₁ : List ℕ) (q k a z : ℕ) → length g ≡ grammar_room → q ≡ production_area t + p → a ≡ word_at t q 2 → z ≡ word_at t q 3
       → SymbolsStored t g g₁ p k → ProductionStored t g (Heads g₁ k a z) p
   unfolding production_in symbol_words
-  production_stored g g₁ n s k a z l en es ea ez S =
+  production_stored g g₁ q k a z l eq ea ez S =
       let r = room t e p h in
       let l₁ : length g₁ ≡ grammar_room = S.long ∙ l in
-      let place : 1 + n + s + p ≡ production_area t + p = omega (arith, (areas_of t).production_area_lem) in
       let m₁ = length-set g₁ (production_place p + 1) k in
       let m₂ = length-set (set g₁ (production_place p + 1) k) (production_place p + 2) a in
       let other : (i : ℕ) → (i ≡ production_place p + 1 → ⊥) → (i ≡ production_place p + 2 → ⊥) → (i ≡ production_place p + 3 → ⊥) → get_or (Heads g₁ k a z) i 0 ≡ get_or g₁ i 0 =
@@ -358,8 +355,8 @@ module _ (t : List ℕ) (e : check_of t ≡ Accepted) (p : ℕ) (h : p < length 
             (production_at (meaning t) p).end
             (other (production_place p) (λ q. omega arith) (λ q. omega arith) (λ q. omega arith) ∙ S.earlier (production_place p) (omega arith) ∙ own)
             (ap listed words ∙ S.list)
-            (at₂ ∙ ea ∙ ap (λ (i : ℕ). word_at t i 2) place ∙ sym span.0)
-            (at₃ ∙ ez ∙ ap (λ (i : ℕ). word_at t i 3) place ∙ sym span.1);
+            (at₂ ∙ ea ∙ ap (λ (i : ℕ). word_at t i 2) eq ∙ sym span.0)
+            (at₃ ∙ ez ∙ ap (λ (i : ℕ). word_at t i 3) eq ∙ sym span.1);
         short = rw at₁ S.short;
         fits = ap (list_is_fit nonterminal_limit terminal_limit) words ∙ S.fits;
         earlier = λ i b. other i (λ q. omega arith) (λ q. omega arith) (λ q. omega arith) ∙ S.earlier i (omega arith);

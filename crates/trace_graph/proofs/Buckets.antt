@@ -1,10 +1,12 @@
 -- Laws of buckets (specs/Index): equal edges have the same, and the words that it is computed from. Assumes nothing.
-use Rattle.std.proofs.Common.{◌≡◌, ℕ, zero, suc, ◌+◌, ◌*◌, ◌%◌, ◌<◌, ◌≤◌, true, List, length, get_or, drop, sym, ap, ◌∙◌, arith}
+use Rattle.std.proofs.Common.{◌≡◌, ℕ, zero, suc, ◌+◌, ◌*◌, ◌%◌, ◌<◌, true, List, ◌++◌, length, get_or, sym, ap, ◌∙◌, arith}
 use Rattle.repr.specs.Sizes.{nonterminal_limit, terminal_limit}
 use Rattle.repr.specs.Meaning.{Symbol, Production, no_production}
-use Rattle.repr.specs.Listed.{symbol_of_kind, listed, list_is_fit}
+use Rattle.repr.specs.Listed.{symbol_of_kind, listed, symbol_is_fit, list_is_fit}
 use Rattle.repr.specs.Packed.{symbol_words, Packed, productions_in}
-use Rattle.repr.proofs.Listed.{symbol_range, listed-none, listed-step, fits_head}
+use Rattle.repr.proofs.Listed.{symbol_range, and_left, and_right}
+use Rattle.repr.proofs.FrontSymbol.{listed_short}
+use Rattle.repr.proofs.Chunks.{pair_listed, pair_fits}
 use Rattle.trace_graph.specs.declared.TraceEdge.{TraceEdge as EdgeValue}
 use Rattle.trace_graph.specs.Graph.{Node, TraceEdge, label_of, same_sets, is_same_edge}
 use Rattle.trace_graph.specs.Fits.{item_is_fit}
@@ -30,11 +32,10 @@ same_bucket ps e f he hf h =
     make a b c d = rw (a, b, c, d)
 
 -- the turns of `mix`: what is left of the symbols mixed into the sum gives what the whole gives
-pub record Mixing (ws : List ℕ) (start sum at : ℕ) : Type 0 where
-  pub below : at ≤ length ws
+pub record Mixing (ws : List ℕ) (start sum : ℕ) (left : List ℕ) : Type 0 where
   pub small : sum < 65536
-  pub fits : list_is_fit nonterminal_limit terminal_limit (drop at ws) ≡ true
-  pub same : mixed sum (listed (drop at ws)) ≡ mixed start (listed ws)
+  pub fits : list_is_fit nonterminal_limit terminal_limit left ≡ true
+  pub same : mixed sum (listed left) ≡ mixed start (listed ws)
 
 symbol_number_lem : (k x : ℕ) → k < 2 → symbol_number (symbol_of_kind k x) ≡ k * 32 + x
 unfolding symbol_number symbol_of_kind
@@ -43,26 +44,22 @@ symbol_number_lem (suc zero) x h = omega arith
 symbol_number_lem (suc (suc k)) x h = absurd (omega arith)
 
 -- the ways through it
-module _ {ws : List ℕ} {start sum at : ℕ} (M : Mixing ws start sum at) where
-  pub mix_end : length ws ≤ at → sum ≡ mixed start (listed ws)
+module _ {ws : List ℕ} {start sum : ℕ} {left : List ℕ} (M : Mixing ws start sum left) where
+  pub mix_end : length left < 2 → sum ≡ mixed start (listed ws)
   unfolding mixed
-  mix_end h = (rw (listed-none ws at h) at M.same)
+  mix_end h = rw (listed_short left h) at M.same
 
-  module _ (h : at < length ws) where
-    pub mix-room : at + 1 < length ws
-    mix-room = (fits_head nonterminal_limit terminal_limit ws at h M.fits).0
-
-    pub mix-more : {k x : ℕ} → k ≡ get_or ws at 0 → x ≡ get_or ws (at + 1) 0 → Mixing ws start ((sum * 211 + (k * 32 + x)) % 65536) (at + 2)
-    unfolding mixed
-    mix-more {k} {x} ek ex =
-        let r = fits_head nonterminal_limit terminal_limit ws at h M.fits in
-        let number : symbol_number (symbol_of_kind (get_or ws at 0) (get_or ws (at + 1) 0)) ≡ k * 32 + x = symbol_number_lem (get_or ws at 0) (get_or ws (at + 1) 0) (symbol_range nonterminal_limit terminal_limit (get_or ws at 0) (get_or ws (at + 1) 0) r.1.0).0 ∙ rw (ek, ex) in
-        record {
-          below = omega (arith, r.0);
-          small = omega arith;
-          fits = r.1.1;
-          same = sym (ap (mixed sum) (listed-step ws at r.0) ∙ ap (λ (z : ℕ). mixed ((sum * 211 + z) % 65536) (listed (drop (at + 2) ws))) number) ∙ M.same;
-        }
+  pub mix-more : (two rest : List ℕ) → left ≡ two ++ rest → length two ≡ 2 → {k x : ℕ} → k ≡ get_or two 0 0 → x ≡ get_or two 1 0
+      → Mixing ws start ((sum * 211 + (k * 32 + x)) % 65536) rest
+  unfolding mixed
+  mix-more two rest e l {k} {x} ek ex =
+      let f = sym (pair_fits nonterminal_limit terminal_limit left two rest e l) ∙ M.fits in
+      let number : symbol_number (symbol_of_kind (get_or two 0 0) (get_or two 1 0)) ≡ k * 32 + x = symbol_number_lem (get_or two 0 0) (get_or two 1 0) (symbol_range nonterminal_limit terminal_limit (get_or two 0 0) (get_or two 1 0) (and_left _ _ f)).0 ∙ rw (ek, ex) in
+      record {
+        small = omega arith;
+        fits = and_right (symbol_is_fit nonterminal_limit terminal_limit (get_or two 0 0) (get_or two 1 0)) _ f;
+        same = sym (ap (mixed sum) (pair_listed left two rest e l) ∙ ap (λ (z : ℕ). mixed ((sum * 211 + z) % 65536) (listed rest)) number) ∙ M.same;
+      }
 
 -- the label's words that `bucket_of` mixes, and what it gives
 pub words_fit_lem : (g : List ℕ) (m : ℕ) (v : EdgeValue) → Packed g m → v.production < m → {ws : List ℕ} → ws ≡ symbol_words g v.production → list_is_fit nonterminal_limit terminal_limit ws ≡ true

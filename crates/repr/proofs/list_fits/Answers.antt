@@ -1,18 +1,12 @@
-use Rattle.std.proofs.Common.{◌≡◌, ◌+◌, ◌*◌, sym, ◌∙◌, arith}
-use Rattle.repr.proofs.Listed.{fits-none, odd_unfit, fits-bad, fits_good}
+use Rattle.std.proofs.Common.{sym, ne_eqb, ◌∙◌, rules, refl, ap, length, arith}
+use Rattle.repr.specs.Listed.{list_is_fit}
+use Rattle.repr.proofs.Listed.{odd_unfit}
+use Rattle.repr.proofs.Chunks.{all_fit}
 use Rattle.repr.proofs.list_fits.Goals as goal
 
-pub returns-then-list-ne0 : goal.returns-then-list-ne0
-returns-then-list-ne0 c = sym (odd_unfit _ _ _ c.if-list-ne0.true)
+pub returns-then-list-eq0 : goal.returns-then-list-eq0
+returns-then-list-eq0 c = let r = c.all.ensures.ran in
+    all_fit _ _ c.args.n c.args.t (λ x b q k. (search rules, search rules)) r.0 c.chunks_exact.result r.3.0 c.all.new.self r.1 _ r.2 c.all.result refl c.chunks_exact.ensures.size (omega (arith, ap length c.chunks_exact.ensures.rest)) r.3.1 r.3.2 r.4 r.5 ∙ ap (list_is_fit c.args.n c.args.t) c.chunks_exact.ensures.rest
 
-pub loop-i-preserved : goal.loop-i-preserved
-loop-i-preserved c =
-    let two : 2 * (c.loop-i.i + 1) ≡ 2 * c.loop-i.i + 2 = omega arith in
-    rw two (sym (fits_good _ _ _ (2 * c.loop-i.i) (omega arith) _ _ c.word-kind.ensures.0 c.word-number.ensures.0 (sym c.if-not-symbol_fits.ensures)) ∙ c.loop-i.invariant)
-
-pub returns-then-not-symbol_fits : goal.returns-then-not-symbol_fits
-returns-then-not-symbol_fits c =
-    sym (fits-bad _ _ _ (2 * c.loop-i.i) (omega arith) _ _ c.word-kind.ensures.0 c.word-number.ensures.0 (sym c.if-not-symbol_fits.ensures)) ∙ c.loop-i.invariant
-
-pub returns : goal.returns
-returns c = sym (fits-none _ _ _ (2 * c.loop-i.i) (omega arith)) ∙ c.loop-i.invariant
+pub returns-else-list-eq0 : goal.returns-else-list-eq0
+returns-else-list-eq0 c = ne_eqb _ _ c.if-list-eq0.false ∙ sym (odd_unfit _ _ _ c.if-list-eq0.false)

@@ -1,11 +1,12 @@
+use Rattle.std.proofs.Common.{arith}
 use Rattle.repr.proofs.Listed.{kind_zero, kind_one, kind_other}
 use Rattle.repr.proofs.symbol_fits.Goals as goal
 
-pub returns-then-kind-eq0 : goal.returns-then-kind-eq0
-returns-then-kind-eq0 c = kind_zero _ _ _ _ c.if-kind-eq0.true
+pub returns-in-0 : goal.returns-in-0
+returns-in-0 c = kind_zero _ _ _ _ c.in-0.is
 
-pub returns-then-kind-eq1 : goal.returns-then-kind-eq1
-returns-then-kind-eq1 c = kind_one _ _ _ _ c.if-kind-eq1.true
+pub returns-in-1 : goal.returns-in-1
+returns-in-1 c = kind_one _ _ _ _ c.in-1.is
 
-pub returns : goal.returns
-returns c = kind_other _ _ _ _ c.if-kind-eq0.false c.if-kind-eq1.false
+pub returns-in_default : goal.returns-in_default
+returns-in_default c = kind_other _ _ _ _ (λ e. omega arith) (λ e. omega arith)

@@ -1,19 +1,20 @@
-use Rattle.std.proofs.Common.{◌≡◌, ◌+◌, ◌*◌, refl, arith}
-use Rattle.trace_graph.proofs.Buckets.{mix_end, mix-room, mix-more}
-use Rattle.repr.specs.Sizes.{nonterminal_limit, terminal_limit}
-use Rattle.repr.proofs.Parts.{length-listed}
+use Rattle.std.proofs.Common.{◌∙◌, refl, arith}
+use Rattle.trace_graph.proofs.Buckets.{mix_end, mix-more}
 use Rattle.trace_graph.proofs.mix.Goals as goal
 
-pub loop-i-init : goal.loop-i-init
-loop-i-init c = record { below = omega arith; small = c.requires.0; fits = c.requires.1; same = refl }
+pub loop-symbol-init : goal.loop-symbol-init
+loop-symbol-init c =
+    let all = c.chunks_exact-symbol-items.ensures in
+    rw (c.into_iter-symbol-iterator.ensures.into_iter_gives, all.rest, all.size) (record { two = refl; mixing = record { small = c.requires.0; fits = c.requires.1; same = refl } })
 
-pub word-number-requires : goal.word-number-requires
-word-number-requires c = mix-room c.loop-i.invariant (omega arith)
-
-pub loop-i-preserved : goal.loop-i-preserved
-loop-i-preserved c = let next : 2 * (c.loop-i.i + 1) ≡ 2 * c.loop-i.i + 2 = omega arith in
-    rw next (mix-more c.loop-i.invariant (omega arith) c.word-kind.ensures.0 c.word-number.ensures.0)
+pub loop-symbol-preserved : goal.loop-symbol-preserved
+loop-symbol-preserved c =
+    let s = c.in-Some.ensures.steps in
+    let I = c.loop-symbol.invariant in
+    record { two = s.0 ∙ I.two; mixing = mix-more I.mixing _ _ s.1.0 (s.1.1 ∙ I.two) c.word.ensures.0 c.word-in-loop-symbol.ensures.0 }
 
 pub returns : goal.returns
-returns c = let M = c.loop-i.invariant in
-    let even = length-listed nonterminal_limit terminal_limit c.args.list.now c.requires.1 in (mix_end M (omega arith), M.small)
+returns c =
+    let s = c.in-None.ensures.steps in
+    let I = c.loop-symbol.invariant in
+    (mix_end I.mixing (omega (arith, s.1.0, I.two)), I.mixing.small)

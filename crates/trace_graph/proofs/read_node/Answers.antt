@@ -2,4 +2,4 @@ use Rattle.trace_graph.proofs.Words.{node_made}
 use Rattle.trace_graph.proofs.read_node.Goals as goal
 
 pub returns : goal.returns
-returns c = node_made c.args.graph.now c.args.at c.word-kind.result c.word-number.result c.word-index.result c.word-kind.ensures.0 c.word-number.ensures.0 c.word-index.ensures.0
+returns c = node_made c.args.graph.now c.args.at c.word.result c.word-2.result c.word-3.result c.word.ensures.0 c.word-2.ensures.0 c.word-3.ensures.0

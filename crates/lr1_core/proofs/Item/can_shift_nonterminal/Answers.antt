@@ -1,11 +1,12 @@
-use mathlib.Core.Path.{ap, ◌∙◌}
-use Rattle.std.specs.Prelude.{ℕ, eqb}
-use Rattle.lr1_core.proofs.Cursor.{code_is, code_never}
-use native.Mathlib.Omega.{arith}
+use Rattle.std.proofs.Common.{sym}
+use Rattle.lr1_core.proofs.Items.{shifts_none, shifts_this, shifts_no_terminal}
 use Rattle.lr1_core.proofs.Item.can_shift_nonterminal.Goals as goal
 
-pub returns-then-nonterminal-ge-LIMIT : goal.returns-then-nonterminal-ge-LIMIT
-returns-then-nonterminal-ge-LIMIT c = code_never _ _ _ _ _ c.args.grammar.packed c.requires c.if-nonterminal-ge-LIMIT.true
+pub returns-in-Some-Nonterminal : goal.returns-in-Some-Nonterminal
+returns-in-Some-Nonterminal c = sym (shifts_this _ _ _ _ _ (rw c.in-Some-Nonterminal.field-0-is at c.in-Some-Nonterminal.ensures).0)
 
-pub returns : goal.returns
-returns c = ap (λ (n : ℕ). eqb n c.args.nonterminal) c.cursor.ensures ∙ code_is _ _ _ _ (omega (arith, c.if-nonterminal-ge-LIMIT.false))
+pub returns-in-Some-Terminal : goal.returns-in-Some-Terminal
+returns-in-Some-Terminal c = sym (shifts_no_terminal _ _ _ _ _ (rw c.in-Some-Terminal.field-0-is at c.in-Some-Terminal.ensures).0)
+
+pub returns-in-None : goal.returns-in-None
+returns-in-None c = sym (shifts_none _ _ _ c.in-None.ensures)

@@ -1,25 +1,21 @@
-use Rattle.std.proofs.Common.{ap, arith, length}
-use Rattle.repr.proofs.FrontSymbol.{listed_short, fits_behind, listed-nonterminal, listed-terminal}
+use Rattle.std.proofs.Common.{◌∷◌, sym, ap, ◌∙◌, length, take, drop, ◌-◌, arith}
+use Rattle.repr.specs.Meaning.{Symbol}
+use Rattle.repr.specs.Listed.{listed}
+use Rattle.repr.proofs.FrontSymbol.{listed_short, listed_two, fits_behind}
 use Rattle.repr.proofs.SymbolIterIterator.next.Goals as goal
 
-pub returns-then-words-lt2-clause-steps : goal.returns-then-words-lt2-clause-steps
-returns-then-words-lt2-clause-steps c = let e = listed_short c.args.self.now.words.now c.if-words-lt2.true in (e, e)
-
 pub invariant_of-self : goal.invariant_of-self
-invariant_of-self c = record { fits = fits_behind c.args.self.now.words.now c.if-words-lt2.false c.args.self.now.fits }
+invariant_of-self c = record { fits = fits_behind c.args.self.now.words.now c.in-len2-up.len_at_least c.args.self.now.fits }
 
-pub returns-then-words-eq0-clause-steps : goal.returns-then-words-eq0-clause-steps
-returns-then-words-eq0-clause-steps c = listed-nonterminal c.args.self.now.words.now c.if-words-lt2.false c.if-words-eq0.true
+pub returns-in_default-clause-steps : goal.returns-in_default-clause-steps
+returns-in_default-clause-steps c = let e = listed_short c.args.self.now.words.now c.in_default.len_below in (e, e)
 
-pub returns-then-words-eq0-clause-goes : goal.returns-then-words-eq0-clause-goes
-returns-then-words-eq0-clause-goes c =
-    let fewer = ap length (listed-nonterminal c.args.self.now.words.now c.if-words-lt2.false c.if-words-eq0.true) in
-    record { on = λ f. (tt, tt, omega (arith, fewer)); keeps = tt; rests = λ f. tt }
+pub returns-in-len2-up-clause-steps : goal.returns-in-len2-up-clause-steps
+returns-in-len2-up-clause-steps c =
+    let ws = c.args.self.now.words.now in
+    listed_two ws c.in-len2-up.len_at_least ∙ ap (λ (s : Symbol). s ∷ listed (take (length ws - 2) (drop 2 ws))) (sym c.of.ensures)
 
-pub returns-else-words-eq0-clause-steps : goal.returns-else-words-eq0-clause-steps
-returns-else-words-eq0-clause-steps c = listed-terminal c.args.self.now.words.now c.if-words-lt2.false c.if-words-eq0.false
-
-pub returns-else-words-eq0-clause-goes : goal.returns-else-words-eq0-clause-goes
-returns-else-words-eq0-clause-goes c =
-    let fewer = ap length (listed-terminal c.args.self.now.words.now c.if-words-lt2.false c.if-words-eq0.false) in
+pub returns-in-len2-up-clause-goes : goal.returns-in-len2-up-clause-goes
+returns-in-len2-up-clause-goes c =
+    let fewer = ap length (listed_two c.args.self.now.words.now c.in-len2-up.len_at_least) in
     record { on = λ f. (tt, tt, omega (arith, fewer)); keeps = tt; rests = λ f. tt }

@@ -1,4 +1,4 @@
-use Rattle.std.proofs.Common.{◌≡◌, ◌+◌, ◌*◌, ◌≤◌, length}
+use Rattle.std.proofs.Common.{◌≡◌, ◌+◌, ◌*◌, length}
 use Rattle.repr.specs.Sizes.{index_limit, item_flags}
 use Rattle.repr.specs.Meaning.{Table}
 use Rattle.repr.specs.Packed.{productions_in}
@@ -6,5 +6,5 @@ use Rattle.trace.specs.Ends.{EndsTo}
 use Rattle.trace.proofs.reduce.production_ends.Given as goal
 
 abbrev pub invariant-loop-index : goal.invariant-loop-index
-invariant-loop-index l = (length l.ends ≡ item_flags) × (l.index ≤ l.past)
+invariant-loop-index l = (length l.ends ≡ item_flags)
     × ((T : Table) → T.productions ≡ productions_in l.grammar.words.now l.grammar.productions → T.terminals ≡ l.sets.terminals → EndsTo T l.initial.ends (l.production * index_limit) → EndsTo T l.ends (l.production * index_limit + l.index))

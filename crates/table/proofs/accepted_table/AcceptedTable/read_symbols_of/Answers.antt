@@ -1,23 +1,13 @@
 use lib.ListN.{length-set}
-use Rattle.table.proofs.Indexes.{count_asked}
 use Rattle.table.proofs.Written.{production_place-asked, stored_room, few_words, production_stored}
 use native.Mathlib.Omega.{arith}
 use Rattle.table.proofs.accepted_table.AcceptedTable.read_symbols_of.Goals as goal
 
-pub word-nonterminals-requires : goal.word-nonterminals-requires
-word-nonterminals-requires c = count_asked _ c.args.self.accepted _ (omega arith)
-
-pub word-states-requires : goal.word-states-requires
-word-states-requires c = count_asked _ c.args.self.accepted _ (omega arith)
-
-pub overflow_add-record-3 : goal.overflow_add-record-3
-overflow_add-record-3 c = omega (arith, (production_place-asked _ c.args.self.accepted _ _ _ 0 c.word-nonterminals.ensures.0 c.word-states.ensures.0 c.requires.1 (omega arith)).0)
-
 pub word-start-requires : goal.word-start-requires
-word-start-requires c = production_place-asked _ c.args.self.accepted _ _ _ _ c.word-nonterminals.ensures.0 c.word-states.ensures.0 c.requires.1 (omega arith)
+word-start-requires c = production_place-asked _ c.args.self.accepted _ _ _ c.production_record-record.ensures c.requires.1 (omega arith)
 
 pub word-end-requires : goal.word-end-requires
-word-end-requires c = production_place-asked _ c.args.self.accepted _ _ _ _ c.word-nonterminals.ensures.0 c.word-states.ensures.0 c.requires.1 (omega arith)
+word-end-requires c = production_place-asked _ c.args.self.accepted _ _ _ c.production_record-record.ensures c.requires.1 (omega arith)
 
 pub overflow_mul-base : goal.overflow_mul-base
 overflow_mul-base c = omega (arith, few_words _ c.args.self.accepted _ c.requires.1)
@@ -50,4 +40,4 @@ pub bounds-grammar-base-3 : goal.bounds-grammar-base-3
 bounds-grammar-base-3 c = let r = stored_room _ c.args.self.accepted _ c.requires.1 _ _ _ c.requires.0 c.store_symbols-count.ensures in simp length-set (omega arith)
 
 pub returns : goal.returns
-returns c = production_stored _ c.args.self.accepted _ c.requires.1 _ _ _ _ _ _ _ c.requires.0 c.word-nonterminals.ensures.0 c.word-states.ensures.0 c.word-start.ensures.0 c.word-end.ensures.0 c.store_symbols-count.ensures
+returns c = production_stored _ c.args.self.accepted _ c.requires.1 _ _ _ _ _ _ c.requires.0 c.production_record-record.ensures c.word-start.ensures.0 c.word-end.ensures.0 c.store_symbols-count.ensures

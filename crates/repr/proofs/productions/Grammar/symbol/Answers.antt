@@ -1,0 +1,35 @@
+use Rattle.std.proofs.Common.{suc, ◌∷◌, drop, sym, ap, ◌∙◌, arith}
+use Rattle.repr.specs.Meaning.{Symbol}
+use Rattle.repr.specs.Listed.{listed}
+use Rattle.repr.specs.Packed.{symbol_words}
+use Rattle.repr.proofs.Parts.{symbol_here, symbols_long}
+use Rattle.repr.proofs.FrontSymbol.{here_in_range}
+use Rattle.repr.proofs.productions.Grammar.symbol.Goals as goal
+
+pub overflow_mul-at-2 : goal.overflow_mul-at-2
+overflow_mul-at-2 c = let P = c.args.self.packed in let s = P.short _ c.requires.within in let l = symbols_long _ _ _ P c.requires.within in omega arith
+
+pub overflow_add-at-2 : goal.overflow_add-at-2
+overflow_add-at-2 c = let P = c.args.self.packed in let s = P.short _ c.requires.within in let l = symbols_long _ _ _ P c.requires.within in omega arith
+
+pub offset_bounds-words-at : goal.offset_bounds-words-at
+offset_bounds-words-at c = let P = c.args.self.packed in let s = P.short _ c.requires.within in let l = symbols_long _ _ _ P c.requires.within in omega arith
+
+pub bounds-words-at : goal.bounds-words-at
+bounds-words-at c = let P = c.args.self.packed in let s = P.short _ c.requires.within in let l = symbols_long _ _ _ P c.requires.within in omega arith
+
+pub overflow_add-at-3 : goal.overflow_add-at-3
+overflow_add-at-3 c = let P = c.args.self.packed in let s = P.short _ c.requires.within in let l = symbols_long _ _ _ P c.requires.within in omega arith
+
+pub offset_bounds-words-at-2 : goal.offset_bounds-words-at-2
+offset_bounds-words-at-2 c = let P = c.args.self.packed in let s = P.short _ c.requires.within in let l = symbols_long _ _ _ P c.requires.within in omega arith
+
+pub bounds-words-at-2 : goal.bounds-words-at-2
+bounds-words-at-2 c = let P = c.args.self.packed in let s = P.short _ c.requires.within in let l = symbols_long _ _ _ P c.requires.within in omega arith
+
+pub returns : goal.returns
+returns c =
+    let P = c.args.self.packed in
+    let rest = drop (suc c.args.index) (listed (symbol_words c.args.self.words.now c.args.production)) in
+    let e = symbol_here _ _ _ _ P c.requires.within c.requires.index_in_bounds ∙ ap (λ (s : Symbol). s ∷ rest) (sym c.of.ensures) in
+    record { is = e; in_range = here_in_range _ _ _ _ _ _ P c.requires.within e }
