@@ -1,5 +1,5 @@
 -- Laws of the writing of record 0 and the areas. Assumes nothing.
-use mathlib.Core.Path.{◌≡◌, refl, sym, ap, ◌∙◌}
+use mathlib.Core.Path.{◌≡◌, sym, ap, ◌∙◌}
 use mathlib.Core.List.{List, [], ◌∷◌, map}
 use Prim.Native.Nat.{ℕ, suc, ◌+◌, ◌*◌, ◌≤◌, ◌<◌, min}
 use native.Mathlib.Omega.{arith}
@@ -224,10 +224,7 @@ module _ (t : List ℕ) (e : check_of t ≡ Accepted) where
     -- the head of its symbols, and how many they are
     pub productions-first : (o from : ℕ) → o ≡ productions_at (meaning t) → from ≡ word_at t (o + p) 1
         → (symbols_from t from ≡ (production_at (meaning t) p).symbols) × SymbolIndex t from
-    productions-first o from eo ef =
-        let b = begins (meaning t) in
-        let r : o + p ≡ 1 + word_at t 0 0 + word_at t 0 2 + p = omega (arith, many_nonterminals t, many_states t) in
-        first-symbol_is t e (word_at t 0 0) (word_at t 0 2) p from refl refl h (ef ∙ ap (λ (k : ℕ). word_at t k 1) r)
+    productions-first o from eo ef = first-symbol_is t e p (o + p) from (omega (arith, eo, same_productions t)) h ef
 
     pub productions-symbols : (from count : ℕ) → symbols_from t from ≡ (production_at (meaning t) p).symbols → count ≡ min (length (records_from t from)) record_limit
         → (count ≡ length (production_at (meaning t) p).symbols) × (count ≤ record_limit)
