@@ -15,15 +15,18 @@ ghost use Rattle.compaction.specs.Outcome.{compact_of};
 ghost use Rattle.compaction.specs.Passes.{Headed, HeadsMarked, Numbering, Numbers, Numbered, Closing, Followed, Freed};
 
 use repr::Refusal;
-use table::{AcceptedTable, put, word};
+use table::{AcceptedTable, RECORDS, put, word};
 use table_check::areas::{Areas, survey};
 use table_check::check;
 
-// Records of a table at most.
-const LIMIT: usize = 8192;
-
-// Marks the heads in word k of the records from `first` up to and without `past`.
-fn mark_heads(table: AcceptedTable, first: usize, past: usize, k: usize, numbers: &mut [u16; LIMIT])
+// Marks the heads in word k of the records from `first` up to and without `past`. Both words of a state are heads of chains, so that k is a word's number here and in `follow_heads`, which reads marks where this writes them.
+fn mark_heads(
+    table: AcceptedTable,
+    first: usize,
+    past: usize,
+    k: usize,
+    numbers: &mut [u16; RECORDS],
+)
     requires first_le_past { (first ≤ past) × ((past ≤ loose table.words.now) × ((k < 4) × Headed table.words.now first past k)) }
     ensures { HeadsMarked table.entry.words.now first past k numbers.old numbers.new }
 {
@@ -36,7 +39,7 @@ fn mark_heads(table: AcceptedTable, first: usize, past: usize, k: usize, numbers
 }
 
 // Reached record r gets its new number, and its next is marked.
-fn number_one(table: AcceptedTable, r: usize, number: usize, numbers: &mut [u16; LIMIT])
+fn number_one(table: AcceptedTable, r: usize, number: usize, numbers: &mut [u16; RECORDS])
     requires r_value { (reached table.words.now r ≡ true) × (number ≤ record_limit) }
     ensures { Numbered table.entry.words.now numbers.old numbers.new r number }
 {
@@ -47,34 +50,23 @@ fn number_one(table: AcceptedTable, r: usize, number: usize, numbers: &mut [u16;
     numbers[r] = number as u16;
 }
 
-// One ascending pass over the loose records, whose heads are marked: a next index is larger than its record's number, so each is marked by the time it is met.
-// The number of records that are left.
-fn number_loose(table: AcceptedTable, a: Areas, numbers: &mut [u16; LIMIT]) -> usize
-    requires areas { AreasOf table.words.now a }
-    requires numbering { Numbering table.words.now numbers.old (loose table.words.now) }
-    ensures { (result ≡ count_of table.entry.words.now) × Numbers table.entry.words.now numbers.new }
-{
-    let from = a.loose_at;
-    let past = a.records;
-    let mut count = from;
-    for r in from..past {
-        if numbers[r] != 0 {
-            number_one(table, r, count, numbers);
-            count += 1;
-        }
-    }
-    count
-}
-
-// The new number of each reached record. The number of records that are left.
-fn number_reached(table: AcceptedTable, a: Areas, numbers: &mut [u16; LIMIT]) -> usize
+// The new number of each reached record; the number of records that are left. One ascending pass over the loose records, whose heads are marked: a next index is larger than its record's
+// number, so each is marked by the time it is met.
+fn number_reached(table: AcceptedTable, a: Areas, numbers: &mut [u16; RECORDS]) -> usize
     requires areas { AreasOf table.words.now a }
     requires numbers_value { numbers.old ≡ replicate record_limit 0 }
     ensures { (result ≡ count_of table.entry.words.now) × Numbers table.entry.words.now numbers.new }
 {
     mark_heads(table, a.states_at, a.productions_at, 0, numbers);
     mark_heads(table, a.states_at, a.loose_at, 1, numbers);
-    number_loose(table, a, numbers)
+    let mut count = a.loose_at;
+    for r in a.loose_at..a.records {
+        if numbers[r] != 0 {
+            number_one(table, r, count, numbers);
+            count += 1;
+        }
+    }
+    count
 }
 
 // Moves record r to the place of its new number, its next index following.
@@ -98,9 +90,7 @@ fn move_down(table: &mut [u16], a: Areas, numbers: &[u16])
     requires numbers { Numbers table.old numbers.now }
     ensures { Closing table.old table.new (records table.old) }
 {
-    let from = a.loose_at;
-    let past = a.records;
-    for r in from..past {
+    for r in a.loose_at..a.records {
         let number = numbers[r] as usize;
         if number != 0 {
             move_record(table, r, number, numbers);
@@ -136,10 +126,9 @@ fn close_gaps(table: &mut [u16]) -> usize
     requires { check_of table.old ≡ Accepted }
     ensures { (result ≡ count_of table.old) × (table.new ≡ compacted table.old) }
 {
-    let accepted = AcceptedTable { words: table };
-    let a = survey(accepted.words);
-    let mut numbers = [0u16; LIMIT];
-    let count = number_reached(accepted, a, &mut numbers);
+    let a = survey(table);
+    let mut numbers = [0u16; RECORDS];
+    let count = number_reached(AcceptedTable { words: table }, a, &mut numbers);
     move_down(table, a, &numbers);
     follow_heads(table, a.states_at, a.productions_at, 0, &numbers);
     follow_heads(table, a.states_at, a.loose_at, 1, &numbers);

@@ -1,8 +1,9 @@
 -- The ways through the exported functions, one law each. Assumes nothing.
-use Rattle.std.proofs.Common.{◌≡◌, ℕ, Bool, List, sym, ap, ◌∙◌}
+use Rattle.std.proofs.Common.{◌≡◌, ℕ, Bool, List, Option, None, Some, refl, sym, ap, ◌∙◌}
+use Rattle.std.proofs.lemmas.Option.{none-some, same_Some}
 use Rattle.std.specs.Prelude.{Result, Ok, Err}
 use Rattle.repr.specs.declared.refusals.Refusal.{Refusal}
-use Rattle.repr.specs.Reply.{Reply, answered, refused, reply_of, number_of, place_of}
+use Rattle.repr.specs.Reply.{Reply, reply_of, number_of, place_of}
 use Rattle.spelling.specs.Outcome.{Outcome as Spelling}
 use Rattle.compaction.specs.Outcome.{Outcome as Compaction}
 use Rattle.builder.specs.Outcome.{Left as Building}
@@ -17,18 +18,29 @@ use Rattle.first.specs.declared.Answer.{Answer}
 use Rattle.lr1.specs.Entries.{walk_of}
 use Rattle.lr1.specs.Edges.{EdgeOutcome, edge_outcome}
 use Rattle.tracer.specs.Outcome.{Outcome, outcome}
-use Rattle.lihvemur.specs.Exported.{HandedOut, numbers, check_numbers, spell_numbers, respell_numbers, compact_numbers, build_numbers, built_numbers, read_numbers, reading_numbers, write_numbers, writing_numbers, set_numbers, followed_numbers, answer_numbers, first_numbers, state_numbers, walk_numbers, add_numbers, edge_numbers, trace_numbers, backtrace_numbers}
-use Rattle.table.specs.Checked.{Checked, Accepted, Refused}
+use Rattle.lihvemur.specs.Exported.{Told, HandedOut, numbers, check_numbers, spell_numbers, respell_numbers, compact_numbers, build_numbers, built_numbers, read_numbers, reading_numbers, write_numbers, writing_numbers, set_numbers, followed_numbers, answer_numbers, first_numbers, state_numbers, walk_numbers, add_numbers, edge_numbers, trace_numbers, backtrace_numbers}
+use Rattle.table.specs.Checked.{Checked, checked_of}
 
--- c: what the entry answers, d: what its contract says it is
-module _ (c d : Checked) (e : c ≡ d) where
-  pub check_accepted : c ≡ Accepted → numbers 0 0 ≡ check_numbers d
-  unfolding check_numbers
-  check_accepted h = rw (sym e ∙ h)
+-- what `told` answers of each
+module _ {A : Type 0} where
+  pub told_some : (r : Result A Refusal) (a p : ℕ) (f : Option A) → Told r a p f → (x : A) → f ≡ Some x → (r ≡ Ok x) × ((a ≡ 0) × (p ≡ 0))
+  told_some (Ok y) a p f h x q = (ap Ok (same_Some y x (sym h.2 ∙ q)), (h.0, h.1))
+  told_some (Err e) a p f h x q = absurd (none-some x (sym h.2 ∙ q))
 
-  pub check_refused : (n r : ℕ) → c ≡ Refused n r → numbers n r ≡ check_numbers d
-  unfolding check_numbers
-  check_refused n r h = rw (sym e ∙ h)
+  -- what is told of a refusal, whatever it is written into
+  pub told_none : {X : Type 0} (r : Result A Refusal) (a p : ℕ) (f : Option A) → Told r a p f → f ≡ None → (g : ℕ → ℕ → X) (y : X) → ((e : Refusal) → r ≡ Err e → g (number_of e) (place_of e) ≡ y) → g a p ≡ y
+  told_none (Ok x) a p f h n g y k = absurd (none-some x (sym n ∙ h.2))
+  told_none (Err e) a p f h n g y k = rw (h.0, h.1) (k e refl)
+
+pub handed_none : (r : Result ℕ Refusal) (a p : ℕ) (f : Option ℕ) (n : ℕ) → Told r a p f → f ≡ None → HandedOut r a p n n
+handed_none (Ok x) a p f n h q = absurd (none-some x (sym q ∙ h.2))
+handed_none (Err e) a p f n h q = (h.0, h.1, refl)
+
+-- a checked table, of which nothing is handed out
+pub told_checked : {A : Type 0} (r : Result A Refusal) (a p : ℕ) (f : Option A) → Told r a p f → (d : Checked) → checked_of r ≡ d → numbers a p ≡ check_numbers d
+unfolding check_numbers
+told_checked (Ok y) a p f h d e = rw (h.0, h.1, ← e)
+told_checked (Err x) a p f h d e = rw (h.0, h.1, ← e)
 
 -- a count handed out
 module _ (a p old n : ℕ) (words : List ℕ) where
@@ -42,6 +54,11 @@ module _ (a p old n : ℕ) (words : List ℕ) where
   compact_handed (Ok k) h d e = rw (h.0, h.1, h.2, ← e)
   compact_handed (Err x) h d e = rw (h.0, h.1, h.2, ← e)
 
+  pub write_handed : (r : Result ℕ Refusal) → HandedOut r a p old n → (d : WriteOutcome) → record { answer = reply_of r; text = words } ≡ d → write_numbers a p n words ≡ writing_numbers old d
+  unfolding writing_numbers
+  write_handed (Ok k) h d e = rw (h.0, h.1, h.2, ← e)
+  write_handed (Err x) h d e = rw (h.0, h.1, h.2, ← e)
+
   pub edge_handed : (r : Result ℕ Refusal) → HandedOut r a p old n → (d : EdgeOutcome) → edge_outcome (reply_of r) words ≡ d → add_numbers a p n words ≡ edge_numbers old d
   unfolding edge_numbers
   edge_handed (Ok k) h d e = rw (h.0, h.1, h.2, ← e)
@@ -52,56 +69,48 @@ module _ (a p old n : ℕ) (words : List ℕ) where
   trace_handed (Ok k) h scratch d e = rw (h.0, h.1, h.2, ← e)
   trace_handed (Err x) h scratch d e = rw (h.0, h.1, h.2, ← e)
 
-module _ (records count : ℕ) (c : Reply Built) (ss os cs : List ℕ) (d : Building) (e : record { answer = c; scratch = ss; out = os; conflicts = cs } ≡ d) where
-  pub build-made : (b : Built) → c ≡ answered b → build_numbers 0 0 b.records b.conflicts ss os cs ≡ built_numbers records count d
+-- r: what the entry answers, of which (a, p, f) is told; d: what its contract says it is
+module _ (records count : ℕ) (r : Result Built Refusal) (a p : ℕ) (f : Option Built) (h : Told r a p f) (ss os cs : List ℕ) (d : Building) (e : record { answer = reply_of r; scratch = ss; out = os; conflicts = cs } ≡ d) where
+  pub build-made : (b : Built) → f ≡ Some b → build_numbers a p b.records b.conflicts ss os cs ≡ built_numbers records count d
   unfolding built_numbers
-  build-made b h = rw (← e, h)
+  build-made b q = let T = told_some r a p f h b q in rw (T.1.0, T.1.1, ← e, T.0)
 
-  pub build-refused : (n r : ℕ) → c ≡ refused n r → build_numbers n r records count ss os cs ≡ built_numbers records count d
+  pub build-refused : f ≡ None → build_numbers a p records count ss os cs ≡ built_numbers records count d
   unfolding built_numbers
-  build-refused n r h = rw (← e, h)
+  build-refused q = told_none r a p f h q (λ n k. build_numbers n k records count ss os cs) _ (λ x z. rw (← e, z))
 
-module _ (records count start : ℕ) (c : Reply Reading) (ws vs : List ℕ) (d : ReadOutcome) (e : record { answer = c; table = ws; places = vs } ≡ d) where
-  pub read_made : (r : Reading) → c ≡ answered r → read_numbers 0 0 r.records r.places r.start.0 ws vs ≡ reading_numbers records count start d
+module _ (records count start : ℕ) (r : Result Reading Refusal) (a p : ℕ) (f : Option Reading) (h : Told r a p f) (ws vs : List ℕ) (d : ReadOutcome) (e : record { answer = reply_of r; table = ws; places = vs } ≡ d) where
+  pub read_made : (b : Reading) → f ≡ Some b → read_numbers a p b.records b.places b.start.0 ws vs ≡ reading_numbers records count start d
   unfolding reading_numbers
-  read_made r h = rw (← e, h)
+  read_made b q = let T = told_some r a p f h b q in rw (T.1.0, T.1.1, ← e, T.0)
 
-  pub read-refused : (n r : ℕ) → c ≡ refused n r → read_numbers n r records count start ws vs ≡ reading_numbers records count start d
+  pub read-refused : f ≡ None → read_numbers a p records count start ws vs ≡ reading_numbers records count start d
   unfolding reading_numbers
-  read-refused n r h = rw (← e, h)
+  read-refused q = told_none r a p f h q (λ n k. read_numbers n k records count start ws vs) _ (λ x z. rw (← e, z))
 
-module _ (old : ℕ) (c : Reply ℕ) (text : List ℕ) (d : WriteOutcome) (e : record { answer = c; text = text } ≡ d) where
-  pub write-made : (written : ℕ) → c ≡ answered written → write_numbers 0 0 written text ≡ writing_numbers old d
-  unfolding writing_numbers
-  write-made written h = rw (← e, h)
-
-  pub write-refused : (n r : ℕ) → c ≡ refused n r → write_numbers n r old text ≡ writing_numbers old d
-  unfolding writing_numbers
-  write-refused n r h = rw (← e, h)
-
-module _ (old : ℕ) (was : Bool) (c d : Reply Answer) (e : c ≡ d) where
-  pub first_answered : (a : Answer) → c ≡ answered a → answer_numbers 0 0 a.tokens.0 a.nullable ≡ first_numbers old was d
+module _ (old : ℕ) (was : Bool) (r : Result Answer Refusal) (a p : ℕ) (f : Option Answer) (h : Told r a p f) (d : Reply Answer) (e : reply_of r ≡ d) where
+  pub first_answered : (b : Answer) → f ≡ Some b → answer_numbers a p b.tokens.0 b.nullable ≡ first_numbers old was d
   unfolding first_numbers
-  first_answered a h = rw (sym e ∙ h)
+  first_answered b q = let T = told_some r a p f h b q in rw (T.1.0, T.1.1, ← e, T.0)
 
-  pub first-refused : (n r : ℕ) → c ≡ refused n r → answer_numbers n r old was ≡ first_numbers old was d
+  pub first-refused : f ≡ None → answer_numbers a p old was ≡ first_numbers old was d
   unfolding first_numbers
-  first-refused n r h = rw (sym e ∙ h)
+  first-refused q = told_none r a p f h q (λ n k. answer_numbers n k old was) _ (λ x z. rw (← e, z))
 
-module _ (old : ℕ) (c d : Reply TokenSet) (e : c ≡ d) where
-  pub followed-tokens : (s : TokenSet) → c ≡ answered s → set_numbers 0 0 s.0 ≡ followed_numbers old d
+module _ (old : ℕ) (r : Result TokenSet Refusal) (a p : ℕ) (f : Option TokenSet) (h : Told r a p f) (d : Reply TokenSet) (e : reply_of r ≡ d) where
+  pub followed-tokens : (s : TokenSet) → f ≡ Some s → set_numbers a p s.0 ≡ followed_numbers old d
   unfolding followed_numbers
-  followed-tokens s h = rw (sym e ∙ h)
+  followed-tokens s q = let T = told_some r a p f h s q in rw (T.1.0, T.1.1, ← e, T.0)
 
-  pub followed-refused : (n r : ℕ) → c ≡ refused n r → set_numbers n r old ≡ followed_numbers old d
+  pub followed-refused : f ≡ None → set_numbers a p old ≡ followed_numbers old d
   unfolding followed_numbers
-  followed-refused n r h = rw (sym e ∙ h)
+  followed-refused q = told_none r a p f h q (λ n k. set_numbers n k old) _ (λ x z. rw (← e, z))
 
-module _ (old : List ℕ) (c : Result StateSet Refusal) (d : Reply (List ℕ)) (e : walk_of c ≡ d) where
-  pub walk-states : (s : StateSet) → c ≡ Ok s → state_numbers 0 0 (states_in s.low s.high) ≡ walk_numbers old d
+module _ (old : List ℕ) (r : Result StateSet Refusal) (a p : ℕ) (f : Option StateSet) (h : Told r a p f) (d : Reply (List ℕ)) (e : walk_of r ≡ d) where
+  pub walk-states : (s : StateSet) → f ≡ Some s → state_numbers a p (states_in s.low s.high) ≡ walk_numbers old d
   unfolding walk_numbers walk_of
-  walk-states s h = rw (sym e ∙ ap walk_of h)
+  walk-states s q = let T = told_some r a p f h s q in rw (T.1.0, T.1.1, ← e, T.0)
 
-  pub walk_refused : (r : Refusal) → c ≡ Err r → state_numbers (number_of r) (place_of r) old ≡ walk_numbers old d
+  pub walk_refused : f ≡ None → state_numbers a p old ≡ walk_numbers old d
   unfolding walk_numbers walk_of
-  walk_refused r h = rw (sym e ∙ ap walk_of h)
+  walk_refused q = told_none r a p f h q (λ n k. state_numbers n k old) _ (λ x z. rw (← e, z))

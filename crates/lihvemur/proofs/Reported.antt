@@ -1,7 +1,7 @@
 -- The ways through the exported functions of classifying, one law each. Assumes nothing.
-use Rattle.std.proofs.Common.{◌≡◌, ℕ, ◌+◌, ◌*◌, ◌<◌, ◌≤◌, leb, List, [], ◌∷◌, ◌++◌, length, drop, sym, refl, ap, ◌∙◌, arith, le-leb}
+use Rattle.std.proofs.Common.{◌≡◌, ◌⊎◌, inl, inr, ℕ, ◌+◌, ◌*◌, ◌<◌, ◌≤◌, leb, List, [], ◌∷◌, ◌++◌, length, drop, sym, refl, ap, ◌∙◌, arith, le-leb}
 use borrow.Author.Tests.{lt-leb}
-use Rattle.std.specs.Prelude.{Result, Ok, Err}
+use Rattle.std.specs.Prelude.{Option, None, Some, Result, Ok, Err}
 use Rattle.repr.specs.Sizes.{entry_room, entries_room}
 use Rattle.repr.specs.Lists.{joined}
 use Rattle.repr.specs.Reply.{number_of, place_of}
@@ -9,7 +9,7 @@ use Rattle.repr.specs.declared.NonterminalString.{NonterminalString}
 use Rattle.repr.specs.declared.refusals.Refusal.{Refusal}
 use Rattle.error.specs.declared.Conflict.{Conflict}
 use Rattle.error.specs.declared.Class.{Class}
-use Rattle.error.specs.declared.Class.TheVariants.{Precedence, SuggestInline, SuggestQuestion, AmbiguousReduction}
+use Rattle.error.specs.declared.Class.TheVariants.{Naive, Ambiguity, Precedence, SuggestInline, SuggestQuestion, AmbiguousReduction, InsufficientLookahead}
 use Rattle.error.specs.declared.Classification.{Classification}
 use Rattle.error.specs.Numbers.{number_of_class, values_of_class, reading_of}
 use Rattle.error.specs.Outcome.{Outcome, outcome}
@@ -18,6 +18,8 @@ use Rattle.chooser.specs.declared.chosen.Chosen.{Chosen}
 use Rattle.entries.specs.Entries.{entries_in, entry_words}
 use Rattle.entries.proofs.Laws.{entries_long}
 use Rattle.chooser.specs.Choosing.{choice_in}
+use Rattle.lihvemur.specs.Exported.{Told}
+use Rattle.lihvemur.proofs.Numbered.{told_some, told_none}
 use Rattle.lihvemur.specs.Reports.{packed, class_numbers, classified_numbers, choice_numbers, chosen_numbers, short_numbers, choose_numbers, part_numbers, observed_numbers}
 use Rattle.report.specs.declared.Part.{Part}
 use Rattle.report.specs.declared.Part.TheVariants.{Action, Reduce}
@@ -28,13 +30,16 @@ unfolding packed
 pack_is a b c d = omega arith
 
 module _ (k : Class) (r : ℕ) where
-  pub values_precedence : (n : NonterminalString) → k ≡ Precedence n → r ≡ packed (n.0 ∷ 0 ∷ 0 ∷ 0 ∷ []) → r ≡ packed (values_of_class k)
+  pub values_none : (k ≡ Naive) ⊎ ((k ≡ Ambiguity) ⊎ (k ≡ InsufficientLookahead)) → 0 ≡ packed (values_of_class k)
   unfolding packed values_of_class
-  values_precedence n e h = rw e h
+  values_none (inl e) = rw e
+  values_none (inr (inl e)) = rw e
+  values_none (inr (inr e)) = rw e
 
-  pub values_inline : (n : NonterminalString) → k ≡ SuggestInline n → r ≡ packed (n.0 ∷ 0 ∷ 0 ∷ 0 ∷ []) → r ≡ packed (values_of_class k)
+  pub values_one : (n : NonterminalString) → (k ≡ Precedence n) ⊎ (k ≡ SuggestInline n) → r ≡ packed (n.0 ∷ 0 ∷ 0 ∷ 0 ∷ []) → r ≡ packed (values_of_class k)
   unfolding packed values_of_class
-  values_inline n e h = rw e h
+  values_one n (inl e) h = rw e h
+  values_one n (inr e) h = rw e h
 
   pub values_question : (n : NonterminalString) (x y : ℕ) → k ≡ SuggestQuestion n x y → r ≡ packed (n.0 ∷ x ∷ y ∷ 0 ∷ []) → r ≡ packed (values_of_class k)
   unfolding packed values_of_class
@@ -44,19 +49,19 @@ module _ (k : Class) (r : ℕ) where
   unfolding packed values_of_class
   values_reduction a b c d e h = rw e h
 
--- ---- classify; o: what its contract says is the outcome
-module _ (class values m n : ℕ) (c : Result Classification Refusal) (scratch action reduce : List ℕ) (o : Outcome) (e : outcome (reading_of c) scratch action reduce ≡ o) where
+-- ---- classify: c is what it answers, of which (x, y, f) is told, o what its contract says is the outcome
+module _ (class values m n : ℕ) (c : Result Classification Refusal) (x y : ℕ) (f : Option Classification) (h : Told c x y f) (scratch action reduce : List ℕ) (o : Outcome) (e : outcome (reading_of c) scratch action reduce ≡ o) where
   abbrev from : Result Classification Refusal → Outcome
   from q = outcome (reading_of q) scratch action reduce
 
-  pub classify_class : (k : Classification) (number own : ℕ) → c ≡ Ok k → number ≡ number_of_class k.class → own ≡ packed (values_of_class k.class)
-      → class_numbers 0 0 number own k.action_trials k.reduce_trials scratch action reduce ≡ classified_numbers class values m n o
+  pub classify_class : (k : Classification) (number own : ℕ) → f ≡ Some k → number ≡ number_of_class k.class → own ≡ packed (values_of_class k.class)
+      → class_numbers x y number own k.action_trials k.reduce_trials scratch action reduce ≡ classified_numbers class values m n o
   unfolding classified_numbers reading_of
-  classify_class k number own h en ev = rw (sym e ∙ ap from h, en, ev)
+  classify_class k number own q en ev = let T = told_some c x y f h k q in rw (T.1.0, T.1.1, sym e ∙ ap from T.0, en, ev)
 
-  pub classify-refused : (x : Refusal) → c ≡ Err x → class_numbers (number_of x) (place_of x) class values m n scratch action reduce ≡ classified_numbers class values m n o
+  pub classify-refused : f ≡ None → class_numbers x y class values m n scratch action reduce ≡ classified_numbers class values m n o
   unfolding classified_numbers reading_of
-  classify-refused x h = rw (sym e ∙ ap from h)
+  classify-refused q = told_none c x y f h q (λ v w. class_numbers v w class values m n scratch action reduce) _ (λ z k. rw (sym e ∙ ap from k))
 
 -- ---- choose
 none : (l : List ℕ) → length l ≡ 0 → l ≡ []
@@ -69,16 +74,17 @@ module _ (count : ℕ) (old t : List ℕ) (c : Conflict) (tokens : ℕ) (scratch
     unfolding choose_numbers
     long_is q h = rw (le-leb _ _ long, choose_numbers) (ap (chosen_numbers count old) (ap (λ (x : Result Chosen Refusal). choosing (choice_in x) last) (sym h) ∙ e))
 
-    pub choose-refused : (x : Refusal) → r ≡ Err x → choice_numbers (number_of x) (place_of x) count old last ≡ choose_numbers count old t c tokens scratch
+    pub choose-refused : (x y : ℕ) (f : Option Chosen) → Told r x y f → f ≡ None → choice_numbers x y count old last ≡ choose_numbers count old t c tokens scratch
     unfolding chosen_numbers choice_in
-    choose-refused x h = long_is (Err x) h
+    choose-refused x y f h q = told_none r x y f h q (λ v w. choice_numbers v w count old last) _ (λ z k. long_is (Err z) k)
 
-    pub choose-chosen : (k : Chosen) → r ≡ Ok k → (to : List ℕ) → to ≡ joined entry_words (entries_in k.entries k.count) ++ drop (entry_room * k.count) old → choice_numbers 0 0 k.count to last ≡ choose_numbers count old t c tokens scratch
+    pub choose-chosen : (x y : ℕ) (f : Option Chosen) → Told r x y f → (k : Chosen) → f ≡ Some k → (to : List ℕ) → to ≡ joined entry_words (entries_in k.entries k.count) ++ drop (entry_room * k.count) old → choice_numbers x y k.count to last ≡ choose_numbers count old t c tokens scratch
     unfolding chosen_numbers choice_in
-    choose-chosen k h to w =
+    choose-chosen x y f h k q to w =
+        let T = told_some r x y f h k q in
         let l : k.count ≡ length (entries_in k.entries k.count) = sym (entries_long k.entries k.count) in
-        let f : to ≡ joined entry_words (entries_in k.entries k.count) ++ drop (entry_room * length (entries_in k.entries k.count)) old = w ∙ ap (λ (i : ℕ). joined entry_words (entries_in k.entries k.count) ++ drop (entry_room * i) old) l in
-        (λ j. choice_numbers 0 0 (l j) (f j) last) ∙ long_is (Ok k) h
+        let g : to ≡ joined entry_words (entries_in k.entries k.count) ++ drop (entry_room * length (entries_in k.entries k.count)) old = w ∙ ap (λ (i : ℕ). joined entry_words (entries_in k.entries k.count) ++ drop (entry_room * i) old) l in
+        rw (T.1.0, T.1.1) ((λ j. choice_numbers 0 0 (l j) (g j) last) ∙ long_is (Ok k) T.0)
 
   module _ (short : length old < entries_room) (empty : length last ≡ 0) (e : choosing (choice_in r) last ≡ choose_of t c tokens []) where
     short_is : (q : Result Chosen Refusal) → r ≡ q → short_numbers count old (last ++ scratch) (choosing (choice_in q) last) ≡ choose_numbers count old t c tokens scratch

@@ -1,6 +1,6 @@
 -- What the exported functions answer in numbers: 0, or the refusal, whose place stands behind `place`. A number behind another reference changes only with answer 0; lent words are those that the entry leaves.
 -- Assumes nothing: these are definitions.
-use Rattle.std.specs.Prelude.{◌≡◌, ℕ, Bool, List, Result, MatchResult}
+use Rattle.std.specs.Prelude.{◌≡◌, ℕ, Bool, List, Option, None, Some, Result, MatchResult}
 use Rattle.repr.specs.declared.refusals.Refusal.{Refusal}
 use Rattle.repr.specs.Reply.{answered, refused, Reply, number_of, place_of}
 use Rattle.spelling.specs.Outcome.{Outcome as Spelling}
@@ -21,6 +21,10 @@ pub data Numbers : Type 0 where
 unfoldable pub check_numbers : Checked → Numbers
 check_numbers Accepted = numbers 0 0
 check_numbers (Refused n r) = numbers n r
+
+-- what is answered, or a refusal (a, p) and nothing
+abbrev pub Told : {A : Type 0} → Result A Refusal → ℕ → ℕ → Option A → Type 0
+Told r a p f = MatchResult r (λ x. (a ≡ 0) × (p ≡ 0) × (f ≡ Some x)) (λ e. (a ≡ number_of e) × (p ≡ place_of e) × (f ≡ None))
 
 -- a count handed out, or a refusal (a, p): the count is as it was
 abbrev pub HandedOut : Result ℕ Refusal → ℕ → ℕ → ℕ → ℕ → Type 0

@@ -6,7 +6,7 @@
 pub mod conflicts;
 pub mod listings;
 
-ghost use Rattle.std.specs.Prelude.{◌≡◌, ◌++◌, MatchResult};
+ghost use Rattle.std.specs.Prelude.{◌≡◌, ◌++◌};
 ghost use Rattle.repr.specs.Reply.{number_of, place_of};
 ghost use Rattle.table.specs.Refusals.{check_of};
 ghost use Rattle.spelling.specs.Outcome.{respell_of};
@@ -18,7 +18,7 @@ ghost use Rattle.state_graph.specs.States.{states_in};
 ghost use Rattle.lr1.specs.Entries.{first0_of, first1_of, trace_back_of};
 ghost use Rattle.lr1.specs.Edges.{add_edge_of};
 ghost use Rattle.tracer.specs.Outcome.{shift_of, reduce_of};
-ghost use Rattle.lihvemur.specs.Exported.{HandedOut, numbers, check_numbers, spell_numbers, respell_numbers, compact_numbers, build_numbers, built_numbers, read_numbers, reading_numbers, write_numbers, writing_numbers, set_numbers, followed_numbers, answer_numbers, first_numbers, state_numbers, walk_numbers, add_numbers, edge_numbers, trace_numbers, backtrace_numbers};
+ghost use Rattle.lihvemur.specs.Exported.{Told, HandedOut, numbers, check_numbers, spell_numbers, respell_numbers, compact_numbers, build_numbers, built_numbers, read_numbers, reading_numbers, write_numbers, writing_numbers, set_numbers, followed_numbers, answer_numbers, first_numbers, state_numbers, walk_numbers, add_numbers, edge_numbers, trace_numbers, backtrace_numbers};
 
 use lookahead::TokenSet;
 use repr::{ProductionIndex, Refusal};
@@ -36,7 +36,7 @@ fn refuse(refusal: Refusal, place: &mut u16) -> u16
 
 // 0 and what is answered, to be written behind its references; or a refusal in numbers and nothing.
 fn told<T>(answer: Result<T, Refusal>, place: &mut u16) -> (u16, Option<T>)
-    ensures { MatchResult answer (λ x. (result.0 ≡ 0) × (place.new ≡ 0) × (result.1 ≡ Some x)) (λ e. (result.0 ≡ number_of e) × (place.new ≡ place_of e) × (result.1 ≡ None)) }
+    ensures { Told answer result.0 place.new result.1 }
 {
     match answer {
         Ok(found) => {
@@ -194,7 +194,10 @@ pub fn lihvemur_trace_back_joined(
 ) -> u16
     ensures { state_numbers result place.new (states_in low.new high.new) ≡ walk_numbers (states_in low.old high.old) (trace_back_of table.now state (xs.now ++ ys.now)) }
 {
-    let (number, states) = told(lr1::trace_back_joined(table, StateIndex(state), xs, ys), place);
+    let (number, states) = told(
+        lr1::trace_back_joined(table, StateIndex(state), xs, ys),
+        place,
+    );
     if let Some(states) = states {
         *low = states.low;
         *high = states.high;

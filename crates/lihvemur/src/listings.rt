@@ -76,9 +76,12 @@ pub fn lihvemur_advance(
     *count = l.count;
     *is_open = l.is_open;
     let (number, advanced) = told(answer, place);
+    let Some(advanced) = advanced else {
+        return number;
+    };
     match advanced {
-        Some(Advanced::End) => END,
-        _ => number,
+        Advanced::Example => number,
+        Advanced::End => END,
     }
 }
 

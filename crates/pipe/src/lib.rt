@@ -9,7 +9,6 @@ use little::{decode, encode};
 use repr::Refusal;
 use std::io;
 use streams::{Failed, read, read_some, write};
-
 pub use table::RECORDS;
 
 // The most words of a table, and their bytes.

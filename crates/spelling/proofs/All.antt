@@ -12,11 +12,10 @@ use Rattle.repr.proofs.Lists.{cases}
 use Rattle.table.specs.Checked.{Accepted}
 use Rattle.table.specs.Decoded.{meaning}
 use Rattle.table.specs.Refusals.{check_of}
-use Rattle.table.specs.Index.{CountsOf}
 use Rattle.table.specs.Quads.{put_quad}
 use Rattle.table.proofs.Quads.{put_long}
 use Rattle.spelling.specs.Spelled.{chains_from, quads, size_of, symbol_lists, item_lists, edge_lists, states_at, productions_at, symbols_at, items_place, edges_at, records_of}
-use Rattle.spelling.specs.Grown.{Grown, Room, Stands, same_quad, chains_of, Heads, SizesOf}
+use Rattle.spelling.specs.Grown.{Grown, Room, Stands, same_quad, chains_of, SizesOf}
 use Rattle.spelling.specs.Outcome.{room_for, written_of}
 use Rattle.spelling.proofs.Places.{begins}
 use Rattle.spelling.proofs.Grown.{grown-join, grown-all}
@@ -36,10 +35,10 @@ all_grown T g g₁ g₂ g₃ g₄ g₅ g₆ g₇ b c d G₁ G₂ G₃ G₄ P Q R
     (grown-join T g g₄ g₅ 0 (symbols_at T) (items_place T)
     (grown-join T g g₃ g₄ 0 (productions_at T) (symbols_at T) (grown-join T g g₂ g₃ 0 (states_at T) (productions_at T) (grown-join T g g₁ g₂ 0 1 (states_at T) G₁ G₂) G₃) G₄) G₅) G₆) G₇
 
--- a region, as `write_chains` asks for it and leaves it
+-- a region, as `write_chains` leaves it
 module _ (t g : List ℕ) (first past k o n begin : ℕ) (S : Source t first past k o n) (eb : begin ≡ o) where
-  pub source_asks : Room (meaning t) g → Heads t first past k × (Stands (quads (meaning t)) begin (chains_from (same_quad t) begin (chains_of t first past k)) × Room (meaning t) g)
-  source_asks R = (S.heads, (rw eb S.stands, R))
+  pub source_stands : Stands (quads (meaning t)) begin (chains_from (same_quad t) begin (chains_of t first past k))
+  source_stands = rw eb S.stands
 
   pub source-done : (g' : List ℕ) (r : ℕ) → (r ≡ begin + size_of (chains_of t first past k)) × Grown (meaning t) g g' begin r → (r ≡ o + n) × Grown (meaning t) g g' o r
   source-done g' r p = (omega (arith, p.0, S.size), rw eb at p.1)
@@ -58,39 +57,29 @@ put_same g g' r a b c d e = ap length e ∙ put_long g r a b c d
 counted : (x m n a : ℕ) → x ≡ min m (suc record_limit) → a ≡ min n ((suc record_limit) - x) → x + a ≡ min (m + n) (suc record_limit)
 counted x m n a e f = omega arith
 
-uncounted : (x m : ℕ) → x ≡ m → x ≤ 289 → x ≡ min m (suc record_limit)
+uncounted : (x m : ℕ) → x ≡ m → x ≤ suc record_limit → x ≡ min m (suc record_limit)
 uncounted x m e h = omega arith
 
--- the regions by the counts, as the code asks for them
-module _ (t : List ℕ) (e : check_of t ≡ Accepted) (n u s p : ℕ) (C : CountsOf (meaning t) n u s p) where
-  pub areas : (1 + n ≡ states_at (meaning t)) × ((1 + n + s ≡ productions_at (meaning t)) × (1 + n + s + p ≡ symbols_at (meaning t)))
-  areas = let b = begins (meaning t) in (omega (arith, C.nonterminals), (omega (arith, C.nonterminals, C.states), omega (arith, C.nonterminals, C.states, C.productions)))
+-- the regions by their numbers, as the code asks for them
+module _ (t : List ℕ) (e : check_of t ≡ Accepted) (first past k : ℕ) where
+  pub symbols-source : (first ≡ productions_at (meaning t)) × ((past ≡ symbols_at (meaning t)) × (k ≡ 1)) → Source t first past k (symbols_at (meaning t)) (size_of (symbol_lists (meaning t)))
+  symbols-source h = rw (h.0, h.1.0, h.1.1) (symbol-source t e)
 
-  pub few_areas : 1 + n + s + p ≤ 289
-  few_areas = omega (arith, C.nonterminals, C.states, C.productions, C.fits.few_nonterminals, C.fits.few_states, C.fits.few_productions_lem)
+  pub items_source : (first ≡ states_at (meaning t)) × ((past ≡ productions_at (meaning t)) × (k ≡ 0)) → Source t first past k (items_place (meaning t)) (size_of (item_lists (meaning t)))
+  items_source h = rw (h.0, h.1.0, h.1.1) (item-source t e)
 
-  pub symbols-source : (y : ℕ) → y ≡ symbols_at (meaning t) → Source t (1 + n + s) y 1 (symbols_at (meaning t)) (size_of (symbol_lists (meaning t)))
-  symbols-source y ey = rw (ey, areas.1.0) (symbol-source t e)
+  pub edges_source : (first ≡ states_at (meaning t)) × ((past ≡ productions_at (meaning t)) × (k ≡ 1)) → Source t first past k (edges_at (meaning t)) (size_of (edge_lists (meaning t)))
+  edges_source h = rw (h.0, h.1.0, h.1.1) (edge_source t e)
 
-  pub items_source : Source t (1 + n) (1 + n + s) 0 (items_place (meaning t)) (size_of (item_lists (meaning t)))
-  items_source = rw (areas.1.0, areas.0) (item-source t e)
-
-  pub edges_source : Source t (1 + n) (1 + n + s) 1 (edges_at (meaning t)) (size_of (edge_lists (meaning t)))
-  edges_source = rw (areas.1.0, areas.0) (edge_source t e)
-
-  pub sizes_of : (a b c : ℕ) → a ≡ min (size_of (chains_of t (1 + n + s) (1 + n + s + p) 1)) ((suc record_limit) - (1 + n + s + p))
-      → b ≡ min (size_of (chains_of t (1 + n) (1 + n + s) 0)) ((suc record_limit) - (1 + n + s + p + a)) → c ≡ min (size_of (chains_of t (1 + n) (1 + n + s) 1)) ((suc record_limit) - (1 + n + s + p + a + b))
-      → SizesOf (meaning t) (1 + n + s + p) (1 + n + s + p + a) (1 + n + s + p + a + b) (1 + n + s + p + a + b + c)
-  sizes_of a b c ea eb ec =
-      let T = meaning t in
-      let k = begins T in
-      let f = few_areas in
-      let y : 1 + n + s + p ≡ symbols_at T = areas.1.1 in
-      let i : 1 + n + s + p + a ≡ min (items_place T) (suc record_limit) =
-      counted (1 + n + s + p) (symbols_at T) (size_of (symbol_lists T)) a (uncounted (1 + n + s + p) (symbols_at T) y f) (rw (symbols-source (1 + n + s + p) y).size ea) ∙ rw k.items in
-      let d : 1 + n + s + p + a + b ≡ min (edges_at T) (suc record_limit) = counted (1 + n + s + p + a) (items_place T) (size_of (item_lists T)) b i (rw items_source.size eb) ∙ rw k.edges in
-      let r : 1 + n + s + p + a + b + c ≡ min (records_of T) (suc record_limit) = counted (1 + n + s + p + a + b) (edges_at T) (size_of (edge_lists T)) c d (rw edges_source.size ec) ∙ rw k.past in
-      record { symbols = y; items = i; edges = d; records = r }
+pub sizes_of : (T : Table) (y x z w a b c : ℕ) → y ≡ symbols_at T → y ≤ suc record_limit → size_of (symbol_lists T) ≡ x → size_of (item_lists T) ≡ z → size_of (edge_lists T) ≡ w
+    → a ≡ min x ((suc record_limit) - y) → b ≡ min z ((suc record_limit) - (y + a)) → c ≡ min w ((suc record_limit) - (y + a + b))
+    → SizesOf T y (y + a) (y + a + b) (y + a + b + c)
+sizes_of T y x z w a b c ey f ex ez ew ea eb ec =
+    let k = begins T in
+    let i : y + a ≡ min (items_place T) (suc record_limit) = counted y (symbols_at T) (size_of (symbol_lists T)) a (uncounted y (symbols_at T) ey f) (rw ex ea) ∙ rw k.items in
+    let d : y + a + b ≡ min (edges_at T) (suc record_limit) = counted (y + a) (items_place T) (size_of (item_lists T)) b i (rw ez eb) ∙ rw k.edges in
+    let r : y + a + b + c ≡ min (records_of T) (suc record_limit) = counted (y + a + b) (edges_at T) (size_of (edge_lists T)) c d (rw ew ec) ∙ rw k.past in
+    record { symbols = ey; items = i; edges = d; records = r }
 
 module _ (T : Table) (g : List ℕ) where
   none : room_for T g ≡ false → record { answer = refused 17 0; out = g } ≡ written_of T g

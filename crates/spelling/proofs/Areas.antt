@@ -15,9 +15,12 @@ use Rattle.table.specs.Decoded.{symbol_at, item_at, edge_at, meaning, production
 use Rattle.table.specs.Refusals.{check_of}
 use Rattle.table.specs.Index.{CountsOf}
 use Rattle.table.specs.Written.{symbols_from, SymbolIndex}
-use Rattle.table.proofs.Accepted.{accepts, areas_of}
+use Rattle.table.proofs.Accepted.{accepts, areas_of, rows_first}
+use Rattle.table_check.specs.Marks.{Sized}
 use Rattle.table.proofs.Decoding.{many_nonterminals, many_states, many_productions, production_at_lem}
-use Rattle.table.proofs.Indexes.{inside, Asked}
+use Rattle.table.proofs.Indexes.{counts, inside, Asked}
+use Rattle.table_check.specs.Known.{AreasOf}
+use Rattle.table_check.specs.declared.areas.Areas.{Areas}
 use Rattle.table.proofs.Written.{first-symbol_is}
 use Rattle.table.specs.Quads.{put_quad}
 use Rattle.spelling.specs.Spelled.{head_of, place_of, symbol_lists, item_lists, edge_lists, states_at, productions_at, symbols_at, items_place, edges_at, count_quad, nonterminal_quad, state_quad, production_quad}
@@ -49,6 +52,27 @@ counted-whole t g xs from count e h ec =
 
 pub inside_is : (i n m : ℕ) → i < n → n ≡ m → i < m
 inside_is i n m h e = omega arith
+
+pub sized : (t : List ℕ) → check_of t ≡ Accepted → Sized t
+sized t e = let r = rows_first t e in record { words = r.0; counts = r.1 }
+
+-- the areas of the table are those of its spelling, and its counts are what it means
+pub record Spelled (t : List ℕ) (a : Areas) : Type 0 where
+  pub counts : CountsOf (meaning t) a.nonterminals a.terminals a.states a.productions
+  pub states : a.states_at ≡ states_at (meaning t)
+  pub productions : a.productions_at ≡ productions_at (meaning t)
+  pub symbols : a.loose_at ≡ symbols_at (meaning t)
+
+pub spelled : (t : List ℕ) (a : Areas) → check_of t ≡ Accepted → AreasOf t a → Spelled t a
+spelled t a e A =
+    let C = counts t e a.nonterminals a.terminals a.states a.productions A.nonterminals A.terminals A.states A.productions in
+    let b = begins (meaning t) in
+    record {
+      counts = C;
+      states = omega (arith, C.nonterminals, A.states_at, (areas_of t).state_area_lem, A.nonterminals);
+      productions = omega (arith, C.nonterminals, C.states, A.productions_is, A.states_at, (areas_of t).state_area_lem, A.nonterminals);
+      symbols = omega (arith, C.nonterminals, C.states, C.productions, A.loose_is, A.productions_is, A.states_at, (areas_of t).state_area_lem, A.nonterminals);
+    }
 
 -- record 0
 pub counts-put : (T : Table) (g g' : List ℕ) (n u s p : ℕ) → CountsOf T n u s p → Room T g → g' ≡ put_quad g 0 n u s p → Grown T g g' 0 1
@@ -111,8 +135,8 @@ module _ (t : List ℕ) where
       }
 
   module _ (g₀ g : List ℕ) (s i d : ℕ) (h : s < length (meaning t).states) (W : States t g₀ g s i d) where
-    pub states-room : (n : ℕ) → n ≡ length (meaning t).nonterminals → (1 + n + s < record_limit) × ((1 + n + s) * 4 + 3 < length g)
-    states-room n en = let b = begins (meaning t) in (omega (arith, W.room.few), omega (arith, W.room.long))
+    pub states-room : (o : ℕ) → o ≡ states_at (meaning t) → (o + s < record_limit) × ((o + s) * 4 + 3 < length g)
+    states-room o eo = let b = begins (meaning t) in (omega (arith, W.room.few), omega (arith, W.room.long))
 
     pub states_heads : (i ≤ record_limit) × (d ≤ record_limit)
     states_heads =
@@ -130,15 +154,15 @@ module _ (t : List ℕ) where
     unfolding edges_from records_from
     states_edges from count e ec = counted-whole t (edge_at t) (state_at (meaning t) s).edges from count e (omega (arith, (edges_within (meaning t) s h).before, W.room.few)) ec
 
-    pub states-step : (g' : List ℕ) (n ci ce hi he : ℕ) → n ≡ length (meaning t).nonterminals
+    pub states-step : (g' : List ℕ) (o ci ce hi he : ℕ) → o ≡ states_at (meaning t)
         → (ci ≡ length (state_at (meaning t) s).items) × (ci ≤ record_limit) → (ce ≡ length (state_at (meaning t) s).edges) × (ce ≤ record_limit)
         → (ci ≡ 0 → hi ≡ 0) × ((ci ≡ 0 → ⊥) → hi ≡ i) → (ce ≡ 0 → he ≡ 0) × ((ce ≡ 0 → ⊥) → he ≡ d)
-        → g' ≡ put_quad g (1 + n + s) hi he 0 0 → States t g₀ g' (s + 1) (i + ci) (d + ce)
+        → g' ≡ put_quad g (o + s) hi he 0 0 → States t g₀ g' (s + 1) (i + ci) (d + ce)
     unfolding state_quad
-    states-step g' n ci ce hi he en pi pe qi qe eg =
+    states-step g' o ci ce hi he eo pi pe qi qe eg =
         let T = meaning t in
         let b = begins T in
-        let r : 1 + n + s ≡ states_at T + s = omega arith in
+        let r : o + s ≡ states_at T + s = omega arith in
         let q = state_at_lem T s h in
         let z : states_at T + s + 1 ≡ states_at T + (s + 1) = omega arith in
         let y : suc s ≡ s + 1 = omega arith in
@@ -148,7 +172,7 @@ module _ (t : List ℕ) where
         let ne = place-next (edges_at T) (edge_lists T) s (omega (arith, length_mapped (λ (q : State). q.edges) T.states)) in
         let li = ap length (item_list T s h) in
         let le = ap length (edge_list T s h) in
-        let room = states-room n en in
+        let room = states-room o eo in
         let G : Grown T g g' (states_at T + s) (states_at T + s + 1) =
         rw (eg, r) (grown-put T g (states_at T + s) hi he 0 0 (rw r at room.1)
         (wi ∙ sym (spell_next T (states_at T + s) (state_quad T s) q)) (we ∙ sym (spell_one T (states_at T + s) (state_quad T s) q))
@@ -183,40 +207,41 @@ module _ (t : List ℕ) (e : check_of t ≡ Accepted) where
       }
 
   -- its record may be read
-  pub productions-asked : (n s p k : ℕ) → n ≡ length (meaning t).nonterminals → s ≡ length (meaning t).states → p < length (meaning t).productions → k < 4 → Asked t (1 + n + s + p) k
-  productions-asked n s p k en es h l =
+  pub productions-asked : (o p k : ℕ) → o ≡ productions_at (meaning t) → p < length (meaning t).productions → k < 4 → Asked t (o + p) k
+  productions-asked o p k eo h l =
       let A = accepts t e in
       let a = areas_of t in
-      inside t A (1 + n + s + p) k (omega (arith, many_nonterminals t, many_states t, many_productions t, A.areas)) l
+      let b = begins (meaning t) in
+      inside t A (o + p) k (omega (arith, many_nonterminals t, many_states t, many_productions t, A.areas)) l
 
   module _ (g₀ g : List ℕ) (p y : ℕ) (h : p < length (meaning t).productions) (W : Productions t g₀ g p y) where
-    pub productions-room : (n s : ℕ) → n ≡ length (meaning t).nonterminals → s ≡ length (meaning t).states → (1 + n + s + p < record_limit) × ((1 + n + s + p) * 4 + 3 < length g)
-    productions-room n s en es = let b = begins (meaning t) in (omega (arith, W.room.few), omega (arith, W.room.long))
+    pub productions-room : (o : ℕ) → o ≡ productions_at (meaning t) → (o + p < record_limit) × ((o + p) * 4 + 3 < length g)
+    productions-room o eo = let b = begins (meaning t) in (omega (arith, W.room.few), omega (arith, W.room.long))
 
     pub productions-head : y ≤ record_limit
     productions-head = let w = symbols-within (meaning t) p h in omega (arith, W.symbols, w.before, W.room.few)
 
     -- the head of its symbols, and how many they are
-    pub productions-first : (n s from : ℕ) → n ≡ length (meaning t).nonterminals → s ≡ length (meaning t).states → from ≡ word_at t (1 + n + s + p) 1
+    pub productions-first : (o from : ℕ) → o ≡ productions_at (meaning t) → from ≡ word_at t (o + p) 1
         → (symbols_from t from ≡ (production_at (meaning t) p).symbols) × SymbolIndex t from
-    productions-first n s from en es ef = first-symbol_is t e n s p from (en ∙ many_nonterminals t) (es ∙ many_states t) h ef
+    productions-first o from eo ef = first-symbol_is t e p (o + p) from (omega (arith, eo, same_productions t)) h ef
 
     pub productions-symbols : (from count : ℕ) → symbols_from t from ≡ (production_at (meaning t) p).symbols → count ≡ min (length (records_from t from)) record_limit
         → (count ≡ length (production_at (meaning t) p).symbols) × (count ≤ record_limit)
     unfolding symbols_from records_from
     productions-symbols from count q ec = counted-whole t (symbol_at t) (production_at (meaning t) p).symbols from count q (omega (arith, (symbols-within (meaning t) p h).before, W.room.few)) ec
 
-    pub productions-step : (g' : List ℕ) (n s next c hy a z : ℕ) → n ≡ length (meaning t).nonterminals → s ≡ length (meaning t).states
-        → next ≡ word_at t (1 + n + s + p) 0 → a ≡ word_at t (1 + n + s + p) 2 → z ≡ word_at t (1 + n + s + p) 3
+    pub productions-step : (g' : List ℕ) (o next c hy a z : ℕ) → o ≡ productions_at (meaning t)
+        → next ≡ word_at t (o + p) 0 → a ≡ word_at t (o + p) 2 → z ≡ word_at t (o + p) 3
         → (c ≡ length (production_at (meaning t) p).symbols) × (c ≤ record_limit) → (c ≡ 0 → hy ≡ 0) × ((c ≡ 0 → ⊥) → hy ≡ y)
-        → g' ≡ put_quad g (1 + n + s + p) next hy a z → Productions t g₀ g' (p + 1) (y + c)
+        → g' ≡ put_quad g (o + p) next hy a z → Productions t g₀ g' (p + 1) (y + c)
     unfolding production_quad production_of
-    productions-step g' n s next c hy a z en es ew ea ez pc qc eg =
+    productions-step g' o next c hy a z eo ew ea ez pc qc eg =
         let T = meaning t in
         let b = begins T in
         let l : p < productions t = rw (many_productions t) at h in
-        let r : 1 + n + s + p ≡ productions_at T + p = omega arith in
-        let ar : 1 + n + s + p ≡ production_area t + p = omega (arith, same_productions t) in
+        let r : o + p ≡ productions_at T + p = omega arith in
+        let ar : o + p ≡ production_area t + p = omega (arith, same_productions t) in
         let q = production-quad T p h in
         let v : productions_at T + p + 1 ≡ productions_at T + (p + 1) = omega arith in
         let x : suc p ≡ p + 1 = omega arith in
@@ -226,7 +251,7 @@ module _ (t : List ℕ) (e : check_of t ≡ Accepted) where
         let nd : z ≡ (production_at T p).end = ez ∙ ap (λ (k : ℕ). word_at t k 3) ar ∙ sym (ap (λ (k : Production). k.end) (production_at_lem t p l)) in
         let ny = place-next (symbols_at T) (symbol_lists T) p (omega (arith, length_mapped (λ (q : Production). q.symbols) T.productions)) in
         let ly = ap length (symbol_list T p h) in
-        let room = productions-room n s en es in
+        let room = productions-room o eo in
         let G : Grown T g g' (productions_at T + p) (productions_at T + p + 1) =
         rw (eg, r) (grown-put T g (productions_at T + p) next hy a z (rw r at room.1)
         (nx ∙ sym (spell_next T (productions_at T + p) (production_quad T p) q)) (wy ∙ sym (spell_one T (productions_at T + p) (production_quad T p) q))

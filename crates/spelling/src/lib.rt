@@ -9,6 +9,7 @@ ghost use Rattle.table.specs.Decoded.{meaning};
 ghost use Rattle.table.specs.Checked.{Accepted};
 ghost use Rattle.table.specs.Refusals.{check_of};
 ghost use Rattle.spelling.specs.Spelled.{chain_from, chains_from, size_of, states_at, productions_at, symbols_at, items_place, edges_at, records_of, quads};
+ghost use Rattle.table_check.specs.Known.{AreasOf};
 ghost use Rattle.spelling.specs.Grown.{Grown, Room, Stands, records_from, same_quad, LooseIndex, chains_of, Heads, SizesOf};
 ghost use Rattle.spelling.specs.Outcome.{written_of, respell_of};
 
@@ -16,12 +17,11 @@ mod chain;
 
 use chain::RecordIter;
 use repr::Refusal;
-use table::{AcceptedTable, put, word};
+use table::{AcceptedTable, RECORDS, put, word};
+use table_check::areas::{Areas, survey};
 
-// Records of a table at most, and how far they are counted.
-const LIMIT: usize = 8192;
-
-const COUNTED: usize = LIMIT + 1;
+// How far records are counted: one more than a table may have.
+const COUNTED: usize = RECORDS + 1;
 
 // The next index of a record that is followed by the next one, or by none.
 pub fn next_of(next: usize, at: usize) -> usize
@@ -31,7 +31,14 @@ pub fn next_of(next: usize, at: usize) -> usize
     if next == 0 { 0 } else { at + 1 }
 }
 
-// Writes the records of a chain from record `begin` on, one behind the other, and returns the record behind them.
+// The head of a chain of `count` records that begins at record `at`.
+pub fn head_of(count: usize, at: usize) -> usize
+    ensures { (count ≡ 0 → result ≡ 0) × ((count ≡ 0 → ⊥) → result ≡ at) }
+{
+    if count == 0 { 0 } else { at }
+}
+
+// Writes the records of a chain from record `begin` on, one behind the other, and returns the record behind them. (Crate grammar_records writes symbols, which are no records yet.)
 fn write_chain(table: AcceptedTable, out: &mut [u16], head: usize, begin: usize) -> usize
     requires loose_index { LooseIndex table.words.now head × (Stands (quads (meaning table.words.now)) begin (chain_from (same_quad table.words.now) begin (records_from table.words.now head)) × Room (meaning table.words.now) out.old) }
     ensures { (result ≡ begin + length (records_from table.entry.words.now head)) × Grown (meaning table.entry.words.now) out.old out.new begin result }
@@ -41,26 +48,6 @@ fn write_chain(table: AcceptedTable, out: &mut [u16], head: usize, begin: usize)
         let follower = next_of(record.next, at);
         put(out, at, follower, record.one, record.two, record.three);
         at += 1;
-    }
-    at
-}
-
-// Writes the chains whose heads stand in word k of the records from `first` up to and without `past`, one behind the other from record `begin` on, and returns the record behind them.
-fn write_chains(
-    table: AcceptedTable,
-    out: &mut [u16],
-    first: usize,
-    past: usize,
-    k: usize,
-    begin: usize,
-) -> usize
-    requires heads { Heads table.words.now first past k × (Stands (quads (meaning table.words.now)) begin (chains_from (same_quad table.words.now) begin (chains_of table.words.now first past k)) × Room (meaning table.words.now) out.old) }
-    ensures { (result ≡ begin + size_of (chains_of table.entry.words.now first past k)) × Grown (meaning table.entry.words.now) out.old out.new begin result }
-{
-    let mut at = begin;
-    for holder in first..past {
-        let head = word(table.words, holder, k);
-        at = write_chain(table, out, head, at);
     }
     at
 }
@@ -80,146 +67,179 @@ fn count_chain(table: AcceptedTable, head: usize, most: usize) -> usize
     count
 }
 
-// How many records the chains of `write_chains` have, counted up to `most`: shared chains can be reached two million times over.
-fn count_chains(table: AcceptedTable, first: usize, past: usize, k: usize, most: usize) -> usize
-    requires heads { Heads table.words.now first past k × (most ≤ suc record_limit) }
-    ensures { result ≡ min (size_of (chains_of table.entry.words.now first past k)) most }
-{
-    let mut total: usize = 0;
-    for holder in first..past {
-        let head = word(table.words, holder, k);
-        total += count_chain(table, head, most - total);
-    }
-    total
+// A region of loose records: the chains whose heads stand in word k of the records from `first` up to and without `past`.
+#[derive(Clone, Copy)]
+struct Region {
+    first: usize,
+    past: usize,
+    k: usize,
 }
 
-// The head of a chain of `count` records that begins at record `at`.
-pub fn head_of(count: usize, at: usize) -> usize
-    ensures { (count ≡ 0 → result ≡ 0) × ((count ≡ 0 → ⊥) → result ≡ at) }
-{
-    if count == 0 { 0 } else { at }
-}
-
-// Writes the nonterminals: their heads are the table's.
-fn write_nonterminals(table: AcceptedTable, out: &mut [u16])
-    requires room { Room (meaning table.words.now) out.old }
-    ensures { Grown (meaning table.entry.words.now) out.old out.new 1 (states_at (meaning table.entry.words.now)) }
-{
-    let counts = table.counts();
-    let nonterminals = counts.nonterminals;
-    for n in 0..nonterminals {
-        let head = word(table.words, 1 + n, 0);
-        put(out, 1 + n, head, 0, 0, 0);
-    }
-}
-
-// Writes the states; their items begin at record `items`, their edges at record `edges`.
-fn write_states(table: AcceptedTable, out: &mut [u16], items: usize, edges: usize)
-    requires value { (items ≡ items_place (meaning table.words.now)) × ((edges ≡ edges_at (meaning table.words.now)) × Room (meaning table.words.now) out.old) }
-    ensures { Grown (meaning table.entry.words.now) out.old out.new (states_at (meaning table.entry.words.now)) (productions_at (meaning table.entry.words.now)) }
-{
-    let counts = table.counts();
-    let nonterminals = counts.nonterminals;
-    let states = counts.states;
-    let mut i = items;
-    let mut d = edges;
-    for s in 0..states {
-        let many_items = count_chain(table, table.first_item(s), LIMIT);
-        let many_edges = count_chain(table, table.first_edge(s), LIMIT);
-        let item_head = head_of(many_items, i);
-        let edge_head = head_of(many_edges, d);
-        put(out, 1 + nonterminals + s, item_head, edge_head, 0, 0);
-        i += many_items;
-        d += many_edges;
-    }
-}
-
-// Writes the productions: their next indexes and spans are the table's. Their symbols begin at record `symbols`.
-fn write_productions(table: AcceptedTable, out: &mut [u16], symbols: usize)
-    requires symbols_value { (symbols ≡ symbols_at (meaning table.words.now)) × Room (meaning table.words.now) out.old }
-    ensures { Grown (meaning table.entry.words.now) out.old out.new (productions_at (meaning table.entry.words.now)) (symbols_at (meaning table.entry.words.now)) }
-{
-    let counts = table.counts();
-    let nonterminals = counts.nonterminals;
-    let states = counts.states;
-    let productions = counts.productions;
-    let mut y = symbols;
-    for p in 0..productions {
-        let record = 1 + nonterminals + states + p;
-        let next = word(table.words, record, 0);
-        let start = word(table.words, record, 2);
-        let end = word(table.words, record, 3);
-        let many = count_chain(table, word(table.words, record, 1), LIMIT);
-        let head = head_of(many, y);
-        put(out, record, next, head, start, end);
-        y += many;
-    }
-}
-
-// Where the regions of loose records begin, and how many records there are in all, counted up to 8,193.
+// Where the items and the edges begin in the spelling, and how many records there are in all, counted up to 8,193.
 #[derive(Clone, Copy)]
 struct Sizes {
-    symbols: usize,
     items: usize,
     edges: usize,
     records: usize,
 }
 
-fn measure(table: AcceptedTable) -> Sizes
-    ensures { SizesOf (meaning table.entry.words.now) result.symbols result.items result.edges result.records }
-{
-    let counts = table.counts();
-    let states = 1 + counts.nonterminals;
-    let productions = states + counts.states;
-    let symbols = productions + counts.productions;
-    let items = symbols + count_chains(table, productions, symbols, 1, COUNTED - symbols);
-    let edges = items + count_chains(table, states, productions, 0, COUNTED - items);
-    let records = edges + count_chains(table, states, productions, 1, COUNTED - edges);
-    Sizes {
-        symbols,
-        items,
-        edges,
-        records,
-    }
+// A table to be written afresh, and its areas, which stand in the spelling where they do in the table. What is written stands beside it: as a field behind a reference each clause would say more of it.
+#[derive(Clone, Copy)]
+struct Spelling<'a> {
+    table: AcceptedTable<'a>,
+    areas: Areas,
+    ghost of: { AreasOf table.words.now areas },
 }
 
-// Writes all records.
-fn write_all(table: AcceptedTable, out: &mut [u16], symbols: usize, items: usize, edges: usize)
-    requires symbols_value { (symbols ≡ symbols_at (meaning table.words.now)) × ((items ≡ items_place (meaning table.words.now)) × ((edges ≡ edges_at (meaning table.words.now)) × Room (meaning table.words.now) out.old)) }
-    ensures { Grown (meaning table.entry.words.now) out.old out.new 0 (records_of (meaning table.entry.words.now)) }
-{
-    let counts = table.counts();
-    put(
-        out,
-        0,
-        counts.nonterminals,
-        counts.terminals,
-        counts.states,
-        counts.productions,
-    );
-    write_nonterminals(table, out);
-    write_states(table, out, items, edges);
-    write_productions(table, out, symbols);
-    let states = 1 + counts.nonterminals;
-    let productions = states + counts.states;
-    let _items = write_chains(table, out, productions, symbols, 1, symbols);
-    let _edges = write_chains(table, out, states, productions, 0, items);
-    let _records = write_chains(table, out, states, productions, 1, edges);
+impl<'a> Spelling<'a> {
+    // The chains of the productions' symbols.
+    fn symbols(self) -> Region
+        ensures { (result.first ≡ productions_at (meaning self.entry.table.words.now)) × ((result.past ≡ symbols_at (meaning self.entry.table.words.now)) × (result.k ≡ 1)) }
+    {
+        Region {
+            first: self.areas.productions_at,
+            past: self.areas.loose_at,
+            k: 1,
+        }
+    }
+
+    // Those of the states' items, by word 0, and of their edges, by word 1.
+    fn of_states(self, k: usize) -> Region
+        ensures { (result.first ≡ states_at (meaning self.entry.table.words.now)) × ((result.past ≡ productions_at (meaning self.entry.table.words.now)) × (result.k ≡ k)) }
+    {
+        Region {
+            first: self.areas.states_at,
+            past: self.areas.productions_at,
+            k,
+        }
+    }
+
+    // Writes the chains of a region, one behind the other from record `begin` on, and returns the record behind them.
+    fn write_chains(self, region: Region, out: &mut [u16], begin: usize) -> usize
+        requires heads { Heads self.table.words.now region.first region.past region.k }
+        requires stands { Stands (quads (meaning self.table.words.now)) begin (chains_from (same_quad self.table.words.now) begin (chains_of self.table.words.now region.first region.past region.k)) }
+        requires room { Room (meaning self.table.words.now) out.old }
+        ensures { (result ≡ begin + size_of (chains_of self.entry.table.words.now region.first region.past region.k)) × Grown (meaning self.entry.table.words.now) out.old out.new begin result }
+    {
+        let mut at = begin;
+        for holder in region.first..region.past {
+            let head = word(self.table.words, holder, region.k);
+            at = write_chain(self.table, out, head, at);
+        }
+        at
+    }
+
+    // How many records they have, counted up to `most`: shared chains can be reached two million times over.
+    fn count_chains(self, region: Region, most: usize) -> usize
+        requires heads { Heads self.table.words.now region.first region.past region.k }
+        requires most { most ≤ suc record_limit }
+        ensures { result ≡ min (size_of (chains_of self.entry.table.words.now region.first region.past region.k)) most }
+    {
+        let mut total: usize = 0;
+        for holder in region.first..region.past {
+            let head = word(self.table.words, holder, region.k);
+            total += count_chain(self.table, head, most - total);
+        }
+        total
+    }
+
+    fn measure(self) -> Sizes
+        ensures { SizesOf (meaning self.entry.table.words.now) self.entry.areas.loose_at result.items result.edges result.records }
+    {
+        let symbols = self.areas.loose_at;
+        let items = symbols + self.count_chains(self.symbols(), COUNTED - symbols);
+        let edges = items + self.count_chains(self.of_states(0), COUNTED - items);
+        let records = edges + self.count_chains(self.of_states(1), COUNTED - edges);
+        Sizes {
+            items,
+            edges,
+            records,
+        }
+    }
+
+    // Writes the nonterminals: their heads are the table's.
+    fn write_nonterminals(self, out: &mut [u16])
+        requires room { Room (meaning self.table.words.now) out.old }
+        ensures { Grown (meaning self.entry.table.words.now) out.old out.new 1 (states_at (meaning self.entry.table.words.now)) }
+    {
+        for n in 0..self.areas.nonterminals {
+            let head = word(self.table.words, 1 + n, 0);
+            put(out, 1 + n, head, 0, 0, 0);
+        }
+    }
+
+    // Writes the states.
+    fn write_states(self, at: Sizes, out: &mut [u16])
+        requires items { at.items ≡ items_place (meaning self.table.words.now) }
+        requires edges { at.edges ≡ edges_at (meaning self.table.words.now) }
+        requires room { Room (meaning self.table.words.now) out.old }
+        ensures { Grown (meaning self.entry.table.words.now) out.old out.new (states_at (meaning self.entry.table.words.now)) (productions_at (meaning self.entry.table.words.now)) }
+    {
+        let a = self.areas;
+        let mut i = at.items;
+        let mut d = at.edges;
+        for s in 0..a.states {
+            let many_items = count_chain(self.table, self.table.first_item(s), RECORDS);
+            let many_edges = count_chain(self.table, self.table.first_edge(s), RECORDS);
+            let item_head = head_of(many_items, i);
+            let edge_head = head_of(many_edges, d);
+            put(out, a.states_at + s, item_head, edge_head, 0, 0);
+            i += many_items;
+            d += many_edges;
+        }
+    }
+
+    // Writes the productions: their next indexes and spans are the table's.
+    fn write_productions(self, out: &mut [u16])
+        requires room { Room (meaning self.table.words.now) out.old }
+        ensures { Grown (meaning self.entry.table.words.now) out.old out.new (productions_at (meaning self.entry.table.words.now)) (symbols_at (meaning self.entry.table.words.now)) }
+    {
+        let a = self.areas;
+        let mut y = a.loose_at;
+        for p in 0..a.productions {
+            let record = a.productions_at + p;
+            let next = word(self.table.words, record, 0);
+            let start = word(self.table.words, record, 2);
+            let end = word(self.table.words, record, 3);
+            let many = count_chain(self.table, word(self.table.words, record, 1), RECORDS);
+            let head = head_of(many, y);
+            put(out, record, next, head, start, end);
+            y += many;
+        }
+    }
+
+    // Writes all records.
+    fn write_all(self, at: Sizes, out: &mut [u16])
+        requires items { at.items ≡ items_place (meaning self.table.words.now) }
+        requires edges { at.edges ≡ edges_at (meaning self.table.words.now) }
+        requires room { Room (meaning self.table.words.now) out.old }
+        ensures { Grown (meaning self.entry.table.words.now) out.old out.new 0 (records_of (meaning self.entry.table.words.now)) }
+    {
+        let a = self.areas;
+        put(out, 0, a.nonterminals, a.terminals, a.states, a.productions);
+        self.write_nonterminals(out);
+        self.write_states(at, out);
+        self.write_productions(out);
+        let _items = self.write_chains(self.symbols(), out, a.loose_at);
+        let _edges = self.write_chains(self.of_states(0), out, at.items);
+        let _records = self.write_chains(self.of_states(1), out, at.edges);
+    }
 }
 
 // Writes an accepted table afresh, if there is room.
 fn respell_in(table: AcceptedTable, out: &mut [u16]) -> Result<u16, Refusal>
     ensures { record { answer = reply_of result; out = out.new } ≡ written_of (meaning table.entry.words.now) out.old }
 {
-    let s = measure(table);
-    if s.records > LIMIT {
+    let spelling = Spelling {
+        table,
+        areas: survey(table.words),
+    };
+    let at = spelling.measure();
+    if at.records > RECORDS || at.records > out.len() / 4 {
         return Err(Refusal::NoRoom);
     }
-    if s.records > out.len() / 4 {
-        return Err(Refusal::NoRoom);
-    }
-    write_all(table, out, s.symbols, s.items, s.edges);
-    Ok(s.records as u16)
+    spelling.write_all(at, out);
+    Ok(at.records as u16)
 }
 
 // Writes an accepted table afresh at the front of `out`, and answers how many records that are. Refusals 1 to 8, then 17 without room or above 8,192 records; they change nothing.

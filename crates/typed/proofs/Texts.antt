@@ -1,7 +1,7 @@
 -- The lines of specs/Typed, put piece by piece. Assumes nothing.
 use Prim.Native.Nat.{ℕ, suc, ◌+◌, ◌-◌, ◌*◌, ◌≤◌, ◌<◌}
 use native.Mathlib.Omega.{arith}
-use mathlib.Core.Bool.{Bool, true, false}
+use mathlib.Core.Bool.{Bool, true, false, ◌||◌}
 use mathlib.Core.Path.{◌≡◌, sym, ap, ◌∙◌}
 use mathlib.Core.List.{List, [], ◌∷◌, ◌++◌, append-nil}
 use lib.ListN.{length, get_or, take, drop, length-take}
@@ -16,7 +16,7 @@ use Rattle.numerals.specs.Numeral.{numeral}
 use Rattle.lines.specs.Lines.{Put, spaced, symbol_text, symbol_texts}
 use Rattle.lines.proofs.Laws.{put-nothing, put_then, put_as, put_all, put-within}
 use Rattle.typed.specs.Typed.{hash_text, counts_text, nonterminal_text, state_text, production_text, symbol_place, item_place, equals_text, dot_text, by_nonterminal, by_terminal, to_state, unused_text, named, symbol_part, rule_text, item_part, by_text, edge_part, unused_part, loose_text, area_text, record_text, line_of, line_of_record}
-use Rattle.typed.specs.declared.Roles.{Roles}
+use Rattle.table_check.specs.declared.loose.Roles.{Roles}
 
 -- numbers, a space before each
 joined_more : (l : List ℕ) (x : ℕ) → joined spaced (l ++ (x ∷ [])) ≡ joined spaced l ++ spaced x
@@ -103,21 +103,13 @@ pub edge_no : {shown : Bool} {a b : List ℕ} {at r : ℕ} (k n t : ℕ) → sho
 unfolding edge_part
 edge_no {a = a} {at = at} k n t e f g = rw (e, f, g) (put-nothing a at)
 
-pub used-symbol : (R : Roles) (a : List ℕ) (at : ℕ) → R.symbol ≡ true → Put a at (unused_part R) a at
+pub used : (R : Roles) (a : List ℕ) (at : ℕ) → R.symbol || (R.item || R.edge) ≡ true → Put a at (unused_part R) a at
 unfolding unused_part
-used-symbol R a at e = rw e (put-nothing a at)
+used R a at e = rw (e, unused_part) (put-nothing a at)
 
-pub used-item : (R : Roles) (a : List ℕ) (at : ℕ) → R.symbol ≡ false → R.item ≡ true → Put a at (unused_part R) a at
+pub not-used : (R : Roles) {a b : List ℕ} {at r : ℕ} → R.symbol || (R.item || R.edge) ≡ false → Put a at unused_text b r → Put a at (unused_part R) b r
 unfolding unused_part
-used-item R a at e f = rw (e, f) (put-nothing a at)
-
-pub used_edge : (R : Roles) (a : List ℕ) (at : ℕ) → R.symbol ≡ false → R.item ≡ false → R.edge ≡ true → Put a at (unused_part R) a at
-unfolding unused_part
-used_edge R a at e f g = rw (e, f, g) (put-nothing a at)
-
-pub not-used : (R : Roles) {a b : List ℕ} {at r : ℕ} → R.symbol ≡ false → R.item ≡ false → R.edge ≡ false → Put a at unused_text b r → Put a at (unused_part R) b r
-unfolding unused_part
-not-used R e f g P = rw (e, f, g) P
+not-used R e P = rw (e, unused_part) P
 
 pub loose-put : {a b c d e : List ℕ} {at m₁ m₂ m₃ r x y z : ℕ} (t g : List ℕ) (k : ℕ) (R : Roles) → x ≡ word_at t k 1 → y ≡ word_at t k 2 → z ≡ word_at t k 3
     → Put a at (symbol_part R.symbol x y) b m₁ → Put b m₁ (item_part R.item g x y) c m₂ → Put c m₂ (edge_part R.edge x y z) d m₃ → Put d m₃ (unused_part R) e r → Put a at (loose_text t g k R) e r

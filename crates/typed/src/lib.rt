@@ -11,9 +11,8 @@ ghost use Rattle.typed.specs.Typed.{IsItem, named, symbol_part, rule_text, item_
 
 use lines::{put, put_after, put_symbol, put_symbols, put_text};
 use repr::Grammar;
-use table_check::areas::Surveyed;
-
 pub use table_check::Roles;
+use table_check::areas::Surveyed;
 
 // Numbers, a space before each. Here and below `out` is written from `at` on and the place behind comes back, since the contracts say which bytes are put between the two (as in crate lines).
 pub fn put_words(out: &mut [u8], at: usize, words: &[u16]) -> usize

@@ -1,8 +1,9 @@
 use Rattle.std.proofs.Common.{refl}
+use Rattle.lihvemur.proofs.Numbered.{told_some, handed_none}
 use Rattle.lihvemur.proofs.hand_out.Goals as goal
 
-pub returns-in-Ok : goal.returns-in-Ok
-returns-in-Ok c = rw c.in-Ok.is (refl, refl, refl)
+pub returns-in-Some : goal.returns-in-Some
+returns-in-Some c = let T = told_some _ _ _ _ c.told-number.ensures _ c.in-Some.is in rw T.0 (T.1.0, T.1.1, refl)
 
-pub returns-in-Err : goal.returns-in-Err
-returns-in-Err c = rw c.in-Err.is (c.refuse.ensures.number, c.refuse.ensures.place, refl)
+pub returns-in_default : goal.returns-in_default
+returns-in_default c = handed_none _ _ _ _ _ c.told-number.ensures c.in_default.is

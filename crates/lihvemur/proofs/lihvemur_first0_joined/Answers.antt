@@ -1,10 +1,8 @@
-use Rattle.std.proofs.Common.{ap}
-use Rattle.repr.specs.Reply.{reply_of}
 use Rattle.lihvemur.proofs.Numbered.{first_answered, first-refused}
 use Rattle.lihvemur.proofs.lihvemur_first0_joined.Goals as goal
 
-pub returns-in-Ok : goal.returns-in-Ok
-returns-in-Ok c = first_answered _ _ _ _ c.first0_joined.ensures _ (ap reply_of c.in-Ok.is)
+pub returns-in-Some : goal.returns-in-Some
+returns-in-Some c = first_answered _ _ _ _ _ _ c.told-number.ensures _ c.first0_joined.ensures _ c.in-Some.is
 
-pub returns-in-Err : goal.returns-in-Err
-returns-in-Err c = rw (c.refuse.ensures.number, c.refuse.ensures.place) (first-refused _ _ _ _ c.first0_joined.ensures _ _ (ap reply_of c.in-Err.is))
+pub returns-in_default : goal.returns-in_default
+returns-in_default c = first-refused _ _ _ _ _ _ c.told-number.ensures _ c.first0_joined.ensures c.in_default.is

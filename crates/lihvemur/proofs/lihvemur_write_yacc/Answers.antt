@@ -1,10 +1,5 @@
-use Rattle.std.proofs.Common.{ap}
-use Rattle.repr.specs.Reply.{reply_of}
-use Rattle.lihvemur.proofs.Numbered.{write-made, write-refused}
+use Rattle.lihvemur.proofs.Numbered.{write_handed}
 use Rattle.lihvemur.proofs.lihvemur_write_yacc.Goals as goal
 
-pub returns-in-Ok : goal.returns-in-Ok
-returns-in-Ok c = write-made _ _ _ _ c.write_yacc.ensures _ (ap reply_of c.in-Ok.is)
-
-pub returns-in-Err : goal.returns-in-Err
-returns-in-Err c = rw (c.refuse.ensures.number, c.refuse.ensures.place) (write-refused _ _ _ _ c.write_yacc.ensures _ _ (ap reply_of c.in-Err.is))
+pub returns : goal.returns
+returns c = write_handed _ _ _ _ _ _ c.hand_out.ensures _ c.write_yacc.ensures

@@ -1,9 +1,5 @@
 use Rattle.table.proofs.Accepted.{rows_first}
-use Rattle.text.proofs.Laws.{packed-areas}
 use Rattle.text.proofs.write_table.Goals as goal
 
 pub survey-requires : goal.survey-requires
 survey-requires g c = let r = rows_first _ c.args.table.accepted in record { words = r.0; counts = r.1 }
-
-pub invariant_of-grammar : goal.invariant_of-grammar
-invariant_of-grammar g c = record { packed = packed-areas _ _ _ c.survey.ensures c.read_productions.ensures.0 }

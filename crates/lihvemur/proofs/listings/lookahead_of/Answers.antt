@@ -1,8 +1,6 @@
-use Rattle.lihvemur.proofs.Listed.{ahead-set, ahead-any}
+use Rattle.std.proofs.Common.{◌∙◌}
+use Rattle.lihvemur.proofs.Listed.{ahead_is}
 use Rattle.lihvemur.proofs.listings.lookahead_of.Goals as goal
 
-pub returns-then-filtered : goal.returns-then-filtered
-returns-then-filtered c = ahead-set _ _ c.if-filtered.true
-
 pub returns : goal.returns
-returns c = ahead-any _ _ c.if-filtered.false
+returns c = c.then_some.ensures ∙ ahead_is _ _
