@@ -91,13 +91,12 @@ pub fn write_places(symbols: &SymbolTable, places: &mut [u16])
 pub fn start_of(symbols: &SymbolTable) -> usize
     ensures { (l : Layout) → parse symbols.now.text.now ≡ some l → result ≡ start_of (source_in l.pieces).nonterminals (source_in l.pieces).starts }
 {
-    for token in TokenIter::new(symbols.text) {
-        if let Saying::Opens = token.what {
-            return match symbols.left(token.lexeme) {
-                Some(number) => usize::from(number),
-                None => symbols.counts.nonterminals,
-            };
-        }
+    let mut tokens = TokenIter::new(symbols.text);
+    let Some(token) = tokens.find(|token| matches!(token.what, Saying::Opens)) else {
+        return 0;
+    };
+    match symbols.left(token.lexeme) {
+        Some(number) => usize::from(number),
+        None => symbols.counts.nonterminals,
     }
-    0
 }
