@@ -46,7 +46,7 @@ fn token_said(symbols: &SymbolTable, token: Token) -> Option<u16>
     }
 }
 
-// A word behind the first `base`, as far as there is room.
+// A word behind the first `base`, as far as there is room. (By `get_mut`, tried two ways: what the library says of it tells the length alone, and the proof did not close.)
 fn put(places: &mut [u16], base: usize, n: usize, from: usize)
     requires { from < 65536 }
     ensures { places.new ≡ set places.old (base + n) from }
