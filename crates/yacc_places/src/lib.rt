@@ -36,12 +36,8 @@ fn token_said(symbols: &SymbolTable, token: Token) -> Option<u16>
     requires { token.lexeme.past ≤ length symbols.now.text.now }
     ensures { (ns ts : List Known) → Holds symbols.now ns ts → held result ≡ entered_place ts (joined token_use (events_of token.what (id_at symbols.now.text.now token.lexeme.word token.lexeme.from token.lexeme.past) token.lexeme.from token.lexeme.past)) }
 {
-    match token.what {
-        Saying::Lists => symbols.token(token.lexeme),
-        Saying::Uses => match token.lexeme.word {
-            Word::Literal => symbols.token(token.lexeme),
-            _ => None,
-        },
+    match (token.what, token.lexeme.word) {
+        (Saying::Lists, _) | (Saying::Uses, Word::Literal) => symbols.token(token.lexeme),
         _ => None,
     }
 }

@@ -120,6 +120,7 @@ impl Room {
         requires text { (length text.now ≤ text_limit) × (is_grammar_text text.now ≡ true) }
         ensures { result.text.now ≡ text.now }
     {
+        // Taken apart first: a slice of a field of `self` in the literal (`&mut self.starts`) has no generated proof.
         let Room {
             starts,
             pasts,
