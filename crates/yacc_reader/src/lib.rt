@@ -28,7 +28,7 @@ use yacc_read::Reading;
 use yacc_text::is_short;
 use yacc_tokens::is_grammar;
 
-// Writes the table and the places of a text that nothing refuses, whose ids are entered.
+// Writes the table and the places of a text that nothing refuses, whose ids are entered. Here and below the two lists are lent, and handed on as they came: a struct of both would be two `&mut` more, made anew at each step.
 fn write_read(
     symbols: &SymbolTable,
     table: &mut [u16],
