@@ -91,6 +91,7 @@ impl<'a> SymbolTable<'a> {
         ensures { result.text.now ≡ text.now }
     {
         let counts = words.enter_all(text);
+        // Taken apart first: `words.starts` in the literal has no generated proof.
         let Words {
             starts,
             pasts,
@@ -216,16 +217,10 @@ impl<'a> Words<'a> {
         requires no_quote { NoQuote (mode_of token.mode) token.lexeme.word }
         ensures { Enters text.now self.old ids self.new result (joined left_side (events_of token.what (id_at text.now token.lexeme.word token.lexeme.from token.lexeme.past) token.lexeme.from token.lexeme.past)) (joined token_use (events_of token.what (id_at text.now token.lexeme.word token.lexeme.from token.lexeme.past) token.lexeme.from token.lexeme.past)) }
     {
-        match token.lexeme.word {
-            Word::Name => match token.what {
-                Saying::Lists => self.declare(text, ids, token.lexeme),
-                Saying::Defines => self.define(text, ids, token.lexeme),
-                _ => ids,
-            },
-            Word::Literal => match token.what {
-                Saying::Lists | Saying::Uses => self.quote(text, ids, token.lexeme),
-                _ => ids,
-            },
+        match (token.lexeme.word, token.what) {
+            (Word::Name, Saying::Lists) => self.declare(text, ids, token.lexeme),
+            (Word::Name, Saying::Defines) => self.define(text, ids, token.lexeme),
+            (Word::Literal, Saying::Lists | Saying::Uses) => self.quote(text, ids, token.lexeme),
             _ => ids,
         }
     }

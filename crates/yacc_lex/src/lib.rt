@@ -72,17 +72,14 @@ pub fn goes_on(b: u8) -> bool
     is_letter(b) || is_digit(b)
 }
 
-// The place behind the longest run of letters and digits from `at` on. (`position` or `take_while` over the rest, tried three ways: the proof did not close.)
+// The place behind the longest run of letters and digits from `at` on.
 fn run_end(text: &[u8], at: usize) -> usize
     requires { at ≤ length text.now }
     ensures { result ≡ at + length (run_of (drop at text.now)) }
 {
-    for i in at..text.len() {
-        if !goes_on(text[i]) {
-            return i;
-        }
-    }
-    text.len()
+    (at..text.len())
+        .find(|i| !goes_on(text[*i]))
+        .unwrap_or(text.len())
 }
 
 // Does no letter and no digit stand at `at`.
@@ -108,7 +105,7 @@ fn closes_at(text: &[u8], at: usize) -> bool
     has_word(text, at, b"*/")
 }
 
-// The place behind a comment whose bytes begin at `at`, behind the `/*`.
+// The place behind a comment whose bytes begin at `at`, behind the `/*`. (A `find` would stop at both ends and have to ask again at which.)
 fn comment_end(text: &[u8], at: usize) -> Option<usize>
     requires { at ≤ length text.now }
     ensures { found_at result ≡ behind_comment at (drop at text.now) }

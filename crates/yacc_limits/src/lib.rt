@@ -13,7 +13,7 @@ use yacc_count::Counts;
 // Terminals of a table at most.
 const TERMINALS: usize = 63;
 
-// What refuses a text of n nonterminals and m terminals that is named well, by its counts and the room there is.
+// What refuses a text of n nonterminals and m terminals that is named well, by its counts and the room there is. A production's record stands behind those of the counts, the nonterminals and the one state.
 pub fn check_counts(
     n: usize,
     m: usize,

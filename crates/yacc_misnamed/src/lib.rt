@@ -2,13 +2,13 @@
 
 #![tactic(auto)]
 
-ghost use Rattle.std.specs.Prelude.{true, false, ◌≡◌, List, ◌+◌, ◌≤◌, ◌<◌, length};
+ghost use Rattle.std.specs.Prelude.{IfSome, true, false, ◌≡◌, List, ◌+◌, ◌≤◌, ◌<◌, length};
 ghost use Rattle.std.proofs.Math.Option.{some};
 ghost use Rattle.yacc_text.specs.Grammar.{byte_limit, Layout};
 ghost use Rattle.yacc_text.specs.Parse.{parse};
 ghost use Rattle.yacc_text.specs.Places.{placed};
 ghost use Rattle.yacc_text.specs.Forward.{top};
-ghost use Rattle.yacc_lex.specs.Steps.{token_at};
+ghost use Rattle.yacc_lex.specs.Steps.{token_at, found_at};
 ghost use Rattle.repr.specs.Lists.{some?};
 ghost use Rattle.yacc_tokens.specs.Accepted.{mode_of};
 ghost use Rattle.yacc_read.specs.Source.{Known, Source};
@@ -60,12 +60,7 @@ fn uses_nowhere(symbols: &SymbolTable) -> bool
 fn start_nowhere(symbols: &SymbolTable) -> bool
     ensures { (l : Layout) → parse symbols.now.text.now ≡ some l → result ≡ undefined_start (source_in l.pieces) }
 {
-    for token in TokenIter::new(symbols.text) {
-        if is_lost(symbols, token) {
-            return true;
-        }
-    }
-    false
+    TokenIter::new(symbols.text).any(|token| is_lost(symbols, token))
 }
 
 // Is a name both a left side and a token.
@@ -107,15 +102,10 @@ fn is_fault(symbols: &SymbolTable, token: Token) -> bool
 }
 
 // Where 21 is, of a text whose ids are entered: the first byte of the first token at fault (specs/Fault).
-pub fn fault_place(symbols: &SymbolTable) -> usize
-    ensures { (result ≤ length symbols.now.text.now) × ((l : Layout) → parse symbols.now.text.now ≡ some l → misnamed (source_in l.pieces) ≡ true → fault_from (source_in l.pieces) (top false) (placed 0 l.pieces) ≡ some result) }
+pub fn fault_place(symbols: &SymbolTable) -> Option<usize>
+    ensures inside { IfSome result (λ at. at ≤ length symbols.now.text.now) }
+    ensures first { (l : Layout) → parse symbols.now.text.now ≡ some l → found_at result ≡ fault_from (source_in l.pieces) (top false) (placed 0 l.pieces) }
 {
-    let mut end: usize = 0;
-    for token in TokenIter::new(symbols.text) {
-        if is_fault(symbols, token) {
-            return token.lexeme.from;
-        }
-        end = token.lexeme.past;
-    }
-    end
+    let token = TokenIter::new(symbols.text).find(|token| is_fault(symbols, *token))?;
+    Some(token.lexeme.from)
 }

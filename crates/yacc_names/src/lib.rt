@@ -113,10 +113,7 @@ pub fn place(
     ensures { left starts.new pasts.new ix.new result ≡ placing text.now starts.old pasts.old ix.old k from past }
 {
     match find(text, starts, pasts, ix, k, from, past) {
-        Some(number) => Placed {
-            number,
-            names: k,
-        },
+        Some(number) => Placed { number, names: k },
         None => {
             let bucket = bucket_of(text, from, past);
             enter(starts, pasts, ix, k, bucket, from, past);

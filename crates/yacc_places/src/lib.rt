@@ -36,17 +36,13 @@ fn token_said(symbols: &SymbolTable, token: Token) -> Option<u16>
     requires { token.lexeme.past ≤ length symbols.now.text.now }
     ensures { (ns ts : List Known) → Holds symbols.now ns ts → held result ≡ entered_place ts (joined token_use (events_of token.what (id_at symbols.now.text.now token.lexeme.word token.lexeme.from token.lexeme.past) token.lexeme.from token.lexeme.past)) }
 {
-    match token.what {
-        Saying::Lists => symbols.token(token.lexeme),
-        Saying::Uses => match token.lexeme.word {
-            Word::Literal => symbols.token(token.lexeme),
-            _ => None,
-        },
+    match (token.what, token.lexeme.word) {
+        (Saying::Lists, _) | (Saying::Uses, Word::Literal) => symbols.token(token.lexeme),
         _ => None,
     }
 }
 
-// A word behind the first `base`, as far as there is room.
+// A word behind the first `base`, as far as there is room. (By `get_mut`, tried two ways: what the library says of it tells the length alone, and the proof did not close.)
 fn put(places: &mut [u16], base: usize, n: usize, from: usize)
     requires { from < 65536 }
     ensures { places.new ≡ set places.old (base + n) from }
@@ -91,13 +87,12 @@ pub fn write_places(symbols: &SymbolTable, places: &mut [u16])
 pub fn start_of(symbols: &SymbolTable) -> usize
     ensures { (l : Layout) → parse symbols.now.text.now ≡ some l → result ≡ start_of (source_in l.pieces).nonterminals (source_in l.pieces).starts }
 {
-    for token in TokenIter::new(symbols.text) {
-        if let Saying::Opens = token.what {
-            return match symbols.left(token.lexeme) {
-                Some(number) => usize::from(number),
-                None => symbols.counts.nonterminals,
-            };
-        }
+    let mut tokens = TokenIter::new(symbols.text);
+    let Some(token) = tokens.find(|token| matches!(token.what, Saying::Opens)) else {
+        return 0;
+    };
+    match symbols.left(token.lexeme) {
+        Some(number) => usize::from(number),
+        None => symbols.counts.nonterminals,
     }
-    0
 }

@@ -25,9 +25,7 @@ use Rattle.yacc_text.specs.Places.{Placed, placed_from}
 use Rattle.yacc_text.specs.Forward.{Mode, top, wanted, listed, starting, ruled, sided, bodied, done, dead, begins, sides, move}
 use Rattle.yacc_text.specs.Parse.{parse}
 use Rattle.yacc_text.proofs.Exact.{parse_sound}
-use Rattle.yacc_lex.specs.Steps.{token_at, Leads, Told}
-use Rattle.yacc_lex.specs.declared.Next.{Next}
-use Rattle.yacc_lex.specs.declared.Next.TheVariants.{End as Ends, Outside as NoToken}
+use Rattle.yacc_lex.specs.Steps.{token_at, Leads}
 use Rattle.yacc_lex.specs.declared.Word.{Word}
 use Rattle.yacc_lex.specs.declared.Word.TheVariants.{Name, Literal, Token, Start, Mark, Colon, Bar, Semi}
 use Rattle.yacc_read.specs.Events.{Event, events}
@@ -274,6 +272,14 @@ made a c ss s u e v p q r =
     ap (λ (k : ℕ). record { nonterminal = k; symbols = ss; start = s; end = e }) p
     ∙ ap (λ (k : ℕ). record { nonterminal = c; symbols = ss; start = k; end = e }) q
     ∙ ap (λ (k : ℕ). record { nonterminal = c; symbols = ss; start = u; end = k }) r
+
+pub zero_body : (b : Body) → (b.production ≡ 0) × ((b.owner ≡ 0) × ((b.symbols ≡ 0) × ((b.start ≡ 0) × (b.end ≡ 0)))) → b ≡ record { production = 0; owner = 0; symbols = 0; start = 0; end = 0 }
+zero_body b z =
+    ap (λ (n : ℕ). record { production = n; owner = b.owner; symbols = b.symbols; start = b.start; end = b.end }) z.0
+    ∙ ap (λ (n : ℕ). record { production = 0; owner = n; symbols = b.symbols; start = b.start; end = b.end }) z.1.0
+    ∙ ap (λ (n : ℕ). record { production = 0; owner = 0; symbols = n; start = b.start; end = b.end }) z.1.1.0
+    ∙ ap (λ (n : ℕ). record { production = 0; owner = 0; symbols = 0; start = n; end = b.end }) z.1.1.1.0
+    ∙ ap (λ (n : ℕ). record { production = 0; owner = 0; symbols = 0; start = 0; end = n }) z.1.1.1.1
 
 -- the turns
 pub turn_first : (S : Source) (t g : List ℕ) → of_said none (λ es. some (alternatives_from no_id [] es)) (top false) (placed_from t 0) ≡ some S.alternatives → Turn S t g (record { production = 0; owner = 0; symbols = 0; start = 0; end = 0 }) (top false) 0

@@ -103,7 +103,14 @@ impl Body {
         }
         let start = place_or(self.symbols, at, self.start);
         let end = place_or(self.symbols, at, self.end);
-        put(grammar, self.production * RECORDS, self.owner, self.symbols, start, end);
+        put(
+            grammar,
+            self.production * RECORDS,
+            self.owner,
+            self.symbols,
+            start,
+            end,
+        );
         Body {
             production: self.production + 1,
             owner: self.owner,
