@@ -15,7 +15,7 @@ ghost use Rattle.closing.specs.Fed.{Flat, feed, fed_by_items, fed_by_firsts, spr
 
 use first::FirstSets;
 use lookahead::TokenSet;
-use lr1_core::{Item, suffix};
+use lr1_core::Item;
 use repr::{Grammar, NonterminalString, ProductionIndex, Symbol};
 
 // What an item gives to the nonterminal at its cursor: FIRST of what stands behind it, followed by the item's tokens. An item without a token gives nothing.
@@ -35,7 +35,7 @@ fn feed(
     match item.cursor(grammar) {
         Some(Symbol::Nonterminal(at)) => {
             let nonterminal = at.0 as usize;
-            let more = sets.first1(suffix(grammar, item), set);
+            let more = sets.first1(item.suffix(grammar), set);
             aheads[nonterminal] = TokenSet(aheads[nonterminal]).union(more).0;
         }
         Some(Symbol::Terminal(_)) => {}

@@ -132,7 +132,8 @@ impl EdgeCodes {
     pub fn clear(&mut self)
         ensures { (T : meaning-of.Table) → Coded T self.new.words self.new.flags [] }
     {
-        self.words[0] = 0;
+        let empty = TraceGraph::new();
+        self.words[0] = empty.edges as u16;
         self.flags.fill(0);
     }
 
@@ -170,7 +171,15 @@ fn same_production(grammar: Grammar, p: usize, q: usize) -> bool
     requires { (p < grammar.productions) × (q < grammar.productions) }
     ensures { result ≡ is_same_production (productions_in grammar.entry.words.now grammar.entry.productions) p q }
 {
-    grammar.owner(p) == grammar.owner(q) && same_label(grammar, p, 0, q, 0)
+    let own = Item {
+        production: p,
+        index: 0,
+    };
+    let other = Item {
+        production: q,
+        index: 0,
+    };
+    grammar.owner(p) == grammar.owner(q) && same_label(grammar, own, other)
 }
 
 // The least production of the same nonterminal and symbols.
@@ -193,28 +202,6 @@ pub fn fill_least(grammar: Grammar, least: &mut [u8])
     }
 }
 
-// The node of an item.
-fn item_node(item: Item) -> Node
-    ensures { result ≡ record { kind = 1; number = item.production; index = item.index } }
-{
-    Node {
-        kind: 1,
-        number: item.production,
-        index: item.index,
-    }
-}
-
-// The node of a nonterminal.
-fn nonterminal_node(number: usize) -> Node
-    ensures { result ≡ record { kind = 0; number = number; index = 0 } }
-{
-    Node {
-        kind: 0,
-        number,
-        index: 0,
-    }
-}
-
 // The node of the nonterminal at an item's cursor.
 fn cursor_node(grammar: Grammar, item: Item) -> Node
     requires within { item.production < grammar.productions }
@@ -222,7 +209,7 @@ fn cursor_node(grammar: Grammar, item: Item) -> Node
     ensures { (n : ℕ) → shifts_nonterminal (listed (symbol_words grammar.entry.words.now item.production)) item.index n ≡ true → result ≡ record { kind = 0; number = n; index = 0 } }
 {
     let (_, number) = grammar.symbol(item.production, item.index).words();
-    nonterminal_node(number as usize)
+    Node::nonterminal(number as usize)
 }
 
 // The edge of a word.
@@ -232,28 +219,16 @@ fn edge_of(grammar: Grammar, code: usize) -> TraceEdge
 {
     let coded = EdgeCode::of(code);
     let item = coded.item;
-    let owner = nonterminal_node(grammar.owner(item.production));
-    let production = item.production;
-    let index = item.index;
-    match coded.kind {
-        EdgeKind::IntoItem => TraceEdge {
-            source: owner,
-            target: item_node(item),
-            production,
-            index,
-        },
-        EdgeKind::Between => TraceEdge {
-            source: owner,
-            target: cursor_node(grammar, item),
-            production,
-            index,
-        },
-        EdgeKind::FromItem => TraceEdge {
-            source: item_node(item),
-            target: cursor_node(grammar, item),
-            production,
-            index,
-        },
+    let owner = Node::nonterminal(grammar.owner(item.production));
+    let (source, target) = match coded.kind {
+        EdgeKind::IntoItem => (owner, Node::item(item)),
+        EdgeKind::Between => (owner, cursor_node(grammar, item)),
+        EdgeKind::FromItem => (Node::item(item), cursor_node(grammar, item)),
+    };
+    TraceEdge {
+        source,
+        target,
+        label: item,
     }
 }
 

@@ -22,7 +22,7 @@ pub fn view_codes(grammar: Grammar, codes: &EdgeCodes, item: Item, lists: &mut V
         let edge = edge_of(grammar, word(&codes.words, 1 + k));
         let from = edge.source;
         let to = edge.target;
-        let owner = grammar.owner(edge.production);
+        let owner = grammar.owner(edge.label.production);
         lists.put(k, source(from), slot(to, item), owner);
     }
 }

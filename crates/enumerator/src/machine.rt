@@ -96,11 +96,7 @@ impl<'a> Graph<'a> {
         requires depth_nonzero { (0 < depth) × (depth < length words.now) }
         ensures { result ≡ trial_from? (ends_of (edges_in self.entry.words.now)) [] (at_item (record { production = start.production; index = start.index })) (take depth (drop 1 words.now)) }
     {
-        let mut node = Node {
-            kind: 1,
-            number: start.production,
-            index: start.index,
-        };
+        let mut node = Node::item(start);
         // The node is carried from edge to edge, which a closure for `all` would have to change.
         for at in 0..depth - 1 {
             let edge = word(words, at + 1);

@@ -15,7 +15,7 @@ ghost use Rattle.example.specs.Written.{label_at, words_of, Part, put_at, around
 
 use first::{Answer, FirstSets};
 use lookahead::TokenSet;
-use lr1_core::{Item, prefix, suffix};
+use lr1_core::Item;
 use repr::{Grammar, NonterminalString, ProductionIndex, Symbol, word};
 
 // An example in words: its limits.
@@ -111,7 +111,7 @@ impl<'a> Labels<'a> {
         requires { label < length (labels_in self.words.now) }
         ensures { Part result.now (sets_of (productions_in self.entry.grammar.words.now self.entry.grammar.productions) (label_at self.entry.words.now label)).prefix }
     {
-        prefix(self.grammar, self.item(label))
+        self.item(label).prefix(self.grammar)
     }
 
     // The symbols after a label's cursor.
@@ -119,7 +119,7 @@ impl<'a> Labels<'a> {
         requires { label < length (labels_in self.words.now) }
         ensures { Part result.now (sets_of (productions_in self.entry.grammar.words.now self.entry.grammar.productions) (label_at self.entry.words.now label)).suffix }
     {
-        suffix(self.grammar, self.item(label))
+        self.item(label).suffix(self.grammar)
     }
 
     // The symbol at the first label's cursor, or none.

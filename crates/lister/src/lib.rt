@@ -54,7 +54,7 @@ fn fits(grammar: Grammar, terminals: usize, start: Item, lookahead: Option<Token
     requires { terminals ≤ 63 }
     ensures { result ≡ (item_is_fit (productions_in grammar.entry.words.now grammar.entry.productions) start.production start.index && ahead_by terminals (set_of lookahead)) }
 {
-    item_fits(grammar, start.production, start.index) && lookahead_fits(terminals, lookahead)
+    item_fits(grammar, start) && lookahead_fits(terminals, lookahead)
 }
 
 // Whether the node whose words begin at a place is an item.

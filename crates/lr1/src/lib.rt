@@ -197,8 +197,10 @@ pub fn add_edge(
     let edge = TraceEdge {
         source: source.words(),
         target: target.words(),
-        production: production.0 as usize,
-        index: index as usize,
+        label: Item {
+            production: production.0 as usize,
+            index: index as usize,
+        },
     };
     add_edge_in(accepted, edge, graph)
 }

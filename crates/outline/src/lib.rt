@@ -21,7 +21,7 @@ ghost use Rattle.trace_graph.specs.Fits.{item_is_fit};
 use error::Conflict;
 use example::{Example, Labels};
 use first::FirstSets;
-use lr1_core::{Item, suffix};
+use lr1_core::Item;
 use repr::{Grammar, NonterminalString, word};
 
 // Places, a print of cursor and symbols, the nonterminal of the first reduction, the item that the inline test reads as one word (`item`).
@@ -277,7 +277,7 @@ pub fn inlines(sets: &FirstSets, grammar: Grammar, own: Item, other: Option<Item
     ensures { result ≡ items_inline sets.now.terminals sets.now.map (productions_in grammar.entry.words.now grammar.entry.productions) own other }
 {
     match other {
-        Some(other) => diverge(sets, suffix(grammar, own), suffix(grammar, other)),
+        Some(other) => diverge(sets, own.suffix(grammar), other.suffix(grammar)),
         None => false,
     }
 }

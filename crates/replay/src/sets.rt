@@ -6,7 +6,7 @@ ghost use Rattle.repr.specs.Listed.{listed};
 use crate::say::{say_answer, say_bool, say_halves, say_next, say_words};
 use crate::words::Request;
 use lookahead::TokenSet;
-use lr1_core::{Item, prefix, suffix};
+use lr1_core::Item;
 use repr::{Grammar, NonterminalString, ProductionIndex};
 use table::AcceptedTable;
 
@@ -94,9 +94,9 @@ fn say_item<R: Print>(rt: &R, item: Item, grammar: Grammar)
     say_bool(rt, item.can_shift(grammar));
     say_bool(rt, item.can_reduce(grammar));
     say_next(rt, shifted(item, grammar));
-    say_words(rt, prefix(grammar, item));
+    say_words(rt, item.prefix(grammar));
     say_words(rt, grammar.symbols(item.production));
-    say_words(rt, suffix(grammar, item));
+    say_words(rt, item.suffix(grammar));
 }
 
 fn ask_item_in<R: Print>(rt: &R, table: AcceptedTable, production: usize, index: usize) {

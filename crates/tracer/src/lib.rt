@@ -218,7 +218,7 @@ pub fn trace_in(
     }
     let mut words = [0u16; ProductionIndex::ALL_WORDS];
     let grammar = table.read_grammar(&mut words);
-    if !item_fits(grammar, item.production, item.index) {
+    if !item_fits(grammar, item) {
         return Err(Refusal::OutOfRange);
     }
     if graph.len() < TraceGraph::WORDS {

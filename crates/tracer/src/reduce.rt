@@ -18,7 +18,7 @@ use crate::edges::{to_item, to_nonterminal};
 use crate::stamps::Stamps;
 use crate::{OpenTrace, Tracer};
 use bits::{is_set, put};
-use lr1_core::{Item, prefix};
+use lr1_core::Item;
 use repr::NonterminalString;
 use state_graph::{StateSet, StateWalk};
 use trace_graph::Full;
@@ -38,7 +38,7 @@ fn begins(tracer: Tracer, walk: &mut StateWalk, state: usize, item: Item) -> Sta
     ensures found { states_in result.low result.high ≡ traced_back (meaning tracer.entry.table.words.now) state (prefix_of (meaning tracer.entry.table.words.now) (record { production = item.production; index = item.index })) }
     ensures table_after { walk.new.table.words.now ≡ walk.old.table.words.now }
 {
-    let symbols = prefix(tracer.grammar, item);
+    let symbols = item.prefix(tracer.grammar);
     walk.walk_back(StateSet::of(state), symbols)
 }
 

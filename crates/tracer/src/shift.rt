@@ -21,7 +21,7 @@ use crate::tails::{LIST_WORDS, SHORT_TABLE, TAIL_AHEAD, TailList, after, ahead, 
 use crate::{OpenTrace, Tracer, nonterminal_at};
 use bits::{is_set, put};
 use codes::{EdgeCode, EdgeCodes};
-use lr1_core::{Item, prefix};
+use lr1_core::Item;
 use repr::NonterminalString;
 use state_graph::{StateSet, trace_back};
 use trace_graph::Full;
@@ -268,6 +268,6 @@ pub fn shift_codes(
     ensures full { OnErr result (edge_limit < length (shift_edges (meaning tracer.entry.table.words.now) state (record { production = item.production; index = item.index }))) }
 {
     trace.clear();
-    let states = trace_back(tracer.table, state, prefix(tracer.grammar, item));
+    let states = trace_back(tracer.table, state, item.prefix(tracer.grammar));
     shift_over(tracer, trace, states, item)
 }

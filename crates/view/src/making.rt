@@ -122,11 +122,7 @@ fn view_edge(
     let edge = read_edge(graph, k);
     let from = edge.source;
     let to = edge.target;
-    let label = Item {
-        production: edge.production,
-        index: edge.index,
-    };
-    codes[k] = label.place() as u16;
+    codes[k] = edge.label.place() as u16;
     lists.put(k, source(from), slot(to, start), node_owner(grammar, from));
 }
 

@@ -7,12 +7,10 @@ ghost use Rattle.repr.specs.Reply.{reply_of};
 ghost use Rattle.yacc_read.specs.Outcome.{counted_of};
 ghost use Rattle.yacc_limits.specs.Limited.{Meant, limited_of};
 
-use repr::{NonterminalString, ProductionIndex, Refusal};
+use repr::{NonterminalString, ProductionIndex, Refusal, Symbol};
 use yacc_count::Counts;
 
 // Terminals of a table at most.
-const TERMINALS: usize = 63;
-
 // What refuses a text of n nonterminals and m terminals that is named well, by its counts and the room there is. A production's record stands behind those of the counts, the nonterminals and the one state.
 pub fn check_counts(
     n: usize,
@@ -25,7 +23,7 @@ pub fn check_counts(
     ensures { (w : Meant n m counts) → counted_of w.source table.now places.now ≡ limited_of w.source (reply_of result) table.now places.now }
 {
     if NonterminalString::LIMIT < n
-        || TERMINALS < m
+        || Symbol::TERMINALS < m
         || ProductionIndex::LIMIT < counts.alternatives
     {
         return Err(Refusal::Counts);
