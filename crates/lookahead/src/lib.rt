@@ -29,7 +29,7 @@ impl TokenSet {
         if terminals < TokenSet::LIMIT - 1 {
             TokenSet((1 << (terminals + 1)) - 1)
         } else {
-            TokenSet(0xFFFF_FFFF_FFFF_FFFF)
+            TokenSet(u64::MAX)
         }
     }
 

@@ -174,14 +174,12 @@ pub fn write_edge(graph: &mut [u16], k: usize, edge: TraceEdge)
     ensures { graph.new ≡ written graph.old k (value_words edge) }
 {
     let at = k * TraceGraph::EDGE_WORDS + 1;
-    let source = edge.source;
-    let target = edge.target;
-    graph[at] = source.kind as u16;
-    graph[at + 1] = source.number as u16;
-    graph[at + 2] = source.index as u16;
-    graph[at + 3] = target.kind as u16;
-    graph[at + 4] = target.number as u16;
-    graph[at + 5] = target.index as u16;
+    graph[at] = edge.source.kind as u16;
+    graph[at + 1] = edge.source.number as u16;
+    graph[at + 2] = edge.source.index as u16;
+    graph[at + 3] = edge.target.kind as u16;
+    graph[at + 4] = edge.target.number as u16;
+    graph[at + 5] = edge.target.index as u16;
     graph[at + 6] = edge.production as u16;
     graph[at + 7] = edge.index as u16;
 }
@@ -230,10 +228,8 @@ fn bucket_of(grammar: Grammar, edge: TraceEdge) -> usize
     requires small_edge { SmallEdge edge × (edge.production < grammar.productions) }
     ensures { (result ≡ bucket_number (productions_in grammar.entry.words.now grammar.entry.productions) (edge_is edge)) × (result < bucket_limit) }
 {
-    let source = edge.source;
-    let target = edge.target;
-    let from = node_number(source);
-    let to = node_number(target);
+    let from = node_number(edge.source);
+    let to = node_number(edge.target);
     let start = (from * 3001 + (to * 613 + edge.index * 89)) % 65536;
     mix(grammar.symbols(edge.production), start) % TraceGraph::BUCKETS
 }
