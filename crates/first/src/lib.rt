@@ -26,10 +26,8 @@ impl Answer {
         ensures { result ≡ join_answers self next }
     {
         if self.nullable {
-            let tokens = self.tokens;
-            let more = next.tokens;
             return Answer {
-                tokens: tokens.union(more),
+                tokens: self.tokens.union(next.tokens),
                 nullable: next.nullable,
             };
         }
@@ -40,17 +38,15 @@ impl Answer {
     pub fn meets(self, terminals: u16, lookahead: TokenSet) -> bool
         ensures { result ≡ meets_ahead terminals self lookahead.0 }
     {
-        let tokens = self.tokens;
-        tokens.is_intersecting(lookahead) || (self.nullable && lookahead.contains_eof(terminals))
+        self.tokens.is_intersecting(lookahead)
+            || (self.nullable && lookahead.contains_eof(terminals))
     }
 
     // Whether no terminal is in both, and not both lists are nullable.
     pub fn is_disjoint(self, other: Answer) -> bool
         ensures { result ≡ disjoint self other }
     {
-        let tokens = self.tokens;
-        let others = other.tokens;
-        tokens.is_disjoint(others) && !(self.nullable && other.nullable)
+        self.tokens.is_disjoint(other.tokens) && !(self.nullable && other.nullable)
     }
 }
 

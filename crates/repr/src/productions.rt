@@ -42,8 +42,7 @@ impl<'a> Grammar<'a> {
     {
         let from = production * ProductionIndex::WORDS + ProductionIndex::HEAD;
         let past = from + Symbol::WORDS * self.length(production);
-        let words = self.words;
-        &words[from..past]
+        &self.words[from..past]
     }
 
     // Symbol `index` of a production: what is left of the symbols from there on begins with it.
@@ -53,11 +52,10 @@ impl<'a> Grammar<'a> {
         ensures is { drop index (listed (symbol_words self.entry.words.now production)) ≡ meant result ∷ drop (suc index) (listed (symbol_words self.entry.words.now production)) }
         ensures in_range { IsInRange result }
     {
-        let words = self.words;
         let at = production * ProductionIndex::WORDS
             + ProductionIndex::HEAD
             + Symbol::WORDS * index;
-        Symbol::of(words[at], words[at + 1])
+        Symbol::of(self.words[at], self.words[at + 1])
     }
 
     // Where a production stands in its text, up to where.
@@ -65,8 +63,7 @@ impl<'a> Grammar<'a> {
         requires { production < self.productions }
         ensures { (result.0 ≡ get_or self.entry.words.now (production_place production + 2) 0) × (result.1 ≡ get_or self.entry.words.now (production_place production + 3) 0) }
     {
-        let words = self.words;
         let at = production * ProductionIndex::WORDS + 2;
-        (words[at], words[at + 1])
+        (self.words[at], self.words[at + 1])
     }
 }

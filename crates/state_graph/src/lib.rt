@@ -195,9 +195,8 @@ impl Step<'_> {
         ensures { states_in result.low result.high ≡ predecessors (meaning self.entry.table.words.now) (symbol_of_kind self.entry.kind self.entry.number) (states_in self.entry.set.low self.entry.set.high) }
     {
         self.sweep(hits);
-        let states = self.table.counts().states;
         let mut found = StateSet::new();
-        for s in 0..states {
+        for s in 0..self.table.counts().states {
             let head = self.table.first_edge(s);
             if head != 0 && is_set(hits, head) {
                 found = found.insert(s);
@@ -227,10 +226,9 @@ impl Step<'_> {
     fn states_along(self) -> Option<StateSet>
         ensures { SteppedTo (predecessors (meaning self.entry.table.words.now) (symbol_of_kind self.entry.kind self.entry.number) (states_in self.entry.set.low self.entry.set.high)) result }
     {
-        let states = self.table.counts().states;
         let mut left = self.table.records();
         let mut found = StateSet::new();
-        for s in 0..states {
+        for s in 0..self.table.counts().states {
             if self.leads(s, &mut left)? {
                 found = found.insert(s);
             }

@@ -195,17 +195,14 @@ pub fn write_edge(graph: &mut [u16], k: usize, edge: TraceEdge)
     ensures { graph.new ≡ written graph.old k (value_words edge) }
 {
     let at = k * TraceGraph::EDGE_WORDS + 1;
-    let source = edge.source;
-    let target = edge.target;
-    graph[at] = source.kind as u16;
-    graph[at + 1] = source.number as u16;
-    graph[at + 2] = source.index as u16;
-    graph[at + 3] = target.kind as u16;
-    graph[at + 4] = target.number as u16;
-    graph[at + 5] = target.index as u16;
-    let label = edge.label;
-    graph[at + 6] = label.production as u16;
-    graph[at + 7] = label.index as u16;
+    graph[at] = edge.source.kind as u16;
+    graph[at + 1] = edge.source.number as u16;
+    graph[at + 2] = edge.source.index as u16;
+    graph[at + 3] = edge.target.kind as u16;
+    graph[at + 4] = edge.target.number as u16;
+    graph[at + 5] = edge.target.index as u16;
+    graph[at + 6] = edge.label.production as u16;
+    graph[at + 7] = edge.label.index as u16;
 }
 
 // Whether the labels of two items are equal: by their symbols, and not by production.
@@ -248,10 +245,8 @@ fn bucket_of(grammar: Grammar, edge: TraceEdge) -> usize
     requires small_edge { SmallEdge edge × (edge.label.production < grammar.productions) }
     ensures { (result ≡ bucket_number (productions_in grammar.entry.words.now grammar.entry.productions) (edge_is edge)) × (result < bucket_limit) }
 {
-    let source = edge.source;
-    let target = edge.target;
-    let from = node_number(source);
-    let to = node_number(target);
+    let from = node_number(edge.source);
+    let to = node_number(edge.target);
     let start = (from * 3001 + (to * 613 + edge.label.index * 89)) % 65536;
     mix(grammar.symbols(edge.label.production), start) % TraceGraph::BUCKETS
 }

@@ -12,20 +12,20 @@ overflow_mul-at-2 c = let P = c.args.self.packed in let s = P.short _ c.requires
 pub overflow_add-at-2 : goal.overflow_add-at-2
 overflow_add-at-2 c = let P = c.args.self.packed in let s = P.short _ c.requires.within in let l = symbols_long _ _ _ P c.requires.within in omega arith
 
-pub offset_bounds-words-at : goal.offset_bounds-words-at
-offset_bounds-words-at c = let P = c.args.self.packed in let s = P.short _ c.requires.within in let l = symbols_long _ _ _ P c.requires.within in omega arith
+pub offset_bounds-self-at : goal.offset_bounds-self-at
+offset_bounds-self-at c = let P = c.args.self.packed in let s = P.short _ c.requires.within in let l = symbols_long _ _ _ P c.requires.within in omega arith
 
-pub bounds-words-at : goal.bounds-words-at
-bounds-words-at c = let P = c.args.self.packed in let s = P.short _ c.requires.within in let l = symbols_long _ _ _ P c.requires.within in omega arith
+pub bounds-self-at : goal.bounds-self-at
+bounds-self-at c = let P = c.args.self.packed in let s = P.short _ c.requires.within in let l = symbols_long _ _ _ P c.requires.within in omega arith
 
 pub overflow_add-at-3 : goal.overflow_add-at-3
 overflow_add-at-3 c = let P = c.args.self.packed in let s = P.short _ c.requires.within in let l = symbols_long _ _ _ P c.requires.within in omega arith
 
-pub offset_bounds-words-at-2 : goal.offset_bounds-words-at-2
-offset_bounds-words-at-2 c = let P = c.args.self.packed in let s = P.short _ c.requires.within in let l = symbols_long _ _ _ P c.requires.within in omega arith
+pub offset_bounds-self-at-2 : goal.offset_bounds-self-at-2
+offset_bounds-self-at-2 c = let P = c.args.self.packed in let s = P.short _ c.requires.within in let l = symbols_long _ _ _ P c.requires.within in omega arith
 
-pub bounds-words-at-2 : goal.bounds-words-at-2
-bounds-words-at-2 c = let P = c.args.self.packed in let s = P.short _ c.requires.within in let l = symbols_long _ _ _ P c.requires.within in omega arith
+pub bounds-self-at-2 : goal.bounds-self-at-2
+bounds-self-at-2 c = let P = c.args.self.packed in let s = P.short _ c.requires.within in let l = symbols_long _ _ _ P c.requires.within in omega arith
 
 pub returns : goal.returns
 returns c =
