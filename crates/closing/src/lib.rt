@@ -18,6 +18,7 @@ use lookahead::TokenSet;
 use lr1_core::Item;
 use repr::{Grammar, NonterminalString, ProductionIndex, Symbol};
 
+// Here and below a grammar and its FIRST sets stand beside each other: what keeps them as one, `Source` of crate finding, holds the sizes of a search too, and a struct of the two would be made at the one call from there.
 // What an item gives to the nonterminal at its cursor: FIRST of what stands behind it, followed by the item's tokens. An item without a token gives nothing.
 fn feed(
     grammar: Grammar,

@@ -40,7 +40,7 @@ fn next_record(grammar: Grammar, owner: usize, from: usize, at: usize) -> usize
     }
 }
 
-// Record 0 and the nonterminals.
+// Record 0 and the nonterminals. The grammar, the counts and the table stand beside each other here and below: the two callers have them so, and a struct of them would be made at these two calls alone.
 pub fn write_front(grammar: Grammar, counts: Counts, out: &mut [u16])
     requires { (U : Table) × (Target U counts.nonterminals counts.terminals counts.states out.old × PackedAs U grammar.words.now grammar.productions) }
     ensures { (U : Table) → Target U counts.nonterminals counts.terminals counts.states out.old → PackedAs U grammar.entry.words.now grammar.entry.productions → Grown U out.old out.new 0 (states_at U) }

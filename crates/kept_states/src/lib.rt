@@ -22,6 +22,7 @@ impl Begins {
     // States of a table at most (refusal 16).
     pub const STATES: usize = 128;
 
+    // Places of them.
     pub const ROWS: usize = Begins::STATES + 1;
 
     // Without states.

@@ -39,7 +39,7 @@ pub fn write_states(
     }
 }
 
-// The items of one state.
+// The items of one state, by number: that is where their records stand too.
 fn write_state_items(words: &[u16], from: usize, past: usize, items: usize, out: &mut [u16])
     requires from_le_past { (from ≤ past) × (record_limit * 5 ≤ length words.now) }
     requires stands { (U : Table) × (Stands (quads U) (items + from) (chain_from item_quad (items + from) (map item_of (entries words.now from (past - from)))) × Room U out.old) }

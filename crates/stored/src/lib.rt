@@ -84,6 +84,7 @@ pub struct Kernel {
 }
 
 impl Kernel {
+    // Words of all items.
     pub const WORDS: usize = Item::LIMIT * StoredItem::WORDS;
 
     // Without items.
