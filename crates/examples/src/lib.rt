@@ -2,7 +2,7 @@
 
 #![tactic(auto)]
 
-ghost use Rattle.std.specs.Prelude.{OnErr, IfOk, ◌≡◌, ℕ, ◌<◌, ◌≤◌, true, false, List, [], ◌++◌, length, drop, replicate, slice_index_or};
+ghost use Rattle.std.specs.Prelude.{OnOk, OnErr, ◌≡◌, ℕ, ◌<◌, ◌≤◌, true, false, List, [], ◌++◌, length, drop, replicate, slice_index_or};
 ghost use Rattle.repr.specs.Sizes.{grammar_room, edge_limit, trial_limit, example_limit, example_room};
 ghost use Rattle.slices.specs.Lent.{in_front};
 ghost use Rattle.repr.specs.Meaning.{no_production, Item as ItemOf};
@@ -56,7 +56,7 @@ pub struct Prepared {
     pub ends: [u64; Item::FLAG_WORDS],
 }
 
-// Packs the productions into the words lent, and makes the rest.
+// Packs the productions into the words lent, and makes the rest. The words are read again by `given`, so `read_grammar`, which keeps the loan, is not for them.
 pub fn prepare(table: AcceptedTable, words: &mut [u16]) -> Prepared
     requires { length words.old ≡ grammar_room }
     ensures { Reads table.entry.words.now words.new (length (meaning table.entry.words.now).productions) result.sets.terminals result.sets.map result.least result.ends }
@@ -138,7 +138,7 @@ pub struct Gathered {
 }
 
 // Whether a shift is traced: a yes or no, as what is kept of an example is defined by (`label_of`).
-fn shifts(action: Action) -> bool
+fn traces_shift(action: Action) -> bool
     ensures { result ≡ shifts action }
 {
     matches!(action, Action::Shift)
@@ -189,7 +189,15 @@ fn list_outlines(
                 if count + turn >= Conflict::EXAMPLES {
                     return Err(Refusal::TooManyExamples);
                 }
-                keep_trial(filter.grammar, shift, view, &words, side, count + turn, turn);
+                keep_trial(
+                    filter.grammar,
+                    shift,
+                    view,
+                    &words,
+                    side,
+                    count + turn,
+                    turn,
+                );
                 turn += 1;
                 made = number;
             }
@@ -206,16 +214,17 @@ fn list_outlines(
     }
 }
 
-// The view from an item that is traced from its state, in new lists, the edges in words of one each. More than 1,024 edges do not fit.
-fn open_view<'a>(
+// The item is traced from its state: its edges in words of one each, and the lists of the view from the item, in new lists. More than 1,024 edges do not fit.
+// The view itself is made by the caller: a view over both lent values at one lifetime has no proof.
+fn open_view(
     given: Given,
     traced: TracedItem,
-    trace: &'a mut OpenTrace,
-    lists: &'a mut ViewLists,
-) -> Result<View<'a>, Full>
+    trace: &mut OpenTrace,
+    lists: &mut ViewLists,
+) -> Result<(), Full>
     requires state_in_bounds { (traced.state < length (meaning given.table.words.now).states) × (item_is_fit (meaning given.table.words.now).productions traced.item.production traced.item.index ≡ true) }
     requires blank { Blank lists.old }
-    ensures listable { IfOk result (λ view. Listable (meaning given.entry.table.words.now).productions (edges_by traced.action (meaning given.entry.table.words.now) traced.state (record { production = traced.item.production; index = traced.item.index })) view.owners.now view.codes.now view.sources.now view.older.now view.latest.now (record { production = traced.item.production; index = traced.item.index })) }
+    ensures listable { OnOk result (Listable (meaning given.entry.table.words.now).productions (edges_by traced.action (meaning given.entry.table.words.now) traced.state (record { production = traced.item.production; index = traced.item.index })) lists.new.owners (drop 1 trace.new.edges.words) lists.new.sources lists.new.older lists.new.latest (record { production = traced.item.production; index = traced.item.index })) }
     ensures edge_limit_in_bounds { OnErr result (edge_limit < length (edges_by traced.action (meaning given.entry.table.words.now) traced.state (record { production = traced.item.production; index = traced.item.index }))) }
 {
     let tracer = Tracer {
@@ -229,7 +238,7 @@ fn open_view<'a>(
     };
     trace_codes(over, traced, trace)?;
     view_codes(given.grammar, &trace.edges, traced.item, lists);
-    Ok(lists.view(&trace.edges.words[1..]))
+    Ok(())
 }
 
 // One listing of a side: the item is traced from the state, and the examples of the trace are listed. More than 1,024 edges are refusal 12.
@@ -247,9 +256,10 @@ fn list_item(
 {
     let mut trace = OpenTrace::new();
     let mut lists = ViewLists::new();
-    let view = open_view(given, traced, &mut trace, &mut lists)?;
+    open_view(given, traced, &mut trace, &mut lists)?;
+    let view = lists.view(&trace.edges.words[1..]);
     let filter = given.filter(lookahead);
-    list_outlines(filter, shifts(traced.action), view, side, count)
+    list_outlines(filter, traces_shift(traced.action), view, side, count)
 }
 
 // `shift_examples`: the items that shift the token in their order, each traced and listed before the next.
@@ -287,7 +297,7 @@ fn shift_examples(
 }
 
 // A production at its end, as a reduce traces it.
-fn reduce_item(grammar: Grammar, state: StateIndex, production: usize) -> Traced
+fn reduce_item(grammar: Grammar, state: StateIndex, production: usize) -> TracedItem
     requires { production < grammar.productions }
     ensures { result ≡ record { state = state.0; item = record { production = production; index = length (slice_index_or (productions_in grammar.entry.words.now grammar.entry.productions) production no_production).symbols }; action = Reduce } }
 {
@@ -344,12 +354,7 @@ pub fn action_examples(case: TableConflict, side: &mut Side) -> Result<Gathered,
 }
 
 // From no edge on, past `wanted` examples of a listing: whether the words hold the next.
-fn find_example(
-    filter: Filter,
-    view: View,
-    words: &mut [u16],
-    wanted: usize,
-) -> bool
+fn find_example(filter: Filter, view: View, words: &mut [u16], wanted: usize) -> bool
     requires listable { (es : List TraceEdge) × ((start : ItemOf) × Listable (productions_in filter.grammar.words.now filter.grammar.productions) es view.owners.now view.codes.now view.sources.now view.older.now view.latest.now start) }
     requires by_index { (rest : List ℕ) × (words.old ≡ trial_words [] ++ rest) }
     ensures { (es : List TraceEdge) (start : ItemOf) → Listable (productions_in filter.entry.grammar.words.now filter.entry.grammar.productions) es view.entry.owners.now view.entry.codes.now view.entry.sources.now view.entry.older.now view.entry.latest.now start → Finds (productions_in filter.entry.grammar.words.now filter.entry.grammar.productions) es view.entry.owners.now view.entry.codes.now result (λ k. listed_by filter.entry.sets.now.terminals filter.entry.sets.now.map (productions_in filter.entry.grammar.words.now filter.entry.grammar.productions) es (set_of filter.entry.lookahead) start k) wanted words.new }
@@ -366,7 +371,10 @@ fn find_example(
                 left -= 1;
                 made = number;
             }
-            Searched::Out(_) | Searched::Over => {
+            Searched::Out(_) => {
+                return false;
+            }
+            Searched::Over => {
                 return false;
             }
         }
@@ -387,7 +395,8 @@ fn item_again(
 {
     let mut trace = OpenTrace::new();
     let mut lists = ViewLists::new();
-    if let Ok(view) = open_view(given, traced, &mut trace, &mut lists) {
+    if let Ok(()) = open_view(given, traced, &mut trace, &mut lists) {
+        let view = lists.view(&trace.edges.words[1..]);
         let mut trial = [0u16; View::TRIAL];
         let filter = given.filter(lookahead);
         if find_example(filter, view, &mut trial, wanted) {
