@@ -9,7 +9,7 @@ use Rattle.trace_graph.specs.Graph.{at_nonterminal, TraceEdge}
 use Rattle.trace_graph.specs.Words.{node_of, node_at, edge_at, edges_in}
 use Rattle.trace_graph.specs.Fits.{node_fits, edge_is_fit, once, graph_fits}
 use Rattle.enumerator.specs.Trials.{no_edge, ends_of, Small}
-use Rattle.enumerator.proofs.Nodes.{and_left, and_right}
+use Rattle.trace_graph.proofs.Bools.{and_left, and_right}
 
 pub edges_count : (ws : List ℕ) → length (edges_in ws) ≡ get_or ws 0 0
 unfolding edges_in

@@ -13,7 +13,7 @@ use Rattle.trace_graph.specs.Graph.{at_item, TraceEdge}
 use Rattle.enumerator.specs.Trials.{Path, Before, ends_of, trials, is_example_in, IsTrial, AllPaths, Increasing, Small}
 use Rattle.enumerator.specs.Lister.{Call, enough, passes, hands, says, Found, hit, out, over, search, Answer, example, end, refused, Out, Plain, fresh, found_out, found_then, plain_find, plain_out, plain_then, plain_run, plain_lister}
 use Rattle.enumerator.specs.Told.{plainly, path_lister, spoken, handed, ends, ends_at, answers, count_after, EndsAgain, Closed, NumberedAt, Numbered, IsHanded, Handed}
-use Rattle.enumerator.proofs.Nodes.{and_left, and_right, and_both}
+use Rattle.trace_graph.proofs.Bools.{and_left, and_right, both}
 use Rattle.enumerator.proofs.After.{drop_more}
 use Rattle.enumerator.proofs.Search.{Finds, finds}
 use Rattle.enumerator.proofs.Examples.{examples_ordered, examples_exact}
@@ -242,7 +242,7 @@ module _ (T : Table) (es : List TraceEdge) (start : Item) (a : Option ℕ) (p : 
 
   of_handed : IsHanded T es start a p → hands T es a p ≡ true
   unfolding hands
-  of_handed h = and_both (is_example_in (ends_of es) p) (passes T es a p) h.example ((passes-meets T es a p).1 h.meets)
+  of_handed h = both (is_example_in (ends_of es) p) (passes T es a p) h.example ((passes-meets T es a p).1 h.meets)
 
 all-front : (P : Path → Type 0) (ps qs : List Path) → AllPaths P (ps ++ qs) → AllPaths P ps
 all-front P [] qs a = tt

@@ -1,5 +1,5 @@
 -- Words that hold a trial, as the code tests it (src/machine.rt): zeros after the path, and the path edge by edge. Assumes nothing.
-use Rattle.std.proofs.Common.{◌≡◌, ℕ, suc, ◌+◌, ◌-◌, ◌*◌, ◌<◌, ◌≤◌, Bool, true, false, not, ◌&&◌, eqb, ltb, List, [], ◌∷◌, ◌++◌, reverse, length, get_or, take, drop, replicate, sym, refl, ap, ◌∙◌, arith, length-drop, take-append-drop, drop_of_length-le, length-take, length-take-le, get_or-drop, drop-cons, get_or-take, take-take, ltb-true, le-ltb, lt-ltb, eq-eqb, ne_eqb, eqb-true}
+use Rattle.std.proofs.Common.{◌≡◌, ℕ, suc, ◌+◌, ◌-◌, ◌*◌, ◌<◌, ◌≤◌, Bool, true, false, not, ◌&&◌, eqb, ltb, List, [], ◌∷◌, ◌++◌, reverse, length, get_or, take, drop, replicate, sym, refl, ap, ◌∙◌, arith, length-drop, take-append-drop, drop_of_length-le, length-take, length-take-le, get_or-drop, drop-cons, get_or-take, take-take, ltb-true, le-ltb, lt-ltb, eq-eqb, ne_eqb, eqb-true, zero, subst}
 use mathlib.Core.Bool.{and-true}
 use mathlib.Core.List.{reverse-cons, reverse-reverse}
 use lib.ListN.{length-reverse}
@@ -22,7 +22,7 @@ use Rattle.enumerator.specs.Trials.{Path, Ends, TrialFrom, is_example_in, Small}
 use Rattle.enumerator.specs.Words.{words_of, path_in, has_trial, path_room}
 use Rattle.enumerator.specs.Machine.{used_of, goes_on_byte, trial_from?}
 use Rattle.enumerator.specs.Stacks.{Ground, Started, Within, Stacked, stack_in}
-use Rattle.enumerator.proofs.Nodes.{and_left}
+use Rattle.trace_graph.proofs.Bools.{and_left}
 use Rattle.enumerator.proofs.Edges.{edges_count, source_at, target_at}
 use Rattle.enumerator.proofs.Steps.{used_end, used_in}
 use Rattle.enumerator.proofs.Exact.{complete}
@@ -289,6 +289,20 @@ pub within-reverse : (k : ℕ) (xs : List ℕ) → Within k xs → Within k (rev
 unfolding Within
 within-reverse k [] a = tt
 within-reverse k (x ∷ xs) a = rw (reverse-cons x xs) (within-append k (reverse xs) (x ∷ []) (within-reverse k xs a.1) (a.0, tt))
+
+pub within_at : (k : ℕ) (p : List ℕ) (i d : ℕ) → Within k p → i < length p → get_or p i d < k
+unfolding Within
+within_at k [] i d w h = absurd (omega arith)
+within_at k (e ∷ p) zero d w h = w.0
+within_at k (e ∷ p) (suc i) d w h = within_at k p i d w.1 (omega arith)
+
+-- the edges of a stack, as the words have them
+pub uses_edge : {k : ℕ} (ws : List ℕ) (d : ℕ) → Within k (stack_in ws d) → (i x : ℕ) → i < length (take d (drop 1 ws)) → x ≡ get_or (take d (drop 1 ws)) i x → x < k
+unfolding stack_in
+uses_edge {k} ws d w i x h e =
+    let p = take d (drop 1 ws) in
+    let v = subst (Within k) (reverse-reverse p) (within-reverse k (reverse p) w) in
+    omega (arith, within_at k p i x v h)
 
 pub trial_within : (G : Ends) (p : Path) (us : List ℕ) (v : Node) → TrialFrom G us v p → Within G.count p
 unfolding Within

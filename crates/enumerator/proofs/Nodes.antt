@@ -1,17 +1,7 @@
 -- The test of two nodes decides equality. Assumes nothing.
-use Rattle.std.proofs.Common.{◌≡◌, Bool, true, false, ◌&&◌, eqb, refl, ap, eq-eqb, eqb-true}
+use Rattle.std.proofs.Common.{◌≡◌, true, eqb, refl, ap, eq-eqb, eqb-true}
+use Rattle.trace_graph.proofs.Bools.{and_left, and_right}
 use Rattle.trace_graph.specs.Graph.{Node, at_nonterminal, at_item, same_item, is_same_node}
-
-pub and_left : (a b : Bool) → a && b ≡ true → a ≡ true
-and_left true b e = refl
-and_left false b e = e
-
-pub and_right : (a b : Bool) → a && b ≡ true → b ≡ true
-and_right true b e = e
-and_right false b e = cc
-
-pub and_both : (a b : Bool) → a ≡ true → b ≡ true → a && b ≡ true
-and_both a b p q = rw (p, q)
 
 pub same_eq : (a b : Node) → is_same_node a b ≡ true → a ≡ b
 unfolding is_same_node same_item

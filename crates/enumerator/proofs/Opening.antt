@@ -17,7 +17,7 @@ use Rattle.enumerator.specs.Opening.{listing, Ready}
 use Rattle.enumerator.specs.Advance.{set_of, ahead_fits, lent_graph_fits, asked, open_in, open_by, open_of}
 use Rattle.enumerator.specs.Lookahead.{Lookahead}
 use Rattle.enumerator.specs.declared.Listing.{Listing}
-use Rattle.enumerator.proofs.Nodes.{and_both}
+use Rattle.trace_graph.proofs.Bools.{both}
 use Rattle.enumerator.proofs.Edges.{small_of}
 use Rattle.enumerator.proofs.Taken.{fits_long, asked_graph}
 
@@ -29,8 +29,8 @@ unfolding asked
 ready t i ahead g a f s l x n = record {
   accepted = a;
   asks =
-      and_both (item_is_fit (meaning t).productions i.production i.index) _ f
-      (and_both (ahead_fits (meaning t) (set_of ahead)) (lent_graph_fits (meaning t) g) s (fits_long (meaning t) g (le-leb graph_room (length g) l) ∙ x));
+      both (item_is_fit (meaning t).productions i.production i.index) _ f
+      (both (ahead_fits (meaning t) (set_of ahead)) (lent_graph_fits (meaning t) g) s (fits_long (meaning t) g (le-leb graph_room (length g) l) ∙ x));
   long = l;
   node = n;
 }

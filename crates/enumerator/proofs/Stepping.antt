@@ -1,11 +1,13 @@
 -- The ways through the code that tests a trial (src/machine.rt), over its words. Assumes nothing.
-use Rattle.std.proofs.Common.{◌≡◌, ℕ, zero, suc, ◌+◌, ◌-◌, ◌*◌, ◌<◌, ◌≤◌, Bool, true, false, not, eqb, List, [], ◌∷◌, ◌++◌, reverse, length, get_or, sym, refl, ap, ◌∙◌, arith, ne_eqb}
+use Rattle.std.proofs.Common.{◌≡◌, ℕ, zero, suc, ◌+◌, ◌*◌, ◌<◌, Bool, true, false, not, ◌||◌, eqb, List, [], ◌∷◌, ◌++◌, reverse, length, get_or, take, drop, sym, refl, ap, ◌∙◌, arith, ne_eqb}
 use mathlib.Core.List.{reverse-cons}
 use borrow.Author.Tests.{eqb-false}
+use Rattle.std.specs.List.{list_any}
+use Rattle.std.proofs.lemmas.List.Folds.{list_any-append}
 use Rattle.repr.specs.Sizes.{edge_limit, edge_room, edge_place}
 use Rattle.repr.specs.Lists.{mem}
 use Rattle.repr.specs.Meaning.{Item}
-use Rattle.repr.proofs.Lists.{mem-cons_here, mem_no, mem-nil}
+use Rattle.repr.proofs.Lists.{cases, mem-cons_here, mem_no, mem-nil}
 use Rattle.trace_graph.specs.declared.Node.{Node as NodeValue}
 use Rattle.trace_graph.specs.Graph.{Node, at_nonterminal, at_item, is_same_node}
 use Rattle.trace_graph.specs.Words.{node_of, node_at, edges_in}
@@ -20,7 +22,7 @@ use Rattle.enumerator.specs.Stacks.{Ground, Started, Roomy, Within, Stacked, sta
 use Rattle.enumerator.proofs.Nodes.{same_eq}
 use Rattle.enumerator.proofs.Edges.{source_at}
 use Rattle.enumerator.proofs.Steps.{used_end, used-item, used_in}
-use Rattle.enumerator.proofs.StackWords.{stack_once, empty, stack_more, upper, upper_below, upper_is}
+use Rattle.enumerator.proofs.StackWords.{stack_once, empty, upper, upper_below, upper_is}
 
 abbrev pub ends : List ℕ → Ends
 ends g = ends_of (edges_in g)
@@ -79,55 +81,35 @@ module _ (G : Ends) (n e : ℕ) (st : List ℕ) where
           let t : eqb m n ≡ false = sym (ap (λ (x : Node). is_same_node x (at_nonterminal n)) q) ∙ s in
           ap (mem n) (used_in G e st m q) ∙ mem_no n m (used_of G st) (ne_eqb n m (λ x. eqb-false m n t (sym x)))
 
-pub record Under (g ws : List ℕ) (d n k : ℕ) : Type 0 where
-  pub within : k ≤ d
-  pub edges : Within (get_or g 0 0) (stack_in ws k)
-  pub same : mem n (used_of (ends g) (stack_in ws k)) ≡ mem n (used_of (ends g) (stack_in ws d))
+or_swap : (a b : Bool) → (a || (b || false)) ≡ (b || a)
+or_swap true true = refl
+or_swap true false = refl
+or_swap false true = refl
+or_swap false false = refl
 
-pub uses-first : {g ws : List ℕ} {d n : ℕ} → Within (get_or g 0 0) (stack_in ws d) → Under g ws d n d
-uses-first w = record { within = omega arith; edges = w; same = refl }
+module _ (G : Ends) (n : ℕ) where
+  abbrev pub comes : ℕ → Bool
+  comes e = is_same_node (G.source e) (at_nonterminal n)
+
+  used_any : (st : List ℕ) → list_any comes st ≡ mem n (used_of G st)
+  used_any [] = sym (ap (mem n) (used_end G) ∙ mem-nil n)
+  used_any (e ∷ st) = cases (comes e)
+      (λ h. ap (λ (b : Bool). b || list_any comes st) h ∙ sym (used_here G n e st h))
+      (λ h. ap (λ (b : Bool). b || list_any comes st) h ∙ used_any st ∙ sym (used_there G n e st h))
+
+  any_reverse : (xs : List ℕ) → list_any comes (reverse xs) ≡ list_any comes xs
+  any_reverse [] = refl
+  any_reverse (x ∷ xs) =
+      ap (list_any comes) (reverse-cons x xs) ∙ list_any-append comes (reverse xs) (x ∷ [])
+      ∙ ap (λ (b : Bool). b || (comes x || false)) (any_reverse xs) ∙ or_swap (list_any comes xs) (comes x)
+
+  pub uses_any : (ws : List ℕ) (d : ℕ) → list_any comes (take d (drop 1 ws)) ≡ mem n (used_of G (stack_in ws d))
+  unfolding stack_in
+  uses_any ws d = sym (any_reverse (take d (drop 1 ws))) ∙ used_any (reverse (take d (drop 1 ws)))
 
 pub within-top : (k e : ℕ) (st : List ℕ) → Within k (e ∷ st) → (e < k) × Within k st
 unfolding Within
 within-top k e st w = w
-
-used-none : (g ws : List ℕ) (n : ℕ) → mem n (used_of (ends g) (stack_in ws 0)) ≡ false
-unfolding stack_in
-used-none g ws n = ap (mem n) (used_end (ends g)) ∙ mem-nil n
-
-module _ {g ws : List ℕ} {d n k : ℕ} (U : Under g ws d n k) (long : d < length ws) where
-  pub uses_end : k ≡ 0 → false ≡ mem n (used_of (ends g) (stack_in ws d))
-  uses_end z = sym (used-none g ws n) ∙ ap (λ (x : ℕ). mem n (used_of (ends g) (stack_in ws x))) (sym z) ∙ U.same
-
-  module _ (ne : k ≡ 0 → ⊥) {x : ℕ} (ex : x ≡ get_or ws k 0) where
-    one : k ≡ suc (k - 1)
-    one = go k refl
-      where
-        go : (m : ℕ) → k ≡ m → k ≡ suc (k - 1)
-        go zero q = absurd (ne q)
-        go (suc m) q = omega arith
-
-    split : stack_in ws k ≡ x ∷ stack_in ws (k - 1)
-    split =
-        let u = U.within in
-        let o = one in
-        ap (stack_in ws) o ∙ stack_more ws (k - 1) (omega arith) ∙ ap (λ (y : ℕ). y ∷ stack_in ws (k - 1)) (ap (λ (m : ℕ). get_or ws m 0) (sym o) ∙ sym ex)
-
-    parts : (x < get_or g 0 0) × Within (get_or g 0 0) (stack_in ws (k - 1))
-    parts = within-top (get_or g 0 0) x (stack_in ws (k - 1)) (rw split at U.edges)
-
-    pub uses_edge : x < get_or g 0 0
-    uses_edge = parts.0
-
-    pub uses-found : {r : Bool} → r ≡ is_same_node ((ends g).source x) (at_nonterminal n) → r ≡ true → true ≡ mem n (used_of (ends g) (stack_in ws d))
-    uses-found er t = sym (used_here (ends g) n x (stack_in ws (k - 1)) (sym er ∙ t)) ∙ ap (λ (l : List ℕ). mem n (used_of (ends g) l)) (sym split) ∙ U.same
-
-    pub uses_again : {r : Bool} → r ≡ is_same_node ((ends g).source x) (at_nonterminal n) → r ≡ false → Under g ws d n (k - 1)
-    uses_again er f = record {
-      within = omega (arith, U.within);
-      edges = parts.1;
-      same = sym (used_there (ends g) n x (stack_in ws (k - 1)) (sym er ∙ f)) ∙ ap (λ (l : List ℕ). mem n (used_of (ends g) l)) (sym split) ∙ U.same;
-    }
 
 -- `is_trial` begins at the start item
 pub start_fits : {g : List ℕ} {production index : ℕ} (A : Started g production index)

@@ -11,7 +11,7 @@ use Rattle.trace_graph.specs.Words.{node_at, edge_at, edges_in}
 use Rattle.trace_graph.specs.Fits.{item_is_fit, edge_is_fit, once, graph_fits}
 use Rattle.enumerator.specs.Trials.{no_edge}
 use Rattle.enumerator.specs.Advance.{ahead_fits, lent_graph_fits, asked}
-use Rattle.enumerator.proofs.Nodes.{and_both, and_left, and_right}
+use Rattle.trace_graph.proofs.Bools.{both, and_left, and_right}
 use Rattle.enumerator.proofs.Edges.{few_edges, edge_fits, no_edge-twice}
 
 agree_below : (f h : ℕ → TraceEdge) (c : ℕ) → ((k : ℕ) → k < c → f k ≡ h k) → map f (below c) ≡ map h (below c)
@@ -62,8 +62,8 @@ module _ (n : ℕ) (g : List ℕ) (many : graph_room ≤ n) where
   graph_taken m ps fits =
       let few = few_edges m ps g fits in
       rw (edges_taken few, count_taken)
-      (and_both (leb (get_or g 0 0) edge_limit) _ (le-leb (get_or g 0 0) edge_limit few)
-      (and_both (every? (edge_is_fit m ps (take n g)) (below (get_or g 0 0))) (once ps (edges_in g))
+      (both (leb (get_or g 0 0) edge_limit) _ (le-leb (get_or g 0 0) edge_limit few)
+      (both (every? (edge_is_fit m ps (take n g)) (below (get_or g 0 0))) (once ps (edges_in g))
       (every?_below_intro (edge_is_fit m ps (take n g)) (get_or g 0 0) (λ k l. edge_fits_taken m ps k (omega arith) ∙ edge_fits m ps g fits k l))
       (no_edge-twice m ps g fits)))
 
@@ -90,8 +90,8 @@ asked_taken T i ahead n g long a =
     let t = item_is_fit T.productions i.production i.index in
     let b = and_right t (ahead_fits T ahead && lent_graph_fits T g) a in
     let f = asked_graph T i ahead g long a in
-    and_both t (ahead_fits T ahead && lent_graph_fits T (take n g)) (and_left t (ahead_fits T ahead && lent_graph_fits T g) a)
-    (and_both (ahead_fits T ahead) (lent_graph_fits T (take n g)) (and_left (ahead_fits T ahead) (lent_graph_fits T g) b)
+    both t (ahead_fits T ahead && lent_graph_fits T (take n g)) (and_left t (ahead_fits T ahead && lent_graph_fits T g) a)
+    (both (ahead_fits T ahead) (lent_graph_fits T (take n g)) (and_left (ahead_fits T ahead) (lent_graph_fits T g) b)
     (cases (leb graph_room (length (take n g)))
     (λ e.
     let h = leb-true graph_room (length (take n g)) e in

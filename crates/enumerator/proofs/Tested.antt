@@ -1,5 +1,5 @@
 -- The test that a path is a trial, edge by edge, is the test that it is among the trials. Assumes nothing.
-use Rattle.std.proofs.Common.{◌≡◌, ℕ, ◌<◌, Bool, true, false, not, ◌&&◌, ltb, List, [], ◌∷◌, take, sym, refl, true≢false, ltb-true, lt-ltb}
+use Rattle.std.proofs.Common.{◌≡◌, ℕ, ◌<◌, true, not, ◌&&◌, ltb, List, [], ◌∷◌, take, sym, refl, true≢false, ltb-true, lt-ltb}
 use borrow.Author.Tests.{not-true}
 use Rattle.repr.specs.Sizes.{scratch_words}
 use Rattle.slices.specs.Same.{same_words}
@@ -8,7 +8,8 @@ use Rattle.trace_graph.specs.Graph.{Node, at_nonterminal, at_item, is_same_node}
 use Rattle.enumerator.specs.Trials.{Path, Ends, TrialFrom, trials, is_example_in, Small}
 use Rattle.enumerator.specs.Words.{words_of, path_in, has_trial}
 use Rattle.enumerator.specs.Machine.{goes_on_byte, trial_from?}
-use Rattle.enumerator.proofs.Nodes.{and_left, and_right, same_eq, same_refl}
+use Rattle.trace_graph.proofs.Bools.{and_left, and_right, agree}
+use Rattle.enumerator.proofs.Nodes.{same_eq, same_refl}
 use Rattle.enumerator.proofs.Exact.{sound, complete}
 use Rattle.enumerator.proofs.SameWords.{found_of_member, member_of_found}
 
@@ -41,15 +42,10 @@ module _ (G : Ends) where
           let t = trial_from? G (n ∷ us) (at_nonterminal n) (f ∷ p) in
           (n, r.0, r.1, q, not-true (mem n us) (and_left (not (mem n us)) t k), ih n (and_right (not (mem n us)) t k))
 
-same_tests : (a b : Bool) → (a ≡ true → b ≡ true) → (b ≡ true → a ≡ true) → a ≡ b
-same_tests true b f g = sym (f refl)
-same_tests false true f g = g refl
-same_tests false false f g = refl
-
 module _ (G : Ends) (start : Node) (small : Small G) where
   pub trial_test : (p : Path) → some? (same_words p) (trials G start) ≡ trial_from? G [] start p
   trial_test p =
-      same_tests (some? (same_words p) (trials G start)) (trial_from? G [] start p)
+      agree (some? (same_words p) (trials G start)) (trial_from? G [] start p)
       (λ h. trial_passes G p [] start (sound G start p (member_of_found p (trials G start) h)))
       (λ h. found_of_member p (trials G start) (complete G small start p (passes_trial G p [] start h)))
 

@@ -38,3 +38,8 @@ pub enum Advanced {
     Example,
     End,
 }
+
+impl Advanced {
+    // The end as a number, behind those of the refusals; an example is 0.
+    pub const END: u16 = 16;
+}

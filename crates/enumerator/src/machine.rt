@@ -1,11 +1,11 @@
 // Whether the words of a public listing hold a trial of a lent graph, and clearing them: the number of its edges, then its edges from the start item on, then zeros. Crate view has the steps from trial to trial.
 ghost use Rattle.std.specs.Prelude.{◌≡◌, ℕ, ◌-◌, ◌<◌, ◌≤◌, true, ◌&&◌, List, [], ◌++◌, reverse, length, take, drop, replicate, nat_lt, slice_index};
-ghost use Rattle.repr.specs.Sizes.{scratch_words};
+ghost use Rattle.repr.specs.Sizes.{scratch_words, edge_place};
 ghost use Rattle.slices.specs.Same.{same_words};
 ghost use Rattle.repr.specs.Lists.{mem};
 ghost use Rattle.trace_graph.specs.Graph.{at_nonterminal, at_item, is_same_node};
-ghost use Rattle.trace_graph.specs.Words.{edges_in};
-ghost use Rattle.trace_graph.specs.Values.{node_is, node_value_fits};
+ghost use Rattle.trace_graph.specs.Words.{node_at, edges_in};
+ghost use Rattle.trace_graph.specs.Values.{node_is, node_read, node_value_fits};
 ghost use Rattle.enumerator.specs.Trials.{ends_of, is_example_in};
 ghost use Rattle.enumerator.specs.Words.{words_of, has_trial};
 ghost use Rattle.enumerator.specs.Machine.{used_of, trial_from?};
@@ -44,12 +44,20 @@ pub struct Graph<'a> {
 }
 
 impl<'a> Graph<'a> {
+    // The node that an edge comes from.
+    fn source(self, edge: usize) -> Node
+        requires edge_bound { edge < slice_index self.words.now 0 }
+        ensures { (node_is result ≡ node_at self.entry.words.now (edge_place edge)) × (result ≡ node_read self.entry.words.now (edge_place edge)) }
+    {
+        read_node(self.words, edge * TraceGraph::EDGE_WORDS + 1)
+    }
+
     // Whether an edge comes from a nonterminal.
     fn comes_from(self, edge: usize, nonterminal: usize) -> bool
         requires edge_bound { edge < slice_index self.words.now 0 }
         ensures { result ≡ is_same_node ((ends_of (edges_in self.entry.words.now)).source edge) (at_nonterminal nonterminal) }
     {
-        let source = read_node(self.words, edge * TraceGraph::EDGE_WORDS + 1);
+        let source = self.source(edge);
         source.kind == 0 && source.number == nonterminal
     }
 
@@ -59,13 +67,9 @@ impl<'a> Graph<'a> {
         requires within { Within (slice_index self.words.now 0) (stack_in words.now depth) }
         ensures { result ≡ mem nonterminal (used_of (ends_of (edges_in self.entry.words.now)) (stack_in words.now depth)) }
     {
-        for k in (1..=depth).rev() {
-            let edge = word(words, k);
-            if self.comes_from(edge, nonterminal) {
-                return true;
-            }
-        }
-        false
+        words[1..depth + 1]
+            .iter()
+            .any(|edge| self.comes_from(*edge as usize, nonterminal))
     }
 
     // Whether the trial is an example: its last edge comes from an item.
@@ -74,12 +78,7 @@ impl<'a> Graph<'a> {
         ensures { (st rest : List ℕ) → words.now ≡ words_of (reverse st) ++ rest → result ≡ is_example_in (ends_of (edges_in self.entry.words.now)) (reverse st) }
     {
         let depth = word(words, 0);
-        if depth == 0 {
-            return false;
-        }
-        let edge = word(words, depth);
-        let source = read_node(self.words, edge * TraceGraph::EDGE_WORDS + 1);
-        source.kind != 0
+        depth != 0 && self.source(word(words, depth)).kind != 0
     }
 
     // Whether a number is an edge's, and the edge enters a node.
@@ -102,22 +101,18 @@ impl<'a> Graph<'a> {
             number: start.production,
             index: start.index,
         };
+        // The node is carried from edge to edge, which a closure for `all` would have to change.
         for at in 0..depth - 1 {
             let edge = word(words, at + 1);
             if !self.enters(edge, node) {
                 return false;
             }
-            let source = read_node(self.words, edge * TraceGraph::EDGE_WORDS + 1);
-            if source.kind != 0 {
+            node = self.source(edge);
+            if node.kind != 0 || self.uses(words, at, node.number) {
                 return false;
             }
-            if self.uses(words, at, source.number) {
-                return false;
-            }
-            node = source;
         }
-        let edge = word(words, depth);
-        self.enters(edge, node)
+        self.enters(word(words, depth), node)
     }
 
     // Whether the words are those of a trial that is an example (refusal 9): no trial has more than 33 edges.
@@ -127,6 +122,7 @@ impl<'a> Graph<'a> {
         ensures { result ≡ has_trial (ends_of (edges_in self.entry.words.now)) (at_item (record { production = start.production; index = start.index })) words.now }
     {
         let depth = word(words, 0);
+        // By the words alone there is none.
         if depth == 0 || depth > Example::REDUCTIONS || !only_zeros(words, depth + 1) {
             return false;
         }

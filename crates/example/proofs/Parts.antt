@@ -2,7 +2,7 @@
 use Rattle.std.proofs.Common.{◌≡◌, ℕ, zero, suc, ◌+◌, ◌-◌, ◌*◌, ◌<◌, ◌≤◌, true, false, List, [], ◌∷◌, ◌++◌, map, length, get_or, take, drop, sym, refl, ap, ◌∙◌, arith, drop_of_length-le}
 use mathlib.Core.List.{map-append}
 use mathlib.Core.Option.{Option, none, some}
-use Rattle.repr.specs.Sizes.{nonterminal_limit, terminal_limit, production_place}
+use Rattle.repr.specs.Sizes.{nonterminal_limit, terminal_limit}
 use Rattle.repr.specs.Lists.{joined}
 use Rattle.repr.specs.Meaning.{Symbol, nonterminal, terminal, Production}
 use Rattle.repr.specs.Listed.{symbol_of_kind, listed, symbol_is_fit, list_is_fit}
@@ -11,7 +11,7 @@ use Rattle.repr.specs.Packed as packed
 use Rattle.repr.proofs.Lists.{length_mapped, joined_append, clash}
 use Rattle.repr.proofs.Listed.{drop_two, fits_head}
 use Rattle.repr.proofs.Packed.{words_long}
-use Rattle.repr.proofs.Parts.{listed_at, symbols_long, word_of}
+use Rattle.repr.proofs.Parts.{listed_at, symbols_long}
 use Rattle.lr1_core.specs.Items.{Sets, first, symbol_sets, Counts, counts_of}
 use Rattle.example.specs.Example.{symbol, symbol_words, sets_of, cursor_of}
 use Rattle.example.specs.Labels.{labels_in, LabelsFit}
@@ -129,29 +129,16 @@ module _ (g : List ℕ) (n : ℕ) (P : Packed g n) (ws : List ℕ) (F : LabelsFi
     inside' : p < n
     inside' = item-production g n ws F 0 h p i ep ei
 
-    pub cursor_room : production_place p + 4 + 2 * i + 2 ≤ length g
-    cursor_room =
-        let a = symbols_long g n p P inside' in
-        let b = P.short p inside' in
-        let c = P.few in
-        let d = P.long in
-        let e = inside' in
-        omega arith
+    cursor_long : 2 * i + 2 ≤ length (packed.symbol_words g p)
+    cursor_long = let w = words_long g n p P inside' in let s = symbols_long g n p P inside' in omega arith
 
-    pub cursor_is : (from past : ℕ) → from ≡ production_place p + 4 + 2 * i → past ≡ from + 2 → Part (take (past - from) (drop from g)) (cursor_of (productions_in g n) (labels_in ws))
+    pub cursor_is : (past : ℕ) → past ≡ 2 * i + 2 → (past ≤ length (packed.symbol_words g p)) × Part (take (past - 2 * i) (drop (2 * i) (packed.symbol_words g p))) (cursor_of (productions_in g n) (labels_in ws))
     unfolding listed list_is_fit
-    cursor_is from past ef eq =
-        let w = words_long g n p P inside' in
-        let s = symbols_long g n p P inside' in
-        let r = cursor_room in
-        let two : past - from ≡ 2 = omega arith in
-        let one : production_place p + 4 + (2 * i + 1) ≡ from + 1 = omega arith in
-        let same : production_place p + 4 + 2 * i ≡ from = omega arith in
-        let f = (fits_head nonterminal_limit terminal_limit (packed.symbol_words g p) (2 * i) (omega arith) (fits-drop 32 63 i (packed.symbol_words g p) (P.fits p inside'))).1.0 in
-        let x = word_of g n p (2 * i) P inside' (omega arith) in
-        let y = word_of g n p (2 * i + 1) P inside' (omega arith) in
-        let k : symbol_is_fit nonterminal_limit terminal_limit (get_or g from 0) (get_or g (from + 1) 0) ≡ true = rw (x, y, one, same) at f in
-        let v : take (past - from) (drop from g) ≡ get_or g from 0 ∷ get_or g (from + 1) 0 ∷ [] = rw (two, drop_two g from (omega arith)) in
-        let t : cursor_of (productions_in g n) (labels_in ws) ≡ symbol_of_kind (get_or g from 0) (get_or g (from + 1) 0) ∷ [] =
-        at_cursor_lem ∙ rw (listed_at (packed.symbol_words g p) i (omega arith), x, y, one, same) in
-        rw v (part_of (get_or g from 0 ∷ get_or g (from + 1) 0 ∷ []) (cursor_of (productions_in g n) (labels_in ws)) (sym t) (rw k))
+    cursor_is past eq =
+        let ss = packed.symbol_words g p in
+        let l = cursor_long in
+        let two : past - 2 * i ≡ 2 = omega arith in
+        let k = (fits_head nonterminal_limit terminal_limit ss (2 * i) (omega arith) (fits-drop 32 63 i ss (P.fits p inside'))).1.0 in
+        let v : take (past - 2 * i) (drop (2 * i) ss) ≡ get_or ss (2 * i) 0 ∷ get_or ss (2 * i + 1) 0 ∷ [] = rw (two, drop_two ss (2 * i) (omega arith)) in
+        let t : cursor_of (productions_in g n) (labels_in ws) ≡ symbol_of_kind (get_or ss (2 * i) 0) (get_or ss (2 * i + 1) 0) ∷ [] = at_cursor_lem ∙ rw (listed_at ss i (omega arith)) in
+        (omega arith, rw v (part_of (get_or ss (2 * i) 0 ∷ get_or ss (2 * i + 1) 0 ∷ []) (cursor_of (productions_in g n) (labels_in ws)) (sym t) (rw k)))

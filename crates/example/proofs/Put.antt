@@ -45,10 +45,6 @@ put-more at xs ys old h = rw (front, back) (simp append_assoc)
         ∙ ap (λ (k : ℕ). drop k old) sum
 
 -- a few stores
-pub stored_two : (at a b : ℕ) (old : List ℕ) → at + 2 ≤ length old → set (set old at a) (at + 1) b ≡ put_at at (a ∷ b ∷ []) old
-unfolding put_at
-stored_two at a b old h = rw (add-one at) (sets-eq (a ∷ b ∷ []) old at h ∙ append_assoc (take at old) (a ∷ b ∷ []) (drop (at + 2) old))
-
 pub stored_three : (at a b c : ℕ) (old : List ℕ) → at + 3 ≤ length old → set (set (set old at a) (at + 1) b) (at + 2) c ≡ put_at at (a ∷ b ∷ c ∷ []) old
 unfolding put_at
 stored_three at a b c old h = rw (add-one at, add-two at) (sets-eq (a ∷ b ∷ c ∷ []) old at h ∙ append_assoc (take at old) (a ∷ b ∷ c ∷ []) (drop (at + 3) old))

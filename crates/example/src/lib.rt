@@ -15,26 +15,29 @@ ghost use Rattle.example.specs.Written.{label_at, words_of, Part, put_at, around
 
 use first::{Answer, FirstSets};
 use lookahead::TokenSet;
-use lr1_core::{Item, SymbolSets, prefix, suffix};
-use repr::{Grammar, NonterminalString, ProductionIndex, word};
+use lr1_core::{Item, prefix, suffix};
+use repr::{Grammar, NonterminalString, ProductionIndex, Symbol, word};
 
 // An example in words: its limits.
 #[derive(Clone, Copy)]
-pub struct Example {
-    pub labels: usize,
-}
+pub struct Example;
 
 impl Example {
-    // Reductions and symbols of an example; words of a symbol, of a reduction, of an example behind its three counts.
+    // Reductions and symbols of an example; its counts (symbols, cursor, reductions); words of a symbol, of a reduction, of an example.
     pub const REDUCTIONS: usize = NonterminalString::LIMIT + 1;
 
     pub const SYMBOLS: usize = Example::REDUCTIONS * ProductionIndex::SYMBOLS;
 
-    pub const SYMBOL_WORDS: usize = 2;
+    pub const COUNTS: usize = 3;
+
+    pub const SYMBOL_WORDS: usize = Symbol::WORDS;
 
     pub const REDUCTION_WORDS: usize = 3;
 
-    pub const WORDS: usize = 3
+    // The kind of the empty mark, behind those of symbols.
+    pub const EMPTY_MARK: u16 = 2;
+
+    pub const WORDS: usize = Example::COUNTS
         + Example::SYMBOL_WORDS * Example::SYMBOLS
         + Example::REDUCTION_WORDS * Example::REDUCTIONS;
 
@@ -44,7 +47,7 @@ impl Example {
     pub const ALL_LABEL_WORDS: usize = Example::LABEL_WORDS * Example::REDUCTIONS;
 }
 
-// Copies words into the buffer at a place.
+// Copies words into the buffer at a place. The writers below are given the buffer and a place, and the place behind what was written comes back: a struct of both would say the same behind a `&mut`.
 fn copy(from: &[u16], buffer: &mut [u16], at: usize)
     requires { at + length from.now ≤ length buffer.old }
     ensures { buffer.new ≡ put_at at from.now buffer.old }
@@ -57,9 +60,7 @@ fn put_three(buffer: &mut [u16], at: usize, first: usize, second: usize, third: 
     requires { (at + 3 ≤ length buffer.old) × (first < 65536) × (second < 65536) × (third < 65536) }
     ensures { buffer.new ≡ put_at at (first ∷ second ∷ third ∷ []) buffer.old }
 {
-    buffer[at] = first as u16;
-    buffer[at + 1] = second as u16;
-    buffer[at + 2] = third as u16;
+    copy(&[first as u16, second as u16, third as u16], buffer, at);
 }
 
 // FIRST of what the example expects next, and how many labels were asked for it.
@@ -70,6 +71,7 @@ pub struct Expected {
 }
 
 // The labels of an example, innermost first, three words each: nonterminal, production, index. At least one and at most 33, in range of the grammar.
+// Which one is asked is its number: prefixes are asked from the last label on, the cursor and the empty mark of the first alone, so that an iterator would be a second way to the same words.
 #[derive(Clone, Copy)]
 pub struct Labels<'a> {
     pub grammar: Grammar<'a>,
@@ -125,33 +127,47 @@ impl<'a> Labels<'a> {
         ensures { Part result.now (cursor_of (productions_in self.entry.grammar.words.now self.entry.grammar.productions) (labels_in self.entry.words.now)) }
     {
         let first = self.item(0);
-        let grammar = self.grammar;
-        let words = grammar.words;
-        let from = first.production * ProductionIndex::WORDS + 4 + 2 * first.index;
-        if first.can_shift(grammar) {
-            return &words[from..from + 2];
+        let symbols = self.grammar.symbols(first.production);
+        if first.can_shift(self.grammar) {
+            let from = Example::SYMBOL_WORDS * first.index;
+            &symbols[from..from + Example::SYMBOL_WORDS]
+        } else {
+            &symbols[..0]
         }
-        &words[..0]
     }
 
-    // How many symbols stand before the cursors of all labels, and after them; the walk's first entry has the empty sets.
-    fn totals(self) -> SymbolSets
-        ensures { (result.prefix ≡ length (prefixes (productions_in self.entry.grammar.words.now self.entry.grammar.productions) (labels_in self.entry.words.now))) × (result.suffix ≡ length (suffixes (productions_in self.entry.grammar.words.now self.entry.grammar.productions) (labels_in self.entry.words.now))) }
+    // How many symbols stand before a label's cursor.
+    fn prefix_length(self, label: usize) -> usize
+        requires { label < length (labels_in self.words.now) }
+        ensures { result ≡ length (sets_of (productions_in self.entry.grammar.words.now self.entry.grammar.productions) (label_at self.entry.words.now label)).prefix }
     {
-        let mut total = SymbolSets::new();
-        for label in 0..self.count() {
-            total.prefix += self.prefix(label).len() / 2;
-            total.suffix += self.suffix(label).len() / 2;
-        }
-        total
+        self.prefix(label).len() / Example::SYMBOL_WORDS
+    }
+
+    // How many stand after it.
+    fn suffix_length(self, label: usize) -> usize
+        requires { label < length (labels_in self.words.now) }
+        ensures { result ≡ length (sets_of (productions_in self.entry.grammar.words.now self.entry.grammar.productions) (label_at self.entry.words.now label)).suffix }
+    {
+        self.suffix(label).len() / Example::SYMBOL_WORDS
     }
 
     // How many symbols stand before the cursor place of the example.
     pub fn prefix_total(self) -> usize
         ensures { result ≡ length (prefixes (productions_in self.entry.grammar.words.now self.entry.grammar.productions) (labels_in self.entry.words.now)) }
     {
-        let totals = self.totals();
-        totals.prefix
+        (0..self.count())
+            .map(|label| self.prefix_length(label))
+            .sum()
+    }
+
+    // How many stand after it.
+    fn suffix_total(self) -> usize
+        ensures { result ≡ length (suffixes (productions_in self.entry.grammar.words.now self.entry.grammar.productions) (labels_in self.entry.words.now)) }
+    {
+        (0..self.count())
+            .map(|label| self.suffix_length(label))
+            .sum()
     }
 
     // How many places the cursor place has: one, or none after a prefix with nothing at the cursor.
@@ -160,21 +176,18 @@ impl<'a> Labels<'a> {
     {
         let item = self.item(0);
         let sets = item.symbol_sets(self.grammar);
-        if sets.cursor > 0 {
-            return 1;
+        if sets.cursor == 0 && sets.prefix > 0 {
+            0
+        } else {
+            1
         }
-        if sets.prefix > 0 {
-            return 0;
-        }
-        1
     }
 
     // How many places the symbol list of the example has.
     pub fn symbol_count(self) -> usize
         ensures { (result ≡ length (symbols (productions_in self.entry.grammar.words.now self.entry.grammar.productions) (labels_in self.entry.words.now))) × (result ≤ example_symbols) }
     {
-        let totals = self.totals();
-        totals.prefix + totals.suffix + self.middle_count()
+        self.prefix_total() + self.middle_count() + self.suffix_total()
     }
 
     // Writes the prefixes, outermost first; returns the place after them.
@@ -182,9 +195,8 @@ impl<'a> Labels<'a> {
         requires { at + length (words_of (prefixes (productions_in self.grammar.words.now self.grammar.productions) (labels_in self.words.now))) ≤ length buffer.old }
         ensures { (buffer.new ≡ put_at at (words_of (prefixes (productions_in self.entry.grammar.words.now self.entry.grammar.productions) (labels_in self.entry.words.now))) buffer.old) × (result ≡ at + length (words_of (prefixes (productions_in self.entry.grammar.words.now self.entry.grammar.productions) (labels_in self.entry.words.now)))) }
     {
-        let count = self.count();
         let mut place = at;
-        for label in (0..count).rev() {
+        for label in (0..self.count()).rev() {
             let part = self.prefix(label);
             copy(part, buffer, place);
             place += part.len();
@@ -197,9 +209,8 @@ impl<'a> Labels<'a> {
         requires { at + length (words_of (suffixes (productions_in self.grammar.words.now self.grammar.productions) (labels_in self.words.now))) ≤ length buffer.old }
         ensures { (buffer.new ≡ put_at at (words_of (suffixes (productions_in self.entry.grammar.words.now self.entry.grammar.productions) (labels_in self.entry.words.now))) buffer.old) × (result ≡ at + length (words_of (suffixes (productions_in self.entry.grammar.words.now self.entry.grammar.productions) (labels_in self.entry.words.now)))) }
     {
-        let count = self.count();
         let mut place = at;
-        for label in 0..count {
+        for label in 0..self.count() {
             let part = self.suffix(label);
             copy(part, buffer, place);
             place += part.len();
@@ -213,17 +224,15 @@ impl<'a> Labels<'a> {
         ensures { (buffer.new ≡ put_at at (joined symbol_words (middle (productions_in self.entry.grammar.words.now self.entry.grammar.productions) (labels_in self.entry.words.now))) buffer.old) × (result ≡ at + length (joined symbol_words (middle (productions_in self.entry.grammar.words.now self.entry.grammar.productions) (labels_in self.entry.words.now)))) }
     {
         let part = self.cursor();
-        if part.len() > 0 {
+        if !part.is_empty() {
             copy(part, buffer, at);
-            return at + 2;
+            return at + Example::SYMBOL_WORDS;
         }
-        let lead = self.prefix(0);
-        if lead.len() > 0 {
+        if !self.prefix(0).is_empty() {
             return at;
         }
-        buffer[at] = 2;
-        buffer[at + 1] = 0;
-        at + 2
+        copy(&[Example::EMPTY_MARK, 0], buffer, at);
+        at + Example::SYMBOL_WORDS
     }
 
     // Writes the reductions, innermost first: of `places` symbols, each starts after the prefixes of the labels around it and ends before their suffixes.
@@ -232,14 +241,12 @@ impl<'a> Labels<'a> {
         requires labels_in_bounds { at + reduction_room * length (labels_in self.words.now) ≤ length buffer.old }
         ensures { buffer.new ≡ put_at at (around_words (productions_in self.entry.grammar.words.now self.entry.grammar.productions) places (labels_in self.entry.words.now)) buffer.old }
     {
-        let count = self.count();
-        let totals = self.totals();
-        let mut start = totals.prefix;
-        let mut end = places - totals.suffix;
+        let mut start = self.prefix_total();
+        let mut end = places - self.suffix_total();
         let mut place = at;
-        for label in 0..count {
-            start -= self.prefix(label).len() / 2;
-            end += self.suffix(label).len() / 2;
+        for label in 0..self.count() {
+            start -= self.prefix_length(label);
+            end += self.suffix_length(label);
             put_three(buffer, place, start, end, self.nonterminal(label));
             place += Example::REDUCTION_WORDS;
         }
@@ -252,9 +259,8 @@ impl<'a> Labels<'a> {
     {
         let places = self.symbol_count();
         let cursor = self.prefix_total();
-        let count = self.count();
-        put_three(buffer, 0, places, cursor, count);
-        let middle = self.write_prefixes(buffer, 3);
+        put_three(buffer, 0, places, cursor, self.count());
+        let middle = self.write_prefixes(buffer, Example::COUNTS);
         let after = self.write_middle(buffer, middle);
         let end = self.write_suffixes(buffer, after);
         self.write_reductions(places, buffer, end);

@@ -14,7 +14,7 @@ use Rattle.enumerator.specs.Trials.{Path, ends_of, trials}
 use Rattle.enumerator.specs.Lister.{hands, labels_of}
 use Rattle.error.specs.Sides.{gathered, stopped, listing_side}
 use Rattle.search.specs.Filter.{hands_by}
-use Rattle.search.proofs.Filter.{hands_by_lem}
+use Rattle.search.proofs.Passing.{hands_by_lem}
 use Rattle.examples.specs.Listing.{listed_by}
 use Rattle.examples.proofs.Walking.{tested, walk_is}
 

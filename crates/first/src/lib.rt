@@ -130,12 +130,12 @@ impl FirstSets {
         answer
     }
 
-    // FIRST of two lists joined. Where the first is odd, a symbol begins with its last word and ends with the other's first.
+    // FIRST of two lists joined. Where the first is odd, a symbol begins with its last word and ends with the other's first; `joined_fits` of repr says why this is no function of its own.
     pub fn first0_joined(&self, xs: &[u16], ys: &[u16]) -> Answer
         requires { list_is_fit nonterminal_limit terminal_limit (xs.now ++ ys.now) ≡ true }
         ensures { result ≡ first0 self.now.terminals self.now.map (listed (xs.now ++ ys.now)) }
     {
-        if xs.len() % 2 == 0 {
+        if xs.len() % Symbol::WORDS == 0 {
             let answer = self.first0(xs);
             return self.followed_by(answer, ys);
         }

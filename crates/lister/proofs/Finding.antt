@@ -33,7 +33,7 @@ use Rattle.search.specs.Filter.{hands_by}
 use Rattle.search.specs.Given.{Begun, Searching, Tried}
 use Rattle.search.specs.Found.{searched, searched_of, later_than}
 use Rattle.lister.specs.Context.{Read, sets_for, begun}
-use Rattle.search.proofs.Filter.{hands_by_lem, hands-any, search_same}
+use Rattle.search.proofs.Passing.{hands_by_lem, hands-any, search_same}
 use Rattle.search.proofs.Calling.{begun-none, begun_trial, held_whole, rest-later, rest-first, searched-hit, searched-out, searched-over, search_trial, tried_trial}
 
 -- `lost`

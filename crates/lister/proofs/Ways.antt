@@ -1,6 +1,6 @@
 -- The ways through opening and through a call (specs/Advance of enumerator), a law for each. Assumes nothing.
 use Prim.Native.Nat.{ℕ, ◌-◌, ◌≤◌, ◌<◌}
-use mathlib.Core.Path.{◌≡◌, sym, ap, ◌∙◌}
+use mathlib.Core.Path.{◌≡◌, sym, ◌∙◌}
 use mathlib.Core.Bool.{Bool, true, false, and-false}
 use mathlib.Core.List.{List}
 use lib.ListN.{length}
@@ -9,7 +9,6 @@ use borrow.Author.Tests.{le-leb, lt-leb}
 use Rattle.repr.specs.Reply.{Reply, answered, refused}
 use Rattle.repr.specs.Sizes.{graph_room, scratch_words, trial_limit, example_room}
 use Rattle.repr.specs.Meaning.{Production, Table}
-use Rattle.repr.specs.Packed.{productions_in}
 use Rattle.table.specs.Index.{CountsOf}
 use Rattle.trace_graph.specs.Graph.{at_item, is_node_of}
 use Rattle.trace_graph.specs.Words.{edges_in}
@@ -31,10 +30,8 @@ module _ {T : Table} {n e s p : ℕ} (C : CountsOf T n e s p) where
   pub few_terminals : e ≤ 63
   few_terminals = rw C.terminals C.fits.few_terminals
 
-  module _ (g : List ℕ) where
-    module _ (q : productions_in g (length T.productions) ≡ T.productions) where
-      pub read_of : Read T n e (productions_in g p)
-      read_of = record { nonterminals = C.nonterminals; terminals = C.terminals; productions = ap (productions_in g) C.productions ∙ q }
+  pub read_of : {ps : List Production} → ps ≡ T.productions → Read T n e ps
+  read_of q = record { nonterminals = C.nonterminals; terminals = C.terminals; productions = q }
 
 pub roomy_of : {ps : List Production} {g : List ℕ} → Ranged ps g → Roomy g
 roomy_of R = (R.long, R.few_edges)

@@ -1,9 +1,10 @@
 -- What the parts of a call are given of a table: its productions and numbers as read. Assumes nothing: these are definitions.
-use Rattle.std.specs.Prelude.{ℕ, zero, suc, ◌^◌, ◌≡◌, Bool, true, List, [], ◌++◌, length, drop, replicate, ltb}
+use Rattle.std.specs.Prelude.{ℕ, zero, suc, ◌^◌, ◌≡◌, Bool, true, false, List, [], ◌++◌, length, drop, replicate, ltb}
 use Rattle.std.proofs.Math.Option.{Option, none, some}
 use Rattle.repr.specs.Sizes.{scratch_words}
 use Rattle.repr.specs.Meaning.{Production, Table}
 use Rattle.first.specs.First.{sets_of_first}
+use Rattle.trace_graph.specs.Graph.{Node, TraceEdge, is_same_node}
 use Rattle.trace_graph.specs.Words.{edges_in}
 use Rattle.trace_graph.specs.Fits.{item_is_fit}
 use Rattle.enumerator.specs.Words.{words_of}
@@ -30,6 +31,10 @@ sets_for (some s) e ps = sets_of_first e ps
 unfoldable pub begun : ℕ → List ℕ → List ℕ
 begun zero ws = words_of [] ++ drop scratch_words ws
 begun (suc c) ws = ws
+
+-- a node is an end of an edge (`is_node_of` of trace_graph's specs/Graph)
+unfoldable pub ends_at : Node → TraceEdge → Bool
+ends_at v e = elim (is_same_node v e.source) [ true ↦ true | false ↦ is_same_node v e.target ]
 
 -- a graph in range, an item of the table, and the view of the graph from the item with the labels of its edges
 pub record Listable (ps : List Production) (g : List ℕ) (production index : ℕ) (owners codes sources older latest : List ℕ) : Type 0 where

@@ -3,7 +3,7 @@
 #![tactic(auto)]
 
 ghost use Rattle.std.specs.Prelude.{◌≡◌, true, false, ◌&&◌, List, ◌++◌, ℕ, ◌+◌, ◌-◌, ◌≤◌, ◌<◌, length, get_or, replicate};
-ghost use Rattle.repr.specs.Sizes.{edge_limit, graph_room, scratch_words, trial_limit, example_room};
+ghost use Rattle.repr.specs.Sizes.{edge_limit, edge_place, graph_room, scratch_words, trial_limit, example_room};
 ghost use Rattle.slices.specs.Lent.{in_front};
 ghost use Rattle.repr.specs.Reply.{reply_of};
 ghost use Rattle.repr.specs.Meaning.{Table};
@@ -13,7 +13,7 @@ ghost use Rattle.table.specs.Checked.{Accepted};
 ghost use Rattle.table.specs.Refusals.{check_of};
 ghost use Rattle.trace_graph.specs.Graph.{at_item, is_same_node, is_node_of};
 ghost use Rattle.trace_graph.specs.Fits.{item_is_fit};
-ghost use Rattle.trace_graph.specs.Words.{node_at, edges_in};
+ghost use Rattle.trace_graph.specs.Words.{node_at, edge_at, edges_in};
 ghost use Rattle.trace_graph.specs.Index.{index_room};
 ghost use Rattle.example.specs.Example.{example_words};
 ghost use Rattle.enumerator.specs.Trials.{ends_of, trials};
@@ -23,7 +23,7 @@ ghost use Rattle.enumerator.specs.Stacks.{Roomy, Started, Ranged};
 ghost use Rattle.view.specs.View.{latest_room, View as Viewing, Labelled};
 ghost use Rattle.view.specs.Trial.{trial_words};
 ghost use Rattle.search.specs.Given.{Tried};
-ghost use Rattle.lister.specs.Context.{Read, Listable, ahead_by, sets_for, begun};
+ghost use Rattle.lister.specs.Context.{Read, Listable, ends_at, ahead_by, sets_for, begun};
 
 use enumerator::machine::{Graph, clear};
 use enumerator::{Advanced, Listing};
@@ -32,7 +32,7 @@ use first::FirstSets;
 use lookahead::TokenSet;
 use lr1_core::Item;
 use repr::{Grammar, NonterminalString, ProductionIndex, Refusal, word};
-use search::{Searched, search, write_trial};
+use search::{Filter, Searched, search, write_trial};
 use table::AcceptedTable;
 use trace_graph::{TraceGraph, check_graph, item_fits, read_node};
 use view::View;
@@ -63,24 +63,23 @@ fn is_item(graph: &[u16], at: usize, item: Item) -> bool
     ensures { result ≡ is_same_node (at_item (record { production = item.production; index = item.index })) (node_at graph.now at) }
 {
     let node = read_node(graph, at);
-    if node.kind == 0 {
-        return false;
-    }
-    item.production == node.number && item.index == node.index
+    node.kind != 0 && (item.production == node.number && item.index == node.index)
+}
+
+// Whether an item is an end of edge k.
+fn is_end(graph: &[u16], k: usize, item: Item) -> bool
+    requires { edge_place (k + 1) ≤ length graph.now }
+    ensures { result ≡ ends_at (at_item (record { production = item.production; index = item.index })) (edge_at graph.now k) }
+{
+    let at = k * TraceGraph::EDGE_WORDS + 1;
+    is_item(graph, at, item) || is_item(graph, at + 3, item)
 }
 
 // Whether an item is a node of the graph: an end of one of its edges (refusal 15).
 fn is_node(graph: Graph, item: Item) -> bool
     ensures { result ≡ is_node_of (at_item (record { production = item.production; index = item.index })) (edges_in graph.entry.words.now) }
 {
-    let count = word(graph.words, 0);
-    for k in 0..count {
-        let at = k * TraceGraph::EDGE_WORDS + 1;
-        if is_item(graph.words, at, item) || is_item(graph.words, at + 3, item) {
-            return true;
-        }
-    }
-    false
+    (0..word(graph.words, 0)).any(|k| is_end(graph.words, k, item))
 }
 
 // `lr0_examples` and `lr1_examples`: a fresh listing, or refusal 9, 11 or 15.
@@ -95,11 +94,7 @@ pub fn open_in(
 {
     let counts = table.counts();
     let mut words = [0u16; ProductionIndex::ALL_WORDS];
-    table.read_productions(&mut words);
-    let grammar = Grammar {
-        words: &words,
-        productions: counts.productions,
-    };
+    let grammar = table.read_grammar(&mut words);
     let start = Item {
         production: production.0 as usize,
         index: index as usize,
@@ -156,16 +151,11 @@ fn lost(l: Listing, graph: Graph, words: &[u16]) -> bool
     requires scratch_words_in_bounds { scratch_words ≤ length words.now }
     ensures { result ≡ lost (edges_in graph.entry.words.now) l words.now }
 {
-    if l.is_open {
-        if l.count == 0 {
-            return false;
-        }
-        return !graph.holds_trial(words, l.start());
-    }
-    false
+    l.is_open && (l.count != 0 && !graph.holds_trial(words, l.start()))
 }
 
-// The search of an open listing, over the view of its graph: the next example, the end, or refusal 13.
+// The search of an open listing, over the view of its graph: the next example, the end, or refusal 13. The graph and its view, the grammar and its terminals are handed on here and below alone, and what is known
+// of them has many proofs (`Listable`), which no struct can hold.
 fn find_next(
     l: &mut Listing,
     grammar: Grammar,
@@ -184,8 +174,13 @@ fn find_next(
     let lookahead = l.lookahead;
     let count = l.count;
     let sets = first_sets(grammar, terminals, lookahead);
+    let filter = Filter {
+        grammar,
+        sets: &sets,
+        lookahead,
+    };
     begin(scratch, count);
-    match search(grammar, &sets, lookahead, view, scratch, count) {
+    match search(filter, view, scratch, count) {
         Searched::Hit(number) => {
             write_trial(grammar, view, scratch, buffer);
             l.count = number;
@@ -243,11 +238,7 @@ pub fn step_in(
 {
     let counts = table.counts();
     let mut words = [0u16; ProductionIndex::ALL_WORDS];
-    table.read_productions(&mut words);
-    let grammar = Grammar {
-        words: &words,
-        productions: counts.productions,
-    };
+    let grammar = table.read_grammar(&mut words);
     let start = l.start();
     if !fits(grammar, counts.terminals, start, l.lookahead) {
         return Err(Refusal::OutOfRange);
@@ -255,7 +246,6 @@ pub fn step_in(
     if graph.len() < TraceGraph::WORDS {
         return Err(Refusal::TooShort);
     }
-    let mut ix = [0u16; TraceGraph::INDEX_WORDS];
     let mut lists = ViewLists::new();
     let mut codes = [0u16; View::EDGES];
     if !check_view(
@@ -263,7 +253,6 @@ pub fn step_in(
         counts.nonterminals,
         graph,
         start,
-        &mut ix,
         &mut lists,
         &mut codes,
     ) {
@@ -275,19 +264,12 @@ pub fn step_in(
     if buffer.len() < Example::WORDS {
         return Err(Refusal::TooShort);
     }
-    let view = View {
-        sources: &lists.sources,
-        older: &lists.older,
-        latest: &lists.latest,
-        owners: &lists.owners,
-        codes: &codes,
-    };
     go_on(
         l,
         grammar,
         counts.terminals as u16,
         Graph { words: graph },
-        view,
+        lists.view(&codes),
         scratch,
         buffer,
     )

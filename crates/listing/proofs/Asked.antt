@@ -1,33 +1,33 @@
 -- What the list of calls asks of the output, call by call. Assumes nothing.
 use Prim.Native.Nat.{ℕ, suc, ◌+◌, ◌%◌, ◌≤◌, ◌<◌}
 use native.Mathlib.Omega.{arith}
-use native.Mathlib.Numerals.{add-one, add-two}
 use mathlib.Core.Path.{◌≡◌, refl, ap, ◌∙◌}
 use mathlib.Core.Bool.{Bool, true, false}
-use mathlib.Core.List.{List, ◌∷◌}
-use lib.ListN.{length, get_or, drop, drop_of_length-le}
+use mathlib.Core.List.{List, [], ◌∷◌, ◌++◌}
+use lib.ListN.{length, get_or}
 use lib.Dec.{leb, eqb}
-use lib.Seq.{drop-cons}
 use borrow.Author.Tests.{le-leb, lt-leb, ne_eqb, leb-true, leb-false, eqb-true, eqb-false}
 use Rattle.listing.specs.CallList.{output_words, refusal_by, refusal_of_calls}
 
--- the next three numbers are a call
-pub call_at : (cs : List ℕ) (at : ℕ) → at + 3 ≤ length cs → drop at cs ≡ get_or cs at 0 ∷ get_or cs (at + 1) 0 ∷ get_or cs (at + 2) 0 ∷ drop (at + 3) cs
-call_at cs at h =
-    let h₀ : at < length cs = omega arith in
-    let h₁ : suc at < length cs = omega arith in
-    let h₂ : suc (suc at) < length cs = omega arith in
-    let three : at + 3 ≡ suc (suc (suc at)) = omega arith in
-    rw (add-one at, add-two at, three)
-    (drop-cons cs at 0 h₀ ∙ ap (λ (l : List ℕ). get_or cs at 0 ∷ l) (drop-cons cs (suc at) 0 h₁ ∙ ap (λ (l : List ℕ). get_or cs (suc at) 0 ∷ l) (drop-cons cs (suc (suc at)) 0 h₂)))
+-- three numbers are a call
+pub call_is : (three : List ℕ) → length three ≡ 3 → three ≡ get_or three 0 0 ∷ get_or three 1 0 ∷ get_or three 2 0 ∷ []
+call_is [] n = absurd (omega arith)
+call_is (x ∷ []) n = absurd (omega arith)
+call_is (x ∷ y ∷ []) n = absurd (omega arith)
+call_is (x ∷ y ∷ z ∷ w ∷ ws) n = absurd (omega arith)
+call_is (x ∷ y ∷ z ∷ []) n = refl
 
-pub words_at : (cs : List ℕ) (at : ℕ) → at + 3 ≤ length cs → output_words (drop at cs) ≡ 3 + get_or cs (at + 2) 0 + output_words (drop (at + 3) cs)
+pub words_next : {left : List ℕ} (three rest : List ℕ) → left ≡ three ++ rest → length three ≡ 3 → output_words left ≡ 3 + get_or three 2 0 + output_words rest
 unfolding output_words
-words_at cs at h = ap output_words (call_at cs at h)
+words_next three rest e n = ap output_words (e ∙ ap (λ (l : List ℕ). l ++ rest) (call_is three n))
 
-pub words-none : (cs : List ℕ) (at : ℕ) → length cs ≤ at → output_words (drop at cs) ≡ 0
+-- none is left
+pub words-none : (left : List ℕ) → length left < 3 → output_words left ≡ 0
 unfolding output_words
-words-none cs at h = rw (drop_of_length-le cs h)
+words-none [] h = refl
+words-none (x ∷ []) h = refl
+words-none (x ∷ y ∷ []) h = refl
+words-none (x ∷ y ∷ z ∷ left) h = absurd (omega arith)
 
 module _ (cs : List ℕ) (n : ℕ) where
   pub cut_short : (length cs % 3 ≡ 0 → ⊥) → 9 ≡ refusal_of_calls cs n

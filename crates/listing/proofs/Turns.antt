@@ -15,7 +15,7 @@ use Rattle.enumerator.specs.Calls.{Lent, left_by, listing_by, scratch_by, called
 use Rattle.enumerator.specs.declared.Listing.{Listing}
 use Rattle.enumerator.specs.declared.Advanced.{Advanced}
 use Rattle.listing.specs.CallList.{lents_in, output_words, number_of_answer, record_of, records_of, Made, made, made_by, made_of, Ended, ended, ended_of}
-use Rattle.listing.proofs.Asked.{call_at}
+use Rattle.listing.proofs.Asked.{call_is}
 
 -- ---- a beginning
 by_size : (n : ℕ) (l : List ℕ) {A : Type 0} → (n ≤ length l → A) → (length l ≤ n → A) → A
@@ -79,9 +79,12 @@ drop_lent b out = ap (λ (k : ℕ). drop 3 (take k out)) three ∙ past out
     past (x ∷ y ∷ z ∷ out) = refl
 
 module _ (t g : List ℕ) where
-  pub calls-none : (l : Listing) (scratch out : List ℕ) (from : ℕ) → ended scratch out ≡ ended_of t g [] l scratch (take from out) (drop from out)
+  pub calls-none : (left : List ℕ) → length left < 3 → (l : Listing) (scratch out : List ℕ) (from : ℕ) → ended scratch out ≡ ended_of t g left l scratch (take from out) (drop from out)
   unfolding ended_of lents_in scratch_after calls records_of output_words
-  calls-none l scratch out from = ap (λ (x : List ℕ). ended scratch x) (sym (take-append-drop from out))
+  calls-none [] h l scratch out from = ap (λ (x : List ℕ). ended scratch x) (sym (take-append-drop from out))
+  calls-none (x ∷ []) h l scratch out from = ap (λ (x : List ℕ). ended scratch x) (sym (take-append-drop from out))
+  calls-none (x ∷ y ∷ []) h l scratch out from = ap (λ (x : List ℕ). ended scratch x) (sym (take-append-drop from out))
+  calls-none (x ∷ y ∷ z ∷ left) h l scratch out from = absurd (omega arith)
 
   -- from where a call came, the rest
   unfoldable went : List ℕ → List Lent → List ℕ → Made → Ended
@@ -101,16 +104,16 @@ module _ (t g : List ℕ) where
       ∙ ap (λ (u : List ℕ). front ++ u) (sym (append_assoc (record_of (left_by o)) R (drop (output_words cs) (drop (3 + b) out))) ∙ ap (λ (u : List ℕ). record_of (left_by o) ++ R ++ u) (drop-drop (output_words cs) (3 + b) out)))
 
   -- the part that the call was lent is in its place
-  pub calls-more : (cs : List ℕ) (at : ℕ) → at + 3 ≤ length cs → (l : Listing) (scratch out : List ℕ) (from to n m b : ℕ)
-      → n ≡ get_or cs at 0 → m ≡ get_or cs (at + 1) 0 → b ≡ get_or cs (at + 2) 0 → to ≡ from + 3 + b → to ≤ length out
+  pub calls-more : {left : List ℕ} (three rest : List ℕ) → left ≡ three ++ rest → length three ≡ 3 → (l : Listing) (scratch out : List ℕ) (from to n m b : ℕ)
+      → n ≡ get_or three 0 0 → m ≡ get_or three 1 0 → b ≡ get_or three 2 0 → to ≡ from + (3 + b) → to ≤ length out
       → (l' : Listing) (s p : List ℕ) → length p ≡ length (take (to - from) (drop from out)) → made l' s p ≡ made_of t g l n m scratch (take (to - from) (drop from out))
-      → ended_of t g (drop (at + 3) cs) l' s (take to (put_mid from (to - from) out p)) (drop to (put_mid from (to - from) out p)) ≡ ended_of t g (drop at cs) l scratch (take from out) (drop from out)
-  calls-more cs at h l scratch out from to n m b en em eb et le l' s p lp e =
+      → ended_of t g rest l' s (take to (put_mid from (to - from) out p)) (drop to (put_mid from (to - from) out p)) ≡ ended_of t g left l scratch (take from out) (drop from out)
+  calls-more {left} three rest q k l scratch out from to n m b en em eb et le l' s p lp e =
       let size : to - from ≡ 3 + b = omega arith in
       let start : from ≤ to = omega arith in
       let long : length p ≡ to - from = lp ∙ length-take-le (to - from) (drop from out) (let d = length-drop from out in omega arith) in
       let front : length (take from out) ≡ from = length-take-le from out (omega arith) in
       let taken : take to (put_mid from (to - from) out p) ≡ take from out ++ p = ap (take to) (sym (append_assoc (take from out) p _)) ∙ take_at (take from out ++ p) _ to (let a = length-append (take from out) p in omega arith) in
       let dropped : drop to (put_mid from (to - from) out p) ≡ drop (3 + b) (drop from out) = drop_put from to out p start le long ∙ sym (drop-drop (3 + b) from out ∙ ap (λ (k : ℕ). drop k out) (let z : from + (3 + b) ≡ to = omega arith in z)) in
-      let next : drop at cs ≡ n ∷ m ∷ b ∷ drop (at + 3) cs = rw (en, em, eb) (call_at cs at h) in
-      rw (taken, dropped, next) (calls-next l scratch (take from out) (drop from out) n m b (drop (at + 3) cs) l' s p (rw (← size) e))
+      let next : left ≡ n ∷ m ∷ b ∷ rest = rw (en, em, eb) (q ∙ ap (λ (x : List ℕ). x ++ rest) (call_is three k)) in
+      rw (taken, dropped, next) (calls-next l scratch (take from out) (drop from out) n m b rest l' s p (rw (← size) e))

@@ -2,7 +2,7 @@
 
 #![tactic(auto)]
 
-ghost use Rattle.std.specs.Prelude.{OnOk, IfErr, ◌≡◌, [], ◌∷◌, ◌≤◌, ◌<◌, ◌%◌, ◌/◌, length, get_or, drop};
+ghost use Rattle.std.specs.Prelude.{OnOk, IfErr, ◌≡◌, [], ◌∷◌, ◌+◌, ◌≤◌, ◌<◌, ◌%◌, ◌/◌, length, get_or, drop};
 ghost use Rattle.repr.specs.Reply.{number_of, place_of, reply_of};
 ghost use Rattle.enumerator.specs.Advance.{outcome, open_of, advance_of};
 ghost use Rattle.listing.specs.CallList.{number_of_answer, made, made_of, refusal_of_calls, listed, list_of, ended, ended_of};
@@ -23,8 +23,7 @@ fn open_listing(
 ) -> Result<Listing, Refusal>
     ensures { reply_of result ≡ open_of table.now (record { production = production.0; index = index }) lookahead graph.now }
 {
-    let accepted = check(table)?;
-    open_in(accepted, production, index, lookahead, graph)
+    open_in(check(table)?, production, index, lookahead, graph)
 }
 
 // A listing of all examples of a start item.
@@ -66,12 +65,40 @@ pub fn advance(
     step_in(l, accepted, graph, scratch, buffer)
 }
 
-// A number of the list of calls.
-fn number(calls: &[u32], at: usize) -> usize
-    requires { at < length calls.now }
-    ensures { (result ≡ get_or calls.now at 0) × (result < 4294967296) }
-{
-    calls[at] as usize
+// What a call of a list is lent: how much of the graph and of the scratch, and the length of its buffer.
+#[derive(Clone, Copy)]
+struct Lent {
+    graph: usize,
+    scratch: usize,
+    buffer: usize,
+}
+
+impl Lent {
+    // A call's numbers, and the words that are recorded in front of its buffer.
+    const NUMBERS: usize = 3;
+
+    const RECORD: usize = 3;
+
+    // Of a call's numbers.
+    fn of(numbers: &[u32]) -> Lent
+        requires { 3 ≤ length numbers.now }
+        ensures read { (result.graph ≡ get_or numbers.now 0 0) × ((result.scratch ≡ get_or numbers.now 1 0) × (result.buffer ≡ get_or numbers.now 2 0)) }
+        ensures small { result.buffer < 4294967296 }
+    {
+        Lent {
+            graph: numbers[0] as usize,
+            scratch: numbers[1] as usize,
+            buffer: numbers[2] as usize,
+        }
+    }
+
+    // The words of the output that the call asks.
+    fn part(self) -> usize
+        requires { self.buffer < 4294967296 }
+        ensures { result ≡ 3 + self.buffer }
+    {
+        Lent::RECORD + self.buffer
+    }
 }
 
 // The number that is recorded of an answer.
@@ -79,25 +106,23 @@ fn answer_number(answer: Result<Advanced, Refusal>) -> u16
     ensures { result ≡ number_of_answer (reply_of answer) }
 {
     match answer {
-        Ok(advanced) => match advanced {
-            Advanced::Example => 0,
-            Advanced::End => 16,
-        },
+        Ok(Advanced::Example) => 0,
+        Ok(Advanced::End) => Advanced::END,
         Err(refusal) => refusal.number(),
     }
 }
 
-// Refusal 9 for a list of calls that is cut short, 11 for an output that has fewer words than they ask. What is left of the output is counted down, call by call; `chunks_exact(3)` wants a law that the library has not.
+// Refusal 9 for a list of calls that is cut short, 11 for an output that has fewer words than they ask. What is left of the output is counted down, call by call.
 fn check_calls(calls: &[u32], words: usize) -> Result<(), Refusal>
     ensures fits { OnOk result (refusal_of_calls calls.now words ≡ 0) }
     ensures refused { IfErr result (λ e. (number_of e ≡ refusal_of_calls calls.now words) × (place_of e ≡ 0) × (0 < number_of e)) }
 {
-    if calls.len() % 3 != 0 {
+    if calls.len() % Lent::NUMBERS != 0 {
         return Err(Refusal::OutOfRange);
     }
     let mut left = words;
-    for i in 0..calls.len() / 3 {
-        let part = 3 + number(calls, 3 * i + 2);
+    for numbers in calls.chunks_exact(Lent::NUMBERS) {
+        let part = Lent::of(numbers).part();
         if left < part {
             return Err(Refusal::TooShort);
         }
@@ -120,18 +145,23 @@ fn write_record(part: &mut [u16], number: u16, count: u32)
 fn call(
     l: &mut Listing,
     table: &[u16],
+    lent: Lent,
     graph: &[u16],
-    graph_words: usize,
-    scratch_words: usize,
     scratch: &mut [u16],
     part: &mut [u16],
 )
     requires { 3 ≤ length part.old }
-    ensures { made l.new scratch.new part.new ≡ made_of table.now graph.now l.old graph_words scratch_words scratch.old part.old }
+    ensures { made l.new scratch.new part.new ≡ made_of table.now graph.now l.old lent.graph lent.scratch scratch.old part.old }
 {
-    let n = graph_words.min(graph.len());
-    let m = scratch_words.min(scratch.len());
-    let answer = advance(l, table, &graph[..n], &mut scratch[..m], &mut part[3..]);
+    let n = lent.graph.min(graph.len());
+    let m = lent.scratch.min(scratch.len());
+    let answer = advance(
+        l,
+        table,
+        &graph[..n],
+        &mut scratch[..m],
+        &mut part[Lent::RECORD..],
+    );
     write_record(part, answer_number(answer), l.count);
 }
 
@@ -149,16 +179,14 @@ fn make_calls(
 {
     let mut listing = l;
     let mut from: usize = 0;
-    for i in 0..calls.len() / 3 {
-        let graph_words = number(calls, 3 * i);
-        let scratch_words = number(calls, 3 * i + 1);
-        let to = from + 3 + number(calls, 3 * i + 2);
+    for numbers in calls.chunks_exact(Lent::NUMBERS) {
+        let lent = Lent::of(numbers);
+        let to = from + lent.part();
         call(
             &mut listing,
             table,
+            lent,
             graph,
-            graph_words,
-            scratch_words,
             scratch,
             &mut output[from..to],
         );
@@ -194,7 +222,7 @@ pub fn examples(
         Ok(l) => {
             fits?;
             make_calls(l, table, calls, graph, scratch, output);
-            Ok(calls.len() / 3)
+            Ok(calls.len() / Lent::NUMBERS)
         }
     }
 }

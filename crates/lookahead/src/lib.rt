@@ -7,6 +7,8 @@ ghost use Rattle.std.specs.Prelude.{◌≡◌, Bool, true, false, ◌&&◌, ◌|
 ghost use Rattle.lookahead.specs.Tokens.{has, single, union, meet, without, with, members, up_to};
 ghost use Rattle.std.specs.Iterator.{YieldsFirst, item_count};
 
+use repr::Symbol;
+
 #[derive(Clone, Copy, PartialEq, Eq)]
 pub struct TokenSet(pub u64);
 
@@ -24,7 +26,7 @@ impl TokenSet {
     pub fn all(terminals: u16) -> TokenSet
         ensures { (result.0 ≡ up_to terminals) × ((k : ℕ) → has result.0 k ≡ ltb k 64 && not (ltb terminals k)) }
     {
-        if terminals < 63 {
+        if terminals < TokenSet::LIMIT - 1 {
             TokenSet((1 << (terminals + 1)) - 1)
         } else {
             TokenSet(0xFFFF_FFFF_FFFF_FFFF)
@@ -115,7 +117,7 @@ impl TokenSet {
         requires { terminals ≤ 63 }
         ensures { result ≡ ltb self.0 (2 ^ suc terminals) }
     {
-        terminals >= 63 || self.0 < 1 << (terminals + 1)
+        terminals >= Symbol::TERMINALS || self.0 < 1 << (terminals + 1)
     }
 
     // If this set contains the end of input, removes it and says so.

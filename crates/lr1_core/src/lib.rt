@@ -20,7 +20,7 @@ pub struct SymbolSets {
 }
 
 impl SymbolSets {
-    // The empty sets.
+    // The empty sets: `new` as in the Rust, with a contract that a derived `Default` would not have.
     pub fn new() -> SymbolSets
         ensures by_index { (ws : List ℕ) → sets_in ws result.prefix result.cursor result.suffix ≡ no_sets }
         ensures suffix_value { counts result.prefix result.cursor result.suffix ≡ counts_of no_sets }

@@ -33,7 +33,7 @@ impl ProductionIndex {
 
     pub const INDEXES: usize = ProductionIndex::SYMBOLS + 1;
     // Words of one production, and of all.
-    pub const WORDS: usize = 4 + 2 * ProductionIndex::SYMBOLS;
+    pub const WORDS: usize = 4 + Symbol::WORDS * ProductionIndex::SYMBOLS;
 
     pub const ALL_WORDS: usize = ProductionIndex::LIMIT * ProductionIndex::WORDS;
 }
@@ -136,6 +136,7 @@ pub fn list_fits(n: usize, t: usize, list: &[u16]) -> bool
 }
 
 // The same of two lists joined. Where the first is odd, a symbol begins with its last word and ends with the other's first.
+// `first0_joined` of crate first and `walk_joined` of state_graph split two lists alike. What they do with the three parts differs (they are tested, their FIRST sets are joined in order, a walk goes over them from the last), so that one function for all would take a closure and be no shorter.
 pub fn joined_fits(n: usize, t: usize, xs: &[u16], ys: &[u16]) -> bool
     ensures { result ≡ list_is_fit n t (xs.now ++ ys.now) }
 {

@@ -41,7 +41,7 @@ impl<'a> Grammar<'a> {
         ensures { result.now ≡ symbol_words self.entry.words.now production }
     {
         let from = production * ProductionIndex::WORDS + 4;
-        let past = from + 2 * word(self.words, production * ProductionIndex::WORDS + 1);
+        let past = from + Symbol::WORDS * self.length(production);
         let words = self.words;
         &words[from..past]
     }

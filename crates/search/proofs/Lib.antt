@@ -1,4 +1,4 @@
-pub mod Filter
+pub mod Passing
 pub mod Calling
 pub mod Reading
 pub mod Handing

@@ -1,5 +1,5 @@
--- The labels of a trial in words, as `read_labels` writes them: edge by edge, three words each, all in range. Assumes nothing.
-use Rattle.std.specs.Prelude.{◌≡◌, ℕ, zero, suc, ◌+◌, ◌*◌, ◌/◌, ◌%◌, ◌<◌, ◌≤◌, List, [], ◌∷◌, ◌++◌, map, length, get_or, take, drop, set}
+-- The labels of a trial in words, as `write_labels` writes them: edge by edge, three words each, all in range. Assumes nothing.
+use Rattle.std.specs.Prelude.{◌≡◌, ℕ, suc, ◌+◌, ◌*◌, ◌/◌, ◌%◌, ◌<◌, ◌≤◌, List, [], ◌∷◌, ◌++◌, map, length, get_or, take, drop, set}
 use native.Mathlib.Omega.{arith}
 use mathlib.Core.Path.{refl, sym, ap, ◌∙◌}
 use mathlib.Core.List.{append_assoc, append-nil}
@@ -16,17 +16,11 @@ use Rattle.enumerator.specs.Trials.{Path}
 use Rattle.enumerator.specs.Lister.{label_at, labels_of}
 use Rattle.enumerator.specs.Words.{path_in}
 use Rattle.enumerator.specs.Stacks.{Within}
+use Rattle.enumerator.proofs.Holding.{within_at}
 use Rattle.view.specs.View.{label_in, Labelled}
 use Rattle.view.specs.Trial.{trial_room, trial_words}
 use Rattle.view.proofs.Trial.{path_in_trial, words-head, words-all, words-once}
 use Rattle.search.specs.Given.{Tried}
-
--- the edges of a path
-within_at : (k : ℕ) (p : Path) (i : ℕ) → Within k p → i < length p → get_or p i 0 < k
-unfolding Within
-within_at k [] i w h = absurd (omega arith)
-within_at k (e ∷ p) zero w h = w.0
-within_at k (e ∷ p) (suc i) w h = within_at k p i w.1 (omega arith)
 
 labels_each : {ps : List Production} {es : List TraceEdge} {owners codes : List ℕ} → Labelled ps es owners codes → (p : Path) → Within (length es) p → All (LabelFits ps) (labels_of ps es p)
 unfolding Within All labels_of
@@ -84,17 +78,17 @@ module _ {ps : List Production} {es : List TraceEdge} {owners codes ws labels₀
       edge_of = ex ∙ tried-word R.tried at (omega (arith, R.depth))
 
       edge_low : x < length es
-      edge_low = let w = within_at (length es) R.tried.path at R.tried.edges (omega (arith, R.depth)) in omega (arith, edge_of)
+      edge_low = let w = within_at (length es) R.tried.path at 0 R.tried.edges (omega (arith, R.depth)) in omega (arith, edge_of)
 
       pub reading_low : (x < length owners) × (x < length codes)
       reading_low = let L = R.tried.labelled in (omega (arith, edge_low, L.few, L.by_owner), omega (arith, edge_low, L.few, L.by_code))
 
-      module _ {o c : ℕ} (eo : o ≡ get_or owners x 0) (ec : c ≡ get_or codes x 0 % item_limit) where
-        label_words_lem : o ∷ c / index_limit ∷ c % index_limit ∷ [] ≡ label_words (label_at ps es x)
+      module _ {o c p i : ℕ} (eo : o ≡ get_or owners x 0) (ec : c ≡ get_or codes x 0 % item_limit) (ep : p ≡ c / index_limit) (ei : i ≡ c % index_limit) where
+        label_words_lem : o ∷ p ∷ i ∷ [] ≡ label_words (label_at ps es x)
         unfolding label_words label_in
-        label_words_lem = rw (eo, ec) (ap label_words (R.tried.labelled.label x edge_low))
+        label_words_lem = rw (ep, ei, eo, ec) (ap label_words (R.tried.labelled.label x edge_low))
 
-        pub reading_again : Reading ps es owners codes ws labels₀ count (set (set (set labels (label_room * at) o) (label_room * at + 1) (c / index_limit)) (label_room * at + 2) (c % index_limit)) (at + 1)
+        pub reading_again : Reading ps es owners codes ws labels₀ count (set (set (set labels (label_room * at) o) (label_room * at + 1) p) (label_room * at + 2) i) (at + 1)
         reading_again =
             let path = R.tried.path in
             let s : label_room * (at + 1) ≡ label_room * at + 3 = omega arith in
@@ -108,9 +102,9 @@ module _ {ps : List Production} {es : List TraceEdge} {owners codes ws labels₀
               size = simp length-set R.size;
               room = R.room;
               front =
-                  ap (λ (j : ℕ). take j (set (set (set labels (label_room * at) o) (label_room * at + 1) (c / index_limit)) (label_room * at + 2) (c % index_limit))) s
-                  ∙ front-more labels (label_room * at) o (c / index_limit) (c % index_limit) reading_room.1.1
-                  ∙ ap (λ (l : List ℕ). l ++ (o ∷ c / index_limit ∷ c % index_limit ∷ [])) R.front
+                  ap (λ (j : ℕ). take j (set (set (set labels (label_room * at) o) (label_room * at + 1) p) (label_room * at + 2) i)) s
+                  ∙ front-more labels (label_room * at) o p i reading_room.1.1
+                  ∙ ap (λ (l : List ℕ). l ++ (o ∷ p ∷ i ∷ [])) R.front
                   ∙ ap (λ (l : List ℕ). joined label_words (labels_of ps es (take at path)) ++ l) label_words_lem
                   ∙ sym (ap (λ (l : List ℕ). joined label_words (labels_of ps es l)) last ∙ labels_more ps es (take at path) x);
             }

@@ -25,7 +25,7 @@ use example::{Example, Labels};
 use first::FirstSets;
 use lookahead::TokenSet;
 use lr1_core::Item;
-use repr::{Grammar, NonterminalString, ProductionIndex, word};
+use repr::{Grammar, NonterminalString, word};
 use view::View;
 use view::machine::clear;
 
@@ -43,88 +43,94 @@ impl Searched {
     pub const TRIALS: u32 = 100000;
 }
 
-// Writes the labels of the trial that the words hold, three words each: the nonterminal that the edge comes from, the production and the index of its label; the edge into the start item first. Answers how many words.
-pub fn read_labels(view: View, words: &[u16], labels: &mut [u16]) -> usize
+// Writes the labels of a trial, three words each; answers how many words.
+fn write_labels(view: View, words: &[u16], room: &mut [u16; Example::ALL_LABEL_WORDS]) -> usize
     requires tried { (ps : List Production) × ((es : List TraceEdge) × Tried ps es view.owners.now view.codes.now words.now) }
-    requires labels_room_in_bounds { labels_room ≤ length labels.old }
-    ensures upper_bound { (result ≤ labels_room) × ((ps : List Production) (es : List TraceEdge) → Tried ps es view.entry.owners.now view.entry.codes.now words.now → LabelsFit ps (take result labels.new)) }
-    ensures labels_after { (ps : List Production) (es : List TraceEdge) → Tried ps es view.entry.owners.now view.entry.codes.now words.now → (p rest : List ℕ) → words.now ≡ trial_words p ++ rest → labels_in (take result labels.new) ≡ labels_of ps es p }
+    ensures upper_bound { (result ≤ labels_room) × ((ps : List Production) (es : List TraceEdge) → Tried ps es view.entry.owners.now view.entry.codes.now words.now → LabelsFit ps (take result room.new)) }
+    ensures labels_after { (ps : List Production) (es : List TraceEdge) → Tried ps es view.entry.owners.now view.entry.codes.now words.now → (p rest : List ℕ) → words.now ≡ trial_words p ++ rest → labels_in (take result room.new) ≡ labels_of ps es p }
 {
     let count = word(words, 0);
     for at in 0..count {
         let edge = word(words, at + 1);
-        let code = word(view.codes, edge) % Item::LIMIT;
+        let item = Item::at(word(view.codes, edge) % Item::LIMIT);
         let place = Example::LABEL_WORDS * at;
-        labels[place] = view.owners[edge] as u16;
-        labels[place + 1] = (code / ProductionIndex::INDEXES) as u16;
-        labels[place + 2] = (code % ProductionIndex::INDEXES) as u16;
+        room[place] = view.owners[edge] as u16;
+        room[place + 1] = item.production as u16;
+        room[place + 2] = item.index as u16;
     }
     Example::LABEL_WORDS * count
 }
 
-// The example of the trial that the words hold, at the front of the buffer. `tried` is of a graph that no argument has: a fact with many proofs, which no struct can hold.
+// The labels of the trial that the words hold, written into the words lent for them: of each edge the nonterminal that it comes from and the item of its label; the edge into the start item first.
+// `tried` here and below is of a graph that no argument has: a fact with many proofs, which no struct can hold.
+pub fn read_labels<'a>(
+    grammar: Grammar<'a>,
+    view: View,
+    words: &[u16],
+    room: &'a mut [u16; Example::ALL_LABEL_WORDS],
+) -> Labels<'a>
+    requires tried { (es : List TraceEdge) × Tried (productions_in grammar.words.now grammar.productions) es view.owners.now view.codes.now words.now }
+    ensures grammar { (result.grammar.words.now ≡ grammar.entry.words.now) × (result.grammar.productions ≡ grammar.entry.productions) }
+    ensures labels { (ps : List Production) (es : List TraceEdge) → Tried ps es view.entry.owners.now view.entry.codes.now words.now → (p rest : List ℕ) → words.now ≡ trial_words p ++ rest → labels_in result.words.now ≡ labels_of ps es p }
+{
+    let size = write_labels(view, words, room);
+    Labels {
+        grammar,
+        words: &room[..size],
+    }
+}
+
+// The example of the trial that the words hold, at the front of the buffer.
 pub fn write_trial(grammar: Grammar, view: View, words: &[u16], buffer: &mut [u16])
     requires tried { (es : List TraceEdge) × Tried (productions_in grammar.words.now grammar.productions) es view.owners.now view.codes.now words.now }
     requires example_room_in_bounds { example_room ≤ length buffer.old }
     ensures { (es : List TraceEdge) → Tried (productions_in grammar.entry.words.now grammar.entry.productions) es view.entry.owners.now view.entry.codes.now words.now → (p rest : List ℕ) → words.now ≡ trial_words p ++ rest → buffer.new ≡ in_front (example_words (productions_in grammar.entry.words.now grammar.entry.productions) (labels_of (productions_in grammar.entry.words.now grammar.entry.productions) es p)) buffer.old }
 {
     let mut room = [0u16; Example::ALL_LABEL_WORDS];
-    let size = read_labels(view, words, &mut room);
-    let labels = Labels {
-        grammar,
-        words: &room[..size],
-    };
+    let labels = read_labels(grammar, view, words, &mut room);
     labels.write_example(buffer);
 }
 
-// Whether what the trial's example expects next meets a set.
-fn meets(grammar: Grammar, sets: &FirstSets, set: TokenSet, view: View, words: &[u16]) -> bool
-    requires tried { (es : List TraceEdge) × Tried (productions_in grammar.words.now grammar.productions) es view.owners.now view.codes.now words.now }
-    ensures { (es : List TraceEdge) → Tried (productions_in grammar.entry.words.now grammar.entry.productions) es view.entry.owners.now view.entry.codes.now words.now → (p rest : List ℕ) → words.now ≡ trial_words p ++ rest → result ≡ passes_by sets.now.terminals sets.now.map (productions_in grammar.entry.words.now grammar.entry.productions) es (some set.0) p }
-{
-    let mut room = [0u16; Example::ALL_LABEL_WORDS];
-    let size = read_labels(view, words, &mut room);
-    let labels = Labels {
-        grammar,
-        words: &room[..size],
-    };
-    let expected = labels.first0(sets);
-    let answer = expected.answer;
-    answer.meets(sets.terminals, set)
+// The filter of a listing: the FIRST sets, of the productions, and any lookahead.
+#[derive(Clone, Copy)]
+pub struct Filter<'a> {
+    pub grammar: Grammar<'a>,
+    pub sets: &'a FirstSets,
+    pub lookahead: Option<TokenSet>,
 }
 
-// The filter: without a lookahead every example passes.
-pub fn passes(
-    grammar: Grammar,
-    sets: &FirstSets,
-    lookahead: Option<TokenSet>,
-    view: View,
-    words: &[u16],
-) -> bool
-    requires tried { (es : List TraceEdge) × Tried (productions_in grammar.words.now grammar.productions) es view.owners.now view.codes.now words.now }
-    ensures { (es : List TraceEdge) → Tried (productions_in grammar.entry.words.now grammar.entry.productions) es view.entry.owners.now view.entry.codes.now words.now → (p rest : List ℕ) → words.now ≡ trial_words p ++ rest → result ≡ passes_by sets.now.terminals sets.now.map (productions_in grammar.entry.words.now grammar.entry.productions) es (set_of lookahead) p }
-{
-    match lookahead {
-        None => true,
-        Some(set) => meets(grammar, sets, set, view, words),
+impl<'a> Filter<'a> {
+    // Whether what the trial's example expects next meets a set.
+    fn meets(self, set: TokenSet, view: View, words: &[u16]) -> bool
+        requires tried { (es : List TraceEdge) × Tried (productions_in self.grammar.words.now self.grammar.productions) es view.owners.now view.codes.now words.now }
+        ensures { (es : List TraceEdge) → Tried (productions_in self.entry.grammar.words.now self.entry.grammar.productions) es view.entry.owners.now view.entry.codes.now words.now → (p rest : List ℕ) → words.now ≡ trial_words p ++ rest → result ≡ passes_by self.entry.sets.now.terminals self.entry.sets.now.map (productions_in self.entry.grammar.words.now self.entry.grammar.productions) es (some set.0) p }
+    {
+        let mut room = [0u16; Example::ALL_LABEL_WORDS];
+        let sets = self.sets;
+        let labels = read_labels(self.grammar, view, words, &mut room);
+        let expected = labels.first0(sets);
+        let answer = expected.answer;
+        answer.meets(sets.terminals, set)
     }
-}
 
-// Whether the trial is handed out: an example that passes.
-fn hands(
-    grammar: Grammar,
-    sets: &FirstSets,
-    ahead: Option<TokenSet>,
-    view: View,
-    words: &[u16],
-) -> bool
-    requires tried { (es : List TraceEdge) × (Tried (productions_in grammar.words.now grammar.productions) es view.owners.now view.codes.now words.now × Sourced es view.sources.now) }
-    ensures { (es : List TraceEdge) → Tried (productions_in grammar.entry.words.now grammar.entry.productions) es view.entry.owners.now view.entry.codes.now words.now → Sourced es view.entry.sources.now → (p rest : List ℕ) → words.now ≡ trial_words p ++ rest → result ≡ hands_by sets.now.terminals sets.now.map (productions_in grammar.entry.words.now grammar.entry.productions) es (set_of ahead) p }
-{
-    if view.is_example(words) {
-        return passes(grammar, sets, ahead, view, words);
+    // Without a lookahead every example passes.
+    pub fn passes(self, view: View, words: &[u16]) -> bool
+        requires tried { (es : List TraceEdge) × Tried (productions_in self.grammar.words.now self.grammar.productions) es view.owners.now view.codes.now words.now }
+        ensures { (es : List TraceEdge) → Tried (productions_in self.entry.grammar.words.now self.entry.grammar.productions) es view.entry.owners.now view.entry.codes.now words.now → (p rest : List ℕ) → words.now ≡ trial_words p ++ rest → result ≡ passes_by self.entry.sets.now.terminals self.entry.sets.now.map (productions_in self.entry.grammar.words.now self.entry.grammar.productions) es (set_of self.entry.lookahead) p }
+    {
+        match self.lookahead {
+            None => true,
+            Some(set) => self.meets(set, view, words),
+        }
     }
-    false
+
+    // Whether the trial is handed out: an example that passes.
+    fn hands(self, view: View, words: &[u16]) -> bool
+        requires tried { (es : List TraceEdge) × (Tried (productions_in self.grammar.words.now self.grammar.productions) es view.owners.now view.codes.now words.now × Sourced es view.sources.now) }
+        ensures { (es : List TraceEdge) → Tried (productions_in self.entry.grammar.words.now self.entry.grammar.productions) es view.entry.owners.now view.entry.codes.now words.now → Sourced es view.entry.sources.now → (p rest : List ℕ) → words.now ≡ trial_words p ++ rest → result ≡ hands_by self.entry.sets.now.terminals self.entry.sets.now.map (productions_in self.entry.grammar.words.now self.entry.grammar.productions) es (set_of self.entry.lookahead) p }
+    {
+        view.is_example(words) && self.passes(view, words)
+    }
 }
 
 // A trial past the limit: the words hold none.
@@ -137,26 +143,20 @@ fn overrun(words: &mut [u16]) -> Searched
 }
 
 // From the trial that the words hold on, past `count` trials made: the next that is handed out. The view says from which item.
-pub fn search(
-    grammar: Grammar,
-    sets: &FirstSets,
-    lookahead: Option<TokenSet>,
-    view: View,
-    words: &mut [u16],
-    count: u32,
-) -> Searched
-    requires searching { (es : List TraceEdge) × ((start : ItemOf) × Searching (productions_in grammar.words.now grammar.productions) es view.owners.now view.codes.now view.sources.now view.older.now view.latest.now words.old start) }
-    ensures { (es : List TraceEdge) (start : ItemOf) → Searching (productions_in grammar.entry.words.now grammar.entry.productions) es view.entry.owners.now view.entry.codes.now view.entry.sources.now view.entry.older.now view.entry.latest.now words.old start → (p rest : List ℕ) → words.old ≡ trial_words p ++ rest → searched result words.new ≡ searched_of rest (search (hands_by sets.now.terminals sets.now.map (productions_in grammar.entry.words.now grammar.entry.productions) es (set_of lookahead)) (trial_limit - count) count (later_than p (trials (ends_of es) (at_item start)))) }
+pub fn search(filter: Filter, view: View, words: &mut [u16], count: u32) -> Searched
+    requires searching { (es : List TraceEdge) × ((start : ItemOf) × Searching (productions_in filter.grammar.words.now filter.grammar.productions) es view.owners.now view.codes.now view.sources.now view.older.now view.latest.now words.old start) }
+    ensures { (es : List TraceEdge) (start : ItemOf) → Searching (productions_in filter.entry.grammar.words.now filter.entry.grammar.productions) es view.entry.owners.now view.entry.codes.now view.entry.sources.now view.entry.older.now view.entry.latest.now words.old start → (p rest : List ℕ) → words.old ≡ trial_words p ++ rest → searched result words.new ≡ searched_of rest (search (hands_by filter.entry.sets.now.terminals filter.entry.sets.now.map (productions_in filter.entry.grammar.words.now filter.entry.grammar.productions) es (set_of filter.entry.lookahead)) (trial_limit - count) count (later_than p (trials (ends_of es) (at_item start)))) }
 {
     let mut counts = [0u8; NonterminalString::LIMIT];
     view.count_walk(words, &mut counts);
     let mut made = count;
+    // The next trial is made in the words that are lent: an iterator would have to hold them.
     while view.next(words, &mut counts) {
         if made >= Searched::TRIALS {
             return overrun(words);
         }
         made += 1;
-        if hands(grammar, sets, lookahead, view, words) {
+        if filter.hands(view, words) {
             return Searched::Hit(made);
         }
     }

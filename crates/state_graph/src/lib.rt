@@ -21,7 +21,7 @@ ghost use Rattle.state_graph.specs.Remembered.{step_rows, step_places, step_word
 use bits::{is_set, put};
 use lookahead::TokenSet;
 use repr::{NonterminalString, Symbol};
-use table::{AcceptedTable, word};
+use table::{AcceptedTable, RECORDS, word};
 
 // The number of a state.
 #[derive(Clone, Copy)]
@@ -40,10 +40,7 @@ pub struct StateSet {
 
 impl StateSet {
     // A bit for each record of a table, while walking back.
-    pub const HIT_WORDS: usize = 128;
-
-    // Symbols: 32 nonterminals, 63 terminals behind them.
-    pub const ROWS: usize = 95;
+    pub const HIT_WORDS: usize = RECORDS / 64;
 
     // Steps that are remembered: four words each, and behind them a word each that says over which symbol.
     pub const STEPS: usize = 31;
@@ -280,7 +277,7 @@ fn set_at(words: &[u64], at: usize) -> StateSet
     }
 }
 
-// A place for what a step finds, by its symbol (a row: its number among all of StateSet::ROWS) and its set: steps from different sets over one symbol have different places as far as may be, and a place says what it holds.
+// A place for what a step finds, by its symbol (a row: its number among all symbols, the terminals behind the nonterminals) and its set: steps from different sets over one symbol have different places as far as may be, and a place says what it holds.
 fn place_of(row: usize, set: StateSet) -> usize
     requires { row < step_rows }
     ensures { result < step_places }
@@ -317,7 +314,7 @@ fn note(steps: &mut [u64], place: usize, row: usize)
     steps[StateSet::STEP_SYMBOLS + place] = (row + 1) as u64;
 }
 
-// A walk back over an accepted table: each step is remembered until another takes its place.
+// A walk back over an accepted table: each step is remembered until another takes its place. There is no heap, so the words for that are a fixed number.
 #[derive(Drop)]
 pub struct StateWalk<'a> {
     pub table: AcceptedTable<'a>,
@@ -371,12 +368,12 @@ impl<'a> StateWalk<'a> {
         found
     }
 
-    // Back over two lists joined: over the second and, from the states found, over the first. Where the first is odd, a symbol begins with its last word and ends with the other's first.
+    // Back over two lists joined: over the second and, from the states found, over the first. Where the first is odd, a symbol begins with its last word and ends with the other's first; `joined_fits` of repr says why this is no function of its own.
     fn walk_joined(&mut self, set: StateSet, xs: &[u16], ys: &[u16]) -> StateSet
         requires { list_is_fit (length (meaning self.old.table.words.now).nonterminals) (meaning self.old.table.words.now).terminals (xs.now ++ ys.now) ≡ true }
         ensures { states_in result.low result.high ≡ walked_back (meaning self.old.table.words.now) (states_in set.low set.high) (listed (xs.now ++ ys.now)) }
     {
-        if xs.len() % 2 == 0 {
+        if xs.len() % Symbol::WORDS == 0 {
             let found = self.walk_back(set, ys);
             return self.walk_back(found, xs);
         }

@@ -1,4 +1,5 @@
-// The chains of an accepted table's records, each gone through from a record on; 0 is the end.
+// The chains of an accepted table's records, each gone through from a record on; 0 is the end. A record is named by its index, as the words that are lent have it: there is no heap.
+// One trait for the three `next`s would be longer than they are: each reads another record and shows another list.
 
 ghost use Rattle.table.specs.Index.{ItemIndex, EdgeIndex, ProductionHead};
 

@@ -62,16 +62,11 @@ impl TraceGraphNode {
     pub fn of(kind: u16, number: u16, index: u16) -> TraceGraphNode
         ensures { result ≡ graph_node kind number index }
     {
-        if kind == 0 {
-            if index == 0 {
-                return TraceGraphNode::Nonterminal(NonterminalString(number));
-            }
-            return TraceGraphNode::Other(kind, number, index);
+        match (kind, index) {
+            (0, 0) => TraceGraphNode::Nonterminal(NonterminalString(number)),
+            (1, _) => TraceGraphNode::Item(ProductionIndex(number), index),
+            _ => TraceGraphNode::Other(kind, number, index),
         }
-        if kind == 1 {
-            return TraceGraphNode::Item(ProductionIndex(number), index);
-        }
-        TraceGraphNode::Other(kind, number, index)
     }
 
     // Its three words.
@@ -217,7 +212,7 @@ fn same_edge(grammar: Grammar, n: usize, graph: &[u16], k: usize, edge: TraceEdg
         )
 }
 
-// A list of symbols mixed into a number.
+// A list of symbols mixed into a number. Crate yacc_names mixes bytes by the same rule; they have the one line in the loop in common.
 fn mix(list: &[u16], start: usize) -> usize
     requires { (start < 65536) × (list_is_fit nonterminal_limit terminal_limit list.now ≡ true) }
     ensures { (result ≡ mixed start (listed list.now)) × (result < 65536) }

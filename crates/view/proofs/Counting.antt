@@ -12,32 +12,28 @@ use Rattle.enumerator.specs.Stacks.{Within, stack_in}
 use Rattle.enumerator.specs.Counts.{Counted, walk_of}
 use Rattle.enumerator.proofs.Stepping.{within-top}
 use Rattle.enumerator.proofs.Counting.{counted_fewer}
-use Rattle.view.specs.View.{Bounded}
 use Rattle.view.specs.Trial.{trial_words, Held}
 use Rattle.view.specs.Steps.{joined_by, used_by, CountedWalk, CountedEdges}
 use Rattle.view.proofs.Trial.{stack_once, stack_depth, stack_long, empty, under_read, stack_more, top-words, upper, upper_stack}
-use Rattle.view.proofs.Steps.{joined_item, joined_nonterminal, used-more, used_few}
+use Rattle.view.proofs.Steps.{used-more, used_few}
 
--- the nonterminal that an edge comes from
-pub source_few : {sources : List ℕ} → Bounded edge_limit nonterminal_limit sources → (e : ℕ) {v : ℕ} → v ≡ get_or sources e 0 → v - 1 < nonterminal_limit
-source_few B e q = omega (arith, B.low e)
+-- an edge that joins a walk or leaves it, from an item or from a nonterminal
+module _ (sources : List ℕ) (e : ℕ) (us : List ℕ) {ms : List ℕ} where
+  pub join-item : get_or sources e 0 ≡ 0 → Counted us ms → Counted (joined_by (get_or sources e 0) us) ms
+  unfolding joined_by
+  join-item z C = rw z C
 
--- `join`
-module _ (sources : List ℕ) (e : ℕ) {v : ℕ} (ev : v ≡ get_or sources e 0) (us : List ℕ) where
-  pub join-item : v ≡ 0 → {ms : List ℕ} → Counted us ms → Counted (joined_by (get_or sources e 0) us) ms
-  join-item z {ms} C = subst (λ (l : List ℕ). Counted l ms) (sym (joined_item (get_or sources e 0) us (sym ev ∙ z))) C
+  pub join-nonterminal : {n : ℕ} → get_or sources e 0 ≡ suc n → Counted (n ∷ us) ms → Counted (joined_by (get_or sources e 0) us) ms
+  unfolding joined_by
+  join-nonterminal q C = rw q C
 
-  joined_is : (v ≡ 0 → ⊥) → joined_by (get_or sources e 0) us ≡ (v - 1) ∷ us
-  joined_is ne = ap (λ (k : ℕ). joined_by k us) (sym ev) ∙ joined_nonterminal v us ne
+  leave_same : get_or sources e 0 ≡ 0 → Counted (joined_by (get_or sources e 0) us) ms → Counted us ms
+  unfolding joined_by
+  leave_same z C = rw z at C
 
-  pub join-nonterminal : (v ≡ 0 → ⊥) → {ms : List ℕ} → Counted ((v - 1) ∷ us) ms → Counted (joined_by (get_or sources e 0) us) ms
-  join-nonterminal ne {ms} C = subst (λ (l : List ℕ). Counted l ms) (sym (joined_is ne)) C
-
-  leave_by : (v ≡ 0 → ⊥) → {ms : List ℕ} → Counted (joined_by (get_or sources e 0) us) ms → Counted ((v - 1) ∷ us) ms
-  leave_by ne {ms} C = subst (λ (l : List ℕ). Counted l ms) (joined_is ne) C
-
-  leave_same : v ≡ 0 → {ms : List ℕ} → Counted (joined_by (get_or sources e 0) us) ms → Counted us ms
-  leave_same z {ms} C = subst (λ (l : List ℕ). Counted l ms) (joined_item (get_or sources e 0) us (sym ev ∙ z)) C
+  leave_by : {n : ℕ} → get_or sources e 0 ≡ suc n → Counted (joined_by (get_or sources e 0) us) ms → Counted (n ∷ us) ms
+  unfolding joined_by
+  leave_by q C = rw q at C
 
 -- counts by the stack that the words hold
 module _ (sources : List ℕ) {ws ms : List ℕ} (st rest : List ℕ) (w : ws ≡ trial_words (reverse st) ++ rest) where
@@ -102,20 +98,21 @@ module _ (sources : List ℕ) {ws : List ℕ} (S : Held ws) {d : ℕ} (ed : d �
     join-top W f = edges_by_lem sources (x ∷ under) S.rest some_words (f (used_by sources under) (top-counted W))
 
     -- `leave`
-    module _ {v : ℕ} (ev : v ≡ get_or sources x 0) {ms : List ℕ} (E : CountedEdges sources ws ms) where
+    module _ {ms : List ℕ} (E : CountedEdges sources ws ms) where
       all-counted : Counted (joined_by (get_or sources x 0) (used_by sources under)) ms
       all-counted = subst (λ (l : List ℕ). Counted l ms) (used-more sources x under) (E.edges (x ∷ under) S.rest some_words)
 
-      pub leave_item : v ≡ 0 → CountedWalk sources ws ms
+      pub leave_item : get_or sources x 0 ≡ 0 → CountedWalk sources ws ms
       unfolding walk_of
-      leave_item z = walk_by sources (x ∷ under) S.rest some_words (leave_same sources x ev (used_by sources under) z all-counted)
+      leave_item z = walk_by sources (x ∷ under) S.rest some_words (leave_same sources x (used_by sources under) z all-counted)
 
-      pub leave_counted : (v ≡ 0 → ⊥) → Counted ((v - 1) ∷ used_by sources under) ms
-      leave_counted m = leave_by sources x ev (used_by sources under) m all-counted
+      module _ {n : ℕ} (q : get_or sources x 0 ≡ suc n) where
+        pub leave_counted : Counted (n ∷ used_by sources under) ms
+        leave_counted = leave_by sources x (used_by sources under) q all-counted
 
-      pub leave_nonterminal : (v ≡ 0 → ⊥) → v - 1 < nonterminal_limit → {y : ℕ} → y ≡ get_or ms (v - 1) 0 → CountedWalk sources ws (set ms (v - 1) (y - 1))
-      unfolding walk_of
-      leave_nonterminal m h ey = walk_by sources (x ∷ under) S.rest some_words (counted_fewer h ey (leave_counted m))
+        pub leave_nonterminal : n < nonterminal_limit → {y : ℕ} → y ≡ get_or ms n 0 → CountedWalk sources ws (set ms n (y - 1))
+        unfolding walk_of
+        leave_nonterminal h ey = walk_by sources (x ∷ under) S.rest some_words (counted_fewer h ey leave_counted)
 
 -- one edge more: those before it are its walk
 pub push_counts : (sources : List ℕ) {ws ms ws' : List ℕ} (S : Held ws) (e : ℕ) → ((p rest : List ℕ) → ws ≡ trial_words p ++ rest → ws' ≡ trial_words (p ++ e ∷ []) ++ rest)

@@ -119,9 +119,6 @@ pub viewed_first : {G : Ends} {start : Item} {sources older latest : List ℕ} �
     → Viewed G start sources older latest 0
 viewed_first {G} {start} s o l = rw (s, o, l) (viewed_none G start)
 
-pub kept_long : {size limit : ℕ} {ws ws₀ : List ℕ} → Bounded size limit ws → ws₀ ≡ replicate size 0 → length ws ≡ length ws₀
-kept_long {size} B e = B.long ∙ sym (ap length e ∙ length-replicate {A = ℕ} size 0)
-
 link_hit : (G : Ends) (v : Node) (k : ℕ) → is_same_node (G.target k) v ≡ true → link_of (below G v (suc k)) ≡ k + 1
 unfolding link_of
 link_hit G v k e = ap link_of (below-hit G v k e) ∙ (let o : suc k ≡ k + 1 = omega arith in o)

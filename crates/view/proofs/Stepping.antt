@@ -1,16 +1,17 @@
 -- The ways through the code of the machine (src/machine.rt), over the words of a trial. Assumes nothing.
-use Prim.Native.Nat.{ℕ, zero, suc, ◌-◌, ◌≤◌, ◌<◌}
+use Prim.Native.Nat.{ℕ, suc, ◌-◌, ◌≤◌, ◌<◌}
 use native.Mathlib.Omega.{arith}
-use mathlib.Core.Path.{◌≡◌, refl, sym, ap, ◌∙◌}
+use mathlib.Core.Path.{◌≡◌, sym, ap, ◌∙◌}
 use mathlib.Core.Bool.{Bool, true, false}
 use mathlib.Core.List.{List, [], ◌∷◌, ◌++◌, reverse, reverse-cons}
 use mathlib.Core.Option.{Option, none, some}
 use lib.ListN.{length, get_or, length-reverse}
 use lib.Dec.{eqb}
+use borrow.Author.Tests.{not-true, not-false, ne_eqb}
+use Rattle.std.specs.Prelude.{Option as Maybe, not, is_some, MatchOption, None, Some}
 use Rattle.repr.specs.Sizes.{nonterminal_limit, edge_limit, reduction_limit}
 use Rattle.repr.specs.Lists.{mem}
 use Rattle.enumerator.specs.Stacks.{stepped}
-use Rattle.view.specs.View.{Bounded}
 use Rattle.view.specs.Trial.{trial_room, trial_words, Held, Fitting, step_words}
 use Rattle.view.specs.Steps.{edge_in, used_by, back_by, seek_by, next_by, example_by}
 use Rattle.view.proofs.Trial.{words-head, stack_once, stack_depth, stack_long, empty, top-words, top_depth, top_short, under_within, upper, upper_below, upper_stack, upper_is}
@@ -28,10 +29,6 @@ step-some o e st rest ws q w = rw q (ap (stepped true) (w ∙ ap (λ (l : List �
 -- what a step is to meet, by its definition
 abbrev pub Meets : List ℕ → (List ℕ → Option (List ℕ)) → Bool → List ℕ → Type 0
 Meets ws step r ws' = (st rest : List ℕ) → ws ≡ trial_words (reverse st) ++ rest → stepped r ws' ≡ step_words (step st) rest
-
--- an edge that a word below a limit links
-pub link_low : {size : ℕ} {ws : List ℕ} → Bounded size edge_limit ws → (k : ℕ) {w : ℕ} → w ≡ get_or ws k 0 → (w ≤ edge_limit) × (w - 1 < edge_limit)
-link_low B k e = (omega (arith, B.low k), omega (arith, B.low k))
 
 -- `back`: the stack that is left gives what the whole gives
 pub record Turn (older ws₀ ws : List ℕ) (d : ℕ) : Type 0 where
@@ -71,13 +68,13 @@ module _ {older ws₀ ws : List ℕ} {d : ℕ} (T : Turn older ws₀ ws d) where
     stack_is = upper_stack T.held T.deep ne ex
 
     module _ {o : ℕ} (eo : o ≡ get_or older x 0) where
-      pub back_found : (o ≡ 0 → ⊥) → {ws' : List ℕ} → ((p : List ℕ) (e : ℕ) (rest : List ℕ) → ws ≡ trial_words (p ++ e ∷ []) ++ rest → ws' ≡ trial_words (p ++ (o - 1) ∷ []) ++ rest)
+      pub back_found : {l : ℕ} → o ≡ suc l → {ws' : List ℕ} → ((p : List ℕ) (e : ℕ) (rest : List ℕ) → ws ≡ trial_words (p ++ e ∷ []) ++ rest → ws' ≡ trial_words (p ++ l ∷ []) ++ rest)
           → Meets ws₀ (back_by older) true ws'
-      back_found m {ws'} f st rest q =
+      back_found {l} m {ws'} f st rest q =
           let S = T.held in
           let U = upper S T.deep ne ex in
           let w = f (reverse under) U.edge S.rest (top-words S U) in
-          step-some (back_by older S.stack) (o - 1) under S.rest ws' (ap (back_by older) stack_is ∙ back_some older x (o - 1) under (ap edge_in (sym eo) ∙ edge_some o m)) w
+          step-some (back_by older S.stack) l under S.rest ws' (ap (back_by older) stack_is ∙ back_some older x l under (ap edge_in (sym eo) ∙ edge_some o m)) w
           ∙ T.same st rest q
 
       pub back_again : o ≡ 0 → {ws' : List ℕ} → ((p : List ℕ) (e : ℕ) (rest : List ℕ) → ws ≡ trial_words (p ++ e ∷ []) ++ rest → ws' ≡ trial_words p ++ rest) → Turn older ws₀ ws' (d - 1)
@@ -102,15 +99,16 @@ module _ (older : List ℕ) (w : ℕ) {ws ws' : List ℕ} where
   pub seek-back : w ≡ 0 → {r : Bool} → Meets ws (back_by older) r ws' → Meets ws (seek_by older w) r ws'
   seek-back z f st rest q = renamed (back_by older st) (seek_by older w st) rest (seek-none older w st (edge_none w z)) (f st rest q)
 
-  pub seek_push : (w ≡ 0 → ⊥) → ((p rest : List ℕ) → ws ≡ trial_words p ++ rest → ws' ≡ trial_words (p ++ (w - 1) ∷ []) ++ rest) → Meets ws (seek_by older w) true ws'
-  seek_push m f st rest q = step-some (seek_by older w st) (w - 1) st rest ws' (seek-some older w (w - 1) st (edge_some w m)) (f (reverse st) rest q)
+  pub seek_push : {l : ℕ} → w ≡ suc l → ((p rest : List ℕ) → ws ≡ trial_words p ++ rest → ws' ≡ trial_words (p ++ l ∷ []) ++ rest) → Meets ws (seek_by older w) true ws'
+  seek_push {l} m f st rest q = step-some (seek_by older w st) l st rest ws' (seek-some older w l st (edge_some w m)) (f (reverse st) rest q)
 
 -- `next`
 module _ (sources older latest : List ℕ) {ws : List ℕ} (S : Held ws) {d : ℕ} (ed : d ≡ get_or ws 0 0) where
   -- the room for one edge more
   seek-room : Fitting (next_by sources older latest) ws → (w : ℕ) → next_by sources older latest S.stack ≡ seek_by older w S.stack → (w ≡ 0 → ⊥) → get_or ws 0 0 < reduction_limit
   seek-room F w e m =
-      let l = F.room S.stack S.rest S.words ((w - 1) ∷ S.stack) (e ∙ seek-some older w (w - 1) S.stack (edge_some w m)) in
+      let n : w ≡ suc (w - 1) = omega (arith, m) in
+      let l = F.room S.stack S.rest S.words ((w - 1) ∷ S.stack) (e ∙ seek-some older w (w - 1) S.stack (edge_some w n)) in
       omega (arith, stack_depth S)
 
   module _ (z : d ≡ 0) where
@@ -119,40 +117,30 @@ module _ (sources older latest : List ℕ) {ws : List ℕ} (S : Held ws) {d : �
         let e = empty S d ed z in
         ap (next_by sources older latest) e ∙ next-first sources older latest ∙ ap (seek_by older (get_or latest nonterminal_limit 0)) (sym e)
 
-    pub none-room : Fitting (next_by sources older latest) ws → {w : ℕ} → w ≡ get_or latest nonterminal_limit 0 → (w ≡ 0 → ⊥) → get_or ws 0 0 < reduction_limit
-    none-room F {w} ew m = seek-room F w (none-next ∙ ap (λ (k : ℕ). seek_by older k S.stack) (sym ew)) m
-
     pub next-none : {w : ℕ} → w ≡ get_or latest nonterminal_limit 0 → {r : Bool} {ws' : List ℕ} → Meets ws (seek_by older w) r ws' → Meets ws (next_by sources older latest) r ws'
     next-none {w} ew f st rest q =
         let s : st ≡ S.stack = (stack_once st S.stack rest S.rest (sym q ∙ S.words)).0 in
         renamed (seek_by older w st) (next_by sources older latest st) rest
         (ap (next_by sources older latest) s ∙ none-next ∙ ap (λ (k : ℕ). seek_by older k S.stack) (sym ew) ∙ ap (seek_by older w) (sym s)) (f st rest q)
 
-  module _ (ne : d ≡ 0 → ⊥) {x : ℕ} (ex : x ≡ get_or ws d 0) {v : ℕ} (ev : v ≡ get_or sources x 0) where
-    pub next-at_item : v ≡ 0 → {r : Bool} {ws' : List ℕ} → Meets ws (back_by older) r ws' → Meets ws (next_by sources older latest) r ws'
+  module _ (ne : d ≡ 0 → ⊥) {x : ℕ} (ex : x ≡ get_or ws d 0) where
+    pub next-at_item : get_or sources x 0 ≡ 0 → {r : Bool} {ws' : List ℕ} → Meets ws (back_by older) r ws' → Meets ws (next_by sources older latest) r ws'
     next-at_item z f st rest w =
         let e = upper_is S ed ne ex st rest w in
         renamed (back_by older st) (next_by sources older latest st) rest
-        (ap (next_by sources older latest) e ∙ next_item_lem sources older latest x (upper S ed ne ex).under (sym ev ∙ z) ∙ ap (back_by older) (sym e)) (f st rest w)
+        (ap (next_by sources older latest) e ∙ next_item_lem sources older latest x (upper S ed ne ex).under z ∙ ap (back_by older) (sym e)) (f st rest w)
 
-    module _ (m : v ≡ 0 → ⊥) where
-      source_is : get_or sources x 0 ≡ suc (v - 1)
-      source_is = go v refl
-        where
-          go : (k : ℕ) → v ≡ k → get_or sources x 0 ≡ suc (v - 1)
-          go zero q = absurd (m q)
-          go (suc k) q = omega arith
-
-      pub next-used : mem (v - 1) (used_by sources (upper S ed ne ex).under) ≡ true → {r : Bool} {ws' : List ℕ} → Meets ws (back_by older) r ws' → Meets ws (next_by sources older latest) r ws'
+    module _ {n : ℕ} (is : get_or sources x 0 ≡ suc n) where
+      pub next-used : mem n (used_by sources (upper S ed ne ex).under) ≡ true → {r : Bool} {ws' : List ℕ} → Meets ws (back_by older) r ws' → Meets ws (next_by sources older latest) r ws'
       next-used t f st rest w =
           let e = upper_is S ed ne ex st rest w in
           renamed (back_by older st) (next_by sources older latest st) rest
-          (ap (next_by sources older latest) e ∙ next_on sources older latest x (v - 1) (upper S ed ne ex).under source_is t ∙ ap (back_by older) (sym e)) (f st rest w)
+          (ap (next_by sources older latest) e ∙ next_on sources older latest x n (upper S ed ne ex).under is t ∙ ap (back_by older) (sym e)) (f st rest w)
 
-      module _ (t : mem (v - 1) (used_by sources (upper S ed ne ex).under) ≡ false) {l : ℕ} (el : l ≡ get_or latest (v - 1) 0) where
+      module _ (t : mem n (used_by sources (upper S ed ne ex).under) ≡ false) {l : ℕ} (el : l ≡ get_or latest n 0) where
         new_next : next_by sources older latest (x ∷ (upper S ed ne ex).under) ≡ seek_by older l (x ∷ (upper S ed ne ex).under)
         new_next =
-            next_in sources older latest x (v - 1) (upper S ed ne ex).under source_is t
+            next_in sources older latest x n (upper S ed ne ex).under is t
             ∙ ap (λ (k : ℕ). seek_by older k (x ∷ (upper S ed ne ex).under)) (sym el)
 
         pub new_room : Fitting (next_by sources older latest) ws → (l ≡ 0 → ⊥) → get_or ws 0 0 < reduction_limit
@@ -166,6 +154,10 @@ module _ (sources older latest : List ℕ) {ws : List ℕ} (S : Held ws) {d : �
             renamed (seek_by older l st) (next_by sources older latest st) rest (ap (next_by sources older latest) e ∙ new_next ∙ ap (seek_by older l) (sym e)) (f st rest w)
 
 -- `is_example`
+pub source_none : (o : Maybe ℕ) (v : ℕ) {r : Bool} → not r ≡ is_some o → MatchOption o (v ≡ 0) (λ n. (v ≡ suc n) × (n < nonterminal_limit)) → r ≡ eqb v 0
+source_none None v {r} e z = rw z (not-false r e)
+source_none (Some n) v {r} e q = let s = q.0 in not-true r e ∙ sym (ne_eqb v 0 (λ z. omega arith))
+
 module _ (sources : List ℕ) {ws : List ℕ} (S : Held ws) {d : ℕ} (ed : d ≡ get_or ws 0 0) where
   pub example-none : d ≡ 0 → (st rest : List ℕ) → ws ≡ trial_words (reverse st) ++ rest → false ≡ example_by sources st
   unfolding example_by
@@ -173,6 +165,6 @@ module _ (sources : List ℕ) {ws : List ℕ} (S : Held ws) {d : ℕ} (ed : d �
       let e : st ≡ [] = (stack_once st S.stack rest S.rest (sym q ∙ S.words)).0 ∙ empty S d ed z in
       sym (ap (example_by sources) e)
 
-  pub example-top : (ne : d ≡ 0 → ⊥) {x : ℕ} → x ≡ get_or ws d 0 → {v : ℕ} → v ≡ get_or sources x 0 → (st rest : List ℕ) → ws ≡ trial_words (reverse st) ++ rest → eqb v 0 ≡ example_by sources st
+  pub example-top : (ne : d ≡ 0 → ⊥) {x : ℕ} → x ≡ get_or ws d 0 → (st rest : List ℕ) → ws ≡ trial_words (reverse st) ++ rest → eqb (get_or sources x 0) 0 ≡ example_by sources st
   unfolding example_by
-  example-top ne {x} ex ev st rest w = ap (λ (k : ℕ). eqb k 0) ev ∙ sym (ap (example_by sources) (upper_is S ed ne ex st rest w))
+  example-top ne {x} ex st rest w = sym (ap (example_by sources) (upper_is S ed ne ex st rest w))

@@ -1,5 +1,5 @@
 -- The ways through each step over a view's words (specs/Steps). Assumes nothing.
-use Prim.Native.Nat.{ℕ, zero, suc, ◌-◌, ◌≤◌}
+use Prim.Native.Nat.{ℕ, zero, suc, ◌≤◌}
 use native.Mathlib.Omega.{arith}
 use mathlib.Core.Path.{◌≡◌, refl, ap, ◌∙◌}
 use mathlib.Core.Bool.{true, false}
@@ -15,10 +15,9 @@ pub edge_none : (w : ℕ) → w ≡ 0 → edge_in w ≡ none
 unfolding edge_in
 edge_none w z = rw z
 
-pub edge_some : (w : ℕ) → (w ≡ 0 → ⊥) → edge_in w ≡ some (w - 1)
+pub edge_some : (w : ℕ) {f : ℕ} → w ≡ suc f → edge_in w ≡ some f
 unfolding edge_in
-edge_some zero ne = absurd (ne refl)
-edge_some (suc k) ne = let q : k ≡ suc k - 1 = omega arith in ap some q
+edge_some w q = rw q
 
 module _ (older : List ℕ) where
   pub back_end : back_by older [] ≡ none
@@ -40,15 +39,6 @@ module _ (older : List ℕ) where
   pub seek-none : (w : ℕ) (st : List ℕ) → edge_in w ≡ none → seek_by older w st ≡ back_by older st
   unfolding seek_by
   seek-none w st h = rw (h, seek_by)
-
-pub joined_item : (w : ℕ) (us : List ℕ) → w ≡ 0 → joined_by w us ≡ us
-unfolding joined_by
-joined_item w us z = rw z
-
-pub joined_nonterminal : (w : ℕ) (us : List ℕ) → (w ≡ 0 → ⊥) → joined_by w us ≡ (w - 1) ∷ us
-unfolding joined_by
-joined_nonterminal zero us ne = absurd (ne refl)
-joined_nonterminal (suc n) us ne = let q : n ≡ suc n - 1 = omega arith in ap (λ (k : ℕ). k ∷ us) q
 
 pub used-more : (sources : List ℕ) (e : ℕ) (st : List ℕ) → used_by sources (e ∷ st) ≡ joined_by (get_or sources e 0) (used_by sources st)
 unfolding used_by

@@ -2,7 +2,6 @@
 
 #![tactic(auto)]
 
-ghost use Rattle.std.specs.Prelude.{◌≡◌, ◌<◌, length, get_or};
 ghost use Rattle.view.specs.View.{Tidy};
 
 use example::Example;
@@ -27,18 +26,13 @@ pub struct View<'a> {
 impl<'a> View<'a> {
     pub const EDGES: usize = TraceGraph::EDGES;
 
+    // The nodes of the start item and of all other items, behind the nonterminals.
     pub const START: usize = NonterminalString::LIMIT;
 
-    pub const NODES: usize = View::START + 2;
+    pub const OTHERS: usize = View::START + 1;
 
-    // Words of a trial: the number of its edges, and its edges.
+    pub const NODES: usize = View::OTHERS + 1;
+
+    // Words of a trial: the number of its edges, and its edges; fixed words behind a count, since there is no heap.
     pub const TRIAL: usize = 1 + Example::REDUCTIONS;
-}
-
-// A byte of a list, as a number.
-fn byte(bytes: &[u8], at: usize) -> usize
-    requires { at < length bytes.now }
-    ensures { result ≡ get_or bytes.now at 0 }
-{
-    bytes[at] as usize
 }

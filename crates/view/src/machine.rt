@@ -1,5 +1,5 @@
 // The machine that steps from trial to trial (`find_next_trace` and what it calls), over a view and the words of a trial. The counts are of the words, which are lent: no struct can hold that they agree.
-ghost use Rattle.std.specs.Prelude.{◌≡◌, List, [], ◌∷◌, ◌++◌, reverse, ℕ, ◌≤◌, ◌<◌, length, get_or, drop};
+ghost use Rattle.std.specs.Prelude.{◌≡◌, List, [], ◌∷◌, ◌++◌, reverse, ℕ, suc, ◌≤◌, ◌<◌, length, get_or, drop, MatchOption};
 ghost use Rattle.repr.specs.Sizes.{edge_limit, nonterminal_limit, reduction_limit};
 ghost use Rattle.enumerator.specs.Counts.{Counted};
 ghost use Rattle.enumerator.specs.Stacks.{stepped};
@@ -7,7 +7,7 @@ ghost use Rattle.view.specs.View.{Bounded, Tidy};
 ghost use Rattle.view.specs.Trial.{trial_room, trial_words, Held, Fitting, step_words};
 ghost use Rattle.view.specs.Steps.{joined_by, back_by, seek_by, next_by, example_by, CountedWalk, CountedEdges};
 
-use crate::{View, byte};
+use crate::View;
 use repr::word;
 
 // One edge more.
@@ -47,19 +47,38 @@ pub fn clear(words: &mut [u16])
     words[..View::TRIAL].fill(0);
 }
 
+// The last edge, or none.
+fn last(words: &[u16]) -> Option<usize>
+    requires held { Held words.now }
+    ensures { MatchOption result (get_or words.now 0 0 ≡ 0) (λ e. (get_or words.now 0 0 ≡ 0 → ⊥) × (e ≡ get_or words.now (get_or words.now 0 0) 0) × (e < edge_limit)) }
+{
+    let depth = word(words, 0);
+    if depth == 0 {
+        None
+    } else {
+        Some(word(words, depth))
+    }
+}
+
 impl<'a> View<'a> {
+    // The nonterminal that an edge comes from, or none where it comes from an item.
+    fn source(self, edge: usize) -> Option<usize>
+        requires edge_lt_edge_limit { edge < edge_limit }
+        ensures { MatchOption result (get_or self.entry.sources.now edge 0 ≡ 0) (λ n. (get_or self.entry.sources.now edge 0 ≡ suc n) × (n < nonterminal_limit)) }
+    {
+        let sources = self.sources;
+        (sources[edge] as usize).checked_sub(1)
+    }
+
     // An edge joins the walk: the nonterminal that it comes from counts one more. A walk has at most 33 edges, so a byte holds a count.
     fn join(self, edge: usize, counts: &mut [u8])
         requires edge_lt_edge_limit { edge < edge_limit }
         requires by_index { (us : List ℕ) × (length us ≤ reduction_limit) × Counted us counts.old }
         ensures { (us : List ℕ) → Counted us counts.old → Counted (joined_by (get_or self.entry.sources.now edge 0) us) counts.new }
     {
-        let source = byte(self.sources, edge);
-        if source == 0 {
-            return;
+        if let Some(nonterminal) = self.source(edge) {
+            counts[nonterminal] += 1;
         }
-        let nonterminal = source - 1;
-        counts[nonterminal] = counts[nonterminal] + 1;
     }
 
     // The last edge leaves the walk: the nonterminal that it comes from counts one fewer.
@@ -68,17 +87,12 @@ impl<'a> View<'a> {
         requires counted_edges { CountedEdges self.sources.now words.now counts.old }
         ensures { CountedWalk self.entry.sources.now words.now counts.new }
     {
-        let depth = word(words, 0);
-        if depth == 0 {
+        let Some(edge) = last(words) else {
             return;
+        };
+        if let Some(nonterminal) = self.source(edge) {
+            counts[nonterminal] -= 1;
         }
-        let edge = word(words, depth);
-        let source = byte(self.sources, edge);
-        if source == 0 {
-            return;
-        }
-        let nonterminal = source - 1;
-        counts[nonterminal] = counts[nonterminal] - 1;
     }
 
     // The counts of the walk that the words hold, from none counted.
@@ -87,8 +101,7 @@ impl<'a> View<'a> {
         requires counted { Counted [] counts.old }
         ensures { CountedWalk self.entry.sources.now words.now counts.new }
     {
-        let depth = word(words, 0);
-        for at in 1..depth {
+        for at in 1..word(words, 0) {
             self.join(word(words, at), counts);
         }
     }
@@ -102,9 +115,8 @@ impl<'a> View<'a> {
     {
         for depth in (1..=word(words, 0)).rev() {
             let edge = word(words, depth);
-            let link = word(self.older, edge);
-            if link != 0 {
-                replace(words, link - 1);
+            if let Some(older) = word(self.older, edge).checked_sub(1) {
+                replace(words, older);
                 return true;
             }
             pop(words);
@@ -121,11 +133,11 @@ impl<'a> View<'a> {
         ensures by_index { (st rest : List ℕ) → words.old ≡ trial_words (reverse st) ++ rest → stepped result words.new ≡ step_words (seek_by self.entry.older.now link st) rest }
         ensures counted_walk { CountedWalk self.entry.sources.now words.new counts.new }
     {
-        if link == 0 {
+        let Some(edge) = link.checked_sub(1) else {
             self.leave(words, counts);
             return self.back(words, counts);
-        }
-        push(words, link - 1);
+        };
+        push(words, edge);
         true
     }
 
@@ -136,23 +148,18 @@ impl<'a> View<'a> {
         ensures by_index { (st rest : List ℕ) → words.old ≡ trial_words (reverse st) ++ rest → stepped result words.new ≡ step_words (next_by self.entry.sources.now self.entry.older.now self.entry.latest.now st) rest }
         ensures counted_walk_2 { CountedWalk self.entry.sources.now words.new counts.new }
     {
-        let depth = word(words, 0);
-        if depth == 0 {
+        let Some(edge) = last(words) else {
             let first = word(self.latest, View::START);
             return self.seek(words, first, counts);
+        };
+        match self.source(edge) {
+            Some(nonterminal) if counts[nonterminal] == 0 => {
+                self.join(edge, counts);
+                let link = word(self.latest, nonterminal);
+                self.seek(words, link, counts)
+            }
+            _ => self.back(words, counts),
         }
-        let edge = word(words, depth);
-        let source = byte(self.sources, edge);
-        if source == 0 {
-            return self.back(words, counts);
-        }
-        let nonterminal = source - 1;
-        if counts[nonterminal] != 0 {
-            return self.back(words, counts);
-        }
-        self.join(edge, counts);
-        let link = word(self.latest, nonterminal);
-        self.seek(words, link, counts)
     }
 
     // Whether the trial is an example: its last edge comes from an item.
@@ -160,11 +167,9 @@ impl<'a> View<'a> {
         requires held { Held words.now }
         ensures { (st rest : List ℕ) → words.now ≡ trial_words (reverse st) ++ rest → result ≡ example_by self.entry.sources.now st }
     {
-        let depth = word(words, 0);
-        if depth == 0 {
-            return false;
+        match last(words) {
+            Some(edge) => self.source(edge).is_none(),
+            None => false,
         }
-        let edge = word(words, depth);
-        byte(self.sources, edge) == 0
     }
 }

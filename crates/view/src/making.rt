@@ -1,19 +1,18 @@
 // Making a view: of a graph in words, edge by edge, while the graph is checked.
-ghost use Rattle.std.specs.Prelude.{◌≡◌, true, ℕ, ◌+◌, ◌*◌, ◌≤◌, ◌<◌, length, get_or, set, replicate};
+ghost use Rattle.std.specs.Prelude.{◌≡◌, true, ℕ, ◌+◌, ◌*◌, ◌≤◌, ◌<◌, length, get_or, set};
 ghost use Rattle.repr.specs.Sizes.{nonterminal_limit, index_limit, edge_limit, graph_room};
 ghost use Rattle.repr.specs.Packed.{Packed, productions_in};
 ghost use Rattle.trace_graph.specs.Words.{edge_at, edges_in};
 ghost use Rattle.trace_graph.specs.Fits.{graph_fits};
-ghost use Rattle.trace_graph.specs.Index.{index_room};
 ghost use Rattle.trace_graph.specs.Values.{node_is, node_value_fits};
 ghost use Rattle.enumerator.specs.Lister.{owner_of_node};
 ghost use Rattle.view.specs.Blank.{Blank};
-ghost use Rattle.view.specs.View.{latest_room, slot_of, source_of, Labelled, EdgeRanged, View as Viewing};
+ghost use Rattle.view.specs.View.{latest_room, slot_of, source_of, Tidy, Labelled, EdgeRanged, View as Viewing};
 
 use crate::View;
 use lr1_core::Item;
-use repr::{Grammar, ProductionIndex, word};
-use trace_graph::{Node, check_edge, read_edge};
+use repr::{Grammar, word};
+use trace_graph::{Node, TraceGraph, check_edge, read_edge};
 
 // The lists of a view while it is made, and by edge the nonterminal that it comes from: View's fields but the labels' items.
 // Fixed words, since there is no heap; a list each, as the elements differ in size.
@@ -51,6 +50,21 @@ impl ViewLists {
         self.latest[slot] = (k + 1) as u16;
         self.owners[k] = owner as u8;
     }
+
+    // The view that they make, with the labels' items.
+    pub fn view<'a>(&'a self, codes: &'a [u16]) -> View<'a>
+        requires { Tidy self.now.sources self.now.older self.now.latest }
+        ensures lists { (result.sources.now ≡ self.now.sources) × (result.older.now ≡ self.now.older) × (result.latest.now ≡ self.now.latest) × (result.owners.now ≡ self.now.owners) }
+        ensures codes { result.codes.now ≡ codes.now }
+    {
+        View {
+            sources: &self.sources,
+            older: &self.older,
+            latest: &self.latest,
+            owners: &self.owners,
+            codes,
+        }
+    }
 }
 
 // The number of a node among those of the view from an item.
@@ -59,23 +73,20 @@ pub fn slot(node: Node, start: Item) -> usize
     ensures { (result ≡ slot_of (record { production = start.production; index = start.index }) (node_is node)) × (result < latest_room) }
 {
     if node.kind == 0 {
-        return node.number;
+        node.number
+    } else if node.number == start.production && node.index == start.index {
+        View::START
+    } else {
+        View::OTHERS
     }
-    if node.number == start.production && node.index == start.index {
-        return View::START;
-    }
-    View::START + 1
 }
 
-// Where an edge comes from: one more than the nonterminal, or 0.
+// Where an edge comes from, as a byte of a view has it: one more than the nonterminal, or 0.
 pub fn source(node: Node) -> usize
     requires { node.kind ≡ 0 → node.number < nonterminal_limit }
     ensures { (result ≡ source_of (node_is node)) × (result ≤ nonterminal_limit) }
 {
-    if node.kind == 0 {
-        return node.number + 1;
-    }
-    0
+    if node.kind == 0 { node.number + 1 } else { 0 }
 }
 
 // The nonterminal of a node: an item's is its production's.
@@ -85,9 +96,10 @@ fn node_owner(grammar: Grammar, node: Node) -> usize
 {
     let number = node.number;
     if node.kind == 0 {
-        return number;
+        number
+    } else {
+        grammar.owner(number)
     }
-    grammar.owner(number)
 }
 
 // Edge k of a graph, which is in range: its label, as the nonterminal that the edge comes from and the item in one word, and itself put into the view from an item.
@@ -110,22 +122,25 @@ fn view_edge(
     let edge = read_edge(graph, k);
     let from = edge.source;
     let to = edge.target;
-    codes[k] = (edge.production * ProductionIndex::INDEXES + edge.index) as u16;
+    let label = Item {
+        production: edge.production,
+        index: edge.index,
+    };
+    codes[k] = label.place() as u16;
     lists.put(k, source(from), slot(to, start), node_owner(grammar, from));
 }
 
-// Whether a lent graph is one (refusal 9), as `check_graph` asks; in the same pass its view for a listing from an item is made in new lists, and the label of every edge.
+// Whether a lent graph is one (refusal 9), as `check_graph` asks; in the same pass its view for a listing from an item is made in new lists, and the label of every edge. The lists
+// are lent and no answer, which would copy them; a grammar and a number of nonterminals stand beside each other as in crate trace_graph.
 pub fn check_view(
     grammar: Grammar,
     n: usize,
     graph: &[u16],
     start: Item,
-    ix: &mut [u16],
     lists: &mut ViewLists,
     codes: &mut [u16],
 ) -> bool
     requires n_bound { (n ≤ 32) × (graph_room ≤ length graph.now) × (length codes.old ≡ edge_limit) }
-    requires ix_value { ix.old ≡ replicate index_room 0 }
     requires blank { Blank lists.old }
     ensures value { result ≡ graph_fits n (productions_in grammar.entry.words.now grammar.entry.productions) graph.now }
     ensures viewing { result ≡ true → Viewing (edges_in graph.now) (record { production = start.production; index = start.index }) lists.new.sources lists.new.older lists.new.latest × Labelled (productions_in grammar.entry.words.now grammar.entry.productions) (edges_in graph.now) lists.new.owners codes.new }
@@ -134,8 +149,9 @@ pub fn check_view(
     if count > View::EDGES {
         return false;
     }
+    let mut ix = [0u16; TraceGraph::INDEX_WORDS];
     for k in 0..count {
-        if !check_edge(grammar, n, graph, ix, k) {
+        if !check_edge(grammar, n, graph, &mut ix, k) {
             return false;
         }
         view_edge(grammar, graph, k, start, lists, codes);

@@ -1,19 +1,19 @@
-use mathlib.Core.Path.{refl}
-use Rattle.lister.proofs.Ends.{look-first, look-source, look_target, look_again, look_end}
+use Rattle.std.proofs.Common.{ℕ, ap, ◌∙◌, arith, rules, tests, refl}
+use Rattle.std.specs.List.{list_any, range_with_len}
+use Rattle.std.proofs.lemmas.Iterator.{YieldsList-from_range, serves_from_Range}
+use Rattle.std.proofs.lemmas.Iterator.Search.{any_from_yields_List}
+use Rattle.trace_graph.specs.Graph.{at_item}
+use Rattle.trace_graph.specs.Words.{edge_at}
+use Rattle.lister.specs.Context.{ends_at}
+use Rattle.lister.proofs.Ends.{node_any}
 use Rattle.lister.proofs.is_node.Goals as goal
-use Rattle.lister.proofs.is_node.Goals.{then-is_item-via-then-is_item, then-is_item-via-else-is_item+then-is_item-2}
 
-pub loop-k-init : goal.loop-k-init
-loop-k-init c = look-first c.word-count.ensures.0
-
-pub returns-then-is_item : goal.returns-then-is_item
-returns-then-is_item c = elim c.then-is_item.branch [
-  | then-is_item-via-then-is_item w ↦ look-source c.loop-k.invariant c.loop-k-test.true _ refl _ c.is_item.ensures w.if-is_item.true
-  | then-is_item-via-else-is_item+then-is_item-2 w ↦ look_target c.loop-k.invariant c.loop-k-test.true _ refl _ c.is_item.ensures w.if-is_item.false _ w.is_item-else-is_item.ensures w.if-is_item-2.true
-]
-
-pub loop-k-preserved : goal.loop-k-preserved
-loop-k-preserved c = look_again c.loop-k.invariant c.loop-k-test.true _ refl _ c.is_item.ensures c.if-is_item.false _ c.is_item-else-is_item.ensures c.if-is_item-2.false
+pub any-requires-clause-callable : goal.any-requires-clause-callable
+any-requires-clause-callable c = serves_from_Range (λ x q k. search rules) (λ x l h. search rules)
 
 pub returns : goal.returns
-returns c = look_end c.loop-k.invariant c.loop-k-test.false
+returns c =
+    let g = c.args.graph.words.now in
+    let v = at_item (record { production = c.args.item.production; index = c.args.item.index }) in
+    any_from_yields_List (λ k. ends_at v (edge_at g k)) _ _ _ c.any.ensures.ran (YieldsList-from_range 0 c.word.result c.word.result refl (omega arith)) (λ x b q k. search (rules, tests))
+    ∙ ap (λ (n : ℕ). list_any (λ k. ends_at v (edge_at g k)) (range_with_len 0 n)) c.word.ensures.0 ∙ node_any g v

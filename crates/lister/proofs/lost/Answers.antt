@@ -1,12 +1,14 @@
-use mathlib.Core.Path.{◌∙◌}
+use mathlib.Core.Path.{ap, ◌∙◌}
+use mathlib.Core.Bool.{not}
+use borrow.Author.Tests.{eq-eqb}
 use Rattle.lister.proofs.Finding.{lost-closed, lost-fresh, lost-past}
 use Rattle.lister.proofs.lost.Goals as goal
 
-pub returns-then-l-eq0 : goal.returns-then-l-eq0
-returns-then-l-eq0 c = lost-fresh _ _ _ c.if-l.true c.if-l-eq0.true
+pub returns-then-l-ne0 : goal.returns-then-l-ne0
+returns-then-l-ne0 c = lost-past _ _ _ c.if-l.true c.if-l-ne0.true _ (c.holds_trial.ensures ∙ rw (c.start.ensures.0, c.start.ensures.1))
 
-pub returns-then-l : goal.returns-then-l
-returns-then-l c = lost-past _ _ _ c.if-l.true c.if-l-eq0.false _ (c.holds_trial.ensures ∙ rw (c.start.ensures.0, c.start.ensures.1))
+pub returns-else-l-ne0 : goal.returns-else-l-ne0
+returns-else-l-ne0 c = ap not (eq-eqb _ _ c.if-l-ne0.false) ∙ lost-fresh _ _ _ c.if-l.true c.if-l-ne0.false
 
-pub returns : goal.returns
-returns c = lost-closed _ _ _ c.if-l.false
+pub returns-else-l : goal.returns-else-l
+returns-else-l c = c.if-l.false ∙ lost-closed _ _ _ c.if-l.false

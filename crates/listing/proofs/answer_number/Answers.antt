@@ -1,13 +1,15 @@
+use mathlib.Core.Path.{◌≡◌}
+use Rattle.enumerator.specs.declared.Advanced.TheVariants.{Example, End}
 use Rattle.listing.specs.CallList.{number_of_answer}
 use Rattle.listing.proofs.answer_number.Goals as goal
 
-pub returns-in-Example : goal.returns-in-Example
+pub returns-in-Ok-Example : goal.returns-in-Ok-Example
 unfolding number_of_answer
-returns-in-Example c = rw (c.in-Ok.is, c.in-Example.is)
+returns-in-Ok-Example c = let e : c.in-Ok-Example.field-0 ≡ Example = rw c.in-Ok-Example.is at c.in-Ok-Example.field-0-is in rw (c.in-Ok-Example.is, e)
 
-pub returns-in-End : goal.returns-in-End
+pub returns-in-Ok-End : goal.returns-in-Ok-End
 unfolding number_of_answer
-returns-in-End c = rw (c.in-Ok.is, c.in-End.is)
+returns-in-Ok-End c = let e : c.in-Ok-End.field-0 ≡ End = rw c.in-Ok-End.is at c.in-Ok-End.field-0-is in rw (c.in-Ok-End.is, e)
 
 pub returns-in-Err : goal.returns-in-Err
 unfolding number_of_answer

@@ -1,8 +1,8 @@
 use mathlib.Core.Path.{◌≡◌}
-use Prim.Native.Nat.{◌+◌, ◌*◌}
-use lib.ListN.{drop}
+use Prim.Native.Nat.{◌+◌}
+use Rattle.std.specs.Slice.Iter.{chunks_exact_rest, chunks_exact_size}
 use Rattle.listing.specs.CallList.{output_words}
 use Rattle.listing.proofs.check_calls.Given as goal
 
-abbrev pub invariant-loop-i : goal.invariant-loop-i
-invariant-loop-i l = (l.words + output_words (drop (3 * l.i) l.calls) ≡ l.left + output_words l.calls)
+abbrev pub invariant-loop-numbers : goal.invariant-loop-numbers
+invariant-loop-numbers l = (chunks_exact_size l.numbers-iterator ≡ 3) × (l.words + output_words (chunks_exact_rest l.numbers-iterator) ≡ l.left + output_words l.calls)

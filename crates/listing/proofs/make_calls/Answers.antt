@@ -1,39 +1,38 @@
-use mathlib.Core.Path.{◌≡◌, refl, sym, ap, ◌∙◌}
-use mathlib.Core.List.{List, []}
-use Prim.Native.Nat.{ℕ, ◌+◌, ◌*◌, ◌-◌, ◌≤◌}
-use lib.ListN.{length, take, drop, drop_of_length-le}
+use mathlib.Core.Path.{◌≡◌, refl, ap, ◌∙◌}
+use Prim.Native.Nat.{ℕ, ◌+◌, ◌-◌, ◌≤◌}
+use lib.ListN.{length}
 use borrow.Rule.Slice.PartMut.{same_len_mid}
-use Rattle.listing.specs.CallList.{ended_of}
-use Rattle.listing.proofs.Asked.{accepted, words_at}
+use Rattle.std.specs.Slice.Iter.{chunks_exact_rest}
+use Rattle.listing.proofs.Asked.{accepted, words_next}
 use Rattle.listing.proofs.Turns.{calls-more, calls-none}
 use native.Mathlib.Omega.{arith}
 use Rattle.listing.proofs.make_calls.Goals as goal
 
-pub loop-i-init : goal.loop-i-init
-loop-i-init c = (omega (arith, (accepted _ _ c.requires).1), refl, refl, refl)
+pub loop-numbers-init : goal.loop-numbers-init
+loop-numbers-init c = let E = c.chunks_exact-numbers-items.ensures in
+    rw (c.into_iter-numbers-iterator.ensures.into_iter_gives, E.size, E.rest) (refl, omega (arith, (accepted _ _ c.requires).1), refl, refl, refl)
 
 pub slice_bounds-call-end : goal.slice_bounds-call-end
-slice_bounds-call-end c = let k = c.loop-i-test.true in let w = words_at c.args.calls.now (3 * c.loop-i.i) (omega arith) in let e = c.loop-i.invariant.0 in let s = c.loop-i.invariant.1 in let n = c.number.ensures.0 in omega arith
+slice_bounds-call-end c = let s = c.in-Some.ensures.steps in
+    let I = c.loop-numbers.invariant in
+    let w = words_next c.in-Some.numbers.now _ s.1.0 (omega arith) in
+    omega (arith, w, I.1, I.2, c.part.ensures, c.of-lent.ensures.read)
 
-pub loop-i-preserved : goal.loop-i-preserved
-loop-i-preserved c = let k = c.loop-i-test.true in
-    let three : 3 * c.loop-i.i + 3 ≤ length c.args.calls.now = omega arith in
-    let next : 3 * (c.loop-i.i + 1) ≡ 3 * c.loop-i.i + 3 = omega arith in
-    let w = words_at c.args.calls.now (3 * c.loop-i.i) three in
-    let e = c.loop-i.invariant.0 in
-    let s = c.loop-i.invariant.1 in
-    let n = c.number.ensures.0 in
-    let to : c.loop-i.from + 3 + c.number.result ≤ length c.loop-i.output = omega arith in rw next (
+pub loop-numbers-preserved : goal.loop-numbers-preserved
+loop-numbers-preserved c = let s = c.in-Some.ensures.steps in
+    let I = c.loop-numbers.invariant in
+    let three : length c.in-Some.numbers.now ≡ 3 = omega arith in
+    let w = words_next c.in-Some.numbers.now _ s.1.0 three in
+    let R = c.of-lent.ensures.read in
+    let from = c.loop-numbers.from in
+    let to : from + c.part.result ≤ length c.loop-numbers.output = omega (arith, w, I.1, I.2, c.part.ensures, R) in (
       omega arith,
-      same_len_mid c.loop-i.from (c.loop-i.from + 3 + c.number.result - c.loop-i.from) c.loop-i.output c.call.new.part c.call.auto.part ∙ s,
-      c.call.auto.scratch ∙ c.loop-i.invariant.2,
-      calls-more c.args.table.now c.args.graph.now c.args.calls.now (3 * c.loop-i.i) three c.loop-i.listing c.loop-i.scratch c.loop-i.output c.loop-i.from (c.loop-i.from + 3 + c.number.result) _ _ _ c.number-graph_words.ensures.0 c.number-scratch_words.ensures.0 n refl to _ _ _ c.call.auto.part c.call.ensures ∙ c.loop-i.invariant.3,
+      omega (arith, w, I.1, c.part.ensures, R),
+      same_len_mid from (from + c.part.result - from) c.loop-numbers.output c.call.new.part c.call.auto.part ∙ I.2,
+      c.call.auto.scratch ∙ I.3,
+      calls-more c.args.table.now c.args.graph.now c.in-Some.numbers.now _ s.1.0 three c.loop-numbers.listing c.loop-numbers.scratch c.loop-numbers.output from (from + c.part.result) _ _ _ R.0 R.1.0 R.1.1 (ap (λ (k : ℕ). from + k) c.part.ensures) to _ _ _ c.call.auto.part c.call.ensures ∙ I.4,
     )
 
 pub returns : goal.returns
-returns c = let k = c.loop-i-test.false in
-    let m = (accepted _ _ c.requires).0 in
-    let z : drop (3 * c.loop-i.i) c.args.calls.now ≡ [] = drop_of_length-le c.args.calls.now {i = (3 * c.loop-i.i)} (omega arith) in
-    calls-none c.args.table.now c.args.graph.now c.loop-i.listing c.loop-i.scratch c.loop-i.output c.loop-i.from
-    ∙ sym (ap (λ (cs : List ℕ). ended_of c.args.table.now c.args.graph.now cs c.loop-i.listing c.loop-i.scratch (take c.loop-i.from c.loop-i.output) (drop c.loop-i.from c.loop-i.output)) z)
-    ∙ c.loop-i.invariant.3
+returns c = let s = c.in-None.ensures.steps in
+    calls-none c.args.table.now c.args.graph.now (chunks_exact_rest c.loop-numbers.numbers-iterator) (omega arith) c.loop-numbers.listing c.loop-numbers.scratch c.loop-numbers.output c.loop-numbers.from ∙ c.loop-numbers.invariant.4

@@ -1,22 +1,19 @@
 use Rattle.repr.specs.Packed.{productions_in}
-use Rattle.example.proofs.Walk.{around_few, symbols_528, symbols-sum}
-use Rattle.std.proofs.Common.{arith}
+use Rattle.example.proofs.Walk.{symbols_528, symbols-sum}
+use Rattle.std.proofs.Common.{refl, arith}
 use Rattle.example.proofs.Labels.symbol_count.Goals as goal
 
 pub overflow_add-result : goal.overflow_add-result
-overflow_add-result c = let ps = productions_in c.args.self.grammar.words.now c.args.self.grammar.productions in
-    let ws = c.args.self.words.now in
-    let few = around_few c.args.self.grammar.words.now c.args.self.grammar.productions c.args.self.grammar.packed ws c.args.self.fit in
-    omega (arith, few, c.totals-totals.ensures)
+overflow_add-result c = let A = c.args.self in
+    let e = symbols-sum (productions_in A.grammar.words.now A.grammar.productions) A.words.now _ _ _ c.prefix_total.ensures c.middle_count.ensures refl in
+    omega (arith, e, symbols_528 A.grammar.words.now A.grammar.productions A.grammar.packed A.words.now A.fit)
 
 pub overflow_add-result-2 : goal.overflow_add-result-2
-overflow_add-result-2 c = let ps = productions_in c.args.self.grammar.words.now c.args.self.grammar.productions in
-    let ws = c.args.self.words.now in
-    let e = symbols-sum ps ws _ _ _ c.totals-totals.ensures.0 c.middle_count.ensures c.totals-totals.ensures.1 in
-    omega (arith, e, symbols_528 c.args.self.grammar.words.now c.args.self.grammar.productions c.args.self.grammar.packed ws c.args.self.fit)
+overflow_add-result-2 c = let A = c.args.self in
+    let e = symbols-sum (productions_in A.grammar.words.now A.grammar.productions) A.words.now _ _ _ c.prefix_total.ensures c.middle_count.ensures c.suffix_total.ensures in
+    omega (arith, e, symbols_528 A.grammar.words.now A.grammar.productions A.grammar.packed A.words.now A.fit)
 
 pub returns : goal.returns
-returns c = let ps = productions_in c.args.self.grammar.words.now c.args.self.grammar.productions in
-    let ws = c.args.self.words.now in
-    let e = symbols-sum ps ws _ _ _ c.totals-totals.ensures.0 c.middle_count.ensures c.totals-totals.ensures.1 in
-    (e, omega (arith, e, symbols_528 c.args.self.grammar.words.now c.args.self.grammar.productions c.args.self.grammar.packed ws c.args.self.fit))
+returns c = let A = c.args.self in
+    let e = symbols-sum (productions_in A.grammar.words.now A.grammar.productions) A.words.now _ _ _ c.prefix_total.ensures c.middle_count.ensures c.suffix_total.ensures in
+    (e, omega (arith, e, symbols_528 A.grammar.words.now A.grammar.productions A.grammar.packed A.words.now A.fit))

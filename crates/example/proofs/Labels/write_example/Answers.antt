@@ -17,7 +17,7 @@ put_three-requires c = let ps = productions_in c.args.self.grammar.words.now c.a
       omega (arith, c.requires),
       omega (arith, c.symbol_count-places.ensures.1),
       omega (arith, c.prefix_total-cursor.ensures, few),
-      omega (arith, c.count-count.ensures.0, few_labels ws c.args.self.fit),
+      omega (arith, c.count.ensures.0, few_labels ws c.args.self.fit),
     )
 
 pub write_prefixes-middle-requires : goal.write_prefixes-middle-requires
@@ -26,7 +26,7 @@ write_prefixes-middle-requires c = let ps = productions_in c.args.self.grammar.w
     let ls = labels_in ws in
     let few = words_1158 c.args.self.grammar.words.now c.args.self.grammar.productions c.args.self.grammar.packed ws c.args.self.fit in
     let t₀ = turn_start 0 (example_words ps ls) c.args.buffer.now _ refl (omega (arith, few, c.requires)) in
-    let t₁ = turn_next t₀ _ (after_counts ps ls) (example-parts ps ls _ _ _ c.symbol_count-places.ensures.0 c.prefix_total-cursor.ensures c.count-count.ensures.0) _ c.put_three.ensures 3 refl in turn_room t₁ (words_of (prefixes ps ls)) (after_prefixes ps ls) refl
+    let t₁ = turn_next t₀ _ (after_counts ps ls) (example-parts ps ls _ _ _ c.symbol_count-places.ensures.0 c.prefix_total-cursor.ensures c.count.ensures.0) _ c.put_three.ensures 3 refl in turn_room t₁ (words_of (prefixes ps ls)) (after_prefixes ps ls) refl
 
 pub write_middle-after-requires : goal.write_middle-after-requires
 write_middle-after-requires c = let ps = productions_in c.args.self.grammar.words.now c.args.self.grammar.productions in
@@ -34,7 +34,7 @@ write_middle-after-requires c = let ps = productions_in c.args.self.grammar.word
     let ls = labels_in ws in
     let few = words_1158 c.args.self.grammar.words.now c.args.self.grammar.productions c.args.self.grammar.packed ws c.args.self.fit in
     let t₀ = turn_start 0 (example_words ps ls) c.args.buffer.now _ refl (omega (arith, few, c.requires)) in
-    let t₁ = turn_next t₀ _ (after_counts ps ls) (example-parts ps ls _ _ _ c.symbol_count-places.ensures.0 c.prefix_total-cursor.ensures c.count-count.ensures.0) _ c.put_three.ensures 3 refl in
+    let t₁ = turn_next t₀ _ (after_counts ps ls) (example-parts ps ls _ _ _ c.symbol_count-places.ensures.0 c.prefix_total-cursor.ensures c.count.ensures.0) _ c.put_three.ensures 3 refl in
     let t₂ = turn_next t₁ (words_of (prefixes ps ls)) (after_prefixes ps ls) refl _ c.write_prefixes-middle.ensures.0 _ c.write_prefixes-middle.ensures.1 in turn_room t₂ (joined symbol_words (middle ps ls)) (after_middle ps ls) refl
 
 pub write_suffixes-end-requires : goal.write_suffixes-end-requires
@@ -43,7 +43,7 @@ write_suffixes-end-requires c = let ps = productions_in c.args.self.grammar.word
     let ls = labels_in ws in
     let few = words_1158 c.args.self.grammar.words.now c.args.self.grammar.productions c.args.self.grammar.packed ws c.args.self.fit in
     let t₀ = turn_start 0 (example_words ps ls) c.args.buffer.now _ refl (omega (arith, few, c.requires)) in
-    let t₁ = turn_next t₀ _ (after_counts ps ls) (example-parts ps ls _ _ _ c.symbol_count-places.ensures.0 c.prefix_total-cursor.ensures c.count-count.ensures.0) _ c.put_three.ensures 3 refl in
+    let t₁ = turn_next t₀ _ (after_counts ps ls) (example-parts ps ls _ _ _ c.symbol_count-places.ensures.0 c.prefix_total-cursor.ensures c.count.ensures.0) _ c.put_three.ensures 3 refl in
     let t₂ = turn_next t₁ (words_of (prefixes ps ls)) (after_prefixes ps ls) refl _ c.write_prefixes-middle.ensures.0 _ c.write_prefixes-middle.ensures.1 in
     let t₃ = turn_next t₂ (joined symbol_words (middle ps ls)) (after_middle ps ls) refl _ c.write_middle-after.ensures.0 _ c.write_middle-after.ensures.1 in turn_room t₃ (words_of (suffixes ps ls)) (after_suffixes ps ls) refl
 
@@ -53,7 +53,7 @@ write_reductions-requires c = let ps = productions_in c.args.self.grammar.words.
     let ls = labels_in ws in
     let few = words_1158 c.args.self.grammar.words.now c.args.self.grammar.productions c.args.self.grammar.packed ws c.args.self.fit in
     let t₀ = turn_start 0 (example_words ps ls) c.args.buffer.now _ refl (omega (arith, few, c.requires)) in
-    let t₁ = turn_next t₀ _ (after_counts ps ls) (example-parts ps ls _ _ _ c.symbol_count-places.ensures.0 c.prefix_total-cursor.ensures c.count-count.ensures.0) _ c.put_three.ensures 3 refl in
+    let t₁ = turn_next t₀ _ (after_counts ps ls) (example-parts ps ls _ _ _ c.symbol_count-places.ensures.0 c.prefix_total-cursor.ensures c.count.ensures.0) _ c.put_three.ensures 3 refl in
     let t₂ = turn_next t₁ (words_of (prefixes ps ls)) (after_prefixes ps ls) refl _ c.write_prefixes-middle.ensures.0 _ c.write_prefixes-middle.ensures.1 in
     let t₃ = turn_next t₂ (joined symbol_words (middle ps ls)) (after_middle ps ls) refl _ c.write_middle-after.ensures.0 _ c.write_middle-after.ensures.1 in
     let t₄ = turn_next t₃ (words_of (suffixes ps ls)) (after_suffixes ps ls) refl _ c.write_suffixes-end.ensures.0 _ c.write_suffixes-end.ensures.1 in
@@ -66,7 +66,7 @@ returns c = let ps = productions_in c.args.self.grammar.words.now c.args.self.gr
     let ls = labels_in ws in
     let few = words_1158 c.args.self.grammar.words.now c.args.self.grammar.productions c.args.self.grammar.packed ws c.args.self.fit in
     let t₀ = turn_start 0 (example_words ps ls) c.args.buffer.now _ refl (omega (arith, few, c.requires)) in
-    let t₁ = turn_next t₀ _ (after_counts ps ls) (example-parts ps ls _ _ _ c.symbol_count-places.ensures.0 c.prefix_total-cursor.ensures c.count-count.ensures.0) _ c.put_three.ensures 3 refl in
+    let t₁ = turn_next t₀ _ (after_counts ps ls) (example-parts ps ls _ _ _ c.symbol_count-places.ensures.0 c.prefix_total-cursor.ensures c.count.ensures.0) _ c.put_three.ensures 3 refl in
     let t₂ = turn_next t₁ (words_of (prefixes ps ls)) (after_prefixes ps ls) refl _ c.write_prefixes-middle.ensures.0 _ c.write_prefixes-middle.ensures.1 in
     let t₃ = turn_next t₂ (joined symbol_words (middle ps ls)) (after_middle ps ls) refl _ c.write_middle-after.ensures.0 _ c.write_middle-after.ensures.1 in
     let t₄ = turn_next t₃ (words_of (suffixes ps ls)) (after_suffixes ps ls) refl _ c.write_suffixes-end.ensures.0 _ c.write_suffixes-end.ensures.1 in

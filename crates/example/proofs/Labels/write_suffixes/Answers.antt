@@ -10,14 +10,14 @@ use Rattle.example.proofs.Labels.write_suffixes.Goals as goal
 pub copy-requires : goal.copy-requires
 copy-requires c = let ps = productions_in c.args.self.grammar.words.now c.args.self.grammar.productions in
     let ws = c.args.self.words.now in
-    turn_room c.loop-label.invariant.0 c.suffix-part.result.now (words_of (suffixes ps (drop (c.loop-label.label + 1) (labels_in ws)))) (suffix_turn ps ws c.loop-label.label (omega (arith, c.count-count.ensures.0, c.loop-label-test.true)) _ c.suffix-part.ensures)
+    turn_room c.loop-label.invariant.0 c.suffix-part.result.now (words_of (suffixes ps (drop (c.loop-label.label + 1) (labels_in ws)))) (suffix_turn ps ws c.loop-label.label (omega (arith, c.count-label-end.ensures.0, c.loop-label-test.true)) _ c.suffix-part.ensures)
 
 pub loop-label-preserved : goal.loop-label-preserved
 loop-label-preserved c = let ps = productions_in c.args.self.grammar.words.now c.args.self.grammar.productions in
     let ws = c.args.self.words.now in
-    (turn_more c.loop-label.invariant.0 _ _ (suffix_turn ps ws c.loop-label.label (omega (arith, c.count-count.ensures.0, c.loop-label-test.true)) _ c.suffix-part.ensures) _ c.copy.ensures, omega (arith, c.loop-label-test.true, c.loop-label.invariant.1))
+    (turn_more c.loop-label.invariant.0 _ _ (suffix_turn ps ws c.loop-label.label (omega (arith, c.count-label-end.ensures.0, c.loop-label-test.true)) _ c.suffix-part.ensures) _ c.copy.ensures, omega (arith, c.loop-label-test.true, c.loop-label.invariant.1))
 
 pub returns : goal.returns
 returns c = let ps = productions_in c.args.self.grammar.words.now c.args.self.grammar.productions in
     let ws = c.args.self.words.now in
-    turn_end c.loop-label.invariant.0 (suffix-done ps ws c.loop-label.label (omega (arith, c.count-count.ensures.0, c.loop-label-test.false)))
+    turn_end c.loop-label.invariant.0 (suffix-done ps ws c.loop-label.label (omega (arith, c.count-label-end.ensures.0, c.loop-label-test.false)))

@@ -4,8 +4,8 @@ use mathlib.Core.Path.{◌∙◌}
 use native.Mathlib.Omega.{arith}
 use Rattle.lookahead.proofs.TokenSet.fits.Goals as goal
 
-pub returns-then-terminals-ge63 : goal.returns-then-terminals-ge63
-returns-then-terminals-ge63 c = le-leb 63 c.args.terminals c.if-terminals-ge63.true ∙ tokens-all _ _ c.if-terminals-ge63.true c.requires (omega (arith, c.well_formed))
+pub returns-then-terminals-ge-TERMINALS : goal.returns-then-terminals-ge-TERMINALS
+returns-then-terminals-ge-TERMINALS c = le-leb 63 c.args.terminals c.if-terminals-ge-TERMINALS.true ∙ tokens-all _ _ c.if-terminals-ge-TERMINALS.true c.requires (omega (arith, c.well_formed))
 
-pub returns-else-terminals-ge63 : goal.returns-else-terminals-ge63
-returns-else-terminals-ge63 c = tokens_few _ _ c.if-terminals-ge63.false
+pub returns-else-terminals-ge-TERMINALS : goal.returns-else-terminals-ge-TERMINALS
+returns-else-terminals-ge-TERMINALS c = tokens_few _ _ c.if-terminals-ge-TERMINALS.false

@@ -1,14 +1,17 @@
+use Rattle.std.proofs.Common.{arith}
 use Rattle.trace_graph.proofs.Nodes.{made-nonterminal, made_indexed, made-item, made_other}
 use Rattle.trace_graph.proofs.TraceGraphNode.of.Goals as goal
 
-pub returns-then-index-eq0 : goal.returns-then-index-eq0
-returns-then-index-eq0 c = made-nonterminal _ _ _ c.if-kind-eq0.true c.if-index-eq0.true
+pub returns-in-0-eq0 : goal.returns-in-0-eq0
+returns-in-0-eq0 c = made-nonterminal _ _ _ c.in-0-eq0.is-0 c.in-0-eq0.is-1
 
-pub returns-then-kind-eq0 : goal.returns-then-kind-eq0
-returns-then-kind-eq0 c = made_indexed _ _ _ c.if-kind-eq0.true c.if-index-eq0.false
+pub returns-in-1-default : goal.returns-in-1-default
+returns-in-1-default c = made-item _ _ _ c.in-1-default.is-0
 
-pub returns-then-kind-eq1 : goal.returns-then-kind-eq1
-returns-then-kind-eq1 c = made-item _ _ _ c.if-kind-eq1.true
+-- a nonterminal's kind with an index
+pub returns-in_default : goal.returns-in_default
+returns-in_default c = made_indexed _ _ _ (omega arith) (λ e. omega arith)
 
-pub returns : goal.returns
-returns c = made_other _ _ _ c.if-kind-eq0.false c.if-kind-eq1.false
+-- another kind
+pub returns-in_default-2 : goal.returns-in_default-2
+returns-in_default-2 c = made_other _ _ _ (λ e. omega arith) (λ e. omega arith)

@@ -1,7 +1,6 @@
-use Prim.Native.Nat.{◌-◌}
 use mathlib.Core.Path.{refl, ◌∙◌}
 use Rattle.view.proofs.Trial.{stack_long}
-use Rattle.view.proofs.Stepping.{link_low, back-first, back-over, back_deep, back_edge, back_found, back_again}
+use Rattle.view.proofs.Stepping.{back-first, back-over, back_deep, back_edge, back_found, back_again}
 use Rattle.view.proofs.Counting.{replace_counts, pop_counts}
 use native.Mathlib.Omega.{arith}
 use Rattle.view.proofs.View.back.Goals as goal
@@ -15,37 +14,25 @@ loop-depth-init c = (refl, refl, back-first c.requires.held c.word-depth.ensures
 pub word-edge-requires : goal.word-edge-requires
 word-edge-requires c = omega (arith, back_deep c.loop-depth.invariant.2)
 
-pub word-link-requires : goal.word-link-requires
-word-link-requires c = omega (arith, back_edge c.loop-depth.invariant.2 (λ e. omega (arith, e)) c.word-edge.ensures.0, c.args.self.tidy.by_older.long)
+pub word-requires : goal.word-requires
+word-requires c = omega (arith, back_edge c.loop-depth.invariant.2 (λ e. omega (arith, e)) c.word-edge.ensures.0, c.args.self.tidy.by_older.long)
 
 pub replace-requires : goal.replace-requires
 replace-requires c = let D = back_deep c.loop-depth.invariant.2 in
-    (D.1.0, (omega (arith, D.1.1), (link_low c.args.self.tidy.by_older c.word-edge.result c.word-link.ensures.0).1))
+    (D.1.0, (omega (arith, D.1.1), omega (arith, c.in-Some.ensures, c.word.ensures.0, c.args.self.tidy.by_older.low c.word-edge.result)))
 
-pub shape_of-words-then-link-ne0 : goal.shape_of-words-then-link-ne0
-shape_of-words-then-link-ne0 c = c.replace.auto.words ∙ c.loop-depth.invariant.0
-
-pub shape_of-counts-then-link-ne0 : goal.shape_of-counts-then-link-ne0
-shape_of-counts-then-link-ne0 c = c.loop-depth.invariant.1
-
-pub returns-then-link-ne0 : goal.returns-then-link-ne0
-returns-then-link-ne0 c = record { by_index = back_found c.loop-depth.invariant.2 (λ e. omega (arith, e)) c.word-edge.ensures.0 c.word-link.ensures.0 c.if-link-ne0.true c.replace.ensures; counted_walk_2 = replace_counts c.args.self.sources.now c.loop-depth.invariant.2.held c.loop-depth.invariant.2.deep (λ e. omega (arith, e)) c.word-edge.ensures.0 (c.word-link.result - 1) c.replace.ensures c.loop-depth.invariant.3 }
+pub returns-in-Some : goal.returns-in-Some
+returns-in-Some c = record { by_index = back_found c.loop-depth.invariant.2 (λ e. omega (arith, e)) c.word-edge.ensures.0 c.word.ensures.0 (omega (arith, c.in-Some.ensures)) c.replace.ensures; counted_walk_2 = replace_counts c.args.self.sources.now c.loop-depth.invariant.2.held c.loop-depth.invariant.2.deep (λ e. omega (arith, e)) c.word-edge.ensures.0 c.in-Some.older c.replace.ensures c.loop-depth.invariant.3 }
 
 pub pop-requires : goal.pop-requires
 pop-requires c = let D = back_deep c.loop-depth.invariant.2 in
     (D.1.0, (omega (arith, D.0), omega (arith, D.1.1)))
 
 pub leave-requires : goal.leave-requires
-leave-requires c = record { held = (back_again c.loop-depth.invariant.2 (λ e. omega (arith, e)) c.word-edge.ensures.0 c.word-link.ensures.0 c.if-link-ne0.false c.pop.ensures).held; counted_edges = pop_counts c.args.self.sources.now c.loop-depth.invariant.2.held c.loop-depth.invariant.2.deep (λ e. omega (arith, e)) c.word-edge.ensures.0 c.pop.ensures c.loop-depth.invariant.3 }
+leave-requires c = record { held = (back_again c.loop-depth.invariant.2 (λ e. omega (arith, e)) c.word-edge.ensures.0 c.word.ensures.0 (omega (arith, c.in_default.ensures)) c.pop.ensures).held; counted_edges = pop_counts c.args.self.sources.now c.loop-depth.invariant.2.held c.loop-depth.invariant.2.deep (λ e. omega (arith, e)) c.word-edge.ensures.0 c.pop.ensures c.loop-depth.invariant.3 }
 
 pub loop-depth-preserved : goal.loop-depth-preserved
-loop-depth-preserved c = (c.pop.auto.words ∙ c.loop-depth.invariant.0, c.leave.auto.counts ∙ c.loop-depth.invariant.1, back_again c.loop-depth.invariant.2 (λ e. omega (arith, e)) c.word-edge.ensures.0 c.word-link.ensures.0 c.if-link-ne0.false c.pop.ensures, c.leave.ensures)
-
-pub shape_of-words : goal.shape_of-words
-shape_of-words c = c.loop-depth.invariant.0
-
-pub shape_of-counts : goal.shape_of-counts
-shape_of-counts c = c.loop-depth.invariant.1
+loop-depth-preserved c = (c.pop.auto.words ∙ c.loop-depth.invariant.0, c.leave.auto.counts ∙ c.loop-depth.invariant.1, back_again c.loop-depth.invariant.2 (λ e. omega (arith, e)) c.word-edge.ensures.0 c.word.ensures.0 (omega (arith, c.in_default.ensures)) c.pop.ensures, c.leave.ensures)
 
 pub returns : goal.returns
 returns c = record { by_index = back-over c.loop-depth.invariant.2 (omega arith); counted_walk_2 = c.loop-depth.invariant.3 }

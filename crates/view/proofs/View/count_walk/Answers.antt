@@ -6,23 +6,20 @@ use Rattle.view.proofs.Counting.{joined_first, joined_end, joined_given, joined_
 use native.Mathlib.Omega.{arith}
 use Rattle.view.proofs.View.count_walk.Goals as goal
 
-pub word-depth-requires : goal.word-depth-requires
-word-depth-requires c = omega (arith, stack_long c.requires.held)
+pub word-at-end-requires : goal.word-at-end-requires
+word-at-end-requires c = omega (arith, stack_long c.requires.held)
 
 pub loop-at-init : goal.loop-at-init
-loop-at-init c = (refl, joined_first c.args.self.sources.now c.args.words.now c.word-depth.result c.requires.counted)
+loop-at-init c = (refl, joined_first c.args.self.sources.now c.args.words.now c.word-at-end.result c.requires.counted)
 
 pub word-requires : goal.word-requires
-word-requires c = let S = c.requires.held in omega (arith, c.loop-at.invariant.1.low, stack_long S, stack_depth S, S.short, c.word-depth.ensures.0)
+word-requires c = let S = c.requires.held in omega (arith, c.loop-at.invariant.1.low, stack_long S, stack_depth S, S.short, c.word-at-end.ensures.0)
 
 pub join-requires : goal.join-requires
-join-requires c = record { edge_lt_edge_limit = joined_edge c.args.self.sources.now c.requires.held c.word-depth.ensures.0 c.loop-at.invariant.1 (omega (arith, c.loop-at.auto.at)) (c.word.ensures.0 ∙ ap (λ (k : ℕ). get_or c.args.words.now k 0) (omega (arith, c.loop-at.auto.at))); by_index = joined_given c.args.self.sources.now c.requires.held c.word-depth.ensures.0 c.loop-at.invariant.1 }
+join-requires c = record { edge_lt_edge_limit = joined_edge c.args.self.sources.now c.requires.held c.word-at-end.ensures.0 c.loop-at.invariant.1 (omega (arith, c.loop-at.auto.at)) (c.word.ensures.0 ∙ ap (λ (k : ℕ). get_or c.args.words.now k 0) (omega (arith, c.loop-at.auto.at))); by_index = joined_given c.args.self.sources.now c.requires.held c.word-at-end.ensures.0 c.loop-at.invariant.1 }
 
 pub loop-at-preserved : goal.loop-at-preserved
-loop-at-preserved c = let next : c.loop-at.at + 1 - 1 ≡ c.loop-at.at - 1 + 1 = omega (arith, c.loop-at.auto.at) in rw next (c.join.auto.counts ∙ c.loop-at.invariant.0, joined_again c.args.self.sources.now c.requires.held c.word-depth.ensures.0 c.loop-at.invariant.1 (omega (arith, c.loop-at.auto.at)) (c.word.ensures.0 ∙ ap (λ (k : ℕ). get_or c.args.words.now k 0) (omega (arith, c.loop-at.auto.at))) c.join.ensures)
-
-pub shape_of-counts : goal.shape_of-counts
-shape_of-counts c = c.loop-at.invariant.0
+loop-at-preserved c = let next : c.loop-at.at + 1 - 1 ≡ c.loop-at.at - 1 + 1 = omega (arith, c.loop-at.auto.at) in rw next (c.join.auto.counts ∙ c.loop-at.invariant.0, joined_again c.args.self.sources.now c.requires.held c.word-at-end.ensures.0 c.loop-at.invariant.1 (omega (arith, c.loop-at.auto.at)) (c.word.ensures.0 ∙ ap (λ (k : ℕ). get_or c.args.words.now k 0) (omega (arith, c.loop-at.auto.at))) c.join.ensures)
 
 pub returns : goal.returns
-returns c = joined_end c.args.self.sources.now c.requires.held c.word-depth.ensures.0 c.loop-at.invariant.1 (omega arith)
+returns c = joined_end c.args.self.sources.now c.requires.held c.word-at-end.ensures.0 c.loop-at.invariant.1 (omega arith)

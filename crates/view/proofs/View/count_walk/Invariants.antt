@@ -5,4 +5,4 @@ use Rattle.view.proofs.Counting.{Joined}
 use Rattle.view.proofs.View.count_walk.Given as goal
 
 abbrev pub invariant-loop-at : goal.invariant-loop-at
-invariant-loop-at l = (length l.counts ≡ length l.initial.counts) × Joined l.self.sources.now l.words l.depth l.counts (l.at - 1)
+invariant-loop-at l = (length l.counts ≡ length l.initial.counts) × Joined l.self.sources.now l.words l.at-end l.counts (l.at - 1)

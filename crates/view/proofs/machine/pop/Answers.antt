@@ -1,10 +1,5 @@
-use lib.ListN.{length-set}
 use Rattle.view.proofs.Trial.{popped}
-use native.Mathlib.Omega.{arith}
 use Rattle.view.proofs.machine.pop.Goals as goal
-
-pub bounds-words-0 : goal.bounds-words-0
-bounds-words-0 c = simp length-set (omega arith)
 
 pub returns : goal.returns
 returns c = popped c.args.words.now c.word-depth.result c.word-depth.ensures.0 c.requires.1.1

@@ -1,10 +1,5 @@
-use lib.ListN.{length-set}
 use Rattle.view.proofs.Trial.{pushed}
-use native.Mathlib.Omega.{arith}
 use Rattle.view.proofs.machine.push.Goals as goal
-
-pub bounds-words-0 : goal.bounds-words-0
-bounds-words-0 c = simp length-set (omega arith)
 
 pub returns : goal.returns
 returns c = pushed c.args.words.now c.word-depth.result c.args.edge c.word-depth.ensures.0 c.requires.1.0

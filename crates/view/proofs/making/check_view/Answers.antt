@@ -1,33 +1,19 @@
-use Prim.Native.Nat.{ℕ}
 use native.Mathlib.Omega.{arith}
-use mathlib.Core.Path.{sym, ap, ◌∙◌}
+use mathlib.Core.Path.{refl, sym}
 use mathlib.Core.Bool.{true≢false}
-use lib.ListN.{length, length-replicate}
 use Rattle.repr.specs.Packed.{productions_in}
-use Rattle.trace_graph.specs.Index.{index_room}
 use Rattle.trace_graph.proofs.Checks.{checked_first, checked_more, checked_all, graph_many, graph_bad}
 use Rattle.view.specs.View.{EdgeRanged}
 use Rattle.view.proofs.Made.{viewed_first, making_more, view_made, ranged_of}
 use Rattle.view.proofs.Labelling.{labelling_first, labelling_more, labelling_made}
 use Rattle.view.proofs.making.check_view.Goals as goal
 
-pub word-count-requires : goal.word-count-requires
-word-count-requires c = omega (arith, c.requires.n_bound.1)
-
 pub returns-then-count-gt-EDGES : goal.returns-then-count-gt-EDGES
 returns-then-count-gt-EDGES c = let A = c.args in record { value = graph_many A.n (productions_in A.grammar.words.now A.grammar.productions) A.graph.now (omega (arith, c.if-count-gt-EDGES.true, c.word-count.ensures.0)); viewing = λ z. absurd (true≢false (sym z)) }
 
 pub loop-k-init : goal.loop-k-init
 loop-k-init c = let A = c.args in
-    (checked_first (productions_in A.grammar.words.now A.grammar.productions) A.n A.graph.now A.ix.now c.requires.n_bound.0 c.requires.n_bound.1 c.requires.ix_value, (omega arith, (labelling_first (omega arith) c.requires.n_bound.2, viewed_first c.requires.blank.0 c.requires.blank.1 c.requires.blank.2)))
-
-pub check_edge-requires : goal.check_edge-requires
-check_edge-requires c = record { graphed = c.loop-k.invariant.0.good; k_lt_edge_limit = omega (arith, c.loop-k-test.true, c.if-count-gt-EDGES.false) }
-
-pub view_edge-requires : goal.view_edge-requires
-view_edge-requires c = let G = c.check_edge.ensures.graphed_2 c.if-not-check_edge.false in
-    let I = c.loop-k.invariant.1.1 in
-    let E : EdgeRanged (productions_in c.args.grammar.words.now c.args.grammar.productions) c.args.graph.now c.loop-k.k = record { nonterminals = c.args.n; few = c.requires.n_bound.0; fits = G.fits c.loop-k.k (omega arith) } in record { room = (omega (arith, G.few), G.long, I.0.by_code); edge_ranged = E }
+    (checked_first (productions_in A.grammar.words.now A.grammar.productions) A.n A.graph.now _ c.requires.n_bound.0 c.requires.n_bound.1 refl, (omega arith, (labelling_first (omega arith) c.requires.n_bound.2, viewed_first c.requires.blank.0 c.requires.blank.1 c.requires.blank.2)))
 
 pub loop-k-preserved : goal.loop-k-preserved
 loop-k-preserved c = let A = c.args in
@@ -45,20 +31,8 @@ loop-k-preserved c = let A = c.args in
       ),
     )
 
-pub shape_of-ix-then-not-check_edge : goal.shape_of-ix-then-not-check_edge
-shape_of-ix-then-not-check_edge c = c.check_edge.auto.ix ∙ c.loop-k.invariant.0.good.index.long ∙ sym (ap length c.requires.ix_value ∙ length-replicate {A = ℕ} index_room 0)
-
-pub shape_of-codes-then-not-check_edge : goal.shape_of-codes-then-not-check_edge
-shape_of-codes-then-not-check_edge c = c.loop-k.invariant.1.1.0.by_code ∙ sym c.requires.n_bound.2
-
 pub returns-then-not-check_edge : goal.returns-then-not-check_edge
 returns-then-not-check_edge c = let A = c.args in record { value = graph_bad A.n (productions_in A.grammar.words.now A.grammar.productions) A.graph.now c.loop-k.k (omega (arith, c.loop-k-test.true, c.word-count.ensures.0)) c.check_edge.result c.check_edge.ensures.value c.if-not-check_edge.true; viewing = λ z. absurd (true≢false (sym z)) }
-
-pub shape_of-ix : goal.shape_of-ix
-shape_of-ix c = c.loop-k.invariant.0.good.index.long ∙ sym (ap length c.requires.ix_value ∙ length-replicate {A = ℕ} index_room 0)
-
-pub shape_of-codes : goal.shape_of-codes
-shape_of-codes c = c.loop-k.invariant.1.1.0.by_code ∙ sym c.requires.n_bound.2
 
 pub returns : goal.returns
 returns c = let A = c.args in

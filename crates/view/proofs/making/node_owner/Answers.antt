@@ -8,5 +8,5 @@ returns-then-node-eq0 c = owner_nonterminal c.requires.by_index.0 (productions_i
 pub owner-requires : goal.owner-requires
 owner-requires c = owner_below c.args.grammar.words.now c.args.grammar.productions c.args.grammar.packed c.requires.by_index.0 c.args.node c.requires.by_index.2 c.if-node-eq0.false
 
-pub returns : goal.returns
-returns c = owner_item c.args.grammar.words.now c.args.grammar.productions c.args.grammar.packed c.requires.by_index.0 c.args.node c.requires.by_index.2 c.if-node-eq0.false c.owner.result c.owner.ensures
+pub returns-else-node-eq0 : goal.returns-else-node-eq0
+returns-else-node-eq0 c = owner_item c.args.grammar.words.now c.args.grammar.productions c.args.grammar.packed c.requires.by_index.0 c.args.node c.requires.by_index.2 c.if-node-eq0.false c.owner.result c.owner.ensures

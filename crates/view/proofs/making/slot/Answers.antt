@@ -9,8 +9,8 @@ returns-then-node-eq0 c = (slot-nonterminal c.args.node c.args.start.production 
 pub returns-then-node-start-2 : goal.returns-then-node-start-2
 returns-then-node-start-2 c = (slot-start c.args.node c.args.start.production c.args.start.index c.if-node-eq0.false c.if-node-start.true c.if-node-start-2.true, omega arith)
 
-pub returns : goal.returns
-returns c = let N = c.args.node in
+pub returns-else-node-start : goal.returns-else-node-start
+returns-else-node-start c = let N = c.args.node in
     let p = c.args.start.production in
     let i = c.args.start.index in (
       elim c.else-node-start.branch [

@@ -2,11 +2,8 @@ use Rattle.view.proofs.Made.{source-nonterminal, source-item}
 use native.Mathlib.Omega.{arith}
 use Rattle.view.proofs.making.source.Goals as goal
 
-pub overflow_add-result : goal.overflow_add-result
-overflow_add-result c = omega (arith, c.requires c.if-node-eq0.true)
-
 pub returns-then-node-eq0 : goal.returns-then-node-eq0
 returns-then-node-eq0 c = (source-nonterminal c.args.node c.if-node-eq0.true, omega (arith, c.requires c.if-node-eq0.true))
 
-pub returns : goal.returns
-returns c = (source-item c.args.node c.if-node-eq0.false, omega arith)
+pub returns-else-node-eq0 : goal.returns-else-node-eq0
+returns-else-node-eq0 c = (source-item c.args.node c.if-node-eq0.false, omega arith)

@@ -9,14 +9,8 @@ use Rattle.view.proofs.making.view_edge.Goals as goal
 pub node_owner-requires : goal.node_owner-requires
 node_owner-requires c = record { by_index = labelling_source c.args.grammar.packed c.requires.edge_ranged c.read_edge-edge.ensures.1 }
 
-pub overflow_mul-codes : goal.overflow_mul-codes
-overflow_mul-codes c = omega (arith, (labelling_small c.args.grammar.packed c.requires.edge_ranged c.read_edge-edge.ensures.1).0)
-
-pub overflow_add-codes : goal.overflow_add-codes
-overflow_add-codes c = let s = labelling_small c.args.grammar.packed c.requires.edge_ranged c.read_edge-edge.ensures.1 in omega (arith, s.0, s.1)
-
-pub overflow_cast-codes : goal.overflow_cast-codes
-overflow_cast-codes c = let s = labelling_small c.args.grammar.packed c.requires.edge_ranged c.read_edge-edge.ensures.1 in omega (arith, s.0, s.1)
+pub place-requires : goal.place-requires
+place-requires c = let s = labelling_small c.args.grammar.packed c.requires.edge_ranged c.read_edge-edge.ensures.1 in (s.0, omega (arith, s.1))
 
 pub source-requires : goal.source-requires
 source-requires c = source_small c.requires.edge_ranged c.read_edge-edge.ensures.1
@@ -24,12 +18,9 @@ source-requires c = source_small c.requires.edge_ranged c.read_edge-edge.ensures
 pub slot-requires : goal.slot-requires
 slot-requires c = target_small c.requires.edge_ranged c.read_edge-edge.ensures.1
 
-pub put-requires : goal.put-requires
-put-requires c = (c.requires.room.0, c.source.ensures.1, c.slot.ensures.1, c.node_owner.ensures.1)
-
 pub returns : goal.returns
 returns c = let A = c.args in
     let L = A.lists.now in
     let E = c.requires.edge_ranged in
     let q = c.read_edge-edge.ensures.1 in
-    let o = slot-put E q (record { production = A.start.production; index = A.start.index }) c.slot.ensures.0 in record { owners = c.put.ensures.owners ∙ ap (λ (x : ℕ). set L.owners A.k x) (owner_put c.args.grammar.packed E q c.node_owner.ensures.0); codes = ap (λ (x : ℕ). set A.codes.now A.k x) (code_put c.args.grammar.packed E q); sources = c.put.ensures.sources ∙ ap (λ (x : ℕ). set L.sources A.k x) (source-put E q c.source.ensures.0); older = c.put.ensures.older ∙ ap (λ (x : ℕ). set L.older A.k (get_or L.latest x 0)) o; latest = c.put.ensures.latest ∙ ap (λ (x : ℕ). set L.latest x (A.k + 1)) o }
+    let o = slot-put E q (record { production = A.start.production; index = A.start.index }) c.slot.ensures.0 in record { owners = c.put.ensures.owners ∙ ap (λ (x : ℕ). set L.owners A.k x) (owner_put c.args.grammar.packed E q c.node_owner.ensures.0); codes = ap (λ (x : ℕ). set A.codes.now A.k x) (c.place.ensures.is ∙ code_put c.args.grammar.packed E q); sources = c.put.ensures.sources ∙ ap (λ (x : ℕ). set L.sources A.k x) (source-put E q c.source.ensures.0); older = c.put.ensures.older ∙ ap (λ (x : ℕ). set L.older A.k (get_or L.latest x 0)) o; latest = c.put.ensures.latest ∙ ap (λ (x : ℕ). set L.latest x (A.k + 1)) o }

@@ -1,21 +1,18 @@
-use Rattle.enumerator.proofs.Stepping.{uses-first, uses_end, uses_edge, uses-found, uses_again}
-use Rattle.std.proofs.Common.{arith}
+use Rattle.std.proofs.Common.{◌≡◌, ◌+◌, ◌-◌, take, drop, ◌∙◌, arith, rules, tests}
+use Rattle.std.proofs.lemmas.Iterator.{YieldsList-from_slice}
+use Rattle.std.proofs.lemmas.Iterator.Adapters.{serves_from_places}
+use Rattle.std.proofs.lemmas.Iterator.Search.{any_from_yields_List}
+use Rattle.enumerator.proofs.Stepping.{ends, comes, uses_any}
+use Rattle.enumerator.proofs.Holding.{uses_edge}
 use Rattle.enumerator.proofs.machine.Graph.uses.Goals as goal
 
-pub loop-k-init : goal.loop-k-init
-loop-k-init c = uses-first c.requires.within
-
-pub word-edge-requires : goal.word-edge-requires
-word-edge-requires c = omega (arith, c.loop-k.invariant.within, c.requires.depth_in_bounds)
-
-pub comes_from-requires : goal.comes_from-requires
-comes_from-requires c = record { edge_bound = uses_edge c.loop-k.invariant c.requires.depth_in_bounds (λ e. omega (arith, e)) c.word-edge.ensures.0 }
-
-pub returns-then-comes_from : goal.returns-then-comes_from
-returns-then-comes_from c = uses-found c.loop-k.invariant c.requires.depth_in_bounds (λ e. omega (arith, e)) c.word-edge.ensures.0 c.comes_from.ensures c.if-comes_from.true
-
-pub loop-k-preserved : goal.loop-k-preserved
-loop-k-preserved c = uses_again c.loop-k.invariant c.requires.depth_in_bounds (λ e. omega (arith, e)) c.word-edge.ensures.0 c.comes_from.ensures c.if-comes_from.false
+pub any-requires-clause-callable : goal.any-requires-clause-callable
+any-requires-clause-callable c =
+    let n : c.args.depth + 1 - 1 ≡ c.args.depth = omega arith in
+    serves_from_places (YieldsList-from_slice (take c.args.depth (drop 1 c.args.words.now)) (rw n at c.iter.ensures.rest)) (λ x q k. search rules) (λ x k h e. let b = uses_edge c.args.words.now c.args.depth c.requires.within k x.now h e in search rules)
 
 pub returns : goal.returns
-returns c = uses_end c.loop-k.invariant c.requires.depth_in_bounds (omega arith)
+returns c =
+    let n : c.args.depth + 1 - 1 ≡ c.args.depth = omega arith in
+    any_from_yields_List (comes (ends c.args.self.words.now) c.args.nonterminal) _ _ _ c.any.ensures.ran (YieldsList-from_slice (take c.args.depth (drop 1 c.args.words.now)) (rw n at c.iter.ensures.rest)) (λ x b q k. search (rules, tests))
+    ∙ uses_any (ends c.args.self.words.now) c.args.nonterminal c.args.words.now c.args.depth
