@@ -33,8 +33,8 @@ struct TableChoice<'a> {
     ghost fits: { set_fits (meaning given.table.words.now) conflict tokens.0 ≡ true },
 }
 
-// How many better and how many naive classes are written.
-#[derive(Clone, Copy)]
+// How many better and how many naive classes are written, beside the words of both: there is no heap.
+#[derive(Clone, Copy, Default)]
 struct Written {
     better: usize,
     naive: usize,
@@ -48,7 +48,7 @@ fn choose_token(
     naive: &mut [u16],
     written: Written,
 ) -> Result<Written, Refusal>
-    requires token_bound { (token < 64) × (written.better + written.naive ≤ token) }
+    requires token_bound { (token < entry_limit) × (written.better + written.naive ≤ token) }
     requires better_len { (length better.old ≡ entries_room) × (length naive.old ≡ entries_room) }
     ensures naive_after { sorted_in result better.new naive.new ≡ added_to (entries_in better.old written.better) (entries_in naive.old written.naive) (token_entries (meaning choice.entry.given.table.words.now) choice.entry.conflict choice.entry.tokens.0 token) }
     ensures counts_within { CountsWithin (token + 1) result }
@@ -90,11 +90,8 @@ fn choose_tokens(
     ensures naive_after { sorted_in result better.new naive.new ≡ added_to [] [] (classes_of (meaning choice.entry.given.table.words.now) choice.entry.conflict (members choice.entry.tokens.0)) }
     ensures counts_within { CountsWithin entry_limit result }
 {
-    let mut written = Written {
-        better: 0,
-        naive: 0,
-    };
-    for token in 0..64 {
+    let mut written = Written::default();
+    for token in 0..TokenSet::LIMIT {
         written = choose_token(choice, token, better, naive, written)?;
     }
     Ok(written)
@@ -166,10 +163,7 @@ fn choose_read(
 fn set_shifts_end(conflict: Conflict, tokens: TokenSet, terminals: u16) -> bool
     ensures { result ≡ eqb conflict.action 0 && has tokens.0 terminals }
 {
-    if conflict.action == 0 {
-        return tokens.contains(terminals);
-    }
-    false
+    conflict.action == 0 && tokens.contains(terminals)
 }
 
 // `choose` over an accepted table: refusals 9 to 11 change nothing.
@@ -182,10 +176,7 @@ pub fn choose_in(
     ensures { outcome (choice_in result) scratch.new ≡ chosen_in conflict tokens.0 scratch.old (meaning table.entry.words.now) }
 {
     let counts = table.counts();
-    if !place_fits(table, conflict) {
-        return Err(Refusal::OutOfRange);
-    }
-    if !tokens.fits(counts.terminals) {
+    if !place_fits(table, conflict) || !tokens.fits(counts.terminals) {
         return Err(Refusal::OutOfRange);
     }
     if set_shifts_end(conflict, tokens, counts.terminals as u16) {

@@ -17,7 +17,7 @@ ghost use Rattle.classifier.specs.Shown.{judged_words, shown_of};
 use error::{Class, Classification, Conflict};
 use example::Example as ExampleBuffer;
 use examples::{TableConflict, action_examples, prepare, reduced};
-use judge::{judge, write_example};
+use judge::{Judging, write_example};
 use outline::Side;
 use pairs::{SortedSide, sort_side};
 use repr::{ProductionIndex, Refusal};
@@ -29,31 +29,23 @@ pub fn place_fits(table: AcceptedTable, conflict: Conflict) -> bool
     ensures { result ≡ place_is_fit (meaning table.entry.words.now) conflict }
 {
     let counts = table.counts();
-    if conflict.state.0 as usize >= counts.states {
-        return false;
-    }
-    if conflict.production.0 as usize >= counts.productions {
-        return false;
-    }
+    let state = conflict.state.0 as usize;
+    let production = conflict.production.0 as usize;
     let operand = conflict.operand as usize;
-    if conflict.action == 0 {
-        return operand < counts.terminals;
-    }
-    if conflict.action == 1 {
-        return operand < counts.productions;
-    }
-    false
+    state < counts.states
+        && production < counts.productions
+        && match conflict.action {
+            0 => operand < counts.terminals,
+            1 => operand < counts.productions,
+            _ => false,
+        }
 }
 
 // Refusal 10: a shift with the end token, at which the Rust panics.
 fn shifts_end(conflict: Conflict, terminals: usize) -> bool
     ensures { result ≡ eqb conflict.action 0 && eqb conflict.token terminals }
 {
-    let token = conflict.token as usize;
-    if conflict.action == 0 {
-        return token == terminals;
-    }
-    false
+    conflict.action == 0 && conflict.token as usize == terminals
 }
 
 // The example of the action's side that is shown, if there is one, at the front of its buffer.
@@ -81,27 +73,25 @@ fn classify_kept(
     requires example_room_in_bounds { (example_room ≤ length action.old) × (example_room ≤ length reduce.old) }
     ensures { (xs ys : List Example) → Sides (meaning case.entry.given.table.words.now) case.entry.conflict xs ys actions.now.kept actions.now.prints reduces.now.kept reduces.now.prints → length xs ≡ action_count → length ys ≡ reduce_count → judged_words result action.new reduce.new ≡ shown_of (meaning case.entry.given.table.words.now).productions action.old reduce.old (judged (meaning case.entry.given.table.words.now) case.entry.conflict xs ys) }
 {
-    if action_count == 0 {
-        return Class::Naive;
-    }
-    if reduce_count == 0 {
+    if action_count == 0 || reduce_count == 0 {
         return Class::Naive;
     }
     let mut rows = [0u16; Conflict::EXAMPLES];
     let mut columns = [0u16; Conflict::EXAMPLES];
     sort_side(actions, action_count, &mut rows);
     sort_side(reduces, reduce_count, &mut columns);
-    let judged = judge(
+    let judging = Judging {
         case,
-        SortedSide {
+        actions: SortedSide {
             side: actions,
             order: &rows[..action_count],
         },
-        SortedSide {
+        reduces: SortedSide {
             side: reduces,
             order: &columns[..reduce_count],
         },
-    );
+    };
+    let judged = judging.judge();
     let other = TableConflict {
         given: case.given,
         conflict: reduced(case.conflict),

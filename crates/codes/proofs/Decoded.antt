@@ -1,17 +1,17 @@
 -- An edge from its word. Assumes nothing.
-use Rattle.std.proofs.Common.{◌≡◌, ℕ, zero, suc, ◌+◌, ◌*◌, ◌/◌, ◌%◌, ◌<◌, true, eqb, ltb, List, [], ◌∷◌, length, get_or, sym, refl, ap, ◌∙◌, true≢false, arith, ltb-false, ltb-true, eqb-true}
-use borrow.Author.Tests.{eqb-false}
-use Rattle.repr.specs.Meaning.{Item, Production, no_production, Table, ItemFits, production_at}
-use Rattle.repr.specs.Listed.{listed}
+use Rattle.std.proofs.Common.{◌≡◌, ℕ, zero, suc, ◌*◌, ◌/◌, ◌%◌, ◌<◌, true, ltb, List, [], ◌∷◌, length, get_or, drop, sym, refl, ap, ◌∙◌, true≢false, arith, ltb-false, ltb-true, eqb-true}
+use mathlib.Core.Option.{some}
+use Rattle.repr.specs.Meaning.{Symbol, Item, Production, no_production, Table, ItemFits, production_at}
+use Rattle.repr.specs.Listed.{symbol_of_kind, listed}
 use Rattle.repr.specs.Packed.{productions_in, production_in, symbol_words}
 use Rattle.repr.proofs.Lists.{cases, get_d_map-below, length-map-below}
-use Rattle.repr.proofs.Parts.{symbols_long}
-use Rattle.lr1_core.specs.Items.{shifts_nonterminal}
-use Rattle.lr1_core.proofs.Items.{shifts_nonterminal_lem, shifts-terminal, shifts_past}
+use Rattle.lr1_core.specs.Items.{first, symbol_sets, is_nonterminal, shifts_nonterminal}
+use Rattle.lr1_core.proofs.Items.{shifts_past}
 use Rattle.trace_graph.specs.Graph.{at_nonterminal, TraceEdge}
 use Rattle.trace_graph.specs.Words.{node_words, edge_words}
 use Rattle.trace_graph.specs.Index.{InRange}
-use Rattle.trace_graph.specs.Values.{SmallEdge, value_words}
+use Rattle.trace_graph.specs.declared.Node.{Node}
+use Rattle.trace_graph.specs.Values.{SmallNode, SmallEdge, value_words}
 use Rattle.trace.specs.Traced.{owner_of, symbols_of, can_shift}
 use Rattle.trace.proofs.Traced.{fits-item}
 use Rattle.codes.specs.Codes.{cursor_of, edge_by, item_in, edge_of}
@@ -90,44 +90,42 @@ module _ {g : List ℕ} {n : ℕ} {T : Table} {e : TraceEdge} {c : ℕ} (D : Dec
         (λ l. ltb-true (c % 2176 % 17) (length (listed (symbol_words g (c % 2176 / 17)))) l)
         (λ l. absurd (true≢false (sym shifts ∙ sym (shifts_past (listed (symbol_words g (c % 2176 / 17))) (c % 2176 % 17) (cursor_of T (item_in c)) (ltb-false (c % 2176 % 17) (length (listed (symbol_words g (c % 2176 / 17)))) l)))))
 
-    pub cursor_room : c % 2176 % 17 < 16
-    cursor_room = let b = before_end in let s = symbols_long g n (c % 2176 / 17) D.packed inside in let h = D.packed.short (c % 2176 / 17) inside in omega arith
-
-    pub cursor_is : get_or g (c % 2176 / 17 * 36 + 4 + 2 * (c % 2176 % 17) + 1) 0 ≡ cursor_of T (item_in c)
-    cursor_is =
-        cases (eqb (get_or g (c % 2176 / 17 * 36 + 4 + 2 * (c % 2176 % 17)) 0) 0)
-        (λ q. eqb-true _ _ (shifts_nonterminal_lem _ _ _ _ D.packed inside before_end _ _ (eqb-true _ _ q) refl ∙ shifts))
-        (λ q. absurd (true≢false (sym shifts ∙ sym (shifts-terminal _ _ _ _ D.packed inside before_end _ (eqb-false _ _ q)))))
-
-    pub cursor_small : get_or g (c % 2176 / 17 * 36 + 4 + 2 * (c % 2176 % 17) + 1) 0 < 128
+    cursor_small : cursor_of T (item_in c) < 128
     unfolding InRange
     cursor_small =
         let t : e.target ≡ at_nonterminal (cursor_of T (item_in c)) = sym (ap (λ (f : TraceEdge). f.target) back) ∙ by_target T (c / 2176) (item_in c) ne in
         let r : cursor_of T (item_in c) < length T.nonterminals = rw t at D.traced.target in
         let f = D.fits.few_nonterminals in
-        let q = cursor_is in
         omega arith
 
-    pub words_one : c / 2176 ≡ 1 → 0 ∷ get_or g (c % 2176 / 17 * 36) 0 ∷ 0 ∷ 0 ∷ get_or g (c % 2176 / 17 * 36 + 4 + 2 * (c % 2176 % 17) + 1) 0 ∷ 0 ∷ c % 2176 / 17 ∷ c % 2176 % 17 ∷ [] ≡ edge_words e
+    words_one : c / 2176 ≡ 1 → 0 ∷ get_or g (c % 2176 / 17 * 36) 0 ∷ 0 ∷ 0 ∷ cursor_of T (item_in c) ∷ 0 ∷ c % 2176 / 17 ∷ c % 2176 % 17 ∷ [] ≡ edge_words e
     unfolding item_in
-    words_one k = rw (owner_is, cursor_is) (sym (one_words T (c % 2176 / 17) (c % 2176 % 17)) ∙ ap edge_words (rw k at back))
+    words_one k = rw owner_is (sym (one_words T (c % 2176 / 17) (c % 2176 % 17)) ∙ ap edge_words (rw k at back))
 
-    pub words_two : (c / 2176 ≡ 1 → ⊥) → 1 ∷ c % 2176 / 17 ∷ c % 2176 % 17 ∷ 0 ∷ get_or g (c % 2176 / 17 * 36 + 4 + 2 * (c % 2176 % 17) + 1) 0 ∷ 0 ∷ c % 2176 / 17 ∷ c % 2176 % 17 ∷ [] ≡ edge_words e
+    words_two : (c / 2176 ≡ 1 → ⊥) → 1 ∷ c % 2176 / 17 ∷ c % 2176 % 17 ∷ 0 ∷ cursor_of T (item_in c) ∷ 0 ∷ c % 2176 / 17 ∷ c % 2176 % 17 ∷ [] ≡ edge_words e
     unfolding item_in
-    words_two k = rw cursor_is (sym (by_words T (c / 2176) (c % 2176 / 17) (c % 2176 % 17) ne k) ∙ ap edge_words back)
+    words_two k = sym (by_words T (c / 2176) (c % 2176 / 17) (c % 2176 % 17) ne k) ∙ ap edge_words back
 
-  pub words-zero : c / 2176 ≡ 0 → 0 ∷ get_or g (c % 2176 / 17 * 36) 0 ∷ 0 ∷ 1 ∷ c % 2176 / 17 ∷ c % 2176 % 17 ∷ c % 2176 / 17 ∷ c % 2176 % 17 ∷ [] ≡ edge_words e
+  words-zero : c / 2176 ≡ 0 → 0 ∷ get_or g (c % 2176 / 17 * 36) 0 ∷ 0 ∷ 1 ∷ c % 2176 / 17 ∷ c % 2176 % 17 ∷ c % 2176 / 17 ∷ c % 2176 % 17 ∷ [] ≡ edge_words e
   unfolding item_in
   words-zero k = rw owner_is (sym (zero-words T (c % 2176 / 17) (c % 2176 % 17)) ∙ ap edge_words (rw k at back))
 
--- as the code has it
+-- the nonterminal that an item shifts is the number of the symbol at its cursor
+pub shifted_number : (xs rest : List Symbol) (i kind number n : ℕ) (s : Symbol) → drop i xs ≡ s ∷ rest → symbol_of_kind kind number ≡ s → shifts_nonterminal xs i n ≡ true → number ≡ n
+unfolding shifts_nonterminal symbol_sets first is_nonterminal symbol_of_kind
+shifted_number xs rest i kind number n s d e h = go kind (rw (d, ← e) at h)
+  where
+    go : (k : ℕ) → is_nonterminal n (some (symbol_of_kind k number)) ≡ true → number ≡ n
+    go zero t = eqb-true number n t
+    go (suc k) t = absurd (true≢false (sym t))
 
-module _ (g : List ℕ) (n c w : ℕ) (D : (T : Table) × ((e : TraceEdge) × Decodes g n T e c)) (ew : w ≡ get_or g (c % 2176 / 17 * 36) 0) where
+-- as the code has it: the item at index x of production p, w the number of its nonterminal
+module _ (g : List ℕ) (n c p x w : ℕ) (D : (T : Table) × ((e : TraceEdge) × Decodes g n T e c)) (ep : p ≡ c % 2176 / 17) (ex : x ≡ c % 2176 % 17) (ew : w ≡ get_or g (p * 36) 0) where
   owner_small : w < 128
-  owner_small = let d = D.1.1 in let l = d.packed.owner (c % 2176 / 17) (inside d) in omega arith
+  owner_small = let d = D.1.1 in let l = d.packed.owner (c % 2176 / 17) (inside d) in rw (ew, ep) (omega arith)
 
-  pub made-zero : c / 2176 ≡ 0 → (SmallEdge (record { source = record { kind = 0; number = w; index = 0 }; target = record { kind = 1; number = c % 2176 / 17; index = c % 2176 % 17 }; production = c % 2176 / 17; index = c % 2176 % 17 })
-      × ((T : Table) (e : TraceEdge) → Decodes g n T e c → value_words (record { source = record { kind = 0; number = w; index = 0 }; target = record { kind = 1; number = c % 2176 / 17; index = c % 2176 % 17 }; production = c % 2176 / 17; index = c % 2176 % 17 }) ≡ edge_words e))
+  pub made-zero : c / 2176 ≡ 0 → (SmallEdge (record { source = record { kind = 0; number = w; index = 0 }; target = record { kind = 1; number = p; index = x }; production = p; index = x })
+      × ((T : Table) (e : TraceEdge) → Decodes g n T e c → value_words (record { source = record { kind = 0; number = w; index = 0 }; target = record { kind = 1; number = p; index = x }; production = p; index = x }) ≡ edge_words e))
   unfolding value_words
   made-zero k =
       let o = owner_small in (
@@ -137,39 +135,46 @@ module _ (g : List ℕ) (n c w : ℕ) (D : (T : Table) × ((e : TraceEdge) × De
           production = omega arith;
           index = omega arith;
         },
-        λ T e d. rw ew (words-zero d k),
+        λ T e d. rw (ew, ep, ex) (words-zero d k),
       )
 
   module _ (ne : c / 2176 ≡ 0 → ⊥) where
-    pub cursor_inside : c % 2176 / 17 * 36 + 4 + 2 * (c % 2176 % 17) + 1 < length g
-    cursor_inside = let d = D.1.1 in let r = cursor_room d ne in let i = inside d in let f = d.packed.few in let l = d.packed.long in omega arith
+    pub production_inside : p < n
+    production_inside = rw ep (inside D.1.1)
 
-    module _ (v : ℕ) (ev : v ≡ get_or g (c % 2176 / 17 * 36 + 4 + 2 * (c % 2176 % 17) + 1) 0) where
-      v_small : v < 128
-      v_small = let q = cursor_small D.1.1 ne in omega arith
+    pub cursor_inside : x < length (listed (symbol_words g p))
+    cursor_inside = rw (ep, ex) (before_end D.1.1 ne)
 
-      pub made_one : c / 2176 ≡ 1 → (SmallEdge (record { source = record { kind = 0; number = w; index = 0 }; target = record { kind = 0; number = v; index = 0 }; production = c % 2176 / 17; index = c % 2176 % 17 })
-          × ((T : Table) (e : TraceEdge) → Decodes g n T e c → value_words (record { source = record { kind = 0; number = w; index = 0 }; target = record { kind = 0; number = v; index = 0 }; production = c % 2176 / 17; index = c % 2176 % 17 }) ≡ edge_words e))
+    -- v: the node of the nonterminal that the item shifts
+    module _ (v : Node) (ev : (m : ℕ) → shifts_nonterminal (listed (symbol_words g p)) x m ≡ true → v ≡ record { kind = 0; number = m; index = 0 }) where
+      v_is : {T : Table} {e : TraceEdge} (d : Decodes g n T e c) → v ≡ record { kind = 0; number = cursor_of T (item_in c); index = 0 }
+      v_is {T} d = ev (cursor_of T (item_in c)) (rw (ep, ex) (shifts d ne))
+
+      v_small : SmallNode v
+      v_small = rw (v_is D.1.1) (record { kind = omega arith; number = cursor_small D.1.1 ne; index = omega arith })
+
+      pub made_one : c / 2176 ≡ 1 → (SmallEdge (record { source = record { kind = 0; number = w; index = 0 }; target = v; production = p; index = x })
+          × ((T : Table) (e : TraceEdge) → Decodes g n T e c → value_words (record { source = record { kind = 0; number = w; index = 0 }; target = v; production = p; index = x }) ≡ edge_words e))
       unfolding value_words
       made_one k = (
         record {
           source = record { kind = omega arith; number = owner_small; index = omega arith };
-          target = record { kind = omega arith; number = v_small; index = omega arith };
+          target = v_small;
           production = omega arith;
           index = omega arith;
         },
-        λ T e d. rw (ew, ev) (words_one d ne k),
+        λ T e d. rw (v_is d, ew, ep, ex) (words_one d ne k),
       )
 
-      pub made_two : (c / 2176 ≡ 1 → ⊥) → (SmallEdge (record { source = record { kind = 1; number = c % 2176 / 17; index = c % 2176 % 17 }; target = record { kind = 0; number = v; index = 0 }; production = c % 2176 / 17; index = c % 2176 % 17 })
-          × ((T : Table) (e : TraceEdge) → Decodes g n T e c → value_words (record { source = record { kind = 1; number = c % 2176 / 17; index = c % 2176 % 17 }; target = record { kind = 0; number = v; index = 0 }; production = c % 2176 / 17; index = c % 2176 % 17 }) ≡ edge_words e))
+      pub made_two : (c / 2176 ≡ 1 → ⊥) → (SmallEdge (record { source = record { kind = 1; number = p; index = x }; target = v; production = p; index = x })
+          × ((T : Table) (e : TraceEdge) → Decodes g n T e c → value_words (record { source = record { kind = 1; number = p; index = x }; target = v; production = p; index = x }) ≡ edge_words e))
       unfolding value_words
       made_two k = (
         record {
           source = record { kind = omega arith; number = omega arith; index = omega arith };
-          target = record { kind = omega arith; number = v_small; index = omega arith };
+          target = v_small;
           production = omega arith;
           index = omega arith;
         },
-        λ T e d. rw ev (words_two d ne k),
+        λ T e d. rw (v_is d, ep, ex) (words_two d ne k),
       )

@@ -1,12 +1,23 @@
 -- The word and the key of an edge from its kind and label (specs/Kinds). Assumes nothing.
-use Rattle.std.proofs.Common.{◌≡◌, ◌+◌, ◌*◌, sym, refl}
+use Rattle.std.proofs.Common.{◌≡◌, ℕ, ◌+◌, ◌*◌, ◌⊎◌, inl, inr, sym, refl, ap, ◌∙◌, arith}
 use Rattle.repr.specs.Meaning.{Table, TableFits}
 use Rattle.trace_graph.specs.Graph.{TraceEdge}
 use Rattle.trace.specs.Sound.{EdgeSound}
 use Rattle.codes.specs.declared.EdgeCode.{EdgeCode}
+use Rattle.codes.specs.declared.EdgeKind.{EdgeKind}
+use Rattle.codes.specs.declared.EdgeKind.TheVariants.{IntoItem, FromItem}
 use Rattle.codes.specs.Codes.{item_code, code_of, key_by, key_of}
 use Rattle.codes.specs.Kinds.{kind_number, IsCodeOf}
 use Rattle.codes.proofs.Keys.{key_edge}
+
+-- a kind that is not the one between nonterminals
+pub not_between : (k : EdgeKind) → (k ≡ IntoItem) ⊎ (k ≡ FromItem) → kind_number k ≡ 1 → ⊥
+not_between k (inl e) o = let z : kind_number k ≡ 0 = ap kind_number e in omega (arith, z, o)
+not_between k (inr e) o = let z : kind_number k ≡ 2 = ap kind_number e in omega (arith, z, o)
+
+-- a kind by its number
+pub number_is : (k j : EdgeKind) (n : ℕ) → kind_number k ≡ n → k ≡ j → n ≡ kind_number j
+number_is k j n a e = sym a ∙ ap kind_number e
 
 module _ (c : EdgeCode) (e : TraceEdge) (I : IsCodeOf c e) where
   pub word_is : kind_number c.kind * 2176 + item_code (record { production = c.item.production; index = c.item.index }) ≡ code_of e

@@ -1,5 +1,7 @@
 -- The least equal production as the code finds it. Assumes nothing.
 use Rattle.std.proofs.Common.{◌≡◌, ℕ, ◌+◌, ◌*◌, ◌<◌, ◌≤◌, true, false, eqb, List, length, get_or, set, replicate, sym, ap, ◌∙◌, arith, length-set, get_or-set_other, get_or-set_same, lt-ltb, eq-eqb, ne_eqb, eqb-true, le-leb}
+use Rattle.std.specs.Prelude.{Option, Some, None, MatchOption}
+use Rattle.std.specs.Option.{unwrap_or}
 use lib.ListN.{length-replicate}
 use borrow.Author.Tests.{eqb-false}
 use Rattle.repr.specs.Meaning.{Production, no_production}
@@ -38,14 +40,21 @@ module _ (g : List ℕ) (n p q a b : ℕ) (hp : p < n) (hq : q < n) (ea : a ≡ 
       ∙ rw (packed_owner g n p hp, packed_owner g n q hq, ← ea, ← eb, eq-eqb a b e)
 
 -- the first that is equal
-pub least-found : (ps : List Production) (p q : ℕ) → q < length ps → is_same_production ps q p ≡ true → ((j : ℕ) → j < q → is_same_production ps j p ≡ false) → q ≡ least_alike ps p
+least-found : (ps : List Production) (p q : ℕ) → q < length ps → is_same_production ps q p ≡ true → ((j : ℕ) → j < q → is_same_production ps j p ≡ false) → q ≡ least_alike ps p
 unfolding least_alike or_zero
 least-found ps p q h e none = sym (ap or_zero (first?-below_intro (λ r. is_same_production ps r p) (length ps) q h e none))
 
-pub least_itself : (ps : List Production) (p : ℕ) → p < length ps → ((j : ℕ) → j < p → is_same_production ps j p ≡ false) → p ≡ least_alike ps p
+least_itself : (ps : List Production) (p : ℕ) → p < length ps → ((j : ℕ) → j < p → is_same_production ps j p ≡ false) → p ≡ least_alike ps p
 least_itself ps p h none = least-found ps p p h (same_refl ps p) none
 
-pub below_next : (P : ℕ → Type 0) (q : ℕ) → ((j : ℕ) → j < q → P j) → P q → (j : ℕ) → j < q + 1 → P j
+-- the first before p that is equal, else p
+pub least_of : (ps : List Production) (p : ℕ) (r : Option ℕ) → p < length ps
+    → MatchOption r ((j : ℕ) → 0 ≤ j → j < p → is_same_production ps j p ≡ false) (λ q. (0 ≤ q) × (q < p) × (is_same_production ps q p ≡ true) × ((j : ℕ) → 0 ≤ j → j < q → is_same_production ps j p ≡ false))
+    → (unwrap_or r p ≡ least_alike ps p) × (unwrap_or r p ≤ p)
+least_of ps p None h m = (least_itself ps p h (λ j l. m j (omega arith) l), omega arith)
+least_of ps p (Some q) h m = (least-found ps p q (omega (arith, m.1)) m.2 (λ j l. m.3 j (omega arith) l), omega (arith, m.1))
+
+below_next : (P : ℕ → Type 0) (q : ℕ) → ((j : ℕ) → j < q → P j) → P q → (j : ℕ) → j < q + 1 → P j
 below_next P q h e j l =
     cases (eqb j q)
     (λ b. rw (eqb-true j q b) e)

@@ -1,5 +1,5 @@
 -- The code's `EdgeKind` and `EdgeCode`: the numbers of the kinds, and of which edge one is. Assumes nothing: these are definitions.
-use Rattle.std.specs.Prelude.{◌≡◌, ℕ}
+use Rattle.std.specs.Prelude.{◌≡◌, ℕ, Bool, true, false}
 use Rattle.trace_graph.specs.Graph.{TraceEdge}
 use Rattle.codes.specs.Codes.{kind_of}
 use Rattle.codes.specs.declared.EdgeKind.{EdgeKind}
@@ -10,6 +10,11 @@ abbrev pub kind_number : EdgeKind → ℕ
 kind_number IntoItem = 0
 kind_number Between = 1
 kind_number FromItem = 2
+
+-- of an edge into a nonterminal: from a nonterminal, or from an item
+abbrev pub kind_from : Bool → EdgeKind
+kind_from true = Between
+kind_from false = FromItem
 
 -- the edge's kind and label are these
 pub record IsCodeOf (c : EdgeCode) (e : TraceEdge) : Type 0 where

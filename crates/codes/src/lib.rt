@@ -2,11 +2,13 @@
 
 #![tactic(auto)]
 
-ghost use Rattle.std.specs.Prelude.{OnOk, OnErr, ◌≡◌, ℕ, ◌+◌, ◌*◌, ◌<◌, ◌≤◌, Bool, true, false, List, [], ◌++◌, length, drop, replicate, slice_index};
+ghost use Rattle.std.specs.Prelude.{OnOk, OnErr, ◌≡◌, ℕ, ◌+◌, ◌*◌, ◌/◌, ◌%◌, ◌<◌, ◌≤◌, Bool, true, false, List, [], ◌++◌, length, drop, replicate, slice_index};
 ghost use Rattle.repr.specs.Sizes.{production_limit, index_limit, item_limit, edge_limit, edge_place, graph_room};
 ghost use Rattle.repr.specs.Lists.{some?};
 ghost use Rattle.repr.specs.Meaning as meaning-of;
-ghost use Rattle.repr.specs.Packed.{Packed, productions_in};
+ghost use Rattle.repr.specs.Listed.{listed};
+ghost use Rattle.repr.specs.Packed.{Packed, productions_in, symbol_words};
+ghost use Rattle.lr1_core.specs.Items.{shifts_nonterminal};
 ghost use Rattle.trace_graph.specs.Graph as graph-of;
 ghost use Rattle.trace_graph.specs.Words.{edge_words, graph_words};
 ghost use Rattle.trace_graph.specs.Values.{SmallEdge, value_words};
@@ -35,13 +37,23 @@ pub enum EdgeKind {
 }
 
 impl EdgeKind {
+    const COUNT: usize = 3;
+
     fn number(self) -> usize
         ensures { (result ≡ kind_number self) × (result < 3) }
     {
-        match self {
-            EdgeKind::IntoItem => 0,
-            EdgeKind::Between => 1,
-            EdgeKind::FromItem => 2,
+        self as usize
+    }
+
+    // The kind of a number.
+    fn of(number: usize) -> EdgeKind
+        requires { number < 3 }
+        ensures { kind_number result ≡ number }
+    {
+        match number {
+            0 => EdgeKind::IntoItem,
+            1 => EdgeKind::Between,
+            _ => EdgeKind::FromItem,
         }
     }
 }
@@ -59,8 +71,19 @@ impl EdgeCode {
         requires { (self.item.production < production_limit) × (self.item.index < index_limit) }
         ensures { (result ≡ kind_number self.kind * item_limit + item_code (record { production = self.item.production; index = self.item.index })) × (result < code_limit) }
     {
-        self.kind.number() * Item::LIMIT
-            + (self.item.production * ProductionIndex::INDEXES + self.item.index)
+        self.kind.number() * Item::LIMIT + self.item.place()
+    }
+
+    // The edge of a word.
+    fn of(word: usize) -> EdgeCode
+        requires { word < code_limit }
+        ensures kind { kind_number result.kind ≡ word / item_limit }
+        ensures item { (result.item.production ≡ word % item_limit / index_limit) × (result.item.index ≡ word % item_limit % index_limit) }
+    {
+        EdgeCode {
+            kind: EdgeKind::of(word / Item::LIMIT),
+            item: Item::at(word % Item::LIMIT),
+        }
     }
 
     // Its key: of an edge between nonterminals the word with the least equal production.
@@ -71,11 +94,13 @@ impl EdgeCode {
         let item = self.item;
         match self.kind {
             EdgeKind::Between => {
-                Item::LIMIT
-                    + (least[item.production] as usize * ProductionIndex::INDEXES + item.index)
+                let same = Item {
+                    production: least[item.production] as usize,
+                    ..item
+                };
+                EdgeCode { item: same, ..self }.word()
             }
-            EdgeKind::IntoItem => self.word(),
-            EdgeKind::FromItem => self.word(),
+            EdgeKind::IntoItem | EdgeKind::FromItem => self.word(),
         }
     }
 }
@@ -91,7 +116,7 @@ pub struct EdgeCodes {
 impl EdgeCodes {
     pub const WORDS: usize = 1 + TraceGraph::EDGES;
 
-    pub const KEY_WORDS: usize = 102;
+    pub const KEY_WORDS: usize = EdgeKind::COUNT * Item::FLAG_WORDS;
 
     // No edges.
     pub fn new() -> EdgeCodes
@@ -107,8 +132,7 @@ impl EdgeCodes {
     pub fn clear(&mut self)
         ensures { (T : meaning-of.Table) → Coded T self.new.words self.new.flags [] }
     {
-        let empty = TraceGraph::new();
-        self.words[0] = empty.edges as u16;
+        self.words[0] = 0;
         self.flags.fill(0);
     }
 
@@ -154,12 +178,9 @@ fn least_same(grammar: Grammar, p: usize) -> usize
     requires { p < grammar.productions }
     ensures { (result ≡ least_alike (productions_in grammar.entry.words.now grammar.entry.productions) p) × (result < production_limit) }
 {
-    for q in 0..p {
-        if same_production(grammar, q, p) {
-            return q;
-        }
-    }
-    p
+    (0..p)
+        .find(|q| same_production(grammar, *q, p))
+        .unwrap_or(p)
 }
 
 // That of every production.
@@ -172,53 +193,67 @@ pub fn fill_least(grammar: Grammar, least: &mut [u8])
     }
 }
 
+// The node of an item.
+fn item_node(item: Item) -> Node
+    ensures { result ≡ record { kind = 1; number = item.production; index = item.index } }
+{
+    Node {
+        kind: 1,
+        number: item.production,
+        index: item.index,
+    }
+}
+
+// The node of a nonterminal.
+fn nonterminal_node(number: usize) -> Node
+    ensures { result ≡ record { kind = 0; number = number; index = 0 } }
+{
+    Node {
+        kind: 0,
+        number,
+        index: 0,
+    }
+}
+
+// The node of the nonterminal at an item's cursor.
+fn cursor_node(grammar: Grammar, item: Item) -> Node
+    requires within { item.production < grammar.productions }
+    requires index_in_bounds { item.index < length (listed (symbol_words grammar.words.now item.production)) }
+    ensures { (n : ℕ) → shifts_nonterminal (listed (symbol_words grammar.entry.words.now item.production)) item.index n ≡ true → result ≡ record { kind = 0; number = n; index = 0 } }
+{
+    let (_, number) = grammar.symbol(item.production, item.index).words();
+    nonterminal_node(number as usize)
+}
+
 // The edge of a word.
 fn edge_of(grammar: Grammar, code: usize) -> TraceEdge
     requires { (T : meaning-of.Table) × ((e : graph-of.TraceEdge) × Decodes grammar.words.now grammar.productions T e code) }
     ensures { SmallEdge result × ((T : meaning-of.Table) (e : graph-of.TraceEdge) → Decodes grammar.entry.words.now grammar.entry.productions T e code → value_words result ≡ edge_words e) }
 {
-    let kind = code / Item::LIMIT;
-    let production = code % Item::LIMIT / ProductionIndex::INDEXES;
-    let index = code % Item::LIMIT % ProductionIndex::INDEXES;
-    let owner = Node {
-        kind: 0,
-        number: grammar.owner(production),
-        index: 0,
-    };
-    let item = Node {
-        kind: 1,
-        number: production,
-        index,
-    };
-    if kind == 0 {
-        return TraceEdge {
+    let coded = EdgeCode::of(code);
+    let item = coded.item;
+    let owner = nonterminal_node(grammar.owner(item.production));
+    let production = item.production;
+    let index = item.index;
+    match coded.kind {
+        EdgeKind::IntoItem => TraceEdge {
             source: owner,
-            target: item,
+            target: item_node(item),
             production,
             index,
-        };
-    }
-    let cursor = Node {
-        kind: 0,
-        number: word(
-            grammar.words,
-            production * ProductionIndex::WORDS + 4 + 2 * index + 1,
-        ),
-        index: 0,
-    };
-    if kind == 1 {
-        return TraceEdge {
+        },
+        EdgeKind::Between => TraceEdge {
             source: owner,
-            target: cursor,
+            target: cursor_node(grammar, item),
             production,
             index,
-        };
-    }
-    TraceEdge {
-        source: item,
-        target: cursor,
-        production,
-        index,
+        },
+        EdgeKind::FromItem => TraceEdge {
+            source: item_node(item),
+            target: cursor_node(grammar, item),
+            production,
+            index,
+        },
     }
 }
 

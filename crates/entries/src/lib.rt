@@ -4,7 +4,7 @@
 
 ghost use Rattle.std.specs.Prelude.{◌≡◌, [], ◌∷◌, ◌++◌, ◌*◌, ◌≤◌, ◌<◌, length, get_or, take, drop, eqb};
 ghost use Rattle.std.proofs.lemmas.List.Edits.{sets};
-ghost use Rattle.repr.specs.Sizes.{entry_room, entry_place, entries_room};
+ghost use Rattle.repr.specs.Sizes.{entry_limit, entry_room, entry_place, entries_room};
 ghost use Rattle.error.specs.Numbers.{number_of_class};
 ghost use Rattle.repr.specs.Lists.{joined};
 ghost use Rattle.entries.specs.Entries.{class_words, with_entry, count_of_values, entry_in, entries_in, entry_words};
@@ -29,11 +29,11 @@ pub fn class_number(class: Class) -> u16
 
 // A class in five words: document 01's number, its own values, zeros.
 #[tactic(auto, unfolding(crate::specs::Entries::class_words))]
-fn number_class(class: Class) -> [u16; 5]
+fn number_class(class: Class) -> [u16; Class::WORDS]
     ensures { result ≡ class_words class }
 {
     match class {
-        Class::Naive => [0; 5],
+        Class::Naive => [0; Class::WORDS],
         Class::Ambiguity => [1, 0, 0, 0, 0],
         Class::Precedence(nonterminal) => [2, nonterminal.0, 0, 0, 0],
         Class::SuggestInline(nonterminal) => [3, nonterminal.0, 0, 0, 0],
@@ -50,8 +50,8 @@ fn number_class(class: Class) -> [u16; 5]
 }
 
 // Entry k in six words: token and class.
-fn write_words(entries: &mut [u16], k: usize, token: u16, words: [u16; 5])
-    requires { (k < 64) × (entries_room ≤ length entries.old) }
+fn write_words(entries: &mut [u16], k: usize, token: u16, words: [u16; Class::WORDS])
+    requires { (k < entry_limit) × (entries_room ≤ length entries.old) }
     ensures { entries.new ≡ sets entries.old (entry_place k) (token ∷ words) }
 {
     let at = k * Class::ENTRY_WORDS;
@@ -63,7 +63,7 @@ fn write_words(entries: &mut [u16], k: usize, token: u16, words: [u16; 5])
 
 // Entry `count`: the token with its class.
 pub fn write_entry(entries: &mut [u16], count: usize, token: u16, class: Class)
-    requires { (count < 64) × (length entries.old ≡ entries_room) }
+    requires { (count < entry_limit) × (length entries.old ≡ entries_room) }
     ensures { entries.new ≡ with_entry entries.old count token class }
 {
     let words = number_class(class);
@@ -84,35 +84,21 @@ fn value_count(class: u16) -> usize
     }
 }
 
-// Value i of `count` that start at word `at`, 0 past them.
-fn value_at(entries: &[u16], at: usize, count: usize, i: usize) -> u16
-    requires { (at ≤ 380) × (i < 4) × (length entries.now ≡ entries_room) }
-    ensures { result ≡ get_or (take count (drop at entries.now)) i 0 }
-{
-    if i < count {
-        return entries[at + i];
-    }
-    0
-}
-
 // The class of entry k, zeros past its own values.
-fn read_class(entries: &[u16], k: usize) -> [u16; 5]
-    requires { (k < 64) × (length entries.now ≡ entries_room) }
+fn read_class(entries: &[u16], k: usize) -> [u16; Class::WORDS]
+    requires { (k < entry_limit) × (length entries.now ≡ entries_room) }
     ensures { get_or entries.now (entry_place k) 0 ∷ result ≡ entry_words (entry_in entries.now k) }
 {
-    let at = k * Class::ENTRY_WORDS + 2;
-    let class = entries[k * Class::ENTRY_WORDS + 1];
-    let count = value_count(class);
-    let first = value_at(entries, at, count, 0);
-    let second = value_at(entries, at, count, 1);
-    let third = value_at(entries, at, count, 2);
-    let fourth = value_at(entries, at, count, 3);
-    [class, first, second, third, fourth]
+    let at = k * Class::ENTRY_WORDS + 1;
+    let own = 1 + value_count(entries[at]);
+    let mut words = [0u16; Class::WORDS];
+    words[..own].copy_from_slice(&entries[at..at + own]);
+    words
 }
 
 // So many entries copied to the front of `to`, six words each; no other word changes. Entry by entry, as it is asked of any words, also of such with something behind a class's own values.
 pub fn copy_entries(from: &[u16], to: &mut [u16], count: usize)
-    requires { (count ≤ 64) × (length from.now ≡ entries_room) × (entries_room ≤ length to.old) }
+    requires { (count ≤ entry_limit) × (length from.now ≡ entries_room) × (entries_room ≤ length to.old) }
     ensures { to.new ≡ joined entry_words (entries_in from.now count) ++ drop (entry_room * count) to.old }
 {
     for k in 0..count {

@@ -37,8 +37,10 @@ pub enum Class {
 }
 
 impl Class {
-    // A token with its class in words, and one for each token.
-    pub const ENTRY_WORDS: usize = 6;
+    // A class in words: its number and its own values; a token with it; and one for each token.
+    pub const WORDS: usize = 5;
+
+    pub const ENTRY_WORDS: usize = 1 + Class::WORDS;
 
     pub const ALL_WORDS: usize = TokenSet::LIMIT as usize * Class::ENTRY_WORDS;
 }

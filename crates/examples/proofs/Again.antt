@@ -1,10 +1,8 @@
 -- The ways through `item_again`, `reduce_again` and `action_again`: an example of a listing made again (specs/Again, `Made` of specs/Gathers). Assumes nothing.
-use Rattle.std.specs.Prelude.{◌≡◌, ℕ, zero, suc, ◌/◌, ◌%◌, ◌<◌, ◌≤◌, Bool, true, false, eqb, List, ◌++◌, length, take, drop}
+use Rattle.std.specs.Prelude.{◌≡◌, ℕ, zero, suc, ◌/◌, ◌%◌, ◌<◌, ◌≤◌, Bool, true, false, eqb, List, ◌++◌, length}
 use native.Mathlib.Omega.{arith}
 use mathlib.Core.Path.{refl, sym, ap, ◌∙◌}
 use mathlib.Core.Option.{Option}
-use lib.ListN.{length-drop}
-use lib.Seq.{take_all}
 use Rattle.repr.specs.Sizes.{edge_limit, example_limit, index_limit}
 use Rattle.repr.specs.Meaning.{Production, Item, Table}
 use Rattle.repr.specs.Packed.{productions_in}
@@ -16,7 +14,6 @@ use Rattle.trace.specs.Shifting.{item_of}
 use Rattle.trace.proofs.Traced.{item_fits}
 use Rattle.tracer.specs.declared.Action.TheVariants.{Shift}
 use Rattle.tracer.specs.Built.{edges_by}
-use Rattle.codes.specs.Coded.{codes_room}
 use Rattle.example.specs.Example.{example_words}
 use Rattle.enumerator.specs.Lister.{labels_of}
 use Rattle.enumerator.specs.Advance.{set_of}
@@ -28,7 +25,7 @@ use Rattle.error.specs.Sides.{Side, listing_side, reduce_side}
 use Rattle.error.specs.Judge.{Example}
 use Rattle.outline.specs.Inline.{symbols_at, CodeFits}
 use Rattle.examples.specs.Reads.{Reads}
-use Rattle.examples.specs.Listing.{listed_by, Listable}
+use Rattle.examples.specs.Listing.{listed_by}
 use Rattle.examples.specs.Again.{Listed, Finds}
 use Rattle.examples.specs.Gathers.{shift_made, reduce_made, made_by, action_made, is_shift}
 use Rattle.examples.proofs.Traces.{listing-over, listing_is}

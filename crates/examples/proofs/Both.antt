@@ -1,5 +1,5 @@
 -- What is in range of a conflict that fits its table, and the item of a reduce (error/specs/Sides). Assumes nothing.
-use Rattle.std.specs.Prelude.{◌≡◌, ℕ, zero, suc, ◌<◌, ◌≤◌, true, false, ◌&&◌, ltb, leb, List, length, get_or}
+use Rattle.std.specs.Prelude.{◌≡◌, ℕ, zero, suc, ◌<◌, ◌≤◌, true, ◌&&◌, ltb, leb, List, length, get_or}
 use mathlib.Core.Path.{refl, sym, ap, ◌∙◌, subst}
 use mathlib.Core.Bool.{true≢false}
 use mathlib.Core.Option.{some}
@@ -25,32 +25,32 @@ use Rattle.std.specs.Prelude.{Some}
 use Rattle.error.specs.declared.Conflict.{Conflict}
 use Rattle.error.specs.Outcome.{operand_fits, place_is_fit, conflict_fits}
 use Rattle.error.specs.Sides.{listing_side, item_of_reduce, reduce_side}
-use Rattle.examples.specs.declared.Traced.{Traced}
+use Rattle.tracer.specs.declared.TracedItem.{TracedItem}
 use Rattle.examples.specs.Reads.{Reads}
 
 single-token : (token set : ℕ) → token < 64 → set ≡ with 0 token → set ≡ single token
 single-token token set h e = e ∙ with_yes 0 token h ∙ union-zero-left (single token)
 
 -- the item of a reduce, r the answer of `reduce_item`
-module _ (t g : List ℕ) (productions terminals : ℕ) (sets least ends : List ℕ) (R : Reads t g productions terminals sets least ends) (state : StateIndex) (p : ℕ) (r : Traced)
-    (e : r ≡ record { state = state; item = record { production = p; index = length (get_or (productions_in g productions) p no_production).symbols }; action = Reduce }) where
+module _ (t g : List ℕ) (productions terminals : ℕ) (sets least ends : List ℕ) (R : Reads t g productions terminals sets least ends) (state : StateIndex) (p : ℕ) (r : TracedItem)
+    (e : r ≡ record { state = state.0; item = record { production = p; index = length (get_or (productions_in g productions) p no_production).symbols }; action = Reduce }) where
   end_same : length (get_or (productions_in g productions) p no_production).symbols ≡ length (get_or (meaning t).productions p no_production).symbols
   end_same = ap (λ (l : List Production). length (get_or l p no_production).symbols) R.same
 
-  pub end_fits : state.0 < length (meaning t).states → p < length (meaning t).productions → (r.state.0 < length (meaning t).states) × (item_is_fit (meaning t).productions r.item.production r.item.index ≡ true)
+  pub end_fits : state.0 < length (meaning t).states → p < length (meaning t).productions → (r.state < length (meaning t).states) × (item_is_fit (meaning t).productions r.item.production r.item.index ≡ true)
   end_fits hs h =
       let q = end_same in
-      subst (λ (x : Traced). (x.state.0 < length (meaning t).states) × (item_is_fit (meaning t).productions x.item.production x.item.index ≡ true)) (sym e)
+      subst (λ (x : TracedItem). (x.state < length (meaning t).states) × (item_is_fit (meaning t).productions x.item.production x.item.index ≡ true)) (sym e)
       (hs, item_fits (meaning t) (record { production = p; index = length (get_or (productions_in g productions) p no_production).symbols }) (record { production = h; index = omega arith }))
 
   pub reduce_is : (token : ℕ) (tokens : TokenSet) → token ≤ (meaning t).terminals → tokens.0 ≡ with 0 token
-      → listing_side (meaning t) (edges_by r.action (meaning t) r.state.0 (record { production = r.item.production; index = r.item.index })) (record { production = r.item.production; index = r.item.index }) (set_of (Some tokens)) 0
+      → listing_side (meaning t) (edges_by r.action (meaning t) r.state (record { production = r.item.production; index = r.item.index })) (record { production = r.item.production; index = r.item.index }) (set_of (Some tokens)) 0
       ≡ reduce_side (meaning t) state.0 p token
   unfolding set_of reduce_side item_of_reduce
   reduce_is token tokens ht et =
       let f = (fits t R.accepted).few_terminals in
       let st = single-token token tokens.0 (omega arith) et in
-      ap (λ (x : Traced). listing_side (meaning t) (edges_by x.action (meaning t) x.state.0 (record { production = x.item.production; index = x.item.index })) (record { production = x.item.production; index = x.item.index }) (set_of (Some tokens)) 0) e
+      ap (λ (x : TracedItem). listing_side (meaning t) (edges_by x.action (meaning t) x.state (record { production = x.item.production; index = x.item.index })) (record { production = x.item.production; index = x.item.index }) (set_of (Some tokens)) 0) e
       ∙ (λ j. listing_side (meaning t) (reduce_edges (meaning t) state.0 (record { production = p; index = end_same j })) (record { production = p; index = end_same j }) (some (st j)) 0)
 
 -- a conflict in range

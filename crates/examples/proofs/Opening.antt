@@ -14,6 +14,7 @@ use Rattle.trace_graph.specs.Graph.{TraceEdge}
 use Rattle.codes.specs.Coded.{Coded}
 use Rattle.codes.specs.Carried.{Carried}
 use Rattle.tracer.specs.Held.{Working}
+use Rattle.view.specs.declared.View.{View as ViewOf}
 use Rattle.view.specs.View.{View, Labelled}
 use Rattle.error.specs.Sides.{Side, listing_side}
 use Rattle.examples.specs.declared.Gathered.{Gathered}
@@ -49,6 +50,12 @@ module _ (t g : List ℕ) (productions terminals : ℕ) (sets least ends : List 
     pub listable_in : (owners words sources older latest : List ℕ) → Listable (meaning t).productions es owners (drop 1 words) sources older latest i
         → Listable (productions_in g productions) es owners (take (length words - 1) (drop 1 words)) sources older latest i
     listable_in owners words sources older latest L = let d = length-drop 1 words in rw (R.same, take_all (length words - 1) (drop 1 words) (omega arith)) L
+
+    -- the same by a filter's productions and a view
+    pub listable_view : (owners words sources older latest : List ℕ) → Listable (meaning t).productions es owners (drop 1 words) sources older latest i → (g' : List ℕ) (n' : ℕ) → (g' ≡ g) × (n' ≡ productions)
+        → (v : ViewOf) → (v.sources.now ≡ sources) × (v.older.now ≡ older) × (v.latest.now ≡ latest) × (v.owners.now ≡ owners) → v.codes.now ≡ take (length words - 1) (drop 1 words)
+        → Listable (productions_in g' n') es v.owners.now v.codes.now v.sources.now v.older.now v.latest.now i
+    listable_view owners words sources older latest L g' n' a v e c = rw (a.0, a.1, e.0, e.1, e.2, e.3, c) (listable_in owners words sources older latest L)
 
     -- `list_item`
     module _ (ahead : Option ℕ) (shift : Bool) (count : ℕ) (kept prints kept' prints' : List ℕ) where

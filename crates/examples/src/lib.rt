@@ -31,20 +31,20 @@ ghost use Rattle.examples.specs.Again.{Listed, Finds};
 use codes::fill_least;
 use codes::viewing::view_codes;
 use error::Conflict;
-use example::{Example, Labels};
+use example::Example;
 use first::FirstSets;
 use lookahead::TokenSet;
 use lr1_core::Item;
 use outline::{Outline, Side, outline_of};
 use repr::{Grammar, ProductionIndex, Refusal};
-use search::{Searched, read_labels, search, write_trial};
-use shift_items::{conflicting_shift_items, next_shift_item};
+use search::{Filter, Searched, read_labels, search, write_trial};
+use shift_items::conflicting_shift_items;
 use state_graph::StateIndex;
 use table::AcceptedTable;
 use trace::reduce::suffix_ends;
 use trace_graph::Full;
 use tracer::reduce::Reduction;
-use tracer::{Action, OpenTrace, Tracer, trace_codes};
+use tracer::{Action, OpenTrace, TracedItem, Tracer, trace_codes};
 use view::View;
 use view::making::ViewLists;
 
@@ -56,7 +56,7 @@ pub struct Prepared {
     pub ends: [u64; Item::FLAG_WORDS],
 }
 
-// Packs the productions into the words lent, and makes the rest.
+// Packs the productions into the words lent, and makes the rest. The words are read again by `given`, so `read_grammar`, which keeps the loan, is not for them.
 pub fn prepare(table: AcceptedTable, words: &mut [u16]) -> Prepared
     requires { length words.old ≡ grammar_room }
     ensures { Reads table.entry.words.now words.new (length (meaning table.entry.words.now).productions) result.sets.terminals result.sets.map result.least result.ends }
@@ -108,6 +108,20 @@ pub struct Given<'a> {
     pub ghost reads: { Reads table.words.now grammar.words.now grammar.productions sets.now.terminals sets.now.map least.now ends.now },
 }
 
+impl<'a> Given<'a> {
+    // The filter of a listing.
+    fn filter(self, lookahead: Option<TokenSet>) -> Filter<'a>
+        ensures grammar { (result.grammar.words.now ≡ self.entry.grammar.words.now) × (result.grammar.productions ≡ self.entry.grammar.productions) }
+        ensures sets { (result.sets.now ≡ self.entry.sets.now) × (result.lookahead ≡ lookahead) }
+    {
+        Filter {
+            grammar: self.grammar,
+            sets: self.sets,
+            lookahead,
+        }
+    }
+}
+
 // A conflict of the table, its parts in range.
 #[derive(Clone, Copy)]
 pub struct TableConflict<'a> {
@@ -117,27 +131,17 @@ pub struct TableConflict<'a> {
 }
 
 // How many examples are kept of a side, and how many trials were made.
-#[derive(Clone, Copy)]
+#[derive(Clone, Copy, Default)]
 pub struct Gathered {
     pub examples: usize,
     pub trials: u32,
 }
 
-// An item that is traced from a state, as a shift's or as a reduce's.
-#[derive(Clone, Copy)]
-pub struct Traced {
-    pub state: StateIndex,
-    pub item: Item,
-    pub action: Action,
-}
-
-impl Traced {
-    // Whether as a shift's: a yes or no, as what is kept of an example is defined by (`label_of`).
-    fn shifts(self) -> bool
-        ensures { result ≡ shifts self.action }
-    {
-        matches!(self.action, Action::Shift)
-    }
+// Whether a shift is traced: a yes or no, as what is kept of an example is defined by (`label_of`).
+fn traces_shift(action: Action) -> bool
+    ensures { result ≡ shifts action }
+{
+    matches!(action, Action::Shift)
 }
 
 // The outline of the trial that the words hold, kept as example `count` of its side, number `turn` of its listing; and the labels of the side's first.
@@ -155,31 +159,24 @@ fn keep_trial(
     ensures { (es : List TraceEdge) → Tried (productions_in grammar.entry.words.now grammar.entry.productions) es view.entry.owners.now view.entry.codes.now words.now → (p rest : List ℕ) → words.now ≡ trial_words p ++ rest → PutBehind (productions_in grammar.entry.words.now grammar.entry.productions) shift (labels_of (productions_in grammar.entry.words.now grammar.entry.productions) es p) turn count side.old.kept side.old.prints side.new.kept side.new.prints }
 {
     let mut room = [0u16; Example::ALL_LABEL_WORDS];
-    let size = read_labels(view, words, &mut room);
-    let labels = Labels {
-        grammar,
-        words: &room[..size],
-    };
-    let outline = outline_of(labels, shift);
-    side.keep(outline, turn, count);
+    let labels = read_labels(grammar, view, words, &mut room);
+    side.keep(outline_of(labels, shift), turn, count);
     if count < Outline::LABELLED {
-        side.keep_labels(&room[..size], count);
+        side.keep_labels(labels.words, count);
     }
 }
 
 // Every example of a listing, its outline put behind the `count` of its side; the search goes from one to the next. Example 193 of the side is refusal 14, trial 100,001 refusal 13. The view says from which item.
 fn list_outlines(
-    grammar: Grammar,
-    sets: &FirstSets,
-    lookahead: Option<TokenSet>,
+    filter: Filter,
     shift: bool,
     view: View,
     side: &mut Side,
     count: usize,
 ) -> Result<Gathered, Refusal>
-    requires listable { (es : List TraceEdge) × ((start : ItemOf) × Listable (productions_in grammar.words.now grammar.productions) es view.owners.now view.codes.now view.sources.now view.older.now view.latest.now start) }
+    requires listable { (es : List TraceEdge) × ((start : ItemOf) × Listable (productions_in filter.grammar.words.now filter.grammar.productions) es view.owners.now view.codes.now view.sources.now view.older.now view.latest.now start) }
     requires count_in_bounds { count ≤ example_limit }
-    ensures listed_on { (es : List TraceEdge) (start : ItemOf) → Listable (productions_in grammar.entry.words.now grammar.entry.productions) es view.entry.owners.now view.entry.codes.now view.entry.sources.now view.entry.older.now view.entry.latest.now start → ListedOn (productions_in grammar.entry.words.now grammar.entry.productions) shift result count side.old.kept side.old.prints side.new.kept side.new.prints (listed_by sets.now.terminals sets.now.map (productions_in grammar.entry.words.now grammar.entry.productions) es (set_of lookahead) start count) }
+    ensures listed_on { (es : List TraceEdge) (start : ItemOf) → Listable (productions_in filter.entry.grammar.words.now filter.entry.grammar.productions) es view.entry.owners.now view.entry.codes.now view.entry.sources.now view.entry.older.now view.entry.latest.now start → ListedOn (productions_in filter.entry.grammar.words.now filter.entry.grammar.productions) shift result count side.old.kept side.old.prints side.new.kept side.new.prints (listed_by filter.entry.sets.now.terminals filter.entry.sets.now.map (productions_in filter.entry.grammar.words.now filter.entry.grammar.productions) es (set_of filter.entry.lookahead) start count) }
     ensures trials_in { TrialsIn trial_limit result }
 {
     let mut words = [0u16; View::TRIAL];
@@ -187,12 +184,20 @@ fn list_outlines(
     let mut made: u32 = 0;
     // Each search tells by its answer whether there is another.
     loop {
-        match search(grammar, sets, lookahead, view, &mut words, made) {
+        match search(filter, view, &mut words, made) {
             Searched::Hit(number) => {
                 if count + turn >= Conflict::EXAMPLES {
                     return Err(Refusal::TooManyExamples);
                 }
-                keep_trial(grammar, shift, view, &words, side, count + turn, turn);
+                keep_trial(
+                    filter.grammar,
+                    shift,
+                    view,
+                    &words,
+                    side,
+                    count + turn,
+                    turn,
+                );
                 turn += 1;
                 made = number;
             }
@@ -209,17 +214,18 @@ fn list_outlines(
     }
 }
 
-// The item is traced from the state: its edges in words of one each, and the view from the item in new lists. More than 1,024 edges do not fit.
+// The item is traced from its state: its edges in words of one each, and the lists of the view from the item, in new lists. More than 1,024 edges do not fit.
+// The view itself is made by the caller: a view over both lent values at one lifetime has no proof.
 fn open_view(
     given: Given,
-    traced: Traced,
+    traced: TracedItem,
     trace: &mut OpenTrace,
     lists: &mut ViewLists,
 ) -> Result<(), Full>
-    requires state_in_bounds { (traced.state.0 < length (meaning given.table.words.now).states) × (item_is_fit (meaning given.table.words.now).productions traced.item.production traced.item.index ≡ true) }
+    requires state_in_bounds { (traced.state < length (meaning given.table.words.now).states) × (item_is_fit (meaning given.table.words.now).productions traced.item.production traced.item.index ≡ true) }
     requires blank { Blank lists.old }
-    ensures listable { OnOk result (Listable (meaning given.entry.table.words.now).productions (edges_by traced.action (meaning given.entry.table.words.now) traced.state.0 (record { production = traced.item.production; index = traced.item.index })) lists.new.owners (drop 1 trace.new.edges.words) lists.new.sources lists.new.older lists.new.latest (record { production = traced.item.production; index = traced.item.index })) }
-    ensures edge_limit_in_bounds { OnErr result (edge_limit < length (edges_by traced.action (meaning given.entry.table.words.now) traced.state.0 (record { production = traced.item.production; index = traced.item.index }))) }
+    ensures listable { OnOk result (Listable (meaning given.entry.table.words.now).productions (edges_by traced.action (meaning given.entry.table.words.now) traced.state (record { production = traced.item.production; index = traced.item.index })) lists.new.owners (drop 1 trace.new.edges.words) lists.new.sources lists.new.older lists.new.latest (record { production = traced.item.production; index = traced.item.index })) }
+    ensures edge_limit_in_bounds { OnErr result (edge_limit < length (edges_by traced.action (meaning given.entry.table.words.now) traced.state (record { production = traced.item.production; index = traced.item.index }))) }
 {
     let tracer = Tracer {
         table: given.table,
@@ -230,13 +236,7 @@ fn open_view(
         tracer,
         ends: given.ends,
     };
-    trace_codes(
-        over,
-        traced.action,
-        traced.state.0 as usize,
-        traced.item,
-        trace,
-    )?;
+    trace_codes(over, traced, trace)?;
     view_codes(given.grammar, &trace.edges, traced.item, lists);
     Ok(())
 }
@@ -245,38 +245,21 @@ fn open_view(
 fn list_item(
     given: Given,
     lookahead: Option<TokenSet>,
-    traced: Traced,
+    traced: TracedItem,
     side: &mut Side,
     count: usize,
 ) -> Result<Gathered, Refusal>
-    requires state_in_bounds { (traced.state.0 < length (meaning given.table.words.now).states) × (item_is_fit (meaning given.table.words.now).productions traced.item.production traced.item.index ≡ true) }
+    requires state_in_bounds { (traced.state < length (meaning given.table.words.now).states) × (item_is_fit (meaning given.table.words.now).productions traced.item.production traced.item.index ≡ true) }
     requires count_in_bounds { count ≤ example_limit }
-    ensures listed_on { ListedOn (meaning given.entry.table.words.now).productions (shifts traced.action) result count side.old.kept side.old.prints side.new.kept side.new.prints (listing_side (meaning given.entry.table.words.now) (edges_by traced.action (meaning given.entry.table.words.now) traced.state.0 (record { production = traced.item.production; index = traced.item.index })) (record { production = traced.item.production; index = traced.item.index }) (set_of lookahead) count) }
+    ensures listed_on { ListedOn (meaning given.entry.table.words.now).productions (shifts traced.action) result count side.old.kept side.old.prints side.new.kept side.new.prints (listing_side (meaning given.entry.table.words.now) (edges_by traced.action (meaning given.entry.table.words.now) traced.state (record { production = traced.item.production; index = traced.item.index })) (record { production = traced.item.production; index = traced.item.index }) (set_of lookahead) count) }
     ensures trials_in { TrialsIn trial_limit result }
 {
     let mut trace = OpenTrace::new();
     let mut lists = ViewLists::new();
-    match open_view(given, traced, &mut trace, &mut lists) {
-        Ok(()) => {
-            let view = View {
-                sources: &lists.sources,
-                older: &lists.older,
-                latest: &lists.latest,
-                owners: &lists.owners,
-                codes: &trace.edges.words[1..],
-            };
-            list_outlines(
-                given.grammar,
-                given.sets,
-                lookahead,
-                traced.shifts(),
-                view,
-                side,
-                count,
-            )
-        }
-        Err(Full) => Err(Refusal::TooManyEdges),
-    }
+    open_view(given, traced, &mut trace, &mut lists)?;
+    let view = lists.view(&trace.edges.words[1..]);
+    let filter = given.filter(lookahead);
+    list_outlines(filter, traces_shift(traced.action), view, side, count)
 }
 
 // `shift_examples`: the items that shift the token in their order, each traced and listed before the next.
@@ -291,42 +274,35 @@ fn shift_examples(
 {
     let mut order = [0u16; ProductionIndex::LIMIT];
     let mut marks = [0u64; Item::FLAG_WORDS];
-    conflicting_shift_items(
+    let items = conflicting_shift_items(
         given.table,
         given.grammar,
         state.0 as usize,
+        token,
         &mut order,
         &mut marks,
     );
-    let mut gathered = Gathered {
-        examples: 0,
-        trials: 0,
-    };
-    let mut from: usize = 0;
-    while let Some((place, code)) = next_shift_item(given.grammar, token, &order, &marks, from) {
-        let traced = Traced {
-            state,
-            item: Item {
-                production: code / ProductionIndex::INDEXES,
-                index: code % ProductionIndex::INDEXES,
-            },
+    let mut gathered = Gathered::default();
+    for item in items {
+        let traced = TracedItem {
+            state: state.0 as usize,
+            item,
             action: Action::Shift,
         };
         let listed = list_item(given, None, traced, side, gathered.examples)?;
         gathered.examples = listed.examples;
         gathered.trials += listed.trials;
-        from = place + 1;
     }
     Ok(gathered)
 }
 
 // A production at its end, as a reduce traces it.
-fn reduce_item(grammar: Grammar, state: StateIndex, production: usize) -> Traced
+fn reduce_item(grammar: Grammar, state: StateIndex, production: usize) -> TracedItem
     requires { production < grammar.productions }
-    ensures { result ≡ record { state = state; item = record { production = production; index = length (slice_index_or (productions_in grammar.entry.words.now grammar.entry.productions) production no_production).symbols }; action = Reduce } }
+    ensures { result ≡ record { state = state.0; item = record { production = production; index = length (slice_index_or (productions_in grammar.entry.words.now grammar.entry.productions) production no_production).symbols }; action = Reduce } }
 {
-    Traced {
-        state,
+    TracedItem {
+        state: state.0 as usize,
         item: Item {
             production,
             index: grammar.length(production),
@@ -378,23 +354,16 @@ pub fn action_examples(case: TableConflict, side: &mut Side) -> Result<Gathered,
 }
 
 // From no edge on, past `wanted` examples of a listing: whether the words hold the next.
-fn find_example(
-    grammar: Grammar,
-    sets: &FirstSets,
-    lookahead: Option<TokenSet>,
-    view: View,
-    words: &mut [u16],
-    wanted: usize,
-) -> bool
-    requires listable { (es : List TraceEdge) × ((start : ItemOf) × Listable (productions_in grammar.words.now grammar.productions) es view.owners.now view.codes.now view.sources.now view.older.now view.latest.now start) }
+fn find_example(filter: Filter, view: View, words: &mut [u16], wanted: usize) -> bool
+    requires listable { (es : List TraceEdge) × ((start : ItemOf) × Listable (productions_in filter.grammar.words.now filter.grammar.productions) es view.owners.now view.codes.now view.sources.now view.older.now view.latest.now start) }
     requires by_index { (rest : List ℕ) × (words.old ≡ trial_words [] ++ rest) }
-    ensures { (es : List TraceEdge) (start : ItemOf) → Listable (productions_in grammar.entry.words.now grammar.entry.productions) es view.entry.owners.now view.entry.codes.now view.entry.sources.now view.entry.older.now view.entry.latest.now start → Finds (productions_in grammar.entry.words.now grammar.entry.productions) es view.entry.owners.now view.entry.codes.now result (λ k. listed_by sets.now.terminals sets.now.map (productions_in grammar.entry.words.now grammar.entry.productions) es (set_of lookahead) start k) wanted words.new }
+    ensures { (es : List TraceEdge) (start : ItemOf) → Listable (productions_in filter.entry.grammar.words.now filter.entry.grammar.productions) es view.entry.owners.now view.entry.codes.now view.entry.sources.now view.entry.older.now view.entry.latest.now start → Finds (productions_in filter.entry.grammar.words.now filter.entry.grammar.productions) es view.entry.owners.now view.entry.codes.now result (λ k. listed_by filter.entry.sets.now.terminals filter.entry.sets.now.map (productions_in filter.entry.grammar.words.now filter.entry.grammar.productions) es (set_of filter.entry.lookahead) start k) wanted words.new }
 {
     // Counted beside the searches: with a range the last search would stand once more behind the loop.
     let mut left = wanted;
     let mut made: u32 = 0;
     loop {
-        match search(grammar, sets, lookahead, view, words, made) {
+        match search(filter, view, words, made) {
             Searched::Hit(number) => {
                 if left == 0 {
                     return true;
@@ -402,7 +371,7 @@ fn find_example(
                 left -= 1;
                 made = number;
             }
-            Searched::Out(number) => {
+            Searched::Out(_) => {
                 return false;
             }
             Searched::Over => {
@@ -416,38 +385,23 @@ fn find_example(
 fn item_again(
     given: Given,
     lookahead: Option<TokenSet>,
-    traced: Traced,
+    traced: TracedItem,
     wanted: usize,
     buffer: &mut [u16],
 )
-    requires state_in_bounds { (traced.state.0 < length (meaning given.table.words.now).states) × (item_is_fit (meaning given.table.words.now).productions traced.item.production traced.item.index ≡ true) }
+    requires state_in_bounds { (traced.state < length (meaning given.table.words.now).states) × (item_is_fit (meaning given.table.words.now).productions traced.item.production traced.item.index ≡ true) }
     requires example_room_in_bounds { example_room ≤ length buffer.old }
-    ensures { (k : ℕ) (x : ExampleOf) → k ≤ example_limit → Listed (listing_side (meaning given.entry.table.words.now) (edges_by traced.action (meaning given.entry.table.words.now) traced.state.0 (record { production = traced.item.production; index = traced.item.index })) (record { production = traced.item.production; index = traced.item.index }) (set_of lookahead) k) wanted x → buffer.new ≡ in_front (example_words (meaning given.entry.table.words.now).productions x) buffer.old }
+    ensures { (k : ℕ) (x : ExampleOf) → k ≤ example_limit → Listed (listing_side (meaning given.entry.table.words.now) (edges_by traced.action (meaning given.entry.table.words.now) traced.state (record { production = traced.item.production; index = traced.item.index })) (record { production = traced.item.production; index = traced.item.index }) (set_of lookahead) k) wanted x → buffer.new ≡ in_front (example_words (meaning given.entry.table.words.now).productions x) buffer.old }
 {
     let mut trace = OpenTrace::new();
     let mut lists = ViewLists::new();
-    match open_view(given, traced, &mut trace, &mut lists) {
-        Ok(()) => {
-            let view = View {
-                sources: &lists.sources,
-                older: &lists.older,
-                latest: &lists.latest,
-                owners: &lists.owners,
-                codes: &trace.edges.words[1..],
-            };
-            let mut trial = [0u16; View::TRIAL];
-            if find_example(
-                given.grammar,
-                given.sets,
-                lookahead,
-                view,
-                &mut trial,
-                wanted,
-            ) {
-                write_trial(given.grammar, view, &trial, buffer);
-            }
+    if let Ok(()) = open_view(given, traced, &mut trace, &mut lists) {
+        let view = lists.view(&trace.edges.words[1..]);
+        let mut trial = [0u16; View::TRIAL];
+        let filter = given.filter(lookahead);
+        if find_example(filter, view, &mut trial, wanted) {
+            write_trial(given.grammar, view, &trial, buffer);
         }
-        Err(Full) => {}
     }
 }
 
@@ -481,12 +435,9 @@ pub fn action_again(case: TableConflict, label: usize, wanted: usize, buffer: &m
     let operand = conflict.operand as usize;
     let token = conflict.token;
     if conflict.action == 0 {
-        let traced = Traced {
-            state,
-            item: Item {
-                production: label / ProductionIndex::INDEXES,
-                index: label % ProductionIndex::INDEXES,
-            },
+        let traced = TracedItem {
+            state: state.0 as usize,
+            item: Item::at(label),
             action: Action::Shift,
         };
         item_again(given, None, traced, wanted, buffer);

@@ -3,7 +3,8 @@ use Rattle.std.specs.Prelude.{Option as OptionOf, Some, None, ℕ, ◌≤◌, �
 use Rattle.std.proofs.Math.Option.{Option, none, some}
 use Rattle.repr.specs.Sizes.{example_room}
 use Rattle.repr.specs.Meaning.{Symbol, Production, Table, All}
-use Rattle.repr.specs.Listed.{symbol_of_kind}
+use Rattle.repr.specs.Symbols.{meant}
+use Rattle.repr.specs.declared.Symbol.{Symbol as SymbolOf}
 use Rattle.slices.specs.Lent.{in_front}
 use Rattle.example.specs.Example.{example_words}
 use Rattle.error.specs.declared.Class.{Class}
@@ -75,13 +76,9 @@ pub record ReadAlike (ps : List Production) (xs ys : List Example) (rows columns
   pub same : found_in xs ys found ≡ first_fit (is_same_reading ps) (picked xs rows) (picked ys columns)
   pub fits : FoundFits (length xs) (length ys) found
 
-unfoldable pub question_in : OptionOf (ℕ × ℕ) → Option Symbol
-question_in (Some found) = some (symbol_of_kind found.0 found.1)
+unfoldable pub question_in : OptionOf SymbolOf → Option Symbol
+question_in (Some found) = some (meant found)
 question_in None = none
-
-unfoldable pub QuestionFits : OptionOf (ℕ × ℕ) → Type 0
-QuestionFits (Some found) = found.0 < 2
-QuestionFits None = Unit {0}
 
 -- the one symbol of the second list where the first is empty
 unfoldable pub optional_one : List Symbol → List Symbol → Option Symbol

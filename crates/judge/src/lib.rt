@@ -18,14 +18,14 @@ ghost use Rattle.error.specs.Outcome.{conflict_fits};
 ghost use Rattle.shift_items.specs.Codes.{Grammar as GrammarOf};
 ghost use Rattle.outline.specs.Kept.{nth};
 ghost use Rattle.examples.specs.Gathers.{SideKept, is_shift, action_made, reduce_made};
-ghost use Rattle.judge.specs.Judging.{InBuffer, Sides, Ordered, picked, pair_in, heads_in, both, Judges, ReadAlike, question_in, QuestionFits, optional_one};
+ghost use Rattle.judge.specs.Judging.{InBuffer, Sides, Ordered, picked, pair_in, heads_in, both, Judges, ReadAlike, question_in, optional_one};
 
 use error::{Class, Conflict};
 use example::Example as ExampleBuffer;
 use examples::{TableConflict, action_again, reduced};
 use outline::{Outline, Side};
 use pairs::{SortedSide, Test, first_pair};
-use repr::{Grammar, NonterminalString, ProductionIndex, word};
+use repr::{Grammar, NonterminalString, Symbol, word};
 use table::AcceptedTable;
 
 // A class and the examples that are shown with it, by their numbers.
@@ -56,68 +56,10 @@ fn same_reading(action: &[u16], reduce: &[u16]) -> bool
     requires { (ps : List Production) × ((x : Example) × ((y : Example) × (InBuffer ps x action.now × InBuffer ps y reduce.now))) }
     ensures { (ps : List Production) (x y : Example) → InBuffer ps x action.now → InBuffer ps y reduce.now → result ≡ is_same_reading ps x y }
 {
-    let count = word(action, 0);
-    if count != word(reduce, 0) {
-        return false;
-    }
-    if word(action, 1) != word(reduce, 1) {
-        return false;
-    }
-    let past = 3 + 2 * count;
-    action[3..past] == reduce[3..past]
-}
-
-// Whether examples x and y, made again, are read alike.
-fn same_again(case: TableConflict, actions: &Side, x: usize, reduces: &Side, y: usize) -> bool
-    requires { (xs : List Example) × ((ys : List Example) × (Sides (meaning case.given.table.words.now) case.conflict xs ys actions.now.kept actions.now.prints reduces.now.kept reduces.now.prints × ((x < length xs) × (y < length ys)))) }
-    ensures { (xs ys : List Example) → Sides (meaning case.entry.given.table.words.now) case.entry.conflict xs ys actions.now.kept actions.now.prints reduces.now.kept reduces.now.prints → x < length xs → y < length ys → result ≡ is_same_reading (meaning case.entry.given.table.words.now).productions (nth xs x) (nth ys y) }
-{
-    let mut action = [0u16; ExampleBuffer::WORDS];
-    let mut reduce = [0u16; ExampleBuffer::WORDS];
-    let other = TableConflict {
-        given: case.given,
-        conflict: reduced(case.conflict),
-    };
-    write_example(case, actions, x, &mut action);
-    write_example(other, reduces, y, &mut reduce);
-    same_reading(&action, &reduce)
-}
-
-// `try_classify_ambiguity`: the first pair that is read alike, by the numbers of its examples. Prints are equal where two are read alike; where they are equal both are made again and compared, and if they differ the search goes on behind them.
-fn try_classify_ambiguity(
-    case: TableConflict,
-    actions: SortedSide,
-    reduces: SortedSide,
-) -> Option<(usize, usize)>
-    requires { (xs : List Example) × ((ys : List Example) × (Sides (meaning case.given.table.words.now) case.conflict xs ys actions.side.now.kept actions.side.now.prints reduces.side.now.kept reduces.side.now.prints × (Ordered xs actions.order.now × Ordered ys reduces.order.now))) }
-    ensures { (xs ys : List Example) → Sides (meaning case.entry.given.table.words.now) case.entry.conflict xs ys actions.entry.side.now.kept actions.entry.side.now.prints reduces.entry.side.now.kept reduces.entry.side.now.prints → Ordered xs actions.entry.order.now → Ordered ys reduces.entry.order.now → ReadAlike (meaning case.entry.given.table.words.now).productions xs ys actions.entry.order.now reduces.entry.order.now result }
-{
-    let mut row: usize = 0;
-    let mut column: usize = 0;
-    // Each search tells by its answer whether there is another, and from where on.
-    loop {
-        match first_pair(
-            case.given.sets,
-            case.given.grammar,
-            Test::Alike,
-            actions,
-            reduces,
-            (row, column),
-        ) {
-            Some((i, j)) => {
-                let x = word(actions.order, i);
-                let y = word(reduces.order, j);
-                if same_again(case, actions.side, x, reduces.side, y) {
-                    return Some((x, y));
-                }
-                row = i;
-                column = j + 1;
-            }
-            None => {
-                return None;
-            }
-        }
-    }
+    let past = 3 + 2 * word(action, 0);
+    word(action, 0) == word(reduce, 0)
+        && word(action, 1) == word(reduce, 1)
+        && action[3..past] == reduce[3..past]
 }
 
 // A class that shows an example of each side.
@@ -131,24 +73,16 @@ fn with_both(class: Class, x: usize, y: usize) -> Judged
     }
 }
 
-// A class that shows the first of each order.
-fn with_first(class: Class, rows: &[u16], columns: &[u16]) -> Judged
-    requires { (0 < length rows.now) × (0 < length columns.now) }
-    ensures { result ≡ both class (get_or rows.now 0 0) (get_or columns.now 0 0) }
-{
-    let x = word(rows, 0);
-    let y = word(columns, 0);
-    with_both(class, x, y)
-}
-
 // Whether a production is T = T S T, S being the terminal.
 fn is_operator(grammar: Grammar, production: usize, terminal: u16) -> bool
     requires { production < grammar.productions }
     ensures { result ≡ is_operator_of (get_or (productions_in grammar.entry.words.now grammar.entry.productions) production no_production) terminal }
 {
-    let nonterminal = grammar.words[production * ProductionIndex::WORDS];
-    let operator = [0, nonterminal, 1, terminal, 0, nonterminal];
-    grammar.symbols(production) == operator.as_slice()
+    let own = Symbol::Nonterminal(NonterminalString(grammar.owner(production) as u16));
+    grammar.length(production) == 3
+        && grammar.symbol(production, 0) == own
+        && grammar.symbol(production, 1) == Symbol::Terminal(terminal)
+        && grammar.symbol(production, 2) == own
 }
 
 // Ambiguity of a shift: precedence where the production is of an operator. The terminal of the action is tested, not the token.
@@ -156,10 +90,9 @@ fn shift_ambiguity(grammar: Grammar, production: usize, terminal: u16, x: usize,
     requires { production < grammar.productions }
     ensures { (xs ys : List Example) → x < length xs → y < length ys → Judges xs ys result (ambiguity_of_shift (get_or (productions_in grammar.entry.words.now grammar.entry.productions) production no_production) terminal (pair_in xs ys x y)) }
 {
-    let at = production * ProductionIndex::WORDS;
-    let nonterminal = grammar.words[at];
     if is_operator(grammar, production, terminal) {
-        return with_both(Class::Precedence(NonterminalString(nonterminal)), x, y);
+        let nonterminal = NonterminalString(grammar.owner(production) as u16);
+        return with_both(Class::Precedence(nonterminal), x, y);
     }
     with_both(Class::Ambiguity, x, y)
 }
@@ -178,12 +111,8 @@ fn reduce_ambiguity(
     ensures { (xs ys : List Example) → x < length xs → y < length ys → first ≡ (judging.reduction_at (productions_in grammar.entry.words.now grammar.entry.productions) (nth xs x) 0).nonterminal → second ≡ (judging.reduction_at (productions_in grammar.entry.words.now grammar.entry.productions) (nth ys y) 0).nonterminal → Judges xs ys result (ambiguity_of_reduce (productions_in grammar.entry.words.now grammar.entry.productions) (get_or (productions_in grammar.entry.words.now grammar.entry.productions) production no_production) (get_or (productions_in grammar.entry.words.now grammar.entry.productions) other no_production) (pair_in xs ys x y)) }
 {
     if first == second {
-        let span = production * ProductionIndex::WORDS + 2;
-        let start = grammar.words[span];
-        let end = grammar.words[span + 1];
-        let other_span = other * ProductionIndex::WORDS + 2;
-        let other_start = grammar.words[other_span];
-        let other_end = grammar.words[other_span + 1];
+        let (start, end) = grammar.span(production);
+        let (other_start, other_end) = grammar.span(other);
         return Judged {
             class: Class::AmbiguousReduction(start, end, other_start, other_end),
             action: Some(x),
@@ -193,43 +122,16 @@ fn reduce_ambiguity(
     with_both(Class::Ambiguity, x, y)
 }
 
-// A pair that is read alike, by the action.
-fn ambiguity(case: TableConflict, actions: &Side, x: usize, reduces: &Side, y: usize) -> Judged
-    requires { (xs : List Example) × ((ys : List Example) × (Sides (meaning case.given.table.words.now) case.conflict xs ys actions.now.kept actions.now.prints reduces.now.kept reduces.now.prints × ((x < length xs) × (y < length ys)))) }
-    ensures { (xs ys : List Example) → Sides (meaning case.entry.given.table.words.now) case.entry.conflict xs ys actions.now.kept actions.now.prints reduces.now.kept reduces.now.prints → x < length xs → y < length ys → Judges xs ys result (ambiguity_of (meaning case.entry.given.table.words.now) case.entry.conflict.production.0 case.entry.conflict.action case.entry.conflict.operand (pair_in xs ys x y)) }
-{
-    let grammar = case.given.grammar;
-    let conflict = case.conflict;
-    let production = conflict.production.0 as usize;
-    if conflict.action == 0 {
-        return shift_ambiguity(grammar, production, conflict.operand, x, y);
-    }
-    let action = actions.outline(x);
-    let reduce = reduces.outline(y);
-    reduce_ambiguity(
-        grammar,
-        production,
-        conflict.operand as usize,
-        x,
-        action.first,
-        y,
-        reduce.first,
-    )
-}
-
-// The one symbol of production `one`, its kind and number, where `none` has no symbol.
-fn optional(grammar: Grammar, none: usize, one: usize) -> Option<(u16, u16)>
+// The one symbol of production `one`, where `none` has no symbol.
+fn optional(grammar: Grammar, none: usize, one: usize) -> Option<Symbol>
     requires { (none < grammar.productions) × (one < grammar.productions) }
-    ensures { (question_in result ≡ optional_one (get_or (productions_in grammar.entry.words.now grammar.entry.productions) none no_production).symbols (get_or (productions_in grammar.entry.words.now grammar.entry.productions) one no_production).symbols) × QuestionFits result }
+    ensures { question_in result ≡ optional_one (get_or (productions_in grammar.entry.words.now grammar.entry.productions) none no_production).symbols (get_or (productions_in grammar.entry.words.now grammar.entry.productions) one no_production).symbols }
 {
-    if grammar.length(none) != 0 {
-        return None;
+    if grammar.length(none) == 0 && grammar.length(one) == 1 {
+        Some(grammar.symbol(one, 0))
+    } else {
+        None
     }
-    if grammar.length(one) != 1 {
-        return None;
-    }
-    let at = one * ProductionIndex::WORDS + 4;
-    Some((grammar.words[at], grammar.words[at + 1]))
 }
 
 // `try_classify_question`: the nonterminal has two productions, one empty and one of one symbol.
@@ -237,95 +139,178 @@ fn try_classify_question(
     table: AcceptedTable,
     grammar: Grammar,
     nonterminal: usize,
-) -> Option<(u16, u16)>
+) -> Option<Symbol>
     requires { GrammarOf (meaning table.words.now) grammar.words.now grammar.productions × (nonterminal < length (meaning table.words.now).nonterminals) }
-    ensures { (question_in result ≡ question_of (meaning table.entry.words.now) nonterminal) × QuestionFits result }
+    ensures { question_in result ≡ question_of (meaning table.entry.words.now) nonterminal }
 {
-    let head = table.first_production(nonterminal);
-    if head == 0 {
-        return None;
-    }
-    let first = table.production(head);
-    let next = first.next;
-    if next == 0 {
-        return None;
-    }
-    let second = table.production(next);
-    if second.next != 0 {
-        return None;
-    }
-    let p = first.production;
-    let q = second.production;
-    match optional(grammar, p, q) {
-        None => optional(grammar, q, p),
-        symbol => symbol,
-    }
-}
-
-// `try_classify_inline`: the first pair that inlining would help, else insufficient lookahead with the first of each.
-fn try_classify_inline(case: TableConflict, actions: SortedSide, reduces: SortedSide) -> Judged
-    requires action_value { case.conflict.action ≡ 0 }
-    requires sides { (xs : List Example) × ((ys : List Example) × (Sides (meaning case.given.table.words.now) case.conflict xs ys actions.side.now.kept actions.side.now.prints reduces.side.now.kept reduces.side.now.prints × (Ordered xs actions.order.now × Ordered ys reduces.order.now))) }
-    ensures { (xs ys : List Example) → Sides (meaning case.entry.given.table.words.now) case.entry.conflict xs ys actions.entry.side.now.kept actions.entry.side.now.prints reduces.entry.side.now.kept reduces.entry.side.now.prints → Ordered xs actions.entry.order.now → Ordered ys reduces.entry.order.now → Judges xs ys result (inline_or (meaning case.entry.given.table.words.now).productions (heads_in xs ys actions.entry.order.now reduces.entry.order.now) (first_fit (judging.inlines (meaning case.entry.given.table.words.now)) (picked xs actions.entry.order.now) (picked ys reduces.entry.order.now))) }
-{
-    match first_pair(
-        case.given.sets,
-        case.given.grammar,
-        Test::Inline,
-        actions,
-        reduces,
-        (0, 0),
-    ) {
-        Some((i, j)) => {
-            let x = word(actions.order, i);
-            let y = word(reduces.order, j);
-            let reduce = reduces.side.outline(y);
-            with_both(
-                Class::SuggestInline(NonterminalString(reduce.first as u16)),
-                x,
-                y,
-            )
+    let mut productions = table.productions(nonterminal);
+    let first = productions.next();
+    let second = productions.next();
+    let third = productions.next();
+    match (first, second, third) {
+        (Some(first), Some(second), None) => {
+            let p = first.production;
+            let q = second.production;
+            match optional(grammar, p, q) {
+                None => optional(grammar, q, p),
+                symbol => symbol,
+            }
         }
-        None => with_first(Class::InsufficientLookahead, actions.order, reduces.order),
+        _ => None,
     }
 }
 
-// A shift where no pair is ambiguous: question, inline, else insufficient lookahead.
-fn shift_unambiguous(case: TableConflict, actions: SortedSide, reduces: SortedSide) -> Judged
-    requires action_value { case.conflict.action ≡ 0 }
-    requires sides { (xs : List Example) × ((ys : List Example) × (Sides (meaning case.given.table.words.now) case.conflict xs ys actions.side.now.kept actions.side.now.prints reduces.side.now.kept reduces.side.now.prints × (Ordered xs actions.order.now × Ordered ys reduces.order.now))) }
-    ensures { (xs ys : List Example) → Sides (meaning case.entry.given.table.words.now) case.entry.conflict xs ys actions.entry.side.now.kept actions.entry.side.now.prints reduces.entry.side.now.kept reduces.entry.side.now.prints → Ordered xs actions.entry.order.now → Ordered ys reduces.entry.order.now → Judges xs ys result (unambiguous (meaning case.entry.given.table.words.now) case.entry.conflict.production.0 0 (picked xs actions.entry.order.now) (picked ys reduces.entry.order.now) (heads_in xs ys actions.entry.order.now reduces.entry.order.now)) }
-{
-    let production = case.conflict.production.0 as usize;
-    let nonterminal = case.given.grammar.owner(production);
-    match try_classify_question(case.given.table, case.given.grammar, nonterminal) {
-        Some((kind, number)) => with_first(
-            Class::SuggestQuestion(NonterminalString(nonterminal as u16), kind, number),
-            actions.order,
-            reduces.order,
-        ),
-        None => try_classify_inline(case, actions, reduces),
-    }
+// A conflict of the table, and what is kept of its two sides in their order.
+// Which examples are kept is no fact of these words alone, so that each function asks for them: `Sides`, `Ordered`.
+#[derive(Clone, Copy)]
+pub struct Judging<'a> {
+    pub case: TableConflict<'a>,
+    pub actions: SortedSide<'a>,
+    pub reduces: SortedSide<'a>,
 }
 
-// Where no pair is ambiguous: by the action, question and inline being for a shift alone.
-fn unambiguous(case: TableConflict, actions: SortedSide, reduces: SortedSide) -> Judged
-    requires { (xs : List Example) × ((ys : List Example) × (Sides (meaning case.given.table.words.now) case.conflict xs ys actions.side.now.kept actions.side.now.prints reduces.side.now.kept reduces.side.now.prints × (Ordered xs actions.order.now × Ordered ys reduces.order.now))) }
-    ensures { (xs ys : List Example) → Sides (meaning case.entry.given.table.words.now) case.entry.conflict xs ys actions.entry.side.now.kept actions.entry.side.now.prints reduces.entry.side.now.kept reduces.entry.side.now.prints → Ordered xs actions.entry.order.now → Ordered ys reduces.entry.order.now → Judges xs ys result (judging.unambiguous (meaning case.entry.given.table.words.now) case.entry.conflict.production.0 case.entry.conflict.action (picked xs actions.entry.order.now) (picked ys reduces.entry.order.now) (heads_in xs ys actions.entry.order.now reduces.entry.order.now)) }
-{
-    if case.conflict.action == 0 {
-        return shift_unambiguous(case, actions, reduces);
+impl<'a> Judging<'a> {
+    // Whether examples x and y, made again, are read alike.
+    fn same_again(self, x: usize, y: usize) -> bool
+        requires { (xs : List Example) × ((ys : List Example) × (Sides (meaning self.case.given.table.words.now) self.case.conflict xs ys self.actions.side.now.kept self.actions.side.now.prints self.reduces.side.now.kept self.reduces.side.now.prints × ((x < length xs) × (y < length ys)))) }
+        ensures { (xs ys : List Example) → Sides (meaning self.entry.case.given.table.words.now) self.entry.case.conflict xs ys self.entry.actions.side.now.kept self.entry.actions.side.now.prints self.entry.reduces.side.now.kept self.entry.reduces.side.now.prints → x < length xs → y < length ys → result ≡ is_same_reading (meaning self.entry.case.given.table.words.now).productions (nth xs x) (nth ys y) }
+    {
+        let mut action = [0u16; ExampleBuffer::WORDS];
+        let mut reduce = [0u16; ExampleBuffer::WORDS];
+        let other = TableConflict {
+            given: self.case.given,
+            conflict: reduced(self.case.conflict),
+        };
+        write_example(self.case, self.actions.side, x, &mut action);
+        write_example(other, self.reduces.side, y, &mut reduce);
+        same_reading(&action, &reduce)
     }
-    with_first(Class::InsufficientLookahead, actions.order, reduces.order)
-}
 
-// The class from two sides in their order, neither of them empty: ambiguity first.
-pub fn judge(case: TableConflict, actions: SortedSide, reduces: SortedSide) -> Judged
-    requires { (xs : List Example) × ((ys : List Example) × (Sides (meaning case.given.table.words.now) case.conflict xs ys actions.side.now.kept actions.side.now.prints reduces.side.now.kept reduces.side.now.prints × (Ordered xs actions.order.now × Ordered ys reduces.order.now))) }
-    ensures { (xs ys : List Example) → Sides (meaning case.entry.given.table.words.now) case.entry.conflict xs ys actions.entry.side.now.kept actions.entry.side.now.prints reduces.entry.side.now.kept reduces.entry.side.now.prints → Ordered xs actions.entry.order.now → Ordered ys reduces.entry.order.now → Judges xs ys result (judge (meaning case.entry.given.table.words.now) case.entry.conflict (picked xs actions.entry.order.now) (picked ys reduces.entry.order.now)) }
-{
-    match try_classify_ambiguity(case, actions, reduces) {
-        Some((x, y)) => ambiguity(case, actions.side, x, reduces.side, y),
-        None => unambiguous(case, actions, reduces),
+    // `try_classify_ambiguity`: the first pair that is read alike, by the numbers of its examples. Prints are equal where two are read alike; where they are equal both are made again and compared, and if they differ the search goes on behind them.
+    fn try_classify_ambiguity(self) -> Option<(usize, usize)>
+        requires { (xs : List Example) × ((ys : List Example) × (Sides (meaning self.case.given.table.words.now) self.case.conflict xs ys self.actions.side.now.kept self.actions.side.now.prints self.reduces.side.now.kept self.reduces.side.now.prints × (Ordered xs self.actions.order.now × Ordered ys self.reduces.order.now))) }
+        ensures { (xs ys : List Example) → Sides (meaning self.entry.case.given.table.words.now) self.entry.case.conflict xs ys self.entry.actions.side.now.kept self.entry.actions.side.now.prints self.entry.reduces.side.now.kept self.entry.reduces.side.now.prints → Ordered xs self.entry.actions.order.now → Ordered ys self.entry.reduces.order.now → ReadAlike (meaning self.entry.case.given.table.words.now).productions xs ys self.entry.actions.order.now self.entry.reduces.order.now result }
+    {
+        let given = self.case.given;
+        let mut begin: (usize, usize) = (0, 0);
+        while let Some((i, j)) = first_pair(
+            given.sets,
+            given.grammar,
+            Test::Alike,
+            self.actions,
+            self.reduces,
+            begin,
+        ) {
+            let x = word(self.actions.order, i);
+            let y = word(self.reduces.order, j);
+            if self.same_again(x, y) {
+                return Some((x, y));
+            }
+            begin = (i, j + 1);
+        }
+        None
+    }
+
+    // A pair that is read alike, by the action.
+    fn ambiguity(self, x: usize, y: usize) -> Judged
+        requires { (xs : List Example) × ((ys : List Example) × (Sides (meaning self.case.given.table.words.now) self.case.conflict xs ys self.actions.side.now.kept self.actions.side.now.prints self.reduces.side.now.kept self.reduces.side.now.prints × ((x < length xs) × (y < length ys)))) }
+        ensures { (xs ys : List Example) → Sides (meaning self.entry.case.given.table.words.now) self.entry.case.conflict xs ys self.entry.actions.side.now.kept self.entry.actions.side.now.prints self.entry.reduces.side.now.kept self.entry.reduces.side.now.prints → x < length xs → y < length ys → Judges xs ys result (ambiguity_of (meaning self.entry.case.given.table.words.now) self.entry.case.conflict.production.0 self.entry.case.conflict.action self.entry.case.conflict.operand (pair_in xs ys x y)) }
+    {
+        let grammar = self.case.given.grammar;
+        let conflict = self.case.conflict;
+        let production = conflict.production.0 as usize;
+        if conflict.action == 0 {
+            return shift_ambiguity(grammar, production, conflict.operand, x, y);
+        }
+        let action = self.actions.side.outline(x);
+        let reduce = self.reduces.side.outline(y);
+        reduce_ambiguity(
+            grammar,
+            production,
+            conflict.operand as usize,
+            x,
+            action.first,
+            y,
+            reduce.first,
+        )
+    }
+
+    // A class that shows the first of each order.
+    fn with_heads(self, class: Class) -> Judged
+        requires { (0 < length self.actions.order.now) × (0 < length self.reduces.order.now) }
+        ensures { result ≡ both class (get_or self.entry.actions.order.now 0 0) (get_or self.entry.reduces.order.now 0 0) }
+    {
+        let x = word(self.actions.order, 0);
+        let y = word(self.reduces.order, 0);
+        with_both(class, x, y)
+    }
+
+    // `try_classify_inline`: the first pair that inlining would help, else insufficient lookahead with the first of each.
+    fn try_classify_inline(self) -> Judged
+        requires action_value { self.case.conflict.action ≡ 0 }
+        requires sides { (xs : List Example) × ((ys : List Example) × (Sides (meaning self.case.given.table.words.now) self.case.conflict xs ys self.actions.side.now.kept self.actions.side.now.prints self.reduces.side.now.kept self.reduces.side.now.prints × (Ordered xs self.actions.order.now × Ordered ys self.reduces.order.now))) }
+        ensures { (xs ys : List Example) → Sides (meaning self.entry.case.given.table.words.now) self.entry.case.conflict xs ys self.entry.actions.side.now.kept self.entry.actions.side.now.prints self.entry.reduces.side.now.kept self.entry.reduces.side.now.prints → Ordered xs self.entry.actions.order.now → Ordered ys self.entry.reduces.order.now → Judges xs ys result (inline_or (meaning self.entry.case.given.table.words.now).productions (heads_in xs ys self.entry.actions.order.now self.entry.reduces.order.now) (first_fit (judging.inlines (meaning self.entry.case.given.table.words.now)) (picked xs self.entry.actions.order.now) (picked ys self.entry.reduces.order.now))) }
+    {
+        let given = self.case.given;
+        match first_pair(
+            given.sets,
+            given.grammar,
+            Test::Inline,
+            self.actions,
+            self.reduces,
+            (0, 0),
+        ) {
+            Some((i, j)) => {
+                let x = word(self.actions.order, i);
+                let y = word(self.reduces.order, j);
+                let reduce = self.reduces.side.outline(y);
+                with_both(
+                    Class::SuggestInline(NonterminalString(reduce.first as u16)),
+                    x,
+                    y,
+                )
+            }
+            None => self.with_heads(Class::InsufficientLookahead),
+        }
+    }
+
+    // A shift where no pair is ambiguous: question, inline, else insufficient lookahead.
+    fn shift_unambiguous(self) -> Judged
+        requires action_value { self.case.conflict.action ≡ 0 }
+        requires sides { (xs : List Example) × ((ys : List Example) × (Sides (meaning self.case.given.table.words.now) self.case.conflict xs ys self.actions.side.now.kept self.actions.side.now.prints self.reduces.side.now.kept self.reduces.side.now.prints × (Ordered xs self.actions.order.now × Ordered ys self.reduces.order.now))) }
+        ensures { (xs ys : List Example) → Sides (meaning self.entry.case.given.table.words.now) self.entry.case.conflict xs ys self.entry.actions.side.now.kept self.entry.actions.side.now.prints self.entry.reduces.side.now.kept self.entry.reduces.side.now.prints → Ordered xs self.entry.actions.order.now → Ordered ys self.entry.reduces.order.now → Judges xs ys result (unambiguous (meaning self.entry.case.given.table.words.now) self.entry.case.conflict.production.0 0 (picked xs self.entry.actions.order.now) (picked ys self.entry.reduces.order.now) (heads_in xs ys self.entry.actions.order.now self.entry.reduces.order.now)) }
+    {
+        let given = self.case.given;
+        let nonterminal = given.grammar.owner(self.case.conflict.production.0 as usize);
+        match try_classify_question(given.table, given.grammar, nonterminal) {
+            Some(symbol) => {
+                let (kind, number) = symbol.words();
+                let own = NonterminalString(nonterminal as u16);
+                self.with_heads(Class::SuggestQuestion(own, kind, number))
+            }
+            None => self.try_classify_inline(),
+        }
+    }
+
+    // Where no pair is ambiguous: by the action, question and inline being for a shift alone.
+    fn unambiguous(self) -> Judged
+        requires { (xs : List Example) × ((ys : List Example) × (Sides (meaning self.case.given.table.words.now) self.case.conflict xs ys self.actions.side.now.kept self.actions.side.now.prints self.reduces.side.now.kept self.reduces.side.now.prints × (Ordered xs self.actions.order.now × Ordered ys self.reduces.order.now))) }
+        ensures { (xs ys : List Example) → Sides (meaning self.entry.case.given.table.words.now) self.entry.case.conflict xs ys self.entry.actions.side.now.kept self.entry.actions.side.now.prints self.entry.reduces.side.now.kept self.entry.reduces.side.now.prints → Ordered xs self.entry.actions.order.now → Ordered ys self.entry.reduces.order.now → Judges xs ys result (judging.unambiguous (meaning self.entry.case.given.table.words.now) self.entry.case.conflict.production.0 self.entry.case.conflict.action (picked xs self.entry.actions.order.now) (picked ys self.entry.reduces.order.now) (heads_in xs ys self.entry.actions.order.now self.entry.reduces.order.now)) }
+    {
+        if self.case.conflict.action == 0 {
+            return self.shift_unambiguous();
+        }
+        self.with_heads(Class::InsufficientLookahead)
+    }
+
+    // The class from two sides in their order, neither of them empty: ambiguity first.
+    pub fn judge(self) -> Judged
+        requires { (xs : List Example) × ((ys : List Example) × (Sides (meaning self.case.given.table.words.now) self.case.conflict xs ys self.actions.side.now.kept self.actions.side.now.prints self.reduces.side.now.kept self.reduces.side.now.prints × (Ordered xs self.actions.order.now × Ordered ys self.reduces.order.now))) }
+        ensures { (xs ys : List Example) → Sides (meaning self.entry.case.given.table.words.now) self.entry.case.conflict xs ys self.entry.actions.side.now.kept self.entry.actions.side.now.prints self.entry.reduces.side.now.kept self.entry.reduces.side.now.prints → Ordered xs self.entry.actions.order.now → Ordered ys self.entry.reduces.order.now → Judges xs ys result (judge (meaning self.entry.case.given.table.words.now) self.entry.case.conflict (picked xs self.entry.actions.order.now) (picked ys self.entry.reduces.order.now)) }
+    {
+        match self.try_classify_ambiguity() {
+            Some((x, y)) => self.ambiguity(x, y),
+            None => self.unambiguous(),
+        }
     }
 }

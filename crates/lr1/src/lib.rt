@@ -28,7 +28,7 @@ use repr::{ProductionIndex, Refusal, joined_fits, list_fits};
 use state_graph::{StateIndex, StateSet};
 use table::AcceptedTable;
 use trace_graph::{TraceEdge, TraceGraph, TraceGraphNode, check_graph, edge_fits, insert};
-use tracer::Action;
+use tracer::{Action, TracedItem};
 use yacc_read::Reading;
 
 // Whether a table is accepted; else the refusal, 1 to 8, and its place.
@@ -237,7 +237,12 @@ fn backtrace(
     ensures { outcome (reply_of result) graph.new scratch.new ≡ trace_by (edges_by action) table.now state.0 (record { production = item.production; index = item.index }) graph.old scratch.old (check_of table.now) }
 {
     let accepted = table_check::check(table)?;
-    tracer::trace_in(accepted, action, state.0 as usize, item, graph, scratch)
+    let traced = TracedItem {
+        state: state.0 as usize,
+        item,
+        action,
+    };
+    tracer::trace_in(accepted, traced, graph, scratch)
 }
 
 // The trace of a shift, back from an item in a state (part 5 of document 01): its edges at the front of the graph, whose old words are not looked at. The answer is their number.

@@ -1,21 +1,20 @@
 -- Laws of the inline test on two items (specs/Inline), one for each way through the code. Assumes nothing.
-use Rattle.std.proofs.Common.{◌++◌, ◌&&◌, eqb-true, nat_eq, ◌≡◌, ℕ, zero, suc, ◌+◌, ◌*◌, ◌/◌, ◌%◌, ◌<◌, ◌≤◌, Bool, true, false, eqb, List, [], ◌∷◌, length, get_or, drop, sym, refl, ap, ◌∙◌, subst, arith, le-ltb, lt-ltb}
+use Rattle.std.proofs.Common.{◌++◌, ◌&&◌, eqb-true, nat_eq, ◌≡◌, ℕ, zero, suc, ◌+◌, ◌*◌, ◌<◌, ◌≤◌, Bool, true, false, eqb, List, [], ◌∷◌, length, get_or, drop, sym, refl, ap, ◌∙◌, arith, ltb, leb, ltb-true, leb-true}
 use borrow.Author.Tests.{eqb-false}
 use lib.Pointwise.{pointwise}
-use Rattle.repr.specs.Sizes.{index_limit, item_limit, nonterminal_limit, terminal_limit}
-use Rattle.repr.specs.Meaning.{Symbol, is_same_symbol, Production, no_production, All}
+use Rattle.repr.specs.Sizes.{nonterminal_limit, terminal_limit}
+use Rattle.repr.specs.Meaning.{Symbol, is_same_symbol, no_production}
 use Rattle.repr.specs.Listed.{symbol_of_kind, listed, symbol_is_fit, list_is_fit}
-use Rattle.repr.specs.Packed.{Packed, productions_in, symbol_words}
-use Rattle.repr.proofs.Lists.{cases}
+use Rattle.repr.specs.Packed.{Packed, production_in, productions_in, symbol_words}
+use Rattle.repr.proofs.Lists.{cases, length-map-below}
 use Rattle.repr.proofs.Listed.{and_left, and_right, symbol_range}
 use Rattle.lr1_core.specs.Items.{symbol_sets}
-use Rattle.example.specs.Example.{Label, sets_of}
-use Rattle.example.specs.Labels.{labels_in, LabelsFit}
-use Rattle.example.specs.Written.{label_at, Part}
-use Rattle.example.proofs.LabelList.{item-production, item_index}
-use Rattle.example.proofs.Parts.{part_listed, suffix_is}
+use Rattle.lr1_core.specs.declared.Item.{Item as ItemOf}
+use Rattle.trace_graph.specs.Fits.{item_is_fit}
+use Rattle.repr.proofs.Parts.{fits-drop}
+use Rattle.example.proofs.LabelList.{production-symbols}
 use Rattle.first.specs.First.{first0, disjoint}
-use Rattle.outline.specs.Inline.{symbols_at, suffix_at, apart, diverge_by, codes_inline, CodeFits}
+use Rattle.outline.specs.Inline.{apart, diverge_by, suffix_of}
 
 -- `same_symbol`
 
@@ -107,62 +106,33 @@ module _ (e : ℕ) (sets : List ℕ) where
       go [] = refl
       go (x ∷ xs) = refl
 
--- an item from its number, as a label that is alone: the symbols after its cursor
+-- an item of the productions: the symbols after its cursor
 
-module _ (g : List ℕ) (n : ℕ) (P : Packed g n) (code : ℕ) (F : CodeFits (productions_in g n) code) (p i : ℕ) (ep : p ≡ code / index_limit) (ei : i ≡ code % index_limit) where
-  abbrev alone : List ℕ
-  alone = 0 ∷ p ∷ i ∷ []
+module _ (g : List ℕ) (n : ℕ) (P : Packed g n) (p i : ℕ) (I : item_is_fit (productions_in g n) p i ≡ true) where
+  many : length (productions_in g n) ≡ n
+  unfolding productions_in
+  many = length-map-below (production_in g) n
 
-  own_symbols : symbols_at (productions_in g n) code ≡ (get_or (productions_in g n) p no_production).symbols
-  unfolding symbols_at
-  own_symbols = ap (λ (k : ℕ). (get_or (productions_in g n) k no_production).symbols) (sym ep)
+  pub item-inside : p < n
+  unfolding item_is_fit
+  item-inside =
+      let a = ltb-true p (length (productions_in g n)) (and_left (ltb p (length (productions_in g n))) (leb i (length (get_or (productions_in g n) p no_production).symbols)) I) in
+      let b = many in
+      omega arith
 
-  fits : LabelsFit (productions_in g n) alone
-  unfolding labels_in All
-  fits =
-      let a = F.production in
-      let b = F.index in
-      let c = ap length own_symbols in
-      record { some_label = omega arith; few = omega arith; whole = refl; each = (record { nonterminal = omega arith; production = omega arith; index = omega arith }, tt) }
+  own_symbols : (get_or (productions_in g n) p no_production).symbols ≡ listed (symbol_words g p)
+  own_symbols = production-symbols g n p item-inside
 
-  at_first : (0 < length (labels_in alone)) × (label_at alone 0 ≡ record { nonterminal = 0; production = p; index = i })
-  unfolding labels_in label_at
-  at_first = (omega arith, refl)
-
-  production_is : p ≡ (label_at alone 0).production
-  production_is = rw at_first.1
-
-  index_is : i ≡ (label_at alone 0).index
-  index_is = rw at_first.1
-
-  pub code-production : p < n
-  code-production = item-production g n alone fits 0 at_first.0 p i production_is index_is
-
-  pub code_index : i ≤ length (listed (symbol_words g p))
-  code_index = item_index g n alone fits 0 at_first.0 p i production_is index_is
-
-  suffix_part : (r : List ℕ) → r ≡ drop (2 * i + 2) (symbol_words g p) → listed r ≡ (symbol_sets (listed (symbol_words g p)) i).suffix → Part r (suffix_at (productions_in g n) code)
-  unfolding suffix_at sets_of
-  suffix_part r e l =
-      let same : (sets_of (productions_in g n) (label_at alone 0)).suffix ≡ suffix_at (productions_in g n) code =
-      ap (λ (m : Label). (sets_of (productions_in g n) m).suffix) at_first.1
-      ∙ sym (ap (λ (xs : List Symbol). (symbol_sets xs (code % index_limit)).suffix) own_symbols ∙ ap (λ (k : ℕ). (symbol_sets (get_or (productions_in g n) p no_production).symbols k).suffix) (sym ei)) in
-      subst (λ (xs : List Symbol). Part r xs) same (suffix_is g n P alone fits 0 at_first.0 p i production_is index_is r e l)
+  pub item_index : i ≤ length (listed (symbol_words g p))
+  unfolding item_is_fit
+  item_index =
+      let a = leb-true i (length (get_or (productions_in g n) p no_production).symbols) (and_right (ltb p (length (productions_in g n))) (leb i (length (get_or (productions_in g n) p no_production).symbols)) I) in
+      rw own_symbols at a
 
   module _ (r : List ℕ) (e : (r ≡ drop (2 * i + 2) (symbol_words g p)) × (listed r ≡ (symbol_sets (listed (symbol_words g p)) i).suffix)) where
-    pub code-suffix : listed r ≡ suffix_at (productions_in g n) code
-    code-suffix = part_listed r (suffix_at (productions_in g n) code) (suffix_part r e.0 e.1)
+    pub item-suffix : (item : ItemOf) → item.production ≡ p → item.index ≡ i → listed r ≡ suffix_of (productions_in g n) item
+    unfolding suffix_of symbol_sets
+    item-suffix item ep ei = e.1 ∙ rw (ep, ei, own_symbols)
 
     pub suffix-fits : list_is_fit nonterminal_limit terminal_limit r ≡ true
-    suffix-fits = (suffix_part r e.0 e.1).fits
-
--- `inlines`
-
-module _ (e : ℕ) (sets : List ℕ) (ps : List Production) (label other : ℕ) where
-  pub inline_none : item_limit ≤ other → false ≡ codes_inline e sets ps label other
-  unfolding codes_inline
-  inline_none h = rw (le-ltb other item_limit h)
-
-  pub inline_some : other < item_limit → (xs ys : List Symbol) → xs ≡ suffix_at ps label → ys ≡ suffix_at ps other → (r : Bool) → r ≡ diverge_by e sets xs ys → r ≡ codes_inline e sets ps label other
-  unfolding codes_inline
-  inline_some h xs ys ex ey r er = er ∙ rw (lt-ltb other item_limit h, ex, ey)
+    suffix-fits = let z : 2 * i + 2 ≡ 2 * suc i = omega arith in rw (e.0, z) (fits-drop nonterminal_limit terminal_limit (suc i) (symbol_words g p) (P.fits p item-inside))

@@ -1,6 +1,6 @@
 -- Laws of what is kept of an example in words (`label_of`, `outline_from` of specs/Outline), one for each way through the code. Assumes nothing.
-use Rattle.std.proofs.Common.{◌≡◌, ℕ, suc, ◌+◌, ◌-◌, ◌*◌, ◌<◌, ◌≤◌, Bool, true, false, eqb, List, [], ◌∷◌, length, get_or, drop, sym, refl, ap, ◌∙◌, arith, length-drop, eq-eqb, ne_eqb}
-use Rattle.repr.specs.Sizes.{index_limit, item_limit, label_room}
+use Rattle.std.proofs.Common.{◌≡◌, ℕ, suc, ◌+◌, ◌-◌, ◌*◌, ◌<◌, ◌≤◌, Bool, true, false, eqb, List, [], ◌∷◌, length, drop, sym, refl, ap, ◌∙◌, arith, length-drop, eq-eqb, ne_eqb}
+use Rattle.repr.specs.Sizes.{production_limit, index_limit, item_limit}
 use Rattle.repr.specs.Meaning.{Production}
 use Rattle.repr.specs.Listed.{listed}
 use Rattle.repr.specs.Packed.{Packed, productions_in, production_in, symbol_words}
@@ -10,12 +10,12 @@ use Rattle.lr1_core.specs.Items.{symbol_sets}
 use Rattle.example.specs.Example.{Label, sets_of, symbols}
 use Rattle.example.specs.Labels.{labels_in, LabelFits, LabelsFit}
 use Rattle.example.specs.Written.{no_label, label_at}
-use Rattle.example.proofs.LabelList.{label_count, label_nonterminal, label_production, label_index, labels_step, some_label, few_labels, short_in, production-symbols}
+use Rattle.example.proofs.LabelList.{labels_step, some_label, few_labels, short_in, production-symbols, item_small}
 use Rattle.example.proofs.Sizes.{at_most_528}
 use Rattle.error.specs.Judge.{symbol_count, reduction_at}
 use Rattle.outline.specs.Outline.{print_of, item_code, next_item, label_of, outline_from, OutlineFits}
 use Rattle.outline.proofs.Prints.{print_small}
-use Rattle.outline.proofs.Upcoming.{first_reduction, code_small, next_cycle, next-no_more, next_item_lem}
+use Rattle.outline.proofs.Upcoming.{first_reduction, next_cycle, next-no_more, next_item_lem}
 
 -- two labels and more
 module _ (ws : List ℕ) where
@@ -34,25 +34,24 @@ module _ (g : List ℕ) (n : ℕ) (P : Packed g n) (ws : List ℕ) (F : LabelsFi
   unfolding productions_in
   count = length-map-below (production_in g) n
 
-  pub code_is : (j : ℕ) → j < length (labels_in ws) → (p i : ℕ) → p ≡ (label_at ws j).production → i ≡ (label_at ws j).index → (p * index_limit + i ≡ item_code (label_at ws j)) × (p * index_limit + i ≤ item_limit)
+  code_is : (j : ℕ) → j < length (labels_in ws) → (p i : ℕ) → p ≡ (label_at ws j).production → i ≡ (label_at ws j).index → p * index_limit + i ≡ item_code (label_at ws j)
   unfolding item_code
-  code_is j h p i ep ei =
-      let s = code_small ps (short_in g n P) (label_at ws j) (fit j h) (let c = count in let f = P.few in omega arith) in
-      let e : p * index_limit + i ≡ item_code (label_at ws j) = rw (ep, ei) in
-      (e, omega arith)
+  code_is j h p i ep ei = rw (ep, ei)
 
-  -- `kept_label`
+  pub kept_small : (j : ℕ) → j < length (labels_in ws) → (p i : ℕ) → p ≡ (label_at ws j).production → i ≡ (label_at ws j).index → (p < production_limit) × (i < index_limit)
+  kept_small j h p i ep ei = let s = item_small g n ws F j h p i ep ei P in (omega (arith, s.0), omega (arith, s.1))
 
-  pub label_shift : (s : Bool) → s ≡ true → (p i : ℕ) → p ≡ (label_at ws 0).production → i ≡ (label_at ws 0).index → (p * index_limit + i ≡ label_of ps s (labels_in ws)) × (p * index_limit + i ≤ item_limit)
+  -- `kept_item`
+
+  pub label_shift : (s : Bool) → s ≡ true → (p i : ℕ) → p ≡ (label_at ws 0).production → i ≡ (label_at ws 0).index → p * index_limit + i ≡ label_of ps s (labels_in ws)
   unfolding label_of
   label_shift s e p i ep ei =
       let h = some_label ws F in
-      let q = code_is 0 h p i ep ei in
-      (rw (e, labels_step ws 0 h) q.0, q.1)
+      rw (e, labels_step ws 0 h) (code_is 0 h p i ep ei)
 
-  pub label_one : (s : Bool) → s ≡ false → length (labels_in ws) < 2 → (item_limit ≡ label_of ps s (labels_in ws)) × (item_limit ≤ item_limit)
+  pub label_one : (s : Bool) → s ≡ false → length (labels_in ws) < 2 → item_limit ≡ label_of ps s (labels_in ws)
   unfolding label_of
-  label_one s e h = (rw e (go (labels_in ws) (omega arith)), omega arith)
+  label_one s e h = rw e (go (labels_in ws) (omega arith))
     where
       go : (ls : List Label) → length ls ≤ 1 → item_limit ≡ label_of ps false ls
       go [] l = refl
@@ -65,8 +64,8 @@ module _ (g : List ℕ) (n : ℕ) (P : Packed g n) (ws : List ℕ) (F : LabelsFi
     next_is = rw (e, labels_two ws two)
 
     module _ (x y : ℕ) (owner : x ≡ (label_at ws 1).nonterminal) (first_owner : y ≡ (label_at ws 0).nonterminal) where
-      pub label_cycle : x ≡ y → (item_limit ≡ label_of ps s (labels_in ws)) × (item_limit ≤ item_limit)
-      label_cycle q = (sym (next_is ∙ next_cycle ps (label_at ws 0) (label_at ws 1) (eq-eqb _ _ (sym owner ∙ q ∙ first_owner))), omega arith)
+      pub label_cycle : x ≡ y → item_limit ≡ label_of ps s (labels_in ws)
+      label_cycle q = sym (next_is ∙ next_cycle ps (label_at ws 0) (label_at ws 1) (eq-eqb _ _ (sym owner ∙ q ∙ first_owner)))
 
       module _ (ne : x ≡ y → ⊥) (p i : ℕ) (ep : p ≡ (label_at ws 1).production) (ei : i ≡ (label_at ws 1).index) where
         pub next-inside : p < n
@@ -76,17 +75,16 @@ module _ (g : List ℕ) (n : ℕ) (P : Packed g n) (ws : List ℕ) (F : LabelsFi
         unfolding sets_of symbol_sets
         suffix-length m em = rw (← ep, ← ei, production-symbols g n p next-inside, em) (length-drop (suc i) (listed (symbol_words g p)))
 
-        pub label_no_more : (m : ℕ) → m ≡ length (listed (symbol_words g p)) → m ≤ i + 1 → (item_limit ≡ label_of ps s (labels_in ws)) × (item_limit ≤ item_limit)
+        pub label_no_more : (m : ℕ) → m ≡ length (listed (symbol_words g p)) → m ≤ i + 1 → item_limit ≡ label_of ps s (labels_in ws)
         label_no_more m em le =
             let z : length (sets_of ps (label_at ws 1)).suffix ≡ 0 = let q = suffix-length m em in omega arith in
-            (sym (next_is ∙ next-no_more ps (label_at ws 0) (label_at ws 1) (eq-eqb _ _ z)), omega arith)
+            sym (next_is ∙ next-no_more ps (label_at ws 0) (label_at ws 1) (eq-eqb _ _ z))
 
-        pub label_more : (m : ℕ) → m ≡ length (listed (symbol_words g p)) → i + 1 < m → (p * index_limit + i ≡ label_of ps s (labels_in ws)) × (p * index_limit + i ≤ item_limit)
+        pub label_more : (m : ℕ) → m ≡ length (listed (symbol_words g p)) → i + 1 < m → p * index_limit + i ≡ label_of ps s (labels_in ws)
         label_more m em lt =
             let l = length (sets_of ps (label_at ws 1)).suffix in
             let z : eqb l 0 ≡ false = let q = suffix-length m em in ne_eqb l 0 (λ w. omega arith) in
-            let q = code_is 1 two p i ep ei in
-            (q.0 ∙ sym (next_is ∙ next_item_lem ps (label_at ws 0) (label_at ws 1) (ne_eqb _ _ (λ w. ne (owner ∙ w ∙ sym first_owner))) z), q.1)
+            code_is 1 two p i ep ei ∙ sym (next_is ∙ next_item_lem ps (label_at ws 0) (label_at ws 1) (ne_eqb _ _ (λ w. ne (owner ∙ w ∙ sym first_owner))) z)
 
   -- the outline of what was read
 

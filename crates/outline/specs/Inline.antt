@@ -1,8 +1,9 @@
 -- The inline test (`try_classify_inline_example`, part 8 of document 01) on what is kept of two examples: on the suffixes of two items. Assumes nothing: these are definitions.
-use Rattle.std.specs.Prelude.{ℕ, ◌/◌, ◌%◌, ◌<◌, ◌≤◌, Bool, true, false, ◌&&◌, List, [], ◌∷◌, length, nat_lt, slice_index_or}
+use Rattle.std.specs.Prelude.{ℕ, ◌/◌, ◌%◌, ◌<◌, ◌≤◌, Bool, true, false, ◌&&◌, List, [], ◌∷◌, length, nat_lt, slice_index_or, Option as OptionOf, Some, None}
 use Rattle.repr.specs.Sizes.{index_limit, item_limit}
 use Rattle.repr.specs.Meaning.{Symbol, is_same_symbol, Production, no_production, Table}
 use Rattle.lr1_core.specs.Items.{symbol_sets}
+use Rattle.lr1_core.specs.declared.Item.{Item as ItemOf}
 use Rattle.first.specs.First.{first0, disjoint, sets_of_first}
 use Rattle.error.specs.Judge.{Example}
 use Rattle.outline.specs.declared.Outline.{Outline}
@@ -27,6 +28,14 @@ diverge_by e sets (x ∷ xs) (y ∷ ys) = elim (is_same_symbol x y) [ true ↦ d
 -- the other is an item, and the two suffixes diverge
 unfoldable pub codes_inline : ℕ → List ℕ → List Production → ℕ → ℕ → Bool
 codes_inline e sets ps label other = nat_lt other item_limit && diverge_by e sets (suffix_at ps label) (suffix_at ps other)
+
+-- the same on items: of an item the symbols after its cursor
+unfoldable pub suffix_of : List Production → ItemOf → List Symbol
+suffix_of ps i = (symbol_sets (slice_index_or ps i.production no_production).symbols i.index).suffix
+
+unfoldable pub items_inline : ℕ → List ℕ → List Production → ItemOf → OptionOf ItemOf → Bool
+items_inline e sets ps own None = false
+items_inline e sets ps own (Some other) = diverge_by e sets (suffix_of ps own) (suffix_of ps other)
 
 unfoldable pub inlines_by : Table → Outline → Outline → Bool
 inlines_by T a r = codes_inline T.terminals (sets_of_first T.terminals T.productions) T.productions a.label r.label

@@ -1,10 +1,11 @@
 -- What is kept of an example while a conflict is judged (request 06 of document 02): its number of places, a print of its reading, the nonterminal of its first
 -- reduction, and one label. Assumes nothing: these are definitions.
-use Rattle.std.specs.Prelude.{ℕ, ◌+◌, ◌*◌, ◌%◌, ◌^◌, ◌<◌, ◌≤◌, Bool, true, false, ◌||◌, List, [], ◌∷◌, length, ◌==◌}
+use Rattle.std.specs.Prelude.{ℕ, ◌+◌, ◌*◌, ◌%◌, ◌^◌, ◌<◌, ◌≤◌, Bool, true, false, ◌||◌, List, [], ◌∷◌, length, ◌==◌, Option as OptionOf, Some, None}
 use Rattle.repr.specs.Sizes.{nonterminal_limit, index_limit, item_limit, example_symbols}
 use Rattle.repr.specs.Meaning.{nonterminal, terminal, Production}
 use Rattle.example.specs.Example.{Label, sets_of, ExampleSymbol, symbol, epsilon, symbols}
 use Rattle.error.specs.Judge.{Example, symbol_count, cursor_at, reduction_at}
+use Rattle.lr1_core.specs.declared.Item.{Item as ItemOf}
 use Rattle.outline.specs.declared.Outline.{Outline}
 
 -- a print is below 2 ^ 48, and a print times the base below 2 ^ 63
@@ -43,6 +44,11 @@ print_words h (k ∷ n ∷ ws) = print_words (mix h (symbol_code k n)) ws
 -- an item in one number; `item_limit` is none
 unfoldable pub item_code : Label → ℕ
 item_code l = l.production * index_limit + l.index
+
+-- the code's item in one number, or none
+abbrev pub label_word : OptionOf ItemOf → ℕ
+label_word None = item_limit
+label_word (Some i) = i.production * index_limit + i.index
 
 -- where the second reduction is the first to shift more, and its nonterminal is another: its item
 unfoldable pub next_item : List Production → Label → Label → ℕ

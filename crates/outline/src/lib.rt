@@ -2,8 +2,8 @@
 
 #![tactic(auto)]
 
-ghost use Rattle.std.specs.Prelude.{◌≡◌, ◌+◌, ◌*◌, ◌/◌, ◌%◌, ◌<◌, ◌≤◌, true, length, slice_index, slice_set};
-ghost use Rattle.repr.specs.Sizes.{nonterminal_limit, terminal_limit, index_limit, item_limit, labels_room, example_limit, example_room};
+ghost use Rattle.std.specs.Prelude.{◌≡◌, ◌+◌, ◌*◌, ◌/◌, ◌%◌, ◌<◌, ◌≤◌, true, IfSome, MatchOption, length, slice_index, slice_set};
+ghost use Rattle.repr.specs.Sizes.{nonterminal_limit, terminal_limit, production_limit, index_limit, item_limit, labels_room, example_limit, example_room};
 ghost use Rattle.repr.specs.Lists.{joined};
 ghost use Rattle.repr.specs.Meaning.{is_same_symbol};
 ghost use Rattle.repr.specs.Listed.{symbol_of_kind, listed, symbol_is_fit, list_is_fit};
@@ -13,17 +13,18 @@ ghost use Rattle.example.specs.Example.{prefixes, suffixes, middle, symbol_words
 ghost use Rattle.example.specs.Labels.{labels_in};
 ghost use Rattle.example.specs.Written.{words_of};
 ghost use Rattle.error.specs.Judge.{Example as ExampleOf};
-ghost use Rattle.outline.specs.Outline.{print_limit, mix, symbol_code, print_of, print_words, label_of, outline_from, OutlineFits};
+ghost use Rattle.outline.specs.Outline.{print_limit, mix, symbol_code, print_of, print_words, label_word, label_of, outline_from, OutlineFits};
 ghost use Rattle.outline.specs.Kept.{outlines_room, labelled_limit, kept_room, KeptLabels, LabelsPut, Room, outline_in, turn_in, kept_with};
-ghost use Rattle.outline.specs.Inline.{apart, diverge_by, CodeFits, codes_inline};
+ghost use Rattle.outline.specs.Inline.{apart, diverge_by, items_inline};
+ghost use Rattle.trace_graph.specs.Fits.{item_is_fit};
 
 use error::Conflict;
 use example::{Example, Labels};
 use first::FirstSets;
 use lr1_core::{Item, suffix};
-use repr::{Grammar, NonterminalString, ProductionIndex, word};
+use repr::{Grammar, NonterminalString, word};
 
-// Places, a print of cursor and symbols, the nonterminal of the first reduction, the label that the inline test reads.
+// Places, a print of cursor and symbols, the nonterminal of the first reduction, the item that the inline test reads as one word (`item`).
 #[derive(Clone, Copy)]
 pub struct Outline {
     pub places: usize,
@@ -50,6 +51,13 @@ impl Outline {
     pub const PRINTS: u64 = 0x1_0000_0000_0000;
 
     const BASE: u64 = 25173;
+
+    // The item that the inline test reads, if there is one.
+    pub fn item(self) -> Option<Item>
+        ensures { MatchOption result (item_limit ≤ self.label) (λ item. (self.label < item_limit) × ((item.production ≡ self.label / index_limit) × (item.index ≡ self.label % index_limit))) }
+    {
+        (self.label < Item::LIMIT).then_some(Item::at(self.label))
+    }
 }
 
 // A print with a symbol more.
@@ -123,25 +131,33 @@ fn print(labels: Labels) -> u64
     print_suffixes(passed, labels)
 }
 
-// The label that the inline test reads: of an example of a shift its first item; of a reduce the second reduction's, where that shifts more and its nonterminal is another.
-fn kept_label(labels: Labels, shift: bool) -> usize
-    ensures { (result ≡ label_of (productions_in labels.entry.grammar.words.now labels.entry.grammar.productions) shift (labels_in labels.entry.words.now)) × (result ≤ item_limit) }
+// The item that the inline test reads, if there is one: of an example of a shift its first item; of a reduce the second reduction's, where that shifts more and its nonterminal is another.
+fn kept_item(labels: Labels, shift: bool) -> Option<Item>
+    ensures is { label_word result ≡ label_of (productions_in labels.entry.grammar.words.now labels.entry.grammar.productions) shift (labels_in labels.entry.words.now) }
+    ensures small { IfSome result (λ item. (item.production < production_limit) × (item.index < index_limit)) }
 {
     if shift {
-        let first = labels.item(0);
-        return first.production * ProductionIndex::INDEXES + first.index;
+        return Some(labels.item(0));
     }
-    if labels.count() < 2 {
-        return Item::LIMIT;
-    }
-    if labels.nonterminal(1) == labels.nonterminal(0) {
-        return Item::LIMIT;
+    if labels.count() < 2 || labels.nonterminal(1) == labels.nonterminal(0) {
+        return None;
     }
     let next = labels.item(1);
     if next.length(labels.grammar) <= next.index + 1 {
-        return Item::LIMIT;
+        return None;
     }
-    next.production * ProductionIndex::INDEXES + next.index
+    Some(next)
+}
+
+// The word of an item or of none, by which outlines keep it and are compared.
+fn word_of(item: Option<Item>) -> usize
+    requires { IfSome item (λ some. (some.production < production_limit) × (some.index < index_limit)) }
+    ensures { (result ≡ label_word item) × (result ≤ item_limit) }
+{
+    match item {
+        Some(item) => item.place(),
+        None => Item::LIMIT,
+    }
 }
 
 // What is kept of the example of the labels.
@@ -152,7 +168,7 @@ pub fn outline_of(labels: Labels, shift: bool) -> Outline
         places: labels.symbol_count(),
         print: print(labels),
         first: labels.nonterminal(0),
-        label: kept_label(labels, shift),
+        label: word_of(kept_item(labels, shift)),
     }
 }
 
@@ -240,16 +256,6 @@ impl Side {
     }
 }
 
-// An item from its number.
-fn item_at(code: usize) -> Item
-    ensures { (result.production ≡ code / index_limit) × (result.index ≡ code % index_limit) }
-{
-    Item {
-        production: code / ProductionIndex::INDEXES,
-        index: code % ProductionIndex::INDEXES,
-    }
-}
-
 // Whether at the first difference of two lists the FIRST sets are disjoint. An exhausted list is a no.
 fn diverge(sets: &FirstSets, first: &[u16], second: &[u16]) -> bool
     requires first_value { list_is_fit nonterminal_limit terminal_limit first.now ≡ true }
@@ -264,16 +270,14 @@ fn diverge(sets: &FirstSets, first: &[u16], second: &[u16]) -> bool
     false
 }
 
-// The inline test on a shift item and what is kept of a reduce's second label.
-pub fn inlines(sets: &FirstSets, grammar: Grammar, label: usize, other: usize) -> bool
-    requires code_fits { CodeFits (productions_in grammar.words.now grammar.productions) label }
-    requires code_fits_2 { other < item_limit → CodeFits (productions_in grammar.words.now grammar.productions) other }
-    ensures { result ≡ codes_inline sets.now.terminals sets.now.map (productions_in grammar.entry.words.now grammar.entry.productions) label other }
+// The inline test on a shift item and the item that is kept of a reduce.
+pub fn inlines(sets: &FirstSets, grammar: Grammar, own: Item, other: Option<Item>) -> bool
+    requires own_fits { item_is_fit (productions_in grammar.words.now grammar.productions) own.production own.index ≡ true }
+    requires other_fits { IfSome other (λ item. item_is_fit (productions_in grammar.words.now grammar.productions) item.production item.index ≡ true) }
+    ensures { result ≡ items_inline sets.now.terminals sets.now.map (productions_in grammar.entry.words.now grammar.entry.productions) own other }
 {
-    if other >= Item::LIMIT {
-        return false;
+    match other {
+        Some(other) => diverge(sets, suffix(grammar, own), suffix(grammar, other)),
+        None => false,
     }
-    let own = suffix(grammar, item_at(label));
-    let next = suffix(grammar, item_at(other));
-    diverge(sets, own, next)
 }

@@ -47,16 +47,15 @@ pub fn choose(
 fn whole_example(buffer: &[u16]) -> bool
     ensures { result ≡ is_whole_example buffer.now }
 {
-    if buffer.len() < 3 {
-        return false;
+    match buffer {
+        [symbols, cursor, reductions, rest @ ..] => {
+            let symbols = *symbols as usize;
+            let reductions = *reductions as usize;
+            let words = Example::SYMBOL_WORDS * symbols + Example::REDUCTION_WORDS * reductions;
+            rest.len() >= words && *cursor as usize <= symbols
+        }
+        _ => false,
     }
-    let symbols = word(buffer, 0);
-    let cursor = word(buffer, 1);
-    let reductions = word(buffer, 2);
-    if buffer.len() < 3 + Example::SYMBOL_WORDS * symbols + Example::REDUCTION_WORDS * reductions {
-        return false;
-    }
-    cursor <= symbols
 }
 
 // In which buffer the observed symbols lie, and how many words they have there from word 3 on.
@@ -70,18 +69,16 @@ pub enum Part {
 pub fn observed_part(action: &[u16], reduce: &[u16]) -> Part
     ensures { result ≡ part_observed action.now reduce.now }
 {
-    if whole_example(action) {
-        if whole_example(reduce) {
-            let a = word(action, 1);
-            let b = word(reduce, 1);
-            if a >= b {
-                return Part::Action(2 * a);
-            }
-            return Part::Reduce(2 * b);
-        }
+    if !(whole_example(action) && whole_example(reduce)) {
         return Part::Action(0);
     }
-    Part::Action(0)
+    let a = word(action, 1);
+    let b = word(reduce, 1);
+    if a >= b {
+        Part::Action(Example::SYMBOL_WORDS * a)
+    } else {
+        Part::Reduce(Example::SYMBOL_WORDS * b)
+    }
 }
 
 // That part.
@@ -90,16 +87,8 @@ pub fn observed<'a>(action: &'a [u16], reduce: &'a [u16]) -> &'a [u16]
     ensures result_value_2 { result.now ≡ observed_of action.now reduce.now }
 {
     match observed_part(action, reduce) {
-        Part::Action(words) => {
-            if words == 0 {
-                return &action[..0];
-            }
-            let end = 3 + words;
-            &action[3..end]
-        }
-        Part::Reduce(words) => {
-            let end = 3 + words;
-            &reduce[3..end]
-        }
+        Part::Action(0) => &action[..0],
+        Part::Action(words) => &action[3..3 + words],
+        Part::Reduce(words) => &reduce[3..3 + words],
     }
 }

@@ -1,15 +1,15 @@
--- A state's shift items one by one: by places, 16 indexes for each production in their order, those that are left from a place on. `left_all_lem` of proofs/Left: from 0 on they are
+-- A state's shift items by places, 16 indexes for each production in their order: those that are left from a place on. `left_all_lem` of proofs/Left: from 0 on they are
 -- `shift_items` of error. Assumes nothing: these are definitions.
-use Rattle.std.specs.Prelude.{◌≡◌, ℕ, suc, ◌*◌, ◌/◌, ◌%◌, ◌<◌, Bool, ◌&&◌, List, [], ◌∷◌, map, length, drop, slice_index, Option, Some, None}
-use Rattle.repr.specs.Sizes.{production_limit, symbol_limit, item_limit, item_flags}
+use Rattle.std.specs.Prelude.{◌≡◌, ℕ, ◌*◌, ◌/◌, ◌%◌, ◌<◌, Bool, ◌&&◌, List, map, length, drop, slice_index}
+use Rattle.repr.specs.Sizes.{production_limit, symbol_limit, item_flags}
 use Rattle.repr.specs.Lists.{below, keep, some?}
 use Rattle.repr.specs.Meaning.{Item, Table, ItemFits, state_at}
 use Rattle.trace_graph.specs.Graph.{same_item}
-use Rattle.trace.specs.Shifting.{item_of}
 use Rattle.error.specs.Items.{shifts_token}
 use Rattle.bits.specs.Bits.{bit_at}
+use Rattle.lr1_core.specs.declared.Item.{Item as ItemOf}
 use Rattle.shift_items.specs.Order.{Ordered}
-use Rattle.shift_items.specs.Codes.{Grammar, code_of}
+use Rattle.shift_items.specs.Codes.{Grammar, code_of, wanted}
 
 -- what the shift items of state s are read from
 pub record Marked (T : Table) (s : ℕ) (g : List ℕ) (n : ℕ) (order marks : List ℕ) : Type 0 where
@@ -30,12 +30,16 @@ place_item order at = record { production = slice_index order (at / symbol_limit
 unfoldable pub items_left : Table → ℕ → ℕ → List ℕ → ℕ → ℕ → List Item
 items_left T s token order n at = keep (is_shift_item T s token) (map (place_item order) (drop at (below (n * symbol_limit))))
 
--- the first of them, and those after it
-pub record Next (T : Table) (s token : ℕ) (order : List ℕ) (n from place code : ℕ) : Type 0 where
-  pub left : items_left T s token order n from ≡ item_of code ∷ items_left T s token order n (suc place)
-  pub inside : place < n * symbol_limit
-  pub small : code < item_limit
+-- the same by the words alone (`wanted_left` of proofs/Left): the items that are marked and shift the token
+unfoldable pub items_wanted : List ℕ → List ℕ → ℕ → List ℕ → ℕ → ℕ → List Item
+items_wanted g marks token order n at = keep (λ i. wanted g marks token (code_of i)) (map (place_item order) (drop at (below (n * symbol_limit))))
 
-unfoldable pub NextIs : Table → ℕ → ℕ → List ℕ → ℕ → ℕ → Option (ℕ × ℕ) → Type 0
-NextIs T s token order n from (Some found) = Next T s token order n from found.0 found.1
-NextIs T s token order n from None = items_left T s token order n from ≡ []
+-- words from which the items of n productions can be read
+pub record Readable (n : ℕ) (order marks : List ℕ) : Type 0 where
+  pub long : length order ≡ production_limit
+  pub inside : (j : ℕ) → j < n → slice_index order j < n
+  pub flags : length marks ≡ item_flags
+
+-- the code's item
+abbrev pub meant : ItemOf → Item
+meant i = record { production = i.production; index = i.index }

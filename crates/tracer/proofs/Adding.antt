@@ -1,5 +1,5 @@
 -- The edges that tracing adds, in one word each. Assumes nothing.
-use Rattle.std.proofs.Common.{◌≡◌, ℕ, ◌<◌, Bool, true, false, eqb, length, sym, arith, eqb-true}
+use Rattle.std.proofs.Common.{◌≡◌, ℕ, ◌<◌, Bool, true, false, eqb, length, sym, ap, arith, eqb-true}
 use borrow.Author.Tests.{eqb-false}
 use Rattle.repr.specs.Meaning.{Item, Table, TableFits, ItemFits}
 use Rattle.repr.proofs.Lists.{cases}
@@ -11,7 +11,7 @@ use Rattle.trace.proofs.Traced.{to_item_sound, from_item_sound, between_sound}
 use Rattle.trace.proofs.Steps.{edge_past, edge_beginning}
 use Rattle.codes.specs.declared.EdgeCode.{EdgeCode}
 use Rattle.codes.specs.Codes.{kind_of}
-use Rattle.codes.specs.Kinds.{kind_number, IsCodeOf}
+use Rattle.codes.specs.Kinds.{kind_number, kind_from, IsCodeOf}
 
 module _ (T : Table) where
   module _ (fits : TableFits T) (i : Item) (n : ℕ) (l : n < length T.nonterminals) (h : ItemFits T i) (c : can_shift T n i ≡ true) where
@@ -37,13 +37,10 @@ module _ (T : Table) (fits : TableFits T) (i : Item) (n : ℕ) (l : n < length T
   way_traced true = traced_beginning T fits i n l h c
   way_traced false = traced_past T fits i n l h c
 
-  pub code_on : (on : Bool) → on ≡ true → (c : EdgeCode) → kind_number c.kind ≡ 1 → record { production = c.item.production; index = c.item.index } ≡ i → IsCodeOf c (edge_to_nonterminal on (owner_of T i) n i)
+  pub code_way : (on : Bool) (c : EdgeCode) → c.kind ≡ kind_from on → record { production = c.item.production; index = c.item.index } ≡ i → IsCodeOf c (edge_to_nonterminal on (owner_of T i) n i)
   unfolding edge_to_nonterminal source_of kind_of
-  code_on on e c k l = rw e (record { kind = k; label = l })
-
-  pub code_off : (on : Bool) → on ≡ false → (c : EdgeCode) → kind_number c.kind ≡ 2 → record { production = c.item.production; index = c.item.index } ≡ i → IsCodeOf c (edge_to_nonterminal on (owner_of T i) n i)
-  unfolding edge_to_nonterminal source_of kind_of
-  code_off on e c k l = rw e (record { kind = k; label = l })
+  code_way true c k l = record { kind = ap kind_number k; label = l }
+  code_way false c k l = record { kind = ap kind_number k; label = l }
 
 -- the first edge of a trace
 

@@ -1,5 +1,6 @@
 -- The items of a tail put into slots, each once (specs/Tails): the loop of `collect`. An item whose flag is set is in a slot, so that it changes nothing after the slots. Assumes nothing.
-use Rattle.std.proofs.Common.{◌≡◌, ℕ, zero, suc, ◌+◌, ◌-◌, ◌*◌, ◌/◌, ◌<◌, ◌≤◌, Bool, true, false, ◌||◌, eqb, ltb, List, [], ◌∷◌, ◌++◌, length, get_or, take, set, replicate, sym, refl, ap, ◌∙◌, append_assoc, arith, length-set, get_or-set_other, get_or-set_same, ltb-false, ltb-true, eqb-true}
+use Rattle.std.proofs.Common.{◌≡◌, ℕ, zero, suc, ◌+◌, ◌-◌, ◌*◌, ◌/◌, ◌<◌, ◌≤◌, Bool, true, false, ◌||◌, eqb, ltb, List, [], ◌∷◌, ◌++◌, length, get_or, take, set, replicate, sym, refl, ap, ◌∙◌, true≢false, append_assoc, arith, length-set, get_or-set_other, get_or-set_same, ltb-false, ltb-true, eqb-true}
+use Rattle.std.specs.Prelude.{Option, Some, None, MatchOption, is_some, not}
 use mathlib.Core.Bool.{or-true}
 use borrow.Author.Tests.{eqb-false}
 use Rattle.repr.specs.Sizes.{index_limit, item_flags}
@@ -12,7 +13,6 @@ use Rattle.repr.proofs.Tests.{some?-yes, some?-append}
 use Rattle.lr1_core.specs.Items.{shifts_nonterminal}
 use Rattle.table.specs.Decoded.{meaning, items_from}
 use Rattle.table.specs.Index.{ItemIndex, ItemRead}
-use Rattle.table.proofs.Decoding.{fits}
 use Rattle.trace_graph.specs.Graph.{same_item}
 use Rattle.trace.specs.Traced.{Trace, can_shift, in_turn}
 use Rattle.trace.specs.Shift.{epsilon}
@@ -53,15 +53,16 @@ pub record Collecting (t : List ℕ) (tail : ℕ) (rs ms : List ℕ) (at count :
       ≡ in_turn (item_step (meaning t) s n f) (items_from t tail) st
   pub met : (i : Item) → i.index < index_limit → bit_at ms (i.production * index_limit + i.index) ≡ true → some? (same_item i) (along t rs (count - first_slot) first_slot) ≡ true
 
--- r: the nonterminal at the cursor of an item, if it has one
-pub shifts_none : (t g : List ℕ) (productions : ℕ) (ls : List ℕ) → Working t g productions ls → (p x r : ℕ) → ItemFits (meaning t) (record { production = p; index = x })
-    → ((n : ℕ) → shifts_nonterminal (listed (symbol_words g p)) x n ≡ true → r ≡ n) → first_slot ≤ r → (n : ℕ) → n < length (meaning t).nonterminals → can_shift (meaning t) n (record { production = p; index = x }) ≡ false
-shifts_none t g productions ls W p x r I q h n l =
+-- an item without a nonterminal at its cursor
+pub no_nonterminal : (A : Type 0) (B : ℕ → Type 0) (r : Option ℕ) → MatchOption r A B → (b : Bool) → is_some r ≡ not b → b ≡ true → A
+no_nonterminal A B None m b e t = m
+no_nonterminal A B (Some n) m b e t = absurd (true≢false (rw t at e))
+
+pub shifts_none : (t g : List ℕ) (productions : ℕ) (ls : List ℕ) → Working t g productions ls → (p x : ℕ) → ItemFits (meaning t) (record { production = p; index = x })
+    → ((n : ℕ) → shifts_nonterminal (listed (symbol_words g p)) x n ≡ false) → (n : ℕ) → n < length (meaning t).nonterminals → can_shift (meaning t) n (record { production = p; index = x }) ≡ false
+shifts_none t g productions ls W p x I z n l =
     let m = work_many t g productions ls W in
-    let f = (fits t W.accepted).few_nonterminals in
-    cases (can_shift (meaning t) n (record { production = p; index = x }))
-    (λ c. let e = q n (work_shift t g productions ls W p x n (omega (arith, I.production)) ∙ c) in absurd (omega arith))
-    (λ c. c)
+    sym (work_shift t g productions ls W p x n (omega (arith, I.production))) ∙ z n
 
 module _ (t : List ℕ) (tail : ℕ) (rs : List ℕ) where
   pub collecting_start : ItemIndex t tail → length rs ≡ tail_words → Collecting t tail rs (replicate item_flags 0) tail first_slot

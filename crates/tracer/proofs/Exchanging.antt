@@ -1,5 +1,6 @@
 -- Two lists that change places word by word, and with them the lists of two tails (specs/Tails). Assumes nothing.
-use Rattle.std.proofs.Common.{◌≡◌, ℕ, zero, suc, ◌+◌, ◌<◌, ◌≤◌, List, [], ◌∷◌, ◌++◌, length, get_or, take, drop, set, sym, refl, ◌∙◌, append-nil, arith, drop_of_length-le, take_all}
+use Rattle.std.proofs.Common.{◌≡◌, ℕ, zero, suc, ◌+◌, ◌<◌, ◌≤◌, List, [], ◌∷◌, ◌++◌, length, get_or, take, drop, set, replicate, sym, refl, ◌∙◌, append-nil, arith, drop_of_length-le, take_all}
+use lib.ListN.{length-replicate}
 use Rattle.slices.proofs.Copy.{copy_more}
 use Rattle.tracer.specs.Tails.{tail_words, Usable, TwoTails}
 use Rattle.tracer.proofs.Linking.{usable_blank}
@@ -21,8 +22,11 @@ module _ (a₀ b₀ : List ℕ) (same : length b₀ ≡ length a₀) (i : ℕ) w
   exchanged_all h = rw (take_all i b₀ (omega arith), drop_of_length-le a₀ h) (append-nil b₀)
 
 -- no tail is listed in words that are 0
-pub tails_blank : (t zs : List ℕ) → suc (suc (length zs)) ≤ tail_words → TwoTails t (0 ∷ 0 ∷ zs) (0 ∷ 0 ∷ zs) (0 ∷ 0 ∷ zs) (0 ∷ 0 ∷ zs)
+tails_blank : (t zs : List ℕ) → suc (suc (length zs)) ≤ tail_words → TwoTails t (0 ∷ 0 ∷ zs) (0 ∷ 0 ∷ zs) (0 ∷ 0 ∷ zs) (0 ∷ 0 ∷ zs)
 tails_blank t zs h = record { few = h; links = refl; others = refl; other_links = refl; usable = usable_blank t zs _; other_usable = usable_blank t zs _ }
+
+pub tails_new : (t : List ℕ) (n : ℕ) → suc (suc n) ≤ tail_words → (rs ls us ms : List ℕ) → (rs ≡ replicate (suc (suc n)) 0) × (ls ≡ replicate (suc (suc n)) 0) → (us ≡ replicate (suc (suc n)) 0) × (ms ≡ replicate (suc (suc n)) 0) → TwoTails t rs ls us ms
+tails_new t n h rs ls us ms a b = let l = length-replicate {A = ℕ} n 0 in rw (a.0, a.1, b.0, b.1) (tails_blank t (replicate n 0) (omega arith))
 
 -- another tail in place of the older one
 pub listed-over : (t rs ls us ms us' ms' : List ℕ) → TwoTails t rs ls us ms → length us' ≡ length us → length ms' ≡ length ms → Usable t us' ms' → TwoTails t rs ls us' ms'

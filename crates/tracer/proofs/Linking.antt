@@ -1,10 +1,10 @@
 -- The slots of a listed tail, linked from the last on, and the two lists filled (specs/Tails). Assumes nothing.
-use Rattle.std.proofs.Common.{◌≡◌, ℕ, suc, ◌-◌, ◌<◌, ◌≤◌, Bool, true, false, eqb, List, ◌∷◌, length, get_or, set, sym, refl, ap, ◌∙◌, arith, length-set, get_or-set_other, get_or-set_same, eqb-true}
+use Rattle.std.proofs.Common.{◌≡◌, ℕ, suc, ◌-◌, ◌<◌, ◌≤◌, Bool, true, false, eqb, List, ◌∷◌, length, get_or, set, sym, refl, ap, ◌∙◌, arith, length-set, get_or-set_other, get_or-set_same, eqb-true, eq-eqb}
 use borrow.Author.Tests.{eqb-false}
 use Rattle.repr.specs.Meaning.{Item}
 use Rattle.repr.specs.Listed.{listed}
 use Rattle.repr.specs.Packed.{symbol_words}
-use Rattle.repr.proofs.Lists.{cases}
+use Rattle.repr.proofs.Lists.{cases, clash}
 use Rattle.lr1_core.specs.Items.{shifts_nonterminal}
 use Rattle.table.specs.Decoded.{meaning, items_from}
 use Rattle.table.specs.Index.{ItemRead}
@@ -56,16 +56,10 @@ module _ (t rs : List ℕ) (k at next p x : ℕ) (ea : at ≡ get_or rs k 0) (R 
   slot-shifts : (n : ℕ) (b : Bool) → can_shift (meaning t) n (record { production = p; index = x }) ≡ b → Shifts t rs n k b
   slot-shifts n b c i is e = ap (λ (l : List Item). can_shift (meaning t) n (get_or l 0 i)) (sym e ∙ here) ∙ c
 
-  module _ (g : List ℕ) (productions : ℕ) (ws : List ℕ) (W : Working t g productions ws) (m : ℕ) (q : (n : ℕ) → shifts_nonterminal (listed (symbol_words g p)) x n ≡ true → m ≡ n)
+  module _ (g : List ℕ) (productions : ℕ) (ws : List ℕ) (W : Working t g productions ws)
       (ls : List ℕ) (count from : ℕ) (L : Linked t rs ls count from) (ef : from ≡ suc k) (low : 32 ≤ k) (few : k < count) where
-    cursor_is : (n : ℕ) → can_shift (meaning t) n (record { production = p; index = x }) ≡ true → m ≡ n
-    cursor_is n c = q n (work_shift t g productions ws W p x n (packed_few t g productions ws W p x R.fits) ∙ c)
-
-    none_else : (n : ℕ) → (m ≡ n → ⊥) → Shifts t rs n k false
-    none_else n ne = slot-shifts n false (cases (can_shift (meaning t) n (record { production = p; index = x })) (λ c. absurd (ne (cursor_is n c))) (λ c. c))
-
-    of_slot : (n : ℕ) → Shifts t rs n k true → m ≡ n
-    of_slot n s = cursor_is n (s (record { production = p; index = x }) (items_from t next) here)
+    shift_is : (n : ℕ) → shifts_nonterminal (listed (symbol_words g p)) x n ≡ can_shift (meaning t) n (record { production = p; index = x })
+    shift_is n = work_shift t g productions ws W p x n (packed_few t g productions ws W p x R.fits)
 
     behind : Linked t rs ls count (suc k)
     behind = rw ef at L
@@ -73,16 +67,30 @@ module _ (t rs : List ℕ) (k at next p x : ℕ) (ea : at ≡ get_or rs k 0) (R 
     small : (n : ℕ) → n < length (meaning t).nonterminals → n < 32
     small n h = let f = (fits t W.accepted).few_nonterminals in omega arith
 
-    pub linked_skip : 32 ≤ m → Linked t rs ls count k
-    linked_skip h = record {
+    -- no nonterminal is at the cursor
+    pub linked_skip : ((n : ℕ) → shifts_nonterminal (listed (symbol_words g p)) x n ≡ false) → Linked t rs ls count k
+    linked_skip z = record {
       long = L.long;
-      heads = λ n l. leads_wider t rs n k count _ (none_else n (λ e. let y = small n l in omega arith)) (behind.heads n l);
+      heads = λ n l. leads_wider t rs n k count _ (slot-shifts n false (sym (shift_is n) ∙ z n)) (behind.heads n l);
       slots = λ j a b n l s. cases (eqb j k)
-          (λ d. let e = of_slot n (rw (eqb-true j k d) at s) in let y = small n l in absurd (omega arith))
+          (λ d. clash _ (shift_is n ∙ (rw (eqb-true j k d) at s) (record { production = p; index = x }) (items_from t next) here) (z n))
           (λ d. behind.slots j (omega (arith, eqb-false j k d)) b n l s);
     }
 
-    module _ (h : m < 32) (can : shifts_nonterminal (listed (symbol_words g p)) x m ≡ true) (c : count ≤ tail_words) where
+    -- m is
+    module _ (m : ℕ) (q : (n : ℕ) → shifts_nonterminal (listed (symbol_words g p)) x n ≡ eqb m n) (h : m < 32) (c : count ≤ tail_words) where
+      can : shifts_nonterminal (listed (symbol_words g p)) x m ≡ true
+      can = q m ∙ eq-eqb m m refl
+
+      cursor_is : (n : ℕ) → can_shift (meaning t) n (record { production = p; index = x }) ≡ true → m ≡ n
+      cursor_is n c = eqb-true m n (sym (q n) ∙ shift_is n ∙ c)
+
+      none_else : (n : ℕ) → (m ≡ n → ⊥) → Shifts t rs n k false
+      none_else n ne = slot-shifts n false (cases (can_shift (meaning t) n (record { production = p; index = x })) (λ c. absurd (ne (cursor_is n c))) (λ c. c))
+
+      of_slot : (n : ℕ) → Shifts t rs n k true → m ≡ n
+      of_slot n s = cursor_is n (s (record { production = p; index = x }) (items_from t next) here)
+
       abbrev us : List ℕ
       us = set (set ls k (get_or ls m 0)) m k
 

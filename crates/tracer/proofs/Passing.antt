@@ -1,5 +1,5 @@
 -- The test whether a state's items lead to nothing new (specs/Passed of trace): of one item, and of a chain from the front. Assumes nothing.
-use Rattle.std.proofs.Common.{◌≡◌, ℕ, zero, suc, ◌+◌, ◌*◌, ◌<◌, ◌≤◌, true, false, List, [], ◌∷◌, length, get_or, drop, sym, refl, ap, ◌∙◌, arith, ltb-false}
+use Rattle.std.proofs.Common.{◌≡◌, ℕ, zero, suc, ◌+◌, ◌*◌, ◌<◌, true, false, eqb, List, [], ◌∷◌, length, get_or, drop, sym, refl, ap, ◌∙◌, arith, ltb-false, eqb-true}
 use Rattle.repr.specs.Lists.{some?}
 use Rattle.repr.specs.Meaning.{Item, ItemFits, All, state_at}
 use Rattle.repr.specs.Listed.{listed}
@@ -30,27 +30,27 @@ module _ (t g : List ℕ) (productions : ℕ) (ls : List ℕ) (W : Working t g p
   pub owner_few : get_or g (p * 36) 0 < 32
   owner_few = rw (work_owner t g productions ls W p x packed_few) (owner_small (meaning t) (fits t W.accepted) (record { production = p; index = x }))
 
--- one item, r the nonterminal at its cursor
+-- one item
 
-module _ (t g : List ℕ) (productions : ℕ) (ls : List ℕ) (W : Working t g productions ls) (p x : ℕ) (I : ItemFits (meaning t) (record { production = p; index = x })) (v : List ℕ) (b r : ℕ)
-    (q : (n : ℕ) → shifts_nonterminal (listed (symbol_words g p)) x n ≡ true → r ≡ n) (es : List TraceEdge) where
-  cursor_is : (n : ℕ) → can_shift (meaning t) n (record { production = p; index = x }) ≡ true → r ≡ n
-  cursor_is n c = q n (work_shift t g productions ls W p x n (packed_few t g productions ls W p x I) ∙ c)
-
+module _ (t g : List ℕ) (productions : ℕ) (ls : List ℕ) (W : Working t g productions ls) (p x : ℕ) (I : ItemFits (meaning t) (record { production = p; index = x })) (v : List ℕ) (b : ℕ) (es : List TraceEdge) where
   abbrev Goal : Type 0
   Goal = ItemPassed (meaning t) (λ n. bit_at v (b * 32 + n)) es (record { production = p; index = x })
 
-  pub none-shifted : 32 ≤ r → Goal
-  none-shifted h = record { edge = λ n l d c. no n l c; owner = λ n l d c _. no n l c }
-    where
-      no : {A : Type 0} (n : ℕ) → n < length (meaning t).nonterminals → can_shift (meaning t) n (record { production = p; index = x }) ≡ true → A
-      no n l c = let e = cursor_is n c in let f = (fits t W.accepted).few_nonterminals in absurd (omega arith)
+  shifts : (n : ℕ) → can_shift (meaning t) n (record { production = p; index = x }) ≡ true → shifts_nonterminal (listed (symbol_words g p)) x n ≡ true
+  shifts n c = work_shift t g productions ls W p x n (packed_few t g productions ls W p x I) ∙ c
 
-  pub none-entered : bit_at v (b * 32 + r) ≡ false → Goal
-  none-entered z = record { edge = λ n l d c. no n d c; owner = λ n l d c _. no n d c }
+  pub none-shifted : ((n : ℕ) → shifts_nonterminal (listed (symbol_words g p)) x n ≡ false) → Goal
+  none-shifted z = record { edge = λ n l d c. no n c; owner = λ n l d c _. no n c }
+    where
+      no : {A : Type 0} (n : ℕ) → can_shift (meaning t) n (record { production = p; index = x }) ≡ true → A
+      no n c = clash _ (shifts n c) (z n)
+
+  -- r: the nonterminal at its cursor
+  pub none-entered : (r : ℕ) → ((n : ℕ) → shifts_nonterminal (listed (symbol_words g p)) x n ≡ eqb r n) → bit_at v (b * 32 + r) ≡ false → Goal
+  none-entered r q z = record { edge = λ n l d c. no n d c; owner = λ n l d c _. no n d c }
     where
       no : {A : Type 0} (n : ℕ) → bit_at v (b * 32 + n) ≡ true → can_shift (meaning t) n (record { production = p; index = x }) ≡ true → A
-      no n d c = clash (bit_at v (b * 32 + r)) (ap (λ (k : ℕ). bit_at v (b * 32 + k)) (cursor_is n c) ∙ d) z
+      no n d c = clash (bit_at v (b * 32 + r)) (ap (λ (k : ℕ). bit_at v (b * 32 + k)) (eqb-true r n (sym (q n) ∙ shifts n c)) ∙ d) z
 
   module _ (k : (n : ℕ) → n < length (meaning t).nonterminals → can_shift (meaning t) n (record { production = p; index = x }) ≡ true → some? (is_same_edge (meaning t).productions (epsilon_edge (meaning t).productions (record { production = p; index = x }) n)) es ≡ true) where
     pub edge_there : 0 < x → Goal

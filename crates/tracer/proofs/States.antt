@@ -1,5 +1,7 @@
 -- The states that a walk found, traced in turn or passed over. Assumes nothing.
 use Rattle.std.proofs.Common.{◌≡◌, ℕ, zero, suc, ◌+◌, ◌*◌, ◌<◌, ◌≤◌, true, false, eqb, List, [], ◌∷◌, length, replicate, sym, refl, ap, ◌∙◌, arith, eqb-true}
+use Rattle.std.specs.Prelude.{Option, Some, None, IfSome}
+use Rattle.repr.specs.Sizes.{state_limit}
 use borrow.Author.Tests.{eqb-false}
 use Rattle.repr.specs.Lists.{below, mem}
 use Rattle.repr.specs.Meaning.{Item, Table, TableFits, state_at}
@@ -58,24 +60,27 @@ pub record Round (t : List ℕ) (m l₀ h₀ : ℕ) (es : List TraceEdge) (l h :
   pub held : Held (meaning t) ws fs v trace
   pub edges : (in_turn (state_step (meaning t) m) (states_in l h) trace).edges ≡ (in_turn (state_step (meaning t) m) (states_in l₀ h₀) (record { edges = es; seen = [] })).edges
 
--- b: the state traced last; the items from both records of `known` on are passed
-pub record Rounds (t : List ℕ) (m l₀ h₀ : ℕ) (ws₀ fs₀ : List ℕ) (l h : ℕ) (ws fs v : List ℕ) (b : ℕ) (known : Known) : Type 0 where
+-- from the known state the items from both records on are passed
+pub record Passed (t fs v : List ℕ) (known : Known) : Type 0 where
+  pub state : known.state < state_limit
+  pub last : Clear t fs v known.state (items_from t known.last)
+  pub earlier : Clear t fs v known.state (items_from t known.earlier)
+
+pub record Rounds (t : List ℕ) (m l₀ h₀ : ℕ) (ws₀ fs₀ : List ℕ) (l h : ℕ) (ws fs v : List ℕ) (known : Option Known) : Type 0 where
   pub inside : (s : ℕ) → mem s (states_in l h) ≡ true → s < length (meaning t).states
   pub same : (es : List TraceEdge) → Coded (meaning t) ws₀ fs₀ es → Round t m l₀ h₀ es l h ws fs v
-  pub last : Clear t fs v b (items_from t known.last)
-  pub earlier : Clear t fs v b (items_from t known.earlier)
+  pub passed : IfSome known (Passed t fs v)
 
 module _ (t : List ℕ) (m : ℕ) where
   pub rounds-start : (l h : ℕ) (ws fs v : List ℕ) → ((s : ℕ) → mem s (states_in l h) ≡ true → s < length (meaning t).states) → v ≡ replicate 64 0
-      → (b : ℕ) → Rounds t m l h ws fs l h ws fs v b (record { last = 0; earlier = 0 })
-  rounds-start l h ws fs v inside e b = record {
+      → Rounds t m l h ws fs l h ws fs v None
+  rounds-start l h ws fs v inside e = record {
     inside = inside;
     same = λ es C. record { trace = record { edges = es; seen = [] }; held = held_start (meaning t) ws fs v es C e; edges = refl };
-    last = clear_none t fs v b;
-    earlier = clear_none t fs v b;
+    passed = tt;
   }
 
-  module _ (l₀ h₀ : ℕ) (ws₀ fs₀ : List ℕ) (l h : ℕ) (ws fs v : List ℕ) (b : ℕ) (known : Known) (U : Rounds t m l₀ h₀ ws₀ fs₀ l h ws fs v b known) where
+  module _ (l₀ h₀ : ℕ) (ws₀ fs₀ : List ℕ) (l h : ℕ) (ws fs v : List ℕ) (known : Option Known) (U : Rounds t m l₀ h₀ ws₀ fs₀ l h ws fs v known) where
     pub rounds-done : states_in l h ≡ [] → (es : List TraceEdge) → Coded (meaning t) ws₀ fs₀ es → Coded (meaning t) ws fs (in_turn (state_step (meaning t) m) (states_in l₀ h₀) (record { edges = es; seen = [] })).edges
     rounds-done e es C =
         let r = U.same es C in
@@ -97,17 +102,20 @@ module _ (t : List ℕ) (m : ℕ) where
 
       -- traced
 
-      pub rounds-more : (ws' fs' v' : List ℕ) → ((f : ℕ) → unset v ≤ f → Steps (meaning t) (epsilon (meaning t) f s m) ws fs v ws' fs' v')
-          → Rounds t m l₀ h₀ ws₀ fs₀ r.low r.high ws' fs' v' s (record { last = 0; earlier = 0 })
-      rounds-more ws' fs' v' call = record {
+      pub rounds-more : TableFits (meaning t) → (ws' fs' v' : List ℕ) → ((f : ℕ) → unset v ≤ f → Steps (meaning t) (epsilon (meaning t) f s m) ws fs v ws' fs' v')
+          → Rounds t m l₀ h₀ ws₀ fs₀ r.low r.high ws' fs' v' (Some (record { state = s; last = 0; earlier = 0 }))
+      rounds-more F ws' fs' v' call = record {
         inside = others_inside;
         same = λ es C. let q = U.same es C in record {
           trace = epsilon (meaning t) pairs s m q.trace;
           held = call pairs (enough v) q.trace q.held;
           edges = opened es C;
         };
-        last = clear_none t fs' v' s;
-        earlier = clear_none t fs' v' s;
+        passed = record {
+          state = let i = rounds-inside in let few = F.few_states in omega arith;
+          last = clear_none t fs' v' s;
+          earlier = clear_none t fs' v' s;
+        };
       }
 
       pub rounds-full : ((f : ℕ) → unset v ≤ f → Exceeds (meaning t) (epsilon (meaning t) f s m) ws fs v)
@@ -120,23 +128,28 @@ module _ (t : List ℕ) (m : ℕ) where
 
       -- passed over, head the first record of its chain
 
-      pub rounds-passed : TableFits (meaning t) → m < length (meaning t).nonterminals → bit_at v (b * 32 + m) ≡ true → Clear t fs v b (state_at (meaning t) s).items
+      pub rounds-passed : TableFits (meaning t) → m < length (meaning t).nonterminals → (last : Known) → known ≡ Some last → bit_at v (last.state * 32 + m) ≡ true → Clear t fs v last.state (state_at (meaning t) s).items
           → (head : ℕ) → items_from t head ≡ (state_at (meaning t) s).items → (k : ℕ) → Further t head k
-          → (both : Known) → (both.last ≡ k) × ((both.earlier ≡ known.last → ⊥) → both.earlier ≡ known.earlier) → Rounds t m l₀ h₀ ws₀ fs₀ r.low r.high ws fs v b both
-      rounds-passed F few has call head eh k w both are = record {
-        inside = others_inside;
-        same = λ es C. let q = U.same es C in record {
-          trace = q.trace;
-          held = q.held;
-          edges = left_out (meaning t) F s m few (states_in r.low r.high) (next-apart l h s r e) q.trace (record { from = λ n. bit_at v (b * 32 + n); has = has; items = call ws q.trace.edges q.held.edges })
-              ∙ opened es C;
-        };
-        last = rw are.0 (clear_further t s fs v b head k eh call w);
-        earlier =
-            cases (eqb both.earlier known.last)
-            (λ z. rw (eqb-true both.earlier known.last z) U.last)
-            (λ z. rw (are.1 (eqb-false both.earlier known.last z)) U.earlier);
-      }
+          → (both : Known) → (both.state ≡ last.state) × (both.last ≡ k) × ((both.earlier ≡ last.last → ⊥) → both.earlier ≡ last.earlier) → Rounds t m l₀ h₀ ws₀ fs₀ r.low r.high ws fs v (Some both)
+      rounds-passed F few last ek has call head eh k w both are =
+          let P : Passed t fs v last = rw ek at U.passed in
+          record {
+            inside = others_inside;
+            same = λ es C. let q = U.same es C in record {
+              trace = q.trace;
+              held = q.held;
+              edges = left_out (meaning t) F s m few (states_in r.low r.high) (next-apart l h s r e) q.trace (record { from = λ n. bit_at v (last.state * 32 + n); has = has; items = call ws q.trace.edges q.held.edges })
+                  ∙ opened es C;
+            };
+            passed = record {
+              state = rw are.0 P.state;
+              last = rw (are.0, are.1) (clear_further t s fs v last.state head k eh call w);
+              earlier = rw are.0
+                  (cases (eqb both.earlier last.last)
+                  (λ z. rw (eqb-true both.earlier last.last z) P.last)
+                  (λ z. rw (are.2 (eqb-false both.earlier last.last z)) P.earlier));
+            };
+          }
 
 -- the first edge, and then the states
 

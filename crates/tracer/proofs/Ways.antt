@@ -17,7 +17,6 @@ use Rattle.trace.proofs.Traced.{fits-item}
 use Rattle.codes.specs.Coded.{Coded, Leasts}
 use Rattle.codes.specs.Carried.{Carried}
 use Rattle.table.specs.Refusals.{check_of}
-use Rattle.table.specs.Index.{CountsOf}
 use Rattle.tracer.specs.Built.{Asked}
 use Rattle.tracer.specs.Held.{Working}
 use Rattle.tracer.proofs.Words.{words_long}
@@ -87,8 +86,8 @@ module _ (edges : Table → ℕ → Item → List TraceEdge) (s p i : ℕ) (grap
       traced o l m q = q ∙ sym (trace_ways ∙ rw (lt-ltb s (length T.states) h, e, le-leb graph_room (length graph) l, le-leb scratch_words (length scratch) m) (ways_all _ _ _))
 
 -- what is read of the productions tells whether the item fits
-pub item_tells : (g : List ℕ) (ps : List Production) (m p i : ℕ) (b c : Bool) → m ≡ length ps → productions_in g (length ps) ≡ ps → b ≡ item_is_fit (productions_in g m) p i → b ≡ c → item_is_fit ps p i ≡ c
-item_tells g ps m p i b c e f q r = ap (λ (l : List Production). item_is_fit l p i) (sym (ap (productions_in g) e ∙ f)) ∙ sym q ∙ r
+pub item_tells : (g : List ℕ) (ps : List Production) (m p i : ℕ) (b c : Bool) → productions_in g m ≡ ps → b ≡ item_is_fit (productions_in g m) p i → b ≡ c → item_is_fit ps p i ≡ c
+item_tells g ps m p i b c e q r = ap (λ (l : List Production). item_is_fit l p i) (sym e) ∙ sym q ∙ r
 
 -- the answer is one of the two
 
@@ -102,11 +101,6 @@ module _ (es : List TraceEdge) (graph scratch graph' scratch' : List ℕ) (ez : 
 
   pub overfull : edge_limit < length es → graph' ≡ graph → outcome (refused 12 0) graph' scratch' ≡ edges_outcome graph scratch es
   overfull h eg = rw (eg, ez) (sym (edges_either graph scratch es ∙ rw (lt-leb (length es) edge_limit h) (either_false _ _)))
-
--- a table's productions read, a state and an item in range
-pub asked : {t g : List ℕ} {n terminals states productions s p i : ℕ} → CountsOf (meaning t) n terminals states productions
-    → productions_in g (length (meaning t).productions) ≡ (meaning t).productions → s < length (meaning t).states → item_is_fit (productions_in g productions) p i ≡ true → Asked t g productions s p i
-asked {g = g} C e h f = record { same = ap (productions_in g) C.productions ∙ e; state = h; item = f }
 
 -- what a trace works over, and its words
 

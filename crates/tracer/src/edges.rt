@@ -7,6 +7,7 @@ ghost use Rattle.trace_graph.specs.Graph.{TraceEdge, add, at_nonterminal, at_ite
 ghost use Rattle.trace.specs.Traced.{can_shift, owner_of};
 ghost use Rattle.trace.specs.Edges.{edge_to_nonterminal};
 ghost use Rattle.codes.specs.Coded.{Coded};
+ghost use Rattle.codes.specs.Kinds.{kind_from};
 
 use crate::Tracer;
 use codes::{EdgeCode, EdgeCodes, EdgeKind};
@@ -28,7 +29,18 @@ pub fn to_item(tracer: Tracer, edges: &mut EdgeCodes, item: Item) -> Result<(), 
     )
 }
 
-// The edge into a nonterminal that an item can shift: where tracing goes on from the item's nonterminal, else from the item.
+// The kind of an edge into a nonterminal that an item can shift: where tracing goes on from the item's nonterminal, else from the item. Whether it goes on is a yes or no, as the definitions have it (`edge_to_nonterminal`).
+pub fn kind_on(on: bool) -> EdgeKind
+    ensures { result ≡ kind_from on }
+{
+    if on {
+        EdgeKind::Between
+    } else {
+        EdgeKind::FromItem
+    }
+}
+
+// That edge.
 pub fn to_nonterminal(
     tracer: Tracer,
     edges: &mut EdgeCodes,
@@ -39,20 +51,6 @@ pub fn to_nonterminal(
     ensures coded { OnOk result ((n : ℕ) → n < length (meaning tracer.entry.table.words.now).nonterminals → can_shift (meaning tracer.entry.table.words.now) n (record { production = item.production; index = item.index }) ≡ true → (es : List TraceEdge) → Coded (meaning tracer.entry.table.words.now) edges.old.words edges.old.flags es → Coded (meaning tracer.entry.table.words.now) edges.new.words edges.new.flags (add (meaning tracer.entry.table.words.now).productions (edge_to_nonterminal on (owner_of (meaning tracer.entry.table.words.now) (record { production = item.production; index = item.index })) n (record { production = item.production; index = item.index })) es)) }
     ensures full { OnErr result ((n : ℕ) → n < length (meaning tracer.entry.table.words.now).nonterminals → can_shift (meaning tracer.entry.table.words.now) n (record { production = item.production; index = item.index }) ≡ true → (es : List TraceEdge) → Coded (meaning tracer.entry.table.words.now) edges.old.words edges.old.flags es → edge_limit < length (add (meaning tracer.entry.table.words.now).productions (edge_to_nonterminal on (owner_of (meaning tracer.entry.table.words.now) (record { production = item.production; index = item.index })) n (record { production = item.production; index = item.index })) es)) }
 {
-    if on {
-        return edges.insert(
-            tracer.least,
-            EdgeCode {
-                kind: EdgeKind::Between,
-                item,
-            },
-        );
-    }
-    edges.insert(
-        tracer.least,
-        EdgeCode {
-            kind: EdgeKind::FromItem,
-            item,
-        },
-    )
+    let kind = kind_on(on);
+    edges.insert(tracer.least, EdgeCode { kind, item })
 }

@@ -8,14 +8,18 @@ pub mod shift;
 pub mod stamps;
 pub mod tails;
 
-ghost use Rattle.std.specs.Prelude.{OnOk, OnErr, ◌≡◌, ◌<◌, ◌≤◌, [], length, replicate};
-ghost use Rattle.repr.specs.Sizes.{edge_limit, graph_room, scratch_words, item_flags};
+ghost use Rattle.std.specs.Prelude.{OnOk, OnErr, MatchOption, ◌≡◌, ℕ, ◌+◌, ◌*◌, ◌<◌, ◌≤◌, false, eqb, [], length, replicate};
+ghost use Rattle.repr.specs.Sizes.{nonterminal_limit, state_limit, edge_limit, graph_room, scratch_words, item_flags};
 ghost use Rattle.repr.specs.Meaning as meaning-of;
+ghost use Rattle.repr.specs.Listed.{listed};
+ghost use Rattle.repr.specs.Packed.{symbol_words};
 ghost use Rattle.repr.specs.Reply.{reply_of};
+ghost use Rattle.lr1_core.specs.Items.{shifts_nonterminal};
 ghost use Rattle.slices.specs.Lent.{in_front};
 ghost use Rattle.table.specs.Decoded.{meaning};
 ghost use Rattle.trace_graph.specs.Words.{graph_words};
 ghost use Rattle.trace.specs.Ends.{Ends};
+ghost use Rattle.bits.specs.Bits.{bit_at};
 ghost use Rattle.codes.specs.Coded.{Coded};
 ghost use Rattle.tracer.specs.Held.{pair_words, Working};
 ghost use Rattle.tracer.specs.Outcome.{outcome, edges_outcome, traced_in};
@@ -23,10 +27,12 @@ ghost use Rattle.tracer.specs.Built.{Asked, edges_by};
 
 use crate::reduce::{Reduction, reduce_codes};
 use crate::shift::shift_codes;
+use bits::is_set;
 use codes::{EdgeCodes, fill_least, write_codes};
 use first::FirstSets;
 use lr1_core::Item;
-use repr::{Grammar, ProductionIndex, Refusal, word};
+use repr::{Grammar, NonterminalString, ProductionIndex, Refusal, Symbol, word};
+use state_graph::StateIndex;
 use table::AcceptedTable;
 use trace::reduce::suffix_ends;
 use trace_graph::{Full, TraceGraph, item_fits};
@@ -40,7 +46,19 @@ pub struct Tracer<'a> {
     pub ghost working: { Working table.words.now grammar.words.now grammar.productions least.now },
 }
 
-// A trace at work: its edges, and a bit for each pair of a state and a nonterminal that is entered.
+// The nonterminal at an item's cursor, if there is one.
+fn nonterminal_at(grammar: Grammar, item: Item) -> Option<usize>
+    requires { item.production < grammar.productions }
+    ensures { MatchOption result ((n : ℕ) → shifts_nonterminal (listed (symbol_words grammar.entry.words.now item.production)) item.index n ≡ false) (λ m. (m < nonterminal_limit) × ((n : ℕ) → shifts_nonterminal (listed (symbol_words grammar.entry.words.now item.production)) item.index n ≡ eqb m n)) }
+{
+    match item.cursor(grammar) {
+        Some(Symbol::Nonterminal(nonterminal)) => Some(nonterminal.0 as usize),
+        Some(Symbol::Terminal(_)) => None,
+        None => None,
+    }
+}
+
+// A trace at work: its edges, and a bit for each pair of a state and a nonterminal that is entered, in fixed words, since there is no heap.
 #[derive(Drop)]
 pub struct OpenTrace {
     pub edges: EdgeCodes,
@@ -48,7 +66,7 @@ pub struct OpenTrace {
 }
 
 impl OpenTrace {
-    pub const PAIR_WORDS: usize = 64;
+    pub const PAIR_WORDS: usize = StateIndex::LIMIT * NonterminalString::LIMIT / 64;
 
     // No edge, and no pair entered.
     pub fn new() -> OpenTrace
@@ -69,6 +87,17 @@ impl OpenTrace {
         self.edges.clear();
         self.entered.fill(0);
     }
+
+    // Whether a pair is entered.
+    fn is_entered(&self, state: usize, nonterminal: usize) -> bool
+        requires { (state < state_limit) × (nonterminal < nonterminal_limit) }
+        ensures { result ≡ bit_at self.now.entered (state * nonterminal_limit + nonterminal) }
+    {
+        is_set(
+            &self.entered,
+            state * NonterminalString::LIMIT + nonterminal,
+        )
+    }
 }
 
 // Which trace: back from a shift of an item's cursor, or from a reduction by it.
@@ -78,19 +107,23 @@ pub enum Action {
     Reduce,
 }
 
+// What is traced: an item that stands in a state, by the one action or the other.
+#[derive(Clone, Copy)]
+pub struct TracedItem {
+    pub state: usize,
+    pub item: Item,
+    pub action: Action,
+}
+
 // The one trace or the other, where it is known which suffixes are nullable.
-pub fn trace_codes(
-    over: Reduction,
-    action: Action,
-    state: usize,
-    item: Item,
-    trace: &mut OpenTrace,
-) -> Result<(), Full>
-    requires within { (state < length (meaning over.tracer.table.words.now).states) × meaning-of.ItemFits (meaning over.tracer.table.words.now) (record { production = item.production; index = item.index }) }
-    ensures coded { OnOk result (Coded (meaning over.entry.tracer.table.words.now) trace.new.edges.words trace.new.edges.flags (edges_by action (meaning over.entry.tracer.table.words.now) state (record { production = item.production; index = item.index }))) }
-    ensures full { OnErr result (edge_limit < length (edges_by action (meaning over.entry.tracer.table.words.now) state (record { production = item.production; index = item.index }))) }
+pub fn trace_codes(over: Reduction, traced: TracedItem, trace: &mut OpenTrace) -> Result<(), Full>
+    requires within { (traced.state < length (meaning over.tracer.table.words.now).states) × meaning-of.ItemFits (meaning over.tracer.table.words.now) (record { production = traced.item.production; index = traced.item.index }) }
+    ensures coded { OnOk result (Coded (meaning over.entry.tracer.table.words.now) trace.new.edges.words trace.new.edges.flags (edges_by traced.action (meaning over.entry.tracer.table.words.now) traced.state (record { production = traced.item.production; index = traced.item.index }))) }
+    ensures full { OnErr result (edge_limit < length (edges_by traced.action (meaning over.entry.tracer.table.words.now) traced.state (record { production = traced.item.production; index = traced.item.index }))) }
 {
-    match action {
+    let state = traced.state;
+    let item = traced.item;
+    match traced.action {
         Action::Shift => shift_codes(over.tracer, state, item, trace),
         Action::Reduce => reduce_codes(over, state, item, trace),
     }
@@ -106,19 +139,15 @@ fn fill_ends(tracer: Tracer, ends: &mut [u64])
     suffix_ends(tracer.grammar, &sets, ends);
 }
 
-// The same where that is not known yet.
-fn trace_item(
-    tracer: Tracer,
-    action: Action,
-    state: usize,
-    item: Item,
-    trace: &mut OpenTrace,
-) -> Result<(), Full>
-    requires within { (state < length (meaning tracer.table.words.now).states) × meaning-of.ItemFits (meaning tracer.table.words.now) (record { production = item.production; index = item.index }) }
-    ensures coded { OnOk result (Coded (meaning tracer.entry.table.words.now) trace.new.edges.words trace.new.edges.flags (edges_by action (meaning tracer.entry.table.words.now) state (record { production = item.production; index = item.index }))) }
-    ensures full { OnErr result (edge_limit < length (edges_by action (meaning tracer.entry.table.words.now) state (record { production = item.production; index = item.index }))) }
+// The same where that is not known yet: a shift does not ask for it, so that the action is looked at here too.
+fn trace_item(tracer: Tracer, traced: TracedItem, trace: &mut OpenTrace) -> Result<(), Full>
+    requires within { (traced.state < length (meaning tracer.table.words.now).states) × meaning-of.ItemFits (meaning tracer.table.words.now) (record { production = traced.item.production; index = traced.item.index }) }
+    ensures coded { OnOk result (Coded (meaning tracer.entry.table.words.now) trace.new.edges.words trace.new.edges.flags (edges_by traced.action (meaning tracer.entry.table.words.now) traced.state (record { production = traced.item.production; index = traced.item.index }))) }
+    ensures full { OnErr result (edge_limit < length (edges_by traced.action (meaning tracer.entry.table.words.now) traced.state (record { production = traced.item.production; index = traced.item.index }))) }
 {
-    match action {
+    let state = traced.state;
+    let item = traced.item;
+    match traced.action {
         Action::Shift => shift_codes(tracer, state, item, trace),
         Action::Reduce => {
             let mut ends = [0u64; Item::FLAG_WORDS];
@@ -136,15 +165,13 @@ fn trace_item(
 fn build(
     table: AcceptedTable,
     grammar: Grammar,
-    action: Action,
-    state: usize,
-    item: Item,
+    traced: TracedItem,
     graph: &mut [u16],
 ) -> Result<(), Full>
-    requires asked { Asked table.words.now grammar.words.now grammar.productions state item.production item.index }
+    requires asked { Asked table.words.now grammar.words.now grammar.productions traced.state traced.item.production traced.item.index }
     requires room { graph_room ≤ length graph.old }
-    ensures built { OnOk result ((length (edges_by action (meaning table.entry.words.now) state (record { production = item.production; index = item.index })) ≤ edge_limit) × (graph.new ≡ in_front (graph_words (edges_by action (meaning table.entry.words.now) state (record { production = item.production; index = item.index }))) graph.old)) }
-    ensures full { OnErr result ((edge_limit < length (edges_by action (meaning table.entry.words.now) state (record { production = item.production; index = item.index }))) × (graph.new ≡ graph.old)) }
+    ensures built { OnOk result ((length (edges_by traced.action (meaning table.entry.words.now) traced.state (record { production = traced.item.production; index = traced.item.index })) ≤ edge_limit) × (graph.new ≡ in_front (graph_words (edges_by traced.action (meaning table.entry.words.now) traced.state (record { production = traced.item.production; index = traced.item.index }))) graph.old)) }
+    ensures full { OnErr result ((edge_limit < length (edges_by traced.action (meaning table.entry.words.now) traced.state (record { production = traced.item.production; index = traced.item.index }))) × (graph.new ≡ graph.old)) }
 {
     let mut least = [0u8; ProductionIndex::LIMIT];
     fill_least(grammar, &mut least);
@@ -154,7 +181,7 @@ fn build(
         least: &least,
     };
     let mut trace = OpenTrace::new();
-    trace_item(tracer, action, state, item, &mut trace)?;
+    trace_item(tracer, traced, &mut trace)?;
     write_codes(grammar, &trace.edges, graph);
     Ok(())
 }
@@ -163,44 +190,34 @@ fn build(
 fn work(
     table: AcceptedTable,
     grammar: Grammar,
-    action: Action,
-    state: usize,
-    item: Item,
+    traced: TracedItem,
     graph: &mut [u16],
     scratch: &mut [u16],
 ) -> Result<u16, Refusal>
-    requires asked { Asked table.words.now grammar.words.now grammar.productions state item.production item.index }
+    requires asked { Asked table.words.now grammar.words.now grammar.productions traced.state traced.item.production traced.item.index }
     requires room { (graph_room ≤ length graph.old) × (scratch_words ≤ length scratch.old) }
-    ensures { outcome (reply_of result) graph.new scratch.new ≡ edges_outcome graph.old scratch.old (edges_by action (meaning table.entry.words.now) state (record { production = item.production; index = item.index })) }
+    ensures { outcome (reply_of result) graph.new scratch.new ≡ edges_outcome graph.old scratch.old (edges_by traced.action (meaning table.entry.words.now) traced.state (record { production = traced.item.production; index = traced.item.index })) }
 {
     scratch[..TraceGraph::SCRATCH].fill(0);
-    match build(table, grammar, action, state, item, graph) {
-        Ok(()) => Ok(word(graph, 0) as u16),
-        Err(Full) => Err(Refusal::TooManyEdges),
-    }
+    build(table, grammar, traced, graph)?;
+    Ok(word(graph, 0) as u16)
 }
 
 // `backtrace_shift` or `backtrace_reduce` over an accepted table: the number of edges, which are in the graph. Refusals 9 and 11 change nothing.
 pub fn trace_in(
     table: AcceptedTable,
-    action: Action,
-    state: usize,
-    item: Item,
+    traced: TracedItem,
     graph: &mut [u16],
     scratch: &mut [u16],
 ) -> Result<u16, Refusal>
-    ensures { outcome (reply_of result) graph.new scratch.new ≡ traced_in (edges_by action) state (record { production = item.production; index = item.index }) graph.old scratch.old (meaning table.entry.words.now) }
+    ensures { outcome (reply_of result) graph.new scratch.new ≡ traced_in (edges_by traced.action) traced.state (record { production = traced.item.production; index = traced.item.index }) graph.old scratch.old (meaning table.entry.words.now) }
 {
-    let counts = table.counts();
-    if state >= counts.states {
+    let item = traced.item;
+    if traced.state >= table.counts().states {
         return Err(Refusal::OutOfRange);
     }
     let mut words = [0u16; ProductionIndex::ALL_WORDS];
-    table.read_productions(&mut words);
-    let grammar = Grammar {
-        words: &words,
-        productions: counts.productions,
-    };
+    let grammar = table.read_grammar(&mut words);
     if !item_fits(grammar, item.production, item.index) {
         return Err(Refusal::OutOfRange);
     }
@@ -210,5 +227,5 @@ pub fn trace_in(
     if scratch.len() < TraceGraph::SCRATCH {
         return Err(Refusal::TooShort);
     }
-    work(table, grammar, action, state, item, graph, scratch)
+    work(table, grammar, traced, graph, scratch)
 }

@@ -19,7 +19,7 @@ use crate::stamps::Stamps;
 use crate::{OpenTrace, Tracer};
 use bits::{is_set, put};
 use lr1_core::{Item, prefix};
-use repr::{NonterminalString, ProductionIndex};
+use repr::NonterminalString;
 use state_graph::{StateSet, StateWalk};
 use trace_graph::Full;
 
@@ -47,10 +47,7 @@ fn ends_at(over: Reduction, item: Item) -> bool
     requires { ItemFits (meaning over.tracer.table.words.now) (record { production = item.production; index = item.index }) }
     ensures { result ≡ nullable (meaning over.entry.tracer.table.words.now) (suffix_of (meaning over.entry.tracer.table.words.now) (record { production = item.production; index = item.index })) }
 {
-    is_set(
-        over.ends,
-        item.production * ProductionIndex::INDEXES + item.index,
-    )
+    is_set(over.ends, item.place())
 }
 
 // `trace_reduce_item`: an edge into the item, and on from each state in which the item begins.

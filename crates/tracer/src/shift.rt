@@ -16,14 +16,14 @@ ghost use Rattle.tracer.specs.Held.{pair_words, Steps, Exceeds, unset};
 ghost use Rattle.tracer.specs.Tails.{Usable, TwoTails};
 ghost use Rattle.tracer.specs.Clear.{Clear};
 
-use crate::edges::{to_item, to_nonterminal};
+use crate::edges::{kind_on, to_item, to_nonterminal};
 use crate::tails::{LIST_WORDS, SHORT_TABLE, TAIL_AHEAD, TailList, after, ahead, begin, list_tail};
-use crate::{OpenTrace, Tracer};
+use crate::{OpenTrace, Tracer, nonterminal_at};
 use bits::{is_set, put};
-use codes::{EdgeCode, EdgeCodes, EdgeKind};
+use codes::{EdgeCode, EdgeCodes};
 use lr1_core::{Item, prefix};
 use repr::NonterminalString;
-use state_graph::{StateIndex, StateSet, trace_back};
+use state_graph::{StateSet, trace_back};
 use trace_graph::Full;
 
 // The edge of an item that can shift a nonterminal: past its beginning from the item, else from its nonterminal.
@@ -82,22 +82,8 @@ fn is_known(tracer: Tracer, edges: &EdgeCodes, item: Item) -> bool
     requires { ItemFits (meaning tracer.table.words.now) (record { production = item.production; index = item.index }) }
     ensures { (n : ℕ) → n < length (meaning tracer.entry.table.words.now).nonterminals → can_shift (meaning tracer.entry.table.words.now) n (record { production = item.production; index = item.index }) ≡ true → (ws : List ℕ) (es : List TraceEdge) → Coded (meaning tracer.entry.table.words.now) ws edges.now.flags es → result ≡ some? (is_same_edge (meaning tracer.entry.table.words.now).productions (epsilon_edge (meaning tracer.entry.table.words.now).productions (record { production = item.production; index = item.index }) n)) es }
 {
-    if item.index == 0 {
-        return edges.contains(
-            tracer.least,
-            EdgeCode {
-                kind: EdgeKind::Between,
-                item,
-            },
-        );
-    }
-    edges.contains(
-        tracer.least,
-        EdgeCode {
-            kind: EdgeKind::FromItem,
-            item,
-        },
-    )
+    let kind = kind_on(item.index == 0);
+    edges.contains(tracer.least, EdgeCode { kind, item })
 }
 
 // Whether an item leads to nothing new from the nonterminals that were entered from the state `before`: it can shift none of them, or its edge is there, and where it is at its beginning its own nonterminal is one of them.
@@ -105,38 +91,41 @@ fn is_passed(tracer: Tracer, trace: &OpenTrace, before: usize, item: Item) -> bo
     requires { ItemFits (meaning tracer.table.words.now) (record { production = item.production; index = item.index }) × (before < state_limit) }
     ensures { result ≡ true → (ws : List ℕ) (es : List TraceEdge) → Coded (meaning tracer.entry.table.words.now) ws trace.now.edges.flags es → ItemPassed (meaning tracer.entry.table.words.now) (λ n. bit_at trace.now.entered (before * nonterminal_limit + n)) es (record { production = item.production; index = item.index }) }
 {
-    let nonterminal = item.cursor(tracer.grammar);
-    if nonterminal >= NonterminalString::LIMIT {
-        return true;
+    match nonterminal_at(tracer.grammar, item) {
+        Some(nonterminal) => {
+            !trace.is_entered(before, nonterminal)
+                || (is_known(tracer, &trace.edges, item)
+                    && (item.index > 0
+                        || trace.is_entered(before, tracer.grammar.owner(item.production))))
+        }
+        None => true,
     }
-    if !is_set(
-        &trace.entered,
-        before * NonterminalString::LIMIT + nonterminal,
-    ) {
-        return true;
-    }
-    if !is_known(tracer, &trace.edges, item) {
-        return false;
-    }
-    if item.index > 0 {
-        return true;
-    }
-    let owner = tracer.grammar.owner(item.production);
-    is_set(&trace.entered, before * NonterminalString::LIMIT + owner)
 }
 
-// Records from which on the items of a state that was passed over may be those of others too (0: none): of the last such state, and of one before it with another.
-// Numbers as the chain has them, which ends in 0: what is read is compared with them as it is.
+// The state that was traced last, and records from which on the items of a state that was passed over since may be those of others too (0: none): of the last such state, and of one before it with another.
+// Records are numbers as the chain has them, which ends in 0: what is read is compared with them as it is.
 #[derive(Clone, Copy)]
 pub struct Known {
+    pub state: usize,
     pub last: usize,
     pub earlier: usize,
 }
 
 impl Known {
-    // The record of one state more.
+    // A state that is traced: none was passed over since.
+    fn of(state: usize) -> Known
+        ensures { result ≡ record { state = state; last = 0; earlier = 0 } }
+    {
+        Known {
+            state,
+            last: 0,
+            earlier: 0,
+        }
+    }
+
+    // The record of one state more that is passed over.
     fn with(self, tail: usize) -> Known
-        ensures { (result.last ≡ tail) × ((result.earlier ≢ self.last) → result.earlier ≡ self.earlier) }
+        ensures { (result.state ≡ self.state) × (result.last ≡ tail) × ((result.earlier ≢ self.last) → result.earlier ≡ self.earlier) }
     {
         if tail == self.last {
             return self;
@@ -144,21 +133,16 @@ impl Known {
         Known {
             last: tail,
             earlier: self.last,
+            ..self
         }
     }
 }
 
-// Whether the items of a state lead to nothing new from the nonterminals that were entered from the state `before`, where those from a known record on do not.
-fn adds_nothing(
-    tracer: Tracer,
-    trace: &OpenTrace,
-    before: usize,
-    known: Known,
-    state: usize,
-) -> bool
-    requires within { (before < state_limit) × (state < length (meaning tracer.table.words.now).states) }
-    requires clear { Clear tracer.table.words.now trace.now.edges.flags trace.now.entered before (items_from tracer.table.words.now known.last) × Clear tracer.table.words.now trace.now.edges.flags trace.now.entered before (items_from tracer.table.words.now known.earlier) }
-    ensures { result ≡ true → Clear tracer.entry.table.words.now trace.now.edges.flags trace.now.entered before (state_at (meaning tracer.entry.table.words.now) state).items }
+// Whether the items of a state lead to nothing new from the nonterminals that were entered from the known state, where those from a known record on do not.
+fn adds_nothing(tracer: Tracer, trace: &OpenTrace, known: Known, state: usize) -> bool
+    requires within { (known.state < state_limit) × (state < length (meaning tracer.table.words.now).states) }
+    requires clear { Clear tracer.table.words.now trace.now.edges.flags trace.now.entered known.state (items_from tracer.table.words.now known.last) × Clear tracer.table.words.now trace.now.edges.flags trace.now.entered known.state (items_from tracer.table.words.now known.earlier) }
+    ensures { result ≡ true → Clear tracer.entry.table.words.now trace.now.edges.flags trace.now.entered known.state (state_at (meaning tracer.entry.table.words.now) state).items }
 {
     let last = known.last;
     let earlier = known.earlier;
@@ -170,40 +154,30 @@ fn adds_nothing(
             production: read.production,
             index: read.index,
         };
-        if !is_passed(tracer, trace, before, item) {
+        if !is_passed(tracer, trace, known.state, item) {
             return false;
         }
     }
     true
 }
 
-// Whether a state can be passed over: the nonterminal was entered from the state `before`, which is StateIndex::LIMIT where none was traced yet, and the items add nothing to what was entered there.
+// Whether a state can be passed over: the nonterminal was entered from the known state, and the items add nothing to what was entered there.
 fn passes_over(
     tracer: Tracer,
     trace: &OpenTrace,
-    before: usize,
     known: Known,
     state: usize,
     nonterminal: usize,
 ) -> bool
-    requires within { (state < length (meaning tracer.table.words.now).states) × (nonterminal < length (meaning tracer.table.words.now).nonterminals) }
-    requires clear { Clear tracer.table.words.now trace.now.edges.flags trace.now.entered before (items_from tracer.table.words.now known.last) × Clear tracer.table.words.now trace.now.edges.flags trace.now.entered before (items_from tracer.table.words.now known.earlier) }
-    ensures nonterminal_value { result ≡ true → bit_at trace.now.entered (before * nonterminal_limit + nonterminal) ≡ true }
-    ensures clear_2 { result ≡ true → Clear tracer.entry.table.words.now trace.now.edges.flags trace.now.entered before (state_at (meaning tracer.entry.table.words.now) state).items }
+    requires within { (known.state < state_limit) × (state < length (meaning tracer.table.words.now).states) × (nonterminal < length (meaning tracer.table.words.now).nonterminals) }
+    requires clear { Clear tracer.table.words.now trace.now.edges.flags trace.now.entered known.state (items_from tracer.table.words.now known.last) × Clear tracer.table.words.now trace.now.edges.flags trace.now.entered known.state (items_from tracer.table.words.now known.earlier) }
+    ensures nonterminal_value { result ≡ true → bit_at trace.now.entered (known.state * nonterminal_limit + nonterminal) ≡ true }
+    ensures clear_2 { result ≡ true → Clear tracer.entry.table.words.now trace.now.edges.flags trace.now.entered known.state (state_at (meaning tracer.entry.table.words.now) state).items }
 {
-    if before >= StateIndex::LIMIT {
-        return false;
-    }
-    if !is_set(
-        &trace.entered,
-        before * NonterminalString::LIMIT + nonterminal,
-    ) {
-        return false;
-    }
-    adds_nothing(tracer, trace, before, known, state)
+    trace.is_entered(known.state, nonterminal) && adds_nothing(tracer, trace, known, state)
 }
 
-// Each state of the set in turn, ascending. A state whose items add nothing is passed over: `before` is the state traced last, `known` has records of states passed over since, 64 on from their first, since 128 states cannot have more records of their own each. The lists of two tails are kept from state to state.
+// Each state of the set in turn, ascending. A state whose items add nothing to the state traced last is passed over, and a record of it known, TAIL_AHEAD on from its first, since 128 states cannot have more records of their own each. The lists of two tails are kept from state to state.
 fn trace_each<const N: usize>(
     tracer: Tracer,
     trace: &mut OpenTrace,
@@ -218,17 +192,15 @@ fn trace_each<const N: usize>(
     ensures coded { OnOk result ((es : List TraceEdge) → Coded (meaning tracer.entry.table.words.now) trace.old.edges.words trace.old.edges.flags es → Coded (meaning tracer.entry.table.words.now) trace.new.edges.words trace.new.edges.flags (in_turn (λ p u. epsilon (meaning tracer.entry.table.words.now) pairs p nonterminal u) (states_in states.low states.high) (record { edges = es; seen = [] })).edges) }
     ensures full { OnErr result ((es : List TraceEdge) → Coded (meaning tracer.entry.table.words.now) trace.old.edges.words trace.old.edges.flags es → edge_limit < length (in_turn (λ p u. epsilon (meaning tracer.entry.table.words.now) pairs p nonterminal u) (states_in states.low states.high) (record { edges = es; seen = [] })).edges) }
 {
-    let mut before = StateIndex::LIMIT;
-    let mut known = Known {
-        last: 0,
-        earlier: 0,
-    };
+    let mut traced: Option<Known> = None;
     for state in states.iter() {
         let from = state.0 as usize;
         let first = tracer.table.first_item(from);
-        if passes_over(tracer, trace, before, known, from, nonterminal) {
-            known = known.with(ahead(tracer.table, first, TAIL_AHEAD));
-            continue;
+        if let Some(known) = traced {
+            if passes_over(tracer, trace, known, from, nonterminal) {
+                traced = Some(known.with(ahead(tracer.table, first, TAIL_AHEAD)));
+                continue;
+            }
         }
         list_tail(
             tracer,
@@ -239,11 +211,7 @@ fn trace_each<const N: usize>(
             &mut other.links,
         );
         trace_epsilon(tracer, trace, &tail.records, &tail.links, from, nonterminal)?;
-        before = from;
-        known = Known {
-            last: 0,
-            earlier: 0,
-        };
+        traced = Some(Known::of(from));
     }
     Ok(())
 }
@@ -262,24 +230,12 @@ fn trace_states(
 {
     let table = tracer.table;
     if table.words.len() < SHORT_TABLE {
-        let mut tail = TailList {
-            records: [0u16; 2],
-            links: [0u16; 2],
-        };
-        let mut other = TailList {
-            records: [0u16; 2],
-            links: [0u16; 2],
-        };
+        let mut tail = TailList::<2>::new();
+        let mut other = TailList::<2>::new();
         return trace_each(tracer, trace, states, nonterminal, &mut tail, &mut other);
     }
-    let mut tail = TailList {
-        records: [0u16; LIST_WORDS],
-        links: [0u16; LIST_WORDS],
-    };
-    let mut other = TailList {
-        records: [0u16; LIST_WORDS],
-        links: [0u16; LIST_WORDS],
-    };
+    let mut tail = TailList::<LIST_WORDS>::new();
+    let mut other = TailList::<LIST_WORDS>::new();
     trace_each(tracer, trace, states, nonterminal, &mut tail, &mut other)
 }
 

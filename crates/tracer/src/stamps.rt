@@ -4,16 +4,16 @@ ghost use Rattle.repr.specs.Sizes.{production_limit, index_limit};
 ghost use Rattle.tracer.specs.Stamps.{stamp_words, stamp_read_at};
 
 use lr1_core::Item;
-use repr::{ProductionIndex, word};
+use repr::word;
 
-// A byte for each item, two to a word.
+// A byte for each item, two to a word: fixed words, since there is no heap.
 #[derive(Drop)]
 pub struct Stamps {
     pub words: [u16; Stamps::WORDS],
 }
 
 impl Stamps {
-    pub const WORDS: usize = 1088;
+    pub const WORDS: usize = Item::LIMIT / 2;
 
     pub fn new() -> Stamps
         ensures { result.words ≡ replicate stamp_words 0 }
@@ -27,12 +27,13 @@ impl Stamps {
         requires { (item.production < production_limit) × (item.index < index_limit) }
         ensures { result ≡ stamp_read_at self.now.words (item.production * index_limit + item.index) }
     {
-        let code = item.production * ProductionIndex::INDEXES + item.index;
-        let both = word(&self.words, code / 2);
-        if code % 2 == 0 {
-            return both % 256;
+        let place = item.place();
+        let both = word(&self.words, place / 2);
+        if place % 2 == 0 {
+            both % 256
+        } else {
+            both / 256
         }
-        both / 256
     }
 
     pub fn put(&mut self, item: Item, stamp: usize)
@@ -40,13 +41,14 @@ impl Stamps {
         ensures index_after { stamp_read_at self.new.words (item.production * index_limit + item.index) ≡ stamp }
         ensures by_index { (c : ℕ) → (c ≢ item.production * index_limit + item.index) → stamp_read_at self.new.words c ≡ stamp_read_at self.old.words c }
     {
-        let code = item.production * ProductionIndex::INDEXES + item.index;
-        let at = code / 2;
+        let place = item.place();
+        let at = place / 2;
         let both = word(&self.words, at);
-        if code % 2 == 0 {
-            self.words[at] = (both / 256 * 256 + stamp) as u16;
-            return;
-        }
-        self.words[at] = (stamp * 256 + both % 256) as u16;
+        let changed = if place % 2 == 0 {
+            both / 256 * 256 + stamp
+        } else {
+            stamp * 256 + both % 256
+        };
+        self.words[at] = changed as u16;
     }
 }

@@ -2,16 +2,16 @@
 // `records`: word 1 is the record that the tail begins with (0: none is listed), and from slot FIRST_SLOT on the listed records stand in their order; word 0 is 0, the record of no slot.
 // `links`: of each nonterminal the first slot, of each slot the next with the same nonterminal; 0 where there is none.
 // `others`, `other_links`: the same of the tail that was used before, so that two long chains by turns are each listed once.
-ghost use Rattle.std.specs.Prelude.{◌≡◌, ℕ, ◌+◌, ◌*◌, ◌<◌, ◌≤◌, List, length, drop, ◌≢◌, slice_index};
+ghost use Rattle.std.specs.Prelude.{◌≡◌, ℕ, ◌+◌, ◌*◌, ◌<◌, ◌≤◌, IfSome, List, length, drop, replicate, ◌≢◌, slice_index};
 ghost use Rattle.repr.specs.Sizes.{nonterminal_limit};
 ghost use Rattle.table.specs.Decoded.{items_from};
 ghost use Rattle.table.specs.Index.{ItemIndex};
 ghost use Rattle.tracer.specs.Tails.{tail_words, first_slot, Collected, Linked, Usable, TwoTails, Begins, Follows};
 
-use crate::Tracer;
+use crate::{Tracer, nonterminal_at};
 use bits::{is_set, put};
 use lr1_core::Item;
-use repr::{NonterminalString, ProductionIndex, word};
+use repr::{NonterminalString, word};
 use table::{AcceptedTable, ItemIter};
 
 // A slot and its record, or slot 0 and a record of the chain; record 0 is the end.
@@ -42,6 +42,18 @@ pub struct TailList<const N: usize> {
     pub links: [u16; N],
 }
 
+impl<const N: usize> TailList<N> {
+    // No tail is listed.
+    pub fn new() -> TailList<N>
+        ensures { (result.records ≡ replicate N 0) × (result.links ≡ replicate N 0) }
+    {
+        TailList {
+            records: [0u16; N],
+            links: [0u16; N],
+        }
+    }
+}
+
 // The record `most` further along a chain of items, its first record where the chain ends before. Records are numbers here: one is answered.
 pub fn ahead(table: AcceptedTable, first: usize, most: usize) -> usize
     requires { ItemIndex table.words.now first }
@@ -57,10 +69,10 @@ pub fn ahead(table: AcceptedTable, first: usize, most: usize) -> usize
     at
 }
 
-// Puts each item of the tail that has a nonterminal at the cursor into a slot where it is met first. The answer is the slot behind the last; 0 where there are too many.
-fn collect(tracer: Tracer, tail: usize, records: &mut [u16]) -> usize
+// Puts each item of the tail that has a nonterminal at the cursor into a slot where it is met first. The answer is the slot behind the last; none where there are too many.
+fn collect(tracer: Tracer, tail: usize, records: &mut [u16]) -> Option<usize>
     requires { ItemIndex tracer.table.words.now tail × (length records.old ≡ tail_words) }
-    ensures { (result ≢ 0) → Collected tracer.entry.table.words.now records.new tail result }
+    ensures { IfSome result (λ count. Collected tracer.entry.table.words.now records.new tail count) }
 {
     let mut met = [0u64; Item::FLAG_WORDS];
     let mut count = FIRST_SLOT;
@@ -73,21 +85,21 @@ fn collect(tracer: Tracer, tail: usize, records: &mut [u16]) -> usize
             production: read.production,
             index: read.index,
         };
-        if item.cursor(tracer.grammar) >= NonterminalString::LIMIT {
+        if nonterminal_at(tracer.grammar, item).is_none() {
             continue;
         }
-        let code = read.production * ProductionIndex::INDEXES + read.index;
-        if is_set(&met, code) {
+        let place = item.place();
+        if is_set(&met, place) {
             continue;
         }
         if count >= LIST_WORDS {
-            return 0;
+            return None;
         }
-        put(&mut met, code);
+        put(&mut met, place);
         records[count] = read.at as u16;
         count += 1;
     }
-    count
+    Some(count)
 }
 
 // No nonterminal has a slot yet.
@@ -110,10 +122,8 @@ fn link(tracer: Tracer, records: &[u16], count: usize, links: &mut [u16])
             production: read.production,
             index: read.index,
         };
-        let nonterminal = item.cursor(tracer.grammar);
-        if nonterminal < NonterminalString::LIMIT {
-            let next = links[nonterminal];
-            links[k] = next;
+        if let Some(nonterminal) = nonterminal_at(tracer.grammar, item) {
+            links[k] = links[nonterminal];
             links[nonterminal] = k as u16;
         }
     }
@@ -125,14 +135,13 @@ fn fill(tracer: Tracer, tail: usize, records: &mut [u16], links: &mut [u16])
     requires records_len { (length records.old ≡ tail_words) × (length links.old ≡ tail_words) }
     ensures { Usable tracer.entry.table.words.now records.new links.new }
 {
-    let count = collect(tracer, tail, records);
+    let listed = collect(tracer, tail, records);
     records[0] = 0;
     records[1] = 0;
-    if count == 0 {
-        return;
+    if let Some(count) = listed {
+        link(tracer, records, count, links);
+        records[1] = tail as u16;
     }
-    link(tracer, records, count, links);
-    records[1] = tail as u16;
 }
 
 // Whether a chain comes to the record `tail` within TAIL_AHEAD records. Records follow in ascending order.

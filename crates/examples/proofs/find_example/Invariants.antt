@@ -10,8 +10,8 @@ use Rattle.examples.proofs.find_example.Given as goal
 
 abbrev pub invariant-loop-number : goal.invariant-loop-number
 invariant-loop-number l = (length l.words ≡ length l.initial.words)
-    × ((es : List TraceEdge) (start : Item) → Listable (productions_in l.grammar.words.now l.grammar.productions) es l.view.owners.now l.view.codes.now l.view.sources.now l.view.older.now l.view.latest.now start
-    → Walk l.sets.terminals l.sets.map (productions_in l.grammar.words.now l.grammar.productions) (set_of l.lookahead) es start l.words l.made × Seeks l.sets.terminals l.sets.map (productions_in l.grammar.words.now l.grammar.productions) (set_of l.lookahead) es start l.wanted l.left l.made)
+    × ((es : List TraceEdge) (start : Item) → Listable (productions_in l.filter.grammar.words.now l.filter.grammar.productions) es l.view.owners.now l.view.codes.now l.view.sources.now l.view.older.now l.view.latest.now start
+    → Walk l.filter.sets.now.terminals l.filter.sets.now.map (productions_in l.filter.grammar.words.now l.filter.grammar.productions) (set_of l.filter.lookahead) es start l.words l.made × Seeks l.filter.sets.now.terminals l.filter.sets.now.map (productions_in l.filter.grammar.words.now l.filter.grammar.productions) (set_of l.filter.lookahead) es start l.wanted l.left l.made)
 
 abbrev pub decreases-loop-number : goal.decreases-loop-number
 decreases-loop-number l = l.left

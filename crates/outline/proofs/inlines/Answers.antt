@@ -1,19 +1,27 @@
-use Rattle.std.proofs.Common.{arith}
-use Rattle.repr.specs.Packed.{productions_in}
-use Rattle.outline.proofs.Diverging.{code-production, code_index, code-suffix, suffix-fits, inline_none, inline_some}
+use Rattle.std.proofs.Common.{refl, ◌∙◌}
+use Rattle.outline.specs.Inline.{items_inline}
+use Rattle.outline.proofs.Diverging.{item-inside, item_index, item-suffix, suffix-fits}
 use Rattle.outline.proofs.inlines.Goals as goal
 
-pub returns-then-other-ge-LIMIT : goal.returns-then-other-ge-LIMIT
-returns-then-other-ge-LIMIT c = inline_none c.args.sets.now.terminals c.args.sets.now.map (productions_in c.args.grammar.words.now c.args.grammar.productions) c.args.label c.args.other c.if-other-ge-LIMIT.true
+pub suffix-requires : goal.suffix-requires
+suffix-requires c = record { within = item-inside _ _ c.args.grammar.packed _ _ c.requires.own_fits; index_in_bounds = item_index _ _ c.args.grammar.packed _ _ c.requires.own_fits }
 
-pub suffix-own-requires : goal.suffix-own-requires
-suffix-own-requires c = let e = c.item_at.ensures in record { within = (code-production c.args.grammar.words.now c.args.grammar.productions c.args.grammar.packed c.args.label c.requires.code_fits _ _ e.0 e.1); index_in_bounds = code_index c.args.grammar.words.now c.args.grammar.productions c.args.grammar.packed c.args.label c.requires.code_fits _ _ e.0 e.1 }
-
-pub suffix-next-requires : goal.suffix-next-requires
-suffix-next-requires c = let e = c.item_at-2.ensures in let h = c.if-other-ge-LIMIT.false in record { within = (code-production c.args.grammar.words.now c.args.grammar.productions c.args.grammar.packed c.args.other (c.requires.code_fits_2 (omega (arith, h))) _ _ e.0 e.1); index_in_bounds = code_index c.args.grammar.words.now c.args.grammar.productions c.args.grammar.packed c.args.other (c.requires.code_fits_2 (omega (arith, h))) _ _ e.0 e.1 }
+pub suffix-requires-in-Some : goal.suffix-requires-in-Some
+suffix-requires-in-Some c =
+    let f = rw c.in-Some.is at c.requires.other_fits in
+    record { within = item-inside _ _ c.args.grammar.packed _ _ f; index_in_bounds = item_index _ _ c.args.grammar.packed _ _ f }
 
 pub diverge-requires : goal.diverge-requires
-diverge-requires c = let e = c.item_at.ensures in let f = c.item_at-2.ensures in let h = c.if-other-ge-LIMIT.false in record { first_value = suffix-fits c.args.grammar.words.now c.args.grammar.productions c.args.grammar.packed c.args.label c.requires.code_fits _ _ e.0 e.1 _ c.suffix-own.ensures; second_value = suffix-fits c.args.grammar.words.now c.args.grammar.productions c.args.grammar.packed c.args.other (c.requires.code_fits_2 (omega (arith, h))) _ _ f.0 f.1 _ c.suffix-next.ensures }
+diverge-requires c =
+    let f = rw c.in-Some.is at c.requires.other_fits in
+    record { first_value = suffix-fits _ _ c.args.grammar.packed _ _ c.requires.own_fits _ c.suffix.ensures; second_value = suffix-fits _ _ c.args.grammar.packed _ _ f _ c.suffix-in-Some.ensures }
 
-pub returns : goal.returns
-returns c = let e = c.item_at.ensures in let f = c.item_at-2.ensures in let h = c.if-other-ge-LIMIT.false in inline_some c.args.sets.now.terminals c.args.sets.now.map (productions_in c.args.grammar.words.now c.args.grammar.productions) c.args.label c.args.other (omega (arith, h)) _ _ (code-suffix c.args.grammar.words.now c.args.grammar.productions c.args.grammar.packed c.args.label c.requires.code_fits _ _ e.0 e.1 _ c.suffix-own.ensures) (code-suffix c.args.grammar.words.now c.args.grammar.productions c.args.grammar.packed c.args.other (c.requires.code_fits_2 (omega (arith, h))) _ _ f.0 f.1 _ c.suffix-next.ensures) _ c.diverge.ensures
+pub returns-in-Some : goal.returns-in-Some
+unfolding items_inline
+returns-in-Some c =
+    let f = rw c.in-Some.is at c.requires.other_fits in
+    rw c.in-Some.is (c.diverge.ensures ∙ rw (item-suffix _ _ c.args.grammar.packed _ _ c.requires.own_fits _ c.suffix.ensures c.args.own refl refl, item-suffix _ _ c.args.grammar.packed _ _ f _ c.suffix-in-Some.ensures c.in-Some.other refl refl))
+
+pub returns-in-None : goal.returns-in-None
+unfolding items_inline
+returns-in-None c = rw c.in-None.is refl

@@ -4,4 +4,4 @@ use Rattle.codes.proofs.EdgeCode.word.Goals as goal
 
 pub returns : goal.returns
 unfolding item_code
-returns c = (rw c.number.ensures.0 refl, omega (arith, c.number.ensures.1))
+returns c = (rw (c.number.ensures.0, c.place.ensures.is) refl, omega (arith, c.number.ensures.1, c.place.ensures.within))

@@ -3,10 +3,7 @@ use Rattle.codes.specs.Coded.{key_words}
 use Rattle.codes.proofs.Coding.{coded_none}
 use Rattle.codes.proofs.EdgeCodes.clear.Goals as goal
 
-pub overflow_cast-self : goal.overflow_cast-self
-overflow_cast-self c = omega (arith, c.new-empty.ensures)
-
 pub returns : goal.returns
 returns c =
     let long : length c.args.self.now.flags ≡ key_words = omega arith in
-    λ T. rw (c.fill.ensures.after (λ y e. e) ∙ ap (λ (n : ℕ). replicate n 0) long) (coded_none T (set c.args.self.now.words 0 c.new-empty.result.edges) (simp length-set (omega arith)) (get_or-set_same c.args.self.now.words 0 c.new-empty.result.edges 0 (omega arith) ∙ c.new-empty.ensures))
+    λ T. rw (c.fill.ensures.after (λ y e. e) ∙ ap (λ (n : ℕ). replicate n 0) long) (coded_none T (set c.args.self.now.words 0 0) (simp length-set (omega arith)) (get_or-set_same c.args.self.now.words 0 0 0 (omega arith)))

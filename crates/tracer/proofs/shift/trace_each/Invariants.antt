@@ -3,4 +3,4 @@ use Rattle.tracer.proofs.States.{Rounds}
 use Rattle.tracer.proofs.shift.trace_each.Given as goal
 
 abbrev pub invariant-loop-state : goal.invariant-loop-state
-invariant-loop-state g l = Rounds l.tracer.table.words.now l.nonterminal l.fn.states.low l.fn.states.high l.initial.trace.edges.words l.initial.trace.edges.flags l.state-iterator.0.low l.state-iterator.0.high l.trace.edges.words l.trace.edges.flags l.trace.entered l.before l.known × TwoTails l.tracer.table.words.now l.tail.records l.tail.links l.other.records l.other.links
+invariant-loop-state g l = Rounds l.tracer.table.words.now l.nonterminal l.fn.states.low l.fn.states.high l.initial.trace.edges.words l.initial.trace.edges.flags l.state-iterator.0.low l.state-iterator.0.high l.trace.edges.words l.trace.edges.flags l.trace.entered l.traced × TwoTails l.tracer.table.words.now l.tail.records l.tail.links l.other.records l.other.links

@@ -1,5 +1,4 @@
 use Rattle.std.proofs.Common.{◌≡◌, ◌-◌, get_or, sym, ◌∙◌, arith, length-set}
-use Rattle.lr1_core.proofs.Cursor.{cursor_is, cursor_shifts}
 use Rattle.tracer.proofs.Linking.{linked_start, linked_skip, linked_put}
 use Rattle.tracer.proofs.Passing.{packed_few}
 use Rattle.tracer.proofs.tails.link.Goals as goal
@@ -17,11 +16,11 @@ pub item-read-requires : goal.item-read-requires
 item-read-requires c = let C = c.requires.0.1 in
     let o = C.on (c.loop-k.k - 1) (omega (arith, c.loop-k-test.true)) (omega (arith, c.loop-k.invariant.1, c.loop-k-test.true)) in record { some = rw c.word.ensures.0 o.1; on = rw c.word.ensures.0 o.0 }
 
-pub cursor-nonterminal-requires : goal.cursor-nonterminal-requires
-cursor-nonterminal-requires c = packed_few _ _ _ _ c.args.tracer.working _ _ c.item-read.ensures.read.fits
+pub nonterminal_at-requires : goal.nonterminal_at-requires
+nonterminal_at-requires c = packed_few _ _ _ _ c.args.tracer.working _ _ c.item-read.ensures.read.fits
 
 pub bounds-links-nonterminal : goal.bounds-links-nonterminal
-bounds-links-nonterminal c = omega (arith, c.loop-k.invariant.0.long, c.if-nonterminal-lt-LIMIT.true)
+bounds-links-nonterminal c = omega (arith, c.loop-k.invariant.0.long, c.in-Some.ensures.0)
 
 pub bounds-links-k : goal.bounds-links-k
 bounds-links-k c = let C = c.requires.0.1 in omega (arith, C.few, c.loop-k.invariant.0.long, c.loop-k.invariant.1, c.loop-k-test.true)
@@ -29,23 +28,23 @@ bounds-links-k c = let C = c.requires.0.1 in omega (arith, C.few, c.loop-k.invar
 pub overflow_cast-links : goal.overflow_cast-links
 overflow_cast-links c = let C = c.requires.0.1 in omega (arith, C.few, c.loop-k.invariant.1)
 
-pub bounds-links-nonterminal-then-nonterminal-lt-LIMIT : goal.bounds-links-nonterminal-then-nonterminal-lt-LIMIT
-bounds-links-nonterminal-then-nonterminal-lt-LIMIT c = let l = length-set c.loop-k.links (c.loop-k.k - 1) (get_or c.loop-k.links c.cursor-nonterminal.result 0) ∙ c.loop-k.invariant.0.long in omega (arith, c.if-nonterminal-lt-LIMIT.true)
+pub bounds-links-nonterminal-in-Some : goal.bounds-links-nonterminal-in-Some
+bounds-links-nonterminal-in-Some c = let l = length-set c.loop-k.links (c.loop-k.k - 1) (get_or c.loop-k.links c.in-Some.nonterminal 0) ∙ c.loop-k.invariant.0.long in omega (arith, c.in-Some.ensures.0)
 
-pub loop-k-preserved-then-nonterminal-lt-LIMIT : goal.loop-k-preserved-then-nonterminal-lt-LIMIT
-loop-k-preserved-then-nonterminal-lt-LIMIT c = let less = c.loop-k-test.true in
+pub loop-k-preserved-in-Some : goal.loop-k-preserved-in-Some
+loop-k-preserved-in-Some c =
+    let less = c.loop-k-test.true in
     let few = c.loop-k.invariant.1 in (
-      linked_put _ _ (c.loop-k.k - 1) _ _ _ _ c.word.ensures.0 c.item-read.ensures.read _ _ _ c.args.tracer.working _ (cursor_is _ _ _ _ c.cursor-nonterminal.ensures) _ _ _ c.loop-k.invariant.0 (omega arith) (omega arith) (omega arith)
-          c.if-nonterminal-lt-LIMIT.true (cursor_shifts _ _ _ _ c.cursor-nonterminal.ensures c.if-nonterminal-lt-LIMIT.true) c.requires.0.1.few,
+      linked_put _ _ (c.loop-k.k - 1) _ _ _ _ c.word.ensures.0 c.item-read.ensures.read _ _ _ c.args.tracer.working _ _ _ c.loop-k.invariant.0 (omega arith) (omega arith) (omega arith) _ c.in-Some.ensures.1 c.in-Some.ensures.0 c.requires.0.1.few,
       omega arith,
       omega arith,
     )
 
 pub loop-k-preserved : goal.loop-k-preserved
-loop-k-preserved c = let less = c.loop-k-test.true in
+loop-k-preserved c =
+    let less = c.loop-k-test.true in
     let few = c.loop-k.invariant.1 in (
-      linked_skip _ _ (c.loop-k.k - 1) _ _ _ _ c.word.ensures.0 c.item-read.ensures.read _ _ _ c.args.tracer.working _ (cursor_is _ _ _ _ c.cursor-nonterminal.ensures) _ _ _ c.loop-k.invariant.0 (omega arith) (omega arith) (omega arith)
-          c.if-nonterminal-lt-LIMIT.false,
+      linked_skip _ _ (c.loop-k.k - 1) _ _ _ _ c.word.ensures.0 c.item-read.ensures.read _ _ _ c.args.tracer.working _ _ _ c.loop-k.invariant.0 (omega arith) (omega arith) (omega arith) c.in_default.ensures,
       omega arith,
       omega arith,
     )
