@@ -1,54 +1,31 @@
 -- Laws of the search for a nonterminal in right sides. Assumes nothing.
-use mathlib.Core.Path.{◌≡◌, sym, ap, ◌∙◌}
-use mathlib.Core.Bool.{Bool, true, false}
-use mathlib.Core.List.{List, [], ◌∷◌}
-use Prim.Native.Nat.{ℕ, suc, ◌+◌, ◌≤◌, ◌<◌}
-use native.Mathlib.Omega.{arith}
-use lib.ListN.{get_or, drop, drop_of_length-le}
-use lib.Seq.{drop-cons}
-use Rattle.repr.specs.Sizes.{nonterminal_limit, terminal_limit}
-use Rattle.repr.specs.Lists.{some?}
-use Rattle.repr.specs.Meaning.{Symbol, nonterminal, is_same_symbol, no_production}
-use Rattle.repr.specs.Listed.{listed, list_is_fit}
-use Rattle.repr.specs.Packed.{Packed, symbol_words, productions_in}
-use Rattle.repr.proofs.Tests.{some?-nil, some?-yes, some?_no}
-use Rattle.grammar_records.proofs.Packed.{many_packed, row_at}
+use Rattle.std.proofs.Common.{◌≡◌, ℕ, zero, suc, Bool, ◌||◌, List, [], ◌∷◌, map, sym, ap, ◌∙◌, add-one}
+use Rattle.std.specs.List.{list_any, range_with_len}
+use Rattle.repr.specs.Lists.{up_from, below, some?}
+use Rattle.repr.specs.Meaning.{Symbol, nonterminal, is_same_symbol}
+use Rattle.repr.specs.Listed.{listed}
+use Rattle.repr.specs.Packed.{symbol_words, production_in, productions_in}
+use Rattle.repr.proofs.Tests.{some?-nil, some?-cons}
 use Rattle.augment.specs.Started.{uses}
 
--- the first symbol of what is left, and the end
-module _ (n : ℕ) (ss : List Symbol) where
-  module _ (s : Symbol) (rest : List Symbol) (e : ss ≡ s ∷ rest) where
-    pub among_found : is_same_symbol (nonterminal n) s ≡ true → true ≡ some? (is_same_symbol (nonterminal n)) ss
-    among_found y = sym (ap (some? (is_same_symbol (nonterminal n))) e ∙ some?-yes (is_same_symbol (nonterminal n)) s rest y)
+any_some : {A : Type 0} (t : A → Bool) (xs : List A) → list_any t xs ≡ some? t xs
+any_some t [] = sym (some?-nil t)
+any_some t (x ∷ xs) = ap (λ (b : Bool). t x || b) (any_some t xs) ∙ sym (some?-cons t x xs)
 
-    pub among_step : is_same_symbol (nonterminal n) s ≡ false → some? (is_same_symbol (nonterminal n)) rest ≡ some? (is_same_symbol (nonterminal n)) ss
-    among_step y = sym (ap (some? (is_same_symbol (nonterminal n))) e ∙ some?_no (is_same_symbol (nonterminal n)) s rest y)
+pub among_is : (n : ℕ) (ss : List Symbol) → list_any (is_same_symbol (nonterminal n)) ss ≡ some? (is_same_symbol (nonterminal n)) ss
+among_is n ss = any_some (is_same_symbol (nonterminal n)) ss
 
-  pub among_end : ss ≡ [] → false ≡ some? (is_same_symbol (nonterminal n)) ss
-  among_end e = sym (ap (some? (is_same_symbol (nonterminal n))) e ∙ some?-nil (is_same_symbol (nonterminal n)))
+-- whether it is a symbol of production p
+abbrev pub used : List ℕ → ℕ → ℕ → Bool
+used g n p = some? (is_same_symbol (nonterminal n)) (listed (symbol_words g p))
 
-pub passing_fits : (g ws : List ℕ) (m p : ℕ) → Packed g m → p < m → ws ≡ symbol_words g p → list_is_fit nonterminal_limit terminal_limit ws ≡ true
-passing_fits g ws m p P h e = rw e (P.fits p h)
+used_from : (g : List ℕ) (n a m : ℕ) → list_any (used g n) (range_with_len a m) ≡ some? (uses n) (map (production_in g) (up_from a m))
+unfolding up_from uses production_in
+used_from g n a zero = sym (some?-nil (uses n))
+used_from g n a (suc m) =
+    let more : list_any (used g n) (range_with_len (suc a) m) ≡ some? (uses n) (map (production_in g) (up_from (suc a) m)) = used_from g n (suc a) m in
+    rw (add-one a) (ap (λ (b : Bool). used g n a || b) more ∙ sym (some?-cons (uses n) (production_in g a) (map (production_in g) (up_from (suc a) m))))
 
--- the productions before p have it not
-module _ (g : List ℕ) (m n p : ℕ) where
-  abbrev pub Passing : Type 0
-  Passing = some? (uses n) (drop p (productions_in g m)) ≡ some? (uses n) (productions_in g m)
-
-module _ (g : List ℕ) (m n p : ℕ) (P : Packed g m) (W : Passing g m n p) where
-  module _ (h : p < m) (ws : List ℕ) (r : Bool) (ew : ws ≡ symbol_words g p) (er : r ≡ some? (is_same_symbol (nonterminal n)) (listed ws)) where
-    next : drop p (productions_in g m) ≡ get_or (productions_in g m) p no_production ∷ drop (p + 1) (productions_in g m)
-    next = let l = many_packed g m in let z : suc p ≡ p + 1 = omega arith in drop-cons (productions_in g m) p no_production (omega arith) ∙ ap (λ (k : ℕ). get_or (productions_in g m) p no_production ∷ drop k (productions_in g m)) z
-
-    here : r ≡ uses n (get_or (productions_in g m) p no_production)
-    unfolding uses
-    here = er ∙ ap (λ (k : List ℕ). some? (is_same_symbol (nonterminal n)) (listed k)) ew ∙ sym (ap (some? (is_same_symbol (nonterminal n))) (row_at g m p P h).symbols)
-
-    pub passing_found : r ≡ true → true ≡ some? (uses n) (productions_in g m)
-    passing_found e = sym (some?-yes (uses n) (get_or (productions_in g m) p no_production) (drop (p + 1) (productions_in g m)) (sym here ∙ e)) ∙ sym (ap (some? (uses n)) next) ∙ W
-
-    pub passing_step : r ≡ false → Passing g m n (p + 1)
-    passing_step e = sym (some?_no (uses n) (get_or (productions_in g m) p no_production) (drop (p + 1) (productions_in g m)) (sym here ∙ e)) ∙ sym (ap (some? (uses n)) next) ∙ W
-
-  pub passing_end : m ≤ p → false ≡ some? (uses n) (productions_in g m)
-  passing_end h = let l = many_packed g m in sym (ap (some? (uses n)) (drop_of_length-le (productions_in g m) {i = p} (omega arith)) ∙ some?-nil (uses n)) ∙ W
+pub stands_is : (g : List ℕ) (n m : ℕ) → list_any (used g n) (range_with_len 0 m) ≡ some? (uses n) (productions_in g m)
+unfolding productions_in below
+stands_is g n m = used_from g n 0 m

@@ -41,24 +41,14 @@ fn is_among(symbols: &[u16], n: usize) -> bool
     requires { list_is_fit nonterminal_limit terminal_limit symbols.now ≡ true }
     ensures { result ≡ some? (is_same_symbol (nonterminal n)) (listed symbols.now) }
 {
-    for symbol in (SymbolIter { words: symbols }) {
-        if is_nonterminal(symbol, n) {
-            return true;
-        }
-    }
-    false
+    SymbolIter { words: symbols }.any(|symbol| is_nonterminal(symbol, n))
 }
 
 // Whether it stands in a right side.
 fn stands_in(grammar: Grammar, n: usize) -> bool
     ensures { result ≡ some? (uses n) (productions_in grammar.entry.words.now grammar.entry.productions) }
 {
-    for p in 0..grammar.productions {
-        if is_among(grammar.symbols(p), n) {
-            return true;
-        }
-    }
-    false
+    (0..grammar.productions).any(|p| is_among(grammar.symbols(p), n))
 }
 
 // The start production that it has: its only one, if it stands in no right side.
@@ -66,13 +56,10 @@ fn own_start(grammar: Grammar, n: usize) -> Option<usize>
     ensures { (U : Table) → PackedAs U grammar.entry.words.now grammar.entry.productions → MatchOption result (is_start_needed U n ≡ true) (λ p. (is_start_needed U n ≡ false) × (p ≡ owned_from (productions_in grammar.entry.words.now grammar.entry.productions) n 0)) }
 {
     let first = next_owned(grammar, n, 0)?;
-    if next_owned(grammar, n, first + 1).is_some() {
-        return None;
-    }
-    if stands_in(grammar, n) {
-        None
-    } else {
+    if next_owned(grammar, n, first + 1).is_none() && !stands_in(grammar, n) {
         Some(first)
+    } else {
+        None
     }
 }
 
@@ -132,6 +119,7 @@ pub fn with_start(
     requires { Startable (meaning table.words.now) start.0 }
     ensures { record { answer = reply_of result; out = out.new } ≡ started_of (meaning table.entry.words.now) start.0 out.old }
 {
+    // The words and not a `Grammar`: a production may be put behind the others.
     let mut grammar = [0u16; ProductionIndex::ALL_WORDS];
     table.read_productions(&mut grammar);
     let counts = table.counts();
@@ -147,18 +135,14 @@ pub fn with_start(
     ) {
         return write_started(&grammar, counts, first, out);
     }
-    if nonterminals == NonterminalString::LIMIT {
-        return Err(Refusal::Counts);
-    }
-    if productions == ProductionIndex::LIMIT {
+    if nonterminals == NonterminalString::LIMIT || productions == ProductionIndex::LIMIT {
         return Err(Refusal::Counts);
     }
     append(&mut grammar, productions, nonterminals, n);
     let more = Counts {
         nonterminals: nonterminals + 1,
-        terminals: counts.terminals,
-        states: counts.states,
         productions: productions + 1,
+        ..counts
     };
     write_started(&grammar, more, productions, out)
 }

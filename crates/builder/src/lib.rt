@@ -25,7 +25,7 @@ use searching::search_states;
 use slices::zero;
 use state_records::{write_edges, write_items, write_states};
 use stored::Kernel;
-use table::{AcceptedTable, Counts};
+use table::{AcceptedTable, Counts, RECORDS};
 use taking::Edges;
 
 // How many records of the table and how many conflicts are written.
@@ -44,16 +44,14 @@ impl Built {
 fn is_grammar_alone(table: AcceptedTable) -> bool
     ensures { result ≡ grammar_alone (meaning table.entry.words.now) }
 {
-    let counts = table.counts();
-    counts.states == 1 && table.first_item(0) == 0 && table.first_edge(0) == 0
+    table.counts().states == 1 && table.first_item(0) == 0 && table.first_edge(0) == 0
 }
 
 // Refusal 18.
 fn start_fits(table: AcceptedTable, start: usize) -> bool
     ensures { result ≡ start_is_fit (meaning table.entry.words.now) start }
 {
-    let counts = table.counts();
-    start < counts.productions && is_grammar_alone(table)
+    start < table.counts().productions && is_grammar_alone(table)
 }
 
 // The table of what was found, region by region.
@@ -110,7 +108,7 @@ fn sizes_of(table: AcceptedTable, grammar: Grammar, room: usize) -> Sizes
     Sizes {
         nonterminals,
         fixed: 1 + nonterminals + grammar.productions + symbols,
-        limit: room.min(8192),
+        limit: room.min(RECORDS),
     }
 }
 
@@ -125,32 +123,17 @@ fn build_found(
     requires start_value { (start_is_fit (meaning table.words.now) start ≡ true) × (record_limit * 5 ≤ length words.old) }
     ensures { (S : List ℕ) → record { answer = reply_of result; scratch = zeroed build_scratch S; out = out.new; conflicts = conflicts.new } ≡ built_of (meaning table.entry.words.now) S out.old conflicts.old (outcome (meaning table.entry.words.now) start (length out.old / 4) (length conflicts.old)) }
 {
-    let counts = table.counts();
     let mut packed = [0u16; ProductionIndex::ALL_WORDS];
-    table.read_productions(&mut packed);
-    let grammar = Grammar {
-        words: &packed,
-        productions: counts.productions,
-    };
-    let sets = FirstSets::new(grammar, counts.terminals as u16);
+    let grammar = table.read_grammar(&mut packed);
+    let sets = FirstSets::new(grammar, table.counts().terminals as u16);
     let source = Source {
         grammar,
         sets: &sets,
         sizes: sizes_of(table, grammar, out.len() / 4),
     };
-    let mut begins = Begins {
-        items: [0; 129],
-        states: 0,
-    };
-    let mut kernel = Kernel {
-        words: [0; 10880],
-        many: 0,
-    };
-    let mut edges = Edges {
-        words: [0; 12160],
-        rows: [0; 129],
-        many: 0,
-    };
+    let mut begins = Begins::new();
+    let mut kernel = Kernel::new();
+    let mut edges = Edges::new();
     search_states(source, start, words, &mut begins, &mut kernel, &mut edges)?;
     let found = FoundStates {
         source,

@@ -5,7 +5,7 @@ use Rattle.repr.specs.Sizes.{index_limit, production_room}
 use Rattle.repr.specs.Lists.{up_from, below}
 use Rattle.repr.specs.Packed.{symbol_words, production_in}
 use Rattle.repr.specs.Listed.{listed}
-use Rattle.repr.specs.Meaning.{Symbol, nonterminal, terminal, Production, Table, production_at, SymbolFits, All}
+use Rattle.repr.specs.Meaning.{Symbol, nonterminal, terminal, Table, production_at}
 use Rattle.repr.proofs.Lists.{below_last}
 use Rattle.lookahead.specs.Tokens.{union}
 use Rattle.lookahead.proofs.Sets.{union-zero_right}
@@ -14,12 +14,9 @@ use Rattle.first.specs.Rust.{rust_first0}
 use Rattle.first.proofs.Join.{first1-join}
 use Rattle.build.specs.States.{from}
 use Rattle.build.proofs.Rounds.{gives_none, gives-some}
-use Rattle.build.proofs.Closure.{behind_fit}
 use Rattle.closing.specs.Grammar.{OfTable}
 use Rattle.closing.specs.Fed.{feed, fed_by_items, fed_by_firsts}
 use Rattle.lr1_core.specs.Items.{symbol_sets}
-use Rattle.lr1_core.specs.Cursor.{symbol_code, cursor_code, code_in}
-use Rattle.lr1_core.proofs.Cursor.{code-shows}
 use Rattle.closing.proofs.Grammar.{production_at_lem}
 
 -- one item
@@ -30,14 +27,16 @@ feed-none T A [] s z = refl
 feed-none T A (terminal t ∷ β) s z = refl
 feed-none T A (nonterminal n ∷ β) s z = rw (gives_none T.terminals (rust_first0 T β) s z, union-zero_right (get_or A n 0), set-get_or A n 0)
 
-pub feed-other : (T : Table) (A : List ℕ) (ys : List Symbol) (s c : ℕ) → c ≡ cursor_code ys → 32 ≤ c → ((n : ℕ) (β : List Symbol) → ys ≡ nonterminal n ∷ β → n < 32) → A ≡ feed T A ys s
-unfolding feed cursor_code symbol_code
-feed-other T A [] s c e h f = refl
-feed-other T A (terminal t ∷ β) s c e h f = refl
-feed-other T A (nonterminal n ∷ β) s c e h f = absurd (omega (arith, f n β refl))
+pub feed_end : (T : Table) (A : List ℕ) (ys : List Symbol) (s : ℕ) → ys ≡ [] → A ≡ feed T A ys s
+unfolding feed
+feed_end T A ys s e = rw e refl
+
+pub feed_terminal : (T : Table) (A : List ℕ) (ys β : List Symbol) (s t : ℕ) → ys ≡ terminal t ∷ β → A ≡ feed T A ys s
+unfolding feed
+feed_terminal T A ys β s t e = rw e refl
 
 -- FIRST(β s) by the code's sets
-pub feed-some : (T : Table) (g : List ℕ) (k e : ℕ) (sets A : List ℕ) (ys β : List Symbol) (s n m u : ℕ) → OfTable T g k e sets → (s ≡ 0 → ⊥) → ys ≡ nonterminal n ∷ β
+feed-some : (T : Table) (g : List ℕ) (k e : ℕ) (sets A : List ℕ) (ys β : List Symbol) (s n m u : ℕ) → OfTable T g k e sets → (s ≡ 0 → ⊥) → ys ≡ nonterminal n ∷ β
     → m ≡ first1 e sets β s → u ≡ union (get_or A n 0) m → set A n u ≡ feed T A ys s
 unfolding feed rust_first0
 feed-some T g k e sets A ys β s n m u G ne q em eu =
@@ -82,29 +81,12 @@ length-feed T A [] s = refl
 length-feed T A (terminal t ∷ β) s = refl
 length-feed T A (nonterminal n ∷ β) s = simp length-set
 
--- a nonterminal at the cursor is one of the table's
-head-fits : (T : Table) (g : List ℕ) (k e : ℕ) (sets : List ℕ) (p i n : ℕ) (β : List Symbol) → OfTable T g k e sets → p < k → drop i (listed (symbol_words g p)) ≡ nonterminal n ∷ β
-    → n < length T.nonterminals
-unfolding production_in SymbolFits All
-head-fits T g k e sets p i n β G h q =
-    (behind_fit T G.fits (record { production = p; index = i }) (nonterminal n) β (ap (λ (r : Production). drop i r.symbols) (production_at_lem T g k e sets G p h) ∙ q)).0
-
--- a cursor at no nonterminal
-pub feed_past : (T : Table) (g : List ℕ) (k e : ℕ) (sets A : List ℕ) (p i s c : ℕ) → OfTable T g k e sets → p < k → c ≡ code_in g p i → 32 ≤ c → A ≡ feed T A (drop i (production_in g p).symbols) s
-unfolding code_in production_in
-feed_past T g k e sets A p i s c G h ec l = feed-other T A (drop i (listed (symbol_words g p))) s c ec l (λ n β q. small n β q)
-  where
-    small : (n : ℕ) (β : List Symbol) → drop i (listed (symbol_words g p)) ≡ nonterminal n ∷ β → n < 32
-    small n β q =
-        let f = head-fits T g k e sets p i n β G h q in
-        omega (arith, f, G.fits.few_nonterminals)
-
 -- a cursor at a nonterminal, by the code's values: its number, the words behind the cursor, FIRST of them, the union
-pub feed-step : (T : Table) (g : List ℕ) (k e : ℕ) (sets A ws : List ℕ) (p i s n m u : ℕ) → OfTable T g k e sets → (s ≡ 0 → ⊥) → n ≡ code_in g p i → n < 32
+pub feed-step : (T : Table) (g : List ℕ) (k e : ℕ) (sets A ws : List ℕ) (p i s n m u : ℕ) → OfTable T g k e sets → (s ≡ 0 → ⊥) → drop i (listed (symbol_words g p)) ≡ nonterminal n ∷ drop (suc i) (listed (symbol_words g p))
     → listed ws ≡ (symbol_sets (listed (symbol_words g p)) i).suffix → m ≡ first1 e sets (listed ws) s → u ≡ union (get_or A n 0) m → set A n u ≡ feed T A (drop i (production_in g p).symbols) s
 unfolding symbol_sets production_in
-feed-step T g k e sets A ws p i s n m u G ne ec l ew em eu =
-    feed-some T g k e sets A (drop i (listed (symbol_words g p))) (drop (suc i) (listed (symbol_words g p))) s n m u G ne (code-shows g p i n ec l) (em ∙ ap (λ (b : List Symbol). first1 e sets b s) ew) eu
+feed-step T g k e sets A ws p i s n m u G ne q ew em eu =
+    feed-some T g k e sets A (drop i (listed (symbol_words g p))) (drop (suc i) (listed (symbol_words g p))) s n m u G ne q (em ∙ ap (λ (b : List Symbol). first1 e sets b s) ew) eu
 
 -- the loops' ends
 pub items_end : (T : Table) (S A A' : List ℕ) (x k : ℕ) → x ≤ index_limit * k → index_limit * k ≤ x → A' ≡ fed_by_items T S A (below x) → A' ≡ fed_by_items T S A (below (index_limit * k))

@@ -125,8 +125,8 @@ spread_none g A K = refl
 pub spread_long : (g A K R : List ℕ) (p : ℕ) → R ≡ spread_in g A K (below p) → length K ≡ item_limit → length R ≡ item_limit
 spread_long g A K R p q l = ap length q ∙ length-spread_in g A K (below p) ∙ l
 
-pub spread-more : (g A K R : List ℕ) (p n u : ℕ) → R ≡ spread_in g A K (below p) → n ≡ get_or g (p * production_room) 0 → u ≡ union (get_or R (p * index_limit) 0) (get_or A n 0) → set R (p * index_limit) u ≡ spread_in g A K (below (p + 1))
-spread-more g A K R p n u q en eu = rw (add-one p, below_last p, spread_in_snoc g A K (below p) p, eu, en, q)
+pub spread-more : (g A K R : List ℕ) (p n x u : ℕ) → R ≡ spread_in g A K (below p) → n ≡ get_or g (p * production_room) 0 → x ≡ p * index_limit + 0 → u ≡ union (get_or R x 0) (get_or A n 0) → set R x u ≡ spread_in g A K (below (p + 1))
+spread-more g A K R p n x u q en ex eu = let z : x ≡ p * index_limit = omega arith in rw (add-one p, below_last p, spread_in_snoc g A K (below p) p, eu, en, z, q)
 
 pub spread_end : (g A K R : List ℕ) (p k : ℕ) → p ≤ k → k ≤ p → R ≡ spread_in g A K (below p) → R ≡ spread_in g A K (below k)
 spread_end g A K R p k h l q = let z : p ≡ k = omega arith in rw (← z) q

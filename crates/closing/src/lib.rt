@@ -16,21 +16,31 @@ ghost use Rattle.closing.specs.Fed.{Flat, feed, fed_by_items, fed_by_firsts, spr
 use first::FirstSets;
 use lookahead::TokenSet;
 use lr1_core::{Item, suffix};
-use repr::{Grammar, ProductionIndex, word};
+use repr::{Grammar, NonterminalString, ProductionIndex, Symbol};
 
+// Here and below a grammar and its FIRST sets stand beside each other: what keeps them as one, `Source` of crate finding, holds the sizes of a search too, and a struct of the two would be made at the one call from there.
 // What an item gives to the nonterminal at its cursor: FIRST of what stands behind it, followed by the item's tokens. An item without a token gives nothing.
-fn feed(grammar: Grammar, sets: &FirstSets, item: Item, set: TokenSet, aheads: &mut [u64; 32])
+fn feed(
+    grammar: Grammar,
+    sets: &FirstSets,
+    item: Item,
+    set: TokenSet,
+    aheads: &mut [u64; NonterminalString::LIMIT],
+)
     requires { item.production < grammar.productions }
     ensures { (T : Table) → OfTable T grammar.entry.words.now grammar.entry.productions sets.now.terminals sets.now.map → aheads.new ≡ feed T aheads.old (drop item.index (production_in grammar.entry.words.now item.production).symbols) set.0 }
 {
-    let tokens = set.0;
-    if tokens == 0 {
+    if set.0 == 0 {
         return;
     }
-    let nonterminal = item.cursor(grammar);
-    if nonterminal < 32 {
-        let more = sets.first1(suffix(grammar, item), set);
-        aheads[nonterminal] = TokenSet(aheads[nonterminal]).union(more).0;
+    match item.cursor(grammar) {
+        Some(Symbol::Nonterminal(at)) => {
+            let nonterminal = at.0 as usize;
+            let more = sets.first1(suffix(grammar, item), set);
+            aheads[nonterminal] = TokenSet(aheads[nonterminal]).union(more).0;
+        }
+        Some(Symbol::Terminal(_)) => {}
+        None => {}
     }
 }
 
@@ -39,22 +49,18 @@ fn feed_items(
     grammar: Grammar,
     sets: &FirstSets,
     kernel: &[u64; Item::LIMIT],
-    aheads: &mut [u64; 32],
+    aheads: &mut [u64; NonterminalString::LIMIT],
 )
     ensures { (T : Table) → OfTable T grammar.entry.words.now grammar.entry.productions sets.now.terminals sets.now.map → aheads.new ≡ fed_by_items T kernel.now aheads.old (below (index_limit * grammar.entry.productions)) }
 {
     let places = ProductionIndex::INDEXES * grammar.productions;
-    for place in 0..places {
-        let item = Item {
-            production: place / ProductionIndex::INDEXES,
-            index: place % ProductionIndex::INDEXES,
-        };
-        feed(grammar, sets, item, TokenSet(kernel[place]), aheads);
+    for (place, &set) in kernel[..places].iter().enumerate() {
+        feed(grammar, sets, Item::at(place), TokenSet(set), aheads);
     }
 }
 
 // By the first item of each production.
-fn feed_firsts(grammar: Grammar, sets: &FirstSets, aheads: &mut [u64; 32])
+fn feed_firsts(grammar: Grammar, sets: &FirstSets, aheads: &mut [u64; NonterminalString::LIMIT])
     ensures { (T : Table) → OfTable T grammar.entry.words.now grammar.entry.productions sets.now.terminals sets.now.map → aheads.new ≡ fed_by_firsts T aheads.old (below grammar.entry.productions) }
 {
     for production in 0..grammar.productions {
@@ -69,12 +75,16 @@ fn feed_firsts(grammar: Grammar, sets: &FirstSets, aheads: &mut [u64; 32])
 }
 
 // The lookaheads of each nonterminal's index-0 items: round after round until one changes nothing.
-fn aheads_of(grammar: Grammar, sets: &FirstSets, kernel: &[u64; Item::LIMIT]) -> [u64; 32]
+fn aheads_of(
+    grammar: Grammar,
+    sets: &FirstSets,
+    kernel: &[u64; Item::LIMIT],
+) -> [u64; NonterminalString::LIMIT]
     requires held { Held grammar.words.now grammar.productions sets.now.terminals sets.now.map }
     requires flat { Flat kernel.now }
     ensures { (T : Table) → OfTable T grammar.entry.words.now grammar.entry.productions sets.now.terminals sets.now.map → aheads T (take (index_limit * grammar.entry.productions) kernel.now) ≡ take (index_limit * grammar.entry.productions) kernel.now ++ result }
 {
-    let mut aheads = [0u64; 32];
+    let mut aheads = [0u64; NonterminalString::LIMIT];
     let mut changed = true;
     while changed {
         let before = aheads;
@@ -86,15 +96,22 @@ fn aheads_of(grammar: Grammar, sets: &FirstSets, kernel: &[u64; Item::LIMIT]) ->
 }
 
 // Each production's index-0 item gets its nonterminal's lookaheads besides its own.
-fn spread(grammar: Grammar, aheads: &[u64; 32], state: &mut [u64; Item::LIMIT])
+fn spread(
+    grammar: Grammar,
+    aheads: &[u64; NonterminalString::LIMIT],
+    state: &mut [u64; Item::LIMIT],
+)
     requires { length state.old ≡ item_limit }
     ensures { state.new ≡ spread_in grammar.entry.words.now aheads.now state.old (below grammar.entry.productions) }
 {
     for production in 0..grammar.productions {
-        let nonterminal = grammar.owner(production);
-        let own = TokenSet(state[production * ProductionIndex::INDEXES]);
-        let ahead = TokenSet(aheads[nonterminal]);
-        state[production * ProductionIndex::INDEXES] = own.union(ahead).0;
+        let first = Item {
+            production,
+            index: 0,
+        };
+        let place = first.place();
+        let ahead = TokenSet(aheads[grammar.owner(production)]);
+        state[place] = TokenSet(state[place]).union(ahead).0;
     }
 }
 

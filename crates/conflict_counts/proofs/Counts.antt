@@ -1,11 +1,14 @@
 -- Laws of the conflicts by numbers (specs/Clashed): one production more, how many they are, and they are the state's (`clashes_in_lem`). Assumes nothing.
-use Rattle.std.proofs.Common.{◌≡◌, ℕ, suc, ◌+◌, ◌-◌, ◌*◌, ◌<◌, ◌≤◌, true, not, ltb, List, [], ◌∷◌, ◌++◌, map, length, get_or, take, sym, refl, ap, ◌∙◌, add-one, arith, length-append, ltb-true}
+use Rattle.std.proofs.Common.{◌≡◌, ℕ, zero, suc, ◌+◌, ◌-◌, ◌*◌, ◌<◌, ◌≤◌, true, not, ltb, List, [], ◌∷◌, ◌++◌, map, length, get_or, take, sym, refl, ap, ◌∙◌, add-one, arith, length-append, ltb-true}
 use mathlib.Core.Bool.{and-false}
 use Rattle.repr.specs.Sizes.{index_limit}
 use Rattle.repr.specs.Lists.{up_from, below, mem, joined}
 use Rattle.repr.specs.Meaning.{Table}
 use Rattle.repr.proofs.Lists.{cases, clash, length_mapped, mem-up_from, mem_below, mem-cons_here, mem-cons_there, joined_nil, joined_cons}
+use Rattle.std.specs.List.{range_with_len, sum_by}
+use Rattle.std.proofs.lemmas.List.Sums.{sum_by-cons}
 use Rattle.lookahead.specs.Tokens.{meet, members}
+use Rattle.lookahead.proofs.Members.{members_few}
 use Rattle.build.specs.States.{reduces, clashes_of, clashes}
 use Rattle.closing.specs.Grammar.{OfTable}
 use Rattle.clashing.specs.Clashes.{shift_clash, reduce_clash, Shifted, clashes_with}
@@ -39,29 +42,53 @@ pub joined_start : {B : Type 0} (f : ℕ → List B) (n : ℕ) → joined f (up_
 unfolding below
 joined_start f n = let z : n - 0 ≡ n = omega arith in rw z refl
 
--- counting, one law for each way through the code
+-- counting
 
-pub pair-counted : (r : List ℕ) (p q n m d all : ℕ) → q < n → d ≡ length (members (meet (get_or r p 0) (get_or r q 0)))
-    → m + length (pairs_in r p (up_from q (n - q))) ≡ all → m + d + length (pairs_in r p (up_from (q + 1) (n - (q + 1)))) ≡ all
-pair-counted r p q n m d all h e w =
-    let a = ap length (pairs-more r p q n h) ∙ length-append (map (reduce_clash p q) (members (meet (get_or r p 0) (get_or r q 0)))) (pairs_in r p (up_from (q + 1) (n - (q + 1)))) in
-    let b = length_mapped (reduce_clash p q) (members (meet (get_or r p 0) (get_or r q 0))) in
+pub pair_sum : (r : List ℕ) (p a n : ℕ) → sum_by (λ q. length (members (meet (get_or r p 0) (get_or r q 0)))) (range_with_len a n) ≡ length (pairs_in r p (up_from a n))
+unfolding pairs_in joined up_from
+pair_sum r p a zero = refl
+pair_sum r p a (suc n) =
+    let more : sum_by (λ q. length (members (meet (get_or r p 0) (get_or r q 0)))) (range_with_len (suc a) n) ≡ length (pairs_in r p (up_from (suc a) n)) = pair_sum r p (suc a) n in
+    let l = length-append (map (reduce_clash p a) (members (meet (get_or r p 0) (get_or r a 0)))) (pairs_in r p (up_from (suc a) n)) in
+    let b = length_mapped (reduce_clash p a) (members (meet (get_or r p 0) (get_or r a 0))) in
+    rw (add-one a, sum_by-cons (λ q. length (members (meet (get_or r p 0) (get_or r q 0)))) a (range_with_len (suc a) n)) (omega arith)
+
+pub pairs_few : (r : List ℕ) (p a n : ℕ) → length (pairs_in r p (up_from a n)) ≤ 64 * n
+unfolding pairs_in joined up_from
+pairs_few r p a zero = omega arith
+pairs_few r p a (suc n) =
+    let more : length (pairs_in r p (up_from (suc a) n)) ≤ 64 * n = pairs_few r p (suc a) n in
+    let l = length-append (map (reduce_clash p a) (members (meet (get_or r p 0) (get_or r a 0)))) (pairs_in r p (up_from (suc a) n)) in
+    let b = length_mapped (reduce_clash p a) (members (meet (get_or r p 0) (get_or r a 0))) in
+    let k = members_few (meet (get_or r p 0) (get_or r a 0)) in
     omega arith
 
-pub pair-last : (r : List ℕ) (p q n m all : ℕ) → n ≤ q → m + length (pairs_in r p (up_from q (n - q))) ≡ all → m ≡ all
-pair-last r p q n m all h w = let a : m + 0 ≡ all = rw (pairs_end r p q n h) at w in omega arith
-
-pub one_counted : (r : List ℕ) (sh n p m d c all : ℕ) → p < n → d ≡ length (members (meet (get_or r p 0) sh)) → c ≡ length (pairs_in r p (up_from (p + 1) (n - (p + 1))))
-    → m + length (joined (clashes_in r sh n) (up_from p (n - p))) ≡ all → m + (d + c) + length (joined (clashes_in r sh n) (up_from (p + 1) (n - (p + 1)))) ≡ all
+pub clashes_are : (r : List ℕ) (sh n p : ℕ) → length (clashes_in r sh n p) ≡ length (members (meet (get_or r p 0) sh)) + length (pairs_in r p (up_from (p + 1) (n - (p + 1))))
 unfolding clashes_in
-one_counted r sh n p m d c all h e f w =
-    let a = ap length (joined_more (clashes_in r sh n) p n h) ∙ length-append (clashes_in r sh n p) (joined (clashes_in r sh n) (up_from (p + 1) (n - (p + 1)))) in
-    let b : length (clashes_in r sh n p) ≡ length (map (shift_clash p) (members (meet (get_or r p 0) sh))) + length (pairs_in r p (up_from (p + 1) (n - (p + 1)))) = length-append (map (shift_clash p) (members (meet (get_or r p 0) sh))) (pairs_in r p (up_from (p + 1) (n - (p + 1)))) in
-    let k = length_mapped (shift_clash p) (members (meet (get_or r p 0) sh)) in
+clashes_are r sh n p =
+    let l = length-append (map (shift_clash p) (members (meet (get_or r p 0) sh))) (pairs_in r p (up_from (p + 1) (n - (p + 1)))) in
+    let b = length_mapped (shift_clash p) (members (meet (get_or r p 0) sh)) in
     omega arith
 
-pub all-counted : (r : List ℕ) (sh n p m all : ℕ) → n ≤ p → m + length (joined (clashes_in r sh n) (up_from p (n - p))) ≡ all → m ≡ all
-all-counted r sh n p m all h w = let a : m + 0 ≡ all = rw (joined_end (clashes_in r sh n) p n h) at w in omega arith
+pub joined_sum : {A : Type 0} (f : ℕ → List A) (a m : ℕ) → sum_by (λ p. length (f p)) (range_with_len a m) ≡ length (joined f (up_from a m))
+unfolding up_from
+joined_sum f a zero = ap length (sym (joined_nil f))
+joined_sum f a (suc m) =
+    let more : sum_by (λ p. length (f p)) (range_with_len (suc a) m) ≡ length (joined f (up_from (suc a) m)) = joined_sum f (suc a) m in
+    let j = ap length (joined_cons f a (up_from (suc a) m)) ∙ length-append (f a) (joined f (up_from (suc a) m)) in
+    rw (add-one a, sum_by-cons (λ p. length (f p)) a (range_with_len (suc a) m)) (omega arith)
+
+pub joined_few : {A : Type 0} (f : ℕ → List A) (top : ℕ) (xs : List ℕ) → ((p : ℕ) → length (f p) ≤ top) → length (joined f xs) ≤ length xs * top
+joined_few f top [] h = rw (joined_nil f) (omega arith)
+joined_few f top (x ∷ xs) h =
+    let more = joined_few f top xs h in
+    let j = ap length (joined_cons f x xs) ∙ length-append (f x) (joined f xs) in
+    let k = h x in
+    let e : suc (length xs) * top ≡ length xs * top + top = omega arith in
+    omega arith
+
+pub clashes_few : (r : List ℕ) (sh n p : ℕ) → n ≤ 128 → length (clashes_in r sh n p) ≤ 8256
+clashes_few r sh n p h = omega (arith, clashes_are r sh n p, members_few (meet (get_or r p 0) sh), pairs_few r p (p + 1) (n - (p + 1)))
 
 -- they are the state's
 

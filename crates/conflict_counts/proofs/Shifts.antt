@@ -1,12 +1,13 @@
 -- The set of the terminals that a state shifts: one place more (`shift_none` to `shifted-more`), and by the places it is the one of specs/Clashes of clashing
 -- (`shifted_is`). Assumes nothing.
-use Rattle.std.proofs.Common.{◌≡◌, ℕ, suc, ◌+◌, ◌-◌, ◌*◌, ◌/◌, ◌%◌, ◌<◌, ◌≤◌, Bool, true, false, not, ◌&&◌, ◌||◌, eqb, ltb, List, [], ◌∷◌, get_or, take, drop, sym, refl, ap, ◌∙◌, add-one, arith, get_or-take, ltb-false, ltb-true, le-ltb, lt-ltb, eq-eqb, ne_eqb, eqb-true}
+use Rattle.std.proofs.Common.{◌≡◌, ℕ, suc, ◌+◌, ◌*◌, ◌/◌, ◌%◌, ◌<◌, ◌≤◌, Bool, true, false, not, ◌&&◌, ◌||◌, eqb, ltb, List, [], ◌∷◌, get_or, take, drop, sym, refl, ap, ◌∙◌, add-one, arith, get_or-take, ltb-false, ltb-true, le-ltb, lt-ltb, eq-eqb, ne_eqb, eqb-true}
 use mathlib.Core.Bool.{and-false, or-false}
 use borrow.Author.Tests.{eqb-false, not-true}
 use Rattle.repr.specs.Sizes.{index_limit}
 use Rattle.repr.specs.Lists.{up_from, below, some?}
 use Rattle.repr.specs.Meaning.{Symbol, nonterminal, terminal, Production, Item, Table, production_at, SymbolFits, All}
-use Rattle.repr.specs.Packed.{production_in}
+use Rattle.repr.specs.Listed.{listed}
+use Rattle.repr.specs.Packed.{symbol_words, production_in}
 use Rattle.repr.proofs.Lists.{cases, clash, below_last}
 use Rattle.repr.proofs.Tests.{some?-nil, some?-cons, some?-append, some?-below, some?-below_witness}
 use Rattle.lookahead.specs.Tokens.{has}
@@ -34,31 +35,41 @@ module _ (g : List ℕ) (s x t : ℕ) where
   unfolding shifts_at
   shift_none z h = nothing-more h (ltb t 63 && shifts_at g s x t) (rw (eq-eqb s 0 z) (and-false (ltb t 63)))
 
-  module _ (c : ℕ) (e : c ≡ code_in g (x / index_limit) (x % index_limit)) where
-    pub shift_low : c < 32 → (h : Bool) → h ≡ (h || (ltb t 63 && shifts_at g s x t))
-    unfolding shifts_at
-    shift_low l h =
-        let z : shifts_at g s x t ≡ false = rw (← e, ne_eqb c (32 + t) (λ q. omega arith)) (and-false (not (eqb s 0))) in
-        nothing-more h (ltb t 63 && shifts_at g s x t) (rw z (and-false (ltb t 63)))
+  code_none : drop (x % index_limit) (listed (symbol_words g (x / index_limit))) ≡ [] → 95 ≡ code_in g (x / index_limit) (x % index_limit)
+  unfolding code_in cursor_code
+  code_none q = rw q refl
 
-    pub shift_high : 94 < c → (h : Bool) → h ≡ (h || (ltb t 63 && shifts_at g s x t))
-    unfolding shifts_at
-    shift_high l h = nothing-more h (ltb t 63 && shifts_at g s x t) (cases (ltb t 63)
-        (λ u.
-        let k = ltb-true t 63 u in
-        let z : shifts_at g s x t ≡ false = rw (← e, ne_eqb c (32 + t) (λ q. omega arith)) (and-false (not (eqb s 0))) in
-        rw z (and-false (ltb t 63)))
-        (λ u. rw u refl))
+  code_here : (X : Symbol) (β : List Symbol) → drop (x % index_limit) (listed (symbol_words g (x / index_limit))) ≡ X ∷ β → symbol_code X ≡ code_in g (x / index_limit) (x % index_limit)
+  unfolding code_in cursor_code
+  code_here X β q = rw q refl
 
-    pub shift_some : (s ≡ 0 → ⊥) → 32 ≤ c → c ≤ 94 → (h r : Bool) → r ≡ (h || (ltb t 64 && eqb t (c - 32))) → r ≡ (h || (ltb t 63 && shifts_at g s x t))
-    unfolding shifts_at
-    shift_some z l k h r q = q ∙ ap (λ (b : Bool). h || b) (cases (eqb t (c - 32))
-        (λ u.
-        let v = eqb-true t (c - 32) u in
-        rw (u, lt-ltb t 64 (omega arith), lt-ltb t 63 (omega arith), ne_eqb s 0 z, ← e, eq-eqb c (32 + t) (omega arith)) refl)
-        (λ u.
-        let v = eqb-false t (c - 32) u in
-        rw (u, ← e, ne_eqb c (32 + t) (λ w. v (omega arith)), and-false (ltb t 64), and-false (not (eqb s 0))) (sym (and-false (ltb t 63)))))
+  pub shift_nonterminal : (n : ℕ) (β : List Symbol) → drop (x % index_limit) (listed (symbol_words g (x / index_limit))) ≡ nonterminal n ∷ β → n < 32 → (h : Bool) → h ≡ (h || (ltb t 63 && shifts_at g s x t))
+  unfolding shifts_at symbol_code
+  shift_nonterminal n β q l h =
+      let e : n ≡ code_in g (x / index_limit) (x % index_limit) = code_here (nonterminal n) β q in
+      let z : shifts_at g s x t ≡ false = rw (← e, ne_eqb n (32 + t) (λ q. omega arith)) (and-false (not (eqb s 0))) in
+      nothing-more h (ltb t 63 && shifts_at g s x t) (rw z (and-false (ltb t 63)))
+
+  pub shift_end : drop (x % index_limit) (listed (symbol_words g (x / index_limit))) ≡ [] → (h : Bool) → h ≡ (h || (ltb t 63 && shifts_at g s x t))
+  unfolding shifts_at
+  shift_end q h = nothing-more h (ltb t 63 && shifts_at g s x t) (cases (ltb t 63)
+      (λ u.
+      let k = ltb-true t 63 u in
+      let z : shifts_at g s x t ≡ false = rw (← code_none q, ne_eqb 95 (32 + t) (λ q. omega arith)) (and-false (not (eqb s 0))) in
+      rw z (and-false (ltb t 63)))
+      (λ u. rw u refl))
+
+  pub shift_terminal : (u : ℕ) (β : List Symbol) → drop (x % index_limit) (listed (symbol_words g (x / index_limit))) ≡ terminal u ∷ β → u < 63 → (s ≡ 0 → ⊥) → (h r : Bool) → r ≡ (h || (ltb t 64 && eqb t u)) → r ≡ (h || (ltb t 63 && shifts_at g s x t))
+  unfolding shifts_at symbol_code
+  shift_terminal u β w k z h r q =
+      let e : 32 + u ≡ code_in g (x / index_limit) (x % index_limit) = code_here (terminal u) β w in
+      q ∙ ap (λ (b : Bool). h || b) (cases (eqb t u)
+      (λ v.
+      let w = eqb-true t u v in
+      rw (v, lt-ltb t 64 (omega arith), lt-ltb t 63 (omega arith), ne_eqb s 0 z, ← e, eq-eqb (32 + u) (32 + t) (omega arith)) refl)
+      (λ v.
+      let w = eqb-false t u v in
+      rw (v, ← e, ne_eqb (32 + u) (32 + t) (λ y. w (omega arith)), and-false (ltb t 64), and-false (not (eqb s 0))) (sym (and-false (ltb t 63)))))
 
 pub shifted_start : (g S : List ℕ) → (t : ℕ) → has 0 t ≡ (ltb t 63 && some? (λ x. shifts_at g (get_or S x 0) x t) (below 0))
 unfolding below up_from

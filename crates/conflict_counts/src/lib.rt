@@ -18,7 +18,7 @@ ghost use Rattle.conflict_counts.specs.Clashed.{shifts_at, pairs_in, clashes_in}
 
 use lookahead::TokenSet;
 use lr1_core::Item;
-use repr::{Grammar, ProductionIndex};
+use repr::{Grammar, ProductionIndex, Symbol};
 
 // Of one production.
 fn reduction(grammar: Grammar, state: &[u64; Item::LIMIT], production: usize) -> u64
@@ -27,10 +27,9 @@ fn reduction(grammar: Grammar, state: &[u64; Item::LIMIT], production: usize) ->
 {
     let item = Item {
         production,
-        index: 0,
+        index: grammar.length(production),
     };
-    let at = production * ProductionIndex::INDEXES + item.length(grammar);
-    state[at]
+    state[item.place()]
 }
 
 // Of all.
@@ -52,18 +51,11 @@ fn shift_one(grammar: Grammar, place: usize, tokens: u64, set: TokenSet) -> Toke
     if tokens == 0 {
         return set;
     }
-    let item = Item {
-        production: place / ProductionIndex::INDEXES,
-        index: place % ProductionIndex::INDEXES,
-    };
-    let symbol = item.cursor(grammar);
-    if symbol < 32 {
-        return set;
+    match Item::at(place).cursor(grammar) {
+        Some(Symbol::Terminal(terminal)) => set.with(terminal),
+        Some(Symbol::Nonterminal(_)) => set,
+        None => set,
     }
-    if 94 < symbol {
-        return set;
-    }
-    set.with((symbol - 32) as u16)
 }
 
 // The terminals that the state shifts.
@@ -73,8 +65,8 @@ fn shift_set(grammar: Grammar, state: &[u64; Item::LIMIT]) -> TokenSet
 {
     let places = ProductionIndex::INDEXES * grammar.productions;
     let mut set = TokenSet::new();
-    for place in 0..places {
-        set = shift_one(grammar, place, state[place], set);
+    for (place, &tokens) in state[..places].iter().enumerate() {
+        set = shift_one(grammar, place, tokens, set);
     }
     set
 }
@@ -89,6 +81,9 @@ pub struct Actions {
 }
 
 impl Actions {
+    // Words of a conflict, as the list of conflicts has them.
+    pub const CONFLICT_WORDS: usize = 5;
+
     // Of a state that stands flat.
     pub fn new(grammar: Grammar, state: &[u64; Item::LIMIT]) -> Actions
         requires flat { Flat state.now }
@@ -124,23 +119,26 @@ impl Actions {
         requires { production < self.now.productions }
         ensures { (result ≡ length (pairs_in self.now.reductions production (up_from (production + 1) (self.now.productions - (production + 1))))) × (result ≤ 8192) }
     {
-        let mut many = 0;
-        for other in production + 1..self.productions {
-            many += self.common(production, other).len();
-        }
-        many
+        (production + 1..self.productions)
+            .map(|other| self.common(production, other).len())
+            .sum()
+    }
+
+    // How many conflicts a production has with what is shifted and with the higher ones.
+    fn count_of(&self, production: usize) -> usize
+        requires { production < self.now.productions }
+        ensures { (result ≡ length (clashes_in self.now.reductions self.now.shifts.0 self.now.productions production)) × (result ≤ 8256) }
+    {
+        self.shifts_of(production).len() + self.count_pairs(production)
     }
 
     // How many there are.
     fn count(&self) -> usize
         ensures { (result ≡ length (joined (clashes_in self.now.reductions self.now.shifts.0 self.now.productions) (below self.now.productions))) × (result ≤ 1056768) }
     {
-        let mut many = 0;
-        for production in 0..self.productions {
-            let shifts = self.shifts_of(production).len();
-            many += shifts + self.count_pairs(production);
-        }
-        many
+        (0..self.productions)
+            .map(|production| self.count_of(production))
+            .sum()
     }
 }
 

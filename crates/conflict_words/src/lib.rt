@@ -35,13 +35,15 @@ pub struct Pair {
     pub action: Action,
 }
 
-// Its words: a shift is of the token itself.
-fn words_of(pair: Pair, token: u16) -> [u16; 5]
-    ensures { result ≡ token_words pair token }
-{
-    match pair.action {
-        Action::Shift => [pair.state, pair.production, 0, token, token],
-        Action::Reduce(other) => [pair.state, pair.production, 1, other, token],
+impl Pair {
+    // The words of the conflict on a token: a shift is of the token itself.
+    fn words(self, token: u16) -> [u16; Actions::CONFLICT_WORDS]
+        ensures { result ≡ token_words self token }
+    {
+        match self.action {
+            Action::Shift => [self.state, self.production, 0, token, token],
+            Action::Reduce(other) => [self.state, self.production, 1, other, token],
+        }
     }
 }
 
@@ -50,7 +52,7 @@ fn write_one(list: &mut [u16], at: usize, pair: Pair, token: u16)
     requires { at + 5 ≤ length list.old }
     ensures { list.new ≡ put_at at (token_words pair token) list.old }
 {
-    list[at..at + 5].copy_from_slice(&words_of(pair, token));
+    list[at..at + Actions::CONFLICT_WORDS].copy_from_slice(&pair.words(token));
 }
 
 // One for each token of the set; the place behind them.
@@ -61,7 +63,7 @@ fn write_tokens(list: &mut [u16], at: usize, pair: Pair, set: TokenSet) -> usize
     let mut place = at;
     for token in set.iter() {
         write_one(list, place, pair, token);
-        place += 5;
+        place += Actions::CONFLICT_WORDS;
     }
     place
 }

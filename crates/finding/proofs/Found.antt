@@ -5,7 +5,7 @@ use lib.Seq.{take-length}
 use borrow.Author.Tests.{eqb-false}
 use Rattle.repr.specs.Sizes.{index_limit, item_limit, record_limit, state_limit}
 use Rattle.repr.specs.Lists.{up_from, below, keep}
-use Rattle.repr.specs.Meaning.{Symbol, SymbolFits, Production, Table}
+use Rattle.repr.specs.Meaning.{Symbol, nonterminal, terminal, SymbolFits, Production, Table}
 use Rattle.repr.proofs.Lists.{cases, length-up_from, length_mapped}
 use Rattle.repr.proofs.Tests.{every?_elim, every?_fails}
 use Rattle.build.specs.States.{places, closure, moved, nothing?, goto, place, written}
@@ -13,15 +13,15 @@ use Rattle.build.specs.Outcome.{sum, records, stops_at, number_of}
 use Rattle.build.proofs.Collection.{length_snoc, place_le}
 use Rattle.build.proofs.Refusals.{stops_128, stops-other}
 use Rattle.build.proofs.Goto.{length_moved, moved_sized}
-use Rattle.lr1_core.specs.Cursor.{symbol_code}
 use Rattle.stored.specs.Stored.{entry_at, entries, held, packed, moved_over}
+use Rattle.stored.proofs.Stored.{length-entries}
 use Rattle.stored.proofs.Packed.{held_none, held-some, packed-moved}
 use Rattle.kept_states.specs.Kept.{put_all, state_in, states_in, Begun, kernel_place}
 use Rattle.kept_states.specs.Made.{Made, next, Holds}
 use Rattle.kept_states.proofs.Holds.{holds_more, length-packed, sum-append, holds_counted, holds_place}
 use Rattle.kept_states.proofs.Kernels.{made_sized, moved_kernel}
 use Rattle.finding.specs.Steps.{Reach, nowhere, stops, reach, add_to, goto_to}
-use Rattle.finding.specs.Search.{KernelIn, Stored, Search, refusal_of, Keeps, Reached, symbol_of_code, CodeFits}
+use Rattle.finding.specs.Search.{KernelIn, Stored, Search, refusal_of, Keeps, Reached, IsOneOf}
 use Rattle.finding.specs.declared.Halt.{Halt}
 use Rattle.finding.specs.declared.Halt.TheVariants.{States, Records}
 use Rattle.finding.specs.declared.Source.{Source}
@@ -167,25 +167,12 @@ packed_something M t =
     let w = every?_fails (eqb 0) M 0 t in
     held_nonzero M 0 (length M) w.0 (omega arith) (omega (arith, w.1)) (λ q. eqb-false 0 (get_or M w.0 0) w.2 (sym q))
 
-length-entries : (ws : List ℕ) (m n : ℕ) → length (entries ws m n) ≡ n
-unfolding entries
-length-entries ws m n = length_mapped (entry_at ws) (up_from m n) ∙ length-up_from m n
+-- a symbol by the numbers of the table
 
--- a symbol by its number
-
-pub code_of : (c : ℕ) → symbol_code (symbol_of_code c) ≡ c
-unfolding symbol_code symbol_of_code
-code_of c =
-    cases (ltb c 32)
-    (λ t. rw (t, symbol_of_code) refl)
-    (λ t. let h = ltb-false c 32 t in rw (t, symbol_of_code) (omega arith))
-
-code_fits : (T : Table) (N e c : ℕ) → N ≡ length T.nonterminals → e ≡ T.terminals → CodeFits N e c → SymbolFits T (symbol_of_code c)
-unfolding SymbolFits symbol_of_code
-code_fits T N e c n t F =
-    cases (ltb c 32)
-    (λ u. rw (u, symbol_of_code) (omega (arith, F.low (ltb-true c 32 u))))
-    (λ u. let h = ltb-false c 32 u in rw (u, symbol_of_code) (omega (arith, F.high h)))
+one_fits : (T : Table) (N e : ℕ) (X : Symbol) → N ≡ length T.nonterminals → e ≡ T.terminals → IsOneOf N e X → SymbolFits T X
+unfolding SymbolFits IsOneOf
+one_fits T N e (nonterminal x) n t F = rw (← n) F
+one_fits T N e (terminal x) n t F = rw (← t) F
 
 goto_is : (T : Table) (X : Symbol) (S : List ℕ) → goto T X S ≡ closure T (moved T X S)
 unfolding goto
@@ -220,17 +207,14 @@ module _ (source : Source) (ws bs : List ℕ) (n : ℕ) (s : Search source ws bs
   pub over-places : (m : ℕ) → get_or bs k 0 ≤ m → m < get_or bs (k + 1) 0 → (entry_at ws m).place < index_limit * source.grammar.productions
   over-places m u v = let w = entry_places ws (get_or s.Rs k []) (get_or bs k 0) (get_or bs (k + 1) 0 - get_or bs k 0) state_is m u (omega arith) in omega (arith, size, many_places)
 
-  module _ (c : ℕ) (F : CodeFits source.sizes.nonterminals source.sets.now.terminals c) (ks : List ℕ) (many : ℕ) (is : entries ks 0 many ≡ moved_over source.grammar.words.now c (entries ws (get_or bs k 0) (get_or bs (k + 1) 0 - get_or bs k 0))) where
-    abbrev X : Symbol
-    X = symbol_of_code c
-
+  module _ (X : Symbol) (F : IsOneOf source.sizes.nonterminals source.sets.now.terminals X) (ks : List ℕ) (many : ℕ) (is : entries ks 0 many ≡ moved_over source.grammar.words.now X (entries ws (get_or bs k 0) (get_or bs (k + 1) 0 - get_or bs k 0))) where
     abbrev M : List ℕ
-    M = moved s.T (symbol_of_code c) (get_or s.Rs k [])
+    M = moved s.T X (get_or s.Rs k [])
 
     over_is : entries ks 0 many ≡ packed M
     over_is =
-        is ∙ ap (moved_over source.grammar.words.now c) state_is ∙ ap (λ (i : ℕ). moved_over source.grammar.words.now i (packed (get_or s.Rs k []))) (sym (code_of c))
-        ∙ packed-moved s.T source.grammar.words.now source.grammar.productions source.sets.now.terminals source.sets.now.map s.grammar (symbol_of_code c) (code_fits s.T source.sizes.nonterminals source.sets.now.terminals c s.nonterminals_are s.grammar.tokens F) (get_or s.Rs k []) size
+        is ∙ ap (moved_over source.grammar.words.now X) state_is
+        ∙ packed-moved s.T source.grammar.words.now source.grammar.productions source.sets.now.terminals source.sets.now.map s.grammar X (get_or s.Rs k []) size
 
     over_many : length (packed M) ≡ many
     over_many = sym (ap length over_is) ∙ length-entries ks 0 many
@@ -238,30 +222,30 @@ module _ (source : Source) (ws bs : List ℕ) (n : ℕ) (s : Search source ws bs
     some : (many ≡ 0 → ⊥) → nothing? M ≡ false
     some z = cases (nothing? M) (λ t. absurd (z (sym over_many ∙ packed-nothing M t))) (λ t. t)
 
-    pub over-nowhere : many ≡ 0 → Reached s.T s.start s.Rs (goto_to s.T s.room (get_or s.Rs k []) s.Rs (symbol_of_code c)) ws bs n (Ok None)
+    pub over-nowhere : many ≡ 0 → Reached s.T s.start s.Rs (goto_to s.T s.room (get_or s.Rs k []) s.Rs X) ws bs n (Ok None)
     over-nowhere z =
-        comes_nowhere s.T s.start s.Rs (goto_to s.T s.room (get_or s.Rs k []) s.Rs (symbol_of_code c)) ws bs n
-        (goto-none s.T s.room (get_or s.Rs k []) s.Rs (symbol_of_code c) (cases (nothing? M) (λ t. t) (λ t. absurd (omega (arith, packed_something M t, over_many))))) s.many s.holds
+        comes_nowhere s.T s.start s.Rs (goto_to s.T s.room (get_or s.Rs k []) s.Rs X) ws bs n
+        (goto-none s.T s.room (get_or s.Rs k []) s.Rs X (cases (nothing? M) (λ t. t) (λ t. absurd (omega (arith, packed_something M t, over_many))))) s.many s.holds
 
     pub over_kernel : KernelIn ks many source.grammar.productions
     over_kernel = record {
       kernel = M;
-      long = length_moved s.T (symbol_of_code c) (get_or s.Rs k []) ∙ sym many_places;
-      fits = (moved_sized s.T (symbol_of_code c) (get_or s.Rs k []) (made_sized s.T s.grammar.fits s.start s.started (s.holds.made k inside))).fits;
+      long = length_moved s.T X (get_or s.Rs k []) ∙ sym many_places;
+      fits = (moved_sized s.T X (get_or s.Rs k []) (made_sized s.T s.grammar.fits s.start s.started (s.holds.made k inside))).fits;
       is = over_is;
     }
 
     module _ (z : many ≡ 0 → ⊥) (t : ℕ) (at : kernel_place (entries ks 0 many) (states_in ws bs n) ≡ t) where
-      target_is : t ≡ place (goto s.T (symbol_of_code c) (get_or s.Rs k [])) s.Rs
+      target_is : t ≡ place (goto s.T X (get_or s.Rs k [])) s.Rs
       target_is =
-          sym at ∙ rw (over_is, s.many, goto_is s.T (symbol_of_code c) (get_or s.Rs k [])) (holds_place s.T s.start ws bs s.Rs s.holds s.grammar.fits s.started M
-          (moved_kernel s.T s.grammar.fits s.start s.started (s.holds.made k inside) (symbol_of_code c) (some z)))
+          sym at ∙ rw (over_is, s.many, goto_is s.T X (get_or s.Rs k [])) (holds_place s.T s.start ws bs s.Rs s.holds s.grammar.fits s.started M
+          (moved_kernel s.T s.grammar.fits s.start s.started (s.holds.made k inside) X (some z)))
 
-      pub over_old : t < n → Reached s.T s.start s.Rs (goto_to s.T s.room (get_or s.Rs k []) s.Rs (symbol_of_code c)) ws bs n (Ok (Some t))
+      pub over_old : t < n → Reached s.T s.start s.Rs (goto_to s.T s.room (get_or s.Rs k []) s.Rs X) ws bs n (Ok (Some t))
       over_old u =
-          comes_to s.T s.start s.Rs (goto_to s.T s.room (get_or s.Rs k []) s.Rs (symbol_of_code c)) ws bs t n s.Rs
-          (goto-some s.T s.room (get_or s.Rs k []) s.Rs (symbol_of_code c) (some z)
-          ∙ to_old s.T s.room (goto s.T (symbol_of_code c) (get_or s.Rs k [])) s.Rs (rw (← target_is, ← s.many) u)
+          comes_to s.T s.start s.Rs (goto_to s.T s.room (get_or s.Rs k []) s.Rs X) ws bs t n s.Rs
+          (goto-some s.T s.room (get_or s.Rs k []) s.Rs X (some z)
+          ∙ to_old s.T s.room (goto s.T X (get_or s.Rs k [])) s.Rs (rw (← target_is, ← s.many) u)
           ∙ ap (λ (i : ℕ). reach i s.Rs) (sym target_is))
           s.many u s.holds (keeps_refl s.Rs)
 
@@ -269,10 +253,10 @@ module _ (source : Source) (ws bs : List ℕ) (n : ℕ) (s : Search source ws bs
       pub over_new : t ≡ n → (ws' bs' : List ℕ) (m' : ℕ) (r : Result (Option ℕ) Halt)
           → ((M : List ℕ) → length M ≡ index_limit * source.grammar.productions → entries ks 0 many ≡ packed M → Made s.T s.start (closure s.T M) → place (closure s.T M) s.Rs ≡ length s.Rs
           → Reached s.T s.start s.Rs (add_to s.T s.room (closure s.T M) s.Rs) ws' bs' m' r)
-          → Reached s.T s.start s.Rs (goto_to s.T s.room (get_or s.Rs k []) s.Rs (symbol_of_code c)) ws' bs' m' r
+          → Reached s.T s.start s.Rs (goto_to s.T s.room (get_or s.Rs k []) s.Rs X) ws' bs' m' r
       over_new u ws' bs' m' r stored =
-          let q = goto_is s.T (symbol_of_code c) (get_or s.Rs k []) in
-          let m : Made s.T s.start (goto s.T (symbol_of_code c) (get_or s.Rs k [])) = next (symbol_of_code c) (s.holds.made k inside) (some z) in
-          let p : place (goto s.T (symbol_of_code c) (get_or s.Rs k [])) s.Rs ≡ length s.Rs = omega (arith, target_is, s.many, place_le (goto s.T (symbol_of_code c) (get_or s.Rs k [])) s.Rs) in
-          rw (goto-some s.T s.room (get_or s.Rs k []) s.Rs (symbol_of_code c) (some z), q)
-          (stored M (length_moved s.T (symbol_of_code c) (get_or s.Rs k []) ∙ sym many_places) over_is (rw q at m) (rw q at p))
+          let q = goto_is s.T X (get_or s.Rs k []) in
+          let m : Made s.T s.start (goto s.T X (get_or s.Rs k [])) = next X (s.holds.made k inside) (some z) in
+          let p : place (goto s.T X (get_or s.Rs k [])) s.Rs ≡ length s.Rs = omega (arith, target_is, s.many, place_le (goto s.T X (get_or s.Rs k [])) s.Rs) in
+          rw (goto-some s.T s.room (get_or s.Rs k []) s.Rs X (some z), q)
+          (stored M (length_moved s.T X (get_or s.Rs k []) ∙ sym many_places) over_is (rw q at m) (rw q at p))

@@ -1,5 +1,5 @@
 -- What stands in the words while states are found, and what one step leaves. Assumes nothing: these are definitions.
-use Rattle.std.specs.Prelude.{◌≡◌, ℕ, ◌+◌, ◌-◌, ◌*◌, ◌^◌, ◌<◌, ◌≤◌, min, Bool, true, false, Option, Some, None, Result, Ok, Err, List, [], length, nat_lt, slice_index, slice_index_or, slice_set}
+use Rattle.std.specs.Prelude.{◌≡◌, ℕ, ◌+◌, ◌-◌, ◌*◌, ◌^◌, ◌<◌, ◌≤◌, min, Bool, true, false, Option, Some, None, Result, Ok, Err, List, [], length, slice_index, slice_index_or, slice_set}
 use Rattle.repr.specs.Sizes.{index_limit, record_limit}
 use Rattle.repr.specs.Meaning.{Symbol, nonterminal, terminal, Production, Table}
 use Rattle.closing.specs.Grammar.{OfTable}
@@ -57,10 +57,7 @@ Reached T start Rs w ws bs m (Ok None) = (w ≡ nowhere) × (m ≡ length Rs) ×
 Reached T start Rs w ws bs m (Err h) = w ≡ stops (refusal_of h)
 Reached T start Rs w ws bs m (Ok (Some t)) = (Qs : List (List ℕ)) × (w ≡ reach t Qs) × (m ≡ length Qs) × (t < m) × Holds T start ws bs Qs × Keeps Rs Qs
 
--- the symbol of a number (specs/Grammar of closing), and whether it is one of the table's
-unfoldable pub symbol_of_code : ℕ → Symbol
-symbol_of_code c = elim (nat_lt c 32) [ true ↦ nonterminal c | false ↦ terminal (c - 32) ]
-
-pub record CodeFits (nonterminals terminals c : ℕ) : Type 0 where
-  pub low : c < 32 → c < nonterminals
-  pub high : 32 ≤ c → c < 32 + terminals
+-- whether a symbol is one of a table's with so many nonterminals and terminals
+unfoldable pub IsOneOf : ℕ → ℕ → Symbol → Type 0
+IsOneOf nonterminals terminals (nonterminal n) = n < nonterminals
+IsOneOf nonterminals terminals (terminal t) = t < terminals

@@ -5,19 +5,20 @@
 ghost use Rattle.std.specs.Prelude.{◌≡◌, ℕ, suc, ◌+◌, ◌-◌, ◌*◌, ◌^◌, ◌<◌, ◌≤◌, true, false, List, [], MatchResult, length, take, slice_index, slice_index_or};
 ghost use Rattle.repr.specs.Sizes.{index_limit, item_limit, record_limit, state_limit};
 ghost use Rattle.repr.specs.Meaning.{Table};
+ghost use Rattle.repr.specs.Symbols.{meant};
 ghost use Rattle.repr.specs.Reply.{number_of, place_of};
 ghost use Rattle.closing.specs.Grammar.{OfTable, Held};
 ghost use Rattle.build.specs.States.{closure, place};
 ghost use Rattle.stored.specs.Stored.{entries, packed};
 ghost use Rattle.kept_states.specs.Made.{Made};
 ghost use Rattle.finding.specs.Steps.{add_to, goto_to};
-ghost use Rattle.finding.specs.Search.{KernelIn, Stored, Search, refusal_of, CodeFits, symbol_of_code, Reached};
+ghost use Rattle.finding.specs.Search.{KernelIn, Stored, Search, refusal_of, IsOneOf, Reached};
 
 use closing::transitive_closure;
 use first::FirstSets;
 use kept_states::{Begins, count_items, find, pack, unpack};
 use lr1_core::Item;
-use repr::{Grammar, ProductionIndex, Refusal};
+use repr::{Grammar, ProductionIndex, Refusal, Symbol};
 use stored::{Kernel, move_over};
 
 // What is known of the table while its states are found: records without states, items and edges, and how many there may be.
@@ -101,7 +102,7 @@ fn store(
     ensures { (s : Search source.entry words.old begins.old.items begins.old.states) (M : List ℕ) → length M ≡ index_limit * source.entry.grammar.productions → entries kernel.now.words 0 kernel.now.many ≡ packed M → Made s.T s.start (closure s.T M) → place (closure s.T M) s.Rs ≡ length s.Rs → Reached s.T s.start s.Rs (add_to s.T s.room (closure s.T M) s.Rs) words.new begins.new.items begins.new.states result }
 {
     let number = begins.states;
-    if number == 128 {
+    if number == Begins::STATES {
         return Err(Halt::States);
     }
     let state = close(source, kernel);
@@ -109,18 +110,18 @@ fn store(
     Ok(Some(number))
 }
 
-// The goto of state k over a symbol, by its number; None if no item has its cursor there.
+// The goto of state k over a symbol; None if no item has its cursor there.
 pub fn goto_over(
     source: Source,
     words: &mut [u16],
     begins: &mut Begins,
     k: usize,
-    symbol: usize,
+    symbol: Symbol,
     kernel: &mut Kernel,
 ) -> Result<Option<usize>, Halt>
     requires search { Search source words.old begins.old.items begins.old.states }
-    requires k_lt_states { (k < begins.old.states) × CodeFits source.sizes.nonterminals source.sets.now.terminals symbol }
-    ensures { (s : Search source.entry words.old begins.old.items begins.old.states) → Reached s.T s.start s.Rs (goto_to s.T s.room (slice_index_or s.Rs k []) s.Rs (symbol_of_code symbol)) words.new begins.new.items begins.new.states result }
+    requires k_lt_states { (k < begins.old.states) × IsOneOf source.sizes.nonterminals source.sets.now.terminals (meant symbol) }
+    ensures { (s : Search source.entry words.old begins.old.items begins.old.states) → Reached s.T s.start s.Rs (goto_to s.T s.room (slice_index_or s.Rs k []) s.Rs (meant symbol)) words.new begins.new.items begins.new.states result }
 {
     let begin = begins.items[k];
     let past = begins.items[k + 1];

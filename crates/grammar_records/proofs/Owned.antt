@@ -3,16 +3,18 @@ use mathlib.Core.Bool.{Bool}
 use mathlib.Core.Path.{◌≡◌, refl, sym, ap, ◌∙◌}
 use mathlib.Core.List.{List, ◌∷◌}
 use mathlib.Core.Option.{Option, none, some}
-use Prim.Native.Nat.{ℕ, suc, ◌+◌, ◌-◌, ◌≤◌, ◌<◌}
+use Prim.Native.Nat.{ℕ, zero, suc, ◌+◌, ◌-◌, ◌≤◌, ◌<◌}
 use native.Mathlib.Omega.{arith}
 use lib.ListN.{length, get_or}
-use lib.Dec.{eqb}
-use borrow.Author.Tests.{eq-eqb, ne_eqb}
+use lib.Dec.{eqb, ltb}
+use borrow.Author.Tests.{eq-eqb, ne_eqb, ltb-true, ltb-false}
+use Rattle.std.proofs.Common.{Option as Found, Some, None}
+use Rattle.std.specs.Option.{MatchOption}
 use Rattle.repr.specs.Sizes.{production_place}
 use Rattle.repr.specs.Lists.{up_from, first?}
 use Rattle.repr.specs.Meaning.{Table, Production, no_production}
 use Rattle.repr.specs.Packed.{Packed, productions_in}
-use Rattle.repr.proofs.Lists.{length-up_from, get_d_up_from}
+use Rattle.repr.proofs.Lists.{cases, length-up_from, get_d_up_from}
 use Rattle.repr.proofs.Tests.{first?-yes, first?_no, first?_at}
 use Rattle.spelling.specs.Spelled.{productions_at, symbols_at, owns, record_or, next_owned_from}
 use Rattle.spelling.proofs.Places.{begins}
@@ -78,19 +80,37 @@ owned_small T n p = go (first? (owns T n) (up_from p (length T.productions - p))
     go none e = omega arith
     go (some q) e = let b = begins T in let f = found_below (owns T n) p (length T.productions) q e in omega arith
 
--- the search in the packed productions
-module _ (g : List ℕ) (n p w owner : ℕ) (P : Packed g n) (h : p < n) (e : w ≡ get_or g (production_place p) 0) where
-  inside : p < length (productions_in g n)
-  inside = let m = many_packed g n in omega arith
+-- the search in the packed productions, as the library's says it
+module _ (g : List ℕ) (n owner from : ℕ) (P : Packed g n) where
+  abbrev is : ℕ → Type 0
+  is p = get_or g (production_place p) 0 ≡ owner
 
-  pub packed-found : w ≡ owner → p ≡ owned_from (productions_in g n) owner p
-  packed-found z = sym (owned-found (productions_in g n) owner p inside (sym (row_at g n p P h).owner ∙ sym e ∙ z))
+  found : (p : ℕ) → p < n → is p → owned_from (productions_in g n) owner p ≡ p
+  found p h z = let m = many_packed g n in owned-found (productions_in g n) owner p (omega arith) (sym (row_at g n p P h).owner ∙ z)
 
-  pub packed_on : (w ≡ owner → ⊥) → owned_from (productions_in g n) owner (p + 1) ≡ owned_from (productions_in g n) owner p
-  packed_on z = sym (owned_on (productions_in g n) owner p inside (λ q. z (e ∙ (row_at g n p P h).owner ∙ q)))
+  past : (p k : ℕ) → p + k ≤ n → ((q : ℕ) → p ≤ q → q < p + k → is q → ⊥) → owned_from (productions_in g n) owner p ≡ owned_from (productions_in g n) owner (p + k)
+  past p zero h f = let z : p + 0 ≡ p = omega arith in rw z refl
+  past p (suc k) h f =
+      let m = many_packed g n in
+      let e : p + 1 + k ≡ p + suc k = omega arith in
+      owned_on (productions_in g n) owner p (omega arith) (λ q. f p (omega arith) (omega arith) ((row_at g n p P (omega arith)).owner ∙ q))
+      ∙ rw e at (past (p + 1) k (omega arith) (λ q l u. f q (omega arith) (omega arith)))
 
-pub packed_end : (g : List ℕ) (n p owner : ℕ) → n ≤ p → n ≡ owned_from (productions_in g n) owner p
-packed_end g n p owner h = let m = many_packed g n in sym (owned_end (productions_in g n) owner p (omega arith) ∙ m)
+  none_left : (p : ℕ) → n ≤ p → owned_from (productions_in g n) owner p ≡ n
+  none_left p h = let m = many_packed g n in owned_end (productions_in g n) owner p (omega arith) ∙ m
+
+  pub owned_first : (r : Found ℕ) → MatchOption r ((k : ℕ) → from ≤ k → k < n → is k → ⊥) (λ i. (from ≤ i) × (i < n) × is i × ((k : ℕ) → from ≤ k → k < i → is k → ⊥))
+      → let p = owned_from (productions_in g n) owner from in MatchOption r (p ≡ n) (λ q. (q < n) × (p ≡ q))
+  owned_first None f =
+      cases (ltb from n)
+      (λ t.
+      let h = ltb-true from n t in
+      let e : from + (n - from) ≡ n = omega arith in
+      past from (n - from) (omega arith) (λ q l u. f q l (omega arith)) ∙ rw e (none_left n (omega arith)))
+      (λ t. none_left from (ltb-false from n t))
+  owned_first (Some i) f =
+      let e : from + (i - from) ≡ i = omega (arith, f.0) in
+      (f.1, past from (i - from) (omega (arith, f.0, f.1)) (λ q l u. f.3 q l (omega (arith, f.0))) ∙ rw e (found i f.1 f.2))
 
 module _ (U : Table) (g : List ℕ) (n owner from at q : ℕ) (P : PackedAs U g n) (ea : at ≡ productions_at U) (e : q ≡ owned_from (productions_in g n) owner from) where
   pub record_is : q < n → at + q ≡ next_owned_from U owner from

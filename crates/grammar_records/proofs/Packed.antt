@@ -1,13 +1,17 @@
 -- What the packed productions of a table say of each production, and how many symbols they have. Assumes nothing.
 use mathlib.Core.Path.{◌≡◌, refl, sym, ap, ◌∙◌}
 use mathlib.Core.List.{List, [], ◌∷◌, map}
-use Prim.Native.Nat.{ℕ, suc, ◌+◌, ◌*◌, ◌≤◌, ◌<◌}
+use Prim.Native.Nat.{ℕ, zero, suc, ◌+◌, ◌*◌, ◌≤◌, ◌<◌}
 use native.Mathlib.Omega.{arith}
 use lib.ListN.{length, get_or}
 use Rattle.repr.specs.Sizes.{production_place, symbol_limit}
 use Rattle.repr.specs.Meaning.{Symbol, Production, Table, no_production, production_at}
 use Rattle.repr.specs.Listed.{listed}
 use Rattle.repr.specs.Packed.{Packed, symbol_words, production_in, productions_in}
+use Rattle.repr.specs.Lists.{up_from, below}
+use Rattle.std.specs.List.{range_with_len, sum_by}
+use Rattle.std.proofs.lemmas.List.Sums.{sum_by-cons}
+use native.Mathlib.Numerals.{add-one}
 use Rattle.repr.proofs.Lists.{get_d_map, length_mapped, length-map-below, get_d_map-below}
 use Rattle.repr.proofs.Parts.{symbols_long}
 use Rattle.spelling.specs.Spelled.{place_of, size_of}
@@ -51,34 +55,28 @@ place_end o [] = omega arith
 place_end o (xs ∷ xss) = place_end (o + length xs) xss ∙ omega arith
 
 -- the symbols counted
-abbrev lists_in : List ℕ → ℕ → List (List Symbol)
-lists_in g n = map (λ (q : Production). q.symbols) (productions_in g n)
+abbrev lists_in : List ℕ → ℕ → ℕ → List (List Symbol)
+lists_in g a n = map (λ (q : Production). q.symbols) (map (production_in g) (up_from a n))
 
-pub record Counted (g : List ℕ) (n many p : ℕ) : Type 0 where
-  pub few : p ≤ n
-  pub is : many ≡ place_of 0 (lists_in g n) p
-  pub most : many ≤ p * symbol_limit
+sum_lists : (g : List ℕ) (a n : ℕ) → sum_by (λ p. length (listed (symbol_words g p))) (range_with_len a n) ≡ size_of (lists_in g a n)
+unfolding up_from size_of production_in
+sum_lists g a zero = refl
+sum_lists g a (suc n) =
+    let more : sum_by (λ p. length (listed (symbol_words g p))) (range_with_len (suc a) n) ≡ size_of (lists_in g (suc a) n) = sum_lists g (suc a) n in
+    rw (add-one a, sum_by-cons (λ p. length (listed (symbol_words g p))) a (range_with_len (suc a) n)) (omega arith)
+
+sum_few : (h : ℕ → ℕ) (a n top : ℕ) → ((p : ℕ) → a ≤ p → p < a + n → h p ≤ top) → sum_by h (range_with_len a n) ≤ n * top
+sum_few h a zero top f = omega arith
+sum_few h a (suc n) top f =
+    let more = sum_few h (a + 1) n top (λ p l u. f p (omega arith) (omega arith)) in
+    let here = f a (omega arith) (omega arith) in
+    let e : suc n * top ≡ n * top + top = omega arith in
+    omega (arith, sum_by-cons h a (range_with_len (a + 1) n))
 
 module _ (g : List ℕ) (n : ℕ) (P : Packed g n) where
-  pub counted_start : Counted g n 0 0
-  counted_start = record { few = omega arith; is = sym (place-start 0 (lists_in g n)); most = omega arith }
+  pub symbols_sum : sum_by (λ p. length (listed (symbol_words g p))) (range_with_len 0 n) ≡ size_of (map (λ (q : Production). q.symbols) (productions_in g n))
+  unfolding productions_in below
+  symbols_sum = sum_lists g 0 n
 
-  pub counted_step : (many p more : ℕ) → p < n → more ≡ get_or g (production_place p + 1) 0 → Counted g n many p → Counted g n (many + more) (p + 1)
-  counted_step many p more h e C =
-      let l = length_mapped (λ (q : Production). q.symbols) (productions_in g n) ∙ many_packed g n in
-      let r = row_at g n p P h in
-      let d = many_packed g n in
-      let s = ap length (get_d_map (λ (q : Production). q.symbols) (productions_in g n) p no_production [] (omega arith)) in
-      let x = place-next 0 (lists_in g n) p (omega arith) in
-      let y : suc p ≡ p + 1 = omega arith in
-      record {
-        few = omega arith;
-        is = (let k : many + more ≡ place_of 0 (lists_in g n) (suc p) = omega (arith, C.is, r.many) in k) ∙ ap (place_of 0 (lists_in g n)) y;
-        most = omega (arith, C.most, r.short);
-      }
-
-  pub counted_end : (many p : ℕ) → n ≤ p → Counted g n many p → many ≡ size_of (lists_in g n)
-  counted_end many p h C =
-      let l = length_mapped (λ (q : Production). q.symbols) (productions_in g n) ∙ many_packed g n in
-      let z : p ≡ length (lists_in g n) = omega (arith, C.few) in
-      C.is ∙ ap (place_of 0 (lists_in g n)) z ∙ place_end 0 (lists_in g n) ∙ omega arith
+  pub symbols_few : sum_by (λ p. length (listed (symbol_words g p))) (range_with_len 0 n) ≤ n * symbol_limit
+  symbols_few = sum_few (λ p. length (listed (symbol_words g p))) 0 n symbol_limit (λ p l u. omega (arith, symbols_long g n p P (omega arith), P.short p (omega arith)))

@@ -7,6 +7,10 @@ use native.Mathlib.Omega.{arith}
 use lib.ListN.{length, get_or, drop}
 use lib.Dec.{eqb, ltb}
 use borrow.Author.Tests.{eqb-true, eqb-false, ltb-true, ltb-false}
+use lib.ListN.{get_or-append}
+use lib.Seq.{drop-drop}
+use Rattle.std.proofs.Common.{length-drop, length-append, get_or-drop, ◌++◌}
+use Rattle.std.proofs.Math.Seq.{drop-append_seam}
 use Rattle.repr.specs.Sizes.{record_limit, nonterminal_limit, terminal_limit}
 use Rattle.repr.specs.Meaning.{Table, Production}
 use Rattle.repr.specs.Listed.{symbol_of_kind, listed, list_is_fit}
@@ -34,6 +38,19 @@ number_of_lem : (k x : ℕ) → number_of (symbol_of_kind k x) ≡ x
 unfolding number_of symbol_of_kind
 number_of_lem zero x = refl
 number_of_lem (suc k) x = refl
+
+-- chunk k of two words, where the chunks from it on are left
+module _ (ws x r : List ℕ) (k : ℕ) (e : drop (2 * k) ws ≡ x ++ r) (two : length x ≡ 2) where
+  pub chunk_inside : 2 * k + 2 ≤ length ws
+  chunk_inside = omega (arith, length-drop (2 * k) ws, ap length e, length-append x r)
+
+  pub chunk_word : (j : ℕ) → j < 2 → get_or x j 0 ≡ get_or ws (2 * k + j) 0
+  chunk_word j h = sym (get_or-append x r 0 j (omega arith)) ∙ ap (λ (l : List ℕ). get_or l j 0) (sym e) ∙ get_or-drop (2 * k) ws j 0
+
+  pub chunk_rest : drop (2 * (k + 1)) ws ≡ r
+  chunk_rest =
+      let y : 2 * (k + 1) ≡ 2 * k + 2 = omega arith in
+      rw y (sym (drop-drop 2 (2 * k) ws) ∙ ap (drop 2) e ∙ rw two at (drop-append_seam x r))
 
 -- the words before i are written, the others are left
 pub record Chain (ws : List ℕ) (begin at i : ℕ) : Type 0 where

@@ -11,7 +11,7 @@ ghost use Rattle.spelling.specs.Spelled.{chain_from, symbol_quad, quads, size_of
 ghost use Rattle.spelling.specs.Grown.{Grown, Room, Stands};
 ghost use Rattle.grammar_records.specs.Target.{Target, PackedAs, owned_from};
 
-use repr::{Grammar, ProductionIndex};
+use repr::{Grammar, Symbol, word};
 use spelling::{head_of, next_of};
 use table::{Counts, put};
 
@@ -19,23 +19,14 @@ use table::{Counts, put};
 pub fn count_symbols(grammar: Grammar) -> usize
     ensures { result ≡ size_of (map (λ (p : Production). p.symbols) (productions_in grammar.entry.words.now grammar.entry.productions)) }
 {
-    let mut many = 0;
-    for p in 0..grammar.productions {
-        many += grammar.length(p);
-    }
-    many
+    (0..grammar.productions).map(|p| grammar.length(p)).sum()
 }
 
 // The lowest production from `from` on of a nonterminal.
 pub fn next_owned(grammar: Grammar, owner: usize, from: usize) -> Option<usize>
     ensures { let p = owned_from (productions_in grammar.entry.words.now grammar.entry.productions) owner from in MatchOption result (p ≡ grammar.entry.productions) (λ q. (q < grammar.entry.productions) × (p ≡ q)) }
 {
-    for p in from..grammar.productions {
-        if grammar.owner(p) == owner {
-            return Some(p);
-        }
-    }
-    None
+    (from..grammar.productions).find(|&p| grammar.owner(p) == owner)
 }
 
 // That production's record, where production 0 is record `at`; 0 for none.
@@ -49,7 +40,7 @@ fn next_record(grammar: Grammar, owner: usize, from: usize, at: usize) -> usize
     }
 }
 
-// Record 0 and the nonterminals.
+// Record 0 and the nonterminals. The grammar, the counts and the table stand beside each other here and below: the two callers have them so, and a struct of them would be made at these two calls alone.
 pub fn write_front(grammar: Grammar, counts: Counts, out: &mut [u16])
     requires { (U : Table) × (Target U counts.nonterminals counts.terminals counts.states out.old × PackedAs U grammar.words.now grammar.productions) }
     ensures { (U : Table) → Target U counts.nonterminals counts.terminals counts.states out.old → PackedAs U grammar.entry.words.now grammar.entry.productions → Grown U out.old out.new 0 (states_at U) }
@@ -80,14 +71,12 @@ pub fn write_productions(grammar: Grammar, counts: Counts, out: &mut [u16])
     let at = 1 + counts.nonterminals + counts.states;
     let mut y = at + productions;
     for p in 0..productions {
-        let place = p * ProductionIndex::WORDS;
         let owner = grammar.owner(p);
         let many = grammar.length(p);
-        let start = repr::word(grammar.words, place + 2);
-        let end = repr::word(grammar.words, place + 3);
+        let (start, end) = grammar.span(p);
         let next = next_record(grammar, owner, p + 1, at);
         let head = head_of(many, y);
-        put(out, at + p, next, head, start, end);
+        put(out, at + p, next, head, start as usize, end as usize);
         y += many;
     }
 }
@@ -98,12 +87,10 @@ fn write_chain(symbols: &[u16], begin: usize, out: &mut [u16]) -> usize
     requires stands { (U : Table) × (Stands (quads U) begin (chain_from symbol_quad begin (listed symbols.now)) × Room U out.old) }
     ensures { (result ≡ begin + length (listed symbols.now)) × ((U : Table) → Stands (quads U) begin (chain_from symbol_quad begin (listed symbols.now)) → Room U out.old → Grown U out.old out.new begin result) }
 {
-    let many = symbols.len() / 2;
-    for i in 0..many {
-        let kind = repr::word(symbols, 2 * i);
-        let number = repr::word(symbols, 2 * i + 1);
+    let many = symbols.len() / Symbol::WORDS;
+    for (i, symbol) in symbols.chunks_exact(Symbol::WORDS).enumerate() {
         let next = next_of(many - i - 1, begin + i);
-        put(out, begin + i, next, kind, number, 0);
+        put(out, begin + i, next, word(symbol, 0), word(symbol, 1), 0);
     }
     begin + many
 }

@@ -1,5 +1,5 @@
 -- Laws of states in words, one for each way through the code. Assumes nothing.
-use Rattle.std.specs.Prelude.{◌≡◌, ℕ, zero, suc, ◌+◌, ◌-◌, ◌<◌, ◌≤◌, Bool, true, false, not, cond, eqb, List, [], ◌∷◌, map, length, get_or, take, drop, set, replicate}
+use Rattle.std.specs.Prelude.{◌≡◌, ℕ, zero, suc, ◌+◌, ◌-◌, ◌*◌, ◌<◌, ◌≤◌, Bool, true, false, not, cond, eqb, List, [], ◌∷◌, ◌++◌, map, length, get_or, take, drop, set, replicate}
 use mathlib.Core.Path.{refl, sym, ap, ◌∙◌}
 use native.Mathlib.Numerals.{add-one}
 use native.Mathlib.Omega.{arith}
@@ -12,24 +12,40 @@ use Rattle.repr.specs.Sizes.{item_limit}
 use Rattle.repr.specs.Lists.{up_from, below, keep}
 use Rattle.repr.proofs.Lists.{cases}
 use Rattle.stored.specs.Stored.{Entry, entry_at, entries, put_entry, held, packed, is_same_kernel}
-use Rattle.stored.proofs.Stored.{entries_at, entries_none, length-put}
+use Rattle.std.specs.Option.{MatchOption}
+use Rattle.std.proofs.Common.{Option, Some, None, length-set}
+use Rattle.repr.specs.Meaning.{All}
+use Rattle.stored.proofs.Stored.{length-put, all_entries, all_part, all_none, all-more, entries_fit}
 use Rattle.stored.proofs.Packed.{held_none, held-some}
 use Rattle.kept_states.specs.Kept.{puts, unpacked, put_all, state_in, states_in, kernel_place}
 
 -- flat again
 
-pub unpack-start : (es : List Entry) → puts (replicate item_limit 0) es ≡ unpacked es
+pub record Unpacking (S : List ℕ) (all left : List Entry) : Type 0 where
+  pub long : length S ≡ item_limit
+  pub inside : All (λ (e : Entry). e.place < item_limit) left
+  pub put : puts S left ≡ unpacked all
+
+pub unpack_start : (ws : List ℕ) (from past : ℕ) → from ≤ past → past * 5 ≤ length ws → ((i : ℕ) → from ≤ i → i < past → (entry_at ws i).place < item_limit)
+    → Unpacking (replicate item_limit 0) (entries ws from (past - from)) (all_entries (take (past * 5 - from * 5) (drop (from * 5) ws)))
 unfolding unpacked
-unpack-start es = refl
+unpack_start ws from past h l f =
+    rw (all_part ws from past h l) record {
+      long = refl;
+      inside = entries_fit ws item_limit from (past - from) (λ i u v. f i u (omega arith));
+      put = refl;
+    }
 
-pub unpack-more : (ws S all : List ℕ) (m past x s : ℕ) → m < past → record { place = x; set = s } ≡ entry_at ws m
-    → puts S (entries ws m (past - m)) ≡ all → puts (set S x s) (entries ws (m + 1) (past - (m + 1))) ≡ all
-unfolding puts
-unpack-more ws S all m past x s h e q = rw (entries_at ws m past h, ← e) at q
+pub unpack-more : (S w rest : List ℕ) (all : List Entry) (x s : ℕ) → length w ≡ 5 → Unpacking S all (all_entries (w ++ rest)) → record { place = x; set = s } ≡ entry_at w 0
+    → (x < item_limit) × Unpacking (set S x s) all (all_entries rest)
+unfolding puts All
+unpack-more S w rest all x s h u e =
+    let t : Unpacking S all (record { place = x; set = s } ∷ all_entries rest) = rw (all-more w rest h, ← e) at u in
+    (t.inside.0, record { long = simp length-set t.long; inside = t.inside.1; put = t.put })
 
-pub unpack_end : (ws S all : List ℕ) (m past : ℕ) → past ≤ m → puts S (entries ws m (past - m)) ≡ all → S ≡ all
+pub unpack_end : (S rest : List ℕ) (all : List Entry) → length rest < 5 → Unpacking S all (all_entries rest) → S ≡ unpacked all
 unfolding puts
-unpack_end ws S all m past h q = rw (entries_none ws m past h) at q
+unpack_end S rest all h u = rw (all_none rest h) at u.put
 
 -- the places of a range
 
@@ -156,7 +172,7 @@ from_state ws bs k n = map (state_in ws bs) (up_from k (n - k))
 from_more : (ws bs : List ℕ) (k n : ℕ) → k < n → from_state ws bs k n ≡ state_in ws bs k ∷ from_state ws bs (k + 1) n
 from_more ws bs k n h = rw (range_more k n h) refl
 
-pub find-start : (ks : List Entry) (ws bs : List ℕ) (n : ℕ) → 0 + kernel_place ks (from_state ws bs 0 n) ≡ kernel_place ks (states_in ws bs n)
+find-start : (ks : List Entry) (ws bs : List ℕ) (n : ℕ) → 0 + kernel_place ks (from_state ws bs 0 n) ≡ kernel_place ks (states_in ws bs n)
 unfolding states_in below
 find-start ks ws bs n =
     let z : n - 0 ≡ n = omega arith in
@@ -172,19 +188,31 @@ unfolding kernel_place
 place_no ks es ess t = rw (t, kernel_place)
 
 module _ (ks : List Entry) (ws bs : List ℕ) (k n all : ℕ) (b : Bool) (e : b ≡ is_same_kernel (state_in ws bs k) ks) where
-  pub find_here : k < n → b ≡ true → k + kernel_place ks (from_state ws bs k n) ≡ all → all ≡ k
+  find_here : k < n → b ≡ true → k + kernel_place ks (from_state ws bs k n) ≡ all → all ≡ k
   find_here h t q =
       let w : k + 0 ≡ all = rw (from_more ws bs k n h, place-yes ks (state_in ws bs k) (from_state ws bs (k + 1) n) (sym e ∙ t)) at q in omega arith
 
-  pub find-more : k < n → b ≡ false → k + kernel_place ks (from_state ws bs k n) ≡ all → k + 1 + kernel_place ks (from_state ws bs (k + 1) n) ≡ all
+  find-more : k < n → b ≡ false → k + kernel_place ks (from_state ws bs k n) ≡ all → k + 1 + kernel_place ks (from_state ws bs (k + 1) n) ≡ all
   find-more h t q =
       let w : k + suc (kernel_place ks (from_state ws bs (k + 1) n)) ≡ all = rw (from_more ws bs k n h, place_no ks (state_in ws bs k) (from_state ws bs (k + 1) n) (sym e ∙ t)) at q in
       omega arith
 
-pub find_end : (ks : List Entry) (ws bs : List ℕ) (k n all : ℕ) → k ≤ n → n ≤ k → k + kernel_place ks (from_state ws bs k n) ≡ all → all ≡ n
+find_end : (ks : List Entry) (ws bs : List ℕ) (k n all : ℕ) → k ≤ n → n ≤ k → k + kernel_place ks (from_state ws bs k n) ≡ all → all ≡ n
 unfolding kernel_place
 find_end ks ws bs k n all l h q = let w : k + 0 ≡ all = rw (range_end k n h) at q in omega arith
 
-pub same_state : (ws bs : List ℕ) (ks : List Entry) (k m n : ℕ) (b : Bool) → m ≡ get_or bs k 0 → n ≡ get_or bs (k + 1) 0 → b ≡ is_same_kernel (entries ws m (n - m)) ks → b ≡ is_same_kernel (state_in ws bs k) ks
-unfolding state_in
-same_state ws bs ks k m n b em en e = e ∙ rw (em, en) refl
+-- the first state whose kernel is this one, as the library's search says it
+pub found_first : (ks : List Entry) (ws bs : List ℕ) (n : ℕ) (r : Option ℕ) → MatchOption r ((k : ℕ) → 0 ≤ k → k < n → is_same_kernel (state_in ws bs k) ks ≡ false) (λ i. (0 ≤ i) × (i < n) × (is_same_kernel (state_in ws bs i) ks ≡ true) × ((k : ℕ) → 0 ≤ k → k < i → is_same_kernel (state_in ws bs k) ks ≡ false))
+    → let p = kernel_place ks (states_in ws bs n) in MatchOption r (p ≡ n) (λ k. (k < n) × (p ≡ k))
+found_first ks ws bs n r f = go r f
+  where
+    from_here : (k : ℕ) → k ≤ n → ((j : ℕ) → 0 ≤ j → j < k → is_same_kernel (state_in ws bs j) ks ≡ false) → k + kernel_place ks (from_state ws bs k n) ≡ kernel_place ks (states_in ws bs n)
+    from_here zero h g = find-start ks ws bs n
+    from_here (suc k) h g =
+        let q = find-more ks ws bs k n (kernel_place ks (states_in ws bs n)) false (sym (g k (omega arith) (omega arith))) (omega arith) refl (from_here k (omega arith) (λ j l u. g j l (omega arith))) in
+        rw (add-one k) at q
+
+    go : (r : Option ℕ) → MatchOption r ((k : ℕ) → 0 ≤ k → k < n → is_same_kernel (state_in ws bs k) ks ≡ false) (λ i. (0 ≤ i) × (i < n) × (is_same_kernel (state_in ws bs i) ks ≡ true) × ((k : ℕ) → 0 ≤ k → k < i → is_same_kernel (state_in ws bs k) ks ≡ false))
+        → MatchOption r (kernel_place ks (states_in ws bs n) ≡ n) (λ k. (k < n) × (kernel_place ks (states_in ws bs n) ≡ k))
+    go None g = find_end ks ws bs n n (kernel_place ks (states_in ws bs n)) (omega arith) (omega arith) (from_here n (omega arith) g)
+    go (Some i) g = (g.1, find_here ks ws bs i n (kernel_place ks (states_in ws bs n)) true (sym g.2) g.1 refl (from_here i (omega (arith, g.1)) g.3))

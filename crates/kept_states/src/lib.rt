@@ -2,20 +2,38 @@
 
 #![tactic(auto)]
 
-ghost use Rattle.std.specs.Prelude.{◌≡◌, ℕ, suc, ◌+◌, ◌-◌, ◌*◌, ◌^◌, ◌<◌, ◌≤◌, List, MatchOption, length, take};
+ghost use Rattle.std.specs.Prelude.{◌≡◌, ℕ, suc, ◌+◌, ◌-◌, ◌*◌, ◌^◌, ◌<◌, ◌≤◌, List, MatchOption, length, take, slice_index};
 ghost use Rattle.repr.specs.Sizes.{item_limit, record_limit, state_limit};
 ghost use Rattle.stored.specs.Stored.{entry_at, entries, put_entry, packed};
 ghost use Rattle.kept_states.specs.Kept.{unpacked, put_all, states_in, Begun, kernel_place};
 
 use lr1_core::Item;
-use stored::{Kernel, StoredItem, read_item, same_kernel, write_item};
+use stored::{Kernel, StoredItem, same_kernel, write_item};
 
-// Where the items of the states found begin, and how many states there are.
+// Where the items of the states found begin, and how many states there are: a place for each that a table may have and one behind them, since there is no heap.
 #[derive(Clone, Copy)]
 pub struct Begins {
-    pub items: [usize; 129],
+    pub items: [usize; Begins::ROWS],
     pub states: usize,
     pub ghost long: { length items ≡ suc state_limit },
+}
+
+impl Begins {
+    // States of a table at most (refusal 16).
+    pub const STATES: usize = 128;
+
+    // Places of them.
+    pub const ROWS: usize = Begins::STATES + 1;
+
+    // Without states.
+    pub fn new() -> Begins
+        ensures { (result.states ≡ 0) × ((k : ℕ) → slice_index result.items k ≡ 0) }
+    {
+        Begins {
+            items: [0; Begins::ROWS],
+            states: 0,
+        }
+    }
 }
 
 // The items number `from` up to `past`, flat: item [production, index] at 17 * production + index.
@@ -25,8 +43,9 @@ pub fn unpack(words: &[u16], from: usize, past: usize) -> [u64; Item::LIMIT]
     ensures { result ≡ unpacked (entries words.now from (past - from)) }
 {
     let mut map = [0u64; Item::LIMIT];
-    for at in from..past {
-        let item = read_item(words, at);
+    let items = &words[from * StoredItem::WORDS..past * StoredItem::WORDS];
+    for stored in items.chunks_exact(StoredItem::WORDS) {
+        let item = StoredItem::of(stored);
         map[item.place] = item.set;
     }
     map
@@ -60,10 +79,5 @@ pub fn find(words: &[u16], begins: &Begins, kernel: &Kernel) -> Option<usize>
     requires { Begun words.now begins.now.items begins.now.states }
     ensures { let k = kernel_place (entries kernel.now.words 0 kernel.now.many) (states_in words.now begins.now.items begins.now.states) in MatchOption result (k ≡ begins.now.states) (λ n. (n < begins.now.states) × (k ≡ n)) }
 {
-    for k in 0..begins.states {
-        if same_kernel(words, begins.items[k], begins.items[k + 1], kernel) {
-            return Some(k);
-        }
-    }
-    None
+    (0..begins.states).find(|&k| same_kernel(words, begins.items[k], begins.items[k + 1], kernel))
 }

@@ -1,20 +1,26 @@
 -- Laws of counting over all states, and of refusal 17 at the end. Assumes nothing.
 use mathlib.Core.Path.{◌≡◌, refl, sym, ap, ◌∙◌}
-use mathlib.Core.Bool.{Bool, true, false}
-use mathlib.Core.List.{List, [], ◌++◌, map}
+use mathlib.Core.Bool.{Bool, true, false, ◌&&◌}
+use mathlib.Core.List.{List, [], ◌∷◌, ◌++◌, map}
 use Prim.Native.Nat.{ℕ, zero, suc, ◌+◌, ◌-◌, ◌*◌, ◌^◌, ◌≤◌, ◌<◌, min}
 use native.Mathlib.Numerals.{add-one}
 use native.Mathlib.Omega.{arith}
 use lib.Dec.{ltb}
 use lib.ListN.{length, get_or, take, replicate, length-append, length-replicate, get_or-append}
-use lib.Seq.{get_or-append-add, take_at, take-suc, take-length}
+use lib.Seq.{get_or-append-add, take_at}
 use borrow.Author.Tests.{ltb-true, ltb-false, lt-ltb, le-ltb}
 use Rattle.repr.specs.Sizes.{record_limit, index_limit, item_limit}
-use Rattle.repr.specs.Lists.{up_from, below}
-use Rattle.repr.specs.Meaning.{Edge, Table}
-use Rattle.repr.proofs.Lists.{cases, below_last, length_mapped, length-up_from}
+use Rattle.repr.specs.Lists.{up_from, below, keep, joined}
+use Rattle.repr.specs.Meaning.{Edge, Table, TableFits}
+use Rattle.repr.proofs.Lists.{cases, below_last, length_mapped, length-up_from, length-keep, length-below}
 use Rattle.lookahead.proofs.Growing.{get_d_none}
-use Rattle.build.specs.States.{places, clashes}
+use Rattle.build.specs.States.{places, reduces, shifts, clashes_of, clashes}
+use Rattle.build.specs.Canonical.{Clash}
+use Rattle.lookahead.specs.Tokens.{has, meet, members}
+use Rattle.lookahead.proofs.Members.{members_few}
+use Rattle.conflict_counts.proofs.Counts.{joined_few}
+use Rattle.std.specs.List.{range_with_len, sum_by}
+use Rattle.std.proofs.lemmas.List.Sums.{sum_by-cons}
 use Rattle.build.specs.Outcome.{sum, records, finish}
 use Rattle.build.proofs.Rounds.{Sized}
 use Rattle.closing.specs.Fed.{Flat}
@@ -89,17 +95,45 @@ module _ (found : FoundStates) (s : Collection found) (k : ℕ) (h : k < found.b
     pub at_state : take (index_limit * P) K ≡ get_or s.Rs k []
     at_state = ap (take (index_limit * P)) flat_is ∙ take_at (get_or s.Rs k []) (replicate (item_limit - length (get_or s.Rs k [])) 0) (index_limit * P) long
 
-  pub sum_more : (m d : ℕ) → m ≡ sum (λ (S : List ℕ). length (clashes s.T S)) (take k s.Rs) → d ≡ length (clashes s.T (get_or s.Rs k []))
-      → m + d ≡ sum (λ (S : List ℕ). length (clashes s.T S)) (take (k + 1) s.Rs)
-  sum_more m d q r =
-      rw (add-one k, take-suc s.Rs k [] inside, sum-append (λ (S : List ℕ). length (clashes s.T S)) (take k s.Rs) (get_or s.Rs k [])) (rw (q, r) refl)
+-- the conflicts of all: how many they may be, and their sum
 
-pub sum-start : (T : Table) (Rs : List (List ℕ)) → 0 ≡ sum (λ (S : List ℕ). length (clashes T S)) (take 0 Rs)
+clashes_few : (T : Table) → TableFits T → (S : List ℕ) → length (clashes T S) ≤ 1056768
+unfolding clashes clashes_of
+clashes_few T F S = omega (arith, joined_few (clashes_of T S) 8256 (below (length T.productions)) of, length-below (length T.productions), F.few_productions_lem)
+  where
+    of : (p : ℕ) → length (clashes_of T S p) ≤ 8256
+    of p =
+        let shift : ℕ → Clash = λ t. record { production = p; action = 0; other = t; token = t } in
+        let pair : ℕ → ℕ → Clash = λ q a. record { production = p; action = 1; other = q; token = a } in
+        let tokens : List ℕ = keep (λ t. has (reduces T S p) t && shifts T S t) (below T.terminals) in
+        let higher : List ℕ = keep (ltb p) (below (length T.productions)) in
+        let both : ℕ → List ℕ = λ q. members (meet (reduces T S p) (reduces T S q)) in
+        let l = length-append (map shift tokens) (joined (λ q. map (pair q) (both q)) higher) in
+        let m = length_mapped shift tokens in
+        let k = length-keep (λ t. has (reduces T S p) t && shifts T S t) (below T.terminals) in
+        let j = joined_few (λ q. map (pair q) (both q)) 64 higher (λ q. omega (arith, length_mapped (pair q) (both q), members_few (meet (reduces T S p) (reduces T S q)))) in
+        let n = length-keep (ltb p) (below (length T.productions)) in
+        omega (arith, l, m, k, j, n, length-below (length T.productions), length-below T.terminals, F.few_productions_lem, F.few_terminals)
+
+pub sum_clashes : (T : Table) → TableFits T → (Rs : List (List ℕ)) → sum (λ (S : List ℕ). length (clashes T S)) Rs ≤ length Rs * 1056768
 unfolding sum
-sum-start T Rs = refl
+sum_clashes T F [] = omega arith
+sum_clashes T F (S ∷ Rs) =
+    let more = sum_clashes T F Rs in
+    let here = clashes_few T F S in
+    omega arith
 
-pub sum_end : (T : Table) (Rs : List (List ℕ)) (n k m : ℕ) → n ≡ length Rs → k ≡ n → m ≡ sum (λ (S : List ℕ). length (clashes T S)) (take k Rs) → m ≡ sum (λ (S : List ℕ). length (clashes T S)) Rs
-sum_end T Rs n k m q e w = w ∙ ap (sum (λ (S : List ℕ). length (clashes T S))) (rw (e, q) (take-length Rs))
+sum_range : (T : Table) (h : ℕ → ℕ) (a : ℕ) (Rs : List (List ℕ)) → ((i : ℕ) → i < length Rs → h (a + i) ≡ length (clashes T (get_or Rs i []))) → sum_by h (range_with_len a (length Rs)) ≡ sum (λ (S : List ℕ). length (clashes T S)) Rs
+unfolding sum
+sum_range T h a [] f = refl
+sum_range T h a (S ∷ Rs) f =
+    let more = sum_range T h (a + 1) Rs (λ i l. let e : a + 1 + i ≡ a + suc i = omega arith in rw e (f (suc i) (omega arith))) in
+    let z : a + 0 ≡ a = omega arith in
+    let here : h a ≡ length (clashes T S) = rw z at (f 0 (omega arith)) in
+    sum_by-cons h a (range_with_len (a + 1) (length Rs)) ∙ (omega arith)
+
+pub sum_states : (T : Table) (Rs : List (List ℕ)) (n : ℕ) → n ≡ length Rs → sum_by (λ k. length (clashes T (get_or Rs k []))) (range_with_len 0 n) ≡ sum (λ (S : List ℕ). length (clashes T S)) Rs
+sum_states T Rs n e = rw e (sum_range T (λ k. length (clashes T (get_or Rs k []))) 0 Rs (λ i l. let z : 0 + i ≡ i = omega arith in rw z refl))
 
 -- edges
 

@@ -9,7 +9,7 @@ ghost use Rattle.build.specs.Outcome.{sum, records};
 ghost use Rattle.collecting.specs.Rows.{rows_in};
 ghost use Rattle.measuring.specs.Complete.{Collection, Complete, MeasuredAs};
 
-use conflict_counts::count_state;
+use conflict_counts::{Actions, count_state};
 use finding::{Halt, Source};
 use kept_states::{Begins, unpack};
 use taking::Edges;
@@ -46,11 +46,7 @@ pub fn count_conflicts(found: FoundStates) -> usize
     requires { Collection found }
     ensures { (result ≤ 135266304) × ((s : Collection found.entry) → result ≡ sum (λ (S : List ℕ). length (clashes s.T S)) s.Rs) }
 {
-    let mut many = 0;
-    for k in 0..found.begins.states {
-        many += count_at(found, k);
-    }
-    many
+    (0..found.begins.states).map(|k| count_at(found, k)).sum()
 }
 
 // The records of the table, edges included.
@@ -73,7 +69,7 @@ pub fn measure(found: FoundStates, room: usize) -> Result<Measured, Halt>
         return Err(Halt::Records);
     }
     let conflicts = count_conflicts(found);
-    if room < 5 * conflicts {
+    if room < Actions::CONFLICT_WORDS * conflicts {
         return Err(Halt::Records);
     }
     Ok(Measured { records, conflicts })

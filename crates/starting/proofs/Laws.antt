@@ -79,11 +79,11 @@ unfolding single
 single-some e q = power_some e q
 
 -- its kernel in words
-module _ (ks ks' : List ℕ) (P start e s : ℕ) (room : 5 ≤ length ks) (few : e ≤ 63) (h : start < P) (es : s ≡ with 0 e) (put : ks' ≡ put_entry ks 0 (start * index_limit) s) where
+module _ (ks ks' : List ℕ) (P start e s x : ℕ) (room : 5 ≤ length ks) (few : e ≤ 63) (h : start < P) (es : s ≡ with 0 e) (ex : x ≡ start * index_limit + 0) (put : ks' ≡ put_entry ks 0 x s) where
   words_are : entries ks' 0 1 ≡ packed (set (replicate (index_limit * P) 0) (index_limit * start) (single e))
   unfolding entries up_from
   words_are =
-      let q : start * index_limit ≡ index_limit * start = omega arith in
+      let q : x ≡ index_limit * start = omega arith in
       let v = end_is e s few es in
       rw (put, q, v) (entries-put ks 0 (index_limit * start) (single e) room ∙ sym (packed_one (index_limit * P) (index_limit * start) (single e) (omega arith) (single-some e)))
 

@@ -11,7 +11,7 @@ ghost use Rattle.starting.specs.Start.{Counted, Started};
 use finding::{Halt, Source, append, close};
 use kept_states::Begins;
 use lookahead::TokenSet;
-use repr::ProductionIndex;
+use lr1_core::Item;
 use stored::{Kernel, StoredItem, write_item};
 
 // Stored if it has room.
@@ -26,10 +26,13 @@ pub fn first_state(
     requires start_lt_productions { (start < source.grammar.productions) × (source.sizes.fixed ≤ 65536) × (source.sizes.limit ≤ record_limit) × (record_limit * 5 ≤ length words.old) × (get_or begins.old.items 0 0 ≡ 0) }
     ensures { (T : Table) (room : ℕ) → OfTable T source.entry.grammar.words.now source.entry.grammar.productions source.entry.sets.now.terminals source.entry.sets.now.map → Counted T room source.entry.sizes.nonterminals source.entry.sizes.fixed source.entry.sizes.limit → let started = Started T start room words.new begins.new.items in MatchResult result (λ u. started true × (begins.new.states ≡ 1)) (λ h. (h ≡ Halt.Records) × started false) }
 {
-    let end = TokenSet::eof(source.sets.terminals);
+    let first = Item {
+        production: start,
+        index: 0,
+    };
     let item = StoredItem {
-        place: start * ProductionIndex::INDEXES,
-        set: end.0,
+        place: first.place(),
+        set: TokenSet::eof(source.sets.terminals).0,
     };
     write_item(&mut kernel.words, 0, item);
     kernel.many = 1;

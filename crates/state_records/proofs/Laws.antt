@@ -1,13 +1,13 @@
 -- Laws of the writing of states, items and edges. Assumes nothing.
-use mathlib.Core.Path.{◌≡◌, sym, ap, ◌∙◌}
+use mathlib.Core.Path.{refl, ◌≡◌, sym, ap, ◌∙◌}
 use mathlib.Core.List.{List, [], ◌∷◌, map}
 use Prim.Native.Nat.{ℕ, zero, suc, ◌+◌, ◌-◌, ◌*◌, ◌/◌, ◌%◌, ◌≤◌, ◌<◌}
 use native.Mathlib.Omega.{arith}
 use lib.ListN.{length, get_or, drop, length-drop}
-use borrow.Author.Tests.{lt-ltb, le-ltb}
 use Rattle.repr.specs.Sizes.{index_limit, record_limit, state_limit}
 use Rattle.repr.specs.Lists.{up_from}
-use Rattle.repr.specs.Meaning.{nonterminal, terminal, Item, Edge, State, Table, no_state, state_at}
+use Rattle.repr.specs.Listed.{symbol_of_kind}
+use Rattle.repr.specs.Meaning.{Symbol, nonterminal, Item, Edge, State, Table, no_state, state_at}
 use Rattle.repr.proofs.Lists.{length-up_from, get_d_up_from, get_d_map, length_mapped}
 use Rattle.table.specs.Quads.{Quad, no_quad, put_quad}
 use Rattle.spelling.specs.Spelled.{head_of, chain_from, place_of, size_of, kind_of, number_of, item_quad, edge_quad, item_lists, edge_lists, states_at, productions_at, items_place, edges_at, records_of, state_quad, quads}
@@ -17,9 +17,8 @@ use Rattle.spelling.proofs.Places.{begins, regions, state_at_lem, items_stand, e
 use Rattle.spelling.proofs.Grown.{grown-join, grown-put, place-start, place-next}
 use Rattle.spelling.proofs.Writing.{room_same}
 use Rattle.spelling.proofs.Areas.{head-is}
-use Rattle.stored.specs.Stored.{no_entry, entry_at, entries}
+use Rattle.stored.specs.Stored.{Entry, no_entry, entry_at, entries}
 use Rattle.kept_states.specs.Kept.{state_in}
-use Rattle.finding.specs.Search.{symbol_of_code}
 use Rattle.taking.specs.Taking.{edge_of, edges_in}
 use Rattle.collecting.specs.Rows.{row_in}
 use Rattle.state_records.specs.Rows.{BeginsOf, item_of, ItemsIn, EdgesIn}
@@ -103,13 +102,25 @@ module _ (ws : List ℕ) (from past : ℕ) where
       ap (item_quad r) (get_d_map item_of (entries ws from (past - from)) (m - from) no_entry d (omega arith) ∙ ap item_of (numbered_at (entry_at ws) from past m no_entry low less))
       ∙ rw e
 
-code-nonterminal : (c : ℕ) → c < 32 → symbol_of_code c ≡ nonterminal c
-unfolding symbol_of_code
-code-nonterminal c h = rw (symbol_of_code, lt-ltb c 32 h)
+pub place_word : (ws : List ℕ) (m x s : ℕ) → record { place = x; set = s } ≡ entry_at ws m → x ≡ get_or ws (m * 5) 0
+unfolding entry_at
+place_word ws m x s e = ap (λ (d : Entry). d.place) e
 
-code-terminal : (c : ℕ) → 32 ≤ c → symbol_of_code c ≡ terminal (c - 32)
-unfolding symbol_of_code
-code-terminal c h = rw (symbol_of_code, le-ltb c 32 h)
+pub target_small : (w t : ℕ) (X : Symbol) → record { symbol = X; target = t } ≡ edge_of w → t < 128
+unfolding edge_of
+target_small w t X e = omega (arith, ap (λ (d : Edge). d.target) e)
+
+-- a symbol by its two words
+kind_is : (k x : ℕ) → k < 2 → kind_of (symbol_of_kind k x) ≡ k
+unfolding kind_of symbol_of_kind
+kind_is zero x h = refl
+kind_is (suc zero) x h = refl
+kind_is (suc (suc k)) x h = absurd (omega arith)
+
+number_is : (k x : ℕ) → number_of (symbol_of_kind k x) ≡ x
+unfolding number_of symbol_of_kind
+number_is zero x = refl
+number_is (suc k) x = refl
 
 abbrev pub no_edge : Edge
 no_edge = record { symbol = nonterminal 0; target = 0 }
@@ -123,14 +134,9 @@ module _ (E : List ℕ) (from past : ℕ) where
   unfolding edges_in
   edge_at_lem m w d low less e = numbered_at (λ i. edge_of (get_or E i 0)) from past m d low less ∙ ap edge_of (sym e)
 
-  module _ (m w r : ℕ) (d : Edge) (low : from ≤ m) (less : m < past) (e : w ≡ get_or E m 0) where
-    pub edge_nonterminal : w / 128 < 32 → edge_quad r (get_or (edges_in E from (past - from)) (m - from) d) ≡ record { next = r; one = 0; two = w / 128; three = w % 128 }
-    unfolding edge_of kind_of number_of
-    edge_nonterminal h = ap (edge_quad r) (edge_at_lem m w d low less e) ∙ rw (code-nonterminal (w / 128) h)
-
-    pub edge_terminal : 32 ≤ w / 128 → edge_quad r (get_or (edges_in E from (past - from)) (m - from) d) ≡ record { next = r; one = 1; two = w / 128 - 32; three = w % 128 }
-    unfolding edge_of kind_of number_of
-    edge_terminal h = ap (edge_quad r) (edge_at_lem m w d low less e) ∙ rw (code-terminal (w / 128) h)
+  pub edge_quad_lem : (m w r k x t : ℕ) (X : Symbol) (d : Edge) → from ≤ m → m < past → w ≡ get_or E m 0 → record { symbol = X; target = t } ≡ edge_of w → symbol_of_kind k x ≡ X → k < 2
+      → edge_quad r (get_or (edges_in E from (past - from)) (m - from) d) ≡ record { next = r; one = k; two = x; three = t }
+  edge_quad_lem m w r k x t X d low less e q z h = ap (edge_quad r) (edge_at_lem m w d low less e ∙ sym q) ∙ rw (← z, kind_is k x h, number_is k x) refl
 
 -- the lists of all states
 

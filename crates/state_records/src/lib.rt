@@ -12,10 +12,11 @@ ghost use Rattle.taking.specs.Taking.{edges_in};
 ghost use Rattle.state_records.specs.Rows.{BeginsOf, item_of, ItemsIn, EdgesIn};
 
 use kept_states::Begins;
-use repr::ProductionIndex;
+use lr1_core::Item;
 use spelling::{head_of, next_of};
+use stored::read_item;
 use table::put;
-use taking::Edges;
+use taking::{Edges, FoundEdge};
 
 // The states, from record `at` on: their items begin at record `items`, their edges at record `ends`.
 pub fn write_states(
@@ -38,23 +39,16 @@ pub fn write_states(
     }
 }
 
-// The items of one state.
+// The items of one state, by number: that is where their records stand too.
 fn write_state_items(words: &[u16], from: usize, past: usize, items: usize, out: &mut [u16])
     requires from_le_past { (from ≤ past) × (record_limit * 5 ≤ length words.now) }
     requires stands { (U : Table) × (Stands (quads U) (items + from) (chain_from item_quad (items + from) (map item_of (entries words.now from (past - from)))) × Room U out.old) }
     ensures { (U : Table) → Stands (quads U) (items + from) (chain_from item_quad (items + from) (map item_of (entries words.now from (past - from)))) → Room U out.old → Grown U out.old out.new (items + from) (items + past) }
 {
     for m in from..past {
-        let place = repr::word(words, m * 5);
+        let item = Item::at(read_item(words, m).place);
         let next = next_of(past - m - 1, items + m);
-        put(
-            out,
-            items + m,
-            next,
-            place / ProductionIndex::INDEXES,
-            place % ProductionIndex::INDEXES,
-            0,
-        );
+        put(out, items + m, next, item.production, item.index, 0);
     }
 }
 
@@ -69,21 +63,29 @@ pub fn write_items(words: &[u16], begins: &Begins, items: usize, out: &mut [u16]
 }
 
 // The edges of one state.
-fn write_state_edges(edges: &[u16; 12160], from: usize, past: usize, at: usize, out: &mut [u16])
+fn write_state_edges(
+    edges: &[u16; Edges::LIMIT],
+    from: usize,
+    past: usize,
+    at: usize,
+    out: &mut [u16],
+)
     requires from_le_past { from ≤ past }
     requires stands { (U : Table) × (Stands (quads U) (at + from) (chain_from edge_quad (at + from) (edges_in edges.now from (past - from))) × Room U out.old) }
     ensures { (U : Table) → Stands (quads U) (at + from) (chain_from edge_quad (at + from) (edges_in edges.now from (past - from))) → Room U out.old → Grown U out.old out.new (at + from) (at + past) }
 {
     for m in from..past {
-        let edge = usize::from(edges[m]);
-        let symbol = edge / 128;
-        let target = edge % 128;
+        let edge = FoundEdge::of(edges[m]);
+        let (kind, number) = edge.symbol.words();
         let next = next_of(past - m - 1, at + m);
-        if symbol < 32 {
-            put(out, at + m, next, 0, symbol, target);
-        } else {
-            put(out, at + m, next, 1, symbol - 32, target);
-        }
+        put(
+            out,
+            at + m,
+            next,
+            kind as usize,
+            number as usize,
+            edge.target,
+        );
     }
 }
 

@@ -4,35 +4,15 @@ use lib.ListN.{get_or-eq_default}
 use borrow.Author.Tests.{eqb-false}
 use Rattle.repr.specs.Sizes.{index_limit}
 use Rattle.repr.specs.Lists.{up_from, below}
-use Rattle.repr.specs.Meaning.{Symbol, nonterminal, terminal, is_same_symbol, Production, Table, production_at, SymbolFits, All, TableFits}
-use Rattle.repr.specs.Packed.{production_in}
+use Rattle.repr.specs.Meaning.{Symbol, Production, Table, production_at, TableFits}
+use Rattle.repr.specs.Listed.{listed}
+use Rattle.repr.specs.Packed.{symbol_words, production_in}
 use Rattle.repr.proofs.Lists.{cases, clash, up_from-last, keep-nil, keep-yes, keep_no}
 use Rattle.build.specs.States.{places, from, begins, moved_to, moved}
-use Rattle.build.proofs.Closure.{behind_fit}
 use Rattle.build.proofs.Goto.{drop-long, length_moved, moved_at, moved_to-zero, symbols_short}
-use Rattle.lr1_core.specs.Cursor.{symbol_code, cursor_code, code_in}
 use Rattle.closing.specs.Grammar.{OfTable}
 use Rattle.closing.proofs.Grammar.{production_at_lem}
 use Rattle.stored.specs.Stored.{Entry, held, packed, moved_over}
-
-turned : (n m : ℕ) → eqb n m ≡ eqb m n
-turned n m =
-    cases (eqb m n)
-    (λ a. eq-eqb n m (sym (eqb-true m n a)) ∙ sym a)
-    (λ a. ne_eqb n m (λ q. eqb-false m n a (sym q)) ∙ sym a)
-
--- a number for each symbol, and 95 for none
-codes_agree : (T : Table) (F : TableFits T) (X : Symbol) (ys : List Symbol) → SymbolFits T X → All (SymbolFits T) ys → eqb (cursor_code ys) (symbol_code X) ≡ begins X ys
-unfolding cursor_code symbol_code begins is_same_symbol SymbolFits All
-codes_agree T F (nonterminal m) [] h f = ne_eqb 95 m (λ q. omega (arith, F.few_nonterminals))
-codes_agree T F (terminal t) [] h f = ne_eqb 95 (32 + t) (λ q. omega (arith, F.few_terminals))
-codes_agree T F (nonterminal m) (nonterminal n ∷ ys) h f = turned n m
-codes_agree T F (nonterminal m) (terminal u ∷ ys) h f = ne_eqb (32 + u) m (λ q. omega (arith, F.few_nonterminals))
-codes_agree T F (terminal t) (nonterminal n ∷ ys) h f = let w = f.0 in ne_eqb n (32 + t) (λ q. omega (arith, w, F.few_nonterminals))
-codes_agree T F (terminal t) (terminal u ∷ ys) h f =
-    cases (eqb t u)
-    (λ a. let q = eqb-true t u a in eq-eqb (32 + u) (32 + t) (omega arith) ∙ sym a)
-    (λ a. let q = eqb-false t u a in ne_eqb (32 + u) (32 + t) (λ w. q (omega arith)) ∙ sym a)
 
 -- places of a range that have a token
 
@@ -42,18 +22,22 @@ held_none S x xs z = rw (keep_no (λ x. not (eqb (get_or S x 0) 0)) x xs (rw (eq
 pub held-some : (S : List ℕ) (x : ℕ) (xs : List ℕ) → (get_or S x 0 ≡ 0 → ⊥) → held S (x ∷ xs) ≡ record { place = x; set = get_or S x 0 } ∷ held S xs
 held-some S x xs z = rw (keep-yes (λ x. not (eqb (get_or S x 0) 0)) x xs (rw (ne_eqb (get_or S x 0) 0 z)))
 
-over_here : (g : List ℕ) (code : ℕ) (e : Entry) (es : List Entry) → eqb (code_in g (e.place / index_limit) (e.place % index_limit)) code ≡ true → moved_over g code (e ∷ es) ≡ record { place = e.place + 1; set = e.set } ∷ moved_over g code es
-unfolding moved_over
-over_here g code e es t = rw (t, moved_over)
+-- by the packed words: the symbols from the cursor of item x on
+abbrev cut : List ℕ → ℕ → List Symbol
+cut g x = drop (x % index_limit) (listed (symbol_words g (x / index_limit)))
 
-over_past : (g : List ℕ) (code : ℕ) (e : Entry) (es : List Entry) → eqb (code_in g (e.place / index_limit) (e.place % index_limit)) code ≡ false → moved_over g code (e ∷ es) ≡ moved_over g code es
+over_here : (g : List ℕ) (X : Symbol) (e : Entry) (es : List Entry) → begins X (cut g e.place) ≡ true → moved_over g X (e ∷ es) ≡ record { place = e.place + 1; set = e.set } ∷ moved_over g X es
 unfolding moved_over
-over_past g code e es t = rw (t, moved_over)
+over_here g X e es t = rw (t, moved_over)
+
+over_past : (g : List ℕ) (X : Symbol) (e : Entry) (es : List Entry) → begins X (cut g e.place) ≡ false → moved_over g X (e ∷ es) ≡ moved_over g X es
+unfolding moved_over
+over_past g X e es t = rw (t, moved_over)
 
 -- M holds what S holds one place before, where the cursor stands at the symbol
-module _ (g : List ℕ) (code : ℕ) (S M : List ℕ) (n : ℕ) (at : (x : ℕ) → x < n → eqb (code_in g (x / index_limit) (x % index_limit)) code ≡ true → get_or M (suc x) 0 ≡ get_or S x 0)
-    (off : (x : ℕ) → x < n → eqb (code_in g (x / index_limit) (x % index_limit)) code ≡ false → get_or M (suc x) 0 ≡ 0) where
-  pub held_moved : (x m : ℕ) → x + m ≤ n → moved_over g code (held S (up_from x m)) ≡ held M (up_from (suc x) m)
+module _ (g : List ℕ) (X : Symbol) (S M : List ℕ) (n : ℕ) (at : (x : ℕ) → x < n → begins X (cut g x) ≡ true → get_or M (suc x) 0 ≡ get_or S x 0)
+    (off : (x : ℕ) → x < n → begins X (cut g x) ≡ false → get_or M (suc x) 0 ≡ 0) where
+  pub held_moved : (x m : ℕ) → x + m ≤ n → moved_over g X (held S (up_from x m)) ≡ held M (up_from (suc x) m)
   unfolding up_from moved_over
   held_moved x zero h = rw (keep-nil (λ x. not (eqb (get_or S x 0) 0)), keep-nil (λ x. not (eqb (get_or M x 0) 0)))
   held_moved x (suc m) h =
@@ -62,19 +46,19 @@ module _ (g : List ℕ) (code : ℕ) (S M : List ℕ) (n : ℕ) (at : (x : ℕ) 
       cases (eqb (get_or S x 0) 0)
       (λ t.
       let z = eqb-true (get_or S x 0) 0 t in
-      let none : get_or M (suc x) 0 ≡ 0 = cases (eqb (code_in g (x / index_limit) (x % index_limit)) code) (λ u. at x l u ∙ z) (λ u. off x l u) in
-      ap (moved_over g code) (held_none S x (up_from (suc x) m) z) ∙ more ∙ sym (held_none M (suc x) (up_from (suc (suc x)) m) none))
+      let none : get_or M (suc x) 0 ≡ 0 = cases (begins X (cut g x)) (λ u. at x l u ∙ z) (λ u. off x l u) in
+      ap (moved_over g X) (held_none S x (up_from (suc x) m) z) ∙ more ∙ sym (held_none M (suc x) (up_from (suc (suc x)) m) none))
       (λ t.
       let z = eqb-false (get_or S x 0) 0 t in
-      ap (moved_over g code) (held-some S x (up_from (suc x) m) z) ∙ cases (eqb (code_in g (x / index_limit) (x % index_limit)) code)
+      ap (moved_over g X) (held-some S x (up_from (suc x) m) z) ∙ cases (begins X (cut g x))
       (λ u.
       let e = at x l u in
       let one : x + 1 ≡ suc x = omega arith in
-      over_here g code (record { place = x; set = get_or S x 0 }) (held S (up_from (suc x) m)) u
+      over_here g X (record { place = x; set = get_or S x 0 }) (held S (up_from (suc x) m)) u
       ∙ rw (one, more) (sym (held-some M (suc x) (up_from (suc (suc x)) m) (λ q. z (sym e ∙ q)) ∙ rw e))
       )
       (λ u.
-      over_past g code (record { place = x; set = get_or S x 0 }) (held S (up_from (suc x) m)) u
+      over_past g X (record { place = x; set = get_or S x 0 }) (held S (up_from (suc x) m)) u
       ∙ more ∙ sym (held_none M (suc x) (up_from (suc (suc x)) m) (off x l u))))
 
 -- M at the place behind x
@@ -139,30 +123,19 @@ held_turn M n a z =
     let e : 0 + n ≡ n = omega arith in
     sym (held_none M 0 (up_from 1 n) a) ∙ ap (held M) (up_from-last 0 n) ∙ held-last M (up_from 0 n) (0 + n) (rw e z)
 
-module _ (T : Table) (g : List ℕ) (k e : ℕ) (sets : List ℕ) (G : OfTable T g k e sets) (X : Symbol) (fit : SymbolFits T X) where
-  from-fits : (x : ℕ) → All (SymbolFits T) (from T x)
-  unfolding All
-  from-fits x = by (from T x) refl
-    where
-      by : (ys : List Symbol) → from T x ≡ ys → All (SymbolFits T) ys
-      by [] q = tt
-      by (y ∷ β) q = behind_fit T G.fits (record { production = x / index_limit; index = x % index_limit }) y β q
-
-  agree : (x : ℕ) → x < places T → eqb (code_in g (x / index_limit) (x % index_limit)) (symbol_code X) ≡ begins X (from T x)
-  unfolding code_in production_in
-  agree x h =
-      let l : x / index_limit < k = omega (arith, G.many) in
-      ap (λ (r : Production). eqb (cursor_code (drop (x % index_limit) r.symbols)) (symbol_code X)) (sym (production_at_lem T g k e sets G (x / index_limit) l))
-      ∙ codes_agree T G.fits X (from T x) fit (from-fits x)
+module _ (T : Table) (g : List ℕ) (k e : ℕ) (sets : List ℕ) (G : OfTable T g k e sets) (X : Symbol) where
+  agree : (x : ℕ) → x < places T → begins X (cut g x) ≡ begins X (from T x)
+  unfolding production_in
+  agree x h = ap (λ (r : Production). begins X (drop (x % index_limit) r.symbols)) (sym (production_at_lem T g k e sets G (x / index_limit) (omega (arith, G.many))))
 
   -- what `move_over` gives is the kernel of the goto
-  pub packed-moved : (S : List ℕ) → length S ≡ places T → moved_over g (symbol_code X) (packed S) ≡ packed (moved T X S)
+  pub packed-moved : (S : List ℕ) → length S ≡ places T → moved_over g X (packed S) ≡ packed (moved T X S)
   unfolding packed below
   packed-moved S long =
       let M : List ℕ = moved T X S in
       let size : length (moved T X S) ≡ places T = length_moved T X S in
       let past : get_or (moved T X S) (places T) 0 ≡ 0 = out in
-      rw (long, size) (held_moved g (symbol_code X) S (moved T X S) (places T)
+      rw (long, size) (held_moved g X S (moved T X S) (places T)
       (λ x h t. next-yes T G.fits X S x h (sym (agree x h) ∙ t)) (λ x h t. next_no T G.fits X S x h (sym (agree x h) ∙ t)) 0 (places T) (omega arith)
       ∙ held_turn (moved T X S) (places T) first past)
     where

@@ -1,11 +1,22 @@
 -- Laws of items in words: what is put is read, and nothing else changes; one law for each way through the code. Assumes nothing.
-use Rattle.std.proofs.Common.{◌≡◌, ℕ, zero, suc, ◌+◌, ◌-◌, ◌*◌, ◌/◌, ◌%◌, ◌<◌, ◌≤◌, Bool, true, false, ◌&&◌, eqb, List, [], ◌∷◌, ◌++◌, map, length, get_or, set, sym, refl, ap, ◌∙◌, append_assoc, append-nil, add-one, arith, length-set, get_or-set_other, get_or-set_same, eq-eqb, ne_eqb, eqb-true}
+use Rattle.std.proofs.Common.{◌≡◌, ℕ, zero, suc, ◌+◌, ◌-◌, ◌*◌, ◌/◌, ◌%◌, ◌<◌, ◌≤◌, Bool, true, false, ◌&&◌, eqb, Option, Some, None, List, [], ◌∷◌, ◌++◌, map, length, get_or, take, drop, set, sym, refl, ap, ◌∙◌, append_assoc, append-nil, add-one, arith, length-append, length-drop, length-set, get_or-drop, get_or-take, get_or-append-add, get_or-set_other, get_or-set_same, eq-eqb, ne_eqb, eqb-true}
+use Rattle.std.proofs.lemmas.List.{length-take-le}
+use lib.ListN.{get_or-append}
 use borrow.Author.Tests.{eqb-false}
+use borrow.Rule.Slice.PartMut.{put_mid}
 use Rattle.repr.specs.Sizes.{index_limit}
 use Rattle.repr.specs.Lists.{up_from}
-use Rattle.repr.proofs.Lists.{cases, up_from-last}
-use Rattle.lr1_core.specs.Cursor.{code_in}
-use Rattle.stored.specs.Stored.{Entry, set_at, entry_at, entries, put_entry, moved_over, same_entry, is_same_kernel, Appended, MetAfter}
+use Rattle.repr.proofs.Lists.{cases, up_from-last, length-up_from, length_mapped}
+use Rattle.repr.specs.Meaning.{Symbol, is_same_symbol, All}
+use Rattle.repr.specs.Symbols.{meant, IsInRange}
+use Rattle.repr.specs.declared.Symbol.{Symbol as Coded}
+use Rattle.repr.specs.declared.Symbol.TheVariants.{Nonterminal, Terminal}
+use Rattle.repr.specs.contracts.SymbolPartialEq.TheImpl.{eq-value}
+use Rattle.std.specs.Option.{MatchOption, option_eq}
+use Rattle.repr.specs.Listed.{listed}
+use Rattle.repr.specs.Packed.{symbol_words}
+use Rattle.build.specs.States.{begins}
+use Rattle.stored.specs.Stored.{Entry, set_at, entry_at, entries, entry_words, put_entry, moved_over, same_entry, is_same_kernel, Appended, MetAfter}
 
 -- one item
 
@@ -54,6 +65,27 @@ module _ (ws : List ℕ) (b v0 v1 v2 v3 v4 : ℕ) where
         ∙ get_or-set_other (set ws b v0) (b + 1) b v1 0 (λ e. omega arith)
         ∙ get_or-set_same ws b v0 0 (omega arith)
 
+-- the same put as one part
+five_part : (ws : List ℕ) (b v0 v1 v2 v3 v4 : ℕ) → b + 5 ≤ length ws → take b ws ++ ((v0 ∷ v1 ∷ v2 ∷ v3 ∷ v4 ∷ []) ++ drop 5 (drop b ws)) ≡ five ws b v0 v1 v2 v3 v4
+five_part [] b v0 v1 v2 v3 v4 h = absurd (omega arith)
+five_part (x0 ∷ []) zero v0 v1 v2 v3 v4 h = absurd (omega arith)
+five_part (x0 ∷ x1 ∷ []) zero v0 v1 v2 v3 v4 h = absurd (omega arith)
+five_part (x0 ∷ x1 ∷ x2 ∷ []) zero v0 v1 v2 v3 v4 h = absurd (omega arith)
+five_part (x0 ∷ x1 ∷ x2 ∷ x3 ∷ []) zero v0 v1 v2 v3 v4 h = absurd (omega arith)
+five_part (x0 ∷ x1 ∷ x2 ∷ x3 ∷ x4 ∷ ws) zero v0 v1 v2 v3 v4 h = refl
+five_part (x ∷ ws) (suc b) v0 v1 v2 v3 v4 h =
+    let e1 : suc b + 1 ≡ suc (b + 1) = omega arith in
+    let e2 : suc b + 2 ≡ suc (b + 2) = omega arith in
+    let e3 : suc b + 3 ≡ suc (b + 3) = omega arith in
+    let e4 : suc b + 4 ≡ suc (b + 4) = omega arith in
+    rw (e1, e2, e3, e4) (ap (λ (l : List ℕ). x ∷ l) (five_part ws b v0 v1 v2 v3 v4 (omega arith)))
+
+pub put_part : (ws ys : List ℕ) (m x s : ℕ) → m * 5 + 5 ≤ length ws → ys ≡ entry_words x s → put_mid (m * 5) (m * 5 + 5 - m * 5) ws ys ≡ put_entry ws m x s
+unfolding put_entry entry_words
+put_part ws ys m x s h e =
+    let k : m * 5 + 5 - m * 5 ≡ 5 = omega arith in
+    rw (k, e) (five_part ws (m * 5) x (s % 65536) (s / 65536 % 65536) (s / 65536 / 65536 % 65536) (s / 65536 / 65536 / 65536) h)
+
 pub length-put : (ws : List ℕ) (m x s : ℕ) → length (put_entry ws m x s) ≡ length ws
 unfolding put_entry
 length-put ws m x s = length_five ws (m * 5) x (s % 65536) (s / 65536 % 65536) (s / 65536 / 65536 % 65536) (s / 65536 / 65536 / 65536)
@@ -83,10 +115,9 @@ put_other ws m n x s ne =
     let z : n * 5 + 0 ≡ n * 5 = omega arith in
     rw (rw z at (o 0 (omega arith)), o 1 (omega arith), o 2 (omega arith), o 3 (omega arith), o 4 (omega arith))
 
-pub read_is : (ws : List ℕ) (m p a b c d : ℕ) → p ≡ get_or ws (m * 5) 0 → a ≡ get_or ws (m * 5 + 1) 0 → b ≡ get_or ws (m * 5 + 2) 0 → c ≡ get_or ws (m * 5 + 3) 0 → d ≡ get_or ws (m * 5 + 4) 0
-    → record { place = p; set = a + 65536 * (b + 65536 * (c + 65536 * d)) } ≡ entry_at ws m
+pub read_is : (ws : List ℕ) (p a b c d : ℕ) → p ≡ get_or ws 0 0 → a ≡ get_or ws 1 0 → b ≡ get_or ws 2 0 → c ≡ get_or ws 3 0 → d ≡ get_or ws 4 0 → record { place = p; set = a + 65536 * (b + 65536 * (c + 65536 * d)) } ≡ entry_at ws 0
 unfolding entry_at set_at
-read_is ws m p a b c d ep ea eb ec ed = rw (ep, ea, eb, ec, ed)
+read_is ws p a b c d ep ea eb ec ed = rw (ep, ea, eb, ec, ed)
 
 -- items one behind the other
 
@@ -126,59 +157,163 @@ entries-put ws n x s h =
     let same = entries_same ws (put_entry ws n x s) 0 n (λ i l u. put_other ws n i x s (λ e. omega arith)) in
     rw (entries-last (put_entry ws n x s) n, same, put_here ws n x s h)
 
+-- all items of some words
+
+unfoldable pub all_entries : List ℕ → List Entry
+all_entries ws = entries ws 0 (length ws / 5)
+
+entries_alike : (ws vs : List ℕ) (m k n : ℕ) → ((i : ℕ) → i < n → entry_at vs (m + i) ≡ entry_at ws (k + i)) → entries vs m n ≡ entries ws k n
+unfolding entries up_from
+entries_alike ws vs m k zero f = refl
+entries_alike ws vs m k (suc n) f =
+    let y : m + 0 ≡ m = omega arith in
+    let z : k + 0 ≡ k = omega arith in
+    let more = entries_alike ws vs (suc m) (suc k) n (λ i h. let a : suc m + i ≡ m + suc i = omega arith in let b : suc k + i ≡ k + suc i = omega arith in rw (a, b) (f (suc i) (omega arith))) in
+    let here = rw (y, z) at (f 0 (omega arith)) in
+    cc
+
+entry_alike : (ws vs : List ℕ) (m k : ℕ) → ((j : ℕ) → j < 5 → get_or vs (m * 5 + j) 0 ≡ get_or ws (k * 5 + j) 0) → entry_at vs m ≡ entry_at ws k
+unfolding entry_at set_at
+entry_alike ws vs m k f =
+    let y : m * 5 + 0 ≡ m * 5 = omega arith in
+    let z : k * 5 + 0 ≡ k * 5 = omega arith in
+    rw (rw (y, z) at (f 0 (omega arith)), f 1 (omega arith), f 2 (omega arith), f 3 (omega arith), f 4 (omega arith))
+
+-- an item by its own words
+pub entry_part : (ws : List ℕ) (m : ℕ) → entry_at (take (m * 5 + 5 - m * 5) (drop (m * 5) ws)) 0 ≡ entry_at ws m
+entry_part ws m = entry_alike ws (take (m * 5 + 5 - m * 5) (drop (m * 5) ws)) 0 m (λ j v.
+    get_or-take (m * 5 + 5 - m * 5) (drop (m * 5) ws) (0 * 5 + j) 0 (omega arith) ∙ get_or-drop (m * 5) ws (0 * 5 + j) 0 ∙ ap (λ (y : ℕ). get_or ws y 0) (let e : m * 5 + (0 * 5 + j) ≡ m * 5 + j = omega arith in e))
+
+pub all_none : (ws : List ℕ) → length ws < 5 → all_entries ws ≡ []
+unfolding all_entries entries up_from
+all_none ws h = let z : length ws / 5 ≡ 0 = omega arith in rw z refl
+
+pub all-more : (w ws : List ℕ) → length w ≡ 5 → all_entries (w ++ ws) ≡ entry_at w 0 ∷ all_entries ws
+unfolding all_entries
+all-more w ws h =
+    let l = length-append w ws in
+    let z : length (w ++ ws) / 5 ≡ suc (length ws / 5) = omega (arith, l) in
+    let here : entry_at (w ++ ws) 0 ≡ entry_at w 0 = entry_alike w (w ++ ws) 0 0 (λ j u. get_or-append w ws 0 (0 * 5 + j) (omega arith)) in
+    let there : entries (w ++ ws) 1 (length ws / 5) ≡ entries ws 0 (length ws / 5) = entries_alike ws (w ++ ws) 1 0 (length ws / 5) (λ i u. entry_alike ws (w ++ ws) (1 + i) (0 + i) (λ j v.
+    let a : (1 + i) * 5 + j ≡ length w + ((0 + i) * 5 + j) = omega arith in
+    rw a (get_or-append-add w ws ((0 + i) * 5 + j) 0))) in
+    rw z (entries-more (w ++ ws) 0 (length ws / 5) ∙ (rw (here, there)))
+
+-- a part of the words
+pub all_part : (ws : List ℕ) (from past : ℕ) → from ≤ past → past * 5 ≤ length ws → all_entries (take (past * 5 - from * 5) (drop (from * 5) ws)) ≡ entries ws from (past - from)
+unfolding all_entries
+all_part ws from past h l =
+    let d = length-drop (from * 5) ws in
+    let t = length-take-le (past * 5 - from * 5) (drop (from * 5) ws) (omega arith) in
+    let z : length (take (past * 5 - from * 5) (drop (from * 5) ws)) / 5 ≡ past - from = omega (arith, t) in
+    rw z (entries_alike ws (take (past * 5 - from * 5) (drop (from * 5) ws)) 0 from (past - from) (λ i u. entry_alike ws (take (past * 5 - from * 5) (drop (from * 5) ws)) (0 + i) (from + i) (λ j v.
+    let a : from * 5 + ((0 + i) * 5 + j) ≡ (from + i) * 5 + j = omega arith in
+    get_or-take (past * 5 - from * 5) (drop (from * 5) ws) ((0 + i) * 5 + j) 0 (omega arith) ∙ get_or-drop (from * 5) ws ((0 + i) * 5 + j) 0 ∙ ap (λ (y : ℕ). get_or ws y 0) a)))
+
 -- moving over a symbol
 
-module _ (g : List ℕ) (code x s : ℕ) (es : List Entry) where
-  over_yes : code_in g (x / index_limit) (x % index_limit) ≡ code → moved_over g code (record { place = x; set = s } ∷ es) ≡ record { place = x + 1; set = s } ∷ moved_over g code es
+module _ (g : List ℕ) (X : Symbol) (x s : ℕ) (es : List Entry) where
+  over_yes : begins X (drop (x % index_limit) (listed (symbol_words g (x / index_limit)))) ≡ true → moved_over g X (record { place = x; set = s } ∷ es) ≡ record { place = x + 1; set = s } ∷ moved_over g X es
   unfolding moved_over
-  over_yes e = rw (eq-eqb (code_in g (x / index_limit) (x % index_limit)) code e, moved_over)
+  over_yes e = rw (e, moved_over)
 
-  over_no : (code_in g (x / index_limit) (x % index_limit) ≡ code → ⊥) → moved_over g code (record { place = x; set = s } ∷ es) ≡ moved_over g code es
+  over_no : begins X (drop (x % index_limit) (listed (symbol_words g (x / index_limit)))) ≡ false → moved_over g X (record { place = x; set = s } ∷ es) ≡ moved_over g X es
   unfolding moved_over
-  over_no e = rw (ne_eqb (code_in g (x / index_limit) (x % index_limit)) code e, moved_over)
+  over_no e = rw (e, moved_over)
 
-over-nil : (g : List ℕ) (code : ℕ) → moved_over g code [] ≡ []
+over-nil : (g : List ℕ) (X : Symbol) → moved_over g X [] ≡ []
 unfolding moved_over
-over-nil g code = refl
+over-nil g X = refl
 
-over-split : (g : List ℕ) (code : ℕ) (e : Entry) (es : List Entry) → moved_over g code (e ∷ es) ≡ moved_over g code (e ∷ []) ++ moved_over g code es
-over-split g code e es =
-    cases (eqb (code_in g (e.place / index_limit) (e.place % index_limit)) code)
-    (λ t.
-    let q = eqb-true (code_in g (e.place / index_limit) (e.place % index_limit)) code t in
-    over_yes g code e.place e.set es q ∙ rw (over_yes g code e.place e.set [] q, over-nil g code))
-    (λ t.
-    let q = eqb-false (code_in g (e.place / index_limit) (e.place % index_limit)) code t in
-    over_no g code e.place e.set es q ∙ rw (over_no g code e.place e.set [] q, over-nil g code))
+over-split : (g : List ℕ) (X : Symbol) (e : Entry) (es : List Entry) → moved_over g X (e ∷ es) ≡ moved_over g X (e ∷ []) ++ moved_over g X es
+over-split g X e es =
+    cases (begins X (drop (e.place % index_limit) (listed (symbol_words g (e.place / index_limit)))))
+    (λ t. over_yes g X e.place e.set es t ∙ rw (over_yes g X e.place e.set [] t, over-nil g X))
+    (λ t. over_no g X e.place e.set es t ∙ rw (over_no g X e.place e.set [] t, over-nil g X))
 
-pub appended : (g : List ℕ) (code x s : ℕ) (k k' : List ℕ) (n c : ℕ) → n * 5 + 5 ≤ length k → c ≡ code_in g (x / index_limit) (x % index_limit) → c ≡ code → k' ≡ put_entry k n (x + 1) s → Appended g code x s k k' n (n + 1)
-appended g code x s k k' n c h ec e q = record {
+-- the code's comparison of a cursor's symbol: what is left of the symbols begins with X exactly if it says so
+turned : (n m : ℕ) → eqb n m ≡ eqb m n
+turned n m =
+    cases (eqb m n)
+    (λ a. eq-eqb n m (sym (eqb-true m n a)) ∙ sym a)
+    (λ a. ne_eqb n m (λ q. eqb-false m n a (sym q)) ∙ sym a)
+
+same_symbol : (X Y : Coded) → is_same_symbol (meant X) (meant Y) ≡ eq-value.it Y X
+unfolding is_same_symbol
+same_symbol (Nonterminal n) (Nonterminal m) = turned n.0 m.0
+same_symbol (Nonterminal n) (Terminal m) = refl
+same_symbol (Terminal n) (Nonterminal m) = refl
+same_symbol (Terminal n) (Terminal m) = turned n m
+
+pub begins_with : (X : Coded) (r : Option Coded) (left rest : List Symbol) → MatchOption r (left ≡ []) (λ s. (left ≡ meant s ∷ rest) × IsInRange s) → begins (meant X) left ≡ option_eq eq-value.it r (Some X)
+unfolding begins
+begins_with X None left rest e = rw e refl
+begins_with X (Some Y) left rest e = rw e.0 (same_symbol X Y)
+
+pub appended : (g : List ℕ) (X : Symbol) (x s : ℕ) (k k' : List ℕ) (n : ℕ) → n * 5 + 5 ≤ length k → begins X (drop (x % index_limit) (listed (symbol_words g (x / index_limit)))) ≡ true → k' ≡ put_entry k n (x + 1) s → Appended g X x s k k' n (n + 1)
+appended g X x s k k' n h e q = record {
   long = ap length q ∙ length-put k n (x + 1) s;
   low = omega arith;
   high = omega arith;
-  is = rw (q, over_yes g code x s [] (sym ec ∙ e), over-nil g code) (entries-put k n (x + 1) s h);
+  is = rw (q, over_yes g X x s [] e, over-nil g X) (entries-put k n (x + 1) s h);
 }
 
-pub passed : (g : List ℕ) (code x s : ℕ) (k : List ℕ) (n c : ℕ) → c ≡ code_in g (x / index_limit) (x % index_limit) → (c ≡ code → ⊥) → Appended g code x s k k n n
-passed g code x s k n c ec e = record {
+pub passed : (g : List ℕ) (X : Symbol) (x s : ℕ) (k : List ℕ) (n : ℕ) → begins X (drop (x % index_limit) (listed (symbol_words g (x / index_limit)))) ≡ false → Appended g X x s k k n n
+passed g X x s k n e = record {
   long = refl;
   low = omega arith;
   high = omega arith;
-  is = rw (over_no g code x s [] (λ q. e (ec ∙ q)), over-nil g code) (sym (append-nil (entries k 0 n)));
+  is = rw (over_no g X x s [] e, over-nil g X) (sym (append-nil (entries k 0 n)));
 }
 
-pub over-start : (g : List ℕ) (code : ℕ) (k : List ℕ) (l : List Entry) → entries k 0 0 ++ moved_over g code l ≡ moved_over g code l
+-- a turn of the loop: `left` of the items are still to be moved
+pub record Turn (g : List ℕ) (X : Symbol) (limit : ℕ) (all : List Entry) (k : List ℕ) (n : ℕ) (left : List Entry) : Type 0 where
+  pub short : n + length left ≤ length all
+  pub inside : All (λ (e : Entry). e.place < limit) left
+  pub moved : entries k 0 n ++ moved_over g X left ≡ moved_over g X all
+
+pub entries_fit : (ws : List ℕ) (limit m n : ℕ) → ((i : ℕ) → m ≤ i → i < m + n → (entry_at ws i).place < limit) → All (λ (e : Entry). e.place < limit) (entries ws m n)
+unfolding entries up_from All
+entries_fit ws limit m zero f = tt
+entries_fit ws limit m (suc n) f = (f m (omega arith) (omega arith), entries_fit ws limit (suc m) n (λ i l h. f i (omega arith) (omega arith)))
+
+pub length-entries : (ws : List ℕ) (m n : ℕ) → length (entries ws m n) ≡ n
+unfolding entries
+length-entries ws m n = length_mapped (entry_at ws) (up_from m n) ∙ length-up_from m n
+
+pub turn_begin : (g : List ℕ) (X : Symbol) (limit : ℕ) (ws k : List ℕ) (from past : ℕ) → from ≤ past → past * 5 ≤ length ws → ((i : ℕ) → from ≤ i → i < past → (entry_at ws i).place < limit)
+    → Turn g X limit (entries ws from (past - from)) k 0 (all_entries (take (past * 5 - from * 5) (drop (from * 5) ws)))
 unfolding entries up_from
-over-start g code k l = refl
+turn_begin g X limit ws k from past h l f =
+    rw (all_part ws from past h l) record {
+      short = omega arith;
+      inside = entries_fit ws limit from (past - from) (λ i u v. f i u (omega arith));
+      moved = refl;
+    }
 
-pub over-more : (g : List ℕ) (code : ℕ) (ws k k' : List ℕ) (m past n r x s : ℕ) (all : List Entry) → m < past → record { place = x; set = s } ≡ entry_at ws m → Appended g code x s k k' n r
-    → entries k 0 n ++ moved_over g code (entries ws m (past - m)) ≡ all → entries k' 0 r ++ moved_over g code (entries ws (m + 1) (past - (m + 1))) ≡ all
-over-more g code ws k k' m past n r x s all h e a q =
-    rw (a.is, append_assoc (entries k 0 n) (moved_over g code (record { place = x; set = s } ∷ [])) (moved_over g code (entries ws (m + 1) (past - (m + 1))))) (
-    rw (← over-split g code (record { place = x; set = s }) (entries ws (m + 1) (past - (m + 1))), e, ← entries_at ws m past h) q)
+module _ (g : List ℕ) (X : Symbol) (limit : ℕ) (all : List Entry) (k : List ℕ) (n : ℕ) where
+  module _ (w rest : List ℕ) (h : length w ≡ 5) (t : Turn g X limit all k n (all_entries (w ++ rest))) (x s : ℕ) (e : record { place = x; set = s } ≡ entry_at w 0) where
+    this : Turn g X limit all k n (record { place = x; set = s } ∷ all_entries rest)
+    this = rw (all-more w rest h, ← e) at t
 
-pub over_end : (g : List ℕ) (code : ℕ) (ws k : List ℕ) (m past n : ℕ) (all : List Entry) → past ≤ m → entries k 0 n ++ moved_over g code (entries ws m (past - m)) ≡ all → entries k 0 n ≡ all
-over_end g code ws k m past n all h q = sym (append-nil (entries k 0 n)) ∙ (rw (entries_none ws m past h, over-nil g code) at q)
+    pub turn_room : (x < limit) × (n < length all)
+    unfolding All
+    turn_room = let t = this in (t.inside.0, omega (arith, t.short))
+
+    pub turn_next : (k' : List ℕ) (r : ℕ) → Appended g X x s k k' n r → Turn g X limit all k' r (all_entries rest)
+    unfolding All
+    turn_next k' r a =
+        let t = this in
+        record {
+          short = omega (arith, t.short, a.high);
+          inside = t.inside.1;
+          moved = rw (a.is, append_assoc (entries k 0 n) (moved_over g X (record { place = x; set = s } ∷ [])) (moved_over g X (all_entries rest))) (rw (← over-split g X (record { place = x; set = s }) (all_entries rest)) t.moved);
+        }
+
+  pub turn_end : (rest : List ℕ) → length rest < 5 → Turn g X limit all k n (all_entries rest) → (n ≤ length all) × (entries k 0 n ≡ moved_over g X all)
+  turn_end rest h t =
+      let z = all_none rest h in
+      (omega (arith, t.short), sym (append-nil (entries k 0 n)) ∙ (rw (z, over-nil g X) at t.moved))
 
 -- comparing kernels
 
@@ -242,22 +377,22 @@ module _ (x s y t : ℕ) (k : List ℕ) (m n : ℕ) (h : m < n) (z : x % index_l
     stops = λ l. absurd (omega arith);
   }
 
-pub kernel_on : (ws k : List ℕ) (m past p n r x s : ℕ) (all : Bool) → m < past → record { place = x; set = s } ≡ entry_at ws m → MetAfter x s k p n r → r ≤ n
-    → is_same_kernel (entries ws m (past - m)) (entries k p (n - p)) ≡ all → is_same_kernel (entries ws (m + 1) (past - (m + 1))) (entries k r (n - r)) ≡ all
-kernel_on ws k m past p n r x s all h e a l q = sym (a.goes l (entries ws (m + 1) (past - (m + 1)))) ∙ (rw (entries_at ws m past h, ← e) at q)
+pub kernel_on : (k : List ℕ) (p n r x s : ℕ) (w rest : List ℕ) (end : Bool) → length w ≡ 5 → record { place = x; set = s } ≡ entry_at w 0 → MetAfter x s k p n r → r ≤ n
+    → is_same_kernel (all_entries (w ++ rest)) (entries k p (n - p)) ≡ end → is_same_kernel (all_entries rest) (entries k r (n - r)) ≡ end
+kernel_on k p n r x s w rest end h e a l q = sym (a.goes l (all_entries rest)) ∙ (rw (all-more w rest h, ← e) at q)
 
-pub kernel_off : (ws k : List ℕ) (m past p n r x s : ℕ) (all : Bool) → m < past → record { place = x; set = s } ≡ entry_at ws m → MetAfter x s k p n r → n < r
-    → is_same_kernel (entries ws m (past - m)) (entries k p (n - p)) ≡ all → false ≡ all
-kernel_off ws k m past p n r x s all h e a l q = sym (a.stops l (entries ws (m + 1) (past - (m + 1)))) ∙ (rw (entries_at ws m past h, ← e) at q)
+pub kernel_off : (k : List ℕ) (p n r x s : ℕ) (w rest : List ℕ) (end : Bool) → length w ≡ 5 → record { place = x; set = s } ≡ entry_at w 0 → MetAfter x s k p n r → n < r
+    → is_same_kernel (all_entries (w ++ rest)) (entries k p (n - p)) ≡ end → false ≡ end
+kernel_off k p n r x s w rest end h e a l q = sym (a.stops l (all_entries rest)) ∙ (rw (all-more w rest h, ← e) at q)
 
-pub kernel_end : (ws k : List ℕ) (m past p n : ℕ) (all : Bool) → past ≤ m → p ≤ n → is_same_kernel (entries ws m (past - m)) (entries k p (n - p)) ≡ all → eqb p n ≡ all
-kernel_end ws k m past p n all h l q =
+pub kernel_end : (k rest : List ℕ) (p n : ℕ) (end : Bool) → length rest < 5 → p ≤ n → is_same_kernel (all_entries rest) (entries k p (n - p)) ≡ end → eqb p n ≡ end
+kernel_end k rest p n end h l q =
     cases (eqb p n)
-    (λ t. let e = eqb-true p n t in t ∙ sym kernel_nil ∙ (rw (entries_none ws m past h, entries_none k p n (omega arith)) at q))
+    (λ t. let e = eqb-true p n t in t ∙ sym kernel_nil ∙ (rw (all_none rest h, entries_none k p n (omega arith)) at q))
     (λ t.
     let ne = eqb-false p n t in
     let u : p < n = omega (arith, ne) in
-    t ∙ sym (kernel_long (entry_at k p) (entries k (p + 1) (n - (p + 1)))) ∙ (rw (entries_none ws m past h, entries_at k p n u) at q))
+    t ∙ sym (kernel_long (entry_at k p) (entries k (p + 1) (n - (p + 1)))) ∙ (rw (all_none rest h, entries_at k p n u) at q))
 
 pub kernel_start : (k : List ℕ) (n : ℕ) (l : List Entry) → is_same_kernel l (entries k 0 (n - 0)) ≡ is_same_kernel l (entries k 0 n)
 kernel_start k n l = let z : n - 0 ≡ n = omega arith in rw z refl

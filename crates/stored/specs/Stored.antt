@@ -1,9 +1,12 @@
 -- Items with their tokens in words, five each: the place (17 * production + index), then the set in four words, the lowest first. A state's items stand one
 -- behind the other, by place. Assumes nothing: these are definitions.
-use Rattle.std.specs.Prelude.{◌≡◌, ℕ, ◌+◌, ◌-◌, ◌*◌, ◌/◌, ◌%◌, ◌<◌, ◌≤◌, Bool, true, false, not, ◌&&◌, List, [], ◌∷◌, ◌++◌, map, length, ◌==◌, slice_index, slice_set}
+use Rattle.std.specs.Prelude.{◌≡◌, ℕ, ◌+◌, ◌-◌, ◌*◌, ◌/◌, ◌%◌, ◌<◌, ◌≤◌, Bool, true, false, not, ◌&&◌, List, [], ◌∷◌, ◌++◌, map, length, drop, ◌==◌, slice_index, slice_set}
 use Rattle.repr.specs.Sizes.{index_limit}
 use Rattle.repr.specs.Lists.{up_from, below, keep}
-use Rattle.lr1_core.specs.Cursor.{code_in}
+use Rattle.repr.specs.Meaning.{Symbol}
+use Rattle.repr.specs.Listed.{listed}
+use Rattle.repr.specs.Packed.{symbol_words}
+use Rattle.build.specs.States.{begins}
 
 pub record Entry : Type 0 where
   pub place : ℕ
@@ -23,6 +26,10 @@ entry_at ws m = record { place = slice_index ws (m * 5); set = set_at ws m }
 unfoldable pub entries : List ℕ → ℕ → ℕ → List Entry
 entries ws m n = map (entry_at ws) (up_from m n)
 
+-- the words of an item
+unfoldable pub entry_words : ℕ → ℕ → List ℕ
+entry_words x s = x ∷ s % 65536 ∷ s / 65536 % 65536 ∷ s / 65536 / 65536 % 65536 ∷ s / 65536 / 65536 / 65536 ∷ []
+
 -- item number m put
 unfoldable pub put_entry : List ℕ → ℕ → ℕ → ℕ → List ℕ
 put_entry ws m x s =
@@ -36,11 +43,11 @@ unfoldable pub packed : List ℕ → List Entry
 packed S = held S (below (length S))
 
 -- those with the cursor at a symbol, moved over it
-unfoldable pub moved_over : List ℕ → ℕ → List Entry → List Entry
-moved_over g code [] = []
-moved_over g code (e ∷ es) = elim (code_in g (e.place / index_limit) (e.place % index_limit) == code) [
-  | true ↦ record { place = e.place + 1; set = e.set } ∷ moved_over g code es
-  | false ↦ moved_over g code es
+unfoldable pub moved_over : List ℕ → Symbol → List Entry → List Entry
+moved_over g X [] = []
+moved_over g X (e ∷ es) = elim (begins X (drop (e.place % index_limit) (listed (symbol_words g (e.place / index_limit))))) [
+  | true ↦ record { place = e.place + 1; set = e.set } ∷ moved_over g X es
+  | false ↦ moved_over g X es
 ]
 
 unfoldable pub same_entry : Entry → Entry → Bool
@@ -54,11 +61,11 @@ is_same_kernel (e ∷ es) [] = elim (e.place % index_limit == 0) [ true ↦ is_s
 is_same_kernel (e ∷ es) (d ∷ ds) = elim (e.place % index_limit == 0) [ true ↦ is_same_kernel es (d ∷ ds) | false ↦ same_entry e d && is_same_kernel es ds ]
 
 -- one item more taken over a symbol, k and k' the kernel's words before and after
-pub record Appended (g : List ℕ) (code x s : ℕ) (k k' : List ℕ) (n r : ℕ) : Type 0 where
+pub record Appended (g : List ℕ) (X : Symbol) (x s : ℕ) (k k' : List ℕ) (n r : ℕ) : Type 0 where
   pub long : length k' ≡ length k
   pub low : n ≤ r
   pub high : r ≤ n + 1
-  pub is : entries k' 0 r ≡ entries k 0 n ++ moved_over g code (record { place = x; set = s } ∷ [])
+  pub is : entries k' 0 r ≡ entries k 0 n ++ moved_over g X (record { place = x; set = s } ∷ [])
 
 -- one item more held against a kernel of n items, of which m were met before and r are met after
 pub record MetAfter (x s : ℕ) (k : List ℕ) (m n r : ℕ) : Type 0 where

@@ -4,73 +4,109 @@
 
 ghost use Rattle.std.specs.Prelude.{◌≡◌, ℕ, ◌+◌, ◌-◌, ◌*◌, ◌^◌, ◌<◌, ◌≤◌, List, MatchOption, length};
 ghost use Rattle.repr.specs.Sizes.{index_limit, item_limit, record_limit};
+ghost use Rattle.repr.specs.Symbols.{meant};
 ghost use Rattle.repr.specs.Packed.{Packed};
-ghost use Rattle.stored.specs.Stored.{entry_at, entries, put_entry, moved_over, is_same_kernel, Appended, MetAfter};
+ghost use Rattle.stored.specs.Stored.{entry_at, entries, entry_words, put_entry, moved_over, is_same_kernel, Appended, MetAfter};
 
 use lr1_core::Item;
-use repr::{Grammar, ProductionIndex, word};
+use repr::{Grammar, Symbol, word};
 
-// An item by its place, 17 * production + index, with its tokens.
+// An item by its place (`Item::place`), with its tokens.
 #[derive(Clone, Copy, PartialEq)]
 pub struct StoredItem {
     pub place: usize,
     pub set: u64,
 }
 
+impl StoredItem {
+    // Words of one: its place, then its tokens in four, the lowest first.
+    pub const WORDS: usize = 5;
+
+    // What a word can hold.
+    const BASE: u64 = 65536;
+
+    // The item of its words.
+    pub fn of(words: &[u16]) -> StoredItem
+        requires { 5 ≤ length words.now }
+        ensures { (record { place = result.place; set = result.set } ≡ entry_at words.now 0) × (result.set < 2 ^ 64) }
+    {
+        let a = u64::from(words[1]);
+        let b = u64::from(words[2]);
+        let c = u64::from(words[3]);
+        let d = u64::from(words[4]);
+        StoredItem {
+            place: word(words, 0),
+            set: a + StoredItem::BASE * (b + StoredItem::BASE * (c + StoredItem::BASE * d)),
+        }
+    }
+
+    // Its words.
+    pub fn words(self) -> [u16; StoredItem::WORDS]
+        requires { self.place < 65536 }
+        ensures { result ≡ entry_words self.place self.set }
+    {
+        let a = self.set;
+        let b = a / StoredItem::BASE;
+        let c = b / StoredItem::BASE;
+        let d = c / StoredItem::BASE;
+        [
+            self.place as u16,
+            (a % StoredItem::BASE) as u16,
+            (b % StoredItem::BASE) as u16,
+            (c % StoredItem::BASE) as u16,
+            d as u16,
+        ]
+    }
+}
+
 pub fn read_item(words: &[u16], at: usize) -> StoredItem
     requires { (at < record_limit) × (at * 5 + 5 ≤ length words.now) }
     ensures { (record { place = result.place; set = result.set } ≡ entry_at words.now at) × (result.set < 2 ^ 64) }
 {
-    let base = at * 5;
-    let place = word(words, base);
-    let a = u64::from(words[base + 1]);
-    let b = u64::from(words[base + 2]);
-    let c = u64::from(words[base + 3]);
-    let d = u64::from(words[base + 4]);
-    StoredItem {
-        place,
-        set: a + 65536 * (b + 65536 * (c + 65536 * d)),
-    }
+    let base = at * StoredItem::WORDS;
+    StoredItem::of(&words[base..base + StoredItem::WORDS])
 }
 
 pub fn write_item(words: &mut [u16], at: usize, item: StoredItem)
     requires { (at < record_limit) × (at * 5 + 5 ≤ length words.old) × (item.place < 65536) }
     ensures { words.new ≡ put_entry words.old at item.place item.set }
 {
-    let base = at * 5;
-    let a = item.set;
-    let b = a / 65536;
-    let c = b / 65536;
-    let d = c / 65536;
-    words[base] = item.place as u16;
-    words[base + 1] = (a % 65536) as u16;
-    words[base + 2] = (b % 65536) as u16;
-    words[base + 3] = (c % 65536) as u16;
-    words[base + 4] = d as u16;
+    let base = at * StoredItem::WORDS;
+    words[base..base + StoredItem::WORDS].copy_from_slice(&item.words());
 }
 
-// A kernel's items, and how many they are.
+// A kernel's items, and how many they are: room for all, since there is no heap.
 #[derive(Clone, Copy)]
 pub struct Kernel {
-    pub words: [u16; 10880],
+    pub words: [u16; Kernel::WORDS],
     pub many: usize,
     pub ghost room: { (many ≤ item_limit) × (length words ≡ item_limit * 5) },
 }
 
+impl Kernel {
+    // Words of all items.
+    pub const WORDS: usize = Item::LIMIT * StoredItem::WORDS;
+
+    // Without items.
+    pub fn new() -> Kernel
+        ensures { result.many ≡ 0 }
+    {
+        Kernel {
+            words: [0; Kernel::WORDS],
+            many: 0,
+        }
+    }
+}
+
 // One item, moved over the symbol and put behind the kernel's, if its cursor stands there.
-fn move_one(grammar: Grammar, read: StoredItem, symbol: usize, kernel: &mut Kernel)
+fn move_one(grammar: Grammar, read: StoredItem, symbol: Symbol, kernel: &mut Kernel)
     requires within { (read.place < index_limit * grammar.productions) × (read.set < 2 ^ 64) }
     requires many_lt_item_limit { kernel.old.many < item_limit }
-    ensures { Appended grammar.entry.words.now symbol read.place read.set kernel.old.words kernel.new.words kernel.old.many kernel.new.many }
+    ensures { Appended grammar.entry.words.now (meant symbol) read.place read.set kernel.old.words kernel.new.words kernel.old.many kernel.new.many }
 {
-    let place = read.place;
-    let item = Item {
-        production: place / ProductionIndex::INDEXES,
-        index: place % ProductionIndex::INDEXES,
-    };
-    if item.cursor(grammar) == symbol {
+    if Item::at(read.place).cursor(grammar) == Some(symbol) {
         let next = StoredItem {
-            place: place + 1,
+            place: read.place + 1,
             set: read.set,
         };
         let many = kernel.many;
@@ -85,17 +121,17 @@ pub fn move_over(
     words: &[u16],
     from: usize,
     past: usize,
-    symbol: usize,
+    symbol: Symbol,
     kernel: &mut Kernel,
 )
     requires from_le_past { (from ≤ past) × (past ≤ record_limit) × (past * 5 ≤ length words.now) × (past - from ≤ item_limit) }
     requires by_index { (m : ℕ) → from ≤ m → m < past → (entry_at words.now m).place < index_limit * grammar.productions }
-    ensures { (kernel.new.many ≤ past - from) × (entries kernel.new.words 0 kernel.new.many ≡ moved_over grammar.entry.words.now symbol (entries words.now from (past - from))) }
+    ensures { (kernel.new.many ≤ past - from) × (entries kernel.new.words 0 kernel.new.many ≡ moved_over grammar.entry.words.now (meant symbol) (entries words.now from (past - from))) }
 {
     kernel.many = 0;
-    for at in from..past {
-        let read = read_item(words, at);
-        move_one(grammar, read, symbol, kernel);
+    let items = &words[from * StoredItem::WORDS..past * StoredItem::WORDS];
+    for item in items.chunks_exact(StoredItem::WORDS) {
+        move_one(grammar, StoredItem::of(item), symbol, kernel);
     }
 }
 
@@ -104,7 +140,7 @@ fn meet_one(mine: StoredItem, kernel: &Kernel, met: usize) -> Option<usize>
     requires { met ≤ kernel.now.many }
     ensures { MatchOption result (MetAfter mine.place mine.set kernel.now.words met kernel.now.many (kernel.now.many + 1)) (λ n. (n ≤ kernel.now.many) × MetAfter mine.place mine.set kernel.now.words met kernel.now.many n) }
 {
-    if mine.place % ProductionIndex::INDEXES == 0 {
+    if Item::at(mine.place).index == 0 {
         return Some(met);
     }
     if met == kernel.many {
@@ -120,9 +156,9 @@ pub fn same_kernel(words: &[u16], from: usize, past: usize, kernel: &Kernel) -> 
     ensures { result ≡ is_same_kernel (entries words.now from (past - from)) (entries kernel.now.words 0 kernel.now.many) }
 {
     let mut met = 0;
-    for at in from..past {
-        let mine = read_item(words, at);
-        match meet_one(mine, kernel, met) {
+    let items = &words[from * StoredItem::WORDS..past * StoredItem::WORDS];
+    for item in items.chunks_exact(StoredItem::WORDS) {
+        match meet_one(StoredItem::of(item), kernel, met) {
             Some(more) => met = more,
             None => return false,
         }

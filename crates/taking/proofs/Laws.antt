@@ -12,15 +12,19 @@ use borrow.Author.Tests.{ltb-true, ltb-false, lt-ltb, le-ltb}
 use Rattle.repr.specs.Sizes.{state_limit}
 use Rattle.repr.specs.Lists.{up_from, below}
 use Rattle.repr.specs.Meaning.{Symbol, nonterminal, terminal, Edge, Table, TableFits}
+use Rattle.repr.specs.Symbols.{meant, IsInRange}
+use Rattle.repr.specs.declared.Symbol.{Symbol as Coded}
+use Rattle.repr.specs.declared.Symbol.TheVariants.{Nonterminal, Terminal}
 use Rattle.repr.proofs.Lists.{cases, up_from-last, length-map-below, get_d_map-below}
+use Rattle.lr1_core.specs.Cursor.{symbol_code}
 use Rattle.build.specs.States.{tried}
 use Rattle.kept_states.specs.Made.{Holds}
 use Rattle.finding.specs.Steps.{Reach, stops, goto_to, Told, stopped, told, behind, take_to}
-use Rattle.finding.specs.Search.{Search, Keeps, Reached, refusal_of, symbol_of_code, CodeFits}
+use Rattle.finding.specs.Search.{Search, Keeps, Reached, refusal_of, IsOneOf}
 use Rattle.finding.specs.declared.Halt.{Halt}
 use Rattle.finding.specs.declared.Source.{Source}
 use Rattle.finding.proofs.Steps.{to_nowhere, to_stops, to_reach}
-use Rattle.taking.specs.Taking.{edge_of, edges_in, code_of, TookOne, passed, reached, Tried, TakenAs}
+use Rattle.taking.specs.Taking.{symbol_of_code, edge_of, edges_in, symbol_tried, TookOne, passed, reached, Tried, TakenAs}
 
 -- the same search later on
 abbrev pub search_on : (source : Source) (ws bs ws' bs' : List ℕ) (n q : ℕ) (s : Search source ws bs n) (Qs : List (List ℕ)) → q ≡ length Qs → Holds s.T s.start ws' bs' Qs
@@ -61,12 +65,30 @@ to_small T start Rs w ws bs q t h = omega (arith, h.2, h.3, h.4.begun.few)
 
 -- edges
 
-edge_is_lem : (c t : ℕ) → t < state_limit → edge_of (c * state_limit + t) ≡ record { symbol = symbol_of_code c; target = t }
+symbol_low : (c : ℕ) → c < 32 → symbol_of_code c ≡ nonterminal c
+unfolding symbol_of_code
+symbol_low c h = rw (lt-ltb c 32 h, symbol_of_code)
+
+symbol_high : (i : ℕ) → symbol_of_code (32 + i) ≡ terminal i
+unfolding symbol_of_code
+symbol_high i = let z : 32 + i - 32 ≡ i = omega arith in rw (le-ltb (32 + i) 32 (omega arith), symbol_of_code) (ap terminal z)
+
+pub code_back : (N e : ℕ) (X : Symbol) → N ≤ 32 → IsOneOf N e X → symbol_of_code (symbol_code X) ≡ X
+unfolding symbol_code IsOneOf
+code_back N e (nonterminal n) h F = symbol_low n (omega (arith, F))
+code_back N e (terminal t) h F = symbol_high t
+
+pub one_small : (N e : ℕ) (X : Coded) → N ≤ 32 → e ≤ 63 → IsOneOf N e (meant X) → IsInRange X
+unfolding IsOneOf
+one_small N e (Nonterminal n) h k F = omega (arith, F)
+one_small N e (Terminal t) h k F = omega (arith, F)
+
+edge_is_lem : (X : Symbol) (t : ℕ) → t < state_limit → symbol_of_code (symbol_code X) ≡ X → edge_of (symbol_code X * state_limit + t) ≡ record { symbol = X; target = t }
 unfolding edge_of
-edge_is_lem c t h =
-    let a : (c * 128 + t) / 128 ≡ c = omega arith in
-    let b : (c * 128 + t) % 128 ≡ t = omega arith in
-    rw (a, b) refl
+edge_is_lem X t h e =
+    let a : (symbol_code X * 128 + t) / 128 ≡ symbol_code X = omega arith in
+    let b : (symbol_code X * 128 + t) % 128 ≡ t = omega arith in
+    rw (a, b, e) refl
 
 pub edges_none : (E : List ℕ) (m : ℕ) → edges_in E m (m - m) ≡ []
 unfolding edges_in up_from
@@ -115,21 +137,13 @@ behind-told ds T room S Qs = ap (told Qs) (append-nil ds)
 
 -- the symbols tried
 
-pub code_low : (N j : ℕ) → j < N → code_of N j ≡ j
-unfolding code_of
-code_low N j h = rw (lt-ltb j N h, code_of)
+pub tried_low : (N j : ℕ) → j < N → symbol_tried N j ≡ nonterminal j
+unfolding symbol_tried
+tried_low N j h = rw (lt-ltb j N h, symbol_tried)
 
-pub code_high : (N j : ℕ) → N ≤ j → code_of N j ≡ 32 + (j - N)
-unfolding code_of
-code_high N j h = rw (le-ltb j N h, code_of)
-
-symbol_low : (c : ℕ) → c < 32 → symbol_of_code c ≡ nonterminal c
-unfolding symbol_of_code
-symbol_low c h = rw (lt-ltb c 32 h, symbol_of_code)
-
-symbol_high : (i : ℕ) → symbol_of_code (32 + i) ≡ terminal i
-unfolding symbol_of_code
-symbol_high i = let z : 32 + i - 32 ≡ i = omega arith in rw (le-ltb (32 + i) 32 (omega arith), symbol_of_code) (ap terminal z)
+pub tried_high : (N j : ℕ) → N ≤ j → symbol_tried N j ≡ terminal (j - N)
+unfolding symbol_tried
+tried_high N j h = rw (le-ltb j N h, symbol_tried)
 
 tried_long : (T : Table) (N e : ℕ) → N ≡ length T.nonterminals → e ≡ T.terminals → length (tried T) ≡ N + e
 unfolding tried
@@ -137,20 +151,15 @@ tried_long T N e n t =
     length-append (map nonterminal (below (length T.nonterminals))) (map terminal (below T.terminals))
     ∙ rw (length-map-below nonterminal (length T.nonterminals), length-map-below terminal T.terminals, n, t) refl
 
-module _ (T : Table) (F : TableFits T) (N e : ℕ) (n : N ≡ length T.nonterminals) (t : e ≡ T.terminals) (j c : ℕ) (is : c ≡ code_of N j) (h : j < N + e) where
-  pub code_small : c < 95
-  code_small =
+module _ (T : Table) (F : TableFits T) (N e : ℕ) (n : N ≡ length T.nonterminals) (t : e ≡ T.terminals) (j : ℕ) (X : Symbol) (is : X ≡ symbol_tried N j) (h : j < N + e) where
+  pub tried_fits : IsOneOf N e X
+  unfolding IsOneOf
+  tried_fits =
       cases (ltb j N)
-      (λ u. let k = ltb-true j N u in omega (arith, is, code_low N j k, F.few_nonterminals))
-      (λ u. let k = ltb-false j N u in omega (arith, is, code_high N j k, F.few_terminals))
+      (λ u. let k = ltb-true j N u in rw (is, tried_low N j k) k)
+      (λ u. let k = ltb-false j N u in rw (is, tried_high N j k) (omega arith))
 
-  pub code_fits : CodeFits N e c
-  code_fits =
-      cases (ltb j N)
-      (λ u. let k = ltb-true j N u in let q = code_low N j k in record { low = λ v. omega arith; high = λ v. omega (arith, F.few_nonterminals) })
-      (λ u. let k = ltb-false j N u in let q = code_high N j k in record { low = λ v. omega arith; high = λ v. omega arith })
-
-  symbol_at_lem : get_or (tried T) j (nonterminal 0) ≡ symbol_of_code c
+  symbol_at_lem : get_or (tried T) j (nonterminal 0) ≡ X
   unfolding tried
   symbol_at_lem =
       let size = length-map-below nonterminal (length T.nonterminals) in
@@ -159,15 +168,15 @@ module _ (T : Table) (F : TableFits T) (N e : ℕ) (n : N ≡ length T.nontermin
       let k = ltb-true j N u in
       let l : j < length T.nonterminals = omega arith in
       get_or-append (map nonterminal (below (length T.nonterminals))) (map terminal (below T.terminals)) (nonterminal 0) j (rw size l)
-      ∙ get_d_map-below nonterminal (length T.nonterminals) j (nonterminal 0) l ∙ sym (ap symbol_of_code (is ∙ code_low N j k) ∙ symbol_low j (omega (arith, F.few_nonterminals))))
+      ∙ get_d_map-below nonterminal (length T.nonterminals) j (nonterminal 0) l ∙ sym (is ∙ tried_low N j k))
       (λ u.
       let k = ltb-false j N u in
       let y : length (map nonterminal (below (length T.nonterminals))) + (j - N) ≡ j = omega (arith, size) in
       ap (λ (i : ℕ). get_or (map nonterminal (below (length T.nonterminals)) ++ map terminal (below T.terminals)) i (nonterminal 0)) (sym y)
       ∙ get_or-append-add (map nonterminal (below (length T.nonterminals))) (map terminal (below T.terminals)) (j - N) (nonterminal 0)
-      ∙ get_d_map-below terminal T.terminals (j - N) (nonterminal 0) (omega arith) ∙ sym (ap symbol_of_code (is ∙ code_high N j k) ∙ symbol_high (j - N)))
+      ∙ get_d_map-below terminal T.terminals (j - N) (nonterminal 0) (omega arith) ∙ sym (is ∙ tried_high N j k))
 
-  tried_at : drop j (tried T) ≡ symbol_of_code c ∷ drop (j + 1) (tried T)
+  tried_at : drop j (tried T) ≡ X ∷ drop (j + 1) (tried T)
   tried_at = drop-cons (tried T) j (nonterminal 0) (rw (tried_long T N e n t) h) ∙ rw (symbol_at_lem, add-one j) refl
 
 -- a turn of the loop: j symbols were tried
@@ -199,18 +208,18 @@ keeps_trans Rs Qs Ps f g = record {
   same = λ k h. g.same k (omega (arith, f.long)) ∙ f.same k h;
 }
 
-module _ (T : Table) (F : TableFits T) (start room : ℕ) (Rs : List (List ℕ)) (k : ℕ) (inside : k < length Rs) (ws bs E₀ E : List ℕ) (N e j c m₀ m q : ℕ) (u : Turn T start room (get_or Rs k []) Rs ws bs E₀ E j m₀ m q)
-    (n : N ≡ length T.nonterminals) (t : e ≡ T.terminals) (is : c ≡ code_of N j) (h : j < N + e) (ws' bs' E' : List ℕ) (q' m' : ℕ) where
+module _ (T : Table) (F : TableFits T) (start room : ℕ) (Rs : List (List ℕ)) (k : ℕ) (inside : k < length Rs) (ws bs E₀ E : List ℕ) (N e j : ℕ) (X : Symbol) (m₀ m q : ℕ) (u : Turn T start room (get_or Rs k []) Rs ws bs E₀ E j m₀ m q)
+    (n : N ≡ length T.nonterminals) (t : e ≡ T.terminals) (is : X ≡ symbol_tried N j) (h : j < N + e) (ws' bs' E' : List ℕ) (q' m' : ℕ) where
   abbrev S : List ℕ
   S = get_or Rs k []
 
-  abbrev X : Symbol
-  X = symbol_of_code c
+  abbrev c : ℕ
+  c = symbol_code X
 
   rest_at : behind (edges_in E m₀ (m - m₀)) (take_to T room S u.Qs (X ∷ drop (j + 1) (tried T))) ≡ take_to T room S Rs (tried T)
-  rest_at = rw (tried_at T F N e n t j c is h) at u.rest
+  rest_at = rw (tried_at T F N e n t j X is h) at u.rest
 
-  pub turn_stops : (i : Halt) → Tried T start u.Qs (goto_to T room (get_or u.Qs k []) u.Qs (symbol_of_code c)) c ws' bs' E E' m q' m' (Err i) → TakenAs T start Rs (take_to T room S Rs (tried T)) ws' bs' E₀ E' m₀ q' m' (Err i)
+  pub turn_stops : (i : Halt) → Tried T start u.Qs (goto_to T room (get_or u.Qs k []) u.Qs X) (symbol_code X) ws' bs' E E' m q' m' (Err i) → TakenAs T start Rs (take_to T room S Rs (tried T)) ws' bs' E₀ E' m₀ q' m' (Err i)
   unfolding Tried TakenAs
   turn_stops i k' =
       let w : goto_to T room S u.Qs X ≡ stops (refusal_of i) = rw (u.keeps.same k inside) at k' in
@@ -237,12 +246,12 @@ module _ (T : Table) (F : TableFits T) (start room : ℕ) (Rs : List (List ℕ))
         low = omega (arith, u.low, z);
         high = omega (arith, u.high, z);
         same = λ i v. ap (λ (d : List ℕ). get_or d i 0) x ∙ get_or-set_other E m i (c * state_limit + o) 0 (λ p. omega (arith, u.low)) ∙ u.same i v;
-        rest = ap (λ (ds : List Edge). behind ds (take_to T room S Ps (drop (j + 1) (tried T)))) (rw (x, z) (edges_put E m₀ m (c * state_limit + o) u.low l ∙ ap (λ (d : Edge). edges_in E m₀ (m - m₀) ++ d ∷ []) (edge_is_lem c o small)))
-            ∙ sym (behind-behind (edges_in E m₀ (m - m₀)) (record { symbol = symbol_of_code c; target = o } ∷ []) (take_to T room S Ps (drop (j + 1) (tried T))))
+        rest = ap (λ (ds : List Edge). behind ds (take_to T room S Ps (drop (j + 1) (tried T)))) (rw (x, z) (edges_put E m₀ m (c * state_limit + o) u.low l ∙ ap (λ (d : Edge). edges_in E m₀ (m - m₀) ++ d ∷ []) (edge_is_lem X o small (code_back N e X (omega (arith, n, F.few_nonterminals)) (tried_fits T F N e n t j X is h)))))
+            ∙ sym (behind-behind (edges_in E m₀ (m - m₀)) (record { symbol = X; target = o } ∷ []) (take_to T room S Ps (drop (j + 1) (tried T))))
             ∙ ap (behind (edges_in E m₀ (m - m₀))) (sym (to_reach T room S u.Qs X (drop (j + 1) (tried T)) o Ps w)) ∙ rest_at;
       }
 
-  pub turn_more : (v : Unit {0}) → Tried T start u.Qs (goto_to T room (get_or u.Qs k []) u.Qs (symbol_of_code c)) c ws' bs' E E' m q' m' (Ok v) → m < length E → Turn T start room S Rs ws' bs' E₀ E' (j + 1) m₀ m' q'
+  pub turn_more : (v : Unit {0}) → Tried T start u.Qs (goto_to T room (get_or u.Qs k []) u.Qs X) (symbol_code X) ws' bs' E E' m q' m' (Ok v) → m < length E → Turn T start room S Rs ws' bs' E₀ E' (j + 1) m₀ m' q'
   unfolding Tried
   turn_more v k' l = on l (rw (u.keeps.same k inside) at k')
 

@@ -1,13 +1,17 @@
 -- The edges found, in words: one each, symbol * 128 + target, those of a state one behind the other as tried; and what taking a state leaves.
 -- Assumes nothing: these are definitions.
-use Rattle.std.specs.Prelude.{ℕ, ◌+◌, ◌-◌, ◌*◌, ◌/◌, ◌%◌, ◌≤◌, ◌<◌, true, false, Result, Ok, Err, ◌≡◌, List, map, length, get_or, set, ltb}
+use Rattle.std.specs.Prelude.{ℕ, ◌+◌, ◌-◌, ◌*◌, ◌/◌, ◌%◌, ◌≤◌, ◌<◌, true, false, Result, Ok, Err, ◌≡◌, List, map, length, get_or, set, ltb, nat_lt}
 use Rattle.repr.specs.Sizes.{state_limit}
 use Rattle.repr.specs.Lists.{up_from}
-use Rattle.repr.specs.Meaning.{Edge, Table}
+use Rattle.repr.specs.Meaning.{Symbol, nonterminal, terminal, Edge, Table}
 use Rattle.kept_states.specs.Made.{Holds}
 use Rattle.finding.specs.Steps.{Reach, nowhere, stops, reach, Told, stopped, told}
-use Rattle.finding.specs.Search.{Keeps, refusal_of, symbol_of_code}
+use Rattle.finding.specs.Search.{Keeps, refusal_of}
 use Rattle.finding.specs.declared.Halt.{Halt}
+
+-- the symbol of a number (specs/Cursor of lr1_core)
+unfoldable pub symbol_of_code : ℕ → Symbol
+symbol_of_code c = elim (nat_lt c 32) [ true ↦ nonterminal c | false ↦ terminal (c - 32) ]
 
 unfoldable pub edge_of : ℕ → Edge
 edge_of w = record { symbol = symbol_of_code (w / state_limit); target = w % state_limit }
@@ -16,9 +20,9 @@ edge_of w = record { symbol = symbol_of_code (w / state_limit); target = w % sta
 unfoldable pub edges_in : List ℕ → ℕ → ℕ → List Edge
 edges_in E m n = map (λ i. edge_of (get_or E i 0)) (up_from m n)
 
--- the number of symbol j of those tried: nonterminals, then terminals
-unfoldable pub code_of : ℕ → ℕ → ℕ
-code_of nonterminals j = elim (ltb j nonterminals) [ true ↦ j | false ↦ 32 + (j - nonterminals) ]
+-- symbol j of those tried: nonterminals, then terminals
+unfoldable pub symbol_tried : ℕ → ℕ → Symbol
+symbol_tried nonterminals j = elim (ltb j nonterminals) [ true ↦ nonterminal j | false ↦ terminal (j - nonterminals) ]
 
 -- one symbol tried, and the step did not stop: w is the step, m edges of before
 pub data TookOne (T : Table) (start : ℕ) (Rs : List (List ℕ)) (w : Reach) (c : ℕ) (ws bs E E' : List ℕ) (m q m' : ℕ) : Type 0 where

@@ -2,35 +2,105 @@
 
 #![tactic(auto)]
 
-ghost use Rattle.std.specs.Prelude.{◌≡◌, List, [], ℕ, ◌+◌, ◌*◌, ◌≤◌, ◌<◌, length, get_or};
-ghost use Rattle.repr.specs.Sizes.{item_limit};
+ghost use Rattle.std.specs.Prelude.{◌≡◌, List, [], ℕ, ◌+◌, ◌*◌, ◌≤◌, ◌<◌, length, get_or, set};
+ghost use Rattle.repr.specs.Sizes.{item_limit, state_limit};
+ghost use Rattle.repr.specs.Symbols.{meant, IsInRange};
+ghost use Rattle.lr1_core.specs.Cursor.{symbol_code};
 ghost use Rattle.build.specs.States.{tried};
 ghost use Rattle.finding.specs.Steps.{goto_to, take_to};
-ghost use Rattle.finding.specs.Search.{Search, CodeFits, symbol_of_code};
-ghost use Rattle.taking.specs.Taking.{code_of, Tried, TakenAs};
+ghost use Rattle.finding.specs.Search.{Search, IsOneOf};
+ghost use Rattle.taking.specs.Taking.{edge_of, symbol_tried, Tried, TakenAs};
 
 use finding::{Halt, Source, goto_over};
 use kept_states::Begins;
+use repr::{NonterminalString, Symbol};
 use stored::Kernel;
 
-// The edges found, one word each, where those of each state begin, and how many there are.
+// An edge found: the symbol that it is over, and the state that it leads to.
+#[derive(Clone, Copy)]
+pub struct FoundEdge {
+    pub symbol: Symbol,
+    pub target: usize,
+}
+
+impl FoundEdge {
+    // As one word: its symbol in one number, terminals behind the nonterminals, then the target.
+    #[tactic(auto, unfolding(lr1_core::specs::Cursor::symbol_code))]
+    fn word(self) -> u16
+        requires { IsInRange self.symbol × (self.target < state_limit) }
+        ensures { result ≡ symbol_code (meant self.symbol) * state_limit + self.target }
+    {
+        let number = match self.symbol {
+            Symbol::Nonterminal(nonterminal) => nonterminal.0 as usize,
+            Symbol::Terminal(terminal) => NonterminalString::LIMIT + terminal as usize,
+        };
+        (number * Begins::STATES + self.target) as u16
+    }
+
+    // The edge of a word.
+    #[tactic(auto, unfolding(crate::specs::Taking::edge_of, crate::specs::Taking::symbol_of_code))]
+    pub fn of(word: u16) -> FoundEdge
+        ensures { record { symbol = meant result.symbol; target = result.target } ≡ edge_of word }
+    {
+        let number = usize::from(word) / Begins::STATES;
+        let symbol = if number < NonterminalString::LIMIT {
+            Symbol::Nonterminal(NonterminalString(number as u16))
+        } else {
+            Symbol::Terminal((number - NonterminalString::LIMIT) as u16)
+        };
+        FoundEdge {
+            symbol,
+            target: usize::from(word) % Begins::STATES,
+        }
+    }
+}
+
+// The edges found, one word each, where those of each state begin, and how many there are: room for one of each state over each symbol, since there is no heap.
 #[derive(Clone, Copy)]
 pub struct Edges {
-    pub words: [u16; 12160],
-    pub rows: [usize; 129],
+    pub words: [u16; Edges::LIMIT],
+    pub rows: [usize; Begins::ROWS],
     pub many: usize,
     pub ghost long: { (length words ≡ 12160) × (length rows ≡ 129) },
 }
 
-// Symbol j of those tried, by its number.
-fn code_of(nonterminals: usize, j: usize) -> usize
+impl Edges {
+    // Symbols of a table at most.
+    const SYMBOLS: usize = NonterminalString::LIMIT + Symbol::TERMINALS;
+
+    pub const LIMIT: usize = Begins::STATES * Edges::SYMBOLS;
+
+    // Without edges.
+    pub fn new() -> Edges
+        ensures { (result.many ≡ 0) × ((k : ℕ) → get_or result.rows k 0 ≡ 0) }
+    {
+        Edges {
+            words: [0; Edges::LIMIT],
+            rows: [0; Begins::ROWS],
+            many: 0,
+        }
+    }
+
+    // One behind the others.
+    fn push(&mut self, edge: FoundEdge)
+        requires { (self.old.many < 12160) × IsInRange edge.symbol × (edge.target < state_limit) }
+        ensures { (self.new.rows ≡ self.old.rows) × (self.new.many ≡ self.old.many + 1) × (self.new.words ≡ set self.old.words self.old.many (symbol_code (meant edge.symbol) * state_limit + edge.target)) }
+    {
+        self.words[self.many] = edge.word();
+        self.many += 1;
+    }
+}
+
+// Symbol j of those tried: nonterminals, then terminals.
+#[tactic(auto, unfolding(crate::specs::Taking::symbol_tried))]
+fn symbol_tried(nonterminals: usize, j: usize) -> Symbol
     requires { j < 65536 }
-    ensures { result ≡ code_of nonterminals j }
+    ensures { meant result ≡ symbol_tried nonterminals j }
 {
     if j < nonterminals {
-        j
+        Symbol::Nonterminal(NonterminalString(j as u16))
     } else {
-        32 + (j - nonterminals)
+        Symbol::Terminal((j - nonterminals) as u16)
     }
 }
 
@@ -40,23 +110,18 @@ fn take_one(
     words: &mut [u16],
     begins: &mut Begins,
     k: usize,
-    symbol: usize,
+    symbol: Symbol,
     kernel: &mut Kernel,
     edges: &mut Edges,
 ) -> Result<(), Halt>
     requires search { Search source words.old begins.old.items begins.old.states }
-    requires k_lt_states { (k < begins.old.states) × CodeFits source.sizes.nonterminals source.sets.now.terminals symbol × (symbol < 95) × (edges.old.many < 12160) }
-    ensures { (edges.new.rows ≡ edges.old.rows) × ((s : Search source.entry words.old begins.old.items begins.old.states) → Tried s.T s.start s.Rs (goto_to s.T s.room (get_or s.Rs k []) s.Rs (symbol_of_code symbol)) symbol words.new begins.new.items edges.old.words edges.new.words edges.old.many begins.new.states edges.new.many result) }
+    requires k_lt_states { (k < begins.old.states) × IsOneOf source.sizes.nonterminals source.sets.now.terminals (meant symbol) × (edges.old.many < 12160) }
+    ensures { (edges.new.rows ≡ edges.old.rows) × ((s : Search source.entry words.old begins.old.items begins.old.states) → Tried s.T s.start s.Rs (goto_to s.T s.room (get_or s.Rs k []) s.Rs (meant symbol)) (symbol_code (meant symbol)) words.new begins.new.items edges.old.words edges.new.words edges.old.many begins.new.states edges.new.many result) }
 {
-    match goto_over(source, words, begins, k, symbol, kernel)? {
-        None => Ok(()),
-        Some(target) => {
-            let many = edges.many;
-            edges.words[many] = (symbol * 128 + target) as u16;
-            edges.many = many + 1;
-            Ok(())
-        }
+    if let Some(target) = goto_over(source, words, begins, k, symbol, kernel)? {
+        edges.push(FoundEdge { symbol, target });
     }
+    Ok(())
 }
 
 // State k taken.
@@ -75,7 +140,7 @@ pub fn take_state(
     let nonterminals = source.sizes.nonterminals;
     let symbols = nonterminals + source.sets.terminals as usize;
     for j in 0..symbols {
-        let symbol = code_of(nonterminals, j);
+        let symbol = symbol_tried(nonterminals, j);
         take_one(source, words, begins, k, symbol, kernel, edges)?;
     }
     Ok(())

@@ -1,14 +1,11 @@
-use Rattle.augment.proofs.Uses.{passing_found, passing_step, passing_end, passing_fits}
+use Rattle.std.proofs.Common.{refl, ◌∙◌, arith, rules, tests}
+use Rattle.std.proofs.lemmas.Iterator.{YieldsList-from_range}
+use Rattle.std.proofs.lemmas.Iterator.Search.{any_from_yields_List}
+use Rattle.augment.proofs.Uses.{used, stands_is}
 use Rattle.augment.proofs.stands_in.Goals as goal
 
-pub is_among-requires : goal.is_among-requires
-is_among-requires c = passing_fits _ _ _ _ c.args.grammar.packed c.loop-p-test.true c.symbols.ensures
-
-pub returns-then-is_among : goal.returns-then-is_among
-returns-then-is_among c = passing_found _ _ _ _ c.args.grammar.packed c.loop-p.invariant c.loop-p-test.true _ _ c.symbols.ensures c.is_among.ensures c.if-is_among.true
-
-pub loop-p-preserved : goal.loop-p-preserved
-loop-p-preserved c = passing_step _ _ _ _ c.args.grammar.packed c.loop-p.invariant c.loop-p-test.true _ _ c.symbols.ensures c.is_among.ensures c.if-is_among.false
-
 pub returns : goal.returns
-returns c = passing_end _ _ _ _ c.args.grammar.packed c.loop-p.invariant c.loop-p-test.false
+returns c =
+    let g = c.args.grammar.words.now in
+    let m = c.args.grammar.productions in
+    any_from_yields_List (used g c.args.n) _ _ _ c.any.ensures.ran (YieldsList-from_range 0 m m refl (omega arith)) (λ x b q k. search (rules, tests)) ∙ stands_is g c.args.n m

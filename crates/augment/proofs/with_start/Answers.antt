@@ -2,15 +2,18 @@ use mathlib.Core.Path.{sym}
 use Rattle.augment.proofs.Ways.{read-packed, read_grammar, own_inside, own_way, many_nonterminals, many_productions, few_productions_lem, more_grammar, more_way}
 use native.Mathlib.Omega.{arith}
 use Rattle.augment.proofs.with_start.Goals as goal
+use Rattle.augment.proofs.with_start.Goals.{then-nonterminals-eq-LIMIT-via-then-nonterminals-eq-LIMIT, then-nonterminals-eq-LIMIT-via-else-nonterminals-eq-LIMIT+then-productions-eq-LIMIT}
 
 pub invariant_of-own_start : goal.invariant_of-own_start
 invariant_of-own_start c = record { packed = (read-packed _ _ _ _ _ _ c.counts-counts.ensures c.requires _ c.read_productions.ensures).packed }
 
 pub returns-then-nonterminals-eq-LIMIT : goal.returns-then-nonterminals-eq-LIMIT
-returns-then-nonterminals-eq-LIMIT c = many_nonterminals _ _ _ _ _ _ c.counts-counts.ensures c.requires (sym (c.in_default.ensures _ (read-packed _ _ _ _ _ _ c.counts-counts.ensures c.requires _ c.read_productions.ensures))) _ c.if-nonterminals-eq-LIMIT.true
-
-pub returns-then-productions-eq-LIMIT : goal.returns-then-productions-eq-LIMIT
-returns-then-productions-eq-LIMIT c = many_productions _ _ _ _ _ _ c.counts-counts.ensures c.requires (sym (c.in_default.ensures _ (read-packed _ _ _ _ _ _ c.counts-counts.ensures c.requires _ c.read_productions.ensures))) _ c.if-productions-eq-LIMIT.true
+returns-then-nonterminals-eq-LIMIT c =
+    let none = sym (c.in_default.ensures _ (read-packed _ _ _ _ _ _ c.counts-counts.ensures c.requires _ c.read_productions.ensures)) in
+    elim c.then-nonterminals-eq-LIMIT.branch [
+      | then-nonterminals-eq-LIMIT-via-then-nonterminals-eq-LIMIT w ↦ many_nonterminals _ _ _ _ _ _ c.counts-counts.ensures c.requires none _ w.if-nonterminals-eq-LIMIT.true
+      | then-nonterminals-eq-LIMIT-via-else-nonterminals-eq-LIMIT+then-productions-eq-LIMIT w ↦ many_productions _ _ _ _ _ _ c.counts-counts.ensures c.requires none _ w.if-productions-eq-LIMIT.true
+    ]
 
 pub append-requires : goal.append-requires
 append-requires c = record { packed = ((read-packed _ _ _ _ _ _ c.counts-counts.ensures c.requires _ c.read_productions.ensures).packed, omega (arith, c.if-productions-eq-LIMIT.false, c.counts-counts.ensures.productions, c.counts-counts.ensures.fits.few_productions_lem)); owner_lt_nonterminal_limit = (omega (arith, c.if-nonterminals-eq-LIMIT.false, c.counts-counts.ensures.nonterminals, c.counts-counts.ensures.fits.few_nonterminals), omega (arith, c.requires.inside, c.counts-counts.ensures.fits.few_nonterminals)) }

@@ -1,46 +1,43 @@
-use Rattle.std.proofs.Common.{refl, ◌∙◌}
+use Rattle.std.proofs.Common.{◌∙◌}
 use Rattle.std.proofs.lemmas.Result.{err_from_is_err_and}
 use Rattle.table.proofs.Decoding.{fits}
 use Rattle.builder.proofs.Found.{ready, halts-answer, all_found, ended}
 use Rattle.builder.proofs.build_found.Goals as goal
 
-pub invariant_of-grammar : goal.invariant_of-grammar
-invariant_of-grammar c = record { packed = rw c.counts-counts.ensures.productions c.read_productions.ensures.0 }
-
 pub new-sets-requires : goal.new-sets-requires
-new-sets-requires c = rw c.counts-counts.ensures.terminals (fits _ c.args.table.accepted).few_terminals
+new-sets-requires c = rw c.counts.ensures.terminals (fits _ c.args.table.accepted).few_terminals
 
 pub sizes_of-requires : goal.sizes_of-requires
-sizes_of-requires c = record { same = (c.counts-counts.ensures.productions, rw c.counts-counts.ensures.productions c.read_productions.ensures.1) }
+sizes_of-requires c = record { same = (c.read_grammar-grammar.ensures.0, c.read_grammar-grammar.ensures.1) }
 
 pub search_states-requires : goal.search_states-requires
 search_states-requires c = record {
-  ready = ready _ _ (fits _ c.args.table.accepted) c.sizes_of.ensures c.counts-counts.ensures.productions (c.new-sets.ensures.terminals ∙ c.counts-counts.ensures.terminals)
-      (rw c.counts-counts.ensures.productions c.read_productions.ensures.1) (rw c.new-sets.ensures.terminals c.new-sets.ensures.is) c.requires.start_value.0;
-  front = (c.requires.start_value.1, refl, refl);
+  ready = ready _ _ (fits _ c.args.table.accepted) c.sizes_of.ensures c.read_grammar-grammar.ensures.0 (c.new-sets.ensures.terminals ∙ c.counts.ensures.terminals)
+      c.read_grammar-grammar.ensures.1 (rw c.new-sets.ensures.terminals c.new-sets.ensures.is) c.requires.start_value.0;
+  front = (c.requires.start_value.1, c.new-begins.ensures.1 0, c.new-edges.ensures.1 0);
 }
 
 pub returns-in_err-search_states : goal.returns-in_err-search_states
 returns-in_err-search_states c =
     let q = err_from_is_err_and c.from_residual.result c.from_residual.ensures.1 in
     λ S. rw (q.1, q.2.0, q.2.1)
-    (halts-answer _ _ (fits _ c.args.table.accepted) c.sizes_of.ensures c.counts-counts.ensures.productions (c.new-sets.ensures.terminals ∙ c.counts-counts.ensures.terminals)
-    (rw c.counts-counts.ensures.productions c.read_productions.ensures.1) (rw c.new-sets.ensures.terminals c.new-sets.ensures.is) c.requires.start_value.0
+    (halts-answer _ _ (fits _ c.args.table.accepted) c.sizes_of.ensures c.read_grammar-grammar.ensures.0 (c.new-sets.ensures.terminals ∙ c.counts.ensures.terminals)
+    c.read_grammar-grammar.ensures.1 (rw c.new-sets.ensures.terminals c.new-sets.ensures.is) c.requires.start_value.0
     _ _ _ _ _ c.search_states.ensures c.in_err-search_states.was _ S)
 
 pub write_found-requires : goal.write_found-requires
 write_found-requires c = (
   _,
-  ended _ _ (fits _ c.args.table.accepted) c.sizes_of.ensures c.counts-counts.ensures.productions (c.new-sets.ensures.terminals ∙ c.counts-counts.ensures.terminals)
-      (rw c.counts-counts.ensures.productions c.read_productions.ensures.1) (rw c.new-sets.ensures.terminals c.new-sets.ensures.is) c.requires.start_value.0 _ _ _
-      (all_found _ _ (fits _ c.args.table.accepted) c.sizes_of.ensures c.counts-counts.ensures.productions (c.new-sets.ensures.terminals ∙ c.counts-counts.ensures.terminals)
-      (rw c.counts-counts.ensures.productions c.read_productions.ensures.1) (rw c.new-sets.ensures.terminals c.new-sets.ensures.is) c.requires.start_value.0
+  ended _ _ (fits _ c.args.table.accepted) c.sizes_of.ensures c.read_grammar-grammar.ensures.0 (c.new-sets.ensures.terminals ∙ c.counts.ensures.terminals)
+      c.read_grammar-grammar.ensures.1 (rw c.new-sets.ensures.terminals c.new-sets.ensures.is) c.requires.start_value.0 _ _ _
+      (all_found _ _ (fits _ c.args.table.accepted) c.sizes_of.ensures c.read_grammar-grammar.ensures.0 (c.new-sets.ensures.terminals ∙ c.counts.ensures.terminals)
+      c.read_grammar-grammar.ensures.1 (rw c.new-sets.ensures.terminals c.new-sets.ensures.is) c.requires.start_value.0
       _ _ _ _ _ c.search_states.ensures c.in_ok-search_states.was),
 )
 
 pub returns : goal.returns
-returns c = c.write_found.ensures _ (ended _ _ (fits _ c.args.table.accepted) c.sizes_of.ensures c.counts-counts.ensures.productions (c.new-sets.ensures.terminals ∙ c.counts-counts.ensures.terminals)
-    (rw c.counts-counts.ensures.productions c.read_productions.ensures.1) (rw c.new-sets.ensures.terminals c.new-sets.ensures.is) c.requires.start_value.0 _ _ _
-    (all_found _ _ (fits _ c.args.table.accepted) c.sizes_of.ensures c.counts-counts.ensures.productions (c.new-sets.ensures.terminals ∙ c.counts-counts.ensures.terminals)
-    (rw c.counts-counts.ensures.productions c.read_productions.ensures.1) (rw c.new-sets.ensures.terminals c.new-sets.ensures.is) c.requires.start_value.0
+returns c = c.write_found.ensures _ (ended _ _ (fits _ c.args.table.accepted) c.sizes_of.ensures c.read_grammar-grammar.ensures.0 (c.new-sets.ensures.terminals ∙ c.counts.ensures.terminals)
+    c.read_grammar-grammar.ensures.1 (rw c.new-sets.ensures.terminals c.new-sets.ensures.is) c.requires.start_value.0 _ _ _
+    (all_found _ _ (fits _ c.args.table.accepted) c.sizes_of.ensures c.read_grammar-grammar.ensures.0 (c.new-sets.ensures.terminals ∙ c.counts.ensures.terminals)
+    c.read_grammar-grammar.ensures.1 (rw c.new-sets.ensures.terminals c.new-sets.ensures.is) c.requires.start_value.0
     _ _ _ _ _ c.search_states.ensures c.in_ok-search_states.was))

@@ -5,11 +5,11 @@ use Rattle.closing.proofs.spread.Goals as goal
 pub loop-production-init : goal.loop-production-init
 loop-production-init c = spread_none _ _ _
 
-pub bounds-aheads-nonterminal : goal.bounds-aheads-nonterminal
-bounds-aheads-nonterminal c = omega (arith, c.args.grammar.packed.owner _ c.loop-production-test.true, c.owner-nonterminal.ensures)
+pub bounds-aheads-owner : goal.bounds-aheads-owner
+bounds-aheads-owner c = omega (arith, c.args.grammar.packed.owner _ c.loop-production-test.true, c.owner.ensures)
 
 pub loop-production-preserved : goal.loop-production-preserved
-loop-production-preserved c = spread-more _ _ _ _ _ _ _ c.loop-production.invariant c.owner-nonterminal.ensures c.union.ensures.is
+loop-production-preserved c = spread-more _ _ _ _ _ _ _ _ c.loop-production.invariant c.owner.ensures c.place-place.ensures.is c.union.ensures.is
 
 pub returns : goal.returns
 returns c = spread_end _ _ _ _ _ _ c.loop-production.auto.production-end c.loop-production-test.false c.loop-production.invariant

@@ -7,5 +7,5 @@ use Rattle.conflict_words.proofs.write_one.Goals as goal
 pub returns : goal.returns
 unfolding put_at token_words
 returns c = let k : c.args.at + 5 - c.args.at ≡ 5 = omega arith in
-    rw k (ap (λ (l : List ℕ). put_mid c.args.at 5 c.args.list.now l) (c.copy_from_slice.ensures.after ∙ c.words_of.ensures)
+    rw k (ap (λ (l : List ℕ). put_mid c.args.at 5 c.args.list.now l) (c.copy_from_slice.ensures.after ∙ c.words.ensures)
     ∙ ap (λ (l : List ℕ). take c.args.at c.args.list.now ++ (token_words c.args.pair c.args.token ++ l)) (drop-drop 5 c.args.at c.args.list.now))

@@ -1,17 +1,24 @@
-use Rattle.grammar_records.proofs.Packed.{counted_start, counted_step, counted_end}
-use mathlib.Core.Path.{◌∙◌}
-use Rattle.repr.proofs.Parts.{symbols_long}
-use native.Mathlib.Omega.{arith}
+use Rattle.std.proofs.Common.{length, refl, ◌∙◌, arith, rules, tests}
+use Rattle.std.specs.List.{range_with_len}
+use Rattle.std.proofs.lemmas.Iterator.{YieldsList-from_range, YieldsList-from_map}
+use Rattle.std.proofs.lemmas.Iterator.Consumers.{YieldsList-at, sum_by_from_yields_List, fits_by_from_yields_list}
+use Rattle.repr.specs.Listed.{listed}
+use Rattle.repr.specs.Packed.{symbol_words}
+use Rattle.grammar_records.proofs.Packed.{symbols_sum, symbols_few}
 use Rattle.grammar_records.proofs.count_symbols.Goals as goal
 
-pub loop-p-init : goal.loop-p-init
-loop-p-init c = counted_start _ _ c.args.grammar.packed
-
-pub overflow_add-many : goal.overflow_add-many
-overflow_add-many c = omega (arith, c.loop-p.invariant.most, c.loop-p.invariant.few, c.args.grammar.packed.few, c.length-many.ensures.short)
-
-pub loop-p-preserved : goal.loop-p-preserved
-loop-p-preserved c = counted_step _ _ c.args.grammar.packed _ _ _ c.loop-p-test.true (c.length-many.ensures.is ∙ symbols_long _ _ _ c.args.grammar.packed c.loop-p-test.true) c.loop-p.invariant
+pub sum-requires-clause-fits : goal.sum-requires-clause-fits
+sum-requires-clause-fits c =
+    let g = c.args.grammar.words.now in
+    let n = c.args.grammar.productions in
+    fits_by_from_yields_list (λ p. length (listed (symbol_words g p))) (range_with_len 0 n) c.map.result _
+    (YieldsList-from_map _ (λ p. length (listed (symbol_words g p))) (YieldsList-at c.map.ensures.source (YieldsList-from_range 0 n n refl (omega arith))) c.map.ensures.closure (λ x a q k. search (rules, tests)))
+    (omega (arith, symbols_few g n c.args.grammar.packed, c.args.grammar.packed.few))
 
 pub returns : goal.returns
-returns c = counted_end _ _ c.args.grammar.packed _ _ c.loop-p-test.false c.loop-p.invariant
+returns c =
+    let g = c.args.grammar.words.now in
+    let n = c.args.grammar.productions in
+    sum_by_from_yields_List (λ p. length (listed (symbol_words g p))) (range_with_len 0 n) c.map.result _ c.sum.ensures.ran
+    (YieldsList-from_map _ (λ p. length (listed (symbol_words g p))) (YieldsList-at c.map.ensures.source (YieldsList-from_range 0 n n refl (omega arith))) c.map.ensures.closure (λ x a q k. search (rules, tests)))
+    ∙ symbols_sum g n c.args.grammar.packed

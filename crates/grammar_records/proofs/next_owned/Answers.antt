@@ -1,12 +1,12 @@
-use mathlib.Core.Path.{sym, ◌∙◌}
-use Rattle.grammar_records.proofs.Owned.{packed-found, packed_on, packed_end}
+use Rattle.std.proofs.Common.{◌≡◌, get_or, rules, tests}
+use Rattle.std.proofs.lemmas.Iterator.{first_from_Range}
+use Rattle.repr.specs.Sizes.{production_place}
+use Rattle.grammar_records.proofs.Owned.{owned_first}
 use Rattle.grammar_records.proofs.next_owned.Goals as goal
 
-pub returns-then-owner : goal.returns-then-owner
-returns-then-owner c = (c.loop-p-test.true, sym (packed-found _ _ _ _ _ c.args.grammar.packed c.loop-p-test.true c.owner.ensures c.if-owner.true ∙ c.loop-p.invariant))
-
-pub loop-p-preserved : goal.loop-p-preserved
-loop-p-preserved c = packed_on _ _ _ _ _ c.args.grammar.packed c.loop-p-test.true c.owner.ensures c.if-owner.false ∙ c.loop-p.invariant
-
 pub returns : goal.returns
-returns c = sym (packed_end _ _ _ _ c.loop-p-test.false ∙ c.loop-p.invariant)
+returns c =
+    let g = c.args.grammar.words.now in
+    owned_first g _ c.args.owner _ c.args.grammar.packed _ (first_from_Range _ _ _ _ (λ p. get_or g (production_place p) 0 ≡ c.args.owner) (λ p. get_or g (production_place p) 0 ≡ c.args.owner → ⊥) c.find.ensures.ran
+    (λ x q k. search (rules, tests))
+    (λ x q k. (search rules, search (rules, tests))))

@@ -34,7 +34,7 @@ pub put-requires : goal.put-requires
 put-requires c = let Q = c.requires in
     let A = areas_at Q.0 _ _ _ _ _ _ Q.1.0 Q.1.1 in
     let W = c.loop-p.invariant Q.0 A.begin A.end Q.1.1 Q.1.0.room in
-    let h = packed-inside Q.0 _ _ _ Q.1.1 c.loop-p-test.true in record { r_lt_record_limit = rows_room Q.0 _ _ _ _ _ h W; a_bound = (index_small Q.0 _ _ _ _ W.room (c.next_record-next.ensures Q.0 Q.1.1 A.begin), (head_small _ _ _ (rows_head Q.0 _ _ _ _ _ h W) c.head_of-head.ensures, (c.word-start.ensures.1, c.word-end.ensures.1))) }
+    let h = packed-inside Q.0 _ _ _ Q.1.1 c.loop-p-test.true in record { r_lt_record_limit = rows_room Q.0 _ _ _ _ _ h W; a_bound = (index_small Q.0 _ _ _ _ W.room (c.next_record-next.ensures Q.0 Q.1.1 A.begin), (head_small _ _ _ (rows_head Q.0 _ _ _ _ _ h W) c.head_of-head.ensures, (omega (arith, c.span-start.type_inv), omega (arith, c.span-start.type_inv)))) }
 
 pub overflow_add-y-in-loop-p : goal.overflow_add-y-in-loop-p
 overflow_add-y-in-loop-p c = let Q = c.requires in
@@ -42,7 +42,7 @@ overflow_add-y-in-loop-p c = let Q = c.requires in
     omega (arith, rows_head Q.0 _ _ _ _ _ (packed-inside Q.0 _ _ _ Q.1.1 c.loop-p-test.true) (c.loop-p.invariant Q.0 A.begin A.end Q.1.1 Q.1.0.room), c.length-many.ensures.short)
 
 pub loop-p-preserved : goal.loop-p-preserved
-loop-p-preserved c = λ U A Y P R. rows_step U _ _ _ _ _ (packed-inside U _ _ _ P c.loop-p-test.true) (c.loop-p.invariant U A Y P R) _ _ _ _ _ _ _ _ (row_of U _ _ _ P c.loop-p-test.true) c.owner-owner.ensures (c.next_record-next.ensures U P A) (c.length-many.ensures.is ∙ symbols_long _ _ _ c.args.grammar.packed c.loop-p-test.true) c.word-start.ensures.0 c.word-end.ensures.0 c.head_of-head.ensures c.put.ensures
+loop-p-preserved c = λ U A Y P R. rows_step U _ _ _ _ _ (packed-inside U _ _ _ P c.loop-p-test.true) (c.loop-p.invariant U A Y P R) _ _ _ _ _ _ _ _ (row_of U _ _ _ P c.loop-p-test.true) c.owner-owner.ensures (c.next_record-next.ensures U P A) (c.length-many.ensures.is ∙ symbols_long _ _ _ c.args.grammar.packed c.loop-p-test.true) c.span-start.ensures.0 c.span-start.ensures.1 c.head_of-head.ensures c.put.ensures
 
 pub shape_of-out : goal.shape_of-out
 shape_of-out c = let Q = c.requires in

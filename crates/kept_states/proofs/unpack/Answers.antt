@@ -1,24 +1,22 @@
-use mathlib.Core.Path.{refl, ap}
-use lib.ListN.{length-set}
-use Rattle.kept_states.proofs.Kept.{unpack-start, unpack-more, unpack_end}
-use Rattle.stored.specs.Stored.{Entry}
-use native.Mathlib.Omega.{arith}
+use Rattle.std.proofs.Common.{◌∙◌, arith}
+use Rattle.kept_states.proofs.Kept.{unpack_start, unpack-more, unpack_end}
 use Rattle.kept_states.proofs.unpack.Goals as goal
 
-pub loop-at-init : goal.loop-at-init
-loop-at-init c = (refl, unpack-start _)
-
-pub read_item-item-requires : goal.read_item-item-requires
-read_item-item-requires c = (omega (arith, c.loop-at-test.true, c.requires.from_le_past.1), omega (arith, c.loop-at-test.true, c.requires.from_le_past.2))
+pub loop-stored-init : goal.loop-stored-init
+loop-stored-init c = let r = c.requires.from_le_past in
+    rw c.into_iter-stored-iterator.ensures.into_iter_gives (c.chunks_exact-stored-items.ensures.size, rw c.chunks_exact-stored-items.ensures.rest (unpack_start _ _ _ r.0 r.2 c.requires.by_index))
 
 pub offset_bounds-map-item : goal.offset_bounds-map-item
-offset_bounds-map-item c = let h = c.requires.by_index c.loop-at.at c.loop-at.auto.at c.loop-at-test.true in omega (arith, ap (λ (e : Entry). e.place) c.read_item-item.ensures.0)
+offset_bounds-map-item c = let s = c.in-Some.ensures.steps in
+    let u = unpack-more _ _ _ _ _ _ (s.1.1 ∙ c.loop-stored.invariant.0) (rw s.1.0 at c.loop-stored.invariant.1) c.of-item.ensures.0 in omega (arith, u.0)
 
 pub bounds-map-item : goal.bounds-map-item
-bounds-map-item c = rw (ap (λ (e : Entry). e.place) c.read_item-item.ensures.0) (c.requires.by_index c.loop-at.at c.loop-at.auto.at c.loop-at-test.true)
+bounds-map-item c = let s = c.in-Some.ensures.steps in
+    let u = unpack-more _ _ _ _ _ _ (s.1.1 ∙ c.loop-stored.invariant.0) (rw s.1.0 at c.loop-stored.invariant.1) c.of-item.ensures.0 in u.0
 
-pub loop-at-preserved : goal.loop-at-preserved
-loop-at-preserved c = (simp length-set c.loop-at.invariant.0, unpack-more _ _ _ _ _ _ _ c.loop-at-test.true c.read_item-item.ensures.0 c.loop-at.invariant.1)
+pub loop-stored-preserved : goal.loop-stored-preserved
+loop-stored-preserved c = let s = c.in-Some.ensures.steps in
+    let u = unpack-more _ _ _ _ _ _ (s.1.1 ∙ c.loop-stored.invariant.0) (rw s.1.0 at c.loop-stored.invariant.1) c.of-item.ensures.0 in (s.0 ∙ c.loop-stored.invariant.0, u.1)
 
 pub returns : goal.returns
-returns c = unpack_end _ _ _ _ _ c.loop-at-test.false c.loop-at.invariant.1
+returns c = let s = c.in-None.ensures.steps in unpack_end _ _ _ (omega (arith, s.1.0, c.loop-stored.invariant.0)) c.loop-stored.invariant.1

@@ -1,18 +1,27 @@
-use Rattle.measuring.proofs.Laws.{sum-start, sum_more, sum_end}
-use native.Mathlib.Omega.{arith}
+use Rattle.std.proofs.Common.{◌≡◌, ℕ, List, length, get_or, [], refl, ◌∙◌, arith, rules, tests}
+use Rattle.std.specs.List.{range_with_len}
+use Rattle.std.proofs.lemmas.Iterator.{YieldsList-from_range, YieldsList-from_map}
+use Rattle.std.proofs.lemmas.Iterator.Consumers.{YieldsList-at, sum_by_from_yields_List, fits_by_from_yields_list}
+use Rattle.build.specs.States.{clashes}
+use Rattle.build.specs.Outcome.{sum}
+use Rattle.measuring.specs.Complete.{Collection}
+use Rattle.measuring.proofs.Laws.{sum_clashes, sum_states}
 use Rattle.measuring.proofs.count_conflicts.Goals as goal
 
-pub loop-k-init : goal.loop-k-init
-loop-k-init c = (omega arith, λ s. sum-start s.T s.Rs)
-
-pub count_at-many-requires : goal.count_at-many-requires
-count_at-many-requires c = record { collection = c.requires; k_lt_states = c.loop-k-test.true }
-
-pub overflow_add-many : goal.overflow_add-many
-overflow_add-many c = omega (arith, c.count_at-many.ensures.0, c.loop-k.invariant.0, c.loop-k-test.true, c.requires.many, c.requires.holds.begun.few)
-
-pub loop-k-preserved : goal.loop-k-preserved
-loop-k-preserved c = (omega (arith, c.count_at-many.ensures.0, c.loop-k.invariant.0), λ s. sum_more _ s _ c.loop-k-test.true _ _ (c.loop-k.invariant.1 s) (c.count_at-many.ensures.1 s))
+pub sum-requires-clause-fits : goal.sum-requires-clause-fits
+sum-requires-clause-fits c =
+    let s = c.requires in
+    let n = c.args.found.begins.now.states in
+    fits_by_from_yields_list (λ k. length (clashes s.T (get_or s.Rs k []))) (range_with_len 0 n) c.map.result _
+    (YieldsList-from_map _ (λ k. length (clashes s.T (get_or s.Rs k []))) (YieldsList-at c.map.ensures.source (YieldsList-from_range 0 n n refl (omega arith))) c.map.ensures.closure (λ x a q k. search (rules, tests)))
+    (omega (arith, sum_states s.T s.Rs n s.many, sum_clashes s.T s.grammar.fits s.Rs, s.many, s.holds.begun.few))
 
 pub returns : goal.returns
-returns c = (omega (arith, c.loop-k.invariant.0, c.loop-k.auto.k-end, c.requires.many, c.requires.holds.begun.few), λ s. sum_end s.T s.Rs _ c.loop-k.k _ s.many (omega (arith, c.loop-k-test.false, c.loop-k.auto.k-end)) (c.loop-k.invariant.1 s))
+returns c =
+    let n = c.args.found.begins.now.states in
+    let sum_is : (s : Collection c.args.found) → c.sum.result ≡ sum (λ (S : List ℕ). length (clashes s.T S)) s.Rs =
+    λ s. sum_by_from_yields_List (λ k. length (clashes s.T (get_or s.Rs k []))) (range_with_len 0 n) c.map.result _ c.sum.ensures.ran
+    (YieldsList-from_map _ (λ k. length (clashes s.T (get_or s.Rs k []))) (YieldsList-at c.map.ensures.source (YieldsList-from_range 0 n n refl (omega arith))) c.map.ensures.closure (λ x a q k. search (rules, tests)))
+    ∙ sum_states s.T s.Rs n s.many in
+    let s = c.requires in
+    (omega (arith, sum_is s, sum_clashes s.T s.grammar.fits s.Rs, s.many, s.holds.begun.few), sum_is)

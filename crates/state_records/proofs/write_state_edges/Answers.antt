@@ -1,10 +1,9 @@
-use mathlib.Core.Path.{◌≡◌, ◌∙◌}
+use mathlib.Core.Path.{◌≡◌, refl}
 use native.Mathlib.Omega.{arith}
 use Rattle.spelling.proofs.Grown.{grown-none}
 use Rattle.spelling.proofs.Writing.{follower_small}
-use Rattle.state_records.proofs.Laws.{no_edge, chain-below, chain-room, chain-put, edges_long, edge_nonterminal, edge_terminal}
+use Rattle.state_records.proofs.Laws.{no_edge, chain-below, chain-room, chain-put, edges_long, edge_quad_lem, target_small}
 use Rattle.state_records.proofs.write_state_edges.Goals as goal
-use Rattle.state_records.proofs.write_state_edges.Goals.{then-symbol-lt32, else-symbol-lt32}
 
 pub loop-m-init : goal.loop-m-init
 loop-m-init c = λ U S R. grown-none U _ _
@@ -24,29 +23,17 @@ overflow_add-at c = omega (arith, chain-below _ _ _ _ _ _ (edges_long _ _ _) c.l
 pub next_of-next-requires : goal.next_of-next-requires
 next_of-next-requires c = chain-below _ _ _ _ _ _ (edges_long _ _ _) c.loop-m.auto.m c.loop-m-test.true _ c.requires.stands
 
-pub overflow_add-at-then-symbol-lt32 : goal.overflow_add-at-then-symbol-lt32
-overflow_add-at-then-symbol-lt32 c = omega (arith, chain-below _ _ _ _ _ _ (edges_long _ _ _) c.loop-m.auto.m c.loop-m-test.true _ c.requires.stands)
+pub overflow_add-at-in-loop-m : goal.overflow_add-at-in-loop-m
+overflow_add-at-in-loop-m c = omega (arith, chain-below _ _ _ _ _ _ (edges_long _ _ _) c.loop-m.auto.m c.loop-m-test.true _ c.requires.stands)
 
 pub put-requires : goal.put-requires
-put-requires c = let h = chain-room _ _ _ _ _ _ (edges_long _ _ _) c.loop-m.auto.m c.loop-m-test.true _ c.requires.stands c.loop-m.out c.loop-m.auto.out in record { r_lt_record_limit = h; a_bound = (follower_small _ _ _ h.0 c.next_of-next.ensures, (omega arith, (omega (arith, c.from-edge.ensures, c.fits-edges c.loop-m.m), omega arith))) }
-
-pub overflow_add-at-else-symbol-lt32 : goal.overflow_add-at-else-symbol-lt32
-overflow_add-at-else-symbol-lt32 c = omega (arith, chain-below _ _ _ _ _ _ (edges_long _ _ _) c.loop-m.auto.m c.loop-m-test.true _ c.requires.stands)
-
-pub put-requires-else-symbol-lt32 : goal.put-requires-else-symbol-lt32
-put-requires-else-symbol-lt32 c = let h = chain-room _ _ _ _ _ _ (edges_long _ _ _) c.loop-m.auto.m c.loop-m-test.true _ c.requires.stands c.loop-m.out c.loop-m.auto.out in record { r_lt_record_limit = h; a_bound = (follower_small _ _ _ h.0 c.next_of-next.ensures, (omega arith, (omega (arith, c.from-edge.ensures, c.fits-edges c.loop-m.m), omega arith))) }
+put-requires c = let h = chain-room _ _ _ _ _ _ (edges_long _ _ _) c.loop-m.auto.m c.loop-m-test.true _ c.requires.stands c.loop-m.out c.loop-m.auto.out in
+    record { r_lt_record_limit = h; a_bound = (follower_small _ _ _ h.0 c.next_of-next.ensures, (omega (arith, c.words-kind.ensures.1), (omega (arith, c.words-kind.type_inv), omega (arith, target_small _ _ _ c.of-edge.ensures)))) }
 
 pub loop-m-preserved : goal.loop-m-preserved
 loop-m-preserved c = let I = c.loop-m.invariant in
     let k = c.loop-m-test.true in
-    elim c.if-symbol-lt32.branch [
-      | then-symbol-lt32 w ↦
-          let e = w.out-is ∙ w.put.ensures in
-          λ U S R. chain-put _ _ _ _ _ _ (edges_long _ _ _) c.loop-m.auto.m k _ U S _ c.next_of-next.ensures R _ _ _ _ _ no_edge c.loop-m.auto.out (edge_nonterminal _ _ _ _ _ _ _ c.loop-m.auto.m k c.from-edge.ensures w.if-symbol-lt32.true) e (I U S R)
-      | else-symbol-lt32 w ↦
-          let e = w.out-is ∙ w.put-else-symbol-lt32.ensures in
-          λ U S R. chain-put _ _ _ _ _ _ (edges_long _ _ _) c.loop-m.auto.m k _ U S _ c.next_of-next.ensures R _ _ _ _ _ no_edge c.loop-m.auto.out (edge_terminal _ _ _ _ _ _ _ c.loop-m.auto.m k c.from-edge.ensures w.if-symbol-lt32.false) e (I U S R)
-    ]
+    λ U S R. chain-put _ _ _ _ _ _ (edges_long _ _ _) c.loop-m.auto.m k _ U S _ c.next_of-next.ensures R _ _ _ _ _ no_edge c.loop-m.auto.out (edge_quad_lem _ _ _ _ _ _ _ _ _ _ _ c.loop-m.auto.m k refl c.of-edge.ensures c.words-kind.ensures.0 c.words-kind.ensures.1) c.put.ensures (I U S R)
 
 pub returns : goal.returns
 returns c = λ U S R. let z : c.loop-m.m ≡ c.args.past = omega (arith, c.loop-m.auto.m-end c.requires.from_le_past, c.loop-m-test.false) in rw z at (c.loop-m.invariant U S R)

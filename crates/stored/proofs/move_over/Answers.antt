@@ -1,19 +1,21 @@
-use Rattle.std.proofs.Common.{ap, arith}
-use Rattle.stored.specs.Stored.{Entry}
-use Rattle.stored.proofs.Stored.{over-start, over-more, over_end}
+use Rattle.std.proofs.Common.{◌-◌, ◌∙◌, arith}
+use Rattle.stored.proofs.Stored.{length-entries, turn_begin, turn_room, turn_next, turn_end}
 use Rattle.stored.proofs.move_over.Goals as goal
 
-pub loop-at-init : goal.loop-at-init
-loop-at-init c = (omega arith, over-start _ _ _ _)
-
-pub read_item-read-requires : goal.read_item-read-requires
-read_item-read-requires c = (omega (arith, c.loop-at-test.true, c.requires.from_le_past.1), omega (arith, c.loop-at-test.true, c.requires.from_le_past.2))
+pub loop-item-init : goal.loop-item-init
+loop-item-init c = let r = c.requires.from_le_past in
+    rw c.into_iter-item-iterator.ensures.into_iter_gives (c.chunks_exact-item-items.ensures.size, rw c.chunks_exact-item-items.ensures.rest (turn_begin _ _ _ _ _ _ _ r.0 r.2 c.requires.by_index))
 
 pub move_one-requires : goal.move_one-requires
-move_one-requires c = record { within = (rw (ap (λ (e : Entry). e.place) c.read_item-read.ensures.0) (c.requires.by_index c.loop-at.at c.loop-at.auto.at c.loop-at-test.true), c.read_item-read.ensures.1); many_lt_item_limit = omega (arith, c.loop-at.invariant.0, c.loop-at-test.true, c.requires.from_le_past.3) }
+move_one-requires c = let s = c.in-Some.ensures.steps in
+    let t = turn_room _ _ _ _ _ _ _ _ (s.1.1 ∙ c.loop-item.invariant.0) (rw s.1.0 at c.loop-item.invariant.1) _ _ c.of.ensures.0 in
+    record { within = (t.0, c.of.ensures.1); many_lt_item_limit = omega (arith, t.1, length-entries c.args.words.now c.args.from (c.args.past - c.args.from), c.requires.from_le_past.3) }
 
-pub loop-at-preserved : goal.loop-at-preserved
-loop-at-preserved c = (omega (arith, c.loop-at.invariant.0, c.move_one.ensures.high), over-more _ _ _ _ _ _ _ _ _ _ _ _ c.loop-at-test.true c.read_item-read.ensures.0 c.move_one.ensures c.loop-at.invariant.1)
+pub loop-item-preserved : goal.loop-item-preserved
+loop-item-preserved c = let s = c.in-Some.ensures.steps in
+    (s.0 ∙ c.loop-item.invariant.0, turn_next _ _ _ _ _ _ _ _ (s.1.1 ∙ c.loop-item.invariant.0) (rw s.1.0 at c.loop-item.invariant.1) _ _ c.of.ensures.0 _ _ c.move_one.ensures)
 
 pub returns : goal.returns
-returns c = (omega (arith, c.loop-at.auto.at-end c.requires.from_le_past.0, c.loop-at.invariant.0), over_end _ _ _ _ _ _ _ _ c.loop-at-test.false c.loop-at.invariant.1)
+returns c = let s = c.in-None.ensures.steps in
+    let t = turn_end _ _ _ _ _ _ _ (omega (arith, s.1.0, c.loop-item.invariant.0)) c.loop-item.invariant.1 in
+    (omega (arith, t.0, length-entries c.args.words.now c.args.from (c.args.past - c.args.from)), t.1)

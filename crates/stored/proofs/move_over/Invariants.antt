@@ -1,6 +1,10 @@
-use Rattle.std.proofs.Common.{◌≡◌, ◌+◌, ◌-◌, ◌≤◌, ◌++◌}
-use Rattle.stored.specs.Stored.{entries, moved_over}
+use Rattle.std.proofs.Common.{◌≡◌, ◌-◌, ◌*◌}
+use Rattle.std.specs.Slice.Iter.{chunks_exact_rest, chunks_exact_size}
+use Rattle.repr.specs.Sizes.{index_limit}
+use Rattle.repr.specs.Symbols.{meant}
+use Rattle.stored.specs.Stored.{entries}
+use Rattle.stored.proofs.Stored.{all_entries, Turn}
 use Rattle.stored.proofs.move_over.Given as goal
 
-abbrev pub invariant-loop-at : goal.invariant-loop-at
-invariant-loop-at l = (l.kernel.many + l.from ≤ l.at) × (entries l.kernel.words 0 l.kernel.many ++ moved_over l.grammar.words.now l.symbol (entries l.words l.at (l.past - l.at)) ≡ moved_over l.grammar.words.now l.symbol (entries l.words l.from (l.past - l.from)))
+abbrev pub invariant-loop-item : goal.invariant-loop-item
+invariant-loop-item l = (chunks_exact_size l.item-iterator ≡ 5) × Turn l.grammar.words.now (meant l.symbol) (index_limit * l.grammar.productions) (entries l.words l.from (l.past - l.from)) l.kernel.words l.kernel.many (all_entries (chunks_exact_rest l.item-iterator))

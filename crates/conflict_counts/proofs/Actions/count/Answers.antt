@@ -1,24 +1,26 @@
-use Rattle.conflict_counts.proofs.Counts.{joined_start, one_counted, all-counted}
+use Rattle.std.proofs.Common.{length, refl, ◌∙◌, arith, rules, tests}
+use Rattle.std.specs.List.{range_with_len}
+use Rattle.std.proofs.lemmas.Iterator.{YieldsList-from_range, YieldsList-from_map}
+use Rattle.std.proofs.lemmas.Iterator.Consumers.{YieldsList-at, sum_by_from_yields_List, fits_by_from_yields_list}
+use Rattle.repr.specs.Lists.{up_from, below}
+use Rattle.repr.proofs.Lists.{length-up_from}
 use Rattle.conflict_counts.specs.Clashed.{clashes_in}
-use Rattle.lookahead.proofs.Members.{members_few}
-use Rattle.lookahead.specs.Tokens.{members}
-use Rattle.std.proofs.Common.{length, ap, ◌∙◌, arith}
+use Rattle.conflict_counts.proofs.Counts.{joined_sum, joined_few, clashes_few}
 use Rattle.conflict_counts.proofs.Actions.count.Goals as goal
 
-pub loop-production-init : goal.loop-production-init
-loop-production-init c = (omega arith, let a = ap length (joined_start (clashes_in c.args.self.now.reductions c.args.self.now.shifts.0 c.args.self.now.productions) c.args.self.now.productions) in omega arith)
-
-pub count_pairs-requires : goal.count_pairs-requires
-count_pairs-requires c = c.loop-production-test.true
-
-pub overflow_add-many : goal.overflow_add-many
-overflow_add-many c = omega (arith, c.count_pairs.ensures.1, c.len-shifts.ensures, members_few c.shifts_of.result.0)
-
-pub overflow_add-many-in-loop-production : goal.overflow_add-many-in-loop-production
-overflow_add-many-in-loop-production c = omega (arith, c.count_pairs.ensures.1, c.len-shifts.ensures, members_few c.shifts_of.result.0, c.loop-production.invariant.0, c.loop-production-test.true, c.args.self.now.few)
-
-pub loop-production-preserved : goal.loop-production-preserved
-loop-production-preserved c = (omega (arith, c.count_pairs.ensures.1, c.len-shifts.ensures, members_few c.shifts_of.result.0, c.loop-production.invariant.0), one_counted c.args.self.now.reductions _ _ _ _ _ _ _ c.loop-production-test.true (c.len-shifts.ensures ∙ ap (λ s. length (members s)) c.shifts_of.ensures) c.count_pairs.ensures.0 c.loop-production.invariant.1)
+pub sum-requires-clause-fits : goal.sum-requires-clause-fits
+sum-requires-clause-fits c =
+    let f = clashes_in c.args.self.now.reductions c.args.self.now.shifts.0 c.args.self.now.productions in
+    let n = c.args.self.now.productions in
+    fits_by_from_yields_list (λ p. length (f p)) (range_with_len 0 n) c.map.result _
+    (YieldsList-from_map _ (λ p. length (f p)) (YieldsList-at c.map.ensures.source (YieldsList-from_range 0 n n refl (omega arith))) c.map.ensures.closure (λ x a q k. search (rules, tests)))
+    (omega (arith, joined_sum f 0 n, joined_few f 8256 (up_from 0 n) (λ p. clashes_few _ _ _ p c.args.self.now.few), length-up_from 0 n, c.args.self.now.few))
 
 pub returns : goal.returns
-returns c = (all-counted c.args.self.now.reductions _ _ _ _ _ c.loop-production-test.false c.loop-production.invariant.1, omega (arith, c.loop-production.invariant.0, c.loop-production.auto.production-end, c.args.self.now.few))
+unfolding below
+returns c =
+    let f = clashes_in c.args.self.now.reductions c.args.self.now.shifts.0 c.args.self.now.productions in
+    let n = c.args.self.now.productions in
+    let s = sum_by_from_yields_List (λ p. length (f p)) (range_with_len 0 n) c.map.result _ c.sum.ensures.ran
+    (YieldsList-from_map _ (λ p. length (f p)) (YieldsList-at c.map.ensures.source (YieldsList-from_range 0 n n refl (omega arith))) c.map.ensures.closure (λ x a q k. search (rules, tests))) in
+    (s ∙ joined_sum f 0 n, omega (arith, s, joined_sum f 0 n, joined_few f 8256 (up_from 0 n) (λ p. clashes_few _ _ _ p c.args.self.now.few), length-up_from 0 n, c.args.self.now.few))

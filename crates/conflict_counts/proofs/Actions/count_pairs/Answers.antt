@@ -1,20 +1,25 @@
-use Rattle.conflict_counts.proofs.Counts.{pair-counted, pair-last}
-use Rattle.lookahead.proofs.Members.{members_few}
-use Rattle.lookahead.specs.Tokens.{members}
-use Rattle.std.proofs.Common.{length, ap, ◌∙◌, arith}
+use Rattle.std.proofs.Common.{ℕ, ◌+◌, ◌-◌, length, get_or, refl, ◌∙◌, arith, rules, tests}
+use Rattle.std.specs.List.{range_with_len}
+use Rattle.std.proofs.lemmas.Iterator.{YieldsList-from_range, YieldsList-from_map}
+use Rattle.std.proofs.lemmas.Iterator.Consumers.{YieldsList-at, sum_by_from_yields_List, fits_by_from_yields_list}
+use Rattle.lookahead.specs.Tokens.{meet, members}
+use Rattle.conflict_counts.proofs.Counts.{pair_sum, pairs_few}
 use Rattle.conflict_counts.proofs.Actions.count_pairs.Goals as goal
 
-pub loop-other-init : goal.loop-other-init
-loop-other-init c = (omega arith, omega arith)
-
-pub common-requires : goal.common-requires
-common-requires c = (c.requires, c.loop-other-test.true)
-
-pub overflow_add-many : goal.overflow_add-many
-overflow_add-many c = omega (arith, c.len-many.ensures, members_few c.common.result.0, c.loop-other.invariant.0, c.loop-other-test.true, c.args.self.now.few)
-
-pub loop-other-preserved : goal.loop-other-preserved
-loop-other-preserved c = (omega (arith, c.len-many.ensures, members_few c.common.result.0, c.loop-other.invariant.0), pair-counted _ _ _ _ _ _ _ c.loop-other-test.true (c.len-many.ensures ∙ ap (λ s. length (members s)) c.common.ensures) c.loop-other.invariant.1)
+pub sum-requires-clause-fits : goal.sum-requires-clause-fits
+sum-requires-clause-fits c =
+    let r = c.args.self.now.reductions in
+    let p = c.args.production in
+    let n : ℕ = c.args.self.now.productions - (c.args.production + 1) in
+    fits_by_from_yields_list (λ q. length (members (meet (get_or r p 0) (get_or r q 0)))) (range_with_len (p + 1) n) c.map.result _
+    (YieldsList-from_map _ (λ q. length (members (meet (get_or r p 0) (get_or r q 0)))) (YieldsList-at c.map.ensures.source (YieldsList-from_range _ _ _ refl refl)) c.map.ensures.closure (λ x a q k. search (rules, tests)))
+    (omega (arith, pair_sum r p (p + 1) n, pairs_few r p (p + 1) n, c.args.self.now.few))
 
 pub returns : goal.returns
-returns c = (pair-last _ _ _ _ _ _ c.loop-other-test.false c.loop-other.invariant.1, omega (arith, c.loop-other.invariant.0, c.loop-other.auto.other-end (omega (arith, c.requires)), c.args.self.now.few))
+returns c =
+    let r = c.args.self.now.reductions in
+    let p = c.args.production in
+    let n : ℕ = c.args.self.now.productions - (c.args.production + 1) in
+    let s = sum_by_from_yields_List (λ q. length (members (meet (get_or r p 0) (get_or r q 0)))) (range_with_len (p + 1) n) c.map.result _ c.sum.ensures.ran
+    (YieldsList-from_map _ (λ q. length (members (meet (get_or r p 0) (get_or r q 0)))) (YieldsList-at c.map.ensures.source (YieldsList-from_range _ _ _ refl refl)) c.map.ensures.closure (λ x a q k. search (rules, tests))) in
+    (s ∙ pair_sum r p (p + 1) n, omega (arith, s, pair_sum r p (p + 1) n, pairs_few r p (p + 1) n, c.args.self.now.few))

@@ -1,6 +1,6 @@
 use Rattle.std.proofs.Common.{refl}
 use Rattle.conflict_words.specs.Tokens.{token_words}
-use Rattle.conflict_words.proofs.words_of.Goals as goal
+use Rattle.conflict_words.proofs.Pair.words.Goals as goal
 
 pub returns-in-Shift : goal.returns-in-Shift
 unfolding token_words
