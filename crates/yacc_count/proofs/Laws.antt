@@ -2,13 +2,12 @@
 use Prim.Native.Nat.{ℕ, suc, ◌+◌, ◌≤◌, ◌<◌}
 use native.Mathlib.Omega.{arith}
 use native.Mathlib.Numerals.{add-one}
-use mathlib.Core.Bool.{Bool, true, false, ◌&&◌}
+use mathlib.Core.Bool.{true, false}
 use mathlib.Core.Path.{◌≡◌, refl, sym, ap, ◌∙◌}
 use mathlib.Core.List.{List, [], ◌∷◌, ◌++◌, map}
-use mathlib.Core.Option.{Option, none, some}
-use lib.Dec.{eqb, ltb, leb}
+use mathlib.Core.Option.{none, some}
+use lib.Dec.{ltb}
 use lib.ListN.{length, length-append}
-use borrow.Author.Tests.{ltb-true, ltb-false, le-leb, lt-leb, eq-eqb, ne_eqb}
 use Rattle.repr.specs.Sizes.{symbol_limit}
 use Rattle.repr.proofs.Lists.{cases, length_mapped}
 use Rattle.spelling.specs.Spelled.{size_of}
@@ -24,7 +23,8 @@ use Rattle.yacc_said.specs.Said.{said_in, id_at, events_of, of_said}
 use Rattle.yacc_said.specs.declared.Saying.{Saying}
 use Rattle.yacc_said.specs.declared.Saying.TheVariants.{Lists, Opens, Defines, Uses, Shuts, Nothing}
 use Rattle.yacc_said.proofs.Laws.{said_same, said_turn}
-use Rattle.yacc_count.specs.Counted.{short_of, counts_of, no_counts, counts_in, longer, closed, tallied, Within, Roomy}
+use Rattle.std.specs.Prelude.{Option as Answered, Some, None}
+use Rattle.yacc_count.specs.Counted.{long_of, counts_of, no_counts, counts_in, longer, closed, tallied, Within, Roomy}
 use Rattle.yacc_count.specs.declared.Counts.{Counts}
 use Rattle.yacc_count.specs.declared.Tally.{Tally}
 
@@ -54,11 +54,11 @@ tally_said Shuts y x from past es = refl
 tally_said Nothing y x from past es = refl
 
 -- alternatives one after the other
-unfoldable added : ℕ → ℕ → ℕ → List Alternative → Counts
-added a s k [] = record { alternatives = a; symbols = s; short = k }
+unfoldable added : ℕ → ℕ → Answered ℕ → List Alternative → Counts
+added a s k [] = record { alternatives = a; symbols = s; long = k }
 added a s k (x ∷ xs) = added (a + 1) (s + length x.ids) (longer k a (length x.ids)) xs
 
-tally_added : (es : List Event) (a s k n : ℕ) (l : Id) (us : List Use) → n ≡ length us → tally_all (record { counts = record { alternatives = a; symbols = s; short = k }; body = n }) es ≡ added a s k (alternatives_from l us es)
+tally_added : (es : List Event) (a s : ℕ) (k : Answered ℕ) (n : ℕ) (l : Id) (us : List Use) → n ≡ length us → tally_all (record { counts = record { alternatives = a; symbols = s; long = k }; body = n }) es ≡ added a s k (alternatives_from l us es)
 unfolding tally_all tallied closed alternative alternatives_from added
 tally_added [] a s k n l us e = refl
 tally_added (lists x at ∷ es) a s k n l us e = tally_added es a s k n l us e
@@ -72,76 +72,65 @@ tally_added (shuts at ∷ es) a s k n l us e =
     tally_added es (a + 1) (s + n) (longer k a n) 0 l [] refl
     ∙ ap (λ (m : ℕ). added (a + 1) (s + m) (longer k a m) (alternatives_from l [] es)) (e ∙ sym (length_mapped (λ u. u.id) us))
 
-same_counts : (a b s t k l : ℕ) → a ≡ b → s ≡ t → k ≡ l → ◌≡◌ {A = Counts} (record { alternatives = a; symbols = s; short = k }) (record { alternatives = b; symbols = t; short = l })
+same_counts : (a b s t : ℕ) (k l : Answered ℕ) → a ≡ b → s ≡ t → k ≡ l → ◌≡◌ {A = Counts} (record { alternatives = a; symbols = s; long = k }) (record { alternatives = b; symbols = t; long = l })
 same_counts a b s t k l p q r =
-    ap (λ (x : ℕ). record { alternatives = x; symbols = s; short = k }) p
-    ∙ ap (λ (x : ℕ). record { alternatives = b; symbols = x; short = k }) q
-    ∙ ap (λ (x : ℕ). record { alternatives = b; symbols = t; short = x }) r
+    ap (λ (x : ℕ). record { alternatives = x; symbols = s; long = k }) p
+    ∙ ap (λ (x : ℕ). record { alternatives = b; symbols = x; long = k }) q
+    ∙ ap (λ (x : Answered ℕ). record { alternatives = b; symbols = t; long = x }) r
+
+pub zero_counts : (c : Counts) → (c.alternatives ≡ 0) × ((c.symbols ≡ 0) × (c.long ≡ None)) → c ≡ no_counts
+zero_counts c z = same_counts c.alternatives 0 c.symbols 0 c.long None z.0 z.1.0 z.1.1
+
+pub zero_tally : (y : Tally) → ((y.counts.alternatives ≡ 0) × ((y.counts.symbols ≡ 0) × (y.counts.long ≡ None))) × (y.body ≡ 0) → y ≡ no_tally
+zero_tally y z = ap (λ (c : Counts). record { counts = c; body = y.body }) (zero_counts y.counts z.0) ∙ ap (λ (n : ℕ). record { counts = no_counts; body = n }) z.1
 
 abbrev sizes : List Alternative → ℕ
 sizes xs = size_of (map (λ a. a.ids) xs)
 
--- behind one that is too long, and in front of it
-longer_past : (k a n : ℕ) → k < a → longer k a n ≡ k
-unfolding longer
-longer_past k a n h = rw (ne_eqb k a (λ e. omega (arith, h, e)), longer)
+-- behind one that is too long
+added_past : (xs : List Alternative) (a s p : ℕ) → added a s (Some p) xs ≡ record { alternatives = a + length xs; symbols = s + sizes xs; long = Some p }
+unfolding added longer size_of
+added_past [] a s p = same_counts a (a + 0) s (s + 0) (Some p) (Some p) (omega arith) (omega arith) refl
+added_past (x ∷ xs) a s p =
+    added_past xs (a + 1) (s + length x.ids) p
+    ∙ same_counts (a + 1 + length xs) (a + suc (length xs)) (s + length x.ids + sizes xs) (s + (length x.ids + sizes xs)) (Some p) (Some p) (omega arith) (omega arith) refl
 
-longer-more : (a n : ℕ) → n ≤ symbol_limit → longer a a n ≡ a + 1
-unfolding longer
-longer-more a n h = rw (eq-eqb a a refl, le-leb n symbol_limit h, longer)
+-- in front of it
+unfoldable long_from : ℕ → List Alternative → Answered ℕ
+long_from a xs = elim (too_long a xs) [ none ↦ None | some p ↦ Some p ]
 
-longer-stops : (a n : ℕ) → symbol_limit < n → longer a a n ≡ a
-unfolding longer
-longer-stops a n h = rw (eq-eqb a a refl, lt-leb n symbol_limit h, longer)
+long_stops : (x : Alternative) (xs : List Alternative) (a : ℕ) → ltb symbol_limit (length x.ids) ≡ true → (longer None a (length x.ids) ≡ Some a) × (long_from a (x ∷ xs) ≡ Some a)
+unfolding longer long_from too_long
+long_stops x xs a e = (rw (e, longer) refl, rw (e, long_from, too_long) refl)
 
-added_past : (xs : List Alternative) (a s k : ℕ) → k < a → added a s k xs ≡ record { alternatives = a + length xs; symbols = s + sizes xs; short = k }
-unfolding added size_of
-added_past [] a s k h = same_counts a (a + 0) s (s + 0) k k (omega arith) (omega arith) refl
-added_past (x ∷ xs) a s k h =
-    ap (λ (m : ℕ). added (a + 1) (s + length x.ids) m xs) (longer_past k a (length x.ids) h)
-    ∙ added_past xs (a + 1) (s + length x.ids) k (omega (arith, h))
-    ∙ same_counts (a + 1 + length xs) (a + suc (length xs)) (s + length x.ids + sizes xs) (s + (length x.ids + sizes xs)) k k (omega arith) (omega arith) refl
+long_more : (x : Alternative) (xs : List Alternative) (a : ℕ) → ltb symbol_limit (length x.ids) ≡ false → (longer None a (length x.ids) ≡ None) × (long_from a (x ∷ xs) ≡ long_from (a + 1) xs)
+unfolding longer long_from too_long
+long_more x xs a e = (rw (e, longer) refl, rw (e, long_from, too_long) (ap (λ (k : ℕ). long_from k xs) (sym (add-one a))))
 
-unfoldable short_from : ℕ → List Alternative → ℕ
-short_from a xs = elim (too_long a xs) [ none ↦ a + length xs | some p ↦ p ]
-
-short_stops : (x : Alternative) (xs : List Alternative) (a : ℕ) → ltb symbol_limit (length x.ids) ≡ true → short_from a (x ∷ xs) ≡ a
-unfolding short_from too_long
-short_stops x xs a e = rw (e, short_from, too_long)
-
-short_more : (x : Alternative) (xs : List Alternative) (a : ℕ) → ltb symbol_limit (length x.ids) ≡ false → short_from a (x ∷ xs) ≡ short_from (a + 1) xs
-unfolding short_from too_long
-short_more x xs a e =
-    let q : a + suc (length xs) ≡ a + 1 + length xs = omega arith in
-    let p : too_long a (x ∷ xs) ≡ too_long (a + 1) xs = rw (e, too_long) (ap (λ (k : ℕ). too_long k xs) (sym (add-one a))) in
-    ap (λ (o : Option ℕ). elim o [ none ↦ a + suc (length xs) | some r ↦ r ]) p
-    ∙ ap (λ (k : ℕ). elim (too_long (a + 1) xs) [ none ↦ k | some r ↦ r ]) q
-
-added_short : (xs : List Alternative) (a s : ℕ) → added a s a xs ≡ record { alternatives = a + length xs; symbols = s + sizes xs; short = short_from a xs }
-unfolding added size_of short_from too_long
-added_short [] a s = same_counts a (a + 0) s (s + 0) a (a + 0) (omega arith) (omega arith) (omega arith)
-added_short (x ∷ xs) a s =
+added_first : (xs : List Alternative) (a s : ℕ) → added a s None xs ≡ record { alternatives = a + length xs; symbols = s + sizes xs; long = long_from a xs }
+unfolding added size_of long_from too_long
+added_first [] a s = same_counts a (a + 0) s (s + 0) None None (omega arith) (omega arith) refl
+added_first (x ∷ xs) a s =
     let n = length x.ids in
     let p : a + 1 + length xs ≡ a + suc (length xs) = omega arith in
     let q : s + n + sizes xs ≡ s + (n + sizes xs) = omega arith in
     cases (ltb symbol_limit n)
-    (λ e. ap (λ (m : ℕ). added (a + 1) (s + n) m xs) (longer-stops a n (ltb-true symbol_limit n e))
-    ∙ added_past xs (a + 1) (s + n) a (omega arith)
-    ∙ same_counts (a + 1 + length xs) (a + suc (length xs)) (s + n + sizes xs) (s + (n + sizes xs)) a (short_from a (x ∷ xs)) p q (sym (short_stops x xs a e)))
-    (λ e. ap (λ (m : ℕ). added (a + 1) (s + n) m xs) (longer-more a n (ltb-false symbol_limit n e))
-    ∙ added_short xs (a + 1) (s + n)
-    ∙ same_counts (a + 1 + length xs) (a + suc (length xs)) (s + n + sizes xs) (s + (n + sizes xs)) (short_from (a + 1) xs) (short_from a (x ∷ xs)) p q (sym (short_more x xs a e)))
+    (λ e. let l = long_stops x xs a e in
+    ap (λ (k : Answered ℕ). added (a + 1) (s + n) k xs) l.0
+    ∙ added_past xs (a + 1) (s + n) a
+    ∙ same_counts (a + 1 + length xs) (a + suc (length xs)) (s + n + sizes xs) (s + (n + sizes xs)) (Some a) (long_from a (x ∷ xs)) p q (sym l.1))
+    (λ e. let l = long_more x xs a e in
+    ap (λ (k : Answered ℕ). added (a + 1) (s + n) k xs) l.0
+    ∙ added_first xs (a + 1) (s + n)
+    ∙ same_counts (a + 1 + length xs) (a + suc (length xs)) (s + n + sizes xs) (s + (n + sizes xs)) (long_from (a + 1) xs) (long_from a (x ∷ xs)) p q (sym l.1))
 
-added-whole : (xs : List Alternative) → added 0 0 0 xs ≡ counts_of xs
-unfolding counts_of short_of short_from
-added-whole xs =
-    let z : 0 + length xs ≡ length xs = omega arith in
-    added_short xs 0 0
-    ∙ same_counts (0 + length xs) (length xs) (0 + sizes xs) (sizes xs) (short_from 0 xs) (short_of xs) z (omega arith) (ap (λ (k : ℕ). elim (too_long 0 xs) [ none ↦ k | some p ↦ p ]) z)
+added-whole : (xs : List Alternative) → added 0 0 None xs ≡ counts_of xs
+unfolding counts_of long_of long_from
+added-whole xs = added_first xs 0 0 ∙ same_counts (0 + length xs) (length xs) (0 + sizes xs) (sizes xs) (long_from 0 xs) (long_of xs) (omega arith) (omega arith) refl
 
 pub tally_whole : (t : List ℕ) → of_said no_counts (tally_all no_tally) (top false) (placed_from t 0) ≡ counts_in t
 unfolding counts_in
-tally_whole t = said_same no_counts (tally_all no_tally) (λ es. counts_of (alternatives_from no_id [] es)) (λ es. tally_added es 0 0 0 0 no_id [] refl ∙ added-whole (alternatives_from no_id [] es)) (top false) (placed_from t 0)
+tally_whole t = said_same no_counts (tally_all no_tally) (λ es. counts_of (alternatives_from no_id [] es)) (λ es. tally_added es 0 0 None 0 no_id [] refl ∙ added-whole (alternatives_from no_id [] es)) (top false) (placed_from t 0)
 
 -- the loop's turns
 pub tally_turn : (t : List ℕ) (at : ℕ) (m : Mode) (y : Tally) (r : Counts) → of_said no_counts (tally_all y) m (placed_from t at) ≡ r → (v : Tally) (s : Saying) (w : Word) (from past : ℕ) (n : Mode) → Leads t at w from past → s ≡ said_in m w → v ≡ tallied y s → n ≡ move m (token_at t w from past) → of_said no_counts (tally_all v) n (placed_from t past) ≡ r
@@ -150,19 +139,11 @@ tally_turn t at m y r inv v s w from past n L e q f =
     (λ es. ap (λ (k : Tally). tally_all k es) q ∙ tally_said s y (id_at t w from past) from past es ∙ ap (λ (k : Saying). tally_all y (events_of k (id_at t w from past) from past ++ es)) e)
 
 -- its numbers stay small
-longer-least : (k a n : ℕ) → k ≤ a → longer k a n ≤ a + 1
-unfolding longer
-longer-least k a n h = by (eqb k a && leb n symbol_limit)
-  where
-    by : (b : Bool) → elim b [ true ↦ k + 1 | false ↦ k ] ≤ a + 1
-    by true = omega (arith, h)
-    by false = omega (arith, h)
-
 within_more : (y : Tally) (at past : ℕ) → at ≤ past → Within y at → Within y past
 within_more y at past h W =
     let a = W.alternatives in
     let s = W.symbols in
-    record { alternatives = omega (arith, h, a); symbols = omega (arith, h, s); short = W.short }
+    record { alternatives = omega (arith, h, a); symbols = omega (arith, h, s) }
 
 pub roomy : (y : Tally) (at n : ℕ) → at ≤ n → n ≤ text_limit → Within y at → Roomy y
 roomy y at n h l W = within_more y at text_limit (omega (arith, h, l)) W
@@ -174,15 +155,15 @@ within-said Opens y at past h W = within_more y at past (omega (arith, h)) W
 within-said Defines y at past h W =
     let a = W.alternatives in
     let s = W.symbols in
-    record { alternatives = omega (arith, h, a); symbols = omega (arith, h, s); short = W.short }
+    record { alternatives = omega (arith, h, a); symbols = omega (arith, h, s) }
 within-said Uses y at past h W =
     let a = W.alternatives in
     let s = W.symbols in
-    record { alternatives = omega (arith, h, a); symbols = omega (arith, h, s); short = W.short }
+    record { alternatives = omega (arith, h, a); symbols = omega (arith, h, s) }
 within-said Shuts y at past h W =
     let a = W.alternatives in
     let s = W.symbols in
-    record { alternatives = omega (arith, h, a); symbols = omega (arith, h, s); short = longer-least y.counts.short y.counts.alternatives y.body W.short }
+    record { alternatives = omega (arith, h, a); symbols = omega (arith, h, s) }
 within-said Nothing y at past h W = within_more y at past (omega (arith, h)) W
 
 pub within_turn : (v y : Tally) (s : Saying) (t : List ℕ) (at : ℕ) (w : Word) (from past : ℕ) → Leads t at w from past → v ≡ tallied y s → Within y at → Within v past

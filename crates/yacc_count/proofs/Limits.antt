@@ -18,7 +18,8 @@ use Rattle.yacc_read.specs.Source.{Known, no_id, Alternative, alternatives_from,
 use Rattle.yacc_read.specs.Meaning.{symbol_of, production_of, productions_of, owned, table_of, places_of}
 use Rattle.yacc_read.specs.Outcome.{Outcome, unchanged, too_many, too_long, room, answer_of, fitted_of, counted_of, source_in}
 use Rattle.yacc_said.proofs.Laws.{said-whole}
-use Rattle.yacc_count.specs.Counted.{short_of, counts_of, no_counts, counts_in}
+use Rattle.std.specs.Prelude.{Option as Answered, Some, None}
+use Rattle.yacc_count.specs.Counted.{long_of, counts_of, no_counts, counts_in}
 
 pub counts_whole : (t : List ℕ) (l : Layout) → parse t ≡ some l → counts_in t ≡ counts_of (source_in l.pieces).alternatives
 unfolding counts_in source_in source_of
@@ -33,13 +34,24 @@ long_low (x ∷ xs) a p e =
     (λ y. let q : a ≡ p = ap (λ (o : Option ℕ). elim o [ none ↦ 0 | some r ↦ r ]) (sym (ap (λ (b : Bool). elim b [ true ↦ some a | false ↦ too_long (suc a) xs ]) y) ∙ e) in omega (arith, q))
     (λ y. let h = long_low xs (suc a) p (sym (ap (λ (b : Bool). elim b [ true ↦ some a | false ↦ too_long (suc a) xs ]) y) ∙ e) in omega (arith, h))
 
-by_least : (n : ℕ) (o : Option ℕ) → ((p : ℕ) → o ≡ some p → p < n) → o ≡ elim (ltb (elim o [ none ↦ n | some p ↦ p ]) n) [ true ↦ some (elim o [ none ↦ n | some p ↦ p ]) | false ↦ none ]
-by_least n none f = sym (ap (λ (b : Bool). elim b [ true ↦ some n | false ↦ none ]) (le-ltb n n (omega arith)))
-by_least n (some p) f = sym (ap (λ (b : Bool). elim b [ true ↦ some p | false ↦ none ]) (lt-ltb p n (f p refl)))
+found_some : (o : Option ℕ) (p : ℕ) → elim o [ none ↦ None | some q ↦ Some q ] ≡ Some p → o ≡ some p
+found_some none p e = absurd cc
+found_some (some q) p e = ap some cc
 
-pub too_long_lem : (xs : List Alternative) → too_long 0 xs ≡ elim (ltb (short_of xs) (length xs)) [ true ↦ some (short_of xs) | false ↦ none ]
-unfolding short_of
-too_long_lem xs = by_least (length xs) (too_long 0 xs) (λ p e. let l = long_low xs 0 p e in omega (arith, l))
+found_none : (o : Option ℕ) → elim o as (λ x. Answered ℕ) [ none ↦ None | some q ↦ Some q ] ≡ None → o ≡ none
+found_none none e = refl
+found_none (some q) e = absurd cc
+
+pub too_long_some : (xs : List Alternative) (p : ℕ) → long_of xs ≡ Some p → too_long 0 xs ≡ some p
+unfolding long_of
+too_long_some xs p e = found_some (too_long 0 xs) p e
+
+too_long_none : (xs : List Alternative) → long_of xs ≡ None → too_long 0 xs ≡ none
+unfolding long_of
+too_long_none xs e = found_none (too_long 0 xs) e
+
+pub long_inside : (xs : List Alternative) (p : ℕ) → long_of xs ≡ Some p → p < length xs
+long_inside xs p e = let l = long_low xs 0 p (too_long_some xs p e) in omega (arith, l)
 
 -- 17: records
 symbols_size : (S : Source) (xs : List Alternative) → size_of (map (λ p. p.symbols) (map (production_of S) xs)) ≡ size_of (map (λ a. a.ids) xs)
@@ -108,11 +120,8 @@ module _ (S : Source) where
       pub few : length S.alternatives ≤ production_limit → too_many S ≡ false
       few h = many_by ∙ le-ltb production_limit (length S.alternatives) h
 
-  none_long : length S.alternatives ≤ short_of S.alternatives → too_long 0 S.alternatives ≡ none
-  none_long h = too_long_lem S.alternatives ∙ ap (λ (b : Bool). elim b [ true ↦ some (short_of S.alternatives) | false ↦ none ]) (le-ltb (short_of S.alternatives) (length S.alternatives) h)
-
-  pub few_symbols : length S.alternatives ≤ short_of S.alternatives → size_of (map (λ a. a.ids) S.alternatives) ≤ symbol_limit * length S.alternatives
-  few_symbols h = short_size S.alternatives 0 (none_long h)
+  pub few_symbols : long_of S.alternatives ≡ None → size_of (map (λ a. a.ids) S.alternatives) ≤ symbol_limit * length S.alternatives
+  few_symbols n = short_size S.alternatives 0 (too_long_none S.alternatives n)
 
   module _ (table places : List ℕ) where
     pub table_narrow : length table / 4 < 2 + length S.nonterminals + length S.alternatives + size_of (map (λ a. a.ids) S.alternatives) → room S table places ≡ false
@@ -139,21 +148,21 @@ module _ (S : Source) where
       unfolding counted_of
       counted_few o e = ap (λ (b : Bool). elim b [ true ↦ unchanged 2 0 table places | false ↦ fitted_of S table places (too_long 0 S.alternatives) ]) f ∙ ap (fitted_of S table places) e
 
-      pub counted_long : short_of S.alternatives < length S.alternatives → counted_of S table places ≡ unchanged 5 (2 + length S.nonterminals + short_of S.alternatives) table places
+      pub counted_long : (p : ℕ) → long_of S.alternatives ≡ Some p → counted_of S table places ≡ unchanged 5 (2 + length S.nonterminals + p) table places
       unfolding fitted_of
-      counted_long h =
-          counted_few (some (short_of S.alternatives)) (too_long_lem S.alternatives ∙ ap (λ (b : Bool). elim b [ true ↦ some (short_of S.alternatives) | false ↦ none ]) (lt-ltb (short_of S.alternatives) (length S.alternatives) h))
-          ∙ ap (λ (k : ℕ). unchanged 5 (k + short_of S.alternatives) table places) (productions_at_lem S)
+      counted_long p e =
+          counted_few (some p) (too_long_some S.alternatives p e)
+          ∙ ap (λ (k : ℕ). unchanged 5 (k + p) table places) (productions_at_lem S)
 
-      module _ (s : length S.alternatives ≤ short_of S.alternatives) where
+      module _ (n : long_of S.alternatives ≡ None) where
         pub counted_narrow : room S table places ≡ false → counted_of S table places ≡ unchanged 17 0 table places
         unfolding fitted_of
         counted_narrow e =
-            counted_few none (none_long s)
+            counted_few none (too_long_none S.alternatives n)
             ∙ ap (λ (b : Bool). elim b [ true ↦ written_of S table places | false ↦ unchanged 17 0 table places ]) e
 
         pub counted-written : room S table places ≡ true → counted_of S table places ≡ written_of S table places
         unfolding fitted_of
         counted-written e =
-            counted_few none (none_long s)
+            counted_few none (too_long_none S.alternatives n)
             ∙ ap (λ (b : Bool). elim b [ true ↦ written_of S table places | false ↦ unchanged 17 0 table places ]) e

@@ -1,5 +1,5 @@
 -- The counts of a text's alternatives, and as the loop makes them. Assumes nothing: these are definitions.
-use Rattle.std.specs.Prelude.{ℕ, ◌+◌, ◌≤◌, true, false, ◌&&◌, List, [], map, eqb, leb, length}
+use Rattle.std.specs.Prelude.{ℕ, ◌+◌, ◌≤◌, true, false, List, [], map, Option as Answered, Some, None, ltb, length}
 use Rattle.std.proofs.Math.Option.{none, some}
 use Rattle.repr.specs.Sizes.{symbol_limit}
 use Rattle.spelling.specs.Spelled.{size_of}
@@ -14,15 +14,15 @@ use Rattle.yacc_said.specs.declared.Saying.TheVariants.{Lists, Opens, Defines, U
 use Rattle.yacc_count.specs.declared.Counts.{Counts}
 use Rattle.yacc_count.specs.declared.Tally.{Tally}
 
--- those in front of the first that is too long (5)
-unfoldable pub short_of : List Alternative → ℕ
-short_of xs = elim (too_long 0 xs) [ none ↦ length xs | some p ↦ p ]
+-- the first that is too long (5)
+unfoldable pub long_of : List Alternative → Answered ℕ
+long_of xs = elim (too_long 0 xs) [ none ↦ None | some p ↦ Some p ]
 
 unfoldable pub counts_of : List Alternative → Counts
-counts_of xs = record { alternatives = length xs; symbols = size_of (map (λ a. a.ids) xs); short = short_of xs }
+counts_of xs = record { alternatives = length xs; symbols = size_of (map (λ a. a.ids) xs); long = long_of xs }
 
 abbrev pub no_counts : Counts
-no_counts = record { alternatives = 0; symbols = 0; short = 0 }
+no_counts = record { alternatives = 0; symbols = 0; long = None }
 
 -- of a text; zeros where something is no token
 unfoldable pub counts_in : List ℕ → Counts
@@ -30,11 +30,12 @@ counts_in t = of_said no_counts (λ es. counts_of (alternatives_from no_id [] es
 
 -- as the loop makes them
 
-unfoldable pub longer : ℕ → ℕ → ℕ → ℕ
-longer short all body = elim (eqb short all && leb body symbol_limit) [ true ↦ short + 1 | false ↦ short ]
+unfoldable pub longer : Answered ℕ → ℕ → ℕ → Answered ℕ
+longer (Some p) all body = Some p
+longer None all body = elim (ltb symbol_limit body) [ true ↦ Some all | false ↦ None ]
 
 unfoldable pub closed : Tally → Tally
-closed y = record { counts = record { alternatives = y.counts.alternatives + 1; symbols = y.counts.symbols + y.body; short = longer y.counts.short y.counts.alternatives y.body }; body = 0 }
+closed y = record { counts = record { alternatives = y.counts.alternatives + 1; symbols = y.counts.symbols + y.body; long = longer y.counts.long y.counts.alternatives y.body }; body = 0 }
 
 unfoldable pub tallied : Tally → Saying → Tally
 tallied y Lists = y
@@ -48,7 +49,6 @@ tallied y Nothing = y
 pub record Within (y : Tally) (at : ℕ) : Type 0 where
   pub alternatives : y.counts.alternatives ≤ at
   pub symbols : y.counts.symbols + y.body ≤ at
-  pub short : y.counts.short ≤ y.counts.alternatives
 
 abbrev pub Roomy : Tally → Type 0
 Roomy y = Within y text_limit

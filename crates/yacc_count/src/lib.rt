@@ -11,16 +11,16 @@ use yacc_lex::{Next, next_token};
 use yacc_said::{Saying, said};
 use yacc_tokens::{Mode, moved};
 
-// Alternatives, their symbols, and the alternatives in front of the first that has too many.
-#[derive(Clone, Copy)]
+// Alternatives, their symbols, and the first that has too many.
+#[derive(Clone, Copy, Default)]
 pub struct Counts {
     pub alternatives: usize,
     pub symbols: usize,
-    pub short: usize,
+    pub long: Option<usize>,
 }
 
 // The counts of the alternatives that are closed, and the symbols of the open one.
-#[derive(Clone, Copy)]
+#[derive(Clone, Copy, Default)]
 struct Tally {
     counts: Counts,
     body: usize,
@@ -33,17 +33,15 @@ fn close(tally: Tally) -> Tally
     ensures { result ≡ closed tally }
 {
     let counts = tally.counts;
-    let none_long = counts.short == counts.alternatives;
-    let short = if none_long && tally.body <= ProductionIndex::SYMBOLS {
-        counts.short + 1
-    } else {
-        counts.short
+    let long = match counts.long {
+        None if ProductionIndex::SYMBOLS < tally.body => Some(counts.alternatives),
+        found => found,
     };
     Tally {
         counts: Counts {
             alternatives: counts.alternatives + 1,
             symbols: counts.symbols + tally.body,
-            short,
+            long,
         },
         body: 0,
     }
@@ -70,31 +68,22 @@ pub fn count(text: &[u8]) -> Counts
     requires { length text.now ≤ text_limit }
     ensures { result ≡ counts_in text.now }
 {
-    let zeros = Counts {
-        alternatives: 0,
-        symbols: 0,
-        short: 0,
-    };
-    let mut tally = Tally {
-        counts: zeros,
-        body: 0,
-    };
+    let mut tally = Tally::default();
     let mut mode = Mode::Top(false);
     let mut at: usize = 0;
     // Any text: where something is no token it answers zeros, which a `for` over `TokenIter` would not tell from the end.
     loop {
         match next_token(text, at) {
-            Next::Token(word, _from, past) => {
-                let what = said(mode, word);
-                tally = add(tally, what);
-                mode = moved(mode, word);
-                at = past;
+            Next::Token(lexeme) => {
+                tally = add(tally, said(mode, lexeme.word));
+                mode = moved(mode, lexeme.word);
+                at = lexeme.past;
             }
             Next::End => {
                 return tally.counts;
             }
             Next::Outside => {
-                return zeros;
+                return Counts::default();
             }
         }
     }

@@ -427,6 +427,12 @@ pub record Turn (t starts pasts ix lefts tokens : List ℕ) (ids : Ids) (mode : 
   pub terminals : ids.terminals ≤ at
   pub same : of_said no_both (behind ns ts) mode (placed_from t at) ≡ both_in t
 
+pub zero_ids : (ids : Ids) → (ids.names ≡ 0) × ((ids.nonterminals ≡ 0) × (ids.terminals ≡ 0)) → ids ≡ record { names = 0; nonterminals = 0; terminals = 0 }
+zero_ids ids z =
+    ap (λ (n : ℕ). record { names = n; nonterminals = ids.nonterminals; terminals = ids.terminals }) z.0
+    ∙ ap (λ (n : ℕ). record { names = 0; nonterminals = n; terminals = ids.terminals }) z.1.0
+    ∙ ap (λ (n : ℕ). record { names = 0; nonterminals = 0; terminals = n }) z.1.1
+
 module _ (t starts pasts ix lefts tokens : List ℕ) (F : Fresh t starts pasts ix lefts tokens) where
   no_names : Entered t starts pasts ix 0
   unfolding newest Linked

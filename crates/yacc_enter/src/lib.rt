@@ -13,15 +13,16 @@ ghost use Rattle.yacc_names.specs.Names.{held, is_name, latest};
 ghost use Rattle.yacc_numbers.specs.Numbers.{place_in};
 ghost use Rattle.yacc_enter.specs.Props.{Kept-prop, Named-prop};
 ghost use Rattle.yacc_enter.specs.Ids.{Kept, is_id, Within, Fresh, NoQuote, name_at, Named};
-ghost use Rattle.yacc_enter.specs.Words.{Ready, Enters};
+ghost use Rattle.yacc_enter.specs.Words.{Ready, Places, Enters};
 
-use yacc_lex::Word;
-use yacc_names::{find, place};
+use yacc_lex::{Lexeme, Word};
+use yacc_names::{BUCKETS, Placed, find, place};
 use yacc_numbers::number;
 use yacc_said::{Saying, Token, TokenIter};
+use yacc_text::Place;
 
 // How many names are entered, and how many nonterminals and terminals there are.
-#[derive(Clone, Copy)]
+#[derive(Clone, Copy, Default)]
 pub struct Ids {
     pub names: usize,
     pub nonterminals: usize,
@@ -30,13 +31,15 @@ pub struct Ids {
 
 impl Ids {
     // Words for the names of any text: it has fewer than bytes.
-    pub const NAMES: usize = 65535;
+    pub const NAMES: usize = Place::LIMIT;
 
     // The words of their index, behind those of its buckets.
-    pub const INDEX_WORDS: usize = 2048 + Ids::NAMES;
+    pub const INDEX_WORDS: usize = BUCKETS + Ids::NAMES;
 
-    // The words of the terminals: the literals', then the names'.
-    pub const TOKEN_WORDS: usize = 256 + Ids::NAMES;
+    // The words of the terminals: the literals', one for each byte, then the names'.
+    pub const LITERALS: usize = 256;
+
+    pub const TOKEN_WORDS: usize = Ids::LITERALS + Ids::NAMES;
 }
 
 // The byte at a place, or 0.
@@ -46,7 +49,7 @@ pub fn byte(text: &[u8], at: usize) -> usize
     usize::from(text.get(at).copied().unwrap_or(0))
 }
 
-// The words that the ids of a text are entered in, as those of a `SymbolTable`.
+// The words that the ids of a text are entered in, as those of a `SymbolTable`: lists side by side, since there is no heap and they are lent.
 #[derive(Drop)]
 pub struct Words<'a> {
     pub starts: &'a mut [u16],
@@ -87,7 +90,8 @@ impl<'a> SymbolTable<'a> {
         requires { Fresh text.now words.starts.now words.pasts.now words.ix.now words.lefts.now words.tokens.now × (is_grammar_text text.now ≡ true) }
         ensures { result.text.now ≡ text.now }
     {
-        let counts = enter_all(text, &mut words);
+        let counts = words.enter_all(text);
+        // Taken apart first: `words.starts` in the literal has no generated proof.
         let Words {
             starts,
             pasts,
@@ -96,20 +100,20 @@ impl<'a> SymbolTable<'a> {
             tokens,
         } = words;
         SymbolTable {
-            text: text,
-            starts: starts,
-            pasts: pasts,
-            ix: ix,
-            lefts: lefts,
-            tokens: tokens,
-            counts: counts,
+            text,
+            starts,
+            pasts,
+            ix,
+            lefts,
+            tokens,
+            counts,
         }
     }
 
-    // The number of the name that stands from a place up to another, as the names were entered.
-    fn find(&self, from: usize, past: usize) -> Option<usize>
-        requires { (from < past) × (past ≤ length self.now.text.now) }
-        ensures { held result ≡ latest (is_name self.now.text.now self.now.starts.now self.now.pasts.now (slice from past self.now.text.now)) self.now.counts.names }
+    // The number of a name, as the names were entered.
+    fn find(&self, lexeme: Lexeme) -> Option<usize>
+        requires { lexeme.past ≤ length self.now.text.now }
+        ensures { held result ≡ latest (is_name self.now.text.now self.now.starts.now self.now.pasts.now (slice lexeme.from lexeme.past self.now.text.now)) self.now.counts.names }
     {
         find(
             self.text,
@@ -117,129 +121,119 @@ impl<'a> SymbolTable<'a> {
             self.pasts,
             self.ix,
             self.counts.names,
-            from,
-            past,
+            lexeme.from,
+            lexeme.past,
         )
     }
 
-    // The number among the nonterminals of the id that stands from a place up to another: a literal has none.
-    pub fn left(&self, kind: Word, from: usize, past: usize) -> Option<u16>
-        requires { (from < past) × (past ≤ length self.now.text.now) }
-        ensures { is_id kind ≡ true → (ns ts : List Known) → Holds self.now ns ts → held result ≡ place_in ns (id_at self.now.text.now kind from past) }
+    // The number of an id among the nonterminals: a literal has none.
+    pub fn left(&self, lexeme: Lexeme) -> Option<u16>
+        requires { lexeme.past ≤ length self.now.text.now }
+        ensures { is_id lexeme.word ≡ true → (ns ts : List Known) → Holds self.now ns ts → held result ≡ place_in ns (id_at self.now.text.now lexeme.word lexeme.from lexeme.past) }
     {
-        match kind {
-            Word::Name => number_at(self.lefts, self.find(from, past)?),
+        match lexeme.word {
+            Word::Name => number_at(self.lefts, self.find(lexeme)?),
             _ => None,
         }
     }
 
     // Its number among the terminals.
-    pub fn token(&self, kind: Word, from: usize, past: usize) -> Option<u16>
-        requires { (from < past) × (past ≤ length self.now.text.now) }
-        ensures { is_id kind ≡ true → (ns ts : List Known) → Holds self.now ns ts → held result ≡ place_in ts (id_at self.now.text.now kind from past) }
+    pub fn token(&self, lexeme: Lexeme) -> Option<u16>
+        requires { lexeme.past ≤ length self.now.text.now }
+        ensures { is_id lexeme.word ≡ true → (ns ts : List Known) → Holds self.now ns ts → held result ≡ place_in ts (id_at self.now.text.now lexeme.word lexeme.from lexeme.past) }
     {
-        match kind {
-            Word::Name => number_at(self.tokens, 256 + self.find(from, past)?),
-            Word::Literal => number_at(self.tokens, byte(self.text, from + 1)),
+        match lexeme.word {
+            Word::Name => number_at(self.tokens, Ids::LITERALS + self.find(lexeme)?),
+            Word::Literal => number_at(self.tokens, byte(self.text, lexeme.from + 1)),
             _ => None,
         }
     }
 }
 
-// A name that is a left side.
-fn define(text: &[u8], words: &mut Words, ids: Ids, from: usize, past: usize) -> Ids
-    requires ready { Ready text.now words.old ids }
-    requires within { Within text.now from past }
-    ensures { Enters text.now words.old ids words.new result (name_at text.now from past ∷ []) [] }
-{
-    let placed = place(
-        text,
-        words.starts,
-        words.pasts,
-        words.ix,
-        ids.names,
-        from,
-        past,
-    );
-    let nonterminals = number(words.lefts, placed.number, ids.nonterminals);
-    Ids {
-        names: placed.names,
-        nonterminals: nonterminals,
-        terminals: ids.terminals,
+impl<'a> Words<'a> {
+    // The number of a name, entered unless it is there, and how many names there are then.
+    fn place(&mut self, text: &[u8], ids: Ids, lexeme: Lexeme) -> Placed
+        requires ready { Ready text.now self.old ids }
+        requires within { Within text.now lexeme.from lexeme.past }
+        ensures { Places text.now self.old ids.names lexeme.from lexeme.past self.new result }
+    {
+        place(
+            text,
+            self.starts,
+            self.pasts,
+            self.ix,
+            ids.names,
+            lexeme.from,
+            lexeme.past,
+        )
     }
-}
 
-// A name of a TOKEN list.
-fn declare(text: &[u8], words: &mut Words, ids: Ids, from: usize, past: usize) -> Ids
-    requires ready { Ready text.now words.old ids }
-    requires within { Within text.now from past }
-    ensures { Enters text.now words.old ids words.new result [] (name_at text.now from past ∷ []) }
-{
-    let placed = place(
-        text,
-        words.starts,
-        words.pasts,
-        words.ix,
-        ids.names,
-        from,
-        past,
-    );
-    let terminals = number(words.tokens, 256 + placed.number, ids.terminals);
-    Ids {
-        names: placed.names,
-        nonterminals: ids.nonterminals,
-        terminals: terminals,
+    // A name that is a left side.
+    fn define(&mut self, text: &[u8], ids: Ids, lexeme: Lexeme) -> Ids
+        requires ready { Ready text.now self.old ids }
+        requires within { Within text.now lexeme.from lexeme.past }
+        ensures { Enters text.now self.old ids self.new result (name_at text.now lexeme.from lexeme.past ∷ []) [] }
+    {
+        let placed = self.place(text, ids, lexeme);
+        Ids {
+            names: placed.names,
+            nonterminals: number(self.lefts, placed.number, ids.nonterminals),
+            ..ids
+        }
     }
-}
 
-// A literal of a TOKEN list or of a body.
-fn quote(text: &[u8], words: &mut Words, ids: Ids, from: usize, past: usize) -> Ids
-    requires ready { Ready text.now words.old ids }
-    requires within { Within text.now from past }
-    ensures { Enters text.now words.old ids words.new result [] (record { id = quoted (get_or text.now (from + 1) 0); at = from } ∷ []) }
-{
-    let b = byte(text, from + 1);
-    let terminals = number(words.tokens, b, ids.terminals);
-    Ids {
-        names: ids.names,
-        nonterminals: ids.nonterminals,
-        terminals: terminals,
+    // A name of a TOKEN list.
+    fn declare(&mut self, text: &[u8], ids: Ids, lexeme: Lexeme) -> Ids
+        requires ready { Ready text.now self.old ids }
+        requires within { Within text.now lexeme.from lexeme.past }
+        ensures { Enters text.now self.old ids self.new result [] (name_at text.now lexeme.from lexeme.past ∷ []) }
+    {
+        let placed = self.place(text, ids, lexeme);
+        let word = Ids::LITERALS + placed.number;
+        Ids {
+            names: placed.names,
+            terminals: number(self.tokens, word, ids.terminals),
+            ..ids
+        }
     }
-}
 
-// What a word says is entered.
-fn enter(text: &[u8], words: &mut Words, ids: Ids, token: Token) -> Ids
-    requires ready { Ready text.now words.old ids }
-    requires within { Within text.now token.from token.past }
-    requires no_quote { NoQuote (mode_of token.mode) token.word }
-    ensures { Enters text.now words.old ids words.new result (joined left_side (events_of token.what (id_at text.now token.word token.from token.past) token.from token.past)) (joined token_use (events_of token.what (id_at text.now token.word token.from token.past) token.from token.past)) }
-{
-    match token.word {
-        Word::Name => match token.what {
-            Saying::Lists => declare(text, words, ids, token.from, token.past),
-            Saying::Defines => define(text, words, ids, token.from, token.past),
+    // A literal of a TOKEN list or of a body.
+    fn quote(&mut self, text: &[u8], ids: Ids, lexeme: Lexeme) -> Ids
+        requires ready { Ready text.now self.old ids }
+        requires within { Within text.now lexeme.from lexeme.past }
+        ensures { Enters text.now self.old ids self.new result [] (record { id = quoted (get_or text.now (lexeme.from + 1) 0); at = lexeme.from } ∷ []) }
+    {
+        let word = byte(text, lexeme.from + 1);
+        Ids {
+            terminals: number(self.tokens, word, ids.terminals),
+            ..ids
+        }
+    }
+
+    // What a word says is entered.
+    fn enter(&mut self, text: &[u8], ids: Ids, token: Token) -> Ids
+        requires ready { Ready text.now self.old ids }
+        requires within { Within text.now token.lexeme.from token.lexeme.past }
+        requires no_quote { NoQuote (mode_of token.mode) token.lexeme.word }
+        ensures { Enters text.now self.old ids self.new result (joined left_side (events_of token.what (id_at text.now token.lexeme.word token.lexeme.from token.lexeme.past) token.lexeme.from token.lexeme.past)) (joined token_use (events_of token.what (id_at text.now token.lexeme.word token.lexeme.from token.lexeme.past) token.lexeme.from token.lexeme.past)) }
+    {
+        match (token.lexeme.word, token.what) {
+            (Word::Name, Saying::Lists) => self.declare(text, ids, token.lexeme),
+            (Word::Name, Saying::Defines) => self.define(text, ids, token.lexeme),
+            (Word::Literal, Saying::Lists | Saying::Uses) => self.quote(text, ids, token.lexeme),
             _ => ids,
-        },
-        Word::Literal => match token.what {
-            Saying::Lists | Saying::Uses => quote(text, words, ids, token.from, token.past),
-            _ => ids,
-        },
-        _ => ids,
+        }
     }
-}
 
-// The ids of a text of the grammar: the names by their places and their index, the numbers of the nonterminals and of the terminals.
-fn enter_all(text: &[u8], words: &mut Words) -> Ids
-    requires { Fresh text.now words.old.starts.now words.old.pasts.now words.old.ix.now words.old.lefts.now words.old.tokens.now × (is_grammar_text text.now ≡ true) }
-    ensures { Named text.now words.new.starts.now words.new.pasts.now words.new.ix.now words.new.lefts.now words.new.tokens.now result }
-{
-    let mut ids = Ids {
-        names: 0,
-        nonterminals: 0,
-        terminals: 0,
-    };
-    for token in TokenIter::new(text) {
-        ids = enter(text, words, ids, token);
+    // The ids of a text of the grammar: the names by their places and their index, the numbers of the nonterminals and of the terminals.
+    fn enter_all(&mut self, text: &[u8]) -> Ids
+        requires { Fresh text.now self.old.starts.now self.old.pasts.now self.old.ix.now self.old.lefts.now self.old.tokens.now × (is_grammar_text text.now ≡ true) }
+        ensures { Named text.now self.new.starts.now self.new.pasts.now self.new.ix.now self.new.lefts.now self.new.tokens.now result }
+    {
+        let mut ids = Ids::default();
+        for token in TokenIter::new(text) {
+            ids = self.enter(text, ids, token);
+        }
+        ids
     }
-    ids
 }

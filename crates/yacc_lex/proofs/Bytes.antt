@@ -3,7 +3,7 @@ use Prim.Native.Nat.{ℕ}
 use mathlib.Core.Bool.{Bool, true, false, ◌||◌}
 use mathlib.Core.Path.{◌≡◌, refl, sym, ap}
 use lib.Dec.{eqb}
-use borrow.Author.Tests.{eq-eqb, ne_eqb}
+use borrow.Author.Tests.{ne_eqb}
 use native.Mathlib.Omega.{arith}
 use Rattle.std.proofs.lemmas.Bool.Decides.{nat_tests}
 use Rattle.yacc_text.specs.Grammar.{Kind, blank, letter, digit, quote, percent, slash, colons, bars, semis, other, is_white_byte, is_letter_byte, is_digit_byte, kind_of, goes_on_byte}
@@ -24,38 +24,34 @@ module _ (b : ℕ) (w : is_white_byte b ≡ false) where
     kind_digit d = rw (w, l, d, kind_of)
 
     module _ (d : is_digit_byte b ≡ false) where
-      pub kind_quote : b ≡ 39 → kind_of b ≡ quote
+      pub kind_other : (b ≡ 39 → ⊥) → (b ≡ 37 → ⊥) → (b ≡ 47 → ⊥) → (b ≡ 58 → ⊥) → (b ≡ 124 → ⊥) → (b ≡ 59 → ⊥) → kind_of b ≡ other
       unfolding kind_of
-      kind_quote q = rw (w, l, d, eq-eqb b 39 q, kind_of)
+      kind_other n39 n37 n47 n58 n124 n59 = rw (w, l, d, ne_eqb b 39 n39, ne_eqb b 37 n37, ne_eqb b 47 n47, ne_eqb b 58 n58, ne_eqb b 124 n124, ne_eqb b 59 n59, kind_of)
 
-      module _ (n39 : b ≡ 39 → ⊥) where
-        pub kind_percent : b ≡ 37 → kind_of b ≡ percent
-        unfolding kind_of
-        kind_percent q = rw (w, l, d, ne_eqb b 39 n39, eq-eqb b 37 q, kind_of)
+-- a byte that is a sign
+pub kind_quote : (b : ℕ) → b ≡ 39 → kind_of b ≡ quote
+unfolding kind_of is_white_byte is_letter_byte is_digit_byte
+kind_quote b e = ap kind_of e
 
-        module _ (n37 : b ≡ 37 → ⊥) where
-          pub kind_slash : b ≡ 47 → kind_of b ≡ slash
-          unfolding kind_of
-          kind_slash q = rw (w, l, d, ne_eqb b 39 n39, ne_eqb b 37 n37, eq-eqb b 47 q, kind_of)
+pub kind_percent : (b : ℕ) → b ≡ 37 → kind_of b ≡ percent
+unfolding kind_of is_white_byte is_letter_byte is_digit_byte
+kind_percent b e = ap kind_of e
 
-          module _ (n47 : b ≡ 47 → ⊥) where
-            pub kind_colon : b ≡ 58 → kind_of b ≡ colons
-            unfolding kind_of
-            kind_colon q = rw (w, l, d, ne_eqb b 39 n39, ne_eqb b 37 n37, ne_eqb b 47 n47, eq-eqb b 58 q, kind_of)
+pub kind_slash : (b : ℕ) → b ≡ 47 → kind_of b ≡ slash
+unfolding kind_of is_white_byte is_letter_byte is_digit_byte
+kind_slash b e = ap kind_of e
 
-            module _ (n58 : b ≡ 58 → ⊥) where
-              pub kind_bar : b ≡ 124 → kind_of b ≡ bars
-              unfolding kind_of
-              kind_bar q = rw (w, l, d, ne_eqb b 39 n39, ne_eqb b 37 n37, ne_eqb b 47 n47, ne_eqb b 58 n58, eq-eqb b 124 q, kind_of)
+pub kind_colon : (b : ℕ) → b ≡ 58 → kind_of b ≡ colons
+unfolding kind_of is_white_byte is_letter_byte is_digit_byte
+kind_colon b e = ap kind_of e
 
-              module _ (n124 : b ≡ 124 → ⊥) where
-                pub kind_semi : b ≡ 59 → kind_of b ≡ semis
-                unfolding kind_of
-                kind_semi q = rw (w, l, d, ne_eqb b 39 n39, ne_eqb b 37 n37, ne_eqb b 47 n47, ne_eqb b 58 n58, ne_eqb b 124 n124, eq-eqb b 59 q, kind_of)
+pub kind_bar : (b : ℕ) → b ≡ 124 → kind_of b ≡ bars
+unfolding kind_of is_white_byte is_letter_byte is_digit_byte
+kind_bar b e = ap kind_of e
 
-                pub kind_other : (b ≡ 59 → ⊥) → kind_of b ≡ other
-                unfolding kind_of
-                kind_other n59 = rw (w, l, d, ne_eqb b 39 n39, ne_eqb b 37 n37, ne_eqb b 47 n47, ne_eqb b 58 n58, ne_eqb b 124 n124, ne_eqb b 59 n59, kind_of)
+pub kind_semi : (b : ℕ) → b ≡ 59 → kind_of b ≡ semis
+unfolding kind_of is_white_byte is_letter_byte is_digit_byte
+kind_semi b e = ap kind_of e
 
 -- `goes_on`: no white byte is a letter or a digit
 no_white : (b : ℕ) → is_letter_byte b || is_digit_byte b ≡ true → is_white_byte b ≡ false

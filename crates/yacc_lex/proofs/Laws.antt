@@ -9,7 +9,7 @@ use lib.Dec.{eqb}
 use lib.ListN.{length, get_or, take, drop, length-append, length-take, length-drop, drop_of_length-le}
 use lib.Seq.{drop-drop}
 use borrow.Author.Tests.{eq-eqb, ne_eqb}
-use Rattle.yacc_text.specs.Grammar.{Kind, blank, letter, digit, quote, percent, slash, colons, bars, semis, other, kind_of, named, quoted, Token, ident, token, start, mark, colon, bar, semi, Piece, white, comment, piece, spell_id, spell_token, spell_piece, literal_byte, stops}
+use Rattle.yacc_text.specs.Grammar.{Kind, blank, letter, digit, quote, percent, slash, colons, bars, semis, other, is_digit_byte, kind_of, named, quoted, Token, ident, token, start, mark, colon, bar, semi, Piece, white, comment, piece, spell_id, spell_token, spell_piece, literal_byte, stops}
 use Rattle.yacc_text.specs.Lex.{Next, goes, ends, outside, run_of, past_run, strip, literal_if, next_literal, word_if, start_or, token_or, mark_or, in_comment, comment_or, next_of, next, before, after, lex}
 use Rattle.yacc_text.specs.Places.{width_of, placed, placed_in, placed_from}
 use Rattle.yacc_text.proofs.Lexing.{lex-step}
@@ -79,13 +79,18 @@ module _ (t : List ℕ) (at : ℕ) (h : at < length t) where
     is = lexed t at (goes (white (get_or t at 0)) (drop (at + 1) t)) (next_at blank e) ∙ white-before at (get_or t at 0) (lex (drop (at + 1) t));
   }
 
-  pub at_digit : kind_of (get_or t at 0) ≡ digit → placed_from t at ≡ none
+  at_digit : kind_of (get_or t at 0) ≡ digit → placed_from t at ≡ none
   unfolding next_of
   at_digit e = out_step t at (next_at digit e)
 
-  pub at_other : kind_of (get_or t at 0) ≡ other → placed_from t at ≡ none
+  at_other : kind_of (get_or t at 0) ≡ other → placed_from t at ≡ none
   unfolding next_of
   at_other e = out_step t at (next_at other e)
+
+  -- a digit, or what is no sign
+  pub at_none : (d : Bool) → is_digit_byte (get_or t at 0) ≡ d → (is_digit_byte (get_or t at 0) ≡ true → kind_of (get_or t at 0) ≡ digit) → (is_digit_byte (get_or t at 0) ≡ false → kind_of (get_or t at 0) ≡ other) → placed_from t at ≡ none
+  at_none true e f g = at_digit (f e)
+  at_none false e f g = at_other (g e)
 
   pub at_colon : kind_of (get_or t at 0) ≡ colons → Leads t at Colon at (at + 1)
   unfolding next_of token_at width_of spell_piece spell_token

@@ -61,6 +61,6 @@ Steps t at End = placed_from t at ≡ some []
 Steps t at Outside = placed_from t at ≡ none
 
 unfoldable pub Told : List ℕ → ℕ → Next → Type 0
-Told t at (Lexed w from past) = Leads t at w from past
+Told t at (Lexed k) = Leads t at k.word k.from k.past
 Told t at Ends = placed_from t at ≡ some []
 Told t at NoToken = placed_from t at ≡ none

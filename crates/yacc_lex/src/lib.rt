@@ -2,10 +2,14 @@
 
 #![tactic(auto)]
 
+mod lexeme;
+
 ghost use Rattle.std.specs.Prelude.{◌≡◌, ◌+◌, ◌≤◌, ◌<◌, ◌&&◌, length, get_or, drop, leb};
 ghost use Rattle.yacc_text.specs.Grammar.{quote, percent, slash, is_white_byte, is_letter_byte, is_digit_byte, kind_of, goes_on_byte, closes, literal_byte, stops};
 ghost use Rattle.yacc_text.specs.Lex.{run_of};
 ghost use Rattle.yacc_lex.specs.Steps.{begins, behind_comment, found_at, Steps, Told};
+
+pub use lexeme::Lexeme;
 
 // The words of docs/YACC.md.
 #[derive(Clone, Copy)]
@@ -29,10 +33,10 @@ enum Piece {
     Outside,
 }
 
-// The next token: its place, the place behind it.
+// The next token.
 #[derive(Clone, Copy)]
 pub enum Next {
-    Token(Word, usize, usize),
+    Token(Lexeme),
     End,
     Outside,
 }
@@ -73,22 +77,16 @@ fn run_end(text: &[u8], at: usize) -> usize
     requires { at ≤ length text.now }
     ensures { result ≡ at + length (run_of (drop at text.now)) }
 {
-    for i in at..text.len() {
-        if !goes_on(text[i]) {
-            return i;
-        }
-    }
-    text.len()
+    (at..text.len())
+        .find(|i| !goes_on(text[*i]))
+        .unwrap_or(text.len())
 }
 
 // Does no letter and no digit stand at `at`.
 fn stops_at(text: &[u8], at: usize) -> bool
     ensures { result ≡ stops (drop at text.now) }
 {
-    if text.len() <= at {
-        return true;
-    }
-    !goes_on(text[at])
+    text.len() <= at || !goes_on(text[at])
 }
 
 // Does a word stand at `at`.
@@ -107,7 +105,7 @@ fn closes_at(text: &[u8], at: usize) -> bool
     has_word(text, at, b"*/")
 }
 
-// The place behind a comment whose bytes begin at `at`, behind the `/*`.
+// The place behind a comment whose bytes begin at `at`, behind the `/*`. (A `find` would stop at both ends and have to ask again at which.)
 fn comment_end(text: &[u8], at: usize) -> Option<usize>
     requires { at ≤ length text.now }
     ensures { found_at result ≡ behind_comment at (drop at text.now) }
@@ -128,16 +126,10 @@ fn literal_at(text: &[u8], at: usize) -> Piece
     requires { (at < length text.now) × (kind_of (get_or text.now at 0) ≡ quote) }
     ensures { Steps text.now at result }
 {
-    if text.len() - at < 3 {
-        return Piece::Outside;
+    match &text[at..] {
+        [_, b, end, ..] if is_literal(*b) && *end == b'\'' => Piece::Word(Word::Literal, at + 3),
+        _ => Piece::Outside,
     }
-    if !is_literal(text[at + 1]) {
-        return Piece::Outside;
-    }
-    if text[at + 2] == b'\'' {
-        return Piece::Word(Word::Literal, at + 3);
-    }
-    Piece::Outside
 }
 
 // What begins with the `%` at `at`.
@@ -148,16 +140,11 @@ fn directive_at(text: &[u8], at: usize) -> Piece
     if has_word(text, at + 1, b"%") {
         return Piece::Word(Word::Mark, at + 2);
     }
-    if has_word(text, at + 1, b"token") {
-        if stops_at(text, at + 6) {
-            return Piece::Word(Word::Token, at + 6);
-        }
-        return Piece::Outside;
+    if has_word(text, at + 1, b"token") && stops_at(text, at + 6) {
+        return Piece::Word(Word::Token, at + 6);
     }
-    if has_word(text, at + 1, b"start") {
-        if stops_at(text, at + 6) {
-            return Piece::Word(Word::Start, at + 6);
-        }
+    if has_word(text, at + 1, b"start") && stops_at(text, at + 6) {
+        return Piece::Word(Word::Start, at + 6);
     }
     Piece::Outside
 }
@@ -183,35 +170,17 @@ fn piece_at(text: &[u8], at: usize) -> Piece
     if text.len() <= at {
         return Piece::End;
     }
-    let b = text[at];
-    if is_white(b) {
-        return Piece::Gap(at + 1);
+    match text[at] {
+        b'\'' => literal_at(text, at),
+        b'%' => directive_at(text, at),
+        b'/' => comment_at(text, at),
+        b':' => Piece::Word(Word::Colon, at + 1),
+        b'|' => Piece::Word(Word::Bar, at + 1),
+        b';' => Piece::Word(Word::Semi, at + 1),
+        b if is_white(b) => Piece::Gap(at + 1),
+        b if is_letter(b) => Piece::Word(Word::Name, run_end(text, at + 1)),
+        _ => Piece::Outside,
     }
-    if is_letter(b) {
-        return Piece::Word(Word::Name, run_end(text, at + 1));
-    }
-    if is_digit(b) {
-        return Piece::Outside;
-    }
-    if b == b'\'' {
-        return literal_at(text, at);
-    }
-    if b == b'%' {
-        return directive_at(text, at);
-    }
-    if b == b'/' {
-        return comment_at(text, at);
-    }
-    if b == b':' {
-        return Piece::Word(Word::Colon, at + 1);
-    }
-    if b == b'|' {
-        return Piece::Word(Word::Bar, at + 1);
-    }
-    if b == b';' {
-        return Piece::Word(Word::Semi, at + 1);
-    }
-    Piece::Outside
 }
 
 // The first token from `at` on.
@@ -227,7 +196,11 @@ pub fn next_token(text: &[u8], at: usize) -> Next
                 i = past;
             }
             Piece::Word(word, past) => {
-                return Next::Token(word, i, past);
+                return Next::Token(Lexeme {
+                    word,
+                    from: i,
+                    past,
+                });
             }
             Piece::End => {
                 return Next::End;

@@ -2,16 +2,17 @@
 use Prim.Native.Nat.{ℕ, ◌+◌, ◌*◌, ◌/◌, ◌≤◌, ◌<◌}
 use native.Mathlib.Omega.{arith}
 use mathlib.Core.Bool.{true, false}
-use mathlib.Core.Path.{◌≡◌, ap, ◌∙◌}
+use mathlib.Core.Path.{◌≡◌, sym, ap, ◌∙◌}
 use mathlib.Core.List.{List, map}
 use lib.ListN.{length}
 use Rattle.repr.specs.Sizes.{nonterminal_limit, terminal_limit, production_limit, symbol_limit}
 use Rattle.repr.specs.Reply.{answered, refused}
 use Rattle.spelling.specs.Spelled.{size_of}
 use Rattle.yacc_read.specs.Outcome.{unchanged, too_many, room, counted_of}
-use Rattle.yacc_count.specs.Counted.{short_of, counts_of}
+use Rattle.std.specs.Prelude.{Some, None}
+use Rattle.yacc_count.specs.Counted.{long_of, counts_of}
 use Rattle.yacc_count.specs.declared.Counts.{Counts}
-use Rattle.yacc_count.proofs.Limits.{many_nonterminals, many_terminals, many_productions, few, few_symbols, table_narrow, places_narrow, roomy_both, counted_many, counted_long, counted_narrow, counted-written}
+use Rattle.yacc_count.proofs.Limits.{many_nonterminals, many_terminals, many_productions, few, few_symbols, long_inside, table_narrow, places_narrow, roomy_both, counted_many, counted_long, counted_narrow, counted-written}
 use Rattle.yacc_limits.specs.Limited.{Meant, limited_of}
 
 module _ (n m : ℕ) (c : Counts) (w : Meant n m c) where
@@ -23,17 +24,20 @@ module _ (n m : ℕ) (c : Counts) (w : Meant n m c) where
   unfolding counts_of
   size_is = ap (λ (k : Counts). k.symbols) w.counts
 
-  short_is : c.short ≡ short_of w.source.alternatives
+  long_is : c.long ≡ long_of w.source.alternatives
   unfolding counts_of
-  short_is = ap (λ (k : Counts). k.short) w.counts
+  long_is = ap (λ (k : Counts). k.long) w.counts
+
+  -- the first that is too long is an alternative
+  pub low : (p : ℕ) → c.long ≡ Some p → p < c.alternatives
+  low p e = let a = all_is in let l = long_inside w.source.alternatives p (sym long_is ∙ e) in omega (arith, a, l)
 
   -- the sum of the records is small
-  pub small : c.alternatives ≤ production_limit → c.alternatives ≤ c.short → c.symbols ≤ symbol_limit * production_limit
-  small h l =
+  pub small : c.alternatives ≤ production_limit → c.long ≡ None → c.symbols ≤ symbol_limit * production_limit
+  small h n =
       let a = all_is in
       let b = size_is in
-      let s = short_is in
-      let f = few_symbols w.source (omega (arith, l, a, s)) in
+      let f = few_symbols w.source (sym long_is ∙ n) in
       omega (arith, a, b, f, h)
 
   module _ (table places : List ℕ) where
@@ -62,18 +66,16 @@ module _ (n m : ℕ) (c : Counts) (w : Meant n m c) where
           few_all : too_many w.source ≡ false
           few_all = let a = all_is in few w.source few_left few_tokens (omega (arith, a, p₁))
 
-          pub limit_long : c.short < c.alternatives → counted_of w.source table places ≡ limited_of w.source (refused 5 (2 + n + c.short)) table places
+          pub limit_long : (p : ℕ) → c.long ≡ Some p → counted_of w.source table places ≡ limited_of w.source (refused 5 (2 + n + p)) table places
           unfolding limited_of
-          limit_long h =
-              let a = all_is in
-              let s = short_is in
+          limit_long p e =
               let b = w.nonterminals in
-              let e : 2 + length w.source.nonterminals + short_of w.source.alternatives ≡ 2 + n + c.short = omega (arith, s, b) in
-              counted_long w.source table places few_all (omega (arith, a, s, h)) ∙ ap (λ (k : ℕ). unchanged 5 k table places) e
+              let q : 2 + length w.source.nonterminals + p ≡ 2 + n + p = omega (arith, b) in
+              counted_long w.source table places few_all p (sym long_is ∙ e) ∙ ap (λ (k : ℕ). unchanged 5 k table places) q
 
-          module _ (s₁ : c.alternatives ≤ c.short) where
-            none_long : length w.source.alternatives ≤ short_of w.source.alternatives
-            none_long = let a = all_is in let s = short_is in omega (arith, a, s, s₁)
+          module _ (s₁ : c.long ≡ None) where
+            none_long : long_of w.source.alternatives ≡ None
+            none_long = sym long_is ∙ s₁
 
             refused_narrow : room w.source table places ≡ false → counted_of w.source table places ≡ limited_of w.source (refused 17 0) table places
             unfolding limited_of

@@ -10,9 +10,10 @@ ghost use Rattle.yacc_limits.specs.Limited.{Meant, limited_of};
 use repr::{NonterminalString, ProductionIndex, Refusal};
 use yacc_count::Counts;
 
+// Terminals of a table at most.
 const TERMINALS: usize = 63;
 
-// What refuses a text of n nonterminals and m terminals that is named well, by its counts and the room there is.
+// What refuses a text of n nonterminals and m terminals that is named well, by its counts and the room there is. A production's record stands behind those of the counts, the nonterminals and the one state.
 pub fn check_counts(
     n: usize,
     m: usize,
@@ -23,22 +24,17 @@ pub fn check_counts(
     requires { Meant n m counts }
     ensures { (w : Meant n m counts) → counted_of w.source table.now places.now ≡ limited_of w.source (reply_of result) table.now places.now }
 {
-    if NonterminalString::LIMIT < n {
+    if NonterminalString::LIMIT < n
+        || TERMINALS < m
+        || ProductionIndex::LIMIT < counts.alternatives
+    {
         return Err(Refusal::Counts);
     }
-    if TERMINALS < m {
-        return Err(Refusal::Counts);
+    if let Some(first) = counts.long {
+        return Err(Refusal::TooLong((2 + n + first) as u16));
     }
-    if ProductionIndex::LIMIT < counts.alternatives {
-        return Err(Refusal::Counts);
-    }
-    if counts.short < counts.alternatives {
-        return Err(Refusal::TooLong((2 + n + counts.short) as u16));
-    }
-    if table.len() / 4 < 2 + n + counts.alternatives + counts.symbols {
-        return Err(Refusal::NoRoom);
-    }
-    if places.len() < n + m {
+    let records = 2 + n + counts.alternatives + counts.symbols;
+    if table.len() / 4 < records || places.len() < n + m {
         return Err(Refusal::NoRoom);
     }
     Ok(())

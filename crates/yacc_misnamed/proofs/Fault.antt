@@ -18,14 +18,25 @@ use Rattle.yacc_read.specs.Events.{Event, lists, opens, defines, uses, shuts, ev
 use Rattle.yacc_read.specs.Source.{same_id, is_known, left_side, start_use, Use, alternative, alternatives_from, Source, source_of}
 use Rattle.yacc_read.specs.Outcome.{nowhere, undefined_use, named_both_ways, undefined_start, misnamed, source_in}
 use Rattle.yacc_read.proofs.Known.{same_id_eq, known_cons, known_none, known_entered}
-use Rattle.yacc_lex.specs.Steps.{token_at, front, Leads, Told}
-use Rattle.yacc_lex.specs.declared.Next.{Next}
-use Rattle.yacc_lex.specs.declared.Next.TheVariants.{End as Ends, Outside as NoToken}
+use Rattle.yacc_lex.specs.Steps.{token_at, front, Leads}
 use Rattle.yacc_lex.specs.declared.Word.{Word}
 use Rattle.yacc_said.specs.Said.{said_in, id_at, events_of}
 use Rattle.yacc_said.specs.declared.Saying.{Saying}
 use Rattle.yacc_said.specs.declared.Saying.TheVariants.{Lists, Opens, Defines, Uses, Shuts, Nothing}
 use Rattle.yacc_said.proofs.Laws.{said_event}
+use Rattle.yacc_said.proofs.Along.{first_found}
+use Rattle.yacc_said.specs.declared.Token.{Token as Heard}
+use Rattle.yacc_said.specs.declared.TokenIter.{TokenIter}
+use Rattle.yacc_said.specs.Tokens.{Gives}
+use Rattle.yacc_tokens.specs.Accepted.{mode_of}
+use Rattle.std.specs.Prelude.{Option as Answered}
+use Rattle.std.specs.Bool.{⊤}
+use Rattle.std.specs.Option.{MatchOption}
+use Rattle.std.specs.List.{FoldsTo}
+use Rattle.std.specs.Fn.{CalledAt}
+use Rattle.std.specs.Iterator.{YieldsThen}
+use denote.Param.Members.{Mut}
+use denote.Ref.{Bor}
 use Rattle.yacc_misnamed.specs.Looked.{nowhere_of}
 use Rattle.yacc_misnamed.specs.Fault.{faulty, fault_from}
 use Rattle.yacc_misnamed.proofs.Laws.{none_both, nowhere_is}
@@ -210,6 +221,21 @@ module _ (S : Source) (t : List ℕ) (at : ℕ) (m : Mode) (F : Option ℕ) (R :
       let j : [] ≡ R.0 = cc in
       sym R.2 ∙ ap (fault_from S m) (sym j)
 
--- a text that is misnamed does not end so
-pub not_absent : (l : Layout) (r : ℕ) → fault_from (source_in l.pieces) (top false) (placed 0 l.pieces) ≡ none → misnamed (source_in l.pieces) ≡ true → fault_from (source_in l.pieces) (top false) (placed 0 l.pieces) ≡ some r
-not_absent l r e y = let k = misnamed-fault l y in never k.0 (sym e ∙ k.1)
+-- the first word that is told to be at fault
+pub fault_found : (t : List ℕ) (l : Layout) → parse t ≡ some l → {F : Type 0} (g : Mut F (Bor Heard × Unit {0}) Bool) (f : F)
+    → ((x : Heard) (b : Bool) (q : F) → CalledAt g f x b q → (q ≡ f) × (b ≡ some? (faulty (source_in l.pieces)) (event_of (mode_of x.mode) (token_at t x.lexeme.word x.lexeme.from x.lexeme.past) x.lexeme.from x.lexeme.past)))
+    → (s u : TokenIter) (r : Answered Heard)
+    → (xs : List Heard) × (j : F) × YieldsThen Gives s xs r u × FoldsTo (λ p x q. CalledAt g p x false q) f xs j × MatchOption r ⊤ (λ x. (h : F) × CalledAt g j x true h)
+    → s.text.now ≡ t → Rests (source_in l.pieces) (mode_of s.mode) (placed_from t s.at) (fault_from (source_in l.pieces) (top false) (placed 0 l.pieces))
+    → MatchOption r (none ≡ fault_from (source_in l.pieces) (top false) (placed 0 l.pieces)) (λ x. some x.lexeme.from ≡ fault_from (source_in l.pieces) (top false) (placed 0 l.pieces))
+fault_found t l e {F} g f told s u r d n R =
+    let S = source_in l.pieces in
+    let first : Option ℕ = fault_from S (top false) (placed 0 l.pieces) in
+    first_found t g f
+    (λ (x : Heard). false ≡ some? (faulty S) (event_of (mode_of x.mode) (token_at t x.lexeme.word x.lexeme.from x.lexeme.past) x.lexeme.from x.lexeme.past))
+    (λ x q c. told x false q c)
+    (λ (m : Mode) (at : ℕ). Rests S m (placed_from t at) first)
+    (λ s x u L z i. rw L.at (rests_turn S t s.at (mode_of s.mode) first i x.lexeme.word x.lexeme.from x.lexeme.past L.leads false (rw L.in_mode at z) refl (mode_of u.mode) L.mode))
+    (λ o. MatchOption o (none ≡ first) (λ x. some x.lexeme.from ≡ first)) s u r d n R
+    (λ v x w h L k i. sym (rests_here S t v.at (mode_of v.mode) first i x.lexeme.word x.lexeme.from x.lexeme.past L.leads true (rw L.in_mode at (told x true h k).1) refl))
+    (λ v P i. sym (rests_ends S t v.at (mode_of v.mode) first i P))

@@ -1,5 +1,5 @@
 -- An id looked up is known exactly if its word is not 0; the turns of the loops; 21 whole. Assumes nothing.
-use Prim.Native.Nat.{ℕ, suc, ◌+◌, ◌-◌, ◌≤◌, ◌<◌}
+use Prim.Native.Nat.{ℕ, zero, suc, ◌+◌, ◌-◌, ◌<◌}
 use native.Mathlib.Omega.{arith}
 use mathlib.Core.Bool.{Bool, true, false, ◌&&◌, ◌||◌, not}
 use mathlib.Core.Path.{◌≡◌, refl, sym, ap, ◌∙◌}
@@ -7,8 +7,10 @@ use mathlib.Core.List.{List, [], ◌∷◌, ◌++◌}
 use mathlib.Core.Option.{Option, none, some}
 use lib.ListN.{get_or}
 use lib.Dec.{eqb}
-use borrow.Author.Tests.{eqb-true, eqb-false, eq-eqb, ne_eqb}
-use Rattle.repr.specs.Lists.{some?, joined, below}
+use borrow.Author.Tests.{eq-eqb, ne_eqb}
+use Rattle.std.specs.List.{list_any, range_with_len}
+use native.Mathlib.Numerals.{add-one}
+use Rattle.repr.specs.Lists.{some?, joined, up_from, below}
 use Rattle.repr.proofs.Lists.{cases, clash}
 use Rattle.repr.proofs.Tests.{some?-nil, some?-yes, some?_no, some?-cons, some?-append, some?-below, some?-below_witness}
 use Rattle.yacc_text.specs.Grammar.{Id, Layout, byte_limit}
@@ -28,7 +30,7 @@ use Rattle.yacc_said.specs.declared.Saying.TheVariants.{Lists, Opens, Defines, U
 use Rattle.yacc_said.proofs.Laws.{said_turn, said-whole}
 use Rattle.yacc_uses.specs.Uses.{judged, is_bad, verdict_of}
 use Rattle.yacc_uses.specs.declared.Verdict.{Verdict}
-use Rattle.yacc_uses.specs.declared.Verdict.TheVariants.{Clear, Open, Bad}
+use Rattle.yacc_uses.specs.declared.Verdict.TheVariants.{Clear}
 use Rattle.yacc_uses.proofs.Laws.{verdict_said, verdict_undefined}
 use Rattle.std.proofs.Common.{Option as Answer, Some, None}
 use Rattle.std.specs.Option.{is_some}
@@ -142,20 +144,14 @@ module _ (lefts tokens : List ℕ) (j a : ℕ) (p : a ≡ get_or lefts j 0) wher
       ∙ sym (ap (λ (c : Bool). not c && not (eqb (get_or tokens (byte_limit + j) 0) 0)) (ne_eqb (get_or lefts j 0) 0 (λ z. n (p ∙ z))))
 
 -- `both_ways`
-module _ (lefts tokens : List ℕ) (k j : ℕ) (r : Bool) (e : r ≡ twice lefts tokens j) where
-  pub twice_here : j < k → r ≡ true → true ≡ twice_of lefts tokens k
-  unfolding twice_of
-  twice_here h y = sym (some?-below (twice lefts tokens) k j h (sym e ∙ y))
+any_up : (t : ℕ → Bool) (n a : ℕ) → list_any t (range_with_len a n) ≡ some? t (up_from a n)
+unfolding some? up_from
+any_up t zero a = refl
+any_up t (suc n) a = ap (λ (b : Bool). t a || b) (ap (λ (k : ℕ). list_any t (range_with_len k n)) (add-one a) ∙ any_up t n (suc a)) ∙ sym (some?-cons t a (up_from (suc a) n))
 
-  pub twice-more : ((i : ℕ) → i < j → twice lefts tokens i ≡ false) → r ≡ false → (i : ℕ) → i < j + 1 → twice lefts tokens i ≡ false
-  twice-more inv f i h = cases (eqb i j) (λ q. ap (twice lefts tokens) (eqb-true i j q) ∙ sym e ∙ f) (λ q. let d = eqb-false i j q in inv i (omega (arith, h, d)))
-
-pub twice_end : (lefts tokens : List ℕ) (k j : ℕ) → ((i : ℕ) → i < j → twice lefts tokens i ≡ false) → k ≤ j → false ≡ twice_of lefts tokens k
-unfolding twice_of
-twice_end lefts tokens k j inv h =
-    cases (some? (twice lefts tokens) (below k))
-    (λ y. let w = some?-below_witness (twice lefts tokens) k y in let l = w.1 in clash (twice lefts tokens w.0) w.2 (inv w.0 (omega (arith, h, l))))
-    (λ n. sym n)
+pub twice_any : (lefts tokens : List ℕ) (k : ℕ) → list_any (twice lefts tokens) (range_with_len 0 k) ≡ twice_of lefts tokens k
+unfolding twice_of below
+twice_any lefts tokens k = any_up (twice lefts tokens) k 0
 
 -- `is_nowhere`
 pub nowhere_by : (ns ts : List Known) (x : Id) (a b : Bool) → a ≡ not (is_known ns x) → b ≡ not (is_known ts x) → (a && b) ≡ nowhere_of ns ts x

@@ -2,13 +2,13 @@
 
 #![tactic(auto)]
 
-ghost use Rattle.std.specs.Prelude.{true, false, ◌≡◌, List, ◌+◌, ◌≤◌, ◌<◌, length};
+ghost use Rattle.std.specs.Prelude.{IfSome, true, false, ◌≡◌, List, ◌+◌, ◌≤◌, ◌<◌, length};
 ghost use Rattle.std.proofs.Math.Option.{some};
 ghost use Rattle.yacc_text.specs.Grammar.{byte_limit, Layout};
 ghost use Rattle.yacc_text.specs.Parse.{parse};
 ghost use Rattle.yacc_text.specs.Places.{placed};
 ghost use Rattle.yacc_text.specs.Forward.{top};
-ghost use Rattle.yacc_lex.specs.Steps.{token_at};
+ghost use Rattle.yacc_lex.specs.Steps.{token_at, found_at};
 ghost use Rattle.repr.specs.Lists.{some?};
 ghost use Rattle.yacc_tokens.specs.Accepted.{mode_of};
 ghost use Rattle.yacc_read.specs.Source.{Known, Source};
@@ -21,26 +21,25 @@ ghost use Rattle.yacc_misnamed.specs.Looked.{nowhere_of, lost_of, twice, twice_o
 ghost use Rattle.yacc_misnamed.specs.Fault.{faulty, fault_from};
 
 use repr::word;
-use yacc_enter::SymbolTable;
+use yacc_enter::{Ids, SymbolTable};
 use yacc_said::{Saying, Token, TokenIter};
 use yacc_uses::{Verdict, judge};
 
 // Is a word's id on no left side and no token.
 fn is_nowhere(symbols: &SymbolTable, token: Token) -> bool
-    requires { token.past ≤ length symbols.now.text.now }
-    ensures { is_id token.word ≡ true → (ns ts : List Known) → Holds symbols.now ns ts → result ≡ nowhere_of ns ts (id_at symbols.now.text.now token.word token.from token.past) }
+    requires { token.lexeme.past ≤ length symbols.now.text.now }
+    ensures { is_id token.lexeme.word ≡ true → (ns ts : List Known) → Holds symbols.now ns ts → result ≡ nowhere_of ns ts (id_at symbols.now.text.now token.lexeme.word token.lexeme.from token.lexeme.past) }
 {
-    symbols.left(token.word, token.from, token.past).is_none()
-        && symbols.token(token.word, token.from, token.past).is_none()
+    symbols.left(token.lexeme).is_none() && symbols.token(token.lexeme).is_none()
 }
 
 // Is the START id, where a word says it, on no left side.
 fn is_lost(symbols: &SymbolTable, token: Token) -> bool
-    requires { token.past ≤ length symbols.now.text.now }
-    ensures { (ns ts : List Known) → Holds symbols.now ns ts → result ≡ lost_of ns (events_of token.what (id_at symbols.now.text.now token.word token.from token.past) token.from token.past) }
+    requires { token.lexeme.past ≤ length symbols.now.text.now }
+    ensures { (ns ts : List Known) → Holds symbols.now ns ts → result ≡ lost_of ns (events_of token.what (id_at symbols.now.text.now token.lexeme.word token.lexeme.from token.lexeme.past) token.lexeme.from token.lexeme.past) }
 {
     match token.what {
-        Saying::Opens => symbols.left(token.word, token.from, token.past).is_none(),
+        Saying::Opens => symbols.left(token.lexeme).is_none(),
         _ => false,
     }
 }
@@ -61,12 +60,7 @@ fn uses_nowhere(symbols: &SymbolTable) -> bool
 fn start_nowhere(symbols: &SymbolTable) -> bool
     ensures { (l : Layout) → parse symbols.now.text.now ≡ some l → result ≡ undefined_start (source_in l.pieces) }
 {
-    for token in TokenIter::new(symbols.text) {
-        if is_lost(symbols, token) {
-            return true;
-        }
-    }
-    false
+    TokenIter::new(symbols.text).any(|token| is_lost(symbols, token))
 }
 
 // Is a name both a left side and a token.
@@ -74,7 +68,7 @@ fn is_both(lefts: &[u16], tokens: &[u16], j: usize) -> bool
     requires { (j < length lefts.now) × (byte_limit + j < length tokens.now) }
     ensures { result ≡ twice lefts.now tokens.now j }
 {
-    word(lefts, j) != 0 && word(tokens, 256 + j) != 0
+    word(lefts, j) != 0 && word(tokens, Ids::LITERALS + j) != 0
 }
 
 // Is some name both.
@@ -82,50 +76,36 @@ fn both_ways(lefts: &[u16], tokens: &[u16], names: usize) -> bool
     requires { (names ≤ length lefts.now) × (byte_limit + names ≤ length tokens.now) }
     ensures { result ≡ twice_of lefts.now tokens.now names }
 {
-    for j in 0..names {
-        if is_both(lefts, tokens, j) {
-            return true;
-        }
-    }
-    false
+    (0..names).any(|j| is_both(lefts, tokens, j))
 }
 
 // 21, of a text whose ids are entered.
 pub fn is_misnamed(symbols: &SymbolTable) -> bool
     ensures { (l : Layout) → parse symbols.now.text.now ≡ some l → result ≡ misnamed (source_in l.pieces) }
 {
-    if uses_nowhere(symbols) {
-        return true;
-    }
-    if both_ways(symbols.lefts, symbols.tokens, symbols.counts.names) {
-        return true;
-    }
-    start_nowhere(symbols)
+    uses_nowhere(symbols)
+        || both_ways(symbols.lefts, symbols.tokens, symbols.counts.names)
+        || start_nowhere(symbols)
 }
 
 // Is a word at fault.
 fn is_fault(symbols: &SymbolTable, token: Token) -> bool
-    requires { token.past ≤ length symbols.now.text.now }
-    ensures { (S : Source) → Holds symbols.now S.nonterminals S.terminals → result ≡ some? (faulty S) (event_of (mode_of token.mode) (token_at symbols.now.text.now token.word token.from token.past) token.from token.past) }
+    requires { token.lexeme.past ≤ length symbols.now.text.now }
+    ensures { (S : Source) → Holds symbols.now S.nonterminals S.terminals → result ≡ some? (faulty S) (event_of (mode_of token.mode) (token_at symbols.now.text.now token.lexeme.word token.lexeme.from token.lexeme.past) token.lexeme.from token.lexeme.past) }
 {
     match token.what {
-        Saying::Opens => symbols.left(token.word, token.from, token.past).is_none(),
-        Saying::Defines => symbols.token(token.word, token.from, token.past).is_some(),
+        Saying::Opens => symbols.left(token.lexeme).is_none(),
+        Saying::Defines => symbols.token(token.lexeme).is_some(),
         Saying::Uses => is_nowhere(symbols, token),
         _ => false,
     }
 }
 
 // Where 21 is, of a text whose ids are entered: the first byte of the first token at fault (specs/Fault).
-pub fn fault_place(symbols: &SymbolTable) -> usize
-    ensures { (result ≤ length symbols.now.text.now) × ((l : Layout) → parse symbols.now.text.now ≡ some l → misnamed (source_in l.pieces) ≡ true → fault_from (source_in l.pieces) (top false) (placed 0 l.pieces) ≡ some result) }
+pub fn fault_place(symbols: &SymbolTable) -> Option<usize>
+    ensures inside { IfSome result (λ at. at ≤ length symbols.now.text.now) }
+    ensures first { (l : Layout) → parse symbols.now.text.now ≡ some l → found_at result ≡ fault_from (source_in l.pieces) (top false) (placed 0 l.pieces) }
 {
-    let mut end: usize = 0;
-    for token in TokenIter::new(symbols.text) {
-        if is_fault(symbols, token) {
-            return token.from;
-        }
-        end = token.past;
-    }
-    end
+    let token = TokenIter::new(symbols.text).find(|token| is_fault(symbols, *token))?;
+    Some(token.lexeme.from)
 }

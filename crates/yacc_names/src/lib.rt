@@ -1,4 +1,5 @@
 // The names of a yacc text in the order of their entering, each by the places of its first byte and behind its last; an index in buckets beside them, so that a name is looked for in one bucket alone (specs/Names).
+// Three lists of words side by side, and chains of numbers in one of them: there is no heap, and the words are those that a caller lends, for writing while it enters and for reading behind that.
 
 #![tactic(auto)]
 
@@ -10,7 +11,12 @@ ghost use Rattle.yacc_names.specs.Names.{bucket_limit, bucket_number, held, is_n
 use repr::word;
 
 // Buckets; the links follow their words.
-const BUCKETS: usize = 2048;
+pub const BUCKETS: usize = 2048;
+
+// A byte is mixed into a number below `MIXED` by this factor.
+const FACTOR: usize = 211;
+
+const MIXED: usize = 65536;
 
 // The bytes from a place up to another, none if that is not behind it.
 fn bytes(text: &[u8], from: usize, past: usize) -> &[u8]
@@ -28,7 +34,7 @@ pub fn bucket_of(text: &[u8], from: usize, past: usize) -> usize
     let name = bytes(text, from, past);
     let mut sum: usize = 0;
     for b in name {
-        sum = (sum * 211 + usize::from(*b)) % 65536;
+        sum = (sum * FACTOR + usize::from(*b)) % MIXED;
     }
     sum % BUCKETS
 }
@@ -61,7 +67,7 @@ pub fn find(
     None
 }
 
-// Name k, in front of the chain of its bucket.
+// Name k, in front of the chain of its bucket. (Crate trace_graph links edges so, and mixes other words into their buckets: three lines, of which one form would take the number of buckets and where the links stand.)
 pub fn enter(
     starts: &mut [u16],
     pasts: &mut [u16],
@@ -107,10 +113,7 @@ pub fn place(
     ensures { left starts.new pasts.new ix.new result ≡ placing text.now starts.old pasts.old ix.old k from past }
 {
     match find(text, starts, pasts, ix, k, from, past) {
-        Some(number) => Placed {
-            number: number,
-            names: k,
-        },
+        Some(number) => Placed { number, names: k },
         None => {
             let bucket = bucket_of(text, from, past);
             enter(starts, pasts, ix, k, bucket, from, past);

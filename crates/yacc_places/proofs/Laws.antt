@@ -17,9 +17,7 @@ use Rattle.yacc_text.specs.Grammar.{Id, named, quoted, Layout}
 use Rattle.yacc_text.specs.Places.{Placed, placed_from}
 use Rattle.yacc_text.specs.Parse.{parse}
 use Rattle.yacc_text.specs.Forward.{Mode, top, move}
-use Rattle.yacc_lex.specs.Steps.{token_at, Leads, Told}
-use Rattle.yacc_lex.specs.declared.Next.{Next}
-use Rattle.yacc_lex.specs.declared.Next.TheVariants.{End as Ends, Outside as NoToken}
+use Rattle.yacc_lex.specs.Steps.{token_at, Leads}
 use Rattle.yacc_lex.specs.declared.Word.{Word}
 use Rattle.yacc_lex.specs.declared.Word.TheVariants.{Name, Literal, Token, Start, Mark, Colon, Bar, Semi}
 use Rattle.yacc_read.specs.Events.{Event, events}
@@ -31,6 +29,19 @@ use Rattle.yacc_said.specs.Said.{said_in, id_at, events_of, of_said}
 use Rattle.yacc_said.specs.declared.Saying.{Saying}
 use Rattle.yacc_said.specs.declared.Saying.TheVariants.{Lists, Opens, Defines, Uses, Shuts, Nothing}
 use Rattle.yacc_said.proofs.Laws.{said_turn, said_ends, said-whole}
+use Rattle.yacc_said.proofs.Along.{first_found}
+use Rattle.yacc_said.specs.declared.Token.{Token as Heard}
+use Rattle.yacc_said.specs.declared.TokenIter.{TokenIter}
+use Rattle.yacc_said.specs.Tokens.{Gives}
+use Rattle.yacc_tokens.specs.Accepted.{mode_of}
+use Rattle.std.specs.Prelude.{Option as Answer}
+use Rattle.std.specs.Bool.{⊤}
+use Rattle.std.specs.Option.{MatchOption}
+use Rattle.std.specs.List.{FoldsTo}
+use Rattle.std.specs.Fn.{CalledAt}
+use Rattle.std.specs.Iterator.{YieldsThen}
+use denote.Param.Members.{Mut}
+use denote.Ref.{Bor}
 use Rattle.yacc_numbers.specs.Numbers.{place_in}
 use Rattle.yacc_numbers.proofs.Laws.{number-front, number_behind, place-yes, place_no}
 use Rattle.yacc_enter.specs.Ids.{is_id}
@@ -386,6 +397,24 @@ module _ (t : List ℕ) (at : ℕ) (m : Mode) (ns : List Known) (r : ℕ) (inv :
       let c = number_in ns (id_at t w from past) in
       sym (said_one c (move m (token_at t w from past)) (placed_from t past))
       ∙ said_turn c t at m (start_in ns) r (inv c) (λ es. c) w from past (move m (token_at t w from past)) L refl (λ es. start_takes ns (id_at t w from past) from past es ∙ ap (λ (j : Saying). start_in ns (events_of j (id_at t w from past) from past ++ es)) (sym y ∙ e))
+
+-- the first word that is told to be START's
+pub start_found : (t : List ℕ) (l : Layout) → parse t ≡ some l → {F : Type 0} (g : Mut F (Bor Heard × Unit {0}) Bool) (f : F)
+    → ((x : Heard) (q : F) → CalledAt g f x false q → (q ≡ f) × (x.what ≡ Opens → ⊥)) → ((x : Heard) (q : F) → CalledAt g f x true q → x.what ≡ Opens)
+    → (s u : TokenIter) (r : Answer Heard)
+    → (xs : List Heard) × (j : F) × YieldsThen Gives s xs r u × FoldsTo (λ p x q. CalledAt g p x false q) f xs j × MatchOption r ⊤ (λ x. (h : F) × CalledAt g j x true h)
+    → s.text.now ≡ t → ((z : ℕ) → of_said z (start_in (source_in l.pieces).nonterminals) (mode_of s.mode) (placed_from t s.at) ≡ start_of (source_in l.pieces).nonterminals (source_in l.pieces).starts)
+    → MatchOption r (0 ≡ start_of (source_in l.pieces).nonterminals (source_in l.pieces).starts)
+    (λ x. (x.what ≡ Opens) × (number_in (source_in l.pieces).nonterminals (id_at t x.lexeme.word x.lexeme.from x.lexeme.past) ≡ start_of (source_in l.pieces).nonterminals (source_in l.pieces).starts))
+start_found t l e {F} g f miss hit s u r d n first =
+    let ns : List Known = (source_in l.pieces).nonterminals in
+    let start : ℕ = start_of ns (source_in l.pieces).starts in
+    first_found t g f (λ (x : Heard). x.what ≡ Opens → ⊥) miss
+    (λ (m : Mode) (at : ℕ). (z : ℕ) → of_said z (start_in ns) m (placed_from t at) ≡ start)
+    (λ s x u R o i. rw R.at (start_turn t s.at (mode_of s.mode) ns start i x.what x.lexeme.word x.lexeme.from x.lexeme.past R.leads (x.says ∙ ap (λ (m : Mode). said_in m x.lexeme.word) R.in_mode) o (mode_of u.mode) R.mode))
+    (λ o. MatchOption o (0 ≡ start) (λ x. (x.what ≡ Opens) × (number_in ns (id_at t x.lexeme.word x.lexeme.from x.lexeme.past) ≡ start))) s u r d n first
+    (λ v x w h R k i. (hit x h k, start_here t v.at (mode_of v.mode) ns start i x.what x.lexeme.word x.lexeme.from x.lexeme.past R.leads (x.says ∙ ap (λ (m : Mode). said_in m x.lexeme.word) R.in_mode) (hit x h k)))
+    (λ v P i. sym (start_none ns) ∙ said_ends 0 t v.at (mode_of v.mode) (start_in ns) start (i 0) P)
 
 -- an id that is not known has the number behind the last
 number-none : (ks : List Known) (x : Id) → is_known ks x ≡ false → number_in ks x ≡ length ks

@@ -22,42 +22,34 @@ use yacc_said::{Saying, Token, TokenIter};
 
 // The number of the nonterminal that a word enters.
 fn left_said(symbols: &SymbolTable, token: Token) -> Option<u16>
-    requires { token.past ≤ length symbols.now.text.now }
-    ensures { (ns ts : List Known) → Holds symbols.now ns ts → held result ≡ entered_place ns (joined left_side (events_of token.what (id_at symbols.now.text.now token.word token.from token.past) token.from token.past)) }
+    requires { token.lexeme.past ≤ length symbols.now.text.now }
+    ensures { (ns ts : List Known) → Holds symbols.now ns ts → held result ≡ entered_place ns (joined left_side (events_of token.what (id_at symbols.now.text.now token.lexeme.word token.lexeme.from token.lexeme.past) token.lexeme.from token.lexeme.past)) }
 {
     match token.what {
-        Saying::Defines => symbols.left(token.word, token.from, token.past),
+        Saying::Defines => symbols.left(token.lexeme),
         _ => None,
     }
 }
 
 // The number of the terminal that a word enters: in a body a literal enters one, and a name none.
 fn token_said(symbols: &SymbolTable, token: Token) -> Option<u16>
-    requires { token.past ≤ length symbols.now.text.now }
-    ensures { (ns ts : List Known) → Holds symbols.now ns ts → held result ≡ entered_place ts (joined token_use (events_of token.what (id_at symbols.now.text.now token.word token.from token.past) token.from token.past)) }
+    requires { token.lexeme.past ≤ length symbols.now.text.now }
+    ensures { (ns ts : List Known) → Holds symbols.now ns ts → held result ≡ entered_place ts (joined token_use (events_of token.what (id_at symbols.now.text.now token.lexeme.word token.lexeme.from token.lexeme.past) token.lexeme.from token.lexeme.past)) }
 {
-    match token.what {
-        Saying::Lists => symbols.token(token.word, token.from, token.past),
-        Saying::Uses => match token.word {
-            Word::Literal => symbols.token(token.word, token.from, token.past),
-            _ => None,
-        },
+    match (token.what, token.lexeme.word) {
+        (Saying::Lists, _) | (Saying::Uses, Word::Literal) => symbols.token(token.lexeme),
         _ => None,
     }
 }
 
-// A word behind the first `base`, as far as there is room.
+// A word behind the first `base`, as far as there is room. (By `get_mut`, tried two ways: what the library says of it tells the length alone, and the proof did not close.)
 fn put(places: &mut [u16], base: usize, n: usize, from: usize)
     requires { from < 65536 }
     ensures { places.new ≡ set places.old (base + n) from }
 {
-    if places.len() <= base {
-        return;
+    if base < places.len() && n < places.len() - base {
+        places[base + n] = from as u16;
     }
-    if places.len() - base <= n {
-        return;
-    }
-    places[base + n] = from as u16;
 }
 
 // The place of an id is written if its number comes next, as n are written; how many are then.
@@ -67,15 +59,11 @@ fn write_place(places: &mut [u16], base: usize, n: usize, number: Option<u16>, f
     ensures places_after { places.new ≡ written_in places.old base n (held number) from }
 {
     match number {
-        Some(number) => {
-            let next = usize::from(number);
-            if next == n {
-                put(places, base, n, from);
-                return next + 1;
-            }
-            n
+        Some(number) if usize::from(number) == n => {
+            put(places, base, n, from);
+            n + 1
         }
-        None => n,
+        _ => n,
     }
 }
 
@@ -90,8 +78,8 @@ pub fn write_places(symbols: &SymbolTable, places: &mut [u16])
     for token in TokenIter::new(symbols.text) {
         let left = left_said(symbols, token);
         let right = token_said(symbols, token);
-        n = write_place(places, 0, n, left, token.from);
-        m = write_place(places, base, m, right, token.from);
+        n = write_place(places, 0, n, left, token.lexeme.from);
+        m = write_place(places, base, m, right, token.lexeme.from);
     }
 }
 
@@ -99,13 +87,12 @@ pub fn write_places(symbols: &SymbolTable, places: &mut [u16])
 pub fn start_of(symbols: &SymbolTable) -> usize
     ensures { (l : Layout) → parse symbols.now.text.now ≡ some l → result ≡ start_of (source_in l.pieces).nonterminals (source_in l.pieces).starts }
 {
-    for token in TokenIter::new(symbols.text) {
-        if let Saying::Opens = token.what {
-            return match symbols.left(token.word, token.from, token.past) {
-                Some(number) => usize::from(number),
-                None => symbols.counts.nonterminals,
-            };
-        }
+    let mut tokens = TokenIter::new(symbols.text);
+    let Some(token) = tokens.find(|token| matches!(token.what, Saying::Opens)) else {
+        return 0;
+    };
+    match symbols.left(token.lexeme) {
+        Some(number) => usize::from(number),
+        None => symbols.counts.nonterminals,
     }
-    0
 }

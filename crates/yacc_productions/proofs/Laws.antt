@@ -25,9 +25,7 @@ use Rattle.yacc_text.specs.Places.{Placed, placed_from}
 use Rattle.yacc_text.specs.Forward.{Mode, top, wanted, listed, starting, ruled, sided, bodied, done, dead, begins, sides, move}
 use Rattle.yacc_text.specs.Parse.{parse}
 use Rattle.yacc_text.proofs.Exact.{parse_sound}
-use Rattle.yacc_lex.specs.Steps.{token_at, Leads, Told}
-use Rattle.yacc_lex.specs.declared.Next.{Next}
-use Rattle.yacc_lex.specs.declared.Next.TheVariants.{End as Ends, Outside as NoToken}
+use Rattle.yacc_lex.specs.Steps.{token_at, Leads}
 use Rattle.yacc_lex.specs.declared.Word.{Word}
 use Rattle.yacc_lex.specs.declared.Word.TheVariants.{Name, Literal, Token, Start, Mark, Colon, Bar, Semi}
 use Rattle.yacc_read.specs.Events.{Event, events}
@@ -104,29 +102,15 @@ unfolding span_end
 end_more [] x from past at = refl
 end_more (u ∷ us) x from past at = end_more us x from past u.past
 
--- modes: a body follows a name that is a left side, and ends in its rule
-unfoldable is_name : Word → Bool
-is_name w = elim w [ Name ↦ true | Literal ↦ false | Token ↦ false | Start ↦ false | Mark ↦ false | Colon ↦ false | Bar ↦ false | Semi ↦ false ]
-
-name_is : (w : Word) → is_name w ≡ true → w ≡ Name
-unfolding is_name
-name_is Name e = refl
-name_is Literal e = clash false e refl
-name_is Token e = clash false e refl
-name_is Start e = clash false e refl
-name_is Mark e = clash false e refl
-name_is Colon e = clash false e refl
-name_is Bar e = clash false e refl
-name_is Semi e = clash false e refl
-
-unfoldable rule_from : Saying → Mode → Word → Bool
-rule_from s m w = elim s [ Lists ↦ in_rule m | Opens ↦ in_rule m | Defines ↦ is_name w | Uses ↦ in_rule m | Shuts ↦ in_rule m | Nothing ↦ in_rule m ]
+-- modes: a body follows a left side, and ends in its rule
+unfoldable rule_from : Saying → Mode → Bool
+rule_from s m = elim s [ Lists ↦ in_rule m | Opens ↦ in_rule m | Defines ↦ true | Uses ↦ in_rule m | Shuts ↦ in_rule m | Nothing ↦ in_rule m ]
 
 unfoldable shut_from : Saying → Mode → Bool
 shut_from s m = elim s [ Lists ↦ true | Opens ↦ true | Defines ↦ true | Uses ↦ true | Shuts ↦ in_rule m | Nothing ↦ true ]
 
 abbrev KeepsRule : List ℕ → ℕ → ℕ → Word → Mode → Type 0
-KeepsRule t from past w m = (not (in_rule (move m (token_at t w from past))) || rule_from (said_in m w) m w) && shut_from (said_in m w) m ≡ true
+KeepsRule t from past w m = (not (in_rule (move m (token_at t w from past))) || rule_from (said_in m w) m) && shut_from (said_in m w) m ≡ true
 
 begun : (s : Bool) → (not (in_rule (begins s)) || false) && true ≡ true
 unfolding begins in_rule
@@ -134,7 +118,7 @@ begun true = refl
 begun false = refl
 
 each_rule : (w : Word) (m : Mode) (t : List ℕ) (from past : ℕ) → KeepsRule t from past w m
-unfolding move sides token_at said_in id_said end_said in_rule is_name rule_from shut_from
+unfolding move sides token_at said_in id_said end_said in_rule rule_from shut_from
 each_rule Name m t from past = elim m as (KeepsRule t from past Name) [ top s ↦ refl | wanted s ↦ refl | listed s ↦ refl | starting ↦ refl | ruled ↦ refl | sided ↦ refl | bodied ↦ refl | done ↦ refl | dead ↦ refl ]
 each_rule Literal m t from past = elim m as (KeepsRule t from past Literal) [ top s ↦ refl | wanted s ↦ refl | listed s ↦ refl | starting ↦ refl | ruled ↦ refl | sided ↦ refl | bodied ↦ refl | done ↦ refl | dead ↦ refl ]
 each_rule Token m t from past = elim m as (KeepsRule t from past Token) [ top s ↦ refl | wanted s ↦ refl | listed s ↦ refl | starting ↦ refl | ruled ↦ refl | sided ↦ refl | bodied ↦ refl | done ↦ refl | dead ↦ refl ]
@@ -157,14 +141,14 @@ quiet_other Uses a b c = absurd (b refl)
 quiet_other Shuts a b c = absurd (c refl)
 quiet_other Nothing a b c = refl
 
-quiet_rule : (s : Saying) (m : Mode) (w : Word) → quiet s ≡ true → rule_from s m w ≡ true → in_rule m ≡ true
+quiet_rule : (s : Saying) (m : Mode) → quiet s ≡ true → rule_from s m ≡ true → in_rule m ≡ true
 unfolding quiet rule_from
-quiet_rule Lists m w q r = r
-quiet_rule Opens m w q r = r
-quiet_rule Defines m w q r = clash false q refl
-quiet_rule Uses m w q r = clash false q refl
-quiet_rule Shuts m w q r = clash false q refl
-quiet_rule Nothing m w q r = r
+quiet_rule Lists m q r = r
+quiet_rule Opens m q r = r
+quiet_rule Defines m q r = clash false q refl
+quiet_rule Uses m q r = clash false q refl
+quiet_rule Shuts m q r = clash false q refl
+quiet_rule Nothing m q r = r
 
 quiet_said : (s : Saying) (l : Id) (us : List Use) (x : Id) (from past : ℕ) (es : List Event) → quiet s ≡ true → alternatives_from l us es ≡ alternatives_from l us (events_of s x from past ++ es)
 unfolding quiet alternatives_from events_of
@@ -289,6 +273,14 @@ made a c ss s u e v p q r =
     ∙ ap (λ (k : ℕ). record { nonterminal = c; symbols = ss; start = k; end = e }) q
     ∙ ap (λ (k : ℕ). record { nonterminal = c; symbols = ss; start = u; end = k }) r
 
+pub zero_body : (b : Body) → (b.production ≡ 0) × ((b.owner ≡ 0) × ((b.symbols ≡ 0) × ((b.start ≡ 0) × (b.end ≡ 0)))) → b ≡ record { production = 0; owner = 0; symbols = 0; start = 0; end = 0 }
+zero_body b z =
+    ap (λ (n : ℕ). record { production = n; owner = b.owner; symbols = b.symbols; start = b.start; end = b.end }) z.0
+    ∙ ap (λ (n : ℕ). record { production = 0; owner = n; symbols = b.symbols; start = b.start; end = b.end }) z.1.0
+    ∙ ap (λ (n : ℕ). record { production = 0; owner = 0; symbols = n; start = b.start; end = b.end }) z.1.1.0
+    ∙ ap (λ (n : ℕ). record { production = 0; owner = 0; symbols = 0; start = n; end = b.end }) z.1.1.1.0
+    ∙ ap (λ (n : ℕ). record { production = 0; owner = 0; symbols = 0; start = 0; end = n }) z.1.1.1.1
+
 -- the turns
 pub turn_first : (S : Source) (t g : List ℕ) → of_said none (λ es. some (alternatives_from no_id [] es)) (top false) (placed_from t 0) ≡ some S.alternatives → Turn S t g (record { production = 0; owner = 0; symbols = 0; start = 0; end = 0 }) (top false) 0
 unfolding in_rule
@@ -309,14 +301,14 @@ module _ (S : Source) (t g : List ℕ) (b : Body) (m : Mode) (at : ℕ) (T : Tur
       said_turn none t at m (λ es. some (T.closed ++ alternatives_from T.left T.us es)) (some S.alternatives) T.rest (λ es. some (ks ++ alternatives_from l us es)) w from past n L q
       (λ es. ap some (f es ∙ ap (λ (k : Saying). T.closed ++ alternatives_from T.left T.us (events_of k (id_at t w from past) from past ++ es)) e))
 
-  rule-kept : (not (in_rule n) || rule_from s m w) && shut_from s m ≡ true
+  rule-kept : (not (in_rule n) || rule_from s m) && shut_from s m ≡ true
   rule-kept =
-      ap (λ (k : Mode). (not (in_rule k) || rule_from s m w) && shut_from s m) q
-      ∙ ap (λ (k : Saying). (not (in_rule (move m (token_at t w from past))) || rule_from k m w) && shut_from k m) e
+      ap (λ (k : Mode). (not (in_rule k) || rule_from s m) && shut_from s m) q
+      ∙ ap (λ (k : Saying). (not (in_rule (move m (token_at t w from past))) || rule_from k m) && shut_from k m) e
       ∙ each_rule w m t from past
 
-  rule-from : in_rule n ≡ true → rule_from s m w ≡ true
-  rule-from = implied (in_rule n) (rule_from s m w) (and_left (not (in_rule n) || rule_from s m w) (shut_from s m) rule-kept)
+  rule-from : in_rule n ≡ true → rule_from s m ≡ true
+  rule-from = implied (in_rule n) (rule_from s m) (and_left (not (in_rule n) || rule_from s m) (shut_from s m) rule-kept)
 
   pub turn_quiet : quiet s ≡ true → Turn S t g b n past
   turn_quiet y = record {
@@ -326,24 +318,19 @@ module _ (S : Source) (t g : List ℕ) (b : Body) (m : Mode) (at : ℕ) (T : Tur
     rest = goes_on T.closed T.left T.us (λ es. ap (λ (l : List Alternative). T.closed ++ l) (quiet_said s T.left T.us (id_at t w from past) from past es y));
     many = T.many;
     stored = T.stored;
-    owner = λ i. T.owner (quiet_rule s m w y (rule-from i));
+    owner = λ i. T.owner (quiet_rule s m y (rule-from i));
     body = T.body;
   }
 
-  pub turn_defines : s ≡ Defines → Whole S → (o : ℕ) → (is_known S.nonterminals (id_at t Name from past) ≡ true → number_in S.nonterminals (id_at t Name from past) < 65536 → o ≡ number_in S.nonterminals (id_at t Name from past)) → Turn S t g (record { production = b.production; owner = o; symbols = 0; start = 0; end = 0 }) n past
-  unfolding rule_from
-  turn_defines d W o f = record {
+  pub turn_defines : s ≡ Defines → (o : ℕ) → (is_known S.nonterminals (id_at t w from past) ≡ true → o ≡ number_in S.nonterminals (id_at t w from past)) → Turn S t g (record { production = b.production; owner = o; symbols = 0; start = 0; end = 0 }) n past
+  turn_defines d o f = record {
     closed = T.closed;
     left = id_at t w from past;
     us = [];
     rest = goes_on T.closed (id_at t w from past) [] (λ es. ap (λ (l : List Alternative). T.closed ++ l) (defines-said s T.left T.us (id_at t w from past) from past es d));
     many = T.many;
     stored = T.stored;
-    owner =
-        λ i k.
-        let x : id_at t w from past ≡ id_at t Name from past = ap (λ (v : Word). id_at t v from past) (name_is w (sym (ap (λ (v : Saying). rule_from v m w) d) ∙ rule-from i)) in
-        let y : is_known S.nonterminals (id_at t Name from past) ≡ true = ap (is_known S.nonterminals) (sym x) ∙ k in
-        f y (left_small S W (id_at t Name from past) y) ∙ ap (number_in S.nonterminals) (sym x);
+    owner = λ i k. f k;
     body = λ F. opened-none S g b.production o;
   }
 
@@ -360,7 +347,7 @@ module _ (S : Source) (t g : List ℕ) (b : Body) (m : Mode) (at : ℕ) (T : Tur
         rest = goes_on T.closed T.left (T.us ++ u ∷ []) (λ es. ap (λ (l : List Alternative). T.closed ++ l) (uses-said s T.left T.us x from past es d));
         many = p ∙ T.many;
         stored = λ j k. let k' : j < b.production = omega (arith, k, p) in stored_front (table_of S) g g' b.production j A.front k' (T.stored j k');
-        owner = λ i k. A.owner ∙ T.owner (sym (ap (λ (v : Saying). rule_from v m w) d) ∙ rule-from i) k;
+        owner = λ i k. A.owner ∙ T.owner (sym (ap (λ (v : Saying). rule_from v m) d) ∙ rule-from i) k;
         body =
             λ F.
             let a = length-append T.us (u ∷ []) in
@@ -398,7 +385,7 @@ module _ (S : Source) (t g : List ℕ) (b : Body) (m : Mode) (at : ℕ) (T : Tur
       let sh = F.short in
       let O = T.body (record { few = few; short = omega (arith, i, j, sh); named = all_named S W p a T.closed B.0 B.1 z }) in
       let v = O.many in
-      let owner = T.owner (sym (ap (λ (k : Saying). shut_from k m) d) ∙ and_right (not (in_rule n) || rule_from s m w) (shut_from s m) rule-kept) known in
+      let owner = T.owner (sym (ap (λ (k : Saying). shut_from k m) d) ∙ and_right (not (in_rule n) || rule_from s m) (shut_from s m) rule-kept) known in
       let is : production_at (table_of S) p ≡ record { nonterminal = b.owner; symbols = map (symbol_of S) (ids_of T.us); start = begun_at b from; end = ended_at b from } =
       production_is S W p a T.closed B.0 B.1 z
       ∙ sym (made b.owner (number_in S.nonterminals T.left) (map (symbol_of S) (ids_of T.us)) (begun_at b from) (span_start T.us from) (ended_at b from) (span_end T.us from) owner (O.start from) (O.end from)) in

@@ -16,6 +16,7 @@ ghost use Rattle.yacc_read.specs.Source.{Known, is_known, number_in, Source};
 ghost use Rattle.yacc_read.specs.Meaning.{table_of};
 ghost use Rattle.yacc_read.specs.Outcome.{source_in};
 ghost use Rattle.yacc_said.specs.Said.{said_in, id_at};
+ghost use Rattle.yacc_enter.specs.Ids.{is_id};
 ghost use Rattle.yacc_enter.specs.Table.{Holds};
 ghost use Rattle.yacc_productions.specs.Readable.{Readable, Whole};
 ghost use Rattle.yacc_productions.specs.Turn.{Small, place_or_else, Added, Closed, Turn};
@@ -23,12 +24,15 @@ ghost use Rattle.yacc_productions.specs.Turn.{Small, place_or_else, Added, Close
 use repr::{ProductionIndex, Symbol};
 use table::put;
 use yacc_enter::SymbolTable;
-use yacc_lex::Word;
+use yacc_lex::Lexeme;
 use yacc_said::{Saying, Token, TokenIter};
 use yacc_symbols::symbol;
 
+// Records of a table that a production's words are.
+const RECORDS: usize = ProductionIndex::WORDS / 4;
+
 // The production that is open: its number, its nonterminal's, its symbols so far and their span.
-#[derive(Clone, Copy)]
+#[derive(Clone, Copy, Default)]
 struct Body {
     production: usize,
     owner: usize,
@@ -37,12 +41,12 @@ struct Body {
     end: usize,
 }
 
-// The number of the nonterminal whose name stands from a place up to another.
-fn left_number(symbols: &SymbolTable, from: usize, past: usize) -> usize
-    requires { (from < past) × (past ≤ length symbols.now.text.now) }
-    ensures { (result < 65536) × ((ns ts : List Known) → Holds symbols.now ns ts → is_known ns (id_at symbols.now.text.now Word.Name from past) ≡ true → number_in ns (id_at symbols.now.text.now Word.Name from past) < 65536 → result ≡ number_in ns (id_at symbols.now.text.now Word.Name from past)) }
+// The number of the nonterminal of a left side.
+fn left_number(symbols: &SymbolTable, lexeme: Lexeme) -> usize
+    requires { lexeme.past ≤ length symbols.now.text.now }
+    ensures { (result < 65536) × (is_id lexeme.word ≡ true → (ns ts : List Known) → Holds symbols.now ns ts → is_known ns (id_at symbols.now.text.now lexeme.word lexeme.from lexeme.past) ≡ true → result ≡ number_in ns (id_at symbols.now.text.now lexeme.word lexeme.from lexeme.past)) }
 {
-    usize::from(symbols.left(Word::Name, from, past).unwrap_or(0))
+    usize::from(symbols.left(lexeme).unwrap_or(0))
 }
 
 // A place of the span of a body: of an empty one where something else stands.
@@ -66,80 +70,73 @@ fn words_of(symbol: Symbol) -> (u16, u16)
     }
 }
 
-// Puts a symbol behind those of the body, if there is room.
-fn add(grammar: &mut [u16], body: Body, read: Symbol, from: usize, past: usize) -> Body
-    requires grammar_len { (length grammar.old ≡ grammar_room) × Small body }
-    requires from_bound { (from < 65536) × (past < 65536) }
-    ensures { Small result × Added grammar.old grammar.new body result (kind_of (meant read)) (number_of (meant read)) from past }
-{
-    let production = body.production;
-    let symbols = body.symbols;
-    if ProductionIndex::LIMIT <= production {
-        return body;
+impl Body {
+    // Puts a symbol behind those of the body, if there is room.
+    fn add(self, grammar: &mut [u16], read: Symbol, lexeme: Lexeme) -> Body
+        requires grammar_len { (length grammar.old ≡ grammar_room) × Small self }
+        requires past_bound { lexeme.past < 65536 }
+        ensures { Small result × Added grammar.old grammar.new self result (kind_of (meant read)) (number_of (meant read)) lexeme.from lexeme.past }
+    {
+        if ProductionIndex::LIMIT <= self.production || ProductionIndex::SYMBOLS <= self.symbols {
+            return self;
+        }
+        let at = self.production * ProductionIndex::WORDS + 4 + 2 * self.symbols;
+        let (kind, number) = words_of(read);
+        grammar[at] = kind;
+        grammar[at + 1] = number;
+        Body {
+            symbols: self.symbols + 1,
+            start: place_or(self.symbols, lexeme.from, self.start),
+            end: lexeme.past,
+            ..self
+        }
     }
-    if ProductionIndex::SYMBOLS <= symbols {
-        return body;
-    }
-    let start = place_or(symbols, from, body.start);
-    let at = production * ProductionIndex::WORDS + 4 + 2 * symbols;
-    let (kind, number) = words_of(read);
-    grammar[at] = kind;
-    grammar[at + 1] = number;
-    Body {
-        production,
-        owner: body.owner,
-        symbols: symbols + 1,
-        start,
-        end: past,
-    }
-}
 
-// Closes the body: the words in front of its symbols; a production's 36 words are nine records of a table.
-fn close(grammar: &mut [u16], body: Body, at: usize) -> Body
-    requires grammar_len { (length grammar.old ≡ grammar_room) × Small body }
-    requires at_bound { at < 65536 }
-    ensures { Small result × Closed grammar.old grammar.new body result at }
-{
-    let production = body.production;
-    if ProductionIndex::LIMIT <= production {
-        return body;
-    }
-    let symbols = body.symbols;
-    let start = place_or(symbols, at, body.start);
-    let end = place_or(symbols, at, body.end);
-    put(grammar, production * 9, body.owner, symbols, start, end);
-    Body {
-        production: production + 1,
-        owner: body.owner,
-        symbols: 0,
-        start: 0,
-        end: 0,
+    // Closes the body: the words in front of its symbols.
+    fn close(self, grammar: &mut [u16], at: usize) -> Body
+        requires grammar_len { (length grammar.old ≡ grammar_room) × Small self }
+        requires at_bound { at < 65536 }
+        ensures { Small result × Closed grammar.old grammar.new self result at }
+    {
+        if ProductionIndex::LIMIT <= self.production {
+            return self;
+        }
+        let start = place_or(self.symbols, at, self.start);
+        let end = place_or(self.symbols, at, self.end);
+        put(
+            grammar,
+            self.production * RECORDS,
+            self.owner,
+            self.symbols,
+            start,
+            end,
+        );
+        Body {
+            production: self.production + 1,
+            owner: self.owner,
+            ..Body::default()
+        }
     }
 }
 
 // What a word says is packed.
 fn step(symbols: &SymbolTable, grammar: &mut [u16], body: Body, token: Token) -> Body
-    requires inside { (token.past ≤ length symbols.now.text.now) × (length symbols.now.text.now ≤ text_limit) }
+    requires inside { (token.lexeme.past ≤ length symbols.now.text.now) × (length symbols.now.text.now ≤ text_limit) }
     requires grammar_len { (length grammar.old ≡ grammar_room) × Small body }
     ensures small { Small result }
-    ensures turn { (S : Source) → Holds symbols.now S.nonterminals S.terminals → Whole S → (mode : TextMode) (at : ℕ) (n : TextMode) → Leads symbols.now.text.now at token.word token.from token.past → token.what ≡ said_in mode token.word → n ≡ move mode (token_at symbols.now.text.now token.word token.from token.past) → Turn S symbols.now.text.now grammar.old body mode at → Turn S symbols.now.text.now grammar.new result n token.past }
+    ensures turn { (S : Source) → Holds symbols.now S.nonterminals S.terminals → Whole S → (mode : TextMode) (at : ℕ) (n : TextMode) → Leads symbols.now.text.now at token.lexeme.word token.lexeme.from token.lexeme.past → token.what ≡ said_in mode token.lexeme.word → n ≡ move mode (token_at symbols.now.text.now token.lexeme.word token.lexeme.from token.lexeme.past) → Turn S symbols.now.text.now grammar.old body mode at → Turn S symbols.now.text.now grammar.new result n token.lexeme.past }
 {
     match token.what {
-        Saying::Defines => {
-            let owner = left_number(symbols, token.from, token.past);
-            Body {
-                production: body.production,
-                owner,
-                symbols: 0,
-                start: 0,
-                end: 0,
-            }
-        }
+        Saying::Defines => Body {
+            production: body.production,
+            owner: left_number(symbols, token.lexeme),
+            ..Body::default()
+        },
         Saying::Uses => {
-            let read = symbol(symbols, token.word, token.from, token.past);
-            add(grammar, body, read, token.from, token.past)
+            let read = symbol(symbols, token.lexeme);
+            body.add(grammar, read, token.lexeme)
         }
-        Saying::Shuts => close(grammar, body, token.from),
+        Saying::Shuts => body.close(grammar, token.lexeme.from),
         _ => body,
     }
 }
@@ -150,13 +147,7 @@ pub fn pack(symbols: &SymbolTable, grammar: &mut [u16]) -> usize
     requires readable { (l : Layout) → parse symbols.now.text.now ≡ some l → Readable (source_in l.pieces) }
     ensures { (l : Layout) → parse symbols.now.text.now ≡ some l → (result ≡ length (source_in l.pieces).alternatives) × PackedAs (table_of (source_in l.pieces)) grammar.new result }
 {
-    let mut body = Body {
-        production: 0,
-        owner: 0,
-        symbols: 0,
-        start: 0,
-        end: 0,
-    };
+    let mut body = Body::default();
     for token in TokenIter::new(symbols.text) {
         body = step(symbols, grammar, body, token);
     }

@@ -18,6 +18,13 @@ use Rattle.grammar_records.specs.Target.{PackedAs}
 use Rattle.augment.specs.Started.{started_as, started_in, GrammarOf, Outcome as Alone}
 use Rattle.augment.specs.declared.Started.{Started}
 use Rattle.augment.proofs.Exact.{same_started}
+use Rattle.std.proofs.Common.{Option as Answer, Some, None}
+use Rattle.std.specs.Option.{unwrap_or, IfSome}
+use Rattle.yacc_lex.specs.Steps.{found_at}
+use Rattle.yacc_misnamed.specs.Fault.{fault_from}
+use Rattle.yacc_misnamed.proofs.Fault.{misnamed-fault, never}
+use Rattle.yacc_text.specs.Forward.{top}
+use Rattle.yacc_text.specs.Places.{placed}
 use Rattle.yacc_text.specs.Grammar.{Id, Layout, text_limit, byte_limit}
 use Rattle.yacc_text.specs.Parse.{parse}
 use Rattle.yacc_text.proofs.Exact.{parse_sound}
@@ -131,6 +138,16 @@ module _ (S : Source) (table places : List ℕ) where
   pub limit_written : limited_of S (answered tt) table places ≡ written_of S table places
   unfolding limited_of
   limit_written = refl
+
+-- `misnamed_at`: a text that 21 refuses has a token at fault
+pub fault_inside : (n : ℕ) (r : Answer ℕ) → IfSome r (λ at. at ≤ n) → unwrap_or r 0 ≤ n
+fault_inside n None h = omega arith
+fault_inside n (Some j) h = h
+
+pub fault_told : (l : Layout) (r : Answer ℕ) → found_at r ≡ fault_from (source_in l.pieces) (top false) (placed 0 l.pieces) → misnamed (source_in l.pieces) ≡ true → fault_from (source_in l.pieces) (top false) (placed 0 l.pieces) ≡ some (unwrap_or r 0)
+unfolding found_at
+fault_told l None e y = let k = misnamed-fault l y in never k.0 (e ∙ k.1)
+fault_told l (Some j) e y = sym e
 
 -- `read_in`: arrays of zeros are fresh
 zero_at : (n i : ℕ) → ◌≡◌ {A = ℕ} (get_or (replicate n 0) i 0) 0

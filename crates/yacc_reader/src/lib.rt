@@ -2,13 +2,14 @@
 
 #![tactic(auto)]
 
-ghost use Rattle.std.specs.Prelude.{true, false, ◌≡◌, ◌≤◌, length};
+ghost use Rattle.std.specs.Prelude.{IfSome, true, false, ◌≡◌, ◌≤◌, length};
 ghost use Rattle.std.proofs.Math.Option.{some};
 ghost use Rattle.repr.specs.Reply.{reply_of};
 ghost use Rattle.yacc_text.specs.Grammar.{Layout, text_limit};
 ghost use Rattle.yacc_text.specs.Parse.{parse};
 ghost use Rattle.yacc_text.specs.Forward.{top};
 ghost use Rattle.yacc_text.specs.Places.{placed};
+ghost use Rattle.yacc_lex.specs.Steps.{found_at};
 ghost use Rattle.yacc_tokens.specs.Accepted.{is_grammar_text};
 ghost use Rattle.yacc_read.specs.Outcome.{source_in, misnamed, counted_of, named_of, read_of};
 ghost use Rattle.yacc_misnamed.specs.Fault.{fault_from};
@@ -24,9 +25,10 @@ use yacc_misnamed::{fault_place, is_misnamed};
 use yacc_places::{start_of, write_places};
 use yacc_productions::pack;
 use yacc_read::Reading;
+use yacc_text::is_short;
 use yacc_tokens::is_grammar;
 
-// Writes the table and the places of a text that nothing refuses, whose ids are entered.
+// Writes the table and the places of a text that nothing refuses, whose ids are entered. Here and below the two lists are lent, and handed on as they came: a struct of both would be two `&mut` more, made anew at each step.
 fn write_read(
     symbols: &SymbolTable,
     table: &mut [u16],
@@ -87,7 +89,7 @@ fn read_named(
     read_counted(symbols, table, places)
 }
 
-// Words for the ids of any text: it has fewer names than bytes.
+// Words for the ids of any text: it has fewer names than bytes. Lists side by side, as `Words` has them, on the stack: there is no heap.
 #[derive(Drop)]
 struct Room {
     starts: [u16; Ids::NAMES],
@@ -118,6 +120,7 @@ impl Room {
         requires text { (length text.now ≤ text_limit) × (is_grammar_text text.now ≡ true) }
         ensures { result.text.now ≡ text.now }
     {
+        // Taken apart first: a slice of a field of `self` in the literal (`&mut self.starts`) has no generated proof.
         let Room {
             starts,
             pasts,
@@ -150,19 +153,17 @@ fn read_in(text: &[u8], table: &mut [u16], places: &mut [u16]) -> Result<Reading
 pub fn read_yacc(text: &[u8], table: &mut [u16], places: &mut [u16]) -> Result<Reading, Refusal>
     ensures { record { answer = reply_of result; table = table.new; places = places.new } ≡ read_of text.now table.old places.old }
 {
-    if text.len() > 65535 {
+    if !is_short(text) || !is_grammar(text) {
         return Err(Refusal::NoText);
     }
-    if is_grammar(text) {
-        return read_in(text, table, places);
-    }
-    Err(Refusal::NoText)
+    read_in(text, table, places)
 }
 
 // Where a text of the grammar is at fault.
-fn fault_in(text: &[u8]) -> usize
+fn fault_in(text: &[u8]) -> Option<usize>
     requires { (length text.now ≤ text_limit) × (is_grammar_text text.now ≡ true) }
-    ensures { (result ≤ length text.now) × ((l : Layout) → parse text.now ≡ some l → misnamed (source_in l.pieces) ≡ true → fault_from (source_in l.pieces) (top false) (placed 0 l.pieces) ≡ some result) }
+    ensures inside { IfSome result (λ at. at ≤ length text.now) }
+    ensures first { (l : Layout) → parse text.now ≡ some l → found_at result ≡ fault_from (source_in l.pieces) (top false) (placed 0 l.pieces) }
 {
     let mut room = Room::new();
     let symbols = room.enter(text);
@@ -173,11 +174,8 @@ fn fault_in(text: &[u8]) -> usize
 pub fn misnamed_at(text: &[u8]) -> usize
     ensures { (result ≤ length text.now) × (length text.now ≤ text_limit → (l : Layout) → parse text.now ≡ some l → misnamed (source_in l.pieces) ≡ true → fault_from (source_in l.pieces) (top false) (placed 0 l.pieces) ≡ some result) }
 {
-    if 65535 < text.len() {
-        return 0;
-    }
-    if is_grammar(text) {
-        return fault_in(text);
+    if is_short(text) && is_grammar(text) {
+        return fault_in(text).unwrap_or(0);
     }
     0
 }

@@ -79,8 +79,8 @@ module _ (t : List ℕ) (s : TokenIter) (e : s.text.now ≡ t) where
   pub judged_in : judged (mode_of s.mode) (placed_from t s.at) ≡ true
   judged_in = subst (λ (x : List ℕ). judged (mode_of s.mode) (placed_from x s.at) ≡ true) e s.accepted
 
-  pub says_in : (k : Heard) (u : TokenIter) → Reads t s k u → k.what ≡ said_in (mode_of s.mode) k.word
-  says_in k u R = k.says ∙ ap (λ (m : Mode). said_in m k.word) R.in_mode
+  pub says_in : (k : Heard) (u : TokenIter) → Reads t s k u → k.what ≡ said_in (mode_of s.mode) k.lexeme.word
+  says_in k u R = k.says ∙ ap (λ (m : Mode). said_in m k.lexeme.word) R.in_mode
 
   pub ends_in : (u : TokenIter) → Gives s None u → placed_from t s.at ≡ some []
   unfolding Gives

@@ -10,11 +10,11 @@ use Rattle.yacc_said.specs.declared.TokenIter.{TokenIter}
 
 -- of a text t: the first word from the place on, and where the others follow
 pub record Reads (t : List ℕ) (s : TokenIter) (k : Token) (u : TokenIter) : Type 0 where
-  pub leads : Leads t s.at k.word k.from k.past
+  pub leads : Leads t s.at k.lexeme.word k.lexeme.from k.lexeme.past
   pub in_mode : mode_of k.mode ≡ mode_of s.mode
   pub text : u.text.now ≡ t
-  pub at : u.at ≡ k.past
-  pub mode : mode_of u.mode ≡ move (mode_of s.mode) (token_at t k.word k.from k.past)
+  pub at : u.at ≡ k.lexeme.past
+  pub mode : mode_of u.mode ≡ move (mode_of s.mode) (token_at t k.lexeme.word k.lexeme.from k.lexeme.past)
 
 unfoldable pub Gives : TokenIter → Answered Token → TokenIter → Type 0
 Gives s (Some k) u = Reads s.text.now s k u

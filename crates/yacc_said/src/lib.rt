@@ -7,7 +7,7 @@ ghost use Rattle.yacc_text.specs.Places.{placed_from};
 ghost use Rattle.yacc_tokens.specs.Accepted.{mode_of, judged, is_grammar_text};
 ghost use Rattle.yacc_said.specs.Said.{id_said, end_said, said_in};
 
-use yacc_lex::{Next, Word, next_token};
+use yacc_lex::{Lexeme, Next, Word, next_token};
 use yacc_tokens::{Mode, moved};
 
 // An id of a TOKEN list, the START id, a left side, an id of a body, the end of a body.
@@ -60,12 +60,9 @@ pub fn said(mode: Mode, word: Word) -> Saying
 #[derive(Clone, Copy)]
 pub struct Token {
     pub mode: Mode,
-    pub word: Word,
+    pub lexeme: Lexeme,
     pub what: Saying,
-    pub from: usize,
-    pub past: usize,
-    pub ghost says: { what ≡ said_in (mode_of mode) word },
-    pub ghost wide: { from < past },
+    pub ghost says: { what ≡ said_in (mode_of mode) lexeme.word },
 }
 
 // The words of a text of the grammar, one after the other.
@@ -86,7 +83,7 @@ impl<'a> TokenIter<'a> {
         ensures mode { result.mode ≡ Mode.Top false }
     {
         TokenIter {
-            text: text,
+            text,
             at: 0,
             mode: Mode::Top(false),
         }
@@ -105,20 +102,17 @@ impl<'a> Iterator for TokenIter<'a> {
 
     fn next(&mut self) -> Option<Token> {
         match next_token(self.text, self.at) {
-            Next::Token(word, from, past) => {
+            Next::Token(lexeme) => {
                 let token = Token {
                     mode: self.mode,
-                    word: word,
-                    what: said(self.mode, word),
-                    from: from,
-                    past: past,
+                    lexeme,
+                    what: said(self.mode, lexeme.word),
                 };
-                self.mode = moved(self.mode, word);
-                self.at = past;
+                self.mode = moved(self.mode, lexeme.word);
+                self.at = lexeme.past;
                 Some(token)
             }
-            Next::End => None,
-            Next::Outside => None,
+            Next::End | Next::Outside => None,
         }
     }
 }

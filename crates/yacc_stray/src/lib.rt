@@ -159,21 +159,13 @@ fn in_word(mode: Mode, word: &'static [u8], b: u8) -> Stage
     ensures { Stands result (step_word word.now (mode_of mode) b) }
 {
     match word {
-        [] => {
-            if goes_on(b) {
-                return lost();
-            }
-            begin(mode, b)
-        }
-        [next, rest @ ..] => {
-            if *next == b {
-                return Stage {
-                    mode,
-                    part: Part::Word(rest),
-                };
-            }
-            lost()
-        }
+        [] if goes_on(b) => lost(),
+        [] => begin(mode, b),
+        [next, rest @ ..] if *next == b => Stage {
+            mode,
+            part: Part::Word(rest),
+        },
+        _ => lost(),
     }
 }
 
@@ -202,52 +194,28 @@ fn step(stage: Stage, b: u8) -> Stage
 {
     let mode = stage.mode;
     match stage.part {
-        Part::Between => begin(mode, b),
-        Part::Run => {
-            if goes_on(b) {
-                return stage;
-            }
-            begin(mode, b)
-        }
+        Part::Run if goes_on(b) => stage,
+        Part::Between | Part::Run => begin(mode, b),
         Part::Signed => behind_sign(mode, b),
         Part::Word(word) => in_word(mode, word, b),
-        Part::Opened => {
-            if is_literal(b) {
-                return Stage {
-                    mode,
-                    part: Part::Filled,
-                };
-            }
-            lost()
-        }
-        Part::Filled => {
-            if b == b'\'' {
-                return Stage {
-                    mode,
-                    part: Part::Between,
-                };
-            }
-            lost()
-        }
-        Part::Slashed => {
-            if b == b'*' {
-                return Stage {
-                    mode,
-                    part: Part::Inside,
-                };
-            }
-            lost()
-        }
-        Part::Inside => in_comment(mode, b),
-        Part::Starred => {
-            if b == b'/' {
-                return Stage {
-                    mode,
-                    part: Part::Between,
-                };
-            }
-            in_comment(mode, b)
-        }
+        Part::Opened if is_literal(b) => Stage {
+            mode,
+            part: Part::Filled,
+        },
+        Part::Slashed if b == b'*' => Stage {
+            mode,
+            part: Part::Inside,
+        },
+        Part::Filled if b == b'\'' => Stage {
+            mode,
+            part: Part::Between,
+        },
+        Part::Starred if b == b'/' => Stage {
+            mode,
+            part: Part::Between,
+        },
+        Part::Inside | Part::Starred => in_comment(mode, b),
+        Part::Opened | Part::Slashed | Part::Filled => lost(),
     }
 }
 

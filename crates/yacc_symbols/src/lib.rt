@@ -2,7 +2,7 @@
 
 #![tactic(auto)]
 
-ghost use Rattle.std.specs.Prelude.{true, ◌≡◌, ◌≤◌, ◌<◌, length};
+ghost use Rattle.std.specs.Prelude.{true, ◌≡◌, ◌≤◌, length};
 ghost use Rattle.yacc_read.specs.Source.{Source};
 ghost use Rattle.yacc_said.specs.Said.{id_at};
 ghost use Rattle.yacc_enter.specs.Ids.{is_id};
@@ -11,15 +11,15 @@ ghost use Rattle.yacc_symbols.specs.Symbols.{IsSymbol};
 
 use repr::{NonterminalString, Symbol};
 use yacc_enter::SymbolTable;
-use yacc_lex::Word;
+use yacc_lex::Lexeme;
 
-// The symbol of the id that stands from a place up to another.
-pub fn symbol(symbols: &SymbolTable, kind: Word, from: usize, past: usize) -> Symbol
-    requires { (from < past) × (past ≤ length symbols.now.text.now) }
-    ensures { is_id kind ≡ true → (S : Source) → Holds symbols.now S.nonterminals S.terminals → IsSymbol S (id_at symbols.now.text.now kind from past) result }
+// The symbol of an id.
+pub fn symbol(symbols: &SymbolTable, lexeme: Lexeme) -> Symbol
+    requires { lexeme.past ≤ length symbols.now.text.now }
+    ensures { is_id lexeme.word ≡ true → (S : Source) → Holds symbols.now S.nonterminals S.terminals → IsSymbol S (id_at symbols.now.text.now lexeme.word lexeme.from lexeme.past) result }
 {
-    match symbols.left(kind, from, past) {
+    match symbols.left(lexeme) {
         Some(number) => Symbol::Nonterminal(NonterminalString(number)),
-        None => Symbol::Terminal(symbols.token(kind, from, past).unwrap_or(0)),
+        None => Symbol::Terminal(symbols.token(lexeme).unwrap_or(0)),
     }
 }

@@ -1,6 +1,7 @@
 -- The loop's turns; a text of the grammar is one that the loop accepts. Assumes nothing.
 use Prim.Native.Nat.{ℕ, ◌+◌}
-use mathlib.Core.Bool.{Bool, true, false}
+use mathlib.Core.Bool.{Bool, true, false, true≢false}
+use mathlib.Core.Logic.{◌⊎◌, inl, inr}
 use mathlib.Core.Path.{◌≡◌, refl, sym, ap, ◌∙◌}
 use mathlib.Core.List.{List, [], ◌∷◌, map}
 use mathlib.Core.Option.{Option, none, some}
@@ -11,6 +12,7 @@ use Rattle.yacc_text.specs.Forward.{Mode, top, begins, sides, move, last, accept
 use Rattle.yacc_text.specs.Places.{Placed, width_of, placed, placed_in, placed_from}
 use Rattle.yacc_text.proofs.Forward.{accepts-found}
 use Rattle.yacc_lex.specs.Steps.{token_at, front, Leads, Told}
+use Rattle.yacc_lex.specs.declared.lexeme.Lexeme.{Lexeme}
 use Rattle.yacc_lex.specs.declared.Next.{Next}
 use Rattle.yacc_lex.specs.declared.Next.TheVariants.{Token as Lexed, End as Ends, Outside as NoToken}
 use Rattle.yacc_lex.specs.declared.Word.{Word}
@@ -70,9 +72,9 @@ unfolding judged front accepts
 judged-front m k from past none = refl
 judged-front m k from past (some ps) = refl
 
-pub token-told : (t : List ℕ) (at : ℕ) (x : Next) (w : Word) (from past : ℕ) → x ≡ Lexed w from past → Told t at x → Leads t at w from past
+pub token-told : (t : List ℕ) (at : ℕ) (x : Next) (k : Lexeme) → x ≡ Lexed k → Told t at x → Leads t at k.word k.from k.past
 unfolding Told
-token-told t at x w from past e T = rw e at T
+token-told t at x k e T = rw e at T
 
 module _ (t : List ℕ) (at : ℕ) (m : Mode) (r : Bool) (inv : judged m (placed_from t at) ≡ r) where
   pub turn : (w : Word) (from past : ℕ) (n : Mode) → Leads t at w from past → n ≡ move m (token_at t w from past) → judged n (placed_from t past) ≡ r
@@ -88,6 +90,12 @@ module _ (t : List ℕ) (at : ℕ) (m : Mode) (r : Bool) (inv : judged m (placed
   pub turn_outside : (x : Next) → x ≡ NoToken → Told t at x → false ≡ r
   unfolding Told judged
   turn_outside x e T = let p : placed_from t at ≡ none = rw e at T in sym (ap (judged m) p) ∙ inv
+
+-- no token is left of a text that is accepted
+pub told_ends : (t : List ℕ) (at : ℕ) (m : Mode) → judged m (placed_from t at) ≡ true → (x : Next) → (x ≡ Ends) ⊎ (x ≡ NoToken) → Told t at x → placed_from t at ≡ some []
+unfolding Told
+told_ends t at m j x (inl e) T = rw e at T
+told_ends t at m j x (inr e) T = absurd (true≢false (sym (turn_outside t at m true j x e T)))
 
 -- a text that is accepted is one that has a layout
 pub tokens-placed : (at : ℕ) (ps : List Piece) → map (λ p. p.token) (placed at ps) ≡ tokens_in ps

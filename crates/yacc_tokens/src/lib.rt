@@ -51,9 +51,9 @@ pub fn is_grammar(text: &[u8]) -> bool
     // The end of a text and what is no token answer differently, which a `for` over tokens would not tell apart.
     loop {
         match next_token(text, at) {
-            Next::Token(word, _from, past) => {
-                mode = moved(mode, word);
-                at = past;
+            Next::Token(lexeme) => {
+                mode = moved(mode, lexeme.word);
+                at = lexeme.past;
             }
             Next::End => {
                 return matches!(mode, Mode::Done);

@@ -15,7 +15,7 @@ pub enum Verdict {
     Bad,
 }
 
-// What a word says, and whether it is such an id.
+// What a word says, and whether it is such an id: `wrong` is what is judged, a yes or no of the text, and no switch.
 #[tactic(auto, unfolding(crate::specs::Uses::judged))]
 pub fn judge(verdict: Verdict, what: Saying, wrong: bool) -> Verdict
     ensures { result ≡ judged verdict what wrong }

@@ -1,4 +1,4 @@
-// Writing a table's grammar as a yacc text (request 09), in code. Bytes are put as far as there is room (specs/Wrote), so that the functions that write also count.
+// Writing a table's grammar as a yacc text (request 09), in code. Bytes are put as far as there is room (specs/Wrote), so that the functions that write also count. Each takes the text and a place and answers the place behind (crate conflict_words says why there is no writer).
 
 #![tactic(auto)]
 
@@ -25,7 +25,6 @@ fn put(text: &mut [u8], at: usize, byte: u8) -> usize
 {
     if at < text.len() {
         text[at] = byte;
-        return at + 1;
     }
     at + 1
 }
@@ -154,15 +153,14 @@ fn ascends(table: AcceptedTable) -> bool
     let nonterminals = table.counts().nonterminals;
     let mut least: usize = 0;
     for n in 0..nonterminals {
-        let head = table.first_production(n);
-        if head == 0 {
-            return false;
+        match table.productions(n).next() {
+            Some(first) if least <= first.production => {
+                least = first.production + 1;
+            }
+            _ => {
+                return false;
+            }
         }
-        let first = table.production(head).production;
-        if first < least {
-            return false;
-        }
-        least = first + 1;
     }
     true
 }
@@ -184,7 +182,7 @@ fn write_ordered(table: AcceptedTable, text: &mut [u8]) -> Result<u16, Refusal>
     if size > text.len() {
         return Err(Refusal::NoRoom);
     }
-    let _size = put_file(text, grammar, counts.terminals);
+    put_file(text, grammar, counts.terminals);
     Ok(size as u16)
 }
 

@@ -8,8 +8,8 @@ use Rattle.yacc_count.specs.Counted.{no_counts, counts_in, Within}
 use Rattle.yacc_count.proofs.Laws.{tally_all}
 use Rattle.yacc_count.proofs.count.Given as goal
 
-abbrev pub invariant-loop-word : goal.invariant-loop-word
-invariant-loop-word l = (l.at ≤ length l.text) × Within l.tally l.at × (of_said no_counts (tally_all l.tally) (mode_of l.mode) (placed_from l.text l.at) ≡ counts_in l.text)
+abbrev pub invariant-loop-lexeme : goal.invariant-loop-lexeme
+invariant-loop-lexeme l = (l.at ≤ length l.text) × Within l.tally l.at × (of_said no_counts (tally_all l.tally) (mode_of l.mode) (placed_from l.text l.at) ≡ counts_in l.text)
 
-abbrev pub decreases-loop-word : goal.decreases-loop-word
-decreases-loop-word l = length l.text - l.at
+abbrev pub decreases-loop-lexeme : goal.decreases-loop-lexeme
+decreases-loop-lexeme l = length l.text - l.at

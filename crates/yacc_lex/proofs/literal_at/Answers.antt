@@ -1,35 +1,36 @@
-use Rattle.yacc_lex.proofs.Laws.{literal_short, literal_bad, literal_open, literal_whole}
-use Rattle.yacc_lex.specs.Steps.{Steps}
 use native.Mathlib.Omega.{arith}
+use mathlib.Core.Path.{sym, ap, ◌∙◌}
+use Rattle.yacc_text.specs.Grammar.{literal_byte}
+use Rattle.yacc_lex.specs.Steps.{Steps}
+use Rattle.yacc_lex.proofs.Runs.{rest_long, byte_behind}
+use Rattle.yacc_lex.proofs.Laws.{literal_short, literal_bad, literal_open, literal_whole}
 use Rattle.yacc_lex.proofs.literal_at.Goals as goal
 
-pub returns-then-text-at-lt3 : goal.returns-then-text-at-lt3
+pub returns-in-len3-up : goal.returns-in-len3-up
 unfolding Steps
-returns-then-text-at-lt3 c = literal_short _ _ c.requires.0 c.requires.1 (omega (arith, c.requires.0, c.if-text-at-lt3.true))
+returns-in-len3-up c =
+    let l = c.in-len3-up.len_at_least in
+    let r = rest_long c.args.at c.args.text.now in
+    literal_whole _ _ c.requires.0 c.requires.1 (omega (arith, l, r)) _ (c.is_literal.ensures ∙ ap literal_byte (byte_behind c.args.at 1 c.args.text.now)) c.if-is_literal.true (sym (byte_behind c.args.at 2 c.args.text.now) ∙ c.if-end-eq39.true)
 
-pub overflow_add-at : goal.overflow_add-at
-overflow_add-at c = omega (arith, c.requires.0, c.if-text-at-lt3.false)
-
-pub bounds-text-at : goal.bounds-text-at
-bounds-text-at c = omega (arith, c.requires.0, c.if-text-at-lt3.false)
-
-pub returns-then-not-is_literal : goal.returns-then-not-is_literal
+pub returns-in_default : goal.returns-in_default
 unfolding Steps
-returns-then-not-is_literal c = literal_bad _ _ c.requires.0 c.requires.1 (omega (arith, c.requires.0, c.if-text-at-lt3.false)) _ c.is_literal.ensures c.if-not-is_literal.true
+returns-in_default c =
+    let l = c.in_default.len_below in
+    let r = rest_long c.args.at c.args.text.now in
+    let h = c.requires.0 in
+    literal_short _ _ c.requires.0 c.requires.1 (omega (arith, l, r, h))
 
-pub overflow_add-at-2 : goal.overflow_add-at-2
-overflow_add-at-2 c = omega (arith, c.requires.0, c.if-text-at-lt3.false)
-
-pub bounds-text-at-2 : goal.bounds-text-at-2
-bounds-text-at-2 c = omega (arith, c.requires.0, c.if-text-at-lt3.false)
-
-pub overflow_add-result : goal.overflow_add-result
-overflow_add-result c = omega (arith, c.requires.0, c.if-text-at-lt3.false)
-
-pub returns-then-text-at-eq39 : goal.returns-then-text-at-eq39
+pub returns-in_default-2 : goal.returns-in_default-2
 unfolding Steps
-returns-then-text-at-eq39 c = literal_whole _ _ c.requires.0 c.requires.1 (omega (arith, c.requires.0, c.if-text-at-lt3.false)) _ c.is_literal.ensures c.if-not-is_literal.false c.if-text-at-eq39.true
+returns-in_default-2 c =
+    let l = c.in-len3-up.len_at_least in
+    let r = rest_long c.args.at c.args.text.now in
+    literal_open _ _ c.requires.0 c.requires.1 (omega (arith, l, r)) _ (c.is_literal.ensures ∙ ap literal_byte (byte_behind c.args.at 1 c.args.text.now)) c.if-is_literal.true (λ e. c.if-end-eq39.false (byte_behind c.args.at 2 c.args.text.now ∙ e))
 
-pub returns : goal.returns
+pub returns-in_default-3 : goal.returns-in_default-3
 unfolding Steps
-returns c = literal_open _ _ c.requires.0 c.requires.1 (omega (arith, c.requires.0, c.if-text-at-lt3.false)) _ c.is_literal.ensures c.if-not-is_literal.false c.if-text-at-eq39.false
+returns-in_default-3 c =
+    let l = c.in-len3-up.len_at_least in
+    let r = rest_long c.args.at c.args.text.now in
+    literal_bad _ _ c.requires.0 c.requires.1 (omega (arith, l, r)) _ (c.is_literal.ensures ∙ ap literal_byte (byte_behind c.args.at 1 c.args.text.now)) c.if-is_literal.false

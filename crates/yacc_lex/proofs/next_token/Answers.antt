@@ -27,3 +27,6 @@ returns-in-End c = end_told _ _ _ _ c.loop-past.invariant.2 c.in-End.is c.piece_
 pub returns-in-Outside : goal.returns-in-Outside
 unfolding Told
 returns-in-Outside c = out-told _ _ _ _ c.loop-past.invariant.2 c.in-Outside.is c.piece_at.ensures
+
+pub invariant_of-result : goal.invariant_of-result
+invariant_of-result c = record { wide = (word-told _ _ _ _ _ _ c.loop-past.invariant.0 c.loop-past.invariant.2 c.in-Word.is c.piece_at.ensures).wide }

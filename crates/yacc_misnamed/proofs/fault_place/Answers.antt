@@ -1,30 +1,44 @@
-use Rattle.std.proofs.Common.{arith}
-use Rattle.yacc_read.specs.Outcome.{source_in}
-use Rattle.yacc_said.proofs.Laws.{read_in, ends_in}
-use Rattle.yacc_misnamed.proofs.Fault.{rests_first, rests_turn, rests_here, rests_ends, not_absent}
+use native.Mathlib.Omega.{arith}
+use mathlib.Core.Path.{◌≡◌}
+use Rattle.std.proofs.Common.{rules}
+use Rattle.repr.specs.Lists.{some?}
+use Rattle.yacc_lex.specs.Steps.{token_at, found_at}
+use Rattle.yacc_tokens.specs.Accepted.{mode_of}
+use Rattle.yacc_read.specs.Source.{Source}
+use Rattle.yacc_read.specs.Events.{event_of}
+use Rattle.yacc_said.proofs.Along.{asked_along, found_inside}
+use Rattle.yacc_enter.specs.Table.{Holds}
+use Rattle.yacc_misnamed.specs.Fault.{faulty}
+use Rattle.yacc_misnamed.proofs.Fault.{rests_first, fault_found}
 use Rattle.yacc_misnamed.proofs.fault_place.Goals as goal
 
-pub loop-token-init : goal.loop-token-init
-loop-token-init c =
-    let n = c.new-token-items.ensures in
-    rw (c.into_iter-token-iterator.ensures.into_iter_gives, n.mode, n.at) (n.text, omega arith, λ l p. rests_first c.args.symbols.now.text.now l p)
+pub find-requires-clause-callable : goal.find-requires-clause-callable
+find-requires-clause-callable c = asked_along c.args.symbols.now.text.now _ _ (λ x q k. search rules) _ (λ x h. search rules) _ c.new.ensures.text
 
-pub is_fault-requires : goal.is_fault-requires
-is_fault-requires c = (read_in _ c.loop-token.token-iterator c.loop-token.invariant.0 _ _ c.in-Some.ensures.steps).leads.inside
+pub returns-in_err-token-clause-first : goal.returns-in_err-token-clause-first
+unfolding found_at
+returns-in_err-token-clause-first c = λ l p.
+    let t = c.args.symbols.now.text.now in
+    let n = c.new.ensures in
+    let H = c.args.symbols.now.named.held l p in
+    let M = fault_found t l p _ _
+    (λ x b q k. (search rules, (let told : (S : Source) → Holds c.args.symbols.now S.nonterminals S.terminals → b ≡ some? (faulty S) (event_of (mode_of x.mode) (token_at t x.lexeme.word x.lexeme.from x.lexeme.past) x.lexeme.from x.lexeme.past) = search rules in told _ H)))
+    _ _ _ c.find.ensures.ran n.text (rw (n.mode, n.at) (rests_first t l p)) in
+    rw c.from_residual.ensures (rw c.in_err-token.was at M)
 
-pub returns-then-is_fault : goal.returns-then-is_fault
-returns-then-is_fault c =
-    let i = c.loop-token.invariant in
-    let R = read_in _ c.loop-token.token-iterator i.0 _ _ c.in-Some.ensures.steps in
-    let w = R.leads.wide in
-    let h = R.leads.inside in
-    (omega (arith, w, h), λ l p y. rests_here _ _ _ _ _ (i.2 l p) _ _ _ R.leads _ (rw R.in_mode at (c.is_fault.ensures (source_in l.pieces) (c.args.symbols.now.named.held l p))) c.if-is_fault.true)
+pub returns-clause-inside : goal.returns-clause-inside
+returns-clause-inside c =
+    let h = rw c.in_ok-token.was at (found_inside c.args.symbols.now.text.now _ _ (λ x q k. search rules) _ _ _ c.find.ensures.ran c.new.ensures.text) in
+    let w = c.in_ok-token.token.lexeme.wide in
+    omega (arith, h, w)
 
-pub loop-token-preserved : goal.loop-token-preserved
-loop-token-preserved c =
-    let i = c.loop-token.invariant in
-    let R = read_in _ c.loop-token.token-iterator i.0 _ _ c.in-Some.ensures.steps in
-    (R.text, R.leads.inside, λ l p. rw R.at (rests_turn _ _ _ _ _ (i.2 l p) _ _ _ R.leads _ (rw R.in_mode at (c.is_fault.ensures (source_in l.pieces) (c.args.symbols.now.named.held l p))) c.if-is_fault.false _ R.mode))
-
-pub returns : goal.returns
-returns c = let i = c.loop-token.invariant in (i.1, λ l p y. not_absent l _ (rests_ends _ _ _ _ _ (i.2 l p) (ends_in _ _ i.0 _ c.in-None.ensures.steps)) y)
+pub returns-clause-first : goal.returns-clause-first
+unfolding found_at
+returns-clause-first c = λ l p.
+    let t = c.args.symbols.now.text.now in
+    let n = c.new.ensures in
+    let H = c.args.symbols.now.named.held l p in
+    let M = fault_found t l p _ _
+    (λ x b q k. (search rules, (let told : (S : Source) → Holds c.args.symbols.now S.nonterminals S.terminals → b ≡ some? (faulty S) (event_of (mode_of x.mode) (token_at t x.lexeme.word x.lexeme.from x.lexeme.past) x.lexeme.from x.lexeme.past) = search rules in told _ H)))
+    _ _ _ c.find.ensures.ran n.text (rw (n.mode, n.at) (rests_first t l p)) in
+    rw c.in_ok-token.was at M

@@ -1,45 +1,29 @@
-use Rattle.std.proofs.Common.{sym, ◌∙◌}
-use Rattle.yacc_read.specs.Outcome.{source_in}
-use Rattle.yacc_said.proofs.Laws.{read_in, says_in, ends_in, said_ends}
+use borrow.Author.Tests.{tests}
+use mathlib.Core.Path.{◌∙◌}
+use Rattle.std.proofs.Common.{rules}
+use Rattle.yacc_said.proofs.Along.{found_inside}
 use Rattle.yacc_misnamed.proofs.Laws.{start_word}
-use Rattle.yacc_places.proofs.Laws.{start_first, start_none, start_turn, start_here, number_known, number_unknown}
+use Rattle.yacc_places.proofs.Laws.{start_first, start_found, number_known, number_unknown}
 use Rattle.yacc_places.proofs.start_of.Goals as goal
 
-pub loop-token-init : goal.loop-token-init
-loop-token-init c =
-    let n = c.new-token-items.ensures in
-    rw (c.into_iter-token-iterator.ensures.into_iter_gives, n.mode, n.at) (n.text, λ l p. start_first c.args.symbols.now.text.now l p)
-
-pub loop-token-preserved : goal.loop-token-preserved
-loop-token-preserved c =
-    let i = c.loop-token.invariant in
-    let R = read_in _ c.loop-token.token-iterator i.0 _ _ c.in-Some.ensures.steps in
-    let e = says_in _ c.loop-token.token-iterator i.0 _ _ R in
-    (R.text, λ l p. rw R.at (start_turn _ _ _ _ _ (i.1 l p) _ _ _ _ R.leads e c.in_default.not-Opens _ R.mode))
+pub returns-in_default : goal.returns-in_default
+returns-in_default c = λ l p.
+    let n = c.new-tokens.ensures in
+    rw c.in_default.is at (start_found c.args.symbols.now.text.now l p _ _ (λ x q k. search (rules, tests)) (λ x q k. search (rules, tests)) _ _ _ c.find.ensures.ran n.text (rw (n.mode, n.at) (start_first c.args.symbols.now.text.now l p)))
 
 pub left-requires : goal.left-requires
-left-requires c = let L = (read_in _ c.loop-token.token-iterator c.loop-token.invariant.0 _ _ c.in-Some.ensures.steps).leads in (L.wide, L.inside)
+left-requires c = rw c.in-Some.is at (found_inside c.args.symbols.now.text.now _ _ (λ x q k. search rules) _ _ _ c.find.ensures.ran c.new-tokens.ensures.text)
 
 pub returns-in-Some-left : goal.returns-in-Some-left
-returns-in-Some-left c =
-    let i = c.loop-token.invariant in
-    let R = read_in _ c.loop-token.token-iterator i.0 _ _ c.in-Some.ensures.steps in
-    let e = says_in _ c.loop-token.token-iterator i.0 _ _ R in
-    λ l p.
+returns-in-Some-left c = λ l p.
+    let n = c.new-tokens.ensures in
     let H = c.args.symbols.now.named.held l p in
-    c.from.ensures
-    ∙ number_known _ _ _ (c.in-Some-left.ensures (start_word _ _ _ e c.in-Opens.is) _ _ H)
-    ∙ start_here _ _ _ _ _ (i.1 l p) _ _ _ _ R.leads e c.in-Opens.is
+    let M = rw c.in-Some.is at (start_found c.args.symbols.now.text.now l p _ _ (λ x q k. search (rules, tests)) (λ x q k. search (rules, tests)) _ _ _ c.find.ensures.ran n.text (rw (n.mode, n.at) (start_first c.args.symbols.now.text.now l p))) in
+    c.from.ensures ∙ number_known _ _ _ (c.in-Some-left.ensures (start_word _ _ _ c.in-Some.token.says M.0) _ _ H) ∙ M.1
 
-pub returns-in-None-left : goal.returns-in-None-left
-returns-in-None-left c =
-    let i = c.loop-token.invariant in
-    let R = read_in _ c.loop-token.token-iterator i.0 _ _ c.in-Some.ensures.steps in
-    let e = says_in _ c.loop-token.token-iterator i.0 _ _ R in
-    λ l p.
+pub returns-in-None : goal.returns-in-None
+returns-in-None c = λ l p.
+    let n = c.new-tokens.ensures in
     let H = c.args.symbols.now.named.held l p in
-    number_unknown _ _ _ (c.in-None-left.ensures (start_word _ _ _ e c.in-Opens.is) _ _ H) H.nonterminals.numbers.count
-    ∙ start_here _ _ _ _ _ (i.1 l p) _ _ _ _ R.leads e c.in-Opens.is
-
-pub returns : goal.returns
-returns c = let i = c.loop-token.invariant in λ l p. sym (start_none (source_in l.pieces).nonterminals) ∙ said_ends 0 _ _ _ _ _ (i.1 l p 0) (ends_in _ _ i.0 _ c.in-None.ensures.steps)
+    let M = rw c.in-Some.is at (start_found c.args.symbols.now.text.now l p _ _ (λ x q k. search (rules, tests)) (λ x q k. search (rules, tests)) _ _ _ c.find.ensures.ran n.text (rw (n.mode, n.at) (start_first c.args.symbols.now.text.now l p))) in
+    number_unknown _ _ _ (c.in-None.ensures (start_word _ _ _ c.in-Some.token.says M.0) _ _ H) H.nonterminals.numbers.count ∙ M.1

@@ -1,4 +1,4 @@
-use Rattle.std.proofs.Common.{arith, ◌∙◌}
+use Rattle.std.proofs.Common.{arith}
 use Rattle.yacc_said.proofs.Laws.{read_in, says_in, ends_in}
 use Rattle.yacc_places.proofs.Laws.{placing-first, placing-next, placing-last}
 use Rattle.yacc_places.proofs.write_places.Goals as goal

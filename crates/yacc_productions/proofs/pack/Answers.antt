@@ -1,13 +1,13 @@
 use Rattle.std.proofs.Common.{arith, ◌∙◌}
 use Rattle.yacc_read.specs.Outcome.{source_in}
 use Rattle.yacc_said.proofs.Laws.{read_in, says_in, ends_in}
-use Rattle.yacc_productions.proofs.Laws.{turn_first, turn_last, whole_of, said_all}
+use Rattle.yacc_productions.proofs.Laws.{zero_body, turn_first, turn_last, whole_of, said_all}
 use Rattle.yacc_productions.proofs.pack.Goals as goal
 
 pub loop-token-init : goal.loop-token-init
 loop-token-init c =
     let n = c.new-token-items.ensures in
-    rw (c.into_iter-token-iterator.ensures.into_iter_gives, n.mode, n.at) (
+    rw (c.into_iter-token-iterator.ensures.into_iter_gives, n.mode, n.at, zero_body c.default-body.result c.default-body.ensures) (
       n.text,
       record { production = omega arith; owner = omega arith; symbols = omega arith; start = omega arith; end = omega arith },
       λ l p. turn_first _ _ _ (said_all _ l p),

@@ -5,8 +5,8 @@ use Rattle.yacc_text.specs.Places.{placed_from}
 use Rattle.yacc_tokens.specs.Accepted.{mode_of, judged, is_grammar_text}
 use Rattle.yacc_tokens.proofs.is_grammar.Given as goal
 
-abbrev pub invariant-loop-word : goal.invariant-loop-word
-invariant-loop-word l = (l.at ≤ length l.text) × (judged (mode_of l.mode) (placed_from l.text l.at) ≡ is_grammar_text l.text)
+abbrev pub invariant-loop-lexeme : goal.invariant-loop-lexeme
+invariant-loop-lexeme l = (l.at ≤ length l.text) × (judged (mode_of l.mode) (placed_from l.text l.at) ≡ is_grammar_text l.text)
 
-abbrev pub decreases-loop-word : goal.decreases-loop-word
-decreases-loop-word l = length l.text - l.at
+abbrev pub decreases-loop-lexeme : goal.decreases-loop-lexeme
+decreases-loop-lexeme l = length l.text - l.at

@@ -11,11 +11,11 @@ put_file-size-requires c = rw c.counts-counts.ensures.terminals c.counts-counts.
 pub returns-then-size-text : goal.returns-then-size-text
 returns-then-size-text c = ordered_short _ _ _ _ _ _ c.requires c.counts-counts.ensures.terminals c.counts-counts.ensures.productions c.read_productions.ensures.1 c.put_file-size.ensures.0.place c.if-size-text.true
 
-pub put_file-size-requires-2 : goal.put_file-size-requires-2
-put_file-size-requires-2 c = rw c.counts-counts.ensures.terminals c.counts-counts.ensures.fits.few_terminals
+pub put_file-requires : goal.put_file-requires
+put_file-requires c = rw c.counts-counts.ensures.terminals c.counts-counts.ensures.fits.few_terminals
 
 pub overflow_cast-result : goal.overflow_cast-result
 overflow_cast-result c = omega (arith, c.put_file-size.ensures.1)
 
 pub returns : goal.returns
-returns c = ordered_done _ _ _ _ _ _ c.requires c.counts-counts.ensures.terminals c.counts-counts.ensures.productions c.read_productions.ensures.1 c.put_file-size.ensures.0.place c.if-size-text.false _ _ c.put_file-size-2.ensures.0
+returns c = ordered_done _ _ _ _ _ _ c.requires c.counts-counts.ensures.terminals c.counts-counts.ensures.productions c.read_productions.ensures.1 c.put_file-size.ensures.0.place c.if-size-text.false _ _ c.put_file.ensures.0

@@ -2,4 +2,4 @@ use native.Mathlib.Omega.{arith}
 use Rattle.yacc_enter.proofs.SymbolTable.find.Goals as goal
 
 pub find-requires : goal.find-requires
-find-requires c = record { entered = c.args.self.now.kept.names; from_le_past = (omega (arith, c.requires.0), c.requires.1) }
+find-requires c = let w = c.args.lexeme.wide in record { entered = c.args.self.now.kept.names; from_le_past = (omega (arith, w), c.requires) }

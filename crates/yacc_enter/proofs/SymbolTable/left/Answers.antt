@@ -8,13 +8,13 @@ use Rattle.yacc_enter.proofs.SymbolTable.left.Goals as goal
 pub returns-in_err-find-in-Name : goal.returns-in_err-find-in-Name
 returns-in_err-find-in-Name c =
     let n : c.from_residual.result ≡ None = search rules in
-    λ i ns ts H. ap held n ∙ left_none _ _ _ _ _ _ _ _ _ H _ _ c.requires.0 c.requires.1 _ c.in-Name.is (sym (ap held c.in_err-find-in-Name.was) ∙ c.find.ensures)
+    λ i ns ts H. ap held n ∙ left_none _ _ _ _ _ _ _ _ _ H _ _ c.args.lexeme.wide c.requires _ c.in-Name.is (sym (ap held c.in_err-find-in-Name.was) ∙ c.find.ensures)
 
 pub number_at-requires : goal.number_at-requires
 number_at-requires c = let l = found_low _ _ _ c.in_ok-find-in-Name.ensures in let k = c.args.self.now.kept.left in omega (arith, l, k)
 
 pub returns-in_ok-find-in-Name : goal.returns-in_ok-find-in-Name
-returns-in_ok-find-in-Name c = λ i ns ts H. left_some _ _ _ _ _ _ _ _ _ H _ _ c.requires.0 c.requires.1 _ c.in-Name.is _ c.in_ok-find-in-Name.ensures _ c.number_at.ensures
+returns-in_ok-find-in-Name c = λ i ns ts H. left_some _ _ _ _ _ _ _ _ _ H _ _ c.args.lexeme.wide c.requires _ c.in-Name.is _ c.in_ok-find-in-Name.ensures _ c.number_at.ensures
 
 pub returns-in_default : goal.returns-in_default
 returns-in_default c = λ i ns ts H. left_other _ _ _ _ _ _ _ _ _ H _ _ _ c.in_default.not-Name i

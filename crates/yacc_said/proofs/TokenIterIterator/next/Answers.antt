@@ -1,13 +1,11 @@
-use Rattle.std.proofs.Common.{arith, refl, sym}
-use mathlib.Core.Bool.{true≢false}
+use Rattle.std.proofs.Common.{arith, refl}
 use Rattle.yacc_lex.specs.Steps.{Told}
-use Rattle.yacc_tokens.proofs.Laws.{turn, turn_outside}
+use Rattle.yacc_tokens.proofs.Laws.{turn, told_ends}
 use Rattle.yacc_said.specs.Tokens.{Gives}
 use Rattle.yacc_said.proofs.TokenIterIterator.next.Goals as goal
 
 pub invariant_of-token : goal.invariant_of-token
-unfolding Told
-invariant_of-token c = record { says = c.said.ensures; wide = c.in-Token.ensures.wide }
+invariant_of-token c = record { says = c.said.ensures }
 
 pub invariant_of-self : goal.invariant_of-self
 unfolding Told
@@ -30,8 +28,5 @@ returns-in-Token-clause-goes c =
     record { on = λ f. (tt, tt, omega (arith, o, w, i)); keeps = tt; rests = λ f. tt }
 
 pub returns-in-End-clause-steps : goal.returns-in-End-clause-steps
-unfolding Told Gives
-returns-in-End-clause-steps c = c.in-End.ensures
-
-pub returns-in-Outside : goal.returns-in-Outside
-returns-in-Outside c = absurd (true≢false (sym (turn_outside _ _ _ _ c.args.self.now.accepted _ c.in-Outside.is c.next_token.ensures)))
+unfolding Gives
+returns-in-End-clause-steps c = told_ends _ _ _ c.args.self.now.accepted _ c.in-End.is c.next_token.ensures

@@ -1,12 +1,12 @@
 use Rattle.std.proofs.Common.{refl, ◌∙◌}
 use Rattle.yacc_said.proofs.Laws.{read_in, judged_in, says_in, ends_in}
-use Rattle.yacc_enter.proofs.Laws.{turn_first, turn_within, turn_open, turn_lefts, turn_tokens, no_quote, turn_next, turn_last}
-use Rattle.yacc_enter.proofs.enter_all.Goals as goal
+use Rattle.yacc_enter.proofs.Laws.{zero_ids, turn_first, turn_within, turn_open, turn_lefts, turn_tokens, no_quote, turn_next, turn_last}
+use Rattle.yacc_enter.proofs.Words.enter_all.Goals as goal
 
 pub loop-token-init : goal.loop-token-init
 loop-token-init c =
     let n = c.new-token-items.ensures in
-    rw (c.into_iter-token-iterator.ensures.into_iter_gives, n.mode, n.at)
+    rw (c.into_iter-token-iterator.ensures.into_iter_gives, n.mode, n.at, zero_ids c.default-ids.result c.default-ids.ensures)
     (n.text, record { starts = refl; pasts = refl; ix = refl; lefts = refl; tokens = refl }, turn_first _ _ _ _ _ _ c.requires.0)
 
 pub enter-ids-requires : goal.enter-ids-requires

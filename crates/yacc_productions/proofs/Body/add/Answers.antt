@@ -1,0 +1,36 @@
+use mathlib.Core.Path.{refl}
+use lib.ListN.{length-set}
+use native.Mathlib.Omega.{arith}
+use Rattle.yacc_productions.proofs.Laws.{place_small, added_is}
+use Rattle.yacc_productions.proofs.Body.add.Goals as goal
+use Rattle.yacc_productions.proofs.Body.add.Goals.{then-self-ge-LIMIT-via-then-self-ge-LIMIT, then-self-ge-LIMIT-via-else-self-ge-LIMIT+then-self-ge-SYMBOLS}
+
+pub returns-then-self-ge-LIMIT : goal.returns-then-self-ge-LIMIT
+returns-then-self-ge-LIMIT c = (
+  c.requires.grammar_len.1,
+  record {
+    production = refl;
+    owner = refl;
+    long = refl;
+    front = refl;
+    more = λ h k. absurd (elim c.then-self-ge-LIMIT.branch [
+      | then-self-ge-LIMIT-via-then-self-ge-LIMIT w ↦ (let t = w.if-self-ge-LIMIT.true in omega (arith, h, t))
+      | then-self-ge-LIMIT-via-else-self-ge-LIMIT+then-self-ge-SYMBOLS w ↦ (let t = w.if-self-ge-SYMBOLS.true in omega (arith, k, t))
+    ]);
+  },
+)
+
+pub bounds-grammar-at-2 : goal.bounds-grammar-at-2
+bounds-grammar-at-2 c = let l = c.requires.grammar_len.0 in
+    let h = c.if-self-ge-LIMIT.false in
+    let k = c.if-self-ge-SYMBOLS.false in
+    simp length-set (omega (arith, l, h, k))
+
+pub returns : goal.returns
+returns c = let B = c.requires.grammar_len.1 in
+    let k = c.if-self-ge-SYMBOLS.false in
+    let w = c.args.lexeme.wide in
+    let l = c.requires.past_bound in (
+      record { production = B.production; owner = B.owner; symbols = omega (arith, k); start = rw c.place_or.ensures (place_small _ _ _ (omega (arith, w, l)) B.start); end = l },
+      added_is _ _ _ _ _ _ _ _ _ (λ h. c.words_of-kind.ensures.0) (λ h. c.words_of-kind.ensures.1) c.place_or.ensures,
+    )
