@@ -11,7 +11,6 @@ use Rattle.repr.specs.Reply.{answered, refused}
 use Rattle.repr.specs.Meaning.{Table, Production}
 use Rattle.repr.specs.Listed.{listed, list_is_fit}
 use Rattle.repr.proofs.Listed.{symbol_wider}
-use Rattle.repr.specs.Packed.{productions_in}
 use Rattle.table.specs.Checked.{Checked, Accepted, Refused}
 use Rattle.table.specs.Decoded.{meaning}
 use Rattle.first.specs.First.{FIRST, first0, first1, sets_of_first}
@@ -29,8 +28,8 @@ module _ {A : Type 0} (refuse : ℕ → ℕ → A) (answer : Table → A) (t : L
   over_accepted c e a h = rw e h
 
 -- ---- first0 and first1
-pub sets-read : (e : ℕ) (ps : List Production) (t m : ℕ) (g : List ℕ) → t ≡ e → m ≡ length ps → productions_in g (length ps) ≡ ps → (map : List ℕ) → map ≡ sets_of_first t (productions_in g m) → map ≡ sets_of_first e ps
-sets-read e ps t m g et em ep map h = h ∙ (λ j. sets_of_first (et j) ((ap (productions_in g) em ∙ ep) j))
+pub sets-read : (e : ℕ) (ps qs : List Production) (t : ℕ) → t ≡ e → qs ≡ ps → (map : List ℕ) → map ≡ sets_of_first t qs → map ≡ sets_of_first e ps
+sets-read e ps qs t et eq map h = h ∙ (λ j. sets_of_first (et j) (eq j))
 
 module _ (ws : List ℕ) (T : Table) (n t : ℕ) (en : n ≡ length T.nonterminals) (et : t ≡ T.terminals) (b : Bool) (eb : b ≡ list_is_fit n t ws) where
   pub fits_by : b ≡ symbols_fit T ws

@@ -13,7 +13,6 @@ use Rattle.repr.specs.Sizes.{edge_limit, edge_place, graph_room}
 use Rattle.slices.specs.Lent.{in_front}
 use Rattle.repr.specs.Lists.{some?}
 use Rattle.repr.specs.Meaning.{Table, Production, Item}
-use Rattle.repr.specs.Packed.{productions_in}
 use Rattle.table.specs.Checked.{Checked, Accepted, Refused as NotAccepted}
 use Rattle.table.specs.Decoded.{meaning}
 use Rattle.trace_graph.specs.declared.Node.{Node as NodeValue}
@@ -123,11 +122,8 @@ added-over : (graph : List ℕ) (es : List TraceEdge) → edge_limit < length es
 unfolding added_outcome
 added-over graph es h = rw (lt-leb (length es) edge_limit h, added_outcome)
 
--- what was read of the table: n nonterminals, m productions, in words g; b: whether the edge is in range
-module _ (v : EdgeValue) (graph : List ℕ) (T : Table) (n m : ℕ) (g : List ℕ) (b : Bool) (en : n ≡ length T.nonterminals) (em : m ≡ length T.productions) (ep : productions_in g (length T.productions) ≡ T.productions) (eb : b ≡ value_fits n (productions_in g m) v) where
-  read : productions_in g m ≡ T.productions
-  read = ap (productions_in g) em ∙ ep
-
+-- what was read of the table: n nonterminals, the productions ps; b: whether the edge is in range
+module _ (v : EdgeValue) (graph : List ℕ) (T : Table) (n : ℕ) (ps : List Production) (b : Bool) (en : n ≡ length T.nonterminals) (read : ps ≡ T.productions) (eb : b ≡ value_fits n ps v) where
   edge_told : b ≡ value_fits (length T.nonterminals) T.productions v
   edge_told = eb ∙ (λ j. value_fits (en j) (read j) v)
 
@@ -142,7 +138,7 @@ module _ (v : EdgeValue) (graph : List ℕ) (T : Table) (n m : ℕ) (g : List �
     pub graph_short : length graph < graph_room → edge_outcome (refused 11 0) graph ≡ added_edge_in v graph T
     graph_short l = sym (add_ways ∙ rw (sym edge_told ∙ f, lt-leb graph_room (length graph) l) (ways_short _ _ _ _))
 
-    module _ (l : graph_room ≤ length graph) (r : Bool) (er : r ≡ graph_fits n (productions_in g m) graph) where
+    module _ (l : graph_room ≤ length graph) (r : Bool) (er : r ≡ graph_fits n ps graph) where
       graph_told : r ≡ graph_fits (length T.nonterminals) T.productions graph
       graph_told = er ∙ (λ j. graph_fits (en j) (read j) graph)
 
@@ -150,27 +146,27 @@ module _ (v : EdgeValue) (graph : List ℕ) (T : Table) (n m : ℕ) (g : List �
       graph_out q = sym (add_ways ∙ rw (sym edge_told ∙ f, le-leb graph_room (length graph) l, sym graph_told ∙ q) (ways_graph _ _ _))
 
       module _ (q : r ≡ true) where
-        all_fit : added_outcome graph (add (productions_in g m) (edge_is v) (edges_in graph)) ≡ added_edge_in v graph T
+        all_fit : added_outcome graph (add ps (edge_is v) (edges_in graph)) ≡ added_edge_in v graph T
         all_fit =
-            ap (λ (ps : List Production). added_outcome graph (add ps (edge_is v) (edges_in graph))) read
+            ap (λ (qs : List Production). added_outcome graph (add qs (edge_is v) (edges_in graph))) read
             ∙ sym (add_ways ∙ rw (sym edge_told ∙ f, le-leb graph_room (length graph) l, sym graph_told ∙ q) (ways_all _ _ _))
 
-        pub edge_added : {graph' ix ix' : List ℕ} (count : ℕ) → Graphed n (productions_in g m) graph ix (get_or graph 0 0) → Added n (productions_in g m) (edge_is v) graph graph' ix' → count ≡ get_or graph' 0 0
+        pub edge_added : {graph' ix ix' : List ℕ} (count : ℕ) → Graphed n ps graph ix (get_or graph 0 0) → Added n ps (edge_is v) graph graph' ix' → count ≡ get_or graph' 0 0
             → edge_outcome (answered count) graph' ≡ added_edge_in v graph T
-        edge_added {graph' = graph'} count G A ec = make (ec ∙ counted) (A.words ∙ add_words_lem (productions_in g m) (edge_is v) graph G few) ∙ sym (added_few graph _ few) ∙ all_fit
+        edge_added {graph' = graph'} count G A ec = make (ec ∙ counted) (A.words ∙ add_words_lem ps (edge_is v) graph G few) ∙ sym (added_few graph _ few) ∙ all_fit
           where
-            counted : get_or graph' 0 0 ≡ length (add (productions_in g m) (edge_is v) (edges_in graph))
+            counted : get_or graph' 0 0 ≡ length (add ps (edge_is v) (edges_in graph))
             counted = sym (edges_long graph') ∙ ap length A.edges
 
-            few : length (add (productions_in g m) (edge_is v) (edges_in graph)) ≤ edge_limit
+            few : length (add ps (edge_is v) (edges_in graph)) ≤ edge_limit
             few = rw counted at A.good.few
 
             make : {a b : ℕ} {x y : List ℕ} → a ≡ b → x ≡ y → edge_outcome (answered a) x ≡ edge_outcome (answered b) y
             make e h = λ j. edge_outcome (answered (e j)) (h j)
 
-        pub edge_over : {graph' ix ix' : List ℕ} → Overfull (productions_in g m) (edge_is v) graph ix graph' ix' → edge_outcome (refused 12 0) graph' ≡ added_edge_in v graph T
+        pub edge_over : {graph' ix ix' : List ℕ} → Overfull ps (edge_is v) graph ix graph' ix' → edge_outcome (refused 12 0) graph' ≡ added_edge_in v graph T
         edge_over {graph'} {ix} {ix'} F =
-            let h = overfull_long (productions_in g m) (edge_is v) graph ix graph' ix' F in
+            let h = overfull_long ps (edge_is v) graph ix graph' ix' F in
             ap (edge_outcome (refused 12 0)) F.words ∙ sym (added-over graph _ (omega arith)) ∙ all_fit
 
 -- an edge between equal nodes

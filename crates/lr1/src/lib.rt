@@ -24,7 +24,7 @@ use builder::Built;
 use first::{Answer, FirstSets};
 use lookahead::TokenSet;
 use lr1_core::Item;
-use repr::{ProductionIndex, Refusal, joined_fits, list_fits, word};
+use repr::{ProductionIndex, Refusal, joined_fits, list_fits};
 use state_graph::{StateIndex, StateSet};
 use table::AcceptedTable;
 use trace_graph::{TraceEdge, TraceGraph, TraceGraphNode, check_graph, edge_fits, insert};
@@ -137,7 +137,8 @@ fn first1_in(
     ensures { reply_of result ≡ first1_answer symbols.now lookahead.0 (meaning table.entry.words.now) }
 {
     let counts = table.counts();
-    if list_fits(counts.nonterminals, counts.terminals, symbols) && lookahead.fits(counts.terminals)
+    if list_fits(counts.nonterminals, counts.terminals, symbols)
+        && lookahead.fits(counts.terminals)
     {
         Ok(first_sets(table).first1(symbols, lookahead))
     } else {
@@ -223,7 +224,7 @@ fn add_edge_in(table: AcceptedTable, edge: TraceEdge, graph: &mut [u16]) -> Resu
         return Err(Refusal::OutOfRange);
     }
     insert(grammar, n, graph, &mut ix, edge)?;
-    Ok(word(graph, 0) as u16)
+    Ok(graph[0])
 }
 
 // The one trace or the other, of a table as it is lent.

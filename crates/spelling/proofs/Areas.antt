@@ -58,14 +58,14 @@ sized t e = let r = rows_first t e in record { words = r.0; counts = r.1 }
 
 -- the areas of the table are those of its spelling, and its counts are what it means
 pub record Spelled (t : List ℕ) (a : Areas) : Type 0 where
-  pub counts : CountsOf (meaning t) a.nonterminals a.terminals a.states a.productions
+  pub counts : CountsOf (meaning t) a.counts.nonterminals a.counts.terminals a.counts.states a.counts.productions
   pub states : a.states_at ≡ states_at (meaning t)
   pub productions : a.productions_at ≡ productions_at (meaning t)
   pub symbols : a.loose_at ≡ symbols_at (meaning t)
 
 pub spelled : (t : List ℕ) (a : Areas) → check_of t ≡ Accepted → AreasOf t a → Spelled t a
 spelled t a e A =
-    let C = counts t e a.nonterminals a.terminals a.states a.productions A.nonterminals A.terminals A.states A.productions in
+    let C = counts t e a.counts.nonterminals a.counts.terminals a.counts.states a.counts.productions A.nonterminals A.terminals A.states A.productions in
     let b = begins (meaning t) in
     record {
       counts = C;

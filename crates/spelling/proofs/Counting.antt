@@ -1,35 +1,47 @@
 -- Laws of the counting of chains up to a limit. Assumes nothing.
 use mathlib.Core.Path.{◌≡◌, sym, ap, ◌∙◌}
-use mathlib.Core.List.{List}
+use mathlib.Core.List.{List, [], ◌∷◌}
 use Prim.Native.Nat.{ℕ, ◌+◌, ◌-◌, ◌≤◌, ◌<◌, min}
 use native.Mathlib.Omega.{arith}
+use native.Mathlib.Decide.{ℕ_discrete}
+use Rattle.std.proofs.Common.{None, Some}
+use Rattle.std.specs.Iterator.{Yields}
+use Rattle.std.specs.Iterator.Adapters.{take_steps, take_source, take_count}
+use Rattle.std.specs.declared.iter.Take.{Take}
 use lib.ListN.{length}
-use Rattle.table.specs.Checked.{Accepted}
 use Rattle.table.specs.Words.{word_at}
-use Rattle.table.specs.Refusals.{check_of}
 use Rattle.spelling.specs.Spelled.{size_of}
 use Rattle.spelling.specs.Grown.{records_from, LooseIndex, chains_of, Heads}
-use Rattle.spelling.proofs.Reading.{records_end, records-more, index_next, chains_end, chains_more, heads_more}
+use Rattle.spelling.specs.Steps.{RecordStep}
+use Rattle.spelling.specs.declared.chain.LooseRecord.{LooseRecord}
+use Rattle.spelling.specs.declared.chain.RecordIter.{RecordIter}
+use Rattle.spelling.proofs.Reading.{records_end, records-more, chains_end, chains_more, heads_more}
 
-pub record Counting (t : List ℕ) (all most from count : ℕ) : Type 0 where
-  pub on : LooseIndex t from
-  pub few : count ≤ most
-  pub left : count + length (records_from t from) ≡ all
+-- what is left of a chain, and the first n records of it counted
+abbrev left : RecordIter → List ℕ
+left s = records_from s.table.words.now s.at
 
-module _ (t : List ℕ) (e : check_of t ≡ Accepted) where
-  pub counting_start : (head most : ℕ) → LooseIndex t head → Counting t (length (records_from t head)) most head 0
-  counting_start head most I = record { on = I; few = omega arith; left = omega arith }
+left-more : (s j : RecordIter) (x : LooseRecord) → RecordStep s (Some x) j → length (left s) ≡ length (left j) + 1
+left-more s j x h =
+    let m = records-more s.table.words.now s.table.accepted s.at h.1.0 s.on x.next h.1.2 in
+    let l = ap length m in
+    let e : left j ≡ records_from s.table.words.now x.next = λ i. records_from (h.0 i) (h.1.1 i) in
+    let k = ap length e in
+    omega (arith, l, k)
 
-  pub counting_step : (all most from count next : ℕ) → (from ≡ 0 → ⊥) → (count ≡ most → ⊥) → next ≡ word_at t from 0 → Counting t all most from count → Counting t all most next (count + 1)
-  counting_step all most from count next ne h en W =
-      let l = ap length (records-more t e from ne W.on next en) in
-      record { on = index_next t e from ne W.on next en; few = omega (arith, W.few, h); left = omega (arith, W.left) }
-
-  pub counting_most : (all most from count : ℕ) → count ≡ most → Counting t all most from count → most ≡ min all most
-  counting_most all most from count h W = omega (arith, W.left)
-
-  pub counting_end : (all most from count : ℕ) → from ≡ 0 → Counting t all most from count → count ≡ min all most
-  counting_end all most from count z W = let l = ap length (records_end t from z) in omega (arith, W.left, W.few)
+pub taken : (xs : List LooseRecord) (s t u : Take RecordIter) → Yields (take_steps RecordStep) s xs t → take_steps RecordStep t None u → length xs ≡ min (take_count s) (length (left (take_source s)))
+taken [] s t u y e = go (ℕ_discrete (take_count t) 0)
+  where
+    go : Dec (take_count t ≡ 0) → 0 ≡ min (take_count s) (length (left (take_source s)))
+    go (yes z) = let w = ap take_count y in omega (arith, w, z)
+    go (no ne) =
+        let z = ap length (records_end (take_source t).table.words.now (take_source t).at (e (omega (arith, ne))).1) in
+        let v = ap (λ (r : Take RecordIter). length (left (take_source r))) y in
+        omega (arith, v, z)
+taken (x ∷ xs) s t u y e =
+    let w = taken xs y.0 t u y.2 e in
+    let l = left-more (take_source s) (take_source y.0) x y.1.0 in
+    omega (arith, w, l, y.1.1)
 
 -- the chains of the holders before `holder` are counted
 pub record Totalling (t : List ℕ) (all most past k holder total : ℕ) : Type 0 where

@@ -57,14 +57,7 @@ fn count_chain(table: AcceptedTable, head: usize, most: usize) -> usize
     requires loose_index { LooseIndex table.words.now head × (most ≤ suc record_limit) }
     ensures { result ≡ min (length (records_from table.entry.words.now head)) most }
 {
-    let mut count: usize = 0;
-    for _record in (RecordIter { table, at: head }) {
-        if count == most {
-            return most;
-        }
-        count += 1;
-    }
-    count
+    (RecordIter { table, at: head }).take(most).count()
 }
 
 // A region of loose records: the chains whose heads stand in word k of the records from `first` up to and without `past`.
@@ -162,7 +155,7 @@ impl<'a> Spelling<'a> {
         requires room { Room (meaning self.table.words.now) out.old }
         ensures { Grown (meaning self.entry.table.words.now) out.old out.new 1 (states_at (meaning self.entry.table.words.now)) }
     {
-        for n in 0..self.areas.nonterminals {
+        for n in 0..self.areas.counts.nonterminals {
             let head = word(self.table.words, 1 + n, 0);
             put(out, 1 + n, head, 0, 0, 0);
         }
@@ -178,7 +171,7 @@ impl<'a> Spelling<'a> {
         let a = self.areas;
         let mut i = at.items;
         let mut d = at.edges;
-        for s in 0..a.states {
+        for s in 0..a.counts.states {
             let many_items = count_chain(self.table, self.table.first_item(s), RECORDS);
             let many_edges = count_chain(self.table, self.table.first_edge(s), RECORDS);
             let item_head = head_of(many_items, i);
@@ -196,7 +189,7 @@ impl<'a> Spelling<'a> {
     {
         let a = self.areas;
         let mut y = a.loose_at;
-        for p in 0..a.productions {
+        for p in 0..a.counts.productions {
             let record = a.productions_at + p;
             let next = word(self.table.words, record, 0);
             let start = word(self.table.words, record, 2);
@@ -216,7 +209,15 @@ impl<'a> Spelling<'a> {
         ensures { Grown (meaning self.entry.table.words.now) out.old out.new 0 (records_of (meaning self.entry.table.words.now)) }
     {
         let a = self.areas;
-        put(out, 0, a.nonterminals, a.terminals, a.states, a.productions);
+        let counts = a.counts;
+        put(
+            out,
+            0,
+            counts.nonterminals,
+            counts.terminals,
+            counts.states,
+            counts.productions,
+        );
         self.write_nonterminals(out);
         self.write_states(at, out);
         self.write_productions(out);

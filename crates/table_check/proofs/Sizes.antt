@@ -74,7 +74,7 @@ pub record CountsAre (t : List ℕ) (n m s p : ℕ) : Type 0 where
 
 -- ---- the areas
 pub surveyed : {t : List ℕ} → Sized t → {n m s p : ℕ} → CountsAre t n m s p
-    → AreasOf t (record { records = length t / 4; nonterminals = n; terminals = m; states = s; productions = p; states_at = 1 + n; productions_at = 1 + n + s; loose_at = 1 + n + s + p })
+    → AreasOf t (record { counts = record { nonterminals = n; terminals = m; states = s; productions = p }; records = length t / 4; states_at = 1 + n; productions_at = 1 + n + s; loose_at = 1 + n + s + p })
 unfolding records loose production_area state_area
 surveyed {t} z {n} {m} {s} {p} C =
     let w = room t z in
@@ -108,9 +108,9 @@ module _ (t : List ℕ) (a : Areas) (A : AreasOf t a) where
   gathered hs ls h l h' l' = record { areas = A; held = h; lengths = l; held_long = h'; lengths_long = l' }
 
   pub reaching : (ss is es : List ℕ)
-      → Passed t a.productions_at a.productions 1 a.productions (loose t) ss
-      → Passed t a.states_at a.states 0 a.states (loose t) is
-      → Passed t a.states_at a.states 1 a.states (loose t) es
+      → Passed t a.productions_at a.counts.productions 1 a.counts.productions (loose t) ss
+      → Passed t a.states_at a.counts.states 0 a.counts.states (loose t) is
+      → Passed t a.states_at a.counts.states 1 a.counts.states (loose t) es
       → Reaching t (loose t) ss is es
   reaching ss is es s i e = record {
     symbols = rw (← A.productions_at, ← A.productions) s;

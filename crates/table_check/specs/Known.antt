@@ -12,19 +12,19 @@ area from past = record { from = from; past = past }
 pub record AreasOf (t : List ℕ) (a : Areas) : Type 0 where
   pub words : length t ≡ a.records * 4
   pub records : a.records ≡ records t
-  pub nonterminals : a.nonterminals ≡ word_at t 0 0
-  pub terminals : a.terminals ≡ word_at t 0 1
-  pub states : a.states ≡ word_at t 0 2
-  pub productions : a.productions ≡ word_at t 0 3
+  pub nonterminals : a.counts.nonterminals ≡ word_at t 0 0
+  pub terminals : a.counts.terminals ≡ word_at t 0 1
+  pub states : a.counts.states ≡ word_at t 0 2
+  pub productions : a.counts.productions ≡ word_at t 0 3
   pub states_at : a.states_at ≡ state_area t
   pub productions_at : a.productions_at ≡ production_area t
   pub loose_at : a.loose_at ≡ loose t
-  pub states_is : a.states_at ≡ 1 + a.nonterminals
-  pub productions_is : a.productions_at ≡ a.states_at + a.states
-  pub loose_is : a.loose_at ≡ a.productions_at + a.productions
+  pub states_is : a.states_at ≡ 1 + a.counts.nonterminals
+  pub productions_is : a.productions_at ≡ a.states_at + a.counts.states
+  pub loose_is : a.loose_at ≡ a.productions_at + a.counts.productions
   pub few : a.records ≤ record_limit
   pub room : a.loose_at ≤ a.records
-  pub few_productions : a.productions ≤ 128
+  pub few_productions : a.counts.productions ≤ 128
 
 -- one more for each record of a list, as far as two; `at` is the first record that is counted
 unfoldable pub bump : ℕ → List ℕ → List ℕ → List ℕ

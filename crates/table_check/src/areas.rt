@@ -14,11 +14,8 @@ const STATES: usize = 128;
 // The counts of record 0, the number of records, and where the areas begin.
 #[derive(Clone, Copy)]
 pub struct Areas {
+    pub counts: Counts,
     pub records: usize,
-    pub nonterminals: usize,
-    pub terminals: usize,
-    pub states: usize,
-    pub productions: usize,
     pub states_at: usize,
     pub productions_at: usize,
     pub loose_at: usize,
@@ -85,8 +82,8 @@ impl<'a> Surveyed<'a> {
 #[derive(Clone, Copy)]
 pub struct Gathered<'a> {
     pub s: Surveyed<'a>,
-    pub held: &'a [u8],
-    pub lengths: &'a [u8],
+    pub held: &'a [u8; ProductionIndex::LIMIT],
+    pub lengths: &'a [u8; ProductionIndex::LIMIT],
     pub ghost known: { Known s.words.now s.areas held.now lengths.now },
 }
 
@@ -115,9 +112,9 @@ impl<'a> Record<'a> {
         named.against(self.r, self.word(k))
     }
 
-    // Whether word k, which is to be spare, is not 0.
+    // Whether word k, which is to be spare, is used: not 0.
     #[tactic(auto, unfolding(table::specs::Refusals::used))]
-    pub(crate) fn spare(self, k: usize) -> bool
+    pub(crate) fn used(self, k: usize) -> bool
         requires { k < 4 }
         ensures { result ≡ used self.entry.g.s.words.now self.entry.r k }
     {
@@ -159,11 +156,8 @@ pub fn survey(table: &[u16]) -> Areas
     let states_at = 1 + counts.nonterminals;
     let productions_at = states_at + counts.states;
     Areas {
+        counts,
         records: table.len() / 4,
-        nonterminals: counts.nonterminals,
-        terminals: counts.terminals,
-        states: counts.states,
-        productions: counts.productions,
         states_at,
         productions_at,
         loose_at: productions_at + counts.productions,

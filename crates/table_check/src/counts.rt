@@ -26,11 +26,10 @@ fn symbol_count(s: Surveyed, p: usize) -> usize
 }
 
 // Those of all productions.
-pub fn count(s: Surveyed, lengths: &mut [u8])
-    requires lengths_len { length lengths.old ≡ 128 }
+pub fn count(s: Surveyed, lengths: &mut [u8; ProductionIndex::LIMIT])
     ensures { Lengths s.entry.words.now lengths.new }
 {
-    let productions = s.areas.productions;
+    let productions = s.areas.counts.productions;
     for p in 0..productions {
         lengths[p] = symbol_count(s, p) as u8;
     }

@@ -8,7 +8,7 @@ use crate::loose::Roles;
 use repr::ProductionIndex;
 
 // The rows of document 01's table that speak of one record, in their order.
-#[derive(Clone, Copy, PartialEq, Eq)]
+#[derive(Clone, Copy, PartialEq, Eq, PartialOrd, Ord)]
 pub enum Row {
     Chain = 3,
     Owner = 4,
@@ -27,7 +27,7 @@ impl<'a> Record<'a> {
         if self.against(self.g.s.productions(), 0) {
             return Some(Row::Chain);
         }
-        if self.spare(1) || self.spare(2) || self.spare(3) {
+        if self.used(1) || self.used(2) || self.used(3) {
             return Some(Row::Spare);
         }
         None
@@ -42,7 +42,7 @@ impl<'a> Record<'a> {
         if self.against(loose, 0) || self.against(loose, 1) {
             return Some(Row::Chain);
         }
-        if self.spare(2) || self.spare(3) {
+        if self.used(2) || self.used(3) {
             return Some(Row::Spare);
         }
         None

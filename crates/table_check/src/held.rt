@@ -7,11 +7,12 @@ ghost use Rattle.table_check.specs.Known.{bump};
 
 use crate::areas::Surveyed;
 use crate::chain::ChainIter;
+use repr::ProductionIndex;
 use table::word;
 
 // One more for each production in the chain of nonterminal n, as far as two.
-fn hold_chain(s: Surveyed, n: usize, held: &mut [u8])
-    requires n_bound { (n < word_at s.words.now 0 0) × (length held.old ≡ 128) }
+fn hold_chain(s: Surveyed, n: usize, held: &mut [u8; ProductionIndex::LIMIT])
+    requires n_bound { n < word_at s.words.now 0 0 }
     ensures { held.new ≡ bump (production_area s.entry.words.now) held.old (production_chain s.entry.words.now n) }
 {
     let last = 1 + n;
@@ -28,11 +29,11 @@ fn hold_chain(s: Surveyed, n: usize, held: &mut [u8])
 }
 
 // The chains of all nonterminals.
-pub fn hold(s: Surveyed, held: &mut [u8])
+pub fn hold(s: Surveyed, held: &mut [u8; ProductionIndex::LIMIT])
     requires held_value { held.old ≡ replicate 128 0 }
     ensures { Held s.entry.words.now held.new }
 {
-    let count = s.areas.nonterminals;
+    let count = s.areas.counts.nonterminals;
     for n in 0..count {
         hold_chain(s, n, held);
     }

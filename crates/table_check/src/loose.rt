@@ -40,7 +40,12 @@ impl<'a> Record<'a> {
         let kind = self.word(1);
         let number = self.word(2);
         (roles.symbol || roles.edge)
-            && !symbol_fits(areas.nonterminals, areas.terminals, kind, number)
+            && !symbol_fits(
+                areas.counts.nonterminals,
+                areas.counts.terminals,
+                kind,
+                number,
+            )
     }
 
     // Row 7 of an item: its production, and its index against the production's length.
@@ -51,7 +56,7 @@ impl<'a> Record<'a> {
         let g = self.g;
         let production = self.word(1);
         let index = self.word(2);
-        production >= g.s.areas.productions || (g.lengths[production] as usize) < index
+        production >= g.s.areas.counts.productions || (g.lengths[production] as usize) < index
     }
 
     // Row 7: also the target of an edge.
@@ -59,7 +64,7 @@ impl<'a> Record<'a> {
     pub fn range_fault(self, roles: Roles) -> bool
         ensures { result ≡ range_bad self.entry.g.s.words.now self.entry.r roles.item roles.edge }
     {
-        let states = self.g.s.areas.states;
+        let states = self.g.s.areas.counts.states;
         (roles.item && self.item_fault()) || (roles.edge && states <= self.word(3))
     }
 
@@ -68,6 +73,6 @@ impl<'a> Record<'a> {
     pub fn spare_fault(self, roles: Roles) -> bool
         ensures { result ≡ spare_bad self.entry.g.s.words.now self.entry.r roles.symbol roles.item }
     {
-        (roles.symbol || roles.item) && self.spare(3)
+        (roles.symbol || roles.item) && self.used(3)
     }
 }

@@ -23,7 +23,7 @@ pub struct Marks<const N: usize> {
     pub edges: [u64; N],
 }
 
-// The heads in word k of the n records from `first` on.
+// The heads in word k of the n records from `first` on: both words of a state are heads, of items and of edges.
 fn mark_heads(s: Surveyed, first: usize, n: usize, k: usize, marks: &mut [u64])
     requires { (first + n ≤ s.areas.loose_at) × ((k < 2) × Blank s.words.now marks.old) }
     ensures { Passed s.entry.words.now first n k n (loose s.entry.words.now) marks.new }
@@ -66,9 +66,15 @@ impl<const N: usize> Marks<N> {
             items: [0u64; N],
             edges: [0u64; N],
         };
-        mark_heads(s, a.productions_at, a.productions, 1, &mut marks.symbols);
-        mark_heads(s, a.states_at, a.states, 0, &mut marks.items);
-        mark_heads(s, a.states_at, a.states, 1, &mut marks.edges);
+        mark_heads(
+            s,
+            a.productions_at,
+            a.counts.productions,
+            1,
+            &mut marks.symbols,
+        );
+        mark_heads(s, a.states_at, a.counts.states, 0, &mut marks.items);
+        mark_heads(s, a.states_at, a.counts.states, 1, &mut marks.edges);
         marks
     }
 

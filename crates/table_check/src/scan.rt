@@ -46,7 +46,7 @@ fn lower(best: Option<Offence>, fault: Option<Row>, r: usize) -> Option<Offence>
 {
     match (fault, best) {
         (None, _) => best,
-        (Some(row), Some(least)) if row as u16 >= least.row as u16 => best,
+        (Some(row), Some(least)) if row >= least.row => best,
         (Some(row), _) => Some(Offence { row, place: r }),
     }
 }

@@ -1,28 +1,28 @@
 use mathlib.Core.Path.{refl, sym, ◌∙◌}
+use Rattle.std.proofs.lemmas.Result.{err_from_is_err_and}
 use Rattle.lr1.proofs.Graphs.{edge_out, graph_short, graph_out, edge_added, edge_over}
 use native.Mathlib.Omega.{arith}
 use Rattle.lr1.proofs.add_edge_in.Goals as goal
 
-pub invariant_of-grammar : goal.invariant_of-grammar
-invariant_of-grammar c = record { packed = rw c.counts-counts.ensures.productions c.read_productions.ensures.0 }
+pub returns-then-not-edge_fits : goal.returns-then-not-edge_fits
+returns-then-not-edge_fits c = edge_out _ _ _ _ _ _ c.counts-n.ensures.nonterminals c.read_grammar-grammar.ensures.1 c.edge_fits.ensures c.if-not-edge_fits.true
 
 pub returns-then-graph-lt-WORDS : goal.returns-then-graph-lt-WORDS
-returns-then-graph-lt-WORDS c = graph_short _ _ _ _ _ _ _ c.counts-counts.ensures.nonterminals c.counts-counts.ensures.productions c.read_productions.ensures.1 c.edge_fits.ensures c.if-edge_fits.true (omega (arith, c.if-graph-lt-WORDS.true))
+returns-then-graph-lt-WORDS c = graph_short _ _ _ _ _ _ c.counts-n.ensures.nonterminals c.read_grammar-grammar.ensures.1 c.edge_fits.ensures c.if-not-edge_fits.false (omega (arith, c.if-graph-lt-WORDS.true))
 
 pub check_graph-requires : goal.check_graph-requires
-check_graph-requires c = record { n_bound = (rw c.counts-counts.ensures.nonterminals c.counts-counts.ensures.fits.few_nonterminals, omega (arith, c.if-graph-lt-WORDS.false)); ix_value = refl }
+check_graph-requires c = record { n_bound = (rw c.counts-n.ensures.nonterminals c.counts-n.ensures.fits.few_nonterminals, omega (arith, c.if-graph-lt-WORDS.false)); ix_value = refl }
+
+pub returns-then-not-check_graph : goal.returns-then-not-check_graph
+returns-then-not-check_graph c = graph_out _ _ _ _ _ _ c.counts-n.ensures.nonterminals c.read_grammar-grammar.ensures.1 c.edge_fits.ensures c.if-not-edge_fits.false (omega (arith, c.if-graph-lt-WORDS.false)) _ c.check_graph.ensures.value c.if-not-check_graph.true
 
 pub insert-requires : goal.insert-requires
-insert-requires c = record { graphed = c.check_graph.ensures.graphed c.if-check_graph.true; edge_value = sym c.edge_fits.ensures ∙ c.if-edge_fits.true }
+insert-requires c = record { graphed = c.check_graph.ensures.graphed c.if-not-check_graph.false; edge_value = sym c.edge_fits.ensures ∙ c.if-not-edge_fits.false }
 
-pub returns-in-Ok : goal.returns-in-Ok
-returns-in-Ok c = edge_added _ _ _ _ _ _ _ c.counts-counts.ensures.nonterminals c.counts-counts.ensures.productions c.read_productions.ensures.1 c.edge_fits.ensures c.if-edge_fits.true (omega (arith, c.if-graph-lt-WORDS.false)) _ c.check_graph.ensures.value c.if-check_graph.true _ (c.check_graph.ensures.graphed c.if-check_graph.true) (c.in-Ok.ensures.added) c.word.ensures.0
+pub returns-in_err-insert : goal.returns-in_err-insert
+returns-in_err-insert c =
+    let p = err_from_is_err_and c.from_residual.result c.from_residual.ensures.1 in
+    rw (p.1, p.2) (edge_over _ _ _ _ _ _ c.counts-n.ensures.nonterminals c.read_grammar-grammar.ensures.1 c.edge_fits.ensures c.if-not-edge_fits.false (omega (arith, c.if-graph-lt-WORDS.false)) _ c.check_graph.ensures.value c.if-not-check_graph.false c.in_err-insert.ensures.overfull)
 
-pub returns-in-Err : goal.returns-in-Err
-returns-in-Err c = edge_over _ _ _ _ _ _ _ c.counts-counts.ensures.nonterminals c.counts-counts.ensures.productions c.read_productions.ensures.1 c.edge_fits.ensures c.if-edge_fits.true (omega (arith, c.if-graph-lt-WORDS.false)) _ c.check_graph.ensures.value c.if-check_graph.true (c.in-Err.ensures.overfull)
-
-pub returns-else-check_graph : goal.returns-else-check_graph
-returns-else-check_graph c = graph_out _ _ _ _ _ _ _ c.counts-counts.ensures.nonterminals c.counts-counts.ensures.productions c.read_productions.ensures.1 c.edge_fits.ensures c.if-edge_fits.true (omega (arith, c.if-graph-lt-WORDS.false)) _ c.check_graph.ensures.value c.if-check_graph.false
-
-pub returns-else-edge_fits : goal.returns-else-edge_fits
-returns-else-edge_fits c = edge_out _ _ _ _ _ _ _ c.counts-counts.ensures.nonterminals c.counts-counts.ensures.productions c.read_productions.ensures.1 c.edge_fits.ensures c.if-edge_fits.false
+pub returns : goal.returns
+returns c = edge_added _ _ _ _ _ _ c.counts-n.ensures.nonterminals c.read_grammar-grammar.ensures.1 c.edge_fits.ensures c.if-not-edge_fits.false (omega (arith, c.if-graph-lt-WORDS.false)) _ c.check_graph.ensures.value c.if-not-check_graph.false _ (c.check_graph.ensures.graphed c.if-not-check_graph.false) c.in_ok-insert.ensures.added refl

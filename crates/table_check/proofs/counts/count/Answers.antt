@@ -6,11 +6,11 @@ pub symbol_count-requires : goal.symbol_count-requires
 symbol_count-requires c = let A = c.args.s.of in record { p_bound = omega arith }
 
 pub bounds-lengths-p : goal.bounds-lengths-p
-bounds-lengths-p c = let A = c.args.s.of in omega (arith, c.loop-p-test.true, c.requires.lengths_len)
+bounds-lengths-p c = let A = c.args.s.of in omega (arith, c.loop-p-test.true)
 
 pub loop-p-preserved : goal.loop-p-preserved
 loop-p-preserved c = let A = c.args.s.of in
-    lengths-more c.args.s.words.now c.loop-p.lengths c.loop-p.p c.symbol_count.result (omega (arith, c.loop-p-test.true, c.requires.lengths_len)) c.symbol_count.ensures c.loop-p.invariant
+    lengths-more c.args.s.words.now c.loop-p.lengths c.loop-p.p c.symbol_count.result (omega (arith, c.loop-p-test.true)) c.symbol_count.ensures c.loop-p.invariant
 
 pub returns : goal.returns
 returns c = let A = c.args.s.of in lengths-all _ _ _ _ A.productions (omega arith) c.loop-p.invariant

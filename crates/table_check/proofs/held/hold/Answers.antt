@@ -1,5 +1,4 @@
-use Rattle.std.proofs.Common.{ap, ◌∙◌, ℕ, length, arith}
-use Rattle.std.proofs.lemmas.List.{length-replicate}
+use Rattle.std.proofs.Common.{arith}
 use Rattle.table_check.proofs.Bumped.{left-start, left-more, left-held}
 use Rattle.table_check.proofs.held.hold.Goals as goal
 
@@ -7,7 +6,7 @@ pub loop-n-init : goal.loop-n-init
 loop-n-init c = left-start _ _ _
 
 pub hold_chain-requires : goal.hold_chain-requires
-hold_chain-requires c = let A = c.args.s.of in record { n_bound = (omega (arith, c.loop-n-test.true), c.loop-n.auto.held ∙ ap length c.requires.held_value ∙ length-replicate {A = ℕ} 128 0) }
+hold_chain-requires c = let A = c.args.s.of in record { n_bound = omega (arith, c.loop-n-test.true) }
 
 pub loop-n-preserved : goal.loop-n-preserved
 loop-n-preserved c = left-more _ _ _ _ _ _ c.loop-n-test.true c.hold_chain.ensures c.loop-n.invariant

@@ -8,7 +8,7 @@ invariant_of-r-items c = let A = c.args.s.of in record { inside = omega (arith, 
 pub loop-r-init : goal.loop-r-init
 loop-r-init c =
     let p = c.productions.ensures in
-    rw c.into_iter-r-iterator.ensures.into_iter_gives (hold_begin _ _ c.args.s.of _ p.records p.within.0 p.within.1 _ _ _ refl c.word.ensures.0 _ c.requires.n_bound.1)
+    rw c.into_iter-r-iterator.ensures.into_iter_gives (hold_begin _ _ c.args.s.of _ p.records p.within.0 p.within.1 _ _ _ refl c.word.ensures.0 _ (omega arith))
 
 pub overflow_sub-p : goal.overflow_sub-p
 overflow_sub-p c = (hold_here (rw c.in-Some.ensures.steps at c.loop-r.invariant)).0
