@@ -199,7 +199,7 @@ module _ (t : List ℕ) (e : check_of t ≡ Accepted) where
     -- the head of its symbols, and how many they are
     pub productions-first : (n s from : ℕ) → n ≡ length (meaning t).nonterminals → s ≡ length (meaning t).states → from ≡ word_at t (1 + n + s + p) 1
         → (symbols_from t from ≡ (production_at (meaning t) p).symbols) × SymbolIndex t from
-    productions-first n s from en es ef = first-symbol_is t e n s p from (en ∙ many_nonterminals t) (es ∙ many_states t) h ef
+    productions-first n s from en es ef = first-symbol_is t e p (1 + n + s + p) from (let z : 1 + n + s + p ≡ production_area t + p = omega (arith, en, es, same_productions t, begins (meaning t)) in z) h ef
 
     pub productions-symbols : (from count : ℕ) → symbols_from t from ≡ (production_at (meaning t) p).symbols → count ≡ min (length (records_from t from)) record_limit
         → (count ≡ length (production_at (meaning t) p).symbols) × (count ≤ record_limit)
