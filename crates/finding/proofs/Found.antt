@@ -1,12 +1,12 @@
 -- One state more, in words: what `store` and `goto_over` come to. Assumes nothing.
-use Rattle.std.proofs.Common.{◌≡◌, ℕ, zero, suc, ◌+◌, ◌-◌, ◌*◌, ◌<◌, ◌≤◌, min, true, false, Option, Some, None, Result, Ok, Err, eqb, ltb, List, [], ◌∷◌, ◌++◌, length, get_or, take, set, sym, refl, ap, ◌∙◌, arith, ltb-false, ltb-true, le-ltb, lt-ltb, ne_eqb, eqb-true}
+use Rattle.std.proofs.Common.{◌≡◌, ℕ, zero, suc, ◌+◌, ◌-◌, ◌*◌, ◌<◌, ◌≤◌, min, true, false, Option, Some, None, Result, Ok, Err, eqb, ltb, List, [], ◌∷◌, ◌++◌, length, get_or, take, set, sym, refl, ap, ◌∙◌, arith, le-ltb, lt-ltb, ne_eqb, eqb-true}
 use lib.ListN.{get_or-append}
 use lib.Seq.{take-length}
 use borrow.Author.Tests.{eqb-false}
 use Rattle.repr.specs.Sizes.{index_limit, item_limit, record_limit, state_limit}
 use Rattle.repr.specs.Lists.{up_from, below, keep}
 use Rattle.repr.specs.Meaning.{Symbol, nonterminal, terminal, SymbolFits, Production, Table}
-use Rattle.repr.proofs.Lists.{cases, length-up_from, length_mapped}
+use Rattle.repr.proofs.Lists.{cases}
 use Rattle.repr.proofs.Tests.{every?_elim, every?_fails}
 use Rattle.build.specs.States.{places, closure, moved, nothing?, goto, place, written}
 use Rattle.build.specs.Outcome.{sum, records, stops_at, number_of}

@@ -1,5 +1,5 @@
 -- What stands in the words while states are found, and what one step leaves. Assumes nothing: these are definitions.
-use Rattle.std.specs.Prelude.{◌≡◌, ℕ, ◌+◌, ◌-◌, ◌*◌, ◌^◌, ◌<◌, ◌≤◌, min, Bool, true, false, Option, Some, None, Result, Ok, Err, List, [], length, slice_index, slice_index_or, slice_set}
+use Rattle.std.specs.Prelude.{◌≡◌, ℕ, ◌+◌, ◌*◌, ◌^◌, ◌<◌, ◌≤◌, min, Bool, true, false, Option, Some, None, Result, Ok, Err, List, [], length, slice_index, slice_index_or, slice_set}
 use Rattle.repr.specs.Sizes.{index_limit, record_limit}
 use Rattle.repr.specs.Meaning.{Symbol, nonterminal, terminal, Production, Table}
 use Rattle.closing.specs.Grammar.{OfTable}

@@ -55,6 +55,8 @@ impl From<Halt> for Refusal {
     }
 }
 
+// Here and in the crates above that take states, what is given, the words, where states begin and the kernel stand beside each other. Tried as one struct: with the kernel in it a field would be lent to be changed
+// while another is lent, or 10,880 words copied at each goto; without it every step is proved, and the call in crate builder is not covered, where the grammar, its sets and the words are lent at lifetimes of their own.
 // One state more, stored behind the others if it has room.
 pub fn append(
     state: &[u64; Item::LIMIT],

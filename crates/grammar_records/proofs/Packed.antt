@@ -12,10 +12,9 @@ use Rattle.repr.specs.Lists.{up_from, below}
 use Rattle.std.specs.List.{range_with_len, sum_by}
 use Rattle.std.proofs.lemmas.List.Sums.{sum_by-cons}
 use native.Mathlib.Numerals.{add-one}
-use Rattle.repr.proofs.Lists.{get_d_map, length_mapped, length-map-below, get_d_map-below}
+use Rattle.repr.proofs.Lists.{length-map-below, get_d_map-below}
 use Rattle.repr.proofs.Parts.{symbols_long}
 use Rattle.spelling.specs.Spelled.{place_of, size_of}
-use Rattle.spelling.proofs.Grown.{place-start, place-next}
 use Rattle.grammar_records.specs.Target.{PackedAs}
 
 pub many_packed : (g : List ℕ) (n : ℕ) → length (productions_in g n) ≡ n

@@ -5,10 +5,11 @@ use native.Mathlib.Omega.{arith}
 use Rattle.taking.proofs.take_one.Goals as goal
 
 pub push-requires : goal.push-requires
-push-requires c = let s = c.requires.search in
-    (c.requires.k_lt_states.2,
-     one_small _ _ _ (omega (arith, s.nonterminals_are, s.grammar.fits.few_nonterminals)) (omega (arith, s.grammar.tokens, s.grammar.fits.few_terminals)) c.requires.k_lt_states.1,
-     to_small _ _ _ _ _ _ _ _ (rw c.in-Some.is at (c.in_ok-target.ensures s)))
+push-requires c = let s = c.requires.search in (
+  c.requires.k_lt_states.2,
+  one_small _ _ _ (omega (arith, s.nonterminals_are, s.grammar.fits.few_nonterminals)) (omega (arith, s.grammar.tokens, s.grammar.fits.few_terminals)) c.requires.k_lt_states.1,
+  to_small _ _ _ _ _ _ _ _ (rw c.in-Some.is at (c.in_ok-target.ensures s)),
+)
 
 pub returns-in_err-target : goal.returns-in_err-target
 returns-in_err-target c = let q = err_from_is_err_and c.from_residual.result c.from_residual.ensures.1 in (refl, λ s. rw (q.1, q.2) (tried-stops _ _ _ _ _ _ _ _ _ _ _ _ (c.in_err-target.ensures s)))
