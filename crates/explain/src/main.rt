@@ -90,7 +90,7 @@ fn explain_some<R: Print + Eprint>(
     Ok(())
 }
 
-// A piece of the conflicts; whether there may be more, a yes or no that a failing read or write does not answer. A conflict cut short is refusal 9, and the last.
+// A piece of the conflicts; whether there may be more, a yes or no that a failing read or write does not answer (what is said of a piece stays in the loop, here and in crate text: a closure that writes and may fail is no plainer). A conflict cut short is refusal 9, and the last.
 fn explain_piece<R: io::Input + Print + Eprint>(
     rt: &R,
     table: &[u16],

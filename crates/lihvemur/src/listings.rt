@@ -12,7 +12,7 @@ use lookahead::TokenSet;
 use repr::ProductionIndex;
 
 // The answer at a listing's end (LIHVEMUR_END in C), which is no refusal.
-pub const END: u16 = 16;
+pub const END: u16 = Advanced::END;
 
 // Any lookahead of a listing from its two parts; the set counts only where it is filtered.
 fn lookahead_of(filtered: bool, set: u64) -> Option<TokenSet>

@@ -96,9 +96,6 @@ fn put_reductions(out: &mut [u8], at: usize, words: &[u16]) -> usize
     place
 }
 
-// The kind of the empty mark.
-const EMPTY_MARK: u16 = 2;
-
 // How many symbols an example has, its empty mark left out.
 fn symbol_total(words: &[u16]) -> usize
     requires { length words.now ≤ 2 * example_symbols }
@@ -106,7 +103,7 @@ fn symbol_total(words: &[u16]) -> usize
 {
     let mut total: usize = 0;
     for symbol in words.chunks_exact(Example::SYMBOL_WORDS) {
-        if symbol[0] != EMPTY_MARK {
+        if symbol[0] != Example::EMPTY_MARK {
             total += 1;
         }
     }
@@ -120,8 +117,8 @@ fn put_length(out: &mut [u8], at: usize, example: &[u16]) -> usize
     ensures { Put out.old at (32 ∷ numeral (printed_length example.now)) out.new result × (result ≤ at + 21) }
 {
     let symbols = word(example, 0);
-    let past = 3 + symbols * Example::SYMBOL_WORDS;
-    let total = symbol_total(&example[3..past]);
+    let past = Example::COUNTS + symbols * Example::SYMBOL_WORDS;
+    let total = symbol_total(&example[Example::COUNTS..past]);
     put_after(out, at, b' ', total as u64)
 }
 
@@ -137,9 +134,9 @@ fn put_example(out: &mut [u8], at: usize, letter: u8, example: &[u16]) -> usize
     let first = put(out, at, letter);
     let second = put_length(out, first, example);
     let third = put_after(out, second, b' ', cursor as u64);
-    let past = 3 + symbols * Example::SYMBOL_WORDS;
+    let past = Example::COUNTS + symbols * Example::SYMBOL_WORDS;
     let end = past + reductions * Example::REDUCTION_WORDS;
-    let fourth = put_symbols(out, third, &example[3..past]);
+    let fourth = put_symbols(out, third, &example[Example::COUNTS..past]);
     let fifth = put_reductions(out, fourth, &example[past..end]);
     put(out, fifth, b'\n')
 }
@@ -168,21 +165,15 @@ fn put_own(out: &mut [u8], at: usize, class: Class) -> usize
 }
 
 // The first line of a class.
-fn put_class(
-    out: &mut [u8],
-    number: u64,
-    class: Class,
-    action_trials: u32,
-    reduce_trials: u32,
-) -> usize
+fn put_class(out: &mut [u8], number: u64, found: Classification) -> usize
     requires { 200 ≤ length out.old }
-    ensures { Put out.old 0 (class_line number (number_of_class class) (values_of_class class) action_trials reduce_trials) out.new result × (result ≤ 168) }
+    ensures { Put out.old 0 (class_line number (number_of_class found.class) (values_of_class found.class) found.action_trials found.reduce_trials) out.new result × (result ≤ 168) }
 {
     let first = put_number(out, 0, number);
-    let second = put_after(out, first, b' ', class_number(class) as u64);
-    let third = put_after(out, second, b' ', action_trials as u64);
-    let fourth = put_after(out, third, b' ', reduce_trials as u64);
-    let last = put_own(out, fourth, class);
+    let second = put_after(out, first, b' ', class_number(found.class) as u64);
+    let third = put_after(out, second, b' ', found.action_trials as u64);
+    let fourth = put_after(out, third, b' ', found.reduce_trials as u64);
+    let last = put_own(out, fourth, found.class);
     put(out, last, b'\n')
 }
 
@@ -228,13 +219,7 @@ pub fn lines(
 {
     match classified {
         Ok(found) => {
-            let next = put_class(
-                out,
-                number,
-                found.class,
-                found.action_trials,
-                found.reduce_trials,
-            );
+            let next = put_class(out, number, found);
             put_examples(out, next, found.class, action, reduce)
         }
         Err(refusal) => refused_line(out, number, refusal.number(), refusal.place()),

@@ -8,7 +8,7 @@ ghost use Rattle.pipe.specs.Given.{Holds};
 use little::{decode, encode};
 use repr::Refusal;
 use std::io;
-use streams::{Failed, read, read_some, write};
+use streams::{Failed, PIECES, read, read_some, write};
 pub use table::RECORDS;
 
 // The most words of a table, and their bytes.
@@ -94,7 +94,7 @@ pub fn say_end<R: Eprint>(rt: &R, run: Result<(), Stop>) {
 
 // The rest, byte for byte. A loop has to end, so it counts its pieces.
 pub fn pass_on<R: io::Input + Print + Eprint>(rt: &R, bytes: &mut [u8]) -> Result<(), Failed> {
-    for _ in 0..u64::MAX {
+    for _ in 0..PIECES {
         let got = read_some(rt, bytes)?;
         if got == 0 {
             break;

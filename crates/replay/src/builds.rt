@@ -1,9 +1,10 @@
 // Op 20: build_states.
 use crate::say::{say_answer, say_digest, say_next, say_words};
 use crate::words::{Request, TABLE, front};
+use builder::Built;
 
 // Words of scratch and of conflicts that are lent, some more than the call takes.
-const BUILD_SCRATCH: usize = 64008;
+const BUILD_SCRATCH: usize = Built::SCRATCH + 8;
 
 const CONFLICTS: usize = 10008;
 

@@ -21,7 +21,17 @@ fn advance(
     let filtered = request.at(2) != 0;
     let set = request.set_at(3);
     lihvemur::listings::lihvemur_advance(
-        request.table, p, i, filtered, set, graph, scratch, buffer, count, is_open, place,
+        request.table,
+        p,
+        i,
+        filtered,
+        set,
+        graph,
+        scratch,
+        buffer,
+        count,
+        is_open,
+        place,
     )
 }
 
@@ -91,7 +101,17 @@ fn examples(
     let filtered = request.at(2) != 0;
     let set = request.set_at(3);
     lihvemur::listings::lihvemur_examples(
-        request.table, p, i, filtered, set, calls, graph, scratch, output, made, place,
+        request.table,
+        p,
+        i,
+        filtered,
+        set,
+        calls,
+        graph,
+        scratch,
+        output,
+        made,
+        place,
     )
 }
 
@@ -127,14 +147,7 @@ fn examples_by<R: Print>(rt: &R, request: Request, n: usize, graph: &[u16]) {
     let mut output = [0u16; SCRATCH];
     let m = n.min(CALLS);
     put_numbers(front(request.rest(11), n), &mut calls);
-    examples_lent(
-        rt,
-        request,
-        &calls[..m],
-        graph,
-        &mut scratch,
-        &mut output,
-    );
+    examples_lent(rt, request, &calls[..m], graph, &mut scratch, &mut output);
     say_digest(rt, &scratch);
     say_digest(rt, &output);
     say_words(rt, front(&output, 24));

@@ -49,6 +49,7 @@ use rewrites::{ask_compact, ask_respell};
 use sets::{ask_item, ask_sets};
 use std::io;
 use std::io::Read;
+use table::RECORDS;
 use tracer::Action;
 use traces::{ask_add_edge, ask_backtrace};
 use walks::{
@@ -57,8 +58,8 @@ use walks::{
 use words::Request;
 use yaccs::{ask_read_yacc, ask_write_yacc};
 
-// Words of a table's buffer, and further words of a request.
-const WORDS: usize = 32772;
+// Words of a table's buffer, a record more than a table has, and further words of a request.
+const WORDS: usize = (RECORDS + 1) * 4;
 
 const MORE: usize = 8448;
 

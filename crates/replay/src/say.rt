@@ -1,6 +1,8 @@
 // Numbers of an answer, a line each request.
 ghost use Rattle.std.specs.Prelude.{◌<◌, ◌≤◌};
 
+use lookahead::TokenSet;
+
 pub fn say_next<R: Print>(rt: &R, n: u64) {
     let _ = print!(rt; " {n}");
 }
@@ -25,10 +27,8 @@ pub fn say_halves<R: Print>(rt: &R, word: u64) {
 pub fn say_ones<R: Print>(rt: &R, bits: u64, from: u64)
     requires { from ≤ 64 }
 {
-    for i in 0..64u64 {
-        if bits >> i & 1 == 1 {
-            say_next(rt, from + i);
-        }
+    for token in TokenSet(bits).iter() {
+        say_next(rt, from + token as u64);
     }
 }
 

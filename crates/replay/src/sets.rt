@@ -7,7 +7,7 @@ use crate::say::{say_answer, say_bool, say_halves, say_next, say_words};
 use crate::words::Request;
 use lookahead::TokenSet;
 use lr1_core::{Item, prefix, suffix};
-use repr::{Grammar, NonterminalString, ProductionIndex};
+use repr::{Grammar, NonterminalString, ProductionIndex, Refusal};
 use table::AcceptedTable;
 
 fn say_set<R: Print>(rt: &R, set: TokenSet) {
@@ -105,7 +105,7 @@ fn ask_item_in<R: Print>(rt: &R, table: AcceptedTable, production: usize, index:
     if production < grammar.productions && index <= grammar.length(production) {
         say_item(rt, Item { production, index }, grammar);
     } else {
-        say_answer(rt, 9, 0);
+        say_answer(rt, Refusal::OutOfRange.number(), 0);
     }
 }
 

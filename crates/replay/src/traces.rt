@@ -7,7 +7,10 @@ use tracer::Action;
 // The words of an accepted graph.
 fn say_graph<R: Print>(rt: &R, answer: u16, edges: u16, graph: &[u16]) {
     if answer == 0 {
-        say_words(rt, front(graph, 1 + edges as usize * TraceGraph::EDGE_WORDS));
+        say_words(
+            rt,
+            front(graph, 1 + edges as usize * TraceGraph::EDGE_WORDS),
+        );
     }
 }
 
@@ -30,10 +33,28 @@ fn backtrace(
     let i = request.at(2);
     match action {
         Action::Shift => {
-            lihvemur::lihvemur_backtrace_shift(request.table, state, p, i, graph, scratch, edges, place)
+            lihvemur::lihvemur_backtrace_shift(
+                request.table,
+                state,
+                p,
+                i,
+                graph,
+                scratch,
+                edges,
+                place,
+            )
         }
         Action::Reduce => {
-            lihvemur::lihvemur_backtrace_reduce(request.table, state, p, i, graph, scratch, edges, place)
+            lihvemur::lihvemur_backtrace_reduce(
+                request.table,
+                state,
+                p,
+                i,
+                graph,
+                scratch,
+                edges,
+                place,
+            )
         }
     }
 }
@@ -58,12 +79,7 @@ pub fn ask_backtrace<R: Print>(rt: &R, action: Action, request: Request) {
     say_graph(rt, answer, edges, &graph);
 }
 
-fn add_edge(
-    request: Request,
-    graph: &mut [u16],
-    edges: &mut u16,
-    place: &mut u16,
-) -> u16 {
+fn add_edge(request: Request, graph: &mut [u16], edges: &mut u16, place: &mut u16) -> u16 {
     lihvemur::lihvemur_add_edge(
         request.table,
         request.at(0),

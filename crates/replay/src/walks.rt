@@ -13,7 +13,13 @@ pub fn ask_first0<R: Print>(rt: &R, request: Request) {
     let mut place: u16 = 7;
     let mut nullable = true;
     let mut set: u64 = 128;
-    let answer = lihvemur::lihvemur_first0(request.table, request.more, &mut set, &mut nullable, &mut place);
+    let answer = lihvemur::lihvemur_first0(
+        request.table,
+        request.more,
+        &mut set,
+        &mut nullable,
+        &mut place,
+    );
     say_answer(rt, answer, place);
     say_bool(rt, nullable);
     say_ones(rt, set, 0);
@@ -23,7 +29,13 @@ pub fn ask_first1<R: Print>(rt: &R, request: Request) {
     let mut place: u16 = 7;
     let mut set: u64 = 128;
     let ahead = request.set_at(0);
-    let answer = lihvemur::lihvemur_first1(request.table, ahead, request.rest(4), &mut set, &mut place);
+    let answer = lihvemur::lihvemur_first1(
+        request.table,
+        ahead,
+        request.rest(4),
+        &mut set,
+        &mut place,
+    );
     say_answer(rt, answer, place);
     say_ones(rt, set, 0);
 }
@@ -77,7 +89,13 @@ pub fn ask_trace_back_joined<R: Print>(rt: &R, request: Request) {
     let xs = front(request.rest(2), n);
     let ys = request.rest(2 + n);
     let answer = lihvemur::lihvemur_trace_back_joined(
-        request.table, state, xs, ys, &mut low, &mut high, &mut place,
+        request.table,
+        state,
+        xs,
+        ys,
+        &mut low,
+        &mut high,
+        &mut place,
     );
     say_answer(rt, answer, place);
     say_ones(rt, low, 0);

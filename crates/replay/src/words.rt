@@ -1,17 +1,18 @@
 // Parts of a request, and words that are lent. Every function is total: words that a request has not are zeros.
 ghost use Rattle.std.specs.Prelude.{◌<◌, ◌≤◌};
 
+use example::Example;
+use table::RECORDS;
+use trace_graph::TraceGraph;
+
 // Words of the buffers that are lent: some more than a call takes, so that those behind show that they stay.
-pub const TABLE: usize = 32776;
+pub const TABLE: usize = RECORDS * 4 + 8;
 
-pub const GRAPH: usize = 8200;
+pub const GRAPH: usize = TraceGraph::WORDS + 7;
 
-pub const SCRATCH: usize = 32008;
+pub const SCRATCH: usize = TraceGraph::SCRATCH + 8;
 
-pub const EXAMPLE: usize = 1160;
-
-// The words of a scratch that a listing uses.
-const LISTED: usize = 32000;
+pub const EXAMPLE: usize = Example::WORDS + 2;
 
 // What a request asks about: a table, and further words.
 #[derive(Clone, Copy)]
@@ -83,7 +84,7 @@ pub fn put(from: &[u16], to: &mut [u16]) {
 }
 
 pub fn zero(to: &mut [u16]) {
-    let n = to.len().min(LISTED);
+    let n = to.len().min(TraceGraph::SCRATCH);
     to[..n].fill(0);
 }
 

@@ -35,7 +35,13 @@ fn put_text(words: &[u16], from: usize, times: usize, text: &mut [u8]) {
 }
 
 // Prints the numbers.
-fn read_lent<R: Print>(rt: &R, text: &[u8], request: Request, table: &mut [u16], places: &mut [u16]) {
+fn read_lent<R: Print>(
+    rt: &R,
+    text: &[u8],
+    request: Request,
+    table: &mut [u16],
+    places: &mut [u16],
+) {
     let mut place: u16 = 7;
     let mut records: u16 = 7;
     let mut count: u16 = 7;
@@ -94,7 +100,12 @@ fn write_lent<R: Print>(rt: &R, request: Request, text: &mut [u8]) {
     let mut place: u16 = 7;
     let mut bytes: u16 = 7;
     let n = request.number(0).min(text.len());
-    let answer = lihvemur::lihvemur_write_yacc(request.table, &mut text[..n], &mut bytes, &mut place);
+    let answer = lihvemur::lihvemur_write_yacc(
+        request.table,
+        &mut text[..n],
+        &mut bytes,
+        &mut place,
+    );
     say_answer(rt, answer, place);
     say_next(rt, bytes as u64);
 }
