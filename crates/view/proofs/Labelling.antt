@@ -83,14 +83,14 @@ module _ {gr : List ℕ} {m : ℕ} (P : Packed gr m) {g : List ℕ} {k : ℕ} (E
     pub labelling_source : (n : ℕ) × (n ≤ 32) × (node_value_fits n ps v.source ≡ true)
     labelling_source = (n, E.few, source_fits n ps v value_in)
 
-    pub labelling_small : (v.production < 128) × (v.index ≤ 16)
+    pub labelling_small : (v.label.production < 128) × (v.label.index ≤ 16)
     labelling_small = let s = (value_small gr m P n E.few v value_in).0 in (s.production, s.index)
 
     pub owner_put : {o : ℕ} → o ≡ owner_of_node ps (node_is v.source) → o ≡ owner_of_node ps (edge_at g k).source
     unfolding edge_is
     owner_put e = e ∙ ap (λ (f : TraceEdge). owner_of_node ps f.source) (ap edge_is q ∙ edge_read_lem g k)
 
-    pub code_put : v.production * index_limit + v.index ≡ (edge_at g k).label.production * index_limit + (edge_at g k).label.index
+    pub code_put : v.label.production * index_limit + v.label.index ≡ (edge_at g k).label.production * index_limit + (edge_at g k).label.index
     unfolding edge_is
     code_put = ap (λ (f : TraceEdge). f.label.production * index_limit + f.label.index) (ap edge_is q ∙ edge_read_lem g k)
 

@@ -4,7 +4,7 @@ use Rattle.enumerator.proofs.machine.Graph.is_trial.Goals as goal
 use Rattle.enumerator.proofs.machine.Graph.is_trial.Goals.{then-node-ne0-via-then-node-ne0, then-node-ne0-via-else-node-ne0+then-uses}
 
 pub loop-at-init : goal.loop-at-init
-loop-at-init c = trial_first c.requires.started c.requires.depth_nonzero.0
+loop-at-init c = rw c.item-node.ensures (trial_first c.requires.started c.requires.depth_nonzero.0)
 
 pub source-node-requires : goal.source-node-requires
 source-node-requires c = record { edge_bound = trial_edge c.loop-at.invariant c.requires.depth_nonzero.1 c.word-edge.result c.word-edge.ensures.0 c.enters.result c.enters.ensures (omega arith) c.if-not-enters.false }
