@@ -19,14 +19,13 @@ use Rattle.repr.specs.Meaning.{Production, Table, All}
 use Rattle.slices.specs.Lent.{in_front, zeroed}
 use Rattle.slices.proofs.Lent.{zeroed_lent}
 use Rattle.table.specs.Index.{CountsOf}
-use Rattle.table.specs.declared.Counts.{Counts}
 use Rattle.trace_graph.proofs.Bools.{and_left, and_right}
 use Rattle.example.specs.Example.{example_words}
 use Rattle.error.specs.declared.Conflict.{Conflict}
 use Rattle.error.specs.declared.Class.{Class}
 use Rattle.error.specs.declared.Class.TheVariants.{Naive}
 use Rattle.error.specs.Numbers.{number_of_class, values_of_class, Reading, classed, refused, reading_of}
-use Rattle.error.specs.Sides.{Side, gathered, stopped, reduce_side, action_side_of, both_sides, gather}
+use Rattle.error.specs.Sides.{Side, gathered, reduce_side, action_side_of, both_sides, gather}
 use Rattle.error.specs.Sorted.{sorted_from, sorted_by}
 use Rattle.error.specs.Judge.{Example, symbol_count, judge, judged}
 use Rattle.error.specs.Outcome.{Outcome, outcome, operand_fits, place_is_fit, conflict_fits, shifts_end, shown, judged_with, gathered_outcome, gathered_with, classified_in, classify_in_with}

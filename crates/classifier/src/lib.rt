@@ -33,12 +33,12 @@ pub fn place_fits(table: AcceptedTable, conflict: Conflict) -> bool
     let production = conflict.production.0 as usize;
     let operand = conflict.operand as usize;
     state < counts.states
-        && production < counts.productions
-        && match conflict.action {
-            0 => operand < counts.terminals,
-            1 => operand < counts.productions,
-            _ => false,
-        }
+        && (production < counts.productions
+            && if conflict.action == 0 {
+                operand < counts.terminals
+            } else {
+                conflict.action == 1 && operand < counts.productions
+            })
 }
 
 // Refusal 10: a shift with the end token, at which the Rust panics.

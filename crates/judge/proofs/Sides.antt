@@ -9,6 +9,8 @@ use lib.ListN.{length, get_or}
 use lib.Dec.{ltb}
 use borrow.Author.Tests.{eq-eqb, ltb-true, leb-true}
 use Rattle.std.specs.Prelude.{Option as OptionOf, Some, None}
+use Rattle.repr.specs.Symbols.{meant}
+use Rattle.repr.specs.declared.Symbol.{Symbol as SymbolOf}
 use Rattle.repr.specs.Sizes.{nonterminal_limit, terminal_limit, production_place, example_limit}
 use Rattle.repr.specs.Meaning.{Production, no_production, Table, TableFits, ProductionFits, production_at, All}
 use Rattle.repr.specs.Listed.{symbol_of_kind}
@@ -43,7 +45,7 @@ use Rattle.pairs.proofs.Tests.{rows_alike, columns_alike, rows_inline, columns_i
 use Rattle.examples.specs.Reads.{Reads}
 use Rattle.examples.specs.Gathers.{ExampleFits, SideKept, is_shift, reduce_made}
 use Rattle.judge.specs.declared.Judged.{Judged as JudgedValue}
-use Rattle.judge.specs.Judging.{InBuffer, Sides, Ordered, picked, pair_in, heads_in, both, Judges, found_in, FoundFits, ReadAlike, question_in, QuestionFits}
+use Rattle.judge.specs.Judging.{InBuffer, Sides, Ordered, picked, pair_in, heads_in, both, Judges, found_in, FoundFits, ReadAlike, question_in}
 use Rattle.judge.proofs.Ways.{owner_is, question_kind, judges_both, judges_heads}
 
 -- what holds of an order's numbers
@@ -289,12 +291,12 @@ module _ (T : Table) (c : Conflict) (xs ys : List Example) (actions prints reduc
   abbrev Unambiguous : ℕ → ℕ → Judged
   Unambiguous p k = unambiguous T p k (picked xs rows) (picked ys columns) heads
 
-  module _ (p w : ℕ) (ew : w ≡ (production_at T p).nonterminal) (r : OptionOf (ℕ × ℕ)) (er : question_in r ≡ question_of T w) where
-    pub question_some : (k x : ℕ) → r ≡ Some (k, x) → QuestionFits r → with_both (SuggestQuestion (record { 0 = w }) k x) heads ≡ Unambiguous p 0
+  module _ (p w : ℕ) (ew : w ≡ (production_at T p).nonterminal) (r : OptionOf SymbolOf) (er : question_in r ≡ question_of T w) where
+    pub question_some : (s : SymbolOf) (k x : ℕ) → r ≡ Some s → symbol_of_kind k x ≡ meant s → k < 2 → with_both (SuggestQuestion (record { 0 = w }) k x) heads ≡ Unambiguous p 0
     unfolding unambiguous question_or question_in
-    question_some k x e f =
-        let q : question_of T (production_at T p).nonterminal ≡ some (symbol_of_kind k x) = rw (← ew, ← er, e) in
-        rw (q, ← ew) (ap (λ (z : Class). with_both z heads) (question_kind w k x (rw e at f)))
+    question_some s k x e d h =
+        let q : question_of T (production_at T p).nonterminal ≡ some (meant s) = rw (← ew, ← er, e) in
+        rw (q, ← ew) (ap (λ (z : Class). with_both z heads) (question_kind w k x (meant s) d h))
 
     pub question_none : r ≡ None → inline_or ps heads (first_fit (inlines T) (picked xs rows) (picked ys columns)) ≡ Unambiguous p 0
     unfolding unambiguous question_or question_in

@@ -9,6 +9,8 @@ use lib.ListN.{length, get_or, drop, drop_of_length-le}
 use lib.Dec.{eqb}
 use borrow.Author.Tests.{eq-eqb, ne_eqb}
 use Rattle.std.specs.Prelude.{Option as OptionOf, Some, None}
+use Rattle.repr.specs.Symbols.{meant}
+use Rattle.repr.specs.declared.Symbol.{Symbol as SymbolOf}
 use borrow.Author.Tests.{eqb-true, eqb-false}
 use lib.Pointwise.{pointwise}
 use Rattle.repr.specs.Sizes.{nonterminal_limit, terminal_limit, production_place}
@@ -22,12 +24,8 @@ use Rattle.repr.proofs.Packed.{words_long}
 use Rattle.repr.proofs.Parts.{listed_at, symbols_long, word_of}
 use Rattle.trace_graph.proofs.Fits.{production-symbols}
 use Rattle.table.specs.Checked.{Accepted}
-use Rattle.table.specs.Decoded.{meaning, productions_from}
+use Rattle.table.specs.Decoded.{meaning}
 use Rattle.table.specs.Refusals.{check_of}
-use Rattle.table.specs.Index.{ProductionHead}
-use Rattle.table.proofs.Accepted.{accepts}
-use Rattle.table.proofs.Indexes.{production-read}
-use Rattle.table.proofs.Written.{productions_end}
 use Rattle.error.specs.declared.Class.{Class}
 use Rattle.error.specs.declared.Class.TheVariants.{Ambiguity, Precedence, SuggestQuestion, AmbiguousReduction}
 use Rattle.error.specs.Sorted.{Pair}
@@ -36,7 +34,7 @@ use Rattle.outline.proofs.Diverging.{kinds_same, kinds_differ}
 use Rattle.outline.specs.Kept.{nth}
 use Rattle.shift_items.specs.Codes.{Grammar}
 use Rattle.judge.specs.declared.Judged.{Judged as JudgedValue}
-use Rattle.judge.specs.Judging.{pair_in, heads_in, both, shown_in, judged_in, ShownFits, Judges, question_in, QuestionFits, optional_one}
+use Rattle.judge.specs.Judging.{pair_in, heads_in, both, shown_in, judged_in, ShownFits, Judges, question_in, optional_one}
 
 -- a class with the numbers of the examples shown
 
@@ -147,14 +145,12 @@ module _ (g : List ℕ) (n : ℕ) (P : Packed g n) (p : ℕ) (h : p < n) (o : �
   abbrev ps : List Production
   ps = productions_in g n
 
-  pub reduction_spans : x ≡ y → (s e s' e' : ℕ) → s ≡ get_or g (production_place p + 2) 0 → e ≡ get_or g (production_place p + 2 + 1) 0 → s' ≡ get_or g (production_place o + 2) 0 → e' ≡ get_or g (production_place o + 2 + 1) 0
+  pub reduction_spans : x ≡ y → (s e s' e' : ℕ) → s ≡ get_or g (production_place p + 2) 0 → e ≡ get_or g (production_place p + 3) 0 → s' ≡ get_or g (production_place o + 2) 0 → e' ≡ get_or g (production_place o + 3) 0
       → Judges xs ys (record { class = AmbiguousReduction s e s' e'; action = Some i; reduce = None }) (ambiguity_of_reduce ps (get_or ps p no_production) (get_or ps o no_production) (pair_in xs ys i j))
   unfolding ambiguity_of_reduce pair_in judged_in shown_in ShownFits
   reduction_spans q s e s' e' es ee es' ee' =
-      let k : production_place p + 2 + 1 ≡ production_place p + 3 = omega arith in
-      let k' : production_place o + 2 + 1 ≡ production_place o + 3 = omega arith in
       let m : eqb (reduction_at ps (nth xs i) 0).nonterminal (reduction_at ps (nth ys j) 0).nonterminal ≡ true = rw (← ex, ← ey) (eq-eqb x y q) in
-      record { same = rw (m, ambiguity_of_reduce, es, ee, es', ee', k, k', start_is g n P p h, end_is g n P p h, start_is g n P o ho, end_is g n P o ho); action = hi; reduce = tt }
+      record { same = rw (m, ambiguity_of_reduce, es, ee, es', ee', start_is g n P p h, end_is g n P p h, start_is g n P o ho, end_is g n P o ho); action = hi; reduce = tt }
 
   pub reduction_plain : (x ≡ y → ⊥) → with_both Ambiguity (pair_in xs ys i j) ≡ ambiguity_of_reduce ps (get_or ps p no_production) (get_or ps o no_production) (pair_in xs ys i j)
   unfolding ambiguity_of_reduce pair_in
@@ -181,31 +177,28 @@ unfolding optional_one
 one_is [] ys y e f = rw f
 one_is (x ∷ xs) ys y e f = let z : suc (length xs) ≡ 0 = e in absurd (omega arith)
 
-module _ (g : List ℕ) (n : ℕ) (P : Packed g n) (p : ℕ) (hp : p < n) (q : ℕ) (hq : q < n) (c : ℕ) (ec : c ≡ get_or g (production_place p + 1) 0) where
-  abbrev Answer : OptionOf (ℕ × ℕ) → Type 0
-  Answer r = (question_in r ≡ optional_one (get_or (productions_in g n) p no_production).symbols (get_or (productions_in g n) q no_production).symbols) × QuestionFits r
+module _ (g : List ℕ) (n : ℕ) (p : ℕ) (hp : p < n) (q : ℕ) (hq : q < n) where
+  abbrev Answer : OptionOf SymbolOf → Type 0
+  Answer r = question_in r ≡ optional_one (get_or (productions_in g n) p no_production).symbols (get_or (productions_in g n) q no_production).symbols
 
-  pub optional-some : (c ≡ 0 → ⊥) → Answer None
-  unfolding question_in QuestionFits
-  optional-some ne = (one_not-none (get_or (productions_in g n) p no_production).symbols _ (λ e. ne (omega (arith, count_is g n P p hp))), tt)
+  pub optional-some : (length (listed (symbol_words g p)) ≡ 0 → ⊥) → Answer None
+  unfolding question_in
+  optional-some ne = rw (production-symbols g n p hp) (one_not-none (listed (symbol_words g p)) _ ne)
 
-  module _ (none' : c ≡ 0) (d : ℕ) (ed : d ≡ get_or g (production_place q + 1) 0) where
-    pub optional-more : (d ≡ 1 → ⊥) → Answer None
-    unfolding question_in QuestionFits
-    optional-more ne = (one_not_one (get_or (productions_in g n) p no_production).symbols (get_or (productions_in g n) q no_production).symbols (λ e. ne (omega (arith, count_is g n P q hq))), tt)
+  pub optional-more : (length (listed (symbol_words g q)) ≡ 1 → ⊥) → Answer None
+  unfolding question_in
+  optional-more ne = rw (production-symbols g n q hq) (one_not_one (get_or (productions_in g n) p no_production).symbols (listed (symbol_words g q)) ne)
 
-    pub optional_one_lem : d ≡ 1 → (k x : ℕ) → k ≡ get_or g (production_place q + 4) 0 → x ≡ get_or g (production_place q + 4 + 1) 0 → Answer (Some (k, x))
-    unfolding question_in QuestionFits
-    optional_one_lem one k x ek ex =
-        let w = symbols_long g n q P hq in
-        let z : production_place q + 4 + 2 * 0 ≡ production_place q + 4 = omega arith in
-        let y : production_place q + 4 + (2 * 0 + 1) ≡ production_place q + 4 + 1 = omega arith in
-        let s : (get_or (productions_in g n) q no_production).symbols ≡ symbol_of_kind k x ∷ [] =
-        production-symbols g n q hq ∙ symbol_at_lem g n P q hq 0 (omega arith) ∙ rw (drop_of_length-le (listed (symbol_words g q)) {i = 1} (omega arith), z, y, ← ek, ← ex) in
-        let l = rw z at (kind_small g n P q hq 0 (omega arith)) in
-        (one_is (get_or (productions_in g n) p no_production).symbols _ (symbol_of_kind k x) (omega (arith, count_is g n P p hp)) s, omega arith)
+  pub optional_one_lem : length (listed (symbol_words g p)) ≡ 0 → length (listed (symbol_words g q)) ≡ 1 → (s : SymbolOf) → drop 0 (listed (symbol_words g q)) ≡ meant s ∷ drop 1 (listed (symbol_words g q)) → Answer (Some s)
+  unfolding question_in
+  optional_one_lem none' one s e =
+      let z : listed (symbol_words g q) ≡ meant s ∷ [] = e ∙ rw (drop_of_length-le (listed (symbol_words g q)) {i = 1} (omega arith)) refl in
+      rw (production-symbols g n p hp, production-symbols g n q hq) (one_is (listed (symbol_words g p)) (listed (symbol_words g q)) (meant s) none' z)
 
 -- `try_classify_question`
+
+pub cons_same : {x : ℕ} {l m : List ℕ} → l ≡ m → x ∷ l ≡ x ∷ m
+cons_same {x} e = ap (λ (l : List ℕ). x ∷ l) e
 
 optional-left : (xs ys : List Symbol) (x : Symbol) → some x ≡ optional_one xs ys → some x ≡ optional xs ys
 unfolding optional_one optional
@@ -226,56 +219,53 @@ optional_right (u ∷ []) (y ∷ ys) e = refl
 optional_right (u ∷ v ∷ xs) [] e = refl
 optional_right (u ∷ v ∷ xs) (y ∷ ys) e = refl
 
-pub question_kind : (w k x : ℕ) → QuestionFits (Some (k, x)) → SuggestQuestion (record { 0 = w }) k x ≡ suggest_question w (symbol_of_kind k x)
-unfolding suggest_question symbol_of_kind QuestionFits
-question_kind w zero x h = refl
-question_kind w (suc zero) x h = refl
-question_kind w (suc (suc k)) x h = absurd (omega arith)
+pub question_kind : (w k x : ℕ) (s : Symbol) → symbol_of_kind k x ≡ s → k < 2 → SuggestQuestion (record { 0 = w }) k x ≡ suggest_question w s
+unfolding suggest_question symbol_of_kind
+question_kind w zero x s e h = rw (← e) refl
+question_kind w (suc zero) x s e h = rw (← e) refl
+question_kind w (suc (suc k)) x s e h = absurd (omega arith)
 
 module _ (t g : List ℕ) (n : ℕ) (acc : check_of t ≡ Accepted) (G : Grammar (meaning t) g n) where
   abbrev T : Table
   T = meaning t
 
-  module _ (nt head : ℕ) (eh : productions_from t head ≡ get_or T.nonterminals nt []) where
+  -- by the nonterminal's productions
+  module _ (nt : ℕ) (qs : List ℕ) (eq : qs ≡ get_or T.nonterminals nt []) where
     abbrev Question : Option Symbol
     Question = question_of T nt
 
     abbrev symbols_of : ℕ → List Symbol
     symbols_of p = (production_at T p).symbols
 
-    pub question_none : head ≡ 0 → (question_in None ≡ Question) × QuestionFits None
-    unfolding question_in question_of optional_of QuestionFits
-    question_none z = (rw (← eh, z, productions_end t), tt)
+    pub question_none : qs ≡ [] → question_in None ≡ Question
+    unfolding question_in question_of optional_of
+    question_none e = rw (← eq, e)
 
-    module _ (next p : ℕ) (ep : productions_from t head ≡ p ∷ productions_from t next) where
-      pub question_one : next ≡ 0 → (question_in None ≡ Question) × QuestionFits None
-      unfolding question_in question_of optional_of QuestionFits
-      question_one z = (rw (← eh, ep, z, productions_end t), tt)
+    pub question_one : (p : ℕ) → qs ≡ p ∷ [] → question_in None ≡ Question
+    unfolding question_in question_of optional_of
+    question_one p e = rw (← eq, e)
 
-      module _ (after q : ℕ) (eq : productions_from t next ≡ q ∷ productions_from t after) where
-        pub question_many : (after ≡ 0 → ⊥) → ProductionHead t after → (question_in None ≡ Question) × QuestionFits None
-        unfolding question_in question_of optional_of QuestionFits
-        question_many ne H =
-            let er = (production-read t (accepts t acc) after _ _ ne H refl refl).list in
-            (rw (← eh, ep, eq, er), tt)
+    pub question_many : (p q r : ℕ) (rs : List ℕ) → qs ≡ p ∷ q ∷ r ∷ rs → question_in None ≡ Question
+    unfolding question_in question_of optional_of
+    question_many p q r rs e = rw (← eq, e)
 
-        module _ (end : after ≡ 0) where
-          two_is : Question ≡ optional (symbols_of p) (symbols_of q)
-          unfolding question_of optional_of
-          two_is = rw (← eh, ep, eq, end, productions_end t)
+    module _ (p q : ℕ) (e : qs ≡ p ∷ q ∷ []) where
+      two_is : Question ≡ optional (symbols_of p) (symbols_of q)
+      unfolding question_of optional_of
+      two_is = rw (← eq, e)
 
-          own : (x : ℕ) → (get_or (productions_in g n) x no_production).symbols ≡ symbols_of x
-          own x = ap (λ (ps : List Production). (get_or ps x no_production).symbols) G.same
+      own : (x : ℕ) → (get_or (productions_in g n) x no_production).symbols ≡ symbols_of x
+      own x = ap (λ (ps : List Production). (get_or ps x no_production).symbols) G.same
 
-          pub question_left : (r : OptionOf (ℕ × ℕ)) → (r ≡ None → ⊥) → question_in r ≡ optional_one (get_or (productions_in g n) p no_production).symbols (get_or (productions_in g n) q no_production).symbols → question_in r ≡ Question
-          unfolding question_in
-          question_left (Some s) ne e =
-              let e' : some (symbol_of_kind s.0 s.1) ≡ optional_one (symbols_of p) (symbols_of q) = rw (own p, own q) at e in
-              optional-left (symbols_of p) (symbols_of q) (symbol_of_kind s.0 s.1) e' ∙ sym two_is
-          question_left None ne e = absurd (ne refl)
+      pub question_left : (r : OptionOf SymbolOf) → (r ≡ None → ⊥) → question_in r ≡ optional_one (get_or (productions_in g n) p no_production).symbols (get_or (productions_in g n) q no_production).symbols → question_in r ≡ Question
+      unfolding question_in
+      question_left (Some s) ne d =
+          let f : some (meant s) ≡ optional_one (symbols_of p) (symbols_of q) = rw (own p, own q) at d in
+          optional-left (symbols_of p) (symbols_of q) (meant s) f ∙ sym two_is
+      question_left None ne d = absurd (ne refl)
 
-          pub question_right : (r r' : OptionOf (ℕ × ℕ)) → r ≡ None → question_in r ≡ optional_one (get_or (productions_in g n) p no_production).symbols (get_or (productions_in g n) q no_production).symbols → question_in r' ≡ optional_one (get_or (productions_in g n) q no_production).symbols (get_or (productions_in g n) p no_production).symbols → question_in r' ≡ Question
-          unfolding question_in
-          question_right r r' er e e' =
-              let f : none ≡ optional_one (symbols_of p) (symbols_of q) = rw (er, own p, own q) at e in
-              e' ∙ rw (own p, own q) (optional_right (symbols_of p) (symbols_of q) f) ∙ sym two_is
+      pub question_right : (r r' : OptionOf SymbolOf) → r ≡ None → question_in r ≡ optional_one (get_or (productions_in g n) p no_production).symbols (get_or (productions_in g n) q no_production).symbols → question_in r' ≡ optional_one (get_or (productions_in g n) q no_production).symbols (get_or (productions_in g n) p no_production).symbols → question_in r' ≡ Question
+      unfolding question_in
+      question_right r r' er d d' =
+          let f : none ≡ optional_one (symbols_of p) (symbols_of q) = rw (er, own p, own q) at d in
+          d' ∙ rw (own p, own q) (optional_right (symbols_of p) (symbols_of q) f) ∙ sym two_is

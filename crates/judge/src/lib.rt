@@ -56,10 +56,10 @@ fn same_reading(action: &[u16], reduce: &[u16]) -> bool
     requires { (ps : List Production) × ((x : Example) × ((y : Example) × (InBuffer ps x action.now × InBuffer ps y reduce.now))) }
     ensures { (ps : List Production) (x y : Example) → InBuffer ps x action.now → InBuffer ps y reduce.now → result ≡ is_same_reading ps x y }
 {
-    let past = 3 + 2 * word(action, 0);
-    word(action, 0) == word(reduce, 0)
-        && word(action, 1) == word(reduce, 1)
-        && action[3..past] == reduce[3..past]
+    let count = word(action, 0);
+    let past = 3 + 2 * count;
+    count == word(reduce, 0)
+        && (word(action, 1) == word(reduce, 1) && action[3..past] == reduce[3..past])
 }
 
 // A class that shows an example of each side.
@@ -73,16 +73,14 @@ fn with_both(class: Class, x: usize, y: usize) -> Judged
     }
 }
 
-// Whether a production is T = T S T, S being the terminal.
+// Whether a production is T = T S T, S being the terminal: by the words of its symbols, which is one comparison where symbols would be four.
 fn is_operator(grammar: Grammar, production: usize, terminal: u16) -> bool
     requires { production < grammar.productions }
     ensures { result ≡ is_operator_of (get_or (productions_in grammar.entry.words.now grammar.entry.productions) production no_production) terminal }
 {
-    let own = Symbol::Nonterminal(NonterminalString(grammar.owner(production) as u16));
-    grammar.length(production) == 3
-        && grammar.symbol(production, 0) == own
-        && grammar.symbol(production, 1) == Symbol::Terminal(terminal)
-        && grammar.symbol(production, 2) == own
+    let nonterminal = grammar.owner(production) as u16;
+    let operator = [0, nonterminal, 1, terminal, 0, nonterminal];
+    grammar.symbols(production) == operator.as_slice()
 }
 
 // Ambiguity of a shift: precedence where the production is of an operator. The terminal of the action is tested, not the token.
@@ -144,19 +142,14 @@ fn try_classify_question(
     ensures { question_in result ≡ question_of (meaning table.entry.words.now) nonterminal }
 {
     let mut productions = table.productions(nonterminal);
-    let first = productions.next();
-    let second = productions.next();
-    let third = productions.next();
-    match (first, second, third) {
-        (Some(first), Some(second), None) => {
-            let p = first.production;
-            let q = second.production;
-            match optional(grammar, p, q) {
-                None => optional(grammar, q, p),
-                symbol => symbol,
-            }
-        }
-        _ => None,
+    let p = productions.next()?.production;
+    let q = productions.next()?.production;
+    if let Some(_) = productions.next() {
+        return None;
+    }
+    match optional(grammar, p, q) {
+        None => optional(grammar, q, p),
+        symbol => symbol,
     }
 }
 
@@ -281,7 +274,9 @@ impl<'a> Judging<'a> {
         ensures { (xs ys : List Example) → Sides (meaning self.entry.case.given.table.words.now) self.entry.case.conflict xs ys self.entry.actions.side.now.kept self.entry.actions.side.now.prints self.entry.reduces.side.now.kept self.entry.reduces.side.now.prints → Ordered xs self.entry.actions.order.now → Ordered ys self.entry.reduces.order.now → Judges xs ys result (unambiguous (meaning self.entry.case.given.table.words.now) self.entry.case.conflict.production.0 0 (picked xs self.entry.actions.order.now) (picked ys self.entry.reduces.order.now) (heads_in xs ys self.entry.actions.order.now self.entry.reduces.order.now)) }
     {
         let given = self.case.given;
-        let nonterminal = given.grammar.owner(self.case.conflict.production.0 as usize);
+        let nonterminal = given
+            .grammar
+            .owner(self.case.conflict.production.0 as usize);
         match try_classify_question(given.table, given.grammar, nonterminal) {
             Some(symbol) => {
                 let (kind, number) = symbol.words();

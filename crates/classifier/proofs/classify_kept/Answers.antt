@@ -5,13 +5,14 @@ use Rattle.repr.specs.Sizes.{example_limit}
 use Rattle.examples.proofs.Actions.{reduced_fits, reduced-kept}
 use Rattle.classifier.proofs.Ways.{no_action, no_reduce, side_sorts, side_long, side_ordered, side_picked, kept-judged}
 use native.Mathlib.Omega.{arith}
+use Rattle.classifier.proofs.classify_kept.Goals.{then-action_count-eq0-via-then-action_count-eq0, then-action_count-eq0-via-else-action_count-eq0+then-reduce_count-eq0}
 use Rattle.classifier.proofs.classify_kept.Goals as goal
 
 pub returns-then-action_count-eq0 : goal.returns-then-action_count-eq0
-returns-then-action_count-eq0 c = λ xs ys K e f. no_action _ c.args.case.conflict _ _ xs ys (e ∙ c.if-action_count-eq0.true)
-
-pub returns-then-reduce_count-eq0 : goal.returns-then-reduce_count-eq0
-returns-then-reduce_count-eq0 c = λ xs ys K e f. no_reduce _ c.args.case.conflict _ _ xs ys (f ∙ c.if-reduce_count-eq0.true)
+returns-then-action_count-eq0 c = elim c.then-action_count-eq0.branch [
+  | then-action_count-eq0-via-then-action_count-eq0 w ↦ λ xs ys K e f. no_action _ c.args.case.conflict _ _ xs ys (e ∙ w.if-action_count-eq0.true)
+  | then-action_count-eq0-via-else-action_count-eq0+then-reduce_count-eq0 w ↦ λ xs ys K e f. no_reduce _ c.args.case.conflict _ _ xs ys (f ∙ w.if-reduce_count-eq0.true)
+]
 
 pub sort_side-requires : goal.sort_side-requires
 sort_side-requires c = let P = c.requires.sides in let K = P.1.1.0 in let e = P.1.1.1.0 in let S = side_sorts _ _ _ _ _ _ K.action _ e _ (length-replicate {A = ℕ} example_limit 0) in (S.0, S.1)
@@ -22,14 +23,14 @@ sort_side-requires-2 c = let P = c.requires.sides in let K = P.1.1.0 in let f = 
 pub slice_bounds-rows-end : goal.slice_bounds-rows-end
 slice_bounds-rows-end c = let P = c.requires.sides in let K = P.1.1.0 in let e = P.1.1.1.0 in let l = K.action.outlined.few in omega arith
 
-pub slice_bounds-judge-end : goal.slice_bounds-judge-end
-slice_bounds-judge-end c = let P = c.requires.sides in let K = P.1.1.0 in let e = P.1.1.1.0 in sym (side_long _ _ _ _ _ _ K.action _ e _ c.sort_side.ensures)
+pub slice_bounds-judging-end : goal.slice_bounds-judging-end
+slice_bounds-judging-end c = let P = c.requires.sides in let K = P.1.1.0 in let e = P.1.1.1.0 in sym (side_long _ _ _ _ _ _ K.action _ e _ c.sort_side.ensures)
 
 pub slice_bounds-columns-end : goal.slice_bounds-columns-end
 slice_bounds-columns-end c = let P = c.requires.sides in let K = P.1.1.0 in let f = P.1.1.1.1 in let l = K.reduce.outlined.few in omega arith
 
-pub slice_bounds-judge-end-2 : goal.slice_bounds-judge-end-2
-slice_bounds-judge-end-2 c = let P = c.requires.sides in let K = P.1.1.0 in let f = P.1.1.1.1 in sym (side_long _ _ _ _ _ _ K.reduce _ f _ c.sort_side-2.ensures)
+pub slice_bounds-judging-end-2 : goal.slice_bounds-judging-end-2
+slice_bounds-judging-end-2 c = let P = c.requires.sides in let K = P.1.1.0 in let f = P.1.1.1.1 in sym (side_long _ _ _ _ _ _ K.reduce _ f _ c.sort_side-2.ensures)
 
 pub judge-judged-requires : goal.judge-judged-requires
 judge-judged-requires c = let P = c.requires.sides in let K = P.1.1.0 in let e = P.1.1.1.0 in let f = P.1.1.1.1 in (P.0, (P.1.0, (K, ((side_ordered _ _ _ _ _ _ K.action _ e _ c.sort_side.ensures c.if-action_count-eq0.false), (side_ordered _ _ _ _ _ _ K.reduce _ f _ c.sort_side-2.ensures c.if-reduce_count-eq0.false)))))

@@ -1,18 +1,19 @@
+use Rattle.std.proofs.Common.{le-ltb, ne_eqb, ◌∙◌}
 use Rattle.classifier.proofs.Ways.{place_state, place-production, place-shift, place-reduce, place-other}
 use native.Mathlib.Omega.{arith}
 use Rattle.classifier.proofs.place_fits.Goals as goal
 
-pub returns-then-conflict-counts : goal.returns-then-conflict-counts
-returns-then-conflict-counts c = place_state _ _ _ _ _ c.counts-counts.ensures _ (omega (arith, c.if-conflict-counts.true))
+pub returns-else-state-counts : goal.returns-else-state-counts
+returns-else-state-counts c = le-ltb _ _ (omega (arith, c.if-state-counts.false)) ∙ place_state _ _ _ _ _ c.counts-counts.ensures _ (omega (arith, c.if-state-counts.false))
 
-pub returns-then-conflict-counts-2 : goal.returns-then-conflict-counts-2
-returns-then-conflict-counts-2 c = place-production _ _ _ _ _ c.counts-counts.ensures _ (omega (arith, c.if-conflict-counts.false)) (omega (arith, c.if-conflict-counts-2.true))
+pub returns-else-production-counts : goal.returns-else-production-counts
+returns-else-production-counts c = le-ltb _ _ (omega (arith, c.if-production-counts.false)) ∙ place-production _ _ _ _ _ c.counts-counts.ensures _ (omega (arith, c.if-state-counts.true)) (omega (arith, c.if-production-counts.false))
 
 pub returns-then-conflict-eq0 : goal.returns-then-conflict-eq0
-returns-then-conflict-eq0 c = place-shift _ _ _ _ _ c.counts-counts.ensures _ (omega (arith, c.if-conflict-counts.false)) (omega (arith, c.if-conflict-counts-2.false)) c.if-conflict-eq0.true
+returns-then-conflict-eq0 c = place-shift _ _ _ _ _ c.counts-counts.ensures _ (omega (arith, c.if-state-counts.true)) (omega (arith, c.if-production-counts.true)) c.if-conflict-eq0.true
 
 pub returns-then-conflict-eq1 : goal.returns-then-conflict-eq1
-returns-then-conflict-eq1 c = place-reduce _ _ _ _ _ c.counts-counts.ensures _ (omega (arith, c.if-conflict-counts.false)) (omega (arith, c.if-conflict-counts-2.false)) c.if-conflict-eq1.true
+returns-then-conflict-eq1 c = place-reduce _ _ _ _ _ c.counts-counts.ensures _ (omega (arith, c.if-state-counts.true)) (omega (arith, c.if-production-counts.true)) c.if-conflict-eq1.true
 
-pub returns : goal.returns
-returns c = place-other _ _ _ _ _ c.counts-counts.ensures _ (omega (arith, c.if-conflict-counts.false)) (omega (arith, c.if-conflict-counts-2.false)) c.if-conflict-eq0.false c.if-conflict-eq1.false
+pub returns-else-conflict-eq1 : goal.returns-else-conflict-eq1
+returns-else-conflict-eq1 c = ne_eqb _ _ c.if-conflict-eq1.false ∙ place-other _ _ _ _ _ c.counts-counts.ensures _ (omega (arith, c.if-state-counts.true)) (omega (arith, c.if-production-counts.true)) c.if-conflict-eq0.false c.if-conflict-eq1.false

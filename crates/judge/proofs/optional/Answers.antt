@@ -1,13 +1,16 @@
-use mathlib.Core.Path.{refl, ◌∙◌}
-use Rattle.repr.proofs.Parts.{symbols_long}
+use mathlib.Core.Path.{sym, ◌∙◌}
 use Rattle.judge.proofs.Ways.{optional-more, optional_one_lem, optional-some}
+use Rattle.judge.proofs.optional.Goals.{else-length-eq0-via-then-length-eq0+else-length-eq1, else-length-eq0-via-else-length-eq0}
 use Rattle.judge.proofs.optional.Goals as goal
 
-pub returns-then-length-ne0 : goal.returns-then-length-ne0
-returns-then-length-ne0 c = optional-some c.args.grammar.words.now c.args.grammar.productions c.args.grammar.packed c.args.none c.requires.0 c.args.one c.requires.1 _ (c.length.ensures.is ∙ symbols_long _ _ _ c.args.grammar.packed c.requires.0) c.if-length-ne0.true
+pub symbol-requires : goal.symbol-requires
+symbol-requires c = record { within = c.requires.1; index_in_bounds = omega (native.Mathlib.Omega.arith, sym c.length-then-length-eq0.ensures.is ∙ c.if-length-eq1.true) }
 
-pub returns-then-length-ne1 : goal.returns-then-length-ne1
-returns-then-length-ne1 c = optional-more c.args.grammar.words.now c.args.grammar.productions c.args.grammar.packed c.args.none c.requires.0 c.args.one c.requires.1 _ (c.length.ensures.is ∙ symbols_long _ _ _ c.args.grammar.packed c.requires.0) c.if-length-ne0.false _ (c.length-2.ensures.is ∙ symbols_long _ _ _ c.args.grammar.packed c.requires.1) c.if-length-ne1.true
+pub returns-then-length-eq1 : goal.returns-then-length-eq1
+returns-then-length-eq1 c = optional_one_lem _ _ _ c.requires.0 _ c.requires.1 (sym c.length.ensures.is ∙ c.if-length-eq0.true) (sym c.length-then-length-eq0.ensures.is ∙ c.if-length-eq1.true) _ c.symbol.ensures.is
 
-pub returns : goal.returns
-returns c = optional_one_lem c.args.grammar.words.now c.args.grammar.productions c.args.grammar.packed c.args.none c.requires.0 c.args.one c.requires.1 _ (c.length.ensures.is ∙ symbols_long _ _ _ c.args.grammar.packed c.requires.0) c.if-length-ne0.false _ (c.length-2.ensures.is ∙ symbols_long _ _ _ c.args.grammar.packed c.requires.1) c.if-length-ne1.false _ _ refl refl
+pub returns-else-length-eq0 : goal.returns-else-length-eq0
+returns-else-length-eq0 c = elim c.else-length-eq0.branch [
+  | else-length-eq0-via-then-length-eq0+else-length-eq1 w ↦ optional-more _ _ _ c.requires.0 _ c.requires.1 (λ e. w.if-length-eq1.false (w.length-then-length-eq0.ensures.is ∙ e))
+  | else-length-eq0-via-else-length-eq0 w ↦ optional-some _ _ _ c.requires.0 _ c.requires.1 (λ e. w.if-length-eq0.false (c.length.ensures.is ∙ e))
+]
