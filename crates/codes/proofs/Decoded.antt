@@ -124,8 +124,8 @@ module _ (g : List ℕ) (n c p x w : ℕ) (D : (T : Table) × ((e : TraceEdge) �
   owner_small : w < 128
   owner_small = let d = D.1.1 in let l = d.packed.owner (c % 2176 / 17) (inside d) in rw (ew, ep) (omega arith)
 
-  pub made-zero : c / 2176 ≡ 0 → (SmallEdge (record { source = record { kind = 0; number = w; index = 0 }; target = record { kind = 1; number = p; index = x }; production = p; index = x })
-      × ((T : Table) (e : TraceEdge) → Decodes g n T e c → value_words (record { source = record { kind = 0; number = w; index = 0 }; target = record { kind = 1; number = p; index = x }; production = p; index = x }) ≡ edge_words e))
+  pub made-zero : c / 2176 ≡ 0 → (SmallEdge (record { source = record { kind = 0; number = w; index = 0 }; target = record { kind = 1; number = p; index = x }; label = record { production = p; index = x } })
+      × ((T : Table) (e : TraceEdge) → Decodes g n T e c → value_words (record { source = record { kind = 0; number = w; index = 0 }; target = record { kind = 1; number = p; index = x }; label = record { production = p; index = x } }) ≡ edge_words e))
   unfolding value_words
   made-zero k =
       let o = owner_small in (
@@ -153,8 +153,8 @@ module _ (g : List ℕ) (n c p x w : ℕ) (D : (T : Table) × ((e : TraceEdge) �
       v_small : SmallNode v
       v_small = rw (v_is D.1.1) (record { kind = omega arith; number = cursor_small D.1.1 ne; index = omega arith })
 
-      pub made_one : c / 2176 ≡ 1 → (SmallEdge (record { source = record { kind = 0; number = w; index = 0 }; target = v; production = p; index = x })
-          × ((T : Table) (e : TraceEdge) → Decodes g n T e c → value_words (record { source = record { kind = 0; number = w; index = 0 }; target = v; production = p; index = x }) ≡ edge_words e))
+      pub made_one : c / 2176 ≡ 1 → (SmallEdge (record { source = record { kind = 0; number = w; index = 0 }; target = v; label = record { production = p; index = x } })
+          × ((T : Table) (e : TraceEdge) → Decodes g n T e c → value_words (record { source = record { kind = 0; number = w; index = 0 }; target = v; label = record { production = p; index = x } }) ≡ edge_words e))
       unfolding value_words
       made_one k = (
         record {
@@ -166,8 +166,8 @@ module _ (g : List ℕ) (n c p x w : ℕ) (D : (T : Table) × ((e : TraceEdge) �
         λ T e d. rw (v_is d, ew, ep, ex) (words_one d ne k),
       )
 
-      pub made_two : (c / 2176 ≡ 1 → ⊥) → (SmallEdge (record { source = record { kind = 1; number = p; index = x }; target = v; production = p; index = x })
-          × ((T : Table) (e : TraceEdge) → Decodes g n T e c → value_words (record { source = record { kind = 1; number = p; index = x }; target = v; production = p; index = x }) ≡ edge_words e))
+      pub made_two : (c / 2176 ≡ 1 → ⊥) → (SmallEdge (record { source = record { kind = 1; number = p; index = x }; target = v; label = record { production = p; index = x } })
+          × ((T : Table) (e : TraceEdge) → Decodes g n T e c → value_words (record { source = record { kind = 1; number = p; index = x }; target = v; label = record { production = p; index = x } }) ≡ edge_words e))
       unfolding value_words
       made_two k = (
         record {

@@ -37,9 +37,9 @@ value_same v u q =
     let d : v.target.kind ≡ u.target.kind = cc in
     let e : v.target.number ≡ u.target.number = cc in
     let f : v.target.index ≡ u.target.index = cc in
-    let p : v.production ≡ u.production = cc in
-    let i : v.index ≡ u.index = cc in
-    λ j. record { source = record { kind = a j; number = b j; index = c j }; target = record { kind = d j; number = e j; index = f j }; production = p j; index = i j }
+    let p : v.label.production ≡ u.label.production = cc in
+    let i : v.label.index ≡ u.label.index = cc in
+    λ j. record { source = record { kind = a j; number = b j; index = c j }; target = record { kind = d j; number = e j; index = f j }; label = record { production = p j; index = i j } }
 
 value_edge : (v : EdgeValue) (e : TraceEdge) → value_words v ≡ edge_words e → edge_is v ≡ e
 value_edge v e q = ap edge_is (value_same v (edge_value e) (q ∙ value_words_lem e)) ∙ value_is e
@@ -85,7 +85,7 @@ module _ {g : List ℕ} {n : ℕ} {T : Table} {e : TraceEdge} {c : ℕ} (D : Dec
     unfolding edge_is
     target_is = ap (λ (f : TraceEdge). f.target) (value_edge v e w)
 
-    production_is : v.production ≡ e.label.production
+    production_is : v.label.production ≡ e.label.production
     unfolding edge_is
     production_is = ap (λ (f : TraceEdge). f.label.production) (value_edge v e w)
 
@@ -95,10 +95,10 @@ module _ {g : List ℕ} {n : ℕ} {T : Table} {e : TraceEdge} {c : ℕ} (D : Dec
     target_small : v.target.kind ≡ 0 → v.target.number < nonterminal_limit
     target_small z = node_small e.target D.traced.target v.target.number (sym target_is ∙ value_nonterminal v.target z)
 
-    owner_place : v.production < n
+    owner_place : v.label.production < n
     owner_place = let i = edge_inside in let p = production_is in omega arith
 
-    owner_low : (x : ℕ) → x ≡ get_or g (v.production * production_room) 0 → x < nonterminal_limit
+    owner_low : (x : ℕ) → x ≡ get_or g (v.label.production * production_room) 0 → x < nonterminal_limit
     owner_low x q = let s = D.packed.owner e.label.production edge_inside in rw (q, production_is) s
 
 -- the view and the owners of the first k edges
@@ -133,15 +133,15 @@ module _ {g : List ℕ} {n : ℕ} {ws : List ℕ} {k : ℕ} (h : k < get_or ws 0
     pub making_target : v.target.kind ≡ 0 → v.target.number < nonterminal_limit
     making_target = target_small (decoded E.1.1) v (words_is E.1.1)
 
-    pub making_place : v.production < n
+    pub making_place : v.label.production < n
     making_place = owner_place (decoded E.1.1) v (words_is E.1.1)
 
-    pub making_low : (x : ℕ) → x ≡ get_or g (v.production * production_room) 0 → x < nonterminal_limit
+    pub making_low : (x : ℕ) → x ≡ get_or g (v.label.production * production_room) 0 → x < nonterminal_limit
     making_low = owner_low (decoded E.1.1) v (words_is E.1.1)
 
   pub making_more : {start : Item} {owners sources older latest owners' sources' older' latest' : List ℕ} {a b x : ℕ} → Making g n ws start owners sources older latest k → k < edge_limit
       → a ≡ source_of (node_is v.source) → a ≤ nonterminal_limit → b ≡ slot_of start (node_is v.target) → b < latest_room
-      → sources' ≡ set sources k a → older' ≡ set older k (get_or latest b 0) → latest' ≡ set latest b (k + 1) → owners' ≡ set owners k x → x ≡ get_or g (v.production * production_room) 0
+      → sources' ≡ set sources k a → older' ≡ set older k (get_or latest b 0) → latest' ≡ set latest b (k + 1) → owners' ≡ set owners k x → x ≡ get_or g (v.label.production * production_room) 0
       → Making g n ws start owners' sources' older' latest' (k + 1)
   making_more {start} {owners} {sources} {older} {latest} {owners'} {sources'} {older'} {latest'} {a} {b} {x} M low ea la eb lb es' eo el ew ex = rw ew (record {
     most = omega arith;

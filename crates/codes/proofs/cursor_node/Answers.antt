@@ -4,7 +4,7 @@ use Rattle.codes.proofs.Decoded.{shifted_number}
 use Rattle.codes.proofs.cursor_node.Goals as goal
 
 pub returns : goal.returns
-returns c = λ n h. c.nonterminal_node.ensures ∙ ap (λ (m : ℕ). node m) (shifted_number _ _ _ _ _ n _ c.symbol.ensures.is c.words-number.ensures.0 h)
+returns c = λ n h. c.nonterminal.ensures ∙ ap (λ (m : ℕ). node m) (shifted_number _ _ _ _ _ n _ c.symbol.ensures.is c.words-number.ensures.0 h)
   where
     node : ℕ → Node
     node m = record { kind = 0; number = m; index = 0 }

@@ -1,6 +1,7 @@
 use Rattle.std.proofs.Common.{sym, ap, ◌∙◌, arith}
 use Rattle.codes.specs.Kinds.{kind_number}
 use Rattle.codes.proofs.Decoded.{code_small, inside, production_inside, cursor_inside, made-zero, made_one, made_two}
+use Rattle.codes.proofs.edge_of.Goals.{in-IntoItem, in-Between, in-FromItem}
 use Rattle.codes.proofs.edge_of.Goals as goal
 
 pub of-coded-requires : goal.of-coded-requires
@@ -9,27 +10,25 @@ of-coded-requires c = code_small c.requires.1.1
 pub owner-requires : goal.owner-requires
 owner-requires c = rw c.of-coded.ensures.item.0 (inside c.requires.1.1)
 
-pub returns-in-IntoItem : goal.returns-in-IntoItem
-returns-in-IntoItem c =
-    let k = sym c.of-coded.ensures.kind ∙ ap kind_number c.in-IntoItem.is in
-    rw (c.nonterminal_node-owner.ensures, c.item_node.ensures) (made-zero _ _ c.args.code _ _ _ c.requires c.of-coded.ensures.item.0 c.of-coded.ensures.item.1 c.owner.ensures k)
-
 pub cursor_node-requires : goal.cursor_node-requires
 cursor_node-requires c =
     let k = sym c.of-coded.ensures.kind ∙ ap kind_number c.in-Between.is in
     record { within = production_inside _ _ c.args.code _ _ _ c.requires c.of-coded.ensures.item.0 c.of-coded.ensures.item.1 c.owner.ensures (λ z. omega (arith, k, z)); index_in_bounds = cursor_inside _ _ c.args.code _ _ _ c.requires c.of-coded.ensures.item.0 c.of-coded.ensures.item.1 c.owner.ensures (λ z. omega (arith, k, z)) }
-
-pub returns-in-Between : goal.returns-in-Between
-returns-in-Between c =
-    let k = sym c.of-coded.ensures.kind ∙ ap kind_number c.in-Between.is in
-    rw c.nonterminal_node-owner.ensures (made_one _ _ c.args.code _ _ _ c.requires c.of-coded.ensures.item.0 c.of-coded.ensures.item.1 c.owner.ensures (λ z. omega (arith, k, z)) _ c.cursor_node.ensures k)
 
 pub cursor_node-requires-in-FromItem : goal.cursor_node-requires-in-FromItem
 cursor_node-requires-in-FromItem c =
     let k = sym c.of-coded.ensures.kind ∙ ap kind_number c.in-FromItem.is in
     record { within = production_inside _ _ c.args.code _ _ _ c.requires c.of-coded.ensures.item.0 c.of-coded.ensures.item.1 c.owner.ensures (λ z. omega (arith, k, z)); index_in_bounds = cursor_inside _ _ c.args.code _ _ _ c.requires c.of-coded.ensures.item.0 c.of-coded.ensures.item.1 c.owner.ensures (λ z. omega (arith, k, z)) }
 
-pub returns-in-FromItem : goal.returns-in-FromItem
-returns-in-FromItem c =
-    let k = sym c.of-coded.ensures.kind ∙ ap kind_number c.in-FromItem.is in
-    rw c.item_node-in-FromItem.ensures (made_two _ _ c.args.code _ _ _ c.requires c.of-coded.ensures.item.0 c.of-coded.ensures.item.1 c.owner.ensures (λ z. omega (arith, k, z)) _ c.cursor_node-in-FromItem.ensures (λ z. omega (arith, k, z)))
+pub returns : goal.returns
+returns c = elim c.match-coded.branch [
+  | in-IntoItem w ↦
+      let k = sym c.of-coded.ensures.kind ∙ ap kind_number w.in-IntoItem.is in
+      rw (w.t-11-is, c.nonterminal-owner.ensures, w.item.ensures) (made-zero _ _ c.args.code _ _ _ c.requires c.of-coded.ensures.item.0 c.of-coded.ensures.item.1 c.owner.ensures k)
+  | in-Between w ↦
+      let k = sym c.of-coded.ensures.kind ∙ ap kind_number w.in-Between.is in
+      rw (w.t-11-is, c.nonterminal-owner.ensures) (made_one _ _ c.args.code _ _ _ c.requires c.of-coded.ensures.item.0 c.of-coded.ensures.item.1 c.owner.ensures (λ z. omega (arith, k, z)) _ w.cursor_node.ensures k)
+  | in-FromItem w ↦
+      let k = sym c.of-coded.ensures.kind ∙ ap kind_number w.in-FromItem.is in
+      rw (w.t-11-is, w.item-in-FromItem.ensures) (made_two _ _ c.args.code _ _ _ c.requires c.of-coded.ensures.item.0 c.of-coded.ensures.item.1 c.owner.ensures (λ z. omega (arith, k, z)) _ w.cursor_node-in-FromItem.ensures (λ z. omega (arith, k, z)))
+]
