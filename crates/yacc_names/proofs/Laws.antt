@@ -6,7 +6,7 @@ use mathlib.Core.Bool.{Bool, true, false, ◌&&◌}
 use mathlib.Core.Path.{◌≡◌, refl, sym, ap, ◌∙◌}
 use mathlib.Core.List.{List, [], ◌∷◌}
 use lib.ListN.{length, get_or, set, take, drop, length-set, drop_of_length-le}
-use lib.Seq.{slice, slice-cons, drop-cons, length-take-le, get_or-set_same, get_or-set_other}
+use lib.Seq.{slice, drop-cons, length-take-le, get_or-set_same, get_or-set_other}
 use lib.Dec.{eqb, leb}
 use lib.Pointwise.{pointwise}
 use Rattle.std.proofs.lemmas.List.{drop-take}
@@ -20,9 +20,6 @@ use Rattle.trace_graph.proofs.Index.{newest-yes, newest_no, newest-kept, linked_
 use Rattle.yacc_names.specs.Names.{bucket_limit, mixed, bucket_number, name_in, in_bucket, is_name, latest, Entered, left, placed_by, placing}
 
 -- bytes from a place up to another
-pub slice-next : (t : List ℕ) (i past : ℕ) → i < past → past ≤ length t → slice i past t ≡ get_or t i 0 ∷ slice (i + 1) past t
-slice-next t i past h l = slice-cons i past t 0 h l ∙ ap (λ (k : ℕ). get_or t i 0 ∷ slice k past t) (sym (add-one i))
-
 pub slice-none : (t : List ℕ) (i past : ℕ) → past ≤ i → past ≤ length t → slice i past t ≡ []
 slice-none t i past h l = let n = length-take-le past t l in let k : length (take past t) ≤ i = omega (arith, n, h) in drop_of_length-le (take past t) k
 

@@ -18,10 +18,7 @@ use Rattle.repr.specs.Packed.{symbol_words, production_in}
 use Rattle.numerals.specs.Numeral.{numeral_by, numeral}
 use Rattle.yacc_writer.specs.Wrote.{Wrote, name_bytes, terminal_bytes, token_bytes, production_bytes, file_bytes}
 
--- a byte, with room and without
-pub wrote_one : (l : List ℕ) (at x : ℕ) → Wrote l at (x ∷ []) (set l at x) (at + 1)
-wrote_one l at x = record { is = refl; place = refl }
-
+-- a byte, where there is no room
 pub wrote-out : (l : List ℕ) (at x : ℕ) → length l ≤ at → Wrote l at (x ∷ []) l (at + 1)
 wrote-out l at x h = record { is = sym (set_out l at x h); place = refl }
 
