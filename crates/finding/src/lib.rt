@@ -92,7 +92,7 @@ pub fn close(source: Source, kernel: &Kernel) -> [u64; Item::LIMIT]
     state
 }
 
-// A kernel that no state has, closed and stored: the new state's number.
+// A kernel that no state has, closed and stored: the new state's number, answered as `goto_over` answers it.
 fn store(
     source: Source,
     words: &mut [u16],

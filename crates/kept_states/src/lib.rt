@@ -8,6 +8,7 @@ ghost use Rattle.stored.specs.Stored.{entry_at, entries, put_entry, packed};
 ghost use Rattle.kept_states.specs.Kept.{unpacked, put_all, states_in, Begun, kernel_place};
 
 use lr1_core::Item;
+use repr::StateIndex;
 use stored::{Kernel, StoredItem, same_kernel, write_item};
 
 // Where the items of the states found begin, and how many states there are: a place for each that a table may have and one behind them, since there is no heap.
@@ -20,7 +21,7 @@ pub struct Begins {
 
 impl Begins {
     // States of a table at most (refusal 16).
-    pub const STATES: usize = 128;
+    pub const STATES: usize = StateIndex::LIMIT;
 
     // Places of them.
     pub const ROWS: usize = Begins::STATES + 1;
@@ -36,7 +37,7 @@ impl Begins {
     }
 }
 
-// The items number `from` up to `past`, flat: item [production, index] at 17 * production + index.
+// The items number `from` up to `past`, flat: an item at its place.
 pub fn unpack(words: &[u16], from: usize, past: usize) -> [u64; Item::LIMIT]
     requires from_le_past { (from ≤ past) × (past ≤ record_limit) × (past * 5 ≤ length words.now) }
     requires by_index { (m : ℕ) → from ≤ m → m < past → (entry_at words.now m).place < item_limit }

@@ -21,7 +21,7 @@ pub struct Measured {
     pub conflicts: usize,
 }
 
-// The states found, in words, with their edges, and what they are of.
+// The states found, in words, with their edges, and what they are of. That they are the states of a table's search (`Collection`, `Complete`) is asked at each call: it names the table, and a ghost field's fact has one proof.
 #[derive(Clone, Copy)]
 pub struct FoundStates<'a> {
     pub source: Source<'a>,

@@ -115,7 +115,7 @@ fn move_one(grammar: Grammar, read: StoredItem, symbol: Symbol, kernel: &mut Ker
     }
 }
 
-// The items number `from` up to `past` that have their cursor at the symbol, moved over it, as the kernel.
+// The items number `from` up to `past` that have their cursor at the symbol, moved over it, as the kernel. Here and in kept_states by number and not as a slice of their words: what is known of the states found speaks of items by number.
 pub fn move_over(
     grammar: Grammar,
     words: &[u16],

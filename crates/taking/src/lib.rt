@@ -66,7 +66,7 @@ pub struct Edges {
 
 impl Edges {
     // Symbols of a table at most.
-    const SYMBOLS: usize = NonterminalString::LIMIT + Symbol::TERMINALS;
+    const SYMBOLS: usize = Symbol::LIMIT;
 
     pub const LIMIT: usize = Begins::STATES * Edges::SYMBOLS;
 
