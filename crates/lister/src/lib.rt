@@ -39,14 +39,12 @@ use view::View;
 use view::making::{ViewLists, check_view};
 
 // Whether any lookahead holds tokens of the table alone.
+#[tactic(auto, unfolding(crate::specs::Context::ahead_by, enumerator::specs::Advance::set_of))]
 fn lookahead_fits(terminals: usize, lookahead: Option<TokenSet>) -> bool
     requires { terminals ≤ 63 }
     ensures { result ≡ ahead_by terminals (set_of lookahead) }
 {
-    match lookahead {
-        None => true,
-        Some(set) => set.fits(terminals),
-    }
+    lookahead.is_none_or(|set| set.fits(terminals))
 }
 
 // Whether the start item is one of the table, and any lookahead holds tokens of it alone.
@@ -57,7 +55,7 @@ fn fits(grammar: Grammar, terminals: usize, start: Item, lookahead: Option<Token
     item_fits(grammar, start) && lookahead_fits(terminals, lookahead)
 }
 
-// Whether the node whose words begin at a place is an item.
+// Whether the node whose words begin at a place is an item. By its parts, as no kind but 0 is known here: `==` with the item's node would ask that any other is 1.
 fn is_item(graph: &[u16], at: usize, item: Item) -> bool
     requires { at + 2 < length graph.now }
     ensures { result ≡ is_same_node (at_item (record { production = item.production; index = item.index })) (node_at graph.now at) }
@@ -82,7 +80,7 @@ fn is_node(graph: Graph, item: Item) -> bool
     (0..word(graph.words, 0)).any(|k| is_end(graph.words, k, item))
 }
 
-// `lr0_examples` and `lr1_examples`: a fresh listing, or refusal 9, 11 or 15.
+// `lr0_examples` and `lr1_examples`: a fresh listing, or refusal 9, 11 or 15. A listing keeps its start item as C hands it over, in two numbers.
 pub fn open_in(
     table: AcceptedTable,
     production: ProductionIndex,
@@ -258,10 +256,7 @@ pub fn step_in(
     ) {
         return Err(Refusal::OutOfRange);
     }
-    if scratch.len() < TraceGraph::SCRATCH {
-        return Err(Refusal::TooShort);
-    }
-    if buffer.len() < Example::WORDS {
+    if scratch.len() < TraceGraph::SCRATCH || buffer.len() < Example::WORDS {
         return Err(Refusal::TooShort);
     }
     go_on(

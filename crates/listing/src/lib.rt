@@ -209,19 +209,15 @@ pub fn examples(
     ensures { listed (reply_of result) scratch.new output.new ≡ list_of table.now (record { production = production.0; index = index }) lookahead calls.now graph.now scratch.old output.old }
 {
     let fits = check_calls(calls, output.len());
-    match open_listing(table, production, index, lookahead, graph) {
-        Err(other) => {
-            let Err(own) = fits else {
-                return Err(other);
-            };
-            if own.number() < other.number() {
-                return Err(own);
-            }
-            Err(other)
-        }
-        Ok(l) => {
-            fits?;
-            make_calls(l, table, calls, graph, scratch, output);
+    match (
+        open_listing(table, production, index, lookahead, graph),
+        fits,
+    ) {
+        (Err(other), Err(own)) if own.number() < other.number() => Err(own),
+        (Err(other), _) => Err(other),
+        (Ok(_), Err(own)) => Err(own),
+        (Ok(listing), Ok(())) => {
+            make_calls(listing, table, calls, graph, scratch, output);
             Ok(calls.len() / Lent::NUMBERS)
         }
     }
