@@ -170,7 +170,7 @@ impl<'a> Labels<'a> {
             .sum()
     }
 
-    // How many places the cursor place has: one, or none after a prefix with nothing at the cursor.
+    // How many places the cursor place has: one, or none after a prefix with nothing at the cursor (a number made of that yes or no would be no plainer).
     fn middle_count(self) -> usize
         ensures { result ≡ length (middle (productions_in self.entry.grammar.words.now self.entry.grammar.productions) (labels_in self.entry.words.now)) }
     {

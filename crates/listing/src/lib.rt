@@ -131,7 +131,7 @@ fn check_calls(calls: &[u32], words: usize) -> Result<(), Refusal>
     Ok(())
 }
 
-// The three words in front of a call's buffer.
+// The three words in front of a call's buffer: the number, and the count in two words, the lower first.
 fn write_record(part: &mut [u16], number: u16, count: u32)
     requires { 3 ≤ length part.old }
     ensures { part.new ≡ number ∷ count % 65536 ∷ count / 65536 ∷ drop 3 part.old }

@@ -102,7 +102,7 @@ fn node_owner(grammar: Grammar, node: Node) -> usize
     }
 }
 
-// Edge k of a graph, which is in range: its label, as the nonterminal that the edge comes from and the item in one word, and itself put into the view from an item.
+// Edge k of a graph, which is in range, with the lists as `check_view` is lent them: its label, as the nonterminal that the edge comes from and the item in one word, and itself put into the view from an item.
 fn view_edge(
     grammar: Grammar,
     graph: &[u16],
