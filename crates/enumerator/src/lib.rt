@@ -40,6 +40,6 @@ pub enum Advanced {
 }
 
 impl Advanced {
-    // The end as a number, behind those of the refusals; an example is 0.
+    // The end as a number, behind those by which a listing refuses; an example is 0.
     pub const END: u16 = 16;
 }

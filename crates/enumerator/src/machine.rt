@@ -16,7 +16,7 @@ use lr1_core::Item;
 use repr::word;
 use trace_graph::{Node, TraceGraph, read_node};
 
-// The words of no edge.
+// The words of no edge: all of a listing's, which C lends (`clear` of crate view is of a trial's 34).
 pub fn clear(words: &mut [u16])
     requires { scratch_words ≤ length words.old }
     ensures { words.new ≡ words_of [] ++ drop scratch_words words.old }
@@ -24,7 +24,7 @@ pub fn clear(words: &mut [u16])
     words[..TraceGraph::SCRATCH].fill(0);
 }
 
-// Whether the words from a place on, up to 32,000, are zero. Every advance looks at them, so they are gathered without a way out, which lets many be read at once.
+// Whether the words from a place on, up to the end of the scratch, are zero. Every advance looks at them, so they are gathered without a way out, which lets many be read at once.
 fn only_zeros(words: &[u16], from: usize) -> bool
     requires { (scratch_words ≤ length words.now) × (from ≤ scratch_words) }
     ensures { result ≡ same_words (drop from (take scratch_words words.now)) (replicate (scratch_words - from) 0) }
@@ -52,7 +52,7 @@ impl<'a> Graph<'a> {
         read_node(self.words, edge * TraceGraph::EDGE_WORDS + 1)
     }
 
-    // Whether an edge comes from a nonterminal.
+    // Whether an edge comes from a nonterminal. Nodes are compared by parts here and below: words in which nothing is known may have an index at a nonterminal, or another kind than 1 at an item, so `==` would ask for more.
     fn comes_from(self, edge: usize, nonterminal: usize) -> bool
         requires edge_bound { edge < slice_index self.words.now 0 }
         ensures { result ≡ is_same_node ((ends_of (edges_in self.entry.words.now)).source edge) (at_nonterminal nonterminal) }

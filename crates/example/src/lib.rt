@@ -63,7 +63,7 @@ fn put_three(buffer: &mut [u16], at: usize, first: usize, second: usize, third: 
     copy(&[first as u16, second as u16, third as u16], buffer, at);
 }
 
-// FIRST of what the example expects next, and how many labels were asked for it.
+// FIRST of what the example expects next, and how many labels were asked for it: no program reads that, the contract of `first0` says by it that no more are asked than in the Rust.
 #[derive(Clone, Copy)]
 pub struct Expected {
     pub answer: Answer,
@@ -71,7 +71,7 @@ pub struct Expected {
 }
 
 // The labels of an example, innermost first, three words each: nonterminal, production, index. At least one and at most 33, in range of the grammar.
-// Which one is asked is its number: prefixes are asked from the last label on, the cursor and the empty mark of the first alone, so that an iterator would be a second way to the same words.
+// Which one is asked is its number, in range at each call, as a type for it would have to hold the labels: prefixes are asked from the last label on, the cursor and the empty mark of the first alone, so that an iterator would be a second way to the same words.
 #[derive(Clone, Copy)]
 pub struct Labels<'a> {
     pub grammar: Grammar<'a>,
@@ -170,7 +170,7 @@ impl<'a> Labels<'a> {
             .sum()
     }
 
-    // How many places the cursor place has: one, or none after a prefix with nothing at the cursor.
+    // How many places the cursor place has: one, or none after a prefix with nothing at the cursor (a number made of that yes or no would be no plainer).
     fn middle_count(self) -> usize
         ensures { result ≡ length (middle (productions_in self.entry.grammar.words.now self.entry.grammar.productions) (labels_in self.entry.words.now)) }
     {

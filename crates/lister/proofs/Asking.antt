@@ -1,12 +1,11 @@
 -- What is asked before the words are: the start item, the lookahead and the graph, refusal 9, a law for each way. Assumes nothing.
-use Prim.Native.Nat.{ℕ, zero, suc, ◌^◌, ◌≤◌, ◌<◌}
+use Prim.Native.Nat.{ℕ, zero, suc, ◌≤◌, ◌<◌}
 use mathlib.Core.Path.{◌≡◌, refl, sym, ap, ◌∙◌}
 use mathlib.Core.Bool.{Bool, true, false, ◌&&◌}
 use mathlib.Core.List.{List, [], ◌++◌}
 use mathlib.Core.Option.{Option, none, some}
 use Rattle.std.proofs.Math.Bool.{and_assoc}
 use lib.ListN.{length, drop, replicate}
-use lib.Dec.{ltb}
 use borrow.Author.Tests.{le-leb, lt-leb}
 use Rattle.repr.specs.Sizes.{graph_room, scratch_words}
 use Rattle.repr.specs.Meaning.{Production, Table}
@@ -21,14 +20,6 @@ use Rattle.lister.specs.Context.{Read, ahead_by, sets_for, begun}
 
 -- by the lookahead
 module _ (a : Lookahead) (t : ℕ) where
-  pub ahead-any : a ≡ None → true ≡ ahead_by t (set_of a)
-  unfolding set_of ahead_by
-  ahead-any e = rw e
-
-  pub ahead-set : (s : TokenSet) → a ≡ Some s → (r : Bool) → r ≡ ltb s.0 (2 ^ suc t) → r ≡ ahead_by t (set_of a)
-  unfolding set_of ahead_by
-  ahead-set s e r h = rw e h
-
   pub sets-any : a ≡ None → (ps : List Production) → replicate 32 0 ≡ sets_for (set_of a) t ps
   unfolding set_of sets_for
   sets-any e ps = rw e

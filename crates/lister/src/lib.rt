@@ -39,14 +39,12 @@ use view::View;
 use view::making::{ViewLists, check_view};
 
 // Whether any lookahead holds tokens of the table alone.
+#[tactic(auto, unfolding(crate::specs::Context::ahead_by, enumerator::specs::Advance::set_of))]
 fn lookahead_fits(terminals: usize, lookahead: Option<TokenSet>) -> bool
     requires { terminals ≤ 63 }
     ensures { result ≡ ahead_by terminals (set_of lookahead) }
 {
-    match lookahead {
-        None => true,
-        Some(set) => set.fits(terminals),
-    }
+    lookahead.is_none_or(|set| set.fits(terminals))
 }
 
 // Whether the start item is one of the table, and any lookahead holds tokens of it alone.
@@ -57,7 +55,7 @@ fn fits(grammar: Grammar, terminals: usize, start: Item, lookahead: Option<Token
     item_fits(grammar, start) && lookahead_fits(terminals, lookahead)
 }
 
-// Whether the node whose words begin at a place is an item.
+// Whether the node whose words begin at a place is an item. By its parts, as no kind but 0 is known here: `==` with the item's node would ask that any other is 1.
 fn is_item(graph: &[u16], at: usize, item: Item) -> bool
     requires { at + 2 < length graph.now }
     ensures { result ≡ is_same_node (at_item (record { production = item.production; index = item.index })) (node_at graph.now at) }
@@ -82,7 +80,7 @@ fn is_node(graph: Graph, item: Item) -> bool
     (0..word(graph.words, 0)).any(|k| is_end(graph.words, k, item))
 }
 
-// `lr0_examples` and `lr1_examples`: a fresh listing, or refusal 9, 11 or 15.
+// `lr0_examples` and `lr1_examples`: a fresh listing, or refusal 9, 11 or 15. A listing keeps its start item as C hands it over, in two numbers.
 pub fn open_in(
     table: AcceptedTable,
     production: ProductionIndex,
@@ -146,18 +144,18 @@ fn begin(words: &mut [u16], count: u32)
 }
 
 // Whether an open listing past count 0 is lent words that hold no example's trial (refusal 9).
-fn lost(l: Listing, graph: Graph, words: &[u16]) -> bool
-    requires started { Started graph.words.now l.production.0 l.index }
+fn lost(listing: Listing, graph: Graph, words: &[u16]) -> bool
+    requires started { Started graph.words.now listing.production.0 listing.index }
     requires scratch_words_in_bounds { scratch_words ≤ length words.now }
-    ensures { result ≡ lost (edges_in graph.entry.words.now) l words.now }
+    ensures { result ≡ lost (edges_in graph.entry.words.now) listing words.now }
 {
-    l.is_open && (l.count != 0 && !graph.holds_trial(words, l.start()))
+    listing.is_open && (listing.count != 0 && !graph.holds_trial(words, listing.start()))
 }
 
 // The search of an open listing, over the view of its graph: the next example, the end, or refusal 13. The graph and its view, the grammar and its terminals are handed on here and below alone, and what is known
 // of them has many proofs (`Listable`), which no struct can hold.
 fn find_next(
-    l: &mut Listing,
+    listing: &mut Listing,
     grammar: Grammar,
     terminals: u16,
     graph: Graph,
@@ -166,13 +164,13 @@ fn find_next(
     buffer: &mut [u16],
 ) -> Result<Advanced, Refusal>
     requires within { terminals ≤ 63 }
-    requires viewing { Viewing (edges_in graph.words.now) (record { production = l.old.production.0; index = l.old.index }) view.sources.now view.older.now view.latest.now × Labelled (productions_in grammar.words.now grammar.productions) (edges_in graph.words.now) view.owners.now view.codes.now }
+    requires viewing { Viewing (edges_in graph.words.now) (record { production = listing.old.production.0; index = listing.old.index }) view.sources.now view.older.now view.latest.now × Labelled (productions_in grammar.words.now grammar.productions) (edges_in graph.words.now) view.owners.now view.codes.now }
     requires scratch_words_in_bounds { (scratch_words ≤ length scratch.old) × (example_room ≤ length buffer.old) }
-    requires is_open_value { (l.old.is_open ≡ true) × (lost (edges_in graph.words.now) l.old scratch.old ≡ false) }
-    ensures { (n : ℕ) (T : Table) → Read T n terminals (productions_in grammar.entry.words.now grammar.entry.productions) → outcome (reply_of result) l.new scratch.new buffer.new ≡ found_outcome T (edges_in graph.entry.words.now) l.old scratch.old buffer.old (search (hands T (edges_in graph.entry.words.now) (set_of l.old.lookahead)) (trial_limit - l.old.count) l.old.count (rest_of l.old.count scratch.old (trials (ends_of (edges_in graph.entry.words.now)) (at_item (start_of l.old))))) }
+    requires is_open_value { (listing.old.is_open ≡ true) × (lost (edges_in graph.words.now) listing.old scratch.old ≡ false) }
+    ensures { (n : ℕ) (T : Table) → Read T n terminals (productions_in grammar.entry.words.now grammar.entry.productions) → outcome (reply_of result) listing.new scratch.new buffer.new ≡ found_outcome T (edges_in graph.entry.words.now) listing.old scratch.old buffer.old (search (hands T (edges_in graph.entry.words.now) (set_of listing.old.lookahead)) (trial_limit - listing.old.count) listing.old.count (rest_of listing.old.count scratch.old (trials (ends_of (edges_in graph.entry.words.now)) (at_item (start_of listing.old))))) }
 {
-    let lookahead = l.lookahead;
-    let count = l.count;
+    let lookahead = listing.lookahead;
+    let count = listing.count;
     let sets = first_sets(grammar, terminals, lookahead);
     let filter = Filter {
         grammar,
@@ -183,17 +181,17 @@ fn find_next(
     match search(filter, view, scratch, count) {
         Searched::Hit(number) => {
             write_trial(grammar, view, scratch, buffer);
-            l.count = number;
+            listing.count = number;
             Ok(Advanced::Example)
         }
         Searched::Out(trials) => {
-            l.count = trials;
-            l.is_open = false;
+            listing.count = trials;
+            listing.is_open = false;
             Ok(Advanced::End)
         }
         Searched::Over => {
-            l.count = Searched::TRIALS;
-            l.is_open = false;
+            listing.count = Searched::TRIALS;
+            listing.is_open = false;
             Err(Refusal::TooManyTrials)
         }
     }
@@ -201,7 +199,7 @@ fn find_next(
 
 // A call that is lent what refusal 11 asks: 9 for the words, 15, the end of an ended listing, the search.
 fn go_on(
-    l: &mut Listing,
+    listing: &mut Listing,
     grammar: Grammar,
     terminals: u16,
     graph: Graph,
@@ -210,37 +208,37 @@ fn go_on(
     buffer: &mut [u16],
 ) -> Result<Advanced, Refusal>
     requires within { terminals ≤ 63 }
-    requires listable { Listable (productions_in grammar.words.now grammar.productions) graph.words.now l.old.production.0 l.old.index view.owners.now view.codes.now view.sources.now view.older.now view.latest.now }
+    requires listable { Listable (productions_in grammar.words.now grammar.productions) graph.words.now listing.old.production.0 listing.old.index view.owners.now view.codes.now view.sources.now view.older.now view.latest.now }
     requires scratch_words_in_bounds { (scratch_words ≤ length scratch.old) × (example_room ≤ length buffer.old) }
-    ensures { (n : ℕ) (T : Table) → Read T n terminals (productions_in grammar.entry.words.now grammar.entry.productions) → asked T (start_of l.old) (set_of l.old.lookahead) graph.entry.words.now ≡ true → outcome (reply_of result) l.new scratch.new buffer.new ≡ advance_in graph.entry.words.now l.old scratch.old buffer.old T }
+    ensures { (n : ℕ) (T : Table) → Read T n terminals (productions_in grammar.entry.words.now grammar.entry.productions) → asked T (start_of listing.old) (set_of listing.old.lookahead) graph.entry.words.now ≡ true → outcome (reply_of result) listing.new scratch.new buffer.new ≡ advance_in graph.entry.words.now listing.old scratch.old buffer.old T }
 {
-    if lost(*l, graph, scratch) {
+    if lost(*listing, graph, scratch) {
         return Err(Refusal::OutOfRange);
     }
-    if !is_node(graph, l.start()) {
+    if !is_node(graph, listing.start()) {
         return Err(Refusal::NoNode);
     }
-    if !l.is_open {
+    if !listing.is_open {
         return Ok(Advanced::End);
     }
-    find_next(l, grammar, terminals, graph, view, scratch, buffer)
+    find_next(listing, grammar, terminals, graph, view, scratch, buffer)
 }
 
 // `advance` over an accepted table: refusals 9, 11 and 15, the end, the next example, refusal 13.
 pub fn step_in(
-    l: &mut Listing,
+    listing: &mut Listing,
     table: AcceptedTable,
     graph: &[u16],
     scratch: &mut [u16],
     buffer: &mut [u16],
 ) -> Result<Advanced, Refusal>
-    ensures { outcome (reply_of result) l.new scratch.new buffer.new ≡ advance_in graph.now l.old scratch.old buffer.old (meaning table.entry.words.now) }
+    ensures { outcome (reply_of result) listing.new scratch.new buffer.new ≡ advance_in graph.now listing.old scratch.old buffer.old (meaning table.entry.words.now) }
 {
     let counts = table.counts();
     let mut words = [0u16; ProductionIndex::ALL_WORDS];
     let grammar = table.read_grammar(&mut words);
-    let start = l.start();
-    if !fits(grammar, counts.terminals, start, l.lookahead) {
+    let start = listing.start();
+    if !fits(grammar, counts.terminals, start, listing.lookahead) {
         return Err(Refusal::OutOfRange);
     }
     if graph.len() < TraceGraph::WORDS {
@@ -258,14 +256,11 @@ pub fn step_in(
     ) {
         return Err(Refusal::OutOfRange);
     }
-    if scratch.len() < TraceGraph::SCRATCH {
-        return Err(Refusal::TooShort);
-    }
-    if buffer.len() < Example::WORDS {
+    if scratch.len() < TraceGraph::SCRATCH || buffer.len() < Example::WORDS {
         return Err(Refusal::TooShort);
     }
     go_on(
-        l,
+        listing,
         grammar,
         counts.terminals as u16,
         Graph { words: graph },

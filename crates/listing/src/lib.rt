@@ -53,16 +53,16 @@ pub fn lr1_examples(
 
 // The next example: the listing is lent and moved on in place.
 pub fn advance(
-    l: &mut Listing,
+    listing: &mut Listing,
     table: &[u16],
     graph: &[u16],
     scratch: &mut [u16],
     buffer: &mut [u16],
 ) -> Result<Advanced, Refusal>
-    ensures { outcome (reply_of result) l.new scratch.new buffer.new ≡ advance_of l.old table.now graph.now scratch.old buffer.old }
+    ensures { outcome (reply_of result) listing.new scratch.new buffer.new ≡ advance_of listing.old table.now graph.now scratch.old buffer.old }
 {
     let accepted = check(table)?;
-    step_in(l, accepted, graph, scratch, buffer)
+    step_in(listing, accepted, graph, scratch, buffer)
 }
 
 // What a call of a list is lent: how much of the graph and of the scratch, and the length of its buffer.
@@ -131,7 +131,7 @@ fn check_calls(calls: &[u32], words: usize) -> Result<(), Refusal>
     Ok(())
 }
 
-// The three words in front of a call's buffer.
+// The three words in front of a call's buffer: the number, and the count in two words, the lower first.
 fn write_record(part: &mut [u16], number: u16, count: u32)
     requires { 3 ≤ length part.old }
     ensures { part.new ≡ number ∷ count % 65536 ∷ count / 65536 ∷ drop 3 part.old }
@@ -143,7 +143,7 @@ fn write_record(part: &mut [u16], number: u16, count: u32)
 
 // One call, lent a beginning of the graph and of the scratch. Its part of the output is three words, the answer's number and the count, and then its buffer.
 fn call(
-    l: &mut Listing,
+    listing: &mut Listing,
     table: &[u16],
     lent: Lent,
     graph: &[u16],
@@ -151,23 +151,23 @@ fn call(
     part: &mut [u16],
 )
     requires { 3 ≤ length part.old }
-    ensures { made l.new scratch.new part.new ≡ made_of table.now graph.now l.old lent.graph lent.scratch scratch.old part.old }
+    ensures { made listing.new scratch.new part.new ≡ made_of table.now graph.now listing.old lent.graph lent.scratch scratch.old part.old }
 {
     let n = lent.graph.min(graph.len());
     let m = lent.scratch.min(scratch.len());
     let answer = advance(
-        l,
+        listing,
         table,
         &graph[..n],
         &mut scratch[..m],
         &mut part[Lent::RECORD..],
     );
-    write_record(part, answer_number(answer), l.count);
+    write_record(part, answer_number(answer), listing.count);
 }
 
 // The calls, one after another, over one graph and one scratch, each with its own part of the output.
 fn make_calls(
-    l: Listing,
+    opened: Listing,
     table: &[u16],
     calls: &[u32],
     graph: &[u16],
@@ -175,9 +175,9 @@ fn make_calls(
     output: &mut [u16],
 )
     requires { refusal_of_calls calls.now (length output.old) ≡ 0 }
-    ensures { ended scratch.new output.new ≡ ended_of table.now graph.now calls.now l scratch.old [] output.old }
+    ensures { ended scratch.new output.new ≡ ended_of table.now graph.now calls.now opened scratch.old [] output.old }
 {
-    let mut listing = l;
+    let mut listing = opened;
     let mut from: usize = 0;
     for numbers in calls.chunks_exact(Lent::NUMBERS) {
         let lent = Lent::of(numbers);
@@ -209,19 +209,21 @@ pub fn examples(
     ensures { listed (reply_of result) scratch.new output.new ≡ list_of table.now (record { production = production.0; index = index }) lookahead calls.now graph.now scratch.old output.old }
 {
     let fits = check_calls(calls, output.len());
-    match open_listing(table, production, index, lookahead, graph) {
-        Err(other) => {
-            let Err(own) = fits else {
-                return Err(other);
-            };
+    match (
+        open_listing(table, production, index, lookahead, graph),
+        fits,
+    ) {
+        (Err(other), Err(own)) => {
             if own.number() < other.number() {
-                return Err(own);
+                Err(own)
+            } else {
+                Err(other)
             }
-            Err(other)
         }
-        Ok(l) => {
-            fits?;
-            make_calls(l, table, calls, graph, scratch, output);
+        (Err(other), Ok(())) => Err(other),
+        (Ok(_), Err(own)) => Err(own),
+        (Ok(listing), Ok(())) => {
+            make_calls(listing, table, calls, graph, scratch, output);
             Ok(calls.len() / Lent::NUMBERS)
         }
     }

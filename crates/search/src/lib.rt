@@ -43,7 +43,7 @@ impl Searched {
     pub const TRIALS: u32 = 100000;
 }
 
-// Writes the labels of a trial, three words each; answers how many words.
+// Writes the labels of a trial, three words each, by the places at which `Labels` reads them (a copy of an array is no plainer); answers how many words.
 fn write_labels(view: View, words: &[u16], room: &mut [u16; Example::ALL_LABEL_WORDS]) -> usize
     requires tried { (ps : List Production) × ((es : List TraceEdge) × Tried ps es view.owners.now view.codes.now words.now) }
     ensures upper_bound { (result ≤ labels_room) × ((ps : List Production) (es : List TraceEdge) → Tried ps es view.entry.owners.now view.entry.codes.now words.now → LabelsFit ps (take result room.new)) }
@@ -106,14 +106,12 @@ impl<'a> Filter<'a> {
         ensures { (es : List TraceEdge) → Tried (productions_in self.entry.grammar.words.now self.entry.grammar.productions) es view.entry.owners.now view.entry.codes.now words.now → (p rest : List ℕ) → words.now ≡ trial_words p ++ rest → result ≡ passes_by self.entry.sets.now.terminals self.entry.sets.now.map (productions_in self.entry.grammar.words.now self.entry.grammar.productions) es (some set.0) p }
     {
         let mut room = [0u16; Example::ALL_LABEL_WORDS];
-        let sets = self.sets;
         let labels = read_labels(self.grammar, view, words, &mut room);
-        let expected = labels.first0(sets);
-        let answer = expected.answer;
-        answer.meets(sets.terminals, set)
+        let expected = labels.first0(self.sets);
+        expected.answer.meets(self.sets.terminals, set)
     }
 
-    // Without a lookahead every example passes.
+    // Without a lookahead every example passes. `is_none_or` was tried: the proof did not close over what its closure gives.
     pub fn passes(self, view: View, words: &[u16]) -> bool
         requires tried { (es : List TraceEdge) × Tried (productions_in self.grammar.words.now self.grammar.productions) es view.owners.now view.codes.now words.now }
         ensures { (es : List TraceEdge) → Tried (productions_in self.entry.grammar.words.now self.entry.grammar.productions) es view.entry.owners.now view.entry.codes.now words.now → (p rest : List ℕ) → words.now ≡ trial_words p ++ rest → result ≡ passes_by self.entry.sets.now.terminals self.entry.sets.now.map (productions_in self.entry.grammar.words.now self.entry.grammar.productions) es (set_of self.entry.lookahead) p }

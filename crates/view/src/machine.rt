@@ -167,9 +167,6 @@ impl<'a> View<'a> {
         requires held { Held words.now }
         ensures { (st rest : List ℕ) → words.now ≡ trial_words (reverse st) ++ rest → result ≡ example_by self.entry.sources.now st }
     {
-        match last(words) {
-            Some(edge) => self.source(edge).is_none(),
-            None => false,
-        }
+        matches!(last(words), Some(edge) if self.source(edge).is_none())
     }
 }

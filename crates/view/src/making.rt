@@ -37,7 +37,7 @@ impl ViewLists {
         }
     }
 
-    // Edge k put in, from a nonterminal or an item to a node by its number: the latest edge into that becomes the next older one.
+    // Edge k put in, where it comes from as its byte has it, to a node by its number: the latest edge into that becomes the next older one.
     pub fn put(&mut self, k: usize, source: usize, slot: usize, owner: usize)
         requires { (k < edge_limit) × (source ≤ nonterminal_limit) × (slot < latest_room) × (owner < nonterminal_limit) }
         ensures sources { self.new.sources ≡ set self.old.sources k source }
@@ -67,7 +67,7 @@ impl ViewLists {
     }
 }
 
-// The number of a node among those of the view from an item.
+// The number of a node among those of the view from an item. By its parts, as no kind but 0 is known here: `==` with the start item's node would ask that any other is 1.
 pub fn slot(node: Node, start: Item) -> usize
     requires { node.kind ≡ 0 → node.number < nonterminal_limit }
     ensures { (result ≡ slot_of (record { production = start.production; index = start.index }) (node_is node)) × (result < latest_room) }
@@ -102,7 +102,7 @@ fn node_owner(grammar: Grammar, node: Node) -> usize
     }
 }
 
-// Edge k of a graph, which is in range: its label, as the nonterminal that the edge comes from and the item in one word, and itself put into the view from an item.
+// Edge k of a graph, which is in range, with the lists as `check_view` is lent them: its label, as the nonterminal that the edge comes from and the item in one word, and itself put into the view from an item.
 fn view_edge(
     grammar: Grammar,
     graph: &[u16],
@@ -127,7 +127,7 @@ fn view_edge(
 }
 
 // Whether a lent graph is one (refusal 9), as `check_graph` asks; in the same pass its view for a listing from an item is made in new lists, and the label of every edge. The lists
-// are lent and no answer, which would copy them; a grammar and a number of nonterminals stand beside each other as in crate trace_graph.
+// and the codes are lent beside each other, as crate examples has its codes in the traced edges and makes the lists alone; a grammar and a number of nonterminals stand beside each other as in crate trace_graph.
 pub fn check_view(
     grammar: Grammar,
     n: usize,

@@ -13,10 +13,10 @@ pub returns-then-not-is_node : goal.returns-then-not-is_node
 unfolding start_of
 returns-then-not-is_node c = λ n T R q. go_stray _ _ _ _ T q c.requires.listable.ranged.long c.requires.scratch_words_in_bounds.0 c.requires.scratch_words_in_bounds.1 (sym c.lost.ensures ∙ c.if-lost.false) (rw (← c.start.ensures.0, ← c.start.ensures.1) (sym c.if-not-is_node.ensures))
 
-pub returns-then-not-l : goal.returns-then-not-l
+pub returns-then-not-listing : goal.returns-then-not-listing
 unfolding start_of
-returns-then-not-l c = λ n T R q. go_ended _ _ _ _ T q c.requires.listable.ranged.long c.requires.scratch_words_in_bounds.0 c.requires.scratch_words_in_bounds.1 (sym c.lost.ensures ∙ c.if-lost.false) (rw (← c.start.ensures.0, ← c.start.ensures.1) (sym c.if-not-is_node.ensures)) (let h = c.if-not-l.true in cc)
+returns-then-not-listing c = λ n T R q. go_ended _ _ _ _ T q c.requires.listable.ranged.long c.requires.scratch_words_in_bounds.0 c.requires.scratch_words_in_bounds.1 (sym c.lost.ensures ∙ c.if-lost.false) (rw (← c.start.ensures.0, ← c.start.ensures.1) (sym c.if-not-is_node.ensures)) (let h = c.if-not-listing.true in cc)
 
 pub returns : goal.returns
 unfolding start_of
-returns c = λ n T R q. go_found _ _ _ _ T q c.requires.listable.ranged.long c.requires.scratch_words_in_bounds.0 c.requires.scratch_words_in_bounds.1 (sym c.lost.ensures ∙ c.if-lost.false) (rw (← c.start.ensures.0, ← c.start.ensures.1) (sym c.if-not-is_node.ensures)) (let h = c.if-not-l.false in cc) _ (c.find_next.ensures n T R)
+returns c = λ n T R q. go_found _ _ _ _ T q c.requires.listable.ranged.long c.requires.scratch_words_in_bounds.0 c.requires.scratch_words_in_bounds.1 (sym c.lost.ensures ∙ c.if-lost.false) (rw (← c.start.ensures.0, ← c.start.ensures.1) (sym c.if-not-is_node.ensures)) (let h = c.if-not-listing.false in cc) _ (c.find_next.ensures n T R)

@@ -6,6 +6,7 @@ use Rattle.lister.proofs.Asking.{asked-none, asked_short, asked_long}
 use Rattle.lister.proofs.Ways.{few_nonterminals, read_of, roomy_of, step-refused, step_graph, step_scratch, step_buffer}
 use native.Mathlib.Omega.{arith}
 use Rattle.lister.proofs.step_in.Goals as goal
+use Rattle.lister.proofs.step_in.Goals.{then-scratch-lt-SCRATCH-via-then-scratch-lt-SCRATCH, then-scratch-lt-SCRATCH-via-else-scratch-lt-SCRATCH+then-buffer-lt-WORDS}
 
 pub returns-then-not-fits : goal.returns-then-not-fits
 unfolding start_of
@@ -25,12 +26,11 @@ returns-then-not-check_view c = let R = read_of c.counts-counts.ensures c.read_g
 pub returns-then-scratch-lt-SCRATCH : goal.returns-then-scratch-lt-SCRATCH
 unfolding start_of
 returns-then-scratch-lt-SCRATCH c = let R = read_of c.counts-counts.ensures c.read_grammar-grammar.ensures.1 in
-    step_scratch _ _ _ _ _ (asked_long _ _ _ _ _ R _ (rw (← c.start-start.ensures.0, ← c.start-start.ensures.1) c.if-not-fits.ensures) refl c.if-graph-lt-WORDS.false _ c.if-not-check_view.ensures.value) c.if-scratch-lt-SCRATCH.true
-
-pub returns-then-buffer-lt-WORDS : goal.returns-then-buffer-lt-WORDS
-unfolding start_of
-returns-then-buffer-lt-WORDS c = let R = read_of c.counts-counts.ensures c.read_grammar-grammar.ensures.1 in
-    step_buffer _ _ _ _ _ (asked_long _ _ _ _ _ R _ (rw (← c.start-start.ensures.0, ← c.start-start.ensures.1) c.if-not-fits.ensures) refl c.if-graph-lt-WORDS.false _ c.if-not-check_view.ensures.value) c.if-buffer-lt-WORDS.true
+    let A = asked_long _ _ _ _ _ R _ (rw (← c.start-start.ensures.0, ← c.start-start.ensures.1) c.if-not-fits.ensures) refl c.if-graph-lt-WORDS.false _ c.if-not-check_view.ensures.value in
+    elim c.then-scratch-lt-SCRATCH.branch [
+      | then-scratch-lt-SCRATCH-via-then-scratch-lt-SCRATCH w ↦ step_scratch _ _ _ _ _ A w.if-scratch-lt-SCRATCH.true
+      | then-scratch-lt-SCRATCH-via-else-scratch-lt-SCRATCH+then-buffer-lt-WORDS w ↦ step_buffer _ _ _ _ _ A w.if-buffer-lt-WORDS.true
+    ]
 
 pub invariant_of-go_on : goal.invariant_of-go_on
 invariant_of-go_on c = record { roomy = roomy_of (ranged_fits _ _ _ (sym c.if-not-check_view.ensures.value) (few_nonterminals c.counts-counts.ensures) (omega (arith, c.if-graph-lt-WORDS.false))) }

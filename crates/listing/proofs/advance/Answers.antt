@@ -11,4 +11,4 @@ returns-in_err-accepted c =
     rw (p.1, p.2) (step-refused _ _ _ _ _ _ _ (sym c.in_err-accepted.ensures.answer))
 
 pub returns : goal.returns
-returns c = step_accepted _ _ _ _ _ (sym c.in_ok-accepted.ensures.answer) _ (c.step_in.ensures ∙ ap (λ (ws : List ℕ). advance_in c.args.graph.now c.args.l.now c.args.scratch.now c.args.buffer.now (meaning ws)) c.in_ok-accepted.ensures.same)
+returns c = step_accepted _ _ _ _ _ (sym c.in_ok-accepted.ensures.answer) _ (c.step_in.ensures ∙ ap (λ (ws : List ℕ). advance_in c.args.graph.now c.args.listing.now c.args.scratch.now c.args.buffer.now (meaning ws)) c.in_ok-accepted.ensures.same)
