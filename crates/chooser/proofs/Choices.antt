@@ -12,7 +12,7 @@ use Rattle.std.specs.Prelude.{min}
 use Rattle.repr.specs.Sizes.{classify_scratch, entry_limit}
 use Rattle.repr.specs.declared.refusals.Refusal.{Refusal}
 use Rattle.repr.specs.declared.refusals.Refusal.TheVariants.{OutOfRange, EndShifted, TooShort}
-use Rattle.repr.specs.Reply.{number_of, place_of}
+use Rattle.repr.specs.Reply.{number_of}
 use Rattle.slices.specs.Lent.{zeroed}
 use Rattle.slices.proofs.Lent.{zeroed_lent}
 use Rattle.repr.specs.Lists.{keep, below, up_from}

@@ -4,7 +4,7 @@ use mathlib.Core.List.{List, [], ◌∷◌, ◌++◌, map, map-append, append_as
 use Prim.Native.Nat.{ℕ, zero, suc, ◌-◌, ◌+◌, ◌*◌, ◌≤◌, ◌<◌}
 use native.Mathlib.Omega.{arith}
 use lib.ListN.{length, get_or, take, drop, set, length-append}
-use lib.Seq.{sets, sets-eq, length-take-le, get_or-take, take_at, drop_at, get_or-drop, drop-drop, ext_get_or}
+use lib.Seq.{sets, sets-eq, length-take-le, take_at, drop_at, get_or-drop, drop-drop, ext_get_or}
 use lib.ListN.{length-set, length-drop}
 use borrow.Rule.Slice.PartMut.{put_mid, Post-is}
 use Rattle.repr.specs.Sizes.{entry_room, entry_place, entries_room}
@@ -146,20 +146,40 @@ module _ (ws ws' : List ℕ) (k token : ℕ) (class : Class) (long : length ws �
 
 -- an entry's words
 
-pub value_own : (ws : List ℕ) (at n i : ℕ) → i < n → get_or ws (at + i) 0 ≡ get_or (take n (drop at ws)) i 0
-value_own ws at n i h = sym (get_or-take n (drop at ws) i 0 h ∙ get_or-drop at ws i 0)
+drop_first : (i : ℕ) (ws : List ℕ) → i < length ws → drop i ws ≡ get_or ws i 0 ∷ drop (suc i) ws
+drop_first i [] h = absurd (omega arith)
+drop_first zero (w ∷ ws) h = refl
+drop_first (suc i) (w ∷ ws) h = drop_first i ws (omega arith)
 
-pub value_past : (n i : ℕ) (ws : List ℕ) → n ≤ i → 0 ≡ get_or (take n ws) i 0
-value_past zero i ws h = refl
-value_past (suc n) i [] h = refl
-value_past (suc n) zero (w ∷ ws) h = absurd (omega arith)
-value_past (suc n) (suc i) (w ∷ ws) h = value_past n i ws (omega arith)
+filled : (v : List ℕ) → length v ≤ 4 → v ++ drop (length v) (0 ∷ 0 ∷ 0 ∷ 0 ∷ []) ≡ get_or v 0 0 ∷ get_or v 1 0 ∷ get_or v 2 0 ∷ get_or v 3 0 ∷ []
+filled [] h = refl
+filled (a ∷ []) h = refl
+filled (a ∷ b ∷ []) h = refl
+filled (a ∷ b ∷ c ∷ []) h = refl
+filled (a ∷ b ∷ c ∷ d ∷ []) h = refl
+filled (a ∷ b ∷ c ∷ d ∷ e ∷ v) h = absurd (omega arith)
 
-pub class_read : (ws : List ℕ) (k class n a b c d : ℕ) (v : List ℕ) → class ≡ get_or ws (entry_place k + 1) 0 → n ≡ count_of_values class
-    → a ≡ get_or (take n (drop (entry_place k + 2) ws)) 0 0 → b ≡ get_or (take n (drop (entry_place k + 2) ws)) 1 0 → c ≡ get_or (take n (drop (entry_place k + 2) ws)) 2 0 → d ≡ get_or (take n (drop (entry_place k + 2) ws)) 3 0
-    → v ≡ class ∷ a ∷ b ∷ c ∷ d ∷ [] → get_or ws (entry_place k) 0 ∷ v ≡ entry_words (entry_in ws k)
+pub class_read : (ws part : List ℕ) (k n : ℕ) → entry_place k + 6 ≤ length ws → n ≡ count_of_values (get_or ws (entry_place k + 1) 0) → n ≤ 4
+    → part ≡ take (entry_place k + 1 + (1 + n) - (entry_place k + 1)) (drop (entry_place k + 1) ws)
+    → get_or ws (entry_place k) 0 ∷ (part ++ drop (1 + n) (0 ∷ 0 ∷ 0 ∷ 0 ∷ 0 ∷ [])) ≡ entry_words (entry_in ws k)
 unfolding entry_words entry_in
-class_read ws k class n a b c d v e en ea eb ec ed ev = rw (ev, ea, eb, ec, ed, en, e)
+class_read ws part k n room e few p =
+    let own = take n (drop (entry_place k + 2) ws) in
+    let one : entry_place k + 1 + (1 + n) - (entry_place k + 1) ≡ suc n = omega arith in
+    let next : suc (entry_place k + 1) ≡ entry_place k + 2 = omega arith in
+    let left = length-drop (entry_place k + 2) ws in
+    let long : length own ≡ n = length-take-le n (drop (entry_place k + 2) ws) (omega arith) in
+    let first : drop (entry_place k + 1) ws ≡ get_or ws (entry_place k + 1) 0 ∷ drop (entry_place k + 2) ws = drop_first (entry_place k + 1) ws (omega arith) ∙ ap (λ (i : ℕ). get_or ws (entry_place k + 1) 0 ∷ drop i ws) next in
+    let part_is : part ≡ get_or ws (entry_place k + 1) 0 ∷ own = p ∙ ap (λ (i : ℕ). take i (drop (entry_place k + 1) ws)) one ∙ ap (take (suc n)) first in
+    let fill : own ++ drop n (0 ∷ 0 ∷ 0 ∷ 0 ∷ []) ≡ get_or own 0 0 ∷ get_or own 1 0 ∷ get_or own 2 0 ∷ get_or own 3 0 ∷ [] = ap (λ (i : ℕ). own ++ drop i (0 ∷ 0 ∷ 0 ∷ 0 ∷ [])) (sym long) ∙ filled own (omega arith) in
+    let values : own ≡ take (count_of_values (get_or ws (entry_place k + 1) 0)) (drop (entry_place k + 2) ws) = ap (λ (i : ℕ). take i (drop (entry_place k + 2) ws)) e in
+    let up : 1 + n ≡ suc n = omega arith in
+    let zeros : List ℕ = 0 ∷ 0 ∷ 0 ∷ 0 ∷ [] in
+    let z : drop (1 + n) (0 ∷ zeros) ≡ drop n zeros = ap (λ (i : ℕ). drop i (0 ∷ zeros)) up in
+    ap (λ (l : List ℕ). get_or ws (entry_place k) 0 ∷ (l ++ drop (1 + n) (0 ∷ 0 ∷ 0 ∷ 0 ∷ 0 ∷ []))) part_is
+    ∙ ap (λ (l : List ℕ). get_or ws (entry_place k) 0 ∷ get_or ws (entry_place k + 1) 0 ∷ (own ++ l)) z
+    ∙ ap (λ (l : List ℕ). get_or ws (entry_place k) 0 ∷ get_or ws (entry_place k + 1) 0 ∷ l) fill
+    ∙ ap (λ (l : List ℕ). get_or ws (entry_place k) 0 ∷ get_or ws (entry_place k + 1) 0 ∷ get_or l 0 0 ∷ get_or l 1 0 ∷ get_or l 2 0 ∷ get_or l 3 0 ∷ []) values
 
 -- so many entries' words
 

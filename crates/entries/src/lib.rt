@@ -73,7 +73,7 @@ pub fn write_entry(entries: &mut [u16], count: usize, token: u16, class: Class)
 // How many values a class of a number has. By its number, as words may hold any.
 #[tactic(auto, unfolding(crate::specs::Entries::count_of_values))]
 fn value_count(class: u16) -> usize
-    ensures { result ≡ count_of_values class }
+    ensures { (result ≡ count_of_values class) × (result ≤ 4) }
 {
     match class {
         2 => 1,

@@ -4,7 +4,7 @@ use Rattle.chooser.proofs.Tokens.{turn_first, turn_end, turn_halts, turn_again, 
 use Rattle.chooser.proofs.choose_tokens.Goals as goal
 
 pub loop-token-init : goal.loop-token-init
-loop-token-init c = turn_first _ c.args.choice.conflict _ _ _
+loop-token-init c = rw (c.default-written.ensures.0, c.default-written.ensures.1) (turn_first _ c.args.choice.conflict _ _ _)
 
 pub choose_token-requires : goal.choose_token-requires
 choose_token-requires c = record { token_bound = (c.loop-token-test.true, c.loop-token.invariant.few); better_len = (c.loop-token.invariant.better_long ∙ c.requires.0, c.loop-token.invariant.naive_long ∙ c.requires.1) }

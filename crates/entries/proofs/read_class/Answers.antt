@@ -1,6 +1,6 @@
-use mathlib.Core.Path.{refl}
 use Rattle.entries.proofs.Laws.{class_read}
+use native.Mathlib.Omega.{arith}
 use Rattle.entries.proofs.read_class.Goals as goal
 
 pub returns : goal.returns
-returns c = class_read _ _ _ _ _ _ _ _ _ refl c.value_count-count.ensures c.value_at-first.ensures c.value_at-second.ensures c.value_at-third.ensures c.value_at-fourth.ensures refl
+returns c = class_read _ _ c.args.k _ (omega (arith, c.requires)) c.value_count-own.ensures.0 c.value_count-own.ensures.1 c.copy_from_slice.ensures.after
