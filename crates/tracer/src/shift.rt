@@ -18,11 +18,9 @@ ghost use Rattle.tracer.specs.Clear.{Clear};
 
 use crate::edges::{kind_on, to_item, to_nonterminal};
 use crate::tails::{LIST_WORDS, SHORT_TABLE, TAIL_AHEAD, TailList, after, ahead, begin, list_tail};
-use crate::{OpenTrace, Tracer, nonterminal_at};
-use bits::{is_set, put};
+use crate::{OpenTrace, Tracer, enter, nonterminal_at};
 use codes::{EdgeCode, EdgeCodes};
 use lr1_core::Item;
-use repr::NonterminalString;
 use state_graph::{StateSet, trace_back};
 use trace_graph::Full;
 
@@ -51,11 +49,9 @@ fn trace_epsilon(
     ensures exceeds { OnErr result ((f : ℕ) → unset trace.old.entered ≤ f → Exceeds (meaning tracer.entry.table.words.now) (epsilon (meaning tracer.entry.table.words.now) f state nonterminal) trace.old.edges.words trace.old.edges.flags trace.old.entered) }
     ensures entered_bound { unset trace.new.entered ≤ unset trace.old.entered }
 {
-    let pair = state * NonterminalString::LIMIT + nonterminal;
-    if is_set(&trace.entered, pair) {
+    if !enter(&mut trace.entered, state, nonterminal) {
         return Ok(());
     }
-    put(&mut trace.entered, pair);
     let mut place = begin(records, links, nonterminal, tracer.table.first_item(state));
     while place.at != 0 {
         let read = tracer.table.item(place.at);
