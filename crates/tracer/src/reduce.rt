@@ -76,6 +76,7 @@ fn reduce_item(
 
 // `trace_reduce_from_state`: the items of the state that can shift the nonterminal; where an item's suffix may derive the empty string, it is traced on,
 // once from this state: an item that has its stamp was.
+// An item is made of its record where it is read, here and below: crate table, which has `ItemRecord`, lies below the crate of `Item`, and the record has its place and the next one besides.
 #[cycle(reduce_item_reduce_state)]
 fn reduce_state(
     over: Reduction,

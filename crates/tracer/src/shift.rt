@@ -17,7 +17,9 @@ ghost use Rattle.tracer.specs.Tails.{Usable, TwoTails};
 ghost use Rattle.tracer.specs.Clear.{Clear};
 
 use crate::edges::{kind_on, to_item, to_nonterminal};
-use crate::tails::{LIST_WORDS, SHORT_TABLE, TAIL_AHEAD, TailList, after, ahead, begin, list_tail};
+use crate::tails::{
+    LIST_WORDS, NO_LIST, SHORT_TABLE, TAIL_AHEAD, TailList, after, ahead, begin, list_tail,
+};
 use crate::{OpenTrace, Tracer, enter, nonterminal_at};
 use codes::{EdgeCode, EdgeCodes};
 use lr1_core::Item;
@@ -34,7 +36,7 @@ fn epsilon_code(tracer: Tracer, edges: &mut EdgeCodes, item: Item) -> Result<(),
 }
 
 // `trace_epsilon_edges`: enters the pair of the state and the nonterminal unless it is entered, and follows each item at its beginning to its own nonterminal, in the same state.
-// The items are gone along by places: those of a listed tail stand in its list.
+// The items are gone along by places: those of a listed tail stand in its list. An iterator of them would hold both lists and the nonterminal beside the place, for this one loop.
 fn trace_epsilon(
     tracer: Tracer,
     trace: &mut OpenTrace,
@@ -174,6 +176,7 @@ fn passes_over(
 }
 
 // Each state of the set in turn, ascending. A state whose items add nothing to the state traced last is passed over, and a record of it known, TAIL_AHEAD on from its first, since 128 states cannot have more records of their own each. The lists of two tails are kept from state to state.
+// That no pair is entered is asked here and by both that call this: an open trace is the same type before and at work, and a type of an empty one would end with the first pair.
 fn trace_each<const N: usize>(
     tracer: Tracer,
     trace: &mut OpenTrace,
@@ -226,8 +229,8 @@ fn trace_states(
 {
     let table = tracer.table;
     if table.words.len() < SHORT_TABLE {
-        let mut tail = TailList::<2>::new();
-        let mut other = TailList::<2>::new();
+        let mut tail = TailList::<NO_LIST>::new();
+        let mut other = TailList::<NO_LIST>::new();
         return trace_each(tracer, trace, states, nonterminal, &mut tail, &mut other);
     }
     let mut tail = TailList::<LIST_WORDS>::new();
