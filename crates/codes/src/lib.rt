@@ -87,6 +87,7 @@ impl EdgeCode {
     }
 
     // Its key: of an edge between nonterminals the word with the least equal production.
+    // That the least ones are small is asked here and by what calls this: who holds them (`Tracer`, `Given` of examples) has it with what they are of a table, which is not known here.
     fn key(self, least: &[u8]) -> usize
         requires { (self.item.production < production_limit) × (self.item.index < index_limit) × SmallLeasts least.now }
         ensures { (result < code_limit) × ((ps : List meaning-of.Production) → Leasts ps least.now → self.item.production < length ps → result ≡ key_by ps (kind_number self.kind) (record { production = self.item.production; index = self.item.index })) }
@@ -233,6 +234,7 @@ fn edge_of(grammar: Grammar, code: usize) -> TraceEdge
 }
 
 // The words of all edges, in front of the graph; what stands behind them is as it was.
+// By place, since the place is the edge's number in the graph; the count is set with each edge, so that the graph is whole after each.
 pub fn write_codes(grammar: Grammar, codes: &EdgeCodes, graph: &mut [u16])
     requires carried { (T : meaning-of.Table) × ((es : List graph-of.TraceEdge) × Carried grammar.words.now grammar.productions codes.now.words T es) }
     requires room { graph_room ≤ length graph.old }

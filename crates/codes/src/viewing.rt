@@ -11,7 +11,7 @@ use lr1_core::Item;
 use repr::{Grammar, word};
 use view::making::{ViewLists, slot, source};
 
-// The view of a trace for a listing from an item, made in new lists, and by edge the nonterminal that it comes from: with the words behind the count the labels.
+// The view of a trace for a listing from an item, made in new lists, and by edge the nonterminal that it comes from: with the words behind the count the labels. By place, since the place is the edge's number.
 pub fn view_codes(grammar: Grammar, codes: &EdgeCodes, item: Item, lists: &mut ViewLists)
     requires carried { (T : Table) × ((es : List TraceEdge) × Carried grammar.words.now grammar.productions codes.now.words T es) }
     requires blank { Blank lists.old }

@@ -2,6 +2,8 @@
 
 #![tactic(auto)]
 
+ghost use Rattle.std.specs.Prelude.{◌≡◌, ◌≢◌, true, false};
+
 use lookahead::TokenSet;
 use repr::{NonterminalString, ProductionIndex};
 use state_graph::StateIndex;
@@ -22,9 +24,17 @@ impl Conflict {
 
     // Examples of a side.
     pub const EXAMPLES: usize = 192;
+
+    // Whether its action is a shift.
+    pub fn is_shift(self) -> bool
+        ensures { (result ≡ true → self.action ≡ 0) × (result ≡ false → (self.action ≢ 0)) }
+    {
+        self.action == 0
+    }
 }
 
 // A class with its own values; the examples stand in the lent buffers. A nonterminal; a nonterminal and a symbol's kind and number; two spans, the conflict's first.
+// In numbers, as a class is written in words: where it is made alone there is a symbol or a span.
 #[derive(Clone, Copy)]
 pub enum Class {
     Naive,

@@ -13,7 +13,7 @@ use Rattle.lookahead.specs.declared.TokenSet.{TokenSet}
 use Rattle.lookahead.specs.Tokens.{single, with}
 use Rattle.lookahead.proofs.Laws.{with_yes}
 use Rattle.lookahead.proofs.Sets.{union-zero-left}
-use Rattle.state_graph.specs.declared.StateIndex.{StateIndex}
+use Rattle.repr.specs.declared.StateIndex.{StateIndex}
 use Rattle.trace_graph.specs.Fits.{item_is_fit}
 use Rattle.trace_graph.proofs.Bools.{and_left, and_right}
 use Rattle.trace.specs.Reduce.{reduce_edges}

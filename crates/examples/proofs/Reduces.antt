@@ -9,7 +9,7 @@ use Rattle.table.specs.Decoded.{meaning}
 use Rattle.table.proofs.Decoding.{fits}
 use Rattle.lookahead.specs.declared.TokenSet.{TokenSet}
 use Rattle.lookahead.specs.Tokens.{with}
-use Rattle.state_graph.specs.declared.StateIndex.{StateIndex}
+use Rattle.repr.specs.declared.StateIndex.{StateIndex}
 use Rattle.trace_graph.specs.Fits.{item_is_fit}
 use Rattle.trace.proofs.Traced.{item_fits}
 use Rattle.tracer.specs.declared.Action.TheVariants.{Reduce}

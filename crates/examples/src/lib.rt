@@ -56,7 +56,7 @@ pub struct Prepared {
     pub ends: [u64; Item::FLAG_WORDS],
 }
 
-// Packs the productions into the words lent, and makes the rest. The words are read again by `given`, so `read_grammar`, which keeps the loan, is not for them.
+// Packs the productions into the words lent, and makes the rest. The words are read again by `given`, so `read_grammar`, which keeps the loan, is not for them; they are a part of lent scratch, so a slice.
 pub fn prepare(table: AcceptedTable, words: &mut [u16]) -> Prepared
     requires { length words.old ≡ grammar_room }
     ensures { Reads table.entry.words.now words.new (length (meaning table.entry.words.now).productions) result.sets.terminals result.sets.map result.least result.ends }
@@ -145,6 +145,7 @@ fn traces_shift(action: Action) -> bool
 }
 
 // The outline of the trial that the words hold, kept as example `count` of its side, number `turn` of its listing; and the labels of the side's first.
+// That the words hold a trial of the view is asked here as in search, which goes on in the same words: a type for them would be taken apart at each step.
 fn keep_trial(
     grammar: Grammar,
     shift: bool,
@@ -216,6 +217,7 @@ fn list_outlines(
 
 // The item is traced from its state: its edges in words of one each, and the lists of the view from the item, in new lists. More than 1,024 edges do not fit.
 // The view itself is made by the caller: a view over both lent values at one lifetime has no proof.
+// That the state and the item are the table's is asked here and by both listings: a `TracedItem` is what any caller asks for, and `trace_in` of tracer refuses what is not the table's, so that the type cannot say it.
 fn open_view(
     given: Given,
     traced: TracedItem,
@@ -347,7 +349,7 @@ pub fn action_examples(case: TableConflict, side: &mut Side) -> Result<Gathered,
     let state = conflict.state;
     let operand = conflict.operand as usize;
     let token = conflict.token;
-    if conflict.action == 0 {
+    if conflict.is_shift() {
         return shift_examples(given, state, token as usize, side);
     }
     reduce_examples(given, state, operand, token, side)
@@ -434,7 +436,7 @@ pub fn action_again(case: TableConflict, label: usize, wanted: usize, buffer: &m
     let state = conflict.state;
     let operand = conflict.operand as usize;
     let token = conflict.token;
-    if conflict.action == 0 {
+    if conflict.is_shift() {
         let traced = TracedItem {
             state: state.0 as usize,
             item: Item::at(label),

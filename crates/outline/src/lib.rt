@@ -22,7 +22,7 @@ use error::Conflict;
 use example::{Example, Labels};
 use first::FirstSets;
 use lr1_core::Item;
-use repr::{Grammar, NonterminalString, word};
+use repr::{Grammar, NonterminalString, Symbol, word};
 
 // Places, a print of cursor and symbols, the nonterminal of the first reduction, the item that the inline test reads as one word (`item`).
 #[derive(Clone, Copy)]
@@ -60,7 +60,7 @@ impl Outline {
     }
 }
 
-// A print with a symbol more.
+// A print with a symbol more. Prints are numbers of 64 bits, which outlines keep and compare as such, so that each function says anew that its own is below the limit: a type for it would be taken off and put on at each step.
 fn mix(print: u64, kind: usize, number: usize) -> u64
     requires { (print < print_limit) × (kind < 65536) × (number < 65536) }
     ensures { (result ≡ mix print (symbol_code kind number)) × (result < print_limit) }
@@ -75,7 +75,7 @@ fn print_list(print: u64, symbols: &[u16]) -> u64
     ensures { (result ≡ print_words print symbols.now) × (result < print_limit) }
 {
     let mut mixed = print;
-    for symbol in symbols.chunks_exact(2) {
+    for symbol in symbols.chunks_exact(Symbol::WORDS) {
         mixed = mix(mixed, word(symbol, 0), word(symbol, 1));
     }
     mixed
@@ -99,14 +99,14 @@ fn print_middle(print: u64, labels: Labels) -> u64
     ensures { (result ≡ print_words print (joined symbol_words (middle (productions_in labels.entry.grammar.words.now labels.entry.grammar.productions) (labels_in labels.entry.words.now)))) × (result < print_limit) }
 {
     let part = labels.cursor();
-    if part.len() > 0 {
+    if !part.is_empty() {
         return print_list(print, part);
     }
     let lead = labels.prefix(0);
-    if lead.len() > 0 {
+    if !lead.is_empty() {
         return print;
     }
-    mix(print, 2, 0)
+    mix(print, Example::EMPTY_MARK as usize, 0)
 }
 
 // With the suffixes more, innermost first.
@@ -149,7 +149,7 @@ fn kept_item(labels: Labels, shift: bool) -> Option<Item>
     Some(next)
 }
 
-// The word of an item or of none, by which outlines keep it and are compared.
+// The word of an item or of none: outlines are kept in words and compared by it, and so it stays one in them.
 fn word_of(item: Option<Item>) -> usize
     requires { IfSome item (λ some. (some.production < production_limit) × (some.index < index_limit)) }
     ensures { (result ≡ label_word item) × (result ≤ item_limit) }
@@ -173,7 +173,7 @@ pub fn outline_of(labels: Labels, shift: bool) -> Outline
 }
 
 // What is kept of a side's examples: outlines, behind them the labels of the first, and of each example its print.
-// Fixed words, since there is no heap; how many are used is the count that a listing answers.
+// Fixed words, since there is no heap, and u16 by place, since an array of 192 outlines of four 64-bit numbers would have more than 2,000 words (tests/arrays.py). How many are used is the count that a listing answers, which is refused before it is more: no field, as a refusal leaves what is kept behind it.
 #[derive(Drop)]
 pub struct Side {
     pub kept: [u16; Outline::ALL_WORDS],
@@ -262,7 +262,10 @@ fn diverge(sets: &FirstSets, first: &[u16], second: &[u16]) -> bool
     requires second_value { list_is_fit nonterminal_limit terminal_limit second.now ≡ true }
     ensures { result ≡ diverge_by sets.now.terminals sets.now.map (listed first.now) (listed second.now) }
 {
-    for (own, other) in first.chunks_exact(2).zip(second.chunks_exact(2)) {
+    for (own, other) in first
+        .chunks_exact(Symbol::WORDS)
+        .zip(second.chunks_exact(Symbol::WORDS))
+    {
         if own != other {
             return sets.first0(own).is_disjoint(sets.first0(other));
         }

@@ -8,7 +8,7 @@ pub mod shift;
 pub mod stamps;
 pub mod tails;
 
-ghost use Rattle.std.specs.Prelude.{OnOk, OnErr, MatchOption, ◌≡◌, ℕ, ◌+◌, ◌*◌, ◌<◌, ◌≤◌, false, eqb, [], length, replicate};
+ghost use Rattle.std.specs.Prelude.{OnOk, OnErr, MatchOption, ◌≡◌, ℕ, ◌+◌, ◌*◌, ◌<◌, ◌≤◌, true, false, eqb, [], length, replicate};
 ghost use Rattle.repr.specs.Sizes.{nonterminal_limit, state_limit, edge_limit, graph_room, scratch_words, item_flags};
 ghost use Rattle.repr.specs.Meaning as meaning-of;
 ghost use Rattle.repr.specs.Listed.{listed};
@@ -19,7 +19,7 @@ ghost use Rattle.slices.specs.Lent.{in_front};
 ghost use Rattle.table.specs.Decoded.{meaning};
 ghost use Rattle.trace_graph.specs.Words.{graph_words};
 ghost use Rattle.trace.specs.Ends.{Ends};
-ghost use Rattle.bits.specs.Bits.{bit_at};
+ghost use Rattle.bits.specs.Bits.{bit_at, bit_put};
 ghost use Rattle.codes.specs.Coded.{Coded};
 ghost use Rattle.tracer.specs.Held.{pair_words, Working};
 ghost use Rattle.tracer.specs.Outcome.{outcome, edges_outcome, traced_in};
@@ -27,7 +27,7 @@ ghost use Rattle.tracer.specs.Built.{Asked, edges_by};
 
 use crate::reduce::{Reduction, reduce_codes};
 use crate::shift::shift_codes;
-use bits::is_set;
+use bits::{is_set, put};
 use codes::{EdgeCodes, fill_least, write_codes};
 use first::FirstSets;
 use lr1_core::Item;
@@ -98,6 +98,20 @@ impl OpenTrace {
             state * NonterminalString::LIMIT + nonterminal,
         )
     }
+}
+
+// Enters a pair: whether it is new (`visited_set.insert`). Of the bits alone, as the edges of the trace stay.
+fn enter(entered: &mut [u64; OpenTrace::PAIR_WORDS], state: usize, nonterminal: usize) -> bool
+    requires { (state < state_limit) × (nonterminal < nonterminal_limit) }
+    ensures new { result ≡ true → (bit_at entered.old (state * nonterminal_limit + nonterminal) ≡ false) × (entered.new ≡ bit_put entered.old (state * nonterminal_limit + nonterminal)) }
+    ensures known { result ≡ false → (bit_at entered.old (state * nonterminal_limit + nonterminal) ≡ true) × (entered.new ≡ entered.old) }
+{
+    let pair = state * NonterminalString::LIMIT + nonterminal;
+    if is_set(entered, pair) {
+        return false;
+    }
+    put(entered, pair);
+    true
 }
 
 // Which trace: back from a shift of an item's cursor, or from a reduction by it.

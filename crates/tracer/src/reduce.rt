@@ -16,10 +16,9 @@ ghost use Rattle.tracer.specs.Stamps.{Reduces, ReduceExceeds};
 
 use crate::edges::{to_item, to_nonterminal};
 use crate::stamps::Stamps;
-use crate::{OpenTrace, Tracer};
-use bits::{is_set, put};
+use crate::{OpenTrace, Tracer, enter};
+use bits::is_set;
 use lr1_core::Item;
-use repr::NonterminalString;
 use state_graph::{StateSet, StateWalk};
 use trace_graph::Full;
 
@@ -77,6 +76,7 @@ fn reduce_item(
 
 // `trace_reduce_from_state`: the items of the state that can shift the nonterminal; where an item's suffix may derive the empty string, it is traced on,
 // once from this state: an item that has its stamp was.
+// An item is made of its record where it is read, here and below: crate table, which has `ItemRecord`, lies below the crate of `Item`, and the record has its place and the next one besides.
 #[cycle(reduce_item_reduce_state)]
 fn reduce_state(
     over: Reduction,
@@ -92,11 +92,9 @@ fn reduce_state(
     ensures reduce_exceeds { OnErr result ((f : ℕ) → unset trace.old.entered ≤ f → ReduceExceeds (meaning over.entry.tracer.table.words.now) (λ (st : Trace). state_of_reduce (meaning over.entry.tracer.table.words.now) f state nonterminal st) trace.old.edges.words trace.old.edges.flags trace.old.entered stamps.old.words) }
     ensures entered_bound { (unset trace.new.entered ≤ unset trace.old.entered) × (walk.new.table.words.now ≡ walk.old.table.words.now) }
 {
-    let pair = state * NonterminalString::LIMIT + nonterminal;
-    if is_set(&trace.entered, pair) {
+    if !enter(&mut trace.entered, state, nonterminal) {
         return Ok(());
     }
-    put(&mut trace.entered, pair);
     for read in over.tracer.table.items(state) {
         let item = Item {
             production: read.production,

@@ -17,12 +17,12 @@ ghost use Rattle.tracer.specs.Tails.{Usable, TwoTails};
 ghost use Rattle.tracer.specs.Clear.{Clear};
 
 use crate::edges::{kind_on, to_item, to_nonterminal};
-use crate::tails::{LIST_WORDS, SHORT_TABLE, TAIL_AHEAD, TailList, after, ahead, begin, list_tail};
-use crate::{OpenTrace, Tracer, nonterminal_at};
-use bits::{is_set, put};
+use crate::tails::{
+    LIST_WORDS, NO_LIST, SHORT_TABLE, TAIL_AHEAD, TailList, after, ahead, begin, list_tail,
+};
+use crate::{OpenTrace, Tracer, enter, nonterminal_at};
 use codes::{EdgeCode, EdgeCodes};
 use lr1_core::Item;
-use repr::NonterminalString;
 use state_graph::{StateSet, trace_back};
 use trace_graph::Full;
 
@@ -36,7 +36,7 @@ fn epsilon_code(tracer: Tracer, edges: &mut EdgeCodes, item: Item) -> Result<(),
 }
 
 // `trace_epsilon_edges`: enters the pair of the state and the nonterminal unless it is entered, and follows each item at its beginning to its own nonterminal, in the same state.
-// The items are gone along by places: those of a listed tail stand in its list.
+// The items are gone along by places: those of a listed tail stand in its list. An iterator of them would hold both lists and the nonterminal beside the place, for this one loop.
 fn trace_epsilon(
     tracer: Tracer,
     trace: &mut OpenTrace,
@@ -51,11 +51,9 @@ fn trace_epsilon(
     ensures exceeds { OnErr result ((f : ℕ) → unset trace.old.entered ≤ f → Exceeds (meaning tracer.entry.table.words.now) (epsilon (meaning tracer.entry.table.words.now) f state nonterminal) trace.old.edges.words trace.old.edges.flags trace.old.entered) }
     ensures entered_bound { unset trace.new.entered ≤ unset trace.old.entered }
 {
-    let pair = state * NonterminalString::LIMIT + nonterminal;
-    if is_set(&trace.entered, pair) {
+    if !enter(&mut trace.entered, state, nonterminal) {
         return Ok(());
     }
-    put(&mut trace.entered, pair);
     let mut place = begin(records, links, nonterminal, tracer.table.first_item(state));
     while place.at != 0 {
         let read = tracer.table.item(place.at);
@@ -178,6 +176,7 @@ fn passes_over(
 }
 
 // Each state of the set in turn, ascending. A state whose items add nothing to the state traced last is passed over, and a record of it known, TAIL_AHEAD on from its first, since 128 states cannot have more records of their own each. The lists of two tails are kept from state to state.
+// That no pair is entered is asked here and by both that call this: an open trace is the same type before and at work, and a type of an empty one would end with the first pair.
 fn trace_each<const N: usize>(
     tracer: Tracer,
     trace: &mut OpenTrace,
@@ -230,8 +229,8 @@ fn trace_states(
 {
     let table = tracer.table;
     if table.words.len() < SHORT_TABLE {
-        let mut tail = TailList::<2>::new();
-        let mut other = TailList::<2>::new();
+        let mut tail = TailList::<NO_LIST>::new();
+        let mut other = TailList::<NO_LIST>::new();
         return trace_each(tracer, trace, states, nonterminal, &mut tail, &mut other);
     }
     let mut tail = TailList::<LIST_WORDS>::new();

@@ -6,7 +6,7 @@ ghost use Rattle.tracer.specs.Stamps.{stamp_words, stamp_read_at};
 use lr1_core::Item;
 use repr::word;
 
-// A byte for each item, two to a word: fixed words, since there is no heap.
+// A byte for each item, in fixed memory, since there is no heap; two to a word, since an array of a byte for each of the 2,176 would have more than 2,000 elements (tests/arrays.py).
 #[derive(Drop)]
 pub struct Stamps {
     pub words: [u16; Stamps::WORDS],
@@ -23,6 +23,7 @@ impl Stamps {
         }
     }
 
+    // An item's stamp: one more than a state's number, 0 for none.
     pub fn at(&self, item: Item) -> usize
         requires { (item.production < production_limit) × (item.index < index_limit) }
         ensures { result ≡ stamp_read_at self.now.words (item.production * index_limit + item.index) }

@@ -22,8 +22,10 @@ pub struct Place {
     pub at: usize,
 }
 
-// Words of each list.
+// Words of each list, and where no tail is listed, which word 1 says.
 pub const LIST_WORDS: usize = 2000;
+
+pub const NO_LIST: usize = 2;
 
 // The slot of the first record: those before it are nonterminals.
 const FIRST_SLOT: usize = NonterminalString::LIMIT;
@@ -35,7 +37,7 @@ pub const TAIL_AHEAD: usize = 64;
 pub const SHORT_TABLE: usize = 2560;
 
 // A listed tail in N words each.
-// Records and their links in fixed words, since there is no heap.
+// Records and their links in fixed words, since there is no heap. The functions below take them as two slices: of the struct each, and the recursion of `trace_epsilon`, would be generic in N and stand in the program for both lengths.
 #[derive(Drop)]
 pub struct TailList<const N: usize> {
     pub records: [u16; N],
@@ -54,7 +56,7 @@ impl<const N: usize> TailList<N> {
     }
 }
 
-// The record `most` further along a chain of items, its first record where the chain ends before. Records are numbers here: one is answered.
+// The record `most` further along a chain of items, its first record where the chain ends before. Records are numbers here and one is answered, where an `ItemIter`'s `nth` answers what a record holds.
 pub fn ahead(table: AcceptedTable, first: usize, most: usize) -> usize
     requires { ItemIndex table.words.now first }
     ensures { ((k : ℕ) × (items_from table.entry.words.now result ≡ drop k (items_from table.entry.words.now first))) × ItemIndex table.entry.words.now result }

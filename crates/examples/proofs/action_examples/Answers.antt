@@ -5,11 +5,11 @@ use Rattle.examples.proofs.action_examples.Goals as goal
 pub shift_examples-requires : goal.shift_examples-requires
 shift_examples-requires c = record { state_in_bounds = state_in_lem _ _ c.args.case.fits }
 
-pub returns-then-conflict-eq0 : goal.returns-then-conflict-eq0
-returns-then-conflict-eq0 c = action_shift _ _ _ _ _ c.if-conflict-eq0.true c.shift_examples.ensures
+pub returns-then-is_shift : goal.returns-then-is_shift
+returns-then-is_shift c = action_shift _ _ _ _ _ (c.is_shift.ensures.0 c.if-is_shift.true) c.shift_examples.ensures
 
 pub reduce_examples-requires : goal.reduce_examples-requires
-reduce_examples-requires c = record { state_in_bounds = (state_in_lem _ _ c.args.case.fits, (operand_in_lem _ _ c.args.case.fits c.if-conflict-eq0.false, token_in _ _ c.args.case.fits)) }
+reduce_examples-requires c = record { state_in_bounds = (state_in_lem _ _ c.args.case.fits, (operand_in_lem _ _ c.args.case.fits (c.is_shift.ensures.1 c.if-is_shift.false), token_in _ _ c.args.case.fits)) }
 
 pub returns : goal.returns
-returns c = action_reduce _ _ _ _ _ c.if-conflict-eq0.false c.reduce_examples.ensures
+returns c = action_reduce _ _ _ _ _ (c.is_shift.ensures.1 c.if-is_shift.false) c.reduce_examples.ensures

@@ -41,20 +41,11 @@ reduce_item-loop-from-preserved t c = (λ k hk. c.loop-from.invariant.0 k (rw c.
 pub reduce_item-returns : goal.reduce_item-returns
 reduce_item-returns t c = let n = work_many _ _ _ _ c.args.over.tracer.working in let pi : c.args.item.production < c.args.over.tracer.grammar.productions = omega (arith, c.requires.within.1.production) in record { reduces = item-goes (meaning c.args.over.tracer.table.words.now) c.args.state (record { production = c.args.item.production; index = c.args.item.index }) c.args.trace.now.edges.words c.args.trace.now.edges.flags c.args.trace.now.entered c.args.stamps.now.words _ _ c.in_ok-to_item.ensures.coded _ (c.owner-owner.ensures ∙ work_owner _ _ _ _ c.args.over.tracer.working c.args.item.production c.args.item.index pi) _ (ap (λ (s : StateSet). states_in s.low s.high) (ap (λ (i : StateSetIter). i.0) c.into_iter-from-iterator.ensures.into_iter_gives ∙ c.iter-from-items.ensures) ∙ c.begins-states.ensures.found) _ _ _ _ (left-done (meaning c.args.over.tracer.table.words.now) _ _ _ _ _ _ _ _ _ _ _ c.loop-from.invariant.1 c.in-None.ensures.steps.0); reduce_exceeds = tt; entered_bound = (c.loop-from.invariant.1.fewer, c.loop-from.invariant.2 ∙ sym c.requires.table) }
 
-pub reduce_state-overflow_mul-pair : goal.reduce_state-overflow_mul-pair
-reduce_state-overflow_mul-pair t c = let l = (pair_small c.args.over.tracer.table.words.now c.args.over.tracer.working.accepted c.args.state c.args.nonterminal c.requires.within.0 c.requires.within.1) in omega arith
+pub reduce_state-enter-requires : goal.reduce_state-enter-requires
+reduce_state-enter-requires t c = let f = fits c.args.over.tracer.table.words.now c.args.over.tracer.working.accepted in (omega (arith, f.few_states, c.requires.within.0), omega (arith, f.few_nonterminals, c.requires.within.1))
 
-pub reduce_state-overflow_add-pair : goal.reduce_state-overflow_add-pair
-reduce_state-overflow_add-pair t c = let l = (pair_small c.args.over.tracer.table.words.now c.args.over.tracer.working.accepted c.args.state c.args.nonterminal c.requires.within.0 c.requires.within.1) in omega arith
-
-pub reduce_state-is_set-requires : goal.reduce_state-is_set-requires
-reduce_state-is_set-requires t c = let l = (pair_small c.args.over.tracer.table.words.now c.args.over.tracer.working.accepted c.args.state c.args.nonterminal c.requires.within.0 c.requires.within.1) in omega arith
-
-pub reduce_state-put-requires : goal.reduce_state-put-requires
-reduce_state-put-requires t c = let l = (pair_small c.args.over.tracer.table.words.now c.args.over.tracer.working.accepted c.args.state c.args.nonterminal c.requires.within.0 c.requires.within.1) in omega arith
-
-pub reduce_state-returns-then-is_set : goal.reduce_state-returns-then-is_set
-reduce_state-returns-then-is_set t c = record { reduces = state_known (meaning c.args.over.tracer.table.words.now) c.args.state c.args.nonterminal c.args.trace.now.edges.words c.args.trace.now.edges.flags c.args.trace.now.entered c.args.stamps.now.words (pair_small c.args.over.tracer.table.words.now c.args.over.tracer.working.accepted c.args.state c.args.nonterminal c.requires.within.0 c.requires.within.1) (sym c.is_set.ensures ∙ c.if-is_set.true); reduce_exceeds = tt; entered_bound = (le_refl _, refl) }
+pub reduce_state-returns-then-not-enter : goal.reduce_state-returns-then-not-enter
+reduce_state-returns-then-not-enter t c = rw (c.enter.ensures.known c.if-not-enter.true).1 (record { reduces = state_known (meaning c.args.over.tracer.table.words.now) c.args.state c.args.nonterminal c.args.trace.now.edges.words c.args.trace.now.edges.flags c.args.trace.now.entered c.args.stamps.now.words (pair_small c.args.over.tracer.table.words.now c.args.over.tracer.working.accepted c.args.state c.args.nonterminal c.requires.within.0 c.requires.within.1) (c.enter.ensures.known c.if-not-enter.true).0; reduce_exceeds = tt; entered_bound = (le_refl _, refl) })
 
 pub reduce_state-items-read-items-requires : goal.reduce_state-items-read-items-requires
 reduce_state-items-read-items-requires t c = c.requires.within.0
@@ -75,7 +66,7 @@ pub reduce_state-to_nonterminal-requires : goal.reduce_state-to_nonterminal-requ
 reduce_state-to_nonterminal-requires t c = (rw c.loop-read.invariant.0 at c.in-Some.ensures.steps.1.2).fits
 
 pub reduce_state-returns-in_err-to_nonterminal : goal.reduce_state-returns-in_err-to_nonterminal
-reduce_state-returns-in_err-to_nonterminal t c = let n = work_many _ _ _ _ c.args.over.tracer.working in let R = (rw c.loop-read.invariant.0 at c.in-Some.ensures.steps.1.2) in let pl : c.in-Some.read.production < c.args.over.tracer.grammar.productions = omega (arith, R.fits.production) in let w = state_fewer (meaning c.args.over.tracer.table.words.now) c.args.state c.args.nonterminal c.args.trace.now.edges.words c.args.trace.now.edges.flags c.args.trace.now.entered c.args.stamps.now.words (pair_small c.args.over.tracer.table.words.now c.args.over.tracer.working.accepted c.args.state c.args.nonterminal c.requires.within.0 c.requires.within.1) (omega arith) (sym c.is_set.ensures ∙ c.if-is_set.false) _ c.put.ensures in let p = err_from_is_err_and c.from_residual.result c.from_residual.ensures.1 in rw p.1 (record { reduces = tt; reduce_exceeds = state_stops (meaning c.args.over.tracer.table.words.now) c.args.state c.args.nonterminal c.args.trace.now.edges.words c.args.trace.now.edges.flags c.args.trace.now.entered c.args.stamps.now.words (pair_small c.args.over.tracer.table.words.now c.args.over.tracer.working.accepted c.args.state c.args.nonterminal c.requires.within.0 c.requires.within.1) (omega arith) (sym c.is_set.ensures ∙ c.if-is_set.false) _ c.put.ensures (left_over (meaning c.args.over.tracer.table.words.now) _ _ _ _ _ _ _ _ _ _ _ c.loop-read.invariant.1 _ _ R.list (on_item_adds (meaning c.args.over.tracer.table.words.now) _ _) (edge_stops (meaning c.args.over.tracer.table.words.now) c.args.state c.args.nonterminal _ _ _ _ _ (sym (work_shift _ _ _ _ c.args.over.tracer.working _ _ c.args.nonterminal pl) ∙ sym c.can_shift_nonterminal.ensures ∙ c.if-not-can_shift_nonterminal.false) _ c.ends_at-on.ensures (c.in_err-to_nonterminal.ensures.full c.args.nonterminal c.requires.within.1 (sym (work_shift _ _ _ _ c.args.over.tracer.working _ _ c.args.nonterminal pl) ∙ sym c.can_shift_nonterminal.ensures ∙ c.if-not-can_shift_nonterminal.false)))); entered_bound = (omega (arith, w, c.loop-read.invariant.1.fewer), c.loop-read.invariant.2 ∙ sym c.requires.table) })
+reduce_state-returns-in_err-to_nonterminal t c = let n = work_many _ _ _ _ c.args.over.tracer.working in let R = (rw c.loop-read.invariant.0 at c.in-Some.ensures.steps.1.2) in let pl : c.in-Some.read.production < c.args.over.tracer.grammar.productions = omega (arith, R.fits.production) in let w = state_fewer (meaning c.args.over.tracer.table.words.now) c.args.state c.args.nonterminal c.args.trace.now.edges.words c.args.trace.now.edges.flags c.args.trace.now.entered c.args.stamps.now.words (pair_small c.args.over.tracer.table.words.now c.args.over.tracer.working.accepted c.args.state c.args.nonterminal c.requires.within.0 c.requires.within.1) (omega arith) (c.enter.ensures.new c.if-not-enter.false).0 _ (c.enter.ensures.new c.if-not-enter.false).1 in let p = err_from_is_err_and c.from_residual.result c.from_residual.ensures.1 in rw p.1 (record { reduces = tt; reduce_exceeds = state_stops (meaning c.args.over.tracer.table.words.now) c.args.state c.args.nonterminal c.args.trace.now.edges.words c.args.trace.now.edges.flags c.args.trace.now.entered c.args.stamps.now.words (pair_small c.args.over.tracer.table.words.now c.args.over.tracer.working.accepted c.args.state c.args.nonterminal c.requires.within.0 c.requires.within.1) (omega arith) (c.enter.ensures.new c.if-not-enter.false).0 _ (c.enter.ensures.new c.if-not-enter.false).1 (left_over (meaning c.args.over.tracer.table.words.now) _ _ _ _ _ _ _ _ _ _ _ c.loop-read.invariant.1 _ _ R.list (on_item_adds (meaning c.args.over.tracer.table.words.now) _ _) (edge_stops (meaning c.args.over.tracer.table.words.now) c.args.state c.args.nonterminal _ _ _ _ _ (sym (work_shift _ _ _ _ c.args.over.tracer.working _ _ c.args.nonterminal pl) ∙ sym c.can_shift_nonterminal.ensures ∙ c.if-not-can_shift_nonterminal.false) _ c.ends_at-on.ensures (c.in_err-to_nonterminal.ensures.full c.args.nonterminal c.requires.within.1 (sym (work_shift _ _ _ _ c.args.over.tracer.working _ _ c.args.nonterminal pl) ∙ sym c.can_shift_nonterminal.ensures ∙ c.if-not-can_shift_nonterminal.false)))); entered_bound = (omega (arith, w, c.loop-read.invariant.1.fewer), c.loop-read.invariant.2 ∙ sym c.requires.table) })
 
 pub reduce_state-loop-read-preserved-then-not-on : goal.reduce_state-loop-read-preserved-then-not-on
 reduce_state-loop-read-preserved-then-not-on t c = let n = work_many _ _ _ _ c.args.over.tracer.working in let R = (rw c.loop-read.invariant.0 at c.in-Some.ensures.steps.1.2) in let pl : c.in-Some.read.production < c.args.over.tracer.grammar.productions = omega (arith, R.fits.production) in (c.in-Some.ensures.steps.0 ∙ c.loop-read.invariant.0, left-next (meaning c.args.over.tracer.table.words.now) _ _ _ _ _ _ _ _ _ _ _ c.loop-read.invariant.1 _ _ R.list _ _ _ _ (off_goes (meaning c.args.over.tracer.table.words.now) c.args.state c.args.nonterminal _ _ _ _ _ (sym (work_shift _ _ _ _ c.args.over.tracer.working _ _ c.args.nonterminal pl) ∙ sym c.can_shift_nonterminal.ensures ∙ c.if-not-can_shift_nonterminal.false) _ c.ends_at-on.ensures _ _ (c.in_ok-to_nonterminal.ensures.coded c.args.nonterminal c.requires.within.1 (sym (work_shift _ _ _ _ c.args.over.tracer.working _ _ c.args.nonterminal pl) ∙ sym c.can_shift_nonterminal.ensures ∙ c.if-not-can_shift_nonterminal.false)) c.if-not-on.true) (le_refl _), c.loop-read.invariant.2)
@@ -90,19 +81,19 @@ pub reduce_state-loop-read-preserved-then-at-state : goal.reduce_state-loop-read
 reduce_state-loop-read-preserved-then-at-state t c = let n = work_many _ _ _ _ c.args.over.tracer.working in let R = (rw c.loop-read.invariant.0 at c.in-Some.ensures.steps.1.2) in let pl : c.in-Some.read.production < c.args.over.tracer.grammar.productions = omega (arith, R.fits.production) in (c.in-Some.ensures.steps.0 ∙ c.loop-read.invariant.0, left-next (meaning c.args.over.tracer.table.words.now) _ _ _ _ _ _ _ _ _ _ _ c.loop-read.invariant.1 _ _ R.list _ _ _ _ (known_goes (meaning c.args.over.tracer.table.words.now) c.args.state c.args.nonterminal _ _ _ _ _ (sym (work_shift _ _ _ _ c.args.over.tracer.working _ _ c.args.nonterminal pl) ∙ sym c.can_shift_nonterminal.ensures ∙ c.if-not-can_shift_nonterminal.false) _ c.ends_at-on.ensures _ _ (c.in_ok-to_nonterminal.ensures.coded c.args.nonterminal c.requires.within.1 (sym (work_shift _ _ _ _ c.args.over.tracer.working _ _ c.args.nonterminal pl) ∙ sym c.can_shift_nonterminal.ensures ∙ c.if-not-can_shift_nonterminal.false)) c.if-not-on.false R.fits (sym c.at.ensures ∙ c.if-at-state.true)) (le_refl _), c.loop-read.invariant.2)
 
 pub reduce_state-reduce_item-requires : goal.reduce_state-reduce_item-requires
-reduce_state-reduce_item-requires t c = let w = state_fewer (meaning c.args.over.tracer.table.words.now) c.args.state c.args.nonterminal c.args.trace.now.edges.words c.args.trace.now.edges.flags c.args.trace.now.entered c.args.stamps.now.words (pair_small c.args.over.tracer.table.words.now c.args.over.tracer.working.accepted c.args.state c.args.nonterminal c.requires.within.0 c.requires.within.1) (omega arith) (sym c.is_set.ensures ∙ c.if-is_set.false) _ c.put.ensures in (omega (arith, w, c.loop-read.invariant.1.fewer), (c.loop-read.invariant.2, (c.requires.within.0, (rw c.loop-read.invariant.0 at c.in-Some.ensures.steps.1.2).fits)))
+reduce_state-reduce_item-requires t c = let w = state_fewer (meaning c.args.over.tracer.table.words.now) c.args.state c.args.nonterminal c.args.trace.now.edges.words c.args.trace.now.edges.flags c.args.trace.now.entered c.args.stamps.now.words (pair_small c.args.over.tracer.table.words.now c.args.over.tracer.working.accepted c.args.state c.args.nonterminal c.requires.within.0 c.requires.within.1) (omega arith) (c.enter.ensures.new c.if-not-enter.false).0 _ (c.enter.ensures.new c.if-not-enter.false).1 in (omega (arith, w, c.loop-read.invariant.1.fewer), (c.loop-read.invariant.2, (c.requires.within.0, (rw c.loop-read.invariant.0 at c.in-Some.ensures.steps.1.2).fits)))
 
 pub reduce_state-returns-in_err-reduce_item : goal.reduce_state-returns-in_err-reduce_item
-reduce_state-returns-in_err-reduce_item t c = let n = work_many _ _ _ _ c.args.over.tracer.working in let R = (rw c.loop-read.invariant.0 at c.in-Some.ensures.steps.1.2) in let pl : c.in-Some.read.production < c.args.over.tracer.grammar.productions = omega (arith, R.fits.production) in let w = state_fewer (meaning c.args.over.tracer.table.words.now) c.args.state c.args.nonterminal c.args.trace.now.edges.words c.args.trace.now.edges.flags c.args.trace.now.entered c.args.stamps.now.words (pair_small c.args.over.tracer.table.words.now c.args.over.tracer.working.accepted c.args.state c.args.nonterminal c.requires.within.0 c.requires.within.1) (omega arith) (sym c.is_set.ensures ∙ c.if-is_set.false) _ c.put.ensures in let p = err_from_is_err_and c.from_residual-in_err-reduce_item.result c.from_residual-in_err-reduce_item.ensures.1 in rw p.1 (record { reduces = tt; reduce_exceeds = state_stops (meaning c.args.over.tracer.table.words.now) c.args.state c.args.nonterminal c.args.trace.now.edges.words c.args.trace.now.edges.flags c.args.trace.now.entered c.args.stamps.now.words (pair_small c.args.over.tracer.table.words.now c.args.over.tracer.working.accepted c.args.state c.args.nonterminal c.requires.within.0 c.requires.within.1) (omega arith) (sym c.is_set.ensures ∙ c.if-is_set.false) _ c.put.ensures (left_over (meaning c.args.over.tracer.table.words.now) _ _ _ _ _ _ _ _ _ _ _ c.loop-read.invariant.1 _ _ R.list (on_item_adds (meaning c.args.over.tracer.table.words.now) _ _) (on_stops (meaning c.args.over.tracer.table.words.now) c.args.state c.args.nonterminal _ _ _ _ _ (sym (work_shift _ _ _ _ c.args.over.tracer.working _ _ c.args.nonterminal pl) ∙ sym c.can_shift_nonterminal.ensures ∙ c.if-not-can_shift_nonterminal.false) _ c.ends_at-on.ensures _ _ (c.in_ok-to_nonterminal.ensures.coded c.args.nonterminal c.requires.within.1 (sym (work_shift _ _ _ _ c.args.over.tracer.working _ _ c.args.nonterminal pl) ∙ sym c.can_shift_nonterminal.ensures ∙ c.if-not-can_shift_nonterminal.false)) c.if-not-on.false c.in_err-reduce_item.ensures.reduce_exceeds)); entered_bound = (omega (arith, w, c.loop-read.invariant.1.fewer, c.reduce_item.ensures.entered_bound.0), c.reduce_item.ensures.entered_bound.1 ∙ c.loop-read.invariant.2 ∙ sym c.requires.table) })
+reduce_state-returns-in_err-reduce_item t c = let n = work_many _ _ _ _ c.args.over.tracer.working in let R = (rw c.loop-read.invariant.0 at c.in-Some.ensures.steps.1.2) in let pl : c.in-Some.read.production < c.args.over.tracer.grammar.productions = omega (arith, R.fits.production) in let w = state_fewer (meaning c.args.over.tracer.table.words.now) c.args.state c.args.nonterminal c.args.trace.now.edges.words c.args.trace.now.edges.flags c.args.trace.now.entered c.args.stamps.now.words (pair_small c.args.over.tracer.table.words.now c.args.over.tracer.working.accepted c.args.state c.args.nonterminal c.requires.within.0 c.requires.within.1) (omega arith) (c.enter.ensures.new c.if-not-enter.false).0 _ (c.enter.ensures.new c.if-not-enter.false).1 in let p = err_from_is_err_and c.from_residual-in_err-reduce_item.result c.from_residual-in_err-reduce_item.ensures.1 in rw p.1 (record { reduces = tt; reduce_exceeds = state_stops (meaning c.args.over.tracer.table.words.now) c.args.state c.args.nonterminal c.args.trace.now.edges.words c.args.trace.now.edges.flags c.args.trace.now.entered c.args.stamps.now.words (pair_small c.args.over.tracer.table.words.now c.args.over.tracer.working.accepted c.args.state c.args.nonterminal c.requires.within.0 c.requires.within.1) (omega arith) (c.enter.ensures.new c.if-not-enter.false).0 _ (c.enter.ensures.new c.if-not-enter.false).1 (left_over (meaning c.args.over.tracer.table.words.now) _ _ _ _ _ _ _ _ _ _ _ c.loop-read.invariant.1 _ _ R.list (on_item_adds (meaning c.args.over.tracer.table.words.now) _ _) (on_stops (meaning c.args.over.tracer.table.words.now) c.args.state c.args.nonterminal _ _ _ _ _ (sym (work_shift _ _ _ _ c.args.over.tracer.working _ _ c.args.nonterminal pl) ∙ sym c.can_shift_nonterminal.ensures ∙ c.if-not-can_shift_nonterminal.false) _ c.ends_at-on.ensures _ _ (c.in_ok-to_nonterminal.ensures.coded c.args.nonterminal c.requires.within.1 (sym (work_shift _ _ _ _ c.args.over.tracer.working _ _ c.args.nonterminal pl) ∙ sym c.can_shift_nonterminal.ensures ∙ c.if-not-can_shift_nonterminal.false)) c.if-not-on.false c.in_err-reduce_item.ensures.reduce_exceeds)); entered_bound = (omega (arith, w, c.loop-read.invariant.1.fewer, c.reduce_item.ensures.entered_bound.0), c.reduce_item.ensures.entered_bound.1 ∙ c.loop-read.invariant.2 ∙ sym c.requires.table) })
 
 pub reduce_state-overflow_add-state-in-loop-read : goal.reduce_state-overflow_add-state-in-loop-read
 reduce_state-overflow_add-state-in-loop-read t c = omega (arith, (fits c.args.over.tracer.table.words.now c.args.over.tracer.working.accepted).few_states, c.requires.within.0)
 
-pub reduce_state-put-requires-in-loop-read : goal.reduce_state-put-requires-in-loop-read
-reduce_state-put-requires-in-loop-read t c = let sm = label_small (meaning c.args.over.tracer.table.words.now) (fits c.args.over.tracer.table.words.now c.args.over.tracer.working.accepted) _ (rw c.loop-read.invariant.0 at c.in-Some.ensures.steps.1.2).fits in (sm.0, sm.1, omega (arith, (fits c.args.over.tracer.table.words.now c.args.over.tracer.working.accepted).few_states, c.requires.within.0))
+pub reduce_state-put-requires : goal.reduce_state-put-requires
+reduce_state-put-requires t c = let sm = label_small (meaning c.args.over.tracer.table.words.now) (fits c.args.over.tracer.table.words.now c.args.over.tracer.working.accepted) _ (rw c.loop-read.invariant.0 at c.in-Some.ensures.steps.1.2).fits in (sm.0, sm.1, omega (arith, (fits c.args.over.tracer.table.words.now c.args.over.tracer.working.accepted).few_states, c.requires.within.0))
 
 pub reduce_state-loop-read-preserved : goal.reduce_state-loop-read-preserved
-reduce_state-loop-read-preserved t c = let n = work_many _ _ _ _ c.args.over.tracer.working in let R = (rw c.loop-read.invariant.0 at c.in-Some.ensures.steps.1.2) in let pl : c.in-Some.read.production < c.args.over.tracer.grammar.productions = omega (arith, R.fits.production) in (c.in-Some.ensures.steps.0 ∙ c.loop-read.invariant.0, left-next (meaning c.args.over.tracer.table.words.now) _ _ _ _ _ _ _ _ _ _ _ c.loop-read.invariant.1 _ _ R.list _ _ _ _ (on_goes (meaning c.args.over.tracer.table.words.now) c.args.state c.args.nonterminal _ _ _ _ _ (sym (work_shift _ _ _ _ c.args.over.tracer.working _ _ c.args.nonterminal pl) ∙ sym c.can_shift_nonterminal.ensures ∙ c.if-not-can_shift_nonterminal.false) _ c.ends_at-on.ensures _ _ (c.in_ok-to_nonterminal.ensures.coded c.args.nonterminal c.requires.within.1 (sym (work_shift _ _ _ _ c.args.over.tracer.working _ _ c.args.nonterminal pl) ∙ sym c.can_shift_nonterminal.ensures ∙ c.if-not-can_shift_nonterminal.false)) c.if-not-on.false _ _ _ _ (stamp_goes (meaning c.args.over.tracer.table.words.now) (fits c.args.over.tracer.table.words.now c.args.over.tracer.working.accepted) c.args.state c.requires.within.0 _ R.fits _ _ _ _ _ _ _ _ _ c.in_ok-reduce_item.ensures.reduces c.put-in-loop-read.ensures.index_after c.put-in-loop-read.ensures.by_index)) c.reduce_item.ensures.entered_bound.0, c.reduce_item.ensures.entered_bound.1 ∙ c.loop-read.invariant.2)
+reduce_state-loop-read-preserved t c = let n = work_many _ _ _ _ c.args.over.tracer.working in let R = (rw c.loop-read.invariant.0 at c.in-Some.ensures.steps.1.2) in let pl : c.in-Some.read.production < c.args.over.tracer.grammar.productions = omega (arith, R.fits.production) in (c.in-Some.ensures.steps.0 ∙ c.loop-read.invariant.0, left-next (meaning c.args.over.tracer.table.words.now) _ _ _ _ _ _ _ _ _ _ _ c.loop-read.invariant.1 _ _ R.list _ _ _ _ (on_goes (meaning c.args.over.tracer.table.words.now) c.args.state c.args.nonterminal _ _ _ _ _ (sym (work_shift _ _ _ _ c.args.over.tracer.working _ _ c.args.nonterminal pl) ∙ sym c.can_shift_nonterminal.ensures ∙ c.if-not-can_shift_nonterminal.false) _ c.ends_at-on.ensures _ _ (c.in_ok-to_nonterminal.ensures.coded c.args.nonterminal c.requires.within.1 (sym (work_shift _ _ _ _ c.args.over.tracer.working _ _ c.args.nonterminal pl) ∙ sym c.can_shift_nonterminal.ensures ∙ c.if-not-can_shift_nonterminal.false)) c.if-not-on.false _ _ _ _ (stamp_goes (meaning c.args.over.tracer.table.words.now) (fits c.args.over.tracer.table.words.now c.args.over.tracer.working.accepted) c.args.state c.requires.within.0 _ R.fits _ _ _ _ _ _ _ _ _ c.in_ok-reduce_item.ensures.reduces c.put.ensures.index_after c.put.ensures.by_index)) c.reduce_item.ensures.entered_bound.0, c.reduce_item.ensures.entered_bound.1 ∙ c.loop-read.invariant.2)
 
 pub reduce_state-returns : goal.reduce_state-returns
-reduce_state-returns t c = let w = state_fewer (meaning c.args.over.tracer.table.words.now) c.args.state c.args.nonterminal c.args.trace.now.edges.words c.args.trace.now.edges.flags c.args.trace.now.entered c.args.stamps.now.words (pair_small c.args.over.tracer.table.words.now c.args.over.tracer.working.accepted c.args.state c.args.nonterminal c.requires.within.0 c.requires.within.1) (omega arith) (sym c.is_set.ensures ∙ c.if-is_set.false) _ c.put.ensures in record { reduces = state_goes (meaning c.args.over.tracer.table.words.now) c.args.state c.args.nonterminal c.args.trace.now.edges.words c.args.trace.now.edges.flags c.args.trace.now.entered c.args.stamps.now.words (pair_small c.args.over.tracer.table.words.now c.args.over.tracer.working.accepted c.args.state c.args.nonterminal c.requires.within.0 c.requires.within.1) (omega arith) (sym c.is_set.ensures ∙ c.if-is_set.false) _ c.put.ensures _ _ _ _ (left-done (meaning c.args.over.tracer.table.words.now) _ _ _ _ _ _ _ _ _ _ _ c.loop-read.invariant.1 (ap (items_from c.args.over.tracer.table.words.now) c.in-None.ensures.steps.1 ∙ items_none c.args.over.tracer.table.words.now)); reduce_exceeds = tt; entered_bound = (omega (arith, w, c.loop-read.invariant.1.fewer), c.loop-read.invariant.2 ∙ sym c.requires.table) }
+reduce_state-returns t c = let w = state_fewer (meaning c.args.over.tracer.table.words.now) c.args.state c.args.nonterminal c.args.trace.now.edges.words c.args.trace.now.edges.flags c.args.trace.now.entered c.args.stamps.now.words (pair_small c.args.over.tracer.table.words.now c.args.over.tracer.working.accepted c.args.state c.args.nonterminal c.requires.within.0 c.requires.within.1) (omega arith) (c.enter.ensures.new c.if-not-enter.false).0 _ (c.enter.ensures.new c.if-not-enter.false).1 in record { reduces = state_goes (meaning c.args.over.tracer.table.words.now) c.args.state c.args.nonterminal c.args.trace.now.edges.words c.args.trace.now.edges.flags c.args.trace.now.entered c.args.stamps.now.words (pair_small c.args.over.tracer.table.words.now c.args.over.tracer.working.accepted c.args.state c.args.nonterminal c.requires.within.0 c.requires.within.1) (omega arith) (c.enter.ensures.new c.if-not-enter.false).0 _ (c.enter.ensures.new c.if-not-enter.false).1 _ _ _ _ (left-done (meaning c.args.over.tracer.table.words.now) _ _ _ _ _ _ _ _ _ _ _ c.loop-read.invariant.1 (ap (items_from c.args.over.tracer.table.words.now) c.in-None.ensures.steps.1 ∙ items_none c.args.over.tracer.table.words.now)); reduce_exceeds = tt; entered_bound = (omega (arith, w, c.loop-read.invariant.1.fewer), c.loop-read.invariant.2 ∙ sym c.requires.table) }

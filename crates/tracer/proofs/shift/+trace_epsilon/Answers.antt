@@ -8,20 +8,11 @@ use Rattle.tracer.proofs.Turns.{pair_small, known, made_fewer, made, turning_sta
 use Rattle.tracer.proofs.Places.{begin-room, begin-placed, begin_turn, left-none, after-room, left-read, follow_placed, follow_turn, follow_less}
 use Rattle.tracer.proofs.shift.+trace_epsilon.Goals as goal
 
-pub overflow_mul-pair : goal.overflow_mul-pair
-overflow_mul-pair t c = let l = (pair_small c.args.tracer.table.words.now c.args.tracer.working.accepted c.args.state c.args.nonterminal c.requires.within.0 c.requires.within.1) in omega arith
+pub enter-requires : goal.enter-requires
+enter-requires t c = let f = fits c.args.tracer.table.words.now c.args.tracer.working.accepted in (omega (arith, f.few_states, c.requires.within.0), omega (arith, f.few_nonterminals, c.requires.within.1))
 
-pub overflow_add-pair : goal.overflow_add-pair
-overflow_add-pair t c = let l = (pair_small c.args.tracer.table.words.now c.args.tracer.working.accepted c.args.state c.args.nonterminal c.requires.within.0 c.requires.within.1) in omega arith
-
-pub is_set-requires : goal.is_set-requires
-is_set-requires t c = let l = (pair_small c.args.tracer.table.words.now c.args.tracer.working.accepted c.args.state c.args.nonterminal c.requires.within.0 c.requires.within.1) in omega arith
-
-pub put-requires : goal.put-requires
-put-requires t c = let l = (pair_small c.args.tracer.table.words.now c.args.tracer.working.accepted c.args.state c.args.nonterminal c.requires.within.0 c.requires.within.1) in omega arith
-
-pub returns-then-is_set : goal.returns-then-is_set
-returns-then-is_set t c = record { steps = known (meaning c.args.tracer.table.words.now) c.args.state c.args.nonterminal c.args.trace.now.edges.words c.args.trace.now.edges.flags c.args.trace.now.entered (pair_small c.args.tracer.table.words.now c.args.tracer.working.accepted c.args.state c.args.nonterminal c.requires.within.0 c.requires.within.1) (sym c.is_set.ensures ∙ c.if-is_set.true); exceeds = tt; entered_bound = le_refl _ }
+pub returns-then-not-enter : goal.returns-then-not-enter
+returns-then-not-enter t c = rw (c.enter.ensures.known c.if-not-enter.true).1 (record { steps = known (meaning c.args.tracer.table.words.now) c.args.state c.args.nonterminal c.args.trace.now.edges.words c.args.trace.now.edges.flags c.args.trace.now.entered (pair_small c.args.tracer.table.words.now c.args.tracer.working.accepted c.args.state c.args.nonterminal c.requires.within.0 c.requires.within.1) (c.enter.ensures.known c.if-not-enter.true).0; exceeds = tt; entered_bound = le_refl _ })
 
 pub first_item-requires : goal.first_item-requires
 first_item-requires t c = c.requires.within.0
@@ -51,7 +42,7 @@ pub epsilon_code-requires : goal.epsilon_code-requires
 epsilon_code-requires t c = c.item-read.ensures.read.fits
 
 pub returns-in_err-epsilon_code : goal.returns-in_err-epsilon_code
-returns-in_err-epsilon_code t c = let n = work_many _ _ _ _ c.args.tracer.working in let pl : c.item-read.result.production < c.args.tracer.grammar.productions = omega (arith, c.item-read.ensures.read.fits.production) in let w = made_fewer (meaning c.args.tracer.table.words.now) c.args.state c.args.nonterminal c.args.trace.now.edges.words c.args.trace.now.edges.flags c.args.trace.now.entered (pair_small c.args.tracer.table.words.now c.args.tracer.working.accepted c.args.state c.args.nonterminal c.requires.within.0 c.requires.within.1) (omega arith) (sym c.is_set.ensures ∙ c.if-is_set.false) _ c.put.ensures in let p = err_from_is_err_and c.from_residual.result c.from_residual.ensures.1 in rw p.1 (record { steps = tt; exceeds = made (meaning c.args.tracer.table.words.now) c.args.state c.args.nonterminal c.args.trace.now.edges.words c.args.trace.now.edges.flags c.args.trace.now.entered (pair_small c.args.tracer.table.words.now c.args.tracer.working.accepted c.args.state c.args.nonterminal c.requires.within.0 c.requires.within.1) (omega arith) (sym c.is_set.ensures ∙ c.if-is_set.false) _ c.put.ensures (λ u. 1024 < length u.edges) (turning_full c.args.tracer.table.words.now c.args.state c.args.nonterminal _ _ _ _ _ _ _ c.loop-place.invariant.1 _ _ _ (left-read c.args.tracer.table.words.now c.args.records.now c.args.links.now c.loop-place.invariant.0 _ c.requires.within.1 _ _ c.loop-place.invariant.2 _ _ _ c.item-read.ensures.read) (sym (work_shift _ _ _ _ c.args.tracer.working _ _ _ pl) ∙ sym c.can_shift_nonterminal.ensures ∙ c.if-not-can_shift_nonterminal.false) (c.in_err-epsilon_code.ensures.full _ c.requires.within.1 (sym (work_shift _ _ _ _ c.args.tracer.working _ _ _ pl) ∙ sym c.can_shift_nonterminal.ensures ∙ c.if-not-can_shift_nonterminal.false))); entered_bound = omega (arith, w, c.loop-place.invariant.1.fewer) })
+returns-in_err-epsilon_code t c = let n = work_many _ _ _ _ c.args.tracer.working in let pl : c.item-read.result.production < c.args.tracer.grammar.productions = omega (arith, c.item-read.ensures.read.fits.production) in let w = made_fewer (meaning c.args.tracer.table.words.now) c.args.state c.args.nonterminal c.args.trace.now.edges.words c.args.trace.now.edges.flags c.args.trace.now.entered (pair_small c.args.tracer.table.words.now c.args.tracer.working.accepted c.args.state c.args.nonterminal c.requires.within.0 c.requires.within.1) (omega arith) (c.enter.ensures.new c.if-not-enter.false).0 _ (c.enter.ensures.new c.if-not-enter.false).1 in let p = err_from_is_err_and c.from_residual.result c.from_residual.ensures.1 in rw p.1 (record { steps = tt; exceeds = made (meaning c.args.tracer.table.words.now) c.args.state c.args.nonterminal c.args.trace.now.edges.words c.args.trace.now.edges.flags c.args.trace.now.entered (pair_small c.args.tracer.table.words.now c.args.tracer.working.accepted c.args.state c.args.nonterminal c.requires.within.0 c.requires.within.1) (omega arith) (c.enter.ensures.new c.if-not-enter.false).0 _ (c.enter.ensures.new c.if-not-enter.false).1 (λ u. 1024 < length u.edges) (turning_full c.args.tracer.table.words.now c.args.state c.args.nonterminal _ _ _ _ _ _ _ c.loop-place.invariant.1 _ _ _ (left-read c.args.tracer.table.words.now c.args.records.now c.args.links.now c.loop-place.invariant.0 _ c.requires.within.1 _ _ c.loop-place.invariant.2 _ _ _ c.item-read.ensures.read) (sym (work_shift _ _ _ _ c.args.tracer.working _ _ _ pl) ∙ sym c.can_shift_nonterminal.ensures ∙ c.if-not-can_shift_nonterminal.false) (c.in_err-epsilon_code.ensures.full _ c.requires.within.1 (sym (work_shift _ _ _ _ c.args.tracer.working _ _ _ pl) ∙ sym c.can_shift_nonterminal.ensures ∙ c.if-not-can_shift_nonterminal.false))); entered_bound = omega (arith, w, c.loop-place.invariant.1.fewer) })
 
 pub loop-place-smaller-then-item-gt0 : goal.loop-place-smaller-then-item-gt0
 loop-place-smaller-then-item-gt0 t c = follow_less c.args.tracer.table.words.now c.args.records.now c.args.links.now c.loop-place.invariant.0 _ c.requires.within.1 _ _ c.loop-place.invariant.2 _ _ _ c.item-read.ensures.read _ _ c.after-place.ensures c.loop-place-test.true
@@ -63,10 +54,10 @@ pub owner-owner-requires : goal.owner-owner-requires
 owner-owner-requires t c = let n = work_many _ _ _ _ c.args.tracer.working in let pl : c.item-read.result.production < c.args.tracer.grammar.productions = omega (arith, c.item-read.ensures.read.fits.production) in pl
 
 pub trace_epsilon-requires : goal.trace_epsilon-requires
-trace_epsilon-requires t c = let n = work_many _ _ _ _ c.args.tracer.working in let pl : c.item-read.result.production < c.args.tracer.grammar.productions = omega (arith, c.item-read.ensures.read.fits.production) in let w = made_fewer (meaning c.args.tracer.table.words.now) c.args.state c.args.nonterminal c.args.trace.now.edges.words c.args.trace.now.edges.flags c.args.trace.now.entered (pair_small c.args.tracer.table.words.now c.args.tracer.working.accepted c.args.state c.args.nonterminal c.requires.within.0 c.requires.within.1) (omega arith) (sym c.is_set.ensures ∙ c.if-is_set.false) _ c.put.ensures in (omega (arith, w, c.loop-place.invariant.1.fewer), ((c.requires.within.0, rw (c.owner-owner.ensures ∙ work_owner _ _ _ _ c.args.tracer.working c.item-read.result.production c.item-read.result.index pl) (owner_lt (meaning c.args.tracer.table.words.now) (fits c.args.tracer.table.words.now c.args.tracer.working.accepted) _)), c.requires.usable))
+trace_epsilon-requires t c = let n = work_many _ _ _ _ c.args.tracer.working in let pl : c.item-read.result.production < c.args.tracer.grammar.productions = omega (arith, c.item-read.ensures.read.fits.production) in let w = made_fewer (meaning c.args.tracer.table.words.now) c.args.state c.args.nonterminal c.args.trace.now.edges.words c.args.trace.now.edges.flags c.args.trace.now.entered (pair_small c.args.tracer.table.words.now c.args.tracer.working.accepted c.args.state c.args.nonterminal c.requires.within.0 c.requires.within.1) (omega arith) (c.enter.ensures.new c.if-not-enter.false).0 _ (c.enter.ensures.new c.if-not-enter.false).1 in (omega (arith, w, c.loop-place.invariant.1.fewer), ((c.requires.within.0, rw (c.owner-owner.ensures ∙ work_owner _ _ _ _ c.args.tracer.working c.item-read.result.production c.item-read.result.index pl) (owner_lt (meaning c.args.tracer.table.words.now) (fits c.args.tracer.table.words.now c.args.tracer.working.accepted) _)), c.requires.usable))
 
 pub returns-in_err-trace_epsilon : goal.returns-in_err-trace_epsilon
-returns-in_err-trace_epsilon t c = let n = work_many _ _ _ _ c.args.tracer.working in let pl : c.item-read.result.production < c.args.tracer.grammar.productions = omega (arith, c.item-read.ensures.read.fits.production) in let w = made_fewer (meaning c.args.tracer.table.words.now) c.args.state c.args.nonterminal c.args.trace.now.edges.words c.args.trace.now.edges.flags c.args.trace.now.entered (pair_small c.args.tracer.table.words.now c.args.tracer.working.accepted c.args.state c.args.nonterminal c.requires.within.0 c.requires.within.1) (omega arith) (sym c.is_set.ensures ∙ c.if-is_set.false) _ c.put.ensures in let z = c.trace_epsilon.ensures.entered_bound in let p = err_from_is_err_and c.from_residual-in_err-trace_epsilon.result c.from_residual-in_err-trace_epsilon.ensures.1 in rw p.1 (record { steps = tt; exceeds = made (meaning c.args.tracer.table.words.now) c.args.state c.args.nonterminal c.args.trace.now.edges.words c.args.trace.now.edges.flags c.args.trace.now.entered (pair_small c.args.tracer.table.words.now c.args.tracer.working.accepted c.args.state c.args.nonterminal c.requires.within.0 c.requires.within.1) (omega arith) (sym c.is_set.ensures ∙ c.if-is_set.false) _ c.put.ensures (λ u. 1024 < length u.edges) (turning_follow_full c.args.tracer.table.words.now c.args.state c.args.nonterminal _ _ _ _ _ _ _ c.loop-place.invariant.1 _ _ _ (left-read c.args.tracer.table.words.now c.args.records.now c.args.links.now c.loop-place.invariant.0 _ c.requires.within.1 _ _ c.loop-place.invariant.2 _ _ _ c.item-read.ensures.read) (sym (work_shift _ _ _ _ c.args.tracer.working _ _ _ pl) ∙ sym c.can_shift_nonterminal.ensures ∙ c.if-not-can_shift_nonterminal.false) c.if-item-gt0.false _ (c.owner-owner.ensures ∙ work_owner _ _ _ _ c.args.tracer.working c.item-read.result.production c.item-read.result.index pl) _ _ (c.in_ok-epsilon_code.ensures.coded _ c.requires.within.1 (sym (work_shift _ _ _ _ c.args.tracer.working _ _ _ pl) ∙ sym c.can_shift_nonterminal.ensures ∙ c.if-not-can_shift_nonterminal.false)) c.in_err-trace_epsilon.ensures.exceeds); entered_bound = omega (arith, w, z, c.loop-place.invariant.1.fewer) })
+returns-in_err-trace_epsilon t c = let n = work_many _ _ _ _ c.args.tracer.working in let pl : c.item-read.result.production < c.args.tracer.grammar.productions = omega (arith, c.item-read.ensures.read.fits.production) in let w = made_fewer (meaning c.args.tracer.table.words.now) c.args.state c.args.nonterminal c.args.trace.now.edges.words c.args.trace.now.edges.flags c.args.trace.now.entered (pair_small c.args.tracer.table.words.now c.args.tracer.working.accepted c.args.state c.args.nonterminal c.requires.within.0 c.requires.within.1) (omega arith) (c.enter.ensures.new c.if-not-enter.false).0 _ (c.enter.ensures.new c.if-not-enter.false).1 in let z = c.trace_epsilon.ensures.entered_bound in let p = err_from_is_err_and c.from_residual-in_err-trace_epsilon.result c.from_residual-in_err-trace_epsilon.ensures.1 in rw p.1 (record { steps = tt; exceeds = made (meaning c.args.tracer.table.words.now) c.args.state c.args.nonterminal c.args.trace.now.edges.words c.args.trace.now.edges.flags c.args.trace.now.entered (pair_small c.args.tracer.table.words.now c.args.tracer.working.accepted c.args.state c.args.nonterminal c.requires.within.0 c.requires.within.1) (omega arith) (c.enter.ensures.new c.if-not-enter.false).0 _ (c.enter.ensures.new c.if-not-enter.false).1 (λ u. 1024 < length u.edges) (turning_follow_full c.args.tracer.table.words.now c.args.state c.args.nonterminal _ _ _ _ _ _ _ c.loop-place.invariant.1 _ _ _ (left-read c.args.tracer.table.words.now c.args.records.now c.args.links.now c.loop-place.invariant.0 _ c.requires.within.1 _ _ c.loop-place.invariant.2 _ _ _ c.item-read.ensures.read) (sym (work_shift _ _ _ _ c.args.tracer.working _ _ _ pl) ∙ sym c.can_shift_nonterminal.ensures ∙ c.if-not-can_shift_nonterminal.false) c.if-item-gt0.false _ (c.owner-owner.ensures ∙ work_owner _ _ _ _ c.args.tracer.working c.item-read.result.production c.item-read.result.index pl) _ _ (c.in_ok-epsilon_code.ensures.coded _ c.requires.within.1 (sym (work_shift _ _ _ _ c.args.tracer.working _ _ _ pl) ∙ sym c.can_shift_nonterminal.ensures ∙ c.if-not-can_shift_nonterminal.false)) c.in_err-trace_epsilon.ensures.exceeds); entered_bound = omega (arith, w, z, c.loop-place.invariant.1.fewer) })
 
 pub loop-place-smaller : goal.loop-place-smaller
 loop-place-smaller t c = follow_less c.args.tracer.table.words.now c.args.records.now c.args.links.now c.loop-place.invariant.0 _ c.requires.within.1 _ _ c.loop-place.invariant.2 _ _ _ c.item-read.ensures.read _ _ c.after-place.ensures c.loop-place-test.true
@@ -75,4 +66,4 @@ pub loop-place-preserved : goal.loop-place-preserved
 loop-place-preserved t c = let n = work_many _ _ _ _ c.args.tracer.working in let pl : c.item-read.result.production < c.args.tracer.grammar.productions = omega (arith, c.item-read.ensures.read.fits.production) in (c.loop-place.invariant.0, turning_move c.args.tracer.table.words.now c.args.state c.args.nonterminal _ _ _ _ _ _ _ (turning_followed c.args.tracer.table.words.now c.args.state c.args.nonterminal _ _ _ _ _ _ _ c.loop-place.invariant.1 _ _ _ (left-read c.args.tracer.table.words.now c.args.records.now c.args.links.now c.loop-place.invariant.0 _ c.requires.within.1 _ _ c.loop-place.invariant.2 _ _ _ c.item-read.ensures.read) (sym (work_shift _ _ _ _ c.args.tracer.working _ _ _ pl) ∙ sym c.can_shift_nonterminal.ensures ∙ c.if-not-can_shift_nonterminal.false) c.if-item-gt0.false _ (c.owner-owner.ensures ∙ work_owner _ _ _ _ c.args.tracer.working c.item-read.result.production c.item-read.result.index pl) _ _ (c.in_ok-epsilon_code.ensures.coded _ c.requires.within.1 (sym (work_shift _ _ _ _ c.args.tracer.working _ _ _ pl) ∙ sym c.can_shift_nonterminal.ensures ∙ c.if-not-can_shift_nonterminal.false)) _ _ _ c.in_ok-trace_epsilon.ensures.steps c.trace_epsilon.ensures.entered_bound) _ (λ f st. follow_turn c.args.tracer.table.words.now c.args.records.now c.args.links.now c.loop-place.invariant.0 _ c.requires.within.1 _ _ c.loop-place.invariant.2 _ _ _ c.item-read.ensures.read _ _ c.after-place.ensures f _ st), follow_placed c.args.tracer.table.words.now c.args.records.now c.args.links.now c.loop-place.invariant.0 _ c.requires.within.1 _ _ c.loop-place.invariant.2 _ _ _ c.item-read.ensures.read _ _ c.after-place.ensures)
 
 pub returns : goal.returns
-returns t c = let w = made_fewer (meaning c.args.tracer.table.words.now) c.args.state c.args.nonterminal c.args.trace.now.edges.words c.args.trace.now.edges.flags c.args.trace.now.entered (pair_small c.args.tracer.table.words.now c.args.tracer.working.accepted c.args.state c.args.nonterminal c.requires.within.0 c.requires.within.1) (omega arith) (sym c.is_set.ensures ∙ c.if-is_set.false) _ c.put.ensures in record { steps = made (meaning c.args.tracer.table.words.now) c.args.state c.args.nonterminal c.args.trace.now.edges.words c.args.trace.now.edges.flags c.args.trace.now.entered (pair_small c.args.tracer.table.words.now c.args.tracer.working.accepted c.args.state c.args.nonterminal c.requires.within.0 c.requires.within.1) (omega arith) (sym c.is_set.ensures ∙ c.if-is_set.false) _ c.put.ensures (Held (meaning c.args.tracer.table.words.now) _ _ _) (turning_done c.args.tracer.table.words.now c.args.state c.args.nonterminal _ _ _ _ _ _ _ c.loop-place.invariant.1 (left-none c.args.tracer.table.words.now c.args.records.now c.args.links.now c.loop-place.invariant.0 _ c.requires.within.1 _ _ c.loop-place.invariant.2 c.loop-place-test.false)); exceeds = tt; entered_bound = omega (arith, w, c.loop-place.invariant.1.fewer) }
+returns t c = let w = made_fewer (meaning c.args.tracer.table.words.now) c.args.state c.args.nonterminal c.args.trace.now.edges.words c.args.trace.now.edges.flags c.args.trace.now.entered (pair_small c.args.tracer.table.words.now c.args.tracer.working.accepted c.args.state c.args.nonterminal c.requires.within.0 c.requires.within.1) (omega arith) (c.enter.ensures.new c.if-not-enter.false).0 _ (c.enter.ensures.new c.if-not-enter.false).1 in record { steps = made (meaning c.args.tracer.table.words.now) c.args.state c.args.nonterminal c.args.trace.now.edges.words c.args.trace.now.edges.flags c.args.trace.now.entered (pair_small c.args.tracer.table.words.now c.args.tracer.working.accepted c.args.state c.args.nonterminal c.requires.within.0 c.requires.within.1) (omega arith) (c.enter.ensures.new c.if-not-enter.false).0 _ (c.enter.ensures.new c.if-not-enter.false).1 (Held (meaning c.args.tracer.table.words.now) _ _ _) (turning_done c.args.tracer.table.words.now c.args.state c.args.nonterminal _ _ _ _ _ _ _ c.loop-place.invariant.1 (left-none c.args.tracer.table.words.now c.args.records.now c.args.links.now c.loop-place.invariant.0 _ c.requires.within.1 _ _ c.loop-place.invariant.2 c.loop-place-test.false)); exceeds = tt; entered_bound = omega (arith, w, c.loop-place.invariant.1.fewer) }
