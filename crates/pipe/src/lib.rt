@@ -62,7 +62,7 @@ fn read_whole<R: io::Input + Eprint>(rt: &R, bytes: &mut [u8]) -> Result<(), Sto
 }
 
 // The number of the table's records, its words at the front of `table`; they are cut to size by the program, since an answer that borrows `table` would leave unsaid what it holds after the call. A stream that ends before its table does, or has a number of records that no table has, is refusal 1.
-// The buffers are slices here and below, since arrays of their sizes would ask more of callers.
+// The buffers are slices here and below, since arrays of their sizes would ask more of callers, and so how long they are is asked at each call.
 #[tactic(auto, unfolding(crate::specs::Given::Holds))]
 pub fn read_table<R: io::Input + Eprint>(
     rt: &R,

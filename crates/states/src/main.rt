@@ -17,7 +17,7 @@ use streams::{Failed, read};
 // Conflicts of a table at most.
 const CONFLICTS: usize = 65535;
 
-// The start production behind the table; where there is none, a number that no production has.
+// The start production behind the table; where there is none, a number that no production has: it is refused as any such number is, behind what comes before it in the order of refusals.
 fn read_start<R: io::Input + Eprint>(rt: &R) -> Result<ProductionIndex, Failed> {
     let mut bytes = [0u8; 2];
     let start = match read(rt, &mut bytes)? {

@@ -37,7 +37,7 @@ fn write_numbers<R: Print + Eprint>(
     write(rt, &out[..k])
 }
 
-// Whether production and index are an item's.
+// Whether production and index are an item's. (Crate trace_graph has it for its own words: what this answers is `IsItem` of the text.)
 fn is_item(grammar: Grammar, p: usize, i: usize) -> bool
     ensures { result ≡ true → IsItem grammar.entry.words.now grammar.entry.productions p i }
 {
