@@ -11,7 +11,8 @@ use example::Example;
 use lines::{lines, refused_line};
 use little::decode;
 use pipe::{
-    BYTES, RECORD_WORDS, PIECE_BYTES, PIECE_WORDS, PIECE, Stop, WORDS, WORDS_OF_CONFLICT, read_table,
+    BYTES, PIECE, PIECE_BYTES, PIECE_WORDS, RECORD_WORDS, Stop, WORDS, WORDS_OF_CONFLICT,
+    read_table,
 };
 use report::classify;
 use repr::{ProductionIndex, Refusal};

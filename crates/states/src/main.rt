@@ -8,7 +8,8 @@ ghost use Rattle.repr.specs.Sizes.{record_limit};
 
 use builder::{Built, build_states};
 use pipe::{
-    BYTES, RECORD_WORDS, Stop, WORDS, WORDS_OF_CONFLICT, pass_on, read_table, say_end, write_records, write_words,
+    BYTES, RECORD_WORDS, Stop, WORDS, WORDS_OF_CONFLICT, pass_on, read_table, say_end,
+    write_records, write_words,
 };
 use repr::ProductionIndex;
 use std::io;

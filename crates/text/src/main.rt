@@ -8,8 +8,8 @@ ghost use Rattle.typed.specs.Typed.{IsItem};
 
 use little::decode;
 use pipe::{
-    BYTES, RECORD_WORDS, PIECE_BYTES, PIECE_WORDS, PIECE, Stop, WORDS, WORDS_OF_CONFLICT, read_table,
-    say_end,
+    BYTES, PIECE, PIECE_BYTES, PIECE_WORDS, RECORD_WORDS, Stop, WORDS, WORDS_OF_CONFLICT,
+    read_table, say_end,
 };
 use repr::{Grammar, ProductionIndex};
 use std::io;

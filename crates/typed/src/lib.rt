@@ -10,8 +10,7 @@ ghost use Rattle.lines.specs.Lines.{Put, spaced};
 ghost use Rattle.typed.specs.Typed.{IsItem, named, symbol_part, rule_text, item_part, by_text, edge_part, unused_part, loose_text, area_text, record_text, line_of, line_of_record};
 
 use lines::{put, put_after, put_symbol, put_symbols, put_text};
-use repr::{Grammar, Symbol};
-use table::RECORD_WORDS;
+use repr::Grammar;
 pub use table_check::Roles;
 use table_check::areas::Surveyed;
 
@@ -51,7 +50,7 @@ fn put_rule(out: &mut [u8], at: usize, nonterminal: usize, words: &[u16], i: usi
     requires at_in_bounds { at + 800 ≤ length out.old }
     ensures { Put out.old at (rule_text nonterminal words.now i) out.new result × (result ≤ at + 800) }
 {
-    let (before, behind) = words.split_at(Symbol::WORDS * i);
+    let (before, behind) = words.split_at(2 * i);
     let first = put_named(out, at, b": item", nonterminal);
     let second = put_text(out, first, b" =");
     let third = put_symbols(out, second, before);
@@ -166,8 +165,8 @@ pub fn record_line(out: &mut [u8], s: Surveyed, grammar: Grammar, r: usize, role
     requires in_bounds { 2048 ≤ length out.old }
     ensures { (take result out.new ≡ line_of_record s.entry.words.now grammar.entry.words.now r roles) × (result ≤ length out.new) }
 {
-    let from = r * RECORD_WORDS;
-    let past = from + RECORD_WORDS;
+    let from = r * 4;
+    let past = from + 4;
     let first = put_words(out, 0, &s.words[from..past]);
     let second = put_named(out, first, b" #", r);
     let third = put_record(out, second, s, grammar, r, roles);
