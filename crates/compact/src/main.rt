@@ -3,14 +3,14 @@
 #![tactic(auto)]
 
 use compaction::compact;
-use pipe::{BYTES, Stop, WORDS, read_table, say_end, write_table};
+use pipe::{BYTES, RECORD_WORDS, Stop, WORDS, read_table, say_end, write_table};
 use std::io;
 
 fn compact_input<R: io::Input + Print + Eprint>(rt: &R) -> Result<(), Stop> {
     let mut bytes = [0u8; BYTES];
     let mut table = [0u16; WORDS];
-    let words = read_table(rt, &mut bytes, &mut table)? * 4;
-    let past = compact(&mut table[..words])? as usize * 4;
+    let words = read_table(rt, &mut bytes, &mut table)? * RECORD_WORDS;
+    let past = compact(&mut table[..words])? as usize * RECORD_WORDS;
     Ok(write_table(rt, &table[..past], &mut bytes)?)
 }
 

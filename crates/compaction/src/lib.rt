@@ -15,7 +15,7 @@ ghost use Rattle.compaction.specs.Outcome.{compact_of};
 ghost use Rattle.compaction.specs.Passes.{Headed, HeadsMarked, Numbering, Numbers, Numbered, Closing, Followed, Freed};
 
 use repr::Refusal;
-use table::{AcceptedTable, RECORDS, put, word};
+use table::{AcceptedTable, RECORD_WORDS, RECORDS, put, word};
 use table_check::areas::{Areas, survey};
 use table_check::check;
 
@@ -38,7 +38,7 @@ fn mark_heads(
     }
 }
 
-// Reached record r gets its new number, and its next is marked.
+// Reached record r gets its new number, and its next is marked (a mark is two lines here and in `mark_heads`: a function of them would have a contract as long).
 fn number_one(table: AcceptedTable, r: usize, number: usize, numbers: &mut [u16; RECORDS])
     requires r_value { (reached table.words.now r ≡ true) × (number ≤ record_limit) }
     ensures { Numbered table.entry.words.now numbers.old numbers.new r number }
@@ -50,7 +50,7 @@ fn number_one(table: AcceptedTable, r: usize, number: usize, numbers: &mut [u16;
     numbers[r] = number as u16;
 }
 
-// The new number of each reached record; the number of records that are left. One ascending pass over the loose records, whose heads are marked: a next index is larger than its record's
+// The new number of each reached record, by record: 0 where no chain reaches it, 1 from its mark on until its number comes, in fixed words since there is no heap; the number of records that are left. One ascending pass over the loose records, whose heads are marked: a next index is larger than its record's
 // number, so each is marked by the time it is met.
 fn number_reached(table: AcceptedTable, a: Areas, numbers: &mut [u16; RECORDS]) -> usize
     requires areas { AreasOf table.words.now a }
@@ -106,7 +106,7 @@ fn follow_heads(table: &mut [u16], first: usize, past: usize, k: usize, numbers:
 {
     for r in first..past {
         let x = word(table, r, k);
-        table[r * 4 + k] = numbers[x];
+        table[r * RECORD_WORDS + k] = numbers[x];
     }
 }
 
@@ -115,7 +115,7 @@ fn free_end(table: &mut [u16], count: usize)
     requires { count ≤ record_limit }
     ensures { Freed table.old table.new count }
 {
-    let from = count * 4;
+    let from = count * RECORD_WORDS;
     if from < table.len() {
         table[from..].fill(0);
     }

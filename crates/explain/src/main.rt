@@ -11,7 +11,8 @@ use example::Example;
 use lines::{lines, refused_line};
 use little::decode;
 use pipe::{
-    BYTES, CONFLICT_BYTES, CONFLICT_WORDS, CONFLICTS, Stop, WORDS, WORDS_OF_CONFLICT, read_table,
+    BYTES, PIECE, PIECE_BYTES, PIECE_WORDS, RECORD_WORDS, Stop, WORDS, WORDS_OF_CONFLICT,
+    read_table,
 };
 use report::classify;
 use repr::{ProductionIndex, Refusal};
@@ -95,8 +96,8 @@ fn explain_piece<R: io::Input + Print + Eprint>(
     rt: &R,
     table: &[u16],
     first: u64,
-    bytes: &mut [u8; CONFLICT_BYTES],
-    words: &mut [u16; CONFLICT_WORDS],
+    bytes: &mut [u8; PIECE_BYTES],
+    words: &mut [u16; PIECE_WORDS],
     out: &mut [u8; LINES],
 ) -> Result<bool, Failed>
     requires { first < 1152921504606846976 }
@@ -113,14 +114,14 @@ fn explain_piece<R: io::Input + Print + Eprint>(
 
 // All conflicts, piece by piece.
 fn explain_conflicts<R: io::Input + Print + Eprint>(rt: &R, table: &[u16]) -> Result<(), Failed> {
-    let mut bytes = [0u8; CONFLICT_BYTES];
-    let mut words = [0u16; CONFLICT_WORDS];
+    let mut bytes = [0u8; PIECE_BYTES];
+    let mut words = [0u16; PIECE_WORDS];
     let mut out = [0u8; LINES];
     for piece in 0..PIECES {
         if !explain_piece(
             rt,
             table,
-            1 + piece * CONFLICTS as u64,
+            1 + piece * PIECE as u64,
             &mut bytes,
             &mut words,
             &mut out,
@@ -134,7 +135,7 @@ fn explain_conflicts<R: io::Input + Print + Eprint>(rt: &R, table: &[u16]) -> Re
 fn explain_input<R: io::Input + Print + Eprint>(rt: &R) -> Result<(), Stop> {
     let mut bytes = [0u8; BYTES];
     let mut table = [0u16; WORDS];
-    let words = read_table(rt, &mut bytes, &mut table)? * 4;
+    let words = read_table(rt, &mut bytes, &mut table)? * RECORD_WORDS;
     let table = &table[..words];
     check(table)?;
     Ok(explain_conflicts(rt, table)?)

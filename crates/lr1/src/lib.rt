@@ -265,7 +265,7 @@ pub fn backtrace_shift(
     backtrace(table, Action::Shift, state, item, graph, scratch)
 }
 
-// The trace of a reduction, in the same way.
+// The trace of a reduction, in the same way. (Two functions of one form: they are the Rust's, and the C interface has both.)
 pub fn backtrace_reduce(
     table: &[u16],
     state: StateIndex,

@@ -9,22 +9,22 @@ use little::{decode, encode};
 use repr::Refusal;
 use std::io;
 use streams::{Failed, PIECES, read, read_some, write};
-pub use table::RECORDS;
+pub use table::{RECORD_WORDS, RECORDS};
 
 // The most words of a table, and their bytes.
-pub const WORDS: usize = RECORDS * 4;
+pub const WORDS: usize = RECORDS * RECORD_WORDS;
 
 pub const BYTES: usize = WORDS * 2;
 
-// Words of a conflict behind a table.
+// Words of a conflict behind a table. (Crate conflict_counts has the number for the builder, which most of the programs do without.)
 pub const WORDS_OF_CONFLICT: usize = 5;
 
-// Of the conflicts those read at a time, their words and bytes.
-pub const CONFLICTS: usize = 4096;
+// The conflicts of a piece, as they are read at a time, their words and bytes.
+pub const PIECE: usize = 4096;
 
-pub const CONFLICT_WORDS: usize = CONFLICTS * WORDS_OF_CONFLICT;
+pub const PIECE_WORDS: usize = PIECE * WORDS_OF_CONFLICT;
 
-pub const CONFLICT_BYTES: usize = CONFLICT_WORDS * 2;
+pub const PIECE_BYTES: usize = PIECE_WORDS * 2;
 
 // What ends a program's run, an error that `?` takes: a refusal; or a read or a write failed, which standard error says already.
 #[derive(Clone, Copy)]
@@ -61,8 +61,8 @@ fn read_whole<R: io::Input + Eprint>(rt: &R, bytes: &mut [u8]) -> Result<(), Sto
     Ok(())
 }
 
-// The number of the table's records, its words at the front of `table`. A stream that ends before its table does, or has a number of records that no table has, is refusal 1.
-// The buffers are slices here and below, since arrays of their sizes would ask more of callers.
+// The number of the table's records, its words at the front of `table`; they are cut to size by the program, since an answer that borrows `table` would leave unsaid what it holds after the call. A stream that ends before its table does, or has a number of records that no table has, is refusal 1.
+// The buffers are slices here and below, since arrays of their sizes would ask more of callers, and so how long they are is asked at each call.
 #[tactic(auto, unfolding(crate::specs::Given::Holds))]
 pub fn read_table<R: io::Input + Eprint>(
     rt: &R,
@@ -124,7 +124,7 @@ pub fn write_records<R: Print + Eprint>(
 ) -> Result<(), Failed>
     requires { (length table.now ≤ record_limit * 4) × (65536 ≤ length bytes.old) }
 {
-    let records = (table.len() / 4) as u16;
+    let records = (table.len() / RECORD_WORDS) as u16;
     write(rt, &records.to_le_bytes())?;
     write_words(rt, table, bytes)
 }

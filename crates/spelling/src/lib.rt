@@ -17,7 +17,7 @@ mod chain;
 
 use chain::RecordIter;
 use repr::Refusal;
-use table::{AcceptedTable, RECORDS, put, word};
+use table::{AcceptedTable, RECORD_WORDS, RECORDS, put, word};
 use table_check::areas::{Areas, survey};
 
 // How far records are counted: one more than a table may have.
@@ -28,7 +28,7 @@ pub fn next_of(next: usize, at: usize) -> usize
     requires { at < record_limit }
     ensures { (next ≡ 0 → result ≡ 0) × ((next ≡ 0 → ⊥) → result ≡ at + 1) }
 {
-    if next == 0 { 0 } else { at + 1 }
+    head_of(next, at + 1)
 }
 
 // The head of a chain of `count` records that begins at record `at`.
@@ -150,7 +150,7 @@ impl<'a> Spelling<'a> {
         }
     }
 
-    // Writes the nonterminals: their heads are the table's.
+    // Writes the nonterminals: their heads are the table's, word for word. (`first_production` says which productions its answer leads to, not which word it is.)
     fn write_nonterminals(self, out: &mut [u16])
         requires room { Room (meaning self.table.words.now) out.old }
         ensures { Grown (meaning self.entry.table.words.now) out.old out.new 1 (states_at (meaning self.entry.table.words.now)) }
@@ -209,15 +209,7 @@ impl<'a> Spelling<'a> {
         ensures { Grown (meaning self.entry.table.words.now) out.old out.new 0 (records_of (meaning self.entry.table.words.now)) }
     {
         let a = self.areas;
-        let counts = a.counts;
-        put(
-            out,
-            0,
-            counts.nonterminals,
-            counts.terminals,
-            counts.states,
-            counts.productions,
-        );
+        a.counts.put(out);
         self.write_nonterminals(out);
         self.write_states(at, out);
         self.write_productions(out);
@@ -236,7 +228,7 @@ fn respell_in(table: AcceptedTable, out: &mut [u16]) -> Result<u16, Refusal>
         areas: survey(table.words),
     };
     let at = spelling.measure();
-    if at.records > RECORDS || at.records > out.len() / 4 {
+    if at.records > RECORDS || at.records > out.len() / RECORD_WORDS {
         return Err(Refusal::NoRoom);
     }
     spelling.write_all(at, out);

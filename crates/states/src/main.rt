@@ -8,7 +8,8 @@ ghost use Rattle.repr.specs.Sizes.{record_limit};
 
 use builder::{Built, build_states};
 use pipe::{
-    BYTES, Stop, WORDS, WORDS_OF_CONFLICT, pass_on, read_table, say_end, write_records, write_words,
+    BYTES, RECORD_WORDS, Stop, WORDS, WORDS_OF_CONFLICT, pass_on, read_table, say_end,
+    write_records, write_words,
 };
 use repr::ProductionIndex;
 use std::io;
@@ -17,7 +18,7 @@ use streams::{Failed, read};
 // Conflicts of a table at most.
 const CONFLICTS: usize = 65535;
 
-// The start production behind the table; where there is none, a number that no production has.
+// The start production behind the table; where there is none, a number that no production has: it is refused as any such number is, behind what comes before it in the order of refusals.
 fn read_start<R: io::Input + Eprint>(rt: &R) -> Result<ProductionIndex, Failed> {
     let mut bytes = [0u8; 2];
     let start = match read(rt, &mut bytes)? {
@@ -45,7 +46,7 @@ fn write_states<R: io::Input + Print + Eprint>(
 fn build_input<R: io::Input + Print + Eprint>(rt: &R) -> Result<(), Stop> {
     let mut bytes = [0u8; BYTES];
     let mut table = [0u16; WORDS];
-    let words = read_table(rt, &mut bytes, &mut table)? * 4;
+    let words = read_table(rt, &mut bytes, &mut table)? * RECORD_WORDS;
     let start = read_start(rt)?;
     let mut scratch = [0u16; Built::SCRATCH];
     let mut out = [0u16; WORDS];
@@ -57,7 +58,7 @@ fn build_input<R: io::Input + Print + Eprint>(rt: &R) -> Result<(), Stop> {
         &mut out,
         &mut conflicts,
     )?;
-    let past = built.records as usize * 4;
+    let past = built.records as usize * RECORD_WORDS;
     let end = built.conflicts as usize * WORDS_OF_CONFLICT;
     Ok(write_states(rt, &out[..past], &conflicts[..end], &mut bytes)?)
 }

@@ -5,11 +5,8 @@ ghost use Rattle.table.specs.Words.{word_at, production_records, loose_records, 
 ghost use Rattle.table_check.specs.Marks.{Sized};
 ghost use Rattle.table_check.specs.Known.{AreasOf, Known, area};
 
-use repr::{NonterminalString, ProductionIndex, Symbol};
-use table::{Counts, RECORDS, word};
-
-// The states of a table at most.
-const STATES: usize = 128;
+use repr::{NonterminalString, ProductionIndex, StateIndex, Symbol};
+use table::{Counts, RECORD_WORDS, RECORDS, word};
 
 // The counts of record 0, the number of records, and where the areas begin.
 #[derive(Clone, Copy)]
@@ -78,7 +75,7 @@ impl<'a> Surveyed<'a> {
     }
 }
 
-// What is gathered of its productions too: how many chains hold each, as far as two, and how many symbols it has, as far as seventeen.
+// What is gathered of its productions too: how many chains hold each, as far as two, and how many symbols it has, as far as seventeen. They are two arrays since each is filled by a pass of its own: over an array of both each pass would have to say that it leaves the other's field alone.
 #[derive(Clone, Copy)]
 pub struct Gathered<'a> {
     pub s: Surveyed<'a>,
@@ -128,7 +125,7 @@ pub fn bad_words(table: &[u16]) -> bool
     ensures { result ≡ row1 table.now }
 {
     let words = table.len();
-    words == 0 || words % 4 != 0 || words > RECORDS * 4
+    words == 0 || words % RECORD_WORDS != 0 || words > RECORDS * RECORD_WORDS
 }
 
 // Row 2: a count outside its range, or areas longer than the table.
@@ -142,24 +139,22 @@ pub fn bad_counts(table: &[u16]) -> bool
         || counts.nonterminals > NonterminalString::LIMIT
         || counts.terminals > Symbol::TERMINALS
         || counts.states == 0
-        || counts.states > STATES
+        || counts.states > StateIndex::LIMIT
         || counts.productions > ProductionIndex::LIMIT
-        || table.len() / 4 < 1 + counts.nonterminals + counts.states + counts.productions
+        || table.len() / RECORD_WORDS < counts.loose_at()
 }
 
-// Read once; what works on the records is handed this by value.
+// Read once; what works on the records is handed this by value. That rows 1 and 2 let the words through is asked here and where it is handed on: the type of such words is `Surveyed`, and this is a part of it.
 pub fn survey(table: &[u16]) -> Areas
     requires { Sized table.now }
     ensures { AreasOf table.now result }
 {
     let counts = Counts::of(table);
-    let states_at = 1 + counts.nonterminals;
-    let productions_at = states_at + counts.states;
     Areas {
         counts,
-        records: table.len() / 4,
-        states_at,
-        productions_at,
-        loose_at: productions_at + counts.productions,
+        records: table.len() / RECORD_WORDS,
+        states_at: counts.states_at(),
+        productions_at: counts.productions_at(),
+        loose_at: counts.loose_at(),
     }
 }

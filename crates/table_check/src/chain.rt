@@ -1,5 +1,6 @@
 // A chain of a table that is not yet known to be accepted, gone through from an index on. An index against the rule ends it.
-ghost use Rattle.std.specs.Prelude.{◌≤◌};
+ghost use Rattle.std.specs.Prelude.{◌≡◌, ◌≤◌, ◌<◌};
+ghost use Rattle.table.specs.Words.{word_at, chain};
 ghost use Rattle.table_check.specs.Known.{area};
 
 use crate::areas::{Area, Surveyed};
@@ -17,7 +18,6 @@ pub struct ChainIter<'a> {
 
 impl<'a> Iterator for ChainIter<'a> {
     ghost use Rattle.std.specs.Iterator.{YieldsFirst, item_count};
-    ghost use Rattle.table.specs.Words.{chain};
 
     type Item = usize;
 
@@ -33,5 +33,21 @@ impl<'a> Iterator for ChainIter<'a> {
         self.last = at;
         self.at = word(self.s.words, at, 0);
         Some(at)
+    }
+}
+
+impl<'a> Surveyed<'a> {
+    // The chain of what an index into the area may name, from word k of record r on.
+    pub(crate) fn chain(self, named: Area, r: usize, k: usize) -> ChainIter<'a>
+        requires word { (r < self.areas.records) × (k < 4) }
+        requires inside { named.past ≤ self.areas.records }
+        ensures { chain result.s.words.now (area result.area.from result.area.past) result.last result.at ≡ chain self.entry.words.now (area named.from named.past) r (word_at self.entry.words.now r k) }
+    {
+        ChainIter {
+            s: self,
+            area: named,
+            last: r,
+            at: word(self.words, r, k),
+        }
     }
 }

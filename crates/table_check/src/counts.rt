@@ -6,23 +6,16 @@ ghost use Rattle.table.specs.Decoded.{symbol_chain};
 ghost use Rattle.table_check.specs.Marks.{Lengths};
 
 use crate::areas::Surveyed;
-use crate::chain::ChainIter;
 use repr::ProductionIndex;
-use table::word;
 
 // The symbols of production p. A shared chain costs at most seventeen steps a production.
 fn symbol_count(s: Surveyed, p: usize) -> usize
     requires p_bound { p < word_at s.words.now 0 3 }
     ensures { result ≡ min index_limit (length (symbol_chain s.entry.words.now p)) }
 {
-    let last = s.areas.productions_at + p;
-    let chain = ChainIter {
-        s,
-        area: s.loose(),
-        last,
-        at: word(s.words, last, 1),
-    };
-    chain.take(ProductionIndex::INDEXES).count()
+    s.chain(s.loose(), s.areas.productions_at + p, 1)
+        .take(ProductionIndex::INDEXES)
+        .count()
 }
 
 // Those of all productions.

@@ -6,23 +6,14 @@ ghost use Rattle.table_check.specs.Marks.{Held};
 ghost use Rattle.table_check.specs.Known.{bump};
 
 use crate::areas::Surveyed;
-use crate::chain::ChainIter;
 use repr::ProductionIndex;
-use table::word;
 
 // One more for each production in the chain of nonterminal n, as far as two.
 fn hold_chain(s: Surveyed, n: usize, held: &mut [u8; ProductionIndex::LIMIT])
     requires n_bound { n < word_at s.words.now 0 0 }
     ensures { held.new ≡ bump (production_area s.entry.words.now) held.old (production_chain s.entry.words.now n) }
 {
-    let last = 1 + n;
-    let chain = ChainIter {
-        s,
-        area: s.productions(),
-        last,
-        at: word(s.words, last, 0),
-    };
-    for r in chain {
+    for r in s.chain(s.productions(), 1 + n, 0) {
         let p = r - s.areas.productions_at;
         held[p] = held[p].min(1) + 1;
     }

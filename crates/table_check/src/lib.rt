@@ -21,7 +21,7 @@ use areas::{Gathered, Surveyed};
 pub use loose::Roles;
 use mark::{ALL, FEW, Marks};
 use repr::{ProductionIndex, Refusal};
-use table::AcceptedTable;
+use table::{AcceptedTable, RECORD_WORDS};
 
 // What is gathered of the productions, in bytes that are lent for it.
 fn gather<'a>(
@@ -61,7 +61,7 @@ fn inspect(table: &[u16]) -> Result<(), Refusal>
     requires { Sized table.now }
     ensures { checked_of result ≡ first_row table.now (3 ∷ 4 ∷ 5 ∷ 6 ∷ 7 ∷ 8 ∷ []) }
 {
-    if table.len() <= FEW * 64 * 4 {
+    if table.len() <= FEW * 64 * RECORD_WORDS {
         return inspect_within::<FEW>(table);
     }
     inspect_within::<ALL>(table)

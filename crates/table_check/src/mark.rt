@@ -28,8 +28,7 @@ fn mark_heads(s: Surveyed, first: usize, n: usize, k: usize, marks: &mut [u64])
     requires { (first + n ≤ s.areas.loose_at) × ((k < 2) × Blank s.words.now marks.old) }
     ensures { Passed s.entry.words.now first n k n (loose s.entry.words.now) marks.new }
 {
-    for i in 0..n {
-        let r = first + i;
+    for r in first..first + n {
         let x = word(s.words, r, k);
         if s.loose().names(r, x) {
             put(marks, x);

@@ -51,7 +51,7 @@ fn lower(best: Option<Offence>, fault: Option<Row>, r: usize) -> Option<Offence>
     }
 }
 
-// The records before the loose ones.
+// The records before the loose ones. (The second pass is a loop of its own: it writes marks, and over one loop a step that writes is no plainer.)
 fn scan_areas(g: Gathered) -> Option<Offence>
     ensures { Best (fault_at g.entry.s.words.now) (loose g.entry.s.words.now) (row_of result) (place_of result) }
 {

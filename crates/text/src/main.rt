@@ -8,8 +8,8 @@ ghost use Rattle.typed.specs.Typed.{IsItem};
 
 use little::decode;
 use pipe::{
-    BYTES, CONFLICT_BYTES, CONFLICT_WORDS, CONFLICTS, Stop, WORDS, WORDS_OF_CONFLICT, read_table,
-    say_end,
+    BYTES, PIECE, PIECE_BYTES, PIECE_WORDS, RECORD_WORDS, Stop, WORDS, WORDS_OF_CONFLICT,
+    read_table, say_end,
 };
 use repr::{Grammar, ProductionIndex};
 use std::io;
@@ -37,7 +37,7 @@ fn write_numbers<R: Print + Eprint>(
     write(rt, &out[..k])
 }
 
-// Whether production and index are an item's.
+// Whether production and index are an item's. (Crate trace_graph has it for its own words: what this answers is `IsItem` of the text.)
 fn is_item(grammar: Grammar, p: usize, i: usize) -> bool
     ensures { result ≡ true → IsItem grammar.entry.words.now grammar.entry.productions p i }
 {
@@ -135,8 +135,8 @@ fn say_odd<R: Eprint>(rt: &R, bytes: usize) {
 fn text_piece<R: io::Input + Print + Eprint>(
     rt: &R,
     first: usize,
-    bytes: &mut [u8; CONFLICT_BYTES],
-    words: &mut [u16; CONFLICT_WORDS],
+    bytes: &mut [u8; PIECE_BYTES],
+    words: &mut [u16; PIECE_WORDS],
     out: &mut [u8; LINE],
 ) -> Result<bool, Failed>
     requires { first < 1152921504606846976 }
@@ -150,10 +150,10 @@ fn text_piece<R: io::Input + Print + Eprint>(
 
 // The rest, piece by piece.
 fn text_rest<R: io::Input + Print + Eprint>(rt: &R, out: &mut [u8; LINE]) -> Result<(), Failed> {
-    let mut bytes = [0u8; CONFLICT_BYTES];
-    let mut words = [0u16; CONFLICT_WORDS];
+    let mut bytes = [0u8; PIECE_BYTES];
+    let mut words = [0u16; PIECE_WORDS];
     for piece in 0..PIECES as usize {
-        if !text_piece(rt, 1 + piece * CONFLICTS, &mut bytes, &mut words, out)? {
+        if !text_piece(rt, 1 + piece * PIECE, &mut bytes, &mut words, out)? {
             break;
         }
     }
@@ -164,7 +164,7 @@ fn text_input<R: io::Input + Print + Eprint>(rt: &R) -> Result<(), Stop> {
     let mut bytes = [0u8; BYTES];
     let mut table = [0u16; WORDS];
     let mut out = [0u8; LINE];
-    let words = read_table(rt, &mut bytes, &mut table)? * 4;
+    let words = read_table(rt, &mut bytes, &mut table)? * RECORD_WORDS;
     write_table(rt, check(&table[..words])?, &mut out)?;
     Ok(text_rest(rt, &mut out)?)
 }

@@ -94,7 +94,7 @@ fn put_unused_part(out: &mut [u8], at: usize, roles: Roles) -> usize
     put_text(out, at, b": unused")
 }
 
-// What a loose record is.
+// What a loose record is. Here and below the room from `at` on is asked at each call, since `at` and `out` are two values; and that a record reached as an item is one of the grammar's, since what it is reached as is another value for each record.
 fn put_loose(
     out: &mut [u8],
     at: usize,

@@ -51,6 +51,7 @@ impl Reader {
         within: Within::Space,
     };
 
+    // That line and column have room is asked here and below: they count the bytes of a stream, and the bound falls with each byte, which a field of the type cannot follow.
     #[tactic(auto, unfolding(crate::specs::Text::line_begun))]
     fn next_line(self) -> Reader
         requires { Below (reader_of self) 18446744073709551615 }

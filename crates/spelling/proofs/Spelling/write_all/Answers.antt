@@ -3,11 +3,11 @@ use Rattle.spelling.proofs.Areas.{spelled, counts-put}
 use Rattle.spelling.proofs.All.{all_grown, symbols-source, items_source, edges_source, source_stands, source-done, room-first}
 use Rattle.spelling.proofs.Spelling.write_all.Goals as goal
 
-pub put-requires-clause-r_lt_record_limit : goal.put-requires-clause-r_lt_record_limit
-put-requires-clause-r_lt_record_limit c = (omega arith, room-first _ _ c.requires.room)
+pub put-requires-clause-room : goal.put-requires-clause-room
+put-requires-clause-room c = omega (arith, room-first _ _ c.requires.room)
 
-pub put-requires-clause-a_bound : goal.put-requires-clause-a_bound
-put-requires-clause-a_bound c = let C = (spelled _ _ c.args.self.table.accepted c.args.self.of).counts in
+pub put-requires-clause-small : goal.put-requires-clause-small
+put-requires-clause-small c = let C = (spelled _ _ c.args.self.table.accepted c.args.self.of).counts in
     let F = C.fits in
     (omega (arith, C.nonterminals, F.few_nonterminals), (omega (arith, C.terminals, F.few_terminals), (omega (arith, C.states, F.few_states), omega (arith, C.productions, F.few_productions_lem))))
 

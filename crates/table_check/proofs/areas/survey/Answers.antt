@@ -7,4 +7,4 @@ of-counts-requires c = let w = whole_of _ c.requires.words in omega arith
 
 pub returns : goal.returns
 returns c = let C = c.of-counts.ensures.read in
-    surveyed c.requires (record { nonterminals = C.0; terminals = C.1.0; states = C.1.1.0; productions = C.1.1.1 })
+    rw (c.states_at.ensures, c.productions_at.ensures, c.loose_at.ensures) (surveyed c.requires (record { nonterminals = C.0; terminals = C.1.0; states = C.1.1.0; productions = C.1.1.1 }))

@@ -1,4 +1,4 @@
-use Rattle.std.proofs.Common.{◌≡◌, refl, ap, ℕ, List, [], ◌∷◌, None, arith, length, min}
+use Rattle.std.proofs.Common.{◌≡◌, refl, ap, ◌∙◌, ℕ, List, [], ◌∷◌, None, arith, length, min}
 use native.Mathlib.Decide.{ℕ_discrete}
 use Rattle.std.specs.Iterator.{Yields, YieldsFirst}
 use Rattle.std.specs.Iterator.Adapters.{take_steps, take_source, take_count}
@@ -9,14 +9,14 @@ use Rattle.table_check.specs.declared.chain.ChainIter.{ChainIter}
 use Rattle.table_check.proofs.Steps.{symbols_begin}
 use Rattle.table_check.proofs.counts.symbol_count.Goals as goal
 
-pub overflow_add-last : goal.overflow_add-last
-overflow_add-last c = let A = c.args.s.of in omega (arith, c.requires.p_bound)
+pub overflow_add-s : goal.overflow_add-s
+overflow_add-s c = let A = c.args.s.of in omega (arith, c.requires.p_bound)
 
-pub word-requires : goal.word-requires
-word-requires c = let A = c.args.s.of in omega (arith, c.requires.p_bound)
-
-pub invariant_of-chain : goal.invariant_of-chain
-invariant_of-chain c = record { inside = omega (arith, c.loose.ensures.within) }
+pub chain-requires : goal.chain-requires
+chain-requires c = let A = c.args.s.of in record {
+  word = (omega (arith, c.requires.p_bound), omega arith);
+  inside = omega (arith, c.loose.ensures.within);
+}
 
 -- what is left of a chain, and the first n of it counted
 abbrev left : ChainIter → List ℕ
@@ -38,5 +38,5 @@ returns c =
     let r = c.count.ensures.ran in
     let n = taken r.0 c.take.result r.1.1.0 r.1.0 r.1.1.1 r.1.1.2 in
     let l = ap (λ (i : ChainIter). length (left i)) c.take.ensures.source in
-    let s = ap length (symbols_begin _ _ c.args.s.of _ c.loose.ensures.records _ _ _ refl c.word.ensures.0) in
+    let s = ap length (c.chain.ensures ∙ symbols_begin _ _ c.args.s.of _ c.loose.ensures.records _ _ _ refl refl) in
     omega (arith, r.2, n, l, s, c.take.ensures.count)

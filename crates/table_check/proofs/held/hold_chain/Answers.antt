@@ -2,13 +2,16 @@ use Rattle.std.proofs.Common.{refl, arith}
 use Rattle.table_check.proofs.Steps.{hold_begin, hold_here, hold_more, hold_end}
 use Rattle.table_check.proofs.held.hold_chain.Goals as goal
 
-pub invariant_of-r-items : goal.invariant_of-r-items
-invariant_of-r-items c = let A = c.args.s.of in record { inside = omega (arith, c.productions.ensures.within, A.room) }
+pub chain-r-items-requires : goal.chain-r-items-requires
+chain-r-items-requires c = let A = c.args.s.of in record {
+  word = (omega (arith, c.requires.n_bound), omega arith);
+  inside = omega (arith, c.productions.ensures.within, A.room);
+}
 
 pub loop-r-init : goal.loop-r-init
 loop-r-init c =
     let p = c.productions.ensures in
-    rw c.into_iter-r-iterator.ensures.into_iter_gives (hold_begin _ _ c.args.s.of _ p.records p.within.0 p.within.1 _ _ _ refl c.word.ensures.0 _ (omega arith))
+    rw (c.into_iter-r-iterator.ensures.into_iter_gives, c.chain-r-items.ensures) (hold_begin _ _ c.args.s.of _ p.records p.within.0 p.within.1 _ _ _ refl refl _ (omega arith))
 
 pub overflow_sub-p : goal.overflow_sub-p
 overflow_sub-p c = (hold_here (rw c.in-Some.ensures.steps at c.loop-r.invariant)).0
