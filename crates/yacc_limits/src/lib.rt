@@ -10,7 +10,6 @@ ghost use Rattle.yacc_limits.specs.Limited.{Meant, limited_of};
 use repr::{NonterminalString, ProductionIndex, Refusal, Symbol};
 use yacc_count::Counts;
 
-// Terminals of a table at most.
 // What refuses a text of n nonterminals and m terminals that is named well, by its counts and the room there is. A production's record stands behind those of the counts, the nonterminals and the one state.
 pub fn check_counts(
     n: usize,

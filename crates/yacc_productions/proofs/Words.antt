@@ -1,5 +1,5 @@
 -- Symbols in words, a symbol and a production put into the packed words. Assumes nothing.
-use Prim.Native.Nat.{ℕ, suc, ◌+◌, ◌*◌, ◌≤◌, ◌<◌}
+use Prim.Native.Nat.{ℕ, zero, suc, ◌+◌, ◌*◌, ◌≤◌, ◌<◌}
 use native.Mathlib.Omega.{arith}
 use mathlib.Core.Bool.{Bool, true, ◌&&◌}
 use mathlib.Core.Path.{◌≡◌, refl, sym, ap, ◌∙◌}
@@ -16,6 +16,18 @@ use Rattle.table.specs.Quads.{put_quad}
 use Rattle.table.proofs.Quads.{put_0, put_1, put_2, put_3}
 use Rattle.spelling.specs.Spelled.{kind_of, number_of}
 use Rattle.yacc_productions.specs.Turn.{pairs, Stored}
+
+-- the two words that stand for a symbol are its kind and its number
+pub kind_given : (s : Symbol) (k n : ℕ) → symbol_of_kind k n ≡ s → k < 2 → k ≡ kind_of s
+unfolding symbol_of_kind kind_of
+kind_given s zero n e h = ap kind_of e
+kind_given s (suc zero) n e h = ap kind_of e
+kind_given s (suc (suc k)) n e h = absurd (omega (arith, h))
+
+pub number_given : (s : Symbol) (k n : ℕ) → symbol_of_kind k n ≡ s → n ≡ number_of s
+unfolding symbol_of_kind number_of
+number_given s zero n e = ap number_of e
+number_given s (suc k) n e = ap number_of e
 
 -- symbols in words
 pub pairs_snoc : (ss : List Symbol) (s : Symbol) → pairs (ss ++ s ∷ []) ≡ pairs ss ++ kind_of s ∷ number_of s ∷ []

@@ -22,14 +22,14 @@ ghost use Rattle.yacc_productions.specs.Readable.{Readable, Whole};
 ghost use Rattle.yacc_productions.specs.Turn.{Small, place_or_else, Added, Closed, Turn};
 
 use repr::{ProductionIndex, Symbol};
-use table::put;
+use table::{RECORD_WORDS, put};
 use yacc_enter::SymbolTable;
 use yacc_lex::Lexeme;
 use yacc_said::{Saying, Token, TokenIter};
 use yacc_symbols::symbol;
 
 // Records of a table that a production's words are.
-const RECORDS: usize = ProductionIndex::WORDS / 4;
+const RECORDS: usize = ProductionIndex::WORDS / RECORD_WORDS;
 
 // The production that is open: its number, its nonterminal's, its symbols so far and their span.
 #[derive(Clone, Copy, Default)]
@@ -59,17 +59,6 @@ fn place_or(symbols: usize, at: usize, x: usize) -> usize
     x
 }
 
-// A symbol as words hold it: kind and number.
-#[tactic(auto, unfolding(spelling::specs::Spelled::kind_of, spelling::specs::Spelled::number_of))]
-fn words_of(symbol: Symbol) -> (u16, u16)
-    ensures { (result.0 ≡ kind_of (meant symbol)) × (result.1 ≡ number_of (meant symbol)) }
-{
-    match symbol {
-        Symbol::Nonterminal(nonterminal) => (0, nonterminal.0),
-        Symbol::Terminal(terminal) => (1, terminal),
-    }
-}
-
 impl Body {
     // Puts a symbol behind those of the body, if there is room.
     fn add(self, grammar: &mut [u16], read: Symbol, lexeme: Lexeme) -> Body
@@ -80,8 +69,10 @@ impl Body {
         if ProductionIndex::LIMIT <= self.production || ProductionIndex::SYMBOLS <= self.symbols {
             return self;
         }
-        let at = self.production * ProductionIndex::WORDS + 4 + 2 * self.symbols;
-        let (kind, number) = words_of(read);
+        let at = self.production * ProductionIndex::WORDS
+            + ProductionIndex::HEAD
+            + Symbol::WORDS * self.symbols;
+        let (kind, number) = read.words();
         grammar[at] = kind;
         grammar[at + 1] = number;
         Body {

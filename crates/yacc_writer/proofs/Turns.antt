@@ -174,11 +174,10 @@ pub no_production_lem : (t : List ℕ) (ns : List (List ℕ)) (n head : ℕ) →
 no_production_lem t ns n head e z = sym e ∙ ap (productions_from t) z ∙ no-productions t
 
 -- the ways out of `write_in`
-pub file_is : (T : Table) (t n : ℕ) (g : List ℕ) → t ≡ T.terminals → n ≡ length T.productions → productions_in g (length T.productions) ≡ T.productions
+pub file_is : (T : Table) (t n : ℕ) (g : List ℕ) → t ≡ T.terminals → productions_in g n ≡ T.productions
     → file_bytes t (productions_in g n) ≡ text_of T
-file_is T t n g et en ep =
+file_is T t n g et ep =
     ap (λ (k : ℕ). file_bytes k (productions_in g n)) et
-    ∙ ap (λ (k : ℕ). file_bytes T.terminals (productions_in g k)) en
     ∙ ap (file_bytes T.terminals) ep
     ∙ text_bytes T
 
@@ -206,15 +205,15 @@ module _ (T : Table) (text : List ℕ) where
           ∙ ap (λ (l : List ℕ). record { answer = answered (length (text_of T)); text = l }) a
           ∙ written_roomy (le-leb (length (text_of T)) (length text) (omega arith))
 
-module _ (T : Table) (text g : List ℕ) (t n size : ℕ) (A : ascending 0 T.nonterminals ≡ true) (et : t ≡ T.terminals) (en : n ≡ length T.productions) (ep : productions_in g (length T.productions) ≡ T.productions) (s : size ≡ 0 + length (file_bytes t (productions_in g n))) where
+module _ (T : Table) (text g : List ℕ) (t n size : ℕ) (A : ascending 0 T.nonterminals ≡ true) (et : t ≡ T.terminals) (ep : productions_in g n ≡ T.productions) (s : size ≡ 0 + length (file_bytes t (productions_in g n))) where
   counted : size ≡ length (text_of T)
-  counted = let e = ap length (file_is T t n g et en ep) in omega arith
+  counted = let e = ap length (file_is T t n g et ep) in omega arith
 
   pub ordered_short : length text < size → record { answer = refused 17 0; text = text } ≡ written_of T text
   ordered_short h = written_short T text A size counted h
 
   pub ordered_done : size ≤ length text → (after : List ℕ) (r : ℕ) → Wrote text 0 (file_bytes t (productions_in g n)) after r → record { answer = answered size; text = after } ≡ written_of T text
-  ordered_done h after r W = let k = counted in written-done T text A size counted h after (wrote-front (wrote_as W (file_is T t n g et en ep)) (omega arith))
+  ordered_done h after r W = let k = counted in written-done T text A size counted h after (wrote-front (wrote_as W (file_is T t n g et ep)) (omega arith))
 
 -- `write_yacc`
 module _ (t text : List ℕ) where

@@ -172,11 +172,7 @@ fn write_ordered(table: AcceptedTable, text: &mut [u8]) -> Result<u16, Refusal>
 {
     let counts = table.counts();
     let mut words = [0u16; ProductionIndex::ALL_WORDS];
-    table.read_productions(&mut words);
-    let grammar = Grammar {
-        words: &words,
-        productions: counts.productions,
-    };
+    let grammar = table.read_grammar(&mut words);
     let mut nothing = [0u8; 1];
     let size = put_file(&mut nothing, grammar, counts.terminals);
     if size > text.len() {

@@ -1,6 +1,7 @@
 use mathlib.Core.Path.{refl}
 use lib.ListN.{length-set}
 use native.Mathlib.Omega.{arith}
+use Rattle.yacc_productions.proofs.Words.{kind_given, number_given}
 use Rattle.yacc_productions.proofs.Laws.{place_small, added_is}
 use Rattle.yacc_productions.proofs.Body.add.Goals as goal
 use Rattle.yacc_productions.proofs.Body.add.Goals.{then-self-ge-LIMIT-via-then-self-ge-LIMIT, then-self-ge-LIMIT-via-else-self-ge-LIMIT+then-self-ge-SYMBOLS}
@@ -32,5 +33,5 @@ returns c = let B = c.requires.grammar_len.1 in
     let w = c.args.lexeme.wide in
     let l = c.requires.past_bound in (
       record { production = B.production; owner = B.owner; symbols = omega (arith, k); start = rw c.place_or.ensures (place_small _ _ _ (omega (arith, w, l)) B.start); end = l },
-      added_is _ _ _ _ _ _ _ _ _ (λ h. c.words_of-kind.ensures.0) (λ h. c.words_of-kind.ensures.1) c.place_or.ensures,
+      added_is _ _ _ _ _ _ _ _ _ (λ h. kind_given _ _ _ c.words-kind.ensures.0 c.words-kind.ensures.1) (λ h. number_given _ _ _ c.words-kind.ensures.0) c.place_or.ensures,
     )
