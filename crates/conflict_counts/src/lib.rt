@@ -71,7 +71,7 @@ fn shift_set(grammar: Grammar, state: &[u64; Item::LIMIT]) -> TokenSet
     set
 }
 
-// What a state does by token: the tokens that each production's complete item reduces with, the terminals that are shifted.
+// What a state does by token: the tokens that each production's complete item reduces with, the terminals that are shifted. Which production is asked is a number, as `Grammar` says of its own.
 #[derive(Clone, Copy)]
 pub struct Actions {
     pub reductions: [u64; ProductionIndex::LIMIT],

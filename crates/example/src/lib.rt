@@ -252,7 +252,7 @@ impl<'a> Labels<'a> {
         }
     }
 
-    // Writes the example of the labels at the front of the buffer.
+    // Writes the example of the labels at the front of the buffer: a slice here and above, as it is lent. Its length is asked once at each entry (refusal 11), and a longer one may be lent.
     pub fn write_example(self, buffer: &mut [u16])
         requires { example_room ≤ length buffer.old }
         ensures { buffer.new ≡ in_front (example_words (productions_in self.entry.grammar.words.now self.entry.grammar.productions) (labels_in self.entry.words.now)) buffer.old }

@@ -14,7 +14,7 @@ use first::FirstSets;
 use lr1_core::Item;
 use repr::Grammar;
 
-// Whether an item's suffix may derive the empty string.
+// Whether an item's suffix may derive the empty string. That the sets are the grammar's is asked here and below: sets hold no grammar, and a struct of both would be made for this one pass.
 fn item_ends(grammar: Grammar, sets: &FirstSets, item: Item) -> bool
     requires map_value { sets.now.map ≡ sets_of_first sets.now.terminals (productions_in grammar.words.now grammar.productions) }
     requires within { (item.production < grammar.productions) × (item.index ≤ length (listed (symbol_words grammar.words.now item.production))) }
