@@ -4,7 +4,8 @@ use mathlib.Core.Bool.{true, false, ◌&&◌}
 use mathlib.Core.List.{List, []}
 use Prim.Native.Nat.{ℕ, ◌+◌, ◌*◌, ◌-◌, ◌≤◌, ◌<◌}
 use native.Mathlib.Omega.{arith}
-use lib.ListN.{length, get_or, take, drop}
+use lib.ListN.{length, get_or, take, drop, length-drop}
+use lib.Seq.{length-take-le}
 use lib.Dec.{leb}
 use borrow.Author.Tests.{le-leb, lt-leb, leb-true}
 use Rattle.repr.specs.Sizes.{reduction_place}
@@ -19,6 +20,9 @@ module _ (x : List ℕ) where
   pub whole_short : length x < 3 → false ≡ is_whole_example x
   unfolding is_whole_example
   whole_short h = rw (lt-leb _ _ h)
+
+  pub rest_long : 3 ≤ length x → length (take (length x - 3) (drop 3 x)) ≡ length x - 3
+  rest_long h = let d = length-drop 3 x in length-take-le (length x - 3) (drop 3 x) (omega arith)
 
   module _ (h : 3 ≤ length x) (s c r : ℕ) (es : s ≡ get_or x 0 0) (ec : c ≡ get_or x 1 0) (er : r ≡ get_or x 2 0) where
     pub whole-counts : length x < reduction_place s r → false ≡ is_whole_example x

@@ -69,7 +69,7 @@ pub enum Part {
 pub fn observed_part(action: &[u16], reduce: &[u16]) -> Part
     ensures { result ≡ part_observed action.now reduce.now }
 {
-    if !(whole_example(action) && whole_example(reduce)) {
+    if !whole_example(action) || !whole_example(reduce) {
         return Part::Action(0);
     }
     let a = word(action, 1);

@@ -1,11 +1,14 @@
-use Rattle.report.proofs.Seen.{whole_short, whole-counts, whole_cursor}
+use mathlib.Core.Path.{refl, ◌∙◌}
+use native.Mathlib.Omega.{arith}
+use borrow.Author.Tests.{lt-leb}
+use Rattle.report.proofs.Seen.{whole_short, whole-counts, whole_cursor, rest_long}
 use Rattle.report.proofs.whole_example.Goals as goal
 
-pub returns-then-buffer-lt3 : goal.returns-then-buffer-lt3
-returns-then-buffer-lt3 c = whole_short _ c.if-buffer-lt3.true
+pub returns-in_default : goal.returns-in_default
+returns-in_default c = whole_short _ c.in_default.len_below
 
-pub returns-then-buffer-symbols : goal.returns-then-buffer-symbols
-returns-then-buffer-symbols c = whole-counts _ c.if-buffer-lt3.false _ _ _ c.word-symbols.ensures.0 c.word-cursor.ensures.0 c.word-reductions.ensures.0 c.if-buffer-symbols.true
+pub returns-then-rest-words : goal.returns-then-rest-words
+returns-then-rest-words c = let l = rest_long c.args.buffer.now c.in-len3-up.len_at_least in whole_cursor _ c.in-len3-up.len_at_least _ _ _ refl refl refl (omega (arith, l, c.if-rest-words.true, c.in-len3-up.len_at_least))
 
-pub returns : goal.returns
-returns c = whole_cursor _ c.if-buffer-lt3.false _ _ _ c.word-symbols.ensures.0 c.word-cursor.ensures.0 c.word-reductions.ensures.0 c.if-buffer-symbols.false
+pub returns-else-rest-words : goal.returns-else-rest-words
+returns-else-rest-words c = let l = rest_long c.args.buffer.now c.in-len3-up.len_at_least in lt-leb _ _ c.if-rest-words.false ∙ whole-counts _ c.in-len3-up.len_at_least _ _ _ refl refl refl (omega (arith, l, c.if-rest-words.false, c.in-len3-up.len_at_least))
