@@ -110,7 +110,7 @@ impl<'a> SymbolTable<'a> {
         }
     }
 
-    // The number of a name, as the names were entered.
+    // The number of a name, as the names were entered. (That a lexeme lies in the text is asked wherever it meets the table, here and in the crates above: one that held a text would still not say that it is the table's.)
     fn find(&self, lexeme: Lexeme) -> Option<usize>
         requires { lexeme.past ≤ length self.now.text.now }
         ensures { held result ≡ latest (is_name self.now.text.now self.now.starts.now self.now.pasts.now (slice lexeme.from lexeme.past self.now.text.now)) self.now.counts.names }

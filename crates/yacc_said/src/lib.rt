@@ -76,6 +76,7 @@ pub struct TokenIter<'a> {
 }
 
 impl<'a> TokenIter<'a> {
+    // From the front on. (That the text is the one given is said by what makes a value over a text, here and where ids are entered: a field's fact knows what the value holds, not what was given.)
     pub fn new(text: &'a [u8]) -> TokenIter<'a>
         requires { is_grammar_text text.now ≡ true }
         ensures text { result.text.now ≡ text.now }
