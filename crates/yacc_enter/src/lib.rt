@@ -4,7 +4,7 @@
 
 ghost use Rattle.std.specs.Prelude.{true, ◌≡◌, List, [], ◌∷◌, ℕ, ◌+◌, ◌≤◌, ◌<◌, length, get_or};
 ghost use Rattle.repr.specs.Lists.{joined};
-ghost use Rattle.yacc_text.specs.Grammar.{byte_limit, quoted};
+ghost use Rattle.yacc_text.specs.Grammar.{byte_limit, text_limit, quoted};
 ghost use Rattle.yacc_tokens.specs.Accepted.{mode_of, is_grammar_text};
 ghost use Rattle.yacc_read.specs.Source.{Known, left_side, token_use};
 ghost use Rattle.yacc_said.specs.Said.{id_at, events_of};
@@ -72,6 +72,7 @@ pub struct SymbolTable<'a> {
     pub ghost kept: { Kept text.now starts.now pasts.now ix.now lefts.now tokens.now counts } by { Kept-prop text.now starts.now pasts.now ix.now lefts.now tokens.now counts },
     pub ghost named: { Named text.now starts.now pasts.now ix.now lefts.now tokens.now counts } by { Named-prop text.now starts.now pasts.now ix.now lefts.now tokens.now counts },
     pub ghost grammar: { is_grammar_text text.now ≡ true },
+    pub ghost short: { length text.now ≤ text_limit },
 }
 
 // The number that a word holds, if it holds one.

@@ -34,7 +34,6 @@ fn write_read(
     table: &mut [u16],
     places: &mut [u16],
 ) -> Result<Reading, Refusal>
-    requires text_len_bound { length symbols.now.text.now ≤ text_limit }
     requires passes { (l : Layout) → parse symbols.now.text.now ≡ some l → Passes (source_in l.pieces) table.old places.old }
     ensures { (l : Layout) → parse symbols.now.text.now ≡ some l → record { answer = reply_of result; table = table.new; places = places.new } ≡ counted_of (source_in l.pieces) table.old places.old }
 {
@@ -63,7 +62,6 @@ fn read_counted(
     table: &mut [u16],
     places: &mut [u16],
 ) -> Result<Reading, Refusal>
-    requires text_len_bound { length symbols.now.text.now ≤ text_limit }
     requires pieces_value { (l : Layout) → parse symbols.now.text.now ≡ some l → misnamed (source_in l.pieces) ≡ false }
     ensures { (l : Layout) → parse symbols.now.text.now ≡ some l → record { answer = reply_of result; table = table.new; places = places.new } ≡ counted_of (source_in l.pieces) table.old places.old }
 {
@@ -80,7 +78,6 @@ fn read_named(
     table: &mut [u16],
     places: &mut [u16],
 ) -> Result<Reading, Refusal>
-    requires text_len_bound { length symbols.now.text.now ≤ text_limit }
     ensures { (l : Layout) → parse symbols.now.text.now ≡ some l → record { answer = reply_of result; table = table.new; places = places.new } ≡ named_of (source_in l.pieces) table.old places.old }
 {
     if is_misnamed(symbols) {

@@ -17,7 +17,7 @@ pub step-body-requires : goal.step-body-requires
 step-body-requires c =
     let i = c.loop-token.invariant in
     let R = read_in _ c.loop-token.token-iterator i.0 _ _ c.in-Some.ensures.steps in
-    record { inside = (R.leads.inside, c.requires.text_len_bound.0); grammar_len = (c.loop-token.auto.grammar ∙ c.requires.text_len_bound.1, i.1) }
+    record { inside = R.leads.inside; grammar_len = (c.loop-token.auto.grammar ∙ c.requires.grammar_len, i.1) }
 
 pub loop-token-preserved : goal.loop-token-preserved
 loop-token-preserved c =
@@ -31,4 +31,4 @@ loop-token-preserved c =
 pub returns : goal.returns
 returns c =
     let i = c.loop-token.invariant in
-    λ l p. turn_last (source_in l.pieces) _ _ _ _ _ (i.2 l p) (ends_in _ _ i.0 _ c.in-None.ensures.steps) (whole_of _ l p (c.requires.readable l p)) (c.loop-token.auto.grammar ∙ c.requires.text_len_bound.1)
+    λ l p. turn_last (source_in l.pieces) _ _ _ _ _ (i.2 l p) (ends_in _ _ i.0 _ c.in-None.ensures.steps) (whole_of _ l p (c.requires.readable l p)) (c.loop-token.auto.grammar ∙ c.requires.grammar_len)

@@ -4,19 +4,19 @@ use native.Mathlib.Omega.{arith}
 use Rattle.yacc_productions.proofs.step.Goals as goal
 
 pub left_number-requires : goal.left_number-requires
-left_number-requires c = c.requires.inside.0
+left_number-requires c = c.requires.inside
 
 pub symbol-read-requires : goal.symbol-read-requires
-symbol-read-requires c = c.requires.inside.0
+symbol-read-requires c = c.requires.inside
 
 pub add-requires : goal.add-requires
-add-requires c = let i = c.requires.inside.0 in
-    let l = c.requires.inside.1 in record { grammar_len = c.requires.grammar_len; past_bound = omega (arith, i, l) }
+add-requires c = let i = c.requires.inside in
+    let l = c.args.symbols.now.short in record { grammar_len = c.requires.grammar_len; past_bound = omega (arith, i, l) }
 
 pub close-requires : goal.close-requires
 close-requires c = let w = c.args.token.lexeme.wide in
-    let i = c.requires.inside.0 in
-    let l = c.requires.inside.1 in record { grammar_len = c.requires.grammar_len; at_bound = omega (arith, w, i, l) }
+    let i = c.requires.inside in
+    let l = c.args.symbols.now.short in record { grammar_len = c.requires.grammar_len; at_bound = omega (arith, w, i, l) }
 
 pub returns-in-Defines : goal.returns-in-Defines
 returns-in-Defines c = let B = c.requires.grammar_len.1 in rw (zero_body c.default.result c.default.ensures) (record { small = record { production = B.production; owner = c.left_number.ensures.0; symbols = omega arith; start = omega arith; end = omega arith }; turn = λ S H W m at n L e q T. turn_defines S _ _ _ m at T _ _ _ _ n L e q c.in-Defines.is _ (c.left_number.ensures.1 (define_word _ _ _ e c.in-Defines.is) _ _ H) })
