@@ -1,12 +1,10 @@
-use Prim.Native.Nat.{ℕ}
 use mathlib.Core.Path.{refl}
-use lib.ListN.{length-replicate}
 use Rattle.yacc_reader.proofs.Laws.{layout_of, readable, grammar_of, listed-room, listed_small, start_small, has_room, written}
 use native.Mathlib.Omega.{arith}
 use Rattle.yacc_reader.proofs.write_read.Goals as goal
 
 pub pack-productions-requires : goal.pack-productions-requires
-pack-productions-requires c = record { grammar_len = length-replicate {A = ℕ} 4608 0; readable = λ l p. readable _ _ _ (c.requires.passes l p) }
+pack-productions-requires c = record { readable = λ l p. readable _ _ _ (c.requires.passes l p) }
 
 pub write_started-requires : goal.write_started-requires
 write_started-requires c = let k = layout_of c.args.symbols.now.text.now c.args.symbols.now.grammar in record { grammar_of = (_, grammar_of c.args.symbols.now.text.now k.0 k.1 _ _ (c.requires.passes k.0 k.1) _ _ _ _ _ _ c.args.symbols.now.named _ _ (c.pack-productions.ensures k.0 k.1)); production_lt_production_limit = omega arith }
