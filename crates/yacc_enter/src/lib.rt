@@ -4,7 +4,7 @@
 
 ghost use Rattle.std.specs.Prelude.{true, ◌≡◌, List, [], ◌∷◌, ℕ, ◌+◌, ◌≤◌, ◌<◌, length, get_or};
 ghost use Rattle.repr.specs.Lists.{joined};
-ghost use Rattle.yacc_text.specs.Grammar.{byte_limit, quoted};
+ghost use Rattle.yacc_text.specs.Grammar.{byte_limit, text_limit, quoted};
 ghost use Rattle.yacc_tokens.specs.Accepted.{mode_of, is_grammar_text};
 ghost use Rattle.yacc_read.specs.Source.{Known, left_side, token_use};
 ghost use Rattle.yacc_said.specs.Said.{id_at, events_of};
@@ -72,6 +72,7 @@ pub struct SymbolTable<'a> {
     pub ghost kept: { Kept text.now starts.now pasts.now ix.now lefts.now tokens.now counts } by { Kept-prop text.now starts.now pasts.now ix.now lefts.now tokens.now counts },
     pub ghost named: { Named text.now starts.now pasts.now ix.now lefts.now tokens.now counts } by { Named-prop text.now starts.now pasts.now ix.now lefts.now tokens.now counts },
     pub ghost grammar: { is_grammar_text text.now ≡ true },
+    pub ghost short: { length text.now ≤ text_limit },
 }
 
 // The number that a word holds, if it holds one.
@@ -110,7 +111,7 @@ impl<'a> SymbolTable<'a> {
         }
     }
 
-    // The number of a name, as the names were entered.
+    // The number of a name, as the names were entered. (That a lexeme lies in the text is asked wherever it meets the table, here and in the crates above: one that held a text would still not say that it is the table's.)
     fn find(&self, lexeme: Lexeme) -> Option<usize>
         requires { lexeme.past ≤ length self.now.text.now }
         ensures { held result ≡ latest (is_name self.now.text.now self.now.starts.now self.now.pasts.now (slice lexeme.from lexeme.past self.now.text.now)) self.now.counts.names }

@@ -72,7 +72,7 @@ pub fn goes_on(b: u8) -> bool
     is_letter(b) || is_digit(b)
 }
 
-// The place behind the longest run of letters and digits from `at` on.
+// The place behind the longest run of letters and digits from `at` on. (Here and below a place is a number into the text beside it: a type that says it is inside would have to hold the text.)
 fn run_end(text: &[u8], at: usize) -> usize
     requires { at ≤ length text.now }
     ensures { result ≡ at + length (run_of (drop at text.now)) }
@@ -121,7 +121,7 @@ fn comment_end(text: &[u8], at: usize) -> Option<usize>
     None
 }
 
-// What begins with the `'` at `at`.
+// What begins with the `'` at `at`. (What it and the three below promise is of the text and the place too: a ghost field of `Piece` would need both in it.)
 fn literal_at(text: &[u8], at: usize) -> Piece
     requires { (at < length text.now) × (kind_of (get_or text.now at 0) ≡ quote) }
     ensures { Steps text.now at result }

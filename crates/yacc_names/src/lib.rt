@@ -1,5 +1,5 @@
 // The names of a yacc text in the order of their entering, each by the places of its first byte and behind its last; an index in buckets beside them, so that a name is looked for in one bucket alone (specs/Names).
-// Three lists of words side by side, and chains of numbers in one of them: there is no heap, and the words are those that a caller lends, for writing while it enters and for reading behind that.
+// Three lists of words side by side, and chains of numbers in one of them: there is no heap, and the words are those that a caller lends, for writing while it enters and for reading behind that. A name is two places here: `Lexeme` is of crate yacc_lex, which this one does not know.
 
 #![tactic(auto)]
 

@@ -6,7 +6,7 @@ ghost use Rattle.std.specs.Prelude.{◌≡◌, List, ◌+◌, ◌≤◌, ◌<◌
 ghost use Rattle.std.proofs.Math.Option.{some};
 ghost use Rattle.slices.specs.Lent.{in_front};
 ghost use Rattle.repr.specs.Lists.{joined};
-ghost use Rattle.yacc_text.specs.Grammar.{Layout, text_limit};
+ghost use Rattle.yacc_text.specs.Grammar.{Layout};
 ghost use Rattle.yacc_text.specs.Parse.{parse};
 ghost use Rattle.yacc_read.specs.Source.{Known, left_side, token_use};
 ghost use Rattle.yacc_read.specs.Meaning.{places_of, start_of};
@@ -69,7 +69,7 @@ fn write_place(places: &mut [u16], base: usize, n: usize, number: Option<u16>, f
 
 // The places of a text whose ids are entered: for each nonterminal by number the first byte of its first left side, then for each terminal by number that of the occurrence that numbered it.
 pub fn write_places(symbols: &SymbolTable, places: &mut [u16])
-    requires { (length symbols.now.text.now ≤ text_limit) × (symbols.now.counts.nonterminals + symbols.now.counts.terminals ≤ length places.old) }
+    requires { symbols.now.counts.nonterminals + symbols.now.counts.terminals ≤ length places.old }
     ensures { (l : Layout) → parse symbols.now.text.now ≡ some l → places.new ≡ in_front (places_of (source_in l.pieces)) places.old }
 {
     let base = symbols.counts.nonterminals;

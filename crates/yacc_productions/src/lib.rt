@@ -4,11 +4,10 @@
 
 ghost use Rattle.std.specs.Prelude.{true, ◌≡◌, List, ℕ, ◌+◌, ◌≤◌, ◌<◌, length};
 ghost use Rattle.std.proofs.Math.Option.{some};
-ghost use Rattle.repr.specs.Sizes.{grammar_room};
 ghost use Rattle.repr.specs.Symbols.{meant};
 ghost use Rattle.spelling.specs.Spelled.{kind_of, number_of};
 ghost use Rattle.grammar_records.specs.Target.{PackedAs};
-ghost use Rattle.yacc_text.specs.Grammar.{text_limit, Layout};
+ghost use Rattle.yacc_text.specs.Grammar.{Layout};
 ghost use Rattle.yacc_text.specs.Parse.{parse};
 ghost use Rattle.yacc_text.specs.Forward.{Mode as TextMode, move};
 ghost use Rattle.yacc_lex.specs.Steps.{token_at, Leads};
@@ -61,8 +60,13 @@ fn place_or(symbols: usize, at: usize, x: usize) -> usize
 
 impl Body {
     // Puts a symbol behind those of the body, if there is room.
-    fn add(self, grammar: &mut [u16], read: Symbol, lexeme: Lexeme) -> Body
-        requires grammar_len { (length grammar.old ≡ grammar_room) × Small self }
+    fn add(
+        self,
+        grammar: &mut [u16; ProductionIndex::ALL_WORDS],
+        read: Symbol,
+        lexeme: Lexeme,
+    ) -> Body
+        requires small { Small self }
         requires past_bound { lexeme.past < 65536 }
         ensures { Small result × Added grammar.old grammar.new self result (kind_of (meant read)) (number_of (meant read)) lexeme.from lexeme.past }
     {
@@ -84,8 +88,8 @@ impl Body {
     }
 
     // Closes the body: the words in front of its symbols.
-    fn close(self, grammar: &mut [u16], at: usize) -> Body
-        requires grammar_len { (length grammar.old ≡ grammar_room) × Small self }
+    fn close(self, grammar: &mut [u16; ProductionIndex::ALL_WORDS], at: usize) -> Body
+        requires small { Small self }
         requires at_bound { at < 65536 }
         ensures { Small result × Closed grammar.old grammar.new self result at }
     {
@@ -111,9 +115,14 @@ impl Body {
 }
 
 // What a word says is packed.
-fn step(symbols: &SymbolTable, grammar: &mut [u16], body: Body, token: Token) -> Body
-    requires inside { (token.lexeme.past ≤ length symbols.now.text.now) × (length symbols.now.text.now ≤ text_limit) }
-    requires grammar_len { (length grammar.old ≡ grammar_room) × Small body }
+fn step(
+    symbols: &SymbolTable,
+    grammar: &mut [u16; ProductionIndex::ALL_WORDS],
+    body: Body,
+    token: Token,
+) -> Body
+    requires inside { token.lexeme.past ≤ length symbols.now.text.now }
+    requires small { Small body }
     ensures small { Small result }
     ensures turn { (S : Source) → Holds symbols.now S.nonterminals S.terminals → Whole S → (mode : TextMode) (at : ℕ) (n : TextMode) → Leads symbols.now.text.now at token.lexeme.word token.lexeme.from token.lexeme.past → token.what ≡ said_in mode token.lexeme.word → n ≡ move mode (token_at symbols.now.text.now token.lexeme.word token.lexeme.from token.lexeme.past) → Turn S symbols.now.text.now grammar.old body mode at → Turn S symbols.now.text.now grammar.new result n token.lexeme.past }
 {
@@ -133,8 +142,7 @@ fn step(symbols: &SymbolTable, grammar: &mut [u16], body: Body, token: Token) ->
 }
 
 // The productions of a text whose ids are entered, packed; how many there are.
-pub fn pack(symbols: &SymbolTable, grammar: &mut [u16]) -> usize
-    requires text_len_bound { (length symbols.now.text.now ≤ text_limit) × (length grammar.old ≡ grammar_room) }
+pub fn pack(symbols: &SymbolTable, grammar: &mut [u16; ProductionIndex::ALL_WORDS]) -> usize
     requires readable { (l : Layout) → parse symbols.now.text.now ≡ some l → Readable (source_in l.pieces) }
     ensures { (l : Layout) → parse symbols.now.text.now ≡ some l → (result ≡ length (source_in l.pieces).alternatives) × PackedAs (table_of (source_in l.pieces)) grammar.new result }
 {

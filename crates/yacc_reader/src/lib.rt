@@ -34,7 +34,6 @@ fn write_read(
     table: &mut [u16],
     places: &mut [u16],
 ) -> Result<Reading, Refusal>
-    requires text_len_bound { length symbols.now.text.now ≤ text_limit }
     requires passes { (l : Layout) → parse symbols.now.text.now ≡ some l → Passes (source_in l.pieces) table.old places.old }
     ensures { (l : Layout) → parse symbols.now.text.now ≡ some l → record { answer = reply_of result; table = table.new; places = places.new } ≡ counted_of (source_in l.pieces) table.old places.old }
 {
@@ -57,13 +56,12 @@ fn write_read(
     })
 }
 
-// Reads a text that is named well, whose ids are entered: 2, 5 and 17.
+// Reads a text that is named well, whose ids are entered: 2, 5 and 17. (`check_counts` takes two numbers: crate yacc_limits knows no `Ids`, which is of yacc_enter.)
 fn read_counted(
     symbols: &SymbolTable,
     table: &mut [u16],
     places: &mut [u16],
 ) -> Result<Reading, Refusal>
-    requires text_len_bound { length symbols.now.text.now ≤ text_limit }
     requires pieces_value { (l : Layout) → parse symbols.now.text.now ≡ some l → misnamed (source_in l.pieces) ≡ false }
     ensures { (l : Layout) → parse symbols.now.text.now ≡ some l → record { answer = reply_of result; table = table.new; places = places.new } ≡ counted_of (source_in l.pieces) table.old places.old }
 {
@@ -80,7 +78,6 @@ fn read_named(
     table: &mut [u16],
     places: &mut [u16],
 ) -> Result<Reading, Refusal>
-    requires text_len_bound { length symbols.now.text.now ≤ text_limit }
     ensures { (l : Layout) → parse symbols.now.text.now ≡ some l → record { answer = reply_of result; table = table.new; places = places.new } ≡ named_of (source_in l.pieces) table.old places.old }
 {
     if is_misnamed(symbols) {
@@ -114,7 +111,7 @@ impl Room {
         }
     }
 
-    // The ids of a text of the grammar, entered.
+    // The ids of a text of the grammar, entered. (`read_yacc` and `misnamed_at` test what is asked of the text here and in the two functions that call this: a type for a tested text would serve these alone.)
     fn enter<'a>(&'a mut self, text: &'a [u8]) -> SymbolTable<'a>
         requires fresh { IsFresh self.old }
         requires text { (length text.now ≤ text_limit) × (is_grammar_text text.now ≡ true) }

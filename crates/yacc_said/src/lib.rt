@@ -10,7 +10,7 @@ ghost use Rattle.yacc_said.specs.Said.{id_said, end_said, said_in};
 use yacc_lex::{Lexeme, Next, Word, next_token};
 use yacc_tokens::{Mode, moved};
 
-// An id of a TOKEN list, the START id, a left side, an id of a body, the end of a body.
+// An id of a TOKEN list, the START id, a left side, an id of a body, the end of a body, or none of these: a case, since with an Option around it each `match` would have `Some` in every arm.
 #[derive(Clone, Copy)]
 pub enum Saying {
     Lists,
@@ -76,6 +76,7 @@ pub struct TokenIter<'a> {
 }
 
 impl<'a> TokenIter<'a> {
+    // From the front on. (That the text is the one given is said by what makes a value over a text, here and where ids are entered: a field's fact knows what the value holds, not what was given.)
     pub fn new(text: &'a [u8]) -> TokenIter<'a>
         requires { is_grammar_text text.now ≡ true }
         ensures text { result.text.now ≡ text.now }

@@ -219,7 +219,7 @@ fn step(stage: Stage, b: u8) -> Stage
     }
 }
 
-// The first byte that no text of the grammar can have there, or the text's length.
+// The first byte that no text of the grammar can have there, or the text's length. (No Option: `IsStray` says it of one number, whether or not a byte stands there.)
 pub fn stray(text: &[u8]) -> usize
     ensures { IsStray text.now result }
 {
@@ -248,8 +248,8 @@ fn passed(place: Place, b: u8) -> Place
         };
     }
     Place {
-        line: place.line,
         column: place.column + 1,
+        ..place
     }
 }
 

@@ -41,7 +41,7 @@ fn put_all(text: &mut [u8], at: usize, bytes: &[u8]) -> usize
     place
 }
 
-// A number of one or two digits: no name has a greater one.
+// A number of one or two digits: no name has a greater one. (Two digits need no buffer to be turned round in.)
 fn put_number(text: &mut [u8], at: usize, n: usize) -> usize
     requires { (at + 1 < place_limit) × (n < 100) }
     ensures { Wrote text.old at (numeral n) text.new result × (result ≤ at + 2) }

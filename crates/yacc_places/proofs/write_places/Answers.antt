@@ -19,7 +19,7 @@ write_place-n-requires c =
     let L = (read_in _ c.loop-token.token-iterator c.loop-token.invariant.0 _ _ c.in-Some.ensures.steps).leads in
     let w = L.wide in
     let i = L.inside in
-    let s = c.requires.0 in
+    let s = c.args.symbols.now.short in
     omega (arith, w, i, s)
 
 pub write_place-m-requires : goal.write_place-m-requires
@@ -27,7 +27,7 @@ write_place-m-requires c =
     let L = (read_in _ c.loop-token.token-iterator c.loop-token.invariant.0 _ _ c.in-Some.ensures.steps).leads in
     let w = L.wide in
     let i = L.inside in
-    let s = c.requires.0 in
+    let s = c.args.symbols.now.short in
     omega (arith, w, i, s)
 
 pub loop-token-preserved : goal.loop-token-preserved
@@ -41,7 +41,7 @@ loop-token-preserved c =
           let H = c.args.symbols.now.named.held l p in
           let a = H.nonterminals.numbers.count in
           let b = H.terminals.numbers.count in
-          let r = c.requires.1 in
+          let r = c.requires in
           rw R.at (placing-next _ _ _ _ _ _ _ _ _ (i.1 l p) a (let g = c.loop-token.auto.places in omega (arith, a, b, r, g)) _ _ _ _ _ R.leads e R.mode _ _ (c.left_said-left.ensures _ _ H) (c.token_said-right.ensures _ _ H) _ _ _ _ c.write_place-n.ensures.places_after c.write_place-n.ensures.value c.write_place-m.ensures.places_after c.write_place-m.ensures.value same),
     )
 
@@ -52,5 +52,5 @@ returns c =
     let H = c.args.symbols.now.named.held l p in
     let a = H.nonterminals.numbers.count in
     let b = H.terminals.numbers.count in
-    let r = c.requires.1 in
+    let r = c.requires in
     placing-last _ _ _ _ _ _ _ _ _ (i.1 l p) (ends_in _ _ i.0 _ c.in-None.ensures.steps) a c.loop-token.auto.places (omega (arith, a, b, r))

@@ -1,18 +1,16 @@
-use Prim.Native.Nat.{ℕ}
 use mathlib.Core.Path.{refl}
-use lib.ListN.{length-replicate}
 use Rattle.yacc_reader.proofs.Laws.{layout_of, readable, grammar_of, listed-room, listed_small, start_small, has_room, written}
 use native.Mathlib.Omega.{arith}
 use Rattle.yacc_reader.proofs.write_read.Goals as goal
 
 pub pack-productions-requires : goal.pack-productions-requires
-pack-productions-requires c = record { text_len_bound = (c.requires.text_len_bound, length-replicate {A = ℕ} 4608 0); readable = λ l p. readable _ _ _ (c.requires.passes l p) }
+pack-productions-requires c = record { readable = λ l p. readable _ _ _ (c.requires.passes l p) }
 
 pub write_started-requires : goal.write_started-requires
 write_started-requires c = let k = layout_of c.args.symbols.now.text.now c.args.symbols.now.grammar in record { grammar_of = (_, grammar_of c.args.symbols.now.text.now k.0 k.1 _ _ (c.requires.passes k.0 k.1) _ _ _ _ _ _ c.args.symbols.now.named _ _ (c.pack-productions.ensures k.0 k.1)); production_lt_production_limit = omega arith }
 
 pub write_places-requires : goal.write_places-requires
-write_places-requires c = let k = layout_of c.args.symbols.now.text.now c.args.symbols.now.grammar in (c.requires.text_len_bound, listed-room c.args.symbols.now.text.now k.0 k.1 _ _ (c.requires.passes k.0 k.1) _ _ _ _ _ _ c.args.symbols.now.named)
+write_places-requires c = let k = layout_of c.args.symbols.now.text.now c.args.symbols.now.grammar in listed-room c.args.symbols.now.text.now k.0 k.1 _ _ (c.requires.passes k.0 k.1) _ _ _ _ _ _ c.args.symbols.now.named
 
 pub overflow_add-listed : goal.overflow_add-listed
 overflow_add-listed c = let k = layout_of c.args.symbols.now.text.now c.args.symbols.now.grammar in let s = listed_small c.args.symbols.now.text.now k.0 k.1 _ _ (c.requires.passes k.0 k.1) _ _ _ _ _ _ c.args.symbols.now.named in omega (arith, s)

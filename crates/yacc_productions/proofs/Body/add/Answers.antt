@@ -1,5 +1,4 @@
 use mathlib.Core.Path.{refl}
-use lib.ListN.{length-set}
 use native.Mathlib.Omega.{arith}
 use Rattle.yacc_productions.proofs.Words.{kind_given, number_given}
 use Rattle.yacc_productions.proofs.Laws.{place_small, added_is}
@@ -8,7 +7,7 @@ use Rattle.yacc_productions.proofs.Body.add.Goals.{then-self-ge-LIMIT-via-then-s
 
 pub returns-then-self-ge-LIMIT : goal.returns-then-self-ge-LIMIT
 returns-then-self-ge-LIMIT c = (
-  c.requires.grammar_len.1,
+  c.requires.small,
   record {
     production = refl;
     owner = refl;
@@ -22,13 +21,10 @@ returns-then-self-ge-LIMIT c = (
 )
 
 pub bounds-grammar-at-2 : goal.bounds-grammar-at-2
-bounds-grammar-at-2 c = let l = c.requires.grammar_len.0 in
-    let h = c.if-self-ge-LIMIT.false in
-    let k = c.if-self-ge-SYMBOLS.false in
-    simp length-set (omega (arith, l, h, k))
+bounds-grammar-at-2 c = let h = c.if-self-ge-LIMIT.false in let k = c.if-self-ge-SYMBOLS.false in omega (arith, h, k)
 
 pub returns : goal.returns
-returns c = let B = c.requires.grammar_len.1 in
+returns c = let B = c.requires.small in
     let k = c.if-self-ge-SYMBOLS.false in
     let w = c.args.lexeme.wide in
     let l = c.requires.past_bound in (

@@ -4,16 +4,16 @@ use native.Mathlib.Omega.{arith}
 use Rattle.yacc_productions.proofs.Body.close.Goals as goal
 
 pub returns-then-self-ge-LIMIT : goal.returns-then-self-ge-LIMIT
-returns-then-self-ge-LIMIT c = let t = c.if-self-ge-LIMIT.true in (c.requires.grammar_len.1, record { is = λ h. absurd (omega (arith, h, t)) })
+returns-then-self-ge-LIMIT c = let t = c.if-self-ge-LIMIT.true in (c.requires.small, record { is = λ h. absurd (omega (arith, h, t)) })
 
 pub put-requires : goal.put-requires
-put-requires c = let B = c.requires.grammar_len.1 in
-    let l = c.requires.grammar_len.0 in
+put-requires c = let B = c.requires.small in
+    let l = c.told-grammar in
     let h = c.if-self-ge-LIMIT.false in
     let s = B.symbols in record { r_lt_record_limit = (omega (arith, h), omega (arith, h, l)); a_bound = (B.owner, (omega (arith, s), (rw c.place_or-start.ensures (place_small _ _ _ c.requires.at_bound B.start), rw c.place_or-end.ensures (place_small _ _ _ c.requires.at_bound B.end)))) }
 
 pub returns : goal.returns
-returns c = let B = c.requires.grammar_len.1 in
+returns c = let B = c.requires.small in
     let h = c.if-self-ge-LIMIT.false in rw (zero_body c.default.result c.default.ensures) (
       record { production = omega (arith, h); owner = B.owner; symbols = omega arith; start = omega arith; end = omega arith },
       record { is = λ k. (rw (c.place_or-start.ensures, c.place_or-end.ensures) at c.put.ensures, refl) },
