@@ -152,7 +152,7 @@ impl<'a> SymbolTable<'a> {
 }
 
 impl<'a> Words<'a> {
-    // The number of a name, entered unless it is there, and how many names there are then.
+    // The number of a name, entered unless it is there, and how many names there are then. (Asked at each step, here and below: `Ready` is room for one more name, which a step may take; `Within` is of a text that is lent beside the lexeme, as at `find`.)
     fn place(&mut self, text: &[u8], ids: Ids, lexeme: Lexeme) -> Placed
         requires ready { Ready text.now self.old ids }
         requires within { Within text.now lexeme.from lexeme.past }

@@ -8,6 +8,7 @@ ghost use Rattle.yacc_read.specs.Outcome.{counted_of};
 ghost use Rattle.yacc_limits.specs.Limited.{Meant, limited_of};
 
 use repr::{NonterminalString, ProductionIndex, Refusal, Symbol};
+use table::RECORD_WORDS;
 use yacc_count::Counts;
 
 // What refuses a text of n nonterminals and m terminals that is named well, by its counts and the room there is. A production's record stands behind those of the counts, the nonterminals and the one state.
@@ -31,7 +32,7 @@ pub fn check_counts(
         return Err(Refusal::TooLong((2 + n + first) as u16));
     }
     let records = 2 + n + counts.alternatives + counts.symbols;
-    if table.len() / 4 < records || places.len() < n + m {
+    if table.len() / RECORD_WORDS < records || places.len() < n + m {
         return Err(Refusal::NoRoom);
     }
     Ok(())
