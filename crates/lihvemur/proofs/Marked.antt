@@ -41,7 +41,7 @@ item p i = record { production = p; index = i }
 
 -- the edge from S to A by an item of A A
 abbrev by_item : ℕ → EdgeValue
-by_item i = record { source = record { kind = 0; number = 0; index = 0 }; target = record { kind = 0; number = 1; index = 0 }; production = 1; index = i }
+by_item i = record { source = record { kind = 0; number = 0; index = 0 }; target = record { kind = 0; number = 1; index = 0 }; label = record { production = 1; index = i } }
 
 -- the graphs: of A = (*) a in state 1; of A = (*) nothing in states 1 and 2, where the A behind it, or nothing, is nullable
 abbrev shift_c : List ℕ

@@ -220,7 +220,7 @@ pub fn lihvemur_add_edge(
     edges: &mut u16,
     place: &mut u16,
 ) -> u16
-    ensures { add_numbers result place.new edges.new graph.new ≡ edge_numbers edges.old (add_edge_of table.now (record { source = record { kind = source_kind; number = source; index = source_index }; target = record { kind = target_kind; number = target; index = target_index }; production = production; index = index }) graph.old) }
+    ensures { add_numbers result place.new edges.new graph.new ≡ edge_numbers edges.old (add_edge_of table.now (record { source = record { kind = source_kind; number = source; index = source_index }; target = record { kind = target_kind; number = target; index = target_index }; label = record { production = production; index = index } }) graph.old) }
 {
     let from = TraceGraphNode::of(source_kind, source, source_index);
     let to = TraceGraphNode::of(target_kind, target, target_index);

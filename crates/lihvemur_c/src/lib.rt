@@ -173,7 +173,7 @@ pub extern "C" fn lihvemur_add_edge(
     edges: &mut u16,
     place: &mut u16,
 ) -> u16
-    ensures { add_numbers result place.new edges.new graph.new ≡ edge_numbers edges.old (add_edge_of table.now (record { source = record { kind = source_kind; number = source; index = source_index }; target = record { kind = target_kind; number = target; index = target_index }; production = production; index = index }) graph.old) }
+    ensures { add_numbers result place.new edges.new graph.new ≡ edge_numbers edges.old (add_edge_of table.now (record { source = record { kind = source_kind; number = source; index = source_index }; target = record { kind = target_kind; number = target; index = target_index }; label = record { production = production; index = index } }) graph.old) }
 {
     lihvemur::lihvemur_add_edge(
         table,

@@ -171,5 +171,5 @@ module _ (v : EdgeValue) (graph : List ℕ) (T : Table) (n : ℕ) (ps : List Pro
 
 -- an edge between equal nodes
 pub edge_between : (t : List ℕ) {a a' b b' : NodeValue} (p i : ℕ) (graph : List ℕ) → a ≡ a' → b ≡ b'
-    → add_edge_of t (record { source = a; target = b; production = p; index = i }) graph ≡ add_edge_of t (record { source = a'; target = b'; production = p; index = i }) graph
-edge_between t p i graph e f = λ j. add_edge_of t (record { source = e j; target = f j; production = p; index = i }) graph
+    → add_edge_of t (record { source = a; target = b; label = record { production = p; index = i } }) graph ≡ add_edge_of t (record { source = a'; target = b'; label = record { production = p; index = i } }) graph
+edge_between t p i graph e f = λ j. add_edge_of t (record { source = e j; target = f j; label = record { production = p; index = i } }) graph

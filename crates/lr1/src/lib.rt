@@ -192,7 +192,7 @@ pub fn add_edge(
     index: u16,
     graph: &mut [u16],
 ) -> Result<u16, Refusal>
-    ensures { edge_outcome (reply_of result) graph.new ≡ add_edge_of table.now (record { source = node_value source; target = node_value target; production = production.0; index = index }) graph.old }
+    ensures { edge_outcome (reply_of result) graph.new ≡ add_edge_of table.now (record { source = node_value source; target = node_value target; label = record { production = production.0; index = index } }) graph.old }
 {
     let accepted = table_check::check(table)?;
     let edge = TraceEdge {
