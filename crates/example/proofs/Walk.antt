@@ -1,15 +1,13 @@
 -- One law for each way through the code of this crate (src/lib), label by label. Assumes nothing.
 use Rattle.std.proofs.Common.{◌≡◌, ℕ, zero, suc, ◌+◌, ◌-◌, ◌*◌, ◌<◌, ◌≤◌, Bool, true, false, ◌==◌, List, [], ◌∷◌, ◌++◌, map, length, take, drop, sym, refl, ap, ◌∙◌, append_assoc, append-nil, arith, drop_of_length-le}
 use mathlib.Core.Option.{Option, none, some}
-use Rattle.std.specs.List.{sum_by, range_with_len}
-use Rattle.std.proofs.lemmas.List.Sums.{sum_by-cons}
 use borrow.Author.Tests.{eqb-true, eqb-false}
 use Rattle.repr.specs.Sizes.{example_symbols, example_room}
 use Rattle.repr.specs.Lists.{joined}
 use Rattle.repr.specs.Meaning.{Symbol, Production}
 use Rattle.repr.specs.Packed.{productions_in, Packed}
 use Rattle.repr.proofs.Lists.{joined_nil, joined_append}
-use Rattle.lr1_core.specs.Items.{counts, held, counts_of}
+use Rattle.lr1_core.specs.Items.{no_sets, counts, held, counts_of}
 use Rattle.example.specs.Example.{Label, sets_of, symbol, epsilon, prefixes, suffixes, at_cursor, middle, symbols, symbol_words, example_words, cursor_of}
 use Rattle.example.specs.Labels.{labels_in, LabelsFit}
 use Rattle.example.specs.Written.{label_at, words_of, Part, around_words}
@@ -17,6 +15,11 @@ use Rattle.example.proofs.Sizes.{Short, prefixes-cons, suffixes-cons, around, le
 use Rattle.example.proofs.LabelList.{labels_step, labels_back, few_labels, short_in}
 use Rattle.example.proofs.Parts.{words_append, part_length, list_of, first_cursor}
 use Rattle.example.proofs.Reductions.{reductions-around, around-nil, around-cons}
+
+-- the counts of the empty sets
+pub none-counted : (a b c : ℕ) → counts a b c ≡ counts_of no_sets → (a ≡ 0) × (c ≡ 0)
+unfolding counts_of
+none-counted a b c e = (cc, cc)
 
 -- a list that is empty or is not, as the code asks
 pub not_empty : (ws : List ℕ) {r : Bool} → r ≡ (length ws == 0) → r ≡ false → 0 < length ws
@@ -44,28 +47,20 @@ module _ (g : List ℕ) (n : ℕ) (P : Packed g n) (ws : List ℕ) (F : LabelsFi
   words_1158 = example_words_few (productions_in g n) ws (short_in g n P) F
 
 module _ (ps : List Production) (ws : List ℕ) where
-  -- a label's share, and the sum of all from one on
+  -- a label's share
   pub prefix-step : (j : ℕ) → j < length (labels_in ws) → length (sets_of ps (label_at ws j)).prefix + length (prefixes ps (drop (j + 1) (labels_in ws))) ≡ length (prefixes ps (drop j (labels_in ws)))
   prefix-step j h = let b = prefixes-cons ps (label_at ws j) (drop (j + 1) (labels_in ws)) in rw (labels_step ws j h) (omega arith)
 
-  pub prefix_sum : (n j : ℕ) → j + n ≡ length (labels_in ws) → sum_by (λ k. length (sets_of ps (label_at ws k)).prefix) (range_with_len j n) ≡ length (prefixes ps (drop j (labels_in ws)))
+  pub prefix-none : (j : ℕ) → length (labels_in ws) ≤ j → length (prefixes ps (drop j (labels_in ws))) ≡ 0
   unfolding prefixes
-  prefix_sum zero j e = rw (drop_of_length-le (labels_in ws) {i = j} (omega arith))
-  prefix_sum (suc n) j e =
-      let more = prefix_sum n (j + 1) (omega arith) in
-      let step = prefix-step j (omega arith) in
-      sum_by-cons (λ k. length (sets_of ps (label_at ws k)).prefix) j (range_with_len (j + 1) n) ∙ omega (arith, more, step)
+  prefix-none j h = rw (drop_of_length-le (labels_in ws) {i = j} h)
 
   pub suffix-step : (j : ℕ) → j < length (labels_in ws) → length (sets_of ps (label_at ws j)).suffix + length (suffixes ps (drop (j + 1) (labels_in ws))) ≡ length (suffixes ps (drop j (labels_in ws)))
   suffix-step j h = let b = suffixes-cons ps (label_at ws j) (drop (j + 1) (labels_in ws)) in rw (labels_step ws j h) (omega arith)
 
-  pub suffix_sum : (n j : ℕ) → j + n ≡ length (labels_in ws) → sum_by (λ k. length (sets_of ps (label_at ws k)).suffix) (range_with_len j n) ≡ length (suffixes ps (drop j (labels_in ws)))
+  pub suffix-none : (j : ℕ) → length (labels_in ws) ≤ j → length (suffixes ps (drop j (labels_in ws))) ≡ 0
   unfolding suffixes
-  suffix_sum zero j e = rw (drop_of_length-le (labels_in ws) {i = j} (omega arith))
-  suffix_sum (suc n) j e =
-      let more = suffix_sum n (j + 1) (omega arith) in
-      let step = suffix-step j (omega arith) in
-      sum_by-cons (λ k. length (sets_of ps (label_at ws k)).suffix) j (range_with_len (j + 1) n) ∙ omega (arith, more, step)
+  suffix-none j h = rw (drop_of_length-le (labels_in ws) {i = j} h)
 
   -- what is left of them is no more than all
   pub prefix-left : (j : ℕ) → length (prefixes ps (drop j (labels_in ws))) ≤ length (prefixes ps (labels_in ws))

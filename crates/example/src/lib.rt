@@ -15,7 +15,7 @@ ghost use Rattle.example.specs.Written.{label_at, words_of, Part, put_at, around
 
 use first::{Answer, FirstSets};
 use lookahead::TokenSet;
-use lr1_core::Item;
+use lr1_core::{Item, SymbolSets};
 use repr::{Grammar, NonterminalString, ProductionIndex, Symbol, word};
 
 // An example in words: its limits.
@@ -152,22 +152,23 @@ impl<'a> Labels<'a> {
         self.suffix(label).len() / Example::SYMBOL_WORDS
     }
 
+    // How many symbols stand before the cursors of all labels, and after them; the walk's first entry has the empty sets.
+    fn totals(self) -> SymbolSets
+        ensures { (result.prefix ≡ length (prefixes (productions_in self.entry.grammar.words.now self.entry.grammar.productions) (labels_in self.entry.words.now))) × (result.suffix ≡ length (suffixes (productions_in self.entry.grammar.words.now self.entry.grammar.productions) (labels_in self.entry.words.now))) }
+    {
+        let mut total = SymbolSets::new();
+        for label in 0..self.count() {
+            total.prefix += self.prefix_length(label);
+            total.suffix += self.suffix_length(label);
+        }
+        total
+    }
+
     // How many symbols stand before the cursor place of the example.
     pub fn prefix_total(self) -> usize
         ensures { result ≡ length (prefixes (productions_in self.entry.grammar.words.now self.entry.grammar.productions) (labels_in self.entry.words.now)) }
     {
-        (0..self.count())
-            .map(|label| self.prefix_length(label))
-            .sum()
-    }
-
-    // How many stand after it.
-    fn suffix_total(self) -> usize
-        ensures { result ≡ length (suffixes (productions_in self.entry.grammar.words.now self.entry.grammar.productions) (labels_in self.entry.words.now)) }
-    {
-        (0..self.count())
-            .map(|label| self.suffix_length(label))
-            .sum()
+        self.totals().prefix
     }
 
     // How many places the cursor place has: one, or none after a prefix with nothing at the cursor (a number made of that yes or no would be no plainer).
@@ -187,7 +188,8 @@ impl<'a> Labels<'a> {
     pub fn symbol_count(self) -> usize
         ensures { (result ≡ length (symbols (productions_in self.entry.grammar.words.now self.entry.grammar.productions) (labels_in self.entry.words.now))) × (result ≤ example_symbols) }
     {
-        self.prefix_total() + self.middle_count() + self.suffix_total()
+        let totals = self.totals();
+        totals.prefix + self.middle_count() + totals.suffix
     }
 
     // Writes the prefixes, outermost first; returns the place after them.
@@ -241,8 +243,9 @@ impl<'a> Labels<'a> {
         requires labels_in_bounds { at + reduction_room * length (labels_in self.words.now) ≤ length buffer.old }
         ensures { buffer.new ≡ put_at at (around_words (productions_in self.entry.grammar.words.now self.entry.grammar.productions) places (labels_in self.entry.words.now)) buffer.old }
     {
-        let mut start = self.prefix_total();
-        let mut end = places - self.suffix_total();
+        let totals = self.totals();
+        let mut start = totals.prefix;
+        let mut end = places - totals.suffix;
         let mut place = at;
         for label in 0..self.count() {
             start -= self.prefix_length(label);

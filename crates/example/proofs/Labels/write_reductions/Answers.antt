@@ -10,15 +10,15 @@ use Rattle.example.proofs.Labels.write_reductions.Goals as goal
 pub overflow_sub-end : goal.overflow_sub-end
 overflow_sub-end c = let ps = productions_in c.args.self.grammar.words.now c.args.self.grammar.productions in
     let ws = c.args.self.words.now in
-    omega (arith, length_symbols ps (labels_in ws), c.suffix_total.ensures, c.requires.places_value.0)
+    omega (arith, length_symbols ps (labels_in ws), c.totals-totals.ensures.1, c.requires.places_value.0)
 
 pub loop-label-init : goal.loop-label-init
 loop-label-init c = let ps = productions_in c.args.self.grammar.words.now c.args.self.grammar.productions in
     let ws = c.args.self.words.now in
     let r = around-length ps c.args.places (labels_in ws) in (
       turn_start _ _ _ _ refl (omega (arith, r, c.requires.labels_in_bounds)),
-      c.prefix_total-start.ensures,
-      omega (arith, length_symbols ps (labels_in ws), c.suffix_total.ensures, c.requires.places_value.0),
+      c.totals-totals.ensures.0,
+      omega (arith, length_symbols ps (labels_in ws), c.totals-totals.ensures.1, c.requires.places_value.0),
       omega arith,
     )
 
