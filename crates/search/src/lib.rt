@@ -44,19 +44,20 @@ impl Searched {
 }
 
 // Writes the labels of a trial, three words each, by the places at which `Labels` reads them (a copy of an array is no plainer); answers how many words.
-fn write_labels(view: View, words: &[u16], room: &mut [u16; Example::ALL_LABEL_WORDS]) -> usize
+pub fn write_labels(view: View, words: &[u16], labels: &mut [u16]) -> usize
     requires tried { (ps : List Production) × ((es : List TraceEdge) × Tried ps es view.owners.now view.codes.now words.now) }
-    ensures upper_bound { (result ≤ labels_room) × ((ps : List Production) (es : List TraceEdge) → Tried ps es view.entry.owners.now view.entry.codes.now words.now → LabelsFit ps (take result room.new)) }
-    ensures labels_after { (ps : List Production) (es : List TraceEdge) → Tried ps es view.entry.owners.now view.entry.codes.now words.now → (p rest : List ℕ) → words.now ≡ trial_words p ++ rest → labels_in (take result room.new) ≡ labels_of ps es p }
+    requires labels_room_in_bounds { labels_room ≤ length labels.old }
+    ensures upper_bound { (result ≤ labels_room) × ((ps : List Production) (es : List TraceEdge) → Tried ps es view.entry.owners.now view.entry.codes.now words.now → LabelsFit ps (take result labels.new)) }
+    ensures labels_after { (ps : List Production) (es : List TraceEdge) → Tried ps es view.entry.owners.now view.entry.codes.now words.now → (p rest : List ℕ) → words.now ≡ trial_words p ++ rest → labels_in (take result labels.new) ≡ labels_of ps es p }
 {
     let count = word(words, 0);
     for at in 0..count {
         let edge = word(words, at + 1);
         let item = Item::at(word(view.codes, edge) % Item::LIMIT);
         let place = Example::LABEL_WORDS * at;
-        room[place] = view.owners[edge] as u16;
-        room[place + 1] = item.production as u16;
-        room[place + 2] = item.index as u16;
+        labels[place] = view.owners[edge] as u16;
+        labels[place + 1] = item.production as u16;
+        labels[place + 2] = item.index as u16;
     }
     Example::LABEL_WORDS * count
 }
