@@ -12,7 +12,7 @@ use Rattle.table.specs.Words.{Area, word_at, loose, loose_records, names}
 use Rattle.table.specs.Reached.{Reached, head, next, reached_by}
 use Rattle.table.proofs.Reached.{loose-named, reached, by_reached}
 use Rattle.repr.proofs.Lists.{cases, clash}
-use Rattle.table_check.specs.Passed.{Blank, Passed}
+use Rattle.table_check.specs.Passed.{Blank, Passed, Reaching}
 
 -- the test of the code is the rule
 pub tested : (t : List ℕ) (a : Area) (r x : ℕ) {b v : Bool} → a ≡ loose_records t → b ≡ names a r x → b ≡ v → names (loose_records t) r x ≡ v
@@ -114,3 +114,8 @@ marked {t} {first} {n} {k} {r} {ms} P =
     cases (bit_at ms r)
     (λ o. o ∙ sym (by_reached (P.sound r o)))
     (λ o. cases (reached_by t first n k r) (λ e. clash _ (whole P (omega arith) (reached r e)) o) (λ e. o ∙ sym e))
+
+-- the marks of the three sorts, where the next index of record r names none
+module _ {t : List ℕ} {r x : ℕ} {ss is es : List ℕ} (R : Reaching t r ss is es) (e : x ≡ word_at t r 0) where
+  pub reaching_no : names (loose_records t) r x ≡ false → Reaching t (r + 1) ss is es
+  reaching_no m = record { symbols = next_no R.symbols x e m; items = next_no R.items x e m; edges = next_no R.edges x e m }

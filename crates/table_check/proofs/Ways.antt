@@ -1,20 +1,22 @@
 -- The ways through the tests of one record, one law for each return. Assumes nothing.
 use mathlib.Core.Path.{◌≡◌, sym, ap, ◌∙◌}
-use mathlib.Core.Bool.{Bool, true, false}
+use mathlib.Core.Bool.{Bool, true, false, ◌||◌}
 use mathlib.Core.List.{List}
 use Prim.Native.Nat.{ℕ, ◌+◌, ◌-◌, min, ◌≤◌, ◌<◌}
 use native.Mathlib.Omega.{arith}
 use lib.ListN.{length, get_or}
+use lib.Dec.{eqb}
 use borrow.Author.Tests.{eq-eqb, ne_eqb, lt-ltb, le-ltb}
 use Rattle.repr.specs.Lists.{below, occurrences, joined}
-use Rattle.table.specs.Words.{Area, word_at, productions, production_area, loose_records, production_records, against}
+use Rattle.repr.proofs.Lists.{cases}
+use Rattle.table.specs.Words.{Area, word_at, productions, production_area, loose_records, production_records, names, against}
 use Rattle.table.specs.Decoded.{production_chain, symbol_chain}
 use Rattle.table_check.specs.Rows.{number_of_row}
 use Rattle.table_check.specs.declared.fault.Row.{Row}
 use Rattle.table_check.specs.declared.fault.Row.TheVariants.{Chain, Owner, TooLong, Symbol, Target, Spare}
 use Rattle.table_check.specs.Marks.{Held, Lengths}
 use Rattle.table_check.specs.Known.{AreasOf, area}
-use Rattle.table_check.specs.Faults.{choose, fault_of_production}
+use Rattle.table_check.specs.Faults.{choose, index_bad, fault_of_production, fault_of_loose}
 use Rattle.table_check.specs.declared.areas.Areas.{Areas}
 
 -- ---- an index that was read, by the areas
@@ -30,6 +32,24 @@ module _ (t : List ℕ) (a : Areas) (A : AreasOf t a) where
 -- an index against the rule of an area
 pub ruled : (a b : Area) (r x : ℕ) {v w : Bool} → a ≡ b → v ≡ against a r x → v ≡ w → against b r x ≡ w
 ruled a b r x e h k = rw (← e, ← h) k
+
+-- ---- the next index of a loose record, as it was read
+module _ (t : List ℕ) (r x : ℕ) (e : x ≡ word_at t r 0) (s i d : Bool) where
+  pub next_named : names (loose_records t) r x ≡ true → index_bad t r s i d ≡ false
+  unfolding index_bad against
+  next_named m = rw (← e, m) (cases (s || (i || d)) (λ a. rw a (cases (eqb x 0) (λ b. rw b) (λ b. rw b))) (λ a. rw a))
+
+  pub next_end : x ≡ 0 → index_bad t r s i d ≡ false
+  unfolding index_bad against
+  next_end h = rw (← e, h) (cases (s || (i || d)) (λ a. rw a) (λ a. rw a))
+
+  pub next_unasked : (s || (i || d)) ≡ false → index_bad t r s i d ≡ false
+  unfolding index_bad
+  next_unasked a = rw a
+
+  pub next_bad : names (loose_records t) r x ≡ false → (x ≡ 0 → ⊥) → (s || (i || d)) ≡ true → 3 ≡ fault_of_loose t r s i d
+  unfolding fault_of_loose choose index_bad against
+  next_bad m h a = rw (← e, m, ne_eqb x 0 h, a)
 
 -- ---- a production, with how often it is held and how long it is
 held-once : (n : ℕ) → min 2 n ≡ 1 → n ≡ 1

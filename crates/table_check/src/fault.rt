@@ -1,7 +1,7 @@
 // The lowest of rows 3 to 8 against which one record offends, by what the record is.
-ghost use Rattle.std.specs.Prelude.{Bool, ◌≡◌, ℕ, ◌<◌, ◌≤◌};
+ghost use Rattle.std.specs.Prelude.{Bool, false, ◌≡◌, ℕ, ◌<◌, ◌≤◌};
 ghost use Rattle.table_check.specs.Rows.{number_of_fault};
-ghost use Rattle.table_check.specs.Faults.{fault_at, fault_of_nonterminal, fault_of_state, fault_of_production, fault_of_loose};
+ghost use Rattle.table_check.specs.Faults.{fault_at, index_bad, fault_of_nonterminal, fault_of_state, fault_of_production, fault_of_loose};
 
 use crate::areas::Record;
 use crate::loose::Roles;
@@ -67,14 +67,12 @@ impl<'a> Record<'a> {
         None
     }
 
-    // Rows 3, 6, 7 and 8, by what the record is reached as; reached as nothing, it offends against none.
+    // Rows 6, 7 and 8, by what the record is reached as, where its next index is not against row 3; reached as nothing, it offends against none.
     #[tactic(auto, unfolding(crate::specs::Faults::fault_of_loose, crate::specs::Faults::choose))]
     pub fn loose_fault(self, roles: Roles) -> Option<Row>
+        requires { index_bad self.g.s.words.now self.r roles.symbol roles.item roles.edge ≡ false }
         ensures { number_of_fault result ≡ fault_of_loose self.entry.g.s.words.now self.entry.r roles.symbol roles.item roles.edge }
     {
-        if self.index_fault(roles) {
-            return Some(Row::Chain);
-        }
         if self.symbol_fault(roles) {
             return Some(Row::Symbol);
         }

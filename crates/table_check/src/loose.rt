@@ -1,6 +1,6 @@
-// Rows 3, 6, 7 and 8 of a loose record, by what it is reached as.
+// Rows 6, 7 and 8 of a loose record, by what it is reached as.
 ghost use Rattle.std.specs.Prelude.{Bool, ◌&&◌, ◌||◌, ◌≡◌, ℕ, ◌<◌};
-ghost use Rattle.table_check.specs.Faults.{index_bad, symbol_bad, item_bad, range_bad, spare_bad};
+ghost use Rattle.table_check.specs.Faults.{symbol_bad, item_bad, range_bad, spare_bad};
 
 use crate::areas::Record;
 use repr::symbol_fits;
@@ -23,14 +23,6 @@ impl Roles {
 }
 
 impl<'a> Record<'a> {
-    // Row 3: the next index.
-    #[tactic(auto, unfolding(crate::specs::Faults::index_bad))]
-    pub fn index_fault(self, roles: Roles) -> bool
-        ensures { result ≡ index_bad self.entry.g.s.words.now self.entry.r roles.symbol roles.item roles.edge }
-    {
-        roles.any() && self.against(self.g.s.loose(), 0)
-    }
-
     // Row 6: a symbol or an edge.
     #[tactic(auto, unfolding(crate::specs::Faults::symbol_bad))]
     pub fn symbol_fault(self, roles: Roles) -> bool

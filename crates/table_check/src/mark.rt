@@ -77,6 +77,39 @@ impl<const N: usize> Marks<N> {
         marks
     }
 
+    // What record r is marked as.
+    pub(crate) fn roles(&self, r: usize) -> Roles
+        requires { r < N * 64 }
+        ensures symbol { result.symbol ≡ bit_at self.now.symbols r }
+        ensures item { result.item ≡ bit_at self.now.items r }
+        ensures edge { result.edge ≡ bit_at self.now.edges r }
+    {
+        Roles {
+            symbol: is_set(&self.symbols, r),
+            item: is_set(&self.items, r),
+            edge: is_set(&self.edges, r),
+        }
+    }
+
+    // What record r is marked as; record x, its next by the rule, is marked so too.
+    pub(crate) fn pass_to(&mut self, r: usize, x: usize) -> Roles
+        requires { (r < N * 64) × (x < N * 64) }
+        ensures symbol { result.symbol ≡ bit_at self.old.symbols r }
+        ensures item { result.item ≡ bit_at self.old.items r }
+        ensures edge { result.edge ≡ bit_at self.old.edges r }
+        ensures reaching { (t : List ℕ)
+            → x ≡ word_at t r 0
+            → names (loose_records t) r x ≡ true
+            → Reaching t r self.old.symbols self.old.items self.old.edges
+            → Reaching t (r + 1) self.new.symbols self.new.items self.new.edges }
+    {
+        Roles {
+            symbol: mark_next(&mut self.symbols, r, x),
+            item: mark_next(&mut self.items, r, x),
+            edge: mark_next(&mut self.edges, r, x),
+        }
+    }
+
     // What record r is marked as; its next, if it is by the rule, is marked so too.
     pub fn pass(&mut self, s: Surveyed, r: usize) -> Roles
         requires inside { r < s.areas.records }
@@ -88,16 +121,9 @@ impl<const N: usize> Marks<N> {
     {
         let x = word(s.words, r, 0);
         if s.loose().names(r, x) {
-            return Roles {
-                symbol: mark_next(&mut self.symbols, r, x),
-                item: mark_next(&mut self.items, r, x),
-                edge: mark_next(&mut self.edges, r, x),
-            };
-        }
-        Roles {
-            symbol: is_set(&self.symbols, r),
-            item: is_set(&self.items, r),
-            edge: is_set(&self.edges, r),
+            self.pass_to(r, x)
+        } else {
+            self.roles(r)
         }
     }
 }
