@@ -48,6 +48,16 @@ impl Item {
     // Words of 64 flags, one flag for each of them.
     pub const FLAG_WORDS: usize = Item::LIMIT / 64;
 
+    // The item of a production's number and an index.
+    pub fn of(production: ProductionIndex, index: u16) -> Item
+        ensures { (result.production ≡ production.0) × (result.index ≡ index) }
+    {
+        Item {
+            production: production.0 as usize,
+            index: index as usize,
+        }
+    }
+
     // Its place among all items: those of each production one behind the other.
     pub fn place(self) -> usize
         requires { (self.production < production_limit) × (self.index < index_limit) }
