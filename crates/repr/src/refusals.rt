@@ -3,6 +3,8 @@
 ghost use Rattle.std.specs.Prelude.{◌≡◌};
 ghost use Rattle.repr.specs.Reply.{number_of, place_of};
 
+use std::fmt;
+
 // A refusal, with its place where it has one: a record of the table, the number of a production. The order of the cases is that of their numbers.
 #[derive(Clone, Copy, PartialEq, Eq, PartialOrd, Ord)]
 pub enum Refusal {
@@ -75,5 +77,18 @@ impl Refusal {
             | Refusal::Spare(record) => record,
             _ => 0,
         }
+    }
+}
+
+// Its number and its place, as the programs say them.
+impl fmt::Display for Refusal {
+    ghost use Rattle.std.specs.Prelude.{Some, ◌++◌, ◌∷◌};
+    ghost use Rattle.std.specs.Fmt.{decimal};
+    ghost use Rattle.repr.specs.Reply.{number_of, place_of};
+
+    ghost output = { λ refusal. Some (decimal (number_of refusal) ++ (32 ∷ decimal (place_of refusal))) };
+
+    fn fmt<W: fmt::Write>(&self, f: &mut fmt::Formatter<W>) -> fmt::Result {
+        write!(f, "{} {}", self.number(), self.place())
     }
 }
