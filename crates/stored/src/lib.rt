@@ -11,7 +11,7 @@ ghost use Rattle.stored.specs.Stored.{entry_at, entries, entry_words, put_entry,
 use lr1_core::Item;
 use repr::{Grammar, Symbol, word};
 
-// An item by its place (`Item::place`), with its tokens.
+// An item by its place (`Item::place`), with its tokens. They are a bare word, as a state flat is a list of numbers in specs/States of build: a `TokenSet` is made of one where its tokens are asked.
 #[derive(Clone, Copy, PartialEq)]
 pub struct StoredItem {
     pub place: usize,
@@ -25,7 +25,7 @@ impl StoredItem {
     // What a word can hold.
     const BASE: u64 = 65536;
 
-    // The item of its words.
+    // The item of its words. No `From` for it and its words: both ask for room, which `from` cannot.
     pub fn of(words: &[u16]) -> StoredItem
         requires { 5 ≤ length words.now }
         ensures { (record { place = result.place; set = result.set } ≡ entry_at words.now 0) × (result.set < 2 ^ 64) }
@@ -96,6 +96,15 @@ impl Kernel {
             many: 0,
         }
     }
+
+    // One item behind the others.
+    pub fn push(&mut self, item: StoredItem)
+        requires { (self.old.many < item_limit) × (item.place < 65536) }
+        ensures { (self.new.words ≡ put_entry self.old.words self.old.many item.place item.set) × (self.new.many ≡ self.old.many + 1) }
+    {
+        write_item(&mut self.words, self.many, item);
+        self.many += 1;
+    }
 }
 
 // One item, moved over the symbol and put behind the kernel's, if its cursor stands there.
@@ -105,13 +114,10 @@ fn move_one(grammar: Grammar, read: StoredItem, symbol: Symbol, kernel: &mut Ker
     ensures { Appended grammar.entry.words.now (meant symbol) read.place read.set kernel.old.words kernel.new.words kernel.old.many kernel.new.many }
 {
     if Item::at(read.place).cursor(grammar) == Some(symbol) {
-        let next = StoredItem {
+        kernel.push(StoredItem {
             place: read.place + 1,
             set: read.set,
-        };
-        let many = kernel.many;
-        write_item(&mut kernel.words, many, next);
-        kernel.many = many + 1;
+        });
     }
 }
 
