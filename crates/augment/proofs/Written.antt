@@ -71,6 +71,14 @@ module _ (U : Table) (n t s p : ℕ) (grammar : List ℕ) (G : GrammarOf U n t s
         few = few_records U G.alone G.counts.fits;
       }
 
+  -- behind the productions, where they begin at record f
+  module _ (f : ℕ) (e : f ≡ 1 + n + s) where
+    pub counted_from : (c : ℕ) → f + p + c ≡ 2 + n + p + c
+    counted_from c = let o = ap length G.alone in omega (arith, G.counts.states)
+
+    pub behind_productions : f + p ≡ symbols_at U
+    behind_productions = let o = ap length G.alone in omega (arith, G.counts.states, extent.symbols)
+
   module _ (c r : ℕ) (ec : c ≡ size_of (map (λ (k : Production). k.symbols) (productions_in grammar p))) (er : r ≡ 2 + n + p + c) where
     pub counted : r ≡ records_of U
     counted =

@@ -64,21 +64,19 @@ fn write_table(found: FoundStates, out: &mut [u16])
     let sizes = source.sizes;
     let begins = found.begins;
     let edges = found.edges;
-    let nonterminals = sizes.nonterminals;
-    let productions = grammar.productions;
     let states = begins.states;
     let counts = Counts {
-        nonterminals,
+        nonterminals: sizes.nonterminals,
         terminals: source.sets.terminals as usize,
         states,
-        productions,
+        productions: grammar.productions,
     };
     let items = sizes.fixed + states;
     let ends = items + begins.items[states];
     write_front(grammar, counts, out);
-    write_states(begins, edges, 1 + nonterminals, items, ends, out);
+    write_states(begins, edges, counts.states_at(), items, ends, out);
     write_productions(grammar, counts, out);
-    write_symbols(grammar, 1 + nonterminals + states + productions, out);
+    write_symbols(grammar, counts.loose_at(), out);
     write_items(found.words, begins, items, out);
     write_edges(edges, states, ends, out);
 }
@@ -157,13 +155,13 @@ fn build_in(
     if scratch.len() < Built::SCRATCH {
         return Err(Refusal::TooShort);
     }
-    if start_fits(table, start) {
-        let answer = build_found(table, start, &mut scratch[..Built::SCRATCH], out, conflicts);
-        zero(scratch, Built::SCRATCH);
-        return answer;
-    }
+    let answer = if start_fits(table, start) {
+        build_found(table, start, &mut scratch[..Built::SCRATCH], out, conflicts)
+    } else {
+        Err(Refusal::NoGrammar)
+    };
     zero(scratch, Built::SCRATCH);
-    Err(Refusal::NoGrammar)
+    answer
 }
 
 // The states of a grammar: its table with them at the front of `out`, its conflicts at the front of `conflicts`, five words each. Refusals 1 to 8, 11, 18, then 16 or 17 as states are found.

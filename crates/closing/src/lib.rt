@@ -1,5 +1,6 @@
 // Closing a set of items (`transitive_closure` of lr1/build). A state's sets stand flat, item [production, index] at 17 * production + index
 // (specs/States of build), and that it does (`Flat`) is asked of it where it is read whole: a struct around the one array would be opened at each use. Beside them one set for each nonterminal, the lookaheads of its index-0 items.
+// Each set there is a bare word, as the definitions speak of lists of numbers: a `TokenSet` is made of it where it is read.
 
 #![tactic(auto)]
 

@@ -20,16 +20,16 @@ use lookahead::TokenSet;
 use lr1_core::Item;
 use repr::{Grammar, ProductionIndex, Symbol};
 
-// Of one production.
-fn reduction(grammar: Grammar, state: &[u64; Item::LIMIT], production: usize) -> u64
+// Of one production. Of which table the grammar is, and that the state stands flat, is said at each call, here and in conflict_words: the first chooses the table, and a ghost field's fact has one proof; of the second crate closing says why.
+fn reduction(grammar: Grammar, state: &[u64; Item::LIMIT], production: usize) -> TokenSet
     requires { production < grammar.productions }
-    ensures { (T : Table) (terminals : ℕ) (sets : List ℕ) → OfTable T grammar.entry.words.now grammar.entry.productions terminals sets → result ≡ reduces T (take (index_limit * grammar.entry.productions) state.now) production }
+    ensures { (T : Table) (terminals : ℕ) (sets : List ℕ) → OfTable T grammar.entry.words.now grammar.entry.productions terminals sets → result.0 ≡ reduces T (take (index_limit * grammar.entry.productions) state.now) production }
 {
     let item = Item {
         production,
         index: grammar.length(production),
     };
-    state[item.place()]
+    TokenSet(state[item.place()])
 }
 
 // Of all.
@@ -38,17 +38,17 @@ fn reductions(grammar: Grammar, state: &[u64; Item::LIMIT]) -> [u64; ProductionI
 {
     let mut map = [0u64; ProductionIndex::LIMIT];
     for production in 0..grammar.productions {
-        map[production] = reduction(grammar, state, production);
+        map[production] = reduction(grammar, state, production).0;
     }
     map
 }
 
 // The terminal at the cursor of one item, if it has a token, put into the set.
-fn shift_one(grammar: Grammar, place: usize, tokens: u64, set: TokenSet) -> TokenSet
+fn shift_one(grammar: Grammar, place: usize, tokens: TokenSet, set: TokenSet) -> TokenSet
     requires { place < index_limit * grammar.productions }
-    ensures { (t : ℕ) → has result.0 t ≡ has set.0 t || (nat_lt t 63 && shifts_at grammar.entry.words.now tokens place t) }
+    ensures { (t : ℕ) → has result.0 t ≡ has set.0 t || (nat_lt t 63 && shifts_at grammar.entry.words.now tokens.0 place t) }
 {
-    if tokens == 0 {
+    if tokens.0 == 0 {
         return set;
     }
     match Item::at(place).cursor(grammar) {
@@ -66,12 +66,13 @@ fn shift_set(grammar: Grammar, state: &[u64; Item::LIMIT]) -> TokenSet
     let places = ProductionIndex::INDEXES * grammar.productions;
     let mut set = TokenSet::new();
     for (place, &tokens) in state[..places].iter().enumerate() {
-        set = shift_one(grammar, place, tokens, set);
+        set = shift_one(grammar, place, TokenSet(tokens), set);
     }
     set
 }
 
-// What a state does by token: the tokens that each production's complete item reduces with, the terminals that are shifted. Which production is asked is a number, as `Grammar` says of its own.
+// What a state does by token: the tokens that each production's complete item reduces with, as specs/Reductions lists them, the terminals that are shifted. Which production is asked is a number, as `Grammar` says of its own.
+// Room for every production that a table may have, and how many it has: there is no heap.
 #[derive(Clone, Copy)]
 pub struct Actions {
     pub reductions: [u64; ProductionIndex::LIMIT],

@@ -10,7 +10,6 @@ ghost use Rattle.measuring.specs.Complete.{Collection};
 ghost use Rattle.conflict_list.specs.Listed.{state_words};
 
 use conflict_words::write_state;
-use kept_states::unpack;
 use measuring::FoundStates;
 
 // Those of state k from a place on; the place behind them.
@@ -19,9 +18,7 @@ fn write_at(found: FoundStates, k: usize, list: &mut [u16], at: usize) -> usize
     requires k_lt_states { k < found.begins.now.states }
     ensures { (s : Collection found.entry) → (list.new ≡ put_at at (state_words s.T s.Rs k) list.old) × (result ≡ at + length (state_words s.T s.Rs k)) }
 {
-    let begins = found.begins;
-    let state = unpack(found.words, begins.items[k], begins.items[k + 1]);
-    write_state(found.source.grammar, &state, k, list, at)
+    write_state(found.source.grammar, &found.state(k), k, list, at)
 }
 
 // All, at the front of the list.

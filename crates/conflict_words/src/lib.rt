@@ -73,17 +73,17 @@ fn write_pairs(
     list: &mut [u16],
     at: usize,
     actions: &Actions,
-    state: usize,
+    state: u16,
     production: usize,
 ) -> usize
-    requires production_lt_productions { (production < actions.now.productions) × (state < state_limit) }
+    requires production_lt_productions { production < actions.now.productions }
     requires production_in_bounds { at + length (joined (clash_words state) (pairs_in actions.now.reductions production (up_from (production + 1) (actions.now.productions - (production + 1))))) ≤ length list.old }
     ensures { (list.new ≡ put_at at (joined (clash_words state) (pairs_in actions.now.reductions production (up_from (production + 1) (actions.now.productions - (production + 1))))) list.old) × (result ≡ at + length (joined (clash_words state) (pairs_in actions.now.reductions production (up_from (production + 1) (actions.now.productions - (production + 1)))))) }
 {
     let mut place = at;
     for other in production + 1..actions.productions {
         let pair = Pair {
-            state: state as u16,
+            state,
             production: production as u16,
             action: Action::Reduce(other as u16),
         };
@@ -97,15 +97,15 @@ fn write_production(
     list: &mut [u16],
     at: usize,
     actions: &Actions,
-    state: usize,
+    state: u16,
     production: usize,
 ) -> usize
-    requires production_lt_productions { (production < actions.now.productions) × (state < state_limit) }
+    requires production_lt_productions { production < actions.now.productions }
     requires production_in_bounds { at + length (joined (clash_words state) (clashes_in actions.now.reductions actions.now.shifts.0 actions.now.productions production)) ≤ length list.old }
     ensures { (list.new ≡ put_at at (joined (clash_words state) (clashes_in actions.now.reductions actions.now.shifts.0 actions.now.productions production)) list.old) × (result ≡ at + length (joined (clash_words state) (clashes_in actions.now.reductions actions.now.shifts.0 actions.now.productions production))) }
 {
     let pair = Pair {
-        state: state as u16,
+        state,
         production: production as u16,
         action: Action::Shift,
     };
@@ -114,9 +114,8 @@ fn write_production(
 }
 
 // All of the state's productions.
-fn write_actions(list: &mut [u16], at: usize, actions: &Actions, state: usize) -> usize
-    requires state_lt_state_limit { state < state_limit }
-    requires productions_in_bounds { at + length (joined (clash_words state) (joined (clashes_in actions.now.reductions actions.now.shifts.0 actions.now.productions) (below actions.now.productions))) ≤ length list.old }
+fn write_actions(list: &mut [u16], at: usize, actions: &Actions, state: u16) -> usize
+    requires { at + length (joined (clash_words state) (joined (clashes_in actions.now.reductions actions.now.shifts.0 actions.now.productions) (below actions.now.productions))) ≤ length list.old }
     ensures { (list.new ≡ put_at at (joined (clash_words state) (joined (clashes_in actions.now.reductions actions.now.shifts.0 actions.now.productions) (below actions.now.productions))) list.old) × (result ≡ at + length (joined (clash_words state) (joined (clashes_in actions.now.reductions actions.now.shifts.0 actions.now.productions) (below actions.now.productions)))) }
 {
     let mut place = at;
@@ -139,5 +138,5 @@ pub fn write_state(
     ensures { (T : Table) (terminals : ℕ) (sets : List ℕ) → OfTable T grammar.entry.words.now grammar.entry.productions terminals sets → (list.new ≡ put_at at (joined (clash_words number) (clashes T (take (index_limit * grammar.entry.productions) state.now))) list.old) × (result ≡ at + length (joined (clash_words number) (clashes T (take (index_limit * grammar.entry.productions) state.now)))) }
 {
     let actions = Actions::new(grammar, state);
-    write_actions(list, at, &actions, number)
+    write_actions(list, at, &actions, number as u16)
 }

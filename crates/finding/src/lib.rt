@@ -69,14 +69,14 @@ pub fn append(
     ensures { let stored = Stored (source.entry.sizes.fixed + begins.old.states + 1) source.entry.sizes.limit (packed (take (index_limit * source.entry.grammar.productions) state.now)) words.old words.new begins.old.items begins.new.items begins.old.states in MatchResult result (λ u. stored true × (begins.new.states ≡ begins.old.states + 1)) (λ h. (h ≡ Halt.Records) × stored false) }
 {
     let sizes = source.sizes;
-    let places = ProductionIndex::INDEXES * source.grammar.productions;
+    let items = &state[..ProductionIndex::INDEXES * source.grammar.productions];
     let states = begins.states;
     let begin = begins.items[states];
-    let past = begin + count_items(state, places);
+    let past = begin + count_items(items);
     if sizes.limit < sizes.fixed + states + 1 + past {
         return Err(Halt::Records);
     }
-    begins.items[states + 1] = pack(state, places, words, begin);
+    begins.items[states + 1] = pack(items, words, begin);
     begins.states = states + 1;
     Ok(())
 }
@@ -92,7 +92,7 @@ pub fn close(source: Source, kernel: &Kernel) -> [u64; Item::LIMIT]
     state
 }
 
-// A kernel that no state has, closed and stored: the new state's number, answered as `goto_over` answers it.
+// A kernel that no state has, closed and stored: the new state's number, answered as `goto_over` answers it, since `Reached` says of both what is left: a number alone would need a second definition.
 fn store(
     source: Source,
     words: &mut [u16],
@@ -125,8 +125,7 @@ pub fn goto_over(
     requires k_lt_states { (k < begins.old.states) × IsOneOf source.sizes.nonterminals source.sets.now.terminals (meant symbol) }
     ensures { (s : Search source.entry words.old begins.old.items begins.old.states) → Reached s.T s.start s.Rs (goto_to s.T s.room (slice_index_or s.Rs k []) s.Rs (meant symbol)) words.new begins.new.items begins.new.states result }
 {
-    let begin = begins.items[k];
-    let past = begins.items[k + 1];
+    let (begin, past) = begins.span(k);
     move_over(source.grammar, words, begin, past, symbol, kernel);
     if kernel.many == 0 {
         return Ok(None);

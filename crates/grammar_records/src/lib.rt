@@ -45,18 +45,13 @@ pub fn write_front(grammar: Grammar, counts: Counts, out: &mut [u16])
     requires { (U : Table) × (Target U counts.nonterminals counts.terminals counts.states out.old × PackedAs U grammar.words.now grammar.productions) }
     ensures { (U : Table) → Target U counts.nonterminals counts.terminals counts.states out.old → PackedAs U grammar.entry.words.now grammar.entry.productions → Grown U out.old out.new 0 (states_at U) }
 {
-    let nonterminals = counts.nonterminals;
-    let productions = grammar.productions;
-    let at = 1 + nonterminals + counts.states;
-    put(
-        out,
-        0,
-        nonterminals,
-        counts.terminals,
-        counts.states,
-        productions,
-    );
-    for n in 0..nonterminals {
+    let at = counts.productions_at();
+    let all = Counts {
+        productions: grammar.productions,
+        ..counts
+    };
+    all.put(out);
+    for n in 0..counts.nonterminals {
         let head = next_record(grammar, n, 0, at);
         put(out, 1 + n, head, 0, 0, 0);
     }
@@ -67,10 +62,10 @@ pub fn write_productions(grammar: Grammar, counts: Counts, out: &mut [u16])
     requires { (U : Table) × (Target U counts.nonterminals counts.terminals counts.states out.old × PackedAs U grammar.words.now grammar.productions) }
     ensures { (U : Table) → Target U counts.nonterminals counts.terminals counts.states out.old → PackedAs U grammar.entry.words.now grammar.entry.productions → Grown U out.old out.new (productions_at U) (symbols_at U) }
 {
-    let productions = grammar.productions;
-    let at = 1 + counts.nonterminals + counts.states;
-    let mut y = at + productions;
-    for p in 0..productions {
+    let at = counts.productions_at();
+    // Where the next production's symbols begin.
+    let mut y = at + grammar.productions;
+    for p in 0..grammar.productions {
         let owner = grammar.owner(p);
         let many = grammar.length(p);
         let (start, end) = grammar.span(p);
@@ -81,7 +76,8 @@ pub fn write_productions(grammar: Grammar, counts: Counts, out: &mut [u16])
     }
 }
 
-// The symbols of one production, from a record on; the record behind them.
+// The symbols of one production, from a record on; the record behind them. Here and twice in crate state_records a chain is written by a loop over `next_of`:
+// one over all would take each record's words from a closure, whose clauses are longer than the loop.
 fn write_chain(symbols: &[u16], begin: usize, out: &mut [u16]) -> usize
     requires symbols_value { list_is_fit nonterminal_limit terminal_limit symbols.now ≡ true }
     requires stands { (U : Table) × (Stands (quads U) begin (chain_from symbol_quad begin (listed symbols.now)) × Room U out.old) }

@@ -3,7 +3,6 @@ use Rattle.std.specs.Prelude.{◌≡◌, ℕ, zero, suc, ◌+◌, ◌-◌, ◌*�
 use mathlib.Core.Path.{refl, sym, ap, ◌∙◌}
 use native.Mathlib.Numerals.{add-one}
 use native.Mathlib.Omega.{arith}
-use lib.Seq.{length-take-le, get_or-take}
 use Rattle.std.specs.List.{count_by, sum_by}
 use Rattle.std.proofs.lemmas.List.Sums.{sum_by-drop_more}
 use Rattle.std.proofs.Math.ListN.{drop_of_length-le}
@@ -57,24 +56,6 @@ range_end : (p n : ℕ) → n ≤ p → up_from p (n - p) ≡ []
 unfolding up_from
 range_end p n h = let z : n - p ≡ 0 = omega arith in rw z refl
 
-held_same : (S R : List ℕ) (x n : ℕ) → ((i : ℕ) → x ≤ i → i < x + n → get_or S i 0 ≡ get_or R i 0) → held S (up_from x n) ≡ held R (up_from x n)
-unfolding up_from keep
-held_same S R x zero f = refl
-held_same S R x (suc n) f =
-    let more = held_same S R (suc x) n (λ i l h. f i (omega arith) (omega arith)) in
-    let here = f x (omega arith) (omega arith) in
-    cases (eqb (get_or R x 0) 0)
-    (λ t.
-    let z = eqb-true (get_or R x 0) 0 t in
-    held_none S x (up_from (suc x) n) (here ∙ z) ∙ more ∙ sym (held_none R x (up_from (suc x) n) z))
-    (λ t.
-    let z = eqb-false (get_or R x 0) 0 t in
-    held-some S x (up_from (suc x) n) (λ q. z (sym here ∙ q)) ∙ rw (here, more) (sym (held-some R x (up_from (suc x) n) z)))
-
-pub packed-take : (S : List ℕ) (n : ℕ) → n ≤ length S → packed (take n S) ≡ held S (up_from 0 n)
-unfolding packed below
-packed-take S n h = rw (length-take-le n S h) (held_same (take n S) S 0 n (λ i l m. get_or-take n S i 0 (omega arith)))
-
 module _ (S : List ℕ) (p n s : ℕ) (h : p < n) (e : s ≡ get_or S p 0) where
   held_skip : s ≡ 0 → held S (up_from p (n - p)) ≡ held S (up_from (p + 1) (n - (p + 1)))
   held_skip z = rw (range_more p n h) (held_none S p (up_from (p + 1) (n - (p + 1))) (sym e ∙ z))
@@ -88,8 +69,9 @@ held_end S p n h = rw (range_end p n h) refl
 
 -- counting them
 
-pub count_start : (S : List ℕ) (n : ℕ) → n ≤ length S → (m : ℕ) → m + length (held S (up_from 0 (n - 0))) ≡ m + length (packed (take n S))
-count_start S n h m = let z : n - 0 ≡ n = omega arith in rw (z, packed-take S n h) refl
+pub count_start : (S : List ℕ) (m : ℕ) → m + length (held S (up_from 0 (length S - 0))) ≡ m + length (packed S)
+unfolding packed below
+count_start S m = let z : length S - 0 ≡ length S = omega arith in rw z refl
 
 pub count_more : (S : List ℕ) (p n s m r all : ℕ) → p < n → s ≡ get_or S p 0 → (s ≡ 0 → r ≡ m) × ((s ≡ 0 → ⊥) → r ≡ m + 1)
     → m + length (held S (up_from p (n - p))) ≡ all → r + length (held S (up_from (p + 1) (n - (p + 1)))) ≡ all
@@ -149,8 +131,9 @@ one_counts ws ws' m p s r f = (λ z. (f.0 z).0, λ z. (f.1 z).0)
 pub one_room : (S : List ℕ) (p n s m all : ℕ) → p < n → s ≡ get_or S p 0 → m + length (held S (up_from p (n - p))) ≡ all → (s ≡ 0 → ⊥) → m < all
 one_room S p n s m all h e q z = let w : m + suc (length (held S (up_from (p + 1) (n - (p + 1))))) ≡ all = rw (held_here S p n s h e z) at q in omega arith
 
-pub pack-start : (S ws : List ℕ) (n m : ℕ) → n ≤ length S → put_all ws m (held S (up_from 0 (n - 0))) ≡ put_all ws m (packed (take n S))
-pack-start S ws n m h = let z : n - 0 ≡ n = omega arith in rw (z, packed-take S n h) refl
+pub pack-start : (S ws : List ℕ) (m : ℕ) → put_all ws m (held S (up_from 0 (length S - 0))) ≡ put_all ws m (packed S)
+unfolding packed below
+pack-start S ws m = let z : length S - 0 ≡ length S = omega arith in rw z refl
 
 pub pack-more : (S ws ws' : List ℕ) (p n s m r : ℕ) (all : List ℕ) → p < n → s ≡ get_or S p 0 → One ws ws' m p s r
     → put_all ws m (held S (up_from p (n - p))) ≡ all → put_all ws' r (held S (up_from (p + 1) (n - (p + 1)))) ≡ all

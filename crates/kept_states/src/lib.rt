@@ -35,6 +35,14 @@ impl Begins {
             states: 0,
         }
     }
+
+    // Where the items of state k begin and end. Here and above a state is asked by its number, and that it is found at each call: a type for it would have to hold the states found.
+    pub fn span(&self, k: usize) -> (usize, usize)
+        requires { k < state_limit }
+        ensures { (result.0 ≡ slice_index self.now.items k) × (result.1 ≡ slice_index self.now.items (k + 1)) }
+    {
+        (self.items[k], self.items[k + 1])
+    }
 }
 
 // The items number `from` up to `past`, flat: an item at its place.
@@ -53,12 +61,13 @@ pub fn unpack(words: &[u16], from: usize, past: usize) -> [u64; Item::LIMIT]
 }
 
 // The items of a state stored from number `begin` on; the number behind them.
-pub fn pack(state: &[u64; Item::LIMIT], places: usize, words: &mut [u16], begin: usize) -> usize
-    requires { (places ≤ item_limit) × (length state.now ≡ item_limit) × (record_limit * 5 ≤ length words.old) × (begin + length (packed (take places state.now)) ≤ record_limit) }
-    ensures { (result ≡ begin + length (packed (take places state.now))) × (words.new ≡ put_all words.old begin (packed (take places state.now))) }
+pub fn pack(state: &[u64], words: &mut [u16], begin: usize) -> usize
+    requires { (length state.now ≤ item_limit) × (record_limit * 5 ≤ length words.old) × (begin + length (packed state.now) ≤ record_limit) }
+    ensures { (result ≡ begin + length (packed state.now)) × (words.new ≡ put_all words.old begin (packed state.now)) }
 {
+    // Counted by hand, as how many are stored is what is answered: a `filter` and a second `enumerate` would count them twice.
     let mut many = begin;
-    for (place, &set) in state[..places].iter().enumerate() {
+    for (place, &set) in state.iter().enumerate() {
         if set != 0 {
             write_item(words, many, StoredItem { place, set });
             many += 1;
@@ -68,11 +77,11 @@ pub fn pack(state: &[u64; Item::LIMIT], places: usize, words: &mut [u16], begin:
 }
 
 // How many items a state has.
-pub fn count_items(state: &[u64; Item::LIMIT], places: usize) -> usize
-    requires { (places ≤ item_limit) × (length state.now ≡ item_limit) }
-    ensures { (result ≡ length (packed (take places state.now))) × (result ≤ item_limit) }
+pub fn count_items(state: &[u64]) -> usize
+    requires { length state.now ≤ item_limit }
+    ensures { (result ≡ length (packed state.now)) × (result ≤ item_limit) }
 {
-    state[..places].iter().filter(|set| **set != 0).count()
+    state.iter().filter(|set| **set != 0).count()
 }
 
 // The first state that has this kernel.

@@ -2,19 +2,22 @@
 
 #![tactic(auto)]
 
-ghost use Rattle.std.specs.Prelude.{◌≡◌, List, [], ℕ, ◌+◌, ◌*◌, ◌≤◌, ◌<◌, length, get_or};
+ghost use Rattle.std.specs.Prelude.{◌≡◌, List, [], ℕ, ◌+◌, ◌*◌, ◌≤◌, ◌<◌, length, take, get_or};
+ghost use Rattle.repr.specs.Sizes.{index_limit};
 ghost use Rattle.repr.specs.Meaning.{Edge};
 ghost use Rattle.build.specs.States.{clashes};
 ghost use Rattle.build.specs.Outcome.{sum, records};
+ghost use Rattle.closing.specs.Fed.{Flat};
 ghost use Rattle.collecting.specs.Rows.{rows_in};
 ghost use Rattle.measuring.specs.Complete.{Collection, Complete, MeasuredAs};
 
 use conflict_counts::{Actions, count_state};
 use finding::{Halt, Source};
 use kept_states::{Begins, unpack};
+use lr1_core::Item;
 use taking::Edges;
 
-// How many records and conflicts there are.
+// How many records and conflicts there are, as they are counted. `Built` of crate builder has them as C does, and stands there so that what is above names no crate of the search.
 #[derive(Clone, Copy)]
 pub struct Measured {
     pub records: usize,
@@ -30,15 +33,26 @@ pub struct FoundStates<'a> {
     pub edges: &'a Edges,
 }
 
+impl<'a> FoundStates<'a> {
+    // State k, flat.
+    pub fn state(self, k: usize) -> [u64; Item::LIMIT]
+        requires collection { Collection self }
+        requires k_lt_states { k < self.begins.now.states }
+        ensures flat { Flat result }
+        ensures is { (s : Collection self.entry) → take (index_limit * self.entry.source.grammar.productions) result ≡ get_or s.Rs k [] }
+    {
+        let (from, past) = self.begins.span(k);
+        unpack(self.words, from, past)
+    }
+}
+
 // The conflicts of state k.
 fn count_at(found: FoundStates, k: usize) -> usize
     requires collection { Collection found }
     requires k_lt_states { k < found.begins.now.states }
     ensures { (result ≤ 1056768) × ((s : Collection found.entry) → result ≡ length (clashes s.T (get_or s.Rs k []))) }
 {
-    let begins = found.begins;
-    let state = unpack(found.words, begins.items[k], begins.items[k + 1]);
-    count_state(found.source.grammar, &state)
+    count_state(found.source.grammar, &found.state(k))
 }
 
 // The conflicts of all.

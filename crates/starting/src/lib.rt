@@ -12,7 +12,7 @@ use finding::{Halt, Source, append, close};
 use kept_states::Begins;
 use lookahead::TokenSet;
 use lr1_core::Item;
-use stored::{Kernel, StoredItem, write_item};
+use stored::{Kernel, StoredItem};
 
 // Stored if it has room.
 pub fn first_state(
@@ -34,8 +34,8 @@ pub fn first_state(
         place: first.place(),
         set: TokenSet::eof(source.sets.terminals).0,
     };
-    write_item(&mut kernel.words, 0, item);
-    kernel.many = 1;
+    kernel.many = 0;
+    kernel.push(item);
     begins.states = 0;
     let state = close(source, kernel);
     append(&state, source, words, begins)

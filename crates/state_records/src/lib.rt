@@ -18,7 +18,7 @@ use stored::read_item;
 use table::put;
 use taking::{Edges, FoundEdge};
 
-// The states, from record `at` on: their items begin at record `items`, their edges at record `ends`.
+// The states, from record `at` on: their items begin at record `items`, their edges at record `ends`. That the words are room for the table U, and where its regions begin in it, is asked here and below: it chooses the table, and a ghost field's fact has one proof (crate measuring).
 pub fn write_states(
     begins: &Begins,
     edges: &Edges,
@@ -31,10 +31,10 @@ pub fn write_states(
     ensures { (U : Table) → begins.now.states ≡ length U.states → at ≡ states_at U → items ≡ items_place U → ends ≡ edges_at U → BeginsOf (item_lists U) begins.now.items → BeginsOf (edge_lists U) edges.now.rows → Room U out.old → Grown U out.old out.new (states_at U) (productions_at U) }
 {
     for s in 0..begins.states {
-        let item = begins.items[s];
-        let edge = edges.rows[s];
-        let item_head = head_of(begins.items[s + 1] - item, items + item);
-        let edge_head = head_of(edges.rows[s + 1] - edge, ends + edge);
+        let (item, item_past) = begins.span(s);
+        let (edge, edge_past) = edges.span(s);
+        let item_head = head_of(item_past - item, items + item);
+        let edge_head = head_of(edge_past - edge, ends + edge);
         put(out, at + s, item_head, edge_head, 0, 0);
     }
 }
@@ -58,7 +58,8 @@ pub fn write_items(words: &[u16], begins: &Begins, items: usize, out: &mut [u16]
     ensures { (U : Table) → begins.now.states ≡ length U.states → items ≡ items_place U → ItemsIn U words.now begins.now.items → Room U out.old → Grown U out.old out.new (items_place U) (edges_at U) }
 {
     for k in 0..begins.states {
-        write_state_items(words, begins.items[k], begins.items[k + 1], items, out);
+        let (from, past) = begins.span(k);
+        write_state_items(words, from, past, items, out);
     }
 }
 
@@ -95,6 +96,7 @@ pub fn write_edges(edges: &Edges, states: usize, at: usize, out: &mut [u16])
     ensures { (U : Table) → states ≡ length U.states → at ≡ edges_at U → EdgesIn U edges.now.words edges.now.rows → Room U out.old → Grown U out.old out.new (edges_at U) (records_of U) }
 {
     for k in 0..states {
-        write_state_edges(&edges.words, edges.rows[k], edges.rows[k + 1], at, out);
+        let (from, past) = edges.span(k);
+        write_state_edges(&edges.words, from, past, at, out);
     }
 }

@@ -1,2 +1,3 @@
 pub mod Stored
 pub mod Packed
+pub mod Same

@@ -1,5 +1,5 @@
 -- Laws of items in words: what is put is read, and nothing else changes; one law for each way through the code. Assumes nothing.
-use Rattle.std.proofs.Common.{◌≡◌, ℕ, zero, suc, ◌+◌, ◌-◌, ◌*◌, ◌/◌, ◌%◌, ◌<◌, ◌≤◌, Bool, true, false, ◌&&◌, eqb, Option, Some, None, List, [], ◌∷◌, ◌++◌, map, length, get_or, take, drop, set, sym, refl, ap, ◌∙◌, append_assoc, append-nil, add-one, arith, length-append, length-drop, length-set, get_or-drop, get_or-take, get_or-append-add, get_or-set_other, get_or-set_same, eq-eqb, ne_eqb, eqb-true}
+use Rattle.std.proofs.Common.{◌≡◌, ℕ, zero, suc, ◌+◌, ◌-◌, ◌*◌, ◌/◌, ◌%◌, ◌<◌, ◌≤◌, true, false, ◌&&◌, eqb, Option, Some, None, List, [], ◌∷◌, ◌++◌, map, length, get_or, take, drop, set, sym, refl, ap, ◌∙◌, append_assoc, append-nil, add-one, arith, length-append, length-drop, length-set, get_or-drop, get_or-take, get_or-append-add, get_or-set_other, get_or-set_same, eq-eqb, ne_eqb, eqb-true}
 use Rattle.std.proofs.lemmas.List.{length-take-le}
 use lib.ListN.{get_or-append}
 use borrow.Author.Tests.{eqb-false}
@@ -16,7 +16,7 @@ use Rattle.std.specs.Option.{MatchOption, option_eq}
 use Rattle.repr.specs.Listed.{listed}
 use Rattle.repr.specs.Packed.{symbol_words}
 use Rattle.build.specs.States.{begins}
-use Rattle.stored.specs.Stored.{Entry, set_at, entry_at, entries, entry_words, put_entry, moved_over, same_entry, is_same_kernel, Appended, MetAfter}
+use Rattle.stored.specs.Stored.{Entry, set_at, entry_at, entries, entry_words, put_entry, moved_over, same_entry, is_same_kernel, Appended}
 
 -- one item
 
@@ -121,18 +121,9 @@ read_is ws p a b c d ep ea eb ec ed = rw (ep, ea, eb, ec, ed)
 
 -- items one behind the other
 
-pub entries_none : (ws : List ℕ) (m k : ℕ) → k ≤ m → entries ws m (k - m) ≡ []
-unfolding entries up_from
-entries_none ws m k h = let z : k - m ≡ 0 = omega arith in rw z refl
-
 pub entries-more : (ws : List ℕ) (m n : ℕ) → entries ws m (suc n) ≡ entry_at ws m ∷ entries ws (suc m) n
 unfolding entries up_from
 entries-more ws m n = refl
-
-pub entries_at : (ws : List ℕ) (m k : ℕ) → m < k → entries ws m (k - m) ≡ entry_at ws m ∷ entries ws (m + 1) (k - (m + 1))
-entries_at ws m k h =
-    let z : k - m ≡ suc (k - (m + 1)) = omega arith in
-    rw (z, entries-more ws m (k - (m + 1)), add-one m)
 
 pub entries_same : (ws vs : List ℕ) (m n : ℕ) → ((i : ℕ) → m ≤ i → i < m + n → entry_at vs i ≡ entry_at ws i) → entries vs m n ≡ entries ws m n
 unfolding entries up_from
@@ -349,50 +340,3 @@ differs x s y t ne =
 pub alike : (x s y t : ℕ) → x ≡ y → s ≡ t → same_entry (record { place = x; set = s }) (record { place = y; set = t }) ≡ true
 unfolding same_entry
 alike x s y t p q = rw (eq-eqb x y p, eq-eqb s t q) refl
-
-pub met_pass : (x s : ℕ) (k : List ℕ) (m n : ℕ) → m ≤ n → x % index_limit ≡ 0 → MetAfter x s k m n m
-met_pass x s k m n h z = record { high = omega arith; goes = λ l es. kernel_pass x s es (entries k m (n - m)) z; stops = λ l. absurd (omega arith) }
-
-pub met_short : (x s : ℕ) (k : List ℕ) (m n : ℕ) → m ≡ n → (x % index_limit ≡ 0 → ⊥) → MetAfter x s k m n (n + 1)
-met_short x s k m n e z = record {
-  high = omega arith;
-  goes = λ l. absurd (omega arith);
-  stops = λ l es. rw (entries_none k m n (omega arith)) (kernel_short x s es z);
-}
-
-module _ (x s y t : ℕ) (k : List ℕ) (m n : ℕ) (h : m < n) (z : x % index_limit ≡ 0 → ⊥) (e : record { place = y; set = t } ≡ entry_at k m) where
-  pub met_differs : (eqb x y && eqb s t) ≡ false → MetAfter x s k m n (n + 1)
-  unfolding same_entry
-  met_differs q = record {
-    high = omega arith;
-    goes = λ l. absurd (omega arith);
-    stops = λ l es. rw (entries_at k m n h, ← e, kernel_both x s es (record { place = y; set = t }) (entries k (m + 1) (n - (m + 1))) z, same_entry, q) refl;
-  }
-
-  pub met_same : (eqb x y && eqb s t) ≡ true → MetAfter x s k m n (m + 1)
-  unfolding same_entry
-  met_same q = record {
-    high = omega arith;
-    goes = λ l es. rw (entries_at k m n h, ← e, kernel_both x s es (record { place = y; set = t }) (entries k (m + 1) (n - (m + 1))) z, same_entry, q) refl;
-    stops = λ l. absurd (omega arith);
-  }
-
-pub kernel_on : (k : List ℕ) (p n r x s : ℕ) (w rest : List ℕ) (end : Bool) → length w ≡ 5 → record { place = x; set = s } ≡ entry_at w 0 → MetAfter x s k p n r → r ≤ n
-    → is_same_kernel (all_entries (w ++ rest)) (entries k p (n - p)) ≡ end → is_same_kernel (all_entries rest) (entries k r (n - r)) ≡ end
-kernel_on k p n r x s w rest end h e a l q = sym (a.goes l (all_entries rest)) ∙ (rw (all-more w rest h, ← e) at q)
-
-pub kernel_off : (k : List ℕ) (p n r x s : ℕ) (w rest : List ℕ) (end : Bool) → length w ≡ 5 → record { place = x; set = s } ≡ entry_at w 0 → MetAfter x s k p n r → n < r
-    → is_same_kernel (all_entries (w ++ rest)) (entries k p (n - p)) ≡ end → false ≡ end
-kernel_off k p n r x s w rest end h e a l q = sym (a.stops l (all_entries rest)) ∙ (rw (all-more w rest h, ← e) at q)
-
-pub kernel_end : (k rest : List ℕ) (p n : ℕ) (end : Bool) → length rest < 5 → p ≤ n → is_same_kernel (all_entries rest) (entries k p (n - p)) ≡ end → eqb p n ≡ end
-kernel_end k rest p n end h l q =
-    cases (eqb p n)
-    (λ t. let e = eqb-true p n t in t ∙ sym kernel_nil ∙ (rw (all_none rest h, entries_none k p n (omega arith)) at q))
-    (λ t.
-    let ne = eqb-false p n t in
-    let u : p < n = omega (arith, ne) in
-    t ∙ sym (kernel_long (entry_at k p) (entries k (p + 1) (n - (p + 1)))) ∙ (rw (all_none rest h, entries_at k p n u) at q))
-
-pub kernel_start : (k : List ℕ) (n : ℕ) (l : List Entry) → is_same_kernel l (entries k 0 (n - 0)) ≡ is_same_kernel l (entries k 0 n)
-kernel_start k n l = let z : n - 0 ≡ n = omega arith in rw z refl

@@ -1,6 +1,6 @@
 -- Items with their tokens in words, five each: the place (17 * production + index), then the set in four words, the lowest first. A state's items stand one
 -- behind the other, by place. Assumes nothing: these are definitions.
-use Rattle.std.specs.Prelude.{◌≡◌, ℕ, ◌+◌, ◌-◌, ◌*◌, ◌/◌, ◌%◌, ◌<◌, ◌≤◌, Bool, true, false, not, ◌&&◌, List, [], ◌∷◌, ◌++◌, map, length, drop, ◌==◌, slice_index, slice_set}
+use Rattle.std.specs.Prelude.{◌≡◌, ℕ, ◌+◌, ◌*◌, ◌/◌, ◌%◌, ◌≤◌, Bool, true, false, not, ◌&&◌, List, [], ◌∷◌, ◌++◌, map, length, drop, ◌==◌, slice_index, slice_set}
 use Rattle.repr.specs.Sizes.{index_limit}
 use Rattle.repr.specs.Lists.{up_from, below, keep}
 use Rattle.repr.specs.Meaning.{Symbol}
@@ -66,9 +66,3 @@ pub record Appended (g : List ℕ) (X : Symbol) (x s : ℕ) (k k' : List ℕ) (n
   pub low : n ≤ r
   pub high : r ≤ n + 1
   pub is : entries k' 0 r ≡ entries k 0 n ++ moved_over g X (record { place = x; set = s } ∷ [])
-
--- one item more held against a kernel of n items, of which m were met before and r are met after
-pub record MetAfter (x s : ℕ) (k : List ℕ) (m n r : ℕ) : Type 0 where
-  pub high : r ≤ n + 1
-  pub goes : r ≤ n → (es : List Entry) → is_same_kernel (record { place = x; set = s } ∷ es) (entries k m (n - m)) ≡ is_same_kernel es (entries k r (n - r))
-  pub stops : n < r → (es : List Entry) → is_same_kernel (record { place = x; set = s } ∷ es) (entries k m (n - m)) ≡ false

@@ -2,16 +2,16 @@
 
 #![tactic(auto)]
 
-ghost use Rattle.std.specs.Prelude.{◌≡◌, ℕ, ◌+◌, ◌-◌, ◌*◌, ◌^◌, ◌<◌, ◌≤◌, List, MatchOption, length};
+ghost use Rattle.std.specs.Prelude.{◌≡◌, ℕ, ◌+◌, ◌-◌, ◌*◌, ◌^◌, ◌<◌, ◌≤◌, List, length};
 ghost use Rattle.repr.specs.Sizes.{index_limit, item_limit, record_limit};
 ghost use Rattle.repr.specs.Symbols.{meant};
 ghost use Rattle.repr.specs.Packed.{Packed};
-ghost use Rattle.stored.specs.Stored.{entry_at, entries, entry_words, put_entry, moved_over, is_same_kernel, Appended, MetAfter};
+ghost use Rattle.stored.specs.Stored.{entry_at, entries, entry_words, put_entry, moved_over, is_same_kernel, Appended};
 
 use lr1_core::Item;
 use repr::{Grammar, Symbol, word};
 
-// An item by its place (`Item::place`), with its tokens.
+// An item by its place (`Item::place`), with its tokens. They are a bare word, as a state flat is a list of numbers in specs/States of build: a `TokenSet` is made of one where its tokens are asked.
 #[derive(Clone, Copy, PartialEq)]
 pub struct StoredItem {
     pub place: usize,
@@ -25,7 +25,7 @@ impl StoredItem {
     // What a word can hold.
     const BASE: u64 = 65536;
 
-    // The item of its words.
+    // The item of its words. No `From` for it and its words: both ask for room, which `from` cannot.
     pub fn of(words: &[u16]) -> StoredItem
         requires { 5 ≤ length words.now }
         ensures { (record { place = result.place; set = result.set } ≡ entry_at words.now 0) × (result.set < 2 ^ 64) }
@@ -96,6 +96,15 @@ impl Kernel {
             many: 0,
         }
     }
+
+    // One item behind the others.
+    pub fn push(&mut self, item: StoredItem)
+        requires { (self.old.many < item_limit) × (item.place < 65536) }
+        ensures { (self.new.words ≡ put_entry self.old.words self.old.many item.place item.set) × (self.new.many ≡ self.old.many + 1) }
+    {
+        write_item(&mut self.words, self.many, item);
+        self.many += 1;
+    }
 }
 
 // One item, moved over the symbol and put behind the kernel's, if its cursor stands there.
@@ -105,13 +114,10 @@ fn move_one(grammar: Grammar, read: StoredItem, symbol: Symbol, kernel: &mut Ker
     ensures { Appended grammar.entry.words.now (meant symbol) read.place read.set kernel.old.words kernel.new.words kernel.old.many kernel.new.many }
 {
     if Item::at(read.place).cursor(grammar) == Some(symbol) {
-        let next = StoredItem {
+        kernel.push(StoredItem {
             place: read.place + 1,
             set: read.set,
-        };
-        let many = kernel.many;
-        write_item(&mut kernel.words, many, next);
-        kernel.many = many + 1;
+        });
     }
 }
 
@@ -135,33 +141,16 @@ pub fn move_over(
     }
 }
 
-// How many of a kernel's items are met after one item more: an index-0 item is passed over. None if the item is not the kernel's next.
-fn meet_one(mine: StoredItem, kernel: &Kernel, met: usize) -> Option<usize>
-    requires { met ≤ kernel.now.many }
-    ensures { MatchOption result (MetAfter mine.place mine.set kernel.now.words met kernel.now.many (kernel.now.many + 1)) (λ n. (n ≤ kernel.now.many) × MetAfter mine.place mine.set kernel.now.words met kernel.now.many n) }
-{
-    if Item::at(mine.place).index == 0 {
-        return Some(met);
-    }
-    if met == kernel.many {
-        return None;
-    }
-    let other = read_item(&kernel.words, met);
-    if mine == other { Some(met + 1) } else { None }
-}
-
 // Whether the items number `from` up to `past` have exactly these past index 0.
 pub fn same_kernel(words: &[u16], from: usize, past: usize, kernel: &Kernel) -> bool
     requires { (from ≤ past) × (past ≤ record_limit) × (past * 5 ≤ length words.now) }
     ensures { result ≡ is_same_kernel (entries words.now from (past - from)) (entries kernel.now.words 0 kernel.now.many) }
 {
-    let mut met = 0;
     let items = &words[from * StoredItem::WORDS..past * StoredItem::WORDS];
-    for item in items.chunks_exact(StoredItem::WORDS) {
-        match meet_one(StoredItem::of(item), kernel, met) {
-            Some(more) => met = more,
-            None => return false,
-        }
-    }
-    met == kernel.many
+    let kept = items
+        .chunks_exact(StoredItem::WORDS)
+        .map(|item| StoredItem::of(item))
+        .filter(|item| Item::at(item.place).index != 0);
+    let wanted = kernel.words[..kernel.many * StoredItem::WORDS].chunks_exact(StoredItem::WORDS);
+    kept.eq(wanted.map(|item| StoredItem::of(item)))
 }

@@ -1,5 +1,5 @@
 -- Laws of taking a state, one for each way through the code. Assumes nothing.
-use Rattle.std.proofs.Common.{Some, None, Ok, Err}
+use Rattle.std.proofs.Common.{true, false, Some, None, Ok, Err}
 use mathlib.Core.Path.{◌≡◌, refl, sym, ap, ◌∙◌}
 use mathlib.Core.List.{List, [], ◌∷◌, ◌++◌, map, append-nil, append_assoc}
 use Prim.Native.Nat.{ℕ, zero, suc, ◌+◌, ◌-◌, ◌*◌, ◌/◌, ◌%◌, ◌≤◌, ◌<◌}
@@ -24,7 +24,7 @@ use Rattle.finding.specs.Search.{Search, Keeps, Reached, refusal_of, IsOneOf}
 use Rattle.finding.specs.declared.Halt.{Halt}
 use Rattle.finding.specs.declared.Source.{Source}
 use Rattle.finding.proofs.Steps.{to_nowhere, to_stops, to_reach}
-use Rattle.taking.specs.Taking.{symbol_of_code, edge_of, edges_in, symbol_tried, TookOne, passed, reached, Tried, TakenAs}
+use Rattle.taking.specs.Taking.{symbol_of_code, edge_of, edges_in, TookOne, passed, reached, Tried, TakenAs}
 
 -- the same search later on
 abbrev pub search_on : (source : Source) (ws bs ws' bs' : List ℕ) (n q : ℕ) (s : Search source ws bs n) (Qs : List (List ℕ)) → q ≡ length Qs → Holds s.T s.start ws' bs' Qs
@@ -135,7 +135,10 @@ behind-told : (ds : List Edge) (T : Table) (room : ℕ) (S : List ℕ) (Qs : Lis
 unfolding behind take_to
 behind-told ds T room S Qs = ap (told Qs) (append-nil ds)
 
--- the symbols tried
+-- the symbols tried: symbol j is one of the nonterminals, then of the terminals
+
+unfoldable pub symbol_tried : ℕ → ℕ → Symbol
+symbol_tried nonterminals j = elim (ltb j nonterminals) [ true ↦ nonterminal j | false ↦ terminal (j - nonterminals) ]
 
 pub tried_low : (N j : ℕ) → j < N → symbol_tried N j ≡ nonterminal j
 unfolding symbol_tried
@@ -144,6 +147,12 @@ tried_low N j h = rw (lt-ltb j N h, symbol_tried)
 pub tried_high : (N j : ℕ) → N ≤ j → symbol_tried N j ≡ terminal (j - N)
 unfolding symbol_tried
 tried_high N j h = rw (le-ltb j N h, symbol_tried)
+
+pub tried_nonterminal : (N j : ℕ) → j < N → nonterminal j ≡ symbol_tried N j
+tried_nonterminal N j h = sym (tried_low N j h)
+
+pub tried_terminal : (N i : ℕ) → terminal i ≡ symbol_tried N (N + i)
+tried_terminal N i = let z : N + i - N ≡ i = omega arith in sym (tried_high N (N + i) (omega arith) ∙ ap terminal z)
 
 tried_long : (T : Table) (N e : ℕ) → N ≡ length T.nonterminals → e ≡ T.terminals → length (tried T) ≡ N + e
 unfolding tried
@@ -201,6 +210,10 @@ turn_start T start room S Rs ws bs E m n q H = record {
   same = λ i h. refl;
   rest = rw (edges_none E m) (behind-none (take_to T room S Rs (tried T)));
 }
+
+-- the same by another count
+pub turn_on : {T : Table} {start room : ℕ} {S : List ℕ} {Rs : List (List ℕ)} {ws bs E₀ E : List ℕ} {j i m₀ m q : ℕ} → j ≡ i → Turn T start room S Rs ws bs E₀ E j m₀ m q → Turn T start room S Rs ws bs E₀ E i m₀ m q
+turn_on e t = rw e at t
 
 keeps_trans : (Rs Qs Ps : List (List ℕ)) → Keeps Rs Qs → Keeps Qs Ps → Keeps Rs Ps
 keeps_trans Rs Qs Ps f g = record {

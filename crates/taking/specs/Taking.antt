@@ -1,6 +1,6 @@
 -- The edges found, in words: one each, symbol * 128 + target, those of a state one behind the other as tried; and what taking a state leaves.
 -- Assumes nothing: these are definitions.
-use Rattle.std.specs.Prelude.{ℕ, ◌+◌, ◌-◌, ◌*◌, ◌/◌, ◌%◌, ◌≤◌, ◌<◌, true, false, Result, Ok, Err, ◌≡◌, List, map, length, get_or, set, ltb, nat_lt}
+use Rattle.std.specs.Prelude.{ℕ, ◌+◌, ◌-◌, ◌*◌, ◌/◌, ◌%◌, ◌≤◌, ◌<◌, true, false, Result, Ok, Err, ◌≡◌, List, map, length, get_or, set, nat_lt}
 use Rattle.repr.specs.Sizes.{state_limit}
 use Rattle.repr.specs.Lists.{up_from}
 use Rattle.repr.specs.Meaning.{Symbol, nonterminal, terminal, Edge, Table}
@@ -19,10 +19,6 @@ edge_of w = record { symbol = symbol_of_code (w / state_limit); target = w % sta
 -- n edges from number m on
 unfoldable pub edges_in : List ℕ → ℕ → ℕ → List Edge
 edges_in E m n = map (λ i. edge_of (get_or E i 0)) (up_from m n)
-
--- symbol j of those tried: nonterminals, then terminals
-unfoldable pub symbol_tried : ℕ → ℕ → Symbol
-symbol_tried nonterminals j = elim (ltb j nonterminals) [ true ↦ nonterminal j | false ↦ terminal (j - nonterminals) ]
 
 -- one symbol tried, and the step did not stop: w is the step, m edges of before
 pub data TookOne (T : Table) (start : ℕ) (Rs : List (List ℕ)) (w : Reach) (c : ℕ) (ws bs E E' : List ℕ) (m q m' : ℕ) : Type 0 where

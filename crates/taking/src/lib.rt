@@ -9,7 +9,7 @@ ghost use Rattle.lr1_core.specs.Cursor.{symbol_code};
 ghost use Rattle.build.specs.States.{tried};
 ghost use Rattle.finding.specs.Steps.{goto_to, take_to};
 ghost use Rattle.finding.specs.Search.{Search, IsOneOf};
-ghost use Rattle.taking.specs.Taking.{edge_of, symbol_tried, Tried, TakenAs};
+ghost use Rattle.taking.specs.Taking.{edge_of, Tried, TakenAs};
 
 use finding::{Halt, Source, goto_over};
 use kept_states::Begins;
@@ -24,7 +24,7 @@ pub struct FoundEdge {
 }
 
 impl FoundEdge {
-    // As one word: its symbol in one number, terminals behind the nonterminals, then the target.
+    // As one word: its symbol in one number, terminals behind the nonterminals, then the target. No `From`, as it asks for range, and the way back stands beside it.
     #[tactic(auto, unfolding(lr1_core::specs::Cursor::symbol_code))]
     fn word(self) -> u16
         requires { IsInRange self.symbol × (self.target < state_limit) }
@@ -81,6 +81,14 @@ impl Edges {
         }
     }
 
+    // Where the edges of state k begin and end.
+    pub fn span(&self, k: usize) -> (usize, usize)
+        requires { k < state_limit }
+        ensures { (result.0 ≡ get_or self.now.rows k 0) × (result.1 ≡ get_or self.now.rows (k + 1) 0) }
+    {
+        (self.rows[k], self.rows[k + 1])
+    }
+
     // One behind the others.
     fn push(&mut self, edge: FoundEdge)
         requires { (self.old.many < 12160) × IsInRange edge.symbol × (edge.target < state_limit) }
@@ -88,19 +96,6 @@ impl Edges {
     {
         self.words[self.many] = edge.word();
         self.many += 1;
-    }
-}
-
-// Symbol j of those tried: nonterminals, then terminals.
-#[tactic(auto, unfolding(crate::specs::Taking::symbol_tried))]
-fn symbol_tried(nonterminals: usize, j: usize) -> Symbol
-    requires { j < 65536 }
-    ensures { meant result ≡ symbol_tried nonterminals j }
-{
-    if j < nonterminals {
-        Symbol::Nonterminal(NonterminalString(j as u16))
-    } else {
-        Symbol::Terminal((j - nonterminals) as u16)
     }
 }
 
@@ -137,10 +132,12 @@ pub fn take_state(
     requires k_lt_found { (k < begins.old.states) × (edges.old.many + 95 ≤ 12160) }
     ensures { (edges.new.rows ≡ edges.old.rows) × ((s : Search source.entry words.old begins.old.items begins.old.states) → TakenAs s.T s.start s.Rs (take_to s.T s.room (get_or s.Rs k []) s.Rs (tried s.T)) words.new begins.new.items edges.old.words edges.new.words edges.old.many begins.new.states edges.new.many result) }
 {
-    let nonterminals = source.sizes.nonterminals;
-    let symbols = nonterminals + source.sets.terminals as usize;
-    for j in 0..symbols {
-        let symbol = symbol_tried(nonterminals, j);
+    for n in 0..source.sizes.nonterminals {
+        let symbol = Symbol::Nonterminal(NonterminalString(n as u16));
+        take_one(source, words, begins, k, symbol, kernel, edges)?;
+    }
+    for terminal in 0..source.sets.terminals {
+        let symbol = Symbol::Terminal(terminal);
         take_one(source, words, begins, k, symbol, kernel, edges)?;
     }
     Ok(())

@@ -16,7 +16,7 @@ ghost use Rattle.yacc_misnamed.specs.Fault.{fault_from};
 ghost use Rattle.yacc_reader.specs.Passed.{Passes};
 
 use augment::write_started;
-use repr::{NonterminalString, ProductionIndex, Refusal};
+use repr::{Grammar, NonterminalString, ProductionIndex, Refusal};
 use table::Counts;
 use yacc_count::count;
 use yacc_enter::{Ids, SymbolTable, Words};
@@ -37,15 +37,19 @@ fn write_read(
     requires passes { (l : Layout) → parse symbols.now.text.now ≡ some l → Passes (source_in l.pieces) table.old places.old }
     ensures { (l : Layout) → parse symbols.now.text.now ≡ some l → record { answer = reply_of result; table = table.new; places = places.new } ≡ counted_of (source_in l.pieces) table.old places.old }
 {
-    let mut grammar = [0u16; ProductionIndex::ALL_WORDS];
-    let productions = pack(symbols, &mut grammar);
+    let mut words = [0u16; ProductionIndex::ALL_WORDS];
+    let productions = pack(symbols, &mut words);
+    let grammar = Grammar {
+        words: &words,
+        productions,
+    };
     let counts = Counts {
         nonterminals: symbols.counts.nonterminals,
         terminals: symbols.counts.terminals,
         states: 1,
         productions,
     };
-    let started = write_started(&grammar, counts, 0, table)?;
+    let started = write_started(grammar, counts, 0, table)?;
     write_places(symbols, places);
     let start = start_of(symbols);
     let listed = symbols.counts.nonterminals + symbols.counts.terminals;

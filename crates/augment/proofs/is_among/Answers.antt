@@ -4,9 +4,9 @@ use Rattle.std.proofs.lemmas.Iterator.Search.{any_from_yields_List}
 use Rattle.repr.specs.Meaning.{nonterminal, is_same_symbol}
 use Rattle.repr.specs.Listed.{listed}
 use Rattle.repr.specs.Symbols.{meant}
-use Rattle.augment.proofs.Uses.{among_is}
+use Rattle.augment.proofs.Uses.{is_nonterminal, among_is}
 use Rattle.augment.proofs.is_among.Goals as goal
 
 pub returns : goal.returns
-returns c = any_from_yields_List (is_same_symbol (nonterminal c.args.n)) c.any.new.self _ _ c.any.ensures.ran (YieldsList-from_first meant (λ s. listed s.words.now) (listed c.args.symbols.now) refl) (λ x b q k. search (rules, tests))
-    ∙ among_is c.args.n (listed c.args.symbols.now)
+returns c = any_from_yields_List (is_same_symbol (nonterminal c.args.n.0)) c.any.new.self _ _ c.any.ensures.ran (YieldsList-from_first meant (λ s. listed s.words.now) (listed c.args.symbols.now) refl) (λ x b q k. let e = is_nonterminal c.args.n x in search (rules, tests))
+    ∙ among_is c.args.n.0 (listed c.args.symbols.now)

@@ -8,4 +8,4 @@ pub returns : goal.returns
 returns c =
     let g = c.args.grammar.words.now in
     let m = c.args.grammar.productions in
-    any_from_yields_List (used g c.args.n) _ _ _ c.any.ensures.ran (YieldsList-from_range 0 m m refl (omega arith)) (λ x b q k. search (rules, tests)) ∙ stands_is g c.args.n m
+    any_from_yields_List (used g c.args.n.0) _ _ _ c.any.ensures.ran (YieldsList-from_range 0 m m refl (omega arith)) (λ x b q k. search (rules, tests)) ∙ stands_is g c.args.n.0 m

@@ -4,8 +4,11 @@ use native.Mathlib.Omega.{arith}
 use Rattle.augment.proofs.with_start.Goals as goal
 use Rattle.augment.proofs.with_start.Goals.{then-nonterminals-eq-LIMIT-via-then-nonterminals-eq-LIMIT, then-nonterminals-eq-LIMIT-via-else-nonterminals-eq-LIMIT+then-productions-eq-LIMIT}
 
-pub invariant_of-own_start : goal.invariant_of-own_start
-invariant_of-own_start c = record { packed = (read-packed _ _ _ _ _ _ c.counts-counts.ensures c.requires _ c.read_productions.ensures).packed }
+pub invariant_of-grammar : goal.invariant_of-grammar
+invariant_of-grammar c = record { packed = (read-packed _ _ _ _ _ _ c.counts-counts.ensures c.requires _ c.read_productions.ensures).packed }
+
+pub invariant_of-grammar-2 : goal.invariant_of-grammar-2
+invariant_of-grammar-2 c = record { packed = c.append.ensures.0 }
 
 pub returns-then-nonterminals-eq-LIMIT : goal.returns-then-nonterminals-eq-LIMIT
 returns-then-nonterminals-eq-LIMIT c =

@@ -15,7 +15,7 @@ pub bounds-map-production : goal.bounds-map-production
 bounds-map-production c = omega (arith, c.loop-production-test.true, c.args.grammar.packed.few)
 
 pub loop-production-preserved : goal.loop-production-preserved
-loop-production-preserved c = (simp length-set c.loop-production.invariant.0, λ T e sets G. reduced_more T c.args.grammar.productions c.args.state.now c.loop-production.map c.loop-production.production c.reduction.result (c.loop-production.invariant.1 T e sets G) (omega (arith, c.loop-production-test.true, c.args.grammar.packed.few, c.loop-production.invariant.0)) (c.reduction.ensures T e sets G))
+loop-production-preserved c = (simp length-set c.loop-production.invariant.0, λ T e sets G. reduced_more T c.args.grammar.productions c.args.state.now c.loop-production.map c.loop-production.production c.reduction.result.0 (c.loop-production.invariant.1 T e sets G) (omega (arith, c.loop-production-test.true, c.args.grammar.packed.few, c.loop-production.invariant.0)) (c.reduction.ensures T e sets G))
 
 pub returns : goal.returns
 returns c = (c.loop-production.invariant.0, λ T e sets G. reduced_end T c.args.grammar.productions c.args.state.now c.loop-production.map c.loop-production.production c.loop-production-test.false (c.loop-production.invariant.1 T e sets G))

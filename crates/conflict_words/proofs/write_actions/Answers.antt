@@ -8,10 +8,10 @@ use mathlib.Core.Path.{ap}
 use Rattle.conflict_words.proofs.write_actions.Goals as goal
 
 pub loop-production-init : goal.loop-production-init
-loop-production-init c = turn_start _ _ _ _ (ap (joined (clash_words c.args.state)) (joined_start (clashes_in c.args.actions.now.reductions c.args.actions.now.shifts.0 c.args.actions.now.productions) c.args.actions.now.productions)) c.requires.productions_in_bounds
+loop-production-init c = turn_start _ _ _ _ (ap (joined (clash_words c.args.state)) (joined_start (clashes_in c.args.actions.now.reductions c.args.actions.now.shifts.0 c.args.actions.now.productions) c.args.actions.now.productions)) c.requires
 
 pub write_production-place-requires : goal.write_production-place-requires
-write_production-place-requires c = record { production_lt_productions = (c.loop-production-test.true, c.requires.state_lt_state_limit); production_in_bounds = state_room c.args.state c.args.actions.now.reductions c.args.actions.now.shifts.0 c.args.actions.now.productions c.loop-production.production _ _ _ _ _ c.loop-production.invariant c.loop-production-test.true }
+write_production-place-requires c = record { production_lt_productions = c.loop-production-test.true; production_in_bounds = state_room c.args.state c.args.actions.now.reductions c.args.actions.now.shifts.0 c.args.actions.now.productions c.loop-production.production _ _ _ _ _ c.loop-production.invariant c.loop-production-test.true }
 
 pub loop-production-preserved : goal.loop-production-preserved
 loop-production-preserved c = turn_next c.loop-production.invariant _ _ (state_words_lem c.args.state c.args.actions.now.reductions c.args.actions.now.shifts.0 c.args.actions.now.productions c.loop-production.production c.loop-production-test.true) _ c.write_production-place.ensures.0 _ c.write_production-place.ensures.1

@@ -8,16 +8,13 @@ pub loop-other-init : goal.loop-other-init
 loop-other-init c = turn_start _ _ _ _ refl c.requires.production_in_bounds
 
 pub overflow_cast-pair : goal.overflow_cast-pair
-overflow_cast-pair c = omega (arith, c.requires.production_lt_productions.1)
+overflow_cast-pair c = omega (arith, c.requires.production_lt_productions, c.args.actions.now.few)
 
 pub overflow_cast-pair-in-loop-other : goal.overflow_cast-pair-in-loop-other
-overflow_cast-pair-in-loop-other c = omega (arith, c.requires.production_lt_productions.0, c.args.actions.now.few)
-
-pub overflow_cast-pair-in-loop-other-2 : goal.overflow_cast-pair-in-loop-other-2
-overflow_cast-pair-in-loop-other-2 c = omega (arith, c.args.actions.now.few, c.loop-other-test.true)
+overflow_cast-pair-in-loop-other c = omega (arith, c.args.actions.now.few, c.loop-other-test.true)
 
 pub common-requires : goal.common-requires
-common-requires c = (c.requires.production_lt_productions.0, c.loop-other-test.true)
+common-requires c = (c.requires.production_lt_productions, c.loop-other-test.true)
 
 pub write_tokens-place-requires : goal.write_tokens-place-requires
 write_tokens-place-requires c = pair-room c.args.state c.args.actions.now.reductions c.args.production c.loop-other.other c.args.actions.now.productions c.common.result.0 _ _ _ _ _ c.loop-other.invariant c.loop-other-test.true c.common.ensures

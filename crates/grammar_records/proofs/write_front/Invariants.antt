@@ -9,4 +9,4 @@ use Rattle.grammar_records.proofs.Areas.{Front}
 use Rattle.grammar_records.proofs.write_front.Given as goal
 
 abbrev pub invariant-loop-n : goal.invariant-loop-n
-invariant-loop-n l = ((U : Table) (g : List ℕ) → l.nonterminals ≡ length U.nonterminals → l.at ≡ productions_at U → PackedAs U l.grammar.words.now l.grammar.productions → Front U g l.initial.out 0 → Front U g l.out l.n)
+invariant-loop-n l = ((U : Table) (g : List ℕ) → l.fn.counts.nonterminals ≡ length U.nonterminals → l.at ≡ productions_at U → PackedAs U l.grammar.words.now l.grammar.productions → Front U g l.initial.out 0 → Front U g l.out l.n)

@@ -1,4 +1,4 @@
-use Rattle.std.proofs.Common.{◌≡◌, ℕ, not, eqb, take, ◌∙◌, sym, rules, arith, length-take}
+use Rattle.std.proofs.Common.{◌≡◌, ℕ, not, eqb, ◌∙◌, sym, rules, arith}
 use Rattle.std.specs.List.{count_by}
 use Rattle.std.proofs.lemmas.List.Sums.{count_by-le-length}
 use Rattle.kept_states.proofs.Kept.{count-packed}
@@ -6,5 +6,5 @@ use Rattle.kept_states.proofs.count_items.Goals as goal
 
 pub returns : goal.returns
 returns c =
-    let e : c.count.result ≡ count_by (λ (x : ℕ). not (eqb x 0)) (take c.args.places c.args.state.now) = search rules in
-    (e ∙ sym (count-packed (take c.args.places c.args.state.now)), omega (arith, e, count_by-le-length (λ (x : ℕ). not (eqb x 0)) (take c.args.places c.args.state.now), length-take c.args.places c.args.state.now))
+    let e : c.count.result ≡ count_by (λ (x : ℕ). not (eqb x 0)) c.args.state.now = search rules in
+    (e ∙ sym (count-packed c.args.state.now), omega (arith, e, count_by-le-length (λ (x : ℕ). not (eqb x 0)) c.args.state.now, c.requires))

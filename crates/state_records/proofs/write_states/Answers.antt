@@ -10,41 +10,23 @@ use Rattle.state_records.proofs.write_states.Goals as goal
 pub loop-s-init : goal.loop-s-init
 loop-s-init c = (omega (arith, c.requires.1.0, rows_few c.requires.0 (λ s. s.items) _ c.requires.1.1.1.1.1.0), λ U es ea ei ee B D R. let z : states_at U + 0 ≡ states_at U = omega arith in rw z (grown-none U _ _))
 
-pub offset_bounds-begins-s : goal.offset_bounds-begins-s
-offset_bounds-begins-s c = omega (arith, c.loop-s-test.true, c.loop-s.invariant.0)
+pub span-item-requires : goal.span-item-requires
+span-item-requires c = omega (arith, c.loop-s-test.true, c.loop-s.invariant.0)
 
-pub bounds-begins-s : goal.bounds-begins-s
-bounds-begins-s c = omega (arith, c.loop-s-test.true, c.loop-s.invariant.0)
+pub span-edge-requires : goal.span-edge-requires
+span-edge-requires c = omega (arith, c.loop-s-test.true, c.loop-s.invariant.0)
 
-pub offset_bounds-edges-s : goal.offset_bounds-edges-s
-offset_bounds-edges-s c = omega (arith, c.loop-s-test.true, c.loop-s.invariant.0)
-
-pub bounds-edges-s : goal.bounds-edges-s
-bounds-edges-s c = omega (arith, c.loop-s-test.true, c.loop-s.invariant.0)
-
-pub offset_bounds-begins-s-in-loop-s : goal.offset_bounds-begins-s-in-loop-s
-offset_bounds-begins-s-in-loop-s c = omega (arith, c.loop-s-test.true, c.loop-s.invariant.0)
-
-pub bounds-begins-s-in-loop-s : goal.bounds-begins-s-in-loop-s
-bounds-begins-s-in-loop-s c = omega (arith, c.loop-s-test.true, c.loop-s.invariant.0)
-
-pub overflow_sub-begins : goal.overflow_sub-begins
-overflow_sub-begins c = let P = c.requires in omega (arith, rows_count P.0 (λ s. s.items) _ P.1.1.1.1.1.0 _ (inside_is _ _ _ c.loop-s-test.true P.1.0))
+pub overflow_sub-item_past : goal.overflow_sub-item_past
+overflow_sub-item_past c = let P = c.requires in omega (arith, rows_count P.0 (λ s. s.items) _ P.1.1.1.1.1.0 _ (inside_is _ _ _ c.loop-s-test.true P.1.0), c.span-item.ensures)
 
 pub overflow_add-items : goal.overflow_add-items
-overflow_add-items c = let P = c.requires in omega (arith, state_items P.0 _ P.1.1.1.1.1.1.1 _ (inside_is _ _ _ c.loop-s-test.true P.1.0) _ P.1.1.1.1.1.0 _ P.1.1.1.0)
+overflow_add-items c = let P = c.requires in omega (arith, state_items P.0 _ P.1.1.1.1.1.1.1 _ (inside_is _ _ _ c.loop-s-test.true P.1.0) _ P.1.1.1.1.1.0 _ P.1.1.1.0, c.span-item.ensures)
 
-pub offset_bounds-edges-s-in-loop-s : goal.offset_bounds-edges-s-in-loop-s
-offset_bounds-edges-s-in-loop-s c = omega (arith, c.loop-s-test.true, c.loop-s.invariant.0)
-
-pub bounds-edges-s-in-loop-s : goal.bounds-edges-s-in-loop-s
-bounds-edges-s-in-loop-s c = omega (arith, c.loop-s-test.true, c.loop-s.invariant.0)
-
-pub overflow_sub-edges : goal.overflow_sub-edges
-overflow_sub-edges c = let P = c.requires in omega (arith, rows_count P.0 (λ s. s.edges) _ P.1.1.1.1.1.1.0 _ (inside_is _ _ _ c.loop-s-test.true P.1.0))
+pub overflow_sub-edge_past : goal.overflow_sub-edge_past
+overflow_sub-edge_past c = let P = c.requires in omega (arith, rows_count P.0 (λ s. s.edges) _ P.1.1.1.1.1.1.0 _ (inside_is _ _ _ c.loop-s-test.true P.1.0), c.span-edge.ensures)
 
 pub overflow_add-ends : goal.overflow_add-ends
-overflow_add-ends c = let P = c.requires in omega (arith, state_edges P.0 _ P.1.1.1.1.1.1.1 _ (inside_is _ _ _ c.loop-s-test.true P.1.0) _ P.1.1.1.1.1.1.0 _ P.1.1.1.1.0)
+overflow_add-ends c = let P = c.requires in omega (arith, state_edges P.0 _ P.1.1.1.1.1.1.1 _ (inside_is _ _ _ c.loop-s-test.true P.1.0) _ P.1.1.1.1.1.1.0 _ P.1.1.1.1.0, c.span-edge.ensures)
 
 pub overflow_add-at : goal.overflow_add-at
 overflow_add-at c = let P = c.requires in omega (arith, (state_room P.0 _ P.1.1.1.1.1.1.1 _ (inside_is _ _ _ c.loop-s-test.true P.1.0) _ c.loop-s.out P.1.1.0 c.loop-s.auto.out).0)
@@ -52,12 +34,12 @@ overflow_add-at c = let P = c.requires in omega (arith, (state_room P.0 _ P.1.1.
 pub put-requires : goal.put-requires
 put-requires c = let P = c.requires in
     let R = P.1.1.1.1.1.1.1 in
-    let h = inside_is _ _ _ c.loop-s-test.true P.1.0 in record { r_lt_record_limit = state_room P.0 _ R _ h _ c.loop-s.out P.1.1.0 c.loop-s.auto.out; a_bound = (head_small _ _ _ (state_items P.0 _ R _ h _ P.1.1.1.1.1.0 _ P.1.1.1.0) c.head_of-item_head.ensures, (head_small _ _ _ (state_edges P.0 _ R _ h _ P.1.1.1.1.1.1.0 _ P.1.1.1.1.0) c.head_of-edge_head.ensures, (omega arith, omega arith))) }
+    let h = inside_is _ _ _ c.loop-s-test.true P.1.0 in record { r_lt_record_limit = state_room P.0 _ R _ h _ c.loop-s.out P.1.1.0 c.loop-s.auto.out; a_bound = (head_small _ _ _ (state_items P.0 _ R _ h _ P.1.1.1.1.1.0 _ P.1.1.1.0) (rw (c.span-item.ensures.0, c.span-item.ensures.1) at c.head_of-item_head.ensures), (head_small _ _ _ (state_edges P.0 _ R _ h _ P.1.1.1.1.1.1.0 _ P.1.1.1.1.0) (rw (c.span-edge.ensures.0, c.span-edge.ensures.1) at c.head_of-edge_head.ensures), (omega arith, omega arith))) }
 
 pub loop-s-preserved : goal.loop-s-preserved
 loop-s-preserved c = let W = c.loop-s.invariant in (
   W.0,
-  λ U es ea ei ee B D R. state_put U _ R _ (inside_is _ _ _ c.loop-s-test.true es) _ _ _ _ _ _ _ _ _ B D ea ei ee c.loop-s.auto.out c.head_of-item_head.ensures c.head_of-edge_head.ensures c.put.ensures (W.1 U es ea ei ee B D R),
+  λ U es ea ei ee B D R. state_put U _ R _ (inside_is _ _ _ c.loop-s-test.true es) _ _ _ _ _ _ _ _ _ B D ea ei ee c.loop-s.auto.out (rw (c.span-item.ensures.0, c.span-item.ensures.1) at c.head_of-item_head.ensures) (rw (c.span-edge.ensures.0, c.span-edge.ensures.1) at c.head_of-edge_head.ensures) c.put.ensures (W.1 U es ea ei ee B D R),
 )
 
 pub returns : goal.returns

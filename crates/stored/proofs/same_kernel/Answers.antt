@@ -1,23 +1,19 @@
-use Rattle.std.proofs.Common.{refl, ◌∙◌, arith}
-use Rattle.stored.proofs.Stored.{all_part, kernel_start, kernel_on, kernel_off, kernel_end}
+use Rattle.std.proofs.Common.{◌≡◌, refl, ◌∙◌, ap, arith, rules, tests}
+use Rattle.std.proofs.lemmas.Iterator.{YieldsList-from_map}
+use Rattle.std.proofs.lemmas.Iterator.Consumers.{YieldsList-at, YieldsList-from_filter}
+use Rattle.stored.specs.Stored.{entry_at}
+use Rattle.std.specs.Slice.Iter.{chunks_exact_rest}
+use Rattle.stored.proofs.Stored.{all_entries, all_part}
+use Rattle.stored.proofs.Same.{eq_told, chunks, all_front, item_of, past?, kernel_list}
 use Rattle.stored.proofs.same_kernel.Goals as goal
 
-pub loop-item-init : goal.loop-item-init
-loop-item-init c = let r = c.requires in
-    rw (c.into_iter-item-iterator.ensures.into_iter_gives, c.chunks_exact-item-items.ensures.size, c.chunks_exact-item-items.ensures.rest, all_part _ _ _ r.0 r.2) record { size = refl; few = omega arith; same = kernel_start _ _ _ }
-
-pub meet_one-requires : goal.meet_one-requires
-meet_one-requires c = c.loop-item.invariant.few
-
-pub returns-in-None-meet_one : goal.returns-in-None-meet_one
-returns-in-None-meet_one c = let s = c.in-Some.ensures.steps in
-    kernel_off _ _ _ _ _ _ _ _ _ (s.1.1 ∙ c.loop-item.invariant.size) c.of.ensures.0 c.in-None-meet_one.ensures (omega arith) (rw s.1.0 at c.loop-item.invariant.same)
-
-pub loop-item-preserved : goal.loop-item-preserved
-loop-item-preserved c = let s = c.in-Some.ensures.steps in
-    let e = c.in-Some-meet_one.ensures in
-    record { size = s.0 ∙ c.loop-item.invariant.size; few = e.0; same = kernel_on _ _ _ _ _ _ _ _ _ (s.1.1 ∙ c.loop-item.invariant.size) c.of.ensures.0 e.1 e.0 (rw s.1.0 at c.loop-item.invariant.same) }
-
 pub returns : goal.returns
-returns c = let s = c.in-None.ensures.steps in
-    kernel_end _ _ _ _ _ (omega (arith, s.1.0, c.loop-item.invariant.size)) c.loop-item.invariant.few c.loop-item.invariant.same
+returns c =
+    eq_told c.eq.ensures.ran
+    (YieldsList-from_filter _ past? (YieldsList-at c.filter-kept.ensures.source (YieldsList-from_map _ item_of (YieldsList-at c.map.ensures.source (chunks c.chunks_exact.ensures.size)) c.map.ensures.closure
+    (λ x r q k. let e : record { place = r.place; set = r.set } ≡ entry_at x.now 0 = search rules in (search rules, ap item_of e))))
+    c.filter-kept.ensures.closure (λ x b q k. search (rules, tests)))
+    (YieldsList-from_map _ item_of (YieldsList-at c.map-2.ensures.source (chunks c.chunks_exact-wanted.ensures.size)) c.map-2.ensures.closure
+    (λ x r q k. let e : record { place = r.place; set = r.set } ≡ entry_at x.now 0 = search rules in (search rules, ap item_of e)))
+    ∙ kernel_list (all_entries (chunks_exact_rest c.chunks_exact.result)) (all_entries (chunks_exact_rest c.chunks_exact-wanted.result))
+    ∙ rw (c.chunks_exact.ensures.rest, c.chunks_exact-wanted.ensures.rest, all_part _ _ _ c.requires.0 c.requires.2, all_front c.args.kernel.now.words c.args.kernel.now.many (omega (arith, c.args.kernel.now.room))) refl

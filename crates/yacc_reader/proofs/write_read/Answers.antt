@@ -6,6 +6,9 @@ use Rattle.yacc_reader.proofs.write_read.Goals as goal
 pub pack-productions-requires : goal.pack-productions-requires
 pack-productions-requires c = record { readable = λ l p. readable _ _ _ (c.requires.passes l p) }
 
+pub invariant_of-grammar : goal.invariant_of-grammar
+invariant_of-grammar c = let k = layout_of c.args.symbols.now.text.now c.args.symbols.now.grammar in record { packed = (grammar_of c.args.symbols.now.text.now k.0 k.1 _ _ (c.requires.passes k.0 k.1) _ _ _ _ _ _ c.args.symbols.now.named _ _ (c.pack-productions.ensures k.0 k.1)).packed.packed }
+
 pub write_started-requires : goal.write_started-requires
 write_started-requires c = let k = layout_of c.args.symbols.now.text.now c.args.symbols.now.grammar in record { grammar_of = (_, grammar_of c.args.symbols.now.text.now k.0 k.1 _ _ (c.requires.passes k.0 k.1) _ _ _ _ _ _ c.args.symbols.now.named _ _ (c.pack-productions.ensures k.0 k.1)); production_lt_production_limit = omega arith }
 
