@@ -60,17 +60,13 @@ pub struct Words<'a> {
 }
 
 // The ids of a text of the grammar, entered: its names by their places with their index, the numbers of those that are left sides, of the literals and of the names that are tokens.
-#[derive(Clone, Copy)]
+#[derive(Drop)]
 pub struct SymbolTable<'a> {
     pub text: &'a [u8],
-    pub starts: &'a [u16],
-    pub pasts: &'a [u16],
-    pub ix: &'a [u16],
-    pub lefts: &'a [u16],
-    pub tokens: &'a [u16],
+    pub words: Words<'a>,
     pub counts: Ids,
-    pub ghost kept: { Kept text.now starts.now pasts.now ix.now lefts.now tokens.now counts } by { Kept-prop text.now starts.now pasts.now ix.now lefts.now tokens.now counts },
-    pub ghost named: { Named text.now starts.now pasts.now ix.now lefts.now tokens.now counts } by { Named-prop text.now starts.now pasts.now ix.now lefts.now tokens.now counts },
+    pub ghost kept: { Kept text.now words.starts.now words.pasts.now words.ix.now words.lefts.now words.tokens.now counts } by { Kept-prop text.now words.starts.now words.pasts.now words.ix.now words.lefts.now words.tokens.now counts },
+    pub ghost named: { Named text.now words.starts.now words.pasts.now words.ix.now words.lefts.now words.tokens.now counts } by { Named-prop text.now words.starts.now words.pasts.now words.ix.now words.lefts.now words.tokens.now counts },
     pub ghost grammar: { is_grammar_text text.now ≡ true },
     pub ghost short: { length text.now ≤ text_limit },
 }
@@ -92,21 +88,9 @@ impl<'a> SymbolTable<'a> {
         ensures { result.text.now ≡ text.now }
     {
         let counts = words.enter_all(text);
-        // Taken apart first: `words.starts` in the literal has no generated proof.
-        let Words {
-            starts,
-            pasts,
-            ix,
-            lefts,
-            tokens,
-        } = words;
         SymbolTable {
             text,
-            starts,
-            pasts,
-            ix,
-            lefts,
-            tokens,
+            words,
             counts,
         }
     }
@@ -114,26 +98,26 @@ impl<'a> SymbolTable<'a> {
     // The number of a name, as the names were entered. (That a lexeme lies in the text is asked wherever it meets the table, here and in the crates above: one that held a text would still not say that it is the table's.)
     fn find(&self, lexeme: Lexeme) -> Option<usize>
         requires { lexeme.past ≤ length self.now.text.now }
-        ensures { held result ≡ latest (is_name self.now.text.now self.now.starts.now self.now.pasts.now (slice lexeme.from lexeme.past self.now.text.now)) self.now.counts.names }
+        ensures { held result ≡ latest (is_name self.now.text.now self.now.words.starts.now self.now.words.pasts.now (slice lexeme.from lexeme.past self.now.text.now)) self.now.counts.names }
     {
         find(
             self.text,
-            self.starts,
-            self.pasts,
-            self.ix,
+            self.words.starts,
+            self.words.pasts,
+            self.words.ix,
             self.counts.names,
             lexeme.from,
             lexeme.past,
         )
     }
 
-    // The number of an id among the nonterminals: a literal has none.
+    // The number of an id among the nonterminals: a literal has none. (Which ids the table holds, and which layout its text has, is said at each call, here and in the crates above: the caller chooses both, and a ghost field's fact has one proof.)
     pub fn left(&self, lexeme: Lexeme) -> Option<u16>
         requires { lexeme.past ≤ length self.now.text.now }
         ensures { is_id lexeme.word ≡ true → (ns ts : List Known) → Holds self.now ns ts → held result ≡ place_in ns (id_at self.now.text.now lexeme.word lexeme.from lexeme.past) }
     {
         match lexeme.word {
-            Word::Name => number_at(self.lefts, self.find(lexeme)?),
+            Word::Name => number_at(self.words.lefts, self.find(lexeme)?),
             _ => None,
         }
     }
@@ -144,8 +128,8 @@ impl<'a> SymbolTable<'a> {
         ensures { is_id lexeme.word ≡ true → (ns ts : List Known) → Holds self.now ns ts → held result ≡ place_in ts (id_at self.now.text.now lexeme.word lexeme.from lexeme.past) }
     {
         match lexeme.word {
-            Word::Name => number_at(self.tokens, Ids::LITERALS + self.find(lexeme)?),
-            Word::Literal => number_at(self.tokens, byte(self.text, lexeme.from + 1)),
+            Word::Name => number_at(self.words.tokens, Ids::LITERALS + self.find(lexeme)?),
+            Word::Literal => number_at(self.words.tokens, byte(self.text, lexeme.from + 1)),
             _ => None,
         }
     }

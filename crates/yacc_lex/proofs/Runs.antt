@@ -1,15 +1,15 @@
 -- Runs of bytes from a place of a text on: names, words, comments. Assumes nothing.
-use Prim.Native.Nat.{ℕ, zero, suc, ◌+◌, ◌-◌, ◌≤◌, ◌<◌}
+use Prim.Native.Nat.{ℕ, suc, ◌+◌, ◌-◌, ◌≤◌, ◌<◌}
 use native.Mathlib.Numerals.{add-one}
 use native.Mathlib.Omega.{arith}
 use mathlib.Core.Bool.{Bool, true, false, ◌&&◌, not}
-use mathlib.Core.Path.{◌≡◌, refl, sym, ap, ◌∙◌, subst}
-use Rattle.std.specs.Prelude.{Option as Answered, Some, None}
-use Rattle.std.specs.Option.{MatchOption, unwrap_or}
+use mathlib.Core.Path.{◌≡◌, refl, sym, ap, ◌∙◌}
 use mathlib.Core.List.{List, [], ◌∷◌}
 use mathlib.Core.Option.{Option, none, some}
 use lib.Dec.{eqb}
-use Rattle.std.specs.List.{starts_with}
+use Rattle.std.specs.List.{starts_with, take_while}
+use Rattle.std.proofs.lemmas.List.Sums.{take_while-cons}
+use Rattle.std.specs.Prelude.{cond}
 use Rattle.std.proofs.lemmas.Grind.{common_steps}
 use Rattle.std.proofs.lemmas.Bool.Decides.{nat_tests}
 use lib.ListN.{length, get_or, take, drop, length-drop, drop_of_length-le}
@@ -39,48 +39,14 @@ run_none : (b : ℕ) (k : List ℕ) → goes_on_byte (kind_of b) ≡ false → r
 unfolding run_of
 run_none b k e = rw (e, run_of)
 
-module _ (t : List ℕ) (i r : ℕ) (inv : i + length (run_of (drop i t)) ≡ r) where
-  run-goes : (g : Bool) → i < length t → g ≡ goes_on_byte (kind_of (get_or t i 0)) → g ≡ true → i + 1 + length (run_of (drop (i + 1) t)) ≡ r
-  run-goes g h e y =
-      let l : length (run_of (drop i t)) ≡ suc (length (run_of (drop (i + 1) t))) = ap length (ap run_of (drop-next t i h) ∙ run_more (get_or t i 0) (drop (i + 1) t) (sym e ∙ y)) in
-      omega arith
+run_byte : (b : ℕ) (k : List ℕ) (g : Bool) → goes_on_byte (kind_of b) ≡ g → take_while (λ c. goes_on_byte (kind_of c)) k ≡ run_of k → take_while (λ c. goes_on_byte (kind_of c)) (b ∷ k) ≡ run_of (b ∷ k)
+run_byte b k true e I = take_while-cons (λ c. goes_on_byte (kind_of c)) b k ∙ ap (λ (c : Bool). cond c (b ∷ take_while (λ d. goes_on_byte (kind_of d)) k) []) e ∙ ap (λ (l : List ℕ). b ∷ l) I ∙ sym (run_more b k e)
+run_byte b k false e I = take_while-cons (λ c. goes_on_byte (kind_of c)) b k ∙ ap (λ (c : Bool). cond c (b ∷ take_while (λ d. goes_on_byte (kind_of d)) k) []) e ∙ sym (run_none b k e)
 
-  run-stops : (g : Bool) → i < length t → g ≡ goes_on_byte (kind_of (get_or t i 0)) → g ≡ false → i ≡ r
-  run-stops g h e n =
-      let l : length (run_of (drop i t)) ≡ 0 = ap length (ap run_of (drop-next t i h) ∙ run_none (get_or t i 0) (drop (i + 1) t) (sym e ∙ n)) in
-      omega arith
-
-  run_ends : i ≡ length t → length t ≡ r
-  unfolding run_of
-  run_ends e =
-      let h : length t ≤ i = omega arith in
-      let l : length (run_of (drop i t)) ≡ 0 = ap (λ (k : List ℕ). length (run_of k)) (drop_of_length-le t h) in
-      omega arith
-
--- all go on up to a place, and there it stops
-abbrev GoesAt : List ℕ → ℕ → Bool → Type 0
-GoesAt t k g = goes_on_byte (kind_of (get_or t k 0)) ≡ g
-
-run_up : (t : List ℕ) (r n i : ℕ) → i + length (run_of (drop i t)) ≡ r → i + n ≤ length t → ((k : ℕ) → i ≤ k → k < i + n → GoesAt t k true) → i + n + length (run_of (drop (i + n) t)) ≡ r
-run_up t r zero i inv h f = let z : i ≡ i + 0 = omega arith in subst (λ (k : ℕ). k + length (run_of (drop k t)) ≡ r) z inv
-run_up t r (suc n) i inv h f =
-    let q : i + 1 + n ≡ i + suc n = omega arith in
-    let more = run-goes t i r inv true (omega (arith, h)) (sym (f i (omega arith) (omega arith))) refl in
-    subst (λ (k : ℕ). k + length (run_of (drop k t)) ≡ r) q (run_up t r n (i + 1) more (omega (arith, h)) (λ k a b. f k (omega (arith, a)) (omega (arith, b))))
-
-pub run_found : (t : List ℕ) (at : ℕ) → at ≤ length t → (o : Answered ℕ)
-    → MatchOption o ((k : ℕ) → at ≤ k → k < length t → GoesAt t k true) (λ i. (at ≤ i) × (i < length t) × GoesAt t i false × ((k : ℕ) → at ≤ k → k < i → GoesAt t k true))
-    → unwrap_or o (length t) ≡ at + length (run_of (drop at t))
-run_found t at h None f =
-    let r = at + length (run_of (drop at t)) in
-    let e : at + (length t - at) ≡ length t = omega (arith, h) in
-    run_ends t (at + (length t - at)) r (run_up t r (length t - at) at refl (omega (arith, h)) (λ k a b. f k a (omega (arith, b, h)))) e
-run_found t at h (Some i) f =
-    let r = at + length (run_of (drop at t)) in
-    let a = f.0 in
-    let b = f.1 in
-    let e : at + (i - at) ≡ i = omega (arith, a) in
-    run-stops t i r (subst (λ (k : ℕ). k + length (run_of (drop k t)) ≡ r) e (run_up t r (i - at) at refl (omega (arith, a, b)) (λ k c d. f.3 k c (omega (arith, d, a))))) false b (sym f.2) refl
+pub run_passes : (k : List ℕ) → take_while (λ b. goes_on_byte (kind_of b)) k ≡ run_of k
+unfolding run_of
+run_passes [] = refl
+run_passes (b ∷ k) = run_byte b k (goes_on_byte (kind_of b)) refl (run_passes k)
 
 -- a run is as many bytes of the text
 by_byte : (b : ℕ) (k : List ℕ) (g : Bool) → goes_on_byte (kind_of b) ≡ g → (run_of k ≡ take (length (run_of k)) k) × (past_run k ≡ drop (length (run_of k)) k)

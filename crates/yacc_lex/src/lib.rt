@@ -33,7 +33,7 @@ enum Piece {
     Outside,
 }
 
-// The next token.
+// The next token. (The end and what no text has are two answers: an Option in a Result would say the same with two words at each arm.)
 #[derive(Clone, Copy)]
 pub enum Next {
     Token(Lexeme),
@@ -47,6 +47,7 @@ pub fn is_white(b: u8) -> bool
     matches!(b, b' ' | b'\t' | b'\n' | b'\x0c')
 }
 
+// The library's test, in the words that contracts have for it.
 pub fn is_digit(b: u8) -> bool
     ensures { result ≡ is_digit_byte b }
 {
@@ -77,9 +78,7 @@ fn run_end(text: &[u8], at: usize) -> usize
     requires { at ≤ length text.now }
     ensures { result ≡ at + length (run_of (drop at text.now)) }
 {
-    (at..text.len())
-        .find(|i| !goes_on(text[*i]))
-        .unwrap_or(text.len())
+    at + text[at..].iter().take_while(|b| goes_on(**b)).count()
 }
 
 // Does no letter and no digit stand at `at`.

@@ -11,7 +11,7 @@ use repr::{NonterminalString, ProductionIndex, Refusal, Symbol};
 use table::RECORD_WORDS;
 use yacc_count::Counts;
 
-// What refuses a text of n nonterminals and m terminals that is named well, by its counts and the room there is. A production's record stands behind those of the counts, the nonterminals and the one state.
+// What refuses a text of n nonterminals and m terminals that is named well, by its counts and the room there is. A production's record stands behind those of the counts, the nonterminals and the one state. (The lists and not their lengths: the clause says of both that they are left.)
 pub fn check_counts(
     n: usize,
     m: usize,

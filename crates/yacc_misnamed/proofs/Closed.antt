@@ -4,7 +4,10 @@ use mathlib.Core.Bool.{Bool, true, false, ◌&&◌, ◌||◌, not, or-true}
 use mathlib.Core.Path.{◌≡◌, refl, sym, ap, ◌∙◌}
 use mathlib.Core.List.{List, [], ◌∷◌, ◌++◌, map}
 use mathlib.Core.Option.{Option, none, some}
+use Rattle.std.proofs.Common.{Option as Answer, Some, None}
+use Rattle.std.specs.Option.{is_some}
 use Rattle.repr.specs.Lists.{some?, joined}
+use Rattle.yacc_lex.specs.Steps.{found_at}
 use Rattle.repr.proofs.Lists.{cases, clash}
 use Rattle.repr.proofs.Tests.{some?-nil, some?_no, some?-append}
 use Rattle.yacc_text.specs.Grammar.{Id, Token, ident, token, start, mark, colon, bar, semi, Layout}
@@ -19,7 +22,7 @@ use Rattle.yacc_read.specs.Outcome.{nowhere, undefined_use, named_both_ways, und
 use Rattle.yacc_read.proofs.Known.{same_id_lem, known_cons, known_none, known_entered}
 use Rattle.yacc_misnamed.specs.Fault.{faulty, fault_from}
 use Rattle.yacc_misnamed.proofs.Laws.{known_both}
-use Rattle.yacc_misnamed.proofs.Fault.{none-cons, never, fault-goes, text_placed}
+use Rattle.yacc_misnamed.proofs.Fault.{none-cons, never, fault-goes, misnamed-fault, text_placed}
 
 -- behind each id of a body stands what ends it; o: such an id came before
 closed : Bool → List Event → Bool
@@ -179,3 +182,9 @@ fault-misnamed t l k e f =
     cases (misnamed (source_in l.pieces))
     (λ y. y)
     (λ n. clash (some? (faulty (source_in l.pieces)) (events (top false) p)) (found-faulty (source_in l.pieces) p (top false) k f) (named_none (events (top false) p) (closed-events p (top false) a) n))
+
+-- `is_misnamed`: so 21 refuses exactly where a place is found
+pub fault_told : (t : List ℕ) (l : Layout) → parse t ≡ some l → (o : Answer ℕ) → found_at o ≡ fault_from (source_in l.pieces) (top false) (placed 0 l.pieces) → is_some o ≡ misnamed (source_in l.pieces)
+unfolding found_at
+fault_told t l p None e = cases (misnamed (source_in l.pieces)) (λ y. let k = misnamed-fault l y in never k.0 (e ∙ k.1)) (λ n. sym n)
+fault_told t l p (Some k) e = sym (fault-misnamed t l k p (sym e))

@@ -37,9 +37,8 @@ use Rattle.std.specs.Fn.{CalledAt}
 use Rattle.std.specs.Iterator.{YieldsThen}
 use denote.Param.Members.{Mut}
 use denote.Ref.{Bor}
-use Rattle.yacc_misnamed.specs.Looked.{nowhere_of}
 use Rattle.yacc_misnamed.specs.Fault.{faulty, fault_from}
-use Rattle.yacc_misnamed.proofs.Laws.{none_both, nowhere_is}
+use Rattle.yacc_misnamed.proofs.Laws.{none_both}
 
 -- a test that none passes
 pub none-cons {ℓ} : {A : Type ℓ} (t : A → Bool) (x : A) (xs : List A) → some? t (x ∷ xs) ≡ false → (t x ≡ false) × (some? t xs ≡ false)
@@ -152,9 +151,9 @@ module _ (S : Source) (t : List ℕ) (m : Mode) (w : Word) (from past : ℕ) (s 
   unfolding events_of faulty
   fault-defines q b p = p ∙ said_one (defines (id_at t w from past) from) (ap (λ (k : Saying). events_of k (id_at t w from past) from past) q)
 
-  pub fault-uses : s ≡ Uses → (b : Bool) → b ≡ nowhere_of S.nonterminals S.terminals (id_at t w from past) → b ≡ some? (faulty S) (event_of m (token_at t w from past) from past)
+  pub fault-uses : s ≡ Uses → (b : Bool) → b ≡ nowhere S (id_at t w from past) → b ≡ some? (faulty S) (event_of m (token_at t w from past) from past)
   unfolding events_of faulty
-  fault-uses q b p = p ∙ nowhere_is S (id_at t w from past) ∙ said_one (uses (id_at t w from past) from past) (ap (λ (k : Saying). events_of k (id_at t w from past) from past) q)
+  fault-uses q b p = p ∙ said_one (uses (id_at t w from past) from past) (ap (λ (k : Saying). events_of k (id_at t w from past) from past) q)
 
   pub fault-shuts : s ≡ Shuts → false ≡ some? (faulty S) (event_of m (token_at t w from past) from past)
   unfolding events_of faulty

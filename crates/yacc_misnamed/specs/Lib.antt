@@ -1,3 +1,2 @@
 -- What the contracts cite. Assumes nothing.
-pub mod Looked
 pub mod Fault

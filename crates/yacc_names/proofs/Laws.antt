@@ -1,14 +1,14 @@
 -- The turns of the loops over bytes and over a bucket's chain; a name entered. Assumes nothing.
 use Prim.Native.Nat.{ℕ, zero, suc, ◌+◌, ◌-◌, ◌*◌, ◌%◌, ◌≤◌, ◌<◌, min}
 use native.Mathlib.Omega.{arith}
-use native.Mathlib.Numerals.{add-one}
 use mathlib.Core.Bool.{Bool, true, false, ◌&&◌}
 use mathlib.Core.Path.{◌≡◌, refl, sym, ap, ◌∙◌}
 use mathlib.Core.List.{List, [], ◌∷◌}
 use lib.ListN.{length, get_or, set, take, drop, length-set, drop_of_length-le}
-use lib.Seq.{slice, drop-cons, length-take-le, get_or-set_same, get_or-set_other}
+use lib.Seq.{slice, length-take-le, get_or-set_same, get_or-set_other}
 use lib.Dec.{eqb, leb}
 use lib.Pointwise.{pointwise}
+use Rattle.std.specs.List.{fold}
 use Rattle.std.proofs.lemmas.List.{drop-take}
 use borrow.Author.Tests.{eqb-true, eqb-false, eq-eqb, leb-true, leb-false}
 use Rattle.slices.specs.Same.{same_words}
@@ -37,14 +37,10 @@ bytes_is t from past m h e =
     ap (λ (k : ℕ). take k (drop m t)) z ∙ sym (slice-none t from past (omega arith) h))
 
 -- `bucket_of`
-module _ (bs : List ℕ) (sum i r : ℕ) (inv : mixed sum (drop i bs) ≡ r) where
-  pub mix-more : i < length bs → mixed ((sum * 211 + get_or bs i 0) % 65536) (drop (i + 1) bs) ≡ r
-  unfolding mixed
-  mix-more h = sym (ap (mixed sum) (drop-cons bs i 0 h ∙ ap (λ (k : ℕ). get_or bs i 0 ∷ drop k bs) (sym (add-one i)))) ∙ inv
-
-  pub mix_end : length bs ≤ i → sum ≡ r
-  unfolding mixed
-  mix_end h = sym (ap (mixed sum) (drop_of_length-le bs h)) ∙ inv
+pub mixed_fold : (bs : List ℕ) (h : ℕ) → fold (λ a b. (a * 211 + b) % 65536) h bs ≡ mixed h bs
+unfolding mixed
+mixed_fold [] h = refl
+mixed_fold (b ∷ bs) h = mixed_fold bs ((h * 211 + b) % 65536)
 
 pub bucket_is : (sum : ℕ) (bs : List ℕ) → sum ≡ mixed 0 bs → sum % bucket_limit ≡ bucket_number bs
 unfolding bucket_number

@@ -1,9 +1,9 @@
 // The names of a yacc text in the order of their entering, each by the places of its first byte and behind its last; an index in buckets beside them, so that a name is looked for in one bucket alone (specs/Names).
-// Three lists of words side by side, and chains of numbers in one of them: there is no heap, and the words are those that a caller lends, for writing while it enters and for reading behind that. A name is two places here: `Lexeme` is of crate yacc_lex, which this one does not know.
+// Chains of numbers in a list of words: there is no heap. The places stand in two lists of words, as a caller lends them: a list of pairs would ask for words that are laid out so. A name is two places here: `find` and `place` ask `from ≤ past`, and a `Lexeme` holds `from < past`, which would ask more.
 
 #![tactic(auto)]
 
-ghost use Rattle.std.specs.Prelude.{◌≡◌, ◌+◌, ◌≤◌, ◌<◌, length, set};
+ghost use Rattle.std.specs.Prelude.{◌≡◌, ◌+◌, ◌*◌, ◌%◌, ◌≤◌, ◌<◌, length, set};
 ghost use Rattle.std.proofs.Math.Seq.{slice};
 ghost use Rattle.trace_graph.specs.Insert.{chained};
 ghost use Rattle.yacc_names.specs.Names.{bucket_limit, bucket_number, held, is_name, latest, Entered, left, placing};
@@ -26,17 +26,21 @@ fn bytes(text: &[u8], from: usize, past: usize) -> &[u8]
     &text[from.min(past)..past]
 }
 
+// A byte mixed into a number.
+fn mixed(sum: u16, b: u8) -> u16
+    ensures { result ≡ (sum * 211 + b) % 65536 }
+{
+    ((usize::from(sum) * FACTOR + usize::from(b)) % MIXED) as u16
+}
+
 // The bucket of the name that stands from a place up to another.
 pub fn bucket_of(text: &[u8], from: usize, past: usize) -> usize
     requires { (from ≤ past) × (past ≤ length text.now) }
     ensures { (result ≡ bucket_number (slice from past text.now)) × (result < bucket_limit) }
 {
     let name = bytes(text, from, past);
-    let mut sum: usize = 0;
-    for b in name {
-        sum = (sum * FACTOR + usize::from(*b)) % MIXED;
-    }
-    sum % BUCKETS
+    let sum = name.iter().fold(0, |sum, b| mixed(sum, *b));
+    usize::from(sum) % BUCKETS
 }
 
 // The number of the name among the first k.
@@ -67,7 +71,7 @@ pub fn find(
     None
 }
 
-// Name k, in front of the chain of its bucket. (Crate trace_graph links edges so, and mixes other words into their buckets: three lines, of which one form would take the number of buckets and where the links stand.)
+// Name k, in front of the chain of its bucket. (`link` of crate trace_graph is these three lines for its own number of buckets and its own length of index: one form of both would be no shorter, and take a number more at each call.)
 pub fn enter(
     starts: &mut [u16],
     pasts: &mut [u16],

@@ -5,7 +5,7 @@
 ghost use Rattle.std.specs.Prelude.{◌≡◌, ◌<◌, length};
 ghost use Rattle.yacc_numbers.specs.Numbers.{numbered, numbered_to};
 
-// Id j gets number n unless it has one; how many have one then.
+// Id j gets number n unless it has one; how many have one then. (0 and no Option: the words are lent as zeros, and `number_at` of crate yacc_enter makes the Option where one is read.)
 pub fn number(numbers: &mut [u16], j: usize, n: usize) -> usize
     requires { (j < length numbers.old) × (n < 65535) }
     ensures value { result ≡ numbered_to numbers.old j n }

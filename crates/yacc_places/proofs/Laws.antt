@@ -6,7 +6,7 @@ use mathlib.Core.Path.{◌≡◌, refl, sym, ap, ◌∙◌}
 use mathlib.Core.List.{List, [], ◌∷◌, ◌++◌, map, append_assoc, append-nil}
 use mathlib.Core.Option.{Option, none, some}
 use lib.ListN.{length, get_or, set, drop, length-append, get_or-append}
-use lib.Seq.{get_or-set_same, get_or-set_other, get_or-append_seam, get_or-append-add, get_or-drop, ext_get_or}
+use lib.Seq.{get_or-set_same, get_or-set_other, get_or-append_seam, get_or-append-add, get_or-drop, drop-drop, ext_get_or}
 use lib.Dec.{eqb, ltb}
 use borrow.Author.Tests.{eqb-true, eqb-false, eq-eqb, ne_eqb, ltb-true, ltb-false}
 use Rattle.slices.specs.Lent.{in_front}
@@ -53,12 +53,12 @@ pub written_to_lem : (n place : ℕ) → place ≡ n + 1 → place ≡ written_t
 unfolding written_to
 written_to_lem n place e = let y = eq-eqb place (n + 1) e in rw (y, written_to) e
 
-module _ (xs : List ℕ) (base n place from : ℕ) where
-  pub written_in_lem : place ≡ n + 1 → set xs (base + n) from ≡ written_in xs base n place from
+module _ (xs : List ℕ) (n place from : ℕ) where
+  pub written_in_lem : place ≡ n + 1 → set xs n from ≡ written_in xs n place from
   unfolding written_in
   written_in_lem e = let y = eq-eqb place (n + 1) e in sym (rw (y, written_in))
 
-  pub written-not : (place ≡ n + 1 → ⊥) → (n ≡ written_to n place) × (xs ≡ written_in xs base n place from)
+  pub written-not : (place ≡ n + 1 → ⊥) → (n ≡ written_to n place) × (xs ≡ written_in xs n place from)
   unfolding written_to written_in
   written-not e = let y = ne_eqb place (n + 1) e in (sym (rw (y, written_to)), sym (rw (y, written_in)))
 
@@ -138,111 +138,100 @@ step_low ks next rest all place from (more y x e) w q =
     let l = entered_long next rest all w in
     omega (arith, a, b, l)
 
--- the places of those known so far stand behind the first `base` words
+-- the places of those known so far stand in front
 abbrev no_known : Known
 no_known = record { id = no_id; at = 0 }
 
-pub record Front (p : List ℕ) (base n : ℕ) (ks : List Known) : Type 0 where
+pub record Front (p : List ℕ) (n : ℕ) (ks : List Known) : Type 0 where
   pub count : n ≡ length ks
-  pub words : (i : ℕ) → i < length ks → get_or p (base + i) 0 ≡ (get_or ks i no_known).at
+  pub words : (i : ℕ) → i < length ks → get_or p i 0 ≡ (get_or ks i no_known).at
 
-module _ (p : List ℕ) (base n : ℕ) (ks : List Known) (F : Front p base n ks) where
-  front-step : (next : List Known) (place from : ℕ) → Step ks next place from → (place ≡ length ks + 1 → base + length ks < length p) → Front (written_in p base n place from) base (written_to n place) next
+module _ (p : List ℕ) (n : ℕ) (ks : List Known) (F : Front p n ks) where
+  front-step : (next : List Known) (place from : ℕ) → Step ks next place from → (place ≡ length ks + 1 → length ks < length p) → Front (written_in p n place from) (written_to n place) next
   front-step next place from (kept a e) h =
       let c = F.count in
-      let q = written-not p base n place from (λ z. a (omega (arith, c, z))) in
+      let q = written-not p n place from (λ z. a (omega (arith, c, z))) in
       rw (← q.0, ← q.1, e) F
   front-step next place from (more y x e) h =
       let c = F.count in
       let k : Known = record { id = x; at = from } in
       let d : place ≡ n + 1 = omega (arith, y, c) in
       let l = length-append ks (k ∷ []) in
-      let inside : base + n < length p = let z = h y in omega (arith, z, c) in
-      rw (← (written_to_lem n place d), ← (written_in_lem p base n place from d), e)
+      let inside : n < length p = let z = h y in omega (arith, z, c) in
+      rw (← (written_to_lem n place d), ← (written_in_lem p n place from d), e)
       (record {
         count = omega (arith, y, l);
         words = λ i m. cases (eqb i (length ks))
             (λ j. let d = eqb-true i (length ks) j in
-            let u : base + i ≡ base + n = omega (arith, d, c) in
-            ap (λ (o : ℕ). get_or (set p (base + n) from) o 0) u ∙ get_or-set_same p (base + n) from 0 inside
+            let u : i ≡ n = omega (arith, d, c) in
+            ap (λ (o : ℕ). get_or (set p n from) o 0) u ∙ get_or-set_same p n from 0 inside
             ∙ sym (ap (λ (o : ℕ). (get_or (ks ++ (k ∷ [])) o no_known).at) d ∙ ap (λ (o : Known). o.at) (get_or-append_seam ks k [] no_known)))
             (λ j. let d = eqb-false i (length ks) j in
             let b : i < length ks = omega (arith, m, l, d) in
-            get_or-set_other p (base + n) (base + i) from 0 (λ u. omega (arith, u, b, c)) ∙ F.words i b ∙ sym (ap (λ (o : Known). o.at) (get_or-append ks (k ∷ []) no_known i b)));
+            get_or-set_other p n i from 0 (λ u. omega (arith, u, b, c)) ∙ F.words i b ∙ sym (ap (λ (o : Known). o.at) (get_or-append ks (k ∷ []) no_known i b)));
       })
 
-  -- a word that stands elsewhere
-  front-other : (other m place from : ℕ) → (place ≡ m + 1 → (i : ℕ) → i < length ks → base + i ≡ other + m → ⊥) → Front (written_in p other m place from) base n ks
-  front-other other m place from a =
-      cases (eqb place (m + 1))
-      (λ y. let e = eqb-true place (m + 1) y in
-      rw (← (written_in_lem p other m place from e)) (record { count = F.count; words = λ i h. get_or-set_other p (other + m) (base + i) from 0 (a e i h) ∙ F.words i h }))
-      (λ y. rw (← (written-not p other m place from (eqb-false place (m + 1) y)).1) F)
-
 -- the words behind them are as they were
-rest-other : (p₀ p : List ℕ) (bound : ℕ) → ((i : ℕ) → bound ≤ i → get_or p i 0 ≡ get_or p₀ i 0) → (other m place from : ℕ) → (place ≡ m + 1 → other + m < bound) → (i : ℕ) → bound ≤ i → get_or (written_in p other m place from) i 0 ≡ get_or p₀ i 0
-rest-other p₀ p bound R other m place from a i h =
+rest-other : (p₀ p : List ℕ) (bound : ℕ) → ((i : ℕ) → bound ≤ i → get_or p i 0 ≡ get_or p₀ i 0) → (m place from : ℕ) → (place ≡ m + 1 → m < bound) → (i : ℕ) → bound ≤ i → get_or (written_in p m place from) i 0 ≡ get_or p₀ i 0
+rest-other p₀ p bound R m place from a i h =
     cases (eqb place (m + 1))
     (λ y. let e = eqb-true place (m + 1) y in
     let l = a e in
-    ap (λ (q : List ℕ). get_or q i 0) (sym (written_in_lem p other m place from e)) ∙ get_or-set_other p (other + m) i from 0 (λ u. omega (arith, u, l, h)) ∙ R i h)
-    (λ y. ap (λ (q : List ℕ). get_or q i 0) (sym (written-not p other m place from (eqb-false place (m + 1) y)).1) ∙ R i h)
+    ap (λ (q : List ℕ). get_or q i 0) (sym (written_in_lem p m place from e)) ∙ get_or-set_other p m i from 0 (λ u. omega (arith, u, l, h)) ∙ R i h)
+    (λ y. ap (λ (q : List ℕ). get_or q i 0) (sym (written-not p m place from (eqb-false place (m + 1) y)).1) ∙ R i h)
 
--- all of them
-module _ (S : Source) (base n m : ℕ) (p₀ p : List ℕ) (b : base ≡ length S.nonterminals) (F : Front p 0 n S.nonterminals) (G : Front p base m S.terminals) (R : (i : ℕ) → length S.nonterminals + length S.terminals ≤ i → get_or p i 0 ≡ get_or p₀ i 0) where
+-- all of them, in the two parts p and q of the words
+front_mapped : (ks : List Known) (p : List ℕ) (n : ℕ) → Front p n ks → (i : ℕ) → i < length ks → get_or p i 0 ≡ get_or (map (λ k. k.at) ks) i 0
+front_mapped ks p n F i h = F.words i h ∙ sym (get_d_map (λ (k : Known). k.at) ks i no_known 0 h)
+
+module _ (S : Source) (n m : ℕ) (q₀ p q : List ℕ) (F : Front p n S.nonterminals) (G : Front q m S.terminals) (b : length p ≡ length S.nonterminals) (R : (i : ℕ) → length S.terminals ≤ i → get_or q i 0 ≡ get_or q₀ i 0) (long : length q ≡ length q₀) (room : length S.terminals ≤ length q₀) where
   abbrev the_lefts : List ℕ
   the_lefts = map (λ k. k.at) S.nonterminals
 
   abbrev the_tokens : List ℕ
   the_tokens = map (λ k. k.at) S.terminals
 
-  front-word : (i : ℕ) → get_or p i 0 ≡ get_or ((the_lefts ++ the_tokens) ++ drop (length (the_lefts ++ the_tokens)) p₀) i 0
-  front-word i =
-      let rest = drop (length (the_lefts ++ the_tokens)) p₀ in
+  lefts_is : p ≡ the_lefts
+  lefts_is =
       let l = length_mapped (λ (k : Known). k.at) S.nonterminals in
-      let r = length_mapped (λ (k : Known). k.at) S.terminals in
-      let a = length-append the_lefts the_tokens in
-      cases (ltb i (length S.nonterminals))
-      (λ y. let h = ltb-true i (length S.nonterminals) y in
-      let u : i ≡ 0 + i = omega arith in
-      ap (λ (o : ℕ). get_or p o 0) u ∙ F.words i h ∙ sym (get_d_map (λ (k : Known). k.at) S.nonterminals i no_known 0 h) ∙ sym (get_or-append the_lefts the_tokens 0 i (omega (arith, h, l))) ∙ sym (get_or-append (the_lefts ++ the_tokens) rest 0 i (omega (arith, h, l, a))))
-      (λ y. let h = ltb-false i (length S.nonterminals) y in
-      cases (ltb i (length S.nonterminals + length S.terminals))
-      (λ y'. let h' = ltb-true i (length S.nonterminals + length S.terminals) y' in
-      let j = i - length S.nonterminals in
-      let low : j < length S.terminals = omega (arith, h, h') in
-      let u : i ≡ base + j = omega (arith, h, b) in
-      let v : i ≡ length the_lefts + j = omega (arith, h, l) in
-      ap (λ (o : ℕ). get_or p o 0) u ∙ G.words j low ∙ sym (get_d_map (λ (k : Known). k.at) S.terminals j no_known 0 low) ∙ sym (get_or-append-add the_lefts the_tokens j 0) ∙ ap (λ (o : ℕ). get_or (the_lefts ++ the_tokens) o 0) (sym v) ∙ sym (get_or-append (the_lefts ++ the_tokens) rest 0 i (omega (arith, h', l, r, a))))
-      (λ y'. let h' = ltb-false i (length S.nonterminals + length S.terminals) y' in
-      let j = i - length (the_lefts ++ the_tokens) in
-      let u : length (the_lefts ++ the_tokens) + j ≡ i = omega (arith, h', l, r, a) in
-      R i h' ∙ ap (λ (o : ℕ). get_or p₀ o 0) (sym u) ∙ sym (get_or-drop (length (the_lefts ++ the_tokens)) p₀ j 0) ∙ sym (get_or-append-add (the_lefts ++ the_tokens) rest j 0) ∙ ap (λ (o : ℕ). get_or ((the_lefts ++ the_tokens) ++ rest) o 0) u))
+      ext_get_or 0 p the_lefts (omega (arith, l, b)) (λ i h. front_mapped S.nonterminals p n F i (omega (arith, h, b)))
 
-  pub places-all : length p ≡ length p₀ → length S.nonterminals + length S.terminals ≤ length p₀ → p ≡ in_front (places_of S) p₀
+  tokens_is : q ≡ the_tokens ++ drop (length the_tokens) q₀
+  unfolding in_front
+  tokens_is =
+      let l = length_mapped (λ (k : Known). k.at) S.terminals in
+      ext_get_or 0 q (the_tokens ++ drop (length the_tokens) q₀) (long ∙ sym (length-in_front the_tokens q₀ (omega (arith, l, room))))
+      (λ i h. cases (ltb i (length S.terminals))
+      (λ y. let low = ltb-true i (length S.terminals) y in front_mapped S.terminals q m G i low ∙ sym (get_or-append the_tokens (drop (length the_tokens) q₀) 0 i (omega (arith, low, l))))
+      (λ y. let high = ltb-false i (length S.terminals) y in
+      let j = i - length the_tokens in
+      let u : length the_tokens + j ≡ i = omega (arith, high, l) in
+      R i high ∙ ap (λ (o : ℕ). get_or q₀ o 0) (sym u) ∙ sym (get_or-drop (length the_tokens) q₀ j 0) ∙ sym (get_or-append-add the_tokens (drop (length the_tokens) q₀) j 0) ∙ ap (λ (o : ℕ). get_or (the_tokens ++ drop (length the_tokens) q₀) o 0) u))
+
+  pub places-all : (r₀ : List ℕ) → q₀ ≡ drop (length S.nonterminals) r₀ → p ++ q ≡ in_front (places_of S) r₀
   unfolding in_front places_of
-  places-all e h =
+  places-all r₀ e =
       let l = length_mapped (λ (k : Known). k.at) S.nonterminals in
-      let r = length_mapped (λ (k : Known). k.at) S.terminals in
       let a = length-append the_lefts the_tokens in
-      let f : length (the_lefts ++ the_tokens) ≤ length p₀ = omega (arith, l, r, a, h) in
-      ext_get_or 0 p ((the_lefts ++ the_tokens) ++ drop (length (the_lefts ++ the_tokens)) p₀) (e ∙ sym (length-in_front (the_lefts ++ the_tokens) p₀ f)) (λ i k. front-word i)
+      let d : drop (length the_tokens) q₀ ≡ drop (length (the_lefts ++ the_tokens)) r₀ =
+      ap (drop (length the_tokens)) e ∙ drop-drop (length the_tokens) (length S.nonterminals) r₀ ∙ ap (λ (k : ℕ). drop k r₀) (omega (arith, a, l)) in
+      ap (λ (k : List ℕ). k ++ q) lefts_is ∙ ap (λ (k : List ℕ). the_lefts ++ k) (tokens_is ∙ ap (λ (k : List ℕ). the_tokens ++ k) d) ∙ sym (append_assoc the_lefts the_tokens (drop (length (the_lefts ++ the_tokens)) r₀))
 
 -- the loop's turns
 abbrev both_of : Source → Both
 both_of S = record { nonterminals = S.nonterminals; terminals = S.terminals }
 
-pub record Placing (t : List ℕ) (S : Source) (base : ℕ) (p₀ p : List ℕ) (n m : ℕ) (mode : Mode) (at : ℕ) : Type 0 where
+pub record Placing (t : List ℕ) (S : Source) (q₀ p q : List ℕ) (n m : ℕ) (mode : Mode) (at : ℕ) : Type 0 where
   pub ns : List Known
   pub ts : List Known
   pub same : (z : Both) → of_said z (behind ns ts) mode (placed_from t at) ≡ both_of S
-  pub lefts : Front p 0 n ns
-  pub tokens : Front p base m ts
-  pub rest : (i : ℕ) → length S.nonterminals + length S.terminals ≤ i → get_or p i 0 ≡ get_or p₀ i 0
+  pub lefts : Front p n ns
+  pub tokens : Front q m ts
+  pub rest : (i : ℕ) → length S.terminals ≤ i → get_or q i 0 ≡ get_or q₀ i 0
 
-pub placing-first : (t : List ℕ) (l : Layout) → parse t ≡ some l → (base : ℕ) (p : List ℕ) → Placing t (source_in l.pieces) base p p 0 0 (top false) 0
+pub placing-first : (t : List ℕ) (l : Layout) → parse t ≡ some l → (p q : List ℕ) → Placing t (source_in l.pieces) q p q 0 0 (top false) 0
 unfolding source_in source_of behind
-placing-first t l e base p = record {
+placing-first t l e p q = record {
   ns = [];
   ts = [];
   same = λ z. said-whole z (behind [] []) t l e;
@@ -262,7 +251,7 @@ unfolding of_said
 all-tokens f r m none h = absurd (not-all r h)
 all-tokens f r m (some ps) h = (events m ps, h r)
 
-module _ (t : List ℕ) (S : Source) (base : ℕ) (p₀ p : List ℕ) (n m : ℕ) (mode : Mode) (at : ℕ) (P : Placing t S base p₀ p n m mode at) (b : base ≡ length S.nonterminals) (room : length S.nonterminals + length S.terminals ≤ length p)
+module _ (t : List ℕ) (S : Source) (q₀ p q : List ℕ) (n m : ℕ) (mode : Mode) (at : ℕ) (P : Placing t S q₀ p q n m mode at) (b : length p ≡ length S.nonterminals) (room : length S.terminals ≤ length q)
     (s : Saying) (w : Word) (from past : ℕ) (k : Mode) (L : Leads t at w from past) (e : s ≡ said_in mode w) (g : k ≡ move mode (token_at t w from past)) where
   abbrev os : List Known
   os = joined left_side (events_of s (id_at t w from past) from past)
@@ -286,35 +275,30 @@ module _ (t : List ℕ) (S : Source) (base : ℕ) (p₀ p : List ℕ) (n m : ℕ
   unfolding behind
   tokens-then = ap (λ (j : Both). j.terminals) said-next.1
 
-  pub placing-next : (left token : ℕ) → left ≡ entered_place S.nonterminals os → token ≡ entered_place S.terminals us → (p₁ p₂ : List ℕ) (n₁ m₁ : ℕ) → p₁ ≡ written_in p 0 n left from → n₁ ≡ written_to n left → p₂ ≡ written_in p₁ base m token from → m₁ ≡ written_to m token → length p₁ ≡ length p → Placing t S base p₀ p₂ n₁ m₁ k past
-  placing-next left token el et p₁ p₂ n₁ m₁ e₁ c₁ e₂ c₂ long =
+  pub placing-next : (left token : ℕ) → left ≡ entered_place S.nonterminals os → token ≡ entered_place S.terminals us → (p₁ q₁ : List ℕ) (n₁ m₁ : ℕ) → p₁ ≡ written_in p n left from → n₁ ≡ written_to n left → q₁ ≡ written_in q m token from → m₁ ≡ written_to m token → Placing t S q₀ p₁ q₁ n₁ m₁ k past
+  placing-next left token el et p₁ q₁ n₁ m₁ e₁ c₁ e₂ c₂ =
       let A : Step P.ns (entered P.ns os) left from = rw el (left_step s (id_at t w from past) from past P.ns (joined left_side said-next.0) S.nonterminals lefts_then) in
       let B : Step P.ts (entered P.ts us) token from = rw et (token-step s (id_at t w from past) from past P.ts (joined token_use said-next.0) S.terminals tokens-then) in
       let a = step_low P.ns (entered P.ns os) (joined left_side said-next.0) S.nonterminals left from A lefts_then in
       let d = step_low P.ts (entered P.ts us) (joined token_use said-next.0) S.terminals token from B tokens-then in
-      let all = entered_long (entered P.ns os) (joined left_side said-next.0) S.nonterminals lefts_then in
-      let cn = P.lefts.count in
       let cm = P.tokens.count in
-      let F₁ : Front p₁ 0 n₁ (entered P.ns os) = rw (e₁, c₁) (front-step p 0 n P.ns P.lefts (entered P.ns os) left from A (λ q. let z = a q in omega (arith, z, room))) in
-      let G₁ : Front p₁ base m P.ts = rw e₁ (front-other p base m P.ts P.tokens 0 n left from (λ q i l u. let z = a (q ∙ ap (λ (j : ℕ). j + 1) cn) in omega (arith, z, u, b, cn))) in
-      let R₁ : (i : ℕ) → length S.nonterminals + length S.terminals ≤ i → get_or p₁ i 0 ≡ get_or p₀ i 0 = λ i l. ap (λ (q : List ℕ). get_or q i 0) e₁ ∙ rest-other p₀ p (length S.nonterminals + length S.terminals) P.rest 0 n left from (λ q. let z = a (q ∙ ap (λ (j : ℕ). j + 1) cn) in omega (arith, z, cn)) i l in
       record {
         ns = entered P.ns os;
         ts = entered P.ts us;
         same = next_same;
-        lefts = rw e₂ (front-other p₁ 0 n₁ (entered P.ns os) F₁ base m token from (λ q i l u. omega (arith, l, u, b, all)));
-        tokens = rw (e₂, c₂) (front-step p₁ base m P.ts G₁ (entered P.ts us) token from B (λ q. let z = d q in omega (arith, z, room, b, long)));
-        rest = λ i l. ap (λ (q : List ℕ). get_or q i 0) e₂ ∙ rest-other p₀ p₁ (length S.nonterminals + length S.terminals) R₁ base m token from (λ q. let z = d (q ∙ ap (λ (j : ℕ). j + 1) cm) in omega (arith, z, cm, b)) i l;
+        lefts = rw (e₁, c₁) (front-step p n P.ns P.lefts (entered P.ns os) left from A (λ z. let y = a z in omega (arith, y, b)));
+        tokens = rw (e₂, c₂) (front-step q m P.ts P.tokens (entered P.ts us) token from B (λ z. let y = d z in omega (arith, y, room)));
+        rest = λ i l. ap (λ (x : List ℕ). get_or x i 0) e₂ ∙ rest-other q₀ q (length S.terminals) P.rest m token from (λ z. let y = d (z ∙ ap (λ (j : ℕ). j + 1) cm) in omega (arith, y, cm)) i l;
       }
 
-module _ (t : List ℕ) (S : Source) (base : ℕ) (p₀ p : List ℕ) (n m : ℕ) (mode : Mode) (at : ℕ) (P : Placing t S base p₀ p n m mode at) (D : placed_from t at ≡ some []) where
-  pub placing-last : base ≡ length S.nonterminals → length p ≡ length p₀ → length S.nonterminals + length S.terminals ≤ length p₀ → p ≡ in_front (places_of S) p₀
+module _ (t : List ℕ) (S : Source) (q₀ p q : List ℕ) (n m : ℕ) (mode : Mode) (at : ℕ) (P : Placing t S q₀ p q n m mode at) (D : placed_from t at ≡ some []) where
+  pub placing-last : length p ≡ length S.nonterminals → length q ≡ length q₀ → length S.terminals ≤ length q₀ → (r₀ : List ℕ) → q₀ ≡ drop (length S.nonterminals) r₀ → p ++ q ≡ in_front (places_of S) r₀
   unfolding behind joined entered
-  placing-last b l room =
-      let q : behind P.ns P.ts [] ≡ both_of S = said_ends (both_of S) t at mode (behind P.ns P.ts) (both_of S) (P.same (both_of S)) D in
-      let u : P.ns ≡ S.nonterminals = ap (λ (k : Both). k.nonterminals) q in
-      let v : P.ts ≡ S.terminals = ap (λ (k : Both). k.terminals) q in
-      places-all S base n m p₀ p b (rw u at P.lefts) (rw v at P.tokens) P.rest l room
+  placing-last b l room r₀ f =
+      let q' : behind P.ns P.ts [] ≡ both_of S = said_ends (both_of S) t at mode (behind P.ns P.ts) (both_of S) (P.same (both_of S)) D in
+      let u : P.ns ≡ S.nonterminals = ap (λ (k : Both). k.nonterminals) q' in
+      let v : P.ts ≡ S.terminals = ap (λ (k : Both). k.terminals) q' in
+      places-all S n m q₀ p q (rw u at P.lefts) (rw v at P.tokens) b P.rest l room r₀ f
 
 -- what a word enters, by what it says
 pub said_enters : (f : Event → List Known) (ks os : List Known) (x : Id) (from past p : ℕ) (s v : Saying) → s ≡ v → joined f (events_of v x from past) ≡ os → p ≡ entered_place ks os → p ≡ entered_place ks (joined f (events_of s x from past))

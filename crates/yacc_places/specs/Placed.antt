@@ -12,5 +12,5 @@ entered_place ks (o ∷ os) = place_in ks o.id
 unfoldable pub written_to : ℕ → ℕ → ℕ
 written_to n place = elim (eqb place (n + 1)) [ true ↦ n + 1 | false ↦ n ]
 
-unfoldable pub written_in : List ℕ → ℕ → ℕ → ℕ → ℕ → List ℕ
-written_in xs base n place from = elim (eqb place (n + 1)) [ true ↦ set xs (base + n) from | false ↦ xs ]
+unfoldable pub written_in : List ℕ → ℕ → ℕ → ℕ → List ℕ
+written_in xs n place from = elim (eqb place (n + 1)) [ true ↦ set xs n from | false ↦ xs ]

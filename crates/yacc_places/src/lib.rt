@@ -42,25 +42,25 @@ fn token_said(symbols: &SymbolTable, token: Token) -> Option<u16>
     }
 }
 
-// A word behind the first `base`, as far as there is room. (By `get_mut`, tried two ways: what the library says of it tells the length alone, and the proof did not close.)
-fn put(places: &mut [u16], base: usize, n: usize, from: usize)
+// Word n, as far as there is room. (By `get_mut`, tried two ways: what the library says of it tells the length alone, and the proof did not close.)
+fn put(places: &mut [u16], n: usize, from: usize)
     requires { from < 65536 }
-    ensures { places.new ≡ set places.old (base + n) from }
+    ensures { places.new ≡ set places.old n from }
 {
-    if base < places.len() && n < places.len() - base {
-        places[base + n] = from as u16;
+    if n < places.len() {
+        places[n] = from as u16;
     }
 }
 
 // The place of an id is written if its number comes next, as n are written; how many are then.
-fn write_place(places: &mut [u16], base: usize, n: usize, number: Option<u16>, from: usize) -> usize
+fn write_place(places: &mut [u16], n: usize, number: Option<u16>, from: usize) -> usize
     requires { from < 65536 }
     ensures value { result ≡ written_to n (held number) }
-    ensures places_after { places.new ≡ written_in places.old base n (held number) from }
+    ensures places_after { places.new ≡ written_in places.old n (held number) from }
 {
     match number {
         Some(number) if usize::from(number) == n => {
-            put(places, base, n, from);
+            put(places, n, from);
             n + 1
         }
         _ => n,
@@ -72,14 +72,15 @@ pub fn write_places(symbols: &SymbolTable, places: &mut [u16])
     requires { symbols.now.counts.nonterminals + symbols.now.counts.terminals ≤ length places.old }
     ensures { (l : Layout) → parse symbols.now.text.now ≡ some l → places.new ≡ in_front (places_of (source_in l.pieces)) places.old }
 {
-    let base = symbols.counts.nonterminals;
+    let (lefts, tokens) = places.split_at_mut(symbols.counts.nonterminals);
+    // Counted by hand: how many are written, to which not every word adds.
     let mut n: usize = 0;
     let mut m: usize = 0;
     for token in TokenIter::new(symbols.text) {
         let left = left_said(symbols, token);
         let right = token_said(symbols, token);
-        n = write_place(places, 0, n, left, token.lexeme.from);
-        m = write_place(places, base, m, right, token.lexeme.from);
+        n = write_place(lefts, n, left, token.lexeme.from);
+        m = write_place(tokens, m, right, token.lexeme.from);
     }
 }
 

@@ -8,7 +8,7 @@ use mathlib.Core.Option.{Option, none, some}
 use lib.ListN.{length, get_or, take, drop, set, length-append, length-set}
 use lib.Seq.{get_or-append_seam, take-set-le}
 use lib.Dec.{eqb}
-use borrow.Author.Tests.{eqb-true, eqb-false, eq-eqb, ne_eqb, not-false}
+use borrow.Author.Tests.{eqb-true, eqb-false, not-false}
 use Rattle.repr.specs.Sizes.{nonterminal_limit, terminal_limit, production_limit, production_place, grammar_room}
 use Rattle.repr.specs.Lists.{some?}
 use Rattle.repr.specs.Meaning.{Symbol, nonterminal, terminal, Production, no_production, production_at, ProductionFits, TableFits}
@@ -40,14 +40,14 @@ use Rattle.yacc_said.specs.declared.Saying.{Saying}
 use Rattle.yacc_said.specs.declared.Saying.TheVariants.{Lists, Opens, Defines, Uses, Shuts, Nothing}
 use Rattle.yacc_said.proofs.Laws.{said_turn, said_ends, said-whole}
 use Rattle.yacc_numbers.specs.Numbers.{place_in}
-use Rattle.std.proofs.Common.{Option as Answer, Some, None}
+use Rattle.std.proofs.Common.{Option as Answer, Some, None, IfSome}
 use Rattle.std.specs.Option.{unwrap_or}
 use Rattle.yacc_names.specs.Names.{held}
 use Rattle.yacc_symbols.specs.Symbols.{IsSymbol}
 use Rattle.repr.specs.declared.Symbol.{Symbol as Symbol'}
 use Rattle.repr.specs.Symbols.{meant}
 use Rattle.yacc_productions.specs.Readable.{Readable, Whole}
-use Rattle.yacc_productions.specs.Turn.{in_rule, pairs, place_or_else, begun_at, ended_at, ids_of, symbol_place, Added, Closed, Stored, Opened, Turn}
+use Rattle.yacc_productions.specs.Turn.{in_rule, pairs, begun_at, ended_at, ids_of, symbol_place, Added, Closed, Stored, Opened, Turn}
 use Rattle.yacc_productions.specs.declared.Body.{Body}
 use Rattle.yacc_productions.proofs.Words.{pairs_snoc, fits-pairs, put_two, stored_front, head-front, stored_new}
 
@@ -73,23 +73,14 @@ pub known_number : (ks : List Known) (x : Id) (o : Answer ℕ) → held o ≡ pl
 known_number ks x None e y = let q = place-number ks x 0 e y in absurd (omega (arith, q))
 known_number ks x (Some j) e y = let q : suc j ≡ suc (number_in ks x) = place-number ks x (suc j) e y in omega (arith, q)
 
--- `place_or`
-module _ (n at x : ℕ) where
-  pub place_none : n ≡ 0 → at ≡ place_or_else n at x
-  unfolding place_or_else
-  place_none e = sym (ap (λ (c : Bool). elim c [ true ↦ at | false ↦ x ]) (eq-eqb n 0 e))
+-- `add`: the span's front
+pub begun_is : (o : Answer (ℕ × ℕ)) (from past : ℕ) → (unwrap_or o (from, past)).0 ≡ (unwrap_or o (from, from)).0
+begun_is None from past = refl
+begun_is (Some s) from past = refl
 
-  pub place-some : (n ≡ 0 → ⊥) → x ≡ place_or_else n at x
-  unfolding place_or_else
-  place-some e = sym (ap (λ (c : Bool). elim c [ true ↦ at | false ↦ x ]) (ne_eqb n 0 e))
-
-  pub place_small : at < 65536 → x < 65536 → place_or_else n at x < 65536
-  unfolding place_or_else
-  place_small a b = by (eqb n 0)
-    where
-      by : (c : Bool) → elim c [ true ↦ at | false ↦ x ] < 65536
-      by true = a
-      by false = b
+pub span_small : (o : Answer (ℕ × ℕ)) (a c : ℕ) → IfSome o (λ s. (s.0 < 65536) × (s.1 < 65536)) → a < 65536 → c < 65536 → ((unwrap_or o (a, c)).0 < 65536) × ((unwrap_or o (a, c)).1 < 65536)
+span_small None a c h x y = (x, y)
+span_small (Some s) a c h x y = h
 
 -- spans
 start-more : (us : List Use) (x : Id) (from past at : ℕ) → span_start us from ≡ span_start (us ++ record { id = x; from = from; past = past } ∷ []) at
@@ -240,10 +231,10 @@ behind ks f all m (some ps) e = (f (events m ps), cc)
 
 -- one symbol more in the open body
 opened-more : (S : Source) (g : List ℕ) (b : Body) (us : List Use) → Opened S g b us → symbol_place b + 1 < length g → (x : Id) (kind number from past : ℕ) → kind ≡ kind_of (symbol_of S x) → number ≡ number_of (symbol_of S x)
-    → Opened S (set (set g (symbol_place b) kind) (symbol_place b + 1) number) (record { production = b.production; owner = b.owner; symbols = b.symbols + 1; start = begun_at b from; end = past }) (us ++ record { id = x; from = from; past = past } ∷ [])
+    → Opened S (set (set g (symbol_place b) kind) (symbol_place b + 1) number) (record { production = b.production; owner = b.owner; symbols = b.symbols + 1; span = Some (begun_at b from, past) }) (us ++ record { id = x; from = from; past = past } ∷ [])
 opened-more S g b us O l x kind number from past k n =
     let u : Use = record { id = x; from = from; past = past } in
-    let r : Body = record { production = b.production; owner = b.owner; symbols = b.symbols + 1; start = begun_at b from; end = past } in
+    let r : Body = record { production = b.production; owner = b.owner; symbols = b.symbols + 1; span = Some (begun_at b from, past) } in
     let a = length-append us (u ∷ []) in
     let m = O.many in
     let two : 2 * (b.symbols + 1) ≡ 2 * b.symbols + 2 = omega arith in
@@ -258,13 +249,13 @@ opened-more S g b us O l x kind number from past k n =
           ∙ ap (λ (j : ℕ). pairs (map (symbol_of S) (ids_of us)) ++ j ∷ number ∷ []) k
           ∙ ap (λ (j : ℕ). pairs (map (symbol_of S) (ids_of us)) ++ kind_of (symbol_of S x) ∷ j ∷ []) n
           ∙ sym (ap pairs ids ∙ pairs_snoc (map (symbol_of S) (ids_of us)) (symbol_of S x));
-      start = λ at. sym (place-some r.symbols at r.start (λ z. omega (arith, z))) ∙ O.start from ∙ start-more us x from past at;
-      end = λ at. sym (place-some r.symbols at r.end (λ z. omega (arith, z))) ∙ end_more us x from past at;
+      start = λ at. O.start from ∙ start-more us x from past at;
+      end = λ at. end_more us x from past at;
     }
 
 -- an empty body
-opened-none : (S : Source) (g : List ℕ) (p o : ℕ) → Opened S g (record { production = p; owner = o; symbols = 0; start = 0; end = 0 }) []
-unfolding pairs place_or_else span_start span_end
+opened-none : (S : Source) (g : List ℕ) (p o : ℕ) → Opened S g (record { production = p; owner = o; symbols = 0; span = None }) []
+unfolding pairs span_start span_end
 opened-none S g p o = record { many = refl; words = refl; start = λ at. refl; end = λ at. refl }
 
 made : (a c : ℕ) (ss : List Symbol) (s u e v : ℕ) → a ≡ c → s ≡ u → e ≡ v → ◌≡◌ {A = Production} (record { nonterminal = a; symbols = ss; start = s; end = e }) (record { nonterminal = c; symbols = ss; start = u; end = v })
@@ -273,16 +264,15 @@ made a c ss s u e v p q r =
     ∙ ap (λ (k : ℕ). record { nonterminal = c; symbols = ss; start = k; end = e }) q
     ∙ ap (λ (k : ℕ). record { nonterminal = c; symbols = ss; start = u; end = k }) r
 
-pub zero_body : (b : Body) → (b.production ≡ 0) × ((b.owner ≡ 0) × ((b.symbols ≡ 0) × ((b.start ≡ 0) × (b.end ≡ 0)))) → b ≡ record { production = 0; owner = 0; symbols = 0; start = 0; end = 0 }
+pub zero_body : (b : Body) → (b.production ≡ 0) × ((b.owner ≡ 0) × ((b.symbols ≡ 0) × (b.span ≡ None))) → b ≡ record { production = 0; owner = 0; symbols = 0; span = None }
 zero_body b z =
-    ap (λ (n : ℕ). record { production = n; owner = b.owner; symbols = b.symbols; start = b.start; end = b.end }) z.0
-    ∙ ap (λ (n : ℕ). record { production = 0; owner = n; symbols = b.symbols; start = b.start; end = b.end }) z.1.0
-    ∙ ap (λ (n : ℕ). record { production = 0; owner = 0; symbols = n; start = b.start; end = b.end }) z.1.1.0
-    ∙ ap (λ (n : ℕ). record { production = 0; owner = 0; symbols = 0; start = n; end = b.end }) z.1.1.1.0
-    ∙ ap (λ (n : ℕ). record { production = 0; owner = 0; symbols = 0; start = 0; end = n }) z.1.1.1.1
+    ap (λ (n : ℕ). record { production = n; owner = b.owner; symbols = b.symbols; span = b.span }) z.0
+    ∙ ap (λ (n : ℕ). record { production = 0; owner = n; symbols = b.symbols; span = b.span }) z.1.0
+    ∙ ap (λ (n : ℕ). record { production = 0; owner = 0; symbols = n; span = b.span }) z.1.1.0
+    ∙ ap (λ (o : Answer (ℕ × ℕ)). record { production = 0; owner = 0; symbols = 0; span = o }) z.1.1.1
 
 -- the turns
-pub turn_first : (S : Source) (t g : List ℕ) → of_said none (λ es. some (alternatives_from no_id [] es)) (top false) (placed_from t 0) ≡ some S.alternatives → Turn S t g (record { production = 0; owner = 0; symbols = 0; start = 0; end = 0 }) (top false) 0
+pub turn_first : (S : Source) (t g : List ℕ) → of_said none (λ es. some (alternatives_from no_id [] es)) (top false) (placed_from t 0) ≡ some S.alternatives → Turn S t g (record { production = 0; owner = 0; symbols = 0; span = None }) (top false) 0
 unfolding in_rule
 turn_first S t g e = record {
   closed = [];
@@ -322,7 +312,7 @@ module _ (S : Source) (t g : List ℕ) (b : Body) (m : Mode) (at : ℕ) (T : Tur
     body = T.body;
   }
 
-  pub turn_defines : s ≡ Defines → (o : ℕ) → (is_known S.nonterminals (id_at t w from past) ≡ true → o ≡ number_in S.nonterminals (id_at t w from past)) → Turn S t g (record { production = b.production; owner = o; symbols = 0; start = 0; end = 0 }) n past
+  pub turn_defines : s ≡ Defines → (o : ℕ) → (is_known S.nonterminals (id_at t w from past) ≡ true → o ≡ number_in S.nonterminals (id_at t w from past)) → Turn S t g (record { production = b.production; owner = o; symbols = 0; span = None }) n past
   turn_defines d o f = record {
     closed = T.closed;
     left = id_at t w from past;
@@ -449,7 +439,7 @@ unfolding source_in source_of
 said_all t l e = said-whole none (λ es. some (alternatives_from no_id [] es)) t l e
 
 -- `add` where there is room
-pub added_is : (g : List ℕ) (b : Body) (kind number k n from past s : ℕ) → (kind < 65536 → k ≡ kind) → (number < 65536 → n ≡ number) → s ≡ begun_at b from → Added g (set (set g (symbol_place b) k) (symbol_place b + 1) n) b (record { production = b.production; owner = b.owner; symbols = b.symbols + 1; start = s; end = past }) kind number from past
+pub added_is : (g : List ℕ) (b : Body) (kind number k n from past s : ℕ) → (kind < 65536 → k ≡ kind) → (number < 65536 → n ≡ number) → s ≡ begun_at b from → Added g (set (set g (symbol_place b) k) (symbol_place b + 1) n) b (record { production = b.production; owner = b.owner; symbols = b.symbols + 1; span = Some (s, past) }) kind number from past
 added_is g b kind number k n from past s f j e = record {
   production = refl;
   owner = refl;

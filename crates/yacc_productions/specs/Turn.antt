@@ -1,5 +1,6 @@
 -- The productions of a text (docs/YACC.md, Meaning: Production, Span) as the loop over its tokens packs them. Assumes nothing: these are definitions.
-use Rattle.std.specs.Prelude.{ℕ, ◌+◌, ◌*◌, ◌≤◌, ◌<◌, Bool, true, false, ◌≡◌, List, [], ◌∷◌, ◌++◌, map, length, get_or, take, drop, set, eqb}
+use Rattle.std.specs.Option.{unwrap_or}
+use Rattle.std.specs.Prelude.{Some, None, IfSome, ℕ, ◌+◌, ◌*◌, ◌≤◌, ◌<◌, Bool, true, false, ◌≡◌, List, [], ◌∷◌, ◌++◌, map, length, get_or, take, drop, set}
 use Rattle.std.proofs.Math.Option.{none, some}
 use Rattle.repr.specs.Sizes.{nonterminal_limit, terminal_limit, production_limit, symbol_limit, production_place}
 use Rattle.repr.specs.Lists.{some?}
@@ -31,18 +32,14 @@ pub record Small (b : Body) : Type 0 where
   pub production : b.production ≤ production_limit
   pub owner : b.owner < 65536
   pub symbols : b.symbols ≤ symbol_limit
-  pub start : b.start < 65536
-  pub end : b.end < 65536
+  pub span : IfSome b.span (λ s. (s.0 < 65536) × (s.1 < 65536))
 
--- a place of the span of a body of n symbols: of an empty one where something else stands
-unfoldable pub place_or_else : ℕ → ℕ → ℕ → ℕ
-place_or_else n at x = elim (eqb n 0) [ true ↦ at | false ↦ x ]
-
+-- where a body begins and ends: an empty one where something else stands
 abbrev pub begun_at : Body → ℕ → ℕ
-begun_at b at = place_or_else b.symbols at b.start
+begun_at b at = (unwrap_or b.span (at, at)).0
 
 abbrev pub ended_at : Body → ℕ → ℕ
-ended_at b at = place_or_else b.symbols at b.end
+ended_at b at = (unwrap_or b.span (at, at)).1
 
 abbrev pub ids_of : List Use → List Id
 ids_of us = map (λ u. u.id) us
@@ -57,11 +54,11 @@ pub record Added (g g' : List ℕ) (b r : Body) (kind number from past : ℕ) : 
   pub owner : r.owner ≡ b.owner
   pub long : length g' ≡ length g
   pub front : take (production_place b.production) g' ≡ take (production_place b.production) g
-  pub more : b.production < production_limit → b.symbols < symbol_limit → kind < 65536 → number < 65536 → (g' ≡ set (set g (symbol_place b) kind) (symbol_place b + 1) number) × (r ≡ record { production = b.production; owner = b.owner; symbols = b.symbols + 1; start = begun_at b from; end = past })
+  pub more : b.production < production_limit → b.symbols < symbol_limit → kind < 65536 → number < 65536 → (g' ≡ set (set g (symbol_place b) kind) (symbol_place b + 1) number) × (r ≡ record { production = b.production; owner = b.owner; symbols = b.symbols + 1; span = Some (begun_at b from, past) })
 
 -- the four words in front of the body written, and the next production begun with the same left side
 pub record Closed (g g' : List ℕ) (b r : Body) (at : ℕ) : Type 0 where
-  pub is : b.production < production_limit → (g' ≡ put_quad g (b.production * 9) b.owner b.symbols (begun_at b at) (ended_at b at)) × (r ≡ record { production = b.production + 1; owner = b.owner; symbols = 0; start = 0; end = 0 })
+  pub is : b.production < production_limit → (g' ≡ put_quad g (b.production * 9) b.owner b.symbols (begun_at b at) (ended_at b at)) × (r ≡ record { production = b.production + 1; owner = b.owner; symbols = 0; span = None })
 
 -- production q stands packed
 pub record Stored (T : Table) (g : List ℕ) (q : ℕ) : Type 0 where

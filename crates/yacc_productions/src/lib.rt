@@ -18,7 +18,7 @@ ghost use Rattle.yacc_said.specs.Said.{said_in, id_at};
 ghost use Rattle.yacc_enter.specs.Ids.{is_id};
 ghost use Rattle.yacc_enter.specs.Table.{Holds};
 ghost use Rattle.yacc_productions.specs.Readable.{Readable, Whole};
-ghost use Rattle.yacc_productions.specs.Turn.{Small, place_or_else, Added, Closed, Turn};
+ghost use Rattle.yacc_productions.specs.Turn.{Small, Added, Closed, Turn};
 
 use repr::{ProductionIndex, Symbol};
 use table::{RECORD_WORDS, put};
@@ -30,14 +30,13 @@ use yacc_symbols::symbol;
 // Records of a table that a production's words are.
 const RECORDS: usize = ProductionIndex::WORDS / RECORD_WORDS;
 
-// The production that is open: its number, its nonterminal's, its symbols so far and their span.
+// The production that is open: its number, its nonterminal's, its symbols so far, and where they begin and end.
 #[derive(Clone, Copy, Default)]
 struct Body {
     production: usize,
     owner: usize,
     symbols: usize,
-    start: usize,
-    end: usize,
+    span: Option<(usize, usize)>,
 }
 
 // The number of the nonterminal of a left side.
@@ -46,16 +45,6 @@ fn left_number(symbols: &SymbolTable, lexeme: Lexeme) -> usize
     ensures { (result < 65536) × (is_id lexeme.word ≡ true → (ns ts : List Known) → Holds symbols.now ns ts → is_known ns (id_at symbols.now.text.now lexeme.word lexeme.from lexeme.past) ≡ true → result ≡ number_in ns (id_at symbols.now.text.now lexeme.word lexeme.from lexeme.past)) }
 {
     usize::from(symbols.left(lexeme).unwrap_or(0))
-}
-
-// A place of the span of a body: of an empty one where something else stands.
-fn place_or(symbols: usize, at: usize, x: usize) -> usize
-    ensures { result ≡ place_or_else symbols at x }
-{
-    if symbols == 0 {
-        return at;
-    }
-    x
 }
 
 impl Body {
@@ -79,10 +68,10 @@ impl Body {
         let (kind, number) = read.words();
         grammar[at] = kind;
         grammar[at + 1] = number;
+        let (start, _) = self.span.unwrap_or((lexeme.from, lexeme.past));
         Body {
             symbols: self.symbols + 1,
-            start: place_or(self.symbols, lexeme.from, self.start),
-            end: lexeme.past,
+            span: Some((start, lexeme.past)),
             ..self
         }
     }
@@ -96,8 +85,7 @@ impl Body {
         if ProductionIndex::LIMIT <= self.production {
             return self;
         }
-        let start = place_or(self.symbols, at, self.start);
-        let end = place_or(self.symbols, at, self.end);
+        let (start, end) = self.span.unwrap_or((at, at));
         put(
             grammar,
             self.production * RECORDS,

@@ -60,7 +60,7 @@ fn write_read(
     })
 }
 
-// Reads a text that is named well, whose ids are entered: 2, 5 and 17. (`check_counts` takes two numbers: crate yacc_limits knows no `Ids`, which is of yacc_enter.)
+// Reads a text that is named well, whose ids are entered: 2, 5 and 17. (`check_counts` takes two numbers: of `Ids` it reads these alone, and not how many names there are.)
 fn read_counted(
     symbols: &SymbolTable,
     table: &mut [u16],

@@ -11,7 +11,7 @@ use Rattle.std.specs.Prelude.{Option as Answered, Some, None}
 use Rattle.std.specs.Bool.{⊤}
 use Rattle.std.specs.Option.{MatchOption, IfSome}
 use Rattle.std.specs.List.{FoldsTo}
-use Rattle.std.specs.Fn.{Called, CalledAt}
+use Rattle.std.specs.Fn.{CalledAt}
 use Rattle.std.specs.Iterator.{Yields, YieldsThen, CallableAtEachTurn}
 use Rattle.yacc_text.specs.Places.{placed_from}
 use Rattle.yacc_text.specs.Forward.{Mode}
@@ -39,22 +39,6 @@ asked_along t f C still Q ask s e = record {
       let p = passed t f C (λ x. Unit {0}) (λ x q c. (still x q c, tt)) (λ m i. Unit {0}) (λ s x u R z i. tt) xs s v f q refl e tt y k in
       subst (λ h. Q h x) (sym p.0) (ask x (read_in t v p.1 x u n).leads.inside);
 }
-
--- `any`
-module _ (t : List ℕ) {F : Type 0} (g : Mut F (Heard × Unit {0}) Bool) (f : F) (No : Heard → Type 0) (no : (x : Heard) (q : F) → Called g f (x, tt) false q → (q ≡ f) × No x)
-    (I : Mode → ℕ → Type 0) (on : (s : TokenIter) (x : Heard) (u : TokenIter) → Reads t s x u → No x → I (mode_of s.mode) s.at → I (mode_of u.mode) u.at) where
-  pub any_found : (s u : TokenIter) (r a : Bool)
-      → (xs : List Heard) × (o : Answered Heard) × (j : F) × YieldsThen Gives s xs o u × FoldsTo (λ p x q. Called g p (x, tt) false q) f xs j × MatchOption o (r ≡ false) (λ x. (r ≡ true) × ((h : F) × Called g j (x, tt) true h))
-      → s.text.now ≡ t → I (mode_of s.mode) s.at
-      → ((v : TokenIter) (x : Heard) (w : TokenIter) (h : F) → Reads t v x w → Called g f (x, tt) true h → I (mode_of v.mode) v.at → true ≡ a)
-      → ((v : TokenIter) → placed_from t v.at ≡ some [] → I (mode_of v.mode) v.at → false ≡ a)
-      → r ≡ a
-  any_found s u r a (xs, None, j, y, k, m) e i hit ends =
-      let p = passed t f (λ p x q. Called g p (x, tt) false q) No no I on xs s y.0 f j refl e i y.1 k in
-      m ∙ ends y.0 (ends_in t y.0 p.1 u y.2) p.2
-  any_found s u r a (xs, Some x, j, y, k, m) e i hit ends =
-      let p = passed t f (λ p x q. Called g p (x, tt) false q) No no I on xs s y.0 f j refl e i y.1 k in
-      m.0 ∙ hit y.0 x u m.1.0 (read_in t y.0 p.1 x u y.2) (subst (λ (q : F). Called g q (x, tt) true m.1.0) p.0 m.1.1) p.2
 
 -- `find`
 module _ (t : List ℕ) {F : Type 0} (g : Mut F (Bor Heard × Unit {0}) Bool) (f : F) (No : Heard → Type 0) (no : (x : Heard) (q : F) → CalledAt g f x false q → (q ≡ f) × No x)

@@ -46,7 +46,7 @@ fn lost() -> Stage
 
 // A line and a column, both from 1.
 #[derive(Clone, Copy)]
-pub struct Place {
+pub struct Position {
     pub line: usize,
     pub column: usize,
 }
@@ -236,31 +236,14 @@ pub fn stray(text: &[u8]) -> usize
     text.len()
 }
 
-// Behind a byte.
-fn passed(place: Place, b: u8) -> Place
-    requires { (place.line < 18446744073709551615) × (place.column < 18446744073709551615) }
-    ensures { (result.line ≡ place.line + occurrences 10 (b ∷ [])) × (result.column ≡ column_behind place.column (b ∷ [])) }
-{
-    if b == b'\n' {
-        return Place {
-            line: place.line + 1,
-            column: 1,
-        };
-    }
-    Place {
-        column: place.column + 1,
-        ..place
-    }
-}
-
 // The place of a byte, or of the text's end.
-pub fn place_of(text: &[u8], at: usize) -> Place
+pub fn place_of(text: &[u8], at: usize) -> Position
     requires { (at ≤ length text.now) × (at < 18446744073709551615) }
     ensures { (result.line ≡ line_of text.now at) × (result.column ≡ column_of text.now at) }
 {
-    let mut place = Place { line: 1, column: 1 };
-    for b in &text[..at] {
-        place = passed(place, *b);
+    let front = &text[..at];
+    Position {
+        line: 1 + front.iter().filter(|b| **b == b'\n').count(),
+        column: 1 + front.iter().rev().take_while(|b| **b != b'\n').count(),
     }
-    place
 }

@@ -18,7 +18,7 @@ ghost use Rattle.yacc_writer.specs.Wrote.{place_limit, Wrote, name_bytes, token_
 use repr::{Grammar, ProductionIndex, Refusal, Symbol, SymbolIter};
 use table::AcceptedTable;
 
-// A byte; the place behind it.
+// A byte; the place behind it. (By `get_mut`, tried: what the proof learns of the text is its length alone, as in crate yacc_places.)
 fn put(text: &mut [u8], at: usize, byte: u8) -> usize
     requires { at < place_limit }
     ensures { Wrote text.old at (byte ∷ []) text.new result }
@@ -41,7 +41,7 @@ fn put_all(text: &mut [u8], at: usize, bytes: &[u8]) -> usize
     place
 }
 
-// A number of one or two digits: no name has a greater one. (Two digits need no buffer to be turned round in.)
+// A number of one or two digits: no name has a greater one. (By hand: the law of the kit's `itoa` stands in crate lines, above this one.)
 fn put_number(text: &mut [u8], at: usize, n: usize) -> usize
     requires { (at + 1 < place_limit) × (n < 100) }
     ensures { Wrote text.old at (numeral n) text.new result × (result ≤ at + 2) }

@@ -1,17 +1,19 @@
-use Prim.Native.Nat.{ℕ}
-use lib.ListN.{get_or}
-use mathlib.Core.Bool.{true, false}
-use mathlib.Core.Path.{◌≡◌, ◌∙◌}
+use lib.ListN.{length}
+use Prim.Native.Nat.{ℕ, ◌+◌}
+use mathlib.Core.Path.{ap, ◌∙◌}
 use borrow.Author.Tests.{tests}
 use Rattle.std.proofs.Common.{rules}
-use Rattle.std.proofs.lemmas.Iterator.{first_from_Range}
+use Rattle.std.specs.Slice.Iter.{iter_rest}
+use Rattle.std.proofs.lemmas.Iterator.{YieldsList-from_slice}
+use Rattle.std.proofs.lemmas.Iterator.Search.{YieldsList-from_take_while}
+use Rattle.std.proofs.lemmas.Iterator.Consumers.{count_from_yields_List}
 use Rattle.yacc_text.specs.Grammar.{kind_of, goes_on_byte}
-use Rattle.yacc_lex.proofs.Runs.{run_found}
+use Rattle.yacc_lex.proofs.Runs.{rest_of, run_passes}
 use Rattle.yacc_lex.proofs.run_end.Goals as goal
 
 pub returns : goal.returns
 returns c =
-    let t = c.args.text.now in
-    c.unwrap_or.ensures
-    ∙ run_found t c.args.at c.requires _
-    (first_from_Range _ _ _ _ (λ (k : ℕ). goes_on_byte (kind_of (get_or t k 0)) ≡ false) (λ (k : ℕ). goes_on_byte (kind_of (get_or t k 0)) ≡ true) c.find.ensures.ran (λ x q k. search (rules, tests)) (λ x q k. search (rules, tests)))
+    let w = c.take_while.ensures in
+    ap (λ (n : ℕ). c.args.at + n)
+    (count_from_yields_List _ _ c.count.ensures.ran (YieldsList-from_take_while _ (λ b. goes_on_byte (kind_of b)) (YieldsList-from_slice _ (ap iter_rest w.source ∙ c.iter.ensures.rest ∙ rest_of c.args.at c.args.text.now)) w.closure w.done (λ x b q k. search (rules, tests)))
+    ∙ ap length (run_passes _))

@@ -4,9 +4,9 @@ use Rattle.yacc_misnamed.proofs.Laws.{none_known, nowhere_by, nowhere_no}
 use Rattle.yacc_misnamed.proofs.is_nowhere.Goals as goal
 
 pub returns-then-is_none : goal.returns-then-is_none
-returns-then-is_none c = λ i ns ts H.
+returns-then-is_none c = λ i S H.
     sym (ap (λ (b : Bool). b && c.is_none-then-is_none.result) c.if-is_none.true)
-    ∙ nowhere_by ns ts _ _ _ (none_known _ _ _ _ (c.left.ensures i ns ts H) c.is_none.ensures) (none_known _ _ _ _ (c.token.ensures i ns ts H) c.is_none-then-is_none.ensures)
+    ∙ nowhere_by S _ _ _ (none_known _ _ _ _ (c.left.ensures i _ _ H) c.is_none.ensures) (none_known _ _ _ _ (c.token.ensures i _ _ H) c.is_none-then-is_none.ensures)
 
 pub returns-else-is_none : goal.returns-else-is_none
-returns-else-is_none c = λ i ns ts H. c.if-is_none.false ∙ nowhere_no ns ts _ (sym c.if-is_none.false ∙ none_known _ _ _ _ (c.left.ensures i ns ts H) c.is_none.ensures)
+returns-else-is_none c = λ i S H. c.if-is_none.false ∙ nowhere_no S _ (sym c.if-is_none.false ∙ none_known _ _ _ _ (c.left.ensures i _ _ H) c.is_none.ensures)

@@ -14,24 +14,24 @@ returns-in-Some-clause-value c =
 pub returns-in-Some-clause-places_after : goal.returns-in-Some-clause-places_after
 returns-in-Some-clause-places_after c =
     let h = ap held c.in-Some.is in
-    c.put.ensures ∙ written_in_lem _ _ _ _ _ (omega (arith, h, c.from.ensures, c.if-from-n.true))
+    c.put.ensures ∙ written_in_lem _ _ _ _ (omega (arith, h, c.from.ensures, c.if-from-n.true))
 
 pub returns-in_default-clause-value : goal.returns-in_default-clause-value
 returns-in_default-clause-value c =
     let h = ap held c.in-Some.is in
-    (written-not c.args.places.now c.args.base _ _ c.args.from (λ e. omega (arith, e, h, c.from.ensures, c.if-from-n.false))).0
+    (written-not c.args.places.now _ _ c.args.from (λ e. omega (arith, e, h, c.from.ensures, c.if-from-n.false))).0
 
 pub returns-in_default-clause-places_after : goal.returns-in_default-clause-places_after
 returns-in_default-clause-places_after c =
     let h = ap held c.in-Some.is in
-    (written-not _ _ _ _ _ (λ e. omega (arith, e, h, c.from.ensures, c.if-from-n.false))).1
+    (written-not _ _ _ _ (λ e. omega (arith, e, h, c.from.ensures, c.if-from-n.false))).1
 
 pub returns-in_default-2-clause-value : goal.returns-in_default-2-clause-value
 returns-in_default-2-clause-value c =
     let h = ap held c.in_default.is in
-    (written-not c.args.places.now c.args.base _ _ c.args.from (λ e. omega (arith, e, h))).0
+    (written-not c.args.places.now _ _ c.args.from (λ e. omega (arith, e, h))).0
 
 pub returns-in_default-2-clause-places_after : goal.returns-in_default-2-clause-places_after
 returns-in_default-2-clause-places_after c =
     let h = ap held c.in_default.is in
-    (written-not _ _ _ _ _ (λ e. omega (arith, e, h))).1
+    (written-not _ _ _ _ (λ e. omega (arith, e, h))).1

@@ -1,4 +1,4 @@
-use Rattle.std.proofs.Common.{arith}
+use Rattle.std.proofs.Common.{arith, ℕ, ap, ◌∙◌, drop}
 use Rattle.yacc_said.proofs.Laws.{read_in, says_in, ends_in}
 use Rattle.yacc_places.proofs.Laws.{placing-first, placing-next, placing-last}
 use Rattle.yacc_places.proofs.write_places.Goals as goal
@@ -35,22 +35,25 @@ loop-token-preserved c =
     let i = c.loop-token.invariant in
     let R = read_in _ c.loop-token.token-iterator i.0 _ _ c.in-Some.ensures.steps in
     let e = says_in _ c.loop-token.token-iterator i.0 _ _ R in
-    let same = c.write_place-n.auto.places in (
+    let parts = c.split_at_mut-lefts.ensures in
+    let same = c.loop-token.auto in (
       R.text,
       λ l p.
           let H = c.args.symbols.now.named.held l p in
           let a = H.nonterminals.numbers.count in
           let b = H.terminals.numbers.count in
           let r = c.requires in
-          rw R.at (placing-next _ _ _ _ _ _ _ _ _ (i.1 l p) a (let g = c.loop-token.auto.places in omega (arith, a, b, r, g)) _ _ _ _ _ R.leads e R.mode _ _ (c.left_said-left.ensures _ _ H) (c.token_said-right.ensures _ _ H) _ _ _ _ c.write_place-n.ensures.places_after c.write_place-n.ensures.value c.write_place-m.ensures.places_after c.write_place-m.ensures.value same),
+          rw R.at (placing-next _ _ _ _ _ _ _ _ _ (i.1 l p) (omega (arith, a, same.lefts, parts.front_len)) (omega (arith, a, b, r, same.tokens, parts.back_len)) _ _ _ _ _ R.leads e R.mode _ _ (c.left_said-left.ensures _ _ H) (c.token_said-right.ensures _ _ H) _ _ _ _ c.write_place-n.ensures.places_after c.write_place-n.ensures.value c.write_place-m.ensures.places_after c.write_place-m.ensures.value),
     )
 
 pub returns : goal.returns
 returns c =
     let i = c.loop-token.invariant in
+    let parts = c.split_at_mut-lefts.ensures in
+    let same = c.loop-token.auto in
     λ l p.
     let H = c.args.symbols.now.named.held l p in
     let a = H.nonterminals.numbers.count in
     let b = H.terminals.numbers.count in
     let r = c.requires in
-    placing-last _ _ _ _ _ _ _ _ _ (i.1 l p) (ends_in _ _ i.0 _ c.in-None.ensures.steps) a c.loop-token.auto.places (omega (arith, a, b, r))
+    placing-last _ _ _ _ _ _ _ _ _ (i.1 l p) (ends_in _ _ i.0 _ c.in-None.ensures.steps) (omega (arith, a, same.lefts, parts.front_len)) same.tokens (omega (arith, a, b, r, parts.back_len)) _ (parts.back ∙ ap (λ (k : ℕ). drop k c.args.places.now) a)

@@ -10,7 +10,7 @@ loop-token-init c =
     rw (c.into_iter-token-iterator.ensures.into_iter_gives, n.mode, n.at, zero_body c.default-body.result c.default-body.ensures) (
       n.text,
       c.told-grammar,
-      record { production = omega arith; owner = omega arith; symbols = omega arith; start = omega arith; end = omega arith },
+      record { production = omega arith; owner = omega arith; symbols = omega arith; span = tt },
       λ l p. turn_first _ _ _ (said_all _ l p),
     )
 

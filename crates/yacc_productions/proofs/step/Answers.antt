@@ -19,7 +19,7 @@ close-requires c = let w = c.args.token.lexeme.wide in
     let l = c.args.symbols.now.short in record { small = c.requires.small; at_bound = omega (arith, w, i, l) }
 
 pub returns-in-Defines : goal.returns-in-Defines
-returns-in-Defines c = let B = c.requires.small in rw (zero_body c.default.result c.default.ensures) (record { small = record { production = B.production; owner = c.left_number.ensures.0; symbols = omega arith; start = omega arith; end = omega arith }; turn = λ S H W m at n L e q T. turn_defines S _ _ _ m at T _ _ _ _ n L e q c.in-Defines.is _ (c.left_number.ensures.1 (define_word _ _ _ e c.in-Defines.is) _ _ H) })
+returns-in-Defines c = let B = c.requires.small in rw (zero_body c.default.result c.default.ensures) (record { small = record { production = B.production; owner = c.left_number.ensures.0; symbols = omega arith; span = tt }; turn = λ S H W m at n L e q T. turn_defines S _ _ _ m at T _ _ _ _ n L e q c.in-Defines.is _ (c.left_number.ensures.1 (define_word _ _ _ e c.in-Defines.is) _ _ H) })
 
 pub returns-in-Uses : goal.returns-in-Uses
 returns-in-Uses c = record { small = c.add.ensures.0; turn = λ S H W m at n L e q T. turn_uses S _ _ _ m at T _ _ _ _ n L e q c.in-Uses.is W c.told-grammar _ (c.symbol-read.ensures (use_word _ _ _ e c.in-Uses.is) S H) _ _ c.add.ensures.1 }

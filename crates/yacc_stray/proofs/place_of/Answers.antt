@@ -1,31 +1,28 @@
+use Prim.Native.Nat.{ℕ, ◌+◌}
 use native.Mathlib.Omega.{arith}
-use Rattle.yacc_stray.specs.Stray.{line_of, column_behind, column_of}
-use Rattle.repr.proofs.Lists.{occurrences-nil}
-use Rattle.repr.specs.Lists.{occurrences}
-use lib.ListN.{length, get_or, take}
+use mathlib.Core.Bool.{not}
 use mathlib.Core.List.{List}
-use mathlib.Core.Path.{◌≡◌, refl, sym, ap, ◌∙◌}
-use Prim.Native.Nat.{ℕ, ◌+◌, ◌<◌}
-use Rattle.yacc_stray.proofs.Places.{line-more, column_more, line_small, column_small}
-use Rattle.std.proofs.lemmas.List.{get_or-take, length-take-le}
+use mathlib.Core.Path.{◌≡◌, ap, ◌∙◌}
+use borrow.Author.Tests.{tests}
+use lib.Dec.{eqb}
+use lib.ListN.{length, take}
+use Rattle.std.proofs.Common.{rules, filter}
+use Rattle.std.specs.Slice.Iter.{iter_rest}
+use Rattle.std.specs.Iterator.Adapters.{rev_source}
+use Rattle.std.proofs.lemmas.Iterator.{YieldsList-from_slice}
+use Rattle.std.proofs.lemmas.Iterator.Adapters.{YieldsList-from_rev_slice}
+use Rattle.std.proofs.lemmas.Iterator.Search.{YieldsList-from_take_while}
+use Rattle.std.proofs.lemmas.Iterator.Consumers.{YieldsList-from_filter, count_from_yields_List}
+use Rattle.yacc_stray.specs.Stray.{line_of, column_of}
+use Rattle.yacc_stray.proofs.Places.{line_ends, column_is}
 use Rattle.yacc_stray.proofs.place_of.Goals as goal
-
-pub loop-b-init : goal.loop-b-init
-unfolding column_behind
-loop-b-init c = (omega arith, omega arith, omega arith, sym (ap (λ (n : ℕ). n + 1) (occurrences-nil 10)), refl)
-
-pub loop-b-preserved : goal.loop-b-preserved
-loop-b-preserved c =
-    let i : ℕ = c.loop-b.b-index in
-    let t : List ℕ = c.args.text.now in
-    let long : length (take c.args.at t) ≡ c.args.at = length-take-le c.args.at t c.requires.0 in
-    let h : i < length t = omega (arith, long) in
-    let b : get_or (take c.args.at t) i 0 ≡ get_or t i 0 = get_or-take c.args.at t i 0 (omega (arith, long)) in
-    let p = rw b at c.passed-place.ensures in
-    let s = column_small _ _ _ c.loop-b.invariant.1 p.1 in
-    let l = line_small _ _ _ p.0 in
-    (omega arith, s.0, omega arith, line-more t i _ _ h c.loop-b.invariant.3 p.0, column_more t i _ _ h c.loop-b.invariant.4 p.1)
 
 pub returns : goal.returns
 unfolding line_of column_of
-returns c = let e : c.loop-b.b-index ≡ c.args.at = omega (arith, c.loop-b-test.false, length-take-le c.args.at c.args.text.now c.requires.0) in (c.loop-b.invariant.3 ∙ ap (λ (k : ℕ). occurrences 10 (take k c.args.text.now) + 1) e, c.loop-b.invariant.4 ∙ ap (λ (k : ℕ). column_behind 1 (take k c.args.text.now)) e)
+returns c =
+    let front : List ℕ = take c.args.at c.args.text.now in
+    let f = c.filter.ensures in
+    let w = c.take_while.ensures in
+    let n : c.count.result ≡ length (filter (λ b. eqb b 10) front) = count_from_yields_List _ _ c.count.ensures.ran (YieldsList-from_filter _ (λ b. eqb b 10) (YieldsList-from_slice front (ap iter_rest f.source ∙ c.iter.ensures.rest)) f.closure (λ x b q k. search (rules, tests))) in
+    let m = count_from_yields_List _ _ c.count-2.ensures.ran (YieldsList-from_take_while _ (λ b. not (eqb b 10)) (YieldsList-from_rev_slice front (ap (λ s. iter_rest (rev_source s)) w.source ∙ ap iter_rest c.rev.ensures.source ∙ c.iter-2.ensures.rest)) w.closure w.done (λ x b q k. search (rules, tests))) in
+    (omega (arith, n, line_ends front), ap (λ (k : ℕ). 1 + k) m ∙ column_is front)

@@ -1,7 +1,8 @@
-use mathlib.Core.Path.{refl}
+use mathlib.Core.Path.{refl, ap, ◌∙◌}
+use Prim.Native.Nat.{ℕ}
 use native.Mathlib.Omega.{arith}
 use Rattle.yacc_productions.proofs.Words.{kind_given, number_given}
-use Rattle.yacc_productions.proofs.Laws.{place_small, added_is}
+use Rattle.yacc_productions.proofs.Laws.{begun_is, span_small, added_is}
 use Rattle.yacc_productions.proofs.Body.add.Goals as goal
 use Rattle.yacc_productions.proofs.Body.add.Goals.{then-self-ge-LIMIT-via-then-self-ge-LIMIT, then-self-ge-LIMIT-via-else-self-ge-LIMIT+then-self-ge-SYMBOLS}
 
@@ -28,6 +29,6 @@ returns c = let B = c.requires.small in
     let k = c.if-self-ge-SYMBOLS.false in
     let w = c.args.lexeme.wide in
     let l = c.requires.past_bound in (
-      record { production = B.production; owner = B.owner; symbols = omega (arith, k); start = rw c.place_or.ensures (place_small _ _ _ (omega (arith, w, l)) B.start); end = l },
-      added_is _ _ _ _ _ _ _ _ _ (λ h. kind_given _ _ _ c.words-kind.ensures.0 c.words-kind.ensures.1) (λ h. number_given _ _ _ c.words-kind.ensures.0) c.place_or.ensures,
+      record { production = B.production; owner = B.owner; symbols = omega (arith, k); span = (rw c.unwrap_or-start.ensures (span_small _ c.args.lexeme.from _ B.span (omega (arith, w, l)) l).0, l) },
+      added_is _ _ _ _ _ _ _ _ _ (λ h. kind_given _ _ _ c.words-kind.ensures.0 c.words-kind.ensures.1) (λ h. number_given _ _ _ c.words-kind.ensures.0) (ap (λ (s : ℕ × ℕ). s.0) c.unwrap_or-start.ensures ∙ begun_is c.args.self.span _ _),
     )

@@ -1,5 +1,5 @@
 use mathlib.Core.Path.{refl}
-use Rattle.yacc_productions.proofs.Laws.{zero_body, place_small}
+use Rattle.yacc_productions.proofs.Laws.{zero_body, span_small}
 use native.Mathlib.Omega.{arith}
 use Rattle.yacc_productions.proofs.Body.close.Goals as goal
 
@@ -10,11 +10,11 @@ pub put-requires : goal.put-requires
 put-requires c = let B = c.requires.small in
     let l = c.told-grammar in
     let h = c.if-self-ge-LIMIT.false in
-    let s = B.symbols in record { r_lt_record_limit = (omega (arith, h), omega (arith, h, l)); a_bound = (B.owner, (omega (arith, s), (rw c.place_or-start.ensures (place_small _ _ _ c.requires.at_bound B.start), rw c.place_or-end.ensures (place_small _ _ _ c.requires.at_bound B.end)))) }
+    let s = B.symbols in record { r_lt_record_limit = (omega (arith, h), omega (arith, h, l)); a_bound = (B.owner, (omega (arith, s), rw c.unwrap_or-start.ensures (span_small _ _ _ B.span c.requires.at_bound c.requires.at_bound))) }
 
 pub returns : goal.returns
 returns c = let B = c.requires.small in
     let h = c.if-self-ge-LIMIT.false in rw (zero_body c.default.result c.default.ensures) (
-      record { production = omega (arith, h); owner = B.owner; symbols = omega arith; start = omega arith; end = omega arith },
-      record { is = λ k. (rw (c.place_or-start.ensures, c.place_or-end.ensures) at c.put.ensures, refl) },
+      record { production = omega (arith, h); owner = B.owner; symbols = omega arith; span = tt },
+      record { is = λ k. (rw c.unwrap_or-start.ensures at c.put.ensures, refl) },
     )
