@@ -45,7 +45,7 @@ impl EdgeKind {
         self as usize
     }
 
-    // The kind of a number.
+    // The kind of a number. No `TryFrom`, here and at an edge's word: that the number is in range is asked, and its Result would be opened at once.
     fn of(number: usize) -> EdgeKind
         requires { number < 3 }
         ensures { kind_number result ≡ number }
@@ -59,6 +59,7 @@ impl EdgeKind {
 }
 
 // An edge of a trace, by its kind and the item of its label.
+// That the item is in range is asked at each call: a ghost field would need a file apart from the methods, whose definitions speak of the struct.
 #[derive(Clone, Copy)]
 pub struct EdgeCode {
     pub kind: EdgeKind,
@@ -107,7 +108,7 @@ impl EdgeCode {
 }
 
 // A trace's edges, one word each behind their number, and a bit for each key that one of them has.
-// Fixed words and how many are used, since there is no heap.
+// Fixed words and how many are used, since there is no heap. The count stands in front of them, as in a graph's words, so that definitions are over one list.
 #[derive(Drop)]
 pub struct EdgeCodes {
     pub words: [u16; EdgeCodes::WORDS],
@@ -194,13 +195,14 @@ fn least_same(grammar: Grammar, p: usize) -> usize
 }
 
 // That of every production.
-pub fn fill_least(grammar: Grammar, least: &mut [u8])
-    requires { least.old ≡ replicate production_limit 0 }
-    ensures { Leasts (productions_in grammar.entry.words.now grammar.entry.productions) least.new × ((p : ℕ) → p < production_limit → slice_index least.new p < production_limit) }
+pub fn least_productions(grammar: Grammar) -> [u8; ProductionIndex::LIMIT]
+    ensures { Leasts (productions_in grammar.entry.words.now grammar.entry.productions) result × ((p : ℕ) → p < production_limit → slice_index result p < production_limit) }
 {
+    let mut least = [0u8; ProductionIndex::LIMIT];
     for p in 0..grammar.productions {
         least[p] = least_same(grammar, p) as u8;
     }
+    least
 }
 
 // The node of the nonterminal at an item's cursor.

@@ -1,11 +1,11 @@
 -- Words that hold a trial, as the code tests it (src/machine.rt): zeros after the path, and the path edge by edge. Assumes nothing.
-use Rattle.std.proofs.Common.{◌≡◌, ℕ, suc, ◌+◌, ◌-◌, ◌*◌, ◌<◌, ◌≤◌, Bool, true, false, not, ◌&&◌, eqb, ltb, List, [], ◌∷◌, ◌++◌, reverse, length, get_or, take, drop, replicate, sym, refl, ap, ◌∙◌, arith, length-drop, take-append-drop, drop_of_length-le, length-take, length-take-le, get_or-drop, drop-cons, get_or-take, take-take, ltb-true, le-ltb, lt-ltb, eq-eqb, ne_eqb, eqb-true, zero, subst}
+use Rattle.std.proofs.Common.{◌≡◌, ℕ, suc, ◌+◌, ◌-◌, ◌<◌, ◌≤◌, Bool, true, false, not, ◌&&◌, eqb, ltb, List, [], ◌∷◌, ◌++◌, reverse, length, get_or, take, drop, replicate, sym, refl, ap, ◌∙◌, arith, length-drop, take-append-drop, drop_of_length-le, length-take, length-take-le, get_or-drop, drop-cons, get_or-take, take-take, ltb-true, le-ltb, lt-ltb, eq-eqb, ne_eqb, eqb-true, zero, subst}
 use mathlib.Core.Bool.{and-true}
 use mathlib.Core.List.{reverse-cons, reverse-reverse}
 use lib.ListN.{length-reverse}
 use lib.Bits.{bit_or, or_add_and, and_le_l, and_le_r}
 use borrow.Author.Tests.{eqb-false}
-use Rattle.repr.specs.Sizes.{edge_room, edge_place, scratch_words, reduction_limit}
+use Rattle.repr.specs.Sizes.{edge_place, scratch_words, reduction_limit}
 use Rattle.slices.proofs.Same.{same_words_eq}
 use Rattle.slices.specs.Same.{same_words}
 use Rattle.repr.specs.Lists.{mem}
@@ -114,17 +114,15 @@ gathered_end ws long from at all G h =
 
 -- `enters`
 module _ {g : List ℕ} (B : Ground g) (v : NodeValue) (fits : node_value_fits B.ranged.nonterminals B.productions v ≡ true) (e w : ℕ) (ew : w ≡ get_or g 0 0) where
-  pub enters_edge : e < w → (r : Bool) (t : NodeValue) → t ≡ node_read g (e * edge_room + 4) → r ≡ same_value t v
+  pub enters_edge : e < w → (r : Bool) (t : NodeValue) → t ≡ node_read g (edge_place e + 3) → r ≡ same_value t v
       → r ≡ (ltb e (ends g).count && is_same_node ((ends g).target e) (node_is v))
   unfolding edge_read
   enters_edge h r t et er =
       let l : e < get_or g 0 0 = omega arith in
       let c : e < (ends g).count = omega (arith, edges_count g) in
-      let a : e * edge_room + 4 ≡ edge_place e + 3 = omega arith in
-      let q : t ≡ node_read g (edge_place e + 3) = et ∙ ap (node_read g) a in
       let f : node_value_fits B.ranged.nonterminals B.productions t ≡ true =
-      ap (node_value_fits B.ranged.nonterminals B.productions) q ∙ target_fits B.ranged.nonterminals B.productions (edge_read g e) (edge_value_fits B e l) in
-      let n : node_is t ≡ (ends g).target e = ap node_is q ∙ node_read_lem g (edge_place e + 3) ∙ sym (target_at g e l) in
+      ap (node_value_fits B.ranged.nonterminals B.productions) et ∙ target_fits B.ranged.nonterminals B.productions (edge_read g e) (edge_value_fits B e l) in
+      let n : node_is t ≡ (ends g).target e = ap node_is et ∙ node_read_lem g (edge_place e + 3) ∙ sym (target_at g e l) in
       er ∙ same_value_lem B.ranged.nonterminals B.productions t v f fits ∙ ap (λ (x : Node). is_same_node x (node_is v)) n
       ∙ sym (ap (λ (b : Bool). b && is_same_node ((ends g).target e) (node_is v)) (lt-ltb e (ends g).count c))
 

@@ -1,24 +1,25 @@
 -- The ways through the code that tests a trial (src/machine.rt), over its words. Assumes nothing.
-use Rattle.std.proofs.Common.{◌≡◌, ℕ, zero, suc, ◌+◌, ◌*◌, ◌<◌, Bool, true, false, not, ◌||◌, eqb, List, [], ◌∷◌, ◌++◌, reverse, length, get_or, take, drop, sym, refl, ap, ◌∙◌, arith, ne_eqb}
+use Rattle.std.proofs.Common.{◌≡◌, ℕ, zero, suc, ◌+◌, ◌<◌, Bool, true, false, not, ◌||◌, eqb, List, [], ◌∷◌, ◌++◌, reverse, get_or, take, drop, sym, refl, ap, ◌∙◌, arith, ne_eqb}
 use mathlib.Core.List.{reverse-cons}
 use borrow.Author.Tests.{eqb-false}
 use Rattle.std.specs.List.{list_any}
 use Rattle.std.proofs.lemmas.List.Folds.{list_any-append}
-use Rattle.repr.specs.Sizes.{edge_limit, edge_room, edge_place}
+use Rattle.repr.specs.Sizes.{edge_place}
 use Rattle.repr.specs.Lists.{mem}
 use Rattle.repr.specs.Meaning.{Item}
 use Rattle.repr.proofs.Lists.{cases, mem-cons_here, mem_no, mem-nil}
 use Rattle.trace_graph.specs.declared.Node.{Node as NodeValue}
+use Rattle.trace_graph.specs.declared.TraceEdge.{TraceEdge as EdgeValue}
 use Rattle.trace_graph.specs.Graph.{Node, at_nonterminal, at_item, is_same_node}
 use Rattle.trace_graph.specs.Words.{node_of, node_at, edges_in}
 use Rattle.trace_graph.specs.Fits.{node_fits}
 use Rattle.trace_graph.specs.Values.{node_is, node_read, edge_read, node_value_fits, value_fits}
 use Rattle.trace_graph.proofs.Fits.{source_fits}
-use Rattle.trace_graph.proofs.Words.{fits_read}
+use Rattle.trace_graph.proofs.Words.{fits_read, node_read_lem}
 use Rattle.enumerator.specs.Trials.{Ends, ends_of, from_item, is_example_in}
 use Rattle.enumerator.specs.Words.{words_of}
 use Rattle.enumerator.specs.Machine.{used_of}
-use Rattle.enumerator.specs.Stacks.{Ground, Started, Roomy, Within, Stacked, stack_in}
+use Rattle.enumerator.specs.Stacks.{Ground, Started, Within, Stacked, stack_in}
 use Rattle.enumerator.proofs.Nodes.{same_eq}
 use Rattle.enumerator.proofs.Edges.{source_at}
 use Rattle.enumerator.proofs.Steps.{used_end, used-item, used_in}
@@ -29,10 +30,16 @@ ends g = ends_of (edges_in g)
 
 -- the graph's words
 
-pub edge_low : (g : List ℕ) → Roomy g → (e : ℕ) → e < get_or g 0 0 → (e < edge_limit) × (e * edge_room + 3 < length g)
-edge_low g R e h = (omega (arith, R.1), omega (arith, R.0, R.1))
+module _ (g : List ℕ) (e : ℕ) (v : EdgeValue) (q : v ≡ edge_read g e) where
+  pub read_source : (node_is v.source ≡ node_at g (edge_place e)) × (v.source ≡ node_read g (edge_place e))
+  unfolding edge_read
+  read_source = let s = ap (λ (x : EdgeValue). x.source) q in (ap node_is s ∙ node_read_lem g (edge_place e), s)
 
--- the node that an edge comes from, read
+  pub read_target : (node_is v.target ≡ node_at g (edge_place e + 3)) × (v.target ≡ node_read g (edge_place e + 3))
+  unfolding edge_read
+  read_target = let t = ap (λ (x : EdgeValue). x.target) q in (ap node_is t ∙ node_read_lem g (edge_place e + 3), t)
+
+-- the node that an edge comes from
 pub source_value : (g : List ℕ) (e : ℕ) (v : NodeValue) → e < get_or g 0 0 → node_is v ≡ node_at g (edge_place e) → (ends g).source e ≡ node_is v
 source_value g e v h q = source_at g e h ∙ sym q
 

@@ -24,6 +24,11 @@ use Rattle.enumerator.specs.declared.Advanced.TheVariants.{Example, End}
 pub data Outcome : Type 0 where
   outcome : Reply Advanced → Listing → List ℕ → List ℕ → Outcome
 
+-- the number of what an advance answers that is not refused
+unfoldable pub number_of_advanced : Advanced → ℕ
+number_of_advanced Example = 0
+number_of_advanced End = 16
+
 unfoldable pub set_of : Lookahead → Option ℕ
 set_of None = none
 set_of (Some s) = some s.0

@@ -3,6 +3,7 @@
 #![tactic(auto)]
 
 ghost use Rattle.std.specs.Prelude.{◌≡◌};
+ghost use Rattle.enumerator.specs.Advance.{number_of_advanced};
 
 use lookahead::TokenSet;
 use lr1_core::Item;
@@ -40,6 +41,17 @@ pub enum Advanced {
 }
 
 impl Advanced {
-    // The end as a number, behind those by which a listing refuses; an example is 0.
+    // The end as a number, behind those by which a listing refuses.
     pub const END: u16 = 16;
+
+    // Its number.
+    #[tactic(auto, unfolding(crate::specs::Advance::number_of_advanced))]
+    pub fn number(self) -> u16
+        ensures { result ≡ number_of_advanced self }
+    {
+        match self {
+            Advanced::Example => 0,
+            Advanced::End => Advanced::END,
+        }
+    }
 }

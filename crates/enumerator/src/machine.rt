@@ -1,5 +1,5 @@
 // Whether the words of a public listing hold a trial of a lent graph, and clearing them: the number of its edges, then its edges from the start item on, then zeros. Crate view has the steps from trial to trial.
-ghost use Rattle.std.specs.Prelude.{◌≡◌, ℕ, ◌-◌, ◌<◌, ◌≤◌, true, ◌&&◌, List, [], ◌++◌, reverse, length, take, drop, replicate, nat_lt, slice_index};
+ghost use Rattle.std.specs.Prelude.{◌≡◌, ℕ, ◌+◌, ◌-◌, ◌<◌, ◌≤◌, true, ◌&&◌, List, [], ◌++◌, reverse, length, take, drop, replicate, nat_lt, slice_index};
 ghost use Rattle.repr.specs.Sizes.{scratch_words, edge_place};
 ghost use Rattle.slices.specs.Same.{same_words};
 ghost use Rattle.repr.specs.Lists.{mem};
@@ -14,7 +14,7 @@ ghost use Rattle.enumerator.specs.Stacks.{Ground, Started, Roomy, Within, Stacke
 use example::Example;
 use lr1_core::Item;
 use repr::word;
-use trace_graph::{Node, TraceGraph, read_node};
+use trace_graph::{Node, TraceGraph, read_edge};
 
 // The words of no edge: all of a listing's, which C lends (`clear` of crate view is of a trial's 34).
 pub fn clear(words: &mut [u16])
@@ -45,11 +45,19 @@ pub struct Graph<'a> {
 
 impl<'a> Graph<'a> {
     // The node that an edge comes from.
-    fn source(self, edge: usize) -> Node
+    pub fn source(self, edge: usize) -> Node
         requires edge_bound { edge < slice_index self.words.now 0 }
         ensures { (node_is result ≡ node_at self.entry.words.now (edge_place edge)) × (result ≡ node_read self.entry.words.now (edge_place edge)) }
     {
-        read_node(self.words, edge * TraceGraph::EDGE_WORDS + 1)
+        read_edge(self.words, edge).source
+    }
+
+    // The node that it enters.
+    pub fn target(self, edge: usize) -> Node
+        requires edge_bound { edge < slice_index self.words.now 0 }
+        ensures { (node_is result ≡ node_at self.entry.words.now (edge_place edge + 3)) × (result ≡ node_read self.entry.words.now (edge_place edge + 3)) }
+    {
+        read_edge(self.words, edge).target
     }
 
     // Whether an edge comes from a nonterminal. Nodes are compared by parts here and below: words in which nothing is known may have an index at a nonterminal, or another kind than 1 at an item, so `==` would ask for more.
@@ -86,8 +94,7 @@ impl<'a> Graph<'a> {
         requires { (G : Ground self.words.now) × (node_value_fits G.ranged.nonterminals G.productions node ≡ true) }
         ensures { result ≡ (nat_lt edge (ends_of (edges_in self.entry.words.now)).count && is_same_node ((ends_of (edges_in self.entry.words.now)).target edge) (node_is node)) }
     {
-        edge < word(self.words, 0)
-            && read_node(self.words, edge * TraceGraph::EDGE_WORDS + 4) == node
+        edge < word(self.words, 0) && self.target(edge) == node
     }
 
     // Whether the first edges are a trial from the start item: each enters the node that the one before it comes from, a nonterminal that none before comes from.

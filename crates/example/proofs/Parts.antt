@@ -12,7 +12,7 @@ use Rattle.repr.proofs.Lists.{length_mapped, joined_append, clash}
 use Rattle.repr.proofs.Listed.{drop_two, fits_head}
 use Rattle.repr.proofs.Packed.{words_long}
 use Rattle.repr.proofs.Parts.{listed_at, symbols_long}
-use Rattle.lr1_core.specs.Items.{Sets, first, symbol_sets, Counts, counts_of}
+use Rattle.lr1_core.specs.Items.{Sets, first, symbol_sets}
 use Rattle.example.specs.Example.{symbol, symbol_words, sets_of, cursor_of}
 use Rattle.example.specs.Labels.{labels_in, LabelsFit}
 use Rattle.example.specs.Written.{label_at, words_of, Part}
@@ -98,9 +98,6 @@ module _ (g : List ℕ) (n : ℕ) (P : Packed g n) (ws : List ℕ) (F : LabelsFi
 
   sets : symbol_sets (listed (packed.symbol_words g p)) i ≡ sets_of (productions_in g n) (label_at ws j)
   sets = item-sets g n ws F j h p i ep ei
-
-  pub sets-counted : (x : Counts) → x ≡ counts_of (symbol_sets (listed (packed.symbol_words g p)) i) → x ≡ counts_of (sets_of (productions_in g n) (label_at ws j))
-  sets-counted x e = e ∙ ap counts_of sets
 
   pub prefix_is : (r : List ℕ) → r ≡ take (2 * i) (packed.symbol_words g p) → listed r ≡ (symbol_sets (listed (packed.symbol_words g p)) i).prefix
       → Part r (sets_of (productions_in g n) (label_at ws j)).prefix

@@ -1,5 +1,5 @@
 -- One law for each way through the code of this crate (src/lib), label by label. Assumes nothing.
-use Rattle.std.proofs.Common.{◌≡◌, ℕ, zero, suc, ◌+◌, ◌-◌, ◌*◌, ◌<◌, ◌≤◌, Bool, true, false, ◌==◌, List, [], ◌∷◌, ◌++◌, map, length, take, drop, sym, refl, ap, ◌∙◌, append_assoc, append-nil, arith, drop_of_length-le}
+use Rattle.std.proofs.Common.{◌≡◌, ℕ, zero, suc, ◌+◌, ◌-◌, ◌*◌, ◌<◌, ◌≤◌, Bool, true, false, ◌==◌, List, [], ◌∷◌, ◌++◌, map, length, get_or, take, drop, sym, refl, ap, ◌∙◌, append_assoc, append-nil, arith, drop_of_length-le}
 use mathlib.Core.Option.{Option, none, some}
 use borrow.Author.Tests.{eqb-true, eqb-false}
 use Rattle.repr.specs.Sizes.{example_symbols, example_room}
@@ -7,7 +7,7 @@ use Rattle.repr.specs.Lists.{joined}
 use Rattle.repr.specs.Meaning.{Symbol, Production}
 use Rattle.repr.specs.Packed.{productions_in, Packed}
 use Rattle.repr.proofs.Lists.{joined_nil, joined_append}
-use Rattle.lr1_core.specs.Items.{no_sets, counts, held, counts_of}
+use Rattle.lr1_core.specs.Items.{no_sets, counts, counts_of}
 use Rattle.example.specs.Example.{Label, sets_of, symbol, epsilon, prefixes, suffixes, at_cursor, middle, symbols, symbol_words, example_words, cursor_of}
 use Rattle.example.specs.Labels.{labels_in, LabelsFit}
 use Rattle.example.specs.Written.{label_at, words_of, Part, around_words}
@@ -27,6 +27,13 @@ not_empty ws e f = let n = eqb-false (length ws) 0 (sym e ∙ f) in omega arith
 
 pub empty : (ws : List ℕ) {r : Bool} → r ≡ (length ws == 0) → r ≡ true → length ws ≤ 0
 empty ws e t = let z = eqb-true (length ws) 0 (sym e ∙ t) in omega arith
+
+-- a list of two
+pub two_words : (ws : List ℕ) → length ws ≡ 2 → ws ≡ get_or ws 0 0 ∷ get_or ws 1 0 ∷ []
+two_words [] e = absurd (omega arith)
+two_words (x ∷ []) e = absurd (omega arith)
+two_words (x ∷ y ∷ []) e = refl
+two_words (x ∷ y ∷ z ∷ ws) e = absurd (omega arith)
 
 -- sizes: at most 528 symbols, 33 reductions, 1,158 words
 
@@ -77,42 +84,6 @@ module _ (ps : List Production) (ws : List ℕ) where
   unfolding middle
   here h = ap (middle ps) (labels_step ws 0 h)
 
-  -- how many places it has, by the counts of the first label's parts
-  module _ (h : 0 < length (labels_in ws)) (before at after : ℕ) (e : counts before at after ≡ counts_of (sets_of ps (label_at ws 0))) where
-    before_is : before ≡ length (sets_of ps (label_at ws 0)).prefix
-    unfolding counts_of
-    before_is = cc
-
-    at_is : at ≡ held (sets_of ps (label_at ws 0)).cursor
-    unfolding counts_of
-    at_is = cc
-
-    pub counted_one : 0 < at → 1 ≡ length (middle ps (labels_in ws))
-    unfolding at_cursor held
-    counted_one l = rw (here h) (go (sets_of ps (label_at ws 0)).cursor at_is)
-      where
-        go : (o : Option Symbol) → at ≡ held o → 1 ≡ length (at_cursor o (sets_of ps (label_at ws 0)).prefix)
-        go none q = absurd (omega arith)
-        go (some x) q = refl
-
-    pub counted_none : at ≤ 0 → 0 < before → 0 ≡ length (middle ps (labels_in ws))
-    unfolding at_cursor held
-    counted_none n l = rw (here h) (go (sets_of ps (label_at ws 0)).cursor (sets_of ps (label_at ws 0)).prefix at_is before_is)
-      where
-        go : (o : Option Symbol) (xs : List Symbol) → at ≡ held o → before ≡ length xs → 0 ≡ length (at_cursor o xs)
-        go (some x) xs q r = absurd (omega arith)
-        go none [] q r = absurd (omega arith)
-        go none (x ∷ xs) q r = refl
-
-    pub counted-mark : at ≤ 0 → before ≤ 0 → 1 ≡ length (middle ps (labels_in ws))
-    unfolding at_cursor held
-    counted-mark n l = rw (here h) (go (sets_of ps (label_at ws 0)).cursor (sets_of ps (label_at ws 0)).prefix at_is before_is)
-      where
-        go : (o : Option Symbol) (xs : List Symbol) → at ≡ held o → before ≡ length xs → 1 ≡ length (at_cursor o xs)
-        go (some x) xs q r = absurd (omega arith)
-        go none (x ∷ xs) q r = absurd (omega arith)
-        go none [] q r = refl
-
   module _ (h : 0 < length (labels_in ws)) (part : List ℕ) (C : Part part (cursor_of ps (labels_in ws))) where
     size : length part ≡ 2 * length (list_of (sets_of ps (label_at ws 0)).cursor)
     size = let a = part_length part (cursor_of ps (labels_in ws)) C in let b = ap length (first_cursor ps ws h) in omega arith
@@ -158,6 +129,9 @@ module _ (ps : List Production) (ws : List ℕ) where
 
       pub none-words : 0 < length before → joined symbol_words (middle ps (labels_in ws)) ≡ []
       none-words l = ap (joined symbol_words) (middle-none l) ∙ joined_nil symbol_words
+
+      pub mark-one : length before ≤ 0 → length (middle ps (labels_in ws)) ≡ 1
+      mark-one l = ap length (middle-mark l)
 
       pub mark-words : length before ≤ 0 → joined symbol_words (middle ps (labels_in ws)) ≡ 2 ∷ 0 ∷ []
       unfolding joined symbol_words

@@ -2,7 +2,7 @@
 
 #![tactic(auto)]
 
-ghost use Rattle.std.specs.Prelude.{◌≡◌, ◌+◌, ◌*◌, ◌<◌, ◌≤◌, [], ◌∷◌, length, slice_index_or};
+ghost use Rattle.std.specs.Prelude.{◌≡◌, ◌+◌, ◌*◌, ◌<◌, ◌≤◌, [], ◌∷◌, length, slice_index_or, MatchOption};
 ghost use Rattle.repr.specs.Sizes.{terminal_limit, example_symbols, reduction_room, example_room, label_room};
 ghost use Rattle.slices.specs.Lent.{in_front};
 ghost use Rattle.repr.specs.Lists.{joined};
@@ -71,6 +71,7 @@ pub struct Expected {
 }
 
 // The labels of an example, innermost first, three words each: nonterminal, production, index. At least one and at most 33, in range of the grammar.
+// In words, since a side keeps them so (crate outline): labels of three fields each would be converted at every keeping.
 // Which one is asked is its number, in range at each call, as a type for it would have to hold the labels: prefixes are asked from the last label on, the cursor and the empty mark of the first alone, so that an iterator would be a second way to the same words.
 #[derive(Clone, Copy)]
 pub struct Labels<'a> {
@@ -122,7 +123,7 @@ impl<'a> Labels<'a> {
         self.item(label).suffix(self.grammar)
     }
 
-    // The symbol at the first label's cursor, or none.
+    // The symbol at the first label's cursor, or none: an empty part, as FIRST and the writers take a list, into which an Option would be opened.
     pub fn cursor(self) -> &'a [u16]
         ensures { Part result.now (cursor_of (productions_in self.entry.grammar.words.now self.entry.grammar.productions) (labels_in self.entry.words.now)) }
     {
@@ -171,16 +172,27 @@ impl<'a> Labels<'a> {
         self.totals().prefix
     }
 
-    // How many places the cursor place has: one, or none after a prefix with nothing at the cursor (a number made of that yes or no would be no plainer).
+    // The words of the cursor place: the cursor's symbol, or the empty mark where the first label has no symbol; none after a prefix with nothing at the cursor.
+    fn middle(self) -> Option<[u16; Example::SYMBOL_WORDS]>
+        ensures { MatchOption result (middle (productions_in self.entry.grammar.words.now self.entry.grammar.productions) (labels_in self.entry.words.now) ≡ []) (λ w. (length (middle (productions_in self.entry.grammar.words.now self.entry.grammar.productions) (labels_in self.entry.words.now)) ≡ 1) × (joined symbol_words (middle (productions_in self.entry.grammar.words.now self.entry.grammar.productions) (labels_in self.entry.words.now)) ≡ w)) }
+    {
+        let symbol = self.cursor();
+        if !symbol.is_empty() {
+            Some([symbol[0], symbol[1]])
+        } else if self.prefix(0).is_empty() {
+            Some([Example::EMPTY_MARK, 0])
+        } else {
+            None
+        }
+    }
+
+    // How many places the cursor place has.
     fn middle_count(self) -> usize
         ensures { result ≡ length (middle (productions_in self.entry.grammar.words.now self.entry.grammar.productions) (labels_in self.entry.words.now)) }
     {
-        let item = self.item(0);
-        let sets = item.symbol_sets(self.grammar);
-        if sets.cursor == 0 && sets.prefix > 0 {
-            0
-        } else {
-            1
+        match self.middle() {
+            Some(_) => 1,
+            None => 0,
         }
     }
 
@@ -192,7 +204,7 @@ impl<'a> Labels<'a> {
         totals.prefix + self.middle_count() + totals.suffix
     }
 
-    // Writes the prefixes, outermost first; returns the place after them.
+    // Writes the prefixes, outermost first; returns the place after them. One function for these and the suffixes would take the direction and the part as closures, which is no plainer.
     fn write_prefixes(self, buffer: &mut [u16], at: usize) -> usize
         requires { at + length (words_of (prefixes (productions_in self.grammar.words.now self.grammar.productions) (labels_in self.words.now))) ≤ length buffer.old }
         ensures { (buffer.new ≡ put_at at (words_of (prefixes (productions_in self.entry.grammar.words.now self.entry.grammar.productions) (labels_in self.entry.words.now))) buffer.old) × (result ≡ at + length (words_of (prefixes (productions_in self.entry.grammar.words.now self.entry.grammar.productions) (labels_in self.entry.words.now)))) }
@@ -220,21 +232,18 @@ impl<'a> Labels<'a> {
         place
     }
 
-    // Writes the cursor place: the cursor's symbol, or the empty mark where the first label has no symbol; returns the place after it.
+    // Writes the cursor place; returns the place after it.
     fn write_middle(self, buffer: &mut [u16], at: usize) -> usize
         requires { at + length (joined symbol_words (middle (productions_in self.grammar.words.now self.grammar.productions) (labels_in self.words.now))) ≤ length buffer.old }
         ensures { (buffer.new ≡ put_at at (joined symbol_words (middle (productions_in self.entry.grammar.words.now self.entry.grammar.productions) (labels_in self.entry.words.now))) buffer.old) × (result ≡ at + length (joined symbol_words (middle (productions_in self.entry.grammar.words.now self.entry.grammar.productions) (labels_in self.entry.words.now)))) }
     {
-        let part = self.cursor();
-        if !part.is_empty() {
-            copy(part, buffer, at);
-            return at + Example::SYMBOL_WORDS;
+        match self.middle() {
+            Some(words) => {
+                copy(&words, buffer, at);
+                at + Example::SYMBOL_WORDS
+            }
+            None => at,
         }
-        if !self.prefix(0).is_empty() {
-            return at;
-        }
-        copy(&[Example::EMPTY_MARK, 0], buffer, at);
-        at + Example::SYMBOL_WORDS
     }
 
     // Writes the reductions, innermost first: of `places` symbols, each starts after the prefixes of the labels around it and ends before their suffixes.

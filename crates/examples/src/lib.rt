@@ -28,7 +28,7 @@ ghost use Rattle.examples.specs.Gathers.{ListedOn, Sided, shifts, shift_made, re
 ghost use Rattle.tracer.specs.declared.Action.TheVariants.{Reduce};
 ghost use Rattle.examples.specs.Again.{Listed, Finds};
 
-use codes::fill_least;
+use codes::least_productions;
 use codes::viewing::view_codes;
 use error::Conflict;
 use example::Example;
@@ -68,11 +68,11 @@ pub fn prepare(table: AcceptedTable, words: &mut [u16]) -> Prepared
         productions: counts.productions,
     };
     let sets = FirstSets::new(grammar, counts.terminals as u16);
-    let mut least = [0u8; ProductionIndex::LIMIT];
-    fill_least(grammar, &mut least);
-    let mut ends = [0u64; Item::FLAG_WORDS];
-    suffix_ends(grammar, &sets, &mut ends);
-    Prepared { sets, least, ends }
+    Prepared {
+        sets,
+        least: least_productions(grammar),
+        ends: suffix_ends(grammar, &sets),
+    }
 }
 
 impl Prepared {

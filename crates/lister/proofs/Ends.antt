@@ -1,6 +1,5 @@
 -- Whether an item is an end of an edge (refusal 15), as the code looks for it. Assumes nothing.
 use Prim.Native.Nat.{ℕ, zero, suc, ◌+◌}
-use native.Mathlib.Omega.{arith}
 use native.Mathlib.Numerals.{add-one}
 use mathlib.Core.Path.{◌≡◌, refl, sym, ap, ◌∙◌}
 use mathlib.Core.Bool.{Bool, true, false, ◌&&◌, ◌||◌}
@@ -41,20 +40,18 @@ module _ (v : NodeValue) (x : Node) (q : node_is v ≡ x) (p i : ℕ) where
     item_index e = sym (item_is ∙ rw (eq-eqb p v.number e))
 
 -- `is_end`
-module _ (v : Node) (g : List ℕ) (k at : ℕ) (ea : at ≡ edge_place k) (r : Bool) (er : r ≡ is_same_node v (node_at g at)) where
+module _ (v : Node) (g : List ℕ) (k : ℕ) (r : Bool) (er : r ≡ is_same_node v (node_at g (edge_place k))) where
   source_is : is_same_node v (edge_at g k).source ≡ r
   unfolding edge_at
-  source_is = sym (er ∙ ap (λ (m : ℕ). is_same_node v (node_at g m)) ea)
+  source_is = sym er
 
   pub ends-source : r ≡ true → true ≡ ends_at v (edge_at g k)
   unfolding ends_at
   ends-source t = sym (rw (source_is ∙ t, ends_at))
 
-  pub ends_target : r ≡ false → (u : Bool) → u ≡ is_same_node v (node_at g (at + 3)) → u ≡ ends_at v (edge_at g k)
+  pub ends_target : r ≡ false → (u : Bool) → u ≡ is_same_node v (node_at g (edge_place k + 3)) → u ≡ ends_at v (edge_at g k)
   unfolding ends_at edge_at
-  ends_target f u eu =
-      let m : at + 3 ≡ edge_place k + 3 = omega arith in
-      eu ∙ ap (λ (x : ℕ). is_same_node v (node_at g x)) m ∙ sym (rw (source_is ∙ f, ends_at))
+  ends_target f u eu = eu ∙ sym (rw (source_is ∙ f, ends_at))
 
 -- `is_node`
 any_map : (t : TraceEdge → Bool) (f : ℕ → TraceEdge) (n a : ℕ) → list_any (λ k. t (f k)) (range_with_len a n) ≡ some? t (map f (up_from a n))

@@ -2,8 +2,8 @@
 
 #![tactic(auto)]
 
-ghost use Rattle.std.specs.Prelude.{◌≡◌, true, false, ◌&&◌, List, ◌++◌, ℕ, ◌+◌, ◌-◌, ◌≤◌, ◌<◌, length, get_or, replicate};
-ghost use Rattle.repr.specs.Sizes.{edge_limit, edge_place, graph_room, scratch_words, trial_limit, example_room};
+ghost use Rattle.std.specs.Prelude.{◌≡◌, true, false, ◌&&◌, List, ◌++◌, ℕ, ◌+◌, ◌-◌, ◌≤◌, ◌<◌, length, get_or, replicate, slice_index};
+ghost use Rattle.repr.specs.Sizes.{edge_limit, graph_room, scratch_words, trial_limit, example_room};
 ghost use Rattle.slices.specs.Lent.{in_front};
 ghost use Rattle.repr.specs.Reply.{reply_of};
 ghost use Rattle.repr.specs.Meaning.{Table};
@@ -15,6 +15,7 @@ ghost use Rattle.trace_graph.specs.Graph.{at_item, is_same_node, is_node_of};
 ghost use Rattle.trace_graph.specs.Fits.{item_is_fit};
 ghost use Rattle.trace_graph.specs.Words.{node_at, edge_at, edges_in};
 ghost use Rattle.trace_graph.specs.Index.{index_room};
+ghost use Rattle.trace_graph.specs.Values.{node_is};
 ghost use Rattle.example.specs.Example.{example_words};
 ghost use Rattle.enumerator.specs.Trials.{ends_of, trials};
 ghost use Rattle.enumerator.specs.Lister.{labels_of, hands, search};
@@ -34,11 +35,11 @@ use lr1_core::Item;
 use repr::{Grammar, NonterminalString, ProductionIndex, Refusal, word};
 use search::{Filter, Searched, search, write_trial};
 use table::AcceptedTable;
-use trace_graph::{TraceGraph, check_graph, item_fits, read_node};
+use trace_graph::{Node, TraceGraph, check_graph, item_fits};
 use view::View;
 use view::making::{ViewLists, check_view};
 
-// Whether any lookahead holds tokens of the table alone.
+// Whether any lookahead holds tokens of the table alone. That there are at most 63 is asked here and below: what a table's counts are is known of numbers.
 #[tactic(auto, unfolding(crate::specs::Context::ahead_by, enumerator::specs::Advance::set_of))]
 fn lookahead_fits(terminals: usize, lookahead: Option<TokenSet>) -> bool
     requires { terminals ≤ 63 }
@@ -55,29 +56,26 @@ fn fits(grammar: Grammar, terminals: usize, start: Item, lookahead: Option<Token
     item_fits(grammar, start) && lookahead_fits(terminals, lookahead)
 }
 
-// Whether the node whose words begin at a place is an item. By its parts, as no kind but 0 is known here: `==` with the item's node would ask that any other is 1.
-fn is_item(graph: &[u16], at: usize, item: Item) -> bool
-    requires { at + 2 < length graph.now }
-    ensures { result ≡ is_same_node (at_item (record { production = item.production; index = item.index })) (node_at graph.now at) }
+// Whether a node is an item. By its parts, as no kind but 0 is known here: `==` with the item's node would ask that any other is 1.
+fn is_item(node: Node, item: Item) -> bool
+    ensures { result ≡ is_same_node (at_item (record { production = item.production; index = item.index })) (node_is node) }
 {
-    let node = read_node(graph, at);
     node.kind != 0 && (item.production == node.number && item.index == node.index)
 }
 
 // Whether an item is an end of edge k.
-fn is_end(graph: &[u16], k: usize, item: Item) -> bool
-    requires { edge_place (k + 1) ≤ length graph.now }
-    ensures { result ≡ ends_at (at_item (record { production = item.production; index = item.index })) (edge_at graph.now k) }
+fn is_end(graph: Graph, k: usize, item: Item) -> bool
+    requires { k < slice_index graph.words.now 0 }
+    ensures { result ≡ ends_at (at_item (record { production = item.production; index = item.index })) (edge_at graph.entry.words.now k) }
 {
-    let at = k * TraceGraph::EDGE_WORDS + 1;
-    is_item(graph, at, item) || is_item(graph, at + 3, item)
+    is_item(graph.source(k), item) || is_item(graph.target(k), item)
 }
 
 // Whether an item is a node of the graph: an end of one of its edges (refusal 15).
 fn is_node(graph: Graph, item: Item) -> bool
     ensures { result ≡ is_node_of (at_item (record { production = item.production; index = item.index })) (edges_in graph.entry.words.now) }
 {
-    (0..word(graph.words, 0)).any(|k| is_end(graph.words, k, item))
+    (0..word(graph.words, 0)).any(|k| is_end(graph, k, item))
 }
 
 // `lr0_examples` and `lr1_examples`: a fresh listing, or refusal 9, 11 or 15. A listing keeps its start item as C hands it over, in two numbers.
@@ -93,10 +91,14 @@ pub fn open_in(
     let counts = table.counts();
     let mut words = [0u16; ProductionIndex::ALL_WORDS];
     let grammar = table.read_grammar(&mut words);
-    let start = Item {
-        production: production.0 as usize,
-        index: index as usize,
+    let listing = Listing {
+        production,
+        index,
+        lookahead,
+        count: 0,
+        is_open: true,
     };
+    let start = listing.start();
     if !fits(grammar, counts.terminals, start, lookahead) {
         return Err(Refusal::OutOfRange);
     }
@@ -110,27 +112,47 @@ pub fn open_in(
     if !is_node(Graph { words: graph }, start) {
         return Err(Refusal::NoNode);
     }
-    Ok(Listing {
-        production,
-        index,
-        lookahead,
-        count: 0,
-        is_open: true,
-    })
+    Ok(listing)
 }
 
-// The FIRST sets, where a lookahead is set.
-fn first_sets(grammar: Grammar, terminals: u16, lookahead: Option<TokenSet>) -> FirstSets
-    requires { terminals ≤ 63 }
-    ensures { (result.map ≡ sets_for (set_of lookahead) terminals (productions_in grammar.entry.words.now grammar.entry.productions)) × (result.terminals ≡ terminals) }
-{
-    let Some(_) = lookahead else {
-        return FirstSets {
-            map: [0u64; NonterminalString::LIMIT],
+// What the search of a listing goes over: the productions and the terminals of a table, a graph, and its view from the start item.
+// What is known of these is asked beside them (`Listable`), as it is of the listing's start item too.
+#[derive(Clone, Copy)]
+struct Over<'a> {
+    grammar: Grammar<'a>,
+    terminals: u16,
+    graph: Graph<'a>,
+    view: View<'a>,
+    ghost few: { terminals ≤ 63 },
+}
+
+impl<'a> Over<'a> {
+    // Of all four, by a call: a literal's would all have to be lent for one time, and the graph is lent for longer than the rest.
+    fn of(grammar: Grammar<'a>, terminals: u16, graph: Graph<'a>, view: View<'a>) -> Over<'a>
+        requires { terminals ≤ 63 }
+        ensures table { (result.grammar.words.now ≡ grammar.entry.words.now) × (result.grammar.productions ≡ grammar.entry.productions) × (result.terminals ≡ terminals) }
+        ensures graph { (result.graph.words.now ≡ graph.entry.words.now) × (result.view.sources.now ≡ view.entry.sources.now) × (result.view.older.now ≡ view.entry.older.now) × (result.view.latest.now ≡ view.entry.latest.now) × (result.view.owners.now ≡ view.entry.owners.now) × (result.view.codes.now ≡ view.entry.codes.now) }
+    {
+        Over {
+            grammar,
             terminals,
+            graph,
+            view,
+        }
+    }
+
+    // The FIRST sets, where a lookahead is set.
+    fn first_sets(self, lookahead: Option<TokenSet>) -> FirstSets
+        ensures { (result.map ≡ sets_for (set_of lookahead) self.entry.terminals (productions_in self.entry.grammar.words.now self.entry.grammar.productions)) × (result.terminals ≡ self.entry.terminals) }
+    {
+        let Some(_) = lookahead else {
+            return FirstSets {
+                map: [0u64; NonterminalString::LIMIT],
+                terminals: self.terminals,
+            };
         };
-    };
-    FirstSets::new(grammar, terminals)
+        FirstSets::new(self.grammar, self.terminals)
+    }
 }
 
 // A fresh listing starts from the words of no edge, whatever the words hold.
@@ -152,35 +174,30 @@ fn lost(listing: Listing, graph: Graph, words: &[u16]) -> bool
     listing.is_open && (listing.count != 0 && !graph.holds_trial(words, listing.start()))
 }
 
-// The search of an open listing, over the view of its graph: the next example, the end, or refusal 13. The graph and its view, the grammar and its terminals are handed on here and below alone, and what is known
-// of them has many proofs (`Listable`), which no struct can hold.
+// The search of an open listing, over the view of its graph: the next example, the end, or refusal 13.
 fn find_next(
     listing: &mut Listing,
-    grammar: Grammar,
-    terminals: u16,
-    graph: Graph,
-    view: View,
+    over: Over,
     scratch: &mut [u16],
     buffer: &mut [u16],
 ) -> Result<Advanced, Refusal>
-    requires within { terminals ≤ 63 }
-    requires viewing { Viewing (edges_in graph.words.now) (record { production = listing.old.production.0; index = listing.old.index }) view.sources.now view.older.now view.latest.now × Labelled (productions_in grammar.words.now grammar.productions) (edges_in graph.words.now) view.owners.now view.codes.now }
+    requires viewing { Viewing (edges_in over.graph.words.now) (record { production = listing.old.production.0; index = listing.old.index }) over.view.sources.now over.view.older.now over.view.latest.now × Labelled (productions_in over.grammar.words.now over.grammar.productions) (edges_in over.graph.words.now) over.view.owners.now over.view.codes.now }
     requires scratch_words_in_bounds { (scratch_words ≤ length scratch.old) × (example_room ≤ length buffer.old) }
-    requires is_open_value { (listing.old.is_open ≡ true) × (lost (edges_in graph.words.now) listing.old scratch.old ≡ false) }
-    ensures { (n : ℕ) (T : Table) → Read T n terminals (productions_in grammar.entry.words.now grammar.entry.productions) → outcome (reply_of result) listing.new scratch.new buffer.new ≡ found_outcome T (edges_in graph.entry.words.now) listing.old scratch.old buffer.old (search (hands T (edges_in graph.entry.words.now) (set_of listing.old.lookahead)) (trial_limit - listing.old.count) listing.old.count (rest_of listing.old.count scratch.old (trials (ends_of (edges_in graph.entry.words.now)) (at_item (start_of listing.old))))) }
+    requires is_open_value { (listing.old.is_open ≡ true) × (lost (edges_in over.graph.words.now) listing.old scratch.old ≡ false) }
+    ensures { (n : ℕ) (T : Table) → Read T n over.entry.terminals (productions_in over.entry.grammar.words.now over.entry.grammar.productions) → outcome (reply_of result) listing.new scratch.new buffer.new ≡ found_outcome T (edges_in over.entry.graph.words.now) listing.old scratch.old buffer.old (search (hands T (edges_in over.entry.graph.words.now) (set_of listing.old.lookahead)) (trial_limit - listing.old.count) listing.old.count (rest_of listing.old.count scratch.old (trials (ends_of (edges_in over.entry.graph.words.now)) (at_item (start_of listing.old))))) }
 {
     let lookahead = listing.lookahead;
     let count = listing.count;
-    let sets = first_sets(grammar, terminals, lookahead);
+    let sets = over.first_sets(lookahead);
     let filter = Filter {
-        grammar,
+        grammar: over.grammar,
         sets: &sets,
         lookahead,
     };
     begin(scratch, count);
-    match search(filter, view, scratch, count) {
+    match search(filter, over.view, scratch, count) {
         Searched::Hit(number) => {
-            write_trial(grammar, view, scratch, buffer);
+            write_trial(over.grammar, over.view, scratch, buffer);
             listing.count = number;
             Ok(Advanced::Example)
         }
@@ -200,28 +217,24 @@ fn find_next(
 // A call that is lent what refusal 11 asks: 9 for the words, 15, the end of an ended listing, the search.
 fn go_on(
     listing: &mut Listing,
-    grammar: Grammar,
-    terminals: u16,
-    graph: Graph,
-    view: View,
+    over: Over,
     scratch: &mut [u16],
     buffer: &mut [u16],
 ) -> Result<Advanced, Refusal>
-    requires within { terminals ≤ 63 }
-    requires listable { Listable (productions_in grammar.words.now grammar.productions) graph.words.now listing.old.production.0 listing.old.index view.owners.now view.codes.now view.sources.now view.older.now view.latest.now }
+    requires listable { Listable (productions_in over.grammar.words.now over.grammar.productions) over.graph.words.now listing.old.production.0 listing.old.index over.view.owners.now over.view.codes.now over.view.sources.now over.view.older.now over.view.latest.now }
     requires scratch_words_in_bounds { (scratch_words ≤ length scratch.old) × (example_room ≤ length buffer.old) }
-    ensures { (n : ℕ) (T : Table) → Read T n terminals (productions_in grammar.entry.words.now grammar.entry.productions) → asked T (start_of listing.old) (set_of listing.old.lookahead) graph.entry.words.now ≡ true → outcome (reply_of result) listing.new scratch.new buffer.new ≡ advance_in graph.entry.words.now listing.old scratch.old buffer.old T }
+    ensures { (n : ℕ) (T : Table) → Read T n over.entry.terminals (productions_in over.entry.grammar.words.now over.entry.grammar.productions) → asked T (start_of listing.old) (set_of listing.old.lookahead) over.entry.graph.words.now ≡ true → outcome (reply_of result) listing.new scratch.new buffer.new ≡ advance_in over.entry.graph.words.now listing.old scratch.old buffer.old T }
 {
-    if lost(*listing, graph, scratch) {
+    if lost(*listing, over.graph, scratch) {
         return Err(Refusal::OutOfRange);
     }
-    if !is_node(graph, listing.start()) {
+    if !is_node(over.graph, listing.start()) {
         return Err(Refusal::NoNode);
     }
     if !listing.is_open {
         return Ok(Advanced::End);
     }
-    find_next(listing, grammar, terminals, graph, view, scratch, buffer)
+    find_next(listing, over, scratch, buffer)
 }
 
 // `advance` over an accepted table: refusals 9, 11 and 15, the end, the next example, refusal 13.
@@ -259,13 +272,11 @@ pub fn step_in(
     if scratch.len() < TraceGraph::SCRATCH || buffer.len() < Example::WORDS {
         return Err(Refusal::TooShort);
     }
-    go_on(
-        listing,
+    let over = Over::of(
         grammar,
         counts.terminals as u16,
         Graph { words: graph },
         lists.view(&codes),
-        scratch,
-        buffer,
-    )
+    );
+    go_on(listing, over, scratch, buffer)
 }

@@ -106,8 +106,7 @@ fn answer_number(answer: Result<Advanced, Refusal>) -> u16
     ensures { result ≡ number_of_answer (reply_of answer) }
 {
     match answer {
-        Ok(Advanced::Example) => 0,
-        Ok(Advanced::End) => Advanced::END,
+        Ok(advanced) => advanced.number(),
         Err(refusal) => refusal.number(),
     }
 }
@@ -209,6 +208,7 @@ pub fn examples(
     ensures { listed (reply_of result) scratch.new output.new ≡ list_of table.now (record { production = production.0; index = index }) lookahead calls.now graph.now scratch.old output.old }
 {
     let fits = check_calls(calls, output.len());
+    // The lower refusal by its number, as the definition says it: a derived order of `Refusal` would have to be proved that of the numbers, case by case, for this one test.
     match (
         open_listing(table, production, index, lookahead, graph),
         fits,

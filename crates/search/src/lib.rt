@@ -63,7 +63,7 @@ pub fn write_labels(view: View, words: &[u16], labels: &mut [u16]) -> usize
 }
 
 // The labels of the trial that the words hold, written into the words lent for them: of each edge the nonterminal that it comes from and the item of its label; the edge into the start item first.
-// `tried` here and below is of a graph that no argument has: a fact with many proofs, which no struct can hold.
+// `tried` here and below is of a graph that no argument has: a struct would hold it truncated, and the proof of each function would open it again, which is no plainer.
 pub fn read_labels<'a>(
     grammar: Grammar<'a>,
     view: View,

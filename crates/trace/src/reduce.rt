@@ -39,12 +39,13 @@ fn production_ends(grammar: Grammar, sets: &FirstSets, ends: &mut [u64], product
 }
 
 // The flags of all items, made once: tracing asks for each item that it meets whether its suffix is nullable.
-pub fn suffix_ends(grammar: Grammar, sets: &FirstSets, ends: &mut [u64])
+pub fn suffix_ends(grammar: Grammar, sets: &FirstSets) -> [u64; Item::FLAG_WORDS]
     requires map_value { sets.now.map ≡ sets_of_first sets.now.terminals (productions_in grammar.words.now grammar.productions) }
-    requires ends_value { ends.old ≡ replicate item_flags 0 }
-    ensures { (T : meaning-of.Table) → T.productions ≡ productions_in grammar.entry.words.now grammar.entry.productions → T.terminals ≡ sets.now.terminals → Ends T ends.new }
+    ensures { (T : meaning-of.Table) → T.productions ≡ productions_in grammar.entry.words.now grammar.entry.productions → T.terminals ≡ sets.now.terminals → Ends T result }
 {
+    let mut ends = [0u64; Item::FLAG_WORDS];
     for production in 0..grammar.productions {
-        production_ends(grammar, sets, ends, production);
+        production_ends(grammar, sets, &mut ends, production);
     }
+    ends
 }

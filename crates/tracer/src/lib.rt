@@ -28,7 +28,7 @@ ghost use Rattle.tracer.specs.Built.{Asked, edges_by};
 use crate::reduce::{Reduction, reduce_codes};
 use crate::shift::shift_codes;
 use bits::{is_set, put};
-use codes::{EdgeCodes, fill_least, write_codes};
+use codes::{EdgeCodes, least_productions, write_codes};
 use first::FirstSets;
 use lr1_core::Item;
 use repr::{Grammar, NonterminalString, ProductionIndex, Refusal, Symbol, word};
@@ -144,13 +144,12 @@ pub fn trace_codes(over: Reduction, traced: TracedItem, trace: &mut OpenTrace) -
 }
 
 // The flags of the items whose suffixes are nullable, which a reduction asks for.
-fn fill_ends(tracer: Tracer, ends: &mut [u64])
-    requires { ends.old ≡ replicate item_flags 0 }
-    ensures { Ends (meaning tracer.entry.table.words.now) ends.new }
+fn ends_of(tracer: Tracer) -> [u64; Item::FLAG_WORDS]
+    ensures { Ends (meaning tracer.entry.table.words.now) result }
 {
     let terminals = tracer.table.counts().terminals as u16;
     let sets = FirstSets::new(tracer.grammar, terminals);
-    suffix_ends(tracer.grammar, &sets, ends);
+    suffix_ends(tracer.grammar, &sets)
 }
 
 // The same where that is not known yet: a shift does not ask for it, so that the action is looked at here too.
@@ -164,8 +163,7 @@ fn trace_item(tracer: Tracer, traced: TracedItem, trace: &mut OpenTrace) -> Resu
     match traced.action {
         Action::Shift => shift_codes(tracer, state, item, trace),
         Action::Reduce => {
-            let mut ends = [0u64; Item::FLAG_WORDS];
-            fill_ends(tracer, &mut ends);
+            let ends = ends_of(tracer);
             let over = Reduction {
                 tracer,
                 ends: &ends,
@@ -187,8 +185,7 @@ fn build(
     ensures built { OnOk result ((length (edges_by traced.action (meaning table.entry.words.now) traced.state (record { production = traced.item.production; index = traced.item.index })) ≤ edge_limit) × (graph.new ≡ in_front (graph_words (edges_by traced.action (meaning table.entry.words.now) traced.state (record { production = traced.item.production; index = traced.item.index }))) graph.old)) }
     ensures full { OnErr result ((edge_limit < length (edges_by traced.action (meaning table.entry.words.now) traced.state (record { production = traced.item.production; index = traced.item.index }))) × (graph.new ≡ graph.old)) }
 {
-    let mut least = [0u8; ProductionIndex::LIMIT];
-    fill_least(grammar, &mut least);
+    let least = least_productions(grammar);
     let tracer = Tracer {
         table,
         grammar,
@@ -235,10 +232,7 @@ pub fn trace_in(
     if !item_fits(grammar, item) {
         return Err(Refusal::OutOfRange);
     }
-    if graph.len() < TraceGraph::WORDS {
-        return Err(Refusal::TooShort);
-    }
-    if scratch.len() < TraceGraph::SCRATCH {
+    if graph.len() < TraceGraph::WORDS || scratch.len() < TraceGraph::SCRATCH {
         return Err(Refusal::TooShort);
     }
     work(table, grammar, traced, graph, scratch)

@@ -50,6 +50,7 @@ fn ends_at(over: Reduction, item: Item) -> bool
 }
 
 // `trace_reduce_item`: an edge into the item, and on from each state in which the item begins.
+// What the two are given travels together in this recursion alone: a struct of it would be made once, in `reduce_codes`, with the trace lent in it, and each clause would go through it.
 #[cycle(reduce_item_reduce_state)]
 fn reduce_item(
     over: Reduction,
@@ -76,7 +77,7 @@ fn reduce_item(
 
 // `trace_reduce_from_state`: the items of the state that can shift the nonterminal; where an item's suffix may derive the empty string, it is traced on,
 // once from this state: an item that has its stamp was.
-// An item is made of its record where it is read, here and below: crate table, which has `ItemRecord`, lies below the crate of `Item`, and the record has its place and the next one besides.
+// An item is made of its record where it is read, here and below: neither crate table, which has `ItemRecord`, nor the crate of `Item` knows the other.
 #[cycle(reduce_item_reduce_state)]
 fn reduce_state(
     over: Reduction,
@@ -105,10 +106,7 @@ fn reduce_state(
         }
         let on = ends_at(over, item);
         to_nonterminal(over.tracer, &mut trace.edges, on, item)?;
-        if !on {
-            continue;
-        }
-        if stamps.at(item) == state + 1 {
+        if !on || stamps.at(item) == state + 1 {
             continue;
         }
         reduce_item(over, walk, trace, stamps, state, item)?;

@@ -56,7 +56,7 @@ impl<const N: usize> TailList<N> {
     }
 }
 
-// The record `most` further along a chain of items, its first record where the chain ends before. Records are numbers here and one is answered, where an `ItemIter`'s `nth` answers what a record holds.
+// The record `most` further along a chain of items, its first record where the chain ends before. An `ItemIter`'s `nth` tells which record stands there, and not that its chain is what is left of this one, which is promised.
 pub fn ahead(table: AcceptedTable, first: usize, most: usize) -> usize
     requires { ItemIndex table.words.now first }
     ensures { ((k : ℕ) × (items_from table.entry.words.now result ≡ drop k (items_from table.entry.words.now first))) × ItemIndex table.entry.words.now result }
@@ -150,17 +150,10 @@ fn fill(tracer: Tracer, tail: usize, records: &mut [u16], links: &mut [u16])
 fn meets(table: AcceptedTable, first: usize, tail: usize) -> bool
     requires { ItemIndex table.words.now first }
 {
-    let mut at = first;
-    for _ in 0..TAIL_AHEAD {
-        if at == 0 {
-            return false;
-        }
-        if at >= tail {
-            return at == tail;
-        }
-        at = table.item(at).next;
-    }
-    at == tail
+    ItemIter { table, at: first }
+        .take(TAIL_AHEAD + 1)
+        .find(|read| read.at >= tail)
+        .is_some_and(|read| read.at == tail)
 }
 
 // Lists the tail of a chain over the one that is listed, unless that is it. False: the chain has no tail, and the lists are as they were.
@@ -193,17 +186,13 @@ pub fn list_tail(
     requires two_tails { TwoTails tracer.table.words.now records.old links.old others.old other_links.old }
     ensures { TwoTails tracer.entry.table.words.now records.new links.new others.new other_links.new }
 {
-    if records.len() < LIST_WORDS {
+    if records.len() < LIST_WORDS || meets(tracer.table, first, word(records, 1)) {
         return;
     }
-    if meets(tracer.table, first, word(records, 1)) {
-        return;
+    if relist(tracer, first, others, other_links) {
+        records.swap_with_slice(others);
+        links.swap_with_slice(other_links);
     }
-    if !relist(tracer, first, others, other_links) {
-        return;
-    }
-    records.swap_with_slice(others);
-    links.swap_with_slice(other_links);
 }
 
 // The place of a record of the chain: where the tail begins the first slot of the nonterminal.

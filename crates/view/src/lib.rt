@@ -13,6 +13,7 @@ pub mod making;
 
 // A view's lists. By edge: where it comes from (one more than the nonterminal, or 0 for an item) and the next older edge into the same node; by node (the nonterminals, the start item, one word for
 // all other items) the latest edge into it; by edge, for the labels, the nonterminal that it comes from and its item in one word. Its numbers are in range, whatever graph it is of.
+// 0 for none: of Options `older` would be more than 2,000 words (tests/arrays.py).
 #[derive(Clone, Copy)]
 pub struct View<'a> {
     pub sources: &'a [u8],

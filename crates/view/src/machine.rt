@@ -1,4 +1,4 @@
-// The machine that steps from trial to trial (`find_next_trace` and what it calls), over a view and the words of a trial. The counts are of the words, which are lent: no struct can hold that they agree.
+// The machine that steps from trial to trial (`find_next_trace` and what it calls), over a view and the words of a trial. Between two writes (an edge taken off, then it leaves the counts) the counts and the words do not agree, so that a struct of both would be taken apart at each step.
 ghost use Rattle.std.specs.Prelude.{◌≡◌, List, [], ◌∷◌, ◌++◌, reverse, ℕ, suc, ◌≤◌, ◌<◌, length, get_or, drop, MatchOption};
 ghost use Rattle.repr.specs.Sizes.{edge_limit, nonterminal_limit, reduction_limit};
 ghost use Rattle.enumerator.specs.Counts.{Counted};

@@ -81,7 +81,7 @@ pub fn slot(node: Node, start: Item) -> usize
     }
 }
 
-// Where an edge comes from, as a byte of a view has it: one more than the nonterminal, or 0.
+// Where an edge comes from, as a byte of a view has it: one more than the nonterminal, or 0. It is put as it stands: an Option would be made for that alone.
 pub fn source(node: Node) -> usize
     requires { node.kind ≡ 0 → node.number < nonterminal_limit }
     ensures { (result ≡ source_of (node_is node)) × (result ≤ nonterminal_limit) }
@@ -128,6 +128,7 @@ fn view_edge(
 
 // Whether a lent graph is one (refusal 9), as `check_graph` asks; in the same pass its view for a listing from an item is made in new lists, and the label of every edge. The lists
 // and the codes are lent beside each other, as crate examples has its codes in the traced edges and makes the lists alone; a grammar and a number of nonterminals stand beside each other as in crate trace_graph.
+// One walk for this and `check_graph` would be given what is done with an edge as a closure that writes, and its contract would say from edge to edge what holds of the lists: no plainer.
 pub fn check_view(
     grammar: Grammar,
     n: usize,

@@ -32,11 +32,11 @@ returns-then-scratch-lt-SCRATCH c = let R = read_of c.counts-counts.ensures c.re
       | then-scratch-lt-SCRATCH-via-else-scratch-lt-SCRATCH+then-buffer-lt-WORDS w ↦ step_buffer _ _ _ _ _ A w.if-buffer-lt-WORDS.true
     ]
 
-pub invariant_of-go_on : goal.invariant_of-go_on
-invariant_of-go_on c = record { roomy = roomy_of (ranged_fits _ _ _ (sym c.if-not-check_view.ensures.value) (few_nonterminals c.counts-counts.ensures) (omega (arith, c.if-graph-lt-WORDS.false))) }
+pub invariant_of-of : goal.invariant_of-of
+invariant_of-of c = record { roomy = roomy_of (ranged_fits _ _ _ (sym c.if-not-check_view.ensures.value) (few_nonterminals c.counts-counts.ensures) (omega (arith, c.if-graph-lt-WORDS.false))) }
 
 pub go_on-requires-clause-listable : goal.go_on-requires-clause-listable
-go_on-requires-clause-listable c = let V = c.view.ensures in rw (← c.start-start.ensures.0, ← c.start-start.ensures.1, V.lists.0, V.lists.1, V.lists.2, V.lists.3, V.codes) (record {
+go_on-requires-clause-listable c = let V = c.view.ensures in let O = c.of-over.ensures in rw (O.table.0, O.table.1, O.graph.0, O.graph.1, O.graph.2, O.graph.3, O.graph.4, O.graph.5, ← c.start-start.ensures.0, ← c.start-start.ensures.1, V.lists.0, V.lists.1, V.lists.2, V.lists.3, V.codes) (record {
   ranged = ranged_fits _ _ _ (sym c.if-not-check_view.ensures.value) (few_nonterminals c.counts-counts.ensures) (omega (arith, c.if-graph-lt-WORDS.false));
   fits = and_left _ _ (sym c.if-not-fits.ensures);
   view = (c.if-not-check_view.ensures.viewing refl).0;
@@ -46,4 +46,6 @@ go_on-requires-clause-listable c = let V = c.view.ensures in rw (← c.start-sta
 pub returns : goal.returns
 unfolding start_of
 returns c = let R = read_of c.counts-counts.ensures c.read_grammar-grammar.ensures.1 in
-    c.go_on.ensures _ _ R (asked_long _ _ _ _ _ R _ (rw (← c.start-start.ensures.0, ← c.start-start.ensures.1) c.if-not-fits.ensures) refl c.if-graph-lt-WORDS.false _ c.if-not-check_view.ensures.value)
+    let O = c.of-over.ensures in
+    let found = rw (O.table.0, O.table.1, O.table.2, O.graph.0) at c.go_on.ensures in
+    found _ _ R (asked_long _ _ _ _ _ R _ (rw (← c.start-start.ensures.0, ← c.start-start.ensures.1) c.if-not-fits.ensures) refl c.if-graph-lt-WORDS.false _ c.if-not-check_view.ensures.value)

@@ -1,16 +1,19 @@
-use mathlib.Core.Path.{◌≡◌}
+use mathlib.Core.Path.{◌≡◌, refl, ◌∙◌}
+use Rattle.repr.specs.Reply.{answered}
+use Rattle.enumerator.specs.declared.Advanced.{Advanced}
 use Rattle.enumerator.specs.declared.Advanced.TheVariants.{Example, End}
+use Rattle.enumerator.specs.Advance.{number_of_advanced}
 use Rattle.listing.specs.CallList.{number_of_answer}
 use Rattle.listing.proofs.answer_number.Goals as goal
 
-pub returns-in-Ok-Example : goal.returns-in-Ok-Example
-unfolding number_of_answer
-returns-in-Ok-Example c = let e : c.in-Ok-Example.field-0 ≡ Example = rw c.in-Ok-Example.is at c.in-Ok-Example.field-0-is in rw (c.in-Ok-Example.is, e)
+of_advanced : (a : Advanced) → number_of_advanced a ≡ number_of_answer (answered a)
+unfolding number_of_advanced number_of_answer
+of_advanced Example = refl
+of_advanced End = refl
 
-pub returns-in-Ok-End : goal.returns-in-Ok-End
-unfolding number_of_answer
-returns-in-Ok-End c = let e : c.in-Ok-End.field-0 ≡ End = rw c.in-Ok-End.is at c.in-Ok-End.field-0-is in rw (c.in-Ok-End.is, e)
+pub returns-in-Ok : goal.returns-in-Ok
+returns-in-Ok c = rw c.in-Ok.is (c.number.ensures ∙ of_advanced _)
 
 pub returns-in-Err : goal.returns-in-Err
 unfolding number_of_answer
-returns-in-Err c = rw c.in-Err.is c.number.ensures
+returns-in-Err c = rw c.in-Err.is c.number-in-Err.ensures

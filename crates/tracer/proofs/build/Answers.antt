@@ -4,11 +4,8 @@ use Rattle.table.specs.Decoded.{meaning}
 use Rattle.tracer.proofs.Ways.{working, asked-item, carried, front_is}
 use Rattle.tracer.proofs.build.Goals as goal
 
-pub fill_least-requires : goal.fill_least-requires
-fill_least-requires c = refl
-
 pub invariant_of-tracer : goal.invariant_of-tracer
-invariant_of-tracer c = record { working = working c.args.table.accepted c.args.grammar.packed c.requires.asked _ c.fill_least.ensures.0 c.fill_least.ensures.1 }
+invariant_of-tracer c = record { working = working c.args.table.accepted c.args.grammar.packed c.requires.asked _ c.least_productions-least.ensures.0 c.least_productions-least.ensures.1 }
 
 pub trace_item-requires : goal.trace_item-requires
 trace_item-requires c = record { within = (c.requires.asked.state, asked-item c.args.table.accepted c.args.grammar.packed c.requires.asked) }

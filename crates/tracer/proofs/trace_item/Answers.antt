@@ -1,4 +1,3 @@
-use Rattle.std.proofs.Common.{refl}
 use Rattle.tracer.proofs.trace_item.Goals as goal
 
 pub shift_codes-requires : goal.shift_codes-requires
@@ -7,11 +6,8 @@ shift_codes-requires c = record { within = c.requires.within }
 pub returns-in-Shift : goal.returns-in-Shift
 returns-in-Shift c = rw c.in-Shift.is c.shift_codes.ensures
 
-pub fill_ends-requires : goal.fill_ends-requires
-fill_ends-requires c = refl
-
 pub invariant_of-over : goal.invariant_of-over
-invariant_of-over c = record { suffixes = c.fill_ends.ensures }
+invariant_of-over c = record { suffixes = c.ends_of-ends.ensures }
 
 pub reduce_codes-requires : goal.reduce_codes-requires
 reduce_codes-requires c = record { within = c.requires.within }

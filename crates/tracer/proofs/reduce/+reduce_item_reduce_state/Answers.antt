@@ -12,6 +12,7 @@ use Rattle.codes.proofs.Keys.{label_small}
 use Rattle.tracer.proofs.Turns.{pair_small, items_none, work_many, work_owner, work_shift}
 use Rattle.tracer.proofs.Begin.{found_in_lem}
 use Rattle.tracer.proofs.ReduceSteps.{left-start, left-done, left-next, left_over, item-full, item-goes, item-stops, stamp_goes, skip_goes, edge_stops, off_goes, known_goes, on_goes, on_stops, state_known, state_fewer, state_goes, state_stops}
+use Rattle.tracer.proofs.reduce.+reduce_item_reduce_state.Goals.{reduce_state-then-not-on-via-then-not-on, reduce_state-then-not-on-via-else-not-on+then-at-state}
 use Rattle.tracer.proofs.reduce.+reduce_item_reduce_state.Goals as goal
 
 pub reduce_item-to_item-requires : goal.reduce_item-to_item-requires
@@ -68,17 +69,17 @@ reduce_state-to_nonterminal-requires t c = (rw c.loop-read.invariant.0 at c.in-S
 pub reduce_state-returns-in_err-to_nonterminal : goal.reduce_state-returns-in_err-to_nonterminal
 reduce_state-returns-in_err-to_nonterminal t c = let n = work_many _ _ _ _ c.args.over.tracer.working in let R = (rw c.loop-read.invariant.0 at c.in-Some.ensures.steps.1.2) in let pl : c.in-Some.read.production < c.args.over.tracer.grammar.productions = omega (arith, R.fits.production) in let w = state_fewer (meaning c.args.over.tracer.table.words.now) c.args.state c.args.nonterminal c.args.trace.now.edges.words c.args.trace.now.edges.flags c.args.trace.now.entered c.args.stamps.now.words (pair_small c.args.over.tracer.table.words.now c.args.over.tracer.working.accepted c.args.state c.args.nonterminal c.requires.within.0 c.requires.within.1) (omega arith) (c.enter.ensures.new c.if-not-enter.false).0 _ (c.enter.ensures.new c.if-not-enter.false).1 in let p = err_from_is_err_and c.from_residual.result c.from_residual.ensures.1 in rw p.1 (record { reduces = tt; reduce_exceeds = state_stops (meaning c.args.over.tracer.table.words.now) c.args.state c.args.nonterminal c.args.trace.now.edges.words c.args.trace.now.edges.flags c.args.trace.now.entered c.args.stamps.now.words (pair_small c.args.over.tracer.table.words.now c.args.over.tracer.working.accepted c.args.state c.args.nonterminal c.requires.within.0 c.requires.within.1) (omega arith) (c.enter.ensures.new c.if-not-enter.false).0 _ (c.enter.ensures.new c.if-not-enter.false).1 (left_over (meaning c.args.over.tracer.table.words.now) _ _ _ _ _ _ _ _ _ _ _ c.loop-read.invariant.1 _ _ R.list (on_item_adds (meaning c.args.over.tracer.table.words.now) _ _) (edge_stops (meaning c.args.over.tracer.table.words.now) c.args.state c.args.nonterminal _ _ _ _ _ (sym (work_shift _ _ _ _ c.args.over.tracer.working _ _ c.args.nonterminal pl) ∙ sym c.can_shift_nonterminal.ensures ∙ c.if-not-can_shift_nonterminal.false) _ c.ends_at-on.ensures (c.in_err-to_nonterminal.ensures.full c.args.nonterminal c.requires.within.1 (sym (work_shift _ _ _ _ c.args.over.tracer.working _ _ c.args.nonterminal pl) ∙ sym c.can_shift_nonterminal.ensures ∙ c.if-not-can_shift_nonterminal.false)))); entered_bound = (omega (arith, w, c.loop-read.invariant.1.fewer), c.loop-read.invariant.2 ∙ sym c.requires.table) })
 
-pub reduce_state-loop-read-preserved-then-not-on : goal.reduce_state-loop-read-preserved-then-not-on
-reduce_state-loop-read-preserved-then-not-on t c = let n = work_many _ _ _ _ c.args.over.tracer.working in let R = (rw c.loop-read.invariant.0 at c.in-Some.ensures.steps.1.2) in let pl : c.in-Some.read.production < c.args.over.tracer.grammar.productions = omega (arith, R.fits.production) in (c.in-Some.ensures.steps.0 ∙ c.loop-read.invariant.0, left-next (meaning c.args.over.tracer.table.words.now) _ _ _ _ _ _ _ _ _ _ _ c.loop-read.invariant.1 _ _ R.list _ _ _ _ (off_goes (meaning c.args.over.tracer.table.words.now) c.args.state c.args.nonterminal _ _ _ _ _ (sym (work_shift _ _ _ _ c.args.over.tracer.working _ _ c.args.nonterminal pl) ∙ sym c.can_shift_nonterminal.ensures ∙ c.if-not-can_shift_nonterminal.false) _ c.ends_at-on.ensures _ _ (c.in_ok-to_nonterminal.ensures.coded c.args.nonterminal c.requires.within.1 (sym (work_shift _ _ _ _ c.args.over.tracer.working _ _ c.args.nonterminal pl) ∙ sym c.can_shift_nonterminal.ensures ∙ c.if-not-can_shift_nonterminal.false)) c.if-not-on.true) (le_refl _), c.loop-read.invariant.2)
-
 pub reduce_state-at-requires : goal.reduce_state-at-requires
 reduce_state-at-requires t c = let sm = label_small (meaning c.args.over.tracer.table.words.now) (fits c.args.over.tracer.table.words.now c.args.over.tracer.working.accepted) _ (rw c.loop-read.invariant.0 at c.in-Some.ensures.steps.1.2).fits in (sm.0, sm.1)
 
 pub reduce_state-overflow_add-state : goal.reduce_state-overflow_add-state
 reduce_state-overflow_add-state t c = omega (arith, (fits c.args.over.tracer.table.words.now c.args.over.tracer.working.accepted).few_states, c.requires.within.0)
 
-pub reduce_state-loop-read-preserved-then-at-state : goal.reduce_state-loop-read-preserved-then-at-state
-reduce_state-loop-read-preserved-then-at-state t c = let n = work_many _ _ _ _ c.args.over.tracer.working in let R = (rw c.loop-read.invariant.0 at c.in-Some.ensures.steps.1.2) in let pl : c.in-Some.read.production < c.args.over.tracer.grammar.productions = omega (arith, R.fits.production) in (c.in-Some.ensures.steps.0 ∙ c.loop-read.invariant.0, left-next (meaning c.args.over.tracer.table.words.now) _ _ _ _ _ _ _ _ _ _ _ c.loop-read.invariant.1 _ _ R.list _ _ _ _ (known_goes (meaning c.args.over.tracer.table.words.now) c.args.state c.args.nonterminal _ _ _ _ _ (sym (work_shift _ _ _ _ c.args.over.tracer.working _ _ c.args.nonterminal pl) ∙ sym c.can_shift_nonterminal.ensures ∙ c.if-not-can_shift_nonterminal.false) _ c.ends_at-on.ensures _ _ (c.in_ok-to_nonterminal.ensures.coded c.args.nonterminal c.requires.within.1 (sym (work_shift _ _ _ _ c.args.over.tracer.working _ _ c.args.nonterminal pl) ∙ sym c.can_shift_nonterminal.ensures ∙ c.if-not-can_shift_nonterminal.false)) c.if-not-on.false R.fits (sym c.at.ensures ∙ c.if-at-state.true)) (le_refl _), c.loop-read.invariant.2)
+pub reduce_state-loop-read-preserved-then-not-on : goal.reduce_state-loop-read-preserved-then-not-on
+reduce_state-loop-read-preserved-then-not-on t c = elim c.then-not-on.branch [
+  | reduce_state-then-not-on-via-then-not-on w ↦ let n = work_many _ _ _ _ c.args.over.tracer.working in let R = (rw c.loop-read.invariant.0 at c.in-Some.ensures.steps.1.2) in let pl : c.in-Some.read.production < c.args.over.tracer.grammar.productions = omega (arith, R.fits.production) in (c.in-Some.ensures.steps.0 ∙ c.loop-read.invariant.0, left-next (meaning c.args.over.tracer.table.words.now) _ _ _ _ _ _ _ _ _ _ _ c.loop-read.invariant.1 _ _ R.list _ _ _ _ (off_goes (meaning c.args.over.tracer.table.words.now) c.args.state c.args.nonterminal _ _ _ _ _ (sym (work_shift _ _ _ _ c.args.over.tracer.working _ _ c.args.nonterminal pl) ∙ sym c.can_shift_nonterminal.ensures ∙ c.if-not-can_shift_nonterminal.false) _ c.ends_at-on.ensures _ _ (c.in_ok-to_nonterminal.ensures.coded c.args.nonterminal c.requires.within.1 (sym (work_shift _ _ _ _ c.args.over.tracer.working _ _ c.args.nonterminal pl) ∙ sym c.can_shift_nonterminal.ensures ∙ c.if-not-can_shift_nonterminal.false)) w.if-not-on.true) (le_refl _), c.loop-read.invariant.2)
+  | reduce_state-then-not-on-via-else-not-on+then-at-state w ↦ let n = work_many _ _ _ _ c.args.over.tracer.working in let R = (rw c.loop-read.invariant.0 at c.in-Some.ensures.steps.1.2) in let pl : c.in-Some.read.production < c.args.over.tracer.grammar.productions = omega (arith, R.fits.production) in (c.in-Some.ensures.steps.0 ∙ c.loop-read.invariant.0, left-next (meaning c.args.over.tracer.table.words.now) _ _ _ _ _ _ _ _ _ _ _ c.loop-read.invariant.1 _ _ R.list _ _ _ _ (known_goes (meaning c.args.over.tracer.table.words.now) c.args.state c.args.nonterminal _ _ _ _ _ (sym (work_shift _ _ _ _ c.args.over.tracer.working _ _ c.args.nonterminal pl) ∙ sym c.can_shift_nonterminal.ensures ∙ c.if-not-can_shift_nonterminal.false) _ c.ends_at-on.ensures _ _ (c.in_ok-to_nonterminal.ensures.coded c.args.nonterminal c.requires.within.1 (sym (work_shift _ _ _ _ c.args.over.tracer.working _ _ c.args.nonterminal pl) ∙ sym c.can_shift_nonterminal.ensures ∙ c.if-not-can_shift_nonterminal.false)) w.if-not-on.false R.fits (sym w.at.ensures ∙ w.if-at-state.true)) (le_refl _), c.loop-read.invariant.2)
+]
 
 pub reduce_state-reduce_item-requires : goal.reduce_state-reduce_item-requires
 reduce_state-reduce_item-requires t c = let w = state_fewer (meaning c.args.over.tracer.table.words.now) c.args.state c.args.nonterminal c.args.trace.now.edges.words c.args.trace.now.edges.flags c.args.trace.now.entered c.args.stamps.now.words (pair_small c.args.over.tracer.table.words.now c.args.over.tracer.working.accepted c.args.state c.args.nonterminal c.requires.within.0 c.requires.within.1) (omega arith) (c.enter.ensures.new c.if-not-enter.false).0 _ (c.enter.ensures.new c.if-not-enter.false).1 in (omega (arith, w, c.loop-read.invariant.1.fewer), (c.loop-read.invariant.2, (c.requires.within.0, (rw c.loop-read.invariant.0 at c.in-Some.ensures.steps.1.2).fits)))

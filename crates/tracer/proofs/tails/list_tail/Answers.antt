@@ -5,8 +5,8 @@ use Rattle.tracer.proofs.tails.list_tail.Goals as goal
 pub relist-requires : goal.relist-requires
 relist-requires c = record { on = c.requires.on; records_len = (omega arith, omega arith, c.requires.two_tails.other_usable) }
 
-pub returns-then-not-relist : goal.returns-then-not-relist
-returns-then-not-relist c = listed-over _ _ _ _ _ _ _ c.requires.two_tails c.relist.auto.records c.relist.auto.links c.relist.ensures
+pub returns-else-relist : goal.returns-else-relist
+returns-else-relist c = listed-over _ _ _ _ _ _ _ c.requires.two_tails c.relist.auto.records c.relist.auto.links c.relist.ensures
 
-pub returns : goal.returns
-returns c = turned _ _ _ _ _ (listed-over _ _ _ _ _ _ _ c.requires.two_tails c.relist.auto.records c.relist.auto.links c.relist.ensures) _ _ _ _ c.swap_with_slice.ensures.after c.swap_with_slice-2.ensures.after c.swap_with_slice.ensures.other_after c.swap_with_slice-2.ensures.other_after
+pub returns-then-relist : goal.returns-then-relist
+returns-then-relist c = turned _ _ _ _ _ (listed-over _ _ _ _ _ _ _ c.requires.two_tails c.relist.auto.records c.relist.auto.links c.relist.ensures) _ _ _ _ c.swap_with_slice.ensures.after c.swap_with_slice-then-relist.ensures.after c.swap_with_slice.ensures.other_after c.swap_with_slice-then-relist.ensures.other_after

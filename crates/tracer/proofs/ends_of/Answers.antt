@@ -1,6 +1,6 @@
 use Rattle.std.proofs.Common.{sym, ◌∙◌, arith}
 use Rattle.table.specs.Decoded.{meaning}
-use Rattle.tracer.proofs.fill_ends.Goals as goal
+use Rattle.tracer.proofs.ends_of.Goals as goal
 
 pub overflow_cast-terminals : goal.overflow_cast-terminals
 overflow_cast-terminals c = let C = c.counts-terminals.ensures in omega (arith, C.fits.few_terminals, C.terminals)
@@ -9,10 +9,7 @@ pub new-sets-requires : goal.new-sets-requires
 new-sets-requires c = let C = c.counts-terminals.ensures in omega (arith, C.fits.few_terminals, C.terminals)
 
 pub suffix_ends-requires : goal.suffix_ends-requires
-suffix_ends-requires c = record { map_value = rw c.new-sets.ensures.terminals c.new-sets.ensures.is; ends_value = c.requires }
-
-pub shape_of-ends : goal.shape_of-ends
-shape_of-ends c = c.suffix_ends.auto.ends
+suffix_ends-requires c = record { map_value = rw c.new-sets.ensures.terminals c.new-sets.ensures.is }
 
 pub returns : goal.returns
 returns c = c.suffix_ends.ensures (meaning c.args.tracer.table.words.now) (sym c.args.tracer.working.same) (sym (c.new-sets.ensures.terminals ∙ c.counts-terminals.ensures.terminals))

@@ -1,6 +1,6 @@
 use mathlib.Core.Path.{refl}
 use Rattle.lister.proofs.Asking.{sets-any, sets-set}
-use Rattle.lister.proofs.first_sets.Goals as goal
+use Rattle.lister.proofs.Over.first_sets.Goals as goal
 
 pub returns-in_default : goal.returns-in_default
 returns-in_default c = (sets-any _ _ c.in_default.is _, refl)
