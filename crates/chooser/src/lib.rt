@@ -15,7 +15,7 @@ ghost use Rattle.chooser.specs.Choosing.{choice_in, sorted_in, CountsWithin, tok
 
 pub use chosen::Chosen;
 use classifier::{classify, place_fits};
-use entries::{copy_entries, is_naive, write_entry};
+use entries::{copy_entries, write_entry};
 use error::{Class, Conflict};
 use example::Example;
 use examples::{Given, TableConflict, prepare};
@@ -66,7 +66,7 @@ fn choose_token(
         },
     };
     let found = classify(case, &mut action, &mut reduce)?;
-    if is_naive(found.class) {
+    if found.class.is_naive() {
         write_entry(naive, written.naive, token, found.class);
         return Ok(Written {
             naive: written.naive + 1,
@@ -101,7 +101,7 @@ fn choose_tokens(
 fn naive_chosen(conflict: Conflict, count: usize) -> usize
     ensures { result ≡ count_of_naive conflict.action count }
 {
-    if conflict.action == 0 {
+    if conflict.is_shift() {
         count
     } else {
         count.min(1)
@@ -163,7 +163,7 @@ fn choose_read(
 fn set_shifts_end(conflict: Conflict, tokens: TokenSet, terminals: u16) -> bool
     ensures { result ≡ eqb conflict.action 0 && has tokens.0 terminals }
 {
-    conflict.action == 0 && tokens.contains(terminals)
+    conflict.is_shift() && tokens.contains(terminals)
 }
 
 // `choose` over an accepted table: refusals 9 to 11 change nothing.

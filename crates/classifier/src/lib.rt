@@ -16,7 +16,7 @@ ghost use Rattle.classifier.specs.Shown.{judged_words, shown_of};
 
 use error::{Class, Classification, Conflict};
 use example::Example as ExampleBuffer;
-use examples::{TableConflict, action_examples, prepare, reduced};
+use examples::{TableConflict, action_examples, prepare};
 use judge::{Judging, write_example};
 use outline::Side;
 use pairs::{SortedSide, sort_side};
@@ -34,7 +34,7 @@ pub fn place_fits(table: AcceptedTable, conflict: Conflict) -> bool
     let operand = conflict.operand as usize;
     state < counts.states
         && (production < counts.productions
-            && if conflict.action == 0 {
+            && if conflict.is_shift() {
                 operand < counts.terminals
             } else {
                 conflict.action == 1 && operand < counts.productions
@@ -45,7 +45,7 @@ pub fn place_fits(table: AcceptedTable, conflict: Conflict) -> bool
 fn shifts_end(conflict: Conflict, terminals: usize) -> bool
     ensures { result ≡ eqb conflict.action 0 && eqb conflict.token terminals }
 {
-    conflict.action == 0 && conflict.token as usize == terminals
+    conflict.is_shift() && conflict.token as usize == terminals
 }
 
 // The example of the action's side that is shown, if there is one, at the front of its buffer.
@@ -59,7 +59,7 @@ fn show(case: TableConflict, side: &Side, shown: Option<usize>, buffer: &mut [u1
     }
 }
 
-// The class from both sides: either empty is naive, and writes nothing; else both are put in order and judged, and the examples shown are made again.
+// The class from both sides: either empty is naive, and writes nothing; else both are put in order and judged, and the examples shown are made again. The buffers are lent here and below, and may be longer than an example: their length is asked at the entry (refusal 11).
 fn classify_kept(
     case: TableConflict,
     actions: &Side,
@@ -92,12 +92,8 @@ fn classify_kept(
         },
     };
     let judged = judging.judge();
-    let other = TableConflict {
-        given: case.given,
-        conflict: reduced(case.conflict),
-    };
     show(case, actions, judged.action, action);
-    show(other, reduces, judged.reduce, reduce);
+    show(case.reduced(), reduces, judged.reduce, reduce);
     judged.class
 }
 
@@ -112,12 +108,8 @@ pub fn classify(
 {
     let mut actions = Side::new();
     let mut reduces = Side::new();
-    let other = TableConflict {
-        given: case.given,
-        conflict: reduced(case.conflict),
-    };
     let own = action_examples(case, &mut actions)?;
-    let found = action_examples(other, &mut reduces)?;
+    let found = action_examples(case.reduced(), &mut reduces)?;
     let class = classify_kept(
         case,
         &actions,
@@ -134,7 +126,7 @@ pub fn classify(
     })
 }
 
-// The table's productions are packed into the front of the scratch words, which are read only while sides are gathered and judged; all are zero at the end.
+// The table's productions are packed into the front of the scratch words, which are read only while sides are gathered and judged; all are zero at the end. One function of this and of chooser's `choose_read` would take what is done between as a closure, whose clauses would say again what `classify` says.
 fn classify_read(
     table: AcceptedTable,
     conflict: Conflict,
@@ -165,22 +157,16 @@ pub fn classify_in(
     ensures { outcome (reading_of result) scratch.new action.new reduce.new ≡ classified_in conflict scratch.old action.old reduce.old (meaning table.entry.words.now) }
 {
     let terminals = table.counts().terminals;
-    if !place_fits(table, conflict) {
-        return Err(Refusal::OutOfRange);
-    }
-    if conflict.token as usize > terminals {
+    if !place_fits(table, conflict) || conflict.token as usize > terminals {
         return Err(Refusal::OutOfRange);
     }
     if shifts_end(conflict, terminals) {
         return Err(Refusal::EndShifted);
     }
-    if scratch.len() < Conflict::SCRATCH {
-        return Err(Refusal::TooShort);
-    }
-    if action.len() < ExampleBuffer::WORDS {
-        return Err(Refusal::TooShort);
-    }
-    if reduce.len() < ExampleBuffer::WORDS {
+    if scratch.len() < Conflict::SCRATCH
+        || action.len() < ExampleBuffer::WORDS
+        || reduce.len() < ExampleBuffer::WORDS
+    {
         return Err(Refusal::TooShort);
     }
     classify_read(table, conflict, scratch, action, reduce)

@@ -17,6 +17,17 @@ use Rattle.error.specs.Numbers.{number_of_class, values_of_class}
 use Rattle.error.specs.Choose.{Entry}
 use Rattle.entries.specs.Entries.{class_words, with_entry, count_of_values, entry_in, entries_in, entry_words}
 
+-- a class's number, and its own values filled up with zeros
+pub five_words : (class : Class) → number_of_class class ∷ get_or (values_of_class class) 0 0 ∷ get_or (values_of_class class) 1 0 ∷ get_or (values_of_class class) 2 0 ∷ get_or (values_of_class class) 3 0 ∷ [] ≡ class_words class
+unfolding class_words number_of_class values_of_class
+five_words Naive = refl
+five_words Ambiguity = refl
+five_words (Precedence n) = refl
+five_words (SuggestInline n) = refl
+five_words (SuggestQuestion n k x) = refl
+five_words (AmbiguousReduction a b c d) = refl
+five_words InsufficientLookahead = refl
+
 -- a token, and five words behind it, are an entry's words
 pub words_put : (ws part v : List ℕ) (token k : ℕ) → part ≡ v → length part ≡ length (take (entry_place k + 6 - (entry_place k + 1)) (drop (entry_place k + 1) (set ws (entry_place k) token))) → entry_place k + 6 ≤ length ws
     → put_mid (entry_place k + 1) (entry_place k + 6 - (entry_place k + 1)) (set ws (entry_place k) token) part ≡ sets ws (entry_place k) (token ∷ v)

@@ -2,51 +2,20 @@
 
 #![tactic(auto)]
 
-ghost use Rattle.std.specs.Prelude.{◌≡◌, [], ◌∷◌, ◌++◌, ◌*◌, ◌≤◌, ◌<◌, length, get_or, take, drop, eqb};
+ghost use Rattle.std.specs.Prelude.{◌≡◌, [], ◌∷◌, ◌++◌, ◌*◌, ◌≤◌, ◌<◌, length, get_or, take, drop};
 ghost use Rattle.std.proofs.lemmas.List.Edits.{sets};
 ghost use Rattle.repr.specs.Sizes.{entry_limit, entry_room, entry_place, entries_room};
-ghost use Rattle.error.specs.Numbers.{number_of_class};
 ghost use Rattle.repr.specs.Lists.{joined};
 ghost use Rattle.entries.specs.Entries.{class_words, with_entry, count_of_values, entry_in, entries_in, entry_words};
 
 use error::Class;
 
-// Document 01's number of a class. No `From`, as neither type is this crate's.
-#[tactic(auto, unfolding(error::specs::Numbers::number_of_class))]
-pub fn class_number(class: Class) -> u16
-    ensures { result ≡ number_of_class class }
-{
-    match class {
-        Class::Naive => 0,
-        Class::Ambiguity => 1,
-        Class::Precedence(_) => 2,
-        Class::SuggestInline(_) => 3,
-        Class::SuggestQuestion(_, _, _) => 4,
-        Class::AmbiguousReduction(_, _, _, _) => 5,
-        Class::InsufficientLookahead => 6,
-    }
-}
-
 // A class in five words: document 01's number, its own values, zeros.
-#[tactic(auto, unfolding(crate::specs::Entries::class_words))]
 fn number_class(class: Class) -> [u16; Class::WORDS]
     ensures { result ≡ class_words class }
 {
-    match class {
-        Class::Naive => [0; Class::WORDS],
-        Class::Ambiguity => [1, 0, 0, 0, 0],
-        Class::Precedence(nonterminal) => [2, nonterminal.0, 0, 0, 0],
-        Class::SuggestInline(nonterminal) => [3, nonterminal.0, 0, 0, 0],
-        Class::SuggestQuestion(nonterminal, kind, symbol) => [4, nonterminal.0, kind, symbol, 0],
-        Class::AmbiguousReduction(start, end, other_start, other_end) => [
-            5,
-            start,
-            end,
-            other_start,
-            other_end,
-        ],
-        Class::InsufficientLookahead => [6, 0, 0, 0, 0],
-    }
+    let [a, b, c, d] = class.values();
+    [class.number(), a, b, c, d]
 }
 
 // Entry k in six words: token and class.
@@ -106,12 +75,4 @@ pub fn copy_entries(from: &[u16], to: &mut [u16], count: usize)
         let words = read_class(from, k);
         write_words(to, k, token, words);
     }
-}
-
-// Whether a class is naive.
-#[tactic(auto, unfolding(error::specs::Numbers::number_of_class))]
-pub fn is_naive(class: Class) -> bool
-    ensures { result ≡ eqb (number_of_class class) 0 }
-{
-    matches!(class, Class::Naive)
 }

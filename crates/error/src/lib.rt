@@ -2,7 +2,8 @@
 
 #![tactic(auto)]
 
-ghost use Rattle.std.specs.Prelude.{◌≡◌, ◌≢◌, true, false};
+ghost use Rattle.std.specs.Prelude.{◌≡◌, [], ◌∷◌, eqb, slice_index_or};
+ghost use Rattle.error.specs.Numbers.{number_of_class, values_of_class};
 
 use lookahead::TokenSet;
 use repr::{NonterminalString, ProductionIndex};
@@ -27,7 +28,7 @@ impl Conflict {
 
     // Whether its action is a shift.
     pub fn is_shift(self) -> bool
-        ensures { (result ≡ true → self.action ≡ 0) × (result ≡ false → (self.action ≢ 0)) }
+        ensures { result ≡ eqb self.action 0 }
     {
         self.action == 0
     }
@@ -53,6 +54,48 @@ impl Class {
     pub const ENTRY_WORDS: usize = 1 + Class::WORDS;
 
     pub const ALL_WORDS: usize = TokenSet::LIMIT as usize * Class::ENTRY_WORDS;
+
+    // Document 01's number.
+    #[tactic(auto, unfolding(crate::specs::Numbers::number_of_class))]
+    pub fn number(self) -> u16
+        ensures { result ≡ number_of_class self }
+    {
+        match self {
+            Class::Naive => 0,
+            Class::Ambiguity => 1,
+            Class::Precedence(_) => 2,
+            Class::SuggestInline(_) => 3,
+            Class::SuggestQuestion(_, _, _) => 4,
+            Class::AmbiguousReduction(_, _, _, _) => 5,
+            Class::InsufficientLookahead => 6,
+        }
+    }
+
+    // Its own values, zeros behind them.
+    #[tactic(auto, unfolding(crate::specs::Numbers::values_of_class))]
+    pub fn values(self) -> [u16; 4]
+        ensures { let values = values_of_class self in result ≡ (slice_index_or values 0 0 ∷ slice_index_or values 1 0 ∷ slice_index_or values 2 0 ∷ slice_index_or values 3 0 ∷ []) }
+    {
+        match self {
+            Class::Naive => [0; 4],
+            Class::Ambiguity => [0; 4],
+            Class::Precedence(nonterminal) => [nonterminal.0, 0, 0, 0],
+            Class::SuggestInline(nonterminal) => [nonterminal.0, 0, 0, 0],
+            Class::SuggestQuestion(nonterminal, kind, symbol) => [nonterminal.0, kind, symbol, 0],
+            Class::AmbiguousReduction(start, end, other_start, other_end) => {
+                [start, end, other_start, other_end]
+            }
+            Class::InsufficientLookahead => [0; 4],
+        }
+    }
+
+    // Whether it is naive.
+    #[tactic(auto, unfolding(crate::specs::Numbers::number_of_class))]
+    pub fn is_naive(self) -> bool
+        ensures { result ≡ eqb (number_of_class self) 0 }
+    {
+        matches!(self, Class::Naive)
+    }
 }
 
 // What classifying answers: the class, and the trials of the action side and of the reduce side.

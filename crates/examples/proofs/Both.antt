@@ -1,10 +1,10 @@
 -- What is in range of a conflict that fits its table, and the item of a reduce (error/specs/Sides). Assumes nothing.
-use Rattle.std.specs.Prelude.{◌≡◌, ℕ, zero, suc, ◌<◌, ◌≤◌, true, ◌&&◌, ltb, leb, List, length, get_or}
+use Rattle.std.specs.Prelude.{◌≡◌, ℕ, zero, suc, ◌<◌, ◌≤◌, true, false, ◌&&◌, eqb, ltb, leb, List, length, get_or}
 use mathlib.Core.Path.{refl, sym, ap, ◌∙◌, subst}
 use mathlib.Core.Bool.{true≢false}
 use mathlib.Core.Option.{some}
 use native.Mathlib.Omega.{arith}
-use borrow.Author.Tests.{ltb-true, leb-true}
+use borrow.Author.Tests.{ltb-true, leb-true, eqb-false}
 use Rattle.repr.specs.Meaning.{Production, no_production, Table}
 use Rattle.repr.specs.Packed.{productions_in}
 use Rattle.table.specs.Decoded.{meaning}
@@ -27,6 +27,7 @@ use Rattle.error.specs.Outcome.{operand_fits, place_is_fit, conflict_fits}
 use Rattle.error.specs.Sides.{listing_side, item_of_reduce, reduce_side}
 use Rattle.tracer.specs.declared.TracedItem.{TracedItem}
 use Rattle.examples.specs.Reads.{Reads}
+use Rattle.examples.specs.Gathers.{is_shift, traced_side}
 
 single-token : (token set : ℕ) → token < 64 → set ≡ with 0 token → set ≡ single token
 single-token token set h e = e ∙ with_yes 0 token h ∙ union-zero-left (single token)
@@ -44,8 +45,7 @@ module _ (t g : List ℕ) (productions terminals : ℕ) (sets least ends : List 
       (hs, item_fits (meaning t) (record { production = p; index = length (get_or (productions_in g productions) p no_production).symbols }) (record { production = h; index = omega arith }))
 
   pub reduce_is : (token : ℕ) (tokens : TokenSet) → token ≤ (meaning t).terminals → tokens.0 ≡ with 0 token
-      → listing_side (meaning t) (edges_by r.action (meaning t) r.state (record { production = r.item.production; index = r.item.index })) (record { production = r.item.production; index = r.item.index }) (set_of (Some tokens)) 0
-      ≡ reduce_side (meaning t) state.0 p token
+      → traced_side (meaning t) r (Some tokens) 0 ≡ reduce_side (meaning t) state.0 p token
   unfolding set_of reduce_side item_of_reduce
   reduce_is token tokens ht et =
       let f = (fits t R.accepted).few_terminals in
@@ -54,6 +54,14 @@ module _ (t g : List ℕ) (productions terminals : ℕ) (sets least ends : List 
       ∙ (λ j. listing_side (meaning t) (reduce_edges (meaning t) state.0 (record { production = p; index = end_same j })) (record { production = p; index = end_same j }) (some (st j)) 0)
 
 -- a conflict in range
+
+pub not_shift : (c : Conflict) → eqb c.action 0 ≡ false → is_shift c ≡ false
+unfolding is_shift
+not_shift c e = e
+
+pub no_shift : (c : Conflict) → is_shift c ≡ false → c.action ≡ 0 → ⊥
+unfolding is_shift
+no_shift c e = eqb-false c.action 0 e
 
 operand_reduce : (T : Table) (a o : ℕ) → operand_fits T a o ≡ true → (a ≡ 0 → ⊥) → o < length T.productions
 unfolding operand_fits

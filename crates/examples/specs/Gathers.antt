@@ -1,19 +1,23 @@
 -- What the functions that list a side answer, and what is kept of its examples. Assumes nothing: these are definitions.
-use Rattle.std.specs.Prelude.{◌≡◌, ℕ, zero, suc, ◌+◌, ◌<◌, ◌≤◌, Bool, true, false, List, length, ◌==◌, ◌≢◌, Result, Ok, Err}
+use Rattle.std.specs.Prelude.{◌≡◌, ℕ, zero, suc, ◌+◌, ◌<◌, ◌≤◌, Bool, true, false, List, length, ◌==◌, ◌≢◌, Option as OptionOf, Result, Ok, Err}
 use Rattle.std.proofs.Math.Option.{none}
 use Rattle.repr.specs.Sizes.{reduction_limit, example_limit}
 use Rattle.repr.specs.declared.refusals.Refusal.{Refusal}
 use Rattle.repr.specs.Reply.{number_of, place_of}
 use Rattle.repr.specs.Meaning.{Production, Table, All}
+use Rattle.lookahead.specs.declared.TokenSet.{TokenSet}
 use Rattle.trace.specs.Shift.{shift_edges}
 use Rattle.trace.specs.Shifting.{item_of}
 use Rattle.example.specs.Labels.{LabelFits}
+use Rattle.enumerator.specs.Advance.{set_of}
 use Rattle.error.specs.declared.Conflict.{Conflict}
 use Rattle.error.specs.Judge.{Example}
 use Rattle.error.specs.Sides.{Side, gathered, stopped, listing_side, reduce_side}
 use Rattle.outline.specs.Outline.{outline_from}
 use Rattle.outline.specs.Kept.{nth, outline_in, turn_in, labelled_limit, KeptLabels, Outlined}
 use Rattle.outline.specs.Inline.{Shifts}
+use Rattle.tracer.specs.Built.{edges_by}
+use Rattle.tracer.specs.declared.TracedItem.{TracedItem}
 use Rattle.tracer.specs.declared.Action.{Action}
 use Rattle.tracer.specs.declared.Action.TheVariants.{Shift, Reduce}
 use Rattle.examples.specs.declared.Gathered.{Gathered}
@@ -62,6 +66,10 @@ TrialsIn l (Err x) = Unit {0}
 abbrev pub shifts : Action → Bool
 shifts Shift = true
 shifts Reduce = false
+
+-- what a traced item lists, k examples being on the side
+abbrev pub traced_side : Table → TracedItem → OptionOf TokenSet → ℕ → Side
+traced_side T i ahead k = listing_side T (edges_by i.action T i.state (record { production = i.item.production; index = i.item.index })) (record { production = i.item.production; index = i.item.index }) (set_of ahead) k
 
 -- how an example with a kept label is made again: it is number k of the listing of its item, which began after some examples
 pub record Made (listing : ℕ → Side) (k : ℕ) (x : Example) : Type 0 where

@@ -2,10 +2,10 @@
 
 #![tactic(auto)]
 
-ghost use Rattle.std.specs.Prelude.{OnOk, OnErr, ◌≡◌, ℕ, ◌<◌, ◌≤◌, true, false, List, [], ◌++◌, length, drop, replicate, slice_index_or};
+ghost use Rattle.std.specs.Prelude.{OnOk, OnErr, ◌≡◌, ℕ, ◌<◌, ◌≤◌, true, false, List, [], ◌++◌, length, drop};
 ghost use Rattle.repr.specs.Sizes.{grammar_room, edge_limit, trial_limit, example_limit, example_room};
 ghost use Rattle.slices.specs.Lent.{in_front};
-ghost use Rattle.repr.specs.Meaning.{no_production, Item as ItemOf};
+ghost use Rattle.repr.specs.Meaning.{Item as ItemOf};
 ghost use Rattle.repr.specs.Packed.{Packed, productions_in};
 ghost use Rattle.table.specs.Decoded.{meaning};
 ghost use Rattle.trace_graph.specs.Graph.{TraceEdge};
@@ -19,12 +19,12 @@ ghost use Rattle.view.specs.Blank.{Blank};
 ghost use Rattle.view.specs.Trial.{trial_words};
 ghost use Rattle.search.specs.Given.{Tried};
 ghost use Rattle.error.specs.Judge.{Example as ExampleOf};
-ghost use Rattle.error.specs.Sides.{listing_side, shift_side, reduce_side, action_side_of};
+ghost use Rattle.error.specs.Sides.{shift_side, reduce_side, action_side_of};
 ghost use Rattle.error.specs.Outcome.{conflict_fits};
 ghost use Rattle.outline.specs.Inline.{CodeFits};
 ghost use Rattle.examples.specs.Reads.{Reads};
 ghost use Rattle.examples.specs.Listing.{listed_by, Listable};
-ghost use Rattle.examples.specs.Gathers.{ListedOn, Sided, shifts, shift_made, reduce_made, action_made, is_shift, reduced, TrialsIn, PutBehind};
+ghost use Rattle.examples.specs.Gathers.{ListedOn, Sided, shifts, shift_made, reduce_made, action_made, is_shift, reduced, traced_side, TrialsIn, PutBehind};
 ghost use Rattle.tracer.specs.declared.Action.TheVariants.{Reduce};
 ghost use Rattle.examples.specs.Again.{Listed, Finds};
 
@@ -39,7 +39,6 @@ use outline::{Outline, Side, outline_of};
 use repr::{Grammar, ProductionIndex, Refusal};
 use search::{Filter, Searched, read_labels, search, write_trial};
 use shift_items::conflicting_shift_items;
-use state_graph::StateIndex;
 use table::AcceptedTable;
 use trace::reduce::suffix_ends;
 use trace_graph::Full;
@@ -130,6 +129,54 @@ pub struct TableConflict<'a> {
     pub ghost fits: { conflict_fits (meaning given.table.words.now) conflict ≡ true },
 }
 
+impl<'a> TableConflict<'a> {
+    // The conflict's reduce as the action of a conflict: what is said of an action's side is said of the other side so.
+    pub fn reduced(self) -> TableConflict<'a>
+        ensures table { result.given.table.words.now ≡ self.entry.given.table.words.now }
+        ensures conflict { result.conflict ≡ reduced self.entry.conflict }
+    {
+        TableConflict {
+            given: self.given,
+            conflict: Conflict {
+                action: 1,
+                operand: self.conflict.production.0,
+                ..self.conflict
+            },
+        }
+    }
+
+    // Its production at its end, as a reduce traces it, by its token.
+    fn reduce_item(self) -> TableItem<'a>
+        requires { is_shift self.conflict ≡ false }
+        ensures table { result.given.table.words.now ≡ self.entry.given.table.words.now }
+        ensures action { result.traced.action ≡ Reduce }
+        ensures side { traced_side (meaning self.entry.given.table.words.now) result.traced result.lookahead 0 ≡ reduce_side (meaning self.entry.given.table.words.now) self.entry.conflict.state.0 self.entry.conflict.operand self.entry.conflict.token }
+    {
+        let production = self.conflict.operand as usize;
+        TableItem {
+            given: self.given,
+            traced: TracedItem {
+                state: self.conflict.state.0 as usize,
+                item: Item {
+                    production,
+                    index: self.given.grammar.length(production),
+                },
+                action: Action::Reduce,
+            },
+            lookahead: Some(TokenSet::from(self.conflict.token)),
+        }
+    }
+}
+
+// An item of the table that is traced from a state of it, and what its examples are filtered by.
+#[derive(Clone, Copy)]
+struct TableItem<'a> {
+    given: Given<'a>,
+    traced: TracedItem,
+    lookahead: Option<TokenSet>,
+    ghost fits: { (traced.state < length (meaning given.table.words.now).states) × (item_is_fit (meaning given.table.words.now).productions traced.item.production traced.item.index ≡ true) },
+}
+
 // How many examples are kept of a side, and how many trials were made.
 #[derive(Clone, Copy, Default)]
 pub struct Gathered {
@@ -217,18 +264,12 @@ fn list_outlines(
 
 // The item is traced from its state: its edges in words of one each, and the lists of the view from the item, in new lists. More than 1,024 edges do not fit.
 // The view itself is made by the caller: a view over both lent values at one lifetime has no proof.
-// That the state and the item are the table's is asked here and by both listings: a `TracedItem` is what any caller asks for, and `trace_in` of tracer refuses what is not the table's, so that the type cannot say it.
-fn open_view(
-    given: Given,
-    traced: TracedItem,
-    trace: &mut OpenTrace,
-    lists: &mut ViewLists,
-) -> Result<(), Full>
-    requires state_in_bounds { (traced.state < length (meaning given.table.words.now).states) × (item_is_fit (meaning given.table.words.now).productions traced.item.production traced.item.index ≡ true) }
-    requires blank { Blank lists.old }
-    ensures listable { OnOk result (Listable (meaning given.entry.table.words.now).productions (edges_by traced.action (meaning given.entry.table.words.now) traced.state (record { production = traced.item.production; index = traced.item.index })) lists.new.owners (drop 1 trace.new.edges.words) lists.new.sources lists.new.older lists.new.latest (record { production = traced.item.production; index = traced.item.index })) }
-    ensures edge_limit_in_bounds { OnErr result (edge_limit < length (edges_by traced.action (meaning given.entry.table.words.now) traced.state (record { production = traced.item.production; index = traced.item.index }))) }
+fn open_view(item: TableItem, trace: &mut OpenTrace, lists: &mut ViewLists) -> Result<(), Full>
+    requires { Blank lists.old }
+    ensures listable { OnOk result (Listable (meaning item.entry.given.table.words.now).productions (edges_by item.entry.traced.action (meaning item.entry.given.table.words.now) item.entry.traced.state (record { production = item.entry.traced.item.production; index = item.entry.traced.item.index })) lists.new.owners (drop 1 trace.new.edges.words) lists.new.sources lists.new.older lists.new.latest (record { production = item.entry.traced.item.production; index = item.entry.traced.item.index })) }
+    ensures edge_limit_in_bounds { OnErr result (edge_limit < length (edges_by item.entry.traced.action (meaning item.entry.given.table.words.now) item.entry.traced.state (record { production = item.entry.traced.item.production; index = item.entry.traced.item.index }))) }
 {
+    let given = item.given;
     let tracer = Tracer {
         table: given.table,
         grammar: given.grammar,
@@ -238,121 +279,78 @@ fn open_view(
         tracer,
         ends: given.ends,
     };
-    trace_codes(over, traced, trace)?;
-    view_codes(given.grammar, &trace.edges, traced.item, lists);
+    trace_codes(over, item.traced, trace)?;
+    view_codes(given.grammar, &trace.edges, item.traced.item, lists);
     Ok(())
 }
 
 // One listing of a side: the item is traced from the state, and the examples of the trace are listed. More than 1,024 edges are refusal 12.
-fn list_item(
-    given: Given,
-    lookahead: Option<TokenSet>,
-    traced: TracedItem,
-    side: &mut Side,
-    count: usize,
-) -> Result<Gathered, Refusal>
-    requires state_in_bounds { (traced.state < length (meaning given.table.words.now).states) × (item_is_fit (meaning given.table.words.now).productions traced.item.production traced.item.index ≡ true) }
-    requires count_in_bounds { count ≤ example_limit }
-    ensures listed_on { ListedOn (meaning given.entry.table.words.now).productions (shifts traced.action) result count side.old.kept side.old.prints side.new.kept side.new.prints (listing_side (meaning given.entry.table.words.now) (edges_by traced.action (meaning given.entry.table.words.now) traced.state (record { production = traced.item.production; index = traced.item.index })) (record { production = traced.item.production; index = traced.item.index }) (set_of lookahead) count) }
+fn list_item(item: TableItem, side: &mut Side, count: usize) -> Result<Gathered, Refusal>
+    requires { count ≤ example_limit }
+    ensures listed_on { ListedOn (meaning item.entry.given.table.words.now).productions (shifts item.entry.traced.action) result count side.old.kept side.old.prints side.new.kept side.new.prints (traced_side (meaning item.entry.given.table.words.now) item.entry.traced item.entry.lookahead count) }
     ensures trials_in { TrialsIn trial_limit result }
 {
     let mut trace = OpenTrace::new();
     let mut lists = ViewLists::new();
-    open_view(given, traced, &mut trace, &mut lists)?;
+    open_view(item, &mut trace, &mut lists)?;
     let view = lists.view(&trace.edges.words[1..]);
-    let filter = given.filter(lookahead);
-    list_outlines(filter, traces_shift(traced.action), view, side, count)
+    let filter = item.given.filter(item.lookahead);
+    let shift = traces_shift(item.traced.action);
+    list_outlines(filter, shift, view, side, count)
 }
 
 // `shift_examples`: the items that shift the token in their order, each traced and listed before the next.
-fn shift_examples(
-    given: Given,
-    state: StateIndex,
-    token: usize,
-    side: &mut Side,
-) -> Result<Gathered, Refusal>
-    requires state_in_bounds { state.0 < length (meaning given.table.words.now).states }
-    ensures { Sided (meaning given.entry.table.words.now) true (shift_made (meaning given.entry.table.words.now) state.0) result side.new.kept side.new.prints (shift_side (meaning given.entry.table.words.now) state.0 token) }
+fn shift_examples(case: TableConflict, side: &mut Side) -> Result<Gathered, Refusal>
+    ensures { Sided (meaning case.entry.given.table.words.now) true (shift_made (meaning case.entry.given.table.words.now) case.entry.conflict.state.0) result side.new.kept side.new.prints (shift_side (meaning case.entry.given.table.words.now) case.entry.conflict.state.0 case.entry.conflict.token) }
 {
+    let given = case.given;
+    let state = case.conflict.state.0 as usize;
     let mut order = [0u16; ProductionIndex::LIMIT];
     let mut marks = [0u64; Item::FLAG_WORDS];
     let items = conflicting_shift_items(
         given.table,
         given.grammar,
-        state.0 as usize,
-        token,
+        state,
+        case.conflict.token as usize,
         &mut order,
         &mut marks,
     );
     let mut gathered = Gathered::default();
     for item in items {
         let traced = TracedItem {
-            state: state.0 as usize,
+            state,
             item,
             action: Action::Shift,
         };
-        let listed = list_item(given, None, traced, side, gathered.examples)?;
+        let one = TableItem {
+            given,
+            traced,
+            lookahead: None,
+        };
+        let listed = list_item(one, side, gathered.examples)?;
         gathered.examples = listed.examples;
         gathered.trials += listed.trials;
     }
     Ok(gathered)
 }
 
-// A production at its end, as a reduce traces it.
-fn reduce_item(grammar: Grammar, state: StateIndex, production: usize) -> TracedItem
-    requires { production < grammar.productions }
-    ensures { result ≡ record { state = state.0; item = record { production = production; index = length (slice_index_or (productions_in grammar.entry.words.now grammar.entry.productions) production no_production).symbols }; action = Reduce } }
-{
-    TracedItem {
-        state: state.0 as usize,
-        item: Item {
-            production,
-            index: grammar.length(production),
-        },
-        action: Action::Reduce,
-    }
-}
-
 // `reduce_examples`: the production at its end, filtered by the token.
-fn reduce_examples(
-    given: Given,
-    state: StateIndex,
-    production: usize,
-    token: u16,
-    side: &mut Side,
-) -> Result<Gathered, Refusal>
-    requires state_in_bounds { (state.0 < length (meaning given.table.words.now).states) × ((production < length (meaning given.table.words.now).productions) × (token ≤ (meaning given.table.words.now).terminals)) }
-    ensures { Sided (meaning given.entry.table.words.now) false (reduce_made (meaning given.entry.table.words.now) state.0 production token) result side.new.kept side.new.prints (reduce_side (meaning given.entry.table.words.now) state.0 production token) }
+fn reduce_examples(case: TableConflict, side: &mut Side) -> Result<Gathered, Refusal>
+    requires { is_shift case.conflict ≡ false }
+    ensures { Sided (meaning case.entry.given.table.words.now) false (reduce_made (meaning case.entry.given.table.words.now) case.entry.conflict.state.0 case.entry.conflict.operand case.entry.conflict.token) result side.new.kept side.new.prints (reduce_side (meaning case.entry.given.table.words.now) case.entry.conflict.state.0 case.entry.conflict.operand case.entry.conflict.token) }
 {
-    let traced = reduce_item(given.grammar, state, production);
-    let tokens = TokenSet::from(token);
-    list_item(given, Some(tokens), traced, side, 0)
-}
-
-// The conflict's reduce as the action of a conflict: what is said of an action's side is said of the other side so.
-pub fn reduced(conflict: Conflict) -> Conflict
-    ensures { result ≡ reduced conflict }
-{
-    Conflict {
-        action: 1,
-        operand: conflict.production.0,
-        ..conflict
-    }
+    list_item(case.reduce_item(), side, 0)
 }
 
 // The side of the conflict's action.
 pub fn action_examples(case: TableConflict, side: &mut Side) -> Result<Gathered, Refusal>
     ensures { Sided (meaning case.entry.given.table.words.now) (is_shift case.entry.conflict) (action_made (meaning case.entry.given.table.words.now) case.entry.conflict) result side.new.kept side.new.prints (action_side_of (meaning case.entry.given.table.words.now) case.entry.conflict.state.0 case.entry.conflict.action case.entry.conflict.operand case.entry.conflict.token) }
 {
-    let given = case.given;
-    let conflict = case.conflict;
-    let state = conflict.state;
-    let operand = conflict.operand as usize;
-    let token = conflict.token;
-    if conflict.is_shift() {
-        return shift_examples(given, state, token as usize, side);
+    if case.conflict.is_shift() {
+        shift_examples(case, side)
+    } else {
+        reduce_examples(case, side)
     }
-    reduce_examples(given, state, operand, token, side)
 }
 
 // From no edge on, past `wanted` examples of a listing: whether the words hold the next.
@@ -384,45 +382,31 @@ fn find_example(filter: Filter, view: View, words: &mut [u16], wanted: usize) ->
 }
 
 // One listing's example made again, `wanted` others before it: the item is traced from the state, and the listing goes on to the example. No trial of it is counted.
-fn item_again(
-    given: Given,
-    lookahead: Option<TokenSet>,
-    traced: TracedItem,
-    wanted: usize,
-    buffer: &mut [u16],
-)
-    requires state_in_bounds { (traced.state < length (meaning given.table.words.now).states) × (item_is_fit (meaning given.table.words.now).productions traced.item.production traced.item.index ≡ true) }
-    requires example_room_in_bounds { example_room ≤ length buffer.old }
-    ensures { (k : ℕ) (x : ExampleOf) → k ≤ example_limit → Listed (listing_side (meaning given.entry.table.words.now) (edges_by traced.action (meaning given.entry.table.words.now) traced.state (record { production = traced.item.production; index = traced.item.index })) (record { production = traced.item.production; index = traced.item.index }) (set_of lookahead) k) wanted x → buffer.new ≡ in_front (example_words (meaning given.entry.table.words.now).productions x) buffer.old }
+// The buffer is lent here and below, and may be longer than an example: its length is asked at the entry (refusal 11).
+fn item_again(item: TableItem, wanted: usize, buffer: &mut [u16])
+    requires { example_room ≤ length buffer.old }
+    ensures { (k : ℕ) (x : ExampleOf) → k ≤ example_limit → Listed (traced_side (meaning item.entry.given.table.words.now) item.entry.traced item.entry.lookahead k) wanted x → buffer.new ≡ in_front (example_words (meaning item.entry.given.table.words.now).productions x) buffer.old }
 {
+    let grammar = item.given.grammar;
     let mut trace = OpenTrace::new();
     let mut lists = ViewLists::new();
-    if let Ok(()) = open_view(given, traced, &mut trace, &mut lists) {
+    if let Ok(()) = open_view(item, &mut trace, &mut lists) {
         let view = lists.view(&trace.edges.words[1..]);
         let mut trial = [0u16; View::TRIAL];
-        let filter = given.filter(lookahead);
+        let filter = item.given.filter(item.lookahead);
         if find_example(filter, view, &mut trial, wanted) {
-            write_trial(given.grammar, view, &trial, buffer);
+            write_trial(grammar, view, &trial, buffer);
         }
     }
 }
 
 // Example `wanted` of a reduce's side made again.
-fn reduce_again(
-    given: Given,
-    state: StateIndex,
-    production: usize,
-    token: u16,
-    wanted: usize,
-    buffer: &mut [u16],
-)
-    requires state_in_bounds { (state.0 < length (meaning given.table.words.now).states) × ((production < length (meaning given.table.words.now).productions) × (token ≤ (meaning given.table.words.now).terminals)) }
+fn reduce_again(case: TableConflict, wanted: usize, buffer: &mut [u16])
+    requires reduces { is_shift case.conflict ≡ false }
     requires example_room_in_bounds { example_room ≤ length buffer.old }
-    ensures { (label : ℕ) (x : ExampleOf) → reduce_made (meaning given.entry.table.words.now) state.0 production token label wanted x → buffer.new ≡ in_front (example_words (meaning given.entry.table.words.now).productions x) buffer.old }
+    ensures { (label : ℕ) (x : ExampleOf) → reduce_made (meaning case.entry.given.table.words.now) case.entry.conflict.state.0 case.entry.conflict.operand case.entry.conflict.token label wanted x → buffer.new ≡ in_front (example_words (meaning case.entry.given.table.words.now).productions x) buffer.old }
 {
-    let traced = reduce_item(given.grammar, state, production);
-    let tokens = TokenSet::from(token);
-    item_again(given, Some(tokens), traced, wanted, buffer);
+    item_again(case.reduce_item(), wanted, buffer);
 }
 
 // An example of the side of the conflict's action made again: of a shift the item is the label kept.
@@ -431,19 +415,19 @@ pub fn action_again(case: TableConflict, label: usize, wanted: usize, buffer: &m
     requires example_room_in_bounds { example_room ≤ length buffer.old }
     ensures { (x : ExampleOf) → action_made (meaning case.entry.given.table.words.now) case.entry.conflict label wanted x → buffer.new ≡ in_front (example_words (meaning case.entry.given.table.words.now).productions x) buffer.old }
 {
-    let given = case.given;
-    let conflict = case.conflict;
-    let state = conflict.state;
-    let operand = conflict.operand as usize;
-    let token = conflict.token;
-    if conflict.is_shift() {
+    if case.conflict.is_shift() {
         let traced = TracedItem {
-            state: state.0 as usize,
+            state: case.conflict.state.0 as usize,
             item: Item::at(label),
             action: Action::Shift,
         };
-        item_again(given, None, traced, wanted, buffer);
+        let item = TableItem {
+            given: case.given,
+            traced,
+            lookahead: None,
+        };
+        item_again(item, wanted, buffer);
     } else {
-        reduce_again(given, state, operand, token, wanted, buffer);
+        reduce_again(case, wanted, buffer);
     }
 }

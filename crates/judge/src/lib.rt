@@ -4,7 +4,7 @@
 
 ghost use Rattle.std.specs.Prelude.{◌≡◌, true, false, List, ◌+◌, ◌≤◌, ◌<◌, length, get_or, take, drop};
 ghost use Rattle.repr.specs.Sizes.{example_room};
-ghost use Rattle.repr.specs.Meaning.{Table, Production, no_production, is_same_symbol};
+ghost use Rattle.repr.specs.Meaning.{Table, Production, no_production, production_at, is_same_symbol};
 ghost use Rattle.repr.specs.Listed.{symbol_of_kind};
 ghost use Rattle.repr.specs.Packed.{productions_in};
 ghost use Rattle.slices.specs.Same.{same_words};
@@ -20,13 +20,12 @@ ghost use Rattle.outline.specs.Kept.{nth};
 ghost use Rattle.examples.specs.Gathers.{SideKept, is_shift, action_made, reduce_made};
 ghost use Rattle.judge.specs.Judging.{InBuffer, Sides, Ordered, picked, pair_in, heads_in, both, Judges, ReadAlike, question_in, optional_one};
 
-use error::{Class, Conflict};
+use error::Class;
 use example::Example as ExampleBuffer;
-use examples::{TableConflict, action_again, reduced};
+use examples::{Given, TableConflict, action_again};
 use outline::{Outline, Side};
 use pairs::{SortedSide, Test, first_pair};
 use repr::{Grammar, NonterminalString, Symbol, word};
-use table::AcceptedTable;
 
 // A class and the examples that are shown with it, by their numbers.
 #[derive(Clone, Copy)]
@@ -57,9 +56,10 @@ fn same_reading(action: &[u16], reduce: &[u16]) -> bool
     ensures { (ps : List Production) (x y : Example) → InBuffer ps x action.now → InBuffer ps y reduce.now → result ≡ is_same_reading ps x y }
 {
     let count = word(action, 0);
-    let past = 3 + 2 * count;
+    let from = ExampleBuffer::COUNTS;
+    let past = from + ExampleBuffer::SYMBOL_WORDS * count;
     count == word(reduce, 0)
-        && (word(action, 1) == word(reduce, 1) && action[3..past] == reduce[3..past])
+        && (word(action, 1) == word(reduce, 1) && action[from..past] == reduce[from..past])
 }
 
 // A class that shows an example of each side.
@@ -73,7 +73,7 @@ fn with_both(class: Class, x: usize, y: usize) -> Judged
     }
 }
 
-// Whether a production is T = T S T, S being the terminal: by the words of its symbols, which is one comparison where symbols would be four.
+// Whether a production is T = T S T, S being the terminal: by the words of its symbols, which is one comparison where symbols would be four. That a production is the grammar's is asked here and below: a type for it would have to hold the grammar.
 fn is_operator(grammar: Grammar, production: usize, terminal: u16) -> bool
     requires { production < grammar.productions }
     ensures { result ≡ is_operator_of (get_or (productions_in grammar.entry.words.now grammar.entry.productions) production no_production) terminal }
@@ -81,43 +81,6 @@ fn is_operator(grammar: Grammar, production: usize, terminal: u16) -> bool
     let nonterminal = grammar.owner(production) as u16;
     let operator = [0, nonterminal, 1, terminal, 0, nonterminal];
     grammar.symbols(production) == operator.as_slice()
-}
-
-// Ambiguity of a shift: precedence where the production is of an operator. The terminal of the action is tested, not the token.
-fn shift_ambiguity(grammar: Grammar, production: usize, terminal: u16, x: usize, y: usize) -> Judged
-    requires { production < grammar.productions }
-    ensures { (xs ys : List Example) → x < length xs → y < length ys → Judges xs ys result (ambiguity_of_shift (get_or (productions_in grammar.entry.words.now grammar.entry.productions) production no_production) terminal (pair_in xs ys x y)) }
-{
-    if is_operator(grammar, production, terminal) {
-        let nonterminal = NonterminalString(grammar.owner(production) as u16);
-        return with_both(Class::Precedence(nonterminal), x, y);
-    }
-    with_both(Class::Ambiguity, x, y)
-}
-
-// Ambiguity of a reduce: where both first reductions are to one nonterminal, the action's example alone and both spans, the conflict's first.
-fn reduce_ambiguity(
-    grammar: Grammar,
-    production: usize,
-    other: usize,
-    x: usize,
-    first: usize,
-    y: usize,
-    second: usize,
-) -> Judged
-    requires { (production < grammar.productions) × (other < grammar.productions) }
-    ensures { (xs ys : List Example) → x < length xs → y < length ys → first ≡ (judging.reduction_at (productions_in grammar.entry.words.now grammar.entry.productions) (nth xs x) 0).nonterminal → second ≡ (judging.reduction_at (productions_in grammar.entry.words.now grammar.entry.productions) (nth ys y) 0).nonterminal → Judges xs ys result (ambiguity_of_reduce (productions_in grammar.entry.words.now grammar.entry.productions) (get_or (productions_in grammar.entry.words.now grammar.entry.productions) production no_production) (get_or (productions_in grammar.entry.words.now grammar.entry.productions) other no_production) (pair_in xs ys x y)) }
-{
-    if first == second {
-        let (start, end) = grammar.span(production);
-        let (other_start, other_end) = grammar.span(other);
-        return Judged {
-            class: Class::AmbiguousReduction(start, end, other_start, other_end),
-            action: Some(x),
-            reduce: None,
-        };
-    }
-    with_both(Class::Ambiguity, x, y)
 }
 
 // The one symbol of production `one`, where `none` has no symbol.
@@ -133,15 +96,12 @@ fn optional(grammar: Grammar, none: usize, one: usize) -> Option<Symbol>
 }
 
 // `try_classify_question`: the nonterminal has two productions, one empty and one of one symbol.
-fn try_classify_question(
-    table: AcceptedTable,
-    grammar: Grammar,
-    nonterminal: usize,
-) -> Option<Symbol>
-    requires { GrammarOf (meaning table.words.now) grammar.words.now grammar.productions × (nonterminal < length (meaning table.words.now).nonterminals) }
-    ensures { question_in result ≡ question_of (meaning table.entry.words.now) nonterminal }
+fn try_classify_question(given: Given, nonterminal: usize) -> Option<Symbol>
+    requires { nonterminal < length (meaning given.table.words.now).nonterminals }
+    ensures { question_in result ≡ question_of (meaning given.entry.table.words.now) nonterminal }
 {
-    let mut productions = table.productions(nonterminal);
+    let grammar = given.grammar;
+    let mut productions = given.table.productions(nonterminal);
     let p = productions.next()?.production;
     let q = productions.next()?.production;
     if let Some(_) = productions.next() {
@@ -154,7 +114,7 @@ fn try_classify_question(
 }
 
 // A conflict of the table, and what is kept of its two sides in their order.
-// Which examples are kept is no fact of these words alone, so that each function asks for them: `Sides`, `Ordered`.
+// Which examples are kept (`Sides`, `Ordered`) is asked by each function: a ghost field would hold it truncated, and of a truncated fact no examples can be named, as `write_example` asks.
 #[derive(Clone, Copy)]
 pub struct Judging<'a> {
     pub case: TableConflict<'a>,
@@ -170,12 +130,8 @@ impl<'a> Judging<'a> {
     {
         let mut action = [0u16; ExampleBuffer::WORDS];
         let mut reduce = [0u16; ExampleBuffer::WORDS];
-        let other = TableConflict {
-            given: self.case.given,
-            conflict: reduced(self.case.conflict),
-        };
         write_example(self.case, self.actions.side, x, &mut action);
-        write_example(other, self.reduces.side, y, &mut reduce);
+        write_example(self.case.reduced(), self.reduces.side, y, &mut reduce);
         same_reading(&action, &reduce)
     }
 
@@ -204,28 +160,51 @@ impl<'a> Judging<'a> {
         None
     }
 
+    // Ambiguity of a shift: precedence where the production is of an operator. The terminal of the action is tested, not the token.
+    fn shift_ambiguity(self, x: usize, y: usize) -> Judged
+        ensures { (xs ys : List Example) → x < length xs → y < length ys → Judges xs ys result (ambiguity_of_shift (production_at (meaning self.entry.case.given.table.words.now) self.entry.case.conflict.production.0) self.entry.case.conflict.operand (pair_in xs ys x y)) }
+    {
+        let grammar = self.case.given.grammar;
+        let production = self.case.conflict.production.0 as usize;
+        if is_operator(grammar, production, self.case.conflict.operand) {
+            let nonterminal = NonterminalString(grammar.owner(production) as u16);
+            return with_both(Class::Precedence(nonterminal), x, y);
+        }
+        with_both(Class::Ambiguity, x, y)
+    }
+
+    // Ambiguity of a reduce: where both first reductions are to one nonterminal, the action's example alone and both spans, the conflict's first.
+    fn reduce_ambiguity(self, x: usize, y: usize) -> Judged
+        requires reduces { is_shift self.case.conflict ≡ false }
+        requires sides { (xs : List Example) × ((ys : List Example) × (Sides (meaning self.case.given.table.words.now) self.case.conflict xs ys self.actions.side.now.kept self.actions.side.now.prints self.reduces.side.now.kept self.reduces.side.now.prints × ((x < length xs) × (y < length ys)))) }
+        ensures { (xs ys : List Example) → Sides (meaning self.entry.case.given.table.words.now) self.entry.case.conflict xs ys self.entry.actions.side.now.kept self.entry.actions.side.now.prints self.entry.reduces.side.now.kept self.entry.reduces.side.now.prints → x < length xs → y < length ys → Judges xs ys result (ambiguity_of_reduce (meaning self.entry.case.given.table.words.now).productions (production_at (meaning self.entry.case.given.table.words.now) self.entry.case.conflict.production.0) (production_at (meaning self.entry.case.given.table.words.now) self.entry.case.conflict.operand) (pair_in xs ys x y)) }
+    {
+        let grammar = self.case.given.grammar;
+        let conflict = self.case.conflict;
+        let action = self.actions.side.outline(x);
+        let reduce = self.reduces.side.outline(y);
+        if action.first == reduce.first {
+            let (start, end) = grammar.span(conflict.production.0 as usize);
+            let (other_start, other_end) = grammar.span(conflict.operand as usize);
+            return Judged {
+                class: Class::AmbiguousReduction(start, end, other_start, other_end),
+                action: Some(x),
+                reduce: None,
+            };
+        }
+        with_both(Class::Ambiguity, x, y)
+    }
+
     // A pair that is read alike, by the action.
     fn ambiguity(self, x: usize, y: usize) -> Judged
         requires { (xs : List Example) × ((ys : List Example) × (Sides (meaning self.case.given.table.words.now) self.case.conflict xs ys self.actions.side.now.kept self.actions.side.now.prints self.reduces.side.now.kept self.reduces.side.now.prints × ((x < length xs) × (y < length ys)))) }
         ensures { (xs ys : List Example) → Sides (meaning self.entry.case.given.table.words.now) self.entry.case.conflict xs ys self.entry.actions.side.now.kept self.entry.actions.side.now.prints self.entry.reduces.side.now.kept self.entry.reduces.side.now.prints → x < length xs → y < length ys → Judges xs ys result (ambiguity_of (meaning self.entry.case.given.table.words.now) self.entry.case.conflict.production.0 self.entry.case.conflict.action self.entry.case.conflict.operand (pair_in xs ys x y)) }
     {
-        let grammar = self.case.given.grammar;
-        let conflict = self.case.conflict;
-        let production = conflict.production.0 as usize;
-        if conflict.action == 0 {
-            return shift_ambiguity(grammar, production, conflict.operand, x, y);
+        if self.case.conflict.is_shift() {
+            self.shift_ambiguity(x, y)
+        } else {
+            self.reduce_ambiguity(x, y)
         }
-        let action = self.actions.side.outline(x);
-        let reduce = self.reduces.side.outline(y);
-        reduce_ambiguity(
-            grammar,
-            production,
-            conflict.operand as usize,
-            x,
-            action.first,
-            y,
-            reduce.first,
-        )
     }
 
     // A class that shows the first of each order.
@@ -277,7 +256,7 @@ impl<'a> Judging<'a> {
         let nonterminal = given
             .grammar
             .owner(self.case.conflict.production.0 as usize);
-        match try_classify_question(given.table, given.grammar, nonterminal) {
+        match try_classify_question(given, nonterminal) {
             Some(symbol) => {
                 let (kind, number) = symbol.words();
                 let own = NonterminalString(nonterminal as u16);
@@ -292,10 +271,11 @@ impl<'a> Judging<'a> {
         requires { (xs : List Example) × ((ys : List Example) × (Sides (meaning self.case.given.table.words.now) self.case.conflict xs ys self.actions.side.now.kept self.actions.side.now.prints self.reduces.side.now.kept self.reduces.side.now.prints × (Ordered xs self.actions.order.now × Ordered ys self.reduces.order.now))) }
         ensures { (xs ys : List Example) → Sides (meaning self.entry.case.given.table.words.now) self.entry.case.conflict xs ys self.entry.actions.side.now.kept self.entry.actions.side.now.prints self.entry.reduces.side.now.kept self.entry.reduces.side.now.prints → Ordered xs self.entry.actions.order.now → Ordered ys self.entry.reduces.order.now → Judges xs ys result (judging.unambiguous (meaning self.entry.case.given.table.words.now) self.entry.case.conflict.production.0 self.entry.case.conflict.action (picked xs self.entry.actions.order.now) (picked ys self.entry.reduces.order.now) (heads_in xs ys self.entry.actions.order.now self.entry.reduces.order.now)) }
     {
-        if self.case.conflict.action == 0 {
-            return self.shift_unambiguous();
+        if self.case.conflict.is_shift() {
+            self.shift_unambiguous()
+        } else {
+            self.with_heads(Class::InsufficientLookahead)
         }
-        self.with_heads(Class::InsufficientLookahead)
     }
 
     // The class from two sides in their order, neither of them empty: ambiguity first.

@@ -7,7 +7,6 @@ ghost use Rattle.numerals.specs.Numeral.{numeral};
 ghost use Rattle.error.specs.Numbers.{number_of_class, values_of_class, reading_of};
 ghost use Rattle.lines.specs.Lines.{Put, Whole, Shown, ReadingShown, symbol_text, reduction_text, symbol_texts, reduction_texts, counted, total_of_symbols, printed_length, example_line, own_text, refused_text, line_of_refusal, class_line, example_lines, lines_of};
 
-use entries::class_number;
 use error::{Class, Classification};
 use example::Example;
 use itoa::Buffer;
@@ -170,7 +169,7 @@ fn put_class(out: &mut [u8], number: u64, found: Classification) -> usize
     ensures { Put out.old 0 (class_line number (number_of_class found.class) (values_of_class found.class) found.action_trials found.reduce_trials) out.new result × (result ≤ 168) }
 {
     let first = put_number(out, 0, number);
-    let second = put_after(out, first, b' ', class_number(found.class) as u64);
+    let second = put_after(out, first, b' ', found.class.number() as u64);
     let third = put_after(out, second, b' ', found.action_trials as u64);
     let fourth = put_after(out, third, b' ', found.reduce_trials as u64);
     let last = put_own(out, fourth, found.class);

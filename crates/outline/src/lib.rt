@@ -52,6 +52,9 @@ impl Outline {
 
     const BASE: u64 = 25173;
 
+    // Numbers of symbols are below it, so that those of each kind have their own.
+    const KIND: usize = 64;
+
     // The item that the inline test reads, if there is one.
     pub fn item(self) -> Option<Item>
         ensures { MatchOption result (item_limit ≤ self.label) (λ item. (self.label < item_limit) × ((item.production ≡ self.label / index_limit) × (item.index ≡ self.label % index_limit))) }
@@ -60,12 +63,12 @@ impl Outline {
     }
 }
 
-// A print with a symbol more. Prints are numbers of 64 bits, which outlines keep and compare as such, so that each function says anew that its own is below the limit: a type for it would be taken off and put on at each step.
+// A print with a symbol more, its kind and its number: no `Symbol`, as the empty mark, kind 2, is none. Prints are numbers of 64 bits, which outlines keep and compare as such, so that each function says anew that its own is below the limit: a type for it would be taken off and put on at each step.
 fn mix(print: u64, kind: usize, number: usize) -> u64
     requires { (print < print_limit) × (kind < 65536) × (number < 65536) }
     ensures { (result ≡ mix print (symbol_code kind number)) × (result < print_limit) }
 {
-    let code = (64 * kind + number + 1) as u64;
+    let code = (Outline::KIND * kind + number + 1) as u64;
     (print * Outline::BASE + code) % Outline::PRINTS
 }
 
@@ -81,7 +84,7 @@ fn print_list(print: u64, symbols: &[u16]) -> u64
     mixed
 }
 
-// With the prefixes more, outermost first.
+// With the prefixes more, outermost first. As with the suffixes below: one function of both would take the order and the part as closures, which is no plainer.
 fn print_prefixes(print: u64, labels: Labels) -> u64
     requires { print < print_limit }
     ensures { (result ≡ print_words print (words_of (prefixes (productions_in labels.entry.grammar.words.now labels.entry.grammar.productions) (labels_in labels.entry.words.now)))) × (result < print_limit) }
@@ -131,7 +134,7 @@ fn print(labels: Labels) -> u64
     print_suffixes(passed, labels)
 }
 
-// The item that the inline test reads, if there is one: of an example of a shift its first item; of a reduce the second reduction's, where that shifts more and its nonterminal is another.
+// The item that the inline test reads, if there is one: of an example of a shift its first item; of a reduce the second reduction's, where that shifts more and its nonterminal is another. Shift or reduce as a yes or no: `label_of` is by it, and the enum of tracer lies above.
 fn kept_item(labels: Labels, shift: bool) -> Option<Item>
     ensures is { label_word result ≡ label_of (productions_in labels.entry.grammar.words.now labels.entry.grammar.productions) shift (labels_in labels.entry.words.now) }
     ensures small { IfSome result (λ item. (item.production < production_limit) × (item.index < index_limit)) }
@@ -173,7 +176,7 @@ pub fn outline_of(labels: Labels, shift: bool) -> Outline
 }
 
 // What is kept of a side's examples: outlines, behind them the labels of the first, and of each example its print.
-// Fixed words, since there is no heap, and u16 by place, since an array of 192 outlines of four 64-bit numbers would have more than 2,000 words (tests/arrays.py). How many are used is the count that a listing answers, which is refused before it is more: no field, as a refusal leaves what is kept behind it.
+// Fixed words, since there is no heap, and u16 by place, with the prints beside them, since each definition of a side is over its words (specs/Kept). How many are used is the count that a listing answers, which is refused before it is more: no field, as a refusal leaves what is kept behind it.
 #[derive(Drop)]
 pub struct Side {
     pub kept: [u16; Outline::ALL_WORDS],
@@ -181,6 +184,7 @@ pub struct Side {
     pub ghost room: { Room kept prints },
 }
 
+// Which example is asked is its number, in range at each call: a type for it would have to hold the side.
 impl Side {
     // Nothing kept.
     pub fn new() -> Side {

@@ -1,8 +1,10 @@
+use Rattle.std.proofs.Common.{sym, eqb-true, ◌∙◌}
+use borrow.Author.Tests.{eqb-false}
 use Rattle.chooser.proofs.Choices.{count_shift, count_first}
 use Rattle.chooser.proofs.naive_chosen.Goals as goal
 
-pub returns-then-conflict-eq0 : goal.returns-then-conflict-eq0
-returns-then-conflict-eq0 c = count_shift _ _ c.if-conflict-eq0.true
+pub returns-then-is_shift : goal.returns-then-is_shift
+returns-then-is_shift c = count_shift _ _ (eqb-true _ _ (sym c.is_shift.ensures ∙ c.if-is_shift.true))
 
-pub returns-else-conflict-eq0 : goal.returns-else-conflict-eq0
-returns-else-conflict-eq0 c = count_first c.args.conflict.action c.args.count _ c.if-conflict-eq0.false c.min.ensures
+pub returns-else-is_shift : goal.returns-else-is_shift
+returns-else-is_shift c = count_first c.args.conflict.action c.args.count _ (eqb-false _ _ (sym c.is_shift.ensures ∙ c.if-is_shift.false)) c.min.ensures

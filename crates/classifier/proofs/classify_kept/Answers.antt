@@ -2,7 +2,7 @@ use mathlib.Core.Path.{sym, ◌∙◌}
 use Prim.Native.Nat.{ℕ}
 use lib.ListN.{length-replicate}
 use Rattle.repr.specs.Sizes.{example_limit}
-use Rattle.examples.proofs.Actions.{reduced_fits, reduced-kept}
+use Rattle.examples.proofs.Actions.{reduced-kept}
 use Rattle.classifier.proofs.Ways.{no_action, no_reduce, side_sorts, side_long, side_ordered, side_picked, kept-judged}
 use native.Mathlib.Omega.{arith}
 use Rattle.classifier.proofs.classify_kept.Goals.{then-action_count-eq0-via-then-action_count-eq0, then-action_count-eq0-via-else-action_count-eq0+then-reduce_count-eq0}
@@ -35,14 +35,11 @@ slice_bounds-judging-end-2 c = let P = c.requires.sides in let K = P.1.1.0 in le
 pub judge-judged-requires : goal.judge-judged-requires
 judge-judged-requires c = let P = c.requires.sides in let K = P.1.1.0 in let e = P.1.1.1.0 in let f = P.1.1.1.1 in (P.0, (P.1.0, (K, ((side_ordered _ _ _ _ _ _ K.action _ e _ c.sort_side.ensures c.if-action_count-eq0.false), (side_ordered _ _ _ _ _ _ K.reduce _ f _ c.sort_side-2.ensures c.if-reduce_count-eq0.false)))))
 
-pub invariant_of-other : goal.invariant_of-other
-invariant_of-other c = record { fits = rw c.reduced.ensures (reduced_fits _ c.args.case.conflict c.args.case.fits) }
-
 pub show-requires : goal.show-requires
 show-requires c = let P = c.requires.sides in let K = P.1.1.0 in let e = P.1.1.1.0 in let f = P.1.1.1.1 in let J = c.judge-judged.ensures P.0 P.1.0 K (side_ordered _ _ _ _ _ _ K.action _ e _ c.sort_side.ensures c.if-action_count-eq0.false) (side_ordered _ _ _ _ _ _ K.reduce _ f _ c.sort_side-2.ensures c.if-reduce_count-eq0.false) in record { side_kept = (P.0, (K.action, J.action)); example_room_in_bounds = c.requires.example_room_in_bounds.0 }
 
 pub show-requires-2 : goal.show-requires-2
-show-requires-2 c = let P = c.requires.sides in let K = P.1.1.0 in let e = P.1.1.1.0 in let f = P.1.1.1.1 in let J = c.judge-judged.ensures P.0 P.1.0 K (side_ordered _ _ _ _ _ _ K.action _ e _ c.sort_side.ensures c.if-action_count-eq0.false) (side_ordered _ _ _ _ _ _ K.reduce _ f _ c.sort_side-2.ensures c.if-reduce_count-eq0.false) in rw c.reduced.ensures (record { side_kept = (P.1.0, (reduced-kept _ c.args.case.conflict P.1.0 _ _ K.reduce, J.reduce)); example_room_in_bounds = c.requires.example_room_in_bounds.1 })
+show-requires-2 c = let P = c.requires.sides in let K = P.1.1.0 in let e = P.1.1.1.0 in let f = P.1.1.1.1 in let J = c.judge-judged.ensures P.0 P.1.0 K (side_ordered _ _ _ _ _ _ K.action _ e _ c.sort_side.ensures c.if-action_count-eq0.false) (side_ordered _ _ _ _ _ _ K.reduce _ f _ c.sort_side-2.ensures c.if-reduce_count-eq0.false) in rw (c.reduced.ensures.table, c.reduced.ensures.conflict) (record { side_kept = (P.1.0, (reduced-kept _ c.args.case.conflict P.1.0 _ _ K.reduce, J.reduce)); example_room_in_bounds = c.requires.example_room_in_bounds.1 })
 
 pub returns : goal.returns
-returns c = λ xs ys K e f. let J = c.judge-judged.ensures xs ys K (side_ordered _ _ _ _ _ _ K.action _ e _ c.sort_side.ensures c.if-action_count-eq0.false) (side_ordered _ _ _ _ _ _ K.reduce _ f _ c.sort_side-2.ensures c.if-reduce_count-eq0.false) in kept-judged _ c.args.case.conflict xs ys _ _ _ _ _ _ _ J (side_picked _ _ _ _ _ _ K.action _ e _ c.sort_side.ensures) (side_picked _ _ _ _ _ _ K.reduce _ f _ c.sort_side-2.ensures) (c.show.ensures xs K.action J.action) ((rw c.reduced.ensures at c.show-2.ensures) ys (reduced-kept _ c.args.case.conflict ys _ _ K.reduce) J.reduce)
+returns c = λ xs ys K e f. let J = c.judge-judged.ensures xs ys K (side_ordered _ _ _ _ _ _ K.action _ e _ c.sort_side.ensures c.if-action_count-eq0.false) (side_ordered _ _ _ _ _ _ K.reduce _ f _ c.sort_side-2.ensures c.if-reduce_count-eq0.false) in kept-judged _ c.args.case.conflict xs ys _ _ _ _ _ _ _ J (side_picked _ _ _ _ _ _ K.action _ e _ c.sort_side.ensures) (side_picked _ _ _ _ _ _ K.reduce _ f _ c.sort_side-2.ensures) (c.show.ensures xs K.action J.action) ((rw (c.reduced.ensures.table, c.reduced.ensures.conflict) at c.show-2.ensures) ys (reduced-kept _ c.args.case.conflict ys _ _ K.reduce) J.reduce)

@@ -1,9 +1,10 @@
-use Rattle.std.proofs.Common.{ne_eqb, ◌∙◌}
+use Rattle.std.proofs.Common.{sym, eqb-true, ◌∙◌}
+use borrow.Author.Tests.{eqb-false}
 use Rattle.classifier.proofs.Ways.{end_shift, end_other}
 use Rattle.classifier.proofs.shifts_end.Goals as goal
 
-pub returns-then-conflict-eq0 : goal.returns-then-conflict-eq0
-returns-then-conflict-eq0 c = end_shift _ c.args.conflict.token c.args.terminals c.if-conflict-eq0.true
+pub returns-then-is_shift : goal.returns-then-is_shift
+returns-then-is_shift c = end_shift _ c.args.conflict.token c.args.terminals (eqb-true _ _ (sym c.is_shift.ensures ∙ c.if-is_shift.true))
 
-pub returns-else-conflict-eq0 : goal.returns-else-conflict-eq0
-returns-else-conflict-eq0 c = ne_eqb _ _ c.if-conflict-eq0.false ∙ end_other _ c.args.conflict.token c.args.terminals c.if-conflict-eq0.false
+pub returns-else-is_shift : goal.returns-else-is_shift
+returns-else-is_shift c = c.if-is_shift.false ∙ end_other _ c.args.conflict.token c.args.terminals (eqb-false _ _ (sym c.is_shift.ensures ∙ c.if-is_shift.false))

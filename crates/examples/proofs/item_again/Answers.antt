@@ -4,37 +4,37 @@ use Rattle.examples.proofs.Again.{found-tried, again_made, again_none, again_ful
 use Rattle.examples.proofs.item_again.Goals as goal
 
 pub open_view-requires : goal.open_view-requires
-open_view-requires c = record { state_in_bounds = c.requires.state_in_bounds; blank = c.new-lists.ensures }
+open_view-requires c = c.new-lists.ensures
 
 pub view-view-requires : goal.view-view-requires
 view-view-requires c = c.in-Ok.ensures.listable.view.viewed.tidy
 
 pub find_example-requires : goal.find_example-requires
-find_example-requires c = record { listable = (_, (_, listable_view _ _ _ _ _ _ _ c.args.given.reads _ _ _ c.open_view.new.trace.edges.words _ _ _ c.in-Ok.ensures.listable _ _ c.filter-filter.ensures.grammar c.view-view.result c.view-view.ensures.lists c.view-view.ensures.codes)); by_index = (_, no_edge) }
+find_example-requires c = record { listable = (_, (_, listable_view _ _ _ _ _ _ _ c.args.item.given.reads _ _ _ c.open_view.new.trace.edges.words _ _ _ c.in-Ok.ensures.listable _ _ c.filter-filter.ensures.grammar c.view-view.result c.view-view.ensures.lists c.view-view.ensures.codes)); by_index = (_, no_edge) }
 
 pub write_trial-requires : goal.write_trial-requires
 write_trial-requires c =
     let O = c.in-Ok.ensures.listable in
-    let L = listable_view _ _ _ _ _ _ _ c.args.given.reads _ _ _ c.open_view.new.trace.edges.words _ _ _ O _ _ c.filter-filter.ensures.grammar c.view-view.result c.view-view.ensures.lists c.view-view.ensures.codes in
+    let L = listable_view _ _ _ _ _ _ _ c.args.item.given.reads _ _ _ c.open_view.new.trace.edges.words _ _ _ O _ _ c.filter-filter.ensures.grammar c.view-view.result c.view-view.ensures.lists c.view-view.ensures.codes in
     let g = c.filter-filter.ensures.grammar in
     let s = c.filter-filter.ensures.sets in
-    record { tried = (_, found-tried _ _ _ _ _ _ _ c.args.given.reads _ _ _ O.labelled.few _ _ _ _ _ (rw (g.0, g.1, s.0, s.1) at (c.find_example.ensures _ _ L)) c.if-find_example.true); example_room_in_bounds = c.requires.example_room_in_bounds }
+    record { tried = (_, found-tried _ _ _ _ _ _ _ c.args.item.given.reads _ _ _ O.labelled.few _ _ _ _ _ (rw (g.0, g.1, s.0, s.1) at (c.find_example.ensures _ _ L)) c.if-find_example.true); example_room_in_bounds = c.requires }
 
 pub returns-then-find_example : goal.returns-then-find_example
 returns-then-find_example c =
     let O = c.in-Ok.ensures.listable in
-    let L = listable_view _ _ _ _ _ _ _ c.args.given.reads _ _ _ c.open_view.new.trace.edges.words _ _ _ O _ _ c.filter-filter.ensures.grammar c.view-view.result c.view-view.ensures.lists c.view-view.ensures.codes in
+    let L = listable_view _ _ _ _ _ _ _ c.args.item.given.reads _ _ _ c.open_view.new.trace.edges.words _ _ _ O _ _ c.filter-filter.ensures.grammar c.view-view.result c.view-view.ensures.lists c.view-view.ensures.codes in
     let g = c.filter-filter.ensures.grammar in
     let s = c.filter-filter.ensures.sets in
-    again_made _ _ _ _ _ _ _ c.args.given.reads _ _ _ O.labelled.few _ _ _ _ _ (rw (g.0, g.1, s.0, s.1) at (c.find_example.ensures _ _ L)) c.if-find_example.true _ _ c.write_trial.ensures
+    again_made _ _ _ _ _ _ _ c.args.item.given.reads _ _ _ O.labelled.few _ _ _ _ _ (rw (g.0, g.1, s.0, s.1) at (c.find_example.ensures _ _ L)) c.if-find_example.true _ _ c.write_trial.ensures
 
 pub returns-else-find_example : goal.returns-else-find_example
 returns-else-find_example c =
     let O = c.in-Ok.ensures.listable in
-    let L = listable_view _ _ _ _ _ _ _ c.args.given.reads _ _ _ c.open_view.new.trace.edges.words _ _ _ O _ _ c.filter-filter.ensures.grammar c.view-view.result c.view-view.ensures.lists c.view-view.ensures.codes in
+    let L = listable_view _ _ _ _ _ _ _ c.args.item.given.reads _ _ _ c.open_view.new.trace.edges.words _ _ _ O _ _ c.filter-filter.ensures.grammar c.view-view.result c.view-view.ensures.lists c.view-view.ensures.codes in
     let g = c.filter-filter.ensures.grammar in
     let s = c.filter-filter.ensures.sets in
-    λ k x h M. again_none _ _ _ _ _ _ _ c.args.given.reads _ _ _ O.labelled.few _ _ _ _ _ (rw (g.0, g.1, s.0, s.1) at (c.find_example.ensures _ _ L)) c.if-find_example.false k x h M
+    λ k x h M. again_none _ _ _ _ _ _ _ c.args.item.given.reads _ _ _ O.labelled.few _ _ _ _ _ (rw (g.0, g.1, s.0, s.1) at (c.find_example.ensures _ _ L)) c.if-find_example.false k x h M
 
 pub returns-in_default : goal.returns-in_default
-returns-in_default c = λ k x h L. again_full _ _ _ _ _ _ _ c.args.given.reads _ _ _ (c.in_default.ensures.edge_limit_in_bounds) k _ x L
+returns-in_default c = λ k x h L. again_full _ _ _ _ _ _ _ c.args.item.given.reads _ _ _ (c.in_default.ensures.edge_limit_in_bounds) k _ x L

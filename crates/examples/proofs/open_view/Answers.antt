@@ -5,19 +5,19 @@ use Rattle.examples.proofs.Opening.{reads_working, carried, listable}
 use Rattle.examples.proofs.open_view.Goals as goal
 
 pub invariant_of-tracer : goal.invariant_of-tracer
-invariant_of-tracer c = record { working = reads_working _ _ _ _ _ _ _ c.args.given.reads }
+invariant_of-tracer c = record { working = reads_working _ _ _ _ _ _ _ c.args.item.given.reads }
 
 pub invariant_of-over : goal.invariant_of-over
-invariant_of-over c = record { suffixes = c.args.given.reads.suffixes }
+invariant_of-over c = record { suffixes = c.args.item.given.reads.suffixes }
 
 pub trace_codes-requires : goal.trace_codes-requires
-trace_codes-requires c = record { within = (c.requires.state_in_bounds.0, fits-item _ _ c.requires.state_in_bounds.1) }
+trace_codes-requires c = record { within = (c.args.item.fits.0, fits-item _ _ c.args.item.fits.1) }
 
 pub view_codes-requires : goal.view_codes-requires
-view_codes-requires c = record { carried = (_, (_, carried _ _ _ _ _ _ _ c.args.given.reads _ _ _ c.in_ok-trace_codes.ensures.coded)); blank = c.requires.blank }
+view_codes-requires c = record { carried = (_, (_, carried _ _ _ _ _ _ _ c.args.item.given.reads _ _ _ c.in_ok-trace_codes.ensures.coded)); blank = c.requires }
 
 pub returns : goal.returns
-returns c = record { listable = (listable _ _ _ _ _ _ _ c.args.given.reads _ _ _ _ _ _ _ (c.view_codes.ensures _ _ (carried _ _ _ _ _ _ _ c.args.given.reads _ _ _ c.in_ok-trace_codes.ensures.coded))); edge_limit_in_bounds = tt }
+returns c = record { listable = (listable _ _ _ _ _ _ _ c.args.item.given.reads _ _ _ _ _ _ _ (c.view_codes.ensures _ _ (carried _ _ _ _ _ _ _ c.args.item.given.reads _ _ _ c.in_ok-trace_codes.ensures.coded))); edge_limit_in_bounds = tt }
 
 pub returns-in_err-trace_codes : goal.returns-in_err-trace_codes
 returns-in_err-trace_codes c = let p = err_from_is_err_and c.from_residual.result c.from_residual.ensures.1 in rw p.1 (record { listable = tt; edge_limit_in_bounds = c.in_err-trace_codes.ensures.full })

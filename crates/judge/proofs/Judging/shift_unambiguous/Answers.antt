@@ -1,5 +1,5 @@
 use Rattle.judge.proofs.Ways.{judges_same, judges_heads}
-use Rattle.judge.proofs.Sides.{table_fits, conflict_production, reads_grammar, reads_owner, question_some, question_none}
+use Rattle.judge.proofs.Sides.{table_fits, conflict_production, reads_owner, question_some, question_none}
 use native.Mathlib.Omega.{arith}
 use Rattle.judge.proofs.Judging.shift_unambiguous.Goals as goal
 
@@ -7,7 +7,7 @@ pub owner-nonterminal-requires : goal.owner-nonterminal-requires
 owner-nonterminal-requires c = let R = c.args.self.case.given.reads in let p = conflict_production _ c.args.self.case.conflict c.args.self.case.fits in omega (arith, p, R.many)
 
 pub try_classify_question-requires : goal.try_classify_question-requires
-try_classify_question-requires c = let R = c.args.self.case.given.reads in (reads_grammar _ _ _ _ _ _ _ R, (reads_owner _ _ _ _ _ _ _ R c.args.self.case.conflict.production.0 (conflict_production _ c.args.self.case.conflict c.args.self.case.fits) _ c.owner-nonterminal.ensures).1)
+try_classify_question-requires c = (reads_owner _ _ _ _ _ _ _ c.args.self.case.given.reads c.args.self.case.conflict.production.0 (conflict_production _ c.args.self.case.conflict c.args.self.case.fits) _ c.owner-nonterminal.ensures).1
 
 pub with_heads-requires : goal.with_heads-requires
 with_heads-requires c = let P = c.requires.sides in (P.1.1.1.0.any, P.1.1.1.1.any)
