@@ -1,17 +1,17 @@
 -- What is left stands in the words that were lent. Assumes nothing.
 use mathlib.Core.Path.{◌≡◌, sym, ap, ◌∙◌}
-use mathlib.Core.List.{List, ◌++◌}
+use mathlib.Core.List.{List}
 use Prim.Native.Nat.{ℕ, ◌*◌, ◌≤◌}
 use native.Mathlib.Omega.{arith}
-use lib.ListN.{length, length-append}
+use lib.ListN.{length}
 use Rattle.repr.specs.Reply.{Reply, answered}
 use Rattle.table.proofs.Accepted.{accepts}
 use Rattle.compaction.specs.Outcome.{compact_of}
 use Rattle.compaction.proofs.Called.{left, left-length}
 use Rattle.compaction.proofs.Theorems.{count_most}
 
-pub few_left : (t ws behind : List ℕ) (r : Reply ℕ) (n : ℕ) → record { answer = r; table = ws } ≡ compact_of t → r ≡ answered n → n * 4 ≤ length (ws ++ behind)
-few_left t ws behind r n e h =
+pub few_left : (t ws : List ℕ) (r : Reply ℕ) (n : ℕ) → record { answer = r; table = ws } ≡ compact_of t → r ≡ answered n → n * 4 ≤ length ws
+few_left t ws r n e h =
     let o = sym e ∙ ap (λ (a : Reply ℕ). record { answer = a; table = ws }) h in
     let L = left t n ws o in
     let A = accepts t L.accepted in
@@ -20,5 +20,4 @@ few_left t ws behind r n e h =
     let k = L.count in
     let m = count_most t L.accepted in
     let s = left-length t n ws o in
-    let b = length-append ws behind in
     omega arith

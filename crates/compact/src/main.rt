@@ -8,9 +8,9 @@ use std::io;
 
 fn compact_input<R: io::Input + Print + Eprint>(rt: &R) -> Result<(), Stop> {
     let mut bytes = [0u8; BYTES];
-    let mut table = [0u16; WORDS];
-    let words = read_table(rt, &mut bytes, &mut table)? * RECORD_WORDS;
-    let past = compact(&mut table[..words])? as usize * RECORD_WORDS;
+    let mut room = [0u16; WORDS];
+    let table = read_table(rt, &mut bytes, &mut room)?;
+    let past = compact(table)? as usize * RECORD_WORDS;
     Ok(write_table(rt, &table[..past], &mut bytes)?)
 }
 

@@ -11,8 +11,7 @@ use example::Example;
 use lines::{lines, refused_line};
 use little::decode;
 use pipe::{
-    BYTES, PIECE, PIECE_BYTES, PIECE_WORDS, RECORD_WORDS, Stop, WORDS, WORDS_OF_CONFLICT,
-    read_table,
+    BYTES, PIECE, PIECE_BYTES, PIECE_WORDS, Stop, WORDS, WORDS_OF_CONFLICT, read_table,
 };
 use report::classify;
 use repr::{ProductionIndex, Refusal};
@@ -134,9 +133,8 @@ fn explain_conflicts<R: io::Input + Print + Eprint>(rt: &R, table: &[u16]) -> Re
 
 fn explain_input<R: io::Input + Print + Eprint>(rt: &R) -> Result<(), Stop> {
     let mut bytes = [0u8; BYTES];
-    let mut table = [0u16; WORDS];
-    let words = read_table(rt, &mut bytes, &mut table)? * RECORD_WORDS;
-    let table = &table[..words];
+    let mut room = [0u16; WORDS];
+    let table = read_table(rt, &mut bytes, &mut room)?;
     check(table)?;
     Ok(explain_conflicts(rt, table)?)
 }

@@ -1,12 +1,17 @@
 -- The lines of specs/Lines, put piece by piece. Assumes nothing.
-use Prim.Native.Nat.{ℕ, zero, suc, ◌+◌, ◌-◌, ◌*◌, ◌≤◌, ◌<◌}
+use Prim.Native.Nat.{ℕ, zero, suc, ◌+◌, ◌*◌, ◌≤◌, ◌<◌}
 use native.Mathlib.Omega.{arith}
-use mathlib.Core.Path.{◌≡◌, refl, sym, ap, ◌∙◌, subst}
+use mathlib.Core.Path.{◌≡◌, refl, sym, ap, ◌∙◌}
 use mathlib.Core.Logic.{◌⊎◌, inl, inr}
 use mathlib.Core.List.{List, [], ◌∷◌, ◌++◌, append_assoc, append-nil}
 use lib.ListN.{length, get_or, take, drop}
-use borrow.Author.Tests.{eq-eqb, ne_eqb}
-use Rattle.std.specs.Prelude.{Result, Ok, Err}
+use borrow.Author.Tests.{ne_eqb}
+use Rattle.std.specs.Prelude.{Result, Ok, Err, ◌/◌, not, nat_eq}
+use mathlib.Core.Bool.{cond}
+use Rattle.std.specs.List.{count_by, sum_by}
+use Rattle.std.proofs.lemmas.List.Sums.{sum_by-cons}
+use Rattle.std.specs.Simd.{first_chunks}
+use Rattle.repr.proofs.Lists.{cases}
 use Rattle.repr.specs.Sizes.{reduction_room}
 use Rattle.repr.specs.Reply.{number_of, place_of}
 use Rattle.repr.specs.declared.refusals.Refusal.{Refusal}
@@ -105,46 +110,16 @@ total_append k (a ∷ []) m e = absurd (omega arith)
 total_append zero (a ∷ b ∷ l) m e = absurd (omega arith)
 total_append (suc k) (a ∷ b ∷ l) m e = counted-more (counted a) _ _ _ (total_append k l m (omega arith))
 
-counted-mark : (k : ℕ) → k ≡ 2 → counted k ≡ 0
-unfolding counted
-counted-mark k e = rw (eq-eqb k 2 e, counted) refl
-
-counted-symbol : (k : ℕ) → (k ≡ 2 → ⊥) → counted k ≡ 1
-unfolding counted
-counted-symbol k ne = rw (ne_eqb k 2 ne, counted) refl
-
--- the total of the words before `left`
-pub record Total (words : List ℕ) (total : ℕ) (left : List ℕ) : Type 0 where
-  pub is : total + total_of_symbols left ≡ total_of_symbols words
-  pub few : total + length left ≤ length words
-
-module _ {words left : List ℕ} {total : ℕ} (T : Total words total left) where
-  total_more : (pair left' : List ℕ) {c : ℕ} → left ≡ pair ++ left' → length pair ≡ 2 → c ≡ counted (get_or pair 0 0) → c ≤ 1 → Total words (total + c) left'
-  unfolding total_of_symbols
-  total_more [] left' e two ec le = absurd (omega arith)
-  total_more (x ∷ []) left' e two ec le = absurd (omega arith)
-  total_more (x ∷ y ∷ z ∷ zs) left' e two ec le = absurd (omega arith)
-  total_more (x ∷ y ∷ []) left' {c} e two ec le =
-      let f = T.few in
-      let i = T.is in
-      let n : length left ≡ suc (suc (length left')) = ap length e in
-      let t : total_of_symbols left ≡ counted x + total_of_symbols left' = ap total_of_symbols e in
-      record { is = omega (arith, t, ec); few = omega (arith, n) }
-
-  pub total_mark : (pair left' : List ℕ) → left ≡ pair ++ left' → length pair ≡ 2 → get_or pair 0 0 ≡ 2 → Total words total left'
-  total_mark pair left' e two m = subst (λ (n : ℕ). Total words n left') (omega arith) (total_more pair left' {c = 0} e two (sym (counted-mark (get_or pair 0 0) m)) (omega arith))
-
-  pub total_symbol : (pair left' : List ℕ) → left ≡ pair ++ left' → length pair ≡ 2 → (get_or pair 0 0 ≡ 2 → ⊥) → Total words (total + 1) left'
-  total_symbol pair left' e two m = total_more pair left' e two (sym (counted-symbol (get_or pair 0 0) m)) (omega arith)
-
-  no_total : (ws : List ℕ) → length ws < 2 → total_of_symbols ws ≡ 0
-  unfolding total_of_symbols
-  no_total [] h = refl
-  no_total (x ∷ []) h = refl
-  no_total (x ∷ y ∷ ws) h = absurd (omega arith)
-
-  pub total_end : length left < 2 → total ≡ total_of_symbols words
-  total_end h = let i = T.is in let n = no_total left h in omega arith
+-- by pairs, those that are no mark
+pub total_pairs : (ws : List ℕ) → count_by (λ (pair : List ℕ). not (nat_eq (get_or pair 0 0) 2)) (first_chunks 2 (length ws / 2) ws) ≡ total_of_symbols ws
+unfolding total_of_symbols counted
+total_pairs [] = refl
+total_pairs (k ∷ []) = refl
+total_pairs (k ∷ n ∷ ws) =
+    let value : List ℕ → ℕ = λ (pair : List ℕ). cond (not (nat_eq (get_or pair 0 0) 2)) 1 0 in
+    let more : length (k ∷ n ∷ ws) / 2 ≡ suc (length ws / 2) = omega arith in
+    let first : value (k ∷ n ∷ []) ≡ counted k = cases (nat_eq k 2) (λ m. rw (m, counted) refl) (λ m. rw (m, counted) refl) in
+    ap (λ (j : ℕ). sum_by value (first_chunks 2 j (k ∷ n ∷ ws))) more ∙ sum_by-cons value (k ∷ n ∷ []) (first_chunks 2 (length ws / 2) ws) ∙ (λ i. first i + total_pairs ws i)
 
 -- reductions, those of the words before `left` being put
 pub record Reductions (old : List ℕ) (at : ℕ) (words new : List ℕ) (place : ℕ) (left : List ℕ) : Type 0 where
@@ -184,27 +159,17 @@ module _ {old words new left : List ℕ} {at place : ℕ} (S : Reductions old at
       (put_as S.put (sym (S.split ∙ ap (λ (l : List ℕ). S.text ++ l) (no_reductions left h) ∙ append-nil S.text)), omega arith)
 
 -- the line of an example
-pub length-put : {a b : List ℕ} {at r s total : ℕ} (example : List ℕ) → s ≡ get_or example 0 0 → total ≡ total_of_symbols (take (3 + s * 2 - 3) (drop 3 example))
-    → Put a at (32 ∷ numeral total) b r → Put a at (32 ∷ numeral (printed_length example)) b r
-unfolding printed_length
-length-put {s = s} example es et P =
-    let n : 3 + s * 2 - 3 ≡ 2 * get_or example 0 0 = omega arith in
-    put_as P (ap (λ (k : ℕ). 32 ∷ numeral k) (et ∙ ap (λ (k : ℕ). total_of_symbols (take k (drop 3 example))) n))
-
-pub example-put : {a b c d e f g : List ℕ} {at m₁ m₂ m₃ m₄ m₅ r : ℕ} {letter cursor s q : ℕ} (example : List ℕ) → s ≡ get_or example 0 0 → cursor ≡ get_or example 1 0 → q ≡ get_or example 2 0
-    → Put a at (letter ∷ []) b m₁ → Put b m₁ (32 ∷ numeral (printed_length example)) c m₂ → Put c m₂ (32 ∷ numeral cursor) d m₃
-    → Put d m₃ (symbol_texts (take (3 + s * 2 - 3) (drop 3 example))) e m₄
-    → Put e m₄ (reduction_texts (take (3 + s * 2 + q * reduction_room - (3 + s * 2)) (drop (3 + s * 2) example))) f m₅
-    → Put f m₅ (10 ∷ []) g r → Put a at (example_line letter example) g r
+pub example-put : {a b c d e f g : List ℕ} {at m₁ m₂ m₃ m₄ m₅ r : ℕ} {letter total cursor : ℕ} {symbols reductions : List ℕ} (example : List ℕ) → total ≡ printed_length example → cursor ≡ get_or example 1 0
+    → symbols ≡ take (2 * get_or example 0 0) (drop 3 example) → reductions ≡ take (reduction_room * get_or example 2 0) (drop (3 + 2 * get_or example 0 0) example)
+    → Put a at (letter ∷ []) b m₁ → Put b m₁ (32 ∷ numeral total) c m₂ → Put c m₂ (32 ∷ numeral cursor) d m₃ → Put d m₃ (symbol_texts symbols) e m₄ → Put e m₄ (reduction_texts reductions) f m₅ → Put f m₅ (10 ∷ []) g r
+    → Put a at (example_line letter example) g r
 unfolding example_line spaced
-example-put {s = s} {q} example es ec eq P Q R S T U =
-    let n : 3 + s * 2 - 3 ≡ 2 * get_or example 0 0 = omega arith in
-    let m : 3 + s * 2 + q * reduction_room - (3 + s * 2) ≡ reduction_room * get_or example 2 0 = omega arith in
-    let en : 3 + s * 2 ≡ 3 + 2 * get_or example 0 0 = omega arith in
+example-put example et ec es er P Q R S T U =
+    let Q' = put_as Q (ap (λ (k : ℕ). 32 ∷ numeral k) et) in
     let R' = put_as R (ap (λ (k : ℕ). 32 ∷ numeral k) ec) in
-    let S' = put_as S (ap (λ (k : ℕ). symbol_texts (take k (drop 3 example))) n) in
-    let T' = put_as T (ap (λ (k : ℕ). reduction_texts (take k (drop (3 + s * 2) example))) m ∙ ap (λ (k : ℕ). reduction_texts (take (reduction_room * get_or example 2 0) (drop k example))) en) in
-    put_then P (put_then Q (put_then R' (put_then S' (put_then T' U))))
+    let S' = put_as S (ap symbol_texts es) in
+    let T' = put_as T (ap reduction_texts er) in
+    put_then P (put_then Q' (put_then R' (put_then S' (put_then T' U))))
 
 -- which examples are shown
 pub examples_naive : {k : Class} (a : List ℕ) (at : ℕ) (x y : List ℕ) → k ≡ Naive → Put a at (example_lines (number_of_class k) x y) a at

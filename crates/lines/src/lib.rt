@@ -1,7 +1,7 @@
 // The lines that the explaining program prints (document 01, its program run), from a conflict's outcome to bytes.
 #![tactic(auto)]
 
-ghost use Rattle.std.specs.Prelude.{◌≡◌, ◌++◌, ◌∷◌, [], ◌+◌, ◌*◌, ◌≤◌, ◌<◌, length, take, drop};
+ghost use Rattle.std.specs.Prelude.{◌≡◌, ◌++◌, ◌∷◌, [], ◌+◌, ◌*◌, ◌≤◌, ◌<◌, length, get_or, take, drop};
 ghost use Rattle.repr.specs.Sizes.{reduction_limit, example_symbols, reduction_room};
 ghost use Rattle.numerals.specs.Numeral.{numeral};
 ghost use Rattle.error.specs.Numbers.{number_of_class, values_of_class, reading_of};
@@ -100,25 +100,50 @@ fn symbol_total(words: &[u16]) -> usize
     requires { length words.now ≤ 2 * example_symbols }
     ensures { result ≡ total_of_symbols words.now }
 {
-    let mut total: usize = 0;
-    for symbol in words.chunks_exact(Example::SYMBOL_WORDS) {
-        if symbol[0] != Example::EMPTY_MARK {
-            total += 1;
-        }
-    }
-    total
+    let (symbols, _) = words.as_chunks::<{ Example::SYMBOL_WORDS }>();
+    symbols
+        .iter()
+        .filter(|[kind, _]| *kind != Example::EMPTY_MARK)
+        .count()
 }
 
-// The length of an example: its symbols, not its places.
-fn put_length(out: &mut [u8], at: usize, example: &[u16]) -> usize
-    requires whole { Whole example.now }
-    requires at_in_bounds { at + 21 ≤ length out.old }
-    ensures { Put out.old at (32 ∷ numeral (printed_length example.now)) out.new result × (result ≤ at + 21) }
-{
-    let symbols = word(example, 0);
-    let past = Example::COUNTS + symbols * Example::SYMBOL_WORDS;
-    let total = symbol_total(&example[Example::COUNTS..past]);
-    put_after(out, at, b' ', total as u64)
+// An example in words that is to be shown: its counts, then its symbols, then its reductions.
+#[derive(Clone, Copy)]
+struct ShownExample<'a> {
+    words: &'a [u16],
+    ghost whole: { Whole words.now },
+}
+
+impl<'a> ShownExample<'a> {
+    // Its symbols, the empty mark among them.
+    fn symbols(self) -> &'a [u16]
+        ensures { result.now ≡ take (2 * get_or self.entry.words.now 0 0) (drop 3 self.entry.words.now) }
+    {
+        let past = Example::COUNTS + word(self.words, 0) * Example::SYMBOL_WORDS;
+        &self.words[Example::COUNTS..past]
+    }
+
+    fn reductions(self) -> &'a [u16]
+        ensures { result.now ≡ take (reduction_room * get_or self.entry.words.now 2 0) (drop (3 + 2 * get_or self.entry.words.now 0 0) self.entry.words.now) }
+    {
+        let from = Example::COUNTS + word(self.words, 0) * Example::SYMBOL_WORDS;
+        let past = from + word(self.words, 2) * Example::REDUCTION_WORDS;
+        &self.words[from..past]
+    }
+
+    // Its cursor, a place.
+    fn cursor(self) -> usize
+        ensures { result ≡ get_or self.entry.words.now 1 0 }
+    {
+        word(self.words, 1)
+    }
+
+    // Its length: its symbols, not its places.
+    fn length(self) -> usize
+        ensures { result ≡ printed_length self.entry.words.now }
+    {
+        symbol_total(self.symbols())
+    }
 }
 
 // The line of an example, `a` or `r`.
@@ -127,16 +152,12 @@ fn put_example(out: &mut [u8], at: usize, letter: u8, example: &[u16]) -> usize
     requires at_in_bounds { at + 24299 ≤ length out.old }
     ensures { Put out.old at (example_line letter example.now) out.new result × (result ≤ at + 24299) }
 {
-    let symbols = word(example, 0);
-    let cursor = word(example, 1);
-    let reductions = word(example, 2);
+    let example = ShownExample { words: example };
     let first = put(out, at, letter);
-    let second = put_length(out, first, example);
-    let third = put_after(out, second, b' ', cursor as u64);
-    let past = Example::COUNTS + symbols * Example::SYMBOL_WORDS;
-    let end = past + reductions * Example::REDUCTION_WORDS;
-    let fourth = put_symbols(out, third, &example[Example::COUNTS..past]);
-    let fifth = put_reductions(out, fourth, &example[past..end]);
+    let second = put_after(out, first, b' ', example.length() as u64);
+    let third = put_after(out, second, b' ', example.cursor() as u64);
+    let fourth = put_symbols(out, third, example.symbols());
+    let fifth = put_reductions(out, fourth, example.reductions());
     put(out, fifth, b'\n')
 }
 

@@ -230,20 +230,13 @@ fn add_edge_in(table: AcceptedTable, edge: TraceEdge, graph: &mut [u16]) -> Resu
 // The one trace or the other, of a table as it is lent.
 fn backtrace(
     table: &[u16],
-    action: Action,
-    state: StateIndex,
-    item: Item,
+    traced: TracedItem,
     graph: &mut [u16],
     scratch: &mut [u16],
 ) -> Result<u16, Refusal>
-    ensures { outcome (reply_of result) graph.new scratch.new ≡ trace_by (edges_by action) table.now state.0 (record { production = item.production; index = item.index }) graph.old scratch.old (check_of table.now) }
+    ensures { outcome (reply_of result) graph.new scratch.new ≡ trace_by (edges_by traced.action) table.now traced.state (record { production = traced.item.production; index = traced.item.index }) graph.old scratch.old (check_of table.now) }
 {
     let accepted = table_check::check(table)?;
-    let traced = TracedItem {
-        state: state.0 as usize,
-        item,
-        action,
-    };
     tracer::trace_in(accepted, traced, graph, scratch)
 }
 
@@ -262,7 +255,12 @@ pub fn backtrace_shift(
         production: production.0 as usize,
         index: index as usize,
     };
-    backtrace(table, Action::Shift, state, item, graph, scratch)
+    let shift = TracedItem {
+        state: state.0 as usize,
+        item,
+        action: Action::Shift,
+    };
+    backtrace(table, shift, graph, scratch)
 }
 
 // The trace of a reduction, in the same way. (Two functions of one form: they are the Rust's, and the C interface has both.)
@@ -280,5 +278,10 @@ pub fn backtrace_reduce(
         production: production.0 as usize,
         index: index as usize,
     };
-    backtrace(table, Action::Reduce, state, item, graph, scratch)
+    let reduction = TracedItem {
+        state: state.0 as usize,
+        item,
+        action: Action::Reduce,
+    };
+    backtrace(table, reduction, graph, scratch)
 }

@@ -1,7 +1,7 @@
 // A table in a stream, as the programs read and write it: the number of its records, its words, the rest. What fails is said on standard error (crate streams).
 #![tactic(auto)]
 
-ghost use Rattle.std.specs.Prelude.{◌≡◌, ◌*◌, ◌≤◌, IfOk, length};
+ghost use Rattle.std.specs.Prelude.{◌≡◌, ◌*◌, ◌≤◌, ℕ, Ok, IfOk, length};
 ghost use Rattle.repr.specs.Sizes.{record_limit};
 ghost use Rattle.pipe.specs.Given.{Holds};
 
@@ -61,17 +61,17 @@ fn read_whole<R: io::Input + Eprint>(rt: &R, bytes: &mut [u8]) -> Result<(), Sto
     Ok(())
 }
 
-// The number of the table's records, its words at the front of `table`; they are cut to size by the program, since an answer that borrows `table` would leave unsaid what it holds after the call. A stream that ends before its table does, or has a number of records that no table has, is refusal 1.
+// The words of the table, at the front of `table` and cut to size. A stream that ends before its table does, or has a number of records that no table has, is refusal 1.
 // The buffers are slices here and below, since arrays of their sizes would ask more of callers, and so how long they are is asked at each call.
 #[tactic(auto, unfolding(crate::specs::Given::Holds))]
-pub fn read_table<R: io::Input + Eprint>(
+pub fn read_table<'t, R: io::Input + Eprint>(
     rt: &R,
     bytes: &mut [u8],
-    table: &mut [u16],
-) -> Result<usize, Stop>
+    table: &'t mut [u16],
+) -> Result<&'t mut [u16], Stop>
     requires { (65536 ≤ length bytes.old) × (32768 ≤ length table.old) }
-    ensures words { Holds result bytes.new table.new }
-    ensures few { IfOk result (λ records. records ≤ record_limit) }
+    ensures words { IfOk result (λ words. (records : ℕ) × ((length words.now ≡ records * 4) × Holds (Ok records) bytes.new words.now)) }
+    ensures few { IfOk result (λ words. length words.now ≤ record_limit * 4) }
 {
     let mut first = [0u8; 2];
     read_whole(rt, &mut first)?;
@@ -82,7 +82,7 @@ pub fn read_table<R: io::Input + Eprint>(
     let size = records * 8;
     read_whole(rt, &mut bytes[..size])?;
     decode(&bytes[..size], table);
-    Ok(records)
+    Ok(&mut table[..records * RECORD_WORDS])
 }
 
 // How a run ended: a refusal is said, in one line on standard error.

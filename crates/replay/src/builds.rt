@@ -1,6 +1,6 @@
 // Op 20: build_states.
 use crate::say::{say_answer, say_digest, say_next, say_words};
-use crate::words::{Request, TABLE, front};
+use crate::words::{Request, TABLE, front, lend};
 use builder::Built;
 
 // Words of scratch and of conflicts that are lent, some more than the call takes.
@@ -8,7 +8,7 @@ const BUILD_SCRATCH: usize = Built::SCRATCH + 8;
 
 const CONFLICTS: usize = 10008;
 
-// Prints the numbers.
+// Prints the numbers, of lists that are given one by one, as the exported function takes them.
 fn build_lent<R: Print>(
     rt: &R,
     request: Request,
@@ -19,15 +19,12 @@ fn build_lent<R: Print>(
     let mut place: u16 = 7;
     let mut records: u16 = 7;
     let mut count: u32 = 7;
-    let s = request.number(1).min(scratch.len());
-    let o = request.number(2).min(out.len());
-    let c = request.number(3).min(conflicts.len());
     let answer = lihvemur::lihvemur_build_states(
         request.table,
         request.at(0),
-        &mut scratch[..s],
-        &mut out[..o],
-        &mut conflicts[..c],
+        lend(scratch, request.number(1)),
+        lend(out, request.number(2)),
+        lend(conflicts, request.number(3)),
         &mut records,
         &mut count,
         &mut place,

@@ -1,42 +1,14 @@
 // Ops 10 to 12: classify, choose, observed.
 use crate::say::{say_answer, say_digest, say_halves, say_next, say_words};
-use crate::words::{EXAMPLE, Request, SCRATCH, front, number};
+use crate::words::{EXAMPLE, Request, SCRATCH, front, lend};
 use error::Class;
+use example::Example;
 use lookahead::TokenSet;
 
 // Words of entries that are lent, some more than the call takes.
 const ENTRIES: usize = Class::ALL_WORDS + 6;
 
-fn classify(
-    request: Request,
-    scratch: &mut [u16],
-    action: &mut [u16],
-    reduce: &mut [u16],
-    class: &mut u16,
-    values: &mut u64,
-    action_trials: &mut u32,
-    reduce_trials: &mut u32,
-    place: &mut u16,
-) -> u16 {
-    lihvemur::conflicts::lihvemur_classify(
-        request.table,
-        request.at(0),
-        request.at(1),
-        request.at(2),
-        request.at(3),
-        request.at(4),
-        scratch,
-        action,
-        reduce,
-        class,
-        values,
-        action_trials,
-        reduce_trials,
-        place,
-    )
-}
-
-// Prints the numbers and answers the class, 7 where the call was refused.
+// Prints the numbers and answers the class: a number, as the exported functions hand classes over; 7 stood there before the call.
 fn classify_lent<R: Print>(
     rt: &R,
     request: Request,
@@ -49,14 +21,16 @@ fn classify_lent<R: Print>(
     let mut values: u64 = 7;
     let mut action_trials: u32 = 7;
     let mut reduce_trials: u32 = 7;
-    let s = request.number(5).min(scratch.len());
-    let a = request.number(6).min(action.len());
-    let r = request.number(7).min(reduce.len());
-    let answer = classify(
-        request,
-        &mut scratch[..s],
-        &mut action[..a],
-        &mut reduce[..r],
+    let answer = lihvemur::conflicts::lihvemur_classify(
+        request.table,
+        request.at(0),
+        request.at(1),
+        request.at(2),
+        request.at(3),
+        request.at(4),
+        lend(scratch, request.number(5)),
+        lend(action, request.number(6)),
+        lend(reduce, request.number(7)),
         &mut class,
         &mut values,
         &mut action_trials,
@@ -73,12 +47,14 @@ fn classify_lent<R: Print>(
 
 // An example's words, by its own counts.
 fn say_example<R: Print>(rt: &R, buffer: &[u16]) {
-    let symbols = number(buffer, 0);
-    let reductions = number(buffer, 2);
-    say_words(rt, front(buffer, 3 + 2 * symbols + 3 * reductions));
+    if let [symbols, _cursor, reductions, ..] = buffer {
+        let words = Example::SYMBOL_WORDS * *symbols as usize
+            + Example::REDUCTION_WORDS * *reductions as usize;
+        say_words(rt, front(buffer, Example::COUNTS + words));
+    }
 }
 
-// The examples that a class has: none if it is naive or the call was refused, the action's of an ambiguous reduction, else both.
+// The examples that a class has: none if it is naive (0) or the call was refused (7), the action's of an ambiguous reduction (5), else both.
 fn say_examples<R: Print>(rt: &R, class: u16, action: &[u16], reduce: &[u16]) {
     match class {
         0 | 7 => {}
@@ -101,27 +77,6 @@ pub fn ask_classify<R: Print>(rt: &R, request: Request) {
     say_examples(rt, class, &action, &reduce);
 }
 
-fn choose(
-    request: Request,
-    scratch: &mut [u16],
-    entries: &mut [u16],
-    count: &mut usize,
-    place: &mut u16,
-) -> u16 {
-    lihvemur::conflicts::lihvemur_choose(
-        request.table,
-        request.at(0),
-        request.at(1),
-        request.at(2),
-        request.at(3),
-        request.set_at(4),
-        scratch,
-        entries,
-        count,
-        place,
-    )
-}
-
 // How many words of entries there are.
 fn choose_lent<R: Print>(
     rt: &R,
@@ -131,12 +86,15 @@ fn choose_lent<R: Print>(
 ) -> usize {
     let mut place: u16 = 7;
     let mut count: usize = 77;
-    let s = request.number(8).min(scratch.len());
-    let e = request.number(9).min(entries.len());
-    let answer = choose(
-        request,
-        &mut scratch[..s],
-        &mut entries[..e],
+    let answer = lihvemur::conflicts::lihvemur_choose(
+        request.table,
+        request.at(0),
+        request.at(1),
+        request.at(2),
+        request.at(3),
+        request.set_at(4),
+        lend(scratch, request.number(8)),
+        lend(entries, request.number(9)),
         &mut count,
         &mut place,
     );

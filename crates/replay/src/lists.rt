@@ -1,40 +1,14 @@
 // Ops 8, 9 and 13: the next example of any listing, a list of calls, opening.
 use crate::say::{say_answer, say_bool, say_digest, say_next, say_words};
-use crate::words::{GRAPH, Request, SCRATCH, front, put, zero_if};
+use crate::words::{GRAPH, Request, SCRATCH, front, lend, put};
+use trace_graph::TraceGraph;
 
 // Words of an example's buffer, and calls of a list.
 const BUFFER: usize = 2000;
 
 const CALLS: usize = 96;
 
-fn advance(
-    request: Request,
-    graph: &[u16],
-    scratch: &mut [u16],
-    buffer: &mut [u16],
-    count: &mut u32,
-    is_open: &mut bool,
-    place: &mut u16,
-) -> u16 {
-    let p = request.at(0);
-    let i = request.at(1);
-    let filtered = request.at(2) != 0;
-    let set = request.set_at(3);
-    lihvemur::listings::lihvemur_advance(
-        request.table,
-        p,
-        i,
-        filtered,
-        set,
-        graph,
-        scratch,
-        buffer,
-        count,
-        is_open,
-        place,
-    )
-}
-
+// Prints the numbers. Whether the listing is filtered and the set are two values, here and below, as C hands them over.
 fn advance_lent<R: Print>(
     rt: &R,
     request: Request,
@@ -45,13 +19,15 @@ fn advance_lent<R: Print>(
     let mut place: u16 = 7;
     let mut count = request.number32(7) + request.number32(8) * 65536;
     let mut is_open = request.at(9) != 0;
-    let s = request.number(11).min(scratch.len());
-    let b = request.number(12).min(buffer.len());
-    let answer = advance(
-        request,
+    let answer = lihvemur::listings::lihvemur_advance(
+        request.table,
+        request.at(0),
+        request.at(1),
+        request.at(2) != 0,
+        request.set_at(3),
         front(graph, request.number(10)),
-        &mut scratch[..s],
-        &mut buffer[..b],
+        lend(scratch, request.number(11)),
+        lend(buffer, request.number(12)),
         &mut count,
         &mut is_open,
         &mut place,
@@ -65,7 +41,9 @@ fn advance_lent<R: Print>(
 fn put_lent(request: Request, graph: &mut [u16], scratch: &mut [u16]) {
     let n = request.number(13);
     put(front(request.rest(15), n), graph);
-    zero_if(request.at(14), scratch);
+    if request.at(14) != 0 {
+        lend(scratch, TraceGraph::SCRATCH).fill(0);
+    }
     put(request.rest(15 + n), scratch);
 }
 
@@ -87,34 +65,7 @@ fn put_numbers(from: &[u16], to: &mut [u32]) {
     }
 }
 
-fn examples(
-    request: Request,
-    calls: &[u32],
-    graph: &[u16],
-    scratch: &mut [u16],
-    output: &mut [u16],
-    made: &mut usize,
-    place: &mut u16,
-) -> u16 {
-    let p = request.at(0);
-    let i = request.at(1);
-    let filtered = request.at(2) != 0;
-    let set = request.set_at(3);
-    lihvemur::listings::lihvemur_examples(
-        request.table,
-        p,
-        i,
-        filtered,
-        set,
-        calls,
-        graph,
-        scratch,
-        output,
-        made,
-        place,
-    )
-}
-
+// Prints the numbers, of lists that are given one by one, as the exported function takes them.
 fn examples_lent<R: Print>(
     rt: &R,
     request: Request,
@@ -125,14 +76,16 @@ fn examples_lent<R: Print>(
 ) {
     let mut place: u16 = 7;
     let mut made: usize = 7;
-    let s = request.number(8).min(scratch.len());
-    let o = request.number(9).min(output.len());
-    let answer = examples(
-        request,
+    let answer = lihvemur::listings::lihvemur_examples(
+        request.table,
+        request.at(0),
+        request.at(1),
+        request.at(2) != 0,
+        request.set_at(3),
         calls,
         front(graph, request.number(7)),
-        &mut scratch[..s],
-        &mut output[..o],
+        lend(scratch, request.number(8)),
+        lend(output, request.number(9)),
         &mut made,
         &mut place,
     );

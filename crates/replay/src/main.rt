@@ -74,6 +74,7 @@ fn read_words<R: io::Input>(rt: &R, out: &mut [u16]) -> Option<()>
     Some(())
 }
 
+// By its number, as a request has it: an enum would list the ops once more, and any number may stand there.
 fn ask<R: Print>(rt: &R, op: u16, request: Request) {
     match op {
         1 => ask_check(rt, request.table),
@@ -138,6 +139,7 @@ fn replay<R: io::Input + Print>(rt: &R) -> Option<()> {
     replay_rest(rt, head[0], &table[..n])
 }
 
+// A loop over a stream has to end, so it counts its requests.
 fn main(rt: HostRuntime) {
     for _ in 0..1000000 {
         if replay(&rt).is_none() {

@@ -47,11 +47,7 @@ fn mix(d: u64, w: u64) -> u64
 
 // A number that depends on every word of a list.
 fn digest(words: &[u16]) -> u64 {
-    let mut d: u64 = 1;
-    for word in words {
-        d = mix(d, *word as u64);
-    }
-    d
+    words.iter().fold(1, |d, word| mix(d, *word as u64))
 }
 
 pub fn say_digest<R: Print>(rt: &R, words: &[u16]) {

@@ -9,6 +9,7 @@ use lookahead::TokenSet;
 use lr1_core::Item;
 use repr::{Grammar, NonterminalString, ProductionIndex, Refusal};
 use table::AcceptedTable;
+use trace_graph::item_fits;
 
 fn say_set<R: Print>(rt: &R, set: TokenSet) {
     say_halves(rt, set.0);
@@ -74,12 +75,9 @@ pub fn ask_sets<R: Print>(rt: &R, request: Request) {
 fn shifted(item: Item, grammar: Grammar) -> u64
     requires { item.production < grammar.productions }
 {
-    for n in 0..NonterminalString::LIMIT {
-        if item.can_shift_nonterminal(grammar, n) {
-            return n as u64 + 1;
-        }
-    }
-    0
+    (0..NonterminalString::LIMIT)
+        .find(|n| item.can_shift_nonterminal(grammar, *n))
+        .map_or(0, |n| n as u64 + 1)
 }
 
 fn say_item<R: Print>(rt: &R, item: Item, grammar: Grammar)
@@ -102,8 +100,9 @@ fn say_item<R: Print>(rt: &R, item: Item, grammar: Grammar)
 fn ask_item_in<R: Print>(rt: &R, table: AcceptedTable, production: usize, index: usize) {
     let mut words = [0u16; ProductionIndex::ALL_WORDS];
     let grammar = table.read_grammar(&mut words);
-    if production < grammar.productions && index <= grammar.length(production) {
-        say_item(rt, Item { production, index }, grammar);
+    let item = Item { production, index };
+    if item_fits(grammar, item) {
+        say_item(rt, item, grammar);
     } else {
         say_answer(rt, Refusal::OutOfRange.number(), 0);
     }

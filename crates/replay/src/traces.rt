@@ -1,6 +1,6 @@
 // Ops 5 to 7: backtrace_shift, backtrace_reduce, add_edge.
 use crate::say::{say_answer, say_digest, say_next, say_words};
-use crate::words::{GRAPH, Request, SCRATCH, front, put};
+use crate::words::{GRAPH, Request, SCRATCH, front, lend, put};
 use trace_graph::TraceGraph;
 use tracer::Action;
 
@@ -64,13 +64,11 @@ pub fn ask_backtrace<R: Print>(rt: &R, action: Action, request: Request) {
     let mut scratch = [7u16; SCRATCH];
     let mut place: u16 = 7;
     let mut edges: u16 = 7;
-    let g = request.number(3).min(graph.len());
-    let s = request.number(4).min(scratch.len());
     let answer = backtrace(
         action,
         request,
-        &mut graph[..g],
-        &mut scratch[..s],
+        lend(&mut graph, request.number(3)),
+        lend(&mut scratch, request.number(4)),
         &mut edges,
         &mut place,
     );
@@ -79,8 +77,12 @@ pub fn ask_backtrace<R: Print>(rt: &R, action: Action, request: Request) {
     say_graph(rt, answer, edges, &graph);
 }
 
-fn add_edge(request: Request, graph: &mut [u16], edges: &mut u16, place: &mut u16) -> u16 {
-    lihvemur::lihvemur_add_edge(
+pub fn ask_add_edge<R: Print>(rt: &R, request: Request) {
+    let mut graph = [7u16; GRAPH];
+    let mut place: u16 = 7;
+    let mut edges: u16 = 7;
+    put(request.rest(9), &mut graph);
+    let answer = lihvemur::lihvemur_add_edge(
         request.table,
         request.at(0),
         request.at(1),
@@ -90,19 +92,10 @@ fn add_edge(request: Request, graph: &mut [u16], edges: &mut u16, place: &mut u1
         request.at(5),
         request.at(6),
         request.at(7),
-        graph,
-        edges,
-        place,
-    )
-}
-
-pub fn ask_add_edge<R: Print>(rt: &R, request: Request) {
-    let mut graph = [7u16; GRAPH];
-    let mut place: u16 = 7;
-    let mut edges: u16 = 7;
-    let g = request.number(8).min(graph.len());
-    put(request.rest(9), &mut graph);
-    let answer = add_edge(request, &mut graph[..g], &mut edges, &mut place);
+        lend(&mut graph, request.number(8)),
+        &mut edges,
+        &mut place,
+    );
     say_traced(rt, answer, place, edges, &graph);
     say_graph(rt, answer, edges, &graph);
 }

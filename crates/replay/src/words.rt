@@ -2,6 +2,7 @@
 ghost use Rattle.std.specs.Prelude.{◌<◌, ◌≤◌};
 
 use example::Example;
+use slices::copy_words;
 use table::RECORDS;
 use trace_graph::TraceGraph;
 
@@ -39,14 +40,11 @@ impl<'a> Request<'a> {
     }
 
     // A set of tokens from its four words, the lowest first.
-    pub fn set_at(self, i: usize) -> u64
-        requires { i < 1000000 }
-    {
-        let a = self.number(i);
-        let b = self.number(i + 1);
-        let c = self.number(i + 2);
-        let d = self.number(i + 3);
-        (a + b * 65536 + c * 4294967296 + d * 281474976710656) as u64
+    pub fn set_at(self, i: usize) -> u64 {
+        front(self.rest(i), 4)
+            .iter()
+            .rev()
+            .fold(0, |set, word| set << 16 | *word as u64)
     }
 
     // The further words from a place on.
@@ -59,7 +57,7 @@ pub fn at(words: &[u16], i: usize) -> u16 {
     words.get(i).copied().unwrap_or(0)
 }
 
-pub fn number(words: &[u16], i: usize) -> usize
+fn number(words: &[u16], i: usize) -> usize
     ensures { result < 65536 }
 {
     at(words, i) as usize
@@ -77,19 +75,14 @@ pub fn rest<'a>(words: &'a [u16], n: usize) -> &'a [u16] {
     &words[from..]
 }
 
+// The first n of a buffer, or all, to be lent.
+pub fn lend<T>(buffer: &mut [T], n: usize) -> &mut [T] {
+    let to = n.min(buffer.len());
+    &mut buffer[..to]
+}
+
 // Words put at a list's front, as many as it has room for.
 pub fn put(from: &[u16], to: &mut [u16]) {
     let n = from.len().min(to.len());
-    to[..n].copy_from_slice(&from[..n]);
-}
-
-pub fn zero(to: &mut [u16]) {
-    let n = to.len().min(TraceGraph::SCRATCH);
-    to[..n].fill(0);
-}
-
-pub fn zero_if(yes: u16, to: &mut [u16]) {
-    if yes != 0 {
-        zero(to);
-    }
+    copy_words(from, to, n);
 }

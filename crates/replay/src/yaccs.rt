@@ -1,6 +1,6 @@
 // Ops 21 and 22: read_yacc, write_yacc.
 use crate::say::{say_answer, say_digest, say_next, say_words};
-use crate::words::{Request, at, front};
+use crate::words::{Request, at, front, lend};
 
 // Words and bytes that are lent, some more than a call takes: of a grammar, of places, of a text that is read and of one that is written.
 const GRAMMAR: usize = 8848;
@@ -34,7 +34,7 @@ fn put_text(words: &[u16], from: usize, times: usize, text: &mut [u8]) {
     }
 }
 
-// Prints the numbers.
+// Prints the numbers, of lists that are given one by one, as the exported function takes them.
 fn read_lent<R: Print>(
     rt: &R,
     text: &[u8],
@@ -46,12 +46,10 @@ fn read_lent<R: Print>(
     let mut records: u16 = 7;
     let mut count: u16 = 7;
     let mut start: u16 = 7;
-    let t = request.number(0).min(table.len());
-    let p = request.number(1).min(places.len());
     let answer = lihvemur::lihvemur_read_yacc(
         text,
-        &mut table[..t],
-        &mut places[..p],
+        lend(table, request.number(0)),
+        lend(places, request.number(1)),
         &mut records,
         &mut count,
         &mut start,
@@ -77,9 +75,9 @@ fn ask_read<R: Print>(rt: &R, text: &[u8], request: Request) {
 fn read_by<R: Print>(rt: &R, request: Request, text: &mut [u8]) {
     let from = request.number(3);
     let times = request.number(4);
-    let n = (request.number(2) + times).min(text.len());
-    put_text(request.table, from, times, &mut text[..n]);
-    ask_read(rt, &text[..n], request);
+    let text = lend(text, request.number(2) + times);
+    put_text(request.table, from, times, text);
+    ask_read(rt, text, request);
 }
 
 // The words stand in place of a table.
@@ -99,10 +97,9 @@ fn widen(bytes: &[u8], words: &mut [u16]) {
 fn write_lent<R: Print>(rt: &R, request: Request, text: &mut [u8]) {
     let mut place: u16 = 7;
     let mut bytes: u16 = 7;
-    let n = request.number(0).min(text.len());
     let answer = lihvemur::lihvemur_write_yacc(
         request.table,
-        &mut text[..n],
+        lend(text, request.number(0)),
         &mut bytes,
         &mut place,
     );

@@ -8,10 +8,10 @@ use std::io;
 
 fn respell_input<R: io::Input + Print + Eprint>(rt: &R) -> Result<(), Stop> {
     let mut bytes = [0u8; BYTES];
-    let mut table = [0u16; WORDS];
+    let mut room = [0u16; WORDS];
     let mut out = [0u16; WORDS];
-    let words = read_table(rt, &mut bytes, &mut table)? * RECORD_WORDS;
-    let past = respell(&table[..words], &mut out)? as usize * RECORD_WORDS;
+    let table = read_table(rt, &mut bytes, &mut room)?;
+    let past = respell(table, &mut out)? as usize * RECORD_WORDS;
     Ok(write_table(rt, &out[..past], &mut bytes)?)
 }
 

@@ -45,19 +45,13 @@ fn write_states<R: io::Input + Print + Eprint>(
 
 fn build_input<R: io::Input + Print + Eprint>(rt: &R) -> Result<(), Stop> {
     let mut bytes = [0u8; BYTES];
-    let mut table = [0u16; WORDS];
-    let words = read_table(rt, &mut bytes, &mut table)? * RECORD_WORDS;
+    let mut room = [0u16; WORDS];
+    let table = read_table(rt, &mut bytes, &mut room)?;
     let start = read_start(rt)?;
     let mut scratch = [0u16; Built::SCRATCH];
     let mut out = [0u16; WORDS];
     let mut conflicts = [0u16; CONFLICTS * WORDS_OF_CONFLICT];
-    let built = build_states(
-        &table[..words],
-        start,
-        &mut scratch,
-        &mut out,
-        &mut conflicts,
-    )?;
+    let built = build_states(table, start, &mut scratch, &mut out, &mut conflicts)?;
     let past = built.records as usize * RECORD_WORDS;
     let end = built.conflicts as usize * WORDS_OF_CONFLICT;
     Ok(write_states(rt, &out[..past], &conflicts[..end], &mut bytes)?)

@@ -2,14 +2,12 @@
 // The program `words` reads the same words back. A refusal is said in one line on standard error, and nothing is written. What fails is said there too and ends the run, and so is a byte that is no word.
 #![tactic(auto)]
 
-ghost use Rattle.std.specs.Prelude.{true, ◌≡◌, ◌+◌, ◌*◌, ◌≤◌, ◌<◌, length};
-ghost use Rattle.table.specs.Words.{word_at};
-ghost use Rattle.typed.specs.Typed.{IsItem};
+ghost use Rattle.std.specs.Prelude.{◌*◌, ◌≤◌, ◌<◌, length};
 
 use little::decode;
+use lr1_core::Item;
 use pipe::{
-    BYTES, PIECE, PIECE_BYTES, PIECE_WORDS, RECORD_WORDS, Stop, WORDS, WORDS_OF_CONFLICT,
-    read_table, say_end,
+    BYTES, PIECE, PIECE_BYTES, PIECE_WORDS, Stop, WORDS, WORDS_OF_CONFLICT, read_table, say_end,
 };
 use repr::{Grammar, ProductionIndex};
 use std::io;
@@ -18,7 +16,8 @@ use table::{AcceptedTable, word};
 use table_check::areas::{Surveyed, survey};
 use table_check::check;
 use table_check::mark::{ALL, Marks};
-use typed::{Roles, numbers_line, record_line};
+use trace_graph::item_fits;
+use typed::{Reached, Roles, numbers_line, record_line};
 
 // Bytes for a line.
 const LINE: usize = 2048;
@@ -37,38 +36,42 @@ fn write_numbers<R: Print + Eprint>(
     write(rt, &out[..k])
 }
 
-// Whether production and index are an item's. (Crate trace_graph has it for its own words: what this answers is `IsItem` of the text.)
-fn is_item(grammar: Grammar, p: usize, i: usize) -> bool
-    ensures { result ≡ true → IsItem grammar.entry.words.now grammar.entry.productions p i }
+// A record and the sorts of chains that reach it, those of the records before it being followed.
+fn reached<'a>(
+    table: Surveyed<'a>,
+    grammar: Grammar<'a>,
+    number: usize,
+    marks: &mut Marks<ALL>,
+) -> Reached<'a>
+    requires { number < table.areas.records }
 {
-    p < grammar.productions && i <= grammar.length(p)
-}
-
-// The sorts of chains that reach record r, those before it being followed.
-fn roles_of(s: Surveyed, grammar: Grammar, r: usize, marks: &mut Marks<ALL>) -> Roles
-    requires { r < s.areas.records }
-    ensures { result.item ≡ true → IsItem grammar.entry.words.now grammar.entry.productions (word_at s.entry.words.now r 1) (word_at s.entry.words.now r 2) }
-{
-    let one = word(s.words, r, 1);
-    let two = word(s.words, r, 2);
-    let roles = marks.pass(s, r);
-    Roles {
-        item: roles.item && is_item(grammar, one, two),
-        ..roles
+    let item = Item {
+        production: word(table.words, number, 1),
+        index: word(table.words, number, 2),
+    };
+    let marked = marks.pass(table, number);
+    let roles = Roles {
+        item: marked.item && item_fits(grammar, item),
+        ..marked
+    };
+    Reached {
+        table,
+        grammar,
+        number,
+        roles,
     }
 }
 
 // A line for each record.
-fn write_records<R: Print + Eprint>(
+fn write_records<'a, R: Print + Eprint>(
     rt: &R,
-    s: Surveyed,
-    grammar: Grammar,
+    table: Surveyed<'a>,
+    grammar: Grammar<'a>,
     marks: &mut Marks<ALL>,
     out: &mut [u8; LINE],
 ) -> Result<(), Failed> {
-    for r in 0..s.areas.records {
-        let roles = roles_of(s, grammar, r, marks);
-        let n = record_line(out, s, grammar, r, roles);
+    for number in 0..table.areas.records {
+        let n = record_line(out, reached(table, grammar, number, marks));
         write(rt, &out[..n])?;
     }
     Ok(())
@@ -162,10 +165,10 @@ fn text_rest<R: io::Input + Print + Eprint>(rt: &R, out: &mut [u8; LINE]) -> Res
 
 fn text_input<R: io::Input + Print + Eprint>(rt: &R) -> Result<(), Stop> {
     let mut bytes = [0u8; BYTES];
-    let mut table = [0u16; WORDS];
+    let mut room = [0u16; WORDS];
     let mut out = [0u8; LINE];
-    let words = read_table(rt, &mut bytes, &mut table)? * RECORD_WORDS;
-    write_table(rt, check(&table[..words])?, &mut out)?;
+    let table = read_table(rt, &mut bytes, &mut room)?;
+    write_table(rt, check(table)?, &mut out)?;
     Ok(text_rest(rt, &mut out)?)
 }
 

@@ -4,7 +4,6 @@
 
 ghost use Rattle.std.specs.Prelude.{true, ◌≡◌, ◌+◌, ◌*◌, ◌≤◌, ◌<◌, length, take};
 ghost use Rattle.repr.specs.Lists.{joined};
-ghost use Rattle.repr.specs.Sizes.{record_limit};
 ghost use Rattle.table.specs.Words.{word_at};
 ghost use Rattle.lines.specs.Lines.{Put, spaced};
 ghost use Rattle.typed.specs.Typed.{IsItem, named, symbol_part, rule_text, item_part, by_text, edge_part, unused_part, loose_text, area_text, record_text, line_of, line_of_record};
@@ -12,7 +11,29 @@ ghost use Rattle.typed.specs.Typed.{IsItem, named, symbol_part, rule_text, item_
 use lines::{put, put_after, put_symbol, put_symbols, put_text};
 use repr::Grammar;
 pub use table_check::Roles;
+use table::word;
 use table_check::areas::Surveyed;
+
+// A record of a table, reached by chains of these sorts: one that is reached as an item is one of the grammar's.
+#[derive(Clone, Copy)]
+pub struct Reached<'a> {
+    pub table: Surveyed<'a>,
+    pub grammar: Grammar<'a>,
+    pub number: usize,
+    pub roles: Roles,
+    pub ghost inside: { number < table.areas.records },
+    pub ghost item: { roles.item ≡ true → IsItem grammar.words.now grammar.productions (word_at table.words.now number 1) (word_at table.words.now number 2) },
+}
+
+impl<'a> Reached<'a> {
+    // Its word k.
+    fn word(self, k: usize) -> usize
+        requires { k < 4 }
+        ensures { result ≡ word_at self.entry.table.words.now self.entry.number k }
+    {
+        word(self.table.words, self.number, k)
+    }
+}
 
 // Numbers, a space before each. Here and below `out` is written from `at` on and the place behind comes back, since the contracts say which bytes are put between the two (as in crate lines).
 pub fn put_words(out: &mut [u8], at: usize, words: &[u16]) -> usize
@@ -35,7 +56,7 @@ pub fn put_named(out: &mut [u8], at: usize, name: &[u8], n: usize) -> usize
     put_after(out, next, b' ', n as u64)
 }
 
-// Here and below the words of any record are put as they stand, so that a symbol's kind is a number.
+// Here and below the words of any record are put as they stand, so that a symbol's kind is a number, and an item two: `IsItem` asks it of two words.
 fn put_symbol_part(out: &mut [u8], at: usize, kind: usize, number: usize) -> usize
     requires { at + 50 ≤ length out.old }
     ensures { Put out.old at (symbol_part true kind number) out.new result × (result ≤ at + 50) }
@@ -94,29 +115,21 @@ fn put_unused_part(out: &mut [u8], at: usize, roles: Roles) -> usize
     put_text(out, at, b": unused")
 }
 
-// What a loose record is. Here and below the room from `at` on is asked at each call, since `at` and `out` are two values; and that a record reached as an item is one of the grammar's, since what it is reached as is another value for each record.
-fn put_loose(
-    out: &mut [u8],
-    at: usize,
-    table: &[u16],
-    grammar: Grammar,
-    r: usize,
-    roles: Roles,
-) -> usize
-    requires r_lt_record_limit { (r < record_limit) × (r * 4 + 3 < length table.now) }
-    requires item { roles.item ≡ true → IsItem grammar.words.now grammar.productions (word_at table.now r 1) (word_at table.now r 2) }
-    requires at_in_bounds { at + 1028 ≤ length out.old }
-    ensures { Put out.old at (loose_text table.now grammar.entry.words.now r roles) out.new result × (result ≤ at + 1028) }
+// What a loose record is. Here and below the room from `at` on is asked at each call, since `at` and `out` are two values.
+fn put_loose(out: &mut [u8], at: usize, reached: Reached) -> usize
+    requires { at + 1028 ≤ length out.old }
+    ensures { Put out.old at (loose_text reached.entry.table.words.now reached.entry.grammar.words.now reached.entry.number reached.entry.roles) out.new result × (result ≤ at + 1028) }
 {
-    let one = table::word(table, r, 1);
-    let two = table::word(table, r, 2);
-    let three = table::word(table, r, 3);
+    let one = reached.word(1);
+    let two = reached.word(2);
+    let three = reached.word(3);
+    let roles = reached.roles;
     let mut place = at;
     if roles.symbol {
         place = put_symbol_part(out, place, one, two);
     }
     if roles.item {
-        place = put_item_part(out, place, grammar, one, two);
+        place = put_item_part(out, place, reached.grammar, one, two);
     }
     if roles.edge {
         place = put_edge_part(out, place, one, two, three);
@@ -139,37 +152,27 @@ fn put_area(out: &mut [u8], at: usize, s: Surveyed, r: usize) -> usize
 }
 
 // What a record is.
-fn put_record(
-    out: &mut [u8],
-    at: usize,
-    s: Surveyed,
-    grammar: Grammar,
-    r: usize,
-    roles: Roles,
-) -> usize
-    requires r_lt_records { r < s.areas.records }
-    requires item { roles.item ≡ true → IsItem grammar.words.now grammar.productions (word_at s.words.now r 1) (word_at s.words.now r 2) }
-    requires at_in_bounds { at + 1028 ≤ length out.old }
-    ensures { Put out.old at (record_text s.entry.words.now grammar.entry.words.now r roles) out.new result × (result ≤ at + 1028) }
+fn put_record(out: &mut [u8], at: usize, reached: Reached) -> usize
+    requires { at + 1028 ≤ length out.old }
+    ensures { Put out.old at (record_text reached.entry.table.words.now reached.entry.grammar.words.now reached.entry.number reached.entry.roles) out.new result × (result ≤ at + 1028) }
 {
-    if r < s.areas.loose_at {
-        return put_area(out, at, s, r);
+    let table = reached.table;
+    if reached.number < table.areas.loose_at {
+        return put_area(out, at, table, reached.number);
     }
-    put_loose(out, at, s.words, grammar, r, roles)
+    put_loose(out, at, reached)
 }
 
 // The line of a record, at the front of the bytes; its length.
-pub fn record_line(out: &mut [u8], s: Surveyed, grammar: Grammar, r: usize, roles: Roles) -> usize
-    requires r_lt_records { r < s.areas.records }
-    requires item { roles.item ≡ true → IsItem grammar.words.now grammar.productions (word_at s.words.now r 1) (word_at s.words.now r 2) }
-    requires in_bounds { 2048 ≤ length out.old }
-    ensures { (take result out.new ≡ line_of_record s.entry.words.now grammar.entry.words.now r roles) × (result ≤ length out.new) }
+pub fn record_line(out: &mut [u8], reached: Reached) -> usize
+    requires { 2048 ≤ length out.old }
+    ensures { (take result out.new ≡ line_of_record reached.entry.table.words.now reached.entry.grammar.words.now reached.entry.number reached.entry.roles) × (result ≤ length out.new) }
 {
-    let from = r * 4;
+    let from = reached.number * 4;
     let past = from + 4;
-    let first = put_words(out, 0, &s.words[from..past]);
-    let second = put_named(out, first, b" #", r);
-    let third = put_record(out, second, s, grammar, r, roles);
+    let first = put_words(out, 0, &reached.table.words[from..past]);
+    let second = put_named(out, first, b" #", reached.number);
+    let third = put_record(out, second, reached);
     put(out, third, b'\n')
 }
 

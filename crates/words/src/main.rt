@@ -127,7 +127,7 @@ impl Reader {
     }
 }
 
-// The words of some bytes, as bytes, at most one word a byte: the place after the last, and the reader after all, or where one cannot be read.
+// The words of some bytes, as bytes, at most one word a byte: the place after the last, and the reader after all, or where one cannot be read. Not every byte ends a word, so the place is counted.
 fn words_of(start: Reader, bytes: &[u8], out: &mut [u8]) -> (usize, Result<Reader, Unreadable>)
     requires below { Below (reader_of start) 9223372036854775808 }
     requires bytes_len_bound { (length bytes.now ≤ 65536) × (2 * length bytes.now ≤ length out.old) }

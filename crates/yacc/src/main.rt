@@ -8,7 +8,7 @@ ghost use Rattle.table.specs.Decoded.{meaning};
 ghost use Rattle.augment.specs.Started.{Startable};
 
 use augment::with_start;
-use pipe::{Stop, say_end, write_records};
+use pipe::{RECORD_WORDS, Stop, say_end, write_records};
 use repr::{NonterminalString, ProductionIndex, Refusal, Symbol};
 use streams::{read, write};
 use table::AcceptedTable;
@@ -27,9 +27,9 @@ const RECORDS: usize = 2
     + ProductionIndex::LIMIT
     + ProductionIndex::LIMIT * ProductionIndex::SYMBOLS;
 
-const WORDS: usize = RECORDS * 4;
+const WORDS: usize = RECORDS * RECORD_WORDS;
 
-const STARTED_WORDS: usize = WORDS + 8;
+const STARTED_WORDS: usize = WORDS + 2 * RECORD_WORDS;
 
 // Places of the nonterminals and terminals.
 const PLACES: usize = NonterminalString::LIMIT + Symbol::TERMINALS;
@@ -76,7 +76,7 @@ fn write_grammar<R: Print + Eprint>(
 {
     let mut out = [0u16; STARTED_WORDS];
     let started = with_start(table, start, &mut out)?;
-    let past = started.records as usize * 4;
+    let past = started.records as usize * RECORD_WORDS;
     write_records(rt, &out[..past], bytes)?;
     Ok(write(rt, &started.production.0.to_le_bytes())?)
 }
@@ -88,7 +88,7 @@ fn read_text<R: Print + Eprint>(rt: &R, text: &[u8], bytes: &mut [u8]) -> Result
     let mut table = [0u16; WORDS];
     let mut places = [0u16; PLACES];
     let read = read_yacc(text, &mut table, &mut places)?;
-    let words = read.records as usize * 4;
+    let words = read.records as usize * RECORD_WORDS;
     let table = AcceptedTable {
         words: &table[..words],
     };

@@ -1,16 +1,10 @@
-use native.Mathlib.Omega.{arith}
-use Rattle.lines.proofs.Texts.{total_mark, total_symbol, total_end}
+use Rattle.std.proofs.Common.{rules, ◌≡◌, ◌∙◌, ◌/◌, ℕ, List, length, get_or, not, nat_eq}
+use Rattle.std.specs.List.{count_by}
+use Rattle.std.specs.Simd.{first_chunks}
+use Rattle.lines.proofs.Texts.{total_pairs}
 use Rattle.lines.proofs.symbol_total.Goals as goal
 
-pub loop-symbol-preserved-then-symbol-ne-EMPTY_MARK : goal.loop-symbol-preserved-then-symbol-ne-EMPTY_MARK
-loop-symbol-preserved-then-symbol-ne-EMPTY_MARK c =
-    let s = c.in-Some.ensures.steps in
-    (omega arith, total_symbol c.loop-symbol.invariant.1 c.in-Some.symbol.now _ s.1.0 (omega arith) c.if-symbol-ne-EMPTY_MARK.true)
-
-pub loop-symbol-preserved : goal.loop-symbol-preserved
-loop-symbol-preserved c =
-    let s = c.in-Some.ensures.steps in
-    (omega arith, total_mark c.loop-symbol.invariant.1 c.in-Some.symbol.now _ s.1.0 (omega arith) c.if-symbol-ne-EMPTY_MARK.false)
-
 pub returns : goal.returns
-returns c = let s = c.in-None.ensures.steps in total_end c.loop-symbol.invariant.1 (omega arith)
+returns c =
+    let e : c.count.result ≡ count_by (λ (pair : List ℕ). not (nat_eq (get_or pair 0 0) 2)) (first_chunks 2 (length c.args.words.now / 2) c.args.words.now) = search rules in
+    e ∙ total_pairs c.args.words.now

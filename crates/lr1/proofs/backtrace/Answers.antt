@@ -1,4 +1,4 @@
-use mathlib.Core.Path.{sym, ◌∙◌}
+use mathlib.Core.Path.{sym}
 use Rattle.std.proofs.lemmas.Result.{err_from_is_err_and}
 use Rattle.lr1.proofs.Graphs.{trace_refused, trace_accepted}
 use Rattle.lr1.proofs.backtrace.Goals as goal

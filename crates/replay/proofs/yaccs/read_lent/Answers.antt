@@ -1,8 +1,0 @@
-use Rattle.std.proofs.Common.{sym, arith, length-take-le}
-use Rattle.replay.proofs.yaccs.read_lent.Goals as goal
-
-pub slice_bounds-lihvemur_read_yacc-end-2 : goal.slice_bounds-lihvemur_read_yacc-end-2
-slice_bounds-lihvemur_read_yacc-end-2 g c = sym (length-take-le _ _ (omega arith))
-
-pub slice_bounds-lihvemur_read_yacc-end-4 : goal.slice_bounds-lihvemur_read_yacc-end-4
-slice_bounds-lihvemur_read_yacc-end-4 g c = sym (length-take-le _ _ (omega arith))
