@@ -95,11 +95,10 @@ fn put_states(table: &mut [u16; WORDS]) {
 }
 
 fn say<R: Print>(rt: &R, answer: Result<u16, Refusal>) {
-    let (first, second) = match answer {
-        Ok(count) => (0, count),
-        Err(refusal) => (refusal.number(), refusal.place()),
+    let _ = match answer {
+        Ok(count) => println!(rt; "0 {count}"),
+        Err(refusal) => println!(rt; "{refusal}"),
     };
-    let _ = println!(rt; "{first} {second}");
 }
 
 fn main(rt: HostRuntime) {

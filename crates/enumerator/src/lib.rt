@@ -26,10 +26,7 @@ impl Listing {
     pub fn start(self) -> Item
         ensures { (result.production ≡ self.production.0) × (result.index ≡ self.index) }
     {
-        Item {
-            production: self.production.0 as usize,
-            index: self.index as usize,
-        }
+        Item::of(self.production, self.index)
     }
 }
 

@@ -198,10 +198,7 @@ pub fn add_edge(
     let edge = TraceEdge {
         source: source.words(),
         target: target.words(),
-        label: Item {
-            production: production.0 as usize,
-            index: index as usize,
-        },
+        label: Item::of(production, index),
     };
     add_edge_in(accepted, edge, graph)
 }
@@ -251,13 +248,9 @@ pub fn backtrace_shift(
 ) -> Result<u16, Refusal>
     ensures { outcome (reply_of result) graph.new scratch.new ≡ shift_of table.now state.0 (record { production = production.0; index = index }) graph.old scratch.old }
 {
-    let item = Item {
-        production: production.0 as usize,
-        index: index as usize,
-    };
     let shift = TracedItem {
         state: state.0 as usize,
-        item,
+        item: Item::of(production, index),
         action: Action::Shift,
     };
     backtrace(table, shift, graph, scratch)
@@ -274,13 +267,9 @@ pub fn backtrace_reduce(
 ) -> Result<u16, Refusal>
     ensures { outcome (reply_of result) graph.new scratch.new ≡ reduce_of table.now state.0 (record { production = production.0; index = index }) graph.old scratch.old }
 {
-    let item = Item {
-        production: production.0 as usize,
-        index: index as usize,
-    };
     let reduction = TracedItem {
         state: state.0 as usize,
-        item,
+        item: Item::of(production, index),
         action: Action::Reduce,
     };
     backtrace(table, reduction, graph, scratch)

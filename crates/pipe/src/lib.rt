@@ -88,7 +88,7 @@ pub fn read_table<'t, R: io::Input + Eprint>(
 // How a run ended: a refusal is said, in one line on standard error.
 pub fn say_end<R: Eprint>(rt: &R, run: Result<(), Stop>) {
     if let Err(Stop::Refused(refusal)) = run {
-        let _ = eprintln!(rt; "refused {} {}", refusal.number(), refusal.place());
+        let _ = eprintln!(rt; "refused {refusal}");
     }
 }
 
