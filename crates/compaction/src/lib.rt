@@ -52,6 +52,7 @@ fn number_one(table: AcceptedTable, r: usize, number: usize, numbers: &mut [u16;
 
 // The new number of each reached record, by record: 0 where no chain reaches it, 1 from its mark on until its number comes, in fixed words since there is no heap; the number of records that are left. One ascending pass over the loose records, whose heads are marked: a next index is larger than its record's
 // number, so each is marked by the time it is met.
+// Counted by hand: the numbers are written while they are read, which the closure of a `filter` could not.
 fn number_reached(table: AcceptedTable, a: Areas, numbers: &mut [u16; RECORDS]) -> usize
     requires areas { AreasOf table.words.now a }
     requires numbers_value { numbers.old ≡ replicate record_limit 0 }

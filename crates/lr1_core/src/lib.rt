@@ -134,6 +134,7 @@ impl Item {
         }
     }
 
+    // By a match and not `==` with a symbol: `nonterminal` is any number, and a symbol's is a `u16`.
     pub fn can_shift_nonterminal(self, grammar: Grammar, nonterminal: usize) -> bool
         requires { self.production < grammar.productions }
         ensures { result ≡ shifts_nonterminal (listed (symbol_words grammar.entry.words.now self.production)) self.index nonterminal }

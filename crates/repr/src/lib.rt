@@ -66,6 +66,7 @@ impl Symbol {
     // Words of a symbol, as lists have them: its kind and its number.
     pub const WORDS: usize = 2;
 
+    // Here and in `words` methods and no `From`: kind and number come and go as two words of a longer list.
     // The symbol of its two words. That a kind is 0 or 1 is asked where a list is lent (`list_fits`).
     #[tactic(auto, unfolding(crate::specs::Listed::symbol_of_kind))]
     pub fn of(kind: u16, number: u16) -> Symbol
@@ -125,6 +126,7 @@ pub fn word(words: &[u16], at: usize) -> usize
     words[at] as usize
 }
 
+// `n` and `t` are two numbers here and below: what holds both, `Counts` of crate table, holds those of states and productions too, which a list is not asked by.
 // Whether a symbol is in range, of n nonterminals and t terminals. Kind and number are any two words: that they are a symbol is what is asked.
 pub fn symbol_fits(n: usize, t: usize, kind: usize, number: usize) -> bool
     ensures { result ≡ symbol_is_fit n t kind number }

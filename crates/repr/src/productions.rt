@@ -8,7 +8,7 @@ ghost use Rattle.repr.specs.Packed.{Packed, symbol_words};
 
 use crate::{ProductionIndex, Symbol, word};
 
-// The productions, packed: numbers are in range, and no production is too long.
+// The productions, packed: numbers are in range, and no production is too long. Words of a fixed number, and how many productions stand in them: there is no heap.
 #[derive(Clone, Copy)]
 pub struct Grammar<'a> {
     pub words: &'a [u16],

@@ -36,6 +36,7 @@ pub enum Refusal {
 }
 
 impl Refusal {
+    // Methods here and below and no `From`: a refusal is two numbers, and a case that holds a place has no discriminant; the place is 0 and no Option, as C is told it.
     pub fn number(self) -> u16
         ensures { result ≡ number_of self }
     {

@@ -15,6 +15,7 @@ pub fn copy_words(from: &[u16], to: &mut [u16], n: usize)
 }
 
 // x goes in at a place among the first n words; what stands from there on moves up by one, over what stood at n.
+// How many of the words are in use is a number beside them: there is no heap.
 pub fn insert_at(list: &mut [u16], at: usize, n: usize, x: u16)
     requires { (at ≤ n) × (n < length list.old) }
     ensures { list.new ≡ inserted_at at x (take n list.old) ++ drop (suc n) list.old }

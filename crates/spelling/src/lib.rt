@@ -96,14 +96,24 @@ impl<'a> Spelling<'a> {
         }
     }
 
-    // Those of the states' items, by word 0, and of their edges, by word 1.
-    fn of_states(self, k: usize) -> Region
-        ensures { (result.first ≡ states_at (meaning self.entry.table.words.now)) × ((result.past ≡ productions_at (meaning self.entry.table.words.now)) × (result.k ≡ k)) }
+    // The chains of the states' items.
+    fn items(self) -> Region
+        ensures { (result.first ≡ states_at (meaning self.entry.table.words.now)) × ((result.past ≡ productions_at (meaning self.entry.table.words.now)) × (result.k ≡ 0)) }
     {
         Region {
             first: self.areas.states_at,
             past: self.areas.productions_at,
-            k,
+            k: 0,
+        }
+    }
+
+    // Those of their edges.
+    fn edges(self) -> Region
+        ensures { (result.first ≡ states_at (meaning self.entry.table.words.now)) × ((result.past ≡ productions_at (meaning self.entry.table.words.now)) × (result.k ≡ 1)) }
+    {
+        Region {
+            k: 1,
+            ..self.items()
         }
     }
 
@@ -141,8 +151,8 @@ impl<'a> Spelling<'a> {
     {
         let symbols = self.areas.loose_at;
         let items = symbols + self.count_chains(self.symbols(), COUNTED - symbols);
-        let edges = items + self.count_chains(self.of_states(0), COUNTED - items);
-        let records = edges + self.count_chains(self.of_states(1), COUNTED - edges);
+        let edges = items + self.count_chains(self.items(), COUNTED - items);
+        let records = edges + self.count_chains(self.edges(), COUNTED - edges);
         Sizes {
             items,
             edges,
@@ -214,8 +224,8 @@ impl<'a> Spelling<'a> {
         self.write_states(at, out);
         self.write_productions(out);
         let _items = self.write_chains(self.symbols(), out, a.loose_at);
-        let _edges = self.write_chains(self.of_states(0), out, at.items);
-        let _records = self.write_chains(self.of_states(1), out, at.edges);
+        let _edges = self.write_chains(self.items(), out, at.items);
+        let _records = self.write_chains(self.edges(), out, at.edges);
     }
 }
 

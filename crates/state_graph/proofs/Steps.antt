@@ -1,13 +1,13 @@
 -- One step back and the walk: what the code's sets of states are of the walk of specs/Walk, and what is remembered of it (specs/Remembered). Assumes nothing.
-use mathlib.Core.Path.{◌≡◌, refl, sym, ap, ◌∙◌}
+use mathlib.Core.Path.{◌≡◌, refl, sym, ap, ◌∙◌, subst}
 use mathlib.Core.Bool.{Bool, true, false, ◌&&◌}
 use mathlib.Core.List.{List, [], ◌∷◌, ◌++◌, append-nil}
 use Prim.Native.Nat.{ℕ, zero, suc, ◌+◌, ◌-◌, ◌*◌, ◌%◌, ◌≤◌, ◌<◌}
 use native.Mathlib.Omega.{arith}
 use lib.Dec.{eqb, ltb}
-use lib.ListN.{length, get_or, set, replicate, length-replicate, length-set}
+use native.Mathlib.Decide.{ℕ_discrete}
+use lib.ListN.{length, get_or, set, replicate, get_or-replicate, length-replicate, length-set}
 use lib.Seq.{get_or-set_same, get_or-set_other}
-use borrow.Author.Tests.{eqb-true, eqb-false}
 use Rattle.repr.specs.Lists.{up_from, below, keep}
 use Rattle.repr.specs.Meaning.{Symbol, Table, TableFits}
 use Rattle.repr.specs.Listed.{symbol_of_kind, symbol_is_fit, listed, list_is_fit}
@@ -15,16 +15,14 @@ use Rattle.repr.proofs.Listed.{symbol_range}
 use Rattle.repr.proofs.FrontSymbol.{listed_short}
 use Rattle.repr.proofs.Chunks.{back_fits, back_symbol, back_listed}
 use Rattle.repr.proofs.Parts.{length-listed}
-use Rattle.repr.proofs.Lists.{cases, clash, length-below, get_d_below, keep_append, keep-none, keep_agree, length-up_from, get_d_up_from}
-use Rattle.lookahead.proofs.Growing.{get_d_none}
-use Rattle.table.specs.Quads.{put_quad}
-use Rattle.table.proofs.Quads.{put_long, put_other, put_0, put_1, put_2, put_3}
+use Rattle.repr.proofs.Lists.{clash, length-below, get_d_below, keep_append, keep-none, keep_agree, length-up_from, get_d_up_from}
 use Rattle.std.specs.Prelude.{Option, Some, None}
 use Rattle.std.specs.Option.{option_eq}
 use Rattle.state_graph.specs.declared.StateSet.{StateSet}
 use Rattle.state_graph.specs.Walk.{leads, predecessors, walked_back, traced_back}
 use Rattle.state_graph.specs.States.{has_state, states_in}
-use Rattle.state_graph.specs.Remembered.{step_row, step_rows, step_places, symbol_place, step_words, set_at, Remembered}
+use Rattle.state_graph.specs.declared.MadeStep.{MadeStep}
+use Rattle.state_graph.specs.Remembered.{step_row, step_rows, step_places, MadeIn, Remembered}
 use Rattle.state_graph.proofs.Exact.{leads-outside, walk-nil, walk-cons, walk-append}
 use Rattle.state_graph.proofs.States.{states_one, range_two}
 
@@ -98,20 +96,6 @@ module _ (T : Table) (F : TableFits T) (k x : ℕ) (f : symbol_is_fit (length T.
       go (suc zero) r a b = let i = r.1.1 (λ z. omega arith) in omega arith
       go (suc (suc j)) r a b = absurd (omega (arith, r.0))
 
-  -- another symbol has another row
-  same_row : (j y : ℕ) → symbol_is_fit (length T.nonterminals) T.terminals j y ≡ true → step_row j y ≡ step_row k x → (j ≡ k) × (y ≡ x)
-  same_row j y g e =
-      let r = symbol_range (length T.nonterminals) T.terminals k x f in
-      let s = symbol_range (length T.nonterminals) T.terminals j y g in
-      let a = F.few_nonterminals in
-      go k j r s a e
-    where
-      go : (k j : ℕ) → (k < 2) × ((k ≡ 0 → x < length T.nonterminals) × ((k ≡ 0 → ⊥) → x < T.terminals)) → (j < 2) × ((j ≡ 0 → y < length T.nonterminals) × ((j ≡ 0 → ⊥) → y < T.terminals)) → length T.nonterminals ≤ 32 → j * 32 + y ≡ k * 32 + x → (j ≡ k) × (y ≡ x)
-      go zero zero r s a e = (refl, omega arith)
-      go zero (suc j) r s a e = let i = r.1.0 refl in absurd (omega arith)
-      go (suc k) zero r s a e = let i = s.1.0 refl in absurd (omega arith)
-      go (suc k) (suc j) r s a e = let p = r.0 in let q = s.0 in (omega arith, omega arith)
-
 -- the last step alone, by its symbol and its set: what it found
 
 abbrev pub LastStep : Table → Option (ℕ × ℕ × StateSet) → ℕ → ℕ → Type 0
@@ -128,62 +112,27 @@ step_again T eq sound (Some p) k x s h L = let q = sound p (k, x, s) h in L ∙ 
 
 -- what is remembered
 
-pub none_remembered : (T : Table) → Remembered T (replicate step_words 0)
-none_remembered T = record {
-  long = length-replicate {A = ℕ} step_words 0;
-  exact = λ p k x i f e. let z = get_d_none step_words (symbol_place p) in absurd (omega (arith, z, e));
-}
+-- what a place holds, if anything, was made
+abbrev KeptIn : Table → Option MadeStep → Type 0
+KeptIn T None = Unit {0}
+KeptIn T (Some m) = MadeIn T m
 
-module _ (T : Table) (F : TableFits T) (ws : List ℕ) (R : Remembered T ws) (k x : ℕ) (f : symbol_is_fit (length T.nonterminals) T.terminals k x ≡ true) where
-  pub recalled : (p : ℕ) → p < step_places → get_or ws (symbol_place p) 0 ≡ step_row k x + 1 → (l h a b : ℕ) → get_or ws (p * 4) 0 ≡ l → get_or ws (p * 4 + 1) 0 ≡ h → a ≡ get_or ws (p * 4 + 2) 0 → b ≡ get_or ws (p * 4 + 2 + 1) 0
-      → states_in a b ≡ predecessors T (symbol_of_kind k x) (states_in l h)
-  recalled p i es l h a b el eh ea eb = rw (ea, eb, ← el, ← eh) (R.exact p k x i f es)
+kept_of : (T : Table) (o : Option MadeStep) → ((m : MadeStep) → o ≡ Some m → MadeIn T m) → KeptIn T o
+kept_of T None f = tt
+kept_of T (Some m) f = f m refl
 
-  module _ (p : ℕ) (i : p < step_places) (l h a b : ℕ) (found : states_in a b ≡ predecessors T (symbol_of_kind k x) (states_in l h)) where
-    abbrev quad : List ℕ
-    quad = put_quad ws p l h a b
+pub none_remembered : (T : Table) → Remembered T (replicate step_places None)
+none_remembered T = record { long = length-replicate {A = Option MadeStep} step_places None; exact = one }
+  where
+    one : (p : ℕ) (m : MadeStep) → p < step_places → get_or (replicate {A = Option MadeStep} step_places None) p None ≡ Some m → MadeIn T m
+    one p m h e = subst (KeptIn T) (sym (get_or-replicate {A = Option MadeStep} step_places p None None h) ∙ e) tt
 
-    abbrev put : List ℕ
-    put = set quad (symbol_place p) (step_row k x + 1)
+pub remembered : (T : Table) (ss : List (Option MadeStep)) → Remembered T ss → (p : ℕ) (m : MadeStep) → MadeIn T m → Remembered T (set ss p (Some m))
+remembered T ss R p m k = record { long = length-set ss p (Some m) ∙ R.long; exact = one }
+  where
+    kept : (q : ℕ) → q < step_places → Dec (q ≡ p) → KeptIn T (get_or (set ss p (Some m)) q None)
+    kept q h (yes e) = let n = R.long in rw (e, get_or-set_same ss p (Some m) None (omega arith)) k
+    kept q h (no ne) = rw (get_or-set_other ss p q (Some m) None ne) (kept_of T (get_or ss q None) (λ o. R.exact q o h))
 
-    room : p * 4 + 3 < length ws
-    room = let n = R.long in omega arith
-
-    quad_long : length quad ≡ step_words
-    quad_long = put_long ws p l h a b ∙ R.long
-
-    before : (j : ℕ) → j < step_places * 4 → get_or put j 0 ≡ get_or quad j 0
-    before j g = get_or-set_other quad (symbol_place p) j (step_row k x + 1) 0 (λ e. omega arith)
-
-    here : set_at put (p * 4 + 2) ≡ predecessors T (symbol_of_kind k x) (set_at put (p * 4))
-    here =
-        let e : p * 4 + 2 + 1 ≡ p * 4 + 3 = omega arith in
-        rw (e, before (p * 4) (omega arith), before (p * 4 + 1) (omega arith), before (p * 4 + 2) (omega arith), before (p * 4 + 3) (omega arith), put_0 ws p l h a b room, put_1 ws p l h a b room, put_2 ws p l h a b room, put_3 ws p l h a b room) found
-
-    there : (q : ℕ) → q < step_places → (q ≡ p → ⊥) → (d : ℕ) → d < 4 → get_or put (q * 4 + d) 0 ≡ get_or ws (q * 4 + d) 0
-    there q g ne d o = before (q * 4 + d) (omega arith) ∙ put_other ws p l h a b (q * 4 + d) (λ e. ne (omega arith)) (λ e. ne (omega arith)) (λ e. ne (omega arith)) (λ e. ne (omega arith))
-
-    symbol_there : (q : ℕ) → q < step_places → (q ≡ p → ⊥) → get_or put (symbol_place q) 0 ≡ get_or ws (symbol_place q) 0
-    symbol_there q g ne = get_or-set_other quad (symbol_place p) (symbol_place q) (step_row k x + 1) 0 (λ e. ne (omega arith)) ∙ put_other ws p l h a b (symbol_place q) (λ e. omega arith) (λ e. omega arith) (λ e. omega arith) (λ e. omega arith)
-
-    symbol_here : get_or put (symbol_place p) 0 ≡ step_row k x + 1
-    symbol_here = let n = quad_long in get_or-set_same quad (symbol_place p) (step_row k x + 1) 0 (omega arith)
-
-    pub remembered : Remembered T put
-    remembered = record { long = length-set quad (symbol_place p) (step_row k x + 1) ∙ quad_long; exact = one }
-      where
-        one : (q j y : ℕ) → q < step_places → symbol_is_fit (length T.nonterminals) T.terminals j y ≡ true → get_or put (symbol_place q) 0 ≡ step_row j y + 1 → set_at put (q * 4 + 2) ≡ predecessors T (symbol_of_kind j y) (set_at put (q * 4))
-        one q j y g fy s =
-            cases (eqb q p)
-            (λ c.
-            let w : q ≡ p = eqb-true q p c in
-            let v : step_row j y + 1 ≡ step_row k x + 1 = sym s ∙ ap (λ (u : ℕ). get_or put (symbol_place u) 0) w ∙ symbol_here in
-            let r = same_row T F k x f j y fy (omega (arith, v)) in
-            rw (w, r.0, r.1) here)
-            (λ c.
-            let ne = eqb-false q p c in
-            let z : q * 4 + 0 ≡ q * 4 = omega arith in
-            let t : q * 4 + 2 + 1 ≡ q * 4 + 3 = omega arith in
-            let first : get_or put (q * 4) 0 ≡ get_or ws (q * 4) 0 = rw z at (there q g ne 0 (omega arith)) in
-            let last : get_or put (q * 4 + 2 + 1) 0 ≡ get_or ws (q * 4 + 2 + 1) 0 = rw t (there q g ne 3 (omega arith)) in
-            rw (first, there q g ne 1 (omega arith), there q g ne 2 (omega arith), last) (R.exact q j y g fy (sym (symbol_there q g ne) ∙ s)))
+    one : (q : ℕ) (o : MadeStep) → q < step_places → get_or (set ss p (Some m)) q None ≡ Some o → MadeIn T o
+    one q o h e = subst (KeptIn T) e (kept q h (ℕ_discrete q p))

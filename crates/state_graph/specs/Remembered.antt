@@ -1,10 +1,11 @@
--- Steps back, as the code keeps them: for each of so many places the set that was stepped back from and what was found, two words each; then for each place the symbol, one more than its row, or 0. Assumes nothing: these are definitions.
-use Rattle.std.specs.Prelude.{ℕ, ◌+◌, ◌*◌, ◌<◌, true, ◌≡◌, List, length, get_or}
+-- Steps back, as the code keeps them: each of so many places holds none or one that was made. Assumes nothing: these are definitions.
+use Rattle.std.specs.Prelude.{ℕ, ◌+◌, ◌*◌, ◌<◌, ◌≡◌, List, Option, Some, None, length, get_or}
 use Rattle.repr.specs.Sizes.{nonterminal_limit, terminal_limit}
 use Rattle.repr.specs.Meaning.{Table}
-use Rattle.repr.specs.Listed.{symbol_of_kind, symbol_is_fit}
+use Rattle.repr.specs.Listed.{symbol_of_kind}
 use Rattle.state_graph.specs.States.{states_in}
 use Rattle.state_graph.specs.Walk.{predecessors}
+use Rattle.state_graph.specs.declared.MadeStep.{MadeStep}
 
 -- terminals behind the nonterminals
 abbrev pub step_row : ℕ → ℕ → ℕ
@@ -13,21 +14,14 @@ step_row kind number = kind * nonterminal_limit + number
 abbrev pub step_rows : ℕ
 step_rows = nonterminal_limit + terminal_limit
 
--- fewer than rows, as all of them are zeroed at each trace
+-- fewer than rows, as all of them are made empty at each trace
 abbrev pub step_places : ℕ
 step_places = 31
 
-abbrev pub symbol_place : ℕ → ℕ
-symbol_place p = step_places * 4 + p
+-- what was found is what the step finds in the table
+abbrev pub MadeIn : Table → MadeStep → Type 0
+MadeIn T m = states_in m.found.low m.found.high ≡ predecessors T (symbol_of_kind m.kind m.number) (states_in m.from.low m.from.high)
 
-abbrev pub step_words : ℕ
-step_words = step_places * 5
-
--- the set in the two words from a place on
-abbrev pub set_at : List ℕ → ℕ → List ℕ
-set_at ws at = states_in (get_or ws at 0) (get_or ws (at + 1) 0)
-
-pub record Remembered (T : Table) (ws : List ℕ) : Type 0 where
-  pub long : length ws ≡ step_words
-  pub exact : (p k x : ℕ) → p < step_places → symbol_is_fit (length T.nonterminals) T.terminals k x ≡ true → get_or ws (symbol_place p) 0 ≡ step_row k x + 1
-      → set_at ws (p * 4 + 2) ≡ predecessors T (symbol_of_kind k x) (set_at ws (p * 4))
+pub record Remembered (T : Table) (ss : List (Option MadeStep)) : Type 0 where
+  pub long : length ss ≡ step_places
+  pub exact : (p : ℕ) (m : MadeStep) → p < step_places → get_or ss p None ≡ Some m → MadeIn T m

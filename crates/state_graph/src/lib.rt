@@ -16,7 +16,7 @@ ghost use Rattle.std.specs.Iterator.{YieldsFirstBy, item_count};
 ghost use Rattle.state_graph.specs.Walk.{leads, predecessors, walked_back, traced_back};
 ghost use Rattle.state_graph.specs.States.{has_state, states_in};
 ghost use Rattle.state_graph.specs.Hits.{hit_words, goes_in, has_end_in, is_hit_now, Hits, SteppedTo};
-ghost use Rattle.state_graph.specs.Remembered.{step_rows, step_places, step_words, symbol_place, Remembered};
+ghost use Rattle.state_graph.specs.Remembered.{step_rows, step_places, Remembered};
 
 use bits::{is_set, put};
 use lookahead::TokenSet;
@@ -24,7 +24,7 @@ pub use repr::StateIndex;
 use repr::{NonterminalString, Symbol};
 use table::{AcceptedTable, RECORDS, word};
 
-// A set of states: 0 to 63 in `low`, 64 to 127 in `high`. Every operation is total: a state above 127 is not contained and not inserted.
+// A set of states: 0 to 63 in `low`, 64 to 127 in `high`. Two words and no `u128`: C is handed low and high. Every operation is total: a state above 127 is not contained and not inserted.
 #[derive(Clone, Copy, PartialEq, Eq)]
 pub struct StateSet {
     pub low: u64,
@@ -35,12 +35,17 @@ impl StateSet {
     // A bit for each record of a table, while walking back.
     pub const HIT_WORDS: usize = RECORDS / 64;
 
-    // Steps that are remembered: four words each, and behind them a word each that says over which symbol.
+    // Steps that are remembered.
     pub const STEPS: usize = 31;
 
-    pub const STEP_SYMBOLS: usize = 4 * StateSet::STEPS;
+    // Two primes and two factors by which the places of steps are spread.
+    const LOW_PRIME: u64 = 67;
 
-    pub const STEP_WORDS: usize = 5 * StateSet::STEPS;
+    const HIGH_PRIME: u64 = 61;
+
+    const LOW_FACTOR: usize = 7;
+
+    const HIGH_FACTOR: usize = 11;
 
     pub fn new() -> StateSet
         ensures { (k : ℕ) → has_state result.low result.high k ≡ false }
@@ -205,7 +210,7 @@ impl Step<'_> {
         found
     }
 
-    // Whether a state has an edge by the symbol into the set; none where that takes more edges than may still be read, as chains may be shared.
+    // Whether a state has an edge by the symbol into the set; none where that takes more edges than may still be read, as chains may be shared. (`left` is counted down by hand over the chains of all states, which `take` of one chain does not do.)
     fn leads(self, state: usize, left: &mut usize) -> Option<bool>
         requires { state < length (meaning self.table.words.now).states }
         ensures { MatchOption result (Unit {0}) (λ led. led ≡ leads (meaning self.entry.table.words.now) (symbol_of_kind self.entry.kind self.entry.number) (states_in self.entry.set.low self.entry.set.high) state) }
@@ -250,16 +255,13 @@ impl Step<'_> {
     }
 }
 
-// The steps that are remembered stand in words, those of all symbols behind those of all sets: an array of structs would need a first value for each, where zeros say that nothing is remembered.
-// The two words of a set.
-fn set_at(words: &[u64], at: usize) -> StateSet
-    requires { at + 1 < length words.now }
-    ensures { (result.low ≡ get_or words.now at 0) × (result.high ≡ get_or words.now (at + 1) 0) }
-{
-    StateSet {
-        low: words[at],
-        high: words[at + 1],
-    }
+// A step that was made: over which symbol, from which set, and the states that it found.
+#[derive(Clone, Copy)]
+pub struct MadeStep {
+    pub kind: usize,
+    pub number: usize,
+    pub from: StateSet,
+    pub found: StateSet,
 }
 
 // A place for what a step finds, by its symbol (a row: its number among all symbols, the terminals behind the nonterminals) and its set: steps from different sets over one symbol have different places as far as may be, and a place says what it holds.
@@ -267,43 +269,16 @@ fn place_of(row: usize, set: StateSet) -> usize
     requires { row < step_rows }
     ensures { result < step_places }
 {
-    let low = (set.low % 67) as usize;
-    let high = (set.high % 61) as usize;
-    (row + 7 * low + 11 * high) % StateSet::STEPS
+    let low = (set.low % StateSet::LOW_PRIME) as usize;
+    let high = (set.high % StateSet::HIGH_PRIME) as usize;
+    (row + StateSet::LOW_FACTOR * low + StateSet::HIGH_FACTOR * high) % StateSet::STEPS
 }
 
-// Whether a place holds a step over the symbol from the set.
-fn recalls(steps: &[u64], place: usize, row: usize, set: StateSet) -> bool
-    requires { (place < step_places) × (row < step_rows) × (length steps.now ≡ step_words) }
-    ensures { result ≡ true → (get_or steps.now (symbol_place place) 0 ≡ row + 1) × (get_or steps.now (place * 4) 0 ≡ set.low) × (get_or steps.now (place * 4 + 1) 0 ≡ set.high) }
-{
-    steps[StateSet::STEP_SYMBOLS + place] == (row + 1) as u64 && set_at(steps, place * 4) == set
-}
-
-// What a step found, until another one takes its place.
-fn remember(steps: &mut [u64], place: usize, set: StateSet, found: StateSet)
-    requires { (place * 4 + 3 < length steps.old) × (place < 1000) }
-    ensures { steps.new ≡ put_quad steps.old place set.low set.high found.low found.high }
-{
-    steps[place * 4] = set.low;
-    steps[place * 4 + 1] = set.high;
-    steps[place * 4 + 2] = found.low;
-    steps[place * 4 + 3] = found.high;
-}
-
-// Which symbol it was over.
-fn note(steps: &mut [u64], place: usize, row: usize)
-    requires { (place < step_places) × (row < step_rows) × (length steps.old ≡ step_words) }
-    ensures { steps.new ≡ set steps.old (symbol_place place) (row + 1) }
-{
-    steps[StateSet::STEP_SYMBOLS + place] = (row + 1) as u64;
-}
-
-// A walk back over an accepted table: each step is remembered until another takes its place. There is no heap, so the words for that are a fixed number.
+// A walk back over an accepted table: each step is remembered until another takes its place. There is no heap, so the places for that are a fixed number.
 #[derive(Drop)]
 pub struct StateWalk<'a> {
     pub table: AcceptedTable<'a>,
-    pub steps: [u64; StateSet::STEP_WORDS],
+    pub steps: [Option<MadeStep>; StateSet::STEPS],
     pub ghost remembered: { Remembered (meaning table.words.now) steps },
 }
 
@@ -313,7 +288,7 @@ impl<'a> StateWalk<'a> {
     {
         StateWalk {
             table,
-            steps: [0u64; StateSet::STEP_WORDS],
+            steps: [None; StateSet::STEPS],
         }
     }
 
@@ -325,8 +300,10 @@ impl<'a> StateWalk<'a> {
     {
         let row = kind * NonterminalString::LIMIT + number;
         let place = place_of(row, set);
-        if recalls(&self.steps, place, row, set) {
-            return set_at(&self.steps, place * 4 + 2);
+        if let Some(step) = self.steps[place] {
+            if step.kind == kind && step.number == number && step.from == set {
+                return step.found;
+            }
         }
         let step = Step {
             table: self.table,
@@ -335,8 +312,12 @@ impl<'a> StateWalk<'a> {
             set,
         };
         let found = step.states();
-        remember(&mut self.steps, place, set, found);
-        note(&mut self.steps, place, row);
+        self.steps[place] = Some(MadeStep {
+            kind,
+            number,
+            from: set,
+            found,
+        });
         found
     }
 

@@ -33,6 +33,7 @@ pub struct AcceptedTable<'a> {
 }
 
 // Which state, nonterminal or production is asked is a number, and that there is such a one is asked at each call: a type for it would have to hold the table.
+// The methods that read a head, and those that read a record, are alike but for a word's number: each promises the list that the chain from there on is, which one for all would not say.
 impl<'a> AcceptedTable<'a> {
     // How many records.
     pub fn records(self) -> usize
@@ -202,7 +203,7 @@ impl<'a> AcceptedTable<'a> {
         }
     }
 
-    // Stores a production's symbols, and returns how many they are. An iterator over their records would serve this loop alone.
+    // Stores a production's symbols, and returns how many they are. `RecordIter` of crate spelling, above, says of a chain what records it has; here they are symbols.
     fn store_symbols(self, grammar: &mut [u16], production: usize) -> usize
         requires { (length grammar.old ≡ grammar_room) × (production < length (meaning self.words.now).productions) }
         ensures { SymbolsStored self.entry.words.now grammar.old grammar.new production result }

@@ -20,6 +20,7 @@ pub const RECORDS: usize = 8192;
 pub const RECORD_WORDS: usize = 4;
 
 // Word k of record r.
+// Which word is a number, asked at each call: heads stand in word 0 and in word 1, which one function goes over.
 pub fn word(table: &[u16], r: usize, k: usize) -> usize
     requires { (r < record_limit) × ((k < 4) × (r * 4 + k < length table.now)) }
     ensures { (result ≡ word_at table.now r k) × (result < 65536) }

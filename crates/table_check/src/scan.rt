@@ -63,6 +63,7 @@ fn scan_areas(g: Gathered) -> Option<Offence>
     best
 }
 
+// What the marks say is asked at each step, here and below: it is of the table and of how many records are passed, and `Marks` holds neither.
 // A loose record, all before it passed: the lowest row that it meets, and its next is marked as what it is marked as. Whether the index names a record is asked once, by a test beside that of `Marks::pass`: asked again for row 3, the check of 8,192 records took 609,000 instructions against 498,000.
 fn pass<const N: usize>(this: Record, marks: &mut Marks<N>) -> Option<Row>
     requires loose { this.g.s.areas.loose_at ≤ this.r }

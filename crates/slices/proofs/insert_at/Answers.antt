@@ -1,4 +1,3 @@
-use Rattle.std.proofs.Common.{◌∙◌, ap, set}
 use Rattle.slices.proofs.Insert.{inserted_is}
 use Rattle.slices.proofs.insert_at.Goals as goal
 

@@ -19,16 +19,16 @@ write_chains-items-requires-clause-stands c = let S = spelled _ _ c.args.self.ta
     source_stands _ c.args.out.now _ _ _ _ _ _ (symbols-source _ c.args.self.table.accepted _ _ _ c.symbols.ensures) S.symbols
 
 pub write_chains-edges-requires-clause-heads : goal.write_chains-edges-requires-clause-heads
-write_chains-edges-requires-clause-heads c = (items_source _ c.args.self.table.accepted _ _ _ c.of_states.ensures).heads
+write_chains-edges-requires-clause-heads c = (items_source _ c.args.self.table.accepted _ _ _ c.items.ensures).heads
 
 pub write_chains-edges-requires-clause-stands : goal.write_chains-edges-requires-clause-stands
-write_chains-edges-requires-clause-stands c = source_stands _ c.args.out.now _ _ _ _ _ _ (items_source _ c.args.self.table.accepted _ _ _ c.of_states.ensures) c.requires.items
+write_chains-edges-requires-clause-stands c = source_stands _ c.args.out.now _ _ _ _ _ _ (items_source _ c.args.self.table.accepted _ _ _ c.items.ensures) c.requires.items
 
 pub write_chains-records-requires-clause-heads : goal.write_chains-records-requires-clause-heads
-write_chains-records-requires-clause-heads c = (edges_source _ c.args.self.table.accepted _ _ _ c.of_states-2.ensures).heads
+write_chains-records-requires-clause-heads c = (edges_source _ c.args.self.table.accepted _ _ _ c.edges.ensures).heads
 
 pub write_chains-records-requires-clause-stands : goal.write_chains-records-requires-clause-stands
-write_chains-records-requires-clause-stands c = source_stands _ c.args.out.now _ _ _ _ _ _ (edges_source _ c.args.self.table.accepted _ _ _ c.of_states-2.ensures) c.requires.edges
+write_chains-records-requires-clause-stands c = source_stands _ c.args.out.now _ _ _ _ _ _ (edges_source _ c.args.self.table.accepted _ _ _ c.edges.ensures) c.requires.edges
 
 pub returns : goal.returns
 returns c =
@@ -36,5 +36,5 @@ returns c =
     let S = spelled _ _ e c.args.self.of in
     all_grown _ _ _ _ _ _ _ _ _ _ _ _ (counts-put _ _ _ _ _ _ _ S.counts c.requires.room c.put.ensures) c.write_nonterminals.ensures c.write_states.ensures c.write_productions.ensures
     (source-done _ _ _ _ _ _ _ _ (symbols-source _ e _ _ _ c.symbols.ensures) S.symbols _ _ c.write_chains-items.ensures)
-    (source-done _ _ _ _ _ _ _ _ (items_source _ e _ _ _ c.of_states.ensures) c.requires.items _ _ c.write_chains-edges.ensures)
-    (source-done _ _ _ _ _ _ _ _ (edges_source _ e _ _ _ c.of_states-2.ensures) c.requires.edges _ _ c.write_chains-records.ensures)
+    (source-done _ _ _ _ _ _ _ _ (items_source _ e _ _ _ c.items.ensures) c.requires.items _ _ c.write_chains-edges.ensures)
+    (source-done _ _ _ _ _ _ _ _ (edges_source _ e _ _ _ c.edges.ensures) c.requires.edges _ _ c.write_chains-records.ensures)
