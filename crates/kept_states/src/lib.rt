@@ -89,5 +89,8 @@ pub fn find(words: &[u16], begins: &Begins, kernel: &Kernel) -> Option<usize>
     requires { Begun words.now begins.now.items begins.now.states }
     ensures { let k = kernel_place (entries kernel.now.words 0 kernel.now.many) (states_in words.now begins.now.items begins.now.states) in MatchOption result (k ≡ begins.now.states) (λ n. (n < begins.now.states) × (k ≡ n)) }
 {
-    (0..begins.states).find(|&k| same_kernel(words, begins.items[k], begins.items[k + 1], kernel))
+    (0..begins.states).find(|&k| {
+        let (from, past) = begins.span(k);
+        same_kernel(words, from, past, kernel)
+    })
 }
