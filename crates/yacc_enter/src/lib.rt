@@ -83,15 +83,20 @@ impl<'a> SymbolTable<'a> {
     ghost use Rattle.yacc_enter.specs.Table.{Holds};
 
     // Those of a text of the grammar.
-    pub fn enter(text: &'a [u8], mut words: Words<'a>) -> SymbolTable<'a>
+    pub fn enter(text: &'a [u8], words: Words<'a>) -> SymbolTable<'a>
         requires { Fresh text.now words.starts.now words.pasts.now words.ix.now words.lefts.now words.tokens.now × (is_grammar_text text.now ≡ true) }
         ensures { result.text.now ≡ text.now }
     {
-        let counts = words.enter_all(text);
-        SymbolTable {
+        let mut entering = Entering {
             text,
             words,
-            counts,
+            counts: Ids::default(),
+        };
+        entering.enter_all();
+        SymbolTable {
+            text: entering.text,
+            words: entering.words,
+            counts: entering.counts,
         }
     }
 
@@ -136,7 +141,7 @@ impl<'a> SymbolTable<'a> {
 }
 
 impl<'a> Words<'a> {
-    // The number of a name, entered unless it is there, and how many names there are then. (Asked at each step, here and below: `Ready` is room for one more name, which a step may take; `Within` is of a text that is lent beside the lexeme, as at `find`.)
+    // The number of a name, entered unless it is there, and how many names there are then. (`Within` is of a text that is lent beside the lexeme, as at `find`.)
     fn place(&mut self, text: &[u8], ids: Ids, lexeme: Lexeme) -> Placed
         requires ready { Ready text.now self.old ids }
         requires within { Within text.now lexeme.from lexeme.past }
@@ -152,73 +157,86 @@ impl<'a> Words<'a> {
             lexeme.past,
         )
     }
+}
 
-    // A name that is a left side.
-    fn define(&mut self, text: &[u8], ids: Ids, lexeme: Lexeme) -> Ids
-        requires ready { Ready text.now self.old ids }
-        requires within { Within text.now lexeme.from lexeme.past }
-        ensures { Enters text.now self.old ids self.new result (name_at text.now lexeme.from lexeme.past ∷ []) [] }
+// The ids of a text while they are entered: the text, the words, and how many there are so far.
+#[derive(Drop)]
+struct Entering<'a> {
+    text: &'a [u8],
+    words: Words<'a>,
+    counts: Ids,
+}
+
+impl<'a> Entering<'a> {
+    ghost use Rattle.yacc_enter.specs.Entering.{IsReady, IsWithin, Takes, IsFresh, IsEntered};
+
+    // A name that is a left side; how many there are then. (Asked at each step, here and below: `Ready` is room for one more name, which a step may take.)
+    fn define(&mut self, lexeme: Lexeme) -> Ids
+        requires ready { IsReady self.old }
+        requires within { IsWithin self.old lexeme }
+        ensures { Takes self.old self.new result (name_at self.old.text.now lexeme.from lexeme.past ∷ []) [] }
     {
-        let placed = self.place(text, ids, lexeme);
+        let (text, counts) = (self.text, self.counts);
+        let placed = self.words.place(text, counts, lexeme);
         Ids {
             names: placed.names,
-            nonterminals: number(self.lefts, placed.number, ids.nonterminals),
-            ..ids
+            nonterminals: number(self.words.lefts, placed.number, counts.nonterminals),
+            ..counts
         }
     }
 
     // A name of a TOKEN list.
-    fn declare(&mut self, text: &[u8], ids: Ids, lexeme: Lexeme) -> Ids
-        requires ready { Ready text.now self.old ids }
-        requires within { Within text.now lexeme.from lexeme.past }
-        ensures { Enters text.now self.old ids self.new result [] (name_at text.now lexeme.from lexeme.past ∷ []) }
+    fn declare(&mut self, lexeme: Lexeme) -> Ids
+        requires ready { IsReady self.old }
+        requires within { IsWithin self.old lexeme }
+        ensures { Takes self.old self.new result [] (name_at self.old.text.now lexeme.from lexeme.past ∷ []) }
     {
-        let placed = self.place(text, ids, lexeme);
+        let (text, counts) = (self.text, self.counts);
+        let placed = self.words.place(text, counts, lexeme);
         let word = Ids::LITERALS + placed.number;
         Ids {
             names: placed.names,
-            terminals: number(self.tokens, word, ids.terminals),
-            ..ids
+            terminals: number(self.words.tokens, word, counts.terminals),
+            ..counts
         }
     }
 
     // A literal of a TOKEN list or of a body.
-    fn quote(&mut self, text: &[u8], ids: Ids, lexeme: Lexeme) -> Ids
-        requires ready { Ready text.now self.old ids }
-        requires within { Within text.now lexeme.from lexeme.past }
-        ensures { Enters text.now self.old ids self.new result [] (record { id = quoted (get_or text.now (lexeme.from + 1) 0); at = lexeme.from } ∷ []) }
+    fn quote(&mut self, lexeme: Lexeme) -> Ids
+        requires ready { IsReady self.old }
+        requires within { IsWithin self.old lexeme }
+        ensures { Takes self.old self.new result [] (record { id = quoted (get_or self.old.text.now (lexeme.from + 1) 0); at = lexeme.from } ∷ []) }
     {
-        let word = byte(text, lexeme.from + 1);
+        let counts = self.counts;
+        let word = byte(self.text, lexeme.from + 1);
         Ids {
-            terminals: number(self.tokens, word, ids.terminals),
-            ..ids
+            terminals: number(self.words.tokens, word, counts.terminals),
+            ..counts
         }
     }
 
     // What a word says is entered.
-    fn enter(&mut self, text: &[u8], ids: Ids, token: Token) -> Ids
-        requires ready { Ready text.now self.old ids }
-        requires within { Within text.now token.lexeme.from token.lexeme.past }
+    fn enter(&mut self, token: Token) -> Ids
+        requires ready { IsReady self.old }
+        requires within { IsWithin self.old token.lexeme }
         requires no_quote { NoQuote (mode_of token.mode) token.lexeme.word }
-        ensures { Enters text.now self.old ids self.new result (joined left_side (events_of token.what (id_at text.now token.lexeme.word token.lexeme.from token.lexeme.past) token.lexeme.from token.lexeme.past)) (joined token_use (events_of token.what (id_at text.now token.lexeme.word token.lexeme.from token.lexeme.past) token.lexeme.from token.lexeme.past)) }
+        ensures { Takes self.old self.new result (joined left_side (events_of token.what (id_at self.old.text.now token.lexeme.word token.lexeme.from token.lexeme.past) token.lexeme.from token.lexeme.past)) (joined token_use (events_of token.what (id_at self.old.text.now token.lexeme.word token.lexeme.from token.lexeme.past) token.lexeme.from token.lexeme.past)) }
     {
         match (token.lexeme.word, token.what) {
-            (Word::Name, Saying::Lists) => self.declare(text, ids, token.lexeme),
-            (Word::Name, Saying::Defines) => self.define(text, ids, token.lexeme),
-            (Word::Literal, Saying::Lists | Saying::Uses) => self.quote(text, ids, token.lexeme),
-            _ => ids,
+            (Word::Name, Saying::Lists) => self.declare(token.lexeme),
+            (Word::Name, Saying::Defines) => self.define(token.lexeme),
+            (Word::Literal, Saying::Lists | Saying::Uses) => self.quote(token.lexeme),
+            _ => self.counts,
         }
     }
 
-    // The ids of a text of the grammar: the names by their places and their index, the numbers of the nonterminals and of the terminals.
-    fn enter_all(&mut self, text: &[u8]) -> Ids
-        requires { Fresh text.now self.old.starts.now self.old.pasts.now self.old.ix.now self.old.lefts.now self.old.tokens.now × (is_grammar_text text.now ≡ true) }
-        ensures { Named text.now self.new.starts.now self.new.pasts.now self.new.ix.now self.new.lefts.now self.new.tokens.now result }
+    // The ids of a text of the grammar, where none is entered yet: the names by their places and their index, the numbers of the nonterminals and of the terminals.
+    fn enter_all(&mut self)
+        requires { IsFresh self.old }
+        ensures { IsEntered self.old self.new }
     {
-        let mut ids = Ids::default();
-        for token in TokenIter::new(text) {
-            ids = self.enter(text, ids, token);
+        for token in TokenIter::new(self.text) {
+            self.counts = self.enter(token);
         }
-        ids
     }
 }

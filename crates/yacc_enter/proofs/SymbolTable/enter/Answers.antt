@@ -1,5 +1,12 @@
+use Rattle.yacc_enter.proofs.Laws.{zero_ids}
 use Rattle.yacc_enter.proofs.Lookup.{kept_of}
 use Rattle.yacc_enter.proofs.SymbolTable.enter.Goals as goal
 
+pub enter_all-requires : goal.enter_all-requires
+enter_all-requires c = record { fresh = c.requires.0; grammar = c.requires.1; none = zero_ids _ c.default.ensures }
+
 pub invariant_of-result : goal.invariant_of-result
-invariant_of-result c = record { kept = kept_of _ _ _ _ _ _ _ c.requires.1 c.enter_all-counts.ensures; named = c.enter_all-counts.ensures; grammar = c.requires.1; short = c.requires.0.short }
+invariant_of-result c = let e = c.enter_all.ensures in rw e.text (record { kept = kept_of _ _ _ _ _ _ _ c.requires.1 e.named; named = e.named; grammar = c.requires.1; short = c.requires.0.short })
+
+pub returns : goal.returns
+returns c = c.enter_all.ensures.text
