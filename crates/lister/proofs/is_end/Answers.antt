@@ -11,4 +11,4 @@ returns-then-is_item c =
 pub returns-else-is_item : goal.returns-else-is_item
 returns-else-is_item c =
     let v = at_item (record { production = c.args.item.production; index = c.args.item.index }) in
-    ends_target v c.args.graph.words.now c.args.k _ (c.is_item.ensures ∙ ap (is_same_node v) c.source.ensures.0) c.if-is_item.false _ (c.is_item-else-is_item.ensures ∙ ap (is_same_node v) c.target.ensures.0)
+    ends_target v c.args.graph.words.now c.args.k _ (c.is_item.ensures ∙ ap (is_same_node v) c.source.ensures.0) c.if-is_item.false _ (c.is_item-else-is_item.ensures ∙ ap (is_same_node v) c.entered.ensures.0)

@@ -5,7 +5,7 @@ use Rattle.enumerator.proofs.machine.Graph.enters.Goals as goal
 
 pub returns-then-edge-word : goal.returns-then-edge-word
 unfolding same_value
-returns-then-edge-word c = enters_edge c.requires.0 c.args.node c.requires.1 c.args.edge c.word.result c.word.ensures.0 c.if-edge-word.true c.eq.result c.target.result c.target.ensures.1 c.eq.ensures
+returns-then-edge-word c = enters_edge c.requires.0 c.args.node c.requires.1 c.args.edge c.word.result c.word.ensures.0 c.if-edge-word.true c.eq.result c.entered.result c.entered.ensures.1 c.eq.ensures
 
 pub returns-else-edge-word : goal.returns-else-edge-word
 returns-else-edge-word c = le-ltb _ _ c.if-edge-word.false ∙ enters_past c.requires.0 c.args.node c.requires.1 c.args.edge c.word.result c.word.ensures.0 c.if-edge-word.false
