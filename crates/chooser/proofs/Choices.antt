@@ -12,7 +12,7 @@ use Rattle.std.specs.Prelude.{min}
 use Rattle.repr.specs.Sizes.{classify_scratch, entry_limit}
 use Rattle.repr.specs.declared.refusals.Refusal.{Refusal}
 use Rattle.repr.specs.declared.refusals.Refusal.TheVariants.{OutOfRange, EndShifted, TooShort}
-use Rattle.repr.specs.Reply.{number_of}
+use Rattle.repr.specs.Reply.{number_of, place_of}
 use Rattle.slices.specs.Lent.{zeroed}
 use Rattle.slices.proofs.Lent.{zeroed_lent}
 use Rattle.repr.specs.Lists.{keep, below, up_from}
@@ -24,7 +24,7 @@ use Rattle.error.specs.Outcome.{place_is_fit}
 use Rattle.error.specs.Choose.{Entry, Choice, chosen, refused, Outcome, outcome, Entries, entries, halts, is_better, classes_of, naive_ones, choice_from, choice_of, set_fits, set_shifts_end, chosen_in, choose_in_with}
 use Rattle.entries.specs.Entries.{entries_in}
 use Rattle.entries.proofs.Laws.{entries_long}
-use Rattle.chooser.specs.declared.Written.{Written}
+use Rattle.entries.specs.declared.EntryList.{EntryList}
 use Rattle.chooser.specs.declared.chosen.Chosen.{Chosen}
 use Rattle.chooser.specs.Choosing.{choice_in, sorted, stopped, sorted_in, CountsWithin, is_naive, added_to, count_of_naive}
 
@@ -47,9 +47,9 @@ naive_few r zero n b m e h = omega arith
 naive_few r (suc a) zero b m e h = omega arith
 naive_few r (suc a) (suc n) b m e h = omega arith
 
-pub counts-within : (r : Result Written Refusal) (w : Written) (n : ℕ) → r ≡ Ok w → CountsWithin n r → w.better + w.naive ≤ n
+pub halts_plain : (n : Refusal) (r : Result (Unit {0}) Refusal) (better naive : EntryList) → r ≡ Err n → CountsWithin entry_limit r better naive → place_of n ≡ 0
 unfolding CountsWithin
-counts-within r w n e h = subst (CountsWithin n) e h
+halts_plain n r better naive e h = subst (λ (q : Result (Unit {0}) Refusal). CountsWithin entry_limit q better naive) e h
 
 naive_entries : (action n : ℕ) (ws : List ℕ) → entries_in ws (count_of_naive action n) ≡ naive_ones action (entries_in ws n)
 unfolding count_of_naive naive_ones entries_in below up_from
@@ -110,29 +110,29 @@ naive_choice action b a better naive (entries es) h e =
     let o : keep is_better es ≡ [] = sym x ∙ ap (entries_in better) h ∙ no_entries better in
     ap chosen (naive_entries action a naive ∙ ap (naive_ones action) (y ∙ all_naive es o) ∙ ap (choice_from action es) (sym o))
 
-module _ (T : Table) (c : Conflict) (set : ℕ) (better naive : List ℕ) (r : Result Written Refusal) (e : sorted_in r better naive ≡ added_to [] [] (classes_of T c (members set))) where
+module _ (T : Table) (c : Conflict) (set : ℕ) (better naive : EntryList) (r : Result (Unit {0}) Refusal) (e : sorted_in r better naive ≡ added_to [] [] (classes_of T c (members set))) where
   abbrev Chooses : Result Chosen Refusal → Type 0
   Chooses x = choice_in x ≡ choice_of c.action (classes_of T c (members set))
 
-  pub chosen-halts : (n : Refusal) → r ≡ Err n → CountsWithin entry_limit r → Chooses (Err n)
-  unfolding sorted_in choice_in CountsWithin
+  pub chosen-halts : (n : Refusal) → r ≡ Err n → CountsWithin entry_limit r better naive → Chooses (Err n)
+  unfolding sorted_in choice_in
   chosen-halts n er h =
-      let p = halt_choice c.action (number_of n) (classes_of T c (members set)) (ap (λ (y : Result Written Refusal). sorted_in y better naive) (sym er) ∙ e) in
-      ap (refused (number_of n)) (subst (CountsWithin entry_limit) er h) ∙ p
+      let p = halt_choice c.action (number_of n) (classes_of T c (members set)) (ap (λ (y : Result (Unit {0}) Refusal). sorted_in y better naive) (sym er) ∙ e) in
+      ap (refused (number_of n)) (halts_plain n r better naive er h) ∙ p
 
-  module _ (s : Written) (er : r ≡ Ok s) where
-    sorted_all : sorted (entries_in better s.better) (entries_in naive s.naive) ≡ added_to [] [] (classes_of T c (members set))
+  module _ (er : r ≡ Ok tt) where
+    sorted_all : sorted (entries_in better.words better.count) (entries_in naive.words naive.count) ≡ added_to [] [] (classes_of T c (members set))
     unfolding sorted_in
-    sorted_all = ap (λ (y : Result Written Refusal). sorted_in y better naive) (sym er) ∙ e
+    sorted_all = ap (λ (y : Result (Unit {0}) Refusal). sorted_in y better naive) (sym er) ∙ e
 
-    pub chosen-better : (s.better ≡ 0 → ⊥) → (x : Chosen) → entries_in x.entries x.count ≡ entries_in better s.better → Chooses (Ok x)
+    pub chosen-better : (better.count ≡ 0 → ⊥) → (x : Chosen) → entries_in x.entries x.count ≡ entries_in better.words better.count → Chooses (Ok x)
     unfolding choice_in
-    chosen-better h x q = ap chosen q ∙ better_choice c.action s.better s.naive better naive (classes_of T c (members set)) h sorted_all
+    chosen-better h x q = ap chosen q ∙ better_choice c.action better.count naive.count better.words naive.words (classes_of T c (members set)) h sorted_all
 
-    pub chosen_naive : s.better ≡ 0 → (n : ℕ) → n ≡ count_of_naive c.action s.naive → (x : Chosen) → entries_in x.entries x.count ≡ entries_in naive n → Chooses (Ok x)
+    pub chosen_naive : better.count ≡ 0 → (n : ℕ) → n ≡ count_of_naive c.action naive.count → (x : Chosen) → entries_in x.entries x.count ≡ entries_in naive.words n → Chooses (Ok x)
     unfolding choice_in
     chosen_naive h n en x q =
-        ap chosen q ∙ ap (λ (k : ℕ). chosen (entries_in naive k)) en ∙ naive_choice c.action s.better s.naive better naive (classes_of T c (members set)) h sorted_all
+        ap chosen q ∙ ap (λ (k : ℕ). chosen (entries_in naive.words k)) en ∙ naive_choice c.action better.count naive.count better.words naive.words (classes_of T c (members set)) h sorted_all
 
 -- the words lent on for the productions are zeroed with the rest
 pub chosen-zeroed : (k l : Choice) (w w' front : List ℕ) (m : ℕ) → k ≡ l → length front ≡ m → m ≤ classify_scratch → w' ≡ zeroed classify_scratch (front ++ drop m w) → outcome k w' ≡ outcome l (zeroed classify_scratch w)

@@ -1,16 +1,12 @@
--- What choosing answers by value, and one token of the set after another: better classes and naive ones apart. Assumes nothing: these are definitions.
-use Rattle.std.specs.Prelude.{Result, Ok, Err, ℕ, zero, suc, ◌+◌, ◌≤◌, ◌≡◌, Bool, true, false, not, List, [], ◌++◌}
+-- What choosing answers by value, and the tokens of the set one after another: better classes and naive ones apart. Assumes nothing: these are definitions.
+use Rattle.std.specs.Prelude.{Result, Ok, Err, ℕ, zero, suc, ◌+◌, ◌≤◌, ◌≡◌, Bool, not, List, ◌++◌}
 use Rattle.repr.specs.declared.refusals.Refusal.{Refusal}
 use Rattle.repr.specs.Reply.{number_of, place_of}
 use Rattle.repr.specs.Lists.{keep}
-use Rattle.repr.specs.Meaning.{Table}
-use Rattle.lookahead.specs.Tokens.{has}
-use Rattle.error.specs.declared.Conflict.{Conflict}
-use Rattle.error.specs.Sides.{gather}
-use Rattle.error.specs.Choose.{Entry, Choice, chosen, refused, Entries, entries, halts, then, at_token, is_better}
+use Rattle.error.specs.Choose.{Entry, Choice, chosen, refused, Entries, entries, halts, is_better}
 use Rattle.entries.specs.Entries.{entries_in}
 use Rattle.chooser.specs.declared.chosen.Chosen.{Chosen}
-use Rattle.chooser.specs.declared.Written.{Written}
+use Rattle.entries.specs.declared.EntryList.{EntryList}
 
 unfoldable pub choice_in : Result Chosen Refusal → Choice
 choice_in (Ok c) = chosen (entries_in c.entries c.count)
@@ -21,18 +17,14 @@ pub data Sorted : Type 0 where
   sorted : List Entry → List Entry → Sorted
   stopped : ℕ → Sorted
 
-unfoldable pub sorted_in : Result Written Refusal → List ℕ → List ℕ → Sorted
-sorted_in (Ok w) better naive = sorted (entries_in better w.better) (entries_in naive w.naive)
+unfoldable pub sorted_in : Result (Unit {0}) Refusal → EntryList → EntryList → Sorted
+sorted_in (Ok u) better naive = sorted (entries_in better.words better.count) (entries_in naive.words naive.count)
 sorted_in (Err n) better naive = stopped (number_of n)
 
 -- how many are written; a refusal, 12 to 14, has no place
-unfoldable pub CountsWithin : ℕ → Result Written Refusal → Type 0
-CountsWithin k (Ok w) = w.better + w.naive ≤ k
-CountsWithin k (Err n) = place_of n ≡ 0
-
--- one token of the set, or none
-unfoldable pub token_entries : Table → Conflict → ℕ → ℕ → Entries
-token_entries T c set k = elim (has set k) [ true ↦ then T c k (gather T (at_token c k)) (entries []) | false ↦ entries [] ]
+unfoldable pub CountsWithin : ℕ → Result (Unit {0}) Refusal → EntryList → EntryList → Type 0
+CountsWithin k (Ok u) better naive = better.count + naive.count ≤ k
+CountsWithin k (Err n) better naive = place_of n ≡ 0
 
 unfoldable pub is_naive : Entry → Bool
 is_naive e = not (is_better e)

@@ -5,17 +5,18 @@
 mod chosen;
 
 ghost use Rattle.std.specs.Prelude.{◌≡◌, true, false, ◌&&◌, [], ◌+◌, ◌≤◌, ◌<◌, length, eqb};
-ghost use Rattle.repr.specs.Sizes.{classify_scratch, entry_limit, entries_room};
+ghost use Rattle.repr.specs.Sizes.{classify_scratch, entry_limit};
 ghost use Rattle.slices.specs.Lent.{zeroed};
 ghost use Rattle.lookahead.specs.Tokens.{has, members};
 ghost use Rattle.table.specs.Decoded.{meaning};
-ghost use Rattle.error.specs.Choose.{outcome, set_fits, classes_of, choice_of, chosen_in};
+ghost use Rattle.error.specs.Sides.{gather};
+ghost use Rattle.error.specs.Choose.{outcome, set_fits, entries, then, at_token, classes_of, choice_of, chosen_in};
 ghost use Rattle.entries.specs.Entries.{entries_in};
-ghost use Rattle.chooser.specs.Choosing.{choice_in, sorted_in, CountsWithin, token_entries, added_to, count_of_naive};
+ghost use Rattle.chooser.specs.Choosing.{choice_in, sorted_in, CountsWithin, added_to, count_of_naive};
 
 pub use chosen::Chosen;
 use classifier::{classify, place_fits};
-use entries::{copy_entries, write_entry};
+use entries::{EntryList, copy_entries};
 use error::{Class, Conflict};
 use example::Example;
 use examples::{Given, TableConflict, prepare};
@@ -33,29 +34,18 @@ struct TableChoice<'a> {
     ghost fits: { set_fits (meaning given.table.words.now) conflict tokens.0 ≡ true },
 }
 
-// How many better and how many naive classes are written, beside the words of both: there is no heap.
-#[derive(Clone, Copy, Default)]
-struct Written {
-    better: usize,
-    naive: usize,
-}
-
-// One token: if the set has it, its class is written behind the better ones or behind the naive ones.
+// One token of the set: its class goes behind the better ones or behind the naive ones.
 fn choose_token(
     choice: TableChoice,
     token: u16,
-    better: &mut [u16],
-    naive: &mut [u16],
-    written: Written,
-) -> Result<Written, Refusal>
-    requires token_bound { (token < entry_limit) × (written.better + written.naive ≤ token) }
-    requires better_len { (length better.old ≡ entries_room) × (length naive.old ≡ entries_room) }
-    ensures naive_after { sorted_in result better.new naive.new ≡ added_to (entries_in better.old written.better) (entries_in naive.old written.naive) (token_entries (meaning choice.entry.given.table.words.now) choice.entry.conflict choice.entry.tokens.0 token) }
-    ensures counts_within { CountsWithin (token + 1) result }
+    better: &mut EntryList,
+    naive: &mut EntryList,
+) -> Result<(), Refusal>
+    requires member { has choice.tokens.0 token ≡ true }
+    requires room { better.old.count + naive.old.count < entry_limit }
+    ensures added { sorted_in result better.new naive.new ≡ added_to (entries_in better.old.words better.old.count) (entries_in naive.old.words naive.old.count) (then (meaning choice.entry.given.table.words.now) choice.entry.conflict token (gather (meaning choice.entry.given.table.words.now) (at_token choice.entry.conflict token)) (entries [])) }
+    ensures counts { CountsWithin (better.old.count + naive.old.count + 1) result better.new naive.new }
 {
-    if !choice.tokens.contains(token) {
-        return Ok(written);
-    }
     let mut action = [0u16; Example::WORDS];
     let mut reduce = [0u16; Example::WORDS];
     let case = TableConflict {
@@ -67,34 +57,27 @@ fn choose_token(
     };
     let found = classify(case, &mut action, &mut reduce)?;
     if found.class.is_naive() {
-        write_entry(naive, written.naive, token, found.class);
-        return Ok(Written {
-            naive: written.naive + 1,
-            ..written
-        });
+        naive.push(token, found.class);
+    } else {
+        better.push(token, found.class);
     }
-    write_entry(better, written.better, token, found.class);
-    Ok(Written {
-        better: written.better + 1,
-        ..written
-    })
+    Ok(())
 }
 
 // Every token of the set in order.
 fn choose_tokens(
     choice: TableChoice,
-    better: &mut [u16],
-    naive: &mut [u16],
-) -> Result<Written, Refusal>
-    requires { (length better.old ≡ entries_room) × (length naive.old ≡ entries_room) }
-    ensures naive_after { sorted_in result better.new naive.new ≡ added_to [] [] (classes_of (meaning choice.entry.given.table.words.now) choice.entry.conflict (members choice.entry.tokens.0)) }
-    ensures counts_within { CountsWithin entry_limit result }
+    better: &mut EntryList,
+    naive: &mut EntryList,
+) -> Result<(), Refusal>
+    requires { (better.old.count ≡ 0) × (naive.old.count ≡ 0) }
+    ensures added { sorted_in result better.new naive.new ≡ added_to [] [] (classes_of (meaning choice.entry.given.table.words.now) choice.entry.conflict (members choice.entry.tokens.0)) }
+    ensures counts { CountsWithin entry_limit result better.new naive.new }
 {
-    let mut written = Written::default();
-    for token in 0..TokenSet::LIMIT {
-        written = choose_token(choice, token, better, naive, written)?;
+    for token in choice.tokens.iter() {
+        choose_token(choice, token, better, naive)?;
     }
-    Ok(written)
+    Ok(())
 }
 
 // How many naive ones are chosen: of a reduce/reduce only the first.
@@ -109,12 +92,12 @@ fn naive_chosen(conflict: Conflict, count: usize) -> usize
 }
 
 // So many entries chosen: no word of another stays behind them.
-fn answer(entries: &[u16], count: usize) -> Chosen
-    requires { (count ≤ entry_limit) × (length entries.now ≡ entries_room) }
-    ensures { entries_in result.entries result.count ≡ entries_in entries.now count }
+fn answer(entries: &EntryList, count: usize) -> Chosen
+    requires { count ≤ entry_limit }
+    ensures { entries_in result.entries result.count ≡ entries_in entries.now.words count }
 {
     let mut words = [0u16; Class::ALL_WORDS];
-    copy_entries(entries, &mut words, count);
+    copy_entries(&entries.words, &mut words, count);
     Chosen {
         count,
         entries: words,
@@ -125,13 +108,13 @@ fn answer(entries: &[u16], count: usize) -> Chosen
 fn choose_gathered(choice: TableChoice) -> Result<Chosen, Refusal>
     ensures { choice_in result ≡ choice_of choice.entry.conflict.action (classes_of (meaning choice.entry.given.table.words.now) choice.entry.conflict (members choice.entry.tokens.0)) }
 {
-    let mut better = [0u16; Class::ALL_WORDS];
-    let mut naive = [0u16; Class::ALL_WORDS];
-    let written = choose_tokens(choice, &mut better, &mut naive)?;
-    if written.better != 0 {
-        return Ok(answer(&better, written.better));
+    let mut better = EntryList::new();
+    let mut naive = EntryList::new();
+    choose_tokens(choice, &mut better, &mut naive)?;
+    if better.count != 0 {
+        return Ok(answer(&better, better.count));
     }
-    let count = naive_chosen(choice.conflict, written.naive);
+    let count = naive_chosen(choice.conflict, naive.count);
     Ok(answer(&naive, count))
 }
 

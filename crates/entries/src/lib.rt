@@ -2,11 +2,12 @@
 
 #![tactic(auto)]
 
-ghost use Rattle.std.specs.Prelude.{◌≡◌, [], ◌∷◌, ◌++◌, ◌*◌, ◌≤◌, ◌<◌, length, get_or, take, drop};
+ghost use Rattle.std.specs.Prelude.{◌≡◌, [], ◌∷◌, ◌++◌, ◌+◌, ◌*◌, ◌≤◌, ◌<◌, length, get_or, take, drop};
 ghost use Rattle.std.proofs.lemmas.List.Edits.{sets};
 ghost use Rattle.repr.specs.Sizes.{entry_limit, entry_room, entry_place, entries_room};
+ghost use Rattle.error.specs.Numbers.{number_of_class, values_of_class};
 ghost use Rattle.repr.specs.Lists.{joined};
-ghost use Rattle.entries.specs.Entries.{class_words, with_entry, count_of_values, entry_in, entries_in, entry_words};
+ghost use Rattle.entries.specs.Entries.{class_words, count_of_values, entry_in, entries_in, entry_words};
 
 use error::Class;
 
@@ -30,13 +31,35 @@ fn write_words(entries: &mut [u16], k: usize, token: u16, words: [u16; Class::WO
     entries[from..past].copy_from_slice(&words);
 }
 
-// Entry `count`: the token with its class.
-pub fn write_entry(entries: &mut [u16], count: usize, token: u16, class: Class)
-    requires { (count < entry_limit) × (length entries.old ≡ entries_room) }
-    ensures { entries.new ≡ with_entry entries.old count token class }
-{
-    let words = number_class(class);
-    write_words(entries, count, token, words);
+// Entries behind one another, and how many: fixed words, since there is no heap.
+#[derive(Drop)]
+pub struct EntryList {
+    pub words: [u16; Class::ALL_WORDS],
+    pub count: usize,
+    pub ghost few: { count ≤ entry_limit },
+}
+
+impl EntryList {
+    // None.
+    pub fn new() -> EntryList
+        ensures { result.count ≡ 0 }
+    {
+        EntryList {
+            words: [0; Class::ALL_WORDS],
+            count: 0,
+        }
+    }
+
+    // A token with its class behind them.
+    pub fn push(&mut self, token: u16, class: Class)
+        requires { self.old.count < entry_limit }
+        ensures count { self.new.count ≡ self.old.count + 1 }
+        ensures entries { entries_in self.new.words self.new.count ≡ entries_in self.old.words self.old.count ++ record { token = token; class = number_of_class class; values = values_of_class class } ∷ [] }
+    {
+        let at = self.count;
+        write_words(&mut self.words, at, token, number_class(class));
+        self.count = at + 1;
+    }
 }
 
 // How many values a class of a number has. By its number, as words may hold any.

@@ -1,6 +1,7 @@
 use Rattle.table.specs.Decoded.{meaning}
+use Rattle.lookahead.specs.Tokens.{members}
 use Rattle.chooser.proofs.Tokens.{Turn}
 use Rattle.chooser.proofs.choose_tokens.Given as goal
 
 abbrev pub invariant-loop-token : goal.invariant-loop-token
-invariant-loop-token l = Turn (meaning l.choice.given.table.words.now) l.choice.conflict l.choice.tokens.0 l.initial.better l.initial.naive l.better l.naive l.written.better l.written.naive l.token
+invariant-loop-token l = Turn (meaning l.choice.given.table.words.now) l.choice.conflict l.choice.tokens.0 l.better l.naive (members l.token-iterator.0)

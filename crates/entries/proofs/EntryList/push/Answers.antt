@@ -1,0 +1,7 @@
+use Rattle.std.proofs.Common.{ap, ◌∙◌, arith, add-one}
+use Rattle.entries.specs.Entries.{entries_in}
+use Rattle.entries.proofs.Laws.{entry_written, entries-more}
+use Rattle.entries.proofs.EntryList.push.Goals as goal
+
+pub returns-clause-entries : goal.returns-clause-entries
+returns-clause-entries c = ap (entries_in _) (add-one c.args.self.now.count) ∙ entries-more _ _ _ _ _ (omega arith) (omega (arith, c.requires)) (entry_written _ _ _ _ _ _ c.number_class.ensures c.write_words.ensures)
