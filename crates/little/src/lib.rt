@@ -5,7 +5,7 @@
 ghost use Rattle.std.specs.Prelude.{◌≡◌, ◌++◌, ◌*◌, ◌/◌, ◌≤◌, length, drop};
 ghost use Rattle.little.specs.Little.{words_of, encoded};
 
-// The words of some bytes; a byte left over is dropped.
+// The words of some bytes; a byte left over is dropped. By place, here and below: of what is written through a `zip` (tried) a proof knows nothing.
 pub fn decode(bytes: &[u8], out: &mut [u16]) -> usize
     requires { length bytes.now / 2 ≤ length out.old }
     ensures { (result ≡ length bytes.now / 2) × (out.new ≡ words_of bytes.now ++ drop (length bytes.now / 2) out.old) }
