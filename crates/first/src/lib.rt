@@ -50,7 +50,7 @@ impl Answer {
     }
 }
 
-// The sets, one for each nonterminal. The end of input is in a set as its mark of "nullable": these sets are no answer.
+// The sets, one for each nonterminal. The end of input is in a set as its mark of "nullable": these sets are no answer. They stand as words and no `TokenSet`s: the definitions of FIRST, and with them the clauses of what asks it, are of a list of numbers.
 #[derive(Clone, Copy)]
 pub struct FirstSets {
     pub map: [u64; NonterminalString::LIMIT],

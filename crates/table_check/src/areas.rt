@@ -78,33 +78,33 @@ impl<'a> Surveyed<'a> {
 // What is gathered of its productions too: how many chains hold each, as far as two, and how many symbols it has, as far as seventeen. They are two arrays since each is filled by a pass of its own: over an array of both each pass would have to say that it leaves the other's field alone.
 #[derive(Clone, Copy)]
 pub struct Gathered<'a> {
-    pub s: Surveyed<'a>,
+    pub surveyed: Surveyed<'a>,
     pub held: &'a [u8; ProductionIndex::LIMIT],
     pub lengths: &'a [u8; ProductionIndex::LIMIT],
-    pub ghost known: { Known s.words.now s.areas held.now lengths.now },
+    pub ghost known: { Known surveyed.words.now surveyed.areas held.now lengths.now },
 }
 
 // Record r of such a table.
 #[derive(Clone, Copy)]
 pub(crate) struct Record<'a> {
-    pub g: Gathered<'a>,
+    pub gathered: Gathered<'a>,
     pub r: usize,
-    pub ghost inside: { r < g.s.areas.records },
+    pub ghost inside: { r < gathered.surveyed.areas.records },
 }
 
 impl<'a> Record<'a> {
     // Its word k.
     pub(crate) fn word(self, k: usize) -> usize
         requires { k < 4 }
-        ensures { result ≡ word_at self.entry.g.s.words.now self.entry.r k }
+        ensures { result ≡ word_at self.entry.gathered.surveyed.words.now self.entry.r k }
     {
-        word(self.g.s.words, self.r, k)
+        word(self.gathered.surveyed.words, self.r, k)
     }
 
     // Whether word k, an index into the area, is against the rule.
     pub(crate) fn against(self, named: Area, k: usize) -> bool
         requires { k < 4 }
-        ensures { result ≡ against (area named.from named.past) self.entry.r (word_at self.entry.g.s.words.now self.entry.r k) }
+        ensures { result ≡ against (area named.from named.past) self.entry.r (word_at self.entry.gathered.surveyed.words.now self.entry.r k) }
     {
         named.against(self.r, self.word(k))
     }
@@ -113,7 +113,7 @@ impl<'a> Record<'a> {
     #[tactic(auto, unfolding(table::specs::Refusals::used))]
     pub(crate) fn used(self, k: usize) -> bool
         requires { k < 4 }
-        ensures { result ≡ used self.entry.g.s.words.now self.entry.r k }
+        ensures { result ≡ used self.entry.gathered.surveyed.words.now self.entry.r k }
     {
         self.word(k) != 0
     }

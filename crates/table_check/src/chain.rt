@@ -9,11 +9,11 @@ use table::word;
 // What is left of it: the index `at`, held by record `last`.
 #[derive(Clone, Copy)]
 pub struct ChainIter<'a> {
-    pub s: Surveyed<'a>,
+    pub surveyed: Surveyed<'a>,
     pub area: Area,
     pub last: usize,
     pub at: usize,
-    pub ghost inside: { area.past ≤ s.areas.records },
+    pub ghost inside: { area.past ≤ surveyed.areas.records },
 }
 
 impl<'a> Iterator for ChainIter<'a> {
@@ -21,9 +21,9 @@ impl<'a> Iterator for ChainIter<'a> {
 
     type Item = usize;
 
-    ghost next_gives = { YieldsFirst (λ c. chain c.s.words.now (area c.area.from c.area.past) c.last c.at) };
+    ghost next_gives = { YieldsFirst (λ c. chain c.surveyed.words.now (area c.area.from c.area.past) c.last c.at) };
 
-    ghost remaining = { item_count (λ c. chain c.s.words.now (area c.area.from c.area.past) c.last c.at) };
+    ghost remaining = { item_count (λ c. chain c.surveyed.words.now (area c.area.from c.area.past) c.last c.at) };
 
     fn next(&mut self) -> Option<usize> {
         let at = self.at;
@@ -31,7 +31,7 @@ impl<'a> Iterator for ChainIter<'a> {
             return None;
         }
         self.last = at;
-        self.at = word(self.s.words, at, 0);
+        self.at = word(self.surveyed.words, at, 0);
         Some(at)
     }
 }
@@ -41,10 +41,10 @@ impl<'a> Surveyed<'a> {
     pub(crate) fn chain(self, named: Area, r: usize, k: usize) -> ChainIter<'a>
         requires word { (r < self.areas.records) × (k < 4) }
         requires inside { named.past ≤ self.areas.records }
-        ensures { chain result.s.words.now (area result.area.from result.area.past) result.last result.at ≡ chain self.entry.words.now (area named.from named.past) r (word_at self.entry.words.now r k) }
+        ensures { chain result.surveyed.words.now (area result.area.from result.area.past) result.last result.at ≡ chain self.entry.words.now (area named.from named.past) r (word_at self.entry.words.now r k) }
     {
         ChainIter {
-            s: self,
+            surveyed: self,
             area: named,
             last: r,
             at: word(self.words, r, k),

@@ -22,9 +22,9 @@ impl<'a> Record<'a> {
     // Rows 3 and 8: first production, then three spare words.
     #[tactic(auto, unfolding(crate::specs::Faults::fault_of_nonterminal, crate::specs::Faults::choose))]
     fn nonterminal_fault(self) -> Option<Row>
-        ensures { number_of_fault result ≡ fault_of_nonterminal self.entry.g.s.words.now self.entry.r }
+        ensures { number_of_fault result ≡ fault_of_nonterminal self.entry.gathered.surveyed.words.now self.entry.r }
     {
-        if self.against(self.g.s.productions(), 0) {
+        if self.against(self.gathered.surveyed.productions(), 0) {
             return Some(Row::Chain);
         }
         if self.used(1) || self.used(2) || self.used(3) {
@@ -36,9 +36,9 @@ impl<'a> Record<'a> {
     // Rows 3 and 8: first item, first edge, two spare words.
     #[tactic(auto, unfolding(crate::specs::Faults::fault_of_state, crate::specs::Faults::choose))]
     fn state_fault(self) -> Option<Row>
-        ensures { number_of_fault result ≡ fault_of_state self.entry.g.s.words.now self.entry.r }
+        ensures { number_of_fault result ≡ fault_of_state self.entry.gathered.surveyed.words.now self.entry.r }
     {
-        let loose = self.g.s.loose();
+        let loose = self.gathered.surveyed.loose();
         if self.against(loose, 0) || self.against(loose, 1) {
             return Some(Row::Chain);
         }
@@ -50,14 +50,14 @@ impl<'a> Record<'a> {
 
     // Rows 3, 4 and 5: next production and first symbol, the chains that hold it, its length. Spans are free.
     fn production_fault(self) -> Option<Row>
-        requires { (self.g.s.areas.productions_at ≤ self.r) × (self.r < self.g.s.areas.loose_at) }
-        ensures { number_of_fault result ≡ fault_of_production self.entry.g.s.words.now self.entry.r }
+        requires { (self.gathered.surveyed.areas.productions_at ≤ self.r) × (self.r < self.gathered.surveyed.areas.loose_at) }
+        ensures { number_of_fault result ≡ fault_of_production self.entry.gathered.surveyed.words.now self.entry.r }
     {
-        let g = self.g;
-        if self.against(g.s.productions(), 0) || self.against(g.s.loose(), 1) {
+        let g = self.gathered;
+        if self.against(g.surveyed.productions(), 0) || self.against(g.surveyed.loose(), 1) {
             return Some(Row::Chain);
         }
-        let p = self.r - g.s.areas.productions_at;
+        let p = self.r - g.surveyed.areas.productions_at;
         if g.held[p] != 1 {
             return Some(Row::Owner);
         }
@@ -70,8 +70,8 @@ impl<'a> Record<'a> {
     // Rows 6, 7 and 8, by what the record is reached as, where its next index is not against row 3; reached as nothing, it offends against none.
     #[tactic(auto, unfolding(crate::specs::Faults::fault_of_loose, crate::specs::Faults::choose))]
     pub fn loose_fault(self, roles: Roles) -> Option<Row>
-        requires { index_bad self.g.s.words.now self.r roles.symbol roles.item roles.edge ≡ false }
-        ensures { number_of_fault result ≡ fault_of_loose self.entry.g.s.words.now self.entry.r roles.symbol roles.item roles.edge }
+        requires { index_bad self.gathered.surveyed.words.now self.r roles.symbol roles.item roles.edge ≡ false }
+        ensures { number_of_fault result ≡ fault_of_loose self.entry.gathered.surveyed.words.now self.entry.r roles.symbol roles.item roles.edge }
     {
         if self.symbol_fault(roles) {
             return Some(Row::Symbol);
@@ -87,10 +87,10 @@ impl<'a> Record<'a> {
 
     // The lowest row that a record before the loose ones meets.
     pub fn area_fault(self) -> Option<Row>
-        requires { self.r < self.g.s.areas.loose_at }
-        ensures { number_of_fault result ≡ fault_at self.entry.g.s.words.now self.entry.r }
+        requires { self.r < self.gathered.surveyed.areas.loose_at }
+        ensures { number_of_fault result ≡ fault_at self.entry.gathered.surveyed.words.now self.entry.r }
     {
-        let areas = self.g.s.areas;
+        let areas = self.gathered.surveyed.areas;
         match self.r {
             0 => None,
             r if r < areas.states_at => self.nonterminal_fault(),

@@ -30,11 +30,15 @@ fn gather<'a>(
     lengths: &'a mut [u8; ProductionIndex::LIMIT],
 ) -> Gathered<'a>
     requires { held.old ≡ replicate 128 0 }
-    ensures { result.s.words.now ≡ s.entry.words.now }
+    ensures { result.surveyed.words.now ≡ s.entry.words.now }
 {
     held::hold(s, held);
     counts::count(s, lengths);
-    Gathered { s, held, lengths }
+    Gathered {
+        surveyed: s,
+        held,
+        lengths,
+    }
 }
 
 // Rows 3 to 8, of a table that rows 1 and 2 let through, over so many words of marks. The heads of all chains are marked; then one pass looks at each record and marks

@@ -52,12 +52,12 @@ fn lower(best: Option<Offence>, fault: Option<Row>, r: usize) -> Option<Offence>
 }
 
 // The records before the loose ones. (The second pass is a loop of its own: it writes marks, and over one loop a step that writes is no plainer.)
-fn scan_areas(g: Gathered) -> Option<Offence>
-    ensures { Best (fault_at g.entry.s.words.now) (loose g.entry.s.words.now) (row_of result) (place_of result) }
+fn scan_areas(gathered: Gathered) -> Option<Offence>
+    ensures { Best (fault_at gathered.entry.surveyed.words.now) (loose gathered.entry.surveyed.words.now) (row_of result) (place_of result) }
 {
     let mut best = None;
-    for r in 0..g.s.areas.loose_at {
-        let m = Record { g, r }.area_fault();
+    for r in 0..gathered.surveyed.areas.loose_at {
+        let m = Record { gathered, r }.area_fault();
         best = lower(best, m, r);
     }
     best
@@ -66,13 +66,13 @@ fn scan_areas(g: Gathered) -> Option<Offence>
 // What the marks say is asked at each step, here and below: it is of the table and of how many records are passed, and `Marks` holds neither.
 // A loose record, all before it passed: the lowest row that it meets, and its next is marked as what it is marked as. Whether the index names a record is asked once, by a test beside that of `Marks::pass`: asked again for row 3, the check of 8,192 records took 609,000 instructions against 498,000.
 fn pass<const N: usize>(this: Record, marks: &mut Marks<N>) -> Option<Row>
-    requires loose { this.g.s.areas.loose_at ≤ this.r }
-    requires reaching { Reaching this.g.s.words.now this.r marks.old.symbols marks.old.items marks.old.edges }
-    ensures value { number_of_fault result ≡ fault_at this.entry.g.s.words.now this.entry.r }
-    ensures reaching { Reaching this.entry.g.s.words.now (this.entry.r + 1) marks.new.symbols marks.new.items marks.new.edges }
+    requires loose { this.gathered.surveyed.areas.loose_at ≤ this.r }
+    requires reaching { Reaching this.gathered.surveyed.words.now this.r marks.old.symbols marks.old.items marks.old.edges }
+    ensures value { number_of_fault result ≡ fault_at this.entry.gathered.surveyed.words.now this.entry.r }
+    ensures reaching { Reaching this.entry.gathered.surveyed.words.now (this.entry.r + 1) marks.new.symbols marks.new.items marks.new.edges }
 {
     let next = this.word(0);
-    if this.g.s.loose().names(this.r, next) {
+    if this.gathered.surveyed.loose().names(this.r, next) {
         let roles = marks.pass_to(this.r, next);
         return this.loose_fault(roles);
     }
@@ -85,29 +85,29 @@ fn pass<const N: usize>(this: Record, marks: &mut Marks<N>) -> Option<Row>
 
 // The loose records, after the others. Each is marked by then as all that it is reached as.
 fn scan_loose<const N: usize>(
-    g: Gathered,
+    gathered: Gathered,
     marks: &mut Marks<N>,
     first: Option<Offence>,
 ) -> Option<Offence>
-    requires reaching { Reaching g.s.words.now (loose g.s.words.now) marks.old.symbols marks.old.items marks.old.edges }
-    requires best { Best (fault_at g.s.words.now) (loose g.s.words.now) (row_of first) (place_of first) }
-    ensures { Best (fault_at g.entry.s.words.now) (records g.entry.s.words.now) (row_of result) (place_of result) }
+    requires reaching { Reaching gathered.surveyed.words.now (loose gathered.surveyed.words.now) marks.old.symbols marks.old.items marks.old.edges }
+    requires best { Best (fault_at gathered.surveyed.words.now) (loose gathered.surveyed.words.now) (row_of first) (place_of first) }
+    ensures { Best (fault_at gathered.entry.surveyed.words.now) (records gathered.entry.surveyed.words.now) (row_of result) (place_of result) }
 {
     let mut best = first;
-    for r in g.s.areas.loose_at..g.s.areas.records {
-        let m = pass(Record { g, r }, marks);
+    for r in gathered.surveyed.areas.loose_at..gathered.surveyed.areas.records {
+        let m = pass(Record { gathered, r }, marks);
         best = lower(best, m, r);
     }
     best
 }
 
 // The first row that has an offending record, and its least such record. All heads are marked.
-pub fn scan<const N: usize>(g: Gathered, marks: &mut Marks<N>) -> Result<(), Refusal>
-    requires { Reaching g.s.words.now (loose g.s.words.now) marks.old.symbols marks.old.items marks.old.edges }
-    ensures { checked_of result ≡ first_row g.entry.s.words.now (3 ∷ 4 ∷ 5 ∷ 6 ∷ 7 ∷ 8 ∷ []) }
+pub fn scan<const N: usize>(gathered: Gathered, marks: &mut Marks<N>) -> Result<(), Refusal>
+    requires { Reaching gathered.surveyed.words.now (loose gathered.surveyed.words.now) marks.old.symbols marks.old.items marks.old.edges }
+    ensures { checked_of result ≡ first_row gathered.entry.surveyed.words.now (3 ∷ 4 ∷ 5 ∷ 6 ∷ 7 ∷ 8 ∷ []) }
 {
-    let first = scan_areas(g);
-    match scan_loose(g, marks, first) {
+    let first = scan_areas(gathered);
+    match scan_loose(gathered, marks, first) {
         None => Ok(()),
         Some(offence) => Err(offence.refusal()),
     }

@@ -41,6 +41,17 @@ impl TraceGraph {
 
     pub const INDEX_WORDS: usize = TraceGraph::BUCKETS + TraceGraph::EDGES;
 
+    // Factors by which the buckets of edges are spread: by source, target, and the label's index and symbols; sums are kept below `MIXED`.
+    const SOURCE_FACTOR: usize = 3001;
+
+    const TARGET_FACTOR: usize = 613;
+
+    const INDEX_FACTOR: usize = 89;
+
+    const SYMBOL_FACTOR: usize = 211;
+
+    const MIXED: usize = 65536;
+
     // The empty graph.
     pub fn new() -> TraceGraph
         ensures { result.edges ≡ length empty_graph }
@@ -235,7 +246,7 @@ fn mix(list: &[u16], start: usize) -> usize
     let mut sum = start;
     for symbol in list.chunks_exact(Symbol::WORDS) {
         let number = word(symbol, 0) * NonterminalString::LIMIT + word(symbol, 1);
-        sum = (sum * 211 + number) % 65536;
+        sum = (sum * TraceGraph::SYMBOL_FACTOR + number) % TraceGraph::MIXED;
     }
     sum
 }
@@ -247,13 +258,15 @@ fn bucket_of(grammar: Grammar, edge: TraceEdge) -> usize
 {
     let from = node_number(edge.source);
     let to = node_number(edge.target);
-    let start = (from * 3001 + (to * 613 + edge.label.index * 89)) % 65536;
+    let start = (from * TraceGraph::SOURCE_FACTOR
+        + (to * TraceGraph::TARGET_FACTOR + edge.label.index * TraceGraph::INDEX_FACTOR))
+        % TraceGraph::MIXED;
     mix(grammar.symbols(edge.label.production), start) % TraceGraph::BUCKETS
 }
 
 // Whether an equal edge is among the first k edges: only those in the edge's bucket are looked at.
-// Its links are words, 0 at the end, since there is no heap: an iterator for this one loop would be longer than the loop.
-// Here and below a grammar and a number of nonterminals, a graph and its index are given beside each other: callers (adding an edge, opening a listing, its view) have them so from lent words, and would make a struct for the one call.
+// Its links are words, 0 at the end, since there is no heap. For the two loops over such links, here and in yacc_names, there is no one iterator: what is promised of the links differs.
+// Here and below a grammar and a number of nonterminals, a graph and its index are given beside each other: callers (adding an edge, opening a listing, its view) have them so from lent words, and would make a struct for the one call. `n` in `find`, `insert` and `same_edge` is for their clauses: a bound number there would stand in four of them.
 pub fn find(
     grammar: Grammar,
     n: usize,

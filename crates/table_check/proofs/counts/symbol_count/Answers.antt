@@ -20,7 +20,7 @@ chain-requires c = let A = c.args.s.of in record {
 
 -- what is left of a chain, and the first n of it counted
 abbrev left : ChainIter → List ℕ
-left s = chain s.s.words.now (area s.area.from s.area.past) s.last s.at
+left s = chain s.surveyed.words.now (area s.area.from s.area.past) s.last s.at
 
 taken : (xs : List ℕ) (s t u : Take ChainIter) → Yields (take_steps (YieldsFirst left)) s xs t → take_steps (YieldsFirst left) t None u → length xs ≡ min (take_count s) (length (left (take_source s)))
 taken [] s t u y e = go (ℕ_discrete (take_count t) 0)

@@ -10,4 +10,4 @@ pub loop-r-preserved : goal.loop-r-preserved
 loop-r-preserved c = c.lower-best.ensures _ c.area_fault-m.ensures c.loop-r.invariant
 
 pub returns : goal.returns
-returns c = let A = c.args.g.s.of in let e : c.loop-r.r ≡ loose c.args.g.s.words.now = omega (arith, A.loose_at) in rw e at c.loop-r.invariant
+returns c = let A = c.args.gathered.surveyed.of in let e : c.loop-r.r ≡ loose c.args.gathered.surveyed.words.now = omega (arith, A.loose_at) in rw e at c.loop-r.invariant

@@ -3,4 +3,4 @@ use Rattle.table_check.specs.Faults.{fault_at, Best}
 use Rattle.table_check.proofs.scan.scan_areas.Given as goal
 
 abbrev pub invariant-loop-r : goal.invariant-loop-r
-invariant-loop-r l = Best (fault_at l.g.s.words.now) l.r (row_of l.best) (place_of l.best)
+invariant-loop-r l = Best (fault_at l.gathered.surveyed.words.now) l.r (row_of l.best) (place_of l.best)

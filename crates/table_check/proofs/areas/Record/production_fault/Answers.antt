@@ -11,16 +11,16 @@ returns-then-against c = elim c.then-against.branch [
 ]
 
 pub returns-then-g-p-ne1 : goal.returns-then-g-p-ne1
-returns-then-g-p-ne1 c = let A = c.args.self.g.s.of in
+returns-then-g-p-ne1 c = let A = c.args.self.gathered.surveyed.of in
     production_3 _ _ (ruled _ _ _ _ c.productions.ensures.records c.against.ensures c.if-against.false) (ruled _ _ _ _ c.loose.ensures.records c.against-else-against.ensures c.if-against-2.false)
-    _ (omega arith) (omega arith) _ c.args.self.g.known.held c.if-g-p-ne1.true
+    _ (omega arith) (omega arith) _ c.args.self.gathered.known.held c.if-g-p-ne1.true
 
 pub returns-then-g-p-gt-SYMBOLS : goal.returns-then-g-p-gt-SYMBOLS
-returns-then-g-p-gt-SYMBOLS c = let A = c.args.self.g.s.of in
+returns-then-g-p-gt-SYMBOLS c = let A = c.args.self.gathered.surveyed.of in
     production_4 _ _ (ruled _ _ _ _ c.productions.ensures.records c.against.ensures c.if-against.false) (ruled _ _ _ _ c.loose.ensures.records c.against-else-against.ensures c.if-against-2.false)
-    _ (omega arith) (omega arith) _ c.args.self.g.known.held c.if-g-p-ne1.false _ c.args.self.g.known.lengths c.if-g-p-gt-SYMBOLS.true
+    _ (omega arith) (omega arith) _ c.args.self.gathered.known.held c.if-g-p-ne1.false _ c.args.self.gathered.known.lengths c.if-g-p-gt-SYMBOLS.true
 
 pub returns : goal.returns
-returns c = let A = c.args.self.g.s.of in
+returns c = let A = c.args.self.gathered.surveyed.of in
     production_5 _ _ (ruled _ _ _ _ c.productions.ensures.records c.against.ensures c.if-against.false) (ruled _ _ _ _ c.loose.ensures.records c.against-else-against.ensures c.if-against-2.false)
-    _ (omega arith) (omega arith) _ c.args.self.g.known.held c.if-g-p-ne1.false _ c.args.self.g.known.lengths c.if-g-p-gt-SYMBOLS.false
+    _ (omega arith) (omega arith) _ c.args.self.gathered.known.held c.if-g-p-ne1.false _ c.args.self.gathered.known.lengths c.if-g-p-gt-SYMBOLS.false
