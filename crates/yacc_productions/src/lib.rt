@@ -30,7 +30,7 @@ use yacc_symbols::symbol;
 // Records of a table that a production's words are.
 const RECORDS: usize = ProductionIndex::WORDS / RECORD_WORDS;
 
-// The production that is open: its number, its nonterminal's, its symbols so far, and where they begin and end.
+// The production that is open: its number, its nonterminal's, its symbols so far, and where they begin and end. (That its numbers fit words, `Small`, is asked and promised by each step and no ghost field: specs/Turn says what a step leaves as a record of the numbers alone.)
 #[derive(Clone, Copy, Default)]
 struct Body {
     production: usize,

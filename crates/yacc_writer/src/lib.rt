@@ -41,7 +41,7 @@ fn put_all(text: &mut [u8], at: usize, bytes: &[u8]) -> usize
     place
 }
 
-// A number of one or two digits: no name has a greater one. (By hand: the law of the kit's `itoa` stands in crate lines, above this one.)
+// A number of one or two digits: no name has a greater one. (By hand: the law of the kit's `itoa` stands in crate lines, which stands on the classifier.)
 fn put_number(text: &mut [u8], at: usize, n: usize) -> usize
     requires { (at + 1 < place_limit) × (n < 100) }
     ensures { Wrote text.old at (numeral n) text.new result × (result ≤ at + 2) }
