@@ -69,7 +69,7 @@ impl<'a> Graph<'a> {
         source.kind == 0 && source.number == nonterminal
     }
 
-    // Whether one of the first edges comes from a nonterminal.
+    // Whether one of the first edges comes from a nonterminal. Here and below the words are given with how many edges are meant: the definitions are over the words as they are lent (`stack_in`), and of a part of them that would be said once more.
     fn uses(self, words: &[u16], depth: usize, nonterminal: usize) -> bool
         requires depth_in_bounds { depth < length words.now }
         requires within { Within (slice_index self.words.now 0) (stack_in words.now depth) }
