@@ -3,15 +3,16 @@ use Prim.Native.Nat.{ℕ, zero, suc, ◌+◌, ◌*◌, ◌≤◌, ◌<◌}
 use native.Mathlib.Omega.{arith}
 use mathlib.Core.Path.{◌≡◌, refl, sym, ap, ◌∙◌}
 use mathlib.Core.Logic.{◌⊎◌, inl, inr}
-use mathlib.Core.List.{List, [], ◌∷◌, ◌++◌, append_assoc, append-nil}
+use mathlib.Core.List.{List, [], ◌∷◌, ◌++◌, append-nil}
 use lib.ListN.{length, get_or, take, drop}
+use lib.Seq.{take-suc, take-length}
 use borrow.Author.Tests.{ne_eqb}
 use Rattle.std.specs.Prelude.{Result, Ok, Err, ◌/◌, not, nat_eq}
 use mathlib.Core.Bool.{cond}
 use Rattle.std.specs.List.{count_by, sum_by}
 use Rattle.std.proofs.lemmas.List.Sums.{sum_by-cons}
 use Rattle.std.specs.Simd.{first_chunks}
-use Rattle.repr.proofs.Lists.{cases}
+use Rattle.repr.proofs.Lists.{cases, joined_append}
 use Rattle.repr.specs.Sizes.{reduction_room}
 use Rattle.repr.specs.Reply.{number_of, place_of}
 use Rattle.repr.specs.declared.refusals.Refusal.{Refusal}
@@ -65,39 +66,46 @@ pub class_put : {a b c d e f g : List ℕ} {m₁ m₂ m₃ m₄ m₅ r x n : ℕ
 unfolding class_line spaced
 class_put k i j vs eq P Q R S T U = put_then P (put_then (put_as Q (ap (λ (y : ℕ). 32 ∷ numeral y) eq)) (put_then R (put_then S (put_then T U))))
 
--- symbols, those of the words before `left` being put
-pub record Symbols (old : List ℕ) (at : ℕ) (words new : List ℕ) (place : ℕ) (left : List ℕ) : Type 0 where
-  pub text : List ℕ
-  pub split : symbol_texts words ≡ text ++ symbol_texts left
-  pub put : Put old at text new place
-  pub small : place + 21 * length left ≤ at + 21 * length words
+-- parts, the first i of them being put, each of at most n bytes
+pub record Parts (text : List ℕ → List ℕ) (n : ℕ) (old : List ℕ) (at : ℕ) (parts : List (List ℕ)) (new : List ℕ) (place i : ℕ) : Type 0 where
+  pub within : i ≤ length parts
+  pub put : Put old at (joined text (take i parts)) new place
+  pub small : place ≤ at + i * n
 
-module _ {old words new left : List ℕ} {at place : ℕ} (S : Symbols old at words new place left) where
-  pub symbols-more : (pair left' : List ℕ) {new' : List ℕ} {r : ℕ} → left ≡ pair ++ left' → length pair ≡ 2 → Put new place (symbol_text (get_or pair 0 0) (get_or pair 1 0)) new' r → r ≤ place + 42 → Symbols old at words new' r left'
-  unfolding symbol_texts
-  symbols-more [] left' e two P le = absurd (omega arith)
-  symbols-more (x ∷ []) left' e two P le = absurd (omega arith)
-  symbols-more (x ∷ y ∷ z ∷ zs) left' e two P le = absurd (omega arith)
-  symbols-more (x ∷ y ∷ []) left' e two P le =
-      let s = S.small in
-      let n : length left ≡ suc (suc (length left')) = ap length e in
-      record {
-        text = S.text ++ symbol_text x y;
-        split = S.split ∙ ap (λ (l : List ℕ). S.text ++ symbol_texts l) e ∙ sym (append_assoc S.text (symbol_text x y) (symbol_texts left'));
-        put = put_then S.put P;
-        small = omega (arith, n);
-      }
+pub parts-first : (text : List ℕ → List ℕ) (n : ℕ) (old : List ℕ) (at : ℕ) (parts : List (List ℕ)) → Parts text n old at parts old at 0
+unfolding joined
+parts-first text n old at parts = record { within = omega arith; put = put-nothing old at; small = omega arith }
 
-  no_symbols : (ws : List ℕ) → length ws < 2 → symbol_texts ws ≡ []
-  unfolding symbol_texts
-  no_symbols [] h = refl
-  no_symbols (x ∷ []) h = refl
-  no_symbols (x ∷ y ∷ ws) h = absurd (omega arith)
+joined_more : (text : List ℕ → List ℕ) (l : List (List ℕ)) (x : List ℕ) → joined text (l ++ (x ∷ [])) ≡ joined text l ++ text x
+unfolding joined
+joined_more text l x = joined_append text l (x ∷ []) ∙ ap (λ (t : List ℕ). joined text l ++ t) (append-nil (text x))
 
-  pub symbols_end : length left < 2 → Put old at (symbol_texts words) new place × (place ≤ at + 21 * length words)
-  symbols_end h =
-      let s = S.small in
-      (put_as S.put (sym (S.split ∙ ap (λ (l : List ℕ). S.text ++ l) (no_symbols left h) ∙ append-nil S.text)), omega arith)
+pub parts_more : {text : List ℕ → List ℕ} {n : ℕ} {old : List ℕ} {at : ℕ} {parts : List (List ℕ)} {new : List ℕ} {place i : ℕ} {new' : List ℕ} {r : ℕ} → Parts text n old at parts new place i → i < length parts
+    → Put new place (text (get_or parts i [])) new' r → r ≤ place + n → Parts text n old at parts new' r (i + 1)
+parts_more {text} {n} {old} {at} {parts} {new} {place} {i} {new'} {r} S h P le =
+    let s = S.small in
+    let e : i + 1 ≡ suc i = omega arith in
+    let t : joined text (take (i + 1) parts) ≡ joined text (take i parts) ++ text (get_or parts i []) =
+    ap (λ (k : ℕ). joined text (take k parts)) e ∙ ap (joined text) (take-suc parts i [] h) ∙ joined_more text (take i parts) (get_or parts i []) in
+    let m : (i + 1) * n ≡ i * n + n = omega arith in
+    record { within = omega arith; put = put_as (put_then S.put P) (sym t); small = omega (arith, m) }
+
+pub parts_end : {text : List ℕ → List ℕ} {n : ℕ} {old : List ℕ} {at : ℕ} {parts : List (List ℕ)} {new : List ℕ} {place i : ℕ} → Parts text n old at parts new place i → length parts ≤ i → Put old at (joined text parts) new place
+parts_end {text} {parts = parts} {i = i} S h =
+    let w = S.within in
+    let e : i ≡ length parts = omega arith in
+    put_as S.put (ap (λ (k : ℕ). joined text (take k parts)) e ∙ ap (joined text) (take-length parts))
+
+abbrev pub symbol_of : List ℕ → List ℕ
+symbol_of pair = symbol_text (get_or pair 0 0) (get_or pair 1 0)
+
+pub symbols_all : (ws : List ℕ) → joined symbol_of (first_chunks 2 (length ws / 2) ws) ≡ symbol_texts ws
+unfolding joined symbol_texts
+symbols_all [] = refl
+symbols_all (k ∷ []) = refl
+symbols_all (k ∷ n ∷ ws) =
+    let more : length (k ∷ n ∷ ws) / 2 ≡ suc (length ws / 2) = omega arith in
+    ap (λ (j : ℕ). joined symbol_of (first_chunks 2 j (k ∷ n ∷ ws))) more ∙ ap (λ (l : List ℕ). symbol_text k n ++ l) (symbols_all ws)
 
 -- how many are symbols
 counted-more : (x y z w : ℕ) → y ≡ z + w → x + y ≡ x + z + w
@@ -121,42 +129,17 @@ total_pairs (k ∷ n ∷ ws) =
     let first : value (k ∷ n ∷ []) ≡ counted k = cases (nat_eq k 2) (λ m. rw (m, counted) refl) (λ m. rw (m, counted) refl) in
     ap (λ (j : ℕ). sum_by value (first_chunks 2 j (k ∷ n ∷ ws))) more ∙ sum_by-cons value (k ∷ n ∷ []) (first_chunks 2 (length ws / 2) ws) ∙ (λ i. first i + total_pairs ws i)
 
--- reductions, those of the words before `left` being put
-pub record Reductions (old : List ℕ) (at : ℕ) (words new : List ℕ) (place : ℕ) (left : List ℕ) : Type 0 where
-  pub text : List ℕ
-  pub split : reduction_texts words ≡ text ++ reduction_texts left
-  pub put : Put old at text new place
-  pub small : place + 21 * length left ≤ at + 21 * length words
+abbrev pub reduction_of : List ℕ → List ℕ
+reduction_of three = reduction_text (get_or three 0 0) (get_or three 1 0) (get_or three 2 0)
 
-module _ {old words new left : List ℕ} {at place : ℕ} (S : Reductions old at words new place left) where
-  pub reductions-more : (three left' : List ℕ) {new' : List ℕ} {r : ℕ} → left ≡ three ++ left' → length three ≡ 3
-      → Put new place (reduction_text (get_or three 0 0) (get_or three 1 0) (get_or three 2 0)) new' r → r ≤ place + 63 → Reductions old at words new' r left'
-  unfolding reduction_texts
-  reductions-more [] left' e n P le = absurd (omega arith)
-  reductions-more (x ∷ []) left' e n P le = absurd (omega arith)
-  reductions-more (x ∷ y ∷ []) left' e n P le = absurd (omega arith)
-  reductions-more (x ∷ y ∷ z ∷ w ∷ ws) left' e n P le = absurd (omega arith)
-  reductions-more (x ∷ y ∷ z ∷ []) left' e n P le =
-      let s = S.small in
-      let n : length left ≡ suc (suc (suc (length left'))) = ap length e in
-      record {
-        text = S.text ++ reduction_text x y z;
-        split = S.split ∙ ap (λ (l : List ℕ). S.text ++ reduction_texts l) e ∙ sym (append_assoc S.text (reduction_text x y z) (reduction_texts left'));
-        put = put_then S.put P;
-        small = omega (arith, n);
-      }
-
-  no_reductions : (ws : List ℕ) → length ws < 3 → reduction_texts ws ≡ []
-  unfolding reduction_texts
-  no_reductions [] h = refl
-  no_reductions (x ∷ []) h = refl
-  no_reductions (x ∷ y ∷ []) h = refl
-  no_reductions (x ∷ y ∷ z ∷ ws) h = absurd (omega arith)
-
-  pub reductions_end : length left < 3 → Put old at (reduction_texts words) new place × (place ≤ at + 21 * length words)
-  reductions_end h =
-      let s = S.small in
-      (put_as S.put (sym (S.split ∙ ap (λ (l : List ℕ). S.text ++ l) (no_reductions left h) ∙ append-nil S.text)), omega arith)
+pub reductions_all : (ws : List ℕ) → joined reduction_of (first_chunks 3 (length ws / 3) ws) ≡ reduction_texts ws
+unfolding joined reduction_texts
+reductions_all [] = refl
+reductions_all (a ∷ []) = refl
+reductions_all (a ∷ b ∷ []) = refl
+reductions_all (a ∷ b ∷ n ∷ ws) =
+    let more : length (a ∷ b ∷ n ∷ ws) / 3 ≡ suc (length ws / 3) = omega arith in
+    ap (λ (j : ℕ). joined reduction_of (first_chunks 3 j (a ∷ b ∷ n ∷ ws))) more ∙ ap (λ (l : List ℕ). reduction_text a b n ++ l) (reductions_all ws)
 
 -- the line of an example
 pub example-put : {a b c d e f g : List ℕ} {at m₁ m₂ m₃ m₄ m₅ r : ℕ} {letter total cursor : ℕ} {symbols reductions : List ℕ} (example : List ℕ) → total ≡ printed_length example → cursor ≡ get_or example 1 0

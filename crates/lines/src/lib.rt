@@ -74,8 +74,9 @@ pub fn put_symbols(out: &mut [u8], at: usize, words: &[u16]) -> usize
     ensures { Put out.old at (symbol_texts words.now) out.new result × (result ≤ at + 21 * length words.now) }
 {
     let mut place = at;
-    for symbol in words.chunks_exact(Example::SYMBOL_WORDS) {
-        place = put_symbol(out, place, symbol[0] as usize, symbol[1] as usize);
+    let (symbols, _) = words.as_chunks::<{ Example::SYMBOL_WORDS }>();
+    for [kind, number] in symbols {
+        place = put_symbol(out, place, *kind as usize, *number as usize);
     }
     place
 }
@@ -86,11 +87,15 @@ fn put_reductions(out: &mut [u8], at: usize, words: &[u16]) -> usize
     ensures { Put out.old at (reduction_texts words.now) out.new result × (result ≤ at + 21 * length words.now) }
 {
     let mut place = at;
-    for reduction in words.chunks_exact(Example::REDUCTION_WORDS) {
-        let start = reduction[0] as usize;
-        let end = reduction[1] as usize;
-        let nonterminal = reduction[2] as usize;
-        place = put_reduction(out, place, start, end, nonterminal);
+    let (reductions, _) = words.as_chunks::<{ Example::REDUCTION_WORDS }>();
+    for [start, end, nonterminal] in reductions {
+        place = put_reduction(
+            out,
+            place,
+            *start as usize,
+            *end as usize,
+            *nonterminal as usize,
+        );
     }
     place
 }

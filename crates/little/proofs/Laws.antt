@@ -1,11 +1,11 @@
 -- Laws of `words_of` and `encoded`, and of the room that words take. Assumes nothing.
 use mathlib.Core.Path.{◌≡◌, refl, sym, ap, ◌∙◌}
-use Prim.Native.Nat.{ℕ, suc, ◌+◌, ◌*◌, ◌/◌, ◌%◌, ◌≤◌, ◌<◌}
+use Prim.Native.Nat.{ℕ, suc, ◌+◌, ◌*◌, ◌/◌, ◌%◌, ◌<◌}
 use mathlib.Core.List.{List, [], ◌∷◌, ◌++◌, append_assoc, append-nil}
 use native.Mathlib.Numerals.{add-one}
 use native.Mathlib.Omega.{arith}
 use lib.ListN.{length, get_or, take, drop, set, length-set, length-drop, take-append-drop}
-use lib.Seq.{drop-cons, take-suc-set, drop-set-lt, drop-drop, length-take-le, take_at}
+use lib.Seq.{drop-cons, take-suc-set, drop-set-lt, drop-drop}
 use Rattle.little.specs.Little.{words_of, encoded}
 
 none : (bs : List ℕ) → length bs < 2 → words_of bs ≡ []
@@ -43,10 +43,6 @@ module _ {bytes out₀ out : List ℕ} {i : ℕ} {left : List ℕ} (T : Turn byt
         rest = ap (λ (k : ℕ). drop k (set out i w)) (add-one i) ∙ drop-set-lt (suc i) out i w lt ∙ ap (λ (k : ℕ). drop k out) (sym (add-one i)) ∙ sym (drop-drop 1 i out) ∙ ap (drop 1) T.rest ∙ drop-drop 1 i out₀;
         size = let s = T.size in omega (arith, n);
       }
-
--- as many words fit as half of a beginning's bytes
-pub half_fits : (n k : ℕ) (bytes : List ℕ) → n * 2 ≤ length bytes → n ≤ k → length (take (n * 2) bytes) / 2 ≤ k
-half_fits n k bytes h l = let e = length-take-le (n * 2) bytes h in omega (arith, e)
 
 -- words written as bytes and read again are the words
 pub decode-encoded : (ws : List ℕ) → words_of (encoded ws) ≡ ws
@@ -102,7 +98,3 @@ unfolding words_of
 words-length [] = refl
 words-length (a ∷ []) = refl
 words-length (a ∷ b ∷ bs) = ap suc (words-length bs) ∙ omega arith
-
--- words of 2n bytes stand at the front
-pub words-front : (bs rest : List ℕ) (n m : ℕ) → length bs ≡ m → m ≡ n * 2 → take n (words_of bs ++ rest) ≡ words_of bs
-words-front bs rest n m h k = take_at (words_of bs) rest n (words-length bs ∙ omega arith)

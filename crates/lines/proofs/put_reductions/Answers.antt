@@ -1,11 +1,16 @@
-use native.Mathlib.Omega.{arith}
-use Rattle.lines.proofs.Texts.{reductions-more, reductions_end}
+use Rattle.std.proofs.Common.{arith, ap, ◌∙◌}
+use Rattle.repr.specs.Lists.{joined}
+use Rattle.lines.proofs.Laws.{put_as}
+use Rattle.lines.proofs.Texts.{parts-first, parts_more, parts_end, reduction_of, reductions_all}
 use Rattle.lines.proofs.put_reductions.Goals as goal
 
-pub loop-reduction-preserved : goal.loop-reduction-preserved
-loop-reduction-preserved c =
-    let s = c.in-Some.ensures.steps in
-    (omega arith, reductions-more c.loop-reduction.invariant.1 c.in-Some.reduction.now _ s.1.0 (omega arith) c.put_reduction-place.ensures.0 c.put_reduction-place.ensures.1)
+pub loop-start-init : goal.loop-start-init
+loop-start-init c = parts-first _ _ _ _ _
+
+pub loop-start-preserved : goal.loop-start-preserved
+loop-start-preserved c = parts_more c.loop-start.invariant c.loop-start-test.true c.put_reduction-place.ensures.0 c.put_reduction-place.ensures.1
 
 pub returns : goal.returns
-returns c = let s = c.in-None.ensures.steps in reductions_end c.loop-reduction.invariant.1 (omega arith)
+returns c =
+    let S = c.loop-start.invariant in
+    (put_as (parts_end S (omega arith)) (ap (joined reduction_of) c.as_chunks.ensures.front ∙ reductions_all c.args.words.now), omega (arith, S.small, S.within, c.as_chunks.ensures.front_len))

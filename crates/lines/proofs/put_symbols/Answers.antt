@@ -1,11 +1,16 @@
-use native.Mathlib.Omega.{arith}
-use Rattle.lines.proofs.Texts.{symbols-more, symbols_end}
+use Rattle.std.proofs.Common.{arith, ap, ◌∙◌}
+use Rattle.repr.specs.Lists.{joined}
+use Rattle.lines.proofs.Laws.{put_as}
+use Rattle.lines.proofs.Texts.{parts-first, parts_more, parts_end, symbol_of, symbols_all}
 use Rattle.lines.proofs.put_symbols.Goals as goal
 
-pub loop-symbol-preserved : goal.loop-symbol-preserved
-loop-symbol-preserved c =
-    let s = c.in-Some.ensures.steps in
-    (omega arith, symbols-more c.loop-symbol.invariant.1 c.in-Some.symbol.now _ s.1.0 (omega arith) c.put_symbol-place.ensures.0 c.put_symbol-place.ensures.1)
+pub loop-kind-init : goal.loop-kind-init
+loop-kind-init c = parts-first _ _ _ _ _
+
+pub loop-kind-preserved : goal.loop-kind-preserved
+loop-kind-preserved c = parts_more c.loop-kind.invariant c.loop-kind-test.true c.put_symbol-place.ensures.0 c.put_symbol-place.ensures.1
 
 pub returns : goal.returns
-returns c = let s = c.in-None.ensures.steps in symbols_end c.loop-symbol.invariant.1 (omega arith)
+returns c =
+    let S = c.loop-kind.invariant in
+    (put_as (parts_end S (omega arith)) (ap (joined symbol_of) c.as_chunks.ensures.front ∙ symbols_all c.args.words.now), omega (arith, S.small, S.within, c.as_chunks.ensures.front_len))
