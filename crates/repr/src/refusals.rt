@@ -5,8 +5,8 @@ ghost use Rattle.repr.specs.Reply.{number_of, place_of};
 
 use std::fmt;
 
-// A refusal, with its place where it has one: a record of the table, the number of a production. The order of the cases is that of their numbers.
-#[derive(Clone, Copy, PartialEq, Eq, PartialOrd, Ord)]
+// A refusal, with its place where it has one: a record of the table, the number of a production.
+#[derive(Clone, Copy, PartialEq, Eq)]
 pub enum Refusal {
     // Of a table: 1 to 8.
     Words,
