@@ -4,7 +4,7 @@ use Rattle.repr.specs.declared.refusals.Refusal.{Refusal}
 use Rattle.repr.specs.Reply.{Reply, answered, refused, reply_of, number_of, place_of}
 use Rattle.repr.specs.Meaning.{Item}
 use Rattle.repr.specs.declared.ProductionIndex.{ProductionIndex}
-use Rattle.enumerator.specs.Advance.{outcome, advance_of}
+use Rattle.enumerator.specs.Advance.{outcome, advance_of, number_of_advanced}
 use Rattle.enumerator.specs.Lookahead.{Lookahead}
 use Rattle.std.specs.Prelude.{Option, None, Some, Result, Ok, Err}
 use Rattle.enumerator.specs.declared.Listing.{Listing}
@@ -32,13 +32,10 @@ module _ (p : ProductionIndex) (i n : ℕ) (o : Bool) (t g scratch₀ buffer₀ 
   told : (b : Reply Advanced) → reply_of r ≡ b → advanced_numbers (outcome b next scratch buffer) ≡ advanced_numbers (advance_of (record { production = p; index = i; lookahead = ahead'; count = n; is_open = o }) t g scratch₀ buffer₀)
   told b h = ap (λ (b : Reply Advanced). advanced_numbers (outcome b next scratch buffer)) (sym h) ∙ ap advanced_numbers (e ∙ ap (λ (x : Lookahead). advance_of (record { production = p; index = i; lookahead = x; count = n; is_open = o }) t g scratch₀ buffer₀) ea)
 
-  pub advance_example : (b : Advanced) → f ≡ Some b → b ≡ Example → advance_numbers x y next.count next.is_open scratch buffer ≡ advanced_numbers (advance_of (record { production = p; index = i; lookahead = ahead'; count = n; is_open = o }) t g scratch₀ buffer₀)
-  unfolding advanced_numbers
-  advance_example b q z = let T = told_some r x y f k b q in rw (T.1.0, T.1.1) (told (answered Example) (ap reply_of (T.0 ∙ ap Ok z)))
-
-  pub advance_end : (b : Advanced) → f ≡ Some b → b ≡ End → advance_numbers 16 y next.count next.is_open scratch buffer ≡ advanced_numbers (advance_of (record { production = p; index = i; lookahead = ahead'; count = n; is_open = o }) t g scratch₀ buffer₀)
-  unfolding advanced_numbers
-  advance_end b q z = let T = told_some r x y f k b q in rw T.1.1 (told (answered End) (ap reply_of (T.0 ∙ ap Ok z)))
+  pub advance_handed : (b : Advanced) → f ≡ Some b → advance_numbers (number_of_advanced b) y next.count next.is_open scratch buffer ≡ advanced_numbers (advance_of (record { production = p; index = i; lookahead = ahead'; count = n; is_open = o }) t g scratch₀ buffer₀)
+  unfolding advanced_numbers number_of_advanced
+  advance_handed Example q = let T = told_some r x y f k Example q in rw T.1.1 (told (answered Example) (ap reply_of T.0))
+  advance_handed End q = let T = told_some r x y f k End q in rw T.1.1 (told (answered End) (ap reply_of T.0))
 
   pub advance_refused : f ≡ None → advance_numbers x y next.count next.is_open scratch buffer ≡ advanced_numbers (advance_of (record { production = p; index = i; lookahead = ahead'; count = n; is_open = o }) t g scratch₀ buffer₀)
   unfolding advanced_numbers

@@ -76,12 +76,9 @@ pub fn lihvemur_advance(
     *count = l.count;
     *is_open = l.is_open;
     let (number, advanced) = told(answer, place);
-    let Some(advanced) = advanced else {
-        return number;
-    };
     match advanced {
-        Advanced::Example => number,
-        Advanced::End => END,
+        Some(advanced) => advanced.number(),
+        None => number,
     }
 }
 
