@@ -1,5 +1,5 @@
 -- The ways through the exported functions of classifying, one law each. Assumes nothing.
-use Rattle.std.proofs.Common.{◌≡◌, ◌⊎◌, inl, inr, ℕ, ◌+◌, ◌*◌, ◌<◌, ◌≤◌, leb, List, [], ◌∷◌, ◌++◌, length, drop, sym, refl, ap, ◌∙◌, arith, le-leb}
+use Rattle.std.proofs.Common.{◌≡◌, ◌⊎◌, inl, inr, ℕ, ◌+◌, ◌*◌, ◌<◌, ◌≤◌, leb, List, [], ◌∷◌, ◌++◌, length, get_or, drop, sym, refl, ap, ◌∙◌, arith, le-leb}
 use borrow.Author.Tests.{lt-leb}
 use Rattle.std.specs.Prelude.{Option, None, Some, Result, Ok, Err}
 use Rattle.repr.specs.Sizes.{entry_room, entries_room}
@@ -29,25 +29,16 @@ pub pack_is : (a b c d : ℕ) → a + 65536 * (b + 65536 * (c + 65536 * d)) ≡ 
 unfolding packed
 pack_is a b c d = omega arith
 
-module _ (k : Class) (r : ℕ) where
-  pub values_none : (k ≡ Naive) ⊎ ((k ≡ Ambiguity) ⊎ (k ≡ InsufficientLookahead)) → 0 ≡ packed (values_of_class k)
-  unfolding packed values_of_class
-  values_none (inl e) = rw e
-  values_none (inr (inl e)) = rw e
-  values_none (inr (inr e)) = rw e
-
-  pub values_one : (n : NonterminalString) → (k ≡ Precedence n) ⊎ (k ≡ SuggestInline n) → r ≡ packed (n.0 ∷ 0 ∷ 0 ∷ 0 ∷ []) → r ≡ packed (values_of_class k)
-  unfolding packed values_of_class
-  values_one n (inl e) h = rw e h
-  values_one n (inr e) h = rw e h
-
-  pub values_question : (n : NonterminalString) (x y : ℕ) → k ≡ SuggestQuestion n x y → r ≡ packed (n.0 ∷ x ∷ y ∷ 0 ∷ []) → r ≡ packed (values_of_class k)
-  unfolding packed values_of_class
-  values_question n x y e h = rw e h
-
-  pub values_reduction : (a b c d : ℕ) → k ≡ AmbiguousReduction a b c d → r ≡ packed (a ∷ b ∷ c ∷ d ∷ []) → r ≡ packed (values_of_class k)
-  unfolding packed values_of_class
-  values_reduction a b c d e h = rw e h
+-- the four values of a class are its own, filled up with zeros
+pub values_packed : (k : Class) → packed (get_or (values_of_class k) 0 0 ∷ get_or (values_of_class k) 1 0 ∷ get_or (values_of_class k) 2 0 ∷ get_or (values_of_class k) 3 0 ∷ []) ≡ packed (values_of_class k)
+unfolding packed values_of_class
+values_packed Naive = refl
+values_packed Ambiguity = refl
+values_packed (Precedence n) = refl
+values_packed (SuggestInline n) = refl
+values_packed (SuggestQuestion n x y) = refl
+values_packed (AmbiguousReduction a b c d) = refl
+values_packed InsufficientLookahead = refl
 
 -- ---- classify: c is what it answers, of which (x, y, f) is told, o what its contract says is the outcome
 module _ (class values m n : ℕ) (c : Result Classification Refusal) (x y : ℕ) (f : Option Classification) (h : Told c x y f) (scratch action reduce : List ℕ) (o : Outcome) (e : outcome (reading_of c) scratch action reduce ≡ o) where

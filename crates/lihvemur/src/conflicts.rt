@@ -6,7 +6,7 @@ ghost use Rattle.lihvemur.specs.Reports.{packed, class_numbers, classified_numbe
 ghost use Rattle.report.specs.Part.{part_observed};
 
 use crate::{refuse, told};
-use entries::{class_number, copy_entries};
+use entries::copy_entries;
 use error::{Class, Conflict};
 use lookahead::TokenSet;
 use report::{Part, choose, classify, observed_part};
@@ -24,12 +24,8 @@ fn pack(a: u16, b: u16, c: u16, d: u16) -> u64
 fn class_values(class: Class) -> u64
     ensures { result ≡ packed (values_of_class class) }
 {
-    match class {
-        Class::Naive | Class::Ambiguity | Class::InsufficientLookahead => 0,
-        Class::Precedence(n) | Class::SuggestInline(n) => pack(n.0, 0, 0, 0),
-        Class::SuggestQuestion(n, kind, number) => pack(n.0, kind, number, 0),
-        Class::AmbiguousReduction(a, b, c, d) => pack(a, b, c, d),
-    }
+    let [a, b, c, d] = class.values();
+    pack(a, b, c, d)
 }
 
 // Class number, own values and trials are written only with answer 0.
@@ -61,7 +57,7 @@ pub fn lihvemur_classify(
     let answer = classify(table, conflict, scratch, action_example, reduce_example);
     let (number, found) = told(answer, place);
     if let Some(found) = found {
-        *class = class_number(found.class);
+        *class = found.class.number();
         *values = class_values(found.class);
         *action_trials = found.action_trials;
         *reduce_trials = found.reduce_trials;

@@ -228,6 +228,7 @@ pub fn lihvemur_add_edge(
     hand_out(answer, edges, place)
 }
 
+// Here and below two functions that read alike, as the Rust and C have two names.
 pub fn lihvemur_backtrace_shift(
     table: &[u16],
     state: u16,

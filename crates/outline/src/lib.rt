@@ -260,7 +260,7 @@ impl Side {
     }
 }
 
-// Whether at the first difference of two lists the FIRST sets are disjoint. An exhausted list is a no.
+// Whether at the first difference of two lists the FIRST sets are disjoint. An exhausted list is a no. A `for` that is left there: behind `find` a `match` would take the pair apart again, which is no shorter.
 fn diverge(sets: &FirstSets, first: &[u16], second: &[u16]) -> bool
     requires first_value { list_is_fit nonterminal_limit terminal_limit first.now ≡ true }
     requires second_value { list_is_fit nonterminal_limit terminal_limit second.now ≡ true }
