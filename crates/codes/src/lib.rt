@@ -59,7 +59,7 @@ impl EdgeKind {
 }
 
 // An edge of a trace, by its kind and the item of its label.
-// That the item is in range is asked at each call: a ghost field would need a file apart from the methods, whose definitions speak of the struct.
+// That the item is in range is asked at each call: a ghost field would be proved at each of the five places that make an edge, for four that ask it.
 #[derive(Clone, Copy)]
 pub struct EdgeCode {
     pub kind: EdgeKind,
@@ -205,7 +205,7 @@ pub fn least_productions(grammar: Grammar) -> [u8; ProductionIndex::LIMIT]
     least
 }
 
-// The node of the nonterminal at an item's cursor.
+// The node of the nonterminal at an item's cursor. (By the symbol's number: it is asked where that is a nonterminal, and a `match` would need a node for a terminal too.)
 fn cursor_node(grammar: Grammar, item: Item) -> Node
     requires within { item.production < grammar.productions }
     requires index_in_bounds { item.index < length (listed (symbol_words grammar.words.now item.production)) }

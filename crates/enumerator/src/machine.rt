@@ -44,7 +44,7 @@ pub struct Graph<'a> {
 }
 
 impl<'a> Graph<'a> {
-    // The node that an edge comes from.
+    // The node that an edge comes from. (That an edge is one of the graph's is asked here and below: a type for its number would have to hold the graph.)
     pub fn source(self, edge: usize) -> Node
         requires edge_bound { edge < slice_index self.words.now 0 }
         ensures { (node_is result ≡ node_at self.entry.words.now (edge_place edge)) × (result ≡ node_read self.entry.words.now (edge_place edge)) }

@@ -111,7 +111,7 @@ fn answer_number(answer: Result<Advanced, Refusal>) -> u16
     }
 }
 
-// Refusal 9 for a list of calls that is cut short, 11 for an output that has fewer words than they ask. What is left of the output is counted down, call by call.
+// Refusal 9 for a list of calls that is cut short, 11 for an output that has fewer words than they ask. What is left of the output is counted down, call by call: the sum of what all ask may be above a `usize`.
 fn check_calls(calls: &[u32], words: usize) -> Result<(), Refusal>
     ensures fits { OnOk result (refusal_of_calls calls.now words ≡ 0) }
     ensures refused { IfErr result (λ e. (number_of e ≡ refusal_of_calls calls.now words) × (place_of e ≡ 0) × (0 < number_of e)) }
@@ -164,7 +164,7 @@ fn call(
     write_record(part, answer_number(answer), listing.count);
 }
 
-// The calls, one after another, over one graph and one scratch, each with its own part of the output.
+// The calls, one after another, over one graph and one scratch, each with its own part of the output. Where a part begins is counted by hand: each has a length of its own, and `split_at_mut` would lend the rest anew at each call.
 fn make_calls(
     opened: Listing,
     table: &[u16],

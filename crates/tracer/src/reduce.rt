@@ -77,7 +77,7 @@ fn reduce_item(
 
 // `trace_reduce_from_state`: the items of the state that can shift the nonterminal; where an item's suffix may derive the empty string, it is traced on,
 // once from this state: an item that has its stamp was.
-// An item is made of its record where it is read, here and below: neither crate table, which has `ItemRecord`, nor the crate of `Item` knows the other.
+// An item is made of its record where it is read, here and below: two fields by their names, for which a function of crate trace would be no plainer.
 #[cycle(reduce_item_reduce_state)]
 fn reduce_state(
     over: Reduction,

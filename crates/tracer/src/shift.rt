@@ -136,7 +136,7 @@ impl Known {
     }
 }
 
-// Whether the items of a state lead to nothing new from the nonterminals that were entered from the known state, where those from a known record on do not.
+// Whether the items of a state lead to nothing new from the nonterminals that were entered from the known state, where those from a known record on do not. It ends in two ways with two answers: an `all` behind a `take_while` would say them in two closures, no plainer.
 fn adds_nothing(tracer: Tracer, trace: &OpenTrace, known: Known, state: usize) -> bool
     requires within { (known.state < state_limit) × (state < length (meaning tracer.table.words.now).states) }
     requires clear { Clear tracer.table.words.now trace.now.edges.flags trace.now.entered known.state (items_from tracer.table.words.now known.last) × Clear tracer.table.words.now trace.now.edges.flags trace.now.entered known.state (items_from tracer.table.words.now known.earlier) }

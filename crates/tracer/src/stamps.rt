@@ -23,7 +23,7 @@ impl Stamps {
         }
     }
 
-    // An item's stamp: one more than a state's number, 0 for none.
+    // An item's stamp: one more than a state's number, 0 for none. (No Option: it is only compared, with one more than a state's number.)
     pub fn at(&self, item: Item) -> usize
         requires { (item.production < production_limit) × (item.index < index_limit) }
         ensures { result ≡ stamp_read_at self.now.words (item.production * index_limit + item.index) }

@@ -71,7 +71,7 @@ pub fn ahead(table: AcceptedTable, first: usize, most: usize) -> usize
     at
 }
 
-// Puts each item of the tail that has a nonterminal at the cursor into a slot where it is met first. The answer is the slot behind the last; none where there are too many.
+// Puts each item of the tail that has a nonterminal at the cursor into a slot where it is met first. The answer is the slot behind the last; none where there are too many. Slots are counted by hand: not every record gets one.
 fn collect(tracer: Tracer, tail: usize, records: &mut [u16]) -> Option<usize>
     requires { ItemIndex tracer.table.words.now tail × (length records.old ≡ tail_words) }
     ensures { IfSome result (λ count. Collected tracer.entry.table.words.now records.new tail count) }

@@ -10,7 +10,7 @@ ghost use Rattle.view.specs.Steps.{joined_by, back_by, seek_by, next_by, example
 use crate::View;
 use repr::word;
 
-// One edge more.
+// One edge more. (That an edge's number is in range is asked here and below: a type for it would be made of each word that is read.)
 fn push(words: &mut [u16], edge: usize)
     requires { (trial_room ≤ length words.old) × ((get_or words.old 0 0 < reduction_limit) × (edge < edge_limit)) }
     ensures { (p rest : List ℕ) → words.old ≡ trial_words p ++ rest → words.new ≡ trial_words (p ++ edge ∷ []) ++ rest }
@@ -47,7 +47,7 @@ pub fn clear(words: &mut [u16])
     words[..View::TRIAL].fill(0);
 }
 
-// The last edge, or none.
+// The last edge, or none. (That the words hold a trial is asked here and below: they stay the slice that C lends to a listing, of which a trial is the front.)
 fn last(words: &[u16]) -> Option<usize>
     requires held { Held words.now }
     ensures { MatchOption result (get_or words.now 0 0 ≡ 0) (λ e. (get_or words.now 0 0 ≡ 0 → ⊥) × (e ≡ get_or words.now (get_or words.now 0 0) 0) × (e < edge_limit)) }
@@ -95,7 +95,7 @@ impl<'a> View<'a> {
         }
     }
 
-    // The counts of the walk that the words hold, from none counted.
+    // The counts of the walk that the words hold, from none counted. By place: where the words hold no edge, `words[1..0]` would be no slice.
     pub fn count_walk(self, words: &[u16], counts: &mut [u8])
         requires held { Held words.now }
         requires counted { Counted [] counts.old }

@@ -42,7 +42,7 @@ impl Ids {
     pub const TOKEN_WORDS: usize = Ids::LITERALS + Ids::NAMES;
 }
 
-// The byte at a place, or 0.
+// The byte at a place, or 0. (The library's `get`, in the words that contracts have for it.)
 pub fn byte(text: &[u8], at: usize) -> usize
     ensures { (result ≡ get_or text.now at 0) × (result < byte_limit) }
 {
@@ -159,7 +159,7 @@ impl<'a> Words<'a> {
     }
 }
 
-// The ids of a text while they are entered: the text, the words, and how many there are so far.
+// The ids of a text while they are entered: the text, the words, and how many there are so far. (No `SymbolTable` yet: what that holds of them is true when all ids are entered.)
 #[derive(Drop)]
 struct Entering<'a> {
     text: &'a [u8],

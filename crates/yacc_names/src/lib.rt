@@ -1,5 +1,5 @@
 // The names of a yacc text in the order of their entering, each by the places of its first byte and behind its last; an index in buckets beside them, so that a name is looked for in one bucket alone (specs/Names).
-// Chains of numbers in a list of words: there is no heap. The places stand in two lists of words, as a caller lends them: a list of pairs would ask for words that are laid out so. A name is two places here: `find` and `place` ask `from ≤ past`, and a `Lexeme` holds `from < past`, which would ask more.
+// Chains of numbers in a list of words: there is no heap. The places stand in two lists of words: what is proved of names (`Entered`, `Named`) speaks of lists of numbers, into which a list of pairs would be taken apart in each statement. A name is two places here: `find` and `place` ask `from ≤ past`, and a `Lexeme` holds `from < past`, which would ask more.
 
 #![tactic(auto)]
 
@@ -43,7 +43,7 @@ pub fn bucket_of(text: &[u8], from: usize, past: usize) -> usize
     usize::from(sum) % BUCKETS
 }
 
-// The number of the name among the first k.
+// The number of the name among the first k. (The lists and how many names there are come one by one here: `Words` of crate yacc_enter holds them with two lists more, and a struct within that one would be taken apart as often.)
 pub fn find(
     text: &[u8],
     starts: &[u16],

@@ -129,7 +129,7 @@ fn step(
     }
 }
 
-// The productions of a text whose ids are entered, packed; how many there are.
+// The productions of a text whose ids are entered, packed; how many there are. (Fixed words and how many of them are used, since there is no heap.)
 pub fn pack(symbols: &SymbolTable, grammar: &mut [u16; ProductionIndex::ALL_WORDS]) -> usize
     requires readable { (l : Layout) → parse symbols.now.text.now ≡ some l → Readable (source_in l.pieces) }
     ensures { (l : Layout) → parse symbols.now.text.now ≡ some l → (result ≡ length (source_in l.pieces).alternatives) × PackedAs (table_of (source_in l.pieces)) grammar.new result }

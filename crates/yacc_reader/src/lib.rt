@@ -171,7 +171,7 @@ fn fault_in(text: &[u8]) -> Option<usize>
     fault_place(&symbols)
 }
 
-// Where a text that 21 refuses is at fault: the first byte of the first token that is. A place of the text for any other.
+// Where a text that 21 refuses is at fault: the first byte of the first token that is. A place of the text for any other. (No Option: it is asked of texts that 21 refuses, which all have such a place.)
 pub fn misnamed_at(text: &[u8]) -> usize
     ensures { (result ≤ length text.now) × (length text.now ≤ text_limit → (l : Layout) → parse text.now ≡ some l → misnamed (source_in l.pieces) ≡ true → fault_from (source_in l.pieces) (top false) (placed 0 l.pieces) ≡ some result) }
 {

@@ -41,7 +41,7 @@ fn put_all(text: &mut [u8], at: usize, bytes: &[u8]) -> usize
     place
 }
 
-// A number of one or two digits: no name has a greater one. (By hand: the law of the kit's `itoa` stands in crate lines, which stands on the classifier.)
+// A number of one or two digits: no name has a greater one. (By hand: for two digits at most the kit's `itoa` would be a buffer, a copy out of it, and its law, which stands in crate lines, carried below.)
 fn put_number(text: &mut [u8], at: usize, n: usize) -> usize
     requires { (at + 1 < place_limit) × (n < 100) }
     ensures { Wrote text.old at (numeral n) text.new result × (result ≤ at + 2) }
