@@ -127,8 +127,6 @@ module _ (ps : List Production) (ws : List ℕ) where
           go none (x ∷ xs) e f = absurd (omega arith)
           go none [] e f = refl
 
-      pub none-words : 0 < length before → joined symbol_words (middle ps (labels_in ws)) ≡ []
-      none-words l = ap (joined symbol_words) (middle-none l) ∙ joined_nil symbol_words
 
       pub mark-one : length before ≤ 0 → length (middle ps (labels_in ws)) ≡ 1
       mark-one l = ap length (middle-mark l)

@@ -173,7 +173,7 @@ impl<'a> Labels<'a> {
     }
 
     // The words of the cursor place: the cursor's symbol, or the empty mark where the first label has no symbol; none after a prefix with nothing at the cursor.
-    fn middle(self) -> Option<[u16; Example::SYMBOL_WORDS]>
+    pub fn middle(self) -> Option<[u16; Example::SYMBOL_WORDS]>
         ensures { MatchOption result (middle (productions_in self.entry.grammar.words.now self.entry.grammar.productions) (labels_in self.entry.words.now) ≡ []) (λ w. (length (middle (productions_in self.entry.grammar.words.now self.entry.grammar.productions) (labels_in self.entry.words.now)) ≡ 1) × (joined symbol_words (middle (productions_in self.entry.grammar.words.now self.entry.grammar.productions) (labels_in self.entry.words.now)) ≡ w)) }
     {
         let symbol = self.cursor();

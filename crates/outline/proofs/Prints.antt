@@ -94,15 +94,11 @@ module _ (ps : List Production) (ls : Example) where
       ∙ ap (λ (h : ℕ). print_words h (joined symbol_words (middle ps ls) ++ words_of (suffixes ps ls))) ea ∙ sym x
       ∙ ap (print_words c) (sym (symbol_words_lem ps ls)) ∙ from-words c (symbols ps ls) ∙ ap (λ (h : ℕ). print_from h (symbols ps ls)) (sym m)
 
--- no words, and the empty mark
+-- no words
 
 pub words-none : (h : ℕ) (ws : List ℕ) → ws ≡ [] → h ≡ print_words h ws
 unfolding print_words
 words-none h ws e = rw e
-
-pub words-mark : (h : ℕ) (ws : List ℕ) → ws ≡ 2 ∷ 0 ∷ [] → mix h (symbol_code 2 0) ≡ print_words h ws
-unfolding print_words
-words-mark h ws e = rw e
 
 -- `print_list`: two words at a time, and what is left decides
 

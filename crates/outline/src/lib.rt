@@ -101,15 +101,10 @@ fn print_middle(print: u64, labels: Labels) -> u64
     requires { print < print_limit }
     ensures { (result ≡ print_words print (joined symbol_words (middle (productions_in labels.entry.grammar.words.now labels.entry.grammar.productions) (labels_in labels.entry.words.now)))) × (result < print_limit) }
 {
-    let part = labels.cursor();
-    if !part.is_empty() {
-        return print_list(print, part);
+    match labels.middle() {
+        Some(symbol) => print_list(print, &symbol),
+        None => print,
     }
-    let lead = labels.prefix(0);
-    if !lead.is_empty() {
-        return print;
-    }
-    mix(print, Example::EMPTY_MARK as usize, 0)
 }
 
 // With the suffixes more, innermost first.
