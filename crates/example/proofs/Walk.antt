@@ -127,7 +127,6 @@ module _ (ps : List Production) (ws : List ℕ) where
           go none (x ∷ xs) e f = absurd (omega arith)
           go none [] e f = refl
 
-
       pub mark-one : length before ≤ 0 → length (middle ps (labels_in ws)) ≡ 1
       mark-one l = ap length (middle-mark l)
 
