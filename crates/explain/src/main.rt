@@ -10,9 +10,7 @@ use error::Conflict;
 use example::Example;
 use lines::{lines, refused_line};
 use little::decode;
-use pipe::{
-    BYTES, PIECE, PIECE_BYTES, PIECE_WORDS, Stop, WORDS, WORDS_OF_CONFLICT, read_table,
-};
+use pipe::{BYTES, PIECE, PIECE_BYTES, PIECE_WORDS, Stop, WORDS, WORDS_OF_CONFLICT, read_table};
 use report::classify;
 use repr::{ProductionIndex, Refusal};
 use state_graph::StateIndex;

@@ -10,8 +10,8 @@ ghost use Rattle.typed.specs.Typed.{IsItem, named, symbol_part, rule_text, item_
 
 use lines::{put, put_after, put_symbol, put_symbols, put_text};
 use repr::Grammar;
-pub use table_check::Roles;
 use table::word;
+pub use table_check::Roles;
 use table_check::areas::Surveyed;
 
 // A record of a table, reached by chains of these sorts: one that is reached as an item is one of the grammar's.
