@@ -19,19 +19,45 @@ use table::{AcceptedTable, RECORD_WORDS, RECORDS, put, word};
 use table_check::areas::{Areas, survey};
 use table_check::check;
 
-// Marks the heads in word k of the records from `first` up to and without `past`. Both words of a state are heads of chains, so that k is a word's number here and in `follow_heads`, which reads marks where this writes them.
-fn mark_heads(
-    table: AcceptedTable,
+// The heads of chains in word k of the records from `first` up to and without `past`. Both words of a state are heads, so that k is a word's number.
+#[derive(Clone, Copy)]
+struct Heads {
     first: usize,
     past: usize,
     k: usize,
-    numbers: &mut [u16; RECORDS],
-)
-    requires first_le_past { (first ≤ past) × ((past ≤ loose table.words.now) × ((k < 4) × Headed table.words.now first past k)) }
-    ensures { HeadsMarked table.entry.words.now first past k numbers.old numbers.new }
+}
+
+impl Heads {
+    // Those of the states' items.
+    fn items(a: Areas) -> Heads
+        ensures { (result.first ≡ a.states_at) × ((result.past ≡ a.productions_at) × (result.k ≡ 0)) }
+    {
+        Heads {
+            first: a.states_at,
+            past: a.productions_at,
+            k: 0,
+        }
+    }
+
+    // Those of the states' edges and, behind them, of the productions' symbols.
+    fn others(a: Areas) -> Heads
+        ensures { (result.first ≡ a.states_at) × ((result.past ≡ a.loose_at) × (result.k ≡ 1)) }
+    {
+        Heads {
+            first: a.states_at,
+            past: a.loose_at,
+            k: 1,
+        }
+    }
+}
+
+// Marks heads.
+fn mark_heads(table: AcceptedTable, heads: Heads, numbers: &mut [u16; RECORDS])
+    requires first_le_past { (heads.first ≤ heads.past) × ((heads.past ≤ loose table.words.now) × ((heads.k < 4) × Headed table.words.now heads.first heads.past heads.k)) }
+    ensures { HeadsMarked table.entry.words.now heads.first heads.past heads.k numbers.old numbers.new }
 {
-    for r in first..past {
-        let x = word(table.words, r, k);
+    for r in heads.first..heads.past {
+        let x = word(table.words, r, heads.k);
         if x != 0 {
             numbers[x] = 1;
         }
@@ -58,8 +84,8 @@ fn number_reached(table: AcceptedTable, a: Areas, numbers: &mut [u16; RECORDS]) 
     requires numbers_value { numbers.old ≡ replicate record_limit 0 }
     ensures { (result ≡ count_of table.entry.words.now) × Numbers table.entry.words.now numbers.new }
 {
-    mark_heads(table, a.states_at, a.productions_at, 0, numbers);
-    mark_heads(table, a.states_at, a.loose_at, 1, numbers);
+    mark_heads(table, Heads::items(a), numbers);
+    mark_heads(table, Heads::others(a), numbers);
     let mut count = a.loose_at;
     for r in a.loose_at..a.records {
         if numbers[r] != 0 {
@@ -99,15 +125,15 @@ fn move_down(table: &mut [u16], a: Areas, numbers: &[u16])
     }
 }
 
-// The heads in word k of the records from `first` up to and without `past` follow.
-fn follow_heads(table: &mut [u16], first: usize, past: usize, k: usize, numbers: &[u16])
-    requires first_le_past { (first ≤ past) × ((past ≤ record_limit) × ((past * 4 ≤ length table.old) × (k < 4))) }
-    requires by_index { (r : ℕ) → first ≤ r → r < past → word_at table.old r k < length numbers.now }
-    ensures { Followed numbers.now table.old table.new first past k }
+// Heads follow.
+fn follow_heads(table: &mut [u16], heads: Heads, numbers: &[u16])
+    requires first_le_past { (heads.first ≤ heads.past) × ((heads.past ≤ record_limit) × ((heads.past * 4 ≤ length table.old) × (heads.k < 4))) }
+    requires by_index { (r : ℕ) → heads.first ≤ r → r < heads.past → word_at table.old r heads.k < length numbers.now }
+    ensures { Followed numbers.now table.old table.new heads.first heads.past heads.k }
 {
-    for r in first..past {
-        let x = word(table, r, k);
-        table[r * RECORD_WORDS + k] = numbers[x];
+    for r in heads.first..heads.past {
+        let x = word(table, r, heads.k);
+        table[r * RECORD_WORDS + heads.k] = numbers[x];
     }
 }
 
@@ -131,8 +157,8 @@ fn close_gaps(table: &mut [u16]) -> usize
     let mut numbers = [0u16; RECORDS];
     let count = number_reached(AcceptedTable { words: table }, a, &mut numbers);
     move_down(table, a, &numbers);
-    follow_heads(table, a.states_at, a.productions_at, 0, &numbers);
-    follow_heads(table, a.states_at, a.loose_at, 1, &numbers);
+    follow_heads(table, Heads::items(a), &numbers);
+    follow_heads(table, Heads::others(a), &numbers);
     free_end(table, count);
     count
 }

@@ -208,11 +208,6 @@ tested_low l h s i = contained l s ∙ sym (has_low l h s i)
 pub tested_high : (l h s : ℕ) → 64 ≤ s → eqb (bit_and (h / 2 ^ (s - 64)) 1) 1 ≡ has_state l h s
 tested_high l h s i = contained h (s - 64) ∙ sym (has_high l h s i)
 
--- the set of one state, put into an empty one
-pub one_of : (a b l h t : ℕ) → ((s : ℕ) → has_state a b s ≡ false) → ((s : ℕ) → has_state l h s ≡ (has_state a b s || (ltb s 128 && eqb s t)))
-    → (s : ℕ) → has_state l h s ≡ (ltb s 128 && eqb s t)
-one_of a b l h t e f s = f s ∙ rw (e s)
-
 pub count_few : (s a : ℕ) → a ≡ length (members s) → a ≤ 64
 unfolding members
 count_few s a e = omega (arith, length-keep (has s) (below 64), length-below 64)

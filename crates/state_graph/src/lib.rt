@@ -53,13 +53,6 @@ impl StateSet {
         StateSet { low: 0, high: 0 }
     }
 
-    // The set of one state.
-    pub fn of(state: usize) -> StateSet
-        ensures { (k : ℕ) → has_state result.low result.high k ≡ ltb k 128 && eqb k state }
-    {
-        StateSet::new().insert(state)
-    }
-
     pub fn insert(self, state: usize) -> StateSet
         ensures { (k : ℕ) → has_state result.low result.high k ≡ has_state self.low self.high k || (ltb k 128 && eqb k state) }
     {
@@ -106,6 +99,15 @@ impl StateSet {
         ensures { result.0 ≡ self }
     {
         StateSetIter(self)
+    }
+}
+
+// The set of one state.
+impl From<usize> for StateSet {
+    ghost from_gives = { λ state set. (k : ℕ) → has_state set.low set.high k ≡ ltb k 128 && eqb k state };
+
+    fn from(state: usize) -> StateSet {
+        StateSet::new().insert(state)
     }
 }
 
@@ -356,15 +358,15 @@ pub fn trace_back_joined(table: AcceptedTable, state: usize, xs: &[u16], ys: &[u
     requires state_in_bounds { (state < length (meaning table.words.now).states) × (list_is_fit (length (meaning table.words.now).nonterminals) (meaning table.words.now).terminals (xs.now ++ ys.now) ≡ true) }
     ensures { states_in result.low result.high ≡ traced_back (meaning table.entry.words.now) state (listed (xs.now ++ ys.now)) }
 {
-    StateWalk::new(table).walk_joined(StateSet::of(state), xs, ys)
+    StateWalk::new(table).walk_joined(StateSet::from(state), xs, ys)
 }
 
-// `trace_back` of one state. The last step alone is remembered: a run of one symbol over a set that stays costs one step.
+// `trace_back` of one state. The last step alone is remembered: a run of one symbol over a set that stays costs one step. No `StateWalk`: a shift trace asks this at each item, and a walk's places, made empty for each, cost more than they spare (over one symbol 549,115 instructions against 548,946, with the check).
 pub fn trace_back(table: AcceptedTable, state: usize, symbols: &[u16]) -> StateSet
     requires state_in_bounds { (state < length (meaning table.words.now).states) × (list_is_fit (length (meaning table.words.now).nonterminals) (meaning table.words.now).terminals symbols.now ≡ true) }
     ensures { states_in result.low result.high ≡ traced_back (meaning table.entry.words.now) state (listed symbols.now) }
 {
-    let mut found = StateSet::of(state);
+    let mut found = StateSet::from(state);
     let mut last: Option<(usize, usize, StateSet)> = None;
     for symbol in symbols.rchunks_exact(Symbol::WORDS) {
         let kind = repr::word(symbol, 0);

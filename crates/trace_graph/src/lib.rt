@@ -199,7 +199,7 @@ pub fn read_edge(graph: &[u16], k: usize) -> TraceEdge
     }
 }
 
-// Writes edge k.
+// Writes edge k, word by word: an array of the same eight words that is copied here would be no shorter, nor a slice pattern of them in `read_edge`.
 pub fn write_edge(graph: &mut [u16], k: usize, edge: TraceEdge)
     requires k_lt_edge_limit { (k < edge_limit) × (graph_room ≤ length graph.old) }
     requires small_edge { SmallEdge edge }
@@ -238,7 +238,7 @@ fn same_edge(grammar: Grammar, n: usize, graph: &[u16], k: usize, edge: TraceEdg
         && same_label(grammar, edge.label, other.label)
 }
 
-// A list of symbols mixed into a number. Crate yacc_names mixes bytes by the same rule; they have the one line in the loop in common.
+// A list of symbols mixed into a number. Crate yacc_names mixes bytes by the same rule; they have the one line in the loop in common. A loop and no `fold`: that a sum is below `MIXED` is known by the turn before, which the closure would have to ask.
 fn mix(list: &[u16], start: usize) -> usize
     requires { (start < 65536) × (list_is_fit nonterminal_limit terminal_limit list.now ≡ true) }
     ensures { (result ≡ mixed start (listed list.now)) × (result < 65536) }

@@ -38,7 +38,7 @@ fn begins(tracer: Tracer, walk: &mut StateWalk, state: usize, item: Item) -> Sta
     ensures table_after { walk.new.table.words.now ≡ walk.old.table.words.now }
 {
     let symbols = item.prefix(tracer.grammar);
-    walk.walk_back(StateSet::of(state), symbols)
+    walk.walk_back(StateSet::from(state), symbols)
 }
 
 // Whether an item's suffix may derive the empty string.

@@ -14,7 +14,7 @@ word-x-requires c = omega (arith, c.requires)
 pub bounds-numbers-x : goal.bounds-numbers-x
 bounds-numbers-x c =
     let b = c.requires.by_index _ c.loop-r.auto.r c.loop-r-test.true in
-    let e = c.loop-r.invariant.behind c.loop-r.r c.args.k c.requires.first_le_past.1.1.1 (omega arith) in
+    let e = c.loop-r.invariant.behind c.loop-r.r c.args.heads.k c.requires.first_le_past.1.1.1 (omega arith) in
     omega (arith, b, e, c.word-x.ensures.0)
 
 pub loop-r-preserved : goal.loop-r-preserved

@@ -8,14 +8,14 @@ use Rattle.compaction.proofs.number_reached.Goals as goal
 use Rattle.compaction.proofs.number_reached.Goals.{then-numbers-r-ne0, else-numbers-r-ne0}
 
 pub mark_heads-requires : goal.mark_heads-requires
-mark_heads-requires c = record { first_le_past = items_asked _ _ (accepts _ c.args.table.accepted) c.requires.areas }
+mark_heads-requires c = record { first_le_past = rw (c.items.ensures.0, c.items.ensures.1.0, c.items.ensures.1.1) (items_asked _ _ (accepts _ c.args.table.accepted) c.requires.areas) }
 
 pub mark_heads-requires-2 : goal.mark_heads-requires-2
-mark_heads-requires-2 c = record { first_le_past = others_asked _ _ (accepts _ c.args.table.accepted) c.requires.areas }
+mark_heads-requires-2 c = record { first_le_past = rw (c.others.ensures.0, c.others.ensures.1.0, c.others.ensures.1.1) (others_asked _ _ (accepts _ c.args.table.accepted) c.requires.areas) }
 
 pub loop-r-init : goal.loop-r-init
 loop-r-init c =
-    let n = count_start _ _ _ c.requires.areas.loose_at (numbering_begun _ _ (accepts _ c.args.table.accepted) c.requires.areas _ _ _ c.requires.numbers_value c.mark_heads.ensures c.mark_heads-2.ensures) in
+    let n = count_start _ _ _ c.requires.areas.loose_at (numbering_begun _ _ (accepts _ c.args.table.accepted) c.requires.areas _ _ _ c.requires.numbers_value (rw (c.items.ensures.0, c.items.ensures.1.0, c.items.ensures.1.1) at c.mark_heads.ensures) (rw (c.others.ensures.0, c.others.ensures.1.0, c.others.ensures.1.1) at c.mark_heads-2.ensures)) in
     record { count = n.0; numbering = n.1; long = c.mark_heads-2.ensures.long ∙ c.mark_heads.ensures.long ∙ c.told-numbers }
 
 pub bounds-numbers-r : goal.bounds-numbers-r

@@ -42,4 +42,4 @@ pub returns : goal.returns
 returns c =
     let s = c.in-None.ensures.steps in
     let I = c.loop-symbol.invariant in
-    traced (meaning c.args.table.words.now) (fits c.args.table.words.now c.args.table.accepted) c.args.state c.requires.state_in_bounds.0 _ _ _ _ _ c.of-found.ensures (walking_done (meaning c.args.table.words.now) _ _ _ _ _ _ I.walking (omega (arith, s.2.0, I.two)))
+    traced (meaning c.args.table.words.now) (fits c.args.table.words.now c.args.table.accepted) c.args.state c.requires.state_in_bounds.0 _ _ _ _ _ c.from-found.ensures (walking_done (meaning c.args.table.words.now) _ _ _ _ _ _ I.walking (omega (arith, s.2.0, I.two)))

@@ -7,4 +7,4 @@ pub walk_joined-requires : goal.walk_joined-requires
 walk_joined-requires c = rw c.new.ensures c.requires.state_in_bounds.1
 
 pub returns : goal.returns
-returns c = traced (meaning c.args.table.words.now) (fits c.args.table.words.now c.args.table.accepted) c.args.state c.requires.state_in_bounds.0 _ _ _ _ _ c.of.ensures (rw c.new.ensures at c.walk_joined.ensures)
+returns c = traced (meaning c.args.table.words.now) (fits c.args.table.words.now c.args.table.accepted) c.args.state c.requires.state_in_bounds.0 _ _ _ _ _ c.from.ensures (rw c.new.ensures at c.walk_joined.ensures)

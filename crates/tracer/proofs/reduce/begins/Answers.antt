@@ -11,4 +11,4 @@ pub walk_back-requires : goal.walk_back-requires
 walk_back-requires c = rw c.requires.table (prefix-listed c.args.tracer.working c.requires.within.0 c.requires.within.1 _ c.prefix-symbols.ensures.0)
 
 pub returns : goal.returns
-returns c = record { found = found_is c.args.tracer.working c.requires.within.0 c.requires.within.1 _ _ c.prefix-symbols.ensures.1 (traced (meaning c.args.tracer.table.words.now) (fits c.args.tracer.table.words.now c.args.tracer.table.accepted) c.args.state c.requires.within.0 _ _ _ _ _ c.of.ensures (rw c.requires.table at c.walk_back.ensures.found)); table_after = c.walk_back.ensures.table }
+returns c = record { found = found_is c.args.tracer.working c.requires.within.0 c.requires.within.1 _ _ c.prefix-symbols.ensures.1 (traced (meaning c.args.tracer.table.words.now) (fits c.args.tracer.table.words.now c.args.tracer.table.accepted) c.args.state c.requires.within.0 _ _ _ _ _ c.from.ensures (rw c.requires.table at c.walk_back.ensures.found)); table_after = c.walk_back.ensures.table }
