@@ -3,13 +3,13 @@
 #![tactic(auto)]
 
 use compaction::compact;
-use pipe::{BYTES, RECORD_WORDS, Stop, WORDS, read_table, say_end, write_table};
+use pipe::{BYTES, RECORD_WORDS, Stop, WORDS, read_table_words, say_end, write_table};
 use std::io;
 
 fn compact_input<R: io::Input + Print + Eprint>(rt: &R) -> Result<(), Stop> {
     let mut bytes = [0u8; BYTES];
     let mut room = [0u16; WORDS];
-    let table = read_table(rt, &mut bytes, &mut room)?;
+    let table = read_table_words(rt, &mut bytes, &mut room)?;
     let past = compact(table)? as usize * RECORD_WORDS;
     Ok(write_table(rt, &table[..past], &mut bytes)?)
 }

@@ -10,7 +10,7 @@ use error::Conflict;
 use example::Example;
 use lines::{lines, refused_line};
 use little::decode;
-use pipe::{BYTES, PIECE, PIECE_BYTES, PIECE_WORDS, Stop, WORDS, WORDS_OF_CONFLICT, read_table};
+use pipe::{BYTES, PIECE, PIECE_BYTES, PIECE_WORDS, Stop, WORDS, WORDS_OF_CONFLICT, read_table_words};
 use report::classify;
 use repr::{ProductionIndex, Refusal};
 use state_graph::StateIndex;
@@ -132,7 +132,7 @@ fn explain_conflicts<R: io::Input + Print + Eprint>(rt: &R, table: &[u16]) -> Re
 fn explain_input<R: io::Input + Print + Eprint>(rt: &R) -> Result<(), Stop> {
     let mut bytes = [0u8; BYTES];
     let mut room = [0u16; WORDS];
-    let table = read_table(rt, &mut bytes, &mut room)?;
+    let table = read_table_words(rt, &mut bytes, &mut room)?;
     check(table)?;
     Ok(explain_conflicts(rt, table)?)
 }

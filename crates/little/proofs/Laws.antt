@@ -5,7 +5,7 @@ use mathlib.Core.List.{List, [], ◌∷◌, ◌++◌, append_assoc, append-nil}
 use native.Mathlib.Numerals.{add-one}
 use native.Mathlib.Omega.{arith}
 use lib.ListN.{length, get_or, take, drop, set, length-set, length-drop, take-append-drop}
-use lib.Seq.{drop-cons, take-suc-set, drop-set-lt, drop-drop}
+use lib.Seq.{drop-cons, take-suc-set, drop-set-lt, drop-drop, take_at}
 use Rattle.little.specs.Little.{words_of, encoded}
 
 none : (bs : List ℕ) → length bs < 2 → words_of bs ≡ []
@@ -98,3 +98,7 @@ unfolding words_of
 words-length [] = refl
 words-length (a ∷ []) = refl
 words-length (a ∷ b ∷ bs) = ap suc (words-length bs) ∙ omega arith
+
+-- words of 2n bytes stand at the front
+pub words-front : (bs rest : List ℕ) (n m : ℕ) → length bs ≡ m → m ≡ n * 2 → take n (words_of bs ++ rest) ≡ words_of bs
+words-front bs rest n m h k = take_at (words_of bs) rest n (words-length bs ∙ omega arith)

@@ -61,17 +61,17 @@ fn read_whole<R: io::Input + Eprint>(rt: &R, bytes: &mut [u8]) -> Result<(), Sto
     Ok(())
 }
 
-// The words of the table, at the front of `table` and cut to size. A stream that ends before its table does, or has a number of records that no table has, is refusal 1.
+// The number of the table's records, its words at the front of `table`. A stream that ends before its table does, or has a number of records that no table has, is refusal 1.
 // The buffers are slices here and below, since arrays of their sizes would ask more of callers, and so how long they are is asked at each call.
 #[tactic(auto, unfolding(crate::specs::Given::Holds))]
-pub fn read_table<'t, R: io::Input + Eprint>(
+pub fn read_table<R: io::Input + Eprint>(
     rt: &R,
     bytes: &mut [u8],
-    table: &'t mut [u16],
-) -> Result<&'t mut [u16], Stop>
+    table: &mut [u16],
+) -> Result<usize, Stop>
     requires { (65536 ≤ length bytes.old) × (32768 ≤ length table.old) }
-    ensures words { IfOk result (λ words. (records : ℕ) × ((length words.now ≡ records * 4) × Holds (Ok records) bytes.new words.now)) }
-    ensures few { IfOk result (λ words. length words.now ≤ record_limit * 4) }
+    ensures words { Holds result bytes.new table.new }
+    ensures few { IfOk result (λ records. records ≤ record_limit) }
 {
     let mut first = [0u8; 2];
     read_whole(rt, &mut first)?;
@@ -82,6 +82,20 @@ pub fn read_table<'t, R: io::Input + Eprint>(
     let size = records * 8;
     read_whole(rt, &mut bytes[..size])?;
     decode(&bytes[..size], table);
+    Ok(records)
+}
+
+// The same, answered as the words of the table, cut to size. (What `table` holds after the call only the other says: an answer that borrows it leaves that unsaid.)
+pub fn read_table_words<'t, R: io::Input + Eprint>(
+    rt: &R,
+    bytes: &mut [u8],
+    table: &'t mut [u16],
+) -> Result<&'t mut [u16], Stop>
+    requires { (65536 ≤ length bytes.old) × (32768 ≤ length table.old) }
+    ensures words { IfOk result (λ words. (records : ℕ) × ((length words.now ≡ records * 4) × Holds (Ok records) bytes.new words.now)) }
+    ensures few { IfOk result (λ words. length words.now ≤ record_limit * 4) }
+{
+    let records = read_table(rt, bytes, table)?;
     Ok(&mut table[..records * RECORD_WORDS])
 }
 

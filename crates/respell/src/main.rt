@@ -2,7 +2,7 @@
 // A refusal is said in one line on standard error, and nothing is written. A read or a write that fails is said there too and ends the run.
 #![tactic(auto)]
 
-use pipe::{BYTES, RECORD_WORDS, Stop, WORDS, read_table, say_end, write_table};
+use pipe::{BYTES, RECORD_WORDS, Stop, WORDS, read_table_words, say_end, write_table};
 use spelling::respell;
 use std::io;
 
@@ -10,7 +10,7 @@ fn respell_input<R: io::Input + Print + Eprint>(rt: &R) -> Result<(), Stop> {
     let mut bytes = [0u8; BYTES];
     let mut room = [0u16; WORDS];
     let mut out = [0u16; WORDS];
-    let table = read_table(rt, &mut bytes, &mut room)?;
+    let table = read_table_words(rt, &mut bytes, &mut room)?;
     let past = respell(table, &mut out)? as usize * RECORD_WORDS;
     Ok(write_table(rt, &out[..past], &mut bytes)?)
 }

@@ -8,7 +8,7 @@ ghost use Rattle.repr.specs.Sizes.{record_limit};
 
 use builder::{Built, build_states};
 use pipe::{
-    BYTES, RECORD_WORDS, Stop, WORDS, WORDS_OF_CONFLICT, pass_on, read_table, say_end,
+    BYTES, RECORD_WORDS, Stop, WORDS, WORDS_OF_CONFLICT, pass_on, read_table_words, say_end,
     write_records, write_words,
 };
 use repr::ProductionIndex;
@@ -46,7 +46,7 @@ fn write_states<R: io::Input + Print + Eprint>(
 fn build_input<R: io::Input + Print + Eprint>(rt: &R) -> Result<(), Stop> {
     let mut bytes = [0u8; BYTES];
     let mut room = [0u16; WORDS];
-    let table = read_table(rt, &mut bytes, &mut room)?;
+    let table = read_table_words(rt, &mut bytes, &mut room)?;
     let start = read_start(rt)?;
     let mut scratch = [0u16; Built::SCRATCH];
     let mut out = [0u16; WORDS];

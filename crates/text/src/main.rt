@@ -7,7 +7,7 @@ ghost use Rattle.std.specs.Prelude.{◌*◌, ◌≤◌, ◌<◌, length};
 use little::decode;
 use lr1_core::Item;
 use pipe::{
-    BYTES, PIECE, PIECE_BYTES, PIECE_WORDS, Stop, WORDS, WORDS_OF_CONFLICT, read_table, say_end,
+    BYTES, PIECE, PIECE_BYTES, PIECE_WORDS, Stop, WORDS, WORDS_OF_CONFLICT, read_table_words, say_end,
 };
 use repr::{Grammar, ProductionIndex};
 use std::io;
@@ -167,7 +167,7 @@ fn text_input<R: io::Input + Print + Eprint>(rt: &R) -> Result<(), Stop> {
     let mut bytes = [0u8; BYTES];
     let mut room = [0u16; WORDS];
     let mut out = [0u8; LINE];
-    let table = read_table(rt, &mut bytes, &mut room)?;
+    let table = read_table_words(rt, &mut bytes, &mut room)?;
     write_table(rt, check(table)?, &mut out)?;
     Ok(text_rest(rt, &mut out)?)
 }

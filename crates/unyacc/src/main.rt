@@ -2,7 +2,7 @@
 // A refusal is said in one line on standard error, and nothing is written. A read or a write that fails is said there too and ends the run.
 #![tactic(auto)]
 
-use pipe::{BYTES, Stop, WORDS, read_table, say_end};
+use pipe::{BYTES, Stop, WORDS, read_table_words, say_end};
 use std::io;
 use streams::write;
 use yacc_write::TEXT_BYTES;
@@ -12,7 +12,7 @@ fn write_text<R: io::Input + Print + Eprint>(rt: &R) -> Result<(), Stop> {
     let mut bytes = [0u8; BYTES];
     let mut room = [0u16; WORDS];
     let mut text = [0u8; TEXT_BYTES];
-    let table = read_table(rt, &mut bytes, &mut room)?;
+    let table = read_table_words(rt, &mut bytes, &mut room)?;
     let size = write_yacc(table, &mut text)? as usize;
     Ok(write(rt, &text[..size])?)
 }
