@@ -53,7 +53,7 @@ fn own_start(grammar: Grammar, n: NonterminalString) -> Option<usize>
     }
 }
 
-// Puts the start production behind the others.
+// Puts the start production behind the others. Words and their number, as a `Grammar` is lent to be read alone, and there is no heap.
 fn append(grammar: &mut [u16], productions: usize, owner: usize, n: NonterminalString)
     requires packed { Packed grammar.old productions × (productions < production_limit) }
     requires owner_lt_nonterminal_limit { (owner < nonterminal_limit) × (n.0 < nonterminal_limit) }
@@ -103,6 +103,7 @@ pub fn with_start(
     requires { Startable (meaning table.words.now) start.0 }
     ensures { record { answer = reply_of result; out = out.new } ≡ started_of (meaning table.entry.words.now) start.0 out.old }
 {
+    // Not by `read_grammar`, whose contract says nothing of the lent words once its `Grammar` is gone: `append` writes behind them.
     let mut words = [0u16; ProductionIndex::ALL_WORDS];
     table.read_productions(&mut words);
     let counts = table.counts();

@@ -81,7 +81,7 @@ fn write_table(found: FoundStates, out: &mut [u16])
     write_edges(edges, states, ends, out);
 }
 
-// Refusal 17 at the end of the search, else the table and its conflicts.
+// Refusal 17 at the end of the search, else the table and its conflicts. Here and below the lent lists stand one by one, as C hands them over.
 fn write_found(found: FoundStates, out: &mut [u16], conflicts: &mut [u16]) -> Result<Built, Refusal>
     requires { (T : Table) × Ended T (length out.old / 4) found }
     ensures { (T : Table) (s : Ended T (length out.old / 4) found.entry) (S : List ℕ) → record { answer = reply_of result; scratch = zeroed build_scratch S; out = out.new; conflicts = conflicts.new } ≡ built_of T S out.old conflicts.old (outcome T s.start (length out.old / 4) (length conflicts.old)) }

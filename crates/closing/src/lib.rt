@@ -75,7 +75,7 @@ fn feed_firsts(grammar: Grammar, sets: &FirstSets, aheads: &mut [u64; Nontermina
     }
 }
 
-// The lookaheads of each nonterminal's index-0 items: round after round until one changes nothing.
+// The lookaheads of each nonterminal's index-0 items: round after round until one changes nothing. Here and above, that grammar and sets are a table's (`Held`) is asked at each call: it names the table, and a ghost field's fact has one proof.
 fn aheads_of(
     grammar: Grammar,
     sets: &FirstSets,

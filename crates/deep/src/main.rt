@@ -17,10 +17,11 @@ const RECORDS: usize = 453;
 
 const WORDS: usize = RECORDS * 4;
 
-// The words of a record.
+// The words of a record. Four fields and no array, so that each bound names its word.
 #[derive(Clone, Copy)]
 struct Row(u16, u16, u16, u16);
 
+// (Not by `put` of crate table, which takes numbers: here they are words.)
 fn put(table: &mut [u16; WORDS], number: u16, row: Row)
     requires { number < 453 }
 {

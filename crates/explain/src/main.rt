@@ -30,7 +30,7 @@ fn say_refused<R: Print + Eprint>(rt: &R, number: u64, refusal: Refusal) -> Resu
     write(rt, &out[..n])
 }
 
-// The lines of one conflict, at the front of the bytes; their number.
+// The lines of one conflict, at the front of the bytes; their number. What is lent stands one by one, as `classify` takes it.
 fn conflict_lines(
     table: &[u16],
     number: u64,

@@ -63,7 +63,7 @@ pub fn write_productions(grammar: Grammar, counts: Counts, out: &mut [u16])
     ensures { (U : Table) → Target U counts.nonterminals counts.terminals counts.states out.old → PackedAs U grammar.entry.words.now grammar.entry.productions → Grown U out.old out.new (productions_at U) (symbols_at U) }
 {
     let at = counts.productions_at();
-    // Where the next production's symbols begin.
+    // No index, but where the next production's symbols begin.
     let mut y = at + grammar.productions;
     for p in 0..grammar.productions {
         let owner = grammar.owner(p);

@@ -11,7 +11,7 @@ pub fn say_bool<R: Print>(rt: &R, yes: bool) {
     say_next(rt, u64::from(yes));
 }
 
-// How every answer begins.
+// How every answer begins. Answer, place and values are numbers and references, here and where one is asked, as the exported functions have them.
 pub fn say_answer<R: Print>(rt: &R, answer: u16, place: u16) {
     let _ = print!(rt; "{answer}");
     say_next(rt, place as u64);

@@ -8,7 +8,7 @@ pub fn ask_check<R: Print>(rt: &R, table: &[u16]) {
     say_answer(rt, answer, place);
 }
 
-// Place, whether the list is nullable, and the set's members; before the call yes, and token 7.
+// Place, whether the list is nullable, and the set's members; before the call yes, and token 7. (Here and below two that read alike call two exported functions, whose parameters differ.)
 pub fn ask_first0<R: Print>(rt: &R, request: Request) {
     let mut place: u16 = 7;
     let mut nullable = true;

@@ -75,7 +75,7 @@ pub fn rest<'a>(words: &'a [u16], n: usize) -> &'a [u16] {
     &words[from..]
 }
 
-// The first n of a buffer, or all, to be lent.
+// The first n of a buffer, or all, to be lent. Beside `front`, as nothing stands for both what is lent and what is lent to be changed.
 pub fn lend<T>(buffer: &mut [T], n: usize) -> &mut [T] {
     let to = n.min(buffer.len());
     &mut buffer[..to]

@@ -35,7 +35,7 @@ impl<'a> Reached<'a> {
     }
 }
 
-// Numbers, a space before each. Here and below `out` is written from `at` on and the place behind comes back, since the contracts say which bytes are put between the two (as in crate lines).
+// Numbers, a space before each. Here and below `out` is written from `at` on and the place behind comes back, since the contracts say which bytes are put between the two (as in crate lines). How many words and how long a text are put at most is asked at each call, here and in crate text: a struct for each would be made at every call.
 pub fn put_words(out: &mut [u8], at: usize, words: &[u16]) -> usize
     requires { (length words.now ≤ 8) × (at + 21 * length words.now ≤ length out.old) }
     ensures { Put out.old at (joined spaced words.now) out.new result × (result ≤ at + 21 * length words.now) }

@@ -37,7 +37,7 @@ pub struct Fed {
     pub reader: Reader,
 }
 
-// Where a byte cannot be read.
+// Where a byte cannot be read, in 64 bits, as a stream is counted: `Position` of crate yacc_stray is of a text in memory.
 #[derive(Clone, Copy)]
 pub struct Unreadable {
     pub line: u64,

@@ -34,7 +34,7 @@ const STARTED_WORDS: usize = WORDS + 2 * RECORD_WORDS;
 // Places of the nonterminals and terminals.
 const PLACES: usize = NonterminalString::LIMIT + Symbol::TERMINALS;
 
-// Line and column of a byte of the text, and what is wrong there, on standard error.
+// Line and column of a byte of the text, and what is wrong there, on standard error. That a text fits its buffer is asked here and below, as `place_of` counts up to one past a place: a struct for it would serve these three alone.
 fn say_place<R: Eprint>(rt: &R, text: &[u8], at: usize, wrong: &str)
     requires { (at ≤ length text.now) × (length text.now ≤ 65536) }
 {
