@@ -15,10 +15,8 @@ use Rattle.repr.proofs.Listed.{symbol_range}
 use Rattle.repr.proofs.FrontSymbol.{listed_short}
 use Rattle.repr.proofs.Chunks.{back_fits, back_symbol, back_listed}
 use Rattle.repr.proofs.Parts.{length-listed}
-use Rattle.repr.proofs.Lists.{clash, length-below, get_d_below, keep_append, keep-none, keep_agree, length-up_from, get_d_up_from}
+use Rattle.repr.proofs.Lists.{length-below, get_d_below, keep_append, keep-none, keep_agree, length-up_from, get_d_up_from}
 use Rattle.std.specs.Prelude.{Option, Some, None}
-use Rattle.std.specs.Option.{option_eq}
-use Rattle.state_graph.specs.declared.StateSet.{StateSet}
 use Rattle.state_graph.specs.Walk.{leads, predecessors, walked_back, traced_back}
 use Rattle.state_graph.specs.States.{has_state, states_in}
 use Rattle.state_graph.specs.declared.MadeStep.{MadeStep}
@@ -95,20 +93,6 @@ module _ (T : Table) (F : TableFits T) (k x : ℕ) (f : symbol_is_fit (length T.
       go zero r a b = let i = r.1.0 refl in omega arith
       go (suc zero) r a b = let i = r.1.1 (λ z. omega arith) in omega arith
       go (suc (suc j)) r a b = absurd (omega (arith, r.0))
-
--- the last step alone, by its symbol and its set: what it found
-
-abbrev pub LastStep : Table → Option (ℕ × ℕ × StateSet) → ℕ → ℕ → Type 0
-LastStep T None a b = Unit {0}
-LastStep T (Some p) a b = states_in a b ≡ predecessors T (symbol_of_kind p.0 p.1) (states_in p.2.low p.2.high)
-
--- over again it leads from the set to itself
-pub step_again : (T : Table) (eq : ℕ × ℕ × StateSet → ℕ × ℕ × StateSet → Bool)
-    → ((p q : ℕ × ℕ × StateSet) → eq p q ≡ true → (p.0 ≡ q.0) × (p.1 ≡ q.1) × (p.2.low ≡ q.2.low) × (p.2.high ≡ q.2.high))
-    → (last : Option (ℕ × ℕ × StateSet)) (k x : ℕ) (s : StateSet) → option_eq eq last (Some (k, x, s)) ≡ true → LastStep T last s.low s.high
-    → states_in s.low s.high ≡ predecessors T (symbol_of_kind k x) (states_in s.low s.high)
-step_again T eq sound None k x s h L = clash true refl (sym h)
-step_again T eq sound (Some p) k x s h L = let q = sound p (k, x, s) h in L ∙ rw (q.0, q.1, q.2, q.3)
 
 -- what is remembered
 

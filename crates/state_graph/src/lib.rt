@@ -361,28 +361,10 @@ pub fn trace_back_joined(table: AcceptedTable, state: usize, xs: &[u16], ys: &[u
     StateWalk::new(table).walk_joined(StateSet::from(state), xs, ys)
 }
 
-// `trace_back` of one state. The last step alone is remembered: a run of one symbol over a set that stays costs one step. No `StateWalk`: a shift trace asks this at each item, and a walk's places, made empty for each, cost more than they spare (over one symbol 549,115 instructions against 548,946, with the check).
+// `trace_back` of one state.
 pub fn trace_back(table: AcceptedTable, state: usize, symbols: &[u16]) -> StateSet
     requires state_in_bounds { (state < length (meaning table.words.now).states) × (list_is_fit (length (meaning table.words.now).nonterminals) (meaning table.words.now).terminals symbols.now ≡ true) }
     ensures { states_in result.low result.high ≡ traced_back (meaning table.entry.words.now) state (listed symbols.now) }
 {
-    let mut found = StateSet::from(state);
-    let mut last: Option<(usize, usize, StateSet)> = None;
-    for symbol in symbols.rchunks_exact(Symbol::WORDS) {
-        let kind = repr::word(symbol, 0);
-        let number = repr::word(symbol, 1);
-        let this = Some((kind, number, found));
-        if last == this {
-            continue;
-        }
-        last = this;
-        let step = Step {
-            table,
-            kind,
-            number,
-            set: found,
-        };
-        found = step.states();
-    }
-    found
+    StateWalk::new(table).walk_back(StateSet::from(state), symbols)
 }
