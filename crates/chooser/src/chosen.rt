@@ -8,7 +8,7 @@ ghost use Rattle.chooser.specs.Words.{choice_words};
 use error::Class;
 
 // How many tokens are chosen, and six words of each: its token, the number of its class, the class's own values, zeros; zeros behind the last.
-// Words as C is handed them, so a number beside them.
+// Words as C is handed them, so a number beside them. No `EntryList`: of a reduce/reduce fewer may be chosen than were entered, and behind the last stand zeros.
 #[derive(Clone, Copy)]
 pub struct Chosen {
     pub count: usize,

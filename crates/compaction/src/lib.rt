@@ -19,7 +19,7 @@ use table::{AcceptedTable, RECORD_WORDS, RECORDS, put, word};
 use table_check::areas::{Areas, survey};
 use table_check::check;
 
-// The heads of chains in word k of the records from `first` up to and without `past`. Both words of a state are heads, so that k is a word's number.
+// The heads of chains in word k of the records from `first` up to and without `past`. Both words of a state are heads, so that k is a word's number. (Crate spelling has a `Region` of the same three numbers: which are made, and so the methods, differ.)
 #[derive(Clone, Copy)]
 struct Heads {
     first: usize,

@@ -299,7 +299,7 @@ fn list_item(item: TableItem, side: &mut Side, count: usize) -> Result<Gathered,
     list_outlines(filter, shift, view, side, count)
 }
 
-// `shift_examples`: the items that shift the token in their order, each traced and listed before the next.
+// `shift_examples`: the items that shift the token in their order, each traced and listed before the next. (The traced item is made here and in `action_again`: a function of it would have a contract as long.)
 fn shift_examples(case: TableConflict, side: &mut Side) -> Result<Gathered, Refusal>
     ensures { Sided (meaning case.entry.given.table.words.now) true (shift_made (meaning case.entry.given.table.words.now) case.entry.conflict.state.0) result side.new.kept side.new.prints (shift_side (meaning case.entry.given.table.words.now) case.entry.conflict.state.0 case.entry.conflict.token) }
 {

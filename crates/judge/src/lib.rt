@@ -50,7 +50,7 @@ pub fn write_example(case: TableConflict, side: &Side, k: usize, buffer: &mut [u
     action_again(case, outline.label, turn, buffer);
 }
 
-// Whether two examples have the same symbols and the same cursor.
+// Whether two examples have the same symbols and the same cursor. (No `==` of the buffers: behind the symbols stand reductions, which may differ.)
 fn same_reading(action: &[u16], reduce: &[u16]) -> bool
     requires { (ps : List Production) × ((x : Example) × ((y : Example) × (InBuffer ps x action.now × InBuffer ps y reduce.now))) }
     ensures { (ps : List Production) (x y : Example) → InBuffer ps x action.now → InBuffer ps y reduce.now → result ≡ is_same_reading ps x y }

@@ -13,7 +13,7 @@ use report::{Part, choose, classify, observed_part};
 use repr::{ProductionIndex, Refusal};
 use state_graph::StateIndex;
 
-// Four values in one word, the first lowest.
+// Four values in one word, the first lowest. (By name: a `fold` would have to know that four fit into 64 bits.)
 fn pack(a: u16, b: u16, c: u16, d: u16) -> u64
     ensures { result ≡ packed (a ∷ b ∷ c ∷ d ∷ []) }
 {

@@ -16,6 +16,7 @@ impl TokenSet {
     // The tokens that a set can hold.
     pub const LIMIT: u16 = 64;
 
+    // The empty set: `new` as in the Rust, with a contract that a derived `Default` would not have.
     pub fn new() -> TokenSet
         ensures { (result.0 ≡ 0) × ((k : ℕ) → has result.0 k ≡ false) }
     {

@@ -72,7 +72,7 @@ fn mix(print: u64, kind: usize, number: usize) -> u64
     (print * Outline::BASE + code) % Outline::PRINTS
 }
 
-// A print with the symbols of a list more.
+// A print with the symbols of a list more. (A loop and no `fold`, here and below: that a print is below its limit is known by the turn before, which a closure would have to ask.)
 fn print_list(print: u64, symbols: &[u16]) -> u64
     requires { print < print_limit }
     ensures { (result ≡ print_words print symbols.now) × (result < print_limit) }

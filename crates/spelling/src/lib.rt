@@ -38,7 +38,7 @@ pub fn head_of(count: usize, at: usize) -> usize
     if count == 0 { 0 } else { at }
 }
 
-// Writes the records of a chain from record `begin` on, one behind the other, and returns the record behind them. (Crate grammar_records writes symbols, which are no records yet.)
+// Writes the records of a chain from record `begin` on, one behind the other, and returns the record behind them. (Crate grammar_records writes symbols, which are no records yet. Counted by hand: where the chain ends is the answer.)
 fn write_chain(table: AcceptedTable, out: &mut [u16], head: usize, begin: usize) -> usize
     requires loose_index { LooseIndex table.words.now head × (Stands (quads (meaning table.words.now)) begin (chain_from (same_quad table.words.now) begin (records_from table.words.now head)) × Room (meaning table.words.now) out.old) }
     ensures { (result ≡ begin + length (records_from table.entry.words.now head)) × Grown (meaning table.entry.words.now) out.old out.new begin result }
@@ -171,7 +171,7 @@ impl<'a> Spelling<'a> {
         }
     }
 
-    // Writes the states.
+    // Writes the states. Where the next chains begin is counted by hand, here and below.
     fn write_states(self, at: Sizes, out: &mut [u16])
         requires items { at.items ≡ items_place (meaning self.table.words.now) }
         requires edges { at.edges ≡ edges_at (meaning self.table.words.now) }

@@ -47,6 +47,7 @@ impl StateSet {
 
     const HIGH_FACTOR: usize = 11;
 
+    // The empty set: as `TokenSet::new`, with a contract that a derived `Default` would not have.
     pub fn new() -> StateSet
         ensures { (k : ℕ) → has_state result.low result.high k ≡ false }
     {
@@ -257,7 +258,7 @@ impl Step<'_> {
     }
 }
 
-// A step that was made: over which symbol, from which set, and the states that it found.
+// A step that was made: over which symbol, from which set, and the states that it found. (Its symbol is two numbers, as `Step` has it.)
 #[derive(Clone, Copy)]
 pub struct MadeStep {
     pub kind: usize,
@@ -323,7 +324,7 @@ impl<'a> StateWalk<'a> {
         found
     }
 
-    // The states from which a path spells the symbols and ends in the set.
+    // The states from which a path spells the symbols and ends in the set. (A list comes as words, here and below, as in crate first: two lists joined are split in the middle of a symbol.)
     pub fn walk_back(&mut self, set: StateSet, symbols: &[u16]) -> StateSet
         requires { list_is_fit (length (meaning self.old.table.words.now).nonterminals) (meaning self.old.table.words.now).terminals symbols.now ≡ true }
         ensures found { states_in result.low result.high ≡ walked_back (meaning self.old.table.words.now) (states_in set.low set.high) (listed symbols.now) }

@@ -32,7 +32,7 @@ pub struct AcceptedTable<'a> {
     pub ghost accepted: { check_of words.now ≡ Accepted },
 }
 
-// Which state, nonterminal or production is asked is a number, and that there is such a one is asked at each call: a type for it would have to hold the table.
+// Which state, nonterminal, production or record is asked is a number, and that there is such a one is asked at each call: a type for it would have to hold the table.
 // The methods that read a head, and those that read a record, are alike but for a word's number: each promises the list that the chain from there on is, which one for all would not say.
 impl<'a> AcceptedTable<'a> {
     // How many records.

@@ -41,7 +41,7 @@ pub fn put(table: &mut [u16], r: usize, a: usize, b: usize, c: usize, d: usize)
     table[at + 3] = d as u16;
 }
 
-// The counts of record 0.
+// The counts of record 0. (That they are below 65,536 is asked here and below: as a ghost field it would be proved at each of five places that make them, for four that ask it.)
 #[derive(Clone, Copy)]
 pub struct Counts {
     pub nonterminals: usize,

@@ -93,7 +93,7 @@ pub(crate) struct Record<'a> {
 }
 
 impl<'a> Record<'a> {
-    // Its word k.
+    // Its word k. (Which word is a number, asked here and below, as by `word` of crate table.)
     pub(crate) fn word(self, k: usize) -> usize
         requires { k < 4 }
         ensures { result ≡ word_at self.entry.gathered.surveyed.words.now self.entry.r k }

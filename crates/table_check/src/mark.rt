@@ -15,7 +15,7 @@ pub const FEW: usize = 8;
 
 pub const ALL: usize = RECORDS / 64;
 
-// What the records are reached as: for each sort of chain a flag for each record, 64 to a word.
+// What the records are reached as: for each sort of chain a flag for each record, 64 to a word. Three lists of bits and no list of `Roles`, which would be eight times the fixed memory.
 #[derive(Drop)]
 pub struct Marks<const N: usize> {
     pub symbols: [u64; N],

@@ -23,6 +23,7 @@ pub struct Offence {
 impl Offence {
     ghost use Rattle.repr.specs.Reply.{number_of as refusal_number, place_of as refusal_place};
 
+    // A method and no `From`: it asks that the place has 16 bits.
     fn refusal(self) -> Refusal
         requires { self.place < 65536 }
         ensures number { refusal_number result ≡ number_of_row self.row }

@@ -52,7 +52,7 @@ impl TraceGraph {
 
     const MIXED: usize = 65536;
 
-    // The empty graph.
+    // The empty graph (`new` as in the Rust).
     pub fn new() -> TraceGraph
         ensures { result.edges ≡ length empty_graph }
     {
@@ -68,6 +68,7 @@ pub enum TraceGraphNode {
     Other(u16, u16, u16),
 }
 
+// Methods and no `From`, here and in `Node`: three words come one by one, and a nonterminal as a bare number.
 impl TraceGraphNode {
     // The node of three words.
     pub fn of(kind: u16, number: u16, index: u16) -> TraceGraphNode
@@ -183,7 +184,7 @@ pub fn read_node(graph: &[u16], at: usize) -> Node
     }
 }
 
-// Edge k.
+// Edge k. (Which edge is a number, in range at each call: a type for it would have to hold the graph.)
 pub fn read_edge(graph: &[u16], k: usize) -> TraceEdge
     requires { (k < edge_limit) × (graph_room ≤ length graph.now) }
     ensures { (edge_is result ≡ edge_at graph.now k) × (result ≡ edge_read graph.now k) }
@@ -238,7 +239,7 @@ fn same_edge(grammar: Grammar, n: usize, graph: &[u16], k: usize, edge: TraceEdg
         && same_label(grammar, edge.label, other.label)
 }
 
-// A list of symbols mixed into a number. Crate yacc_names mixes bytes by the same rule; they have the one line in the loop in common. A loop and no `fold`: that a sum is below `MIXED` is known by the turn before, which the closure would have to ask.
+// A list of symbols mixed into a number. Crate yacc_names mixes bytes by the same rule; what they have in common is one line. A loop and no `fold` as there: its closure would be these two lines, with the sum made `u16` and back.
 fn mix(list: &[u16], start: usize) -> usize
     requires { (start < 65536) × (list_is_fit nonterminal_limit terminal_limit list.now ≡ true) }
     ensures { (result ≡ mixed start (listed list.now)) × (result < 65536) }
