@@ -7,7 +7,8 @@ ghost use Rattle.std.specs.Prelude.{◌*◌, ◌≤◌, ◌<◌, length};
 use little::decode;
 use lr1_core::Item;
 use pipe::{
-    BYTES, PIECE, PIECE_BYTES, PIECE_WORDS, Stop, WORDS, WORDS_OF_CONFLICT, read_table_words, say_end,
+    BYTES, PIECE, PIECE_BYTES, PIECE_WORDS, Stop, WORDS, WORDS_OF_CONFLICT, read_table_words,
+    say_end,
 };
 use repr::{Grammar, ProductionIndex};
 use std::io;
