@@ -112,10 +112,10 @@ fn write_conflicts<R: Print + Eprint>(
 ) -> Result<(), Failed>
     requires { (length words.now ≤ 20480) × (first < 1152921504606846976) }
 {
-    for (k, conflict) in words.chunks_exact(WORDS_OF_CONFLICT).enumerate() {
+    let (conflicts, left) = words.as_chunks::<{ WORDS_OF_CONFLICT }>();
+    for (k, conflict) in conflicts.iter().enumerate() {
         write_numbers(rt, conflict, b" # conflict", first + k, out)?;
     }
-    let left = words.chunks_exact(WORDS_OF_CONFLICT).remainder();
     if left.is_empty() {
         return Ok(());
     }
@@ -123,7 +123,7 @@ fn write_conflicts<R: Print + Eprint>(
         rt,
         left,
         b" # a part of conflict",
-        first + words.len() / WORDS_OF_CONFLICT,
+        first + conflicts.len(),
         out,
     )
 }
