@@ -10,7 +10,9 @@ use error::Conflict;
 use example::Example;
 use lines::{lines, refused_line};
 use little::decode;
-use pipe::{BYTES, PIECE, PIECE_BYTES, PIECE_WORDS, Stop, WORDS, WORDS_OF_CONFLICT, read_table_words};
+use pipe::{
+    BYTES, PIECE, PIECE_BYTES, PIECE_WORDS, Stop, WORDS, WORDS_OF_CONFLICT, read_table_words,
+};
 use report::classify;
 use repr::{ProductionIndex, Refusal};
 use state_graph::StateIndex;
@@ -47,8 +49,7 @@ fn conflict_lines(
 }
 
 // A conflict of its five words.
-fn conflict_of(words: &[u16]) -> Conflict
-    requires { 5 ≤ length words.now }
+fn conflict_of(words: &[u16; WORDS_OF_CONFLICT]) -> Conflict
     ensures { result ≡ nth_conflict words.now 0 }
 {
     Conflict {
@@ -73,7 +74,8 @@ fn explain_some<R: Print + Eprint>(
     let mut scratch = [0u16; Conflict::SCRATCH];
     let mut action = [0u16; Example::WORDS];
     let mut reduce = [0u16; Example::WORDS];
-    for (k, conflict) in words.chunks_exact(WORDS_OF_CONFLICT).enumerate() {
+    let (conflicts, _) = words.as_chunks::<{ WORDS_OF_CONFLICT }>();
+    for (k, conflict) in conflicts.iter().enumerate() {
         let n = conflict_lines(
             table,
             first + k as u64,

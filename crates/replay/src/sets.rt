@@ -97,10 +97,9 @@ fn say_item<R: Print>(rt: &R, item: Item, grammar: Grammar)
     say_words(rt, item.suffix(grammar));
 }
 
-fn ask_item_in<R: Print>(rt: &R, table: AcceptedTable, production: usize, index: usize) {
+fn ask_item_in<R: Print>(rt: &R, table: AcceptedTable, item: Item) {
     let mut words = [0u16; ProductionIndex::ALL_WORDS];
     let grammar = table.read_grammar(&mut words);
-    let item = Item { production, index };
     if item_fits(grammar, item) {
         say_item(rt, item, grammar);
     } else {
@@ -111,6 +110,12 @@ fn ask_item_in<R: Print>(rt: &R, table: AcceptedTable, production: usize, index:
 pub fn ask_item<R: Print>(rt: &R, request: Request) {
     match table_check::check(request.table) {
         Err(refusal) => say_answer(rt, refusal.number(), refusal.place()),
-        Ok(accepted) => ask_item_in(rt, accepted, request.number(0), request.number(1)),
+        Ok(accepted) => {
+            let item = Item {
+                production: request.number(0),
+                index: request.number(1),
+            };
+            ask_item_in(rt, accepted, item)
+        }
     }
 }

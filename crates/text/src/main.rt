@@ -7,7 +7,8 @@ ghost use Rattle.std.specs.Prelude.{◌*◌, ◌≤◌, ◌<◌, length};
 use little::decode;
 use lr1_core::Item;
 use pipe::{
-    BYTES, PIECE, PIECE_BYTES, PIECE_WORDS, Stop, WORDS, WORDS_OF_CONFLICT, read_table_words, say_end,
+    BYTES, PIECE, PIECE_BYTES, PIECE_WORDS, Stop, WORDS, WORDS_OF_CONFLICT, read_table_words,
+    say_end,
 };
 use repr::{Grammar, ProductionIndex};
 use std::io;
@@ -111,10 +112,10 @@ fn write_conflicts<R: Print + Eprint>(
 ) -> Result<(), Failed>
     requires { (length words.now ≤ 20480) × (first < 1152921504606846976) }
 {
-    for (k, conflict) in words.chunks_exact(WORDS_OF_CONFLICT).enumerate() {
+    let (conflicts, left) = words.as_chunks::<{ WORDS_OF_CONFLICT }>();
+    for (k, conflict) in conflicts.iter().enumerate() {
         write_numbers(rt, conflict, b" # conflict", first + k, out)?;
     }
-    let left = words.chunks_exact(WORDS_OF_CONFLICT).remainder();
     if left.is_empty() {
         return Ok(());
     }
@@ -122,7 +123,7 @@ fn write_conflicts<R: Print + Eprint>(
         rt,
         left,
         b" # a part of conflict",
-        first + words.len() / WORDS_OF_CONFLICT,
+        first + conflicts.len(),
         out,
     )
 }
