@@ -14,5 +14,5 @@ returns-in_err-accepted c =
 
 pub returns : goal.returns
 unfolding add_edge_of
-returns c = over_accepted _ _ _ _ (sym c.in_ok-accepted.ensures.answer) _ (c.add_edge_in.ensures ∙ ap (λ (ws : List ℕ). added_edge_in (record { source = c.words.result; target = c.words-2.result; label = record { production = c.args.production.0; index = c.args.index } }) c.args.graph.now (meaning ws)) c.in_ok-accepted.ensures.same)
+returns c = over_accepted _ _ _ _ (sym c.in_ok-accepted.ensures.answer) _ ((rw (c.of.ensures.0, c.of.ensures.1) at c.add_edge_in.ensures) ∙ ap (λ (ws : List ℕ). added_edge_in (record { source = c.words.result; target = c.words-2.result; label = record { production = c.args.production.0; index = c.args.index } }) c.args.graph.now (meaning ws)) c.in_ok-accepted.ensures.same)
     ∙ edge_between _ _ _ _ c.words.ensures c.words-2.ensures

@@ -3,4 +3,4 @@ use Rattle.lr1.proofs.backtrace_reduce.Goals as goal
 
 pub returns : goal.returns
 unfolding reduce_of
-returns c = c.backtrace.ensures
+returns c = rw (c.of.ensures.0, c.of.ensures.1) at c.backtrace.ensures
