@@ -44,9 +44,9 @@ impl Heads {
         ensures { (result.first ≡ a.states_at) × ((result.past ≡ a.loose_at) × (result.k ≡ 1)) }
     {
         Heads {
-            first: a.states_at,
             past: a.loose_at,
             k: 1,
+            ..Heads::items(a)
         }
     }
 }

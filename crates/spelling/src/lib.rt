@@ -85,7 +85,7 @@ struct Spelling<'a> {
 }
 
 impl<'a> Spelling<'a> {
-    // The chains of the productions' symbols.
+    // The chains of the productions' symbols. (`items` reads alike, and differs in all three numbers.)
     fn symbols(self) -> Region
         ensures { (result.first ≡ productions_at (meaning self.entry.table.words.now)) × ((result.past ≡ symbols_at (meaning self.entry.table.words.now)) × (result.k ≡ 1)) }
     {
